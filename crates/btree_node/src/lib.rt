@@ -5,6 +5,8 @@ mod bytes;
 mod edits;
 mod head;
 mod node;
+mod order;
 mod reads;
 
 pub use node::Node;
+pub use order::KeyOrder;
