@@ -1,6 +1,5 @@
 -- The descriptor set, and a node made empty.
-use Rattle.std.proofs.Common.{◌≡◌, ◌≢◌, ◌⊎◌, ℕ, ℤ, ◌+◌, ◌-◌, ◌*◌, ◌^◌, ◌<◌, ◌≤◌, List, [], ◌∷◌, ◌++◌, map, length, take, drop, get_or, set, replicate, inl, inr, refl, sym, ◌∙◌, ap, subst, arith}
-use Rattle.std.proofs.lemmas.Bool.{cases_lt}
+use Rattle.std.proofs.Common.{◌≡◌, ◌≢◌, ℕ, ℤ, ◌+◌, ◌-◌, ◌^◌, ◌<◌, ◌≤◌, List, [], ◌++◌, map, length, take, drop, get_or, set, replicate, sym, ◌∙◌, ap, subst, arith}
 use Rattle.std.proofs.lemmas.Int.{to_z-of_z}
 use Rattle.std.proofs.lemmas.List.{ext_get_or, drop_at, drop-drop, length-take, length-append, get_or-drop, get_or-set_other, get_or-set_same, get_or-replicate}
 use Rattle.std.proofs.Math.ListN.{length-set, length-replicate}
@@ -10,7 +9,7 @@ use mir.Val.{SFits}
 use Rattle.hx_bytes.specs.Field.{put_at, big_at, big, number_at}
 use Rattle.hx_bytes.specs.declared.fields.Order.TheVariants.{Big}
 use Rattle.hx_bytes.proofs.Laws.{length-number_bytes, length-put_at}
-use Rattle.btree_node.specs.Node.{offset, record_count, items, kind_of, height_of, next_of, back_of, IsNode, IsNodeOf, SetsLinks, ClearsNode, empty_node}
+use Rattle.btree_node.specs.Node.{offset, record_count, items, kind_of, height_of, next_of, back_of, IsNode, SetsLinks, ClearsNode, empty_node}
 use Rattle.btree_node.proofs.Places.{two_bytes, same_two, same_four, number-put, put-below, put-above}
 use Rattle.btree_node.proofs.Offsets.{offset_at, same_offset}
 use Rattle.btree_node.proofs.Items.{length-items, item-is, offsets_rise, same_range}

@@ -1,14 +1,12 @@
 -- The list of records after an edit of one of them.
-use Rattle.std.proofs.Common.{◌≡◌, ◌≢◌, ◌⊎◌, ℕ, ◌+◌, ◌-◌, ◌*◌, ◌<◌, ◌≤◌, List, [], length, get_or, inl, inr, refl, sym, ◌∙◌, ap, subst, arith}
+use Rattle.std.proofs.Common.{◌≡◌, ℕ, ◌+◌, ◌-◌, ◌*◌, ◌<◌, ◌≤◌, List, [], length, get_or, inl, inr, sym, ◌∙◌, ap, arith}
 use Rattle.std.proofs.lemmas.Bool.{cases_lt}
 use Rattle.std.proofs.lemmas.List.{ext_get_or}
-use Rattle.std.proofs.lemmas.List.Edits.{length-insert, get_or-insert_below, get_or-insert_at, get_or-insert_above, length-remove, get_or-remove_below, get_or-remove_above}
+use Rattle.std.proofs.lemmas.List.Edits.{length-insert, get_or-insert_below, get_or-insert_at, get_or-insert_above}
 use Rattle.std.specs.Int.{cast_signed, w8}
-use Rattle.std.specs.List.{slice_range, insert, remove}
-use Rattle.hx_bytes.specs.Field.{big_at}
-use Rattle.hx_bytes.specs.declared.fields.Order.TheVariants.{Big}
+use Rattle.std.specs.List.{slice_range, insert}
 use Rattle.btree_node.specs.Node.{offset, record_count, items, IsNode, SameHead, kind_of, height_of, next_of, back_of}
-use Rattle.btree_node.specs.Bytes.{OpensData, OpensSlot, ClosesSlot, MovesDown, InsertsRecord, RemovesRecord}
+use Rattle.btree_node.specs.Bytes.{OpensData, OpensSlot, InsertsRecord}
 use Rattle.btree_node.proofs.Offsets.{same_offset}
 use Rattle.btree_node.proofs.Places.{same_four}
 use Rattle.btree_node.proofs.Items.{length-items, item-is, offsets_rise, same_range}

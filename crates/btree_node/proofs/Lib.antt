@@ -8,3 +8,4 @@ pub mod Removing
 pub mod Packing
 pub mod Replacing
 pub mod Descriptor
+pub mod Units

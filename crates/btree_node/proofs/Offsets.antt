@@ -1,11 +1,11 @@
 -- Offsets of a node that are set, one by one.
-use Rattle.std.proofs.Common.{◌≡◌, ◌≢◌, ◌⊎◌, ℕ, ◌+◌, ◌-◌, ◌*◌, ◌<◌, ◌≤◌, List, length, get_or, inl, inr, refl, sym, ◌∙◌, ap, subst, arith}
+use Rattle.std.proofs.Common.{◌≡◌, ◌⊎◌, ℕ, ◌+◌, ◌-◌, ◌*◌, ◌<◌, ◌≤◌, List, length, get_or, inl, inr, sym, ◌∙◌, ap, arith}
 use Rattle.std.proofs.lemmas.Bool.{cases_lt}
 use Rattle.hx_bytes.specs.Field.{put_at, big_at, big}
 use Rattle.hx_bytes.specs.declared.fields.Order.TheVariants.{Big}
 use Rattle.hx_bytes.proofs.Laws.{length-number_bytes, length-put_at}
-use Rattle.btree_node.specs.Node.{offset, record_count}
-use Rattle.btree_node.specs.Bytes.{SetsOffset, ChangesOffsets}
+use Rattle.btree_node.specs.Node.{offset}
+use Rattle.btree_node.specs.Bytes.{SetsOffset}
 use Rattle.btree_node.proofs.Places.{same_two, number-put, put-below, put-above}
 
 -- an offset is where its two bytes are

@@ -1,10 +1,9 @@
 -- A field that is written into bytes, place by place.
-use Rattle.std.proofs.Common.{◌≡◌, ◌≢◌, ◌⊎◌, ℕ, add-zero, zero, suc, ◌+◌, ◌-◌, ◌*◌, ◌^◌, ◌<◌, ◌≤◌, List, ◌++◌, length, take, drop, get_or, inl, inr, refl, sym, ◌∙◌, ap, subst, arith, length-drop, append_assoc}
+use Rattle.std.proofs.Common.{◌≡◌, ℕ, add-zero, ◌+◌, ◌-◌, ◌*◌, ◌^◌, ◌<◌, ◌≤◌, List, ◌++◌, length, take, drop, get_or, sym, ◌∙◌, ap, arith, append_assoc}
 use Rattle.std.proofs.lemmas.List.{length-take, length-append, get_or-take, get_or-drop, get_or-append_right, get_or_append_left}
-use Rattle.std.proofs.lemmas.Grind.{common_steps}
-use Rattle.hx_bytes.specs.Field.{put_at, big_at, big, number_at, number_bytes}
+use Rattle.hx_bytes.specs.Field.{put_at, big_at, big, number_at}
 use Rattle.hx_bytes.specs.declared.fields.Order.TheVariants.{Big}
-use Rattle.hx_bytes.proofs.Laws.{number_at-number_bytes, length-number_bytes, length-put_at}
+use Rattle.hx_bytes.proofs.Laws.{number_at-number_bytes}
 
 -- a field of two bytes by its bytes
 pub two_bytes : (bytes : List ℕ) (at : ℕ) → big_at 2 bytes at ≡ get_or bytes at 0 * 256 + get_or bytes (at + 1) 0

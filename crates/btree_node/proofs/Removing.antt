@@ -1,13 +1,12 @@
 -- The list of records after one of them went.
-use Rattle.std.proofs.Common.{◌≡◌, ◌≢◌, ◌⊎◌, ℕ, ◌+◌, ◌-◌, ◌*◌, ◌<◌, ◌≤◌, List, [], length, get_or, inl, inr, refl, sym, ◌∙◌, ap, subst, arith}
+use Rattle.std.proofs.Common.{◌≡◌, ℕ, ◌+◌, ◌-◌, ◌<◌, ◌≤◌, List, [], length, get_or, inl, inr, sym, ◌∙◌, ap, arith}
 use Rattle.std.proofs.lemmas.Bool.{cases_lt}
 use Rattle.std.proofs.lemmas.List.{ext_get_or}
 use Rattle.std.proofs.lemmas.List.Edits.{length-remove, get_or-remove_below, get_or-remove_above}
 use Rattle.std.specs.List.{slice_range, remove}
-use Rattle.btree_node.specs.Node.{offset, record_count, items, IsNode, SameHead}
-use Rattle.btree_node.specs.Bytes.{MovesDown, ClosesSlot, ChangesOffsets, RemovesRecord, Packs}
+use Rattle.btree_node.specs.Node.{offset, record_count, items, IsNode}
+use Rattle.btree_node.specs.Bytes.{MovesDown, ClosesSlot, RemovesRecord}
 use Rattle.btree_node.proofs.Offsets.{same_offset}
-use Rattle.btree_node.proofs.Places.{same_two}
 use Rattle.btree_node.proofs.Items.{length-items, item-is, offsets_rise, same_range}
 use Rattle.btree_node.proofs.Inserting.{same_head}
 

@@ -1,9 +1,9 @@
 -- A record replaced: taken away, and another put there.
-use Rattle.std.proofs.Common.{◌≡◌, ℕ, suc, ◌+◌, ◌-◌, ◌<◌, ◌≤◌, List, [], ◌∷◌, ◌++◌, length, take, drop, get_or, set, refl, sym, ◌∙◌, ap, arith}
+use Rattle.std.proofs.Common.{◌≡◌, ℕ, suc, ◌+◌, ◌<◌, ◌≤◌, List, [], ◌∷◌, ◌++◌, length, take, drop, get_or, set, sym, ◌∙◌, ap, arith}
 use Rattle.std.proofs.lemmas.List.{take_at, drop_at, set_split, length-take}
 use Rattle.std.proofs.lemmas.List.Sums.{sum_by-remove}
 use Rattle.std.specs.List.{insert, remove, sum_by}
-use Rattle.btree_node.specs.Node.{offset, record_count, items, IsNode, room_beside}
+use Rattle.btree_node.specs.Node.{items, IsNode, room_beside}
 use Rattle.btree_node.proofs.Items.{records_take}
 
 -- without its record at a place, a node has room for another one there

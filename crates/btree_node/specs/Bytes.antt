@@ -1,5 +1,5 @@
 -- What the steps of an edit do to the bytes of a node, place by place.
-use Rattle.std.specs.Prelude.{◌≡◌, ◌≢◌, ◌<◌, ◌≤◌, ℕ, ◌+◌, ◌-◌, ◌*◌, List, length, slice_index, slice_range, insert, remove}
+use Rattle.std.specs.Prelude.{◌≡◌, ◌≢◌, ◌<◌, ◌≤◌, ℕ, ◌+◌, ◌*◌, List, length, slice_index, slice_range, insert, remove}
 use Rattle.btree_node.specs.Node.{offset, record_count, items, IsNode, SameHead}
 
 -- the bytes from `at` up to `end` moved towards the end

@@ -1,5 +1,5 @@
 -- A node of a B-tree: a descriptor of 14 bytes, the records, free space, and the offsets of the records, which run backwards from the node's end.
-use Rattle.std.specs.Prelude.{◌≡◌, ◌<◌, ◌≤◌, ◌⊎◌, ℕ, ℤ, ◌+◌, ◌-◌, ◌*◌, List, [], ◌∷◌, ◌++◌, length, map, sum_by, slice_index, slice_range, drop, replicate, slice_set}
+use Rattle.std.specs.Prelude.{◌≡◌, ◌<◌, ◌≤◌, ◌⊎◌, ℕ, ℤ, ◌+◌, ◌-◌, ◌*◌, List, [], length, map, sum_by, slice_index, slice_range, drop, replicate, slice_set}
 use Rattle.std.specs.List.{range_with_len}
 use Rattle.std.specs.Int.{cast_signed, cast_unsigned, w8}
 use Rattle.hx_bytes.specs.Field.{big_at, big, put_at}

@@ -4,7 +4,11 @@
 mod bytes;
 mod edits;
 mod head;
+mod keys;
 mod node;
+mod order;
 mod reads;
 
+pub use keys::{AttrOrder, CatalogOrder, ExtentOrder};
 pub use node::Node;
+pub use order::KeyOrder;

@@ -1,4 +1,4 @@
-use Rattle.std.proofs.Common.{◌≡◌, ◌<◌, ◌≤◌, ℕ, ◌+◌, ◌*◌, length}
+use Rattle.std.proofs.Common.{◌≡◌, ◌<◌, ◌≤◌, ℕ, ◌+◌}
 use Rattle.btree_node.specs.Node.{offset}
 use Rattle.btree_node.specs.Bytes.{ChangesOffsets}
 use Rattle.btree_node.proofs.bytes.lower_offsets.Given as goal

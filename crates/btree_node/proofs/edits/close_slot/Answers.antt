@@ -1,5 +1,4 @@
-use Rattle.std.proofs.Common.{◌≤◌, ◌≡◌, ◌+◌, ◌<◌, length, arith, ◌∙◌}
-use Rattle.btree_node.specs.Node.{offset}
+use Rattle.std.proofs.Common.{◌+◌, arith}
 use Rattle.btree_node.proofs.Slots.{closes_slot, slots_up}
 use Rattle.btree_node.proofs.edits.close_slot.Goals as goal
 

@@ -1,6 +1,6 @@
-use Rattle.std.proofs.Common.{◌≤◌, ◌<◌, ◌≡◌, ◌+◌, ◌*◌, ◌++◌, length, arith, sym, ◌∙◌, ap, subst}
+use Rattle.std.proofs.Common.{◌≡◌, ◌++◌, length, arith, sym, ◌∙◌, ap, subst}
 use Rattle.std.proofs.lemmas.List.{length-append}
-use Rattle.btree_node.specs.Node.{offset, record_count, items}
+use Rattle.btree_node.specs.Node.{offset, record_count}
 use Rattle.btree_node.specs.Bytes.{OpensSlot, OpensData}
 use Rattle.btree_node.proofs.Items.{length-items, offsets_rise, records_take}
 use Rattle.btree_node.proofs.Offsets.{same_offset}

@@ -1,4 +1,4 @@
-use Rattle.std.proofs.Common.{◌+◌, ◌++◌, length, arith, sym}
+use Rattle.std.proofs.Common.{◌+◌, ◌++◌, length, sym}
 use Rattle.std.proofs.lemmas.List.{length-append}
 use Rattle.btree_node.proofs.Records.{opens_data}
 use Rattle.btree_node.proofs.edits.open_data.Goals as goal

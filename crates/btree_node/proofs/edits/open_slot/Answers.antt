@@ -1,4 +1,4 @@
-use Rattle.std.proofs.Common.{◌≤◌, ◌≡◌, ◌+◌, ◌<◌, ◌-◌, length, arith, ◌∙◌, ap}
+use Rattle.std.proofs.Common.{◌≡◌, ◌+◌, ◌-◌, arith, ap}
 use Rattle.btree_node.specs.Node.{offset}
 use Rattle.btree_node.proofs.Slots.{opens_slot, slots_down}
 use Rattle.btree_node.proofs.edits.open_slot.Goals as goal

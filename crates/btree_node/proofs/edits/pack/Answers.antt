@@ -1,7 +1,7 @@
-use Rattle.std.proofs.Common.{◌≤◌, ◌<◌, ◌≡◌, ◌+◌, ◌-◌, ◌*◌, length, arith, sym, ◌∙◌, ap, subst}
-use Rattle.btree_node.specs.Node.{offset, record_count, items}
+use Rattle.std.proofs.Common.{◌≡◌, ◌+◌, ◌-◌, arith, ◌∙◌, ap, subst}
+use Rattle.btree_node.specs.Node.{offset, record_count}
 use Rattle.btree_node.specs.Bytes.{MovesDown, ChangesOffsets}
-use Rattle.btree_node.proofs.Items.{length-items, offsets_rise}
+use Rattle.btree_node.proofs.Items.{offsets_rise}
 use Rattle.btree_node.proofs.Offsets.{same_offset}
 use Rattle.btree_node.proofs.Packing.{packs}
 use Rattle.btree_node.proofs.edits.pack.Goals as goal

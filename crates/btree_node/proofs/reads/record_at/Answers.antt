@@ -1,4 +1,4 @@
-use Rattle.std.proofs.Common.{◌≡◌, ◌+◌, ◌<◌, length, arith, ap, ◌∙◌, sym}
+use Rattle.std.proofs.Common.{◌+◌, ◌<◌, arith, ap, ◌∙◌, sym}
 use Rattle.std.specs.List.{slice_range}
 use Rattle.btree_node.specs.Node.{offset, record_count}
 use Rattle.btree_node.proofs.Items.{length-items, item-is, offsets_rise}

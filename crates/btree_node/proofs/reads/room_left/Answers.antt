@@ -1,4 +1,4 @@
-use Rattle.std.proofs.Common.{◌≡◌, ◌+◌, ◌<◌, length, arith, ap, ◌∙◌, sym}
+use Rattle.std.proofs.Common.{◌≡◌, arith, ap, ◌∙◌}
 use Rattle.btree_node.specs.Node.{offset, record_count}
 use Rattle.btree_node.proofs.Items.{records_take}
 use Rattle.btree_node.proofs.reads.room_left.Goals as goal

@@ -1,4 +1,4 @@
-use Rattle.std.proofs.Common.{◌≡◌, ◌+◌, ◌<◌, ◌++◌, length, arith, ap, ◌∙◌, sym}
+use Rattle.std.proofs.Common.{◌+◌, ◌++◌, length, ap, ◌∙◌}
 use Rattle.btree_node.specs.Node.{items}
 use Rattle.std.specs.List.{insert}
 use Rattle.btree_node.proofs.Replacing.{room_of_removed, replaced}
