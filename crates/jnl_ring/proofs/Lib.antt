@@ -1,0 +1,6 @@
+pub mod Bytes
+pub mod Wrap
+pub mod Pieces
+pub mod Placing
+pub mod Written
+pub mod Texts
