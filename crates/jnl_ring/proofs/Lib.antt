@@ -4,3 +4,4 @@ pub mod Pieces
 pub mod Placing
 pub mod Written
 pub mod Texts
+pub mod RingLaws
