@@ -1,2 +1,5 @@
 pub mod Lines
 pub mod Names
+pub mod Parts
+pub mod Bits
+pub mod Node

@@ -1,6 +1,12 @@
 //! The thin volume: what its sectors hold, and the functions that make and read its parts.
 #![tactic(auto)]
 
+mod bits;
 mod names;
+mod node;
+mod parts;
+mod text;
 
 pub use names::{are_thin_names, contains, is_thin_name, place_of, sorted};
+pub use node::{NodeHead, TreeHeader};
+pub use parts::Parts;

@@ -1,0 +1,6 @@
+use Rattle.std.proofs.Common.{◌≡◌, ◌++◌, drop}
+use Rattle.std.specs.List.{concat}
+use Rattle.hfs_model.proofs.text.joined.Given as goal
+
+abbrev pub invariant-loop-sector : goal.invariant-loop-sector
+invariant-loop-sector l = concat l.block ≡ l.bytes.items ++ concat (drop l.sector-index l.block)
