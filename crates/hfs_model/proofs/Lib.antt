@@ -1,3 +1,4 @@
 pub mod Lines
 pub mod Sectors
 pub mod Bitmaps
+pub mod Nodes

@@ -80,7 +80,20 @@ fn put_offsets(out: &mut Vec<u8>, items: &[Bytes], end: usize) -> Result<(), Out
     Ok(())
 }
 
+/// The descriptor and the records of a node.
+fn node_front(alloc: Global, head: &NodeHead, items: &[Bytes]) -> Result<Vec<u8>, OutOfMemory>
+    requires { length items.now < 2 ^ 16 }
+    ensures value { IfOk result (λ bytes. bytes.items ≡ descriptor_bytes head.now (length items.now) ++ concat items.now) }
+    ensures size { IfOk result (λ bytes. length bytes.items ≡ 14 + length (concat items.now)) }
+{
+    let mut out = Vec::new(alloc);
+    put_descriptor(&mut out, head, items.len() as u16)?;
+    put_items(&mut out, items)?;
+    Ok(out)
+}
+
 /// The bytes of a node, with what the old bytes have in its free space.
+#[tactic(auto, unfolding(crate::specs::Node::node_over))]
 pub(crate) fn node_over(
     alloc: Global,
     head: &NodeHead,
@@ -91,9 +104,7 @@ pub(crate) fn node_over(
     requires room { 14 + length (concat items.now) + 2 * (length items.now + 1) ≤ 4096 }
     ensures { IfOk result (λ bytes. bytes.items ≡ node_over head.now items.now old.now) }
 {
-    let mut out = Vec::new(alloc);
-    put_descriptor(&mut out, head, items.len() as u16)?;
-    put_items(&mut out, items)?;
+    let mut out = node_front(alloc, head, items)?;
     let used = out.len();
     let table = NODE_SIZE - 2 * (items.len() + 1);
     out.extend_from_slice(&old[used..table])?;
