@@ -1,0 +1,4 @@
+pub mod Records
+pub mod Attributes
+pub mod Keys
+pub mod Fits
