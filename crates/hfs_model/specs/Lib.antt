@@ -3,3 +3,4 @@ pub mod Names
 pub mod Parts
 pub mod Bits
 pub mod Node
+pub mod Thin
