@@ -2,3 +2,4 @@ pub mod Lines
 pub mod Sectors
 pub mod Bitmaps
 pub mod Nodes
+pub mod NameLists

@@ -2,6 +2,7 @@
 #![tactic(auto)]
 
 mod bits;
+mod leaf;
 mod names;
 mod node;
 mod parts;

@@ -74,7 +74,8 @@ fn are_among(names: &[Units], name: &Units) -> bool
 
 /// The place of a name in the list, or the list's length where it isn't there.
 pub fn place_of(names: &Names, name: &Units) -> usize
-    ensures { result ≡ position_or_len (λ other. bytes_eq other name.now) names.now }
+    ensures within { result ≤ length names.now }
+    ensures value { result ≡ position_or_len (λ other. bytes_eq other name.now) names.now }
 {
     for (at, other) in names.as_slice().iter().enumerate() {
         if is_same(other, name) {
@@ -109,7 +110,7 @@ fn place_above(names: &[Units], name: &Units) -> usize
     names.len()
 }
 
-fn cloned(alloc: Global, name: &Units) -> Result<Units, OutOfMemory>
+pub(crate) fn cloned(alloc: Global, name: &Units) -> Result<Units, OutOfMemory>
     ensures { IfOk result (λ copy. copy ≡ name.now) }
 {
     Ok(Units::from_vec(Vec::from_slice(alloc, name.as_slice())?))
