@@ -3,3 +3,4 @@ pub mod Sectors
 pub mod Bitmaps
 pub mod Nodes
 pub mod NameLists
+pub mod Lengths
