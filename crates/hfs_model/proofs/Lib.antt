@@ -4,3 +4,4 @@ pub mod Bitmaps
 pub mod Nodes
 pub mod NameLists
 pub mod Lengths
+pub mod Threads

@@ -4,3 +4,4 @@ pub mod Parts
 pub mod Bits
 pub mod Node
 pub mod Thin
+pub mod Reading
