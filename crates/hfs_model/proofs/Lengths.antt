@@ -37,8 +37,14 @@ length-no_fork = simp (length-append, length-number_bytes Big, length-extents) (
 
 length-folder : (parent id entries : ℕ) (name : List ℕ) → length (catalog_item parent name (new_folder id entries)) ≡ 96 + 2 * length name
 length-folder parent id entries name =
-    omega (arith, length-append (catalog_key_bytes parent name) (big 2 1 ++ entry_bytes (new_entry 0 entries id 0x41ED)), length-key parent name,
-        length-append (big 2 1) (entry_bytes (new_entry 0 entries id 0x41ED)), length-number_bytes Big 2 1, length-entry 0 entries id 0x41ED)
+    omega (
+      arith,
+      length-append (catalog_key_bytes parent name) (big 2 1 ++ entry_bytes (new_entry 0 entries id 0x41ED)),
+      length-key parent name,
+      length-append (big 2 1) (entry_bytes (new_entry 0 entries id 0x41ED)),
+      length-number_bytes Big 2 1,
+      length-entry 0 entries id 0x41ED,
+    )
 
 length-file : (parent id start count : ℕ) (name : List ℕ) → length (catalog_item parent name (new_file id start count)) ≡ 256 + 2 * length name
 length-file parent id start count name =
@@ -64,7 +70,7 @@ length-first_items folders =
     let b = length-append (catalog_item 2 (codes ".journal") (new_file 17 3 256)) (catalog_item 2 (codes ".journal_info_block") (new_file 16 2 1) ++ []) in
     let d = length-append (catalog_item 2 [] (new_thread false 1 (codes "untitled"))) (catalog_item 2 (codes ".journal") (new_file 17 3 256) ++ (catalog_item 2 (codes ".journal_info_block") (new_file 16 2 1) ++ [])) in
     let e = length-append (catalog_item 1 (codes "untitled") (new_folder 2 (2 + folders)))
-        (catalog_item 2 [] (new_thread false 1 (codes "untitled")) ++ (catalog_item 2 (codes ".journal") (new_file 17 3 256) ++ (catalog_item 2 (codes ".journal_info_block") (new_file 16 2 1) ++ []))) in
+    (catalog_item 2 [] (new_thread false 1 (codes "untitled")) ++ (catalog_item 2 (codes ".journal") (new_file 17 3 256) ++ (catalog_item 2 (codes ".journal_info_block") (new_file 16 2 1) ++ []))) in
     omega (arith, root, thread, journal, info, a, b, d, e)
 
 length-journal_threads : length (concat journal_threads) ≡ 90
@@ -117,8 +123,16 @@ before_fits names thin =
     let folders = map (folder_item names) (in_order names) in
     let fit = folders_fit names (in_order names) (All-in_order (λ n. length n ≤ 31) names (all_short names thin)) in
     omega (
-        arith, ap length (concat-append (first_items (length names)) (folders ++ journal_threads)), length-append (concat (first_items (length names))) (concat (folders ++ journal_threads)),
-        ap length (concat-append folders journal_threads), length-append (concat folders) (concat journal_threads), length-first_items (length names), length-journal_threads, fit, length-in_order names)
+      arith,
+      ap length (concat-append (first_items (length names)) (folders ++ journal_threads)),
+      length-append (concat (first_items (length names))) (concat (folders ++ journal_threads)),
+      ap length (concat-append folders journal_threads),
+      length-append (concat folders) (concat journal_threads),
+      length-first_items (length names),
+      length-journal_threads,
+      fit,
+      length-in_order names,
+    )
 
 -- the leaf has room for the records of twelve folders
 pub leaf_room : (names : List (List ℕ)) → IsTrue (are_thin_names names) → 14 + length (concat (leaf_items names)) + 2 * (length (leaf_items names) + 1) ≤ 4096
@@ -127,5 +141,12 @@ leaf_room names thin =
     let before = before_fits names thin in
     let few : length names ≤ 12 = (thin_list names thin).few in
     omega (
-        arith, ap (λ (l : List (List ℕ)). length (concat l)) (leaf_items_is names), ap length (concat-append (items_before names) (folder_threads 18 names)),
-        length-append (concat (items_before names)) (concat (folder_threads 18 names)), length-leaf_items names, threads, before, few)
+      arith,
+      ap (λ (l : List (List ℕ)). length (concat l)) (leaf_items_is names),
+      ap length (concat-append (items_before names) (folder_threads 18 names)),
+      length-append (concat (items_before names)) (concat (folder_threads 18 names)),
+      length-leaf_items names,
+      threads,
+      before,
+      few,
+    )

@@ -5,3 +5,4 @@ pub mod Nodes
 pub mod NameLists
 pub mod Lengths
 pub mod Threads
+pub mod Further

@@ -67,11 +67,11 @@ node_over_same head items bytes node =
     let behind = 4096 - 2 * (length items + 1) in
     let front_long : length front ≡ used = length-append (descriptor_bytes head (length items)) (concat items) ∙ ap (λ (n : ℕ). n + length (concat items)) (length-descriptor_bytes head (length items)) in
     let whole : length front + (length node.free + length table) ≡ 4096 =
-        sym (length-append front (node.free ++ table) ∙ ap (λ (n : ℕ). length front + n) (length-append node.free table)) ∙ sym (ap length node.is) ∙ node.size in
+    sym (length-append front (node.free ++ table) ∙ ap (λ (n : ℕ). length front + n) (length-append node.free table)) ∙ sym (ap length node.is) ∙ node.size in
     let table_long = length-offsets_bytes 14 items in
     let rest : drop used bytes ≡ node.free ++ table = ap (λ (l : List ℕ). drop used l) node.is ∙ drop_at front (node.free ++ table) used front_long in
     let kept : take (behind - used) (drop used bytes) ≡ node.free =
-        ap (λ (l : List ℕ). take (behind - used) l) rest ∙ take_at node.free table (behind - used) (omega arith) in
+    ap (λ (l : List ℕ). take (behind - used) l) rest ∙ take_at node.free table (behind - used) (omega arith) in
     ap (λ (l : List ℕ). front ++ (l ++ table)) kept ∙ sym node.is
 
 -- what is written over 4,096 bytes is a node, where the records have room
@@ -95,11 +95,12 @@ unfolding offsets_bytes
 offsets_split at [] ys = ([], refl, ap (λ (n : ℕ). offsets_bytes n ys) {x = at} {y = at + 0} (omega arith) ∙ sym (append-nil (offsets_bytes (at + 0) ys)))
 offsets_split at (x ∷ xs) ys =
     let rest = offsets_split (at + length x) xs ys in
-    let place : at + length x + length (concat xs) ≡ at + length (x ++ concat xs) = omega (arith, length-append x (concat xs)) in
-    (rest.0 ++ big 2 at,
-     omega (arith, length-append rest.0 (big 2 at), length-number_bytes Big 2 at, rest.1),
-     ap (λ (l : List ℕ). l ++ big 2 at) (rest.2 ∙ ap (λ (n : ℕ). offsets_bytes n ys ++ rest.0) place)
-     ∙ append_assoc (offsets_bytes (at + length (x ++ concat xs)) ys) rest.0 (big 2 at))
+    let place : at + length x + length (concat xs) ≡ at + length (x ++ concat xs) = omega (arith, length-append x (concat xs)) in (
+      rest.0 ++ big 2 at,
+      omega (arith, length-append rest.0 (big 2 at), length-number_bytes Big 2 at, rest.1),
+      ap (λ (l : List ℕ). l ++ big 2 at) (rest.2 ∙ ap (λ (n : ℕ). offsets_bytes n ys ++ rest.0) place)
+          ∙ append_assoc (offsets_bytes (at + length (x ++ concat xs)) ys) rest.0 (big 2 at),
+    )
 
 -- the last entry of a table is where its records begin
 pub offsets_last : (at : ℕ) (ys : List (List ℕ)) → (front : List ℕ) × (length front ≡ 2 * length ys) × (offsets_bytes at ys ≡ front ++ big 2 at)

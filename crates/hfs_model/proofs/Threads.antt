@@ -29,8 +29,8 @@ units_at-units_bytes front (unit ∷ units) rest at long small =
     let first : big_at 2 (front ++ (big 2 unit ++ behind)) at ≡ unit = number_at-number_bytes Big 2 unit at front behind long (All-head (λ u. u < 65536) unit units small) in
     let longer : length (front ++ big 2 unit) ≡ at + 2 = omega (arith, length-append front (big 2 unit), length-number_bytes Big 2 unit) in
     let others : units_at (front ++ (big 2 unit ++ behind)) (at + 2) (length units) ≡ units =
-        ap (λ (l : List ℕ). units_at l (at + 2) (length units)) (sym (append_assoc front (big 2 unit) behind))
-        ∙ units_at-units_bytes (front ++ big 2 unit) units rest (at + 2) longer (All-tail (λ u. u < 65536) unit units small) in
+    ap (λ (l : List ℕ). units_at l (at + 2) (length units)) (sym (append_assoc front (big 2 unit) behind))
+    ∙ units_at-units_bytes (front ++ big 2 unit) units rest (at + 2) longer (All-tail (λ u. u < 65536) unit units small) in
     ap (λ (l : List ℕ). big_at 2 l at ∷ units_at l (at + 2) (length units)) split
     ∙ ap (λ (u : ℕ). u ∷ units_at (front ++ (big 2 unit ++ behind)) (at + 2) (length units)) first
     ∙ ap (λ (us : List ℕ). unit ∷ us) others
@@ -64,8 +64,8 @@ names_at-threads id (name ∷ names) front rest bytes at long is thin =
     let count = big 2 (length name) in
     let units = units_bytes name in
     let first : bytes ≡ (front ++ thread_front id) ++ (count ++ (units ++ (threads ++ rest))) =
-        is ∙ ap (λ (l : List ℕ). front ++ l) (append_assoc (catalog_item id [] (new_thread false 2 name)) threads rest ∙ thread_is id name (threads ++ rest))
-        ∙ sym (append_assoc front (thread_front id) (count ++ (units ++ (threads ++ rest)))) in
+    is ∙ ap (λ (l : List ℕ). front ++ l) (append_assoc (catalog_item id [] (new_thread false 2 name)) threads rest ∙ thread_is id name (threads ++ rest))
+    ∙ sym (append_assoc front (thread_front id) (count ++ (units ++ (threads ++ rest)))) in
     let second : bytes ≡ ((front ++ thread_front id) ++ count) ++ (units ++ (threads ++ rest)) = first ∙ sym (append_assoc (front ++ thread_front id) count (units ++ (threads ++ rest))) in
     let third : bytes ≡ (((front ++ thread_front id) ++ count) ++ units) ++ (threads ++ rest) = second ∙ sym (append_assoc ((front ++ thread_front id) ++ count) units (threads ++ rest)) in
     let first_long : length (front ++ thread_front id) ≡ at + 16 = omega (arith, length-append front (thread_front id), length-thread_front id) in
@@ -74,12 +74,12 @@ names_at-threads id (name ∷ names) front rest bytes at long is thin =
     let short : length name ≤ 31 = good.short in
     let fits : length name < 65536 = omega arith in
     let count_is : big_at 2 bytes (at + 16) ≡ length name =
-        ap (λ (l : List ℕ). big_at 2 l (at + 16)) first ∙ number_at-number_bytes Big 2 (length name) (at + 16) (front ++ thread_front id) (units ++ (threads ++ rest)) first_long fits in
+    ap (λ (l : List ℕ). big_at 2 l (at + 16)) first ∙ number_at-number_bytes Big 2 (length name) (at + 16) (front ++ thread_front id) (units ++ (threads ++ rest)) first_long fits in
     let least : min 31 (big_at 2 bytes (at + 16)) ≡ length name = ap (λ (n : ℕ). min 31 n) count_is ∙ omega arith in
     let name_is : units_at bytes (at + 18) (length name) ≡ name =
-        ap (λ (l : List ℕ). units_at l (at + 18) (length name)) second ∙ units_at-units_bytes ((front ++ thread_front id) ++ count) name (threads ++ rest) (at + 18) second_long (small_units name good) in
+    ap (λ (l : List ℕ). units_at l (at + 18) (length name)) second ∙ units_at-units_bytes ((front ++ thread_front id) ++ count) name (threads ++ rest) (at + 18) second_long (small_units name good) in
     let others : names_at bytes (at + 18 + 2 * length name) (length names) ≡ names =
-        names_at-threads (id + 1) names (((front ++ thread_front id) ++ count) ++ units) rest bytes (at + 18 + 2 * length name) third_long third (All-tail ThinName name names thin) in
+    names_at-threads (id + 1) names (((front ++ thread_front id) ++ count) ++ units) rest bytes (at + 18 + 2 * length name) third_long third (All-tail ThinName name names thin) in
     ap (λ (n : ℕ). units_at bytes (at + 18) n ∷ names_at bytes (at + 18 + 2 * n) (length names)) least
     ∙ ap (λ (u : List ℕ). u ∷ names_at bytes (at + 18 + 2 * length name) (length names)) name_is
     ∙ ap (λ (l : List (List ℕ)). name ∷ l) others
@@ -103,8 +103,8 @@ folders_in_leaf names leaf thin node =
     let items = leaf_items names in
     let records : length items ≡ 6 + 2 * length names = length-leaf_items names in
     let count : big_at 2 leaf 10 ≡ length items =
-        ap (λ (l : List ℕ). big_at 2 l 10) (node.is ∙ append_assoc (descriptor_bytes leaf_head (length items)) (concat items) (node.free ++ offsets_bytes 14 items))
-        ∙ descriptor_count leaf_head (length items) (concat items ++ (node.free ++ offsets_bytes 14 items)) (omega arith) in
+    ap (λ (l : List ℕ). big_at 2 l 10) (node.is ∙ append_assoc (descriptor_bytes leaf_head (length items)) (concat items) (node.free ++ offsets_bytes 14 items))
+    ∙ descriptor_count leaf_head (length items) (concat items ++ (node.free ++ offsets_bytes 14 items)) (omega arith) in
     ap (λ (n : ℕ). min 12 ((n - 6) / 2)) (count ∙ records) ∙ omega arith
 
 threads_in_leaf : (names : List (List ℕ)) (leaf : List ℕ) → IsTrue (are_thin_names names) → IsNode leaf leaf_head (leaf_items names) → threads_in leaf ≡ thread_start names
@@ -121,13 +121,13 @@ threads_in_leaf names leaf thin node =
     let upper = last.0 in
     let front = descriptor_bytes leaf_head (length items) ++ concat items in
     let table : offsets_bytes 14 items ≡ (upper ++ big 2 start) ++ tail =
-        ap (offsets_bytes 14) (leaf_items_is names) ∙ split.2 ∙ ap (λ (l : List ℕ). l ++ tail) last.2 in
+    ap (offsets_bytes 14) (leaf_items_is names) ∙ split.2 ∙ ap (λ (l : List ℕ). l ++ tail) last.2 in
     let leaf_is : leaf ≡ ((front ++ node.free) ++ upper) ++ (big 2 start ++ tail) =
-        node.is ∙ ap (λ (l : List ℕ). front ++ (node.free ++ l)) (table ∙ append_assoc upper (big 2 start) tail)
-        ∙ sym (append_assoc front node.free (upper ++ (big 2 start ++ tail))) ∙ sym (append_assoc (front ++ node.free) upper (big 2 start ++ tail)) in
+    node.is ∙ ap (λ (l : List ℕ). front ++ (node.free ++ l)) (table ∙ append_assoc upper (big 2 start) tail)
+    ∙ sym (append_assoc front node.free (upper ++ (big 2 start ++ tail))) ∙ sym (append_assoc (front ++ node.free) upper (big 2 start ++ tail)) in
     let whole : length leaf ≡ length ((front ++ node.free) ++ upper) + (2 + length tail) =
-        ap length leaf_is ∙ length-append ((front ++ node.free) ++ upper) (big 2 start ++ tail)
-        ∙ ap (λ (n : ℕ). length ((front ++ node.free) ++ upper) + n) (length-append (big 2 start) tail ∙ ap (λ (n : ℕ). n + length tail) (length-number_bytes Big 2 start)) in
+    ap length leaf_is ∙ length-append ((front ++ node.free) ++ upper) (big 2 start ++ tail)
+    ∙ ap (λ (n : ℕ). length ((front ++ node.free) ++ upper) + n) (length-append (big 2 start) tail ∙ ap (λ (n : ℕ). n + length tail) (length-number_bytes Big 2 start)) in
     let size : length leaf ≡ 4096 = node.size in
     let tail_long : length tail ≡ 2 * length before = split.1 in
     let before_count : length before ≡ 6 + length names = length-items_before names in
@@ -136,8 +136,8 @@ threads_in_leaf names leaf thin node =
     let low : start ≤ 3136 = omega arith in
     let small : start < 65536 = omega arith in
     let entry : big_at 2 leaf (4082 - 2 * length names) ≡ start =
-        ap (λ (l : List ℕ). big_at 2 l (4082 - 2 * length names)) leaf_is
-        ∙ number_at-number_bytes Big 2 start (4082 - 2 * length names) ((front ++ node.free) ++ upper) tail place small in
+    ap (λ (l : List ℕ). big_at 2 l (4082 - 2 * length names)) leaf_is
+    ∙ number_at-number_bytes Big 2 start (4082 - 2 * length names) ((front ++ node.free) ++ upper) tail place small in
     ap (λ (k : ℕ). min 3136 (big_at 2 leaf (4082 - 2 * k))) (folders_in_leaf names leaf thin node)
     ∙ ap (λ (n : ℕ). min 3136 n) entry
     ∙ omega arith
@@ -152,10 +152,10 @@ names_in_leaf names leaf thin node =
     let head = descriptor_bytes leaf_head (length items) in
     let rest = node.free ++ offsets_bytes 14 items in
     let leaf_is : leaf ≡ (head ++ concat before) ++ (concat threads ++ rest) =
-        node.is
-        ∙ ap (λ (l : List ℕ). (head ++ l) ++ rest) (ap concat (leaf_items_is names) ∙ concat-append before threads)
-        ∙ ap (λ (l : List ℕ). l ++ rest) (sym (append_assoc head (concat before) (concat threads)))
-        ∙ append_assoc (head ++ concat before) (concat threads) rest in
+    node.is
+    ∙ ap (λ (l : List ℕ). (head ++ l) ++ rest) (ap concat (leaf_items_is names) ∙ concat-append before threads)
+    ∙ ap (λ (l : List ℕ). l ++ rest) (sym (append_assoc head (concat before) (concat threads)))
+    ∙ append_assoc (head ++ concat before) (concat threads) rest in
     let long : length (head ++ concat before) ≡ 14 + length (concat before) = length-append head (concat before) ∙ ap (λ (n : ℕ). n + length (concat before)) (length-descriptor_bytes leaf_head (length items)) in
     ap (λ (k : ℕ). names_at leaf (threads_in leaf) k) (folders_in_leaf names leaf thin node)
     ∙ ap (λ (at : ℕ). names_at leaf at (length names)) (threads_in_leaf names leaf thin node)

@@ -2,10 +2,12 @@
 #![tactic(auto)]
 
 mod bits;
+mod headers;
 mod leaf;
 mod names;
 mod node;
 mod parts;
+mod reading;
 mod text;
 
 pub use names::{are_thin_names, contains, is_thin_name, place_of, sorted};
