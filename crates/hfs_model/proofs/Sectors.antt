@@ -1,6 +1,6 @@
 -- A block cut into sectors, one sector more.
-use Rattle.std.proofs.Common.{◌≡◌, ℕ, ◌+◌, ◌*◌, ◌-◌, ◌<◌, ◌≤◌, List, [], ◌∷◌, ◌++◌, length, take, drop, set, refl, sym, ◌∙◌, ap, arith}
-use Rattle.std.proofs.lemmas.List.{take_more_set, length-set, append-nil, take_all}
+use Rattle.std.proofs.Common.{◌≡◌, ℕ, zero, suc, ◌+◌, ◌*◌, ◌-◌, ◌<◌, ◌≤◌, List, [], ◌∷◌, ◌++◌, length, take, drop, set, get_or, refl, sym, ◌∙◌, ap, arith}
+use Rattle.std.proofs.lemmas.List.{take_more_set, length-set, append-nil, take_all, length-append}
 use Rattle.std.proofs.lemmas.List.Folds.{concat-append}
 use Rattle.std.proofs.Math.Seq.{take-add}
 use Rattle.std.specs.List.{concat}
@@ -24,3 +24,11 @@ pub cut_all : (block : List ℕ) (sectors : List (List ℕ)) (at : ℕ) → leng
     → concat (take at sectors) ≡ take (at * 512) block → concat sectors ≡ block
 cut_all block sectors at eight long past inside is =
     ap concat (sym (take_all at sectors (omega arith))) ∙ is ∙ take_all (at * 512) block (omega arith)
+
+-- eight sectors are 4,096 bytes
+pub length-concat : (sectors : List (List ℕ)) → ((i : ℕ) → i < length sectors → length (get_or sectors i []) ≡ 512) → length (concat sectors) ≡ 512 * length sectors
+length-concat [] each = refl
+length-concat (sector ∷ sectors) each =
+    let first : length sector ≡ 512 = each 0 (omega arith) in
+    let rest = length-concat sectors (λ i inside. each (suc i) (omega arith)) in
+    omega (arith, length-append sector (concat sectors), first, rest)

@@ -20,7 +20,7 @@ use Rattle.cat_records.specs.Keys.{catalog_key_bytes}
 use Rattle.hfs_model.specs.declared.parts.Parts.{Parts}
 use Rattle.hfs_model.specs.declared.node.TreeHeader.{TreeHeader}
 use Rattle.hfs_model.specs.Bits.{is_marked, bits_bytes}
-use Rattle.hfs_model.specs.Node.{IsNode, header_head, leaf_head, header_items}
+use Rattle.hfs_model.specs.Node.{IsNode, node_over, header_head, leaf_head, header_items}
 use Rattle.hfs_model.specs.Names.{are_thin_names, in_order}
 use Rattle.hfs_model.specs.Parts.{parts_of}
 
@@ -217,17 +217,21 @@ leaf_items names =
     first_items (length names)
     ++ (map (folder_item names) (in_order names) ++ (journal_threads ++ folder_threads 18 names))
 
+-- what doesn't depend on the folders: the bitmap, the journal, and two trees without a record
+pub record HasFixedParts (parts : Parts) : Type 0 where
+  pub bitmap : concat parts.bitmap ≡ bitmap_text
+  pub info : parts.info ≡ info_text
+  pub journal : IsEmptyJournal parts.journal
+  pub extents : IsNode (concat parts.extents) header_head (header_items extents_tree (is_marked 1 None))
+  pub attributes : IsNode (concat parts.attributes) header_head (header_items attributes_tree (is_marked 1 None))
+
 -- These parts are those of a thin volume with these folders in its root. The alternate header is as it was
 -- formatted, without folders.
 pub record AreThin (parts : Parts) (names : List (List ℕ)) : Type 0 where
   pub listed : IsTrue (are_thin_names names)
   pub header : IsHeader (length names) parts.header
   pub alternate : IsHeader 0 parts.alternate
-  pub bitmap : concat parts.bitmap ≡ bitmap_text
-  pub info : parts.info ≡ info_text
-  pub journal : IsEmptyJournal parts.journal
-  pub extents : IsNode (concat parts.extents) header_head (header_items extents_tree (is_marked 1 None))
-  pub attributes : IsNode (concat parts.attributes) header_head (header_items attributes_tree (is_marked 1 None))
+  pub fixed : HasFixedParts parts
   pub catalog : IsNode (concat parts.catalog) header_head (header_items (catalog_tree (length names)) (is_marked 2 None))
   pub leaf : IsNode (concat parts.leaf) leaf_head (leaf_items names)
 
@@ -235,3 +239,10 @@ pub record AreThin (parts : Parts) (names : List (List ℕ)) : Type 0 where
 pub record IsThin (content : List (List ℕ)) (names : List (List ℕ)) : Type 0 where
   pub size : length content ≡ 16384
   pub parts : AreThin (parts_of content) names
+
+-- these parts are as they are formatted, also where a thin volume leaves it open
+pub record AreFresh (parts : Parts) : Type 0 where
+  pub header : parts.header ≡ header_bytes (thin_header 0 true 0)
+  pub alternate : parts.alternate ≡ header_bytes (thin_header 0 true 0)
+  pub journal : parts.journal ≡ journal_text 512 512
+  pub leaf : concat parts.leaf ≡ node_over leaf_head (leaf_items []) (replicate 4096 0)

@@ -2,6 +2,7 @@
 #![tactic(auto)]
 
 mod bits;
+mod blocks;
 mod headers;
 mod leaf;
 mod names;

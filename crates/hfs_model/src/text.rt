@@ -1,5 +1,5 @@
 //! Bytes written one behind the other, and blocks joined from sectors and cut into them.
-ghost use Rattle.std.specs.Prelude.{◌≡◌, ◌++◌, ◌∷◌, [], length, replicate, OnOk, IfOk};
+ghost use Rattle.std.specs.Prelude.{◌≡◌, ◌++◌, ◌∷◌, [], ◌↔◌, length, replicate, IsTrue, OnOk, IfOk};
 ghost use Rattle.std.specs.List.{concat};
 ghost use Rattle.hx_bytes.specs.Field.{big};
 
@@ -44,8 +44,9 @@ pub(crate) fn put_repeated(out: &mut Vec<u8>, byte: u8, count: usize) -> Result<
 }
 
 /// The bytes of a block, sector by sector.
-pub(crate) fn joined(alloc: Global, block: &[Sector]) -> Result<Vec<u8>, OutOfMemory>
-    ensures { IfOk result (λ bytes. bytes.items ≡ concat block.now) }
+pub(crate) fn joined(alloc: Global, block: &[Sector; 8]) -> Result<Vec<u8>, OutOfMemory>
+    ensures value { IfOk result (λ bytes. bytes.items ≡ concat block.now) }
+    ensures size { IfOk result (λ bytes. length bytes.items ≡ 4096) }
 {
     let mut bytes = Vec::new(alloc);
     for sector in block {
@@ -66,4 +67,11 @@ pub(crate) fn cut(block: &[u8]) -> [Sector; 8]
         sectors[at] = sector;
     }
     sectors
+}
+
+/// Whether these are the same bytes.
+pub(crate) fn are_same(bytes: &[u8], others: &[u8]) -> bool
+    ensures { IsTrue result ↔ (bytes.now ≡ others.now) }
+{
+    bytes == others
 }
