@@ -1,5 +1,5 @@
 -- The sectors of a thin volume that hold something, cut out of a content.
-use Rattle.std.specs.Prelude.{ℕ, List, [], slice_index_or, slice_range}
+use Rattle.std.specs.Prelude.{◌≡◌, ℕ, List, [], slice_index_or, slice_range}
 use Rattle.hfs_model.specs.declared.parts.Parts.{Parts}
 
 -- the sectors that these parts are, of a content of at least 16,384 sectors
@@ -15,3 +15,12 @@ parts_of content = record {
   catalog = slice_range content 2328 2336;
   leaf = slice_range content 2336 2344;
 }
+
+-- what lists no folder is the same: all but the header, and the catalog's header node and leaf
+pub record OnlyFolders (old new : Parts) : Type 0 where
+  pub alternate : new.alternate ≡ old.alternate
+  pub bitmap : new.bitmap ≡ old.bitmap
+  pub info : new.info ≡ old.info
+  pub journal : new.journal ≡ old.journal
+  pub extents : new.extents ≡ old.extents
+  pub attributes : new.attributes ≡ old.attributes

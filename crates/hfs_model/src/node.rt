@@ -92,9 +92,8 @@ fn node_front(alloc: Global, head: &NodeHead, items: &[Bytes]) -> Result<Vec<u8>
     Ok(out)
 }
 
-/// The bytes of a node, with what the old bytes have in its free space.
 #[tactic(auto, unfolding(crate::specs::Node::node_over))]
-pub(crate) fn node_over(
+fn node_text(
     alloc: Global,
     head: &NodeHead,
     items: &[Bytes],
@@ -110,6 +109,22 @@ pub(crate) fn node_over(
     out.extend_from_slice(&old[used..table])?;
     put_offsets(&mut out, items, used)?;
     Ok(out)
+}
+
+/// The bytes of a node, with what the old bytes have in its free space.
+pub(crate) fn node_over(
+    alloc: Global,
+    head: &NodeHead,
+    items: &[Bytes],
+    old: &[u8],
+) -> Result<Vec<u8>, OutOfMemory>
+    requires size { length old.now ≡ 4096 }
+    requires room { 14 + length (concat items.now) + 2 * (length items.now + 1) ≤ 4096 }
+    ensures value { IfOk result (λ bytes. bytes.items ≡ node_over head.now items.now old.now) }
+    ensures node { IfOk result (λ bytes. IsNode bytes.items head.now items.now) }
+    ensures same { IsNode old.now head.now items.now → IfOk result (λ bytes. bytes.items ≡ old.now) }
+{
+    node_text(alloc, head, items, old)
 }
 
 fn put_tree_root(out: &mut Vec<u8>, tree: &TreeHeader) -> Result<(), OutOfMemory>

@@ -27,11 +27,7 @@ extents_at bytes at = record {
 }
 
 -- logical size, clump size, number of blocks, eight extents: 80 bytes
-<<<<<<< HEAD
-abbrev pub fork_bytes : ForkRecord → List ℕ
-=======
 unfoldable pub fork_bytes : ForkRecord → List ℕ
->>>>>>> d94586a56ea849b20e7649fd3461de8b238e52a3
 fork_bytes fork = big 8 fork.logical_size ++ big 4 fork.clump_size ++ big 4 fork.total_blocks ++ extents_bytes fork.extents
 
 -- the fork in the 80 bytes from a place on

@@ -1,9 +1,5 @@
 -- The volume header as it stands in its sector, all numbers big-endian (TN1150, "Volume Header").
-<<<<<<< HEAD
-use Rattle.std.specs.Prelude.{◌≡◌, ℕ, ◌+◌, ◌^◌, ◌<◌, List, ◌++◌, length, take, drop}
-=======
 use Rattle.std.specs.Prelude.{◌≡◌, ℕ, ◌^◌, ◌<◌, List, ◌++◌, length, take, drop}
->>>>>>> d94586a56ea849b20e7649fd3461de8b238e52a3
 use Rattle.hx_bytes.specs.Field.{big, big_at, AreBytes}
 use Rattle.hx_bytes.specs.Fork.{fork_at, fork_bytes, FitsFork}
 use Rattle.volume_header.specs.declared.header.VolumeHeader.{VolumeHeader}

@@ -1,9 +1,5 @@
 -- Which headers are accepted on a volume of so many sectors, and the first reason against one that isn't.
-<<<<<<< HEAD
-use Rattle.std.specs.Prelude.{ℕ, ◌*◌, ◌/◌, ◌%◌, ◌^◌, Bool, ◌&&◌, ◌||◌, not, nat_lt, nat_le, ◌==◌, if◌then◌else◌, Option, Some, None}
-=======
 use Rattle.std.specs.Prelude.{ℕ, ◌*◌, ◌/◌, Bool, ◌&&◌, ◌||◌, not, nat_lt, nat_le, ◌==◌, if◌then◌else◌, Option, Some, None}
->>>>>>> d94586a56ea849b20e7649fd3461de8b238e52a3
 use Rattle.std.specs.Int.{is_power_of_two, bit_at}
 use Rattle.volume_header.specs.declared.header.VolumeHeader.{VolumeHeader}
 use Rattle.volume_header.specs.declared.refusal.HeaderRefusal.{HeaderRefusal}

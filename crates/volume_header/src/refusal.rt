@@ -1,12 +1,6 @@
-<<<<<<< HEAD
-//! Why a header isn't accepted.
-ghost use Rattle.std.specs.Prelude.{◌≡◌};
-ghost use Rattle.volume_header.specs.Refusal.{header_refusal};
-=======
 //! Which headers are accepted, and the first reason against one that isn't.
 ghost use Rattle.std.specs.Prelude.{◌≡◌, ◌<◌, ◌≤◌, IsTrue};
 ghost use Rattle.volume_header.specs.Refusal.{fits_blocks, fits_journal, has_bit, has_ids_reused, header_refusal, is_block_size, is_hfsx, is_journaled, is_locked, is_unmounted, is_volume_size};
->>>>>>> d94586a56ea849b20e7649fd3461de8b238e52a3
 
 use crate::header::VolumeHeader;
 
@@ -33,10 +27,6 @@ const LEAST_SECTORS: u64 = 2_048;
 
 const MOST_SECTORS: u64 = 2_147_483_648;
 
-<<<<<<< HEAD
-const MOST_BLOCKS: u32 = 268_435_456;
-
-=======
 const SECTOR_SIZE: u64 = 512;
 
 const LEAST_BLOCK: u32 = 512;
@@ -59,27 +49,12 @@ const JOURNALED_BIT: u32 = 13;
 
 const LOCK_BIT: u32 = 15;
 
->>>>>>> d94586a56ea849b20e7649fd3461de8b238e52a3
 impl VolumeHeader {
     /// The first reason against this header on a volume of so many sectors, or none where it is
     /// accepted.
     pub fn refusal(&self, sectors: u64) -> Option<HeaderRefusal>
         ensures { result ≡ header_refusal self.now sectors }
     {
-<<<<<<< HEAD
-        if !(LEAST_SECTORS..=MOST_SECTORS).contains(&sectors) {
-            return Some(HeaderRefusal::LimitSectors(sectors));
-        }
-        if self.signature != SIGNATURE || self.version != VERSION {
-            return Some(HeaderRefusal::NotHfsx {
-                signature: self.signature,
-                version: self.version,
-            });
-        }
-        None
-    }
-}
-=======
         if !is_volume_size(sectors) {
             Some(HeaderRefusal::LimitSectors(sectors))
         } else if !self.is_hfsx() {
@@ -170,4 +145,3 @@ fn has_bit(attributes: u32, bit: u32) -> bool
 {
     attributes >> bit & 1 == 1
 }
->>>>>>> d94586a56ea849b20e7649fd3461de8b238e52a3
