@@ -34,9 +34,11 @@ unfolding extents_bytes
 length-extents start count = simp (length-append, length-number_bytes Big) (omega arith)
 
 length-file_fork : (start count : ℕ) → length (fork_bytes (file_fork start count)) ≡ 80
+unfolding fork_bytes
 length-file_fork start count = simp (length-append, length-number_bytes Big, length-extents) (omega arith)
 
 length-no_fork : length (fork_bytes no_fork) ≡ 80
+unfolding fork_bytes
 length-no_fork = simp (length-append, length-number_bytes Big, length-extents) (omega arith)
 
 length-folder : (parent id entries : ℕ) (name : List ℕ) → length (catalog_item parent name (new_folder id entries)) ≡ 96 + 2 * length name
@@ -52,8 +54,8 @@ length-folder parent id entries name =
 
 length-file : (parent id start count : ℕ) (name : List ℕ) → length (catalog_item parent name (new_file id start count)) ≡ 256 + 2 * length name
 length-file parent id start count name =
-    let content : length (extents_bytes (file_fork start count).extents) ≡ 64 = length-extents start count in
-    let resource : length (extents_bytes no_fork.extents) ≡ 64 = length-extents 0 0 in
+    let content = length-file_fork start count in
+    let resource = length-no_fork in
     let units = length-units_bytes name in
     simp (length-append, length-number_bytes Big, length-entry) (omega arith)
 

@@ -6,3 +6,5 @@ pub mod NameLists
 pub mod Lengths
 pub mod Threads
 pub mod Further
+pub mod HeaderChecks
+pub mod Checks

@@ -1,8 +1,9 @@
 -- The thin volume: 16,384 sectors in blocks of 4,096 bytes, as they are formatted, with some folders in the root.
 -- What each part holds, field by field. Ids: 1 is the root's parent, 2 the root, 16 and 17 the journal's files.
-use Rattle.std.specs.Prelude.{◌≡◌, ℕ, ◌+◌, ◌*◌, ◌^◌, ◌<◌, Bool, true, false, pos, List, [], ◌∷◌, ◌++◌, length, map, replicate, codes, IsTrue, if◌then◌else◌, Some, None}
+use Rattle.std.specs.Prelude.{◌≡◌, ℕ, ◌+◌, ◌*◌, ◌^◌, ◌<◌, ◌==◌, Bool, true, false, pos, List, [], ◌∷◌, ◌++◌, length, map, replicate, codes, IsTrue, if◌then◌else◌, Some, None}
 use Rattle.std.specs.List.{concat, position_or_len}
 use Rattle.std.specs.Str.{bytes_eq}
+use Rattle.hx_bytes.specs.Field.{big_at}
 use Rattle.hx_bytes.specs.declared.fields.Order.TheVariants.{Little}
 use Rattle.hx_bytes.specs.declared.extents.ExtentRecord.{ExtentRecord}
 use Rattle.hx_bytes.specs.declared.extents.ForkRecord.{ForkRecord}
@@ -78,6 +79,13 @@ pub record IsHeader (folders : ℕ) (bytes : List ℕ) : Type 0 where
   pub writes : ℕ
   pub fits : writes < 2 ^ 32
   pub is : bytes ≡ header_bytes (thin_header folders is_clean writes)
+
+-- bit 8 of the attributes of such a header, and its write count
+abbrev pub is_clean_in : List ℕ → Bool
+is_clean_in header = big_at 4 header 4 == 0x2100
+
+abbrev pub writes_in : List ℕ → ℕ
+writes_in header = big_at 4 header 68
 
 -- the allocation file: a bit for each block, and zeros to the end of its block
 abbrev pub bitmap_text : List ℕ

@@ -1,18 +1,24 @@
 //! The volume header, the journal's info block and the journal's header of a thin volume.
-ghost use Rattle.std.specs.Prelude.{◌≡◌, ◌≤◌, ◌<◌, ◌*◌, ◌^◌};
+ghost use Rattle.std.specs.Prelude.{◌≡◌, ◌≤◌, ◌<◌, ◌*◌, ◌^◌, ◌==◌, ◌&&◌, ◌↔◌, IsTrue};
 ghost use Rattle.volume_header.specs.Header.{header_bytes};
-ghost use Rattle.hfs_model.specs.Thin.{special_fork, thin_header, info_text, journal_text};
+ghost use Rattle.jnl_format.specs.Header.{is_offset, wrapped};
+ghost use Rattle.hfs_model.specs.Thin.{IsHeader, IsEmptyJournal, special_fork, thin_header, is_clean_in, writes_in, info_text, journal_text};
 
 use crate::leaf::{no_fork, one_run};
-use hx_bytes::{ForkRecord, Order, Sector};
+use crate::text::are_same;
+use hx_bytes::{ForkRecord, Order, Sector, read_be32, read_o64};
 use jnl_format::{Header, Info};
 use volume_header::VolumeHeader;
 
 const BLOCK_SIZE: u32 = 4096;
+/// The attributes of a volume that was unmounted cleanly and has a journal: bits 8 and 13.
+const CLEAN: u32 = 0x2100;
+/// The same without bit 8.
+const NOT_CLEAN: u32 = 0x2000;
 /// Block 3, where the journal begins, in bytes.
 const JOURNAL_START: u64 = 12288;
 /// The bytes of the journal: 256 blocks.
-pub(crate) const JOURNAL_SIZE: u64 = 1_048_576;
+const JOURNAL_SIZE: u64 = 1_048_576;
 
 fn special_fork(start: u32, count: u32) -> ForkRecord
     ensures { result ≡ special_fork start count }
@@ -32,7 +38,7 @@ fn thin_header(folders: u32, is_clean: bool, writes: u32) -> VolumeHeader
     VolumeHeader {
         signature: 0x4858,
         version: 5,
-        attributes: if is_clean { 0x2100 } else { 0x2000 },
+        attributes: if is_clean { CLEAN } else { NOT_CLEAN },
         last_mounted_version: 0x4846_534A,
         journal_info_block: 2,
         create_date: 0,
@@ -69,6 +75,30 @@ pub(crate) fn header_sector(folders: u32, is_clean: bool, writes: u32) -> Sector
     sector
 }
 
+/// Whether bit 8 of the attributes is set in the header of a thin volume.
+pub(crate) fn is_clean(sector: &Sector) -> bool
+    ensures { result ≡ is_clean_in sector.now }
+{
+    read_be32(sector, 4) == CLEAN
+}
+
+/// The write count of a volume header.
+pub(crate) fn write_count(sector: &Sector) -> u32
+    ensures value { result ≡ writes_in sector.now }
+    ensures fits { result < 2 ^ 32 }
+{
+    read_be32(sector, 68)
+}
+
+/// Whether this is the volume header of a thin volume with so many folders.
+pub(crate) fn is_header(sector: &Sector, folders: u32) -> bool
+    requires { folders ≤ 12 }
+    ensures { IsTrue result ↔ IsHeader folders sector.now }
+{
+    let text = header_sector(folders, is_clean(sector), write_count(sector));
+    are_same(&text, sector)
+}
+
 /// The sector of the journal info block.
 pub(crate) fn info_sector() -> Sector
     ensures { result ≡ info_text }
@@ -97,4 +127,34 @@ pub(crate) fn journal_sector(start: u64, end: u64) -> Sector
     };
     jnl_format::write_header(&header, &mut sector);
     sector
+}
+
+fn is_journal_offset(at: u64) -> bool
+    ensures { result ≡ is_offset 1048576 at }
+{
+    at % 512 == 0 && 512 <= at && at <= JOURNAL_SIZE
+}
+
+fn wrapped(at: u64) -> u64
+    ensures { result ≡ wrapped 1048576 at }
+{
+    if at == JOURNAL_SIZE { 512 } else { at }
+}
+
+fn is_empty_range(start: u64, end: u64) -> bool
+    ensures { result ≡ (is_offset 1048576 start && is_offset 1048576 end && (wrapped 1048576 start == wrapped 1048576 end)) }
+{
+    is_journal_offset(start) && is_journal_offset(end) && wrapped(start) == wrapped(end)
+}
+
+/// Whether this is the header of an empty journal.
+pub(crate) fn is_empty_journal(sector: &Sector) -> bool
+    ensures { IsTrue result ↔ IsEmptyJournal sector.now }
+{
+    let start = read_o64(sector, 8, Order::Little);
+    let end = read_o64(sector, 16, Order::Little);
+    if !is_empty_range(start, end) {
+        return false;
+    }
+    are_same(&journal_sector(start, end), sector)
 }

@@ -13,4 +13,4 @@ mod text;
 
 pub use names::{are_thin_names, contains, is_thin_name, place_of, sorted};
 pub use node::{NodeHead, TreeHeader};
-pub use parts::Parts;
+pub use parts::{Parts, fresh_parts, thin_names, with_names};
