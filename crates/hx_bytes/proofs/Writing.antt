@@ -1,10 +1,10 @@
 -- A stretch of bytes written field by field: what is there so far is carried along as one list.
-use Rattle.std.proofs.Common.{◌≡◌, ℕ, ◌+◌, ◌≤◌, List, [], ◌++◌, length, refl, sym, arith}
-use Rattle.std.proofs.lemmas.List.{length-append}
+use Rattle.std.proofs.Common.{◌≡◌, ℕ, ◌+◌, ◌<◌, ◌≤◌, List, [], ◌∷◌, ◌++◌, length, take, drop, set, refl, sym, ◌∙◌, ap, arith, append_assoc, length-drop}
+use Rattle.std.proofs.lemmas.List.{length-append, length-take, drop-drop, take-append-drop}
 use Rattle.hx_bytes.specs.Field.{put_at, big}
 use Rattle.hx_bytes.specs.declared.fields.Order.TheVariants.{Big}
 use Rattle.hx_bytes.proofs.Laws.{length-number_bytes}
-use Rattle.hx_bytes.proofs.Putting.{put_at-grows, put_at-nothing}
+use Rattle.hx_bytes.proofs.Putting.{put_at-grows, put_at-nothing, put_at-whole, put_at-byte}
 
 -- the bytes `front`, so many of them, stand in place of those of `old` from `at` on
 pub record Written (old cur front : List ℕ) (at long : ℕ) : Type 0 where
@@ -31,3 +31,35 @@ written_number new n x so_far now = written_more new (big n x) n so_far (length-
 -- the first number
 pub written_first : (old new : List ℕ) (at n x : ℕ) → at ≤ length old → new ≡ put_at old at (big n x) → Written old new (big n x) at n
 written_first old new at n x fits now = record { is = now; front_length = length-number_bytes Big n x; fits = fits }
+
+-- one byte more
+pub written_byte : {old cur front : List ℕ} {at long : ℕ} (byte : ℕ) → Written old cur front at long → at + long < length cur → Written old (set cur (at + long) byte) (front ++ byte ∷ []) at (long + 1)
+written_byte {old} {cur} {front} {at} {long} byte so_far within = written_more _ (byte ∷ []) 1 so_far refl (put_at-byte cur (at + long) byte within)
+
+-- a gap, where the old bytes stay
+pub written_gap : {old cur front : List ℕ} {at long : ℕ} (n : ℕ) → Written old cur front at long → at + long + n ≤ length old → Written old cur (front ++ take n (drop (at + long) old)) at (long + n)
+written_gap {old} {cur} {front} {at} {long} n so_far fits =
+    let kept = take n (drop (at + long) old) in
+    let size : length kept ≡ n = omega (arith, length-take n (drop (at + long) old), length-drop (at + long) old) in
+    let rest : drop (at + length front) old ≡ kept ++ drop (at + length (front ++ kept)) old =
+    ap (λ (k : ℕ). drop (at + k) old) so_far.front_length
+    ∙ sym (take-append-drop n (drop (at + long) old))
+    ∙ ap (λ (l : List ℕ). kept ++ l) (drop-drop n (at + long) old)
+    ∙ ap (λ (k : ℕ). kept ++ drop k old) (omega (arith, length-append front kept, so_far.front_length, size)) in
+    record {
+      is = so_far.is ∙ ap (λ (l : List ℕ). take at old ++ front ++ l) rest ∙ simp append_assoc;
+      front_length = omega (arith, length-append front kept, so_far.front_length, size);
+      fits = so_far.fits;
+    }
+
+-- all of the old bytes
+pub written_whole : {old cur front : List ℕ} {long : ℕ} → Written old cur front 0 long → long ≡ length old → cur ≡ front
+written_whole {old} {cur} {front} {long} so_far all = so_far.is ∙ put_at-whole old front (omega (arith, so_far.front_length))
+
+-- the same bytes, said otherwise
+pub written_as : {old cur front : List ℕ} {at long : ℕ} (other : List ℕ) → Written old cur front at long → front ≡ other → Written old cur other at long
+written_as {old} {cur} {front} {at} {long} other so_far same = record {
+  is = so_far.is ∙ ap (λ (l : List ℕ). put_at old at l) same;
+  front_length = ap (λ (l : List ℕ). length l) (sym same) ∙ so_far.front_length;
+  fits = so_far.fits;
+}
