@@ -21,8 +21,8 @@ record Five (a b c d e : Bool) : Type 0 where
   fifth : e ≡ true
 
 five_hold : (a b c d e r : Bool) → r ≡ (a && b && c && d && e) → r ≡ true → Five a b c d e
-five_hold a b c d e r is yes =
-    let abcd = both (a && b && c && d) e (sym is ∙ yes) in
+five_hold a b c d e r is holds =
+    let abcd = both (a && b && c && d) e (sym is ∙ holds) in
     let abc = both (a && b && c) d abcd.0 in
     let ab = both (a && b) c abc.0 in
     let a' = both a b ab.0 in
@@ -38,20 +38,21 @@ pub fixed_told : (a b c d e r : Bool) (parts : Parts) (info : List ℕ) (extents
     → IsTrue d ↔ IsNode (concat parts.extents) header_head (header_items extents (is_marked 1 None))
     → IsTrue e ↔ IsNode (concat parts.attributes) header_head (header_items attributes (is_marked 1 None))
     → IsTrue r ↔ HasFixedParts parts
-fixed_told a b c d e r parts info extents attributes is info_is extents_are attributes_are bitmap_told info_told journal_told extents_told attributes_told =
-    ((λ yes.
-        let five = five_hold a b c d e r is yes in
-        record {
-          bitmap = bitmap_told.0 five.first;
-          info = info_told.0 five.second ∙ info_is;
-          journal = journal_told.0 five.third;
-          extents = subst (λ (t : TreeHeader). IsNode (concat parts.extents) header_head (header_items t (is_marked 1 None))) extents_are (extents_told.0 five.fourth);
-          attributes = subst (λ (t : TreeHeader). IsNode (concat parts.attributes) header_head (header_items t (is_marked 1 None))) attributes_are (attributes_told.0 five.fifth);
-        }),
-     (λ (fixed : HasFixedParts parts).
-        five_joined a b c d e r is (bitmap_told.1 fixed.bitmap) (info_told.1 (fixed.info ∙ sym info_is)) (journal_told.1 fixed.journal)
-            (extents_told.1 (subst (λ (t : TreeHeader). IsNode (concat parts.extents) header_head (header_items t (is_marked 1 None))) (sym extents_are) fixed.extents))
-            (attributes_told.1 (subst (λ (t : TreeHeader). IsNode (concat parts.attributes) header_head (header_items t (is_marked 1 None))) (sym attributes_are) fixed.attributes))))
+fixed_told a b c d e r parts info extents attributes is info_is extents_are attributes_are bitmap_told info_told journal_told extents_told attributes_told = (
+  (λ holds.
+      let five = five_hold a b c d e r is holds in
+      record {
+        bitmap = bitmap_told.0 five.first;
+        info = info_told.0 five.second ∙ info_is;
+        journal = journal_told.0 five.third;
+        extents = subst (λ (t : TreeHeader). IsNode (concat parts.extents) header_head (header_items t (is_marked 1 None))) extents_are (extents_told.0 five.fourth);
+        attributes = subst (λ (t : TreeHeader). IsNode (concat parts.attributes) header_head (header_items t (is_marked 1 None))) attributes_are (attributes_told.0 five.fifth);
+      }),
+  (λ (fixed : HasFixedParts parts).
+      five_joined a b c d e r is (bitmap_told.1 fixed.bitmap) (info_told.1 (fixed.info ∙ sym info_is)) (journal_told.1 fixed.journal)
+      (extents_told.1 (subst (λ (t : TreeHeader). IsNode (concat parts.extents) header_head (header_items t (is_marked 1 None))) (sym extents_are) fixed.extents))
+      (attributes_told.1 (subst (λ (t : TreeHeader). IsNode (concat parts.attributes) header_head (header_items t (is_marked 1 None))) (sym attributes_are) fixed.attributes))),
+)
 
 pub thin_told : (a b c d e r : Bool) (parts : Parts) (names : List (List ℕ)) (folders : ℕ) (tree : TreeHeader) → IsTrue (are_thin_names names) → r ≡ (a && b && c && d && e)
     → folders ≡ length names → tree ≡ catalog_tree folders
@@ -62,21 +63,22 @@ pub thin_told : (a b c d e r : Bool) (parts : Parts) (names : List (List ℕ)) (
     → IsTrue e ↔ IsNode (concat parts.leaf) leaf_head (leaf_items names)
     → IsTrue r ↔ AreThin parts names
 thin_told a b c d e r parts names folders tree listed is count tree_is header_told alternate_told fixed_told' catalog_told leaf_told =
-    let tree_same : tree ≡ catalog_tree (length names) = tree_is ∙ ap catalog_tree count in
-    ((λ yes.
-        let five = five_hold a b c d e r is yes in
-        record {
-          listed = listed;
-          header = subst (λ (n : ℕ). IsHeader n parts.header) count (header_told.0 five.first);
-          alternate = alternate_told.0 five.second;
-          fixed = fixed_told'.0 five.third;
-          catalog = subst (λ (t : TreeHeader). IsNode (concat parts.catalog) header_head (header_items t (is_marked 2 None))) tree_same (catalog_told.0 five.fourth);
-          leaf = leaf_told.0 five.fifth;
-        }),
-     (λ (thin : AreThin parts names).
-        five_joined a b c d e r is (header_told.1 (subst (λ (n : ℕ). IsHeader n parts.header) (sym count) thin.header)) (alternate_told.1 thin.alternate) (fixed_told'.1 thin.fixed)
-            (catalog_told.1 (subst (λ (t : TreeHeader). IsNode (concat parts.catalog) header_head (header_items t (is_marked 2 None))) (sym tree_same) thin.catalog))
-            (leaf_told.1 thin.leaf)))
+    let tree_same : tree ≡ catalog_tree (length names) = tree_is ∙ ap catalog_tree count in (
+      (λ holds.
+          let five = five_hold a b c d e r is holds in
+          record {
+            listed = listed;
+            header = subst (λ (n : ℕ). IsHeader n parts.header) count (header_told.0 five.first);
+            alternate = alternate_told.0 five.second;
+            fixed = fixed_told'.0 five.third;
+            catalog = subst (λ (t : TreeHeader). IsNode (concat parts.catalog) header_head (header_items t (is_marked 2 None))) tree_same (catalog_told.0 five.fourth);
+            leaf = leaf_told.0 five.fifth;
+          }),
+      (λ (thin : AreThin parts names).
+          five_joined a b c d e r is (header_told.1 (subst (λ (n : ℕ). IsHeader n parts.header) (sym count) thin.header)) (alternate_told.1 thin.alternate) (fixed_told'.1 thin.fixed)
+          (catalog_told.1 (subst (λ (t : TreeHeader). IsNode (concat parts.catalog) header_head (header_items t (is_marked 2 None))) (sym tree_same) thin.catalog))
+          (leaf_told.1 thin.leaf)),
+    )
 
 -- the names that are read in the leaf are those of the volume
 pub read_is : (parts : Parts) (names : List (List ℕ)) (leaf : List ℕ) → leaf ≡ concat parts.leaf → AreThin parts names → names_in leaf ≡ names

@@ -1,6 +1,6 @@
 -- What is read from a thin volume's headers is what they were made of.
 use Rattle.std.proofs.Common.{◌≡◌, ℕ, ◌+◌, ◌*◌, ◌^◌, ◌<◌, ◌≤◌, Bool, true, false, ◌&&◌, cond, eqb, List, [], ◌∷◌, ◌++◌, length, replicate, IsTrue, refl, sym, ◌∙◌, ap, subst, arith}
-use Rattle.std.specs.Prelude.{◌↔◌, ◌==◌}
+use Rattle.std.specs.Prelude.{◌↔◌, ◌==◌, ◌%◌, nat_le}
 use Rattle.std.proofs.lemmas.Bool.Decides.{nat_tests}
 use Rattle.std.proofs.lemmas.List.{length-append, append_assoc}
 use Rattle.hx_bytes.specs.Field.{big, big_at, number_at, number_bytes}
@@ -54,12 +54,13 @@ writes_at folders is_clean writes small = write_count_at (thin_header folders is
 -- a header is that of a thin volume exactly where the one made of what is read in it is the same
 pub header_told : (folders writes : ℕ) (is_clean r : Bool) (sector text : List ℕ) → is_clean ≡ is_clean_in sector → writes ≡ writes_in sector → writes < 2 ^ 32
     → text ≡ header_bytes (thin_header folders is_clean writes) → IsTrue r ↔ (text ≡ sector) → IsTrue r ↔ IsHeader folders sector
-header_told folders writes is_clean r sector text clean_is writes_are small made told =
-    ((λ yes. record { is_clean = is_clean; writes = writes; fits = small; is = sym (told.0 yes) ∙ made }),
-     (λ (header : IsHeader folders sector).
-        let clean_same : is_clean ≡ header.is_clean = clean_is ∙ ap is_clean_in header.is ∙ is_clean_at folders header.is_clean header.writes in
-        let writes_same : writes ≡ header.writes = writes_are ∙ ap writes_in header.is ∙ writes_at folders header.is_clean header.writes header.fits in
-        told.1 (made ∙ ap (λ (b : Bool). header_bytes (thin_header folders b writes)) clean_same ∙ ap (λ (n : ℕ). header_bytes (thin_header folders header.is_clean n)) writes_same ∙ sym header.is)))
+header_told folders writes is_clean r sector text clean_is writes_are small made told = (
+  (λ holds. record { is_clean = is_clean; writes = writes; fits = small; is = sym (told.0 holds) ∙ made }),
+  (λ (header : IsHeader folders sector).
+      let clean_same : is_clean ≡ header.is_clean = clean_is ∙ ap is_clean_in header.is ∙ is_clean_at folders header.is_clean header.writes in
+      let writes_same : writes ≡ header.writes = writes_are ∙ ap writes_in header.is ∙ writes_at folders header.is_clean header.writes header.fits in
+      told.1 (made ∙ ap (λ (b : Bool). header_bytes (thin_header folders b writes)) clean_same ∙ ap (λ (n : ℕ). header_bytes (thin_header folders header.is_clean n)) writes_same ∙ sym header.is)),
+)
 
 -- the offsets of a journal header
 start_at : (head : Header) (sum : ℕ) (rest : List ℕ) → head.start < 18446744073709551616 → number_at head.order 8 (header_spelled sum head ++ rest) 8 ≡ head.start
@@ -84,8 +85,13 @@ end_at head sum rest small =
 abbrev pub is_empty_range : ℕ → ℕ → Bool
 is_empty_range start end = is_offset 1048576 start && is_offset 1048576 end && (wrapped 1048576 start == wrapped 1048576 end)
 
+le_then : (at : ℕ) → nat_le at 1048576 ≡ true → at < 18446744073709551616
+le_then at h = grind (arith, nat_tests)
+
 offset_small : (at : ℕ) → IsTrue (is_offset 1048576 at) → at < 18446744073709551616
-offset_small at h = grind (arith, nat_tests, (both _ _ h).1)
+offset_small at h =
+    let parts = both (at % 512 == 0 && nat_le 512 at) (nat_le at 1048576) h in
+    le_then (at) parts.1
 
 same_from_test : (a b : ℕ) → (a == b) ≡ true → a ≡ b
 same_from_test a b h = grind (arith, nat_tests)
@@ -112,28 +118,29 @@ range_from_journal sector journal =
 
 -- what is read is no empty range: the journal isn't empty
 pub journal_refused : (start end : ℕ) (r : Bool) (sector : List ℕ) → start ≡ number_at Little 8 sector 8 → end ≡ number_at Little 8 sector 16 → r ≡ is_empty_range start end → r ≡ false → IsEmptyJournal sector → ⊥
-journal_refused start end r sector start_is end_is range no journal =
+journal_refused start end r sector start_is end_is range refused journal =
     let start_same : start ≡ journal.start = start_is ∙ journal_start sector journal in
     let end_same : end ≡ journal.end = end_is ∙ journal_end sector journal in
-    let yes : r ≡ true = range ∙ ap (λ (n : ℕ). is_empty_range n end) start_same ∙ ap (λ (n : ℕ). is_empty_range journal.start n) end_same ∙ range_from_journal sector journal in
-    absurd (cc (yes, no))
+    let holds : r ≡ true = range ∙ ap (λ (n : ℕ). is_empty_range n end) start_same ∙ ap (λ (n : ℕ). is_empty_range journal.start n) end_same ∙ range_from_journal sector journal in
+    absurd (cc (holds, refused))
 
 -- it is an empty range: the journal is empty exactly where the header made of it is the same
 pub journal_told : (start end : ℕ) (range r : Bool) (sector text : List ℕ) → start ≡ number_at Little 8 sector 8 → end ≡ number_at Little 8 sector 16 → range ≡ is_empty_range start end → range ≡ true
     → text ≡ journal_text start end → IsTrue r ↔ (text ≡ sector) → IsTrue r ↔ IsEmptyJournal sector
-journal_told start end range r sector text start_is end_is range_is holds made told =
-    let all : is_empty_range start end ≡ true = sym range_is ∙ holds in
+journal_told start end range r sector text start_is end_is range_is stands made told =
+    let all : is_empty_range start end ≡ true = sym range_is ∙ stands in
     let outer = both _ (wrapped 1048576 start == wrapped 1048576 end) all in
-    let inner = both (is_offset 1048576 start) (is_offset 1048576 end) outer.0 in
-    ((λ yes. record {
+    let inner = both (is_offset 1048576 start) (is_offset 1048576 end) outer.0 in (
+      (λ holds. record {
         start = start;
         end = end;
         starts = inner.0;
         ends = inner.1;
         empty = same_from_test (wrapped 1048576 start) (wrapped 1048576 end) outer.1;
-        is = sym (told.0 yes) ∙ made;
+        is = sym (told.0 holds) ∙ made;
       }),
-     (λ (journal : IsEmptyJournal sector).
-        let start_same : start ≡ journal.start = start_is ∙ journal_start sector journal in
-        let end_same : end ≡ journal.end = end_is ∙ journal_end sector journal in
-        told.1 (made ∙ ap (λ (n : ℕ). journal_text n end) start_same ∙ ap (λ (n : ℕ). journal_text journal.start n) end_same ∙ sym journal.is)))
+      (λ (journal : IsEmptyJournal sector).
+          let start_same : start ≡ journal.start = start_is ∙ journal_start sector journal in
+          let end_same : end ≡ journal.end = end_is ∙ journal_end sector journal in
+          told.1 (made ∙ ap (λ (n : ℕ). journal_text n end) start_same ∙ ap (λ (n : ℕ). journal_text journal.start n) end_same ∙ sym journal.is)),
+    )

@@ -107,3 +107,8 @@ pub offsets_last : (at : ℕ) (ys : List (List ℕ)) → (front : List ℕ) × (
 unfolding offsets_bytes
 offsets_last at [] = ([], refl, refl)
 offsets_last at (y ∷ ys) = (offsets_bytes (at + length y) ys, length-offsets_bytes (at + length y) ys ∙ omega arith, refl)
+
+-- the same bytes and the same records under other names
+pub node_renamed : (bytes others : List ℕ) (head : NodeHead) (items renamed : List (List ℕ)) → others ≡ bytes → items ≡ renamed → IsNode bytes head items → IsNode others head renamed
+node_renamed bytes others head items renamed same records node =
+    subst (λ (l : List (List ℕ)). IsNode others head l) records (subst (λ (b : List ℕ). IsNode b head items) (sym same) node)

@@ -119,11 +119,7 @@ pub(crate) fn is_header_node(
 }
 
 /// The catalog's leaf.
-pub(crate) fn leaf_node(
-    alloc: Global,
-    names: &Names,
-    old: &[u8],
-) -> Result<Vec<u8>, OutOfMemory>
+pub(crate) fn leaf_node(alloc: Global, names: &Names, old: &[u8]) -> Result<Vec<u8>, OutOfMemory>
     requires listed { IsTrue (are_thin_names names.now) }
     requires size { length old.now ≡ 4096 }
     ensures value { IfOk result (λ bytes. bytes.items ≡ node_over leaf_head (leaf_items names.now) old.now) }

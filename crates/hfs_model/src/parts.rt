@@ -44,8 +44,11 @@ pub struct Parts {
 /// The largest keys and the attributes of the trees without a record: big keys, and in the attributes
 /// file keys of varying length.
 const EXTENTS_KEY: u16 = 10;
+
 const EXTENTS_ATTRIBUTES: u32 = 2;
+
 const ATTRIBUTES_KEY: u16 = 266;
+
 const ATTRIBUTES_ATTRIBUTES: u32 = 6;
 /// The journal's first byte behind its header, where an empty journal starts and ends at first.
 const JOURNAL_BEGIN: u64 = 512;

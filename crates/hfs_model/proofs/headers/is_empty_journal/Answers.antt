@@ -4,12 +4,13 @@ use Rattle.hfs_model.proofs.headers.is_empty_journal.Goals as goal
 
 pub returns-then-not-is_empty_range : goal.returns-then-not-is_empty_range
 returns-then-not-is_empty_range c =
-    let no : c.is_empty_range.result ≡ false = search rules in
-    ((λ yes. absurd (cc yes)),
-     (λ journal. absurd (journal_refused c.read_o64-start.result c.read_o64-end.result c.is_empty_range.result c.args.sector.now c.read_o64-start.ensures c.read_o64-end.ensures c.is_empty_range.ensures no journal)))
+    let refused : c.is_empty_range.result ≡ false = search rules in (
+      (λ holds. absurd (cc holds)),
+      (λ journal. absurd (journal_refused c.read_o64-start.result c.read_o64-end.result c.is_empty_range.result c.args.sector.now c.read_o64-start.ensures c.read_o64-end.ensures c.is_empty_range.ensures refused journal)),
+    )
 
 pub returns : goal.returns
 returns c =
-    let yes : c.is_empty_range.result ≡ true = search rules in
+    let stands : c.is_empty_range.result ≡ true = search rules in
     journal_told c.read_o64-start.result c.read_o64-end.result c.is_empty_range.result c.are_same.result c.args.sector.now c.journal_sector.result
-        c.read_o64-start.ensures c.read_o64-end.ensures c.is_empty_range.ensures yes c.journal_sector.ensures c.are_same.ensures
+    c.read_o64-start.ensures c.read_o64-end.ensures c.is_empty_range.ensures stands c.journal_sector.ensures c.are_same.ensures
