@@ -8,3 +8,4 @@ pub mod Threads
 pub mod Further
 pub mod HeaderChecks
 pub mod Checks
+pub mod NameOrder

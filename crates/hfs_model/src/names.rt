@@ -1,6 +1,9 @@
 //! Names of folders: which a thin volume may have, and their order.
 ghost use Rattle.std.specs.Prelude.{◌≡◌, ◌≤◌, length, insert, IfOk};
 ghost use Rattle.std.specs.List.{list_all, position_or_len};
+ghost use Rattle.std.specs.List.Sorted.{IsPermutation, IsSorted};
+ghost use Rattle.std.specs.Ordering.{nat_cmp};
+ghost use Rattle.std.specs.Cmp.Lexicographic.{slice_cmp};
 ghost use Rattle.std.specs.Str.{bytes_eq};
 ghost use Rattle.hfs_model.specs.Names.{is_thin_unit, is_thin_name, has_name, are_distinct, are_thin_names, is_above, with_name, in_order};
 
@@ -118,6 +121,15 @@ pub(crate) fn cloned(alloc: Global, name: &Units) -> Result<Units, OutOfMemory>
 
 /// The names in unit order.
 pub fn sorted(alloc: Global, names: &Names) -> Result<Names, OutOfMemory>
+    ensures value { IfOk result (λ sorted. sorted ≡ in_order names.now) }
+    ensures order { IfOk result (λ sorted. IsSorted (slice_cmp nat_cmp) sorted) }
+    ensures permutation { IfOk result (λ sorted. IsPermutation names.now sorted) }
+{
+    insert_all(alloc, names)
+}
+
+/// The names, put in one by one, each in front of the first that is above it.
+fn insert_all(alloc: Global, names: &Names) -> Result<Names, OutOfMemory>
     ensures { IfOk result (λ sorted. sorted ≡ in_order names.now) }
 {
     let mut sorted: Vec<Units> = Vec::new(alloc);
