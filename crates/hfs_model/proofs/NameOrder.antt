@@ -27,9 +27,9 @@ neither false b h = (refl, h)
 differ_back : (a b : List ℕ) → bytes_eq a b ≡ false → bytes_eq b a ≡ false
 differ_back a b h =
     not_true (bytes_eq b a) (λ same.
-        let equal : b ≡ a = (bytes_eq-Decides b a).0 same in
-        let back : bytes_eq a b ≡ true = (bytes_eq-Decides a b).1 (sym equal) in
-        absurd (cc (h, back)))
+    let equal : b ≡ a = (bytes_eq-Decides b a).0 same in
+    let back : bytes_eq a b ≡ true = (bytes_eq-Decides a b).1 (sym equal) in
+    absurd (cc (h, back)))
 
 still_distinct : (a b c d : Bool) → a ≡ (b || (c || false)) → not b ≡ true → c ≡ false → d ≡ true → (not a && d) ≡ true
 still_distinct a true c d is hb hc hd = absurd (cc hb)
@@ -65,9 +65,9 @@ are_thin_names-push names name thin few good new =
     let inner = both _ (list_all is_thin_name names) outer.0 in
     let count : length (names ++ name ∷ []) ≤ 12 = omega (arith, length-append names (name ∷ [])) in
     let each : list_all is_thin_name (names ++ name ∷ []) ≡ true =
-        list_all-append is_thin_name names (name ∷ []) ∙ ap (λ (b : Bool). b && (is_thin_name name && true)) inner.1 ∙ ap (λ (b : Bool). b && true) good in
+    list_all-append is_thin_name names (name ∷ []) ∙ ap (λ (b : Bool). b && (is_thin_name name && true)) inner.1 ∙ ap (λ (b : Bool). b && true) good in
     all_hold (nat_le (length (names ++ name ∷ [])) 12) (list_all is_thin_name (names ++ name ∷ [])) (are_distinct (names ++ name ∷ []))
-        (le_test (length (names ++ name ∷ [])) 12 count) each (distinct-push names name outer.1 new)
+    (le_test (length (names ++ name ∷ [])) 12 count) each (distinct-push names name outer.1 new)
 
 abbrev compare : List ℕ → List ℕ → Ordering
 compare a b = slice_cmp nat_cmp a b

@@ -121,7 +121,7 @@ fn new_thread(
 }
 
 /// The units of an ASCII text.
-fn ascii(alloc: Global, text: &str) -> Result<Units, OutOfMemory>
+pub(crate) fn ascii(alloc: Global, text: &str) -> Result<Units, OutOfMemory>
     ensures { IfOk result (λ units. units ≡ text.now) }
 {
     let mut units: Vec<u16> = Vec::new(alloc);

@@ -9,6 +9,8 @@ mod names;
 mod node;
 mod parts;
 mod reading;
+#[cfg(test)]
+mod tests;
 mod text;
 
 pub use names::{are_thin_names, contains, is_thin_name, place_of, sorted};

@@ -11,9 +11,9 @@ use Rattle.hfs_model.proofs.names.sorted.Goals as goal
 pub returns-clause-order : goal.returns-clause-order
 returns-clause-order c =
     IfOk-weaker c.insert_all.result (λ sorted. sorted ≡ in_order c.args.names.now) (λ sorted. IsSorted (slice_cmp nat_cmp) sorted)
-        (λ sorted is. subst (λ (l : List (List ℕ)). IsSorted (slice_cmp nat_cmp) l) (sym is) (in_order-sorted c.args.names.now)) c.insert_all.ensures
+    (λ sorted is. subst (λ (l : List (List ℕ)). IsSorted (slice_cmp nat_cmp) l) (sym is) (in_order-sorted c.args.names.now)) c.insert_all.ensures
 
 pub returns-clause-permutation : goal.returns-clause-permutation
 returns-clause-permutation c =
     IfOk-weaker c.insert_all.result (λ sorted. sorted ≡ in_order c.args.names.now) (λ sorted. IsPermutation c.args.names.now sorted)
-        (λ sorted is. subst (λ (l : List (List ℕ)). IsPermutation c.args.names.now l) (sym is) (in_order-permutes c.args.names.now)) c.insert_all.ensures
+    (λ sorted is. subst (λ (l : List (List ℕ)). IsPermutation c.args.names.now l) (sym is) (in_order-permutes c.args.names.now)) c.insert_all.ensures
