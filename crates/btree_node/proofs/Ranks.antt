@@ -83,7 +83,7 @@ module _ (cmp : List ℕ → List ℕ → Ordering) (total : IsTotalOrder cmp) (
     name_here = named (length xs) (omega (arith, size_is)) ∙ ap (λ n. first_key nodes n) (get_or-append_right xs (m ∷ ys) (length xs) (length xs) 0 refl (omega arith) ∙ ap (λ k. get_or (m ∷ ys) k 0) {y = 0} (omega arith))
 
     -- a key that belongs before all records of the node belongs before all of the level
-    front : place ≡ 0 → length xs ≡ 0
+    pub front : place ≡ 0 → length xs ≡ 0
     front none = elim (cases_lt 0 (length xs)) [
       | inl some_before ↦
           let greater : cmp (key_of (get_or (items (nodes m)) 0 [])) key ≡ Greater = subst (λ k. cmp (key_of (get_or (items (nodes m)) k [])) key ≡ Greater) none (behind (omega arith)) in
