@@ -9,3 +9,5 @@ pub mod Packing
 pub mod Replacing
 pub mod Descriptor
 pub mod Units
+pub mod Levels
+pub mod Ranks

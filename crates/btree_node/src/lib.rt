@@ -8,7 +8,11 @@ mod keys;
 mod node;
 mod order;
 mod reads;
+mod store;
+#[cfg(test)]
+mod tests;
 
 pub use keys::{AttrOrder, CatalogOrder, ExtentOrder};
 pub use node::Node;
 pub use order::KeyOrder;
+pub use store::{NodeStore, TreeShape};

@@ -81,7 +81,8 @@ impl Node {
     pub fn item(&self, i: u16) -> &[u8]
         requires cut { IsNode self.now }
         requires inside { i < length (items self.now) }
-        ensures { result.now ≡ slice_index_or (items self.now) i [] }
+        ensures value { result.now ≡ slice_index_or (items self.now) i [] }
+        ensures size { length result.now ≤ length self.now }
     {
         record_at(&self.bytes, i as usize)
     }

@@ -48,7 +48,8 @@ pub(crate) fn record_at(node: &[u8], i: usize) -> &[u8]
     requires size { 512 ≤ length node.now }
     requires cut { IsNode node.now }
     requires inside { i < length (items node.now) }
-    ensures { result.now ≡ slice_index_or (items node.now) i [] }
+    ensures value { result.now ≡ slice_index_or (items node.now) i [] }
+    ensures size { length result.now ≤ length node.now }
 {
     let at = get_offset(node, i);
     let end = get_offset(node, i + 1);
@@ -58,7 +59,8 @@ pub(crate) fn record_at(node: &[u8], i: usize) -> &[u8]
 fn part(node: &[u8], at: usize, end: usize) -> &[u8]
     requires ordered { at ≤ end }
     requires within { end ≤ length node.now }
-    ensures { result.now ≡ slice_range node.now at end }
+    ensures value { result.now ≡ slice_range node.now at end }
+    ensures size { length result.now ≤ length node.now }
 {
     &node[at..end]
 }

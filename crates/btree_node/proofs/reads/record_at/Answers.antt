@@ -23,11 +23,11 @@ part-requires c =
       within = omega (arith, offsets_rise node c.requires.cut (c.args.i + 1) (record_count node) (omega arith) (omega arith), c.requires.cut.inside);
     }
 
-pub returns : goal.returns
-returns c =
+pub returns-clause-value : goal.returns-clause-value
+returns-clause-value c =
     let node = c.args.node.now in
     let long = length-items node in
-    c.part.ensures
+    c.part.ensures.value
     ∙ ap (λ a. slice_range node a c.get_offset-end.result) c.get_offset-at.ensures.value
     ∙ ap (λ e. slice_range node (offset node c.args.i) e) c.get_offset-end.ensures.value
     ∙ sym (item-is node c.args.i (omega arith))
