@@ -1,0 +1,6 @@
+//! The journal's layers over a disk in memory: what each call does with ample memory, and where the
+//! disk fails.
+#![tactic(auto)]
+
+#[cfg(test)]
+mod ring;
