@@ -1,0 +1,15 @@
+pub mod ByteLaws
+pub mod RowLaws
+pub mod FreeLaws
+pub mod RunLaws
+pub mod OrderLaws
+pub mod KeptLaws
+pub mod ApartLaws
+pub mod HoldLaws
+pub mod MapLaws
+pub mod TakeLaws
+pub mod SpaceLaws
+pub mod ForkLaws
+pub mod StoreLaws
+pub mod PlaceLaws
+pub mod StoredLaws

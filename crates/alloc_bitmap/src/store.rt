@@ -1,0 +1,94 @@
+// A bitmap written to its file.
+ghost use Rattle.std.specs.Prelude.{◌≡◌, ◌⊎◌, ◌≤◌, ◌<◌, ◌+◌, ◌*◌, ◌/◌, ◌^◌, ℕ, true, false, IsTrue, length, slice_get, slice_index_or, List};
+ghost use Rattle.std.specs.List.{All};
+ghost use Rattle.sector_disk.specs.Clock.{Passes};
+ghost use Rattle.sector_disk.specs.Space.{SameSpace, TakesRoom, Puts, LeavesDurable};
+ghost use Rattle.fork_map.specs.Blocks.{blocks_of};
+ghost use Rattle.alloc_bitmap.specs.Apart.{AreApart};
+ghost use Rattle.alloc_bitmap.specs.Bits.{bit_of, sectors_for};
+ghost use Rattle.alloc_bitmap.specs.Fork.{fork_sectors, fork_bit, HoldsBits, IsChanged, PutsChanged, TakesRoomFor, not_put};
+
+use crate::Bitmap;
+use crate::bits::Bits;
+use fork_map::ExtentList;
+use sector_disk::SectorSpace;
+
+impl Bitmap {
+    /// Puts the sectors of the bitmap that were changed since the last keep.
+    pub fn store<P: SectorSpace>(&self, space: &mut P)
+        requires inside { All (λ sector. sector < (P.SectorView.space space.old).sectors) (fork_sectors self.now.fork self.now.per_block) }
+        requires enough { sectors_for (length self.now.used) ≤ length (fork_sectors self.now.fork self.now.per_block) }
+        requires apart { IsTrue (P.SectorView.space space.old).tells → AreApart (blocks_of self.now.fork) }
+        requires open { IsTrue (P.SectorView.space space.old).tells → (sector : ℕ) → IsChanged (fork_sectors self.now.fork self.now.per_block) self.now.changed sector → (P.SectorView.space space.old).closed sector → ⊥ }
+        requires others { IsTrue (P.SectorView.space space.old).tells → (k : ℕ) → k < length self.now.used → slice_index_or self.now.changed (k / 4096) false ≡ false
+            → fork_bit (P.SectorView.space space.old).content (fork_sectors self.now.fork self.now.per_block) k ≡ slice_index_or self.now.used k false }
+        requires room { not_put (P.SectorView.space space.old).put (fork_sectors self.now.fork self.now.per_block) self.now.changed ≤ (P.SectorView.space space.old).spare }
+        ensures holds { IsTrue (P.SectorView.space space.old).tells → HoldsBits (P.SectorView.space space.new).content (fork_sectors self.now.fork self.now.per_block) self.now.used }
+        ensures puts { IsTrue (P.SectorView.space space.old).tells → PutsChanged (P.SectorView.space space.old) (fork_sectors self.now.fork self.now.per_block) self.now.changed (P.SectorView.space space.new) }
+        ensures time { IsTrue (P.SectorView.space space.old).tells → Passes (P.SectorView.space space.old).clock (P.SectorView.space space.new).clock (LeavesDurable (P.SectorView.space space.new)) }
+        ensures room { TakesRoomFor (P.SectorView.space space.old) (fork_sectors self.now.fork self.now.per_block) self.now.changed (P.SectorView.space space.new) }
+        ensures same { SameSpace (P.SectorView.space space.old) (P.SectorView.space space.new) }
+        ensures faults { (P.SectorView.space space.new).faults ≡ (P.SectorView.space space.old).faults }
+    {
+        store_changed(
+            space,
+            self.used.bits(),
+            &self.changed,
+            &self.fork,
+            self.block / 512,
+        );
+    }
+}
+
+/// Puts the changed ones of the sectors that these bits take.
+fn store_changed<P: SectorSpace>(
+    space: &mut P,
+    used: &Bits,
+    changed: &Bits,
+    fork: &ExtentList,
+    per_block: u32,
+)
+    requires small { per_block ≤ 2 ^ 23 }
+    requires size { length changed.now ≡ sectors_for (length used.now) }
+    requires inside { All (λ sector. sector < (P.SectorView.space space.old).sectors) (fork_sectors fork.now per_block) }
+    requires enough { sectors_for (length used.now) ≤ length (fork_sectors fork.now per_block) }
+    requires apart { IsTrue (P.SectorView.space space.old).tells → AreApart (blocks_of fork.now) }
+    requires open { IsTrue (P.SectorView.space space.old).tells → (sector : ℕ) → IsChanged (fork_sectors fork.now per_block) changed.now sector → (P.SectorView.space space.old).closed sector → ⊥ }
+    requires others { IsTrue (P.SectorView.space space.old).tells → (k : ℕ) → k < length used.now → slice_index_or changed.now (k / 4096) false ≡ false
+        → fork_bit (P.SectorView.space space.old).content (fork_sectors fork.now per_block) k ≡ slice_index_or used.now k false }
+    requires room { not_put (P.SectorView.space space.old).put (fork_sectors fork.now per_block) changed.now ≤ (P.SectorView.space space.old).spare }
+    ensures holds { IsTrue (P.SectorView.space space.old).tells → HoldsBits (P.SectorView.space space.new).content (fork_sectors fork.now per_block) used.now }
+    ensures puts { IsTrue (P.SectorView.space space.old).tells → PutsChanged (P.SectorView.space space.old) (fork_sectors fork.now per_block) changed.now (P.SectorView.space space.new) }
+    ensures time { IsTrue (P.SectorView.space space.old).tells → Passes (P.SectorView.space space.old).clock (P.SectorView.space space.new).clock (LeavesDurable (P.SectorView.space space.new)) }
+    ensures room { TakesRoomFor (P.SectorView.space space.old) (fork_sectors fork.now per_block) changed.now (P.SectorView.space space.new) }
+    ensures same { SameSpace (P.SectorView.space space.old) (P.SectorView.space space.new) }
+    ensures faults { (P.SectorView.space space.new).faults ≡ (P.SectorView.space space.old).faults }
+{
+    let count = changed.len();
+    for place in 0..count {
+        if changed.get(place) {
+            match fork.sector_at(per_block, place as u64) {
+                Some(at) => put_place(space, used, at, place),
+                None => return,
+            }
+        }
+    }
+}
+
+/// Puts one sector of the bitmap.
+fn put_place<P: SectorSpace>(space: &mut P, used: &Bits, at: u64, place: usize)
+    requires place { place < sectors_for (length used.now) }
+    requires inside { at < (P.SectorView.space space.old).sectors }
+    requires open { IsTrue (P.SectorView.space space.old).tells → (P.SectorView.space space.old).closed at → ⊥ }
+    requires room { (0 < (P.SectorView.space space.old).spare) ⊎ IsTrue ((P.SectorView.space space.old).put at) }
+    ensures puts { IsTrue (P.SectorView.space space.old).tells → (value : List ℕ) × Puts (P.SectorView.space space.old) at value (P.SectorView.space space.new)
+        × ((k : ℕ) → k < 4096 → bit_of value k ≡ slice_index_or used.now (place * 4096 + k) false) }
+    ensures time { IsTrue (P.SectorView.space space.old).tells → Passes (P.SectorView.space space.old).clock (P.SectorView.space space.new).clock (LeavesDurable (P.SectorView.space space.new)) }
+    ensures room { TakesRoom (P.SectorView.space space.old) at (P.SectorView.space space.new) }
+    ensures same { SameSpace (P.SectorView.space space.old) (P.SectorView.space space.new) }
+    ensures faults { (P.SectorView.space space.new).faults ≡ (P.SectorView.space space.old).faults }
+{
+    let mut sector = [0; 512];
+    used.read_sector(place, &mut sector);
+    space.put(at, &sector);
+}
