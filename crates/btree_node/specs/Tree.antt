@@ -66,6 +66,7 @@ pub record IsReached (store : Store) (n : ℕ) : Type 0 where
 pub record IsMapped (store : Store) : Type 0 where
   pub used : (n : ℕ) → n < store.shape.total → store.used n ≡ true ↔ (IsReached store n ⊎ IsTrue (store.reserved n))
   pub of_tree : (n : ℕ) → IsReached store n → store.reserved n ≡ false
+  pub header : store.reserved 0 ≡ true
   pub distinct : (j k i m : ℕ) → j < store.shape.depth → k < length (level_of store j) → i < store.shape.depth → m < length (level_of store i)
       → slice_index (level_of store j) k ≡ slice_index (level_of store i) m → (j ≡ i) × (k ≡ m)
   pub free : store.shape.free + count_by (λ n. store.used n) (range_with_len 0 store.shape.total) ≡ store.shape.total

@@ -1,0 +1,4 @@
+pub mod Pairs
+pub mod Descent
+pub mod Repeated
+pub mod Picking

@@ -1,0 +1,57 @@
+-- What a search finds.
+use Rattle.std.specs.Prelude.{◌≡◌, ◌≢◌, ◌<◌, ◌≤◌, ℕ, ◌+◌, ◌-◌, ◌⊎◌, List, Bool, true, false, [], ◌++◌, length, slice_index_or}
+use Rattle.std.specs.declared.cmp.Ordering.{Ordering}
+use Rattle.std.specs.declared.cmp.Ordering.TheVariants.{Greater, Equal}
+use Rattle.btree_node.specs.Node.{items}
+use Rattle.btree_node.specs.Levels.{Pair, key_of, value_of}
+use Rattle.btree_node.specs.Store.{Store}
+use Rattle.btree_node.specs.Tree.{pairs_of}
+use Rattle.btree_edit.specs.Reading.{IsPlace, HasNoKey}
+use Rattle.btree_edit.specs.declared.desk.Desk.{Desk}
+use Rattle.btree_edit.specs.declared.finding.Found.{Found}
+use Rattle.btree_edit.specs.declared.finding.Found.TheVariants.{At, Absent}
+
+-- a desk for nodes of this size
+pub record IsDeskOf (size : ℕ) (desk : Desk) : Type 0 where
+  pub node : length desk.node ≡ size
+  pub other : length desk.other ≡ size
+  pub held : desk.held.room ≡ size
+
+-- one of the pairs has this key
+abbrev pub HasKey : (List ℕ → List ℕ → Ordering) → List ℕ → List Pair → Type 0
+HasKey cmp key pairs = (k : ℕ) × (k < length pairs) × (cmp (slice_index_or pairs k ([], [])).0 key ≡ Equal)
+
+-- the desk holds this pair of the tree
+pub record HoldsPair (store : Store) (desk : Desk) (place : ℕ) : Type 0 where
+  pub inside : place < length (pairs_of store)
+  pub key : desk.held.key ≡ (slice_index_or (pairs_of store) place ([], [])).0
+  pub value : desk.held.value ≡ (slice_index_or (pairs_of store) place ([], [])).1
+
+-- the desk holds no pair
+pub record HoldsNone (desk : Desk) : Type 0 where
+  pub key : desk.held.key ≡ []
+  pub value : desk.held.value ≡ []
+
+-- At: the desk holds the pair with the key, which stands in this node at this place. Absent: no pair has the key, and the desk holds none.
+abbrev pub Finds : (List ℕ → List ℕ → Ordering) → List ℕ → Store → Desk → Found → Type 0
+Finds cmp key store desk (At node index) =
+    (cmp desk.held.key key ≡ Equal) × ((k : ℕ) × HoldsPair store desk k) × (slice_index_or (items (store.nodes node)) index [] ≡ desk.held.key ++ desk.held.value)
+Finds cmp key store desk Absent = (HasKey cmp key (pairs_of store) → ⊥) × HoldsNone desk
+
+-- the search of one leaf: where the key is, the desk has its pair; else the desk is as it was
+abbrev pub Picks : (List ℕ → Type 0) → (List ℕ → List ℕ → Ordering) → List ℕ → ℕ → Desk → Desk → Found → Type 0
+Picks is_key cmp key node old new (At at index) =
+    (at ≡ node) × IsPlace cmp key (items old.node) (index + 1) × (cmp (key_of (slice_index_or (items old.node) index [])) key ≡ Equal)
+    × (new.held.key ≡ key_of (slice_index_or (items old.node) index [])) × (new.held.value ≡ value_of (slice_index_or (items old.node) index []))
+Picks is_key cmp key node old new Absent =
+    (new.held ≡ old.held) × (HasNoKey is_key (items old.node) ⊎ ((place : ℕ) × IsPlace cmp key (items old.node) place × (0 < place → cmp (key_of (slice_index_or (items old.node) (place - 1) [])) key ≢ Equal)))
+
+-- the pairs before this place have no greater key, and those from there on a greater one
+pub record IsAbove (cmp : List ℕ → List ℕ → Ordering) (key : List ℕ) (pairs : List Pair) (place : ℕ) : Type 0 where
+  pub before : (k : ℕ) → k < place → cmp (slice_index_or pairs k ([], [])).0 key ≢ Greater
+  pub behind : (k : ℕ) → place ≤ k → k < length pairs → cmp (slice_index_or pairs k ([], [])).0 key ≡ Greater
+
+-- true: the desk holds the least pair above the key. false: there is none, and the desk holds none.
+abbrev pub FindsNext : (List ℕ → List ℕ → Ordering) → List ℕ → Store → Desk → Bool → Type 0
+FindsNext cmp key store desk true = (k : ℕ) × HoldsPair store desk k × IsAbove cmp key (pairs_of store) k
+FindsNext cmp key store desk false = IsAbove cmp key (pairs_of store) (length (pairs_of store)) × HoldsNone desk

@@ -1,0 +1,114 @@
+//! Reading a node of the tree, and the place of a key in it.
+ghost use Rattle.std.specs.Prelude.{◌≡◌, ◌≢◌, ◌<◌, ◌≤◌, ◌+◌, ◌-◌, ◌∷◌, [], ℕ, IsTrue, length, slice_index_or, IfOk, IfSome, IfNone, ◌⊎◌};
+ghost use Rattle.btree_node.specs.Node.{IsNode, IsNodeOf, items};
+ghost use Rattle.btree_node.specs.Levels.{key_of, value_of, child_of};
+ghost use Rattle.btree_node.specs.Store.{HasCause};
+ghost use Rattle.btree_node.specs.Tree.{kind_at};
+ghost use Rattle.btree_edit.specs.Reading.{ReadsOnly, IsPlace, HasNoKey, IsLead};
+
+use btree_node::{KeyOrder, Node, NodeStore};
+use hx_bytes::{Failed, read_be16, read_be32};
+
+/// The key at the front of a record, with its length.
+#[tactic(auto, unfolding(btree_node::specs::Levels::key_of))]
+pub(crate) fn key_part(item: &[u8]) -> &[u8]
+    ensures { result.now ≡ key_of item.now }
+{
+    if item.len() < 2 {
+        return item;
+    }
+    let end = read_be16(item, 0) as usize + 2;
+    if end < item.len() { &item[..end] } else { item }
+}
+
+/// The child that an index record names.
+pub(crate) fn child_part(item: &[u8]) -> u32
+    ensures { 4 ≤ length (value_of item.now) → result ≡ child_of item.now }
+{
+    let at = key_part(item).len();
+    if at + 4 <= item.len() {
+        read_be32(item, at)
+    } else {
+        0
+    }
+}
+
+/// How many of a node's first records have no key above this one; none where a record has no valid key.
+pub(crate) fn place<K: KeyOrder>(node: &Node, key: &[u8]) -> Option<u16>
+    requires cut { IsNode node.now }
+    requires key { K.is_key key.now }
+    ensures place { IfSome result (λ at. IsPlace K.cmp key.now (items node.now) at) }
+    ensures keys { IfSome result (λ at. (k : ℕ) → k < at → K.is_key (key_of (slice_index_or (items node.now) k []))) }
+    ensures no_key { IfNone result (HasNoKey K.is_key (items node.now)) }
+{
+    for i in 0..node.count() {
+        let own = key_part(node.item(i));
+        if !K::valid(own) {
+            return None;
+        }
+        if K::compare(own, key).is_gt() {
+            return Some(i);
+        }
+    }
+    Some(node.count())
+}
+
+/// A step from an index node towards a key.
+#[derive(Clone, Copy)]
+pub struct Lead {
+    pub(crate) place: u16,
+    pub(crate) index: u16,
+    pub(crate) child: u32,
+}
+
+/// The record of an index node that leads to a key; none where there is no record, or one without a valid key.
+pub(crate) fn step<K: KeyOrder>(node: &Node, key: &[u8]) -> Option<Lead>
+    requires cut { IsNode node.now }
+    requires key { K.is_key key.now }
+    ensures step { IfSome result (λ step. IsLead K.cmp key.now (items node.now) step) }
+    ensures none { IfNone result (HasNoKey K.is_key (items node.now) ⊎ (items node.now ≡ [])) }
+{
+    let Some(place) = place::<K>(node, key) else {
+        return None;
+    };
+    if node.count() == 0 {
+        return None;
+    }
+    let index = place.saturating_sub(1);
+    let child = child_part(node.item(index));
+    Some(Lead {
+        place,
+        index,
+        child,
+    })
+}
+
+/// The kind of the nodes at a height.
+fn kind_at(height: u16) -> i8
+    ensures { result ≡ kind_at height }
+{
+    if height == 1 { -1 } else { 0 }
+}
+
+/// Reads a node, and tells whether it is one of this height.
+pub(crate) fn read_node<N: NodeStore>(
+    store: &mut N,
+    into: &mut Node,
+    number: u32,
+    height: u16,
+) -> Result<bool, Failed>
+    requires { length into.old ≡ (N.state store.old).shape.node_size }
+    ensures is_node { IfOk result (λ yes. IsTrue yes → IsNodeOf (kind_at height) height into.new) }
+    ensures value { IsTrue (N.state store.old).tells → IfOk result (λ yes. IsTrue yes → into.new ≡ (N.state store.old).nodes number) }
+    ensures sound { IsTrue (N.state store.old).tells → number < (N.state store.old).shape.total → IsNodeOf (kind_at height) height ((N.state store.old).nodes number) → height < 256 → IfOk result (λ yes. IsTrue yes) }
+    ensures size { length into.new ≡ length into.old }
+    ensures reads { ReadsOnly 1 (N.state store.old) (N.state store.new) }
+    ensures cause { HasCause (N.state store.old).faults (N.state store.new).faults result }
+    ensures below { N.follows store.old store.new }
+{
+    if height > 255 || number >= store.shape().total {
+        return Ok(false);
+    }
+    store.load(number, into)?;
+    Ok(into.check(kind_at(height), height as u8))
+}
