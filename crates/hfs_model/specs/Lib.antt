@@ -5,3 +5,5 @@ pub mod Bits
 pub mod Node
 pub mod Thin
 pub mod Reading
+pub mod Text
+pub mod Language

@@ -1,8 +1,10 @@
-//! The thin volume: what its sectors hold, and the functions that make and read its parts.
+//! What a volume is to its users: commands, their replies and the language of both; and the thin volume: what its sectors
+//! hold, and the functions that make and read its parts.
 #![tactic(auto)]
 
 mod bits;
 mod blocks;
+mod command;
 mod headers;
 mod laws;
 mod leaf;
@@ -10,11 +12,16 @@ mod names;
 mod node;
 mod parts;
 mod reading;
+mod refusal;
+mod reply;
 #[cfg(test)]
 mod tests;
 mod text;
 
+pub use command::{Command, Path};
 pub use laws::{lines_end, one_list};
 pub use names::{are_thin_names, contains, is_thin_name, place_of, sorted};
 pub use node::{NodeHead, TreeHeader};
 pub use parts::{Parts, fresh_parts, thin_names, with_names};
+pub use refusal::Refusal;
+pub use reply::{Change, ChangeKind, Changes, Facts, Gauge, ListedName, Listing, Reply, TreeGauge};

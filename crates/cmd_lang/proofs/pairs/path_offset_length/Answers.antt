@@ -1,0 +1,6 @@
+use Rattle.hfs_model.specs.Language as spec
+use Rattle.cmd_lang.proofs.Both.{reads_both}
+use Rattle.cmd_lang.proofs.pairs.path_offset_length.Goals as goal
+
+pub returns : goal.returns
+returns c = reads_both (spec.path_of c.args.one.now) (spec.both (spec.number_of c.args.two.now) (spec.number_of c.args.three.now)) c.read_path-first.result c.two_numbers-second.result c.both.result c.read_path-first.ensures c.two_numbers-second.ensures c.both.ensures

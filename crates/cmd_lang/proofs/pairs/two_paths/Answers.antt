@@ -1,0 +1,6 @@
+use Rattle.hfs_model.specs.Language as spec
+use Rattle.cmd_lang.proofs.Both.{reads_both}
+use Rattle.cmd_lang.proofs.pairs.two_paths.Goals as goal
+
+pub returns : goal.returns
+returns c = reads_both (spec.path_of c.args.one.now) (spec.path_of c.args.two.now) c.read_path-first.result c.read_path-second.result c.both.result c.read_path-first.ensures c.read_path-second.ensures c.both.ensures

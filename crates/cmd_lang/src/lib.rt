@@ -1,0 +1,17 @@
+//! The language of lines: a line is read to a command, and a reply is printed as a line.
+#![tactic(auto)]
+
+mod command;
+mod fault;
+mod line;
+mod pairs;
+mod path;
+mod print;
+mod refusal;
+mod reply;
+mod split;
+mod words;
+
+pub use fault::LineFault;
+pub use line::read_line;
+pub use reply::print_reply;

@@ -1,0 +1,65 @@
+//! Numbers and values are printed into bytes.
+ghost use Rattle.std.specs.Prelude.{◌≡◌, ◌++◌, ◌<◌, true, IfOk, OnOk};
+ghost use Rattle.std.specs.List.{flat_map};
+ghost use Rattle.std.specs.Fmt.{digit_glyph};
+ghost use Rattle.hfs_model.specs.Text as spec;
+
+use itoa::Buffer;
+use std::alloc::{AllocError, Global};
+
+/// Appends a number with a space in front.
+pub(crate) fn push_field(text: &mut Vec<u8>, number: u64) -> Result<(), AllocError>
+    ensures { OnOk result (text.new.items ≡ text.old.items ++ spec.field number) }
+{
+    let mut buffer = Buffer::new();
+    text.extend_from_slice(b" ")?;
+    text.extend_from_slice(buffer.format(number).as_bytes())
+}
+
+/// A value, with `=` in front.
+pub(crate) fn value_text(alloc: Global, value: &[u8]) -> Result<Vec<u8>, AllocError>
+    ensures { IfOk result (λ text. text.items ≡ spec.value_text value.now) }
+{
+    let mut text = Vec::from_slice(alloc, b"=")?;
+    push_bytes(&mut text, value)?;
+    Ok(text)
+}
+
+/// Appends each byte as a value spells it.
+pub(crate) fn push_bytes(text: &mut Vec<u8>, value: &[u8]) -> Result<(), AllocError>
+    ensures { OnOk result (text.new.items ≡ text.old.items ++ flat_map spec.byte_text value.now) }
+{
+    for byte in value {
+        push_byte(text, *byte)?;
+    }
+    Ok(())
+}
+
+fn push_byte(text: &mut Vec<u8>, byte: u8) -> Result<(), AllocError>
+    ensures { OnOk result (text.new.items ≡ text.old.items ++ spec.byte_text byte) }
+{
+    if is_plain(byte) {
+        text.extend_from_slice(&[byte])
+    } else {
+        text.extend_from_slice(&[b'%', hex_digit(byte / 16 % 16), hex_digit(byte % 16)])
+    }
+}
+
+/// A byte that stands for itself in a value.
+fn is_plain(byte: u8) -> bool
+    ensures { result ≡ spec.is_plain byte }
+{
+    byte >= 33 && byte <= 126 && byte != b'%'
+}
+
+/// An upper-case hexadecimal digit.
+fn hex_digit(value: u8) -> u8
+    requires { value < 16 }
+    ensures { result ≡ digit_glyph true value }
+{
+    if value < 10 {
+        b'0' + value
+    } else {
+        b'A' + (value - 10)
+    }
+}
