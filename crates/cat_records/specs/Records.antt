@@ -1,5 +1,5 @@
 -- Catalog records as they stand in bytes, all numbers big-endian (TN1150, "Catalog File").
-use Rattle.std.specs.Prelude.{◌≡◌, ℕ, zero, suc, ◌+◌, ◌*◌, ◌^◌, ◌<◌, min, Bool, ◌&&◌, ◌||◌, nat_lt, nat_le, ◌==◌, if◌then◌else◌, true, false, List, [], ◌∷◌, ◌++◌, length, take, drop, slice_index, Option, Some, None}
+use Rattle.std.specs.Prelude.{ℕ, zero, suc, ◌+◌, ◌*◌, min, Bool, ◌&&◌, ◌||◌, nat_lt, nat_le, ◌==◌, if◌then◌else◌, false, List, [], ◌∷◌, ◌++◌, length, take, drop, slice_index, Option, Some, None}
 use Rattle.std.specs.List.{flat_map}
 use Rattle.std.specs.Int.{w16, cast_signed, cast_unsigned}
 use Rattle.hx_bytes.specs.Field.{big, big_at}
@@ -64,10 +64,14 @@ entry_of bytes = record {
   rest = big_at 4 bytes 84;
 }
 
+-- the type of a file's thread is 4, that of a folder's 3
+abbrev pub thread_kind : Bool → ℕ
+thread_kind of_file = if of_file then 4 else 3
+
 -- a thread: its type, a reserved word, the parent, and the name behind its length
 abbrev pub thread_bytes : ThreadRecord → List ℕ
 thread_bytes thread =
-    big 2 (if thread.of_file then 4 else 3) ++ big 2 (cast_unsigned w16 thread.spare) ++ big 4 thread.parent
+    big 2 (thread_kind thread.of_file) ++ big 2 (cast_unsigned w16 thread.spare) ++ big 4 thread.parent
     ++ big 2 (length thread.name) ++ units_bytes thread.name
 
 -- the thread in bytes, each field at its offset

@@ -2,7 +2,7 @@
 ghost use Rattle.std.specs.Prelude.{◌≡◌, ◌≢◌, ◌↔◌, ◌++◌, ◌%◌, length, take, drop, replicate, IsTrue, IfOk, OnOk, Some, Err};
 ghost use Rattle.hx_bytes.specs.Field.{big, big_at};
 ghost use Rattle.hx_bytes.specs.Fork.{extents_bytes, fork_bytes};
-ghost use Rattle.cat_records.specs.Attributes.{attr_bytes, attr_fault, attr_kind, attr_of, has_inline_length, is_attr};
+ghost use Rattle.cat_records.specs.Attributes.{attr_bytes, attr_fault, attr_kind, attr_of, has_inline_length, is_attr, without_reserved};
 ghost use Rattle.cat_records.specs.declared.fault.RecordFault.{RecordFault};
 ghost use Rattle.cat_records.specs.declared.fault.RecordFault.TheVariants.{Memory};
 
@@ -37,6 +37,7 @@ const MORE_LENGTH: usize = 72;
 /// Reads the attribute record that bytes spell. Reserved words and the pad may hold anything.
 pub fn read_attr(alloc: Global, value: &[u8]) -> Result<AttrRecord, RecordFault>
     ensures read { IfOk result (λ found. found ≡ attr_of value.now) }
+    ensures spelled { IfOk result (λ found. attr_bytes found ≡ without_reserved value.now) }
     // Any fault but want of memory comes exactly where the bytes are no record.
     ensures refused { (fault : RecordFault) → fault ≢ Memory → (result ≡ Err fault) ↔ (attr_fault value.now ≡ Some fault) }
 {

@@ -24,6 +24,7 @@ const FILE_LENGTH: usize = 248;
 /// Reads the catalog record that bytes spell (TN1150, "Catalog File Data").
 pub fn read_catalog(alloc: Global, value: &[u8]) -> Result<CatRecord, RecordFault>
     ensures read { IfOk result (λ found. found ≡ catalog_of value.now) }
+    ensures spelled { IfOk result (λ found. catalog_bytes found ≡ value.now) }
     // Any fault but want of memory comes exactly where the bytes are no record.
     ensures refused { (fault : RecordFault) → fault ≢ Memory → (result ≡ Err fault) ↔ (catalog_fault value.now ≡ Some fault) }
 {

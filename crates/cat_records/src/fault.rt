@@ -4,7 +4,6 @@ ghost use Rattle.cat_records.specs.Records.{bad_record};
 ghost use Rattle.cat_records.specs.declared.fault.RecordFault.TheVariants.{Memory};
 
 use hx_bytes::OutOfMemory;
-use std::alloc::AllocError;
 
 /// The largest length that a fault tells.
 const LARGEST: usize = 4_294_967_295;
@@ -22,14 +21,6 @@ impl From<OutOfMemory> for RecordFault {
     ghost from_gives = { λ _ e. e ≡ Memory };
 
     fn from(_: OutOfMemory) -> Self {
-        RecordFault::Memory
-    }
-}
-
-impl From<AllocError> for RecordFault {
-    ghost from_gives = { λ _ e. e ≡ Memory };
-
-    fn from(_: AllocError) -> Self {
         RecordFault::Memory
     }
 }

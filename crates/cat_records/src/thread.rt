@@ -1,7 +1,7 @@
 //! Threads, in bytes.
-ghost use Rattle.std.specs.Prelude.{◌≡◌, ◌+◌, ◌*◌, ◌%◌, ◌≤◌, length, IfOk, if◌then◌else◌};
+ghost use Rattle.std.specs.Prelude.{◌≡◌, ◌+◌, ◌*◌, ◌%◌, ◌≤◌, length, IfOk};
 ghost use Rattle.hx_bytes.specs.Field.{big_at};
-ghost use Rattle.cat_records.specs.Records.{thread_bytes, thread_of};
+ghost use Rattle.cat_records.specs.Records.{thread_bytes, thread_kind, thread_of};
 
 use crate::record::ThreadRecord;
 use crate::units::{append_units, low_bits, read_units};
@@ -45,7 +45,7 @@ pub(crate) fn write_thread(alloc: Global, thread: &ThreadRecord) -> Result<Bytes
 }
 
 fn thread_kind(of_file: bool) -> u16
-    ensures { result ≡ (if of_file then 4 else 3) }
+    ensures { result ≡ thread_kind of_file }
 {
     if of_file { FILE_THREAD } else { FOLDER_THREAD }
 }

@@ -1,6 +1,6 @@
 -- A spelling read field by field: what is left of it from a place on.
-use Rattle.std.proofs.Common.{◌≡◌, ℕ, zero, suc, ◌+◌, ◌^◌, ◌<◌, List, [], ◌∷◌, ◌++◌, length, take, drop, refl, sym, ◌∙◌, ap, subst, add_assoc, append_assoc}
-use Rattle.std.proofs.lemmas.List.{drop-drop}
+use Rattle.std.proofs.Common.{◌≡◌, ℕ, zero, suc, ◌+◌, ◌^◌, ◌<◌, List, [], ◌∷◌, ◌++◌, length, take, drop, refl, sym, ◌∙◌, ap, subst, add_assoc, append_assoc, get_or, add-zero}
+use Rattle.std.proofs.lemmas.List.{drop-drop, get_or-drop}
 use Rattle.std.proofs.Math.Seq.{drop-append_seam, take-append_seam}
 use Rattle.std.specs.List.{flat_map, AllByRecursion}
 use Rattle.hx_bytes.specs.Field.{big, big_at, number_at}
@@ -83,3 +83,11 @@ fork_here whole rest at fork fits here =
     let behind_blocks : Behind whole (extents_bytes fork.extents ++ rest) (at + 16) = record { is = (simp add_assoc at (behind_number 4 fork.total_blocks behind_clump).is) } in
     let extents = extents_here whole rest (at + 16) fork.extents fits.extents behind_blocks in
     rw (logical_size, clump_size, total_blocks, extents) refl
+
+-- past a byte
+pub behind_byte : {whole rest : List ℕ} {at : ℕ} (byte : ℕ) → Behind whole (byte ∷ rest) at → Behind whole rest (at + 1)
+behind_byte byte here = behind_part (byte ∷ []) 1 refl here
+
+-- the byte that stands here
+pub byte_here : {whole : List ℕ} {at : ℕ} (rest : List ℕ) (byte : ℕ) → Behind whole (byte ∷ rest) at → get_or whole at 0 ≡ byte
+byte_here {whole} {at} rest byte here = ap (λ (k : ℕ). get_or whole k 0) (sym (add-zero at)) ∙ sym (get_or-drop at whole 0 0) ∙ ap (λ (l : List ℕ). get_or l 0 0) here.is

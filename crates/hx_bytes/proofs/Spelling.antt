@@ -1,5 +1,6 @@
 -- What was read, spelled again field by field: the bytes that were there.
-use Rattle.std.proofs.Common.{◌≡◌, ℕ, ◌+◌, ◌≤◌, List, ◌++◌, length, take, drop, sym, ◌∙◌, ap, arith, append_assoc, take-add}
+use Rattle.std.proofs.Common.{◌≡◌, ℕ, ◌+◌, ◌≤◌, List, ◌++◌, length, take, drop, sym, ◌∙◌, ap, arith, append_assoc, take-add, ◌<◌, [], ◌∷◌, get_or}
+use Rattle.std.proofs.Math.Seq.{drop-cons}
 use Rattle.std.proofs.lemmas.List.{drop-drop, append-nil}
 use Rattle.hx_bytes.specs.Field.{big, big_at, AreBytes}
 use Rattle.hx_bytes.specs.Fork.{extent_at, extent_bytes, extents_at, extents_bytes, fork_at, fork_bytes}
@@ -55,3 +56,8 @@ spelled_fork bytes at are fits =
     let clump = spelled_4 are (omega arith) size in
     let blocks = spelled_4 are (omega arith) clump in
     (spelled_part _ 64 blocks (spelled_extents bytes (at + 16) are (omega arith))).is
+
+-- one byte more
+pub spelled_byte : {bytes front : List ℕ} {at long : ℕ} → at + long < length bytes → Spelled bytes front at long → Spelled bytes (front ++ get_or bytes (at + long) 0 ∷ []) at (long + 1)
+spelled_byte {bytes} {front} {at} {long} within so_far =
+    spelled_part _ 1 so_far (ap (λ (l : List ℕ). take 1 l) (sym (drop-cons bytes (at + long) 0 within)))

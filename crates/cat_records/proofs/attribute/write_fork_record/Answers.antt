@@ -1,4 +1,4 @@
-use Rattle.std.proofs.Common.{◌≡◌, ◌∙◌, refl, replicate, arith}
+use Rattle.std.proofs.Common.{◌∙◌, refl, replicate, arith}
 use Rattle.hx_bytes.specs.Fork.{fork_bytes}
 use Rattle.hx_bytes.proofs.Writing.{written_none, written_number, written_gap, written_more, written_whole}
 use Rattle.cat_records.proofs.attribute.write_fork_record.Goals as goal

@@ -1,4 +1,4 @@
-use Rattle.std.proofs.Common.{◌≡◌, ◌%◌, ◌++◌, ◌∙◌, refl, ap, replicate, length, arith}
+use Rattle.std.proofs.Common.{◌%◌, ◌++◌, ◌∙◌, refl, ap, replicate, length, arith}
 use Rattle.hx_bytes.specs.Field.{big}
 use Rattle.hx_bytes.specs.declared.fields.Order.TheVariants.{Big}
 use Rattle.hx_bytes.proofs.Putting.{number_bytes-low_4}

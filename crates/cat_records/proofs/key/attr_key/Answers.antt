@@ -1,5 +1,5 @@
-use Rattle.std.proofs.Common.{◌≡◌, ◌+◌, ◌*◌, ◌++◌, ◌∙◌, refl, ap, replicate, arith}
-use Rattle.hx_bytes.specs.Field.{big, number_bytes}
+use Rattle.std.proofs.Common.{◌+◌, ◌*◌, ◌++◌, ◌∙◌, refl, ap, replicate, arith}
+use Rattle.hx_bytes.specs.Field.{big}
 use Rattle.hx_bytes.proofs.Writing.{written_none, written_number, written_gap, written_whole}
 use Rattle.cat_records.specs.Records.{units_bytes}
 use Rattle.cat_records.proofs.key.attr_key.Goals as goal

@@ -1,4 +1,4 @@
-use Rattle.std.proofs.Common.{◌≡◌, ◌+◌, ◌*◌, ◌++◌, ◌∙◌, refl, ap, replicate, arith}
+use Rattle.std.proofs.Common.{◌+◌, ◌*◌, ◌++◌, ◌∙◌, refl, ap, replicate, arith}
 use Rattle.hx_bytes.specs.Field.{big}
 use Rattle.hx_bytes.proofs.Writing.{written_none, written_number, written_whole}
 use Rattle.cat_records.specs.Records.{units_bytes}

@@ -1,5 +1,4 @@
-use Rattle.std.proofs.Common.{◌≡◌, ℕ, ◌∙◌, refl, replicate, arith, append_assoc}
-use Rattle.std.proofs.lemmas.List.{length-set}
+use Rattle.std.proofs.Common.{◌∙◌, refl, replicate, arith, append_assoc}
 use Rattle.hx_bytes.proofs.Writing.{written_none, written_number, written_byte, written_gap, written_whole}
 use Rattle.cat_records.proofs.key.extent_key.Goals as goal
 

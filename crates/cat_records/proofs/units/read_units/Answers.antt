@@ -1,4 +1,4 @@
-use Rattle.std.proofs.Common.{◌≡◌, ◌+◌, ◌-◌, ◌*◌, arith}
+use Rattle.std.proofs.Common.{arith}
 use Rattle.cat_records.proofs.UnitLists.{units_at-more}
 use Rattle.cat_records.proofs.units.read_units.Goals as goal
 
