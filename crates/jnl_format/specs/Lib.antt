@@ -1,1 +1,5 @@
+pub mod Checksum
+pub mod Header
+pub mod Info
+pub mod List
 pub mod Ring

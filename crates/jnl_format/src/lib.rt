@@ -1,2 +1,14 @@
 //! The structures of a volume's journal, and what a journal stands for.
 #![tactic(auto)]
+
+mod header;
+mod info;
+mod list;
+mod structures;
+mod sums;
+
+pub use header::{read_header, write_header};
+pub use info::{first_info_fault, info_fields, read_info, write_info};
+pub use list::{read_entry, read_list, write_entry, write_list};
+pub use structures::{Entry, Header, Info, JnlRefusal, ListHead};
+pub use sums::checksum;
