@@ -8,7 +8,9 @@ use Rattle.volume_header.specs.declared.header.VolumeHeader.{VolumeHeader}
 use Rattle.volume_header.specs.declared.refusal.HeaderRefusal.{HeaderRefusal}
 use Rattle.jnl_format.specs.Info.{unless_fault}
 use Rattle.jnl_format.specs.Ring.{bytes_from, distance, offset_after}
-use Rattle.jnl_format.specs.Text.{Volume, Home, bad_list, text_homes, keeps_volume, is_same_volume}
+use Rattle.jnl_format.specs.Text.{bad_list, text_homes, keeps_volume, is_same_volume}
+use Rattle.jnl_format.specs.declared.blocks.Home.{Home}
+use Rattle.jnl_format.specs.declared.blocks.Volume.{Volume}
 use Rattle.jnl_format.specs.Recovery.{Content, sector, header_of_volume, Journal, and_then, journal_in, text_of, volume_of, list_fault, foreign_fault, text_fault, or_else, homes_of, with_homes, replayed, recovery_at, recovery, info_sector_of}
 use Rattle.jnl_format.specs.declared.structures.JnlRefusal.{JnlRefusal}
 use Rattle.jnl_format.specs.declared.structures.JnlRefusal.TheVariants.{BadList}
@@ -31,7 +33,7 @@ pub text_parts : (at version : ℕ) (journal : Journal) (content : Content) → 
     → (bad_list (volume_of at journal content) journal.header.order journal.header.blhdr (text_of journal content) (length (text_of journal content)) 0 ≡ None) × (foreign_fault version journal ≡ None)
 text_parts at version journal content h =
     let p = or_none (list_fault at journal content) (foreign_fault version journal) h in
-    (map_none (λ place. BadList (offset_after journal.header.size journal.header.start place)) _ p.0, p.1)
+    (map_none (λ place. BadList (offset_after journal.info.size journal.header.start place)) _ p.0, p.1)
 
 -- each home of a journal that is accepted
 pub good_homes : (at version : ℕ) (journal : Journal) (content : Content) → text_fault at version journal content ≡ None → Each (IsGoodHome (volume_of at journal content) (text_of journal content)) (homes_of journal content)
@@ -94,7 +96,7 @@ same_fault at version journal content image size text header =
     let bad : bad_list new order blhdr (text_of journal image) (length (text_of journal image)) 0 ≡ bad_list old order blhdr (text_of journal content) (length (text_of journal content)) 0 =
     ap (λ (t : List ℕ). bad_list new order blhdr t (length t) 0) text
     ∙ bad_same old new order blhdr (text_of journal content) (length (text_of journal content)) 0 (record { sectors = size; first = refl; count = refl; info_sector = refl; header = header }) in
-    ap (λ (o : Option ℕ). or_else (option_map (λ place. BadList (offset_after journal.header.size journal.header.start place)) o) (foreign_fault version journal)) bad
+    ap (λ (o : Option ℕ). or_else (option_map (λ place. BadList (offset_after journal.info.size journal.header.start place)) o) (foreign_fault version journal)) bad
 
 pub stands_alike : (at version : ℕ) (journal : Journal) (content image : Content) → journal_in at content ≡ Ok journal → text_fault at version journal content ≡ None → header_refusal (header_of_volume content) (length content) ≡ None
     → MixesHomes (text_of journal content) (homes_of journal content) content image → StandsAlike at version journal content image

@@ -4,7 +4,9 @@ use Rattle.std.proofs.Common.{◌≡◌, ◌≢◌, ℕ, zero, suc, ◌+◌, ◌
 use Rattle.std.proofs.lemmas.Bool.{and_parts, or_cases, ltb-true, leb-true, eqb-true, not-true, true≢false, lt-ltb, le-leb, and_from}
 use Rattle.hx_bytes.specs.declared.fields.Order.{Order}
 use Rattle.jnl_format.specs.List.{entry_at}
-use Rattle.jnl_format.specs.Text.{Volume, Home, bytes_at, is_skipped, covers, is_inside, is_apart, keeps_volume, keeps_header, is_block, are_blocks, block_bytes, sector_homes, block_homes, entry_homes}
+use Rattle.jnl_format.specs.Text.{bytes_at, is_skipped, covers, is_inside, is_apart, keeps_volume, keeps_header, is_block, are_blocks, block_bytes, sector_homes, block_homes, entry_homes}
+use Rattle.jnl_format.specs.declared.blocks.Home.{Home}
+use Rattle.jnl_format.specs.declared.blocks.Volume.{Volume}
 use Rattle.jnl_format.specs.declared.structures.Entry.{Entry}
 
 -- what a home must be

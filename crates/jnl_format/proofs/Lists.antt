@@ -1,10 +1,13 @@
 -- The lists of a text, one after the other.
-use Rattle.std.proofs.Common.{◌≡◌, ℕ, zero, suc, ◌+◌, ◌-◌, ◌<◌, ◌≤◌, ◌⊎◌, Bool, true, false, not, ◌&&◌, ◌||◌, List, [], ◌++◌, length, refl, sym, ap, subst, inl, inr, arith, ltb, leb, eqb, cond}
+use Rattle.std.proofs.Common.{Bool, List, [], ap, arith, cond, eqb, false, inl, inr, leb, length, ltb, not, refl, subst, suc, sym, true, zero, ℕ, ◌&&◌, ◌++◌, ◌+◌, ◌-◌, ◌<◌, ◌||◌, ◌∙◌, ◌≡◌, ◌≤◌, ◌⊎◌}
 use Rattle.std.specs.Prelude.{Option, None, Some}
-use Rattle.std.proofs.lemmas.Bool.{and_parts, or_cases, ltb-true, leb-true, eqb-true, cases_lt, lt-leb, le-leb}
+use Rattle.std.proofs.Math.Bool.{or-true}
+use Rattle.std.proofs.lemmas.Bool.{and_parts, and_from, or_cases, ltb-true, lt-ltb, leb-true, eqb-true, eq-eqb, cases_lt, cases_Bool, lt-leb, le-leb}
 use Rattle.hx_bytes.specs.declared.fields.Order.{Order}
 use Rattle.jnl_format.specs.List.{is_list_head}
-use Rattle.jnl_format.specs.Text.{Volume, Home, bytes_at, are_blocks, block_bytes, head_at, is_list, bad_list, entry_homes, text_homes}
+use Rattle.jnl_format.specs.Text.{bytes_at, are_blocks, block_bytes, head_at, is_list, bad_list, entry_homes, text_homes}
+use Rattle.jnl_format.specs.declared.blocks.Home.{Home}
+use Rattle.jnl_format.specs.declared.blocks.Volume.{Volume}
 use Rattle.jnl_format.proofs.Homes.{IsGoodHome, Each, each_append, good_blocks}
 
 -- what a list must be, want by want
@@ -76,3 +79,47 @@ good_text volume order blhdr text (suc count) at none = elim (cases_lt at (lengt
       (good_text volume order blhdr text count (at + hd.used) p.1))
   | inr past ↦ subst (λ (hs : List Home). Each (IsGoodHome volume text) hs) (sym (no_homes order blhdr text (suc count) at past)) tt
 ]
+
+-- and back
+pub list_from : (volume : Volume) (order : Order) (blhdr : ℕ) (text : List ℕ) (at : ℕ) → IsList volume order blhdr text at → is_list volume order blhdr text at ≡ true
+unfolding is_list
+list_from volume order blhdr text at l =
+    let hd = head_at order text at in
+    let a1 = leb (at + blhdr) (length text) in
+    let a2 = is_list_head order blhdr (bytes_at text at 32) in
+    let a3 = eqb hd.used (blhdr + block_bytes order text (at + 32) (hd.entries - 1)) in
+    let a4 = leb (at + hd.used) (length text) in
+    let a5 = are_blocks volume order text (at + 32) (at + blhdr) (hd.entries - 1) in
+    let a6 = hd.last || ltb (at + hd.used) (length text) in
+    let p1 = and_from a1 a2 (le-leb (at + blhdr) (length text) l.header) l.head in
+    let p2 = and_from (a1 && a2) a3 p1 (eq-eqb hd.used (blhdr + block_bytes order text (at + 32) (hd.entries - 1)) l.used) in
+    let p3 = and_from (a1 && a2 && a3) a4 p2 (le-leb (at + hd.used) (length text) l.inside) in
+    let p4 = and_from (a1 && a2 && a3 && a4) a5 p3 l.blocks in
+    and_from (a1 && a2 && a3 && a4 && a5) a6 p4
+    (elim l.last [
+      | inl e ↦ ap (λ b. b || ltb (at + hd.used) (length text)) e
+      | inr e ↦ ap (λ b. hd.last || b) (lt-ltb (at + hd.used) (length text) e) ∙ or-true hd.last
+    ])
+
+pub not_list : (volume : Volume) (order : Order) (blhdr : ℕ) (text : List ℕ) (at : ℕ) → (IsList volume order blhdr text at → ⊥) → is_list volume order blhdr text at ≡ false
+not_list volume order blhdr text at never = elim (cases_Bool (is_list volume order blhdr text at)) [ inl t ↦ absurd (never (list_parts volume order blhdr text at t)) | inr f ↦ f ]
+
+-- the first bad list from a place on, one list further
+pub next_bad : (volume : Volume) (order : Order) (blhdr : ℕ) (text : List ℕ) (count at used : ℕ) → length text ≤ at + count → at < length text → is_list volume order blhdr text at ≡ true → used ≡ (head_at order text at).used → 0 < used
+    → (m : ℕ) × (length text ≤ at + used + m) × (bad_list volume order blhdr text count at ≡ bad_list volume order blhdr text m (at + used))
+next_bad volume order blhdr text zero at used enough below good is some = absurd (omega arith)
+next_bad volume order blhdr text (suc count) at used enough below good is some =
+    (count, omega arith,
+    ap (λ b. cond b None (cond (not (is_list volume order blhdr text at)) (Some at) (bad_list volume order blhdr text count (at + (head_at order text at).used)))) (lt-leb (length text) at below)
+    ∙ ap (λ b. cond (not b) (Some at) (bad_list volume order blhdr text count (at + (head_at order text at).used))) good
+    ∙ ap (λ k. bad_list volume order blhdr text count (at + k)) (sym is))
+
+pub here_bad : (volume : Volume) (order : Order) (blhdr : ℕ) (text : List ℕ) (count at : ℕ) → length text ≤ at + count → at < length text → is_list volume order blhdr text at ≡ false → bad_list volume order blhdr text count at ≡ Some at
+here_bad volume order blhdr text zero at enough below bad = absurd (omega arith)
+here_bad volume order blhdr text (suc count) at enough below bad =
+    ap (λ b. cond b None (cond (not (is_list volume order blhdr text at)) (Some at) (bad_list volume order blhdr text count (at + (head_at order text at).used)))) (lt-leb (length text) at below)
+    ∙ ap (λ b. cond (not b) (Some at) (bad_list volume order blhdr text count (at + (head_at order text at).used))) bad
+
+pub none_bad : (volume : Volume) (order : Order) (blhdr : ℕ) (text : List ℕ) (count at : ℕ) → length text ≤ at → bad_list volume order blhdr text count at ≡ None
+none_bad volume order blhdr text zero at past = refl
+none_bad volume order blhdr text (suc count) at past = ap (λ b. cond b None (cond (not (is_list volume order blhdr text at)) (Some at) (bad_list volume order blhdr text count (at + (head_at order text at).used)))) (le-leb (length text) at past)

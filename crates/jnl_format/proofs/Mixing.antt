@@ -5,7 +5,8 @@ use Rattle.std.proofs.lemmas.Bool.{cases_lt, cases_eq}
 use Rattle.std.proofs.lemmas.List.{ext_get_or, get_or-set_same, get_or-set_other, get_or_past, length-take, get_or-take, get_or-drop}
 use Rattle.std.proofs.Math.ListN.{length-set}
 use Rattle.jnl_format.specs.Ring.{journal_bytes}
-use Rattle.jnl_format.specs.Text.{Home, bytes_at}
+use Rattle.jnl_format.specs.Text.{bytes_at}
+use Rattle.jnl_format.specs.declared.blocks.Home.{Home}
 use Rattle.jnl_format.specs.Recovery.{Content, sector, with_homes}
 use Rattle.jnl_format.proofs.Homes.{Each}
 

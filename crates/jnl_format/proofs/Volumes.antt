@@ -8,7 +8,8 @@ use Rattle.volume_header.specs.Header.{header_of}
 use Rattle.volume_header.specs.Refusal.{header_refusal}
 use Rattle.volume_header.specs.declared.header.VolumeHeader.{VolumeHeader}
 use Rattle.jnl_format.specs.List.{entry_at, is_list_head}
-use Rattle.jnl_format.specs.Text.{Volume, bytes_at, is_skipped, covers, is_inside, is_apart, is_same_volume, keeps_volume, keeps_header, is_block, are_blocks, block_bytes, head_at, is_list, bad_list}
+use Rattle.jnl_format.specs.Text.{bytes_at, is_skipped, covers, is_inside, is_apart, is_same_volume, is_same_kind, is_same_layout, has_same_bits, keeps_volume, keeps_header, is_block, are_blocks, block_bytes, head_at, is_list, bad_list}
+use Rattle.jnl_format.specs.declared.blocks.Volume.{Volume}
 use Rattle.jnl_format.specs.declared.structures.Entry.{Entry}
 
 -- what two headers of one volume have in common
@@ -35,22 +36,22 @@ same_parts old new h =
     let b7 = eqb (bit_at new.attributes 12) (bit_at old.attributes 12) in
     let b8 = eqb (bit_at new.attributes 13) (bit_at old.attributes 13) in
     let b9 = eqb (bit_at new.attributes 15) (bit_at old.attributes 15) in
-    let p8 = and_parts (b1 && b2 && b3 && b4 && b5 && b6 && b7 && b8) b9 h in
-    let p7 = and_parts (b1 && b2 && b3 && b4 && b5 && b6 && b7) b8 p8.0 in
-    let p6 = and_parts (b1 && b2 && b3 && b4 && b5 && b6) b7 p7.0 in
-    let p5 = and_parts (b1 && b2 && b3 && b4 && b5) b6 p6.0 in
-    let p4 = and_parts (b1 && b2 && b3 && b4) b5 p5.0 in
-    let p3 = and_parts (b1 && b2 && b3) b4 p4.0 in
-    let p2 = and_parts (b1 && b2) b3 p3.0 in
+    let q2 = and_parts (is_same_kind old new && is_same_layout old new) (has_same_bits old.attributes new.attributes) h in
+    let q1 = and_parts (is_same_kind old new) (is_same_layout old new) q2.0 in
+    let p2 = and_parts (b1 && b2) b3 q1.0 in
     let p1 = and_parts b1 b2 p2.0 in
+    let p5 = and_parts (b4 && b5) b6 q1.1 in
+    let p4 = and_parts b4 b5 p5.0 in
+    let p8 = and_parts (b7 && b8) b9 q2.1 in
+    let p7 = and_parts b7 b8 p8.0 in
     record {
       signature = eqb-true new.signature old.signature p1.0;
       version = eqb-true new.version old.version p1.1;
       last_mounted = eqb-true new.last_mounted_version old.last_mounted_version p2.1;
-      info_block = eqb-true new.journal_info_block old.journal_info_block p3.1;
+      info_block = eqb-true new.journal_info_block old.journal_info_block p4.0;
       block_size = eqb-true new.block_size old.block_size p4.1;
       total_blocks = eqb-true new.total_blocks old.total_blocks p5.1;
-      bit_12 = eqb-true (bit_at new.attributes 12) (bit_at old.attributes 12) p6.1;
+      bit_12 = eqb-true (bit_at new.attributes 12) (bit_at old.attributes 12) p7.0;
       bit_13 = eqb-true (bit_at new.attributes 13) (bit_at old.attributes 13) p7.1;
       bit_15 = eqb-true (bit_at new.attributes 15) (bit_at old.attributes 15) p8.1;
     }

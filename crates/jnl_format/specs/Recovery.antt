@@ -6,7 +6,9 @@ use Rattle.volume_header.specs.declared.header.VolumeHeader.{VolumeHeader}
 use Rattle.jnl_format.specs.Info.{info_of, info_fault, holds, is_fresh, unless_fault}
 use Rattle.jnl_format.specs.Header.{header_read}
 use Rattle.jnl_format.specs.Ring.{ring_text, offset_after}
-use Rattle.jnl_format.specs.Text.{Volume, Home, bytes_at, bad_list, text_homes}
+use Rattle.jnl_format.specs.Text.{bytes_at, bad_list, text_homes}
+use Rattle.jnl_format.specs.declared.blocks.Home.{Home}
+use Rattle.jnl_format.specs.declared.blocks.Volume.{Volume}
 use Rattle.jnl_format.specs.declared.structures.Info.{Info}
 use Rattle.jnl_format.specs.declared.structures.Header.{Header}
 use Rattle.jnl_format.specs.declared.structures.JnlRefusal.{JnlRefusal}
@@ -41,11 +43,13 @@ abbrev pub and_then : {A B : Type 0} → Result A JnlRefusal → (A → Result B
 and_then (Ok a) next = next a
 and_then (Err fault) next = Err fault
 
--- the info block, unless it has a fault
+-- the info block that stands in these bytes of sector `at`, on a volume of so many sectors, unless it has a fault
+abbrev pub info_from : ℕ → ℕ → List ℕ → Result Info JnlRefusal
+info_from sectors at bytes = unless_fault (info_fault (sectors * 512) (holds (info_of bytes) 2 || holds (info_of bytes) at) (info_of bytes)) (info_of bytes)
+
+-- the info block in a sector of a content, unless it has a fault
 abbrev pub info_in : ℕ → Content → Result Info JnlRefusal
-info_in at content =
-    let info = info_of (sector content at) in
-    unless_fault (info_fault (length content * 512) (holds info 2 || holds info at) info) info
+info_in at content = info_from (length content) at (sector content at)
 
 -- the journal that an info block names, unless its header has a fault; where it is fresh, the header isn't read
 abbrev pub journal_at : Content → Info → Result Journal JnlRefusal
@@ -75,7 +79,7 @@ volume_of at journal content = record {
 abbrev pub list_fault : ℕ → Journal → Content → Option JnlRefusal
 list_fault at journal content =
     let text = text_of journal content in
-    option_map (λ place. BadList (offset_after journal.header.size journal.header.start place)) (bad_list (volume_of at journal content) journal.header.order journal.header.blhdr text (length text) 0)
+    option_map (λ place. BadList (offset_after journal.info.size journal.header.start place)) (bad_list (volume_of at journal content) journal.header.order journal.header.blhdr text (length text) 0)
 
 -- the version of systems that keep this journal: `HFSJ`
 abbrev pub journaling_version : ℕ

@@ -7,16 +7,10 @@ use Rattle.volume_header.specs.Header.{header_of}
 use Rattle.volume_header.specs.Refusal.{header_refusal}
 use Rattle.volume_header.specs.declared.header.VolumeHeader.{VolumeHeader}
 use Rattle.jnl_format.specs.List.{list_head_of, is_list_head, entry_at}
+use Rattle.jnl_format.specs.declared.blocks.Home.{Home}
+use Rattle.jnl_format.specs.declared.blocks.Volume.{Volume}
 use Rattle.jnl_format.specs.declared.structures.ListHead.{ListHead}
 use Rattle.jnl_format.specs.declared.structures.Entry.{Entry}
-
--- What blocks are held against: the volume's sectors and header, its info block, and its journal's sectors.
-pub record Volume : Type 0 where
-  pub sectors : ℕ
-  pub first : ℕ
-  pub count : ℕ
-  pub info_sector : ℕ
-  pub header : VolumeHeader
 
 -- so many bytes from a place on
 abbrev pub bytes_at : List ℕ → ℕ → ℕ → List ℕ
@@ -38,12 +32,21 @@ is_inside volume entry = nat_lt 0 entry.bsize && entry.bsize % 512 == 0 && nat_l
 abbrev pub is_apart : Volume → Entry → Bool
 is_apart volume entry = (nat_le (entry.bnum + entry.bsize / 512) volume.first || nat_le (volume.first + volume.count) entry.bnum) && not (covers entry volume.info_sector)
 
--- the same volume: signature, version, last mounted version, info block, blocks, and attribute bits 12, 13 and 15
+-- the same signature, version and last mounted version
+abbrev pub is_same_kind : VolumeHeader → VolumeHeader → Bool
+is_same_kind old new = new.signature == old.signature && new.version == old.version && new.last_mounted_version == old.last_mounted_version
+
+-- the same info block, and the same allocation blocks
+abbrev pub is_same_layout : VolumeHeader → VolumeHeader → Bool
+is_same_layout old new = new.journal_info_block == old.journal_info_block && new.block_size == old.block_size && new.total_blocks == old.total_blocks
+
+-- the same attribute bits 12, 13 and 15
+abbrev pub has_same_bits : ℕ → ℕ → Bool
+has_same_bits old new = bit_at new 12 == bit_at old 12 && bit_at new 13 == bit_at old 13 && bit_at new 15 == bit_at old 15
+
+-- a header of the same volume
 unfoldable pub is_same_volume : VolumeHeader → VolumeHeader → Bool
-is_same_volume old new =
-    new.signature == old.signature && new.version == old.version && new.last_mounted_version == old.last_mounted_version
-    && new.journal_info_block == old.journal_info_block && new.block_size == old.block_size && new.total_blocks == old.total_blocks
-    && bit_at new.attributes 12 == bit_at old.attributes 12 && bit_at new.attributes 13 == bit_at old.attributes 13 && bit_at new.attributes 15 == bit_at old.attributes 15
+is_same_volume old new = is_same_kind old new && is_same_layout old new && has_same_bits old.attributes new.attributes
 
 -- this sector holds an accepted header of the same volume
 abbrev pub keeps_volume : Volume → List ℕ → Bool
@@ -90,11 +93,6 @@ bad_list volume order blhdr text zero at = None
 bad_list volume order blhdr text (suc count) at =
     if nat_le (length text) at then None else
     (if not (is_list volume order blhdr text at) then Some at else bad_list volume order blhdr text count (at + (head_at order text at).used))
-
--- A sector of the volume, and the place of the bytes that belong into it.
-pub record Home : Type 0 where
-  pub sector : ℕ
-  pub place : ℕ
 
 -- so many sectors, with the bytes from a place on
 abbrev pub sector_homes : ℕ → ℕ → ℕ → List Home
