@@ -1,6 +1,6 @@
 -- The keys of the catalog, attributes and extents trees, each behind its length (TN1150, "Catalog File Key",
 -- "Extents Overflow File Key").
-use Rattle.std.specs.Prelude.{ℕ, ◌+◌, ◌*◌, List, [], ◌∷◌, ◌++◌, length}
+use Rattle.std.specs.Prelude.{ℕ, ◌+◌, ◌*◌, List, [], ◌∷◌, ◌++◌, length, replicate}
 use Rattle.hx_bytes.specs.Field.{big}
 use Rattle.cat_records.specs.Records.{units_bytes}
 
@@ -11,7 +11,7 @@ catalog_key_bytes parent name = big 2 (6 + 2 * length name) ++ big 4 parent ++ b
 -- a pad, the id, the first block, and the attribute's name
 abbrev pub attr_key_bytes : ℕ → List ℕ → ℕ → List ℕ
 attr_key_bytes id name start =
-    big 2 (12 + 2 * length name) ++ big 2 0 ++ big 4 id ++ big 4 start ++ big 2 (length name) ++ units_bytes name
+    big 2 (12 + 2 * length name) ++ replicate 2 0 ++ big 4 id ++ big 4 start ++ big 2 (length name) ++ units_bytes name
 
 -- the fork's type and a pad, the id, the first block
 abbrev pub extent_key_bytes : ℕ → ℕ → ℕ → List ℕ

@@ -1,5 +1,5 @@
 //! Attribute records, read from bytes and written as bytes.
-ghost use Rattle.std.specs.Prelude.{◌≡◌, ◌≢◌, ◌↔◌, ◌++◌, ◌%◌, length, take, drop, replicate, IsTrue, IfOk, Some, Err};
+ghost use Rattle.std.specs.Prelude.{◌≡◌, ◌≢◌, ◌↔◌, ◌++◌, ◌%◌, length, take, drop, replicate, IsTrue, IfOk, OnOk, Some, Err};
 ghost use Rattle.hx_bytes.specs.Field.{big, big_at};
 ghost use Rattle.hx_bytes.specs.Fork.{extents_bytes, fork_bytes};
 ghost use Rattle.cat_records.specs.Attributes.{attr_bytes, attr_fault, attr_kind, attr_of, has_inline_length, is_attr};
@@ -114,10 +114,18 @@ fn write_inline(alloc: Global, value: &Bytes) -> Result<Bytes, OutOfMemory>
     write_be32(&mut front, 12, (value.len() % 4_294_967_296) as u32);
     let mut bytes = Vec::from_slice(alloc, &front)?;
     bytes.extend_from_slice(value.as_slice())?;
-    if value.len() % 2 == 1 {
+    append_pad(&mut bytes, value.len())?;
+    Ok(Bytes::from_vec(bytes))
+}
+
+/// Adds a zero byte behind a value of odd size.
+fn append_pad(bytes: &mut Vec<u8>, size: usize) -> Result<(), OutOfMemory>
+    ensures { OnOk result (bytes.new.items ≡ bytes.old.items ++ replicate (size % 2) 0) }
+{
+    if size % 2 == 1 {
         bytes.push(0)?;
     }
-    Ok(Bytes::from_vec(bytes))
+    Ok(())
 }
 
 fn write_fork_record(alloc: Global, fork: &ForkRecord) -> Result<Bytes, OutOfMemory>

@@ -45,7 +45,8 @@ fn finder_at(bytes: &[u8]) -> [u8; 32]
 /// Writes the fields behind the type of a record of at least 88 bytes.
 pub(crate) fn write_entry(fields: &EntryFields, into: &mut [u8])
     requires { 88 ≤ length into.old }
-    ensures { into.new ≡ put_at into.old 2 (entry_bytes fields.now) }
+    ensures written { into.new ≡ put_at into.old 2 (entry_bytes fields.now) }
+    ensures whole { length (entry_bytes fields.now) ≡ 86 }
 {
     write_identity(fields, into);
     write_dates(fields, into);
@@ -55,7 +56,8 @@ pub(crate) fn write_entry(fields: &EntryFields, into: &mut [u8])
 
 fn write_identity(fields: &EntryFields, into: &mut [u8])
     requires { 88 ≤ length into.old }
-    ensures { into.new ≡ put_at into.old 2 (identity_bytes fields.now) }
+    ensures written { into.new ≡ put_at into.old 2 (identity_bytes fields.now) }
+    ensures whole { length (identity_bytes fields.now) ≡ 10 }
 {
     write_be16(into, 2, fields.flags);
     write_be32(into, 4, fields.count);
@@ -64,7 +66,8 @@ fn write_identity(fields: &EntryFields, into: &mut [u8])
 
 fn write_dates(fields: &EntryFields, into: &mut [u8])
     requires { 88 ≤ length into.old }
-    ensures { into.new ≡ put_at into.old 12 (dates_bytes fields.now) }
+    ensures written { into.new ≡ put_at into.old 12 (dates_bytes fields.now) }
+    ensures whole { length (dates_bytes fields.now) ≡ 20 }
 {
     write_be32(into, 12, fields.created);
     write_be32(into, 16, fields.changed);
@@ -75,7 +78,8 @@ fn write_dates(fields: &EntryFields, into: &mut [u8])
 
 fn write_rights(fields: &EntryFields, into: &mut [u8])
     requires { 88 ≤ length into.old }
-    ensures { into.new ≡ put_at into.old 32 (rights_bytes fields.now) }
+    ensures written { into.new ≡ put_at into.old 32 (rights_bytes fields.now) }
+    ensures whole { length (rights_bytes fields.now) ≡ 16 }
 {
     write_be32(into, 32, fields.owner);
     write_be32(into, 36, fields.group);
@@ -87,7 +91,8 @@ fn write_rights(fields: &EntryFields, into: &mut [u8])
 
 fn write_finder(fields: &EntryFields, into: &mut [u8])
     requires { 88 ≤ length into.old }
-    ensures { into.new ≡ put_at into.old 48 (finder_bytes fields.now) }
+    ensures written { into.new ≡ put_at into.old 48 (finder_bytes fields.now) }
+    ensures whole { length (finder_bytes fields.now) ≡ 40 }
 {
     into[48..80].copy_from_slice(&fields.finder);
     write_be32(into, 80, fields.encoding);

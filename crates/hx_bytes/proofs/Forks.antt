@@ -9,7 +9,8 @@ use Rattle.hx_bytes.specs.declared.extents.Extent.{Extent}
 use Rattle.hx_bytes.specs.declared.extents.ExtentRecord.{ExtentRecord}
 use Rattle.hx_bytes.specs.declared.extents.ForkRecord.{ForkRecord}
 use Rattle.hx_bytes.specs.declared.fields.Order.TheVariants.{Big}
-use Rattle.hx_bytes.proofs.Laws.{length-number_bytes, put_at-next}
+use Rattle.hx_bytes.proofs.Laws.{length-number_bytes}
+use Rattle.hx_bytes.proofs.Putting.{put_at-next}
 
 -- an extent has its eight bytes
 pub length-extent_bytes : (extent : Extent) → length (extent_bytes extent) ≡ 8
@@ -40,6 +41,7 @@ pub length-extents_bytes : (extents : ExtentRecord) → length extents.extents �
 unfolding extents_bytes
 length-extents_bytes extents eight = omega (arith, length-flat_extents extents.extents)
 
--- a fork has 80 bytes
-pub length-fork_bytes : (fork : ForkRecord) → length fork.extents.extents ≡ 8 → length (fork_bytes fork) ≡ 80
-length-fork_bytes fork eight = omega (arith, length-append {A = ℕ}, length-number_bytes Big 8 fork.logical_size, length-number_bytes Big 4 fork.clump_size, length-number_bytes Big 4 fork.total_blocks, length-extents_bytes fork.extents eight)
+-- a fork has 80 bytes where its extents have their 64
+pub length-fork_bytes : (fork : ForkRecord) → length (extents_bytes fork.extents) ≡ 64 → length (fork_bytes fork) ≡ 80
+unfolding fork_bytes
+length-fork_bytes fork long = omega (arith, length-append {A = ℕ}, length-number_bytes Big 8 fork.logical_size, length-number_bytes Big 4 fork.clump_size, length-number_bytes Big 4 fork.total_blocks, long)

@@ -1,6 +1,6 @@
 -- Fields written and read again, read and written again.
-use Rattle.std.proofs.Common.{◌≡◌, ℕ, zero, suc, ◌+◌, ◌-◌, ◌/◌, ◌%◌, ◌*◌, ◌^◌, ◌<◌, ◌≤◌, List, [], ◌∷◌, ◌++◌, length, take, drop, get_or, set, inl, inr, refl, sym, ◌∙◌, ap, subst, arith, length-drop, append_assoc, add-zero}
-use Rattle.std.proofs.lemmas.List.{length-take, length-append, get_or-take, get_or-drop, take-append-le, drop-append-le, drop-drop, append-nil, take-append-drop, drop_all, take-set, drop-set}
+use Rattle.std.proofs.Common.{◌⊎◌, ◌≡◌, ℕ, zero, suc, ◌+◌, ◌-◌, ◌^◌, ◌<◌, ◌≤◌, List, ◌++◌, length, take, drop, get_or, inl, inr, refl, sym, ◌∙◌, ap, subst, arith, length-drop, append_assoc}
+use Rattle.std.proofs.lemmas.List.{length-take, length-append, get_or_append_left, get_or-append_right, get_or-take, get_or-drop, drop-append-le, drop-drop}
 use Rattle.std.proofs.lemmas.Nat.{be_bytes_2, be_bytes_4, be_bytes_8, le_bytes_2, le_bytes_4, le_bytes_8}
 use Rattle.std.proofs.Math.ListN.{get_or-eq_default}
 use Rattle.std.proofs.lemmas.Bool.{cases_lt}
@@ -108,52 +108,20 @@ put_at-more cur old front new at long is =
 pub length-put_at : (bytes new : List ℕ) (at : ℕ) → at + length new ≤ length bytes → length (put_at bytes at new) ≡ length bytes
 length-put_at bytes new at fits = omega (arith, length-append (take at bytes ++ new) (drop (at + length new) bytes), length-append (take at bytes) new, length-take at bytes, length-drop (at + length new) bytes)
 
--- a field written right behind another is both of them written at once
-pub put_at-next : (old first second : List ℕ) (at next : ℕ) → at ≤ length old → next ≡ at + length first → put_at (put_at old at first) next second ≡ put_at old at (first ++ second)
-put_at-next old first second at next fits is =
-    put_at-more (put_at old at first) old (take at old ++ first) second next
-    (omega (arith, length-append (take at old) first, length-take at old))
-    (ap (λ (k : ℕ). take at old ++ first ++ drop k old) (sym is))
-    ∙ ap (λ (l : List ℕ). l ++ drop (next + length second) old) (append_assoc (take at old) first second)
-    ∙ ap (λ (k : ℕ). take at old ++ (first ++ second) ++ drop k old) (omega (arith, length-append first second))
+-- a field that was put in place
+pub number_at-put_at : (order : Order) (n x at : ℕ) (bytes : List ℕ) → at + n ≤ length bytes → x < 256 ^ n → number_at order n (put_at bytes at (number_bytes order n x)) at ≡ x
+number_at-put_at order n x at bytes fits small =
+    let new = number_bytes order n x in
+    ap (λ (l : List ℕ). number_at order n l at) (append_assoc (take at bytes) new (drop (at + length new) bytes))
+    ∙ number_at-number_bytes order n x at (take at bytes) (drop (at + length new) bytes) (omega (arith, length-take at bytes)) small
 
--- the same, for what stands there after the first and after the second
-pub put_at-grows : (old cur new first second : List ℕ) (at next : ℕ) → at ≤ length old → next ≡ at + length first → cur ≡ put_at old at first → new ≡ put_at cur next second → new ≡ put_at old at (first ++ second)
-put_at-grows old cur new first second at next fits is was now = now ∙ ap (λ (l : List ℕ). put_at l next second) was ∙ put_at-next old first second at next fits is
-
--- nothing written changes nothing
-pub put_at-nothing : (old : List ℕ) (at : ℕ) → put_at old at [] ≡ old
-put_at-nothing old at = ap (λ (k : ℕ). take at old ++ [] ++ drop k old) (add-zero at) ∙ ap (λ (l : List ℕ). l ++ drop at old) (append-nil (take at old)) ∙ take-append-drop at old
-
--- a list written over the whole of another
-pub put_at-whole : (old new : List ℕ) → length new ≡ length old → put_at old 0 new ≡ new
-put_at-whole old new long = ap (λ (l : List ℕ). new ++ l) (drop_all (0 + length new) old (omega arith)) ∙ append-nil new
-
--- the rest of a list, written at its place
-pub put_at-end : (old new : List ℕ) (at : ℕ) → at + length new ≡ length old → put_at old at new ≡ take at old ++ new
-put_at-end old new at long = ap (λ (l : List ℕ). take at old ++ new ++ l) (drop_all (at + length new) old (omega arith)) ∙ append-nil (take at old ++ new)
-
--- one byte written
-pub put_at-byte : (old : List ℕ) (at byte : ℕ) → at < length old → set old at byte ≡ put_at old at (byte ∷ [])
-put_at-byte old at byte fits =
-    sym (take-append-drop at (set old at byte))
-    ∙ ap (λ (l : List ℕ). l ++ drop at (set old at byte)) (take-set old at byte)
-    ∙ ap (λ (l : List ℕ). take at old ++ l) (drop-set old at byte fits)
-    ∙ sym (append_assoc (take at old) (byte ∷ []) (drop (at + 1) old))
-
--- the bytes above a field don't matter to it
-pub number_bytes-low_2 : (order : Order) (x : ℕ) → number_bytes order 2 (x % 65536) ≡ number_bytes order 2 x
-unfolding number_bytes
-number_bytes-low_2 order x =
-    let low : x % 65536 % 256 ≡ x % 256 = omega arith in
-    let high : x % 65536 / 256 % 256 ≡ x / 256 % 256 = omega arith in
-    elim order as (λ o. number_bytes o 2 (x % 65536) ≡ number_bytes o 2 x) [ Little ↦ cc | Big ↦ cc ]
-
-pub number_bytes-low_4 : (order : Order) (x : ℕ) → number_bytes order 4 (x % 4294967296) ≡ number_bytes order 4 x
-unfolding number_bytes
-number_bytes-low_4 order x =
-    let first : x % 4294967296 % 256 ≡ x % 256 = omega arith in
-    let second : x % 4294967296 / 256 % 256 ≡ x / 256 % 256 = omega arith in
-    let third : x % 4294967296 / 65536 % 256 ≡ x / 65536 % 256 = omega arith in
-    let fourth : x % 4294967296 / 16777216 % 256 ≡ x / 16777216 % 256 = omega arith in
-    elim order as (λ o. number_bytes o 4 (x % 4294967296) ≡ number_bytes o 4 x) [ Little ↦ cc | Big ↦ cc ]
+-- what stands elsewhere stays
+pub get_or-put_at : (bytes new : List ℕ) (at k : ℕ) → at + length new ≤ length bytes → (k < at) ⊎ (at + length new ≤ k) → get_or (put_at bytes at new) k 0 ≡ get_or bytes k 0
+get_or-put_at bytes new at k fits (inl before) =
+    ap (λ (l : List ℕ). get_or l k 0) (append_assoc (take at bytes) new (drop (at + length new) bytes))
+    ∙ get_or_append_left (take at bytes) (new ++ drop (at + length new) bytes) 0 k (omega (arith, before, length-take at bytes))
+    ∙ get_or-take at bytes k 0 before
+get_or-put_at bytes new at k fits (inr behind) =
+    get_or-append_right (take at bytes ++ new) (drop (at + length new) bytes) (at + length new) k 0 (omega (arith, length-append (take at bytes) new, length-take at bytes)) behind
+    ∙ get_or-drop (at + length new) bytes (k - (at + length new)) 0
+    ∙ ap (λ j. get_or bytes j 0) (omega (arith, behind, length-append (take at bytes) new, length-take at bytes))

@@ -27,7 +27,7 @@ extents_at bytes at = record {
 }
 
 -- logical size, clump size, number of blocks, eight extents: 80 bytes
-abbrev pub fork_bytes : ForkRecord → List ℕ
+unfoldable pub fork_bytes : ForkRecord → List ℕ
 fork_bytes fork = big 8 fork.logical_size ++ big 4 fork.clump_size ++ big 4 fork.total_blocks ++ extents_bytes fork.extents
 
 -- the fork in the 80 bytes from a place on

@@ -1,5 +1,5 @@
 -- The volume header as it stands in its sector, all numbers big-endian (TN1150, "Volume Header").
-use Rattle.std.specs.Prelude.{◌≡◌, ℕ, ◌+◌, ◌^◌, ◌<◌, List, ◌++◌, length, take, drop}
+use Rattle.std.specs.Prelude.{◌≡◌, ℕ, ◌^◌, ◌<◌, List, ◌++◌, length, take, drop}
 use Rattle.hx_bytes.specs.Field.{big, big_at, AreBytes}
 use Rattle.hx_bytes.specs.Fork.{fork_at, fork_bytes, FitsFork}
 use Rattle.volume_header.specs.declared.header.VolumeHeader.{VolumeHeader}

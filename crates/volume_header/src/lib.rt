@@ -2,11 +2,15 @@
 #![tactic(auto)]
 
 mod header;
+mod laws;
 mod reading;
 mod refusal;
+#[cfg(test)]
+mod tests;
 mod writing;
 
 pub use header::VolumeHeader;
+pub use laws::header_round_trip;
 pub use reading::read_header;
 pub use refusal::HeaderRefusal;
 pub use writing::write_header;

@@ -18,7 +18,8 @@ pub fn write_header(head: &VolumeHeader, into: &mut Sector)
 }
 
 fn write_identity(head: &VolumeHeader, into: &mut Sector)
-    ensures { into.new ≡ put_at into.old 0 (identity_bytes head.now) }
+    ensures written { into.new ≡ put_at into.old 0 (identity_bytes head.now) }
+    ensures whole { length (identity_bytes head.now) ≡ 16 }
 {
     write_be16(into, 0, head.signature);
     write_be16(into, 2, head.version);
@@ -28,7 +29,8 @@ fn write_identity(head: &VolumeHeader, into: &mut Sector)
 }
 
 fn write_history(head: &VolumeHeader, into: &mut Sector)
-    ensures { into.new ≡ put_at into.old 16 (history_bytes head.now) }
+    ensures written { into.new ≡ put_at into.old 16 (history_bytes head.now) }
+    ensures whole { length (history_bytes head.now) ≡ 24 }
 {
     write_be32(into, 16, head.create_date);
     write_be32(into, 20, head.modify_date);
@@ -39,7 +41,8 @@ fn write_history(head: &VolumeHeader, into: &mut Sector)
 }
 
 fn write_blocks(head: &VolumeHeader, into: &mut Sector)
-    ensures { into.new ≡ put_at into.old 40 (blocks_bytes head.now) }
+    ensures written { into.new ≡ put_at into.old 40 (blocks_bytes head.now) }
+    ensures whole { length (blocks_bytes head.now) ≡ 24 }
 {
     write_be32(into, 40, head.block_size);
     write_be32(into, 44, head.total_blocks);
@@ -50,7 +53,8 @@ fn write_blocks(head: &VolumeHeader, into: &mut Sector)
 }
 
 fn write_counters(head: &VolumeHeader, into: &mut Sector)
-    ensures { into.new ≡ put_at into.old 64 (counters_bytes head.now) }
+    ensures written { into.new ≡ put_at into.old 64 (counters_bytes head.now) }
+    ensures whole { length (counters_bytes head.now) ≡ 48 }
 {
     write_be32(into, 64, head.next_catalog_id);
     write_be32(into, 68, head.write_count);
@@ -59,7 +63,8 @@ fn write_counters(head: &VolumeHeader, into: &mut Sector)
 }
 
 fn write_forks(head: &VolumeHeader, into: &mut Sector)
-    ensures { into.new ≡ put_at into.old 112 (forks_bytes head.now) }
+    ensures written { into.new ≡ put_at into.old 112 (forks_bytes head.now) }
+    ensures whole { length (forks_bytes head.now) ≡ 400 }
 {
     write_fork(into, 112, &head.allocation_fork);
     write_fork(into, 192, &head.extents_fork);

@@ -1,7 +1,8 @@
-use Rattle.std.proofs.Common.{◌≡◌, ◌+◌, ◌∙◌, ap, sym, length, arith}
+use Rattle.std.proofs.Common.{◌+◌, ◌∙◌, ap, arith}
 use Rattle.hx_bytes.specs.Field.{put_at, big}
 use Rattle.hx_bytes.specs.declared.fields.Order.TheVariants.{Big}
-use Rattle.hx_bytes.proofs.Laws.{length-number_bytes, put_at-next}
+use Rattle.hx_bytes.proofs.Laws.{length-number_bytes}
+use Rattle.hx_bytes.proofs.Putting.{put_at-next}
 use Rattle.hx_bytes.proofs.extents.write_extent.Goals as goal
 
 pub returns : goal.returns

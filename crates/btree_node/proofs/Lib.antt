@@ -1,0 +1,11 @@
+pub mod Places
+pub mod Offsets
+pub mod Slots
+pub mod Records
+pub mod Items
+pub mod Inserting
+pub mod Removing
+pub mod Packing
+pub mod Replacing
+pub mod Descriptor
+pub mod Units

@@ -1,0 +1,4 @@
+pub mod Node
+pub mod Bytes
+pub mod Keys
+pub mod KeyLaws

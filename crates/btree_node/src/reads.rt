@@ -1,0 +1,76 @@
+//! What is read of a node's bytes.
+ghost use Rattle.std.specs.Prelude.{◌≡◌, ◌<◌, ◌≤◌, ℕ, ◌+◌, ◌*◌, ◌↔◌, IsTrue, [], length, slice_range, slice_index_or};
+ghost use Rattle.btree_node.specs.Node.{IsNode, IsNodeOf, offset, record_count, items, room_beside};
+
+use crate::bytes::{count_records, get_offset};
+use hx_bytes::read_be16;
+
+/// Whether the offsets rise between the descriptor and themselves.
+pub(crate) fn is_cut(node: &[u8]) -> bool
+    requires { 512 ≤ length node.now }
+    ensures { IsTrue result ↔ IsNode node.now }
+{
+    let n = count_records(node);
+    if 2 * (n + 1) > node.len() || get_offset(node, 0) < 14 {
+        return false;
+    }
+    if get_offset(node, n) + 2 * (n + 1) > node.len() {
+        return false;
+    }
+    for i in 0..n {
+        if get_offset(node, i + 1) < get_offset(node, i) {
+            return false;
+        }
+    }
+    true
+}
+
+#[tactic(auto, unfolding(crate::specs::Node::kind_of, crate::specs::Node::height_of))]
+pub(crate) fn is_node_of(node: &[u8], kind: i8, height: u8) -> bool
+    requires { 512 ≤ length node.now }
+    ensures { IsTrue result ↔ IsNodeOf kind height node.now }
+{
+    if node[8].cast_signed() != kind || node[9] != height {
+        return false;
+    }
+    is_cut(node)
+}
+
+pub(crate) fn count(node: &[u8]) -> u16
+    requires { 512 ≤ length node.now }
+    ensures { result ≡ length (items node.now) }
+{
+    read_be16(node, 10)
+}
+
+/// The bytes of a record.
+pub(crate) fn record_at(node: &[u8], i: usize) -> &[u8]
+    requires size { 512 ≤ length node.now }
+    requires cut { IsNode node.now }
+    requires inside { i < length (items node.now) }
+    ensures { result.now ≡ slice_index_or (items node.now) i [] }
+{
+    let at = get_offset(node, i);
+    let end = get_offset(node, i + 1);
+    part(node, at, end)
+}
+
+fn part(node: &[u8], at: usize, end: usize) -> &[u8]
+    requires ordered { at ≤ end }
+    requires within { end ≤ length node.now }
+    ensures { result.now ≡ slice_range node.now at end }
+{
+    &node[at..end]
+}
+
+/// How many bytes are left beside the records.
+pub(crate) fn room_left(node: &[u8]) -> usize
+    requires size { 512 ≤ length node.now }
+    requires cut { IsNode node.now }
+    ensures { result ≡ room_beside (length node.now) (items node.now) }
+{
+    let n = count_records(node);
+    let first = get_offset(node, 0);
+    let end = get_offset(node, n);
+    (node.len() - 2 * (n + 1) - end) + (first - 14)
+}

@@ -1,0 +1,11 @@
+//! Lists of extents: the blocks of a fork, in order.
+#![tactic(auto)]
+
+mod edits;
+mod list;
+mod place;
+
+pub use list::ExtentList;
+
+#[cfg(test)]
+mod tests;

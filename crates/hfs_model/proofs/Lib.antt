@@ -1,0 +1,11 @@
+pub mod Lines
+pub mod Sectors
+pub mod Bitmaps
+pub mod Nodes
+pub mod NameLists
+pub mod Lengths
+pub mod Threads
+pub mod Further
+pub mod HeaderChecks
+pub mod Checks
+pub mod NameOrder

@@ -1,0 +1,59 @@
+use Rattle.std.proofs.Common.{arith, ◌≡◌, ◌+◌, ◌/◌, IsTrue, subst, sym, ap}
+use Rattle.sector_disk.specs.Disk.{content}
+use Rattle.sector_disk.specs.Disk.{MayHaveWritten}
+use Rattle.sector_disk.specs.Lists.{sector}
+use Rattle.jnl_ring.specs.Span.{sector_after}
+use Rattle.jnl_ring.proofs.Bytes.{disk_has}
+use Rattle.jnl_ring.proofs.Texts.{text_put}
+use Rattle.jnl_ring.proofs.Written.{grows_maybe, puts_all, wrote_all, wrote_leaves, wrote_none, wrote_one}
+use Rattle.jnl_ring.proofs.writing.write_at.Goals as goal
+
+pub loop-k-init : goal.loop-k-init
+loop-k-init g c = wrote_none c.args.span.now c.args.at c.args.from.now (g.D.SectorDisk.state c.args.disk.now)
+
+pub loop-k-preserved : goal.loop-k-preserved
+loop-k-preserved g c =
+    let span = c.args.span.now in
+    let here : span.base + c.advance-offset.result / 512 ≡ sector_after span c.args.at c.loop-k.k = ap (λ n. span.base + n / 512) c.advance-offset.ensures.after in
+    wrote_one span c.args.at c.args.from.now c.loop-k.k (span.base + c.advance-offset.result / 512) (g.D.SectorDisk.state c.args.disk.now) (g.D.SectorDisk.state c.loop-k.disk) (g.D.SectorDisk.state c.write.new.self)
+    (g.met.D.SectorDisk.well_formed c.args.disk.now) c.requires.span c.requires.on_disk c.requires.at c.requires.whole c.requires.room (omega arith)
+    here c.loop-k.invariant c.in_ok-write.ensures.written c.write.ensures.barriers c.write.ensures.same c.write.ensures.sink c.write.ensures.time c.write.ensures.cause.later
+
+pub returns-in_err-write-clause-grows : goal.returns-in_err-write-clause-grows
+returns-in_err-write-clause-grows g c =
+    let span = c.args.span.now in
+    let now = g.D.SectorDisk.state c.loop-k.disk in
+    let new = g.D.SectorDisk.state c.write.new.self in
+    let here : span.base + c.advance-offset.result / 512 ≡ sector_after span c.args.at c.loop-k.k = ap (λ n. span.base + n / 512) c.advance-offset.ensures.after in
+    grows_maybe span c.args.at c.args.from.now c.loop-k.k (g.D.SectorDisk.state c.args.disk.now).candidates now.candidates new.candidates (omega arith) c.loop-k.invariant.grows
+    (subst (λ n. MayHaveWritten now.candidates n (sector c.args.from.now c.loop-k.k) new.candidates) here c.in_err-write.ensures.unsure)
+
+pub returns-in_err-write-clause-crash : goal.returns-in_err-write-clause-crash
+returns-in_err-write-clause-crash g c =
+    let span = c.args.span.now in
+    let old = g.D.SectorDisk.state c.args.disk.now in
+    let now = g.D.SectorDisk.state c.loop-k.disk in
+    let new = g.D.SectorDisk.state c.write.new.self in
+    let here : span.base + c.advance-offset.result / 512 ≡ sector_after span c.args.at c.loop-k.k = ap (λ n. span.base + n / 512) c.advance-offset.ensures.after in
+    wrote_leaves span c.args.at c.args.from.now c.loop-k.k old now new c.loop-k.invariant c.write.ensures.sink
+    (grows_maybe span c.args.at c.args.from.now c.loop-k.k old.candidates now.candidates new.candidates (omega arith) c.loop-k.invariant.grows
+    (subst (λ n. MayHaveWritten now.candidates n (sector c.args.from.now c.loop-k.k) new.candidates) here c.in_err-write.ensures.unsure))
+    c.write.ensures.time
+
+pub returns-clause-puts : goal.returns-clause-puts
+returns-clause-puts g c tells =
+    puts_all c.args.span.now c.args.at c.args.from.now c.loop-k.k (content (g.D.SectorDisk.state c.args.disk.now)) (content (g.D.SectorDisk.state c.loop-k.disk)) (omega arith) (c.loop-k.invariant.puts tells)
+
+pub returns-clause-text : goal.returns-clause-text
+returns-clause-text g c tells =
+    let span = c.args.span.now in
+    let old = g.D.SectorDisk.state c.args.disk.now in
+    let new = g.D.SectorDisk.state c.loop-k.disk in
+    let had = disk_has old span.base span.size (g.met.D.SectorDisk.well_formed c.args.disk.now) tells c.requires.on_disk c.requires.span.whole in
+    let has =
+    disk_has new span.base span.size (g.met.D.SectorDisk.well_formed c.loop-k.disk) (subst IsTrue (sym c.loop-k.invariant.same.tells) tells) (omega (arith, c.requires.on_disk, c.loop-k.invariant.same.sectors)) c.requires.span.whole in
+    text_put span c.args.at c.args.from.now (content old) (content new) c.requires.span had has c.requires.at c.requires.whole c.requires.room c.told-from
+    (puts_all span c.args.at c.args.from.now c.loop-k.k (content old) (content new) (omega arith) (c.loop-k.invariant.puts tells))
+
+pub returns-clause-crash : goal.returns-clause-crash
+returns-clause-crash g c = wrote_all c.args.span.now c.args.at c.args.from.now c.loop-k.k (g.D.SectorDisk.state c.args.disk.now) (g.D.SectorDisk.state c.loop-k.disk) c.loop-k.invariant
