@@ -4,5 +4,6 @@ pub mod Headers
 pub mod Homes
 pub mod Lists
 pub mod Mixing
+pub mod ReadBack
 pub mod Recovering
 pub mod Volumes

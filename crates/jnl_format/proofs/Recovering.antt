@@ -88,6 +88,7 @@ found_info content info journal (is_kept header f r e) = ap (λ (j : Journal). j
 -- a journal, with what was looked at to find it
 pub record IsJournal (at : ℕ) (content : Content) (journal : Journal) : Type 0 where
   pub read : info_of (sector content at) ≡ journal.info
+  pub whole : info_in at content ≡ Ok journal.info
   pub info : IsInfo (length content * 512) at journal.info
   pub found : journal_at content journal.info ≡ Ok journal
 
@@ -100,6 +101,7 @@ journal_parts at content journal h =
     let e : i ≡ journal.info = u.1 ∙ found_info content p.0 journal (found_journal content p.0 journal p.2) in
     record {
       read = e;
+      whole = p.1 ∙ ap (λ (j : Info). Ok j) (found_info content p.0 journal (found_journal content p.0 journal p.2));
       info = subst (λ (j : Info). IsInfo (length content * 512) at j) e (info_parts (length content * 512) at i u.0);
       found = subst (λ (j : Info). journal_at content j ≡ Ok journal) (found_info content p.0 journal (found_journal content p.0 journal p.2)) p.2;
     }
