@@ -1,5 +1,5 @@
 -- The journal header: its fields, its bytes, and its first fault.
-use Rattle.std.specs.Prelude.{ℕ, ◌%◌, Bool, not, ◌&&◌, ◌==◌, nat_le, if◌then◌else◌, List, ◌++◌, take, Option, None, Some, Result, Err}
+use Rattle.std.specs.Prelude.{◌≡◌, ◌<◌, ◌≤◌, ℕ, ◌%◌, Bool, not, ◌&&◌, ◌==◌, nat_le, if◌then◌else◌, List, ◌++◌, take, Option, None, Some, Result, Err}
 use Rattle.hx_bytes.specs.Field.{number_at, number_bytes, big, put_at}
 use Rattle.hx_bytes.specs.declared.fields.Order.{Order}
 use Rattle.hx_bytes.specs.declared.fields.Order.TheVariants.{Little, Big}
@@ -70,3 +70,16 @@ header_spelled sum head =
 -- the same, with its own checksum
 abbrev pub header_bytes : Header → List ℕ
 header_bytes head = header_spelled (checksum_of (header_spelled 0 head)) head
+
+-- a header as it is read: both offsets in the buffer, and the journal's size
+pub record IsHeader (bytes : ℕ) (head : Header) : Type 0 where
+  pub start_whole : head.start % 512 ≡ 0
+  pub start_low : 512 ≤ head.start
+  pub start_high : head.start < bytes
+  pub end_whole : head.end % 512 ≡ 0
+  pub end_low : 512 ≤ head.end
+  pub end_high : head.end < bytes
+  pub size : head.size ≡ bytes
+  pub blhdr_whole : head.blhdr % 512 ≡ 0
+  pub blhdr_low : 512 ≤ head.blhdr
+  pub blhdr_high : head.blhdr ≤ 65536

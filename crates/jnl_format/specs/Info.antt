@@ -1,5 +1,5 @@
 -- The journal info block: its fields, its bytes, and its first fault.
-use Rattle.std.specs.Prelude.{ℕ, ◌+◌, ◌*◌, ◌%◌, Bool, not, ◌&&◌, ◌||◌, ◌==◌, nat_le, nat_lt, if◌then◌else◌, List, bit_and, Option, None, Some, Result, Ok, Err}
+use Rattle.std.specs.Prelude.{◌≡◌, ◌≤◌, true, false, ℕ, ◌+◌, ◌*◌, ◌%◌, Bool, not, ◌&&◌, ◌||◌, ◌==◌, nat_le, nat_lt, if◌then◌else◌, List, bit_and, Option, None, Some, Result, Ok, Err}
 use Rattle.hx_bytes.specs.Field.{big_at, big, put_at}
 use Rattle.jnl_format.specs.declared.structures.Info.{Info}
 use Rattle.jnl_format.specs.declared.structures.JnlRefusal.{JnlRefusal}
@@ -46,3 +46,14 @@ holds info sector = nat_lt info.offset ((sector + 1) * 512) && nat_lt (sector * 
 abbrev pub unless_fault : {T : Type 0} → Option JnlRefusal → T → Result T JnlRefusal
 unless_fault None value = Ok value
 unless_fault (Some fault) value = Err fault
+
+-- an info block without a fault, on a volume of so many bytes
+pub record IsInfo (volume at : ℕ) (info : Info) : Type 0 where
+  pub here : is_here info ≡ true
+  pub not_elsewhere : is_elsewhere info ≡ false
+  pub offset_whole : info.offset % 512 ≡ 0
+  pub size_whole : info.size % 512 ≡ 0
+  pub least : 1536 ≤ info.size
+  pub inside : info.offset + info.size ≤ volume
+  pub no_header : holds info 2 ≡ false
+  pub no_info : holds info at ≡ false

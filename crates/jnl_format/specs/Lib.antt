@@ -2,4 +2,6 @@ pub mod Checksum
 pub mod Header
 pub mod Info
 pub mod List
+pub mod Recovery
 pub mod Ring
+pub mod Text

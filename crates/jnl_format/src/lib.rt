@@ -1,12 +1,14 @@
 //! The structures of a volume's journal, and what a journal stands for.
 #![tactic(auto)]
 
+mod blocks;
 mod header;
 mod info;
 mod list;
 mod structures;
 mod sums;
 
+pub use blocks::{Home, Volume};
 pub use header::{read_header, write_header};
 pub use info::{first_info_fault, info_fields, read_info, write_info};
 pub use list::{read_entry, read_list, write_entry, write_list};
