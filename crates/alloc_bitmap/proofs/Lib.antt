@@ -13,3 +13,4 @@ pub mod ForkLaws
 pub mod StoreLaws
 pub mod PlaceLaws
 pub mod StoredLaws
+pub mod FewestLaws

@@ -1,5 +1,6 @@
 // The bitmap of a volume.
-ghost use Rattle.std.specs.Prelude.{◌≡◌, ◌≤◌, ◌*◌, ◌/◌, true, false, length, map, OnOk, OnErr, IfOk};
+ghost use Rattle.std.specs.Prelude.{◌≡◌, ◌↔◌, ◌≤◌, ◌*◌, ◌/◌, true, false, length, map, List, IsTrue, OnOk, OnErr, IfOk};
+ghost use Rattle.hx_bytes.specs.declared.extents.Extent.{Extent};
 ghost use Rattle.alloc_bitmap.specs.Bits.{count_set, mark, sectors_for};
 ghost use Rattle.alloc_bitmap.specs.Kept.{mark_all, Fit};
 ghost use Rattle.alloc_bitmap.specs.Runs.{runs_of, longest_first, longest_of, fewest_of};
@@ -94,6 +95,16 @@ impl Bitmap {
         fewest(self.used.bits(), &[], n)
     }
 
+    /// Whether the blocks of an extent lie in the volume and are all used, or all unused.
+    pub fn have(&self, e: Extent, used: bool) -> bool
+        ensures { IsTrue result ↔ Have self.now.used e used }
+    {
+        let bits = self.used.bits();
+        let start = e.start as usize;
+        let end = start + e.count as usize;
+        end <= bits.len() && bits.first(start, !used) >= end
+    }
+
     /// Ends all holds.
     pub fn settle(&mut self)
         ensures { self.new ≡ record self.old { held = none (length self.old.used); kept_held = none (length self.old.used) } }
@@ -148,10 +159,14 @@ impl Bitmap {
         requires { n ≤ count_set (free_of self.old) }
         ensures rule { IfOk result (λ list. list ≡ front n (longest_first (runs_of (free_of self.old)))) }
         ensures free { IfOk result (λ list. PicksFree (free_of self.old) n list) }
+        // No other way to pick so many free blocks has fewer extents.
+        ensures fewest { IfOk result (λ list. (others : List Extent) → PicksFree (free_of self.old) n others → length list ≤ length others) }
         ensures taken { IfOk result (λ list. self.new ≡ record self.old { used = mark_all self.old.used list true; changed = mark_all self.old.changed (map (λ extent. touched_by extent) list) true }) }
         ensures same { OnErr result (self.new ≡ self.old) }
     {
-        let list = choose(alloc, self.used.bits(), self.holds.as_slice(), n)?;
+        let used = self.used.bits();
+        let _total = used.len();
+        let list = choose(alloc, used, self.holds.as_slice(), n)?;
         self.used.change_all(list.as_slice(), true)?;
         touch_all(&mut self.changed, list.as_slice());
         Ok(list)
