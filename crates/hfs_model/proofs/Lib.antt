@@ -9,3 +9,6 @@ pub mod Further
 pub mod HeaderChecks
 pub mod Checks
 pub mod NameOrder
+pub mod Splitting
+pub mod Lexical
+pub mod Spelled

@@ -7,3 +7,4 @@ pub mod Thin
 pub mod Reading
 pub mod Text
 pub mod Language
+pub mod Spelling

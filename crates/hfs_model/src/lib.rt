@@ -6,6 +6,7 @@ mod bits;
 mod blocks;
 mod command;
 mod headers;
+mod language_laws;
 mod laws;
 mod leaf;
 mod names;
@@ -19,6 +20,7 @@ mod tests;
 mod text;
 
 pub use command::{Command, Path};
+pub use language_laws::{line_is_read_as_spelled, line_spells_one_command};
 pub use laws::{lines_end, one_list};
 pub use names::{are_thin_names, contains, is_thin_name, place_of, sorted};
 pub use node::{NodeHead, TreeHeader};
