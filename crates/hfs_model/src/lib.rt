@@ -4,6 +4,7 @@
 mod bits;
 mod blocks;
 mod headers;
+mod laws;
 mod leaf;
 mod names;
 mod node;
@@ -13,6 +14,7 @@ mod reading;
 mod tests;
 mod text;
 
+pub use laws::{lines_end, one_list};
 pub use names::{are_thin_names, contains, is_thin_name, place_of, sorted};
 pub use node::{NodeHead, TreeHeader};
 pub use parts::{Parts, fresh_parts, thin_names, with_names};

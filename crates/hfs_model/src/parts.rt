@@ -1,9 +1,11 @@
 //! The parts of a thin volume: its sectors that hold something, made, read and changed.
 ghost use Rattle.std.specs.Prelude.{◌≡◌, ◌&&◌, ◌↔◌, ℕ, List, [], length, IsTrue, IfOk, MatchOption};
 ghost use Rattle.volume_header.specs.Header.{header_bytes};
+ghost use Rattle.std.specs.List.{concat};
 ghost use Rattle.hfs_model.specs.Names.{are_thin_names};
+ghost use Rattle.hfs_model.specs.Node.{node_over, leaf_head};
 ghost use Rattle.hfs_model.specs.Parts.{OnlyFolders};
-ghost use Rattle.hfs_model.specs.Thin.{AreThin, AreFresh, HasFixedParts, thin_header, is_clean_in, writes_in};
+ghost use Rattle.hfs_model.specs.Thin.{AreThin, AreFresh, HasFixedParts, thin_header, is_clean_in, writes_in, leaf_items};
 
 use crate::blocks::{
     bitmap, catalog_tree, empty_tree, header_node, is_bitmap, is_header_node, is_leaf_node,
@@ -133,8 +135,9 @@ pub fn with_names(alloc: Global, parts: &Parts, names: &Names) -> Result<Parts, 
     // The parts of a thin volume become those of the thin volume with these folders.
     ensures thin { IfOk result (λ new. (old : List (List ℕ)) → AreThin parts.now old → AreThin new names.now) }
     ensures others { IfOk result (λ new. OnlyFolders parts.now new) }
-    // Bit 8 and the write count of the header stay.
+    // Bit 8 and the write count of the header stay, and so does what the leaf has in its free space.
     ensures kept { IfOk result (λ new. new.header ≡ header_bytes (thin_header (length names.now) (is_clean_in parts.now.header) (writes_in parts.now.header))) }
+    ensures free { IfOk result (λ new. concat new.leaf ≡ node_over leaf_head (leaf_items names.now) (concat parts.now.leaf)) }
 {
     let folders = names.len() as u32;
     let old_catalog = joined(alloc, &parts.catalog)?;

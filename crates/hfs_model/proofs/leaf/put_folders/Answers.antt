@@ -8,7 +8,7 @@ use Rattle.hfs_model.proofs.leaf.put_folders.Goals as goal
 
 pub put_item-requires : goal.put_item-requires
 put_item-requires c =
-    let list : c.as_slice-name-items.result.now ≡ in_order c.args.names.now = c.as_slice-name-items.ensures ∙ c.in_ok-sorted.ensures in
+    let list : c.as_slice-name-items.result.now ≡ in_order c.args.names.now = c.as_slice-name-items.ensures ∙ c.in_ok-sorted.ensures.value in
     let is : c.name-item.result ≡ get_or (in_order c.args.names.now) c.loop-name.name-index c.name-item.result =
     subst (λ (l : List (List ℕ)). c.name-item.result ≡ get_or l c.loop-name.name-index c.name-item.result) list c.name-item.is in
     let inside : c.loop-name.name-index < length (in_order c.args.names.now) = subst (λ (l : List (List ℕ)). c.loop-name.name-index < length l) list c.loop-name-test.true in
