@@ -1,5 +1,5 @@
 -- Lines and their replies, over the names of the folders in the root.
-use Rattle.std.specs.Prelude.{◌≡◌, ℕ, List, [], ◌∷◌, ◌++◌, Bool, ◌&&◌, nat_le, nat_lt, take, drop, length, flat_map, codes, decimal, if◌then◌else◌}
+use Rattle.std.specs.Prelude.{◌≡◌, ℕ, List, [], ◌∷◌, ◌++◌, Bool, IsTrue, ◌&&◌, nat_le, nat_lt, take, drop, length, flat_map, codes, decimal, if◌then◌else◌}
 use Rattle.std.specs.Str.{bytes_eq}
 use Rattle.hfs_model.specs.Names.{is_thin_name, has_name, in_order}
 use Rattle.hfsx_server.specs.declared.request.Request.{Request}
@@ -14,6 +14,12 @@ request_of line = if nat_lt 64 (length line) then Unreadable
     else if bytes_eq (take 7 line) (codes "mkdir /") && is_thin_name (drop 7 line) then MakeFolder (drop 7 line)
     else Unreadable
 
+-- a folder that is to be made has a name that it may have
+abbrev pub HasThinName : Request → Type 0
+HasThinName (MakeFolder name) = IsTrue (is_thin_name name)
+HasThinName ListRoot = Unit {0}
+HasThinName Unreadable = Unit {0}
+
 -- the reply, where the root has these folders, which are twelve at most
 abbrev pub reply_of : List (List ℕ) → Request → Reply
 reply_of names (MakeFolder name) = if has_name names name then Exists else if nat_le 12 (length names) then NoRoom else Made
@@ -23,7 +29,12 @@ reply_of names Unreadable = BadCommand
 -- the folders after it: a folder that was made stands behind the others
 abbrev pub folders_after : List (List ℕ) → Request → Reply → List (List ℕ)
 folders_after names (MakeFolder name) Made = names ++ name ∷ []
-folders_after names _ _ = names
+folders_after names (MakeFolder name) Names = names
+folders_after names (MakeFolder name) Exists = names
+folders_after names (MakeFolder name) NoRoom = names
+folders_after names (MakeFolder name) BadCommand = names
+folders_after names ListRoot reply = names
+folders_after names Unreadable reply = names
 
 -- a name in the list of a folder, as that of a folder
 abbrev pub entry_text : List ℕ → List ℕ

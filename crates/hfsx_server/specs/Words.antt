@@ -1,5 +1,5 @@
 -- The words that the program takes.
-use Rattle.std.specs.Prelude.{◌≡◌, ◌≢◌, ◌<◌, ◌^◌, ℕ, List, [], ◌∷◌, map, slice_index, String, string_bytes, codes, decimal}
+use Rattle.std.specs.Prelude.{◌≡◌, ◌≢◌, ◌⊎◌, ◌<◌, ◌^◌, ℕ, List, [], ◌∷◌, map, slice_index, String, string_bytes, codes, decimal}
 use Rattle.std.specs.declared.alloc.Global.{Global}
 use Rattle.hfsx_server.specs.declared.words.Work.{Work}
 use Rattle.hfsx_server.specs.declared.words.Work.TheVariants.{Format, Run, Wrong}
@@ -27,3 +27,7 @@ abbrev pub AreWordsOf : List (List ℕ) → Work → Type 0
 AreWordsOf words (Format sectors) = AreFormat words sectors
 AreWordsOf words Run = AreRun words
 AreWordsOf words Wrong = ¬ AreRun words × ((sectors : ℕ) → ¬ AreFormat words sectors)
+
+-- the words ask for a work, and where they give a number of sectors, it is that of the image
+abbrev pub AreInUse : List (List ℕ) → ℕ → Type 0
+AreInUse words sectors = AreRun words ⊎ AreFormat words sectors

@@ -2,7 +2,7 @@
 ghost use Rattle.std.specs.Prelude.{◌≡◌, ◌≤◌, length, IfOk, ℕ, List, if◌then◌else◌};
 ghost use Rattle.hfs_model.specs.Names.{is_thin_name};
 ghost use Rattle.hfsx_server.specs.Input.{IsLine};
-ghost use Rattle.hfsx_server.specs.Session.{request_of};
+ghost use Rattle.hfsx_server.specs.Session.{request_of, HasThinName};
 
 use crate::Line;
 use hfs_model::is_thin_name;
@@ -25,7 +25,8 @@ pub enum Request {
 
 /// Reads a line.
 pub fn read_request(alloc: Global, line: &Line) -> Result<Request, OutOfMemory>
-    ensures { IfOk result (λ request. (text : List ℕ) → IsLine LONGEST_LINE text line.now → request ≡ request_of text) }
+    ensures request { IfOk result (λ request. (text : List ℕ) → IsLine LONGEST_LINE text line.now → request ≡ request_of text) }
+    ensures name { IfOk result (λ request. HasThinName request) }
 {
     match line {
         Line::Whole(bytes) => read_bytes(alloc, bytes.as_slice()),
@@ -34,7 +35,8 @@ pub fn read_request(alloc: Global, line: &Line) -> Result<Request, OutOfMemory>
 }
 
 fn read_bytes(alloc: Global, line: &[u8]) -> Result<Request, OutOfMemory>
-    ensures { IfOk result (λ request. length line.now ≤ LONGEST_LINE → request ≡ request_of line.now) }
+    ensures request { IfOk result (λ request. length line.now ≤ LONGEST_LINE → request ≡ request_of line.now) }
+    ensures name { IfOk result (λ request. HasThinName request) }
 {
     if line == b"ls /".as_slice() {
         return Ok(Request::ListRoot);
@@ -47,7 +49,8 @@ fn read_bytes(alloc: Global, line: &[u8]) -> Result<Request, OutOfMemory>
 
 // A new folder of this name, where it may have it.
 fn read_name(alloc: Global, bytes: &[u8]) -> Result<Request, OutOfMemory>
-    ensures { IfOk result (λ request. request ≡ (if is_thin_name bytes.now then Request.MakeFolder bytes.now else Request.Unreadable)) }
+    ensures request { IfOk result (λ request. request ≡ (if is_thin_name bytes.now then Request.MakeFolder bytes.now else Request.Unreadable)) }
+    ensures name { IfOk result (λ request. HasThinName request) }
 {
     let name = units(alloc, bytes)?;
     if is_thin_name(&name) {
