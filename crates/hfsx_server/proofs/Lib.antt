@@ -1,0 +1,16 @@
+pub mod Causes
+pub mod FoldersPlaced
+pub mod PartsPlaced
+pub mod Pieces
+pub mod Reading
+pub mod Requests
+pub mod Results
+pub mod Sessions
+pub mod Serving
+pub mod Sorted
+pub mod Telling
+pub mod Thin
+pub mod Usage
+pub mod Volumes
+pub mod Whole
+pub mod WordLists

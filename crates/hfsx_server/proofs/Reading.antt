@@ -1,0 +1,71 @@
+-- A line on its way out of a source.
+use Rattle.std.proofs.Common.{◌≡◌, ◌↔◌, Bool, true, false, ◌≤◌, ◌<◌, ◌+◌, ◌++◌, ◌∷◌, [], ℕ, List, IsTrue, length, refl, sym, ◌∙◌, ap, subst, arith, append_assoc, length-append}
+use Rattle.std.proofs.lemmas.List.{append-nil}
+use Rattle.sector_disk.specs.Source.{Stream}
+use Rattle.hfs_model.specs.Lines.{lines, HasNoNewline}
+use Rattle.hfs_model.proofs.Lines.{lines-nil, lines_ended, lines_last, HasNoNewline-nil, HasNoNewline-push}
+use Rattle.hfsx_server.specs.declared.input.Line.{Line}
+use Rattle.hfsx_server.specs.Input.{ahead, weight, IsLine, SameSource}
+
+-- some bytes of a line have come so far
+pub record Reads (limit : ℕ) (taken : List ℕ) (old : Stream) (taken_now : List ℕ) (now : Stream) (line : Line) : Type 0 where
+  pub text : List ℕ
+  pub no_newline : HasNoNewline text
+  pub line_is : IsLine limit text line
+  pub bytes : IsTrue old.tells → ahead taken old ≡ text ++ ahead taken_now now
+  pub nearer : length text + weight taken_now now ≤ weight taken old
+  pub same : SameSource old now
+  pub later : old.faults ≤ now.faults
+
+module _ (limit : ℕ) (taken : List ℕ) (old : Stream) (taken_now : List ℕ) (now : Stream) (line : Line) (reads : Reads limit taken old taken_now now line) where
+  pub still : IsTrue old.tells → IsTrue now.tells
+  still tells = subst IsTrue (sym reads.same.tells) tells
+
+  pub reads_more : (taken_new : List ℕ) (new : Stream) (longer : Line) (byte : ℕ) → (byte ≡ 10 → ⊥) → IsLine limit (reads.text ++ byte ∷ []) longer
+      → (IsTrue now.tells → ahead taken_now now ≡ byte ∷ ahead taken_new new) → weight taken_new new < weight taken_now now → SameSource now new → now.faults ≤ new.faults
+      → Reads limit taken old taken_new new longer
+  reads_more taken_new new longer byte other is came nearer same later = record {
+    text = reads.text ++ byte ∷ [];
+    no_newline = HasNoNewline-push reads.text byte reads.no_newline other;
+    line_is = is;
+    bytes = λ tells. reads.bytes tells ∙ ap (λ (l : List ℕ). reads.text ++ l) (came (still tells)) ∙ sym (append_assoc reads.text (byte ∷ []) (ahead taken_new new));
+    nearer = omega (arith, nearer, reads.nearer, length-append reads.text (byte ∷ []));
+    same = record { tells = same.tells ∙ reads.same.tells; names = same.names ∙ reads.same.names };
+    later = omega (arith, later, reads.later);
+  }
+
+  -- a newline ends the line
+  pub reads_ended : (taken_new : List ℕ) (new : Stream) → (IsTrue now.tells → ahead taken_now now ≡ 10 ∷ ahead taken_new new) → IsTrue old.tells → lines (ahead taken old) ≡ reads.text ∷ lines (ahead taken_new new)
+  reads_ended taken_new new came tells = ap lines (reads.bytes tells ∙ ap (λ (l : List ℕ). reads.text ++ l) (came (still tells))) ∙ lines_ended reads.text (ahead taken_new new) reads.no_newline
+
+  -- so does the end of the source, where something of a line has come
+  pub reads_last : (taken_new : List ℕ) (new : Stream) → (reads.text ≡ [] → ⊥) → (IsTrue now.tells → ahead taken_now now ≡ []) → (IsTrue now.tells → ahead taken_new new ≡ []) → IsTrue old.tells → lines (ahead taken old) ≡ reads.text ∷ lines (ahead taken_new new)
+  reads_last taken_new new some none at_end tells =
+      ap lines (reads.bytes tells ∙ ap (λ (l : List ℕ). reads.text ++ l) (none (still tells)) ∙ append-nil reads.text) ∙ last_line reads.text reads.no_newline some ∙ ap (λ (l : List ℕ). reads.text ∷ lines l) (sym (at_end (still tells)))
+    where
+      last_line : (text : List ℕ) → HasNoNewline text → (text ≡ [] → ⊥) → lines text ≡ text ∷ lines []
+      last_line [] no_newline some = absurd (some refl)
+      last_line (byte ∷ text) no_newline some = lines_last byte text no_newline ∙ ap (λ (l : List (List ℕ)). (byte ∷ text) ∷ l) (sym lines-nil)
+
+  -- nothing came before the end
+  pub reads_none : reads.text ≡ [] → (IsTrue now.tells → ahead taken_now now ≡ []) → IsTrue old.tells → lines (ahead taken old) ≡ []
+  reads_none none at_end tells = ap lines (reads.bytes tells ∙ ap (λ (l : List ℕ). l ++ ahead taken_now now) none ∙ at_end (still tells)) ∙ lines-nil
+
+pub reads_nothing : (limit : ℕ) (taken : List ℕ) (old : Stream) (line : Line) → IsLine limit [] line → Reads limit taken old taken old line
+reads_nothing limit taken old line is = record {
+  text = [];
+  no_newline = HasNoNewline-nil;
+  line_is = is;
+  bytes = λ tells. refl;
+  nearer = omega arith;
+  same = record { tells = refl; names = refl };
+  later = omega arith;
+}
+
+-- what isn't empty has a byte
+pub some_text : (empty : Bool) (text : List ℕ) → IsTrue empty ↔ (text ≡ []) → empty ≡ false → text ≡ [] → ⊥
+some_text empty text test none is = absurd (cc (test.1 is, none))
+
+pub nearer_last : (text : List ℕ) (old now new : ℕ) → (text ≡ [] → ⊥) → length text + now ≤ old → new ≤ now → new < old
+nearer_last [] old now new some so_far last = absurd (some refl)
+nearer_last (byte ∷ text) old now new some so_far last = omega (arith, so_far, last)

@@ -1,0 +1,33 @@
+use Rattle.std.proofs.Common.{◌≡◌, ◌<◌, ◌∙◌, ◌++◌, [], ℕ, List, IsTrue, sym, ap, subst, arith}
+use Rattle.sector_disk.specs.Disk.{Candidates, content_of}
+use Rattle.hfs_model.specs.Thin.{IsThin}
+use Rattle.hfsx_server.specs.declared.refusal.Refusal.TheVariants.{TooSmall, TooLarge}
+use Rattle.hfsx_server.specs.Telling.{Tells, refusal_text, size_refusal, formatted_text}
+use Rattle.hfsx_server.proofs.Telling.{too_small, too_large}
+use Rattle.hfsx_server.proofs.formatting.format.Goals as goal
+
+pub returns-then-sectors-lt-VOLUME_SECTORS-clause-refusal : goal.returns-then-sectors-lt-VOLUME_SECTORS-clause-refusal
+returns-then-sectors-lt-VOLUME_SECTORS-clause-refusal g c _ =
+    let old = g.R.SectorDisk.state c.args.rig.now in
+    let new = g.R.SectorDisk.state c.tell_refusal.new.rig in
+    let number : c.sectors-sectors.result ≡ old.sectors = c.sectors-sectors.ensures in
+    let small : c.sectors-sectors.result < 16384 = omega arith in
+    subst (λ (n : ℕ). Tells old new (refusal_text (size_refusal n))) number
+    (subst (λ refusal. Tells old new (refusal_text refusal)) (sym (too_small c.sectors-sectors.result small)) c.tell_refusal.ensures)
+
+pub returns-then-sectors-gt-VOLUME_SECTORS-clause-refusal : goal.returns-then-sectors-gt-VOLUME_SECTORS-clause-refusal
+returns-then-sectors-gt-VOLUME_SECTORS-clause-refusal g c _ =
+    let old = g.R.SectorDisk.state c.args.rig.now in
+    let new = g.R.SectorDisk.state c.tell_refusal-then-sectors-gt-VOLUME_SECTORS.new.rig in
+    let number : c.sectors-sectors.result ≡ old.sectors = c.sectors-sectors.ensures in
+    let large : 16384 < c.sectors-sectors.result = omega arith in
+    subst (λ (n : ℕ). Tells old new (refusal_text (size_refusal n))) number
+    (subst (λ refusal. Tells old new (refusal_text refusal)) (sym (too_large c.sectors-sectors.result large)) c.tell_refusal-then-sectors-gt-VOLUME_SECTORS.ensures)
+
+pub returns-in-Ok-tell_whole-clause-thin : goal.returns-in-Ok-tell_whole-clause-thin
+returns-in-Ok-tell_whole-clause-thin g c tells _ = subst (λ (d : Candidates). IsThin (content_of d) []) (sym c.tell_whole.ensures.candidates) (c.in-Ok.ensures.thin tells)
+
+pub returns-in-Ok-tell_whole-clause-told : goal.returns-in-Ok-tell_whole-clause-told
+returns-in-Ok-tell_whole-clause-told g c tells _ =
+    let still = subst IsTrue (sym c.make_volume.ensures.same.tells) tells in
+    c.in-Ok-tell_whole.ensures.told still ∙ ap (λ (l : List ℕ). l ++ formatted_text) c.make_volume.ensures.sink.told

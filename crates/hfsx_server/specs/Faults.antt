@@ -1,0 +1,26 @@
+-- Faults of the server, as those of its parts and as statuses.
+use Rattle.hx_bytes.specs.declared.faults.Trouble.{Trouble}
+use Rattle.hx_bytes.specs.declared.faults.Trouble.TheVariants as trouble
+use Rattle.hfsx_server.specs.declared.input.LineFault.{LineFault}
+use Rattle.hfsx_server.specs.declared.input.LineFault.TheVariants as line
+use Rattle.hfsx_server.specs.declared.faults.ServeFault.{ServeFault}
+use Rattle.hfsx_server.specs.declared.faults.ServeFault.TheVariants as fault
+use Rattle.hfsx_server.specs.declared.status.Status.{Status}
+use Rattle.hfsx_server.specs.declared.status.Status.TheVariants as status
+
+-- the fault of the server where no line was read
+abbrev pub fault_of_line : LineFault → ServeFault
+fault_of_line line.Source = fault.Source
+fault_of_line line.Memory = fault.Memory
+
+-- the fault of the server where the volume was in trouble
+abbrev pub fault_of_trouble : Trouble → ServeFault
+fault_of_trouble trouble.Disk = fault.Disk
+fault_of_trouble trouble.Memory = fault.Memory
+
+-- the status of a run that ends so
+abbrev pub status_of : ServeFault → Status
+status_of fault.Disk = status.Disk
+status_of fault.Source = status.Source
+status_of fault.Sink = status.Sink
+status_of fault.Memory = status.Memory

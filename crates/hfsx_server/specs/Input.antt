@@ -1,0 +1,23 @@
+-- Bytes of a source on their way into lines.
+use Rattle.std.specs.Prelude.{◌≡◌, ◌<◌, ◌≤◌, ◌+◌, ◌*◌, ◌++◌, ℕ, List, length}
+use Rattle.sector_disk.specs.Source.{Stream}
+use Rattle.hfsx_server.specs.declared.input.Line.{Line}
+use Rattle.hfsx_server.specs.declared.input.Line.TheVariants.{Whole, TooLong}
+
+-- the bytes that are still to be read: those taken before, and then those left
+abbrev pub ahead : List ℕ → Stream → List ℕ
+ahead taken source = taken ++ source.left
+
+-- how many bytes may still come, at most
+abbrev pub weight : List ℕ → Stream → ℕ
+weight taken source = source.takes * 512 + length taken
+
+-- the line has this text, which is held up to a limit
+abbrev pub IsLine : ℕ → List ℕ → Line → Type 0
+IsLine limit text (Whole bytes) = (length text ≤ limit) × (bytes ≡ text)
+IsLine limit text TooLong = limit < length text
+
+-- what no take changes
+pub record SameSource (old new : Stream) : Type 0 where
+  pub tells : new.tells ≡ old.tells
+  pub names : new.names ≡ old.names

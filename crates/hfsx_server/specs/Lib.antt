@@ -1,0 +1,9 @@
+pub mod Cause
+pub mod Faults
+pub mod Input
+pub mod Serving
+pub mod Session
+pub mod Status
+pub mod Telling
+pub mod Volume
+pub mod Words

@@ -1,0 +1,33 @@
+-- The words that the program takes.
+use Rattle.std.specs.Prelude.{◌≡◌, ◌≢◌, ◌⊎◌, ◌<◌, ◌^◌, ℕ, List, [], ◌∷◌, map, slice_index, String, string_bytes, codes, decimal}
+use Rattle.std.specs.declared.alloc.Global.{Global}
+use Rattle.hfsx_server.specs.declared.words.Work.{Work}
+use Rattle.hfsx_server.specs.declared.words.Work.TheVariants.{Format, Run, Wrong}
+
+-- the words as lists of bytes
+abbrev pub texts : List (String Global) → List (List ℕ)
+texts words = map (λ (word : String Global). string_bytes word) words
+
+-- A word may name an image: it isn't empty, doesn't begin with `-`, and isn't `help`.
+pub record MayName (word : List ℕ) : Type 0 where
+  pub some : word ≢ []
+  pub no_option : slice_index word 0 ≢ 45
+  pub no_help : word ≢ codes "help"
+
+-- the words are `run IMAGE`
+abbrev pub AreRun : List (List ℕ) → Type 0
+AreRun words = (image : List ℕ) × MayName image × (words ≡ codes "run" ∷ image ∷ [])
+
+-- the words are `format IMAGE SECTORS`
+abbrev pub AreFormat : List (List ℕ) → ℕ → Type 0
+AreFormat words sectors = (image : List ℕ) × MayName image × (sectors < 2 ^ 64) × (words ≡ codes "format" ∷ image ∷ decimal sectors ∷ [])
+
+-- the words ask for this work
+abbrev pub AreWordsOf : List (List ℕ) → Work → Type 0
+AreWordsOf words (Format sectors) = AreFormat words sectors
+AreWordsOf words Run = AreRun words
+AreWordsOf words Wrong = ¬ AreRun words × ((sectors : ℕ) → ¬ AreFormat words sectors)
+
+-- the words ask for a work, and where they give a number of sectors, it is that of the image
+abbrev pub AreInUse : List (List ℕ) → ℕ → Type 0
+AreInUse words sectors = AreRun words ⊎ AreFormat words sectors

@@ -1,0 +1,63 @@
+// A volume that is formatted.
+ghost use Rattle.std.specs.Prelude.{◌≡◌, ◌≢◌, ◌↔◌, ◌++◌, [], IsTrue, OnOk};
+ghost use Rattle.sector_disk.specs.Cause.{Rose};
+ghost use Rattle.sector_disk.specs.Disk.{SameDisk, SameSink, IsSettled, content};
+ghost use Rattle.hfs_model.specs.Thin.{IsThin};
+ghost use Rattle.hfsx_server.specs.Cause.{IsCause};
+ghost use Rattle.hfsx_server.specs.Telling.{Tells, refusal_text, size_refusal, formatted_text};
+
+use crate::{Refusal, Status, VOLUME_SECTORS, tell_refusal, tell_whole, write_parts};
+use hfs_model::fresh_parts;
+use hx_bytes::{Failed, Trouble};
+use sector_disk::{Rig, SectorDisk};
+use std::alloc::Global;
+
+const FORMATTED: &[u8; 33] = b"formatted 2048 blocks, 1692 free\n";
+
+/// Formats an image of 16,384 sectors, and tells its blocks. An image of another size is refused and isn't written.
+pub fn format<R: Rig>(alloc: Global, rig: &mut R) -> Status
+    ensures refused { (result ≡ Status.Refused) ↔ ((R.state rig.old).sectors ≢ VOLUME_SECTORS) }
+    ensures refusal { result ≡ Status.Refused → Tells (R.state rig.old) (R.state rig.new) (refusal_text (size_refusal (R.state rig.old).sectors)) }
+    ensures thin { IsTrue (R.state rig.old).tells → result ≡ Status.Done → IsThin (content (R.state rig.new)) [] }
+    ensures settled { IsTrue (R.state rig.old).tells → result ≡ Status.Done → IsSettled (R.state rig.new) }
+    ensures told { IsTrue (R.state rig.old).tells → result ≡ Status.Done → (R.state rig.new).told ≡ (R.state rig.old).told ++ formatted_text }
+    ensures no_usage { result ≢ Status.Usage }
+    ensures no_source { result ≢ Status.Source }
+    ensures no_many { result ≢ Status.TooMany }
+    ensures disk { result ≡ Status.Disk → Rose (R.state rig.old).faults (R.state rig.new).faults }
+    ensures sink { result ≡ Status.Sink → Rose (R.state rig.old).sink_faults (R.state rig.new).sink_faults }
+    ensures same { SameDisk (R.state rig.old) (R.state rig.new) }
+{
+    let sectors = rig.sectors();
+    if sectors < VOLUME_SECTORS {
+        tell_refusal(rig, Refusal::TooSmall(sectors));
+        return Status::Refused;
+    }
+    if sectors > VOLUME_SECTORS {
+        tell_refusal(rig, Refusal::TooLarge(sectors));
+        return Status::Refused;
+    }
+    match make_volume(alloc, rig) {
+        Ok(()) => {}
+        Err(Trouble::Disk) => return Status::Disk,
+        Err(Trouble::Memory) => return Status::Memory,
+    }
+    match tell_whole(rig, FORMATTED) {
+        Ok(()) => Status::Done,
+        Err(Failed) => Status::Sink,
+    }
+}
+
+// Writes a volume without folders.
+fn make_volume<D: SectorDisk>(alloc: Global, disk: &mut D) -> Result<(), Trouble>
+    requires { (D.state disk.old).sectors ≡ VOLUME_SECTORS }
+    ensures thin { IsTrue (D.state disk.old).tells → OnOk result (IsThin (content (D.state disk.new)) []) }
+    ensures settled { IsTrue (D.state disk.old).tells → OnOk result (IsSettled (D.state disk.new)) }
+    ensures same { SameDisk (D.state disk.old) (D.state disk.new) }
+    ensures sink { SameSink (D.state disk.old) (D.state disk.new) }
+    ensures cause { IsCause Trouble.Disk (D.state disk.old).faults (D.state disk.new).faults result }
+{
+    let parts = fresh_parts(alloc)?;
+    write_parts(disk, &parts)?;
+    Ok(())
+}

@@ -1,0 +1,187 @@
+// Lines of a source, one by one, of which no more than a limit is held.
+ghost use Rattle.std.specs.Prelude.{◌≡◌, ◌<◌, ◌≤◌, ◌++◌, ◌∷◌, ◌-◌, ◌↔◌, [], ℕ, List, IsTrue, length, MatchOption, IfOk, IfSome, IfNone, OnSome, OnOk, OnErr};
+ghost use Rattle.sector_disk.specs.Cause.{HasCause};
+ghost use Rattle.hfs_model.specs.Lines.{lines};
+ghost use Rattle.hfsx_server.specs.Cause.{IsCause};
+ghost use Rattle.hfsx_server.specs.Input.{ahead, weight, IsLine, SameSource};
+
+use hx_bytes::{Bytes, Failed, OutOfMemory};
+use sector_disk::Source;
+use std::alloc::Global;
+use std::marker::Model;
+
+/// Bytes that were taken from a source and belong to no line yet.
+#[derive(Drop)]
+pub struct Input {
+    buffer: [u8; 512],
+    start: usize,
+    end: usize,
+}
+
+impl Model for Input {
+    ghost use Rattle.std.specs.Prelude.{ℕ, List, ◌≤◌, ◌-◌, take, drop};
+
+    ghost Value = { List ℕ };
+
+    ghost view = { λ input. take (input.end - input.start) (drop input.start input.buffer) };
+
+    ghost invariant = { λ input. (input.start ≤ input.end) × (input.end ≤ 512) };
+}
+
+/// A line without its newline.
+#[derive(Drop)]
+pub enum Line {
+    /// All of its bytes.
+    Whole(Bytes),
+    /// It has more bytes than the limit, and they aren't held.
+    TooLong,
+}
+
+/// Why no line was read.
+#[derive(Clone, Copy, Debug, PartialEq, Eq)]
+pub enum LineFault {
+    /// The source failed.
+    Source,
+    /// There was no memory for the line.
+    Memory,
+}
+
+impl From<Failed> for LineFault {
+    ghost use Rattle.std.specs.Prelude.{◌≡◌};
+    ghost use Rattle.hfsx_server.specs.declared.input.LineFault.TheVariants.{Source};
+
+    ghost from_gives = { λ _ e. e ≡ Source };
+
+    fn from(_: Failed) -> Self {
+        LineFault::Source
+    }
+}
+
+impl From<OutOfMemory> for LineFault {
+    ghost use Rattle.std.specs.Prelude.{◌≡◌};
+    ghost use Rattle.hfsx_server.specs.declared.input.LineFault.TheVariants.{Memory};
+
+    ghost from_gives = { λ _ e. e ≡ Memory };
+
+    fn from(_: OutOfMemory) -> Self {
+        LineFault::Memory
+    }
+}
+
+impl Input {
+    /// Nothing was taken yet.
+    pub fn new() -> Input
+        ensures { result ≡ [] }
+    {
+        Input {
+            buffer: [0; 512],
+            start: 0,
+            end: 0,
+        }
+    }
+
+    /// The next line of the source, or none at its end. A line of more than `limit` bytes is not held.
+    pub fn next_line<S: Source>(
+        &mut self,
+        alloc: Global,
+        source: &mut S,
+        limit: usize,
+    ) -> Result<Option<Line>, LineFault>
+        ensures line { IfOk result (λ next. IfSome next (λ line. (text : List ℕ) × IsLine limit text line
+            × (IsTrue (S.stream source.old).tells → lines (ahead self.old (S.stream source.old)) ≡ text ∷ lines (ahead self.new (S.stream source.new))))) }
+        ensures end { IsTrue (S.stream source.old).tells → IfOk result (λ next. IfNone next ((lines (ahead self.old (S.stream source.old)) ≡ []) × (ahead self.new (S.stream source.new) ≡ []))) }
+        // Each line brings the end nearer.
+        ensures nearer { IfOk result (λ next. OnSome next (weight self.new (S.stream source.new) < weight self.old (S.stream source.old))) }
+        ensures same { SameSource (S.stream source.old) (S.stream source.new) }
+        ensures cause { IsCause LineFault.Source (S.stream source.old).faults (S.stream source.new).faults result }
+    {
+        let mut line = Line::Whole(Bytes::new(alloc));
+        loop {
+            match self.next_byte(source)? {
+                None => {
+                    if line.is_empty() {
+                        return Ok(None);
+                    }
+                    return Ok(Some(line));
+                }
+                Some(10) => return Ok(Some(line)),
+                Some(byte) => line = line.longer(byte, limit)?,
+            }
+        }
+    }
+
+    // The next byte, or none at the end of the source.
+    fn next_byte<S: Source>(&mut self, source: &mut S) -> Result<Option<u8>, Failed>
+        ensures byte { IsTrue (S.stream source.old).tells → IfOk result (λ next. IfSome next (λ byte. ahead self.old (S.stream source.old) ≡ byte ∷ ahead self.new (S.stream source.new))) }
+        ensures end { IsTrue (S.stream source.old).tells → IfOk result (λ next. IfNone next ((ahead self.old (S.stream source.old) ≡ []) × (ahead self.new (S.stream source.new) ≡ []))) }
+        ensures nearer { IfOk result (λ next. OnSome next (weight self.new (S.stream source.new) < weight self.old (S.stream source.old))) }
+        ensures no_more { weight self.new (S.stream source.new) ≤ weight self.old (S.stream source.old) }
+        ensures same { SameSource (S.stream source.old) (S.stream source.new) }
+        ensures cause { HasCause (S.stream source.old).faults (S.stream source.new).faults result }
+    {
+        if self.is_empty() {
+            self.fill(source)?;
+        }
+        Ok(self.pop())
+    }
+
+    fn is_empty(&self) -> bool
+        ensures { IsTrue result ↔ (self.now ≡ []) }
+    {
+        self.start == self.end
+    }
+
+    // Takes bytes of the source, where none are left of those taken before.
+    fn fill<S: Source>(&mut self, source: &mut S) -> Result<(), Failed>
+        requires { self.old ≡ [] }
+        ensures filled { IsTrue (S.stream source.old).tells → OnOk result ((S.stream source.old).left ≡ self.new ++ (S.stream source.new).left) }
+        ensures end { IsTrue (S.stream source.old).tells → OnOk result (self.new ≡ [] → (S.stream source.old).left ≡ []) }
+        ensures no_more { weight self.new (S.stream source.new) ≤ weight self.old (S.stream source.old) }
+        ensures same { SameSource (S.stream source.old) (S.stream source.new) }
+        ensures cause { HasCause (S.stream source.old).faults (S.stream source.new).faults result }
+    {
+        let count = source.take(&mut self.buffer)?;
+        self.start = 0;
+        self.end = count;
+        Ok(())
+    }
+
+    // The first of the bytes taken.
+    fn pop(&mut self) -> Option<u8>
+        ensures { MatchOption result ((self.old ≡ []) × (self.new ≡ [])) (λ byte. self.old ≡ byte ∷ self.new) }
+    {
+        if self.start == self.end {
+            return None;
+        }
+        let byte = self.buffer[self.start];
+        self.start += 1;
+        Some(byte)
+    }
+}
+
+impl Line {
+    fn is_empty(&self) -> bool
+        ensures { (limit : ℕ) (text : List ℕ) → IsLine limit text self.now → IsTrue result ↔ (text ≡ []) }
+    {
+        match self {
+            Line::Whole(bytes) => bytes.is_empty(),
+            Line::TooLong => false,
+        }
+    }
+
+    // The line with a byte more, which isn't held past the limit.
+    fn longer(self, byte: u8, limit: usize) -> Result<Line, OutOfMemory>
+        ensures { IfOk result (λ longer. (text : List ℕ) → IsLine limit text self → IsLine limit (text ++ byte ∷ []) longer) }
+    {
+        match self {
+            Line::Whole(mut bytes) => {
+                if bytes.len() >= limit {
+                    return Ok(Line::TooLong);
+                }
+                bytes.push(byte)?;
+                Ok(Line::Whole(bytes))
+            }
+            Line::TooLong => Ok(Line::TooLong),
+        }
+    }
+}

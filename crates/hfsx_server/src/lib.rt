@@ -1,0 +1,30 @@
+//! The server of a volume: the words of a command line, the lines of a source, their replies, and the top call.
+#![tactic(auto)]
+
+mod faults;
+mod formatting;
+mod input;
+mod refusal;
+mod reply;
+mod request;
+mod running;
+mod server;
+mod sink;
+mod status;
+mod top;
+mod volume;
+mod words;
+
+pub use faults::{MountFault, ServeFault};
+pub use formatting::format;
+pub use input::{Input, Line, LineFault};
+pub use refusal::{Refusal, tell_refusal, tell_usage};
+pub use reply::{MOST_FOLDERS, Reply, print_reply, reply_to};
+pub use request::{LONGEST_LINE, Request, read_request};
+pub use running::run;
+pub use server::{Served, Server, mount};
+pub use sink::tell_whole;
+pub use status::Status;
+pub use top::hfsx;
+pub use volume::{VOLUME_SECTORS, read_parts, write_folders, write_parts};
+pub use words::{Work, read_words};

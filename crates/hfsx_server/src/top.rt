@@ -1,0 +1,75 @@
+// The top call of the program.
+ghost use Rattle.std.specs.Prelude.{◌≡◌, ◌≢◌, ◌⊎◌, ◌↔◌, ◌++◌, [], ℕ, List, IsTrue};
+ghost use Rattle.sector_disk.specs.Cause.{Rose};
+ghost use Rattle.sector_disk.specs.Disk.{SameDisk, IsSettled, content};
+ghost use Rattle.hfs_model.specs.Thin.{IsThin};
+ghost use Rattle.hfsx_server.specs.declared.refusal.Refusal.TheVariants.{NotYet};
+ghost use Rattle.hfsx_server.specs.Serving.{IsThinForNone, ServesAll, ServesSome};
+ghost use Rattle.hfsx_server.specs.Telling.{ToldUnlessFailed, refusal_text, size_refusal, usage_text, formatted_text};
+ghost use Rattle.hfsx_server.specs.Words.{texts, AreRun, AreFormat, AreInUse};
+
+use crate::{Status, Work, format, read_words, run, tell_usage};
+use sector_disk::{Rig, Source};
+use std::alloc::Global;
+
+/// Does what the words after the program's name ask for, on an image and with the lines of a source.
+///
+/// `format IMAGE SECTORS` writes an empty volume, and `run IMAGE` answers line after line. The name of the image
+/// is the caller's, who opened it. Other words tell how the program is called.
+pub fn hfsx<R: Rig, S: Source>(
+    alloc: Global,
+    words: &[String],
+    rig: &mut R,
+    source: &mut S,
+) -> Status
+    // Status 2 stands exactly where the words are wrong, or don't give the image's number of sectors.
+    ensures usage { (result ≡ Status.Usage) ↔ ¬ (AreInUse (texts words.now) (R.state rig.old).sectors) }
+    ensures usage_told { IsTrue (R.state rig.old).tells → result ≡ Status.Usage → ToldUnlessFailed (R.state rig.old) (R.state rig.new) usage_text }
+
+    // `format`: status 1 stands exactly where the image hasn't 16,384 sectors.
+    ensures format_refused { AreFormat (texts words.now) (R.state rig.old).sectors → (result ≡ Status.Refused) ↔ ((R.state rig.old).sectors ≢ 16384) }
+    ensures format_refusal { AreFormat (texts words.now) (R.state rig.old).sectors → IsTrue (R.state rig.old).tells → result ≡ Status.Refused
+        → ToldUnlessFailed (R.state rig.old) (R.state rig.new) (refusal_text (size_refusal (R.state rig.old).sectors)) }
+    // Status 0 means that the image is an empty volume with nothing pending, and that its line was told.
+    ensures formatted { AreFormat (texts words.now) (R.state rig.old).sectors → IsTrue (R.state rig.old).tells → result ≡ Status.Done
+        → IsThin (content (R.state rig.new)) [] × IsSettled (R.state rig.new) × ((R.state rig.new).told ≡ (R.state rig.old).told ++ formatted_text) }
+
+    // `run`: status 1 stands exactly where the content is no thin volume, unless it couldn't be read.
+    ensures run_refused { AreRun (texts words.now) → IsTrue (R.state rig.old).tells → result ≡ Status.Refused → IsThinForNone (content (R.state rig.old)) }
+    ensures run_refuses { AreRun (texts words.now) → IsTrue (R.state rig.old).tells → IsThinForNone (content (R.state rig.old))
+        → (result ≡ Status.Refused) ⊎ ((result ≡ Status.Disk) ⊎ (result ≡ Status.Memory)) }
+    ensures run_refusal { AreRun (texts words.now) → IsTrue (R.state rig.old).tells → result ≡ Status.Refused
+        → ToldUnlessFailed (R.state rig.old) (R.state rig.new) (refusal_text (NotYet 0)) }
+    // Status 0 means that all lines of the source were answered, and that the volume has the folders that they made.
+    ensures served { AreRun (texts words.now) → IsTrue (R.state rig.old).tells → (names : List (List ℕ)) → IsThin (content (R.state rig.old)) names
+        → result ≡ Status.Done → ServesAll (R.state rig.old) names (S.stream source.old) (R.state rig.new) (S.stream source.new) }
+    ensures settled { AreRun (texts words.now) → IsTrue (R.state rig.old).tells → IsSettled (R.state rig.old) → result ≡ Status.Done → IsSettled (R.state rig.new) }
+    // Whatever ends the run, what was told is a front of the replies.
+    ensures replies { AreRun (texts words.now) → IsTrue (R.state rig.old).tells → (names : List (List ℕ)) → IsThin (content (R.state rig.old)) names
+        → ServesSome (R.state rig.old) names (S.stream source.old) (R.state rig.new) }
+
+    // What is refused, and wrong words, leave the image as it was.
+    ensures unwritten { (result ≡ Status.Refused) ⊎ (result ≡ Status.Usage) → (R.state rig.new).candidates ≡ (R.state rig.old).candidates }
+
+    ensures disk { result ≡ Status.Disk → Rose (R.state rig.old).faults (R.state rig.new).faults }
+    ensures source { result ≡ Status.Source → Rose (S.stream source.old).faults (S.stream source.new).faults }
+    ensures sink { result ≡ Status.Sink → Rose (R.state rig.old).sink_faults (R.state rig.new).sink_faults }
+    ensures no_many { result ≢ Status.TooMany }
+    ensures same { SameDisk (R.state rig.old) (R.state rig.new) }
+{
+    match read_words(words) {
+        Work::Run => run(alloc, rig, source),
+        Work::Format { sectors } => {
+            if sectors == rig.sectors() {
+                format(alloc, rig)
+            } else {
+                tell_usage(rig);
+                Status::Usage
+            }
+        }
+        Work::Wrong => {
+            tell_usage(rig);
+            Status::Usage
+        }
+    }
+}

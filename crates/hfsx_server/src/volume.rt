@@ -1,0 +1,120 @@
+// The parts of a volume, read from a disk and written to it.
+ghost use Rattle.std.specs.Prelude.{◌≡◌, ◌≤◌, ◌<◌, ◌+◌, IsTrue, IfOk, OnOk, slice_range};
+ghost use Rattle.sector_disk.specs.Lists.{sector};
+ghost use Rattle.sector_disk.specs.Cause.{HasCause};
+ghost use Rattle.sector_disk.specs.Disk.{SameDisk, SameSink, IsSettled, content};
+ghost use Rattle.hfs_model.specs.Parts.{OnlyFolders, parts_of};
+ghost use Rattle.hfsx_server.specs.Volume.{OnlyReads, Holds};
+
+use hfs_model::Parts;
+use hx_bytes::{Failed, Sector};
+use sector_disk::{SectorDisk, write_all_then_barrier};
+
+/// The number of sectors of a volume.
+pub const VOLUME_SECTORS: u64 = 16_384;
+
+const HEADER: u64 = 2;
+
+const BITMAP: u64 = 8;
+
+const INFO: u64 = 16;
+
+const JOURNAL: u64 = 24;
+
+const EXTENTS: u64 = 2_072;
+
+const ATTRIBUTES: u64 = 2_200;
+
+const CATALOG: u64 = 2_328;
+
+const LEAF: u64 = 2_336;
+
+const ALTERNATE: u64 = 16_382;
+
+/// Reads the parts of a volume.
+pub fn read_parts<D: SectorDisk>(disk: &mut D) -> Result<Parts, Failed>
+    requires { (D.state disk.old).sectors ≡ VOLUME_SECTORS }
+    ensures parts { IsTrue (D.state disk.old).tells → IfOk result (λ parts. parts ≡ parts_of (content (D.state disk.old))) }
+    ensures only_reads { OnlyReads (D.state disk.old) (D.state disk.new) }
+    ensures cause { HasCause (D.state disk.old).faults (D.state disk.new).faults result }
+{
+    let header = read_sector(disk, HEADER)?;
+    let alternate = read_sector(disk, ALTERNATE)?;
+    let bitmap = read_block(disk, BITMAP)?;
+    let info = read_sector(disk, INFO)?;
+    let journal = read_sector(disk, JOURNAL)?;
+    let extents = read_block(disk, EXTENTS)?;
+    let attributes = read_block(disk, ATTRIBUTES)?;
+    let catalog = read_block(disk, CATALOG)?;
+    let leaf = read_block(disk, LEAF)?;
+    Ok(Parts {
+        header,
+        alternate,
+        bitmap,
+        info,
+        journal,
+        extents,
+        attributes,
+        catalog,
+        leaf,
+    })
+}
+
+fn read_sector<D: SectorDisk>(disk: &mut D, at: u64) -> Result<Sector, Failed>
+    requires { at < (D.state disk.old).sectors }
+    ensures value { IsTrue (D.state disk.old).tells → IfOk result (λ value. value ≡ sector (content (D.state disk.old)) at) }
+    ensures only_reads { OnlyReads (D.state disk.old) (D.state disk.new) }
+    ensures cause { HasCause (D.state disk.old).faults (D.state disk.new).faults result }
+{
+    let mut value = [0; 512];
+    disk.read(at, &mut value)?;
+    Ok(value)
+}
+
+// The eight sectors of a block.
+fn read_block<D: SectorDisk>(disk: &mut D, first: u64) -> Result<[Sector; 8], Failed>
+    requires { first + 8 ≤ (D.state disk.old).sectors }
+    ensures block { IsTrue (D.state disk.old).tells → IfOk result (λ block. block ≡ slice_range (content (D.state disk.old)) first (first + 8)) }
+    ensures only_reads { OnlyReads (D.state disk.old) (D.state disk.new) }
+    ensures cause { HasCause (D.state disk.old).faults (D.state disk.new).faults result }
+{
+    // The last of them has a number, since the disk counts its sectors by one.
+    let _sectors = disk.sectors();
+    let mut block = [[0; 512]; 8];
+    for at in 0..8 {
+        block[at] = read_sector(disk, first + at as u64)?;
+    }
+    Ok(block)
+}
+
+/// Writes all parts of a volume, each behind a barrier.
+pub fn write_parts<D: SectorDisk>(disk: &mut D, parts: &Parts) -> Result<(), Failed>
+    requires { (D.state disk.old).sectors ≡ VOLUME_SECTORS }
+    ensures written { IsTrue (D.state disk.old).tells → OnOk result (Holds (D.state disk.new) parts.now) }
+    ensures settled { IsTrue (D.state disk.old).tells → OnOk result (IsSettled (D.state disk.new)) }
+    ensures same { SameDisk (D.state disk.old) (D.state disk.new) }
+    ensures sink { SameSink (D.state disk.old) (D.state disk.new) }
+    ensures cause { HasCause (D.state disk.old).faults (D.state disk.new).faults result }
+{
+    write_all_then_barrier(disk, BITMAP, &parts.bitmap)?;
+    write_all_then_barrier(disk, INFO, &[parts.info])?;
+    write_all_then_barrier(disk, JOURNAL, &[parts.journal])?;
+    write_all_then_barrier(disk, EXTENTS, &parts.extents)?;
+    write_all_then_barrier(disk, ATTRIBUTES, &parts.attributes)?;
+    write_all_then_barrier(disk, ALTERNATE, &[parts.alternate])?;
+    write_folders(disk, parts)
+}
+
+/// Writes the parts of a volume that change where a folder is made, each behind a barrier.
+pub fn write_folders<D: SectorDisk>(disk: &mut D, parts: &Parts) -> Result<(), Failed>
+    requires { (D.state disk.old).sectors ≡ VOLUME_SECTORS }
+    ensures written { IsTrue (D.state disk.old).tells → OnOk result (OnlyFolders (parts_of (content (D.state disk.old))) parts.now → Holds (D.state disk.new) parts.now) }
+    ensures settled { IsTrue (D.state disk.old).tells → OnOk result (IsSettled (D.state disk.new)) }
+    ensures same { SameDisk (D.state disk.old) (D.state disk.new) }
+    ensures sink { SameSink (D.state disk.old) (D.state disk.new) }
+    ensures cause { HasCause (D.state disk.old).faults (D.state disk.new).faults result }
+{
+    write_all_then_barrier(disk, CATALOG, &parts.catalog)?;
+    write_all_then_barrier(disk, LEAF, &parts.leaf)?;
+    write_all_then_barrier(disk, HEADER, &[parts.header])
+}

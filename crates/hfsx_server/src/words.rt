@@ -1,0 +1,66 @@
+// The words of a command line.
+ghost use Rattle.std.specs.Prelude.{◌≡◌, ◌≢◌, ◌<◌, ◌^◌, ◌↔◌, ℕ, IsTrue, MatchOption, codes, decimal, string_bytes};
+ghost use Rattle.hfsx_server.specs.Words.{texts, MayName, AreWordsOf};
+
+use itoa::Buffer;
+
+/// What the words ask for.
+#[derive(Clone, Copy, Debug, PartialEq, Eq)]
+pub enum Work {
+    /// `format IMAGE SECTORS`
+    Format { sectors: u64 },
+    /// `run IMAGE`
+    Run,
+    /// Any other words.
+    Wrong,
+}
+
+/// Reads the words after the program's name.
+pub fn read_words(words: &[String]) -> Work
+    ensures { AreWordsOf (texts words.now) result }
+{
+    match words {
+        [verb, image] => {
+            if verb.as_str() == "run" && may_name(image.as_str()) {
+                Work::Run
+            } else {
+                Work::Wrong
+            }
+        }
+        [verb, image, sectors] => {
+            if verb.as_str() == "format" && may_name(image.as_str()) {
+                match read_number(sectors.as_str()) {
+                    Some(sectors) => Work::Format { sectors },
+                    None => Work::Wrong,
+                }
+            } else {
+                Work::Wrong
+            }
+        }
+        _ => Work::Wrong,
+    }
+}
+
+// The number that the word is in decimal, without a sign or a leading zero.
+fn read_number(word: &str) -> Option<u64>
+    ensures { MatchOption result ((n : ℕ) → n < 2 ^ 64 → word.now ≢ decimal n) (λ n. word.now ≡ decimal n) }
+{
+    match word.parse::<u64>() {
+        Ok(number) => {
+            let mut buffer = Buffer::new();
+            if buffer.format(number) == word {
+                Some(number)
+            } else {
+                None
+            }
+        }
+        Err(_) => None,
+    }
+}
+
+// Whether the word may name an image.
+fn may_name(word: &str) -> bool
+    ensures { IsTrue result ↔ MayName word.now }
+{
+    !word.is_empty() && !word.starts_with('-') && word != "help"
+}
