@@ -1,0 +1,11 @@
+pub mod Checks
+pub mod Common
+pub mod Filling
+pub mod Growing
+pub mod Homed
+pub mod Listing
+pub mod OneSector
+pub mod Pendings
+pub mod ReadOn
+pub mod Replaying
+pub mod Texts

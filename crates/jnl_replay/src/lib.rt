@@ -1,0 +1,14 @@
+//! A journal checked, replayed, and looked through.
+#![tactic(auto)]
+
+mod blocks;
+mod checking;
+mod emptying;
+mod homes;
+mod homing;
+mod lists;
+mod plan;
+mod text;
+
+pub use plan::{Place, Plan, ReplayFault};
+pub use checking::validate;
