@@ -7,5 +7,6 @@ pub mod Listing
 pub mod OneSector
 pub mod Pendings
 pub mod ReadOn
-pub mod Replaying
+pub mod Stages
+pub mod Stretches
 pub mod Texts

@@ -8,6 +8,7 @@ mod homes;
 mod homing;
 mod lists;
 mod plan;
+mod replaying;
 mod text;
 
 pub use plan::{Place, Plan, ReplayFault};

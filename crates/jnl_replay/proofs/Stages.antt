@@ -10,7 +10,7 @@ use Rattle.sector_disk.specs.Lists.{Content, sector, put_sectors}
 use Rattle.sector_disk.specs.Disk.{State, Candidates, candidates_of, only, IsImage, Mixes, content, content_of}
 use Rattle.sector_disk.proofs.Stages.{mixes_size, mixes_before, mixes_behind, mixes_inside, length-only}
 use Rattle.jnl_format.specs.Info.{info_of, is_fresh, IsInfo}
-use Rattle.jnl_format.specs.Header.{header_read, header_bytes, IsHeader}
+use Rattle.jnl_format.specs.Header.{header_read, header_bytes, header_spelled, IsHeader}
 use Rattle.jnl_format.specs.Ring.{ring_text, journal_bytes, bytes_from, distance, offset_after}
 use Rattle.jnl_format.specs.Text.{bad_list, text_homes}
 use Rattle.jnl_format.specs.Recovery.{header_of_volume, Journal, journal_in, info_in, info_from, text_of, volume_of, homes_of, list_fault, foreign_fault, text_fault, or_else, with_homes, replayed, recovery, recovery_at}
@@ -118,3 +118,86 @@ empty_fault at version journal image none same =
 
 pub empty_replay : (journal : Journal) (image : Content) → text_of journal image ≡ [] → replayed journal image ≡ image
 empty_replay journal image none = ap (λ (t : List ℕ). with_homes t (text_homes journal.header.order journal.header.blhdr t (length t) 0) image) none
+
+module _ (c : Content) (plan : Plan) (is : IsPlan c plan) (total : ℕ) (fits : FitsPlan total plan) (size : length c ≡ total) (old : plan.fresh ≡ false) where
+  r : Content
+  r = replayed (journal_of plan) c
+
+  -- the journal is emptied over a content with all blocks home
+  pub stands_empty : (image : Content) → length image ≡ length (replayed (journal_of plan) c) → ((s : ℕ) → s ≢ plan.info.offset / 512 → sector image s ≡ sector (replayed (journal_of plan) c) s)
+      → sector image (plan.info.offset / 512) ≡ empty_header plan (replayed (journal_of plan) c) → StandsForSame plan c image
+  stands_empty image long same new =
+      let base = plan.info.offset / 512 in
+      let j = journal_of plan in
+      let rc = replayed j c in
+      let info_at = plan.place.info_sector in
+      let version = plan.place.last_mounted in
+      let parts = journal_parts info_at c j is.journal in
+      let ra = replayed_alike c plan is in
+      let rp = journal_parts info_at rc j ra.found in
+      let kh = kept_header c plan old (found_journal c plan.info j parts.found) in
+      let h = header_parts plan.info.size (sector c base) plan.header fits.least kh.1 in
+      let count : 3 ≤ plan.info.size / 512 = omega (arith, fits.least) in
+      let not_info : info_at ≢ base = λ e. elim (apart_sector (length c * 512) info_at plan.info info_at parts.info parts.info.no_info) [ inl a ↦ omega arith | inr b ↦ omega arith ] in
+      let not_two : 2 ≢ base = λ e. elim (apart_sector (length c * 512) info_at plan.info 2 parts.info parts.info.no_header) [ inl a ↦ omega arith | inr b ↦ omega arith ] in
+      let head = emptied plan.header in
+      let info : info_in info_at image ≡ Ok plan.info =
+      ap (λ n. info_from n info_at (sector image info_at)) long ∙ ap (λ (b : List ℕ). info_from (length rc) info_at b) (same info_at not_info) ∙ rp.whole in
+      let is_head : IsHeader plan.info.size head = record {
+        start_whole = h.end_whole;
+        start_low = h.end_low;
+        start_high = h.end_high;
+        end_whole = h.end_whole;
+        end_low = h.end_low;
+        end_high = h.end_high;
+        size = h.size;
+        blhdr_whole = h.blhdr_whole;
+        blhdr_low = h.blhdr_low;
+        blhdr_high = h.blhdr_high;
+      } in
+      let end_fits : plan.header.end < 2 ^ 64 = omega (arith, h.end_high, fits.inside, fits.sectors) in
+      let size_fits : plan.header.size < 2 ^ 64 = omega (arith, h.size, fits.inside, fits.sectors) in
+      let read : header_read plan.info.size (sector image base) ≡ Ok head =
+      ap (λ (b : List ℕ). header_read plan.info.size b) new
+      ∙ header_back head plan.info.size (drop 44 (sector rc base)) is_head (record { start = end_fits; end = end_fits; size = size_fits }) (checksum_fits (header_spelled 0 head)) in
+      let k = kept_journal plan.info head in
+      let found : journal_in info_at image ≡ Ok k = journal_is_kept info_at image plan.info (Ok head) info kh.0 read in
+      let none = empty_text plan.info head false image refl in
+      let head_same : sector image 2 ≡ sector rc 2 = same 2 not_two in
+      let keeps : KeepsHeader c image = record {
+        same = subst (λ (s : List ℕ). IsSame (header_of_volume c) (header_of s)) (sym head_same) ra.header.same;
+        accepted = ap (λ (s : List ℕ). header_refusal (header_of s) (length c)) head_same ∙ ra.header.accepted;
+      } in
+      record {
+        recovered = image;
+        stands =
+            recovers info_at version image (same_place info_at version c image (long ∙ ra.size) (place_of c plan.place is.place) keeps)
+            ∙ stands_for info_at version k image found (empty_fault info_at version k image none refl)
+            ∙ ap (λ (x : Content). Ok x) (empty_replay k image none);
+        agrees = record { size = long; each = λ s. elim (cases_eq s base) [ inl e ↦ inr (inl e) | inr n ↦ inl (same s n) ] };
+      }
+
+  -- while its header is written, the old one or the new one stands there
+  pub stage_empty : (image : Content) → Mixes (only (replayed (journal_of plan) c)) (plan.info.offset / 512) (empty_header plan (replayed (journal_of plan) c) ∷ []) image → StandsForSame plan c image
+  stage_empty image m =
+      let base = plan.info.offset / 512 in
+      let rc = replayed (journal_of plan) c in
+      let e = empty_header plan rc ∷ [] in
+      let ra = replayed_alike c plan is in
+      let long : length image ≡ length rc = mixes_size rc base e image m in
+      let inside : base < length rc = omega (arith, ra.size, size, fits.inside, fits.least) in
+      let other : (s : ℕ) → s ≢ base → sector image s ≡ sector rc s = λ s n. elim (cases_lt s (length rc)) [
+        | inl here ↦ elim (cases_lt s base) [
+          | inl before ↦ mixes_before rc base e image m s here before
+          | inr behind ↦ mixes_behind rc base e image m s here (omega (arith, n))
+        ]
+        | inr past ↦ get_or_past image s [] (omega arith) ∙ sym (get_or_past rc s [] past)
+      ] in
+      let zero_more : base + 0 ≡ base = omega arith in
+      elim (mixes_inside rc base e image m 0 (omega arith)) [
+        | inl kept ↦
+          let there : sector image base ≡ sector rc base = subst (λ k. sector image k ≡ sector rc k) zero_more kept in
+          let whole : image ≡ rc = ext_get_or [] image rc long (λ s below. elim (cases_eq s base) [ inl q ↦ ap (sector image) q ∙ there ∙ ap (sector rc) (sym q) | inr n ↦ other s n ]) in
+          subst (StandsForSame plan c) (sym whole) (stands_replayed c plan is)
+        | inr changed ↦ stands_empty image long other (ap (sector image) (sym zero_more) ∙ changed)
+      ]
