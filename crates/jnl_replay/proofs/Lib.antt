@@ -1,6 +1,7 @@
 pub mod Checks
 pub mod Common
 pub mod Filling
+pub mod Fresh
 pub mod Growing
 pub mod Homed
 pub mod Listing

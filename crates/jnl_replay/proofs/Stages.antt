@@ -106,7 +106,7 @@ kept_header c plan old (is_kept header f r e) = (f, r ∙ ap (λ (j : Journal). 
 distance_none : (size end : ℕ) → distance size end end ≡ 0
 distance_none size end = ap (λ b. cond b (end - end) ((size - 512) - (end - end))) (le-leb end end (omega arith)) ∙ omega arith
 
-empty_text : (info : Info) (header : Header) (fresh : Bool) (image : Content) → header.start ≡ header.end → text_of (record { info = info; header = header; fresh = fresh }) image ≡ []
+pub empty_text : (info : Info) (header : Header) (fresh : Bool) (image : Content) → header.start ≡ header.end → text_of (record { info = info; header = header; fresh = fresh }) image ≡ []
 empty_text info header fresh image same =
     ap (λ k. take (distance info.size k header.end) (bytes_from (journal_bytes image (info.offset / 512) info.size) header.start)) same
     ∙ ap (λ n. take n (bytes_from (journal_bytes image (info.offset / 512) info.size) header.start)) (distance_none info.size header.end)

@@ -12,4 +12,5 @@ mod replaying;
 mod text;
 
 pub use plan::{Place, Plan, ReplayFault};
+pub use replaying::replay;
 pub use checking::validate;
