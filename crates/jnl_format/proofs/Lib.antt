@@ -2,6 +2,7 @@ pub mod Alike
 pub mod Fields
 pub mod Headers
 pub mod Homes
+pub mod InfoBack
 pub mod Lists
 pub mod Mixing
 pub mod ReadBack

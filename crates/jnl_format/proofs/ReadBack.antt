@@ -151,3 +151,7 @@ header_back h size rest i f small =
     let p = fields_back h sum size rest i f small refl bytes refl in
     ap (λ (x : Option Order). header_in x size bytes) o
     ∙ ap (λ (x : Option JnlRefusal). unless_fault x (header_of h.order size bytes)) p.0 ∙ ap (λ (x : Header). Ok x) p.1
+
+pub checksum_fits : (bytes : List ℕ) → checksum_of bytes < 2 ^ 32
+unfolding checksum_of
+checksum_fits bytes = omega arith

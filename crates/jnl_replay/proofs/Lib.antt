@@ -1,0 +1,13 @@
+pub mod Checks
+pub mod Common
+pub mod Filling
+pub mod Fresh
+pub mod Growing
+pub mod Homed
+pub mod Listing
+pub mod OneSector
+pub mod Pendings
+pub mod ReadOn
+pub mod Stages
+pub mod Stretches
+pub mod Texts

@@ -1,0 +1,70 @@
+-- Blocks written home: what a crash leaves on the way, and what stands at the end.
+use Rattle.std.specs.Prelude.{◌≡◌, ◌⊎◌, ◌<◌, ◌≤◌, ◌+◌, ◌/◌, ℕ, List, [], ◌∷◌, ◌++◌, length, drop, slice_set, bit_and, if◌then◌else◌, None, Contains, Result, Ok}
+use Rattle.sector_disk.specs.Lists.{Content, sector, put_sectors}
+use Rattle.sector_disk.specs.Disk.{Candidates, candidates_of, State, content}
+use Rattle.jnl_format.specs.Info.{info_of, with_info}
+use Rattle.jnl_format.specs.Header.{header_bytes}
+use Rattle.jnl_format.specs.Text.{bad_list, text_homes}
+use Rattle.jnl_format.specs.Recovery.{recovery, replayed}
+use Rattle.jnl_format.specs.declared.blocks.Home.{Home}
+use Rattle.jnl_format.specs.declared.blocks.Volume.{Volume}
+use Rattle.jnl_format.specs.declared.structures.Info.{Info}
+use Rattle.jnl_format.specs.declared.structures.Header.{Header}
+use Rattle.jnl_format.proofs.Mixing.{IsHomeOf}
+use Rattle.jnl_replay.specs.Plan.{journal_of}
+use Rattle.jnl_replay.specs.declared.plan.Plan.{Plan}
+use Rattle.jnl_replay.specs.declared.text.Text.{Text}
+
+-- each candidate is an old one, or has the bytes of one of these homes
+pub record GrowsHomes (bytes : List ℕ) (homes : List Home) (old new : Candidates) : Type 0 where
+  pub size : length new ≡ length old
+  pub each : (at : ℕ) (value : List ℕ) → Contains (candidates_of new at) value → Contains (candidates_of old at) value ⊎ IsHomeOf bytes homes at value
+
+-- each sector of the image is an old candidate, or has the bytes of one of these homes
+pub record IsHomeMix (bytes : List ℕ) (homes : List Home) (old : Candidates) (image : Content) : Type 0 where
+  pub size : length image ≡ length old
+  pub each : (at : ℕ) → at < length old → Contains (candidates_of old at) (sector image at) ⊎ IsHomeOf bytes homes at (sector image at)
+
+-- these are the homes of a text on a disk of so many sectors, each of whose lists is as it must be
+pub record AreHomesOf (total : ℕ) (text : Text) (bytes : List ℕ) (volume : Volume) (homes : List Home) : Type 0 where
+  pub sectors : volume.sectors ≡ total
+  pub first : volume.first ≡ text.span.base
+  pub count : volume.count ≡ text.span.size / 512
+  pub good : bad_list volume text.order text.blhdr bytes (length bytes) 0 ≡ None
+  pub homes_are : homes ≡ text_homes text.order text.blhdr bytes (length bytes) 0
+
+-- a header that says of its journal that it is empty
+abbrev pub emptied : Header → Header
+emptied head = record head { start = head.end }
+
+-- the flags without the one for a journal that still has to be initialised
+abbrev pub initialised : Info → Info
+initialised info = record info { flags = bit_and info.flags 4294967291 }
+
+-- the sector of the journal header, emptied
+abbrev pub empty_header : Plan → Content → List ℕ
+empty_header plan content = header_bytes (emptied plan.header) ++ drop 44 (sector content (plan.info.offset / 512))
+
+-- a content with the journal header emptied
+abbrev pub with_empty_header : Plan → Content → Content
+with_empty_header plan content = put_sectors content (plan.info.offset / 512) (empty_header plan content ∷ [])
+
+-- a content whose info block says that the journal is initialised
+abbrev pub with_info_done : Plan → Content → Content
+with_info_done plan content = put_sectors content plan.place.info_sector (with_info (initialised plan.info) (sector content plan.place.info_sector) ∷ [])
+
+-- the content after a replay: what it stood for, with the journal empty and initialised
+abbrev pub after_replay : Plan → Content → Content
+after_replay plan content =
+    if plan.fresh then with_info_done plan (with_empty_header plan content) else with_empty_header plan (replayed (journal_of plan) content)
+
+-- the same but in the journal header and the info block
+pub record AgreesOutsideJournal (plan : Plan) (old new : Content) : Type 0 where
+  pub size : length new ≡ length old
+  pub each : (at : ℕ) → (sector new at ≡ sector old at) ⊎ (at ≡ plan.info.offset / 512) ⊎ (at ≡ plan.place.info_sector)
+
+-- a content that stands for what this one does, but in the journal header and the info block
+pub record StandsForSame (plan : Plan) (old image : Content) : Type 0 where
+  pub recovered : Content
+  pub stands : recovery image ≡ Ok recovered
+  pub agrees : AgreesOutsideJournal plan (replayed (journal_of plan) old) recovered

@@ -1,0 +1,16 @@
+//! A journal checked, replayed, and looked through.
+#![tactic(auto)]
+
+mod blocks;
+mod checking;
+mod emptying;
+mod homes;
+mod homing;
+mod lists;
+mod plan;
+mod replaying;
+mod text;
+
+pub use plan::{Place, Plan, ReplayFault};
+pub use replaying::replay;
+pub use checking::validate;

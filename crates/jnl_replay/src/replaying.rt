@@ -1,0 +1,70 @@
+//! A journal replayed: its blocks home, and then its header emptied.
+ghost use Rattle.std.specs.Prelude.{◌≡◌, IsTrue, OnOk, Bool};
+ghost use Rattle.sector_disk.specs.Cause.{HasCause};
+ghost use Rattle.sector_disk.specs.Disk.{IsSettled, Leaves, SameDisk, SameSink, content, only};
+ghost use Rattle.jnl_format.specs.Recovery.{replayed};
+ghost use Rattle.jnl_replay.specs.Homing.{StandsForSame, after_replay, with_empty_header, with_info_done};
+ghost use Rattle.jnl_replay.specs.Plan.{FitsPlan, IsPlan, journal_of};
+
+use hx_bytes::Failed;
+use sector_disk::SectorDisk;
+
+use crate::emptying::{clear_flag, empty_journal};
+use crate::homing::write_homes;
+use crate::plan::Plan;
+use crate::text::text_of;
+
+// Writes the blocks home, calls a barrier, and empties the journal behind another.
+fn replay_lists<D: SectorDisk>(disk: &mut D, plan: &Plan) -> Result<(), Failed>
+    requires fits { FitsPlan (D.state disk.old).sectors plan.now }
+    requires old { plan.now.fresh ≡ Bool.false }
+    requires plan { IsTrue (D.state disk.old).tells → IsPlan (content (D.state disk.old)) plan.now }
+    ensures replayed { IsTrue (D.state disk.old).tells → OnOk result ((D.state disk.new).candidates ≡ only (with_empty_header plan.now (replayed (journal_of plan.now) (content (D.state disk.old))))) }
+    ensures crash { IsTrue (D.state disk.old).tells → IsSettled (D.state disk.old) → Leaves (D.state disk.old) (D.state disk.new) (StandsForSame plan.now (content (D.state disk.old))) }
+    ensures same { SameDisk (D.state disk.old) (D.state disk.new) }
+    ensures sink { SameSink (D.state disk.old) (D.state disk.new) }
+    ensures cause { HasCause (D.state disk.old).faults (D.state disk.new).faults result }
+{
+    let sectors = disk.sectors();
+    let text = text_of(plan, sectors);
+    write_homes(disk, &text)?;
+    disk.barrier()?;
+    empty_journal(disk, plan)
+}
+
+// Empties a journal that still has to be initialised, and then says in its info block that it is.
+fn initialise<D: SectorDisk>(disk: &mut D, plan: &Plan) -> Result<(), Failed>
+    requires fits { FitsPlan (D.state disk.old).sectors plan.now }
+    requires new { plan.now.fresh ≡ Bool.true }
+    requires plan { IsTrue (D.state disk.old).tells → IsPlan (content (D.state disk.old)) plan.now }
+    ensures replayed { IsTrue (D.state disk.old).tells → OnOk result ((D.state disk.new).candidates ≡ only (with_info_done plan.now (with_empty_header plan.now (content (D.state disk.old))))) }
+    ensures crash { IsTrue (D.state disk.old).tells → IsSettled (D.state disk.old) → Leaves (D.state disk.old) (D.state disk.new) (StandsForSame plan.now (content (D.state disk.old))) }
+    ensures same { SameDisk (D.state disk.old) (D.state disk.new) }
+    ensures sink { SameSink (D.state disk.old) (D.state disk.new) }
+    ensures cause { HasCause (D.state disk.old).faults (D.state disk.new).faults result }
+{
+    empty_journal(disk, plan)?;
+    clear_flag(disk, plan)
+}
+
+/// Replays the journal of a plan that `validate` answers on this disk as it reads: writes the blocks home
+/// behind a barrier, and then the empty header behind another. Where the journal still has to be
+/// initialised, it writes an empty header, and then clears the flag in the info block, each behind a
+/// barrier. It takes no memory. After a fault the disk may be validated again.
+pub fn replay<D: SectorDisk>(disk: &mut D, plan: &Plan) -> Result<(), Failed>
+    requires fits { FitsPlan (D.state disk.old).sectors plan.now }
+    requires plan { IsTrue (D.state disk.old).tells → IsPlan (content (D.state disk.old)) plan.now }
+    // The content is what it stood for, the journal is empty, and nothing is pending.
+    ensures replayed { IsTrue (D.state disk.old).tells → OnOk result ((D.state disk.new).candidates ≡ only (after_replay plan.now (content (D.state disk.old)))) }
+    // A crash at any moment of the call, or at its end, leaves a content that stands for the same.
+    ensures crash { IsTrue (D.state disk.old).tells → IsSettled (D.state disk.old) → Leaves (D.state disk.old) (D.state disk.new) (StandsForSame plan.now (content (D.state disk.old))) }
+    ensures same { SameDisk (D.state disk.old) (D.state disk.new) }
+    ensures sink { SameSink (D.state disk.old) (D.state disk.new) }
+    ensures cause { HasCause (D.state disk.old).faults (D.state disk.new).faults result }
+{
+    if plan.fresh {
+        initialise(disk, plan)
+    } else {
+        replay_lists(disk, plan)
+    }
+}
