@@ -108,11 +108,13 @@ not_list volume order blhdr text at never = elim (cases_Bool (is_list volume ord
 pub next_bad : (volume : Volume) (order : Order) (blhdr : ℕ) (text : List ℕ) (count at used : ℕ) → length text ≤ at + count → at < length text → is_list volume order blhdr text at ≡ true → used ≡ (head_at order text at).used → 0 < used
     → (m : ℕ) × (length text ≤ at + used + m) × (bad_list volume order blhdr text count at ≡ bad_list volume order blhdr text m (at + used))
 next_bad volume order blhdr text zero at used enough below good is some = absurd (omega arith)
-next_bad volume order blhdr text (suc count) at used enough below good is some =
-    (count, omega arith,
-    ap (λ b. cond b None (cond (not (is_list volume order blhdr text at)) (Some at) (bad_list volume order blhdr text count (at + (head_at order text at).used)))) (lt-leb (length text) at below)
-    ∙ ap (λ b. cond (not b) (Some at) (bad_list volume order blhdr text count (at + (head_at order text at).used))) good
-    ∙ ap (λ k. bad_list volume order blhdr text count (at + k)) (sym is))
+next_bad volume order blhdr text (suc count) at used enough below good is some = (
+  count,
+  omega arith,
+  ap (λ b. cond b None (cond (not (is_list volume order blhdr text at)) (Some at) (bad_list volume order blhdr text count (at + (head_at order text at).used)))) (lt-leb (length text) at below)
+      ∙ ap (λ b. cond (not b) (Some at) (bad_list volume order blhdr text count (at + (head_at order text at).used))) good
+      ∙ ap (λ k. bad_list volume order blhdr text count (at + k)) (sym is),
+)
 
 pub here_bad : (volume : Volume) (order : Order) (blhdr : ℕ) (text : List ℕ) (count at : ℕ) → length text ≤ at + count → at < length text → is_list volume order blhdr text at ≡ false → bad_list volume order blhdr text count at ≡ Some at
 here_bad volume order blhdr text zero at enough below bad = absurd (omega arith)

@@ -1,8 +1,8 @@
 -- A header that was written is read again.
-use Rattle.std.proofs.Common.{◌≡◌, ℕ, ◌+◌, ◌*◌, ◌%◌, ◌^◌, ◌<◌, ◌≤◌, Bool, true, false, not, ◌&&◌, List, [], ◌++◌, length, take, drop, refl, sym, ◌∙◌, ap, subst, arith, append_assoc, cond, eqb, leb, length-drop, lit<}
-use Rattle.std.specs.Prelude.{Option, None, Some, Result, Ok, Err}
+use Rattle.std.proofs.Common.{◌≡◌, ℕ, ◌+◌, ◌%◌, ◌^◌, ◌<◌, ◌≤◌, Bool, true, false, not, ◌&&◌, List, [], ◌++◌, length, take, drop, refl, sym, ◌∙◌, ap, subst, arith, append_assoc, cond, eqb, leb, lit<}
+use Rattle.std.specs.Prelude.{Option, None, Some, Ok}
 use Rattle.std.proofs.lemmas.Bool.{and_from, eq-eqb, ne_eqb, le-leb}
-use Rattle.std.proofs.lemmas.List.{length-append, drop_all, append-nil}
+use Rattle.std.proofs.lemmas.List.{length-append}
 use Rattle.std.proofs.Math.Seq.{drop-append_seam, take-append_seam, drop-append-add}
 use Rattle.hx_bytes.specs.Field.{number_at, number_bytes, big, put_at}
 use Rattle.hx_bytes.specs.declared.fields.Order.{Order}
@@ -130,17 +130,18 @@ fields_back h sum size rest i f small own bytes is =
     at 4 36 sum (behind o 4 32 4 s0 (r1 sum h rest) ∙ behind o 4 28 4 s1 (r2 sum h rest) ∙ behind o 4 20 8 h.start (r3 sum h rest) ∙ behind o 4 12 8 h.end (r4 sum h rest) ∙ behind o 4 4 8 h.size (r5 sum h rest) ∙ behind o 4 0 4 h.blhdr (r6 sum h rest) ∙ here o 4 sum (r7 h rest) small) in
     let e40 : number_at o 4 bytes 40 ≡ 512 =
     at 4 40 512 (behind o 4 36 4 s0 (r1 sum h rest) ∙ behind o 4 32 4 s1 (r2 sum h rest) ∙ behind o 4 24 8 h.start (r3 sum h rest) ∙ behind o 4 16 8 h.end (r4 sum h rest) ∙ behind o 4 8 8 h.size (r5 sum h rest) ∙ behind o 4 4 4 h.blhdr (r6 sum h rest) ∙ behind o 4 0 4 sum (r7 h rest) ∙ here o 4 512 rest (lit< tt)) in
-    let c36 : sum ≡ header_sum bytes = own ∙ sym (ap header_sum is ∙ sum_is h sum rest) in
-    (none_by (eqb (number_at o 4 bytes 4) s1) (BadHeader 4) _ (eq-eqb (number_at o 4 bytes 4) s1 e4)
-      (none_by (is_offset size (number_at o 8 bytes 8)) (BadHeader 8) _ (ap (is_offset size) e8 ∙ offset_by size h.start i.start_whole i.start_low (omega (arith, i.start_high)))
-      (none_by (is_offset size (number_at o 8 bytes 16)) (BadHeader 16) _ (ap (is_offset size) e16 ∙ offset_by size h.end i.end_whole i.end_low (omega (arith, i.end_high)))
-      (none_by (eqb (number_at o 8 bytes 24) size) (BadHeader 24) _ (eq-eqb (number_at o 8 bytes 24) size (e24 ∙ i.size))
-      (none_by (is_blhdr (number_at o 4 bytes 32)) (BadHeader 32) _ (ap is_blhdr e32 ∙ and_from (eqb (h.blhdr % 512) 0 && leb 512 h.blhdr) (leb h.blhdr 65536) (and_from (eqb (h.blhdr % 512) 0) (leb 512 h.blhdr) (eq-eqb (h.blhdr % 512) 0 i.blhdr_whole) (le-leb 512 h.blhdr i.blhdr_low)) (le-leb h.blhdr 65536 i.blhdr_high))
-      (none_by (eqb (number_at o 4 bytes 36) (header_sum bytes)) (BadHeader 36) _ (eq-eqb (number_at o 4 bytes 36) (header_sum bytes) (e36 ∙ c36))
-      (none_by (eqb (number_at o 4 bytes 40) 512) (BadHeader 40) None (eq-eqb (number_at o 4 bytes 40) 512 e40) refl)))))),
-    (let a : wrapped size (number_at o 8 bytes 8) ≡ h.start = ap (wrapped size) e8 ∙ wrapped_by size h.start i.start_high in
-      let b : wrapped size (number_at o 8 bytes 16) ≡ h.end = ap (wrapped size) e16 ∙ wrapped_by size h.end i.end_high in
-      same_fields h (wrapped size (number_at o 8 bytes 8)) (wrapped size (number_at o 8 bytes 16)) (number_at o 8 bytes 24) (number_at o 4 bytes 32) a b e24 e32))
+    let c36 : sum ≡ header_sum bytes = own ∙ sym (ap header_sum is ∙ sum_is h sum rest) in (
+      none_by (eqb (number_at o 4 bytes 4) s1) (BadHeader 4) _ (eq-eqb (number_at o 4 bytes 4) s1 e4)
+          (none_by (is_offset size (number_at o 8 bytes 8)) (BadHeader 8) _ (ap (is_offset size) e8 ∙ offset_by size h.start i.start_whole i.start_low (omega (arith, i.start_high)))
+          (none_by (is_offset size (number_at o 8 bytes 16)) (BadHeader 16) _ (ap (is_offset size) e16 ∙ offset_by size h.end i.end_whole i.end_low (omega (arith, i.end_high)))
+          (none_by (eqb (number_at o 8 bytes 24) size) (BadHeader 24) _ (eq-eqb (number_at o 8 bytes 24) size (e24 ∙ i.size))
+          (none_by (is_blhdr (number_at o 4 bytes 32)) (BadHeader 32) _ (ap is_blhdr e32 ∙ and_from (eqb (h.blhdr % 512) 0 && leb 512 h.blhdr) (leb h.blhdr 65536) (and_from (eqb (h.blhdr % 512) 0) (leb 512 h.blhdr) (eq-eqb (h.blhdr % 512) 0 i.blhdr_whole) (le-leb 512 h.blhdr i.blhdr_low)) (le-leb h.blhdr 65536 i.blhdr_high))
+          (none_by (eqb (number_at o 4 bytes 36) (header_sum bytes)) (BadHeader 36) _ (eq-eqb (number_at o 4 bytes 36) (header_sum bytes) (e36 ∙ c36))
+          (none_by (eqb (number_at o 4 bytes 40) 512) (BadHeader 40) None (eq-eqb (number_at o 4 bytes 40) 512 e40) refl)))))),
+      (let a : wrapped size (number_at o 8 bytes 8) ≡ h.start = ap (wrapped size) e8 ∙ wrapped_by size h.start i.start_high in
+          let b : wrapped size (number_at o 8 bytes 16) ≡ h.end = ap (wrapped size) e16 ∙ wrapped_by size h.end i.end_high in
+          same_fields h (wrapped size (number_at o 8 bytes 8)) (wrapped size (number_at o 8 bytes 16)) (number_at o 8 bytes 24) (number_at o 4 bytes 32) a b e24 e32),
+    )
 
 -- a header that was written is read as itself
 pub header_back : (h : Header) (size : ℕ) (rest : List ℕ) → IsHeader size h → FitsHeader h → checksum_of (header_spelled 0 h) < 2 ^ 32 → header_read size (header_bytes h ++ rest) ≡ Ok h

@@ -1,8 +1,7 @@
 -- What was looked at, against what a content is refused for.
-use Rattle.std.proofs.Common.{true, false, ◌≡◌, ◌≤◌, ◌+◌, ◌/◌, ℕ, List, IsTrue, length, refl, sym, ◌∙◌, ap, subst, arith}
-use Rattle.std.specs.Prelude.{Option, None, Some, Result, Ok, Err, option_map}
+use Rattle.std.proofs.Common.{true, false, ◌≡◌, ◌/◌, ℕ, IsTrue, length, sym, ◌∙◌, ap}
+use Rattle.std.specs.Prelude.{Option, Ok, Err, option_map}
 use Rattle.std.proofs.lemmas.List.{length-map}
-use Rattle.volume_header.specs.Header.{header_of}
 use Rattle.volume_header.specs.declared.header.VolumeHeader.{VolumeHeader}
 use Rattle.sector_disk.specs.Lists.{last}
 use Rattle.sector_disk.specs.Disk.{State, IsDisk, content}
@@ -10,11 +9,9 @@ use Rattle.jnl_format.specs.Info.{is_fresh}
 use Rattle.jnl_format.specs.Header.{header_read}
 use Rattle.jnl_format.specs.Ring.{offset_after}
 use Rattle.jnl_format.specs.Text.{bad_list}
-use Rattle.jnl_format.specs.Recovery.{Content, sector, header_of_volume, Journal, info_in, journal_in, list_fault, text_fault, recovery, fresh_header}
-use Rattle.jnl_format.specs.declared.blocks.Volume.{Volume}
+use Rattle.jnl_format.specs.Recovery.{Content, sector, header_of_volume, info_in, journal_in, list_fault, text_fault, fresh_header}
 use Rattle.jnl_format.specs.declared.structures.Info.{Info}
 use Rattle.jnl_format.specs.declared.structures.Header.{Header}
-use Rattle.jnl_format.specs.declared.structures.JnlRefusal.{JnlRefusal}
 use Rattle.jnl_format.specs.declared.structures.JnlRefusal.TheVariants.{BadList}
 use Rattle.jnl_format.proofs.Alike.{IsPlaceOf, recovers}
 use Rattle.jnl_format.proofs.Recovering.{refused_journal, refused_text, no_journal, journal_is_kept, journal_is_fresh}
@@ -61,9 +58,11 @@ plan_fresh content place info plan found fresh is =
 
 pub plan_kept : (content now : Content) (place : Place) (info : Info) (header : Header) (plan : Plan) → now ≡ content → info_in place.info_sector content ≡ Ok info → is_fresh info ≡ false → header_read info.size (sector now (info.offset / 512)) ≡ Ok header
     → plan ≡ record { place = place; info = info; header = header; fresh = false } → (journal_in place.info_sector content ≡ Ok (journal_of plan)) × (plan.place ≡ place)
-plan_kept content now place info header plan same found old read is =
-    (journal_is_kept place.info_sector content info (Ok header) found old (ap (λ (c : Content). header_read info.size (sector c (info.offset / 512))) (sym same) ∙ read)
-    ∙ ap (λ (q : Plan). Ok (journal_of q)) (sym is), ap (λ (q : Plan). q.place) is)
+plan_kept content now place info header plan same found old read is = (
+  journal_is_kept place.info_sector content info (Ok header) found old (ap (λ (c : Content). header_read info.size (sector c (info.offset / 512))) (sym same) ∙ read)
+      ∙ ap (λ (q : Plan). Ok (journal_of q)) (sym is),
+  ap (λ (q : Plan). q.place) is,
+)
 
 -- the lists were looked at
 pub lists_checked : (c : Content) (now : Content) (plan : Plan) (sectors : ℕ) (header : VolumeHeader) (text : Text) (o : Option ℕ)

@@ -1,5 +1,5 @@
 -- Small steps that many answers take.
-use Rattle.std.proofs.Common.{◌≡◌, IsTrue, Result, Ok, Err, OnOk, OnErr, subst, refl}
+use Rattle.std.proofs.Common.{◌≡◌, Result, Ok, Err, OnOk, subst, refl}
 use Rattle.std.specs.Prelude.{Option, None, Some, IfSome}
 
 pub on_ok : {T E : Type 0} (P Q : Type 0) (result : Result T E) → (P → Q) → OnOk result P → OnOk result Q

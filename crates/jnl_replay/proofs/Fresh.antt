@@ -1,16 +1,16 @@
 -- What a crash leaves while a journal is initialised: a content that stands for the same.
-use Rattle.std.proofs.Common.{◌≡◌, ◌≢◌, ◌⊎◌, ◌<◌, ◌≤◌, ◌+◌, ◌-◌, ◌*◌, ◌/◌, ◌%◌, ◌^◌, ℕ, Bool, true, false, not, ◌&&◌, ◌||◌, List, [], ◌∷◌, ◌++◌, IsTrue, inl, inr, length, take, drop, refl, sym, ◌∙◌, ap, subst, arith, cond, leb, eqb, lit<}
-use Rattle.std.specs.Prelude.{Option, None, Some, Result, Ok, Err, bit_and}
+use Rattle.std.proofs.Common.{◌≡◌, ◌≢◌, ◌⊎◌, ◌<◌, ◌≤◌, ◌+◌, ◌*◌, ◌/◌, ◌%◌, ◌^◌, ℕ, Bool, true, false, not, ◌||◌, List, [], ◌∷◌, ◌++◌, inl, inr, length, drop, refl, sym, ◌∙◌, ap, subst, arith, cond, eqb}
+use Rattle.std.specs.Prelude.{Option, None, Some, Ok, bit_and}
 use Rattle.std.proofs.lemmas.Bool.{cases_lt, cases_eq}
-use Rattle.std.proofs.lemmas.List.{ext_get_or, get_or_past}
+use Rattle.std.proofs.lemmas.List.{get_or_past}
 use Rattle.volume_header.specs.Header.{header_of}
 use Rattle.volume_header.specs.Refusal.{header_refusal}
-use Rattle.sector_disk.specs.Lists.{Content, sector, put_sectors}
+use Rattle.sector_disk.specs.Lists.{Content, sector}
 use Rattle.sector_disk.specs.Disk.{only, Mixes}
 use Rattle.sector_disk.proofs.Stages.{mixes_size, mixes_before, mixes_behind, mixes_inside, put_before, put_behind, put_inside, length-put}
 use Rattle.jnl_format.specs.Info.{info_of, info_fault, with_info, is_fresh, is_sized, holds, unless_fault, IsInfo}
 use Rattle.jnl_format.specs.Header.{header_read, header_bytes, header_spelled, IsHeader}
-use Rattle.jnl_format.specs.Recovery.{header_of_volume, Journal, journal_in, info_in, info_from, text_of, replayed, recovery, fresh_header}
+use Rattle.jnl_format.specs.Recovery.{header_of_volume, Journal, journal_in, info_in, info_from, text_of, replayed, fresh_header}
 use Rattle.jnl_format.specs.declared.structures.Info.{Info}
 use Rattle.jnl_format.specs.declared.structures.Header.{Header}
 use Rattle.jnl_format.specs.declared.structures.JnlRefusal.{JnlRefusal}
@@ -186,9 +186,9 @@ module _ (c : Content) (plan : Plan) (is : IsPlan c plan) (total : ℕ) (fits : 
       let at_more : at + 0 ≡ at = omega arith in
       elim (mixes_inside d at v image m 0 (omega arith)) [
         | inl kept ↦
-          let there : sector image at ≡ sector d at = subst (λ k. sector image k ≡ sector d k) at_more kept in
-          stands_new image (long ∙ size_d) (λ s n. elim (cases_eq s at) [ inl q ↦ ap (sector image) q ∙ there ∙ ap (sector d) (sym q) ∙ of_d s n | inr k ↦ other s k ∙ of_d s n ])
+            let there : sector image at ≡ sector d at = subst (λ k. sector image k ≡ sector d k) at_more kept in
+            stands_new image (long ∙ size_d) (λ s n. elim (cases_eq s at) [ inl q ↦ ap (sector image) q ∙ there ∙ ap (sector d) (sym q) ∙ of_d s n | inr k ↦ other s k ∙ of_d s n ])
         | inr changed ↦
-          stands_done image (sector d at) (drop 44 (sector c base)) (long ∙ size_d) enough (ap (sector image) (sym at_more) ∙ changed) (other base (λ e. not_info (sym e)) ∙ at_base)
-          (λ s n k. other s k ∙ of_d s n)
+            stands_done image (sector d at) (drop 44 (sector c base)) (long ∙ size_d) enough (ap (sector image) (sym at_more) ∙ changed) (other base (λ e. not_info (sym e)) ∙ at_base)
+            (λ s n k. other s k ∙ of_d s n)
       ]

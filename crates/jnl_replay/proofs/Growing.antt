@@ -1,8 +1,8 @@
 -- Candidates that grow by the bytes of homes.
-use Rattle.std.proofs.Common.{◌≡◌, ◌⊎◌, ◌<◌, ◌≤◌, ◌+◌, ℕ, List, [], ◌∷◌, ◌++◌, IsTrue, Result, Ok, Err, OnOk, OnErr, Contains, inl, inr, length, refl, sym, ◌∙◌, ap, subst, arith, length-set}
+use Rattle.std.proofs.Common.{◌≡◌, ◌⊎◌, ℕ, List, [], ◌∷◌, ◌++◌, Result, Ok, Err, OnOk, OnErr, Contains, inl, inr, refl, sym, ◌∙◌, subst, arith, length-set}
 use Rattle.sector_disk.specs.Lists.{Content, sector, last}
-use Rattle.sector_disk.specs.Clock.{Clock, Passes, WithTold}
-use Rattle.sector_disk.specs.Disk.{State, Candidates, candidates_of, content, content_of, with_candidate, MayHaveWritten, IsImage, LeftNow, Leaves, SameDisk, SameSink}
+use Rattle.sector_disk.specs.Clock.{Passes, WithTold}
+use Rattle.sector_disk.specs.Disk.{State, Candidates, candidates_of, with_candidate, MayHaveWritten, IsImage, LeftNow, Leaves, SameSink}
 use Rattle.sector_disk.proofs.Passing.{both_pass, none_passes}
 use Rattle.sector_disk.proofs.Candidates.{with_candidate-each}
 use Rattle.jnl_format.specs.Text.{bytes_at}

@@ -1,13 +1,12 @@
 -- A walk that writes home after home.
-use Rattle.std.proofs.Common.{◌≡◌, ◌≢◌, ◌⊎◌, ◌<◌, ◌≤◌, ◌+◌, ◌/◌, ℕ, List, [], ◌∷◌, ◌++◌, IsTrue, Contains, inl, inr, length, take, refl, sym, ◌∙◌, ap, subst, arith, append_assoc, true}
+use Rattle.std.proofs.Common.{◌≡◌, ◌⊎◌, ◌<◌, ◌≤◌, ◌+◌, ℕ, List, [], ◌∷◌, ◌++◌, Contains, inl, inr, length, take, refl, sym, ◌∙◌, ap, subst, arith, append_assoc}
 use Rattle.std.specs.Prelude.{Option, None, Some, MatchOption}
-use Rattle.std.specs.List.{fold}
 use Rattle.std.proofs.lemmas.List.{append-nil}
 use Rattle.std.proofs.lemmas.List.Sums.{fold_push}
 use Rattle.sector_disk.specs.Lists.{Content, sector}
-use Rattle.sector_disk.specs.Clock.{Clock, Passes, WithTold}
-use Rattle.sector_disk.specs.Disk.{State, Candidates, candidates_of, content, content_of, IsImage, LeftNow, Leaves, SameDisk, SameSink}
-use Rattle.sector_disk.proofs.Passing.{both_pass, none_passes, passes_with}
+use Rattle.sector_disk.specs.Clock.{Passes, WithTold}
+use Rattle.sector_disk.specs.Disk.{State, Candidates, candidates_of, content, content_of, LeftNow, Leaves, SameSink}
+use Rattle.sector_disk.proofs.Passing.{both_pass, none_passes}
 use Rattle.jnl_format.specs.Ring.{journal_bytes, bytes_from}
 use Rattle.jnl_format.specs.Text.{bad_list, are_blocks, block_bytes, sector_homes, entry_homes, text_homes}
 use Rattle.jnl_format.specs.Recovery.{with_home, with_homes}
@@ -15,7 +14,7 @@ use Rattle.jnl_format.specs.declared.blocks.Home.{Home}
 use Rattle.jnl_format.specs.declared.blocks.Volume.{Volume}
 use Rattle.jnl_format.proofs.Homes.{IsGoodHome, Each}
 use Rattle.jnl_format.proofs.Lists.{good_text}
-use Rattle.jnl_format.proofs.Mixing.{IsHomeOf, MixesHomes, mixes_with_homes, named_home, not_named, same_journal}
+use Rattle.jnl_format.proofs.Mixing.{IsHomeOf, mixes_with_homes, named_home, not_named, same_journal}
 use Rattle.jnl_replay.specs.Homing.{AreHomesOf, GrowsHomes, IsHomeMix}
 use Rattle.jnl_replay.specs.Pending.{Pending, Gives}
 use Rattle.jnl_replay.specs.Reading.{OnlyReads}
@@ -100,7 +99,7 @@ words_stay total text bytes volume homes c old now a h =
     ap (λ (d : Content). take text.length (bytes_from (journal_bytes d text.span.base text.span.size) text.start)) h.content
     ∙ ap (λ (j : List ℕ). take text.length (bytes_from j text.start))
     (same_journal text.span.base text.span.size (content old) (with_homes bytes h.done (content old)) m.size
-      (λ at low high. not_own volume bytes h.done (content old) (with_homes bytes h.done (content old)) at all (omega (arith, a.first)) (omega (arith, a.first, a.count)) (m.each at)))
+    (λ at low high. not_own volume bytes h.done (content old) (with_homes bytes h.done (content old)) at all (omega (arith, a.first)) (omega (arith, a.first, a.count)) (m.each at)))
 
 -- reads change nothing
 pub homed_read : (volume : Volume) (bytes : List ℕ) (c : Homes) (homes : List Home) (old now new : State) → Homed volume bytes c homes old now → SameSink old now → OnlyReads now new → Homed volume bytes c homes old new
@@ -149,9 +148,10 @@ homed_grows bytes wrote homes done rest home old now new same is sink grows time
     let within_all = given_home bytes done rest homes home is in
     let more_here : GrowsHomes bytes (home ∷ []) now.candidates new.candidates = subst (λ (b : List ℕ). GrowsHomes b (home ∷ []) now.candidates new.candidates) same more in
     let mix : (image : Content) → IsHomeMix wrote (home ∷ []) now.candidates image → IsHomeMix bytes homes old.candidates image =
-    λ image m. mix_both bytes homes (home ∷ []) old.candidates now.candidates image grows (subst (λ (b : List ℕ). IsHomeMix b (home ∷ []) now.candidates image) same m) within_all in
-    (grows_both bytes homes (home ∷ []) old.candidates now.candidates new.candidates grows more_here within_all,
-    both_pass old.clock now.clock new.clock _ _ _ time leaves.time (λ image told a. a) (λ image told a. (mix image a.0, a.1 ∙ sink.told)))
+    λ image m. mix_both bytes homes (home ∷ []) old.candidates now.candidates image grows (subst (λ (b : List ℕ). IsHomeMix b (home ∷ []) now.candidates image) same m) within_all in (
+      grows_both bytes homes (home ∷ []) old.candidates now.candidates new.candidates grows more_here within_all,
+      both_pass old.clock now.clock new.clock _ _ _ time leaves.time (λ image told a. a) (λ image told a. (mix image a.0, a.1 ∙ sink.told)),
+    )
 
 -- the walk is one home further
 pub homed_step : (volume : Volume) (bytes wrote : List ℕ) (c next : Homes) (homes : List Home) (old now new : State) (h : Homed volume bytes c homes old now) (home : Home) → wrote ≡ bytes → SameSink old now

@@ -1,7 +1,7 @@
 -- What was read of a list, against what the list must be.
-use Rattle.std.proofs.Common.{◌≡◌, ℕ, ◌+◌, ◌-◌, ◌<◌, ◌≤◌, ◌⊎◌, Bool, true, false, ◌&&◌, List, length, refl, sym, ◌∙◌, ap, subst, inl, inr, arith, eqb, cond}
+use Rattle.std.proofs.Common.{◌≡◌, ℕ, ◌+◌, ◌-◌, ◌<◌, ◌≤◌, ◌⊎◌, Bool, true, false, List, length, refl, sym, ◌∙◌, ap, subst, inl, inr, arith, eqb, cond}
 use Rattle.std.specs.Prelude.{Option, None, Some, IfSome}
-use Rattle.std.proofs.lemmas.Bool.{and_parts, and_from, eqb-true, eq-eqb, both_ways, true≢false}
+use Rattle.std.proofs.lemmas.Bool.{and_parts, and_from, eqb-true, eq-eqb, true≢false}
 use Rattle.hx_bytes.specs.declared.fields.Order.{Order}
 use Rattle.jnl_format.specs.List.{is_list_head, list_read, list_head_of}
 use Rattle.jnl_format.specs.Text.{bytes_at, head_at, are_blocks, block_bytes, is_list}
@@ -39,10 +39,14 @@ module _ (volume : Volume) (order : Order) (blhdr : ℕ) (text : List ℕ) (at :
     pub unsized_list : (used : ℕ) → used ≡ head.used → ((blhdr ≤ used) × (used ≤ length text - at) × ((head.last ≡ true) ⊎ (used < length text - at)) → ⊥) → at < length text → false ≡ is_list volume order blhdr text at
     unsized_list used is never below =
         let e : used ≡ (head_at order text at).used = is ∙ ap (λ (h : ListHead). h.used) head_is in
-        sym (not_list volume order blhdr text at (λ l. never (omega (arith, l.used), omega (arith, l.inside), elim l.last [
-          | inl f ↦ inl (ap (λ (h : ListHead). h.last) head_is ∙ f)
-          | inr f ↦ inr (omega arith)
-        ])))
+        sym (not_list volume order blhdr text at (λ l. never (
+          omega (arith, l.used),
+          omega (arith, l.inside),
+          elim l.last [
+            | inl f ↦ inl (ap (λ (h : ListHead). h.last) head_is ∙ f)
+            | inr f ↦ inr (omega arith)
+          ],
+        )))
 
     -- its blocks aren't as they must be
     pub unfilled_list : (used entries : ℕ) → used ≡ head.used → entries ≡ head.entries - 1 → false ≡ filled volume order text (at + used) (at + 32) (at + blhdr) entries → false ≡ is_list volume order blhdr text at
@@ -52,9 +56,9 @@ module _ (volume : Volume) (order : Order) (blhdr : ℕ) (text : List ℕ) (at :
         let f : false ≡ filled volume order text (at + (head_at order text at).used) (at + 32) (at + blhdr) ((head_at order text at).entries - 1) =
         not_filled ∙ ap (λ k. filled volume order text (at + k) (at + 32) (at + blhdr) entries) e ∙ ap (λ k. filled volume order text (at + (head_at order text at).used) (at + 32) (at + blhdr) k) n in
         sym (not_list volume order blhdr text at (λ l. true≢false (sym (and_from
-          (eqb (at + (head_at order text at).used) (at + blhdr + block_bytes order text (at + 32) ((head_at order text at).entries - 1)))
-          (are_blocks volume order text (at + 32) (at + blhdr) ((head_at order text at).entries - 1))
-          (eq-eqb (at + (head_at order text at).used) (at + blhdr + block_bytes order text (at + 32) ((head_at order text at).entries - 1)) (omega (arith, l.used))) l.blocks) ∙ sym f)))
+        (eqb (at + (head_at order text at).used) (at + blhdr + block_bytes order text (at + 32) ((head_at order text at).entries - 1)))
+        (are_blocks volume order text (at + 32) (at + blhdr) ((head_at order text at).entries - 1))
+        (eq-eqb (at + (head_at order text at).used) (at + blhdr + block_bytes order text (at + 32) ((head_at order text at).entries - 1)) (omega (arith, l.used))) l.blocks) ∙ sym f)))
 
     -- all is as it must be
     pub whole_list : (used entries : ℕ) → used ≡ head.used → entries ≡ head.entries - 1 → true ≡ filled volume order text (at + used) (at + 32) (at + blhdr) entries

@@ -1,5 +1,5 @@
 -- A sector is read, and then sectors are written behind a barrier.
-use Rattle.std.proofs.Common.{◌≡◌, List, ℕ, refl, sym, ◌∙◌, ap, subst, ◌∷◌, []}
+use Rattle.std.proofs.Common.{◌≡◌, List, ℕ, ◌∙◌, subst, ◌∷◌, []}
 use Rattle.sector_disk.specs.Lists.{Content}
 use Rattle.sector_disk.specs.Disk.{State, Candidates, IsImage, LeftNow, Leaves, Mixes}
 use Rattle.sector_disk.proofs.Passing.{passes_with}

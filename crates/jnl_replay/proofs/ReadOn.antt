@@ -1,7 +1,6 @@
 -- Reads one after another.
-use Rattle.std.proofs.Common.{◌≡◌, ◌≤◌, ℕ, List, IsTrue, refl, sym, ◌∙◌, ap, subst, arith}
-use Rattle.sector_disk.specs.Clock.{Passes}
-use Rattle.sector_disk.specs.Disk.{State, IsImage, LeftNow, SameDisk, SameSink, content, content_of, Candidates}
+use Rattle.std.proofs.Common.{◌≡◌, IsTrue, refl, sym, ◌∙◌, ap, subst, arith}
+use Rattle.sector_disk.specs.Disk.{State, IsImage, LeftNow, content, content_of, Candidates}
 use Rattle.sector_disk.proofs.Passing.{none_passes, both_pass}
 use Rattle.sector_disk.proofs.Writing.{same_after, sink_after}
 use Rattle.jnl_replay.specs.Reading.{OnlyReads}

@@ -1,31 +1,29 @@
 -- What a crash leaves while a journal is replayed: a content that stands for the same.
-use Rattle.std.proofs.Common.{◌≡◌, ◌≢◌, ◌⊎◌, ◌<◌, ◌≤◌, ◌+◌, ◌-◌, ◌*◌, ◌/◌, ◌%◌, ◌^◌, ℕ, Bool, true, false, not, ◌&&◌, List, [], ◌∷◌, ◌++◌, IsTrue, Contains, inl, inr, ⊎_elim, length, take, drop, refl, sym, ◌∙◌, ap, subst, arith, cond, leb, eqb}
-use Rattle.std.specs.Prelude.{Option, None, Some, Result, Ok, Err, option_map}
+use Rattle.std.proofs.Common.{◌≡◌, ◌≢◌, ◌⊎◌, ◌<◌, ◌≤◌, ◌+◌, ◌-◌, ◌*◌, ◌/◌, ◌^◌, ℕ, Bool, false, not, ◌&&◌, List, [], ◌∷◌, Contains, inl, inr, ⊎_elim, length, take, drop, refl, sym, ◌∙◌, ap, subst, arith, cond, eqb}
+use Rattle.std.specs.Prelude.{None, Some, Ok, option_map}
 use Rattle.std.proofs.lemmas.Bool.{cases_lt, cases_eq, le-leb, eq-eqb}
 use Rattle.std.proofs.lemmas.List.{ext_get_or, get_or_past, get_or-map}
 use Rattle.std.proofs.lemmas.List.Elements.{Contains-push_cases}
 use Rattle.volume_header.specs.Header.{header_of}
 use Rattle.volume_header.specs.Refusal.{header_refusal}
-use Rattle.sector_disk.specs.Lists.{Content, sector, put_sectors}
-use Rattle.sector_disk.specs.Disk.{State, Candidates, candidates_of, only, IsImage, Mixes, content, content_of}
+use Rattle.sector_disk.specs.Lists.{Content, sector}
+use Rattle.sector_disk.specs.Disk.{candidates_of, only, Mixes}
 use Rattle.sector_disk.proofs.Stages.{mixes_size, mixes_before, mixes_behind, mixes_inside, length-only}
-use Rattle.jnl_format.specs.Info.{info_of, is_fresh, IsInfo}
-use Rattle.jnl_format.specs.Header.{header_read, header_bytes, header_spelled, IsHeader}
-use Rattle.jnl_format.specs.Ring.{ring_text, journal_bytes, bytes_from, distance, offset_after}
+use Rattle.jnl_format.specs.Info.{is_fresh}
+use Rattle.jnl_format.specs.Header.{header_read, header_spelled, IsHeader}
+use Rattle.jnl_format.specs.Ring.{journal_bytes, bytes_from, distance, offset_after}
 use Rattle.jnl_format.specs.Text.{bad_list, text_homes}
-use Rattle.jnl_format.specs.Recovery.{header_of_volume, Journal, journal_in, info_in, info_from, text_of, volume_of, homes_of, list_fault, foreign_fault, text_fault, or_else, with_homes, replayed, recovery, recovery_at}
+use Rattle.jnl_format.specs.Recovery.{header_of_volume, Journal, journal_in, info_in, info_from, text_of, volume_of, homes_of, foreign_fault, text_fault, or_else, with_homes, replayed}
 use Rattle.jnl_format.specs.declared.blocks.Home.{Home}
-use Rattle.jnl_format.specs.declared.blocks.Volume.{Volume}
 use Rattle.jnl_format.specs.declared.structures.Info.{Info}
 use Rattle.jnl_format.specs.declared.structures.Header.{Header}
-use Rattle.jnl_format.specs.declared.structures.JnlRefusal.{JnlRefusal}
 use Rattle.jnl_format.specs.declared.structures.JnlRefusal.TheVariants.{BadList, ForeignJournal}
-use Rattle.jnl_format.proofs.Alike.{StandsAlike, KeepsHeader, IsPlaceOf, stands_alike, stands_for, same_place, recovers, text_parts}
+use Rattle.jnl_format.proofs.Alike.{StandsAlike, KeepsHeader, stands_alike, stands_for, same_place, recovers, text_parts}
 use Rattle.jnl_format.proofs.Mixing.{MixesHomes, IsHomeOf, mixes_with_homes}
-use Rattle.jnl_format.proofs.ReadBack.{header_back, checksum_fits, FitsHeader}
-use Rattle.jnl_format.proofs.Recovering.{IsJournal, Found, is_new, is_kept, journal_parts, journal_is_kept, apart_sector, header_parts, kept_journal, fresh_journal, found_journal}
+use Rattle.jnl_format.proofs.ReadBack.{header_back, checksum_fits}
+use Rattle.jnl_format.proofs.Recovering.{Found, is_new, is_kept, journal_parts, journal_is_kept, apart_sector, header_parts, kept_journal, found_journal}
 use Rattle.jnl_format.proofs.Volumes.{IsSame}
-use Rattle.jnl_replay.specs.Homing.{AreHomesOf, IsHomeMix, AgreesOutsideJournal, StandsForSame, emptied, empty_header}
+use Rattle.jnl_replay.specs.Homing.{AreHomesOf, IsHomeMix, StandsForSame, emptied, empty_header}
 use Rattle.jnl_replay.specs.Plan.{IsPlan, FitsPlan, journal_of}
 use Rattle.jnl_replay.specs.Text.{words, text_in}
 use Rattle.jnl_replay.specs.declared.plan.Plan.{Plan}
@@ -49,8 +47,8 @@ mix_settled bytes homes c image m =
     record {
       size = size;
       each = λ at. elim (cases_lt at (length c)) [
-          | inl inside ↦ mix_inside bytes homes c image at inside (m.each at (omega (arith, inside, length-only c)))
-          | inr past ↦ inl (get_or_past image at [] (omega arith) ∙ sym (get_or_past c at [] past))
+        | inl inside ↦ mix_inside bytes homes c image at inside (m.each at (omega (arith, inside, length-only c)))
+        | inr past ↦ inl (get_or_past image at [] (omega arith) ∙ sym (get_or_past c at [] past))
       ];
     }
 
@@ -196,8 +194,8 @@ module _ (c : Content) (plan : Plan) (is : IsPlan c plan) (total : ℕ) (fits : 
       let zero_more : base + 0 ≡ base = omega arith in
       elim (mixes_inside rc base e image m 0 (omega arith)) [
         | inl kept ↦
-          let there : sector image base ≡ sector rc base = subst (λ k. sector image k ≡ sector rc k) zero_more kept in
-          let whole : image ≡ rc = ext_get_or [] image rc long (λ s below. elim (cases_eq s base) [ inl q ↦ ap (sector image) q ∙ there ∙ ap (sector rc) (sym q) | inr n ↦ other s n ]) in
-          subst (StandsForSame plan c) (sym whole) (stands_replayed c plan is)
+            let there : sector image base ≡ sector rc base = subst (λ k. sector image k ≡ sector rc k) zero_more kept in
+            let whole : image ≡ rc = ext_get_or [] image rc long (λ s below. elim (cases_eq s base) [ inl q ↦ ap (sector image) q ∙ there ∙ ap (sector rc) (sym q) | inr n ↦ other s n ]) in
+            subst (StandsForSame plan c) (sym whole) (stands_replayed c plan is)
         | inr changed ↦ stands_empty image long other (ap (sector image) (sym zero_more) ∙ changed)
       ]

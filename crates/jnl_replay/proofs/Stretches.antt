@@ -1,5 +1,5 @@
 -- A barrier after a stretch of calls.
-use Rattle.std.proofs.Common.{◌≡◌, List, ℕ, sym, ◌∙◌, ap, subst}
+use Rattle.std.proofs.Common.{◌≡◌, sym, ◌∙◌, ap, subst}
 use Rattle.sector_disk.specs.Lists.{Content}
 use Rattle.sector_disk.specs.Clock.{Passes}
 use Rattle.sector_disk.specs.Disk.{State, IsImage, LeftNow, Leaves, SameSink, content, content_of, only, Candidates}

@@ -1,7 +1,7 @@
 -- A piece of the text is a piece of the ring.
-use Rattle.std.proofs.Common.{◌≡◌, ◌<◌, ◌≤◌, ◌+◌, ◌-◌, ◌⊎◌, ℕ, List, [], ◌++◌, IsTrue, inl, inr, length, get_or, take, drop, refl, sym, ◌∙◌, ap, subst, arith, length-drop}
+use Rattle.std.proofs.Common.{◌≡◌, ◌<◌, ◌≤◌, ◌+◌, ◌-◌, ℕ, List, IsTrue, inl, inr, length, get_or, take, drop, sym, ◌∙◌, ap, arith, length-drop}
 use Rattle.std.proofs.lemmas.Bool.{cases_lt}
-use Rattle.std.proofs.lemmas.List.{ext_get_or, get_or-take, get_or-drop, length-take, length-take-le}
+use Rattle.std.proofs.lemmas.List.{ext_get_or, get_or-take, get_or-drop, length-take-le}
 use Rattle.std.proofs.lemmas.List.{drop-drop}
 use Rattle.std.proofs.Common.{take-append-drop}
 use Rattle.hx_bytes.specs.Field.{number_at}
@@ -20,14 +20,14 @@ use Rattle.jnl_replay.specs.declared.text.Text.{Text}
 offset_both : (size start at i : ℕ) → 512 ≤ start → start < size → at + i < size - 512 → offset_after size (offset_after size start at) i ≡ offset_after size start (at + i)
 offset_both size start at i low high below = elim (cases_lt (start + at) size) [
   | inl one ↦
-    let e : offset_after size start at ≡ start + at = offset_before size start at one in
-    ap (λ n. offset_after size n i) e ∙ (elim (cases_lt (start + at + i) size) [
-      | inl two ↦ offset_before size (start + at) i two ∙ sym (offset_before size start (at + i) (omega arith) ∙ omega arith)
-      | inr two ↦ offset_behind size (start + at) i two ∙ sym (offset_behind size start (at + i) (omega arith) ∙ omega arith)
-    ])
+      let e : offset_after size start at ≡ start + at = offset_before size start at one in
+      ap (λ n. offset_after size n i) e ∙ (elim (cases_lt (start + at + i) size) [
+        | inl two ↦ offset_before size (start + at) i two ∙ sym (offset_before size start (at + i) (omega arith) ∙ omega arith)
+        | inr two ↦ offset_behind size (start + at) i two ∙ sym (offset_behind size start (at + i) (omega arith) ∙ omega arith)
+      ])
   | inr one ↦
-    let e : offset_after size start at ≡ start + at - size + 512 = offset_behind size start at one in
-    ap (λ n. offset_after size n i) e ∙ offset_before size (start + at - size + 512) i (omega arith) ∙ sym (offset_behind size start (at + i) (omega arith) ∙ omega arith)
+      let e : offset_after size start at ≡ start + at - size + 512 = offset_behind size start at one in
+      ap (λ n. offset_after size n i) e ∙ offset_before size (start + at - size + 512) i (omega arith) ∙ sym (offset_behind size start (at + i) (omega arith) ∙ omega arith)
 ]
 
 offset_in : (size start at : ℕ) → 512 ≤ start → start < size → at ≤ size - 512 → (512 ≤ offset_after size start at) × (offset_after size start at < size)
@@ -51,12 +51,12 @@ text_piece journal size start long at n is low high fits inside =
     ext_get_or 0 (take n (bytes_from journal (offset_after size start at))) (bytes_at (take long whole) at n)
     (l4 ∙ sym (length-piece (take long whole) at n (omega arith)))
     (λ i below.
-      let small : i < n = omega arith in
-      get_or-take n (bytes_from journal (offset_after size start at)) i 0 small
-      ∙ byte_from journal size (offset_after size start at) i is off.0 off.1 (omega arith)
-      ∙ ap (λ k. get_or journal k 0) (offset_both size start at i low high (omega arith))
-      ∙ sym (byte_from journal size start (at + i) is low high (omega arith))
-      ∙ sym (get_or-take n (drop at (take long whole)) i 0 small ∙ get_or-drop at (take long whole) i 0 ∙ get_or-take long whole (at + i) 0 (omega arith)))
+    let small : i < n = omega arith in
+    get_or-take n (bytes_from journal (offset_after size start at)) i 0 small
+    ∙ byte_from journal size (offset_after size start at) i is off.0 off.1 (omega arith)
+    ∙ ap (λ k. get_or journal k 0) (offset_both size start at i low high (omega arith))
+    ∙ sym (byte_from journal size start (at + i) is low high (omega arith))
+    ∙ sym (get_or-take n (drop at (take long whole)) i 0 small ∙ get_or-drop at (take long whole) i 0 ∙ get_or-take long whole (at + i) 0 (omega arith)))
 
 -- the length of the text
 pub length-words : (disk : State) (text : Text) → IsDisk disk → IsTrue disk.tells → IsText disk.sectors text → length (words text (content disk)) ≡ text.length

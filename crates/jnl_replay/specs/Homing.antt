@@ -1,8 +1,8 @@
 -- Blocks written home: what a crash leaves on the way, and what stands at the end.
-use Rattle.std.specs.Prelude.{◌≡◌, ◌⊎◌, ◌<◌, ◌≤◌, ◌+◌, ◌/◌, ℕ, List, [], ◌∷◌, ◌++◌, length, drop, slice_set, bit_and, if◌then◌else◌, None, Contains, Result, Ok}
+use Rattle.std.specs.Prelude.{◌≡◌, ◌⊎◌, ◌<◌, ◌/◌, ℕ, List, [], ◌∷◌, ◌++◌, length, drop, bit_and, if◌then◌else◌, None, Contains, Ok}
 use Rattle.sector_disk.specs.Lists.{Content, sector, put_sectors}
-use Rattle.sector_disk.specs.Disk.{Candidates, candidates_of, State, content}
-use Rattle.jnl_format.specs.Info.{info_of, with_info}
+use Rattle.sector_disk.specs.Disk.{Candidates, candidates_of, content}
+use Rattle.jnl_format.specs.Info.{with_info}
 use Rattle.jnl_format.specs.Header.{header_bytes}
 use Rattle.jnl_format.specs.Text.{bad_list, text_homes}
 use Rattle.jnl_format.specs.Recovery.{recovery, replayed}

@@ -1,5 +1,5 @@
 -- The homes that a walk over a journal's text has still to give.
-use Rattle.std.specs.Prelude.{◌≡◌, ◌≤◌, ◌<◌, ◌+◌, ◌*◌, ◌-◌, ℕ, Bool, List, [], ◌∷◌, ◌++◌, length, true, Option, None, Some, MatchOption, MatchBool}
+use Rattle.std.specs.Prelude.{◌≡◌, ◌≤◌, ◌+◌, ◌*◌, ◌-◌, ℕ, Bool, List, [], ◌∷◌, ◌++◌, length, true, Option, None, MatchOption, MatchBool}
 use Rattle.jnl_format.specs.Text.{are_blocks, block_bytes, bad_list, sector_homes, entry_homes, text_homes}
 use Rattle.jnl_format.specs.declared.blocks.Home.{Home}
 use Rattle.jnl_format.specs.declared.blocks.Volume.{Volume}

@@ -1,5 +1,5 @@
 -- What a plan is, and what it is for.
-use Rattle.std.specs.Prelude.{◌≡◌, ◌<◌, ◌≤◌, ◌+◌, ◌%◌, ◌*◌, ℕ, List, length, Option, None, Some, Result, Ok, Err}
+use Rattle.std.specs.Prelude.{◌≡◌, ◌<◌, ◌≤◌, ◌+◌, ◌%◌, ◌*◌, ℕ, length, Option, None, Some, Result, Ok, Err}
 use Rattle.volume_header.specs.Refusal.{header_refusal}
 use Rattle.jnl_format.specs.Recovery.{Content, header_of_volume, info_sector_of, Journal, journal_in, text_fault, recovery}
 use Rattle.jnl_format.specs.declared.structures.JnlRefusal.{JnlRefusal}

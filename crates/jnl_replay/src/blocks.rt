@@ -6,15 +6,16 @@ ghost use Rattle.jnl_format.specs.Text.{is_skipped, is_inside, is_apart, covers,
 ghost use Rattle.jnl_replay.specs.Reading.{OnlyReads};
 ghost use Rattle.jnl_replay.specs.Text.{words, IsText};
 
+use crate::text::{Text, read_entry_at, read_text};
 use hx_bytes::Failed;
 use jnl_format::{Entry, Volume};
 use sector_disk::SectorDisk;
 use volume_header::{VolumeHeader, read_header};
 
-use crate::text::{Text, read_entry_at, read_text};
-
 const SKIPPED: u64 = u64::MAX;
+
 const HEADER_SECTOR: u64 = 2;
+
 const ENTRY_BYTES: u64 = 16;
 
 /// Whether the entries at `at`, so many of them, have blocks as they must be, which fill the bytes from
@@ -125,7 +126,9 @@ fn ends_by(first: u64, count: u64, limit: u64) -> bool
 fn is_same(old: &VolumeHeader, new: &VolumeHeader) -> bool
     ensures { result ≡ is_same_volume old.now new.now }
 {
-    is_alike(old, new) && is_laid_out_alike(old, new) && has_equal_bits(old.attributes, new.attributes)
+    is_alike(old, new)
+        && is_laid_out_alike(old, new)
+        && has_equal_bits(old.attributes, new.attributes)
 }
 
 fn is_alike(old: &VolumeHeader, new: &VolumeHeader) -> bool

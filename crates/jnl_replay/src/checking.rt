@@ -10,18 +10,20 @@ ghost use Rattle.jnl_replay.specs.Plan.{IsPlace, IsPlan, IsRefusedAs, IsFaultOf,
 ghost use Rattle.jnl_replay.specs.Reading.{OnlyReads};
 ghost use Rattle.jnl_replay.specs.declared.plan.ReplayFault.TheVariants.{Disk};
 
+use crate::lists::first_bad_list;
+use crate::plan::{Place, Plan, ReplayFault};
+use crate::text::text_of;
 use hx_bytes::{Order, Sector};
 use jnl_format::{Header, Info, JnlRefusal, Volume, first_info_fault, info_fields, read_header};
 use jnl_ring::advance;
 use sector_disk::SectorDisk;
 
-use crate::lists::first_bad_list;
-use crate::plan::{Place, Plan, ReplayFault};
-use crate::text::text_of;
-
 const HEADER_SECTOR: u64 = 2;
+
 const FRESH: u32 = 4;
+
 const FRESH_BLHDR: u32 = 4096;
+
 const JOURNALING_VERSION: u32 = 0x4846_534A;
 
 /// Finds the journal of a volume whose header says this place, and checks it. It writes nothing. The refusal

@@ -8,11 +8,10 @@ ghost use Rattle.sector_disk.specs.Lists.{sector};
 ghost use Rattle.jnl_replay.specs.Homing.{emptied, initialised, empty_header, with_empty_header, with_info_done};
 ghost use Rattle.jnl_replay.specs.Plan.{FitsPlan};
 
+use crate::plan::Plan;
 use hx_bytes::Failed;
 use jnl_format::{Header, Info, write_header, write_info};
 use sector_disk::{SectorDisk, write_all_then_barrier};
-
-use crate::plan::Plan;
 
 const ALL_BUT_FRESH: u32 = 0xFFFF_FFFB;
 

@@ -9,12 +9,11 @@ ghost use Rattle.jnl_replay.specs.Pending.{IsCursor, Pending, GoesOn, Gives, wor
 ghost use Rattle.jnl_replay.specs.Reading.{OnlyReads};
 ghost use Rattle.jnl_replay.specs.Text.{words, IsText};
 
+use crate::blocks::is_skip;
+use crate::text::{Text, read_entry_at, read_text};
 use hx_bytes::Failed;
 use jnl_format::{Entry, Home, read_list};
 use sector_disk::SectorDisk;
-
-use crate::blocks::is_skip;
-use crate::text::{Text, read_entry_at, read_text};
 
 /// The homes that are still to come.
 #[derive(Clone, Copy)]

@@ -8,12 +8,11 @@ ghost use Rattle.jnl_format.specs.declared.blocks.Volume.{Volume};
 ghost use Rattle.jnl_replay.specs.Homing.{AreHomesOf, GrowsHomes, IsHomeMix};
 ghost use Rattle.jnl_replay.specs.Text.{words, IsText};
 
+use crate::homes::Homes;
+use crate::text::{Text, read_text};
 use hx_bytes::Failed;
 use jnl_format::Home;
 use sector_disk::SectorDisk;
-
-use crate::homes::Homes;
-use crate::text::{Text, read_text};
 
 /// Writes each block of each list to its sectors, in order.
 pub fn write_homes<D: SectorDisk>(disk: &mut D, text: &Text) -> Result<(), Failed>

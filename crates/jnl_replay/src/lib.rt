@@ -11,6 +11,6 @@ mod plan;
 mod replaying;
 mod text;
 
+pub use checking::validate;
 pub use plan::{Place, Plan, ReplayFault};
 pub use replaying::replay;
-pub use checking::validate;

@@ -6,15 +6,18 @@ ghost use Rattle.jnl_format.specs.Text.{is_list, head_at, bad_list};
 ghost use Rattle.jnl_replay.specs.Reading.{OnlyReads};
 ghost use Rattle.jnl_replay.specs.Text.{words, IsText};
 
+use crate::blocks::fill;
+use crate::text::{Text, read_text};
 use hx_bytes::Failed;
 use jnl_format::{ListHead, Volume, read_list};
 use sector_disk::SectorDisk;
 
-use crate::blocks::fill;
-use crate::text::{Text, read_text};
-
 /// The place of the first list that isn't as it must be, if there is one.
-pub fn first_bad_list<D: SectorDisk>(disk: &mut D, text: &Text, volume: &Volume) -> Result<Option<u64>, Failed>
+pub fn first_bad_list<D: SectorDisk>(
+    disk: &mut D,
+    text: &Text,
+    volume: &Volume,
+) -> Result<Option<u64>, Failed>
     requires text { IsText (D.state disk.old).sectors text.now }
     ensures value { IsTrue (D.state disk.old).tells → IfOk result (λ place.
         let bytes = words text.now (content (D.state disk.old)) in

@@ -6,13 +6,12 @@ ghost use Rattle.jnl_format.specs.Recovery.{replayed};
 ghost use Rattle.jnl_replay.specs.Homing.{StandsForSame, after_replay, with_empty_header, with_info_done};
 ghost use Rattle.jnl_replay.specs.Plan.{FitsPlan, IsPlan, journal_of};
 
-use hx_bytes::Failed;
-use sector_disk::SectorDisk;
-
 use crate::emptying::{clear_flag, empty_journal};
 use crate::homing::write_homes;
 use crate::plan::Plan;
 use crate::text::text_of;
+use hx_bytes::Failed;
+use sector_disk::SectorDisk;
 
 // Writes the blocks home, calls a barrier, and empties the journal behind another.
 fn replay_lists<D: SectorDisk>(disk: &mut D, plan: &Plan) -> Result<(), Failed>

@@ -8,13 +8,11 @@ ghost use Rattle.jnl_replay.specs.Plan.{FitsPlan};
 ghost use Rattle.jnl_replay.specs.Reading.{OnlyReads};
 ghost use Rattle.jnl_replay.specs.Text.{words, IsText, text_in};
 
+use crate::plan::Plan;
 use hx_bytes::{Failed, Order};
 use jnl_format::{Entry, read_entry};
-use sector_disk::SectorDisk;
-
-use crate::plan::Plan;
-
 use jnl_ring::{Span, advance, read_at, used_bytes};
+use sector_disk::SectorDisk;
 
 /// Where a journal's text lies, and how its lists are written.
 #[derive(Clone, Copy)]
@@ -45,7 +43,12 @@ pub fn text_of(plan: &Plan, sectors: u64) -> Text
 }
 
 /// Reads the bytes from a place on.
-pub fn read_text<D: SectorDisk>(disk: &mut D, text: &Text, at: u64, into: &mut [u8]) -> Result<(), Failed>
+pub fn read_text<D: SectorDisk>(
+    disk: &mut D,
+    text: &Text,
+    at: u64,
+    into: &mut [u8],
+) -> Result<(), Failed>
     requires text { IsText (D.state disk.old).sectors text.now }
     requires inside { at + length into.old ≤ text.now.length }
     ensures value { IsTrue (D.state disk.old).tells → OnOk result (into.new ≡ bytes_at (words text.now (content (D.state disk.old))) at (length into.old)) }

@@ -1,4 +1,4 @@
-use Rattle.std.proofs.Common.{refl, sym, ◌∙◌, arith, ◌+◌, ◌-◌}
+use Rattle.std.proofs.Common.{sym, ◌∙◌, arith, ◌+◌, ◌-◌}
 use Rattle.sector_disk.specs.Disk.{content}
 use Rattle.jnl_replay.specs.Text.{words}
 use Rattle.jnl_replay.proofs.Filling.{fill_on, fill_off, fill_over}

@@ -1,9 +1,8 @@
-use Rattle.std.proofs.Common.{◌≡◌, sym, ◌∙◌, ap, List, ℕ}
+use Rattle.std.proofs.Common.{sym, ◌∙◌, ap, List, ℕ}
 use Rattle.std.specs.Prelude.{Option, Some, option_map}
 use Rattle.volume_header.specs.Header.{header_of}
 use Rattle.sector_disk.specs.Disk.{content}
 use Rattle.jnl_format.specs.Ring.{offset_after}
-use Rattle.jnl_format.specs.declared.structures.JnlRefusal.{JnlRefusal}
 use Rattle.jnl_format.specs.declared.structures.JnlRefusal.TheVariants.{BadList}
 use Rattle.jnl_replay.specs.Reading.{OnlyReads}
 use Rattle.jnl_replay.specs.declared.text.Text.{Text}

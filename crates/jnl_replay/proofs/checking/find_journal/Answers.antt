@@ -1,13 +1,5 @@
-use Rattle.std.proofs.Common.{◌∙◌, ap, sym, refl}
-use Rattle.std.specs.Prelude.{Result, Ok}
+use Rattle.std.proofs.Common.{◌∙◌, sym}
 use Rattle.sector_disk.specs.Disk.{content}
-use Rattle.jnl_format.specs.Recovery.{Content, sector}
-use Rattle.jnl_format.specs.Header.{header_read}
-use Rattle.jnl_format.specs.declared.structures.JnlRefusal.{JnlRefusal}
-use Rattle.jnl_format.proofs.Recovering.{journal_is_fresh, journal_is_kept}
-use Rattle.jnl_replay.specs.Plan.{journal_of, IsFaultOf}
-use Rattle.jnl_replay.specs.declared.plan.Plan.{Plan}
-use Rattle.jnl_replay.specs.declared.plan.Place.{Place}
 use Rattle.jnl_replay.proofs.Checks.{refuse_info, refuse_header, plan_kept, plan_fresh}
 use Rattle.jnl_replay.proofs.ReadOn.{same_content, tells_then}
 use Rattle.jnl_replay.proofs.checking.find_journal.Goals as goal

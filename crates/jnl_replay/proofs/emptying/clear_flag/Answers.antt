@@ -1,4 +1,4 @@
-use Rattle.std.proofs.Common.{◌≡◌, List, ℕ, ◌∙◌, ap}
+use Rattle.std.proofs.Common.{List, ℕ, ◌∙◌, ap}
 use Rattle.sector_disk.specs.Disk.{content}
 use Rattle.sector_disk.specs.Lists.{sector}
 use Rattle.jnl_format.specs.Info.{with_info}

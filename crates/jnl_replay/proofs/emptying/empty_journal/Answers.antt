@@ -1,4 +1,4 @@
-use Rattle.std.proofs.Common.{◌≡◌, ◌/◌, ◌++◌, drop, List, ℕ, ◌∙◌, ap}
+use Rattle.std.proofs.Common.{◌/◌, ◌++◌, drop, List, ℕ, ◌∙◌, ap}
 use Rattle.sector_disk.specs.Disk.{content}
 use Rattle.jnl_format.specs.Header.{header_bytes}
 use Rattle.jnl_format.specs.declared.structures.Header.{Header}

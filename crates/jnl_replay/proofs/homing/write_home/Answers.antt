@@ -1,7 +1,6 @@
-use Rattle.std.proofs.Common.{◌∷◌, [], ◌≡◌, List, ℕ, refl, sym, ◌∙◌, ap, subst, set}
-use Rattle.sector_disk.specs.Disk.{content, content_of, Candidates, with_candidate, MayHaveWritten}
+use Rattle.std.proofs.Common.{◌∷◌, [], List, ℕ, ◌∙◌, ap, subst, set}
+use Rattle.sector_disk.specs.Disk.{content, content_of, Candidates}
 use Rattle.sector_disk.proofs.Candidates.{content_of-with_candidate}
-use Rattle.jnl_format.specs.Text.{bytes_at}
 use Rattle.jnl_replay.specs.Homing.{GrowsHomes}
 use Rattle.jnl_replay.specs.Text.{words}
 use Rattle.jnl_replay.proofs.Common.{on_ok}
@@ -18,8 +17,8 @@ returns-clause-written g c tells =
     let h = c.args.home.now in
     on_ok _ _ c.write.result
     (λ e. ap content_of e ∙ content_of-with_candidate s1.candidates h.sector c.read_text.new.into
-      ∙ ap (λ (d : Candidates). set (content_of d) h.sector c.read_text.new.into) c.read_text.ensures.reads.candidates
-      ∙ ap (λ (v : List ℕ). set (content s0) h.sector v) (c.in_ok-read_text.ensures.value tells))
+    ∙ ap (λ (d : Candidates). set (content_of d) h.sector c.read_text.new.into) c.read_text.ensures.reads.candidates
+    ∙ ap (λ (v : List ℕ). set (content s0) h.sector v) (c.in_ok-read_text.ensures.value tells))
     c.write.ensures.written
 
 pub returns-clause-grows : goal.returns-clause-grows
@@ -38,4 +37,4 @@ returns-clause-crash g c tells =
     let w = words c.args.text.now (content s0) in
     leaves_grown w _ s0 s1 s2 c.read_text.ensures.reads c.write.ensures.time c.write.ensures.sink
     (subst (λ (d : Candidates). GrowsHomes w (c.args.home.now ∷ []) d s2.candidates) c.read_text.ensures.reads.candidates
-      (grows_written c.write.result w c.args.home.now s1.candidates s2.candidates c.read_text.new.into (c.in_ok-read_text.ensures.value tells) c.write.ensures.written c.write.ensures.unsure))
+    (grows_written c.write.result w c.args.home.now s1.candidates s2.candidates c.read_text.new.into (c.in_ok-read_text.ensures.value tells) c.write.ensures.written c.write.ensures.unsure))

@@ -1,10 +1,10 @@
-use Rattle.std.proofs.Common.{◌≡◌, ◌≤◌, ◌<◌, List, ℕ, refl, sym, ◌∙◌, ap, arith}
+use Rattle.std.proofs.Common.{◌≡◌, ◌≤◌, ◌<◌, refl, ◌∙◌, ap, arith}
 use Rattle.sector_disk.specs.Disk.{content}
 use Rattle.sector_disk.proofs.Writing.{same_after, sink_after}
 use Rattle.jnl_format.specs.declared.blocks.Home.{Home}
 use Rattle.jnl_replay.specs.Text.{words}
 use Rattle.jnl_replay.specs.declared.text.Text.{Text}
-use Rattle.jnl_replay.proofs.Common.{at_some, on_ok}
+use Rattle.jnl_replay.proofs.Common.{at_some}
 use Rattle.jnl_replay.proofs.Homed.{homed_start, homed_read, homed_leaves, homed_step, homed_failed, homed_end, given_next, given_none, words_stay}
 use Rattle.jnl_replay.proofs.ReadOn.{same_words, tells_then}
 use Rattle.jnl_replay.proofs.homing.write_homes.Goals as goal

@@ -1,4 +1,4 @@
-use Rattle.std.proofs.Common.{◌≡◌, length, refl, sym, ◌∙◌, ap, arith, List, ℕ, ◌+◌, ◌-◌, inl, inr}
+use Rattle.std.proofs.Common.{length, refl, sym, ◌∙◌, ap, arith, List, ℕ, ◌+◌, ◌-◌, inl, inr}
 use Rattle.std.proofs.lemmas.Bool.{iff_false}
 use Rattle.sector_disk.specs.Disk.{content}
 use Rattle.jnl_replay.specs.Text.{words}
@@ -48,7 +48,7 @@ returns-then-branch-clause-value g c tells =
     ∙ ap (λ (b : List ℕ). filled v t.order b (at + c.from-used.result) (at + 32) (at + c.from-header.result) (c.from-entries.result - 1)) (same_words t s0 s1 reads)
     ∙ ap (λ n. filled v t.order w (at + c.from-used.result) (at + 32) (at + n) (c.from-entries.result - 1)) c.from-header.ensures)
     (let p = sized_back c.from-header.result t.blhdr t.length (length w) at head.used head.last c.from-header.ensures long (c.is_sized.ensures.0 c.if-not-is_sized.false) in
-      (omega (arith, p.0, c.from-used.ensures), omega (arith, p.1, c.from-used.ensures), elim p.2 [ inl e ↦ inl e | inr e ↦ inr (omega (arith, c.from-used.ensures)) ]))
+    (omega (arith, p.0, c.from-used.ensures), omega (arith, p.1, c.from-used.ensures), elim p.2 [ inl e ↦ inl e | inr e ↦ inr (omega (arith, c.from-used.ensures)) ]))
     (omega (arith, long, c.requires.inside))
 
 pub returns-else-branch-clause-value : goal.returns-else-branch-clause-value

@@ -1,4 +1,4 @@
-use Rattle.std.proofs.Common.{◌≡◌, ◌∷◌, [], ◌/◌, ◌≤◌, ◌<◌, List, ℕ, IsTrue, length, sym, ◌∙◌, ap, subst, arith}
+use Rattle.std.proofs.Common.{◌≡◌, ◌∷◌, [], ◌/◌, ◌≤◌, ◌<◌, IsTrue, length, ◌∙◌, ap, subst, arith}
 use Rattle.sector_disk.specs.Lists.{Content, sector}
 use Rattle.sector_disk.specs.Disk.{Leaves, Mixes, Candidates, content, content_of, only}
 use Rattle.sector_disk.proofs.Candidates.{content_of-only}
@@ -45,8 +45,8 @@ returns-clause-crash g c tells settled =
     leaves_both s0 s1 s2 P (Mixes s1.candidates at (with_info (initialised plan.info) (sector (content s1) at) ∷ [])) P first e.sink (c.clear_flag.ensures.crash t1)
     (λ image p. p)
     (λ image m. stage_info c0 plan is s0.sectors c.requires.fits size c.requires.new image enough
-      (subst (λ (d : Candidates). Mixes d at (with_info (initialised plan.info) (sector (with_empty_header plan c0) at) ∷ []) image) only_now
-        (subst (λ (d : Content). Mixes s1.candidates at (with_info (initialised plan.info) (sector d at) ∷ []) image) now m)))
+    (subst (λ (d : Candidates). Mixes d at (with_info (initialised plan.info) (sector (with_empty_header plan c0) at) ∷ []) image) only_now
+    (subst (λ (d : Content). Mixes s1.candidates at (with_info (initialised plan.info) (sector d at) ∷ []) image) now m)))
 
 pub returns-clause-replayed : goal.returns-clause-replayed
 returns-clause-replayed g c tells =

@@ -1,12 +1,12 @@
 use Rattle.std.proofs.Common.{◌≡◌, ◌∷◌, [], ◌/◌, List, ℕ, IsTrue, sym, ◌∙◌, ap, subst}
 use Rattle.sector_disk.specs.Lists.{Content}
-use Rattle.sector_disk.specs.Disk.{IsImage, IsSettled, Leaves, Mixes, Candidates, content, only}
+use Rattle.sector_disk.specs.Disk.{Leaves, Mixes, Candidates, content, only}
 use Rattle.sector_disk.proofs.Stages.{leaves_with, leaves_both}
 use Rattle.sector_disk.proofs.Writing.{sink_after}
-use Rattle.jnl_format.specs.Recovery.{replayed, homes_of, volume_of, with_homes, text_of}
+use Rattle.jnl_format.specs.Recovery.{replayed, homes_of, volume_of, with_homes}
 use Rattle.jnl_format.proofs.Mixing.{MixesHomes}
 use Rattle.jnl_replay.specs.Homing.{IsHomeMix, StandsForSame, empty_header, with_empty_header}
-use Rattle.jnl_replay.specs.Plan.{IsPlan, journal_of}
+use Rattle.jnl_replay.specs.Plan.{journal_of}
 use Rattle.jnl_replay.specs.Text.{words}
 use Rattle.jnl_replay.proofs.Checks.{length-content}
 use Rattle.jnl_replay.proofs.Common.{on_ok}
@@ -26,8 +26,8 @@ returns-in_err-write_homes-clause-crash g c tells settled =
     let a = homes_of_plan c0 plan t s0.sectors is c.text_of-text.ensures.is (length-content s0 (g.met.D.SectorDisk.well_formed c.args.disk.now) tells) in
     leaves_with s0 s1 (IsHomeMix (words t c0) (homes_of j c0) s0.candidates) (StandsForSame plan c0) (c.write_homes.ensures.crash tells (volume_of plan.place.info_sector j c0) (homes_of j c0) a)
     (λ image m. stands_mixed c0 plan is image
-      (subst (λ (w : List ℕ). MixesHomes w (homes_of j c0) c0 image) (words_of_plan c0 plan t c.text_of-text.ensures.is)
-        (mix_settled (words t c0) (homes_of j c0) c0 image (subst (λ (d : Candidates). IsHomeMix (words t c0) (homes_of j c0) d image) settled m))))
+    (subst (λ (w : List ℕ). MixesHomes w (homes_of j c0) c0 image) (words_of_plan c0 plan t c.text_of-text.ensures.is)
+    (mix_settled (words t c0) (homes_of j c0) c0 image (subst (λ (d : Candidates). IsHomeMix (words t c0) (homes_of j c0) d image) settled m))))
 
 pub returns-in_err-barrier-clause-crash : goal.returns-in_err-barrier-clause-crash
 returns-in_err-barrier-clause-crash g c tells settled =
@@ -43,8 +43,8 @@ returns-in_err-barrier-clause-crash g c tells settled =
     let first : Leaves s0 s1 (StandsForSame plan c0) =
     leaves_with s0 s1 (IsHomeMix (words t c0) (homes_of j c0) s0.candidates) (StandsForSame plan c0) (c.write_homes.ensures.crash tells (volume_of plan.place.info_sector j c0) (homes_of j c0) a)
     (λ image m. stands_mixed c0 plan is image
-      (subst (λ (w : List ℕ). MixesHomes w (homes_of j c0) c0 image) (words_of_plan c0 plan t c.text_of-text.ensures.is)
-        (mix_settled (words t c0) (homes_of j c0) c0 image (subst (λ (d : Candidates). IsHomeMix (words t c0) (homes_of j c0) d image) settled m)))) in
+    (subst (λ (w : List ℕ). MixesHomes w (homes_of j c0) c0 image) (words_of_plan c0 plan t c.text_of-text.ensures.is)
+    (mix_settled (words t c0) (homes_of j c0) c0 image (subst (λ (d : Candidates). IsHomeMix (words t c0) (homes_of j c0) d image) settled m)))) in
     leaves_barrier s0 s1 s2 (StandsForSame plan c0) first c.write_homes.ensures.sink c.barrier.ensures.sink c.barrier.ensures.time (barrier_failed s0 s1 s2 (StandsForSame plan c0) first c.in_err-barrier.ensures.failed)
 
 pub returns-clause-crash : goal.returns-clause-crash
@@ -65,8 +65,8 @@ returns-clause-crash g c tells settled =
     let first : Leaves s0 s1 P =
     leaves_with s0 s1 (IsHomeMix (words t c0) (homes_of j c0) s0.candidates) P (c.write_homes.ensures.crash tells (volume_of plan.place.info_sector j c0) (homes_of j c0) a)
     (λ image m. stands_mixed c0 plan is image
-      (subst (λ (w : List ℕ). MixesHomes w (homes_of j c0) c0 image) (words_of_plan c0 plan t same)
-        (mix_settled (words t c0) (homes_of j c0) c0 image (subst (λ (d : Candidates). IsHomeMix (words t c0) (homes_of j c0) d image) settled m)))) in
+    (subst (λ (w : List ℕ). MixesHomes w (homes_of j c0) c0 image) (words_of_plan c0 plan t same)
+    (mix_settled (words t c0) (homes_of j c0) c0 image (subst (λ (d : Candidates). IsHomeMix (words t c0) (homes_of j c0) d image) settled m)))) in
     let home : content s1 ≡ replayed j c0 =
     c.in_ok-write_homes.ensures.written tells (volume_of plan.place.info_sector j c0) (homes_of j c0) a ∙ ap (λ (w : List ℕ). with_homes w (homes_of j c0) c0) (words_of_plan c0 plan t same) in
     let second : Leaves s0 s2 P =
@@ -79,7 +79,7 @@ returns-clause-crash g c tells settled =
     leaves_both s0 s2 s3 P (Mixes s2.candidates base (empty_header plan (content s2) ∷ [])) P second (sink_after s0 s1 s2 c.write_homes.ensures.sink c.barrier.ensures.sink) (c.empty_journal.ensures.crash t2)
     (λ image p. p)
     (λ image m. stage_empty c0 plan is s0.sectors c.requires.fits size c.requires.old image
-      (subst (λ (d : Candidates). Mixes d base (empty_header plan (replayed j c0) ∷ []) image) only_now (subst (λ (d : Content). Mixes s2.candidates base (empty_header plan d ∷ []) image) now m)))
+    (subst (λ (d : Candidates). Mixes d base (empty_header plan (replayed j c0) ∷ []) image) only_now (subst (λ (d : Content). Mixes s2.candidates base (empty_header plan d ∷ []) image) now m)))
 
 pub returns-clause-replayed : goal.returns-clause-replayed
 returns-clause-replayed g c tells =

@@ -11,5 +11,5 @@ returns-clause-value g c tells =
     let t = c.args.text.now in
     on_ok _ _ c.read_at.result
     (λ e. read_piece old t c.args.at (length c.args.into.now) c.read_at.new.into (g.met.D.SectorDisk.well_formed c.args.disk.now) tells c.requires.text c.requires.inside
-      (e ∙ ap (λ n. take (length c.args.into.now) (bytes_from (journal_bytes (content old) t.span.base t.span.size) n)) c.advance-offset.ensures.after))
+    (e ∙ ap (λ n. take (length c.args.into.now) (bytes_from (journal_bytes (content old) t.span.base t.span.size) n)) c.advance-offset.ensures.after))
     (c.read_at.ensures.bytes tells)

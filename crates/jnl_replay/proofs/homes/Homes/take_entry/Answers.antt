@@ -1,4 +1,4 @@
-use Rattle.std.proofs.Common.{arith, length}
+use Rattle.std.proofs.Common.{arith}
 use Rattle.sector_disk.specs.Disk.{content}
 use Rattle.jnl_replay.specs.Text.{words}
 use Rattle.jnl_replay.proofs.Pendings.{entry_fits, pend_entry}

@@ -1,4 +1,4 @@
-use Rattle.std.proofs.Common.{◌≡◌, ◌<◌, length, ◌-◌, sym, ◌∙◌, ap, arith, List, ℕ}
+use Rattle.std.proofs.Common.{◌-◌, ◌∙◌, ap, arith}
 use Rattle.sector_disk.specs.Disk.{content}
 use Rattle.jnl_format.specs.declared.structures.ListHead.{ListHead}
 use Rattle.jnl_replay.specs.Text.{words}
