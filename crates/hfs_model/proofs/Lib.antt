@@ -15,3 +15,4 @@ pub mod Spelled
 pub mod Results
 pub mod Paths
 pub mod Values
+pub mod Shown

@@ -3,7 +3,7 @@ use Rattle.std.proofs.Common.{◌≡◌, Result, Ok, Err, refl, ap}
 use Rattle.hfs_model.specs.declared.refusal.Refusal.{Refusal}
 use Rattle.hfs_model.specs.Language.{both, earlier, after}
 
-ok_same : {X : Type 0} (x y : X) (r : Result X Refusal) → r ≡ Ok x → r ≡ Ok y → x ≡ y
+pub ok_same : {X : Type 0} (x y : X) (r : Result X Refusal) → r ≡ Ok x → r ≡ Ok y → x ≡ y
 ok_same x y r is other = cc
 
 err_never : {X : Type 0} (why : Refusal) (x : X) (r : Result X Refusal) → r ≡ Err why → r ≡ Ok x → ⊥

@@ -2,9 +2,10 @@
 ghost use Rattle.std.specs.Prelude.{◌≡◌, Ok};
 ghost use Rattle.hfs_model.specs.Language.{value_of};
 ghost use Rattle.hfs_model.specs.Spelling.{Spells, IsReadAsSpelled, IsReadAsPath, IsReadAsValue};
+ghost use Rattle.hfs_model.specs.Shown.{ShowsRefusal, ShowsContent, ShowsFacts, ShowsGauge};
 ghost use Rattle.hfs_model.specs.Text.{value_text};
 
-use crate::{Command, Path};
+use crate::{Command, Facts, Gauge, Path, Refusal};
 
 /// A line is read to a command exactly where it spells it.
 pub fn line_is_read_as_spelled(line: &[u8], command: &Command)
@@ -29,4 +30,24 @@ pub fn value_is_read_as_spelled(word: &[u8], value: &[u8])
 /// The text of a value is read to it.
 pub fn value_is_read_back(value: &[u8])
     ensures { value_of (value_text value.now) ≡ Ok value.now }
+{}
+
+/// The text of a refusal shows which one it is.
+pub fn refusal_is_shown(one: Refusal, other: Refusal)
+    ensures { ShowsRefusal one other }
+{}
+
+/// The text of bytes shows them.
+pub fn content_is_shown(one: &[u8], other: &[u8])
+    ensures { ShowsContent one.now other.now }
+{}
+
+/// The text of facts shows them, but for the high bits of a mode and the links of a folder.
+pub fn facts_are_shown(one: Facts, other: Facts)
+    ensures { ShowsFacts one other }
+{}
+
+/// The text of a gauge shows its numbers.
+pub fn gauge_is_shown(one: Gauge, other: Gauge)
+    ensures { ShowsGauge one other }
 {}
