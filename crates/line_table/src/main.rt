@@ -18,7 +18,9 @@ fn main(rt: HostRuntime) -> anyhow::Result<()> {
     let mut output = Vec::new(rt.alloc());
     let lines = input.strip_suffix(b"\n").unwrap_or(&input);
     for line in lines.split(|byte| *byte == b'\n') {
-        answer(rt.alloc(), &mut output, line).ok().context("no memory")?;
+        answer(rt.alloc(), &mut output, line)
+            .ok()
+            .context("no memory")?;
     }
     rt.stdout().write_all(&output)?;
     Ok(())

@@ -1,6 +1,4 @@
-use crate::replies::{
-    CONTENTS, FILE, FILE_LINE, FOLDER, FOLDER_LINE, GAUGE, GAUGE_LINE, REFUSALS,
-};
+use crate::replies::{CONTENTS, FILE, FILE_LINE, FOLDER, FOLDER_LINE, GAUGE, GAUGE_LINE, REFUSALS};
 use cmd_lang::{LineFault, print_reply, read_line};
 use hfs_model::{Command, ListedName, Listing, Refusal, Reply};
 use hx_bytes::{Bytes, Units};
@@ -130,7 +128,7 @@ fn a_listing_is_one_line(rt: HostRuntime) -> Result<(), Fail> {
     names.push(listed(rt.alloc(), &[0x41], false)?)?;
     names.push(listed(rt.alloc(), &[0x78], true)?)?;
     names.push(listed(rt.alloc(), &[0, 0x61, 0x20, 0x62], false)?)?;
-names.push(listed(rt.alloc(), &[0x65, 0x301], true)?)?;
+    names.push(listed(rt.alloc(), &[0x65, 0x301], true)?)?;
     names.push(listed(rt.alloc(), &[0x0A, 0x25], false)?)?;
     let wanted = "ok 5 A x/ %u0000a%u0020b e\u{301}/ %u000A%%\n";
     assert!(rt; is_printed_as(rt.alloc(), &Reply::Listing(names), wanted)?);
