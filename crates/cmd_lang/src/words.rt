@@ -19,7 +19,6 @@ use std::alloc::{AllocError, Global};
 pub(crate) const BAD_COMMAND: LineFault = LineFault::No(Refusal::BadCommand);
 
 /// A number in decimal digits.
-
 pub(crate) fn read_number(word: &str) -> Result<u64, LineFault>
     ensures { Reads (spec.number_of word.now) result }
 {

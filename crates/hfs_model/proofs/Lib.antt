@@ -12,3 +12,7 @@ pub mod NameOrder
 pub mod Splitting
 pub mod Lexical
 pub mod Spelled
+pub mod Results
+pub mod Paths
+pub mod Values
+pub mod Shown

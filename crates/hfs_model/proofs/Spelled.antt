@@ -1,5 +1,5 @@
 -- A line is read to a command exactly where it spells it.
-use Rattle.std.proofs.Common.{◌≡◌, ℕ, ◌^◌, true, ◌==◌, nat_lt, List, [], ◌∷◌, length, Result, Ok, Err, bytes_eq, codes, refl, sym, ap, ◌∙◌, subst, if◌then◌else◌}
+use Rattle.std.proofs.Common.{◌≡◌, ℕ, ◌^◌, true, ◌==◌, nat_lt, List, [], ◌∷◌, length, Ok, Err, bytes_eq, codes, refl, sym, ap, ◌∙◌, subst, if◌then◌else◌}
 use Rattle.std.specs.List.{slice_split, join_with_byte}
 use Rattle.std.specs.Str.{is_utf8}
 use Rattle.std.specs.Cmp.Lexicographic.{bytes_decides}
@@ -7,32 +7,14 @@ use Rattle.std.proofs.lemmas.Bool.{cond_both, cond-true, cond-false, le-ltb, ltb
 use Rattle.std.proofs.lemmas.List.Splits.{join_with_byte-slice_split}
 use Rattle.hfs_model.specs.declared.command.Command.{Command}
 use Rattle.hfs_model.specs.declared.command.Command.TheVariants.{Mkdir, Create, Rm, Rmdir, Mv, Ln, Write, Read, Trunc, Ls, Stat, Chmod, SetAttr, GetAttr, DelAttr, LsAttr, At, Df, Sync}
-use Rattle.hfs_model.specs.declared.refusal.Refusal.{Refusal}
 use Rattle.hfs_model.specs.declared.refusal.Refusal.TheVariants.{TooLong, BadCommand}
-use Rattle.hfs_model.specs.Language.{both, earlier, after, number_of, within_moment, mode_of, value_of, attribute_of, path_of, one_word, two_words, three_words, four_words, words_command, most_bytes, command_of}
+use Rattle.hfs_model.specs.Language.{both, after, number_of, within_moment, mode_of, value_of, attribute_of, path_of, one_word, two_words, three_words, four_words, words_command, most_bytes, command_of}
 use Rattle.hfs_model.specs.Spelling.{SpellsCommand, AreWords, Spells, IsReadAsSpelled}
 use Rattle.hfs_model.proofs.Splitting.{HaveNo, parts_have_none, split_joined}
+use Rattle.hfs_model.proofs.Results.{after_ok, both_ok}
 use Rattle.hfs_model.proofs.Lexical.{number_is_read, number_is_spelled, moment_is_spelled}
 
 -- ---- from a command to its words
-
-after_ok : {X : Type 0} (make : X → Command) (r : Result X Refusal) (c : Command) → after make r ≡ Ok c → (x : X) × (r ≡ Ok x) × (make x ≡ c)
-after_ok make (Ok x) c is = let same : make x ≡ c = cc in (x, refl, same)
-after_ok make (Err why) c is = let never : Err why ≡ Ok c = is in absurd (cc)
-
-ok_same : {X : Type 0} (x y : X) (r : Result X Refusal) → r ≡ Ok x → r ≡ Ok y → x ≡ y
-ok_same x y r is other = cc
-
-err_never : {X : Type 0} (why : Refusal) (x : X) (r : Result X Refusal) → r ≡ Err why → r ≡ Ok x → ⊥
-err_never why x r is other = cc
-
-both_ok : {X Y : Type 0} (r : Result X Refusal) (s : Result Y Refusal) (p : X × Y) → both r s ≡ Ok p → (r ≡ Ok p.0) × (s ≡ Ok p.1)
-both_ok {X} {Y} (Ok x) (Ok y) p is =
-    let pair : (x, y) ≡ p = ok_same (x, y) p (both (Ok x) (Ok y)) refl is in
-    (ap (λ (q : X × Y). Ok q.0) pair, ap (λ (q : X × Y). Ok q.1) pair)
-both_ok (Ok x) (Err why) p is = let never : Err why ≡ Ok p = is in absurd (cc)
-both_ok (Err why) (Ok y) p is = let never : Err why ≡ Ok p = is in absurd (cc)
-both_ok (Err one) (Err other) p is = absurd (err_never (earlier one other) p (both (Err one) (Err other)) refl is)
 
 test_same : (verb name : List ℕ) → bytes_eq verb name ≡ true → verb ≡ name
 test_same verb name = (bytes_decides verb name).0

@@ -8,3 +8,4 @@ pub mod Reading
 pub mod Text
 pub mod Language
 pub mod Spelling
+pub mod Shown

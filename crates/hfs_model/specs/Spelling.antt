@@ -4,7 +4,8 @@ use Rattle.std.specs.List.{list_any, join_with_byte}
 use Rattle.std.specs.Str.{is_utf8}
 use Rattle.hfs_model.specs.declared.command.Command.{Command}
 use Rattle.hfs_model.specs.declared.command.Command.TheVariants.{Mkdir, Create, Rm, Rmdir, Mv, Ln, Write, Read, Trunc, Ls, Stat, Chmod, SetAttr, GetAttr, DelAttr, LsAttr, At, Df, Sync}
-use Rattle.hfs_model.specs.Language.{mode_of, value_of, attribute_of, path_of, command_of, most_bytes}
+use Rattle.hfs_model.specs.Language.{mode_of, value_of, attribute_of, path_of, command_of, most_bytes, name_of}
+use Rattle.hfs_model.specs.Text.{value_text}
 
 -- ---- words
 
@@ -66,3 +67,30 @@ pub record Spells (line : List ℕ) (command : Command) : Type 0 where
 -- a line is read to a command exactly where it spells it
 abbrev pub IsReadAsSpelled : List ℕ → Command → Type 0
 IsReadAsSpelled line command = (command_of line ≡ Ok command) ↔ Spells line command
+
+-- ---- paths
+
+-- The text of a component spells a name: it isn't empty, and it has no slash.
+pub record IsComponent (text name : List ℕ) : Type 0 where
+  pub some : 0 < length text
+  pub no_slash : list_any (λ b. b == 47) text ≡ false
+  pub reads : name_of text ≡ Ok name
+
+-- the texts spell the names, one each
+abbrev pub SpellNames : List (List ℕ) → List (List ℕ) → Type 0
+SpellNames [] [] = Unit {0}
+SpellNames [] (name ∷ names) = ⊥
+SpellNames (text ∷ texts) [] = ⊥
+SpellNames (text ∷ texts) (name ∷ names) = IsComponent text name × SpellNames texts names
+
+-- the word is a slash, and behind it the texts of the names with a slash between them
+abbrev pub SpellsPath : List ℕ → List (List ℕ) → Type 0
+SpellsPath word path = (texts : List (List ℕ)) × SpellNames texts path × (word ≡ 47 ∷ join_with_byte 47 texts)
+
+-- a word is read to a path exactly where it spells it
+abbrev pub IsReadAsPath : List ℕ → List (List ℕ) → Type 0
+IsReadAsPath word path = (path_of word ≡ Ok path) ↔ SpellsPath word path
+
+-- a word that is read to a value is its text
+abbrev pub IsReadAsValue : List ℕ → List ℕ → Type 0
+IsReadAsValue word value = value_of word ≡ Ok value → word ≡ value_text value

@@ -1,8 +1,11 @@
 //! Laws of the language of lines, each as a function without a body.
-ghost use Rattle.std.specs.Prelude.{◌≡◌};
-ghost use Rattle.hfs_model.specs.Spelling.{Spells, IsReadAsSpelled};
+ghost use Rattle.std.specs.Prelude.{◌≡◌, Ok};
+ghost use Rattle.hfs_model.specs.Language.{value_of};
+ghost use Rattle.hfs_model.specs.Spelling.{Spells, IsReadAsSpelled, IsReadAsPath, IsReadAsValue};
+ghost use Rattle.hfs_model.specs.Shown.{ShowsRefusal, ShowsContent, ShowsFacts, ShowsGauge};
+ghost use Rattle.hfs_model.specs.Text.{value_text};
 
-use crate::Command;
+use crate::{Command, Facts, Gauge, Path, Refusal};
 
 /// A line is read to a command exactly where it spells it.
 pub fn line_is_read_as_spelled(line: &[u8], command: &Command)
@@ -12,4 +15,39 @@ pub fn line_is_read_as_spelled(line: &[u8], command: &Command)
 /// One line doesn't spell two commands.
 pub fn line_spells_one_command(line: &[u8], one: &Command, other: &Command)
     ensures { Spells line.now one.now → Spells line.now other.now → one.now ≡ other.now }
+{}
+
+/// A word is read to a path exactly where it spells it.
+pub fn path_is_read_as_spelled(word: &[u8], path: &Path)
+    ensures { IsReadAsPath word.now path.now }
+{}
+
+/// A word that is read to a value is the value's text.
+pub fn value_is_read_as_spelled(word: &[u8], value: &[u8])
+    ensures { IsReadAsValue word.now value.now }
+{}
+
+/// The text of a value is read to it.
+pub fn value_is_read_back(value: &[u8])
+    ensures { value_of (value_text value.now) ≡ Ok value.now }
+{}
+
+/// The text of a refusal shows which one it is.
+pub fn refusal_is_shown(one: Refusal, other: Refusal)
+    ensures { ShowsRefusal one other }
+{}
+
+/// The text of bytes shows them.
+pub fn content_is_shown(one: &[u8], other: &[u8])
+    ensures { ShowsContent one.now other.now }
+{}
+
+/// The text of facts shows them, but for the high bits of a mode and the links of a folder.
+pub fn facts_are_shown(one: Facts, other: Facts)
+    ensures { ShowsFacts one other }
+{}
+
+/// The text of a gauge shows its numbers.
+pub fn gauge_is_shown(one: Gauge, other: Gauge)
+    ensures { ShowsGauge one other }
 {}

@@ -1,7 +1,7 @@
 //! Replies, each with its line.
-use hfs_model::{Facts, Gauge, Refusal, Reply, TreeGauge};
+use hfs_model::{Facts, Gauge, Refusal, TreeGauge};
 
-const FOLDER: Facts = Facts {
+pub(crate) const FOLDER: Facts = Facts {
     folder: true,
     id: 2,
     size: 0,
@@ -12,7 +12,7 @@ const FOLDER: Facts = Facts {
     attribute: 0,
 };
 
-const FILE: Facts = Facts {
+pub(crate) const FILE: Facts = Facts {
     folder: false,
     id: 18,
     size: 1,
@@ -23,7 +23,7 @@ const FILE: Facts = Facts {
     attribute: 200,
 };
 
-const GAUGE: Gauge = Gauge {
+pub(crate) const GAUGE: Gauge = Gauge {
     block: 4096,
     total: 2048,
     free: 1674,
@@ -48,15 +48,11 @@ const GAUGE: Gauge = Gauge {
     ],
 };
 
-pub(crate) const FACTS: &[(Facts, &str)] = &[
-    (FOLDER, "ok folder 2 0 0755 0 0 0\n"),
-    (FILE, "ok file 18 1 1 0600 100 200 200\n"),
-];
+pub(crate) const FOLDER_LINE: &str = "ok folder 2 0 0755 0 0 0\n";
 
-pub(crate) const GAUGES: &[(Gauge, &str)] = &[(
-    GAUGE,
-    "ok 4096 2048 1674 1674 1982 1 16 14 1 64 62 0 16 15\n",
-)];
+pub(crate) const FILE_LINE: &str = "ok file 18 1 1 0600 100 200 200\n";
+
+pub(crate) const GAUGE_LINE: &str = "ok 4096 2048 1674 1674 1982 1 16 14 1 64 62 0 16 15\n";
 
 pub(crate) const CONTENTS: &[(&[u8], &str)] = &[
     (b"", "ok =\n"),
@@ -98,8 +94,3 @@ pub(crate) const REFUSALS: &[(Refusal, &str)] = &[
     (Refusal::NotBuilt, "no NotBuilt\n"),
     (Refusal::NoRoom(12), "no NoRoom 12\n"),
 ];
-
-/// A reply without a list.
-pub(crate) fn plain() -> (Reply, &'static str) {
-    (Reply::Ok, "ok\n")
-}

@@ -1,0 +1,28 @@
+//! Lines of all kinds.
+
+pub(crate) const LINES: &[&[u8]] = &[
+    b"mkdir /projects/2026/volume",
+    b"create /projects/2026/volume/readme.txt",
+    b"rm /projects/2026/volume/readme.txt",
+    b"rmdir /projects/2026/volume",
+    b"mv /projects/2026/volume /projects/2027/volume",
+    b"ln /projects/2026/volume/readme.txt /latest",
+    b"write /projects/readme.txt 4094 =hello%20world%0A",
+    b"read /projects/readme.txt 4092 65536",
+    b"trunc /projects/readme.txt 1099511627776",
+    b"ls /projects/2026",
+    b"stat /projects/2026/caf\xC3\xA9",
+    b"chmod /projects/readme.txt 0644",
+    b"setattr /projects/readme.txt color =red",
+    b"getattr /projects/readme.txt color",
+    b"delattr /projects/readme.txt color",
+    b"lsattr /projects/readme.txt",
+    b"at 3900000000",
+    b"df",
+    b"sync",
+    b"create /%u0000a%u0020b",
+    b"chmod /projects/readme.txt 0888",
+    b"mkdir /projects/../etc",
+    b"trunc /projects/readme.txt 007",
+    b"mkdir /\xFF",
+];

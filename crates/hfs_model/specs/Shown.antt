@@ -1,0 +1,52 @@
+-- What the text of a reply shows of it.
+use Rattle.std.specs.Prelude.{◌≡◌, ◌<◌, ◌%◌, ◌^◌, ℕ, false, List, [], ◌∷◌}
+use Rattle.hfs_model.specs.declared.refusal.Refusal.{Refusal}
+use Rattle.hfs_model.specs.declared.reply.Reply.TheVariants as reply
+use Rattle.std.specs.List.{flat_map}
+use Rattle.hfs_model.specs.declared.reply.Facts.{Facts}
+use Rattle.hfs_model.specs.declared.reply.Gauge.{Gauge}
+use Rattle.hfs_model.specs.declared.reply.TreeGauge.{TreeGauge}
+use Rattle.hfs_model.specs.Text.{refusal_numbers, reply_text}
+
+-- each is below 2 ^ 64
+abbrev pub AreNumbers : List ℕ → Type 0
+AreNumbers [] = Unit {0}
+AreNumbers (n ∷ numbers) = (n < 2 ^ 64) × AreNumbers numbers
+
+-- two refusals with one text are one refusal
+abbrev pub ShowsRefusal : Refusal → Refusal → Type 0
+ShowsRefusal one other = AreNumbers (refusal_numbers one) → AreNumbers (refusal_numbers other) → reply_text (reply.No one) ≡ reply_text (reply.No other) → one ≡ other
+
+-- two contents with one text are the same bytes
+abbrev pub ShowsContent : List ℕ → List ℕ → Type 0
+ShowsContent one other = reply_text (reply.Content one) ≡ reply_text (reply.Content other) → one ≡ other
+
+-- the numbers that the text of facts has besides the mode
+abbrev pub facts_numbers : Facts → List ℕ
+facts_numbers facts = facts.id ∷ facts.size ∷ facts.links ∷ facts.created ∷ facts.changed ∷ facts.attribute ∷ []
+
+-- The same facts, as far as their text shows them: of a mode the low twelve bits, and no links of a folder.
+pub record SameFacts (one other : Facts) : Type 0 where
+  pub folder : one.folder ≡ other.folder
+  pub id : one.id ≡ other.id
+  pub size : one.size ≡ other.size
+  pub links : one.folder ≡ false → one.links ≡ other.links
+  pub mode : one.mode % 4096 ≡ other.mode % 4096
+  pub created : one.created ≡ other.created
+  pub changed : one.changed ≡ other.changed
+  pub attribute : one.attribute ≡ other.attribute
+
+-- two facts with one text are the same, as far as it shows them
+abbrev pub ShowsFacts : Facts → Facts → Type 0
+ShowsFacts one other = AreNumbers (facts_numbers one) → AreNumbers (facts_numbers other) → reply_text (reply.Facts one) ≡ reply_text (reply.Facts other) → SameFacts one other
+
+abbrev pub tree_numbers : TreeGauge → List ℕ
+tree_numbers tree = tree.depth ∷ tree.nodes ∷ tree.unused ∷ []
+
+-- the numbers of a gauge, in the order of its text
+abbrev pub gauge_numbers : Gauge → List ℕ
+gauge_numbers gauge = gauge.block ∷ gauge.total ∷ gauge.free ∷ gauge.longest ∷ gauge.capacity ∷ flat_map tree_numbers gauge.trees
+
+-- two gauges with one text have the same numbers
+abbrev pub ShowsGauge : Gauge → Gauge → Type 0
+ShowsGauge one other = AreNumbers (gauge_numbers one) → AreNumbers (gauge_numbers other) → reply_text (reply.Gauge one) ≡ reply_text (reply.Gauge other) → gauge_numbers one ≡ gauge_numbers other
