@@ -1,0 +1,11 @@
+//! The journal checked and replayed over a disk in memory: what each damage is refused as, and what a
+//! crash leaves.
+#![tactic(auto)]
+
+mod finding;
+#[cfg(test)]
+mod journals;
+#[cfg(test)]
+mod tests;
+
+pub use finding::find_plan;
