@@ -16,6 +16,9 @@ pub record IsDeskOf (size : ℕ) (desk : Desk) : Type 0 where
   pub node : length desk.node ≡ size
   pub other : length desk.other ≡ size
   pub held : desk.held.room ≡ size
+  pub first : desk.first.room ≡ size
+  pub second : desk.second.room ≡ size
+  pub path : length desk.path ≡ 12
 
 -- one of the pairs has this key
 abbrev pub HasKey : (List ℕ → List ℕ → Ordering) → List ℕ → List Pair → Type 0

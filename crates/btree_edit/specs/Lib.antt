@@ -1,3 +1,5 @@
 pub mod Held
 pub mod Desk
 pub mod Reading
+pub mod Editing
+pub mod Answers

@@ -1,5 +1,5 @@
 //! The scratch nodes of the calls, and the pair that the last search left.
-ghost use Rattle.std.specs.Prelude.{◌≡◌, ◌≤◌, [], length, take, IfOk};
+ghost use Rattle.std.specs.Prelude.{◌≡◌, ◌≤◌, ◌+◌, ◌++◌, [], length, take, IfOk};
 ghost use Rattle.btree_node.specs.Node.{IsNodeSize};
 ghost use Rattle.btree_node.specs.Levels.{key_of, value_of};
 ghost use Rattle.btree_edit.specs.Held.{HeldPair};
@@ -66,6 +66,34 @@ impl Held {
         self.len = len;
     }
 
+    /// Keeps a key and a value.
+    pub(crate) fn put(&mut self, key: &[u8], value: &[u8])
+        requires { length key.now + length value.now ≤ self.old.room }
+        ensures room { self.new.room ≡ self.old.room }
+        ensures key { self.new.key ≡ key.now }
+        ensures value { self.new.value ≡ value.now }
+    {
+        let key_len = key.len();
+        let len = key_len + value.len();
+        put_pair(&mut self.bytes, key, value);
+        self.key_len = key_len;
+        self.len = len;
+    }
+
+    /// How many bytes the buffer has.
+    pub(crate) fn room(&self) -> usize
+        ensures { result ≡ self.now.room }
+    {
+        self.bytes.len()
+    }
+
+    /// How many bytes the pair takes in a node, with its offset.
+    pub(crate) fn size(&self) -> usize
+        ensures { result ≡ length self.now.key + length self.now.value + 2 }
+    {
+        self.len + 2
+    }
+
     pub(crate) fn key(&self) -> &[u8]
         ensures { result.now ≡ self.now.key }
     {
@@ -87,12 +115,34 @@ fn put_front(bytes: &mut [u8], item: &[u8])
     bytes[..item.len()].copy_from_slice(item);
 }
 
+fn put_pair(bytes: &mut [u8], key: &[u8], value: &[u8])
+    requires { length key.now + length value.now ≤ length bytes.old }
+    ensures front { take (length key.now + length value.now) bytes.new ≡ key.now ++ value.now }
+    ensures size { length bytes.new ≡ length bytes.old }
+{
+    let between = key.len();
+    bytes[..between].copy_from_slice(key);
+    bytes[between..between + value.len()].copy_from_slice(value);
+}
+
+/// A step of the way from the root to a leaf: a node, and the place in it.
+#[derive(Clone, Copy, Debug)]
+pub struct Stop {
+    pub(crate) node: u32,
+    pub(crate) at: u16,
+}
+
 /// What the calls of a tree work on, so that none of them takes memory.
 #[derive(Drop)]
 pub struct Desk {
     pub(crate) node: Node,
     pub(crate) other: Node,
     pub(crate) held: Held,
+    /// The records that a level hands on to the one above.
+    pub(crate) first: Held,
+    pub(crate) second: Held,
+    /// The way from the root, first.
+    pub(crate) path: [Stop; 12],
 }
 
 impl Desk {
@@ -105,7 +155,16 @@ impl Desk {
         let node = Node::new(alloc, node_size)?;
         let other = Node::new(alloc, node_size)?;
         let held = Held::new(alloc, node_size)?;
-        Ok(Desk { node, other, held })
+        let first = Held::new(alloc, node_size)?;
+        let second = Held::new(alloc, node_size)?;
+        Ok(Desk {
+            node,
+            other,
+            held,
+            first,
+            second,
+            path: [Stop { node: 0, at: 0 }; 12],
+        })
     }
 
     /// The key of the pair that the last `find` or `next` left, with its length; empty where it left none.

@@ -63,6 +63,9 @@ fn pick<K: KeyOrder>(desk: &mut Desk, node: u32, key: &[u8]) -> Found
     ensures node { desk.new.node ≡ desk.old.node }
     ensures other { desk.new.other ≡ desk.old.other }
     ensures room { desk.new.held.room ≡ desk.old.held.room }
+    ensures first { desk.new.first ≡ desk.old.first }
+    ensures second { desk.new.second ≡ desk.old.second }
+    ensures path { desk.new.path ≡ desk.old.path }
 {
     let Some(place) = place::<K>(&desk.node, key) else {
         return Found::Absent;

@@ -1,9 +1,14 @@
 //! Searches and edits of a B-tree, generic over the store of its nodes and the order of its keys.
 #![tactic(auto)]
 
+mod climbing;
 mod desk;
+mod edits;
 mod finding;
+mod levels;
 mod search;
+mod splitting;
 
 pub use desk::Desk;
+pub use edits::{Inserted, Removed, insert, remove, replace};
 pub use finding::{Found, find};

@@ -84,7 +84,7 @@ pub(crate) fn step<K: KeyOrder>(node: &Node, key: &[u8]) -> Option<Lead>
 }
 
 /// The kind of the nodes at a height.
-fn kind_at(height: u16) -> i8
+pub(crate) fn kind_at(height: u16) -> i8
     ensures { result ≡ kind_at height }
 {
     if height == 1 { -1 } else { 0 }
@@ -98,6 +98,7 @@ pub(crate) fn read_node<N: NodeStore>(
     height: u16,
 ) -> Result<bool, Failed>
     requires { length into.old ≡ (N.state store.old).shape.node_size }
+    ensures inside { IfOk result (λ yes. IsTrue yes → number < (N.state store.old).shape.total) }
     ensures is_node { IfOk result (λ yes. IsTrue yes → IsNodeOf (kind_at height) height into.new) }
     ensures value { IsTrue (N.state store.old).tells → IfOk result (λ yes. IsTrue yes → into.new ≡ (N.state store.old).nodes number) }
     ensures sound { IsTrue (N.state store.old).tells → number < (N.state store.old).shape.total → IsNodeOf (kind_at height) height ((N.state store.old).nodes number) → height < 256 → IfOk result (λ yes. IsTrue yes) }

@@ -5,3 +5,4 @@ pub mod KeyLaws
 pub mod Levels
 pub mod Store
 pub mod Tree
+pub mod Mem

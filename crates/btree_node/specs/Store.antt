@@ -19,7 +19,8 @@ pub record Store : Type 0 where
   pub written : ℕ → Bool
   -- how many nodes aren't
   pub unwritten : ℕ
-  -- how many sectors may be written for the first time since the last commit
+  -- how many nodes, and how many sectors, may be written for the first time since the last commit
+  pub writes_left : ℕ
   pub sectors_left : ℕ
   pub loads : ℕ
   pub faults : ℕ
@@ -28,17 +29,9 @@ pub record Store : Type 0 where
 abbrev pub node_sectors : Store → ℕ
 node_sectors store = store.shape.node_size / 512
 
--- how many nodes may be written for the first time since the last commit
-abbrev pub writes_left : Store → ℕ
-writes_left store = store.sectors_left / node_sectors store
-
--- there is room to write this node
-abbrev pub CanSave : Store → ℕ → Type 0
-CanSave store node = (0 < writes_left store) ⊎ (store.unwritten ≡ 0) ⊎ IsTrue (store.written node)
-
--- there is room to write any one node
-abbrev pub CanWrite : Store → Type 0
-CanWrite store = (0 < writes_left store) ⊎ (store.unwritten ≡ 0)
+-- there is room to write so many nodes, or all that aren't written yet
+abbrev pub HasRoom : ℕ → Store → Type 0
+HasRoom many store = min many store.unwritten ≤ store.writes_left
 
 -- one more, or the last value of a count
 abbrev pub next_count : ℕ → ℕ
@@ -83,6 +76,7 @@ pub record ShapesOnly (old new : Store) : Type 0 where
 pub record SameRoom (old new : Store) : Type 0 where
   pub written : (n : ℕ) → new.written n ≡ old.written n
   pub unwritten : new.unwritten ≡ old.unwritten
+  pub writes_left : new.writes_left ≡ old.writes_left
   pub sectors_left : new.sectors_left ≡ old.sectors_left
 
 -- at most so many nodes were written for the first time since the last commit, and each took at most its sectors
@@ -90,7 +84,7 @@ pub record Writes (most : ℕ) (old new : Store) : Type 0 where
   pub still : (n : ℕ) → IsTrue (old.written n) → IsTrue (new.written n)
   pub fewer : new.unwritten ≤ old.unwritten
   pub some : old.unwritten ≤ new.unwritten + most
-  pub no_more : new.sectors_left ≤ old.sectors_left
+  pub left : old.writes_left + new.unwritten ≤ new.writes_left + old.unwritten
   pub sectors : old.sectors_left ≤ new.sectors_left + (old.unwritten - new.unwritten) * node_sectors old
 
 -- the shape with another number of free nodes

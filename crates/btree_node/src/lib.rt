@@ -5,6 +5,7 @@ mod bytes;
 mod edits;
 mod head;
 mod keys;
+mod mem;
 mod node;
 mod order;
 mod reads;
@@ -13,6 +14,7 @@ mod store;
 mod tests;
 
 pub use keys::{AttrOrder, CatalogOrder, ExtentOrder};
+pub use mem::MemNodes;
 pub use node::Node;
 pub use order::KeyOrder;
 pub use store::{NodeStore, TreeShape};

@@ -132,6 +132,14 @@ impl Node {
         self.insert(i, key, value);
     }
 
+    /// Takes over the bytes of another node of its size.
+    pub fn copy_from(&mut self, other: &Node)
+        requires { length other.now ≡ length self.old }
+        ensures { self.new ≡ other.now }
+    {
+        self.bytes.copy_from_slice(other.bytes());
+    }
+
     /// Sets fLink and bLink.
     pub fn set_links(&mut self, next: u32, back: u32)
         ensures links { SetsLinks next back self.old self.new }

@@ -1,6 +1,6 @@
 //! A store of the nodes of one tree.
-ghost use Rattle.std.specs.Prelude.{◌≡◌, ◌<◌, ◌≤◌, ◌+◌, ◌-◌, ℕ, true, false, List, IsTrue, length, min, OnOk, OnErr, IfOk, ◌^◌};
-ghost use Rattle.btree_node.specs.Store.{Store, CanSave, CanWrite, HasCause, SameStore, SameNodes, SameRoom, ChangesOnly, MapsOnly, ShapesOnly, Writes, next_count, with_free};
+ghost use Rattle.std.specs.Prelude.{◌≡◌, ◌<◌, ◌≤◌, ◌+◌, ◌-◌, ◌⊎◌, ℕ, true, false, List, IsTrue, length, min, OnOk, OnErr, IfOk, ◌^◌};
+ghost use Rattle.btree_node.specs.Store.{Store, HasRoom, HasCause, SameStore, SameNodes, SameRoom, ChangesOnly, MapsOnly, ShapesOnly, Writes, next_count, with_free};
 
 use crate::node::Node;
 use hx_bytes::Failed;
@@ -34,7 +34,7 @@ pub trait NodeStore {
         requires size { shape.now.node_size ≡ (state self.old).shape.node_size }
         requires total { shape.now.total ≡ (state self.old).shape.total }
         requires free { shape.now.free ≡ (state self.old).shape.free }
-        requires room { CanWrite (state self.old) }
+        requires room { HasRoom 1 (state self.old) }
         ensures shape { (state self.new).shape ≡ shape.now }
         ensures tree { IsTrue (state self.old).tells → ShapesOnly (state self.old) (state self.new) }
         ensures writes { Writes 1 (state self.old) (state self.new) }
@@ -61,7 +61,7 @@ pub trait NodeStore {
     fn save(&mut self, node: u32, from: &Node)
         requires inside { node < (state self.old).shape.total }
         requires size { length from.now ≡ (state self.old).shape.node_size }
-        requires room { CanSave (state self.old) node }
+        requires room { HasRoom 1 (state self.old) ⊎ IsTrue ((state self.old).written node) }
         ensures shape { (state self.new).shape ≡ (state self.old).shape }
         ensures tree { IsTrue (state self.old).tells → ChangesOnly node from.now (state self.old) (state self.new) }
         ensures writes { Writes 1 (state self.old) (state self.new) }
@@ -75,7 +75,7 @@ pub trait NodeStore {
     /// Takes a node that is free.
     fn take_node(&mut self) -> Result<u32, Failed>
         requires free { 0 < (state self.old).shape.free }
-        requires room { CanWrite (state self.old) }
+        requires room { HasRoom 1 (state self.old) }
         ensures inside { IfOk result (λ node. node < (state self.old).shape.total) }
         ensures was_free { IsTrue (state self.old).tells → IfOk result (λ node. (state self.old).used node ≡ false) }
         ensures of_tree { IsTrue (state self.old).tells → IfOk result (λ node. (state self.old).reserved node ≡ false) }
@@ -89,14 +89,14 @@ pub trait NodeStore {
         ensures same { SameStore (state self.old) (state self.new) }
         ensures below { follows self.old self.new };
 
-    /// Makes a node free.
+    /// Makes a node free that is in use and is neither the header node nor a map node. Of any other nothing is said but that it returns.
     fn give_node(&mut self, node: u32) -> Result<(), Failed>
         requires inside { node < (state self.old).shape.total }
-        requires used { IsTrue (state self.old).tells → (state self.old).used node ≡ true }
-        requires of_tree { IsTrue (state self.old).tells → (state self.old).reserved node ≡ false }
-        requires room { CanWrite (state self.old) }
-        ensures tree { IsTrue (state self.old).tells → OnOk result (MapsOnly node false (state self.old) (state self.new)) }
-        ensures shape { OnOk result ((state self.new).shape ≡ with_free (state self.old).shape (min ((state self.old).shape.free + 1) (2 ^ 32 - 1))) }
+        requires room { HasRoom 1 (state self.old) }
+        ensures tree { IsTrue (state self.old).tells → (state self.old).used node ≡ true → (state self.old).reserved node ≡ false → OnOk result (MapsOnly node false (state self.old) (state self.new)) }
+        ensures shape { (state self.new).shape ≡ with_free (state self.old).shape (state self.new).shape.free }
+        ensures more { (state self.old).shape.free ≤ (state self.new).shape.free }
+        ensures one_more { IsTrue (state self.old).tells → (state self.old).used node ≡ true → (state self.old).reserved node ≡ false → OnOk result ((state self.new).shape.free ≡ (state self.old).shape.free + 1) }
         ensures kept { OnErr result ((state self.new).shape ≡ (state self.old).shape) }
         ensures unchanged { IsTrue (state self.old).tells → OnErr result (SameNodes (state self.old) (state self.new)) }
         ensures writes { Writes 1 (state self.old) (state self.new) }

@@ -73,7 +73,7 @@ loop-height-preserved g c =
           subst (λ i. LeadsTo g.K.KeyOrder.cmp c.args.key.now s i c.in-Some.step.child) next
           (leads_step g.K.KeyOrder.is_key g.K.KeyOrder.cmp g.met.K.KeyOrder.total g.met.K.KeyOrder.key_length s t.levels t.ordered (s.shape.depth - c.loop-height.height) (omega arith) c.args.key.now c.loop-height.node (before.leads tells) c.in-Some.step
           (subst (λ l. IsLead g.K.KeyOrder.cmp c.args.key.now (items l) c.in-Some.step) into c.in-Some.ensures.step));
-      desk = record { node = c.read_node.ensures.size ∙ before.desk.node; other = before.desk.other; held = before.desk.held };
+      desk = record { node = c.read_node.ensures.size ∙ before.desk.node; other = before.desk.other; held = before.desk.held; first = before.desk.first; second = before.desk.second; path = before.desk.path };
       held = before.held;
       reads = reads_both (s.shape.depth - c.loop-height.height) 1 (s.shape.depth - (c.loop-height.height - 1)) before.reads c.read_node.ensures.reads (omega arith);
       later = omega (arith, before.later, c.read_node.ensures.cause.later);

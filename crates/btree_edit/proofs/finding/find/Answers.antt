@@ -33,6 +33,6 @@ returns-clause-found g c = λ tells.
     let yes : c.in_ok-read_node.field-0 ≡ true = c.if-not-branch.false in
     let into : c.read_node.new.into ≡ s.nodes c.in-Some.node = c.in_ok-read_node.ensures.value (c.descend.ensures.reads.same.tells ∙ tells) yes ∙ (c.descend.ensures.reads.tree tells).nodes c.in-Some.node in
     finds g.K.KeyOrder.is_key g.K.KeyOrder.cmp g.met.K.KeyOrder.total g.met.K.KeyOrder.key_length s t.levels t.ordered c.args.key.now c.in-Some.node some leads
-    (record { node = c.read_node.new.into; other = c.descend.new.desk.other; held = c.descend.new.desk.held }) c.pick.new.desk into
+    (record { node = c.read_node.new.into; other = c.descend.new.desk.other; held = c.descend.new.desk.held; first = c.descend.new.desk.first; second = c.descend.new.desk.second; path = c.descend.new.desk.path }) c.pick.new.desk into
     (record { key = ap (λ h. h.key) c.descend.ensures.held ∙ c.forget.ensures.key; value = ap (λ h. h.value) c.descend.ensures.held ∙ c.forget.ensures.value })
     c.pick.result c.pick.ensures.picks

@@ -1,0 +1,18 @@
+use Rattle.std.proofs.Common.{◌≡◌, ◌≤◌, ◌<◌, ◌+◌, ◌*◌}
+use Rattle.btree_edit.specs.Desk.{IsDeskOf}
+use Rattle.btree_edit.specs.Editing.{Does}
+use Rattle.btree_edit.proofs.climbing.climb.Given as goal
+
+abbrev pub invariant-loop-done : goal.invariant-loop-done
+invariant-loop-done g l = let before = g.N.NodeStore.state l.fn.store in let now = g.N.NodeStore.state l.store in record {
+  depth : l.shape.depth ≡ l.fn.shape.depth;
+  same_depth : l.depth ≡ l.fn.shape.depth;
+  desk : IsDeskOf before.shape.node_size l.desk;
+  budget : l.budget ≤ 4 * l.fn.shape.depth;
+  enough : 4 * l.fn.shape.depth ≤ l.budget + 4 * l.done;
+  left : l.left ≤ l.fn.spare;
+  written : before.unwritten + l.budget ≤ now.unwritten + 4 * l.fn.shape.depth;
+  taken : before.shape.free + l.left ≤ now.shape.free + l.fn.spare;
+  does : Does (4 * l.fn.shape.depth) l.fn.spare before now;
+  below : g.N.NodeStore.follows l.fn.store l.store;
+}
