@@ -1,0 +1,44 @@
+// Statuses of devices that fail.
+use crate::{fresh, run_on, words};
+use hfsx_server::{Status, hfsx};
+use mem_disk::MemSource;
+use std::test::Fail;
+
+#[test]
+fn a_source_that_fails_ends_the_run(rt: HostRuntime) -> Result<(), Fail> {
+    let alloc = rt.alloc();
+    let mut rig = fresh(alloc)?;
+    let mut source = MemSource::new(alloc, b"ls /\n", 7, Some(0))?;
+    let words = words(alloc, "run v.img")?;
+    let ended = hfsx(alloc, words.as_slice(), &mut rig, &mut source);
+    assert_eq!(rt; ended, Status::Source);
+    assert_eq!(rt; rig.told(), b"".as_slice());
+    Ok(())
+}
+
+#[test]
+fn a_disk_that_fails_ends_the_run(rt: HostRuntime) -> Result<(), Fail> {
+    let alloc = rt.alloc();
+    // The first call reads the volume; the 45th writes the folder.
+    for (call, told) in [(0, ""), (44, "ok 0\n")] {
+        let mut rig = fresh(alloc)?;
+        rig.fail_on(alloc, call)?;
+        let ended = run_on(alloc, "run v.img", &mut rig, b"ls /\nmkdir /x\nls /\n")?;
+        assert_eq!(rt; ended, Status::Disk);
+        assert_eq!(rt; rig.told(), told.as_bytes());
+    }
+    Ok(())
+}
+
+#[test]
+fn a_sink_that_is_full_ends_the_run(rt: HostRuntime) -> Result<(), Fail> {
+    let alloc = rt.alloc();
+    for (room, told) in [(0, ""), (4, "ok 0")] {
+        let mut rig = fresh(alloc)?;
+        rig.sink_room(room);
+        let ended = run_on(alloc, "run v.img", &mut rig, b"ls /\nls /\n")?;
+        assert_eq!(rt; ended, Status::Sink);
+        assert_eq!(rt; rig.told(), told.as_bytes());
+    }
+    Ok(())
+}

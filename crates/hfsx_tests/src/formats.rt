@@ -1,0 +1,89 @@
+// Words and sizes.
+use crate::run_on;
+use hfsx_server::Status;
+use hx_bytes::OutOfMemory;
+use mem_disk::MemRig;
+use std::alloc::Global;
+use std::test::Fail;
+
+const USAGE: &str = "usage: hfsx format IMAGE SECTORS | run IMAGE | check IMAGE | gen SEED COUNT\n";
+
+#[test]
+fn a_size_is_refused_or_formatted(rt: HostRuntime) -> Result<(), Fail> {
+    let alloc = rt.alloc();
+    // A sector too few, the one size that there is, and a sector too many.
+    for (sectors, line, status, told) in [
+        (
+            16_383,
+            "format v.img 16383",
+            Status::Refused,
+            "refused TooSmall 16383\n",
+        ),
+        (
+            16_384,
+            "format v.img 16384",
+            Status::Done,
+            "formatted 2048 blocks, 1692 free\n",
+        ),
+        (
+            16_385,
+            "format v.img 16385",
+            Status::Refused,
+            "refused TooLarge 16385\n",
+        ),
+    ] {
+        let mut rig = MemRig::new(alloc, sectors)?;
+        let ended = run_on(alloc, line, &mut rig, b"")?;
+        assert_eq!(rt; ended, status);
+        assert_eq!(rt; rig.told(), told.as_bytes());
+    }
+    Ok(())
+}
+
+#[test]
+fn wrong_words_tell_the_usage(rt: HostRuntime) -> Result<(), Fail> {
+    let alloc = rt.alloc();
+    for line in [
+        // No work, and two that aren't built.
+        "",
+        "gen 7",
+        "check v.img",
+        // Words for options, the word `help` and an empty word.
+        "--help",
+        "run -v",
+        "run help",
+        "run ",
+        // One word too few or too many.
+        "run",
+        "run v.img w.img",
+        // No number, and not that of the image.
+        "format v.img 07",
+        "format v.img +7",
+        "format v.img 18446744073709551616",
+        "format v.img 9",
+    ] {
+        let mut rig = MemRig::new(alloc, 8)?;
+        let ended = run_on(alloc, line, &mut rig, b"ls /\n")?;
+        assert_eq!(rt; ended, Status::Usage);
+        assert_eq!(rt; rig.told(), USAGE.as_bytes());
+        assert_eq!(rt; rig.calls(), 0);
+    }
+    Ok(())
+}
+
+// Whether the image is refused, and its line is told.
+fn is_refused(alloc: Global, rig: &mut MemRig) -> Result<bool, OutOfMemory> {
+    let ended = run_on(alloc, "run v.img", rig, b"ls /\n")?;
+    Ok(ended == Status::Refused && rig.told() == b"refused NotYet 0\n".as_slice())
+}
+
+#[test]
+fn an_image_that_is_no_volume_is_refused(rt: HostRuntime) -> Result<(), Fail> {
+    let alloc = rt.alloc();
+    // Zeros, and an image of another size.
+    let mut zeros = MemRig::new(alloc, 16_384)?;
+    assert!(rt; is_refused(alloc, &mut zeros)?);
+    let mut small = MemRig::new(alloc, 8)?;
+    assert!(rt; is_refused(alloc, &mut small)?);
+    Ok(())
+}
