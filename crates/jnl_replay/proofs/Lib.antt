@@ -7,6 +7,7 @@ pub mod Homed
 pub mod Listing
 pub mod OneSector
 pub mod Pendings
+pub mod Peeks
 pub mod ReadOn
 pub mod Stages
 pub mod Stretches
