@@ -12,3 +12,4 @@ pub mod ReadOn
 pub mod Stages
 pub mod Stretches
 pub mod Texts
+pub mod Views

@@ -1,5 +1,5 @@
 -- The last block of each sector.
-use Rattle.std.proofs.Common.{◌≡◌, ◌<◌, ◌≤◌, ◌+◌, ℕ, Bool, true, false, List, [], ◌∷◌, ◌++◌, length, get_or, map, set, refl, sym, ◌∙◌, ap, subst, arith, cond, eqb}
+use Rattle.std.proofs.Common.{◌≡◌, ◌<◌, ◌≤◌, ◌+◌, ℕ, Bool, true, false, List, [], ◌∷◌, ◌++◌, length, map, set, refl, sym, ◌∙◌, ap, subst, arith, cond, eqb}
 use Rattle.std.specs.Prelude.{Option, None, Some}
 use Rattle.std.specs.List.{fold, range_with_len}
 use Rattle.std.proofs.lemmas.Bool.{eqb-true, eqb-false}
@@ -59,11 +59,11 @@ shown_is text c homes place same =
     let long : length (map f (range_with_len 0 (length c))) ≡ length c = length-map (range_with_len 0 (length c)) f ∙ length-range_with_len 0 (length c) in
     ext_get_or [] (map f (range_with_len 0 (length c))) (with_homes text homes c) (long ∙ sym (length-with_homes text homes c))
     (λ i below.
-      let inside : i < length c = omega (arith, below, long) in
-      get_or-map f (range_with_len 0 (length c)) i 0 [] (omega (arith, inside, length-range_with_len 0 (length c)))
-      ∙ ap f (get_or-range_with_len 0 (length c) i 0 inside ∙ omega arith)
-      ∙ ap (λ (o : Option ℕ). seen text c i o) (same i)
-      ∙ sym (homes_seen text c c i None homes inside refl))
+    let inside : i < length c = omega (arith, below, long) in
+    get_or-map f (range_with_len 0 (length c)) i 0 [] (omega (arith, inside, length-range_with_len 0 (length c)))
+    ∙ ap f (get_or-range_with_len 0 (length c) i 0 inside ∙ omega arith)
+    ∙ ap (λ (o : Option ℕ). seen text c i o) (same i)
+    ∙ sym (homes_seen text c c i None homes inside refl))
 
 -- some homes are indexed, and the others are still to come
 pub record Indexed (volume : Volume) (bytes : List ℕ) (c : Homes) (homes : List Home) (place : ℕ → Option ℕ) : Type 0 where

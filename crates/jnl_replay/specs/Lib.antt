@@ -5,3 +5,4 @@ pub mod Placed
 pub mod Plan
 pub mod Reading
 pub mod Text
+pub mod Viewing

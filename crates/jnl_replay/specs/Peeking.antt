@@ -1,5 +1,5 @@
 -- What a peek shows: a content with sectors of a journal's text in place of some of its own.
-use Rattle.std.specs.Prelude.{◌≡◌, ◌+◌, ◌≤◌, ℕ, List, [], map, length, Option, None, Some}
+use Rattle.std.specs.Prelude.{ℕ, List, map, length, Option, None, Some}
 use Rattle.std.specs.List.{range_with_len}
 use Rattle.std.specs.Ordering.{nat_cmp}
 use Rattle.std.specs.BTreeMap.{get}

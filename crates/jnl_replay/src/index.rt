@@ -2,9 +2,8 @@
 ghost use Rattle.jnl_replay.specs.Placed.{ArePlaced};
 ghost use Rattle.jnl_replay.specs.Text.{IsText};
 
-use std::collections::BTreeMap;
-
 use crate::text::Text;
+use std::collections::BTreeMap;
 
 /// The sectors that a journal's lists name, each with the place of its last block in the text.
 #[derive(Drop)]

@@ -12,8 +12,10 @@ mod peek;
 mod plan;
 mod replaying;
 mod text;
+mod view;
 
 pub use checking::validate;
 pub use index::Peek;
 pub use plan::{Place, Plan, ReplayFault};
 pub use replaying::replay;
+pub use view::PeekView;

@@ -8,15 +8,14 @@ ghost use Rattle.jnl_replay.specs.Plan.{FitsPlan, IsPlan, journal_of};
 ghost use Rattle.jnl_replay.specs.Reading.{OnlyReads};
 ghost use Rattle.hx_bytes.specs.declared.faults.Trouble.TheVariants.{Disk};
 
-use hx_bytes::Trouble;
-use sector_disk::SectorDisk;
-use std::alloc::Global;
-use std::collections::BTreeMap;
-
 use crate::homes::Homes;
 use crate::index::Peek;
 use crate::plan::Plan;
 use crate::text::text_of;
+use hx_bytes::Trouble;
+use sector_disk::SectorDisk;
+use std::alloc::Global;
+use std::collections::BTreeMap;
 
 impl Peek {
     /// Indexes the sectors that the journal's lists name, the last block of each.

@@ -1,4 +1,4 @@
-use Rattle.std.proofs.Common.{◌≡◌, ◌≤◌, ◌-◌, ◌++◌, ℕ, List, IsTrue}
+use Rattle.std.proofs.Common.{◌≡◌, ◌-◌, List, IsTrue}
 use Rattle.std.specs.Ordering.{nat_cmp}
 use Rattle.std.specs.BTreeMap.{get}
 use Rattle.sector_disk.specs.Disk.{content}
@@ -6,7 +6,7 @@ use Rattle.jnl_format.specs.declared.blocks.Home.{Home}
 use Rattle.jnl_format.specs.declared.blocks.Volume.{Volume}
 use Rattle.jnl_replay.specs.Homing.{AreHomesOf}
 use Rattle.jnl_replay.specs.Placed.{ArePlaced}
-use Rattle.jnl_replay.specs.Pending.{IsCursor, Pending}
+use Rattle.jnl_replay.specs.Pending.{IsCursor}
 use Rattle.jnl_replay.specs.Reading.{OnlyReads}
 use Rattle.jnl_replay.specs.Text.{words}
 use Rattle.jnl_replay.proofs.Peeks.{Indexed}
