@@ -54,32 +54,37 @@ each_front : (P : Home → Type 0) (hs gs : List Home) → Each P (hs ++ gs) →
 each_front P [] gs a = tt
 each_front P (h ∷ hs) gs a = (a.0, each_front P hs gs a.1)
 
+pub start_pending : (total : ℕ) (text : Text) (bytes : List ℕ) (volume : Volume) (homes : List Home) (c : Homes) → AreHomesOf total text bytes volume homes → c.text ≡ text → c.sectors ≡ total
+    → (c.list ≡ 0) × (c.entry ≡ 0) × (c.entries ≡ 0) × (c.body ≡ 0) × (c.place ≡ 0) × (c.count ≡ 0) × (c.reached ≡ 0) → Pending volume bytes c homes
+start_pending total text bytes volume homes c a is size z =
+    let entries = z.2 in
+    let order = c.text.order in
+    record {
+      sectors = size ∙ sym a.sectors;
+      lists = length bytes;
+      enough = omega (arith, z.0);
+      good = ap (λ k. bad_list volume order c.text.blhdr bytes (length bytes) k) z.0 ∙ ap (λ (t : Text). bad_list volume t.order t.blhdr bytes (length bytes) 0) is ∙ a.good;
+      blocks = ap (λ k. are_blocks volume order bytes c.entry c.body k) entries;
+      bodies = omega (arith, z.0, z.3, ap (λ k. block_bytes order bytes c.entry k) entries);
+      inside = omega (arith, z.0);
+      heads = omega (arith, z.1, z.2);
+      here = omega (arith, z.4, z.5);
+      behind = omega (arith, z.6);
+      all = all_good total text bytes volume homes a;
+      homes_are =
+          a.homes_are ∙ ap (λ (t : Text). text_homes t.order t.blhdr bytes (length bytes) 0) (sym is) ∙ ap (λ k. text_homes order c.text.blhdr bytes (length bytes) k) (sym z.0)
+          ∙ ap (λ k. entry_homes order bytes c.entry c.body k ++ text_homes order c.text.blhdr bytes (length bytes) c.list) (sym entries)
+          ∙ ap (λ k. sector_homes c.sector c.place k ++ (entry_homes order bytes c.entry c.body c.entries ++ text_homes order c.text.blhdr bytes (length bytes) c.list)) (sym z.5);
+    }
+
 pub homed_start : (total : ℕ) (text : Text) (bytes : List ℕ) (volume : Volume) (homes : List Home) (c : Homes) (s : State) → AreHomesOf total text bytes volume homes → c.text ≡ text → c.sectors ≡ total
     → (c.list ≡ 0) × (c.entry ≡ 0) × (c.entries ≡ 0) × (c.body ≡ 0) × (c.place ≡ 0) × (c.count ≡ 0) × (c.reached ≡ 0) → Homed volume bytes c homes s s
 homed_start total text bytes volume homes c s a is size z =
-    let entries = z.2 in
-    let order = c.text.order in
     record {
       done = [];
       rest = homes;
       split = refl;
-      pending = record {
-        sectors = size ∙ sym a.sectors;
-        lists = length bytes;
-        enough = omega (arith, z.0);
-        good = ap (λ k. bad_list volume order c.text.blhdr bytes (length bytes) k) z.0 ∙ ap (λ (t : Text). bad_list volume t.order t.blhdr bytes (length bytes) 0) is ∙ a.good;
-        blocks = ap (λ k. are_blocks volume order bytes c.entry c.body k) entries;
-        bodies = omega (arith, z.0, z.3, ap (λ k. block_bytes order bytes c.entry k) entries);
-        inside = omega (arith, z.0);
-        heads = omega (arith, z.1, z.2);
-        here = omega (arith, z.4, z.5);
-        behind = omega (arith, z.6);
-        all = all_good total text bytes volume homes a;
-        homes_are =
-            a.homes_are ∙ ap (λ (t : Text). text_homes t.order t.blhdr bytes (length bytes) 0) (sym is) ∙ ap (λ k. text_homes order c.text.blhdr bytes (length bytes) k) (sym z.0)
-            ∙ ap (λ k. entry_homes order bytes c.entry c.body k ++ text_homes order c.text.blhdr bytes (length bytes) c.list) (sym entries)
-            ∙ ap (λ k. sector_homes c.sector c.place k ++ (entry_homes order bytes c.entry c.body c.entries ++ text_homes order c.text.blhdr bytes (length bytes) c.list)) (sym z.5);
-      };
+      pending = start_pending total text bytes volume homes c a is size z;
       content = refl;
       grows = grows_none bytes homes s.candidates;
       time = none_passes s.clock (WithTold s.told (IsHomeMix bytes homes s.candidates));

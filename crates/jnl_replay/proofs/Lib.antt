@@ -7,7 +7,9 @@ pub mod Homed
 pub mod Listing
 pub mod OneSector
 pub mod Pendings
+pub mod Peeks
 pub mod ReadOn
 pub mod Stages
 pub mod Stretches
 pub mod Texts
+pub mod Views

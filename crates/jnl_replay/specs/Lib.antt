@@ -1,5 +1,8 @@
 pub mod Homing
+pub mod Peeking
 pub mod Pending
+pub mod Placed
 pub mod Plan
 pub mod Reading
 pub mod Text
+pub mod Viewing

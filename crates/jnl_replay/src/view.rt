@@ -1,0 +1,50 @@
+//! A view of what a volume stands for.
+ghost use Rattle.std.specs.Prelude.{◌≡◌, ◌+◌, ◌≤◌, IfSome, None, if◌then◌else◌, ◌==◌};
+ghost use Rattle.jnl_replay.specs.Peeking.{place_in};
+
+use crate::index::Peek;
+use crate::text::read_text;
+use hx_bytes::{Failed, Sector};
+use sector_disk::{SectorDisk, SectorView};
+
+/// What a disk stands for, by a peek that was made of it. The disk must read as it did then, and isn't
+/// written.
+#[derive(Drop)]
+pub struct PeekView<'a, 'b, D: SectorDisk> {
+    pub peek: &'a Peek,
+    pub disk: &'b mut D,
+}
+
+impl Peek {
+    // The place of a sector's bytes in the text, on a disk of so many sectors.
+    fn place_of(&self, at: u64, sectors: u64) -> Option<u64>
+        ensures place { result ≡ (if sectors == self.now.sectors then place_in self.now at else None) }
+        ensures placed { IfSome result (λ place. place + 512 ≤ self.now.text.length) }
+    {
+        if sectors != self.sectors {
+            return None;
+        }
+        self.index.get(&at).copied()
+    }
+}
+
+impl<D: SectorDisk> SectorView for PeekView<'_, '_, D> {
+    ghost use Rattle.std.specs.Prelude.{◌∷◌, []};
+    ghost use Rattle.jnl_replay.specs.Viewing.{view_of, view_size};
+
+    ghost space = { λ s. view_of (s.disk.ghost_name ∷ []) s.peek.now (D.state s.disk.now) };
+
+    ghost well_formed = { λ view tells. view_size (view.disk.ghost_name ∷ []) view.peek.now (D.state view.disk.now) (D.well_formed view.disk.now) tells };
+
+    fn sectors(&self) -> u64 {
+        self.disk.sectors()
+    }
+
+    fn get(&mut self, at: u64, into: &mut Sector) -> Result<(), Failed> {
+        let sectors = self.disk.sectors();
+        match self.peek.place_of(at, sectors) {
+            Some(place) => read_text(self.disk, &self.peek.text, place, into),
+            None => self.disk.read(at, into),
+        }
+    }
+}
