@@ -39,7 +39,12 @@ impl Model for Bitmap {
 
 impl Bitmap {
     /// None of the blocks is held, and nothing changed.
-    pub fn of_bits(alloc: Global, bits: Bits, fork: ExtentList, block: u32) -> Result<Bitmap, OutOfMemory>
+    pub fn of_bits(
+        alloc: Global,
+        bits: Bits,
+        fork: ExtentList,
+        block: u32,
+    ) -> Result<Bitmap, OutOfMemory>
         ensures { IfOk result (λ map. map ≡ record { used = bits; held = none (length bits); changed = none (sectors_for (length bits)); kept_used = bits; kept_held = none (length bits); fork = fork; per_block = block / 512 }) }
     {
         let total = bits.len();
