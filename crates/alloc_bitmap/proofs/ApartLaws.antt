@@ -50,17 +50,17 @@ times_held (e ∷ es) k h =
     let parts = times-append k (range_with_len e.start e.count) (blocks_of es) in
     let here = times_range e k in
     elim (has e k) as (λ b. has e k ≡ b → 1 ≤ times k (blocks_of (e ∷ es))) [
-      true ↦ λ (is : has e k ≡ true). let one : times k (range_with_len e.start e.count) ≡ 1 = here ∙ rw is refl in omega (arith, parts, one)
-    | false ↦ λ (is : has e k ≡ false). let later : is_held es k ≡ true = rw is at h in omega (arith, parts, times_held es k later)
+      | true ↦ λ (is : has e k ≡ true). let one : times k (range_with_len e.start e.count) ≡ 1 = here ∙ rw is refl in omega (arith, parts, one)
+      | false ↦ λ (is : has e k ≡ false). let later : is_held es k ≡ true = rw is at h in omega (arith, parts, times_held es k later)
     ] refl
 
 pub not_twice : (e : Extent) (es : List Extent) (k : ℕ) → AreApart (blocks_of (e ∷ es)) → is_held es k ≡ true → has e k ≡ false
 not_twice e es k apart held = elim (has e k) as (λ b. has e k ≡ b → b ≡ false) [
-      true ↦ λ (is : has e k ≡ true).
-        let one : times k (range_with_len e.start e.count) ≡ 1 = times_range e k ∙ rw is refl in
-        absurd (omega (arith, times-append k (range_with_len e.start e.count) (blocks_of es), one, times_held es k held, apart k))
-    | false ↦ λ (is : has e k ≡ false). refl
-    ] refl
+  | true ↦ λ (is : has e k ≡ true).
+      let one : times k (range_with_len e.start e.count) ≡ 1 = times_range e k ∙ rw is refl in
+      absurd (omega (arith, times-append k (range_with_len e.start e.count) (blocks_of es), one, times_held es k held, apart k))
+  | false ↦ λ (is : has e k ≡ false). refl
+] refl
 
 pub apart_rest : (e : Extent) (es : List Extent) → AreApart (blocks_of (e ∷ es)) → AreApart (blocks_of es)
 apart_rest e es apart = λ k. omega (arith, apart k, times-append k (range_with_len e.start e.count) (blocks_of es))

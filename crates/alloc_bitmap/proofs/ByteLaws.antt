@@ -33,12 +33,12 @@ bit_set bytes at k inside =
     let x : ℕ = bit_or (get_or bytes (at / 8) 0) (1 * 2 ^ (7 - at % 8) % 2 ^ 8) in
     let within : 7 - at % 8 < 8 = omega arith in
     ⊎_elim
-      (λ same. rw same.0 (bit_there bytes (at / 8) x k inside (ap (λ j. j / 8) same.1) ∙ ap (λ b. b == 1) (ap (λ j. bit_at x (7 - j % 8)) same.1 ∙ bit_at_set_same w8 (get_or bytes (at / 8) 0) (7 - at % 8) within)))
-      (λ other. rw other.0 (⊎_elim
-        (λ byte. bit_there bytes (at / 8) x k inside byte ∙ ap (λ b. b == 1) (bit_at_set_other w8 (get_or bytes (at / 8) 0) (7 - at % 8) within (7 - k % 8) (λ bit. other.1 (same_place at k byte bit)) ∙ ap (λ j. bit_at (get_or bytes j 0) (7 - k % 8)) (sym byte)) ∙ sym (bit_is bytes k))
-        (λ away. bit_elsewhere bytes (at / 8) x k away)
-        (cases_eq (k / 8) (at / 8))))
-      (eqb_tells k at)
+    (λ same. rw same.0 (bit_there bytes (at / 8) x k inside (ap (λ j. j / 8) same.1) ∙ ap (λ b. b == 1) (ap (λ j. bit_at x (7 - j % 8)) same.1 ∙ bit_at_set_same w8 (get_or bytes (at / 8) 0) (7 - at % 8) within)))
+    (λ other. rw other.0 (⊎_elim
+    (λ byte. bit_there bytes (at / 8) x k inside byte ∙ ap (λ b. b == 1) (bit_at_set_other w8 (get_or bytes (at / 8) 0) (7 - at % 8) within (7 - k % 8) (λ bit. other.1 (same_place at k byte bit)) ∙ ap (λ j. bit_at (get_or bytes j 0) (7 - k % 8)) (sym byte)) ∙ sym (bit_is bytes k))
+    (λ away. bit_elsewhere bytes (at / 8) x k away)
+    (cases_eq (k / 8) (at / 8))))
+    (eqb_tells k at)
 
 pub bit_cleared : (bytes : List ℕ) (at k : ℕ) → at / 8 < length bytes → bit_of (set bytes (at / 8) (bit_and (get_or bytes (at / 8) 0) (255 - 1 * 2 ^ (7 - at % 8) % 2 ^ 8))) k ≡ (if k == at then false else bit_of bytes k)
 bit_cleared bytes at k inside =
@@ -46,12 +46,12 @@ bit_cleared bytes at k inside =
     let within : 7 - at % 8 < 8 = omega arith in
     let below : 7 - k % 8 < 8 = omega arith in
     ⊎_elim
-      (λ same. rw same.0 (bit_there bytes (at / 8) x k inside (ap (λ j. j / 8) same.1) ∙ ap (λ b. b == 1) (ap (λ j. bit_at x (7 - j % 8)) same.1 ∙ bit_at_clear_same w8 (get_or bytes (at / 8) 0) (7 - at % 8) within)))
-      (λ other. rw other.0 (⊎_elim
-        (λ byte. bit_there bytes (at / 8) x k inside byte ∙ ap (λ b. b == 1) (bit_at_clear_other w8 (get_or bytes (at / 8) 0) (7 - at % 8) within (7 - k % 8) below (λ bit. other.1 (same_place at k byte bit)) ∙ ap (λ j. bit_at (get_or bytes j 0) (7 - k % 8)) (sym byte)) ∙ sym (bit_is bytes k))
-        (λ away. bit_elsewhere bytes (at / 8) x k away)
-        (cases_eq (k / 8) (at / 8))))
-      (eqb_tells k at)
+    (λ same. rw same.0 (bit_there bytes (at / 8) x k inside (ap (λ j. j / 8) same.1) ∙ ap (λ b. b == 1) (ap (λ j. bit_at x (7 - j % 8)) same.1 ∙ bit_at_clear_same w8 (get_or bytes (at / 8) 0) (7 - at % 8) within)))
+    (λ other. rw other.0 (⊎_elim
+    (λ byte. bit_there bytes (at / 8) x k inside byte ∙ ap (λ b. b == 1) (bit_at_clear_other w8 (get_or bytes (at / 8) 0) (7 - at % 8) within (7 - k % 8) below (λ bit. other.1 (same_place at k byte bit)) ∙ ap (λ j. bit_at (get_or bytes j 0) (7 - k % 8)) (sym byte)) ∙ sym (bit_is bytes k))
+    (λ away. bit_elsewhere bytes (at / 8) x k away)
+    (cases_eq (k / 8) (at / 8))))
+    (eqb_tells k at)
 
 pub bits_full : (bytes : List ℕ) (k : ℕ) → get_or bytes (k / 8) 0 ≡ 255 → bit_of bytes k ≡ true
 bits_full bytes k full = bit_is bytes k ∙ ap (λ b. bit_at b (7 - k % 8) == 1) full ∙ ap (λ b. b == 1) (bit_at_ones 8 (7 - k % 8) (omega arith))
@@ -63,8 +63,8 @@ bits_empty bytes k none = bit_is bytes k ∙ ap (λ b. bit_at b (7 - k % 8) == 1
 pub byte_put : (bytes : List ℕ) (i k : ℕ) (value : Bool) → i < length bytes → bit_of (set bytes i (if value then 255 else 0)) k ≡ (if k / 8 == i then value else bit_of bytes k)
 byte_put bytes i k value inside = ⊎_elim
     (λ same. rw same.0 (elim value as (λ v. bit_of (set bytes i (if v then 255 else 0)) k ≡ v) [
-      true ↦ bits_full (set bytes i 255) k (ap (λ j. get_or (set bytes i 255) j 0) same.1 ∙ get_or-set_same bytes i 255 0 inside)
-    | false ↦ bits_empty (set bytes i 0) k (ap (λ j. get_or (set bytes i 0) j 0) same.1 ∙ get_or-set_same bytes i 0 0 inside)
+      | true ↦ bits_full (set bytes i 255) k (ap (λ j. get_or (set bytes i 255) j 0) same.1 ∙ get_or-set_same bytes i 255 0 inside)
+      | false ↦ bits_empty (set bytes i 0) k (ap (λ j. get_or (set bytes i 0) j 0) same.1 ∙ get_or-set_same bytes i 0 0 inside)
     ]))
     (λ other. rw other.0 (bit_elsewhere bytes i (if value then 255 else 0) k other.1))
     (eqb_tells (k / 8) i)

@@ -90,12 +90,12 @@ few_extents long (e ∷ es) xs apart free =
     let later : (k : ℕ) → is_held es k ≡ true → get_or xs k false ≡ true = λ k h. free k (or_later (has e k) (is_held es k) h) in
     let here : (k : ℕ) → has e k ≡ true → get_or xs k false ≡ true = λ k h. free k (rw h refl) in
     ⊎_elim
-      (λ (some : 0 < e.count).
-        let fits = free_fits xs e some here in
-        let rest : (k : ℕ) → is_held es k ≡ true → get_or (mark xs e false) k false ≡ true = λ k h. get_or-mark xs e false k false fits ∙ rw (not_twice e es k apart h) (later k h) in
-        omega (arith, blocks, few_extents long es (mark xs e false) (apart_rest e es apart) rest, beyond_mark long xs e fits here))
-      (λ (none : e.count ≤ 0). omega (arith, blocks, none, few_extents long es xs (apart_rest e es apart) later))
-      (cases_lt 0 e.count)
+    (λ (some : 0 < e.count).
+    let fits = free_fits xs e some here in
+    let rest : (k : ℕ) → is_held es k ≡ true → get_or (mark xs e false) k false ≡ true = λ k h. get_or-mark xs e false k false fits ∙ rw (not_twice e es k apart h) (later k h) in
+    omega (arith, blocks, few_extents long es (mark xs e false) (apart_rest e es apart) rest, beyond_mark long xs e fits here))
+    (λ (none : e.count ≤ 0). omega (arith, blocks, none, few_extents long es xs (apart_rest e es apart) later))
+    (cases_lt 0 e.count)
 
 -- ---- the longest runs
 abbrev Shortens : ℕ → List Extent → Type 0
@@ -132,9 +132,9 @@ too_few n top zero (run ∷ rest) s lt =
     (run.count, s.0, omega (arith, none, some))
 too_few n top (suc k) (run ∷ rest) s lt = ⊎_elim
     (λ whole.
-      let less : suc k < length (run ∷ front (n - run.count) rest) = rw whole.0 at lt in
-      let w = too_few (n - run.count) run.count k rest s.2 (omega (arith, less)) in
-      (w.0, omega (arith, w.1, s.0), omega (arith, w.1, w.2, whole.1)))
+    let less : suc k < length (run ∷ front (n - run.count) rest) = rw whole.0 at lt in
+    let w = too_few (n - run.count) run.count k rest s.2 (omega (arith, less)) in
+    (w.0, omega (arith, w.1, s.0), omega (arith, w.1, w.2, whole.1)))
     (λ part. absurd (one_taken n k run rest part.0 lt))
     (leb_tells run.count n)
 
@@ -149,9 +149,9 @@ each_time P b (x ∷ bs) some all = ⊎_elim
 pub fewest_extents : (xs : List Bool) (n : ℕ) (others : List Extent) → length xs < 2 ^ 32 → PicksFree xs n others → length (front n (longest_first (runs_of xs))) ≤ length others
 fewest_extents xs n others small picks = ⊎_elim
     (λ (fewer : length others < length (front n (longest_first (runs_of xs)))).
-      let ordered = descends_sorted (length xs) 0 (runs_of xs) small (ascends_runs xs 0 0 0 (length xs) refl (omega arith)) in
-      let w = too_few n (2 ^ 64 / 2 ^ 32) (length others) (longest_first (runs_of xs)) (shortens (2 ^ 64) (longest_first (runs_of xs)) ordered) fewer in
-      let bound = few_extents w.0 others xs picks.apart (λ k h. each_time (λ b. get_or xs b false ≡ true) k (blocks_of others) (times_held others k h) picks.each) in
-      absurd (omega (arith, w.2, bound, picks.count, excess_sorted w.0 (runs_of xs), excess_runs w.0 0 0 xs)))
+    let ordered = descends_sorted (length xs) 0 (runs_of xs) small (ascends_runs xs 0 0 0 (length xs) refl (omega arith)) in
+    let w = too_few n (2 ^ 64 / 2 ^ 32) (length others) (longest_first (runs_of xs)) (shortens (2 ^ 64) (longest_first (runs_of xs)) ordered) fewer in
+    let bound = few_extents w.0 others xs picks.apart (λ k h. each_time (λ b. get_or xs b false ≡ true) k (blocks_of others) (times_held others k h) picks.each) in
+    absurd (omega (arith, w.2, bound, picks.count, excess_sorted w.0 (runs_of xs), excess_runs w.0 0 0 xs)))
     (λ (enough : length (front n (longest_first (runs_of xs))) ≤ length others). enough)
     (cases_lt (length others) (length (front n (longest_first (runs_of xs)))))

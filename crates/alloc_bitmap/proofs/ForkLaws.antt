@@ -21,12 +21,12 @@ pub read_more : (content now : List (List ℕ)) (sectors bytes sector new : List
 read_more content now sectors bytes sector new at size is same before one k lt = ap (λ (l : List ℕ). bit_of l k) is ∙ ⊎_elim
     (λ (low : k < at * 4096). bits_left bytes sector k (omega (arith, low, size)) ∙ before k low)
     (λ (high : at * 4096 ≤ k).
-      let place : k / 4096 ≡ at = omega (arith, high, lt) in
-      let rest : k % 4096 ≡ k - at * 4096 = omega (arith, high, lt) in
-      bits_right bytes sector k (k - at * 4096) (omega (arith, size, high)) ∙ one (k - at * 4096) (omega (arith, high, lt))
-      ∙ ap (λ (c : List (List ℕ)). bit_of (sector_or_none c (slice_get sectors at)) (k - at * 4096)) same
-      ∙ ap (λ p. bit_of (sector_or_none content (slice_get sectors p)) (k - at * 4096)) (sym place)
-      ∙ ap (λ j. bit_of (sector_or_none content (slice_get sectors (k / 4096))) j) (sym rest))
+    let place : k / 4096 ≡ at = omega (arith, high, lt) in
+    let rest : k % 4096 ≡ k - at * 4096 = omega (arith, high, lt) in
+    bits_right bytes sector k (k - at * 4096) (omega (arith, size, high)) ∙ one (k - at * 4096) (omega (arith, high, lt))
+    ∙ ap (λ (c : List (List ℕ)). bit_of (sector_or_none c (slice_get sectors at)) (k - at * 4096)) same
+    ∙ ap (λ p. bit_of (sector_or_none content (slice_get sectors p)) (k - at * 4096)) (sym place)
+    ∙ ap (λ j. bit_of (sector_or_none content (slice_get sectors (k / 4096))) j) (sym rest))
     (cases_lt k (at * 4096))
 
 pub read_all : (content : List (List ℕ)) (sectors bytes : List ℕ) (total : ℕ) (flags : List Bool) → flags ≡ bits_of total bytes → ((k : ℕ) → k < (total + 4095) / 4096 * 4096 → bit_of bytes k ≡ fork_bit content sectors k) → HoldsBits content sectors flags

@@ -33,8 +33,8 @@ held_add n es e fits =
     let inside : e.start + e.count ≤ length (held_by n es) = omega (arith, fits, length-held n es) in
     same_lists (held_by n (es ++ e ∷ [])) (mark (held_by n es) e true) (length-held n (es ++ e ∷ []) ∙ sym (length-mark (held_by n es) e true inside ∙ length-held n es))
     (λ k d lt. let below : k < n = omega (arith, lt, length-held n (es ++ e ∷ [])) in
-      get_or-held n (es ++ e ∷ []) k d below ∙ list_any-append (λ (x : Extent). has x k) es (e ∷ []) ∙ or_false (is_held es k) (has e k)
-      ∙ ap (λ b. if has e k then true else b) (sym (get_or-held n es k d below)) ∙ sym (get_or-mark (held_by n es) e true k d inside))
+    get_or-held n (es ++ e ∷ []) k d below ∙ list_any-append (λ (x : Extent). has x k) es (e ∷ []) ∙ or_false (is_held es k) (has e k)
+    ∙ ap (λ b. if has e k then true else b) (sym (get_or-held n es k d below)) ∙ sym (get_or-mark (held_by n es) e true k d inside))
 
 fit_add : (n : ℕ) (es : List Extent) (e : Extent) → Fit n es → e.start + e.count ≤ n → Fit n (es ++ e ∷ [])
 fit_add n [] e f fits = (fits, tt)
@@ -88,23 +88,23 @@ fresh_marks xs s at held new a b c d was =
     let f2 : s + (at - s) ≤ length xs = omega arith in
     let f3 : at + (held - at) ≤ length (mark xs done true) = omega (arith, length-mark xs done true f2) in
     same_lists (mark xs whole true) (mark (mark xs done true) more true) (length-mark xs whole true f1 ∙ sym (length-mark (mark xs done true) more true f3 ∙ length-mark xs done true f2))
-      (λ k e lt.
-        let below : k < length xs = omega (arith, lt, length-mark xs whole true f1) in
-        get_or-mark xs whole true k e f1
-        ∙ ⊎_elim
-            (λ (under : k < s). rw (has_below whole k under, has_below more k (omega (arith, under, a)), has_below done k under) refl)
-            (λ (low : s ≤ k). ⊎_elim
-              (λ (first : k < at). rw (has_in whole k low (omega arith), has_below more k first, has_in done k low (omega arith)) refl)
-              (λ (mid : at ≤ k). ⊎_elim
-                (λ (second : k < held). rw (has_in whole k low (omega arith), has_in more k mid (omega arith)) refl)
-                (λ (third : held ≤ k). ⊎_elim
-                  (λ (last : k < new). rw (has_in whole k low (omega arith), has_above more k (omega arith), has_above done k (omega arith)) (sym (get_or_default xs k e true below ∙ was k third last)))
-                  (λ (past : new ≤ k). rw (has_above whole k (omega arith), has_above more k (omega arith), has_above done k (omega arith)) refl)
-                  (cases_lt k new))
-                (cases_lt k held))
-              (cases_lt k at))
-            (cases_lt k s)
-        ∙ sym (get_or-mark (mark xs done true) more true k e f3 ∙ ap (λ b. if has more k then true else b) (get_or-mark xs done true k e f2)))
+    (λ k e lt.
+    let below : k < length xs = omega (arith, lt, length-mark xs whole true f1) in
+    get_or-mark xs whole true k e f1
+    ∙ ⊎_elim
+    (λ (under : k < s). rw (has_below whole k under, has_below more k (omega (arith, under, a)), has_below done k under) refl)
+    (λ (low : s ≤ k). ⊎_elim
+    (λ (first : k < at). rw (has_in whole k low (omega arith), has_below more k first, has_in done k low (omega arith)) refl)
+    (λ (mid : at ≤ k). ⊎_elim
+    (λ (second : k < held). rw (has_in whole k low (omega arith), has_in more k mid (omega arith)) refl)
+    (λ (third : held ≤ k). ⊎_elim
+    (λ (last : k < new). rw (has_in whole k low (omega arith), has_above more k (omega arith), has_above done k (omega arith)) (sym (get_or_default xs k e true below ∙ was k third last)))
+    (λ (past : new ≤ k). rw (has_above whole k (omega arith), has_above more k (omega arith), has_above done k (omega arith)) refl)
+    (cases_lt k new))
+    (cases_lt k held))
+    (cases_lt k at))
+    (cases_lt k s)
+    ∙ sym (get_or-mark (mark xs done true) more true k e f3 ∙ ap (λ b. if has more k then true else b) (get_or-mark xs done true k e f2)))
 
 pub fresh_step : (xs : List Bool) (s at held new : ℕ) → s ≤ at → at ≤ held → held ≤ new → new ≤ length xs → ((k : ℕ) → at ≤ k → k < held → get_or xs k true ≡ false) → ((k : ℕ) → held ≤ k → k < new → get_or xs k true ≡ true)
     → count_set (mark xs (record { start = s; count = new - s }) true) ≡ count_set (mark xs (record { start = s; count = at - s }) true) + (held - at)
@@ -114,4 +114,4 @@ fresh_step xs s at held new a b c d free was =
     let f2 : s + (at - s) ≤ length xs = omega arith in
     ap (λ (l : List Bool). count_set l) (fresh_marks xs s at held new a b c d was)
     ∙ count_mark_true (mark xs done true) more true (omega (arith, length-mark xs done true f2))
-        (λ k h. let in_ = has_range more k h in get_or-mark xs done true k true f2 ∙ rw (has_above done k (omega (arith, in_.0, a))) (free k in_.0 (omega (arith, in_.1, b))))
+    (λ k h. let in_ = has_range more k h in get_or-mark xs done true k true f2 ∙ rw (has_above done k (omega (arith, in_.0, a))) (free k in_.0 (omega (arith, in_.1, b))))

@@ -27,7 +27,7 @@ length-map_not (x ∷ xs) = ap (λ n. suc n) (length-map_not xs)
 pub free_all_is : (used : List Bool) → free_outside used [] ≡ map (λ b. not b) used
 free_all_is used = same_lists (free_outside used []) (map (λ b. not b) used) (length-free used [] ∙ sym (length-map_not used))
     (λ k d lt. let below : k < length used = omega (arith, lt, length-free used []) in
-      get_or-free used [] k d below ∙ elim (get_or used k true) as (λ u. (not u && true) ≡ not u) [ true ↦ refl | false ↦ refl ] ∙ sym (get_or-map_not used k d below))
+    get_or-free used [] k d below ∙ elim (get_or used k true) as (λ u. (not u && true) ≡ not u) [ true ↦ refl | false ↦ refl ] ∙ sym (get_or-map_not used k d below))
 
 pub count_not : (xs : List Bool) → count_set (map (λ b. not b) xs) + count_set xs ≡ length xs
 count_not [] = refl
@@ -104,15 +104,15 @@ rewind_marked xs es v fit was =
     let long = length-mark_all xs es v fit in
     let fits : Fit (length (mark_all xs es v)) es = subst (λ n. Fit n es) (sym long) fit in
     same_lists (rewind (changes_of es v) (mark_all xs es v)) xs
-      (length-rewind (changes_of es v) (mark_all xs es v) (changes_fit (length (mark_all xs es v)) es v fits) ∙ long)
-      (λ k d lt.
-        let below : k < length xs = omega (arith, lt, long, length-rewind (changes_of es v) (mark_all xs es v) (changes_fit (length (mark_all xs es v)) es v fits)) in
-        get_or-rewind_changes es v (mark_all xs es v) k d fits
-        ∙ ap (λ b. if is_held es k then not v else b) (get_or-mark_all xs es v k d fit)
-        ∙ elim (is_held es k) as (λ b. is_held es k ≡ b → (if b then not v else (if b then v else get_or xs k d)) ≡ get_or xs k d) [
-            true ↦ λ (is : is_held es k ≡ true). sym (was k is) ∙ get_or_default xs k v d below
-          | false ↦ λ (is : is_held es k ≡ false). refl
-          ] refl)
+    (length-rewind (changes_of es v) (mark_all xs es v) (changes_fit (length (mark_all xs es v)) es v fits) ∙ long)
+    (λ k d lt.
+    let below : k < length xs = omega (arith, lt, long, length-rewind (changes_of es v) (mark_all xs es v) (changes_fit (length (mark_all xs es v)) es v fits)) in
+    get_or-rewind_changes es v (mark_all xs es v) k d fits
+    ∙ ap (λ b. if is_held es k then not v else b) (get_or-mark_all xs es v k d fit)
+    ∙ elim (is_held es k) as (λ b. is_held es k ≡ b → (if b then not v else (if b then v else get_or xs k d)) ≡ get_or xs k d) [
+      | true ↦ λ (is : is_held es k ≡ true). sym (was k is) ∙ get_or_default xs k v d below
+      | false ↦ λ (is : is_held es k ≡ false). refl
+    ] refl)
 
 -- ---- how many flags are set
 pub count_set_append : (xs ys : List Bool) → count_set (xs ++ ys) ≡ count_set xs + count_set ys
@@ -136,10 +136,10 @@ count_mark xs e v = count_set_append (take e.start xs) (replicate e.count v ++ d
 pub marked_already : (xs : List Bool) (e : Extent) (v w : Bool) → e.start + e.count ≤ length xs → ((k : ℕ) → has e k ≡ true → get_or xs k w ≡ v) → mark xs e v ≡ xs
 marked_already xs e v w fits is = same_lists (mark xs e v) xs (length-mark xs e v fits)
     (λ k d lt. let below : k < length xs = omega (arith, lt, length-mark xs e v fits) in
-      get_or-mark xs e v k d fits ∙ elim (has e k) as (λ b. has e k ≡ b → (if b then v else get_or xs k d) ≡ get_or xs k d) [
-        true ↦ λ (h : has e k ≡ true). sym (is k h) ∙ get_or_default xs k w d below
+    get_or-mark xs e v k d fits ∙ elim (has e k) as (λ b. has e k ≡ b → (if b then v else get_or xs k d) ≡ get_or xs k d) [
+      | true ↦ λ (h : has e k ≡ true). sym (is k h) ∙ get_or_default xs k w d below
       | false ↦ λ (h : has e k ≡ false). refl
-      ] refl)
+    ] refl)
 
 pub count_mark_true : (xs : List Bool) (e : Extent) (w : Bool) → e.start + e.count ≤ length xs → ((k : ℕ) → has e k ≡ true → get_or xs k w ≡ false) → count_set (mark xs e true) ≡ count_set xs + e.count
 count_mark_true xs e w fits was =

@@ -24,10 +24,10 @@ get_or-open used held k d lt = get_or-map-range_with_len (λ j. not (get_or used
 pub open_is : (used held : List Bool) (holds : List Extent) → held ≡ held_by (length held) holds → length held ≡ length used → free_outside used holds ≡ open_of used held
 open_is used held holds is size = same_lists (free_outside used holds) (open_of used held) (length-free used holds ∙ sym (length-open used held))
     (λ k d lt.
-      let below : k < length used = omega (arith, lt, length-free used holds) in
-      let inside : k < length held = omega (arith, below, size) in
-      let same : get_or held k false ≡ is_held holds k = ap (λ (l : List Bool). get_or l k false) is ∙ get_or-held (length held) holds k false inside in
-      get_or-free used holds k d below ∙ ap (λ b. not (get_or used k true) && not b) (sym same) ∙ sym (get_or-open used held k d below))
+    let below : k < length used = omega (arith, lt, length-free used holds) in
+    let inside : k < length held = omega (arith, below, size) in
+    let same : get_or held k false ≡ is_held holds k = ap (λ (l : List Bool). get_or l k false) is ∙ get_or-held (length held) holds k false inside in
+    get_or-free used holds k d below ∙ ap (λ b. not (get_or used k true) && not b) (sym same) ∙ sym (get_or-open used held k d below))
 
 pub free_seen : (blocks : BlockMap) (xs : List Bool) (holds : List Extent) → xs ≡ blocks.used → blocks.held ≡ held_by (length blocks.held) holds → length blocks.held ≡ length blocks.used → free_outside xs holds ≡ free_of blocks
 free_seen blocks xs holds same is size = ap (λ (l : List Bool). free_outside l holds) same ∙ open_is blocks.used blocks.held holds is size
@@ -69,5 +69,5 @@ count_zip (false ∷ us) (false ∷ hs) size apart = omega (arith, count_zip us 
 pub count_open : (used held : List Bool) → length held ≡ length used → ((k : ℕ) → get_or held k false ≡ true → get_or used k true ≡ false) → count_set (open_of used held) + count_set held + count_set used ≡ length used
 count_open used held size apart =
     let same : open_of used held ≡ zip_open used held = same_lists (open_of used held) (zip_open used held) (length-open used held ∙ sym (length-zip used held))
-      (λ k d lt. let below : k < length used = omega (arith, lt, length-open used held) in get_or-open used held k d below ∙ sym (get_or-zip used held k d below)) in
+    (λ k d lt. let below : k < length used = omega (arith, lt, length-open used held) in get_or-open used held k d below ∙ sym (get_or-zip used held k d below)) in
     ap (λ (l : List Bool). count_set l + count_set held + count_set used) same ∙ count_zip used held size apart

@@ -64,7 +64,7 @@ pub descends_sorted : (n low : ℕ) (runs : List Extent) → n < 2 ^ 32 → Asce
 descends_sorted n low [] small a = tt
 descends_sorted n low (run ∷ rest) small a =
     descends_put n (2 ^ 64) run (longest_first rest) small (omega (arith, a.2, small)) a.1 a.2
-      (past_sorted n run.start rest (past_ascending n run.start (run.start + run.count) rest (omega (arith, a.1)) a.3)) (descends_sorted n (run.start + run.count) rest small a.3)
+    (past_sorted n run.start rest (past_ascending n run.start (run.start + run.count) rest (omega (arith, a.1)) a.3)) (descends_sorted n (run.start + run.count) rest small a.3)
 
 pub ordered : (used : List Bool) (holds : List Extent) → length used < 2 ^ 32 → Descends (2 ^ 64) (longest_first (runs_of (free_outside used holds)))
 ordered used holds small = descends_sorted (length (free_outside used holds)) 0 (runs_of (free_outside used holds)) (omega (arith, length-free used holds, small)) (ascends_runs (free_outside used holds) 0 0 0 (length (free_outside used holds)) refl (omega arith))
@@ -80,7 +80,7 @@ top_put : (limit : ℕ) (run : Extent) (runs : List Extent) → top_rank limit (
 top_put limit run [] = refl
 top_put limit run (next ∷ rest) = ⊎_elim
     (λ less. rw less.0 (ap (λ m. max (if nat_le (rank_of next) limit then rank_of next else 0) m) (top_put limit run rest)
-      ∙ max_swap (if nat_le (rank_of next) limit then rank_of next else 0) (if nat_le (rank_of run) limit then rank_of run else 0) (top_rank limit rest)))
+    ∙ max_swap (if nat_le (rank_of next) limit then rank_of next else 0) (if nat_le (rank_of run) limit then rank_of run else 0) (top_rank limit rest)))
     (λ more. rw more.0 refl)
     (leb_tells (suc run.count) next.count)
 
@@ -111,24 +111,28 @@ pub next_of : (limit top : ℕ) (runs : List Extent) → Descends top runs → (
 next_of limit top [] d = inl (refl, refl)
 next_of limit top (run ∷ rest) d = ⊎_elim
     (λ yes.
-      let later : top_rank limit rest ≤ rank_of run = top_le limit (rank_of run) rest d.3 in
-      let all : up_to limit rest ≡ rest = up_to_all limit (rank_of run) rest d.3 (omega (arith, yes.1)) in
-      let same : up_to (rank_of run - 1) rest ≡ rest = up_to_all (rank_of run - 1) (rank_of run) rest d.3 (omega arith) in
-      inr (record {
-        run = run;
-        rank = rw yes.0 (omega (arith, later));
-        rest = rw (yes.0, lt-leb (rank_of run) (rank_of run - 1) (omega (arith, d.1))) (ap (λ (l : List Extent). run ∷ l) (all ∙ sym same));
-        some = d.1; number = d.2; below = yes.1;
-      }))
+    let later : top_rank limit rest ≤ rank_of run = top_le limit (rank_of run) rest d.3 in
+    let all : up_to limit rest ≡ rest = up_to_all limit (rank_of run) rest d.3 (omega (arith, yes.1)) in
+    let same : up_to (rank_of run - 1) rest ≡ rest = up_to_all (rank_of run - 1) (rank_of run) rest d.3 (omega arith) in
+    inr (record {
+      run = run;
+      rank = rw yes.0 (omega (arith, later));
+      rest = rw (yes.0, lt-leb (rank_of run) (rank_of run - 1) (omega (arith, d.1))) (ap (λ (l : List Extent). run ∷ l) (all ∙ sym same));
+      some = d.1;
+      number = d.2;
+      below = yes.1;
+    }))
     (λ over. ⊎_elim
-      (λ none. inl (rw over.0 (omega (arith, none.0)), rw over.0 none.1))
-      (λ n. inr (record {
-        run = n.run;
-        rank = rw over.0 (omega (arith, n.rank));
-        rest = rw (over.0, lt-leb (rank_of run) (rank_of n.run - 1) (omega (arith, over.1, n.below))) n.rest;
-        some = n.some; number = n.number; below = n.below;
-      }))
-      (next_of limit (rank_of run) rest d.3))
+    (λ none. inl (rw over.0 (omega (arith, none.0)), rw over.0 none.1))
+    (λ n. inr (record {
+      run = n.run;
+      rank = rw over.0 (omega (arith, n.rank));
+      rest = rw (over.0, lt-leb (rank_of run) (rank_of n.run - 1) (omega (arith, over.1, n.below))) n.rest;
+      some = n.some;
+      number = n.number;
+      below = n.below;
+    }))
+    (next_of limit (rank_of run) rest d.3))
     (leb_tells (rank_of run) limit)
 
 pub decoded : (run : Extent) → run.start < 2 ^ 32 → ◌≡◌ {A = Extent} (record { start = 2 ^ 32 - 1 - rank_of run % 2 ^ 32; count = rank_of run / 2 ^ 32 }) run
@@ -145,10 +149,10 @@ pub is_next : (limit rank : ℕ) (runs : List Extent) → Descends (2 ^ 64) (lon
 is_next limit rank runs d is some = ⊎_elim
     (λ n. absurd (some (is ∙ sym (top_sorted limit runs) ∙ n.0)))
     (λ n.
-      let r : rank ≡ rank_of n.run = is ∙ sym (top_sorted limit runs) ∙ n.rank in
-      let same : ◌≡◌ {A = Extent} (record { start = 2 ^ 32 - 1 - rank % 2 ^ 32; count = rank / 2 ^ 32 }) n.run =
-        ap (λ k. record { start = 2 ^ 32 - 1 - k % 2 ^ 32; count = k / 2 ^ 32 }) r ∙ decoded n.run n.number in
-      (subst (λ (e : Extent). up_to limit (longest_first runs) ≡ e ∷ up_to (rank_of e - 1) (longest_first runs)) (sym same) n.rest, subst (λ (e : Extent). 0 < e.count) (sym same) n.some))
+    let r : rank ≡ rank_of n.run = is ∙ sym (top_sorted limit runs) ∙ n.rank in
+    let same : ◌≡◌ {A = Extent} (record { start = 2 ^ 32 - 1 - rank % 2 ^ 32; count = rank / 2 ^ 32 }) n.run =
+    ap (λ k. record { start = 2 ^ 32 - 1 - k % 2 ^ 32; count = k / 2 ^ 32 }) r ∙ decoded n.run n.number in
+    (subst (λ (e : Extent). up_to limit (longest_first runs) ≡ e ∷ up_to (rank_of e - 1) (longest_first runs)) (sym same) n.rest, subst (λ (e : Extent). 0 < e.count) (sym same) n.some))
     (next_of limit (2 ^ 64) (longest_first runs) d)
 
 -- ---- the loops over the runs

@@ -50,9 +50,9 @@ mark_above xs e v k d fits high =
 pub get_or-mark : (xs : List Bool) (e : Extent) (v : Bool) (k : ℕ) (d : Bool) → e.start + e.count ≤ length xs → get_or (mark xs e v) k d ≡ (if has e k then v else get_or xs k d)
 get_or-mark xs e v k d fits = ⊎_elim
     (λ low. ⊎_elim
-      (λ high. rw (low.0, high.0) (mark_inside xs e v k d fits low.1 high.1))
-      (λ past. rw (low.0, past.0) (mark_above xs e v k d fits (omega (arith, past.1))))
-      (leb_tells (suc k) (e.start + e.count)))
+    (λ high. rw (low.0, high.0) (mark_inside xs e v k d fits low.1 high.1))
+    (λ past. rw (low.0, past.0) (mark_above xs e v k d fits (omega (arith, past.1))))
+    (leb_tells (suc k) (e.start + e.count)))
     (λ under. rw under.0 (mark_below xs e v k d fits under.1))
     (leb_tells e.start k)
 
@@ -62,16 +62,16 @@ filled n old new e v fits each =
     let inside : e.start + e.count ≤ length (bits_of n old) = omega (arith, fits, length-bits_of n old) in
     same_lists (bits_of n new) (mark (bits_of n old) e v) (length-bits_of n new ∙ sym (length-mark (bits_of n old) e v inside ∙ length-bits_of n old))
     (λ k d lt. let below : k < n = omega (arith, lt, length-bits_of n new) in
-      get_or-bits_of n new k d below ∙ each k ∙ ap (λ b. if has e k then v else b) (sym (get_or-bits_of n old k d below)) ∙ sym (get_or-mark (bits_of n old) e v k d inside))
+    get_or-bits_of n new k d below ∙ each k ∙ ap (λ b. if has e k then v else b) (sym (get_or-bits_of n old k d below)) ∙ sym (get_or-mark (bits_of n old) e v k d inside))
 
 pub filled_row : (n : ℕ) (old new : List ℕ) (e : Extent) (v : Bool) → e.start + e.count ≤ n → ((k : ℕ) → bit_of new k ≡ (if has e k then v else bit_of old k)) → length new ≡ length old → IsRow n old → IsRow n new
 filled_row n old new e v fits each size row = record {
   small = row.small;
   size = size ∙ row.size;
   rest = λ k past. each k ∙ ⊎_elim
-    (λ low. ⊎_elim (λ high. absurd (omega (arith, high.1, fits, past))) (λ over. rw (low.0, over.0) (row.rest k past)) (leb_tells (suc k) (e.start + e.count)))
-    (λ under. rw under.0 (row.rest k past))
-    (leb_tells e.start k);
+      (λ low. ⊎_elim (λ high. absurd (omega (arith, high.1, fits, past))) (λ over. rw (low.0, over.0) (row.rest k past)) (leb_tells (suc k) (e.start + e.count)))
+      (λ under. rw under.0 (row.rest k past))
+      (leb_tells e.start k);
 }
 
 -- ---- for the calls on a row
@@ -89,9 +89,9 @@ new_row n end old new small size same is each = record {
   small = small;
   size = same ∙ size;
   rest = λ k past. each k ∙ ⊎_elim
-    (λ low. ⊎_elim (λ high. rw (low.0, high.0) refl) (λ over. rw (low.0, over.0) (bit_past old k (omega (arith, over.1, is)))) (leb_tells (suc k) end))
-    (λ under. absurd (omega (arith, under.1, past)))
-    (leb_tells n k);
+      (λ low. ⊎_elim (λ high. rw (low.0, high.0) refl) (λ over. rw (low.0, over.0) (bit_past old k (omega (arith, over.1, is)))) (leb_tells (suc k) end))
+      (λ under. absurd (omega (arith, under.1, past)))
+      (leb_tells n k);
 }
 
 pub new_row_bits : (n end : ℕ) (old new : List ℕ) → ((k : ℕ) → bit_of new k ≡ (if nat_le n k && nat_lt k end then false else bit_of old k)) → bits_of n new ≡ bits_of n old
@@ -107,7 +107,7 @@ clear_row_bits n bytes none = same_lists (bits_of n bytes) (replicate n false) (
 pub part_bit : (n at : ℕ) (bytes : List ℕ) (flags : List Bool) (k : ℕ) → bits_of n bytes ≡ flags → IsRow n bytes → k < 4096 → bit_of (take 512 (drop (at * 512) bytes)) k ≡ get_or flags (at * 4096 + k) false
 part_bit n at bytes flags k seen row lt =
     let byte : get_or (take 512 (drop (at * 512) bytes)) (k / 8) 0 ≡ get_or bytes ((at * 4096 + k) / 8) 0 =
-      get_or-take 512 (drop (at * 512) bytes) (k / 8) 0 (omega arith) ∙ get_or-drop (at * 512) bytes (k / 8) 0 ∙ ap (λ j. get_or bytes j 0) (omega arith) in
+    get_or-take 512 (drop (at * 512) bytes) (k / 8) 0 (omega arith) ∙ get_or-drop (at * 512) bytes (k / 8) 0 ∙ ap (λ j. get_or bytes j 0) (omega arith) in
     let bit : 7 - k % 8 ≡ 7 - (at * 4096 + k) % 8 = omega arith in
     bit_alike (take 512 (drop (at * 512) bytes)) bytes k (at * 4096 + k) byte bit ∙ sym (flag_is_bit n bytes (at * 4096 + k) row) ∙ ap (λ (l : List Bool). get_or l (at * 4096 + k) false) seen
 
@@ -123,4 +123,4 @@ zeros_bits n m bytes is = clear_row_bits n bytes (λ k. ap (λ (l : List ℕ). g
 pub cleared_bits : (n end : ℕ) (old new : List ℕ) → n ≤ end → ((k : ℕ) → bit_of new k ≡ (if nat_le 0 k && nat_lt k end then false else bit_of old k)) → bits_of n new ≡ replicate n false
 cleared_bits n end old new le each = same_lists (bits_of n new) (replicate n false) (length-bits_of n new ∙ sym (length-replicate n false))
     (λ k d lt. let below : k < n = omega (arith, lt, length-bits_of n new) in
-      get_or-bits_of n new k d below ∙ each k ∙ rw (le-leb 0 k (omega arith), le-leb (suc k) end (omega (arith, below, le))) (sym (get_or-replicate n k false d below)))
+    get_or-bits_of n new k d below ∙ each k ∙ rw (le-leb 0 k (omega arith), le-leb (suc k) end (omega (arith, below, le))) (sym (get_or-replicate n k false d below)))

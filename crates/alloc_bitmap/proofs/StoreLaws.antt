@@ -31,12 +31,12 @@ changed_here sectors changed p at is place = (p, get_or-take (p + 1) changed p f
 pub changed_back : (sectors : List ℕ) (changed : List Bool) (p at : ℕ) → IsChanged sectors (take (p + 1) changed) at → IsChanged sectors (take p changed) at ⊎ ((get_or changed p false ≡ true) × (slice_get sectors p ≡ Some at))
 changed_back sectors changed p at c =
     ⊎_elim
-      (λ (lt : c.0 < p). let below : c.0 < p + 1 = omega (arith, lt) in inl (c.0, get_or-take p changed c.0 false lt ∙ sym (get_or-take (p + 1) changed c.0 false below) ∙ c.1, c.2))
-      (λ (past : p ≤ c.0). ⊎_elim
-        (λ (same : c.0 ≡ p). inr (sym (get_or-take (p + 1) changed p false (omega arith)) ∙ ap (λ k. get_or (take (p + 1) changed) k false) (sym same) ∙ c.1, ap (λ k. slice_get sectors k) (sym same) ∙ c.2))
-        (λ (other : c.0 ≢ p). absurd (let no : false ≡ true = sym (get_or_past (take (p + 1) changed) c.0 false (omega (arith, past, other, length-take (p + 1) changed))) ∙ c.1 in cc no))
-        (cases_eq c.0 p))
-      (cases_lt c.0 p)
+    (λ (lt : c.0 < p). let below : c.0 < p + 1 = omega (arith, lt) in inl (c.0, get_or-take p changed c.0 false lt ∙ sym (get_or-take (p + 1) changed c.0 false below) ∙ c.1, c.2))
+    (λ (past : p ≤ c.0). ⊎_elim
+    (λ (same : c.0 ≡ p). inr (sym (get_or-take (p + 1) changed p false (omega arith)) ∙ ap (λ k. get_or (take (p + 1) changed) k false) (sym same) ∙ c.1, ap (λ k. slice_get sectors k) (sym same) ∙ c.2))
+    (λ (other : c.0 ≢ p). absurd (let no : false ≡ true = sym (get_or_past (take (p + 1) changed) c.0 false (omega (arith, past, other, length-take (p + 1) changed))) ∙ c.1 in cc no))
+    (cases_eq c.0 p))
+    (cases_lt c.0 p)
 
 -- ---- room
 fewer_one : (c p m : Bool) → (IsTrue p → IsTrue m) → ◌≤◌ (if c && not m then 1 else 0) (if c && not p then 1 else 0)
@@ -68,4 +68,4 @@ not_put_take put (s ∷ sectors) (x ∷ changed) zero at c place inside is = sam
 not_put_take put (s ∷ sectors) (x ∷ changed) (suc p) at c place inside is =
     let next : suc p + 1 ≡ suc (p + 1) = omega arith in
     ap (λ k. not_put put (s ∷ sectors) (take k (x ∷ changed))) next ∙ (let rest = not_put_take put sectors changed p at c place (omega (arith, inside)) is in
-      let goal : (if x && not (put s) then 1 else 0) + not_put put sectors (take (p + 1) changed) ≡ (if x && not (put s) then 1 else 0) + not_put put sectors (take p changed) + (if c && not (put at) then 1 else 0) = omega (arith, rest) in goal)
+    let goal : (if x && not (put s) then 1 else 0) + not_put put sectors (take (p + 1) changed) ≡ (if x && not (put s) then 1 else 0) + not_put put sectors (take p changed) + (if c && not (put at) then 1 else 0) = omega (arith, rest) in goal)

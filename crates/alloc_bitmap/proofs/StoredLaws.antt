@@ -69,9 +69,9 @@ stored_skip old now sectors changed used p at s inside is place =
         closed = q.closed;
       };
       bits = λ tells k lt below c. ⊎_elim
-        (λ (less : k / 4096 < p). s.bits tells k lt less c)
-        (λ (more : p ≤ k / 4096). absurd (let same : k / 4096 ≡ p = omega (arith, more, below) in let no : false ≡ true = sym is ∙ ap (λ j. get_or changed j false) (sym same) ∙ c in cc no))
-        (cases_lt (k / 4096) p);
+          (λ (less : k / 4096 < p). s.bits tells k lt less c)
+          (λ (more : p ≤ k / 4096). absurd (let same : k / 4096 ≡ p = omega (arith, more, below) in let no : false ≡ true = sym is ∙ ap (λ j. get_or changed j false) (sym same) ∙ c in cc no))
+          (cases_lt (k / 4096) p);
       time = s.time;
     }
 
@@ -96,23 +96,23 @@ not_so false h = refl
 
 less_spare : (now new : Space) (at : ℕ) → TakesRoom now at new → new.spare ≤ now.spare
 less_spare now new at room = elim (now.put at) as (λ b. now.put at ≡ b → new.spare ≤ now.spare) [
-      true ↦ λ (t : now.put at ≡ true). omega (arith, (let e : new.spare ≡ now.spare = room.spare ∙ rw t refl in e))
-    | false ↦ λ (t : now.put at ≡ false). omega (arith, (let e : new.spare ≡ now.spare - 1 = room.spare ∙ rw t refl in e))
-    ] refl
+  | true ↦ λ (t : now.put at ≡ true). omega (arith, (let e : new.spare ≡ now.spare = room.spare ∙ rw t refl in e))
+  | false ↦ λ (t : now.put at ≡ false). omega (arith, (let e : new.spare ≡ now.spare - 1 = room.spare ∙ rw t refl in e))
+] refl
 
 spared : (old now new : Space) (sectors : List ℕ) (changed : List Bool) (p at : ℕ) → old.spare ≤ now.spare + not_put old.put sectors (take p changed) → not_put old.put sectors (take (p + 1) changed) ≡ not_put old.put sectors (take p changed) + (if true && not (old.put at) then 1 else 0) → TakesRoom now at new → (IsTrue (old.put at) → IsTrue (now.put at)) → old.spare ≤ new.spare + not_put old.put sectors (take (p + 1) changed)
 spared old now new sectors changed p at before takes room grows = elim (now.put at) as (λ b. now.put at ≡ b → old.spare ≤ new.spare + not_put old.put sectors (take (p + 1) changed)) [
-      true ↦ λ (t : now.put at ≡ true). let e : new.spare ≡ now.spare = room.spare ∙ rw t refl in omega (arith, before, takes, e)
-    | false ↦ λ (t : now.put at ≡ false). let e : new.spare ≡ now.spare - 1 = room.spare ∙ rw t refl in
-        let none : old.put at ≡ false = not_so (old.put at) (λ o. let no : false ≡ true = sym t ∙ grows o in cc no) in
-        let one : not_put old.put sectors (take (p + 1) changed) ≡ not_put old.put sectors (take p changed) + 1 = takes ∙ rw none refl in omega (arith, before, one, e)
-    ] refl
+  | true ↦ λ (t : now.put at ≡ true). let e : new.spare ≡ now.spare = room.spare ∙ rw t refl in omega (arith, before, takes, e)
+  | false ↦ λ (t : now.put at ≡ false). let e : new.spare ≡ now.spare - 1 = room.spare ∙ rw t refl in
+      let none : old.put at ≡ false = not_so (old.put at) (λ o. let no : false ≡ true = sym t ∙ grows o in cc no) in
+      let one : not_put old.put sectors (take (p + 1) changed) ≡ not_put old.put sectors (take p changed) + 1 = takes ∙ rw none refl in omega (arith, before, one, e)
+] refl
 
 left_over : (now new : Space) (at rest fewer all : ℕ) → all ≤ now.spare → all ≡ (if true && not (now.put at) then 1 else 0) + rest → fewer ≤ rest → TakesRoom now at new → fewer ≤ new.spare
 left_over now new at rest fewer all le is less room = elim (now.put at) as (λ b. now.put at ≡ b → fewer ≤ new.spare) [
-      true ↦ λ (t : now.put at ≡ true). let e : new.spare ≡ now.spare = room.spare ∙ rw t refl in let n : all ≡ 0 + rest = is ∙ rw t refl in omega (arith, le, n, less, e)
-    | false ↦ λ (t : now.put at ≡ false). let e : new.spare ≡ now.spare - 1 = room.spare ∙ rw t refl in let n : all ≡ 1 + rest = is ∙ rw t refl in omega (arith, le, n, less, e)
-    ] refl
+  | true ↦ λ (t : now.put at ≡ true). let e : new.spare ≡ now.spare = room.spare ∙ rw t refl in let n : all ≡ 0 + rest = is ∙ rw t refl in omega (arith, le, n, less, e)
+  | false ↦ λ (t : now.put at ≡ false). let e : new.spare ≡ now.spare - 1 = room.spare ∙ rw t refl in let n : all ≡ 1 + rest = is ∙ rw t refl in omega (arith, le, n, less, e)
+] refl
 
 apart_here : (p2 : ℕ) (blocks : List ℕ) (p at : ℕ) → AreApart blocks → slice_get (sectors_of p2 blocks) p ≡ Some at → (q : ℕ) → slice_get (sectors_of p2 blocks) q ≡ Some at → q ≡ p
 apart_here p2 blocks p at apart place q other = one_sector p2 blocks q p at apart other place
@@ -120,10 +120,10 @@ apart_here p2 blocks p at apart place q other = one_sector p2 blocks q p at apar
 other_bit : (old now new : Space) (sectors : List ℕ) (changed used : List Bool) (p at k : ℕ) (value : List ℕ) → Puts now at value new → (q : ℕ) → q ≡ k / 4096 → q < p → slice_get sectors p ≡ Some at → ((r : ℕ) → slice_get sectors r ≡ Some at → r ≡ p) → fork_bit new.content sectors k ≡ fork_bit now.content sectors k
 other_bit old now new sectors changed used p at k value put q is less place apart =
     subst (λ j. bit_of (sector_or_none new.content (slice_get sectors j)) (k % 4096) ≡ bit_of (sector_or_none now.content (slice_get sectors j)) (k % 4096)) is
-      (elim (slice_get sectors q) as (λ o. slice_get sectors q ≡ o → bit_of (sector_or_none new.content o) (k % 4096) ≡ bit_of (sector_or_none now.content o) (k % 4096)) [
-        None ↦ λ (e : slice_get sectors q ≡ None). refl
+    (elim (slice_get sectors q) as (λ o. slice_get sectors q ≡ o → bit_of (sector_or_none new.content o) (k % 4096) ≡ bit_of (sector_or_none now.content o) (k % 4096)) [
+      | None ↦ λ (e : slice_get sectors q ≡ None). refl
       | Some a ↦ λ (e : slice_get sectors q ≡ Some a). ap (λ (l : List ℕ). bit_of l (k % 4096)) (put_content now new at value a put (λ same. absurd (omega (arith, less, apart q (e ∙ ap (λ b. Some b) same)))))
-      ] refl)
+    ] refl)
 
 pub stored_put : (old now new : Space) (p2 : ℕ) (blocks : List ℕ) (changed used : List Bool) (p at : ℕ) → let sectors = sectors_of p2 blocks in Stored old now sectors changed used p → p < length changed → get_or changed p false ≡ true → slice_get sectors p ≡ Some at
     → (IsTrue old.tells → AreApart blocks) → (IsTrue now.tells → at < length now.content)
@@ -137,15 +137,15 @@ stored_put old now new p2 blocks changed used p at s inside is place apart size 
     let grows : (k : ℕ) → IsTrue (now.put k) → IsTrue (new.put k) = λ k t. room.put k ∙ or_right (k == at) (now.put k) t in
     let fewer = fewer_not_put now.put new.put (drop (p + 1) sectors) (drop (p + 1) changed) grows in
     let back : (k : ℕ) → IsTrue (new.put k) → IsTrue (old.put k) ⊎ IsChanged sectors (take (p + 1) changed) k = λ k t.
-      ⊎_elim
-        (λ e. ⊎_elim (λ yes. inr (subst (λ j. IsChanged sectors (take (p + 1) changed) j) (sym yes.1) (changed_here sectors changed p at is place))) (λ other. absurd (let no : false ≡ true = sym other.0 ∙ e in cc no)) (eqb_tells k at))
-        (λ e. ⊎_elim (λ o. inl o) (λ c. inr (changed_more sectors changed p k c)) ((s.room.put k).0 e))
-        (or_left (k == at) (now.put k) (sym (room.put k) ∙ t)) in
+    ⊎_elim
+    (λ e. ⊎_elim (λ yes. inr (subst (λ j. IsChanged sectors (take (p + 1) changed) j) (sym yes.1) (changed_here sectors changed p at is place))) (λ other. absurd (let no : false ≡ true = sym other.0 ∙ e in cc no)) (eqb_tells k at))
+    (λ e. ⊎_elim (λ o. inl o) (λ c. inr (changed_more sectors changed p k c)) ((s.room.put k).0 e))
+    (or_left (k == at) (now.put k) (sym (room.put k) ∙ t)) in
     let forth : (k : ℕ) → IsChanged sectors (take (p + 1) changed) k → IsTrue (new.put k) = λ k c.
-      ⊎_elim
-        (λ b. grows k ((s.room.put k).1 (inr b)))
-        (λ b. let same_place : k ≡ at = same_Some k at (sym b.1 ∙ place) in ⊎_elim (λ yes. room.put k ∙ rw yes.0 refl) (λ other. absurd (other.1 same_place)) (eqb_tells k at))
-        (changed_back sectors changed p k c) in
+    ⊎_elim
+    (λ b. grows k ((s.room.put k).1 (inr b)))
+    (λ b. let same_place : k ≡ at = same_Some k at (sym b.1 ∙ place) in ⊎_elim (λ yes. room.put k ∙ rw yes.0 refl) (λ other. absurd (other.1 same_place)) (eqb_tells k at))
+    (changed_back sectors changed p k c) in
     record {
       room = record {
         put = λ k. (back k, λ e. ⊎_elim (λ o. grows k ((s.room.put k).1 (inl o))) (λ c. forth k c) e);
@@ -159,32 +159,34 @@ stored_put old now new p2 blocks changed used p at s inside is place apart size 
         content = record {
           size = ap (λ (c : Content). length c) put.content ∙ length-set now.content at w.0 ∙ q.content.size;
           each = λ k. ⊎_elim
-            (λ (here : k ≡ at). inr (subst (λ j. IsChanged sectors (take (p + 1) changed) j) (sym here) (changed_here sectors changed p at is place)))
-            (λ (other : k ≢ at). ⊎_elim (λ e. inl (put_content now new at w.0 k put other ∙ e)) (λ c. inr (changed_more sectors changed p k c)) (q.content.each k))
-            (cases_eq k at);
+              (λ (here : k ≡ at). inr (subst (λ j. IsChanged sectors (take (p + 1) changed) j) (sym here) (changed_here sectors changed p at is place)))
+              (λ (other : k ≢ at). ⊎_elim (λ e. inl (put_content now new at w.0 k put other ∙ e)) (λ c. inr (changed_more sectors changed p k c)) (q.content.each k))
+              (cases_eq k at);
         };
         durable = put.durable ∙ q.durable;
         spilled = λ k. iff_both (old.spilled k) (now.spilled k) (new.spilled k) (q.spilled k) (put.spilled k);
-        live = λ k. (λ l. ⊎_elim
+        live = λ k. (
+          λ l. ⊎_elim
               (λ n. ⊎_elim (λ o. inl o) (λ c. inr (changed_more sectors changed p k c)) ((q.live k).0 n))
               (λ (here : k ≡ at). inr (subst (λ j. IsChanged sectors (take (p + 1) changed) j) (sym here) (changed_here sectors changed p at is place)))
               ((put.live k).0 l),
-            λ e. (put.live k).1 (⊎_elim (λ o. inl ((q.live k).1 (inl o)))
-              (λ c. ⊎_elim (λ b. inl ((q.live k).1 (inr b))) (λ b. inr (same_Some k at (sym b.1 ∙ place))) (changed_back sectors changed p k c)) e));
+          λ e. (put.live k).1 (⊎_elim (λ o. inl ((q.live k).1 (inl o)))
+              (λ c. ⊎_elim (λ b. inl ((q.live k).1 (inr b))) (λ b. inr (same_Some k at (sym b.1 ∙ place))) (changed_back sectors changed p k c)) e),
+        );
         closed = λ k. iff_both (old.closed k) (now.closed k) (new.closed k) (q.closed k) (put.closed k);
       };
       bits = λ tells k lt below c. let w = puts (told tells) in let put = w.1 in ⊎_elim
-        (λ (less : k / 4096 < p). other_bit old now new sectors changed used p at k w.0 put (k / 4096) refl less place (apart_here p2 blocks p at (apart tells) place) ∙ s.bits tells k lt less c)
-        (λ (more : p ≤ k / 4096).
+          (λ (less : k / 4096 < p). other_bit old now new sectors changed used p at k w.0 put (k / 4096) refl less place (apart_here p2 blocks p at (apart tells) place) ∙ s.bits tells k lt less c)
+          (λ (more : p ≤ k / 4096).
           let here : k / 4096 ≡ p = omega (arith, more, below) in
           let back : p * 4096 + k % 4096 ≡ k = omega (arith, here) in
           ap (λ j. bit_of (sector_or_none new.content (slice_get sectors j)) (k % 4096)) here
           ∙ ap (λ o. bit_of (sector_or_none new.content o) (k % 4096)) place
           ∙ ap (λ (l : List ℕ). bit_of l (k % 4096)) (put_there now new at w.0 put (size (told tells)))
           ∙ w.2 (k % 4096) (omega arith) ∙ ap (λ j. get_or used j false) back)
-        (cases_lt (k / 4096) p);
+          (cases_lt (k / 4096) p);
       time = λ tells. let w = puts (told tells) in let put = w.1 in
-        both_pass old.clock now.clock new.clock (LeavesDurable now) (LeavesDurable new) (LeavesDurable new) (s.time tells) (time (told tells))
+          both_pass old.clock now.clock new.clock (LeavesDurable now) (LeavesDurable new) (LeavesDurable new) (s.time tells) (time (told tells))
           (λ image bytes l. leaves_as_before now new image bytes put.durable put.spilled put.closed same.told l) (λ image bytes l. l);
     }
 
@@ -203,21 +205,21 @@ stored_bits old now p2 blocks changed used p s end size enough apart others tell
     let below : q < length changed = omega (arith, lt, size) in
     let here : slice_get sectors q ≡ Some (get_or sectors q 0) = slice_get-get_or sectors q 0 (omega (arith, below, size, enough)) in
     elim (get_or changed q false) as (λ b. get_or changed q false ≡ b → fork_bit now.content sectors k ≡ get_or used k false) [
-      true ↦ λ (c : get_or changed q false ≡ true). s.bits tells k lt (omega (arith, below, end)) c
-    | false ↦ λ (c : get_or changed q false ≡ false).
-        let same : sector now.content (get_or sectors q 0) ≡ sector old.content (get_or sectors q 0) = ⊎_elim (λ e. e)
+      | true ↦ λ (c : get_or changed q false ≡ true). s.bits tells k lt (omega (arith, below, end)) c
+      | false ↦ λ (c : get_or changed q false ≡ false).
+          let same : sector now.content (get_or sectors q 0) ≡ sector old.content (get_or sectors q 0) = ⊎_elim (λ e. e)
           (λ w. let w2 = changed_later sectors changed p (get_or sectors q 0) w in
-            absurd (let there : w2.0 ≡ q = one_sector p2 blocks w2.0 q (get_or sectors q 0) apart w2.2 here in let no : false ≡ true = sym c ∙ ap (λ j. get_or changed j false) (sym there) ∙ w2.1 in cc no))
+          absurd (let there : w2.0 ≡ q = one_sector p2 blocks w2.0 q (get_or sectors q 0) apart w2.2 here in let no : false ≡ true = sym c ∙ ap (λ j. get_or changed j false) (sym there) ∙ w2.1 in cc no))
           ((s.puts tells).content.each (get_or sectors q 0)) in
-        ap (λ o. bit_of (sector_or_none now.content o) (k % 4096)) here ∙ ap (λ (l : List ℕ). bit_of l (k % 4096)) same ∙ sym (ap (λ o. bit_of (sector_or_none old.content o) (k % 4096)) here) ∙ others k lt c
+          ap (λ o. bit_of (sector_or_none now.content o) (k % 4096)) here ∙ ap (λ (l : List ℕ). bit_of l (k % 4096)) same ∙ sym (ap (λ o. bit_of (sector_or_none old.content o) (k % 4096)) here) ∙ others k lt c
     ] refl
 
 pub has_room : (now : Space) (sectors : List ℕ) (changed : List Bool) (p at : ℕ) → not_put now.put (drop p sectors) (drop p changed) ≤ now.spare → p < length changed → get_or changed p false ≡ true → slice_get sectors p ≡ Some at → (0 < now.spare) ⊎ IsTrue (now.put at)
 has_room now sectors changed p at le inside is place =
     let drops = not_put_drop now.put sectors changed p at true place inside is in
     elim (now.put at) as (λ b. now.put at ≡ b → (0 < now.spare) ⊎ IsTrue b) [
-      true ↦ λ (t : now.put at ≡ true). inr refl
-    | false ↦ λ (t : now.put at ≡ false). let n : not_put now.put (drop p sectors) (drop p changed) ≡ 1 + not_put now.put (drop (p + 1) sectors) (drop (p + 1) changed) = drops ∙ rw t refl in inl (omega (arith, le, n))
+      | true ↦ λ (t : now.put at ≡ true). inr refl
+      | false ↦ λ (t : now.put at ≡ false). let n : not_put now.put (drop p sectors) (drop p changed) ≡ 1 + not_put now.put (drop (p + 1) sectors) (drop (p + 1) changed) = drops ∙ rw t refl in inl (omega (arith, le, n))
     ] refl
 
 pub is_place : (sectors : List ℕ) (p : ℕ) → p < length sectors → None ≡ slice_get sectors p → ⊥

@@ -154,7 +154,7 @@ picks_chosen xs m enough = record {
   count = ap (λ (l : List ℕ). length l) (blocks-front m (longest_first (runs_of xs))) ∙ (let is : length (take m (blocks_of (longest_first (runs_of xs)))) ≡ m = omega (arith, enough, length-take m (blocks_of (longest_first (runs_of xs))), length_sorted (runs_of xs), length_runs 0 0 xs) in is);
   apart = λ b. omega (arith, times_chosen xs m b, one_or_none (get_or xs b false));
   each = λ k d lt. some_free (get_or xs (get_or (blocks_of (front m (longest_first (runs_of xs)))) k d) false)
-    (omega (arith, times_here (blocks_of (front m (longest_first (runs_of xs)))) k d lt, times_chosen xs m (get_or (blocks_of (front m (longest_first (runs_of xs)))) k d)));
+      (omega (arith, times_here (blocks_of (front m (longest_first (runs_of xs)))) k d lt, times_chosen xs m (get_or (blocks_of (front m (longest_first (runs_of xs)))) k d)));
 }
 
 -- ---- what holds of a bitmap after a change
@@ -178,9 +178,9 @@ map_taken used new held changed after es m fit is kept size free =
       kept_held_size = m.kept_held_size ∙ sym long;
       changed_size = size ∙ m.changed_size ∙ ap (λ n. sectors_for n) (sym long);
       apart = λ k h. ap (λ (l : List Bool). get_or l k true) is ∙ get_or-mark_all used.flags es true k true fit ∙ elim (is_held es k) as (λ b. is_held es k ≡ b → (if b then true else get_or used.flags k true) ≡ false) [
-          true ↦ λ (t : is_held es k ≡ true). absurd (let no : false ≡ true = sym (free k t) ∙ h in cc no)
+        | true ↦ λ (t : is_held es k ≡ true). absurd (let no : false ≡ true = sym (free k t) ∙ h in cc no)
         | false ↦ λ (t : is_held es k ≡ false). m.apart k h
-        ] refl;
+      ] refl;
       kept_apart = λ k h. ap (λ (l : List Bool). get_or l k true) kept ∙ m.kept_apart k h;
     }
 
@@ -195,9 +195,9 @@ map_given used new held hold changed after e m fits is kept held_is held_kept si
       kept_held_size = ap (λ (l : List Bool). length l) held_kept ∙ m.kept_held_size ∙ sym long;
       changed_size = size ∙ m.changed_size ∙ ap (λ n. sectors_for n) (sym long);
       apart = λ k h. ap (λ (l : List Bool). get_or l k true) is ∙ get_or-mark used.flags e false k true fits ∙ elim (has e k) as (λ b. has e k ≡ b → (if b then false else get_or used.flags k true) ≡ false) [
-          true ↦ λ (t : has e k ≡ true). refl
+        | true ↦ λ (t : has e k ≡ true). refl
         | false ↦ λ (t : has e k ≡ false). m.apart k (sym (get_or-mark held.flags e true k false inside ∙ rw t refl) ∙ sym (ap (λ (l : List Bool). get_or l k false) held_is) ∙ h)
-        ] refl;
+      ] refl;
       kept_apart = λ k h. ap (λ (l : List Bool). get_or l k true) kept ∙ m.kept_apart k (sym (ap (λ (l : List Bool). get_or l k false) held_kept) ∙ h);
     }
 

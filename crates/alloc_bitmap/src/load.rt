@@ -13,8 +13,8 @@ use crate::Bitmap;
 use crate::bits::Bits;
 use fork_map::ExtentList;
 use hx_bytes::{Failed, OutOfMemory, Sector, Trouble};
-use std::alloc::Global;
 use sector_disk::SectorView;
+use std::alloc::Global;
 
 /// Reads the sector at a place of a fork: zeros where the fork has no such sector, or the view.
 fn read_sector<V: SectorView>(

@@ -10,13 +10,13 @@ loop-at-preserved-then-bytes-at c = record {
   from = omega arith;
   to = omega arith;
   before = λ k low high. ⊎_elim
-    (λ earlier. c.loop-at.invariant.before k low earlier)
-    (λ here.
+      (λ earlier. c.loop-at.invariant.before k low earlier)
+      (λ here.
       let same : k / 8 ≡ c.loop-at.at / 8 = omega arith in
       let byte : get_or c.args.bytes.now (k / 8) 0 ≡ c.if-value.other = ap (λ j. get_or c.args.bytes.now j 0) same ∙ c.if-bytes-at.true in
       elim c.if-value.branch [
-        then-value w ↦ rw w.if-value.true (bits_empty c.args.bytes.now k (byte ∙ w.other-is))
-      | else-value w ↦ rw w.if-value.false (bits_full c.args.bytes.now k (byte ∙ w.other-is))
+        | then-value w ↦ rw w.if-value.true (bits_empty c.args.bytes.now k (byte ∙ w.other-is))
+        | else-value w ↦ rw w.if-value.false (bits_full c.args.bytes.now k (byte ∙ w.other-is))
       ])
-    (cases_lt k c.loop-at.at);
+      (cases_lt k c.loop-at.at);
 }

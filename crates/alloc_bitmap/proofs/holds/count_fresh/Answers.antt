@@ -11,8 +11,12 @@ stepped : (list : List Extent) (n s at held new fresh : ℕ) → s ≤ at → at
     → fresh + (held - at) + count_set (held_by n list) ≡ count_set (mark (held_by n list) (record { start = s; count = new - s }) true)
 stepped list n s at held new fresh a b c d free was rest =
     let long = length-held n list in
-    omega (arith, rest, fresh_step (held_by n list) s at held new a b c (omega (arith, d, long))
-      (λ k low high. get_or-held n list k true (omega (arith, high, c, d)) ∙ free k low high) (λ k low high. get_or-held n list k true (omega (arith, high, d)) ∙ was k low high))
+    omega (
+      arith,
+      rest,
+      fresh_step (held_by n list) s at held new a b c (omega (arith, d, long))
+          (λ k low high. get_or-held n list k true (omega (arith, high, c, d)) ∙ free k low high) (λ k low high. get_or-held n list k true (omega (arith, high, d)) ∙ was k low high),
+    )
 
 pub loop-at-preserved-in-Some : goal.loop-at-preserved-in-Some
 loop-at-preserved-in-Some c =
@@ -24,7 +28,7 @@ loop-at-preserved-in-Some c =
       to = omega arith;
       small = omega arith;
       rest = λ n le. stepped c.args.list.now n c.args.extent.start c.loop-at.at held c.min-at.result c.loop-at.fresh (omega arith) (omega arith) (omega arith) (omega arith)
-        c.first_held-held.ensures.before (λ k low high. past.1 k low (omega arith)) (c.loop-at.invariant.rest n le);
+          c.first_held-held.ensures.before (λ k low high. past.1 k low (omega arith)) (c.loop-at.invariant.rest n le);
     }
 
 pub loop-at-preserved : goal.loop-at-preserved
@@ -33,13 +37,13 @@ loop-at-preserved c =
     let end = c.args.extent.start + c.args.extent.count in
     let to = c.first_held-held.ensures.to in
     let is : held ≡ end = ⊎_elim
-      (λ (lt : held < end). absurd (let no : true ≡ false = sym (c.first_held-held.ensures.found lt) ∙ c.in-None.ensures in cc no))
-      (λ (past : end ≤ held). let same : held ≡ end = omega arith in same)
-      (cases_lt held end) in
+    (λ (lt : held < end). absurd (let no : true ≡ false = sym (c.first_held-held.ensures.found lt) ∙ c.in-None.ensures in cc no))
+    (λ (past : end ≤ held). let same : held ≡ end = omega arith in same)
+    (cases_lt held end) in
     record {
       from = omega arith;
       to = omega arith;
       small = omega arith;
       rest = λ n le. stepped c.args.list.now n c.args.extent.start c.loop-at.at held end c.loop-at.fresh (omega arith) (omega arith) (omega arith) (omega arith)
-        c.first_held-held.ensures.before (λ k low high. absurd (omega arith)) (c.loop-at.invariant.rest n le);
+          c.first_held-held.ensures.before (λ k low high. absurd (omega arith)) (c.loop-at.invariant.rest n le);
     }

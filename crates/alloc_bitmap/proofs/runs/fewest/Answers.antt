@@ -15,5 +15,5 @@ pub returns : goal.returns
 returns c =
     let left : c.loop-left.left ≡ 0 = omega arith in
     let none : fewest_of c.loop-left.left (up_to c.loop-left.limit (longest_first (runs_of (free_outside c.args.used.now c.args.holds.now)))) ≡ 0 =
-      ap (λ n. fewest_of n (up_to c.loop-left.limit (longest_first (runs_of (free_outside c.args.used.now c.args.holds.now))))) left ∙ fewest_none (up_to c.loop-left.limit (longest_first (runs_of (free_outside c.args.used.now c.args.holds.now)))) in
+    ap (λ n. fewest_of n (up_to c.loop-left.limit (longest_first (runs_of (free_outside c.args.used.now c.args.holds.now))))) left ∙ fewest_none (up_to c.loop-left.limit (longest_first (runs_of (free_outside c.args.used.now c.args.holds.now)))) in
     omega arith

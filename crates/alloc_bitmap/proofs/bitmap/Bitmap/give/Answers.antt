@@ -14,5 +14,5 @@ invariant_of-self-2 c =
     let fits : c.args.e.start + c.args.e.count ≤ length c.self.inside.used.flags = omega (arith, c.requires.inside, long) in
     let size : c.args.e.start + c.args.e.count ≤ length c.self.inside.changed * 4096 = omega (arith, fits, c.self.invariant.changed_size) in
     map_given c.self.inside.used c.change_all.new.self c.self.inside.holds c.add.new.self c.self.inside.changed c.touch_all.new.changed c.args.e c.self.invariant fits
-      c.in_ok-change_all.ensures.changed c.change_all.ensures.kept (c.add.ensures.added ∙ ap (λ (l : List Bool). mark l c.args.e true) c.reserve.ensures.flags) (c.add.ensures.kept ∙ c.reserve.ensures.kept)
-      (ap (λ (l : List Bool). length l) c.touch_all.ensures ∙ touched_size c.self.inside.changed (c.args.e ∷ []) (size, tt))
+    c.in_ok-change_all.ensures.changed c.change_all.ensures.kept (c.add.ensures.added ∙ ap (λ (l : List Bool). mark l c.args.e true) c.reserve.ensures.flags) (c.add.ensures.kept ∙ c.reserve.ensures.kept)
+    (ap (λ (l : List Bool). length l) c.touch_all.ensures ∙ touched_size c.self.inside.changed (c.args.e ∷ []) (size, tt))

@@ -55,8 +55,8 @@ invariant_of-self-2 c =
     let fit : Fit (length u) c.as_slice-2.result.now = subst (λ (l : List Extent). Fit (length u) l) (sym is) (subst (λ n. Fit n (chosen c.args.n u h)) (length-open u h) (fit_chosen (open_of u h) c.args.n)) in
     let wide : Fit (length c.self.inside.changed * 4096) c.as_slice-3.result.now = subst (λ (l : List Extent). Fit (length c.self.inside.changed * 4096) l) (sym third) (fit_more (length (open_of u h)) (length c.self.inside.changed * 4096) (chosen c.args.n u h) (omega (arith, length-open u h, c.self.invariant.changed_size)) (fit_chosen (open_of u h) c.args.n)) in
     map_taken c.self.inside.used c.change_all.new.self c.self.inside.holds c.self.inside.changed c.touch_all.new.changed c.as_slice-2.result.now c.self.invariant fit c.in_ok-change_all.ensures.changed c.change_all.ensures.kept
-      (ap (λ (l : List Bool). length l) c.touch_all.ensures ∙ touched_size c.self.inside.changed c.as_slice-3.result.now wide)
-      (λ k t. (unused_chosen u h c.args.n k (sym (ap (λ (l : List Extent). is_held l k) is) ∙ t)).1)
+    (ap (λ (l : List Bool). length l) c.touch_all.ensures ∙ touched_size c.self.inside.changed c.as_slice-3.result.now wide)
+    (λ k t. (unused_chosen u h c.args.n k (sym (ap (λ (l : List Extent). is_held l k) is) ∙ t)).1)
 
 pub returns-clause-rule : goal.returns-clause-rule
 returns-clause-rule c =

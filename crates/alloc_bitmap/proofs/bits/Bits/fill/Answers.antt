@@ -18,7 +18,7 @@ invariant_of-self c =
     let old = c.deref_mut.result.now in
     let row : IsRow c.self.inside.count old = subst (λ (l : List ℕ). IsRow c.self.inside.count l) (sym c.deref_mut.ensures.value) c.self.invariant in
     subst (λ (l : List ℕ). IsRow c.self.inside.count l) (sym (with_items_is c.self.inside.bytes c.fill.new.bytes (omega arith)))
-      (filled_row c.self.inside.count old c.fill.new.bytes c.args.extent c.args.value (omega arith) c.fill.ensures (omega arith) row)
+    (filled_row c.self.inside.count old c.fill.new.bytes c.args.extent c.args.value (omega arith) c.fill.ensures (omega arith) row)
 
 pub returns : goal.returns
 returns c =

@@ -9,7 +9,7 @@ pub invariant_of-result : goal.invariant_of-result
 invariant_of-result c =
     let same = ap (λ (l : List ℕ). length l) c.deref_mut.ensures.value in
     subst (λ (l : List ℕ). IsRow c.args.count l) (sym (with_items_is c.args.bytes c.fill.new.bytes (omega arith)))
-      (new_row c.args.count (c.len-end.result * 8) c.deref_mut.result.now c.fill.new.bytes c.requires.small (same ∙ c.requires.size) (omega arith) (omega arith) c.fill.ensures)
+    (new_row c.args.count (c.len-end.result * 8) c.deref_mut.result.now c.fill.new.bytes c.requires.small (same ∙ c.requires.size) (omega arith) (omega arith) c.fill.ensures)
 
 pub returns : goal.returns
 returns c =

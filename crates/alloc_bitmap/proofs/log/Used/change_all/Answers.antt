@@ -30,8 +30,8 @@ invariant_of-self-then-used c =
     let fit : Fit (length c.self.inside.bits) c.args.list.now = subst (λ (xs : List Bool). Fit (length xs) c.args.list.now) (sym seen) c.requires.fit in
     let was : (k : ℕ) → is_held c.args.list.now k ≡ true → get_or c.self.inside.bits k c.args.used ≡ not c.args.used = subst (λ (xs : List Bool). (k : ℕ) → is_held c.args.list.now k ≡ true → get_or xs k c.args.used ≡ not c.args.used) (sym seen) c.requires.change in
     subst (λ (xs : List Bool). IsLogged xs c.log_all.new.log.items (c.self.inside.free - c.count_blocks-blocks.result) c.self.inside.kept_free) (sym c.fill_all.ensures)
-      (subst (λ (l : List Change). IsLogged (mark_all c.self.inside.bits c.args.list.now c.args.used) l (c.self.inside.free - c.count_blocks-blocks.result) c.self.inside.kept_free) (sym c.in_ok-log_all.ensures.noted)
-        (logged_used c.self.inside.bits c.args.list.now c.args.used c.self.inside.log.items c.self.inside.free c.self.inside.kept_free c.count_blocks-blocks.result c.if-used.true c.self.invariant fit c.requires.apart was c.count_blocks-blocks.ensures))
+    (subst (λ (l : List Change). IsLogged (mark_all c.self.inside.bits c.args.list.now c.args.used) l (c.self.inside.free - c.count_blocks-blocks.result) c.self.inside.kept_free) (sym c.in_ok-log_all.ensures.noted)
+    (logged_used c.self.inside.bits c.args.list.now c.args.used c.self.inside.log.items c.self.inside.free c.self.inside.kept_free c.count_blocks-blocks.result c.if-used.true c.self.invariant fit c.requires.apart was c.count_blocks-blocks.ensures))
 
 pub invariant_of-self-else-used : goal.invariant_of-self-else-used
 invariant_of-self-else-used c =
@@ -39,8 +39,8 @@ invariant_of-self-else-used c =
     let fit : Fit (length c.self.inside.bits) c.args.list.now = subst (λ (xs : List Bool). Fit (length xs) c.args.list.now) (sym seen) c.requires.fit in
     let was : (k : ℕ) → is_held c.args.list.now k ≡ true → get_or c.self.inside.bits k c.args.used ≡ not c.args.used = subst (λ (xs : List Bool). (k : ℕ) → is_held c.args.list.now k ≡ true → get_or xs k c.args.used ≡ not c.args.used) (sym seen) c.requires.change in
     subst (λ (xs : List Bool). IsLogged xs c.log_all.new.log.items (c.self.inside.free + c.count_blocks-blocks.result) c.self.inside.kept_free) (sym c.fill_all.ensures)
-      (subst (λ (l : List Change). IsLogged (mark_all c.self.inside.bits c.args.list.now c.args.used) l (c.self.inside.free + c.count_blocks-blocks.result) c.self.inside.kept_free) (sym c.in_ok-log_all.ensures.noted)
-        (logged_free c.self.inside.bits c.args.list.now c.args.used c.self.inside.log.items c.self.inside.free c.self.inside.kept_free c.count_blocks-blocks.result c.if-used.false c.self.invariant fit c.requires.apart was c.count_blocks-blocks.ensures))
+    (subst (λ (l : List Change). IsLogged (mark_all c.self.inside.bits c.args.list.now c.args.used) l (c.self.inside.free + c.count_blocks-blocks.result) c.self.inside.kept_free) (sym c.in_ok-log_all.ensures.noted)
+    (logged_free c.self.inside.bits c.args.list.now c.args.used c.self.inside.log.items c.self.inside.free c.self.inside.kept_free c.count_blocks-blocks.result c.if-used.false c.self.invariant fit c.requires.apart was c.count_blocks-blocks.ensures))
 
 pub returns-then-used-clause-kept : goal.returns-then-used-clause-kept
 returns-then-used-clause-kept c =
