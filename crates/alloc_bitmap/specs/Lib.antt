@@ -6,3 +6,4 @@ pub mod Kept
 pub mod Apart
 pub mod Map
 pub mod Fork
+pub mod Untold

@@ -1,5 +1,5 @@
 // The bitmap of a volume.
-ghost use Rattle.std.specs.Prelude.{◌≡◌, ◌↔◌, ◌≤◌, ◌*◌, ◌/◌, true, false, length, map, List, IsTrue, OnOk, OnErr, IfOk};
+ghost use Rattle.std.specs.Prelude.{◌≡◌, ◌↔◌, ◌≤◌, ◌*◌, ◌/◌, ◌^◌, true, false, length, map, List, IsTrue, OnOk, OnErr, IfOk};
 ghost use Rattle.hx_bytes.specs.declared.extents.Extent.{Extent};
 ghost use Rattle.alloc_bitmap.specs.Bits.{count_set, mark, sectors_for};
 ghost use Rattle.alloc_bitmap.specs.Kept.{mark_all, Fit};
@@ -39,7 +39,7 @@ impl Model for Bitmap {
 
 impl Bitmap {
     /// None of the blocks is held, and nothing changed.
-    pub fn of_bits(
+    pub(crate) fn of_bits(
         alloc: Global,
         bits: Bits,
         fork: ExtentList,
@@ -56,6 +56,28 @@ impl Bitmap {
             fork,
             block,
         })
+    }
+
+    /// How many blocks the volume has.
+    pub fn total(&self) -> u32
+        ensures { result ≡ length self.now.used }
+    {
+        self.used.bits().len() as u32
+    }
+
+    /// The extents of the bitmap's file.
+    pub fn fork(&self) -> &ExtentList
+        ensures { result.now ≡ self.now.fork }
+    {
+        &self.fork
+    }
+
+    /// How many sectors of 512 bytes a block has.
+    pub fn per_block(&self) -> u32
+        ensures count { result ≡ self.now.per_block }
+        ensures bound { result ≤ 2 ^ 23 }
+    {
+        self.block / 512
     }
 
     /// How many blocks are free to take.

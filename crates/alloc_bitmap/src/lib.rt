@@ -11,3 +11,6 @@ mod runs;
 mod store;
 
 pub use bitmap::Bitmap;
+
+#[cfg(test)]
+mod tests;
