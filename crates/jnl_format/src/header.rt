@@ -1,6 +1,6 @@
 //! The journal header, in the order of the machine that wrote it.
-ghost use Rattle.std.specs.Prelude.{◌≡◌, ◌++◌, drop};
-ghost use Rattle.jnl_format.specs.Header.{order_of, header_of, header_sum, header_fault, header_read, header_spelled, header_bytes, is_offset, is_blhdr, wrapped};
+ghost use Rattle.std.specs.Prelude.{◌≡◌, ◌<◌, ◌^◌, ◌++◌, ℕ, drop};
+ghost use Rattle.jnl_format.specs.Header.{order_of, header_of, header_sum, header_fault, header_read, header_spelled, header_bytes, is_offset, is_blhdr, wrapped, IsHeader};
 
 use crate::structures::{Header, JnlRefusal};
 use crate::sums::checksum;
@@ -105,7 +105,8 @@ fn wrapped_offset(at: u64, size: u64) -> u64
 
 /// Writes a header into the first 44 bytes of a sector, and keeps the rest of it.
 pub fn write_header(head: &Header, into: &mut Sector)
-    ensures { into.new ≡ header_bytes head.now ++ drop 44 into.old }
+    ensures bytes { into.new ≡ header_bytes head.now ++ drop 44 into.old }
+    ensures read_back { (size : ℕ) → size < 2 ^ 64 → IsHeader size head.now → header_read size into.new ≡ Ok head.now }
 {
     // The checksum is taken with its own field zero.
     write_fields(head, 0, into);

@@ -1,5 +1,5 @@
 //! The journal info block.
-ghost use Rattle.std.specs.Prelude.{◌≡◌, ◌+◌, Bool, nat_le};
+ghost use Rattle.std.specs.Prelude.{◌<◌, ◌^◌, ◌≡◌, ◌+◌, Bool, nat_le};
 ghost use Rattle.jnl_format.specs.Info.{info_of, with_info, info_fault, is_sized, unless_fault};
 
 use crate::structures::{Info, JnlRefusal};
@@ -69,7 +69,8 @@ fn ends_inside(offset: u64, size: u64, limit: u64) -> bool
 
 /// Writes the three fields into a sector, and keeps the rest of it.
 pub fn write_info(info: &Info, into: &mut Sector)
-    ensures { into.new ≡ with_info info.now into.old }
+    ensures bytes { into.new ≡ with_info info.now into.old }
+    ensures read_back { info.now.flags < 2 ^ 32 → info.now.offset < 2 ^ 64 → info.now.size < 2 ^ 64 → info_of into.new ≡ info.now }
 {
     write_be32(into, 0, info.flags);
     write_be64(into, 36, info.offset);

@@ -5,9 +5,9 @@ use crate::journals::{
 };
 use hx_bytes::{Order, Sector};
 use jnl_format::{Entry, JnlRefusal, checksum};
-use jnl_replay::{ReplayFault, replay};
+use jnl_replay::{Peek, PeekView, ReplayFault, replay};
 use mem_disk::MemRig;
-use sector_disk::SectorDisk;
+use sector_disk::{SectorDisk, SectorView};
 use std::alloc::Global;
 use std::test::Fail;
 
@@ -197,6 +197,33 @@ fn a_replay_cut_off_is_replayed_again(rt: HostRuntime) -> Result<(), Fail> {
             );
         }
     }
+    Ok(())
+}
+
+#[test]
+fn a_peek_shows_what_a_replay_writes(rt: HostRuntime) -> Result<(), Fail> {
+    let alloc = rt.alloc();
+    let mut rig = volume(alloc, SMALL, Order::Big, HFSJ, 1)?;
+    let Ok(plan) = find_plan(&mut rig) else {
+        assert!(rt; false);
+        return Ok(());
+    };
+    let Ok(peek) = Peek::new(alloc, &mut rig, &plan) else {
+        assert!(rt; false);
+        return Ok(());
+    };
+    for (at, byte) in [(HOME, 2), (HOME + 1, 0), (BASE + 2, 1)] {
+        let mut sector = [9; 512];
+        let mut view = PeekView {
+            peek: &peek,
+            disk: &mut rig,
+        };
+        if at < view.sectors() {
+            assert!(rt; view.get(at, &mut sector).is_ok());
+        }
+        assert_eq!(rt; sector, [byte; 512], "sector {at}");
+    }
+    assert_eq!(rt; sector_of(&mut rig, HOME), [0; 512]);
     Ok(())
 }
 

@@ -23,5 +23,5 @@ returns-clause-crash g c tells =
     let plan = c.args.plan.now in
     let reads : OnlyReads s0 s1 = record { candidates = r.candidates; barriers = r.barriers; faults = r.cause.later; same = r.same; sink = r.sink; time = r.time } in
     read_then_mixes s0 s1 s2 plan.place.info_sector c.write_info.new.into (with_info (initialised plan.info) (sector (content s0) plan.place.info_sector)) reads
-    (c.write_info.ensures ∙ ap (λ (i : Info). with_info i c.read.new.into) c.done.ensures ∙ ap (λ (b : List ℕ). with_info (initialised plan.info) b) (c.in_ok-read.ensures.value tells))
+    (c.write_info.ensures.bytes ∙ ap (λ (i : Info). with_info i c.read.new.into) c.done.ensures ∙ ap (λ (b : List ℕ). with_info (initialised plan.info) b) (c.in_ok-read.ensures.value tells))
     c.write_all_then_barrier.ensures.crash

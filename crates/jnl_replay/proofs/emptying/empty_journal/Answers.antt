@@ -22,5 +22,5 @@ returns-clause-crash g c tells =
     let plan = c.args.plan.now in
     let reads : OnlyReads s0 s1 = record { candidates = r.candidates; barriers = r.barriers; faults = r.cause.later; same = r.same; sink = r.sink; time = r.time } in
     read_then_mixes s0 s1 s2 (plan.info.offset / 512) c.write_header.new.into (empty_header plan (content s0)) reads
-    (c.write_header.ensures ∙ ap (λ (h : Header). header_bytes h ++ drop 44 c.read.new.into) c.empty.ensures ∙ ap (λ (b : List ℕ). header_bytes (emptied plan.header) ++ drop 44 b) (c.in_ok-read.ensures.value tells))
+    (c.write_header.ensures.bytes ∙ ap (λ (h : Header). header_bytes h ++ drop 44 c.read.new.into) c.empty.ensures ∙ ap (λ (b : List ℕ). header_bytes (emptied plan.header) ++ drop 44 b) (c.in_ok-read.ensures.value tells))
     c.write_all_then_barrier.ensures.crash
