@@ -9,6 +9,8 @@ mod following;
 mod levels;
 mod search;
 mod splitting;
+#[cfg(test)]
+mod tests;
 
 pub use desk::Desk;
 pub use edits::{Inserted, Removed, insert, remove, replace};
