@@ -2,3 +2,4 @@ pub mod Pairs
 pub mod Descent
 pub mod Repeated
 pub mod Picking
+pub mod Behind

@@ -3,3 +3,4 @@ pub mod Desk
 pub mod Reading
 pub mod Editing
 pub mod Answers
+pub mod Following

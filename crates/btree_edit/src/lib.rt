@@ -5,10 +5,14 @@ mod climbing;
 mod desk;
 mod edits;
 mod finding;
+mod following;
 mod levels;
 mod search;
 mod splitting;
+#[cfg(test)]
+mod tests;
 
 pub use desk::Desk;
 pub use edits::{Inserted, Removed, insert, remove, replace};
 pub use finding::{Found, find};
+pub use following::next;

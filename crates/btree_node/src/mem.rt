@@ -1,7 +1,7 @@
 //! A store of nodes in memory: node 0 stands for the header, and the map is a list of flags.
-ghost use Rattle.std.specs.Prelude.{◌≡◌, ◌≤◌, ◌<◌, IsTrue, length, IfOk, IfSome, true, false};
+ghost use Rattle.std.specs.Prelude.{◌≡◌, ◌≤◌, ◌<◌, IsTrue, length, IfOk, IfSome, true, false, ◌↔◌};
 ghost use Rattle.btree_node.specs.Mem.{mem_state};
-ghost use Rattle.btree_node.specs.Store.{Writes, SameRoom};
+ghost use Rattle.btree_node.specs.Store.{HasRoom, Writes, SameRoom};
 ghost use Rattle.btree_node.specs.Node.{IsNodeSize};
 
 use crate::node::Node;
@@ -70,6 +70,13 @@ impl MemNodes {
     /// Whether a node is in use.
     pub fn is_used(&self, node: u32) -> bool {
         (node as usize) < self.used.len() && self.used[node as usize]
+    }
+
+    /// Whether so many nodes, or all that aren't written yet, may be written before the next commit.
+    pub fn has_room(&self, many: u32) -> bool
+        ensures { IsTrue result ↔ HasRoom many (mem_state self.now) }
+    {
+        many <= self.writes_left || self.unwritten <= self.writes_left
     }
 
     /// How many nodes were written since the last commit.

@@ -1,0 +1,101 @@
+//! Edits over a store in memory, with the whole tree looked through between them.
+ghost use Rattle.std.specs.Prelude.{IsTrue};
+ghost use Rattle.btree_edit.specs.Desk.{IsDeskOf};
+
+use crate::{Desk, Found, Inserted, Removed, find, insert, remove};
+use btree_node::{ExtentOrder, KeyOrder, MemNodes, NodeStore};
+
+/// Whether a desk is one for nodes of this size.
+fn is_desk_of(desk: &Desk, size: u32) -> bool
+    ensures { IsTrue result → IsDeskOf size desk.now }
+{
+    let size = size as usize;
+    desk.node.bytes().len() == size
+        && desk.other.bytes().len() == size
+        && desk.held.room() == size
+        && desk.first.room() == size
+        && desk.second.room() == size
+}
+
+/// Adds a pair where the conditions of `insert` hold.
+fn add_pair<K: KeyOrder>(store: &mut MemNodes, desk: &mut Desk, key: &[u8], value: &[u8]) -> bool {
+    let shape = store.shape();
+    if !K::valid(key) || !is_desk_of(desk, shape.node_size) || shape.node_size > 32768 {
+        return false;
+    }
+    if key.len() > 600 || value.len() > 20000 {
+        return false;
+    }
+    if key.len() + value.len() + 10 > (shape.node_size / 2) as usize {
+        return false;
+    }
+    if shape.depth > 11 || shape.leaf_records > 4000000000 || shape.depth as u32 + 1 > shape.free {
+        return false;
+    }
+    if !store.has_room(4 * (shape.depth as u32 + 1) + 4) {
+        return false;
+    }
+    matches!(
+        insert::<MemNodes, K>(store, desk, key, value),
+        Ok(Inserted::Done)
+    )
+}
+
+/// Removes a pair where the conditions of `remove` hold.
+fn drop_pair<K: KeyOrder>(store: &mut MemNodes, desk: &mut Desk, key: &[u8]) -> bool {
+    let shape = store.shape();
+    if !K::valid(key) || !is_desk_of(desk, shape.node_size) || shape.depth > 12 {
+        return false;
+    }
+    if shape.depth as u32 + 1 > shape.free || !store.has_room(4 * (shape.depth as u32 + 1) + 4) {
+        return false;
+    }
+    matches!(remove::<MemNodes, K>(store, desk, key), Ok(Removed::Done))
+}
+
+/// Whether the tree has a key.
+fn has_key<K: KeyOrder>(store: &mut MemNodes, desk: &mut Desk, key: &[u8]) -> bool {
+    if !K::valid(key) || !is_desk_of(desk, store.shape().node_size) {
+        return false;
+    }
+    matches!(find::<MemNodes, K>(store, desk, key), Ok(Found::At { .. }))
+}
+
+fn extent_key(number: u32) -> [u8; 12] {
+    let n = number.to_be_bytes();
+    [0, 10, 0, 0, 0, 0, 0, 16, n[0], n[1], n[2], n[3]]
+}
+
+#[test]
+fn two_hundred_keys_in_and_out(rt: HostRuntime) {
+    let alloc = rt.alloc();
+    let mut store = MemNodes::new(alloc, 512, 100).expect(&rt, "memory");
+    let mut desk = Desk::new(alloc, 512).expect(&rt, "memory");
+    for i in 0..200u32 {
+        let key = extent_key(i * 77 % 200);
+        assert!(rt;
+            add_pair::<ExtentOrder>(&mut store, &mut desk, &key, &[7; 64]),
+            "{i}"
+        );
+    }
+    assert_eq!(rt; store.shape().leaf_records, 200);
+    for i in 0..200u32 {
+        assert!(rt;
+            has_key::<ExtentOrder>(&mut store, &mut desk, &extent_key(i)),
+            "{i}"
+        );
+    }
+    assert!(rt; !has_key::<ExtentOrder>(&mut store, &mut desk, &extent_key(200)));
+    for i in 0..200u32 {
+        let key = extent_key(i * 33 % 200);
+        assert!(rt;
+            drop_pair::<ExtentOrder>(&mut store, &mut desk, &key),
+            "{i}"
+        );
+    }
+    let shape = store.shape();
+    assert_eq!(rt;
+        (shape.depth, shape.root, shape.free, shape.leaf_records),
+        (0, 0, 99, 0)
+    );
+}
