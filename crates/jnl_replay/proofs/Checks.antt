@@ -1,6 +1,6 @@
 -- What was looked at, against what a content is refused for.
 use Rattle.std.proofs.Common.{true, false, ◌≡◌, ◌/◌, ℕ, IsTrue, length, sym, ◌∙◌, ap}
-use Rattle.std.specs.Prelude.{Option, Ok, Err, option_map}
+use Rattle.std.specs.Prelude.{None, Option, Ok, Err, option_map}
 use Rattle.std.proofs.lemmas.List.{length-map}
 use Rattle.volume_header.specs.declared.header.VolumeHeader.{VolumeHeader}
 use Rattle.sector_disk.specs.Lists.{last}
@@ -9,11 +9,11 @@ use Rattle.jnl_format.specs.Info.{is_fresh}
 use Rattle.jnl_format.specs.Header.{header_read}
 use Rattle.jnl_format.specs.Ring.{offset_after}
 use Rattle.jnl_format.specs.Text.{bad_list}
-use Rattle.jnl_format.specs.Recovery.{Content, sector, header_of_volume, info_in, journal_in, list_fault, text_fault, fresh_header}
+use Rattle.jnl_format.specs.Recovery.{Content, sector, header_of_volume, info_in, journal_in, list_fault, text_fault, fresh_header, recovery, replayed}
 use Rattle.jnl_format.specs.declared.structures.Info.{Info}
 use Rattle.jnl_format.specs.declared.structures.Header.{Header}
 use Rattle.jnl_format.specs.declared.structures.JnlRefusal.TheVariants.{BadList}
-use Rattle.jnl_format.proofs.Alike.{IsPlaceOf, recovers}
+use Rattle.jnl_format.proofs.Alike.{IsPlaceOf, recovers, stands_for}
 use Rattle.jnl_format.proofs.Recovering.{refused_journal, refused_text, no_journal, journal_is_kept, journal_is_fresh}
 use Rattle.jnl_replay.specs.Plan.{IsPlace, IsFaultOf, IsFirstFault, IsRefusedAs, journal_of}
 use Rattle.jnl_replay.specs.Text.{words, text_in}
@@ -77,3 +77,12 @@ lists_checked c now plan sectors header text o same size head is e =
     ∙ ap (λ n. bad_list (record { sectors = n; first = plan.info.offset / 512; count = plan.info.size / 512; info_sector = plan.place.info_sector; header = header }) text.order text.blhdr (words text c) (length (words text c)) 0) size
     ∙ ap (λ (h : VolumeHeader). bad_list (record { sectors = length c; first = plan.info.offset / 512; count = plan.info.size / 512; info_sector = plan.place.info_sector; header = h }) text.order text.blhdr (words text c) (length (words text c)) 0) head
     ∙ ap (λ (t : Text). bad_list (record { sectors = length c; first = plan.info.offset / 512; count = plan.info.size / 512; info_sector = plan.place.info_sector; header = header_of_volume c }) t.order t.blhdr (words t c) (length (words t c)) 0) is))
+
+-- what was looked at has no fault, and so the recovered content is defined
+pub plan_recovers : (content now : Content) (place : Place) (plan : Plan) → IsPlace content place → now ≡ content → plan.place ≡ place → journal_in place.info_sector content ≡ Ok (journal_of plan)
+    → text_fault plan.place.info_sector plan.place.last_mounted (journal_of plan) now ≡ None → recovery content ≡ Ok (replayed (journal_of plan) content)
+plan_recovers content now place plan p same at found sound =
+    recovers place.info_sector place.last_mounted content (place_of content place p)
+    ∙ stands_for place.info_sector place.last_mounted (journal_of plan) content found
+    (ap (λ (c : Content). text_fault place.info_sector place.last_mounted (journal_of plan) c) (sym same)
+    ∙ ap (λ (q : Place). text_fault q.info_sector q.last_mounted (journal_of plan) now) (sym at) ∙ sound)

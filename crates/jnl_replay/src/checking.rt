@@ -5,7 +5,7 @@ ghost use Rattle.sector_disk.specs.Disk.{content};
 ghost use Rattle.sector_disk.specs.Lists.{sector};
 ghost use Rattle.jnl_format.specs.Info.{holds, is_fresh, IsInfo};
 ghost use Rattle.jnl_format.specs.Header.{header_read, IsHeader};
-ghost use Rattle.jnl_format.specs.Recovery.{info_in, info_from, journal_in, list_fault, foreign_fault, text_fault, fresh_header};
+ghost use Rattle.jnl_format.specs.Recovery.{info_in, info_from, journal_in, list_fault, foreign_fault, text_fault, fresh_header, recovery, replayed};
 ghost use Rattle.jnl_replay.specs.Plan.{IsPlace, IsPlan, IsRefusedAs, IsFaultOf, IsFirstFault, FitsPlan, journal_of};
 ghost use Rattle.jnl_replay.specs.Reading.{OnlyReads};
 ghost use Rattle.jnl_replay.specs.declared.plan.ReplayFault.TheVariants.{Disk};
@@ -34,6 +34,8 @@ pub fn validate<D: SectorDisk>(disk: &mut D, place: &Place) -> Result<Plan, Repl
     requires place { IsTrue (D.state disk.old).tells → IsPlace (content (D.state disk.old)) place.now }
     // A plan has the content's journal, which has no fault.
     ensures plan { IsTrue (D.state disk.old).tells → IfOk result (λ plan. IsPlan (content (D.state disk.old)) plan × (plan.place ≡ place.now)) }
+    // With a plan the recovered content is defined: the blocks are written to their sectors.
+    ensures recovered { IsTrue (D.state disk.old).tells → IfOk result (λ plan. recovery (content (D.state disk.old)) ≡ Ok (replayed (journal_of plan) (content (D.state disk.old)))) }
     // A refusal is the one that stands in place of the recovered content.
     ensures refused { IsTrue (D.state disk.old).tells → IfErr result (IsRefusedAs (content (D.state disk.old))) }
     ensures fits { IfOk result (λ plan. FitsPlan (D.state disk.old).sectors plan) }
