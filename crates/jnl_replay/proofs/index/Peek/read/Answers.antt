@@ -5,7 +5,7 @@ use Rattle.sector_disk.specs.Disk.{content}
 use Rattle.jnl_replay.proofs.Checks.{length-content}
 use Rattle.jnl_replay.proofs.Common.{on_ok}
 use Rattle.jnl_replay.proofs.Views.{view_some, view_none}
-use Rattle.jnl_replay.proofs.view.Peek.read.Goals as goal
+use Rattle.jnl_replay.proofs.index.Peek.read.Goals as goal
 
 pub returns-in-Some-clause-value : goal.returns-in-Some-clause-value
 returns-in-Some-clause-value g c tells =
