@@ -1,0 +1,6 @@
+//! The transactions of a journaled volume.
+#![tactic(auto)]
+
+mod puts;
+
+pub use puts::Put;
