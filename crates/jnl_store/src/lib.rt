@@ -1,6 +1,7 @@
-//! The transactions of a journaled volume.
+//! The transactions of a journaled volume: what is put becomes durable all or nothing.
 #![tactic(auto)]
 
+mod batch;
 mod puts;
 
 pub use puts::Put;
