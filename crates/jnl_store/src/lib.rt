@@ -1,6 +1,8 @@
 //! The transactions of a journaled volume.
 #![tactic(auto)]
 
+mod form;
 mod puts;
 
+pub use form::{ListForm, capacity};
 pub use puts::Put;
