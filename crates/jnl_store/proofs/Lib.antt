@@ -1,1 +1,3 @@
+pub mod ListsBytes
 pub mod ListsCount
+pub mod ListsHeader

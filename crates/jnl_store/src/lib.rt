@@ -2,6 +2,7 @@
 #![tactic(auto)]
 
 mod form;
+mod list_header;
 mod puts;
 
 pub use form::{ListForm, capacity};
