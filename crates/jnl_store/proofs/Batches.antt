@@ -64,10 +64,6 @@ once-set [] k put once h = absurd h
 once-set (p ∷ ps) zero put once h = (ap (names ps) (sym h) ∙ once.0, once.1)
 once-set (p ∷ ps) (suc k) put once h = (names-set ps k put p.at h ∙ once.0, once-set ps k put once.1 h)
 
-pub length-overlay : (puts : List Put) (c : Content) → length (overlay puts c) ≡ length c
-length-overlay [] c = refl
-length-overlay (p ∷ ps) c = length-overlay ps (set c p.at p.bytes) ∙ length-set c p.at p.bytes
-
 -- a sector that isn't named may be set before or behind
 pub overlay-apart : (puts : List Put) (c : Content) (at : ℕ) (value : List ℕ) → names puts at ≡ false → overlay puts (set c at value) ≡ set (overlay puts c) at value
 overlay-apart [] c at value other = refl

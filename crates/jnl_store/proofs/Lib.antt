@@ -1,1 +1,4 @@
 pub mod Batches
+pub mod ListsBytes
+pub mod ListsCount
+pub mod ListsHeader

@@ -1,5 +1,5 @@
 -- A store and a disk, as a space of sectors.
-use Rattle.std.specs.Prelude.{◌≡◌, ◌⊎◌, ℕ, Bool, false, true, ◌&&◌, ◌==◌, if◌then◌else◌, is_none, List, [], ◌++◌, length, Result, Ok, Err}
+use Rattle.std.specs.Prelude.{◌≡◌, ◌⊎◌, ℕ, Bool, false, true, ◌&&◌, ◌==◌, if◌then◌else◌, is_none, List, [], ◌∷◌, ◌++◌, length, Result, Ok, Err}
 use Rattle.volume_header.specs.Refusal.{header_refusal}
 use Rattle.sector_disk.specs.Lists.{Content}
 use Rattle.sector_disk.specs.Disk.{State, content}
@@ -9,7 +9,8 @@ use Rattle.jnl_format.specs.Text.{is_same_volume}
 use Rattle.jnl_format.specs.declared.structures.JnlRefusal.{JnlRefusal}
 use Rattle.jnl_replay.specs.declared.plan.Plan.{Plan}
 use Rattle.jnl_store.specs.Batch.{names}
-use Rattle.jnl_store.specs.Store.{IsClosed, IsLive, IsSpilled, content_over, durable_of, is_kept, spare_of}
+use Rattle.jnl_store.specs.Journal.{IsClosed, IsSpilled}
+use Rattle.jnl_store.specs.Store.{IsLive, content_over, durable_of, is_kept, spare_of}
 use Rattle.jnl_store.specs.declared.store.Store.{Store}
 
 -- a journal of the same sizes was found
@@ -44,11 +45,15 @@ space_of names_of store disk = record {
   sectors = disk.sectors;
   content = content_over store (content disk);
   durable = durable_of store (content disk);
-  spilled = IsSpilled store disk.candidates;
+  spilled = IsSpilled store.plan disk.candidates;
   live = IsLive store (content disk);
-  closed = IsClosed store;
+  closed = IsClosed store.plan;
   put = names store.batch.all;
   spare = spare_of store;
   faults = disk.faults;
   clock = record { moment = disk.clock.moment; left = λ t recovered told. (image : Content) × disk.clock.left t image told × (recovered ≡ found store.plan image) };
 }
+
+-- the same, of two references with these ghost names
+abbrev pub over : ℕ → ℕ → Store → State → Space
+over store_name disk_name store disk = space_of (store_name ∷ disk_name ∷ []) store disk

@@ -5,12 +5,14 @@ ghost use Rattle.sector_disk.specs.Disk.{Leaves, SameDisk, SameSink, Untouched, 
 ghost use Rattle.jnl_format.specs.Recovery.{header_of_volume, journaling_version};
 ghost use Rattle.jnl_format.proofs.Alike.{KeepsHeader};
 ghost use Rattle.jnl_replay.specs.Plan.{FitsPlan};
-ghost use Rattle.jnl_store.specs.Lists.{capacity_of};
+ghost use Rattle.jnl_store.specs.Lists.{IsCapacity};
+ghost use Rattle.jnl_store.specs.Plan.{form_of, span_of};
 ghost use Rattle.jnl_store.specs.Standing.{Settles, StandsForDurable, StandsForEither};
 ghost use Rattle.jnl_store.specs.Store.{KeepsOn, SameJournal, content_over, durable_of, spare_of};
 ghost use Rattle.jnl_store.specs.declared.store.StoreFault.TheVariants.{Disk, Failed};
 
 use crate::store::{Store, StoreFault};
+use crate::transaction::transact;
 use sector_disk::SectorDisk;
 
 impl Store {
@@ -19,7 +21,7 @@ impl Store {
     /// call on this store or on a space of it answered a disk fault, it answers `Failed` and calls no device.
     pub fn commit<D: SectorDisk>(&mut self, disk: &mut D) -> Result<(), StoreFault>
         requires fits { FitsPlan (D.state disk.old).sectors self.old.plan }
-        requires capacity { length self.old.batch.all ≤ capacity_of self.old.plan.header.size self.old.plan.header.blhdr }
+        requires capacity { (most : ℕ) × IsCapacity (span_of self.old.plan) (form_of self.old.plan) most × (length self.old.batch.all ≤ most) }
         // What was put into the volume header's sector, if anything, is an accepted header of the same volume.
         requires header { KeepsOn self.old (D.state disk.old) → KeepsHeader (durable_of self.old (content (D.state disk.old))) (content_over self.old (content (D.state disk.old))) }
         requires version { KeepsOn self.old (D.state disk.old) → (header_of_volume (durable_of self.old (content (D.state disk.old)))).last_mounted_version ≡ journaling_version }
@@ -87,5 +89,26 @@ impl Store {
                 Err(StoreFault::Disk)
             }
         }
+    }
+
+    // Makes the batch durable, whatever happened before.
+    fn try_commit<D: SectorDisk>(&mut self, disk: &mut D) -> Result<(), hx_bytes::Failed> {
+        if self.batch.len() == 0 {
+            return self.settle(disk);
+        }
+        let plan = transact(disk, &self.plan, self.batch.as_slice())?;
+        self.plan = plan;
+        self.batch.clear();
+        self.unsettled = false;
+        Ok(())
+    }
+
+    // Calls a barrier where something was spilled since the last one.
+    fn settle<D: SectorDisk>(&mut self, disk: &mut D) -> Result<(), hx_bytes::Failed> {
+        if self.unsettled {
+            disk.barrier()?;
+            self.unsettled = false;
+        }
+        Ok(())
     }
 }

@@ -2,6 +2,17 @@
 #![tactic(auto)]
 
 mod batch;
+mod calls;
+mod commit;
+mod form;
+mod list_header;
 mod puts;
+mod resting;
+mod space;
+mod store;
+mod transaction;
 
+pub use form::{ListForm, capacity};
 pub use puts::Put;
+pub use space::Space;
+pub use store::{Store, StoreFault};
