@@ -1,5 +1,6 @@
 pub mod ListsBytes
 pub mod ListsCount
 pub mod ListsHeader
-pub mod ListsText
+pub mod ListsRing
 pub mod ListsSectors
+pub mod ListsText

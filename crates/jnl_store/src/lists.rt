@@ -62,10 +62,19 @@ fn text_sector(form: &ListForm, puts: &[Put], at: u64) -> Sector
     ensures value { result ≡ bytes_at (lists_text form.now puts.now) (512 * at) 512 }
     ensures whole { length result ≡ 512 }
 {
+    let whole = header_sectors(form) + puts_at_most(form);
+    list_sector(form, &puts[puts_before(form, puts.len(), at)..], at % whole)
+}
+
+// How many of so many puts are in the lists before the one that has this sector of the text.
+fn puts_before(form: &ListForm, puts: usize, at: u64) -> usize
+    requires form { IsForm form.now }
+    requires inside { at < text_sectors form.now.blhdr puts }
+    ensures value { result ≡ at / (form.now.blhdr / 512 + most_puts form.now.blhdr) * most_puts form.now.blhdr }
+    ensures inside { result ≤ puts }
+{
     let at_most = puts_at_most(form);
-    let whole = header_sectors(form) + at_most;
-    let before = (at / whole * at_most) as usize;
-    list_sector(form, &puts[before..], at % whole)
+    (at / (header_sectors(form) + at_most) * at_most) as usize
 }
 
 // A sector of the first of the lists that these puts make.
