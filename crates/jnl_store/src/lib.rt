@@ -6,6 +6,7 @@ mod calls;
 mod commit;
 mod form;
 mod list_header;
+mod lists;
 mod puts;
 mod resting;
 mod space;
