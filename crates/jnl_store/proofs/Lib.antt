@@ -1,0 +1,10 @@
+pub mod Batches
+pub mod ListsBack
+pub mod ListsBytes
+pub mod ListsCount
+pub mod ListsHeader
+pub mod ListsLaws
+pub mod ListsRing
+pub mod ListsSectors
+pub mod ListsStanding
+pub mod ListsText
