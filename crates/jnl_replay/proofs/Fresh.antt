@@ -85,9 +85,6 @@ module _ (c : Content) (plan : Plan) (is : IsPlan c plan) (total : ℕ) (fits : 
             ∙ stands_for at plan.place.last_mounted k image found (empty_fault at plan.place.last_mounted k image none refl)
             ∙ ap (λ (x : Content). Ok x) (empty_replay k image none);
         agrees = agreeing image long (λ s. elim (cases_eq s (plan.info.offset / 512)) [ inl e ↦ inr (inl e) | inr n ↦ inl (same s n) ]);
-        keeps = λ old. absurd (cc (old, new));
-        header = keeps image (same 2 not_two);
-        ring = record { journal = k; found = found; order = ap (λ (h : Header). h.order) (sym facts.1); size = ap (λ (h : Header). h.size) (sym facts.1); blhdr = ap (λ (h : Header). h.blhdr) (sym facts.1) };
       }
 
   -- it is cleared
@@ -142,9 +139,6 @@ module _ (c : Content) (plan : Plan) (is : IsPlan c plan) (total : ℕ) (fits : 
             ∙ stands_for at plan.place.last_mounted k image found (empty_fault at plan.place.last_mounted k image none refl)
             ∙ ap (λ (x : Content). Ok x) (empty_replay k image none);
         agrees = agreeing image long other;
-        keeps = λ old. absurd (cc (old, new));
-        header = keeps image (same 2 not_two (λ e. info_not_two (sym e)));
-        ring = record { journal = k; found = found; order = refl; size = refl; blhdr = refl };
       }
 
   base_inside : plan.info.offset / 512 + 1 ≤ length c

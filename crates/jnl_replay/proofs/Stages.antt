@@ -87,9 +87,6 @@ module _ (c : Content) (plan : Plan) (is : IsPlan c plan) where
             recovers plan.place.info_sector plan.place.last_mounted image (same_place plan.place.info_sector plan.place.last_mounted c image a.size (place_of c plan.place is.place) a.header)
             ∙ stands_for plan.place.info_sector plan.place.last_mounted (journal_of plan) image a.found a.fault ∙ ap (λ (r : Content). Ok r) a.replayed;
         agrees = record { size = refl; each = λ s. inl refl };
-        keeps = λ old. record { header = inl refl; info = refl };
-        header = a.header;
-        ring = record { journal = journal_of plan; found = a.found; order = refl; size = refl; blhdr = refl };
       }
 
   -- all are
@@ -176,9 +173,6 @@ module _ (c : Content) (plan : Plan) (is : IsPlan c plan) (total : ℕ) (fits : 
             ∙ stands_for info_at version k image found (empty_fault info_at version k image none refl)
             ∙ ap (λ (x : Content). Ok x) (empty_replay k image none);
         agrees = record { size = long; each = λ s. elim (cases_eq s base) [ inl e ↦ inr (inl e) | inr n ↦ inl (same s n) ] };
-        keeps = λ old. record { header = inr new; info = same info_at not_info };
-        header = keeps;
-        ring = record { journal = k; found = found; order = refl; size = refl; blhdr = refl };
       }
 
   -- while its header is written, the old one or the new one stands there

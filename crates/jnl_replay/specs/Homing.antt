@@ -1,16 +1,15 @@
 -- Blocks written home: what a crash leaves on the way, and what stands at the end.
-use Rattle.std.specs.Prelude.{◌≡◌, ◌⊎◌, ◌<◌, ◌/◌, ℕ, false, List, [], ◌∷◌, ◌++◌, length, drop, bit_and, if◌then◌else◌, None, Contains, Ok}
+use Rattle.std.specs.Prelude.{◌≡◌, ◌⊎◌, ◌<◌, ◌/◌, ℕ, List, [], ◌∷◌, ◌++◌, length, drop, bit_and, if◌then◌else◌, None, Contains, Ok}
 use Rattle.sector_disk.specs.Lists.{Content, sector, put_sectors}
 use Rattle.sector_disk.specs.Disk.{Candidates, candidates_of, content}
 use Rattle.jnl_format.specs.Info.{with_info}
 use Rattle.jnl_format.specs.Header.{header_bytes}
 use Rattle.jnl_format.specs.Text.{bad_list, text_homes}
-use Rattle.jnl_format.specs.Recovery.{Journal, journal_in, recovery, replayed}
+use Rattle.jnl_format.specs.Recovery.{recovery, replayed}
 use Rattle.jnl_format.specs.declared.blocks.Home.{Home}
 use Rattle.jnl_format.specs.declared.blocks.Volume.{Volume}
 use Rattle.jnl_format.specs.declared.structures.Info.{Info}
 use Rattle.jnl_format.specs.declared.structures.Header.{Header}
-use Rattle.jnl_format.proofs.Alike.{KeepsHeader}
 use Rattle.jnl_format.proofs.Mixing.{IsHomeOf}
 use Rattle.jnl_replay.specs.Plan.{journal_of}
 use Rattle.jnl_replay.specs.declared.plan.Plan.{Plan}
@@ -64,25 +63,8 @@ pub record AgreesOutsideJournal (plan : Plan) (old new : Content) : Type 0 where
   pub size : length new ≡ length old
   pub each : (at : ℕ) → (sector new at ≡ sector old at) ⊎ (at ≡ plan.info.offset / 512) ⊎ (at ≡ plan.place.info_sector)
 
--- what stands there where the journal was initialised before: the journal header, maybe emptied, and the same info block
-pub record KeepsJournal (plan : Plan) (old new : Content) : Type 0 where
-  pub header : (sector new (plan.info.offset / 512) ≡ sector old (plan.info.offset / 512)) ⊎ (sector new (plan.info.offset / 512) ≡ empty_header plan old)
-  pub info : sector new plan.place.info_sector ≡ sector old plan.place.info_sector
-
--- the content has a journal of the same size as the plan's, in the same byte order and with list headers of the same size
-pub record HasSameRing (plan : Plan) (content : Content) : Type 0 where
-  pub journal : Journal
-  pub found : journal_in plan.place.info_sector content ≡ Ok journal
-  pub order : journal.header.order ≡ plan.header.order
-  pub size : journal.header.size ≡ plan.header.size
-  pub blhdr : journal.header.blhdr ≡ plan.header.blhdr
-
--- a content that stands for what this one does, but in the journal header and the info block; it has an accepted
--- header of the same volume, and a journal like the plan's
+-- a content that stands for what this one does, but in the journal header and the info block
 pub record StandsForSame (plan : Plan) (old image : Content) : Type 0 where
   pub recovered : Content
   pub stands : recovery image ≡ Ok recovered
   pub agrees : AgreesOutsideJournal plan (replayed (journal_of plan) old) recovered
-  pub keeps : plan.fresh ≡ false → KeepsJournal plan (replayed (journal_of plan) old) recovered
-  pub header : KeepsHeader old image
-  pub ring : HasSameRing plan image
