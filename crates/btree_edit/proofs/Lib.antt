@@ -3,3 +3,5 @@ pub mod Descent
 pub mod Repeated
 pub mod Picking
 pub mod Behind
+pub mod Counting
+pub mod Linking

@@ -4,3 +4,5 @@ pub mod Reading
 pub mod Editing
 pub mod Answers
 pub mod Following
+pub mod LevelEdit
+pub mod Climb
