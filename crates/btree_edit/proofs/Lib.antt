@@ -5,3 +5,5 @@ pub mod Picking
 pub mod Behind
 pub mod Counting
 pub mod Linking
+pub mod Cuts
+pub mod OneLevel

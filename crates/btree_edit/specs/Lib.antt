@@ -6,3 +6,5 @@ pub mod Answers
 pub mod Following
 pub mod LevelEdit
 pub mod Climb
+pub mod Halves
+pub mod Writes
