@@ -1,12 +1,10 @@
 -- What records take in a node, and where a list of records is cut.
-use Rattle.std.proofs.Common.{◌≡◌, ℕ, zero, suc, ◌+◌, ◌-◌, ◌*◌, ◌<◌, ◌≤◌, min, List, [], ◌∷◌, ◌++◌, length, take, drop, get_or, inl, inr, refl, sym, ◌∙◌, ap, arith, append_assoc}
-use Rattle.std.proofs.lemmas.Bool.{cases_lt}
-use Rattle.std.proofs.lemmas.List.{length-take, length-drop, get_or-take, get_or-drop, length-append, take-append-drop, take_all, drop_all, take-take, take_more, drop_more, take-append-le, drop-take, drop_at, append-nil}
-use Rattle.std.proofs.lemmas.List.Sums.{sum_by-cons, sum_by-append, sum_by-take-drop, sum_by_more, sum_by_more_le, get_or-le-sum_by, sum_by-take-le}
+use Rattle.std.proofs.Common.{◌≡◌, ℕ, suc, ◌+◌, ◌-◌, ◌*◌, ◌<◌, ◌≤◌, List, [], ◌∷◌, ◌++◌, length, take, drop, get_or, sym, ◌∙◌, ap, arith}
+use Rattle.std.proofs.lemmas.List.{length-take, length-drop, get_or-take, get_or-drop, length-append, take_all, drop_all, take-take, take-append-le, drop-take, append-nil}
+use Rattle.std.proofs.lemmas.List.Sums.{sum_by-cons, sum_by-append, sum_by-take-drop, sum_by_more}
 use Rattle.std.proofs.Math.Seq.{take-append-add}
 use Rattle.std.specs.List.{sum_by}
-use Rattle.btree_node.specs.Node.{items, IsNode, record_count, room_beside}
-use Rattle.btree_node.specs.Levels.{splice}
+use Rattle.btree_node.specs.Node.{items, IsNode, room_beside}
 use Rattle.btree_node.proofs.Items.{records_take}
 use Rattle.btree_edit.specs.Held.{HeldPair}
 use Rattle.btree_edit.specs.Halves.{record_of, put_of, with_put, IsMiddle, AreForTwo}

@@ -1,11 +1,11 @@
 -- What the writes of one level make of it.
-use Rattle.std.proofs.Common.{◌≡◌, ◌≢◌, ◌⊎◌, ℕ, ℤ, zero, suc, ◌+◌, ◌-◌, ◌<◌, ◌≤◌, Bool, true, false, IsTrue, List, [], ◌∷◌, ◌++◌, map, length, take, drop, get_or, inl, inr, refl, sym, ◌∙◌, ap, subst, arith, append_assoc}
+use Rattle.std.proofs.Common.{◌≡◌, ◌≢◌, ℕ, zero, suc, ◌+◌, ◌-◌, ◌<◌, ◌≤◌, Bool, true, false, IsTrue, List, [], ◌∷◌, ◌++◌, length, take, drop, get_or, inl, inr, refl, sym, ◌∙◌, ap, subst, arith}
 use Rattle.std.proofs.lemmas.Bool.{cases_eq}
 use Rattle.std.specs.Prelude.{eqb}
 use Rattle.std.proofs.lemmas.List.{append-nil, get_or_append_left, get_or-take, length-take, length-append, take_at, drop_at}
 use Rattle.hx_bytes.specs.Field.{big}
 use Rattle.btree_node.specs.Node.{items, kind_of, height_of, next_of, back_of, IsNode, IsNodeOf, SameHead, SetsLinks}
-use Rattle.btree_node.specs.Levels.{key_of, record_for, entries, splice}
+use Rattle.btree_node.specs.Levels.{key_of, record_for, splice}
 use Rattle.btree_node.specs.Store.{Store, SameStore, ChangesOnly, MapsOnly, with_free}
 use Rattle.btree_node.specs.Tree.{kind_at, IsTreeNode}
 use Rattle.btree_node.specs.declared.store.TreeShape.{TreeShape}

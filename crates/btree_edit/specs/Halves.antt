@@ -1,5 +1,5 @@
 -- The records of a node, with others put among them, in two nodes.
-use Rattle.std.specs.Prelude.{◌≡◌, ◌<◌, ◌≤◌, ℕ, ℤ, ◌+◌, ◌-◌, ◌*◌, List, [], ◌∷◌, ◌++◌, length, take, sum_by, slice_index_or}
+use Rattle.std.specs.Prelude.{◌≡◌, ◌<◌, ◌≤◌, ℕ, ℤ, ◌+◌, ◌*◌, List, [], ◌∷◌, ◌++◌, length, take, sum_by, slice_index_or}
 use Rattle.btree_node.specs.Node.{items, IsNodeOf, SameHead}
 use Rattle.btree_node.specs.Levels.{splice}
 use Rattle.btree_edit.specs.Held.{HeldPair}

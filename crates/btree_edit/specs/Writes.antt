@@ -1,5 +1,5 @@
 -- What the writes of one level do to the nodes.
-use Rattle.std.specs.Prelude.{◌≡◌, ◌≢◌, ◌<◌, ◌≤◌, ℕ, ◌+◌, Bool, List, [], ◌∷◌, length}
+use Rattle.std.specs.Prelude.{◌≡◌, ◌≢◌, ◌≤◌, ℕ, Bool, List, length}
 use Rattle.btree_node.specs.Node.{items, next_of, back_of, SameHead, SetsLinks}
 use Rattle.btree_node.specs.Store.{Store}
 use Rattle.btree_edit.specs.Halves.{with_put}

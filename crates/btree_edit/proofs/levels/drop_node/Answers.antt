@@ -1,4 +1,4 @@
-use Rattle.std.proofs.Common.{◌≡◌, ◌≢◌, ℕ, ◌+◌, ◌∙◌, false, true, IsTrue, [], ap, sym, subst, arith}
+use Rattle.std.proofs.Common.{◌≡◌, ◌≢◌, ◌+◌, ◌∙◌, false, true, IsTrue, [], ap, sym, subst}
 use Rattle.btree_node.specs.Store.{SameStore, MapsOnly, with_free}
 use Rattle.btree_node.specs.Node.{next_of, back_of}
 use Rattle.btree_node.specs.Tree.{IsTreeNode}

@@ -1,7 +1,7 @@
-use Rattle.std.proofs.Common.{refl, [], ◌≡◌, ◌<◌, ℕ, ◌+◌, ◌∙◌, List, length, ap, sym, subst, arith}
+use Rattle.std.proofs.Common.{[], ◌≡◌, ◌+◌, ◌∙◌, length, ap, sym, subst, arith}
 use Rattle.btree_node.specs.Node.{items, SameHead}
 use Rattle.btree_node.specs.Levels.{splice}
-use Rattle.btree_edit.specs.LevelEdit.{bit, taken, edited, records_on, node_room}
+use Rattle.btree_edit.specs.LevelEdit.{bit, taken, edited, records_on}
 use Rattle.btree_edit.specs.Writes.{IsOpened}
 use Rattle.btree_edit.proofs.Cuts.{taken-put}
 use Rattle.btree_edit.proofs.OneLevel.{opens}

@@ -1,4 +1,4 @@
-use Rattle.std.proofs.Common.{◌≡◌, ◌<◌, ◌+◌, ◌∙◌, [], length, ap, sym, subst, arith}
+use Rattle.std.proofs.Common.{◌≡◌, ◌<◌, ◌∙◌, [], length, sym, arith}
 use Rattle.std.proofs.lemmas.List.{nil_from_length}
 use Rattle.btree_node.specs.Node.{items}
 use Rattle.btree_edit.proofs.OneLevel.{kept_edit, same_head_both, above_zero}

@@ -1,4 +1,4 @@
-use Rattle.std.proofs.Common.{◌≡◌, ◌≤◌, ◌+◌, [], length, get_or, ap, arith}
+use Rattle.std.proofs.Common.{◌+◌, [], length, ap, arith}
 use Rattle.std.proofs.lemmas.List.Sums.{get_or-le-sum_by}
 use Rattle.btree_node.specs.Node.{items}
 use Rattle.btree_edit.proofs.Pairs.{key_short}

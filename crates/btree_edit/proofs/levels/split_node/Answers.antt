@@ -1,10 +1,9 @@
-use Rattle.std.proofs.Common.{refl, ◌≡◌, ◌≢◌, ◌<◌, ℕ, ◌+◌, ◌-◌, ◌∙◌, false, true, IsTrue, [], length, ap, sym, subst, arith}
+use Rattle.std.proofs.Common.{refl, ◌≡◌, ◌≢◌, ℕ, ◌-◌, ◌∙◌, false, true, IsTrue, ap, sym, subst}
 use Rattle.btree_node.specs.Store.{SameStore, MapsOnly, with_free}
-use Rattle.btree_node.specs.Node.{next_of, back_of, items}
+use Rattle.btree_node.specs.Node.{next_of, items}
 use Rattle.btree_node.specs.Tree.{IsTreeNode, kind_at}
-use Rattle.btree_node.specs.declared.store.TreeShape.{TreeShape}
 use Rattle.btree_edit.specs.Halves.{record_of, IsSplit, with_put}
-use Rattle.btree_edit.specs.LevelEdit.{MovesEnds, edited, records_on}
+use Rattle.btree_edit.specs.LevelEdit.{edited, records_on}
 use Rattle.btree_edit.specs.Writes.{SetsBack, WritesHalves}
 use Rattle.btree_edit.proofs.OneLevel.{split_edit, still_tree_node}
 use Rattle.btree_edit.proofs.Repeated.{same_store_both}

@@ -1,4 +1,4 @@
-use Rattle.std.proofs.Common.{◌≡◌, ◌++◌, length, drop}
+use Rattle.std.proofs.Common.{◌≡◌, ◌++◌, drop}
 use Rattle.btree_node.specs.Node.{IsNode, SameHead, items}
 use Rattle.btree_edit.specs.Halves.{put_of, with_put}
 use Rattle.btree_edit.proofs.splitting.fill_back.Given as goal

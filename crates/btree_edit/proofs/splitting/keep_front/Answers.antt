@@ -1,7 +1,6 @@
-use Rattle.std.proofs.Common.{◌≡◌, ◌+◌, ◌-◌, length, take, arith, ap, sym, ◌∙◌, subst}
+use Rattle.std.proofs.Common.{◌-◌, arith, ap, ◌∙◌}
 use Rattle.btree_node.specs.Node.{items}
 use Rattle.btree_edit.specs.Halves.{put_of, with_put}
-use Rattle.btree_edit.specs.LevelEdit.{taken}
 use Rattle.btree_edit.proofs.Cuts.{put_cut, behind_cut, room_for}
 use Rattle.btree_edit.proofs.splitting.keep_front.Goals as goal
 

@@ -1,4 +1,4 @@
-use Rattle.std.proofs.Common.{◌≡◌, length, arith, ap}
+use Rattle.std.proofs.Common.{length, arith, ap}
 use Rattle.btree_edit.proofs.Cuts.{node_holds}
 use Rattle.btree_edit.proofs.splitting.node_taken.Goals as goal
 

@@ -1,5 +1,5 @@
 use Rattle.std.specs.List.{sum_by}
-use Rattle.std.proofs.Common.{inl, inr, IsTrue, false, ◌≡◌, ◌<◌, ◌≤◌, ◌+◌, ◌-◌, ◌++◌, List, ℕ, length, take, drop, arith, ap, sym, ◌∙◌, subst}
+use Rattle.std.proofs.Common.{inl, inr, IsTrue, false, ◌≡◌, ◌≤◌, ◌+◌, ◌++◌, ℕ, length, take, arith, ap, ◌∙◌}
 use Rattle.std.proofs.lemmas.List.{take-append-drop, drop_all, length-take, length-drop}
 use Rattle.btree_node.specs.Node.{items, kind_of, IsNodeSize}
 use Rattle.btree_edit.specs.Halves.{put_of, with_put}
