@@ -3,3 +3,7 @@ pub mod Descent
 pub mod Repeated
 pub mod Picking
 pub mod Behind
+pub mod Counting
+pub mod Linking
+pub mod Cuts
+pub mod OneLevel
