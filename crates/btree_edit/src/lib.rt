@@ -9,8 +9,6 @@ mod following;
 mod levels;
 mod search;
 mod splitting;
-#[cfg(test)]
-mod tests;
 
 pub use desk::Desk;
 pub use edits::{Inserted, Removed, insert, remove, replace};
