@@ -1,4 +1,6 @@
 pub mod Plain
+pub mod Utf16
+pub mod Clear
 pub mod Spelled
 pub mod RoundTrip
 pub mod Lengths
