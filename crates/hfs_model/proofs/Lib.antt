@@ -16,3 +16,4 @@ pub mod Results
 pub mod Paths
 pub mod Values
 pub mod Shown
+pub mod Listings

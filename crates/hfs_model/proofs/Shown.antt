@@ -19,7 +19,7 @@ use Rattle.hfs_model.proofs.Results.{ok_same}
 
 -- ---- numbers
 
-both_tails : (x y : ℕ) (xs ys : List ℕ) → x ∷ xs ≡ y ∷ ys → (x ≡ y) × (xs ≡ ys)
+pub both_tails : (x y : ℕ) (xs ys : List ℕ) → x ∷ xs ≡ y ∷ ys → (x ≡ y) × (xs ≡ ys)
 both_tails x y xs ys is = (cc, cc)
 
 -- digits end at the first byte below them

@@ -6,6 +6,8 @@ use Rattle.std.specs.List.{flat_map}
 use Rattle.hfs_model.specs.declared.reply.Facts.{Facts}
 use Rattle.hfs_model.specs.declared.reply.Gauge.{Gauge}
 use Rattle.hfs_model.specs.declared.reply.TreeGauge.{TreeGauge}
+use Rattle.hfs_model.specs.declared.reply.ListedName.{ListedName}
+use Rattle.name_text.specs.Laws.{AreUnits}
 use Rattle.hfs_model.specs.Text.{refusal_numbers, reply_text}
 
 -- each is below 2 ^ 64
@@ -50,3 +52,12 @@ gauge_numbers gauge = gauge.block ∷ gauge.total ∷ gauge.free ∷ gauge.longe
 -- two gauges with one text have the same numbers
 abbrev pub ShowsGauge : Gauge → Gauge → Type 0
 ShowsGauge one other = AreNumbers (gauge_numbers one) → AreNumbers (gauge_numbers other) → reply_text (reply.Gauge one) ≡ reply_text (reply.Gauge other) → gauge_numbers one ≡ gauge_numbers other
+
+-- names of code units
+abbrev pub AreNames : List ListedName → Type 0
+AreNames [] = Unit {0}
+AreNames (listed ∷ names) = AreUnits listed.name × AreNames names
+
+-- two listings with one text are one listing
+abbrev pub ShowsListing : List ListedName → List ListedName → Type 0
+ShowsListing one other = AreNames one → AreNames other → reply_text (reply.Listing one) ≡ reply_text (reply.Listing other) → one ≡ other

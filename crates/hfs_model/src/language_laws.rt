@@ -2,10 +2,10 @@
 ghost use Rattle.std.specs.Prelude.{◌≡◌, Ok};
 ghost use Rattle.hfs_model.specs.Language.{value_of};
 ghost use Rattle.hfs_model.specs.Spelling.{Spells, IsReadAsSpelled, IsReadAsPath, IsReadAsValue};
-ghost use Rattle.hfs_model.specs.Shown.{ShowsRefusal, ShowsContent, ShowsFacts, ShowsGauge};
+ghost use Rattle.hfs_model.specs.Shown.{ShowsRefusal, ShowsContent, ShowsFacts, ShowsGauge, ShowsListing};
 ghost use Rattle.hfs_model.specs.Text.{value_text};
 
-use crate::{Command, Facts, Gauge, Path, Refusal};
+use crate::{Command, Facts, Gauge, Listing, Path, Refusal};
 
 /// A line is read to a command exactly where it spells it.
 pub fn line_is_read_as_spelled(line: &[u8], command: &Command)
@@ -50,4 +50,9 @@ pub fn facts_are_shown(one: Facts, other: Facts)
 /// The text of a gauge shows its numbers.
 pub fn gauge_is_shown(one: Gauge, other: Gauge)
     ensures { ShowsGauge one other }
+{}
+
+/// The text of a listing shows its names, in their order, and which of them are folders.
+pub fn listing_is_shown(one: &Listing, other: &Listing)
+    ensures { ShowsListing one.now other.now }
 {}

@@ -14,7 +14,8 @@ use Rattle.name_text.specs.declared.piece.Piece.{Piece}
 use Rattle.name_text.specs.declared.piece.Piece.TheVariants.{Character, Escaped}
 use Rattle.name_text.specs.Spelling.{spelling, text_of}
 use Rattle.name_text.specs.Printing.{is_clear, is_dots, is_plain, unit_piece, printed, component_text}
-use Rattle.name_text.proofs.Utf16.{AreUnits, lossless}
+use Rattle.name_text.specs.Laws.{AreUnits}
+use Rattle.name_text.proofs.Utf16.{lossless}
 
 abbrev pub all_clear : List ℕ → Bool
 all_clear = list_all is_clear

@@ -14,9 +14,9 @@ use Rattle.name_text.specs.declared.piece.Piece.TheVariants.{Character, Escaped}
 use Rattle.name_text.specs.Spelling.{IsPiece, text_of}
 use Rattle.name_text.specs.Reading.{is_escaped, code, piece_units, units_of, pieces, is_reserved, component}
 use Rattle.name_text.specs.Printing.{is_clear, is_dots, is_plain, unit_piece, printed, component_text}
-use Rattle.name_text.specs.Laws.{ArePieces}
+use Rattle.name_text.specs.Laws.{AreUnits, ArePieces}
 use Rattle.name_text.proofs.Spelled.{read_spelled}
-use Rattle.name_text.proofs.Utf16.{AreUnits, lossless, encode_one}
+use Rattle.name_text.proofs.Utf16.{lossless, encode_one}
 use Rattle.name_text.proofs.Clear.{dots_of, no_slash, clear_text}
 use Rattle.std.proofs.lemmas.Option.{same_Some}
 use Rattle.std.proofs.lemmas.Str.{encodes_same, length-le-encodes}

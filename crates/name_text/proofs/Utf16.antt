@@ -3,13 +3,9 @@ use Rattle.std.proofs.Common.{◌≡◌, ℕ, suc, ◌+◌, ◌/◌, ◌%◌, �
 use Rattle.std.specs.List.{list_any}
 use Rattle.std.specs.Char.Escape.{encode_utf16}
 use Rattle.std.specs.Char.Utf16.{utf16_chars, is_high_surrogate, is_low_surrogate, surrogate_pair_char, lone_unit_char}
+use Rattle.name_text.specs.Laws.{AreUnits}
 use Rattle.std.proofs.lemmas.Bool.{cond-true, cond-false, cond_both, and_parts}
 use Rattle.std.proofs.lemmas.Bool.Decides.{nat_tests}
-
--- each is a code unit
-abbrev pub AreUnits : List ℕ → Type 0
-AreUnits [] = Unit {0}
-AreUnits (u ∷ us) = (u < 2 ^ 16) × AreUnits us
 
 pub units_by_index : (us : List ℕ) → ((k : ℕ) → get_or us k 0 < 2 ^ 16) → AreUnits us
 units_by_index [] each = tt
