@@ -1,54 +1,15 @@
 -- The text of a listing shows it.
 use Rattle.std.proofs.Common.{◌≡◌, ℕ, zero, suc, ◌+◌, ◌/◌, ◌%◌, ◌<◌, Bool, true, false, ◌==◌, List, [], ◌∷◌, ◌++◌, length, drop, flat_map, codes, decimal, refl, sym, ap, ◌∙◌, arith, append_assoc, ⊎_elim, if◌then◌else◌}
-use Rattle.std.specs.List.{list_all}
-use Rattle.std.specs.Fmt.{digit_glyph, digits_onto, digits}
-use Rattle.std.proofs.lemmas.Bool.{cond_both, and_parts, cases_Bool}
-use Rattle.std.proofs.lemmas.Bool.Decides.{nat_tests}
 use Rattle.name_text.specs.Laws.{AreUnits}
 use Rattle.name_text.specs.Printing.{is_clear}
-use Rattle.name_text.proofs.Clear.{all_clear, clear_name}
+use Rattle.name_text.proofs.Clear.{clear_name}
 use Rattle.name_text.proofs.RoundTrip.{name_same}
 use Rattle.hfs_model.specs.declared.reply.ListedName.{ListedName}
 use Rattle.hfs_model.specs.declared.reply.Reply.TheVariants as reply
 use Rattle.hfs_model.specs.Text.{field, name_text, listed_text, reply_text}
 use Rattle.hfs_model.specs.Shown.{AreNames, ShowsListing}
 use Rattle.hfs_model.proofs.Shown.{both_tails}
-
--- ---- where words end
-
--- a word ends at the first byte that is a control, a space or a slash
-pub word_ends : (one other : List ℕ) (x y : ℕ) (xs ys : List ℕ) → all_clear one ≡ true → all_clear other ≡ true → is_clear x ≡ false → is_clear y ≡ false → one ++ x ∷ xs ≡ other ++ y ∷ ys → (one ≡ other) × (x ∷ xs ≡ y ∷ ys)
-word_ends [] [] x y xs ys ca cb ex ey is = (refl, is)
-word_ends [] (b ∷ bs) x y xs ys ca cb ex ey is =
-    let same = (both_tails x b xs (bs ++ y ∷ ys) is).0 in
-    let clear : (is_clear b ≡ true) × (all_clear bs ≡ true) = and_parts _ _ cb in
-    let never : false ≡ true = sym ex ∙ ap is_clear same ∙ clear.0 in
-    absurd (cc)
-word_ends (a ∷ ns) [] x y xs ys ca cb ex ey is =
-    let same = (both_tails a y (ns ++ x ∷ xs) ys is).0 in
-    let clear : (is_clear a ≡ true) × (all_clear ns ≡ true) = and_parts _ _ ca in
-    let never : false ≡ true = sym ey ∙ ap is_clear (sym same) ∙ clear.0 in
-    absurd (cc)
-word_ends (a ∷ ns) (b ∷ bs) x y xs ys ca cb ex ey is =
-    let parts = both_tails a b (ns ++ x ∷ xs) (bs ++ y ∷ ys) is in
-    let clear_a : (is_clear a ≡ true) × (all_clear ns ≡ true) = and_parts _ _ ca in
-    let clear_b : (is_clear b ≡ true) × (all_clear bs ≡ true) = and_parts _ _ cb in
-    let rest = word_ends ns bs x y xs ys clear_a.1 clear_b.1 ex ey parts.1 in
-    let whole : a ∷ ns ≡ b ∷ bs = cc (parts.0, rest.0) in
-    (whole, rest.1)
-
-clear_digit : (n : ℕ) → is_clear (digit_glyph false (n % 10)) ≡ true
-clear_digit n = let small : n % 10 < 10 = omega arith in grind (arith, nat_tests)
-
-clear_digits : (k n : ℕ) (text : List ℕ) → all_clear text ≡ true → all_clear (digits_onto k 10 false n text) ≡ true
-clear_digits zero n text clear = clear
-clear_digits (suc k) n text clear =
-    let more : all_clear (digit_glyph false (n % 10) ∷ text) ≡ true = rw (clear_digit n, clear) refl in
-    cond_both (n / 10 == 0) _ _ (λ x. all_clear x ≡ true) (λ _. more) (λ _. clear_digits k (n / 10) (digit_glyph false (n % 10) ∷ text) more)
-
-pub clear_decimal : (n : ℕ) → all_clear (decimal n) ≡ true
-unfolding digits
-clear_decimal n = clear_digits 64 n [] refl
+use Rattle.hfs_model.proofs.Words.{word_ends, clear_decimal}
 
 -- ---- names
 
@@ -58,7 +19,7 @@ names_line [] = 10 ∷ []
 names_line (listed ∷ names) = 32 ∷ (name_text listed.name ++ ((if listed.folder then 47 ∷ [] else []) ++ names_line names))
 
 -- the line behind the text of a name
-abbrev behind : Bool → List ListedName → List ℕ
+abbrev pub behind : Bool → List ListedName → List ℕ
 behind folder names = (if folder then 47 ∷ [] else []) ++ names_line names
 
 pub names_line_is : (names : List ListedName) → flat_map listed_text names ++ 10 ∷ [] ≡ names_line names
@@ -74,7 +35,7 @@ pub line_first : (names : List ListedName) → (x : ℕ) × (xs : List ℕ) × (
 line_first [] = (10, [], omega arith, refl, refl)
 line_first (listed ∷ names) = (32, name_text listed.name ++ behind listed.folder names, omega arith, refl, refl)
 
-behind_first : (folder : Bool) (names : List ListedName) → (x : ℕ) × (xs : List ℕ) × (is_clear x ≡ false) × (behind folder names ≡ x ∷ xs)
+pub behind_first : (folder : Bool) (names : List ListedName) → (x : ℕ) × (xs : List ℕ) × (is_clear x ≡ false) × (behind folder names ≡ x ∷ xs)
 behind_first true names = (47, names_line names, refl, refl)
 behind_first false names = let first = line_first names in (first.0, first.1, first.3, first.4)
 

@@ -2,10 +2,10 @@
 ghost use Rattle.std.specs.Prelude.{◌≡◌, Ok};
 ghost use Rattle.hfs_model.specs.Language.{value_of};
 ghost use Rattle.hfs_model.specs.Spelling.{Spells, IsReadAsSpelled, IsReadAsPath, IsReadAsValue};
-ghost use Rattle.hfs_model.specs.Shown.{ShowsRefusal, ShowsContent, ShowsFacts, ShowsGauge, ShowsListing};
+ghost use Rattle.hfs_model.specs.Shown.{ShowsRefusal, ShowsContent, ShowsFacts, ShowsGauge, ShowsListing, ShowsReply, IsOneLine};
 ghost use Rattle.hfs_model.specs.Text.{value_text};
 
-use crate::{Command, Facts, Gauge, Listing, Path, Refusal};
+use crate::{Command, Facts, Gauge, Listing, Path, Refusal, Reply};
 
 /// A line is read to a command exactly where it spells it.
 pub fn line_is_read_as_spelled(line: &[u8], command: &Command)
@@ -55,4 +55,17 @@ pub fn gauge_is_shown(one: Gauge, other: Gauge)
 /// The text of a listing shows its names, in their order, and which of them are folders.
 pub fn listing_is_shown(one: &Listing, other: &Listing)
     ensures { ShowsListing one.now other.now }
+{}
+
+/// The text of a reply shows its kind and all that the text of this kind shows.
+///
+/// Blocks of 512 bytes or more are wanted, for a listing of 13 names that are numbers has the text of
+/// a gauge with blocks of 13 bytes.
+pub fn reply_is_shown(one: &Reply, other: &Reply)
+    ensures { ShowsReply one.now other.now }
+{}
+
+/// The text of a reply is one line: it has a newline at its end, and no other.
+pub fn reply_is_one_line(reply: &Reply)
+    ensures { IsOneLine reply.now }
 {}
