@@ -1,12 +1,12 @@
 -- The text of a listing shows it.
-use Rattle.std.proofs.Common.{◌≡◌, ℕ, zero, suc, ◌+◌, ◌/◌, ◌%◌, ◌<◌, Bool, true, false, ◌==◌, List, [], ◌∷◌, ◌++◌, length, drop, flat_map, codes, decimal, refl, sym, ap, ◌∙◌, arith, append_assoc, ⊎_elim, if◌then◌else◌}
+use Rattle.std.proofs.Common.{◌≡◌, ℕ, ◌<◌, Bool, true, false, List, [], ◌∷◌, ◌++◌, length, drop, flat_map, codes, decimal, refl, sym, ap, ◌∙◌, arith, append_assoc, if◌then◌else◌}
 use Rattle.name_text.specs.Laws.{AreUnits}
 use Rattle.name_text.specs.Printing.{is_clear}
 use Rattle.name_text.proofs.Clear.{clear_name}
 use Rattle.name_text.proofs.RoundTrip.{name_same}
 use Rattle.hfs_model.specs.declared.reply.ListedName.{ListedName}
 use Rattle.hfs_model.specs.declared.reply.Reply.TheVariants as reply
-use Rattle.hfs_model.specs.Text.{field, name_text, listed_text, reply_text}
+use Rattle.hfs_model.specs.Text.{name_text, listed_text, reply_text}
 use Rattle.hfs_model.specs.Shown.{AreNames, ShowsListing}
 use Rattle.hfs_model.proofs.Shown.{both_tails}
 use Rattle.hfs_model.proofs.Words.{word_ends, clear_decimal}

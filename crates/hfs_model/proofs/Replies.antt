@@ -1,21 +1,18 @@
 -- The text of a reply shows its kind.
-use Rattle.std.proofs.Common.{◌≡◌, ℕ, suc, ◌+◌, ◌*◌, ◌<◌, ◌≤◌, ◌^◌, Bool, true, false, ◌==◌, List, [], ◌∷◌, ◌++◌, length, drop, get_or, flat_map, codes, decimal, refl, sym, ap, ◌∙◌, arith, append_assoc, length-append, if◌then◌else◌}
+use Rattle.std.proofs.Common.{◌≡◌, ℕ, suc, ◌*◌, ◌<◌, ◌^◌, Bool, true, false, ◌==◌, List, [], ◌∷◌, ◌++◌, length, drop, get_or, flat_map, codes, decimal, refl, sym, ap, ◌∙◌, arith, append_assoc, if◌then◌else◌}
 use Rattle.std.specs.Str.Parse.{digits_value}
 use Rattle.std.proofs.lemmas.Fmt.{decimal_is_IsNumeral}
-use Rattle.std.proofs.lemmas.Bool.{cases_Bool}
 use Rattle.std.proofs.lemmas.Bool.Decides.{nat_tests}
 use Rattle.name_text.specs.Printing.{is_clear}
 use Rattle.name_text.proofs.Clear.{clear_name}
 use Rattle.hx_bytes.specs.Field.{AreBytes}
 use Rattle.hfs_model.specs.declared.reply.Reply.{Reply}
 use Rattle.hfs_model.specs.declared.reply.Reply.TheVariants as reply
-use Rattle.hfs_model.specs.declared.reply.Facts.{Facts}
 use Rattle.hfs_model.specs.declared.reply.Gauge.{Gauge}
 use Rattle.hfs_model.specs.declared.reply.TreeGauge.{TreeGauge}
 use Rattle.hfs_model.specs.declared.reply.ListedName.{ListedName}
-use Rattle.hfs_model.specs.declared.refusal.Refusal.{Refusal}
-use Rattle.hfs_model.specs.Text.{field, fields, name_text, kind_text, size_fields, reply_text}
-use Rattle.hfs_model.specs.Shown.{AreNumbers, AreNames, FitsReply, SameReply, ShowsReply, tree_numbers, gauge_numbers}
+use Rattle.hfs_model.specs.Text.{field, fields, name_text, size_fields, reply_text}
+use Rattle.hfs_model.specs.Shown.{AreNames, FitsReply, ShowsReply, tree_numbers, gauge_numbers}
 use Rattle.hfs_model.proofs.Shown.{both_tails, after_numbers, first_low, mode_line, line_is, gauge_is, facts_shown, content_shown, gauge_shown, refusal_shown}
 use Rattle.hfs_model.proofs.Words.{word_ends, first_digit, clear_decimal}
 use Rattle.hfs_model.proofs.Listings.{names_line, listing_is, line_first, behind, behind_first, listing_shown}
