@@ -159,7 +159,7 @@ module _ (c : Content) (plan : Plan) (is : IsPlan c plan) (total : ℕ) (fits : 
         order = refl;
         blhdr = refl;
         header = inr header_new;
-        info = inr (info_new ∙ ap (with_info done) was);
+        info = inr (new, info_new ∙ ap (with_info done) was);
         own = λ s own. refl;
       }
 

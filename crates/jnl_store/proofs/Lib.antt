@@ -13,3 +13,4 @@ pub mod Quiet
 pub mod One
 pub mod Attached
 pub mod Kept
+pub mod Images
