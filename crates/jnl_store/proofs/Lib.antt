@@ -14,3 +14,4 @@ pub mod One
 pub mod Attached
 pub mod Kept
 pub mod Images
+pub mod Live

@@ -6,7 +6,7 @@ use Rattle.volume_header.specs.Refusal.{header_refusal}
 use Rattle.sector_disk.specs.Lists.{Content, sector}
 use Rattle.jnl_format.specs.Header.{header_bytes, header_read, header_spelled}
 use Rattle.jnl_format.specs.Info.{info_of, info_fault, holds, unless_fault, IsInfo}
-use Rattle.jnl_format.specs.Recovery.{header_of_volume, info_in, journal_in, recovery, replayed, text_fault}
+use Rattle.jnl_format.specs.Recovery.{header_of_volume, info_from, info_in, journal_in, recovery, replayed, text_fault}
 use Rattle.jnl_format.specs.declared.structures.Info.{Info}
 use Rattle.jnl_format.specs.declared.structures.Header.{Header}
 use Rattle.jnl_format.specs.declared.structures.JnlRefusal.{JnlRefusal}
@@ -53,7 +53,7 @@ header_spells plan c h =
 pub form_of_rest : (plan : Plan) → IsAtRest plan → IsInForm plan plan.header
 form_of_rest plan rest = record { whole = rest.header; order = refl; blhdr = refl }
 
-old_is : (plan : Plan) → plan.fresh ≡ false → journal_of plan ≡ record { info = plan.info; header = plan.header; fresh = false }
+pub old_is : (plan : Plan) → plan.fresh ≡ false → journal_of plan ≡ record { info = plan.info; header = plan.header; fresh = false }
 old_is plan e = ap (λ b. record { info = plan.info; header = plan.header; fresh = b }) e
 
 pub plan_found : (plan : Plan) (c : Content) → IsAtRest plan → HoldsJournal plan c → journal_in plan.place.info_sector c ≡ Ok (journal_of plan)
@@ -111,3 +111,15 @@ stands_quiet plan c image rest h size volume info header = record {
   spelled = header ∙ header_spells plan c h;
   own = λ s own. refl;
 }
+
+-- the same sectors name the same info block, whatever the journal header is
+pub found_still : (plan : Plan) (c image : Content) → HoldsJournal plan c → length image ≡ length c → sector image 2 ≡ sector c 2 → sector image plan.place.info_sector ≡ sector c plan.place.info_sector
+    → IsPlace image plan.place × (info_in plan.place.info_sector image ≡ Ok plan.info)
+found_still plan c image h size volume info = (
+  record {
+    accepted = ap (λ n. header_refusal (header_of_volume image) n) size ∙ ap (λ (b : List ℕ). header_refusal (header_of b) (length c)) volume ∙ h.place.accepted;
+    info_sector = h.place.info_sector ∙ ap (λ (b : List ℕ). (header_of b).journal_info_block * ((header_of b).block_size / 512)) (sym volume);
+    last_mounted = h.place.last_mounted ∙ ap (λ (b : List ℕ). (header_of b).last_mounted_version) (sym volume);
+  },
+  ap (λ n. info_from n plan.place.info_sector (sector image plan.place.info_sector)) size ∙ ap (λ (b : List ℕ). info_from (length c) plan.place.info_sector b) info ∙ info_found plan c h
+)
