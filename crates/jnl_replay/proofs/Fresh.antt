@@ -1,5 +1,5 @@
 -- What a crash leaves while a journal is initialised: a content that stands for the same.
-use Rattle.std.proofs.Common.{◌≡◌, ◌≢◌, ◌⊎◌, ◌<◌, ◌≤◌, ◌+◌, ◌*◌, ◌/◌, ◌%◌, ◌^◌, ℕ, Bool, true, false, not, ◌||◌, List, [], ◌∷◌, ◌++◌, inl, inr, length, drop, refl, sym, ◌∙◌, ap, subst, arith, cond, eqb}
+use Rattle.std.proofs.Common.{◌≡◌, ◌≢◌, ◌⊎◌, ◌<◌, ◌≤◌, ◌+◌, ◌*◌, ◌/◌, ◌%◌, ◌^◌, ℕ, Bool, true, false, not, ◌||◌, List, [], ◌∷◌, inl, inr, length, drop, refl, sym, ◌∙◌, ap, subst, arith, cond, eqb}
 use Rattle.std.specs.Prelude.{Option, None, Some, Ok, bit_and}
 use Rattle.std.proofs.lemmas.Bool.{cases_lt, cases_eq}
 use Rattle.std.proofs.lemmas.List.{get_or_past}
@@ -9,7 +9,7 @@ use Rattle.sector_disk.specs.Lists.{Content, sector}
 use Rattle.sector_disk.specs.Disk.{only, Mixes}
 use Rattle.sector_disk.proofs.Stages.{mixes_size, mixes_before, mixes_behind, mixes_inside, put_before, put_behind, put_inside, length-put}
 use Rattle.jnl_format.specs.Info.{info_of, info_fault, with_info, is_fresh, is_sized, holds, unless_fault, IsInfo}
-use Rattle.jnl_format.specs.Header.{header_read, header_bytes, header_spelled, IsHeader}
+use Rattle.jnl_format.specs.Header.{header_read, header_spelled, IsHeader}
 use Rattle.jnl_format.specs.Recovery.{header_of_volume, Journal, journal_in, info_in, info_from, text_of, replayed, fresh_header}
 use Rattle.jnl_format.specs.declared.structures.Info.{Info}
 use Rattle.jnl_format.specs.declared.structures.Header.{Header}
@@ -31,7 +31,7 @@ fresh_found c plan new (is_new f e) = (f, ap (λ (j : Journal). j.header) e)
 fresh_found c plan new (is_kept header f r e) = absurd (let x = ap (λ (j : Journal). j.fresh) e in cc)
 
 -- the two flags that count are the same
-same_fault : (volume : ℕ) (taken : Bool) (info : Info) → info_fault volume taken (initialised info) ≡ info_fault volume taken info
+pub same_fault : (volume : ℕ) (taken : Bool) (info : Info) → info_fault volume taken (initialised info) ≡ info_fault volume taken info
 same_fault volume taken info =
     let rest : Option JnlRefusal = cond (not (eqb (info.offset % 512) 0) || taken) (Some (BadInfo 36)) (cond (not (is_sized volume info)) (Some (BadInfo 44)) None) in
     ap (λ x. cond (not (eqb x 0)) (Some OtherDevice) (cond (not (not (eqb (bit_and (bit_and info.flags 4294967291) 1) 0))) (Some (BadInfo 0)) rest)) (elsewhere_stays info.flags)
@@ -71,8 +71,9 @@ module _ (c : Content) (plan : Plan) (is : IsPlan c plan) (total : ℕ) (fits : 
   agreeing image long each = subst (λ (d : Content). AgreesOutsideJournal plan d image) (sym same_content) (record { size = long; each = each })
 
   -- the flag still stands
-  stands_new : (image : Content) → length image ≡ length c → ((s : ℕ) → s ≢ plan.info.offset / 512 → sector image s ≡ sector c s) → StandsForSame plan c image
-  stands_new image long same =
+  stands_new : (image : Content) → length image ≡ length c → ((s : ℕ) → s ≢ plan.info.offset / 512 → sector image s ≡ sector c s)
+      → (sector image (plan.info.offset / 512) ≡ sector c (plan.info.offset / 512)) ⊎ (sector image (plan.info.offset / 512) ≡ empty_header plan c) → StandsForSame plan c image
+  stands_new image long same header =
       let at = plan.place.info_sector in
       let info : info_in at image ≡ Ok plan.info = ap (λ n. info_from n at (sector image at)) long ∙ ap (λ (b : List ℕ). info_from (length c) at b) (same at not_info) ∙ parts.whole in
       let k = fresh_journal plan.info in
@@ -85,12 +86,23 @@ module _ (c : Content) (plan : Plan) (is : IsPlan c plan) (total : ℕ) (fits : 
             ∙ stands_for at plan.place.last_mounted k image found (empty_fault at plan.place.last_mounted k image none refl)
             ∙ ap (λ (x : Content). Ok x) (empty_replay k image none);
         agrees = agreeing image long (λ s. elim (cases_eq s (plan.info.offset / 512)) [ inl e ↦ inr (inl e) | inr n ↦ inl (same s n) ]);
+        volume = keeps image (same 2 not_two);
+        journal = k;
+        found = found;
+        offset = refl;
+        size = refl;
+        order = ap (λ (h : Header). h.order) (sym facts.1);
+        blhdr = ap (λ (h : Header). h.blhdr) (sym facts.1);
+        header = header;
+        info = inl (same at not_info);
+        own = λ s own. refl;
       }
 
   -- it is cleared
-  stands_done : (image : Content) (old rest : List ℕ) → length image ≡ length c → 52 ≤ length old → sector image plan.place.info_sector ≡ with_info (initialised plan.info) old → sector image (plan.info.offset / 512) ≡ header_bytes (emptied plan.header) ++ rest
+  stands_done : (image : Content) (old : List ℕ) → length image ≡ length c → 52 ≤ length old → old ≡ sector c plan.place.info_sector → sector image plan.place.info_sector ≡ with_info (initialised plan.info) old → sector image (plan.info.offset / 512) ≡ empty_header plan c
       → ((s : ℕ) → s ≢ plan.info.offset / 512 → s ≢ plan.place.info_sector → sector image s ≡ sector c s) → StandsForSame plan c image
-  stands_done image old rest long enough info_new header_new same =
+  stands_done image old long enough was info_new header_new same =
+      let rest = drop 44 (sector c (plan.info.offset / 512)) in
       let at = plan.place.info_sector in
       let base = plan.info.offset / 512 in
       let done = initialised plan.info in
@@ -139,6 +151,16 @@ module _ (c : Content) (plan : Plan) (is : IsPlan c plan) (total : ℕ) (fits : 
             ∙ stands_for at plan.place.last_mounted k image found (empty_fault at plan.place.last_mounted k image none refl)
             ∙ ap (λ (x : Content). Ok x) (empty_replay k image none);
         agrees = agreeing image long other;
+        volume = keeps image (same 2 not_two (λ e. info_not_two (sym e)));
+        journal = k;
+        found = found;
+        offset = refl;
+        size = refl;
+        order = refl;
+        blhdr = refl;
+        header = inr header_new;
+        info = inr (new, info_new ∙ ap (with_info done) was);
+        own = λ s own. refl;
       }
 
   base_inside : plan.info.offset / 512 + 1 ≤ length c
@@ -150,13 +172,15 @@ module _ (c : Content) (plan : Plan) (is : IsPlan c plan) (total : ℕ) (fits : 
       let base = plan.info.offset / 512 in
       let e = empty_header plan c ∷ [] in
       let long : length image ≡ length c = mixes_size c base e image m in
+      let zero_more : base + 0 ≡ base = omega arith in
+      let there = subst (λ k. (sector image k ≡ sector c k) ⊎ (sector image k ≡ sector e 0)) zero_more (mixes_inside c base e image m 0 (omega (arith, base_inside))) in
       stands_new image long (λ s n. elim (cases_lt s (length c)) [
         | inl here ↦ elim (cases_lt s base) [
           | inl before ↦ mixes_before c base e image m s here before
           | inr behind ↦ mixes_behind c base e image m s here (omega (arith, n))
         ]
         | inr past ↦ get_or_past image s [] (omega arith) ∙ sym (get_or_past c s [] past)
-      ])
+      ]) there
 
   -- and then the info block
   pub stage_info : (image : Content) → 52 ≤ length (sector (with_empty_header plan c) plan.place.info_sector)
@@ -188,7 +212,8 @@ module _ (c : Content) (plan : Plan) (is : IsPlan c plan) (total : ℕ) (fits : 
         | inl kept ↦
             let there : sector image at ≡ sector d at = subst (λ k. sector image k ≡ sector d k) at_more kept in
             stands_new image (long ∙ size_d) (λ s n. elim (cases_eq s at) [ inl q ↦ ap (sector image) q ∙ there ∙ ap (sector d) (sym q) ∙ of_d s n | inr k ↦ other s k ∙ of_d s n ])
+            (inr (other base (λ e. not_info (sym e)) ∙ at_base))
         | inr changed ↦
-            stands_done image (sector d at) (drop 44 (sector c base)) (long ∙ size_d) enough (ap (sector image) (sym at_more) ∙ changed) (other base (λ e. not_info (sym e)) ∙ at_base)
+            stands_done image (sector d at) (long ∙ size_d) enough (of_d at not_info) (ap (sector image) (sym at_more) ∙ changed) (other base (λ e. not_info (sym e)) ∙ at_base)
             (λ s n k. other s k ∙ of_d s n)
       ]

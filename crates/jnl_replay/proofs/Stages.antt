@@ -1,5 +1,5 @@
 -- What a crash leaves while a journal is replayed: a content that stands for the same.
-use Rattle.std.proofs.Common.{◌≡◌, ◌≢◌, ◌⊎◌, ◌<◌, ◌≤◌, ◌+◌, ◌-◌, ◌*◌, ◌/◌, ◌^◌, ℕ, Bool, false, not, ◌&&◌, List, [], ◌∷◌, Contains, inl, inr, ⊎_elim, length, take, drop, refl, sym, ◌∙◌, ap, subst, arith, cond, eqb}
+use Rattle.std.proofs.Common.{◌≡◌, ◌≢◌, ◌⊎◌, ◌<◌, ◌≤◌, ◌+◌, ◌-◌, ◌*◌, ◌/◌, ◌^◌, ℕ, Bool, false, not, ◌&&◌, List, [], ◌∷◌, ◌++◌, Contains, inl, inr, ⊎_elim, length, take, drop, refl, sym, ◌∙◌, ap, subst, arith, cond, eqb}
 use Rattle.std.specs.Prelude.{None, Some, Ok, option_map}
 use Rattle.std.proofs.lemmas.Bool.{cases_lt, cases_eq, le-leb, eq-eqb}
 use Rattle.std.proofs.lemmas.List.{ext_get_or, get_or_past, get_or-map}
@@ -10,7 +10,7 @@ use Rattle.sector_disk.specs.Lists.{Content, sector}
 use Rattle.sector_disk.specs.Disk.{candidates_of, only, Mixes}
 use Rattle.sector_disk.proofs.Stages.{mixes_size, mixes_before, mixes_behind, mixes_inside, length-only}
 use Rattle.jnl_format.specs.Info.{is_fresh}
-use Rattle.jnl_format.specs.Header.{header_read, header_spelled, IsHeader}
+use Rattle.jnl_format.specs.Header.{header_bytes, header_read, header_spelled, IsHeader}
 use Rattle.jnl_format.specs.Ring.{journal_bytes, bytes_from, distance, offset_after}
 use Rattle.jnl_format.specs.Text.{bad_list, text_homes}
 use Rattle.jnl_format.specs.Recovery.{header_of_volume, Journal, journal_in, info_in, info_from, text_of, volume_of, homes_of, foreign_fault, text_fault, or_else, with_homes, replayed}
@@ -18,12 +18,14 @@ use Rattle.jnl_format.specs.declared.blocks.Home.{Home}
 use Rattle.jnl_format.specs.declared.structures.Info.{Info}
 use Rattle.jnl_format.specs.declared.structures.Header.{Header}
 use Rattle.jnl_format.specs.declared.structures.JnlRefusal.TheVariants.{BadList, ForeignJournal}
-use Rattle.jnl_format.proofs.Alike.{StandsAlike, KeepsHeader, stands_alike, stands_for, same_place, recovers, text_parts}
-use Rattle.jnl_format.proofs.Mixing.{MixesHomes, IsHomeOf, mixes_with_homes}
+use Rattle.jnl_format.proofs.Homes.{Each, IsGoodHome}
+use Rattle.jnl_format.specs.declared.blocks.Volume.{Volume}
+use Rattle.jnl_format.proofs.Alike.{good_homes, StandsAlike, KeepsHeader, stands_alike, stands_for, same_place, recovers, text_parts}
+use Rattle.jnl_format.proofs.Mixing.{MixesHomes, IsHomeOf, mixes_with_homes, named_home, not_named}
 use Rattle.jnl_format.proofs.ReadBack.{header_back, checksum_fits}
 use Rattle.jnl_format.proofs.Recovering.{Found, is_new, is_kept, journal_parts, journal_is_kept, apart_sector, header_parts, kept_journal, found_journal}
 use Rattle.jnl_format.proofs.Volumes.{IsSame}
-use Rattle.jnl_replay.specs.Homing.{AreHomesOf, IsHomeMix, StandsForSame, emptied, empty_header}
+use Rattle.jnl_replay.specs.Homing.{AreHomesOf, IsHomeMix, IsJournalSector, StandsForSame, emptied, empty_header}
 use Rattle.jnl_replay.specs.Plan.{IsPlan, FitsPlan, journal_of}
 use Rattle.jnl_replay.specs.Text.{words, text_in}
 use Rattle.jnl_replay.specs.declared.plan.Plan.{Plan}
@@ -70,16 +72,34 @@ pub words_of_plan : (c : Content) (plan : Plan) (text : Text) → text ≡ text_
 unfolding words
 words_of_plan c plan text same = ap (λ (t : Text). words t c) same
 
+-- no home is a sector of the journal, or the info block
+never_home : (volume : Volume) (text : List ℕ) (s : ℕ) (home : Home) → ((volume.first ≤ s) × (s < volume.first + volume.count)) ⊎ (s ≡ volume.info_sector) → IsGoodHome volume text home → home.sector ≢ s
+never_home volume text s home (inl inside) good same = elim good.apart [ inl a ↦ absurd (omega (arith, a, same, inside.0)) | inr b ↦ absurd (omega (arith, b, same, inside.1)) ]
+never_home volume text s home (inr info) good same = good.no_info (same ∙ info)
+
+still : (volume : Volume) (text : List ℕ) (homes : List Home) (old new : Content) (s : ℕ) → Each (IsGoodHome volume text) homes → ((volume.first ≤ s) × (s < volume.first + volume.count)) ⊎ (s ≡ volume.info_sector)
+    → (sector new s ≡ sector old s) ⊎ IsHomeOf text homes s (sector new s) → sector new s ≡ sector old s
+still volume text homes old new s all own (inl e) = e
+still volume text homes old new s all own (inr h) = absurd (not_named (IsGoodHome volume text) homes s all (λ home good. never_home volume text s home own good) (named_home text homes s (sector new s) h))
+
 module _ (c : Content) (plan : Plan) (is : IsPlan c plan) where
-  at : ℕ
-  at = plan.place.info_sector
+  -- blocks that are written home leave the journal and the info block alone
+  pub own_still : (image : Content) → MixesHomes (text_of (journal_of plan) c) (homes_of (journal_of plan) c) c image → (s : ℕ) → IsJournalSector plan s → sector image s ≡ sector c s
+  own_still image m s own =
+      still (volume_of plan.place.info_sector (journal_of plan) c) (text_of (journal_of plan) c) (homes_of (journal_of plan) c) c image s (good_homes plan.place.info_sector plan.place.last_mounted (journal_of plan) c is.text) own (m.each s)
+
+  pub replayed_still : (s : ℕ) → IsJournalSector plan s → sector (replayed (journal_of plan) c) s ≡ sector c s
+  replayed_still s own = own_still (replayed (journal_of plan) c) (mixes_with_homes (text_of (journal_of plan) c) (homes_of (journal_of plan) c) c) s own
 
   alike : (image : Content) → MixesHomes (text_of (journal_of plan) c) (homes_of (journal_of plan) c) c image → StandsAlike plan.place.info_sector plan.place.last_mounted (journal_of plan) c image
   alike image m = stands_alike plan.place.info_sector plan.place.last_mounted (journal_of plan) c image is.journal is.text is.place.accepted m
 
+  base_own : (total : ℕ) → FitsPlan total plan → IsJournalSector plan (plan.info.offset / 512)
+  base_own total fits = inl (omega arith, omega (arith, fits.least))
+
   -- some of the blocks are written home
-  pub stands_mixed : (image : Content) → MixesHomes (text_of (journal_of plan) c) (homes_of (journal_of plan) c) c image → StandsForSame plan c image
-  stands_mixed image m =
+  pub stands_mixed : (total : ℕ) → FitsPlan total plan → (image : Content) → MixesHomes (text_of (journal_of plan) c) (homes_of (journal_of plan) c) c image → StandsForSame plan c image
+  stands_mixed total fits image m =
       let a = alike image m in
       record {
         recovered = replayed (journal_of plan) c;
@@ -87,11 +107,21 @@ module _ (c : Content) (plan : Plan) (is : IsPlan c plan) where
             recovers plan.place.info_sector plan.place.last_mounted image (same_place plan.place.info_sector plan.place.last_mounted c image a.size (place_of c plan.place is.place) a.header)
             ∙ stands_for plan.place.info_sector plan.place.last_mounted (journal_of plan) image a.found a.fault ∙ ap (λ (r : Content). Ok r) a.replayed;
         agrees = record { size = refl; each = λ s. inl refl };
+        volume = a.header;
+        journal = journal_of plan;
+        found = a.found;
+        offset = refl;
+        size = refl;
+        order = refl;
+        blhdr = refl;
+        header = inl (own_still image m (plan.info.offset / 512) (base_own total fits));
+        info = inl (own_still image m plan.place.info_sector (inr refl));
+        own = λ s own. replayed_still s own ∙ sym (own_still image m s own);
       }
 
   -- all are
-  pub stands_replayed : StandsForSame plan c (replayed (journal_of plan) c)
-  stands_replayed = stands_mixed (replayed (journal_of plan) c) (mixes_with_homes (text_of (journal_of plan) c) (homes_of (journal_of plan) c) c)
+  pub stands_replayed : (total : ℕ) → FitsPlan total plan → StandsForSame plan c (replayed (journal_of plan) c)
+  stands_replayed total fits = stands_mixed total fits (replayed (journal_of plan) c) (mixes_with_homes (text_of (journal_of plan) c) (homes_of (journal_of plan) c) c)
 
   replayed_alike : StandsAlike plan.place.info_sector plan.place.last_mounted (journal_of plan) c (replayed (journal_of plan) c)
   replayed_alike = alike (replayed (journal_of plan) c) (mixes_with_homes (text_of (journal_of plan) c) (homes_of (journal_of plan) c) c)
@@ -173,6 +203,16 @@ module _ (c : Content) (plan : Plan) (is : IsPlan c plan) (total : ℕ) (fits : 
             ∙ stands_for info_at version k image found (empty_fault info_at version k image none refl)
             ∙ ap (λ (x : Content). Ok x) (empty_replay k image none);
         agrees = record { size = long; each = λ s. elim (cases_eq s base) [ inl e ↦ inr (inl e) | inr n ↦ inl (same s n) ] };
+        volume = keeps;
+        journal = k;
+        found = found;
+        offset = refl;
+        size = refl;
+        order = refl;
+        blhdr = refl;
+        header = inr (new ∙ ap (λ (v : List ℕ). header_bytes (emptied plan.header) ++ drop 44 v) (replayed_still c plan is base (base_own c plan is total fits)));
+        info = inl (same info_at not_info ∙ replayed_still c plan is info_at (inr refl));
+        own = λ s own. refl;
       }
 
   -- while its header is written, the old one or the new one stands there
@@ -196,6 +236,6 @@ module _ (c : Content) (plan : Plan) (is : IsPlan c plan) (total : ℕ) (fits : 
         | inl kept ↦
             let there : sector image base ≡ sector rc base = subst (λ k. sector image k ≡ sector rc k) zero_more kept in
             let whole : image ≡ rc = ext_get_or [] image rc long (λ s below. elim (cases_eq s base) [ inl q ↦ ap (sector image) q ∙ there ∙ ap (sector rc) (sym q) | inr n ↦ other s n ]) in
-            subst (StandsForSame plan c) (sym whole) (stands_replayed c plan is)
+            subst (StandsForSame plan c) (sym whole) (stands_replayed c plan is total fits)
         | inr changed ↦ stands_empty image long other (ap (sector image) (sym zero_more) ∙ changed)
       ]

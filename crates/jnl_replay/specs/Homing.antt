@@ -1,15 +1,16 @@
 -- Blocks written home: what a crash leaves on the way, and what stands at the end.
-use Rattle.std.specs.Prelude.{◌≡◌, ◌⊎◌, ◌<◌, ◌/◌, ℕ, List, [], ◌∷◌, ◌++◌, length, drop, bit_and, if◌then◌else◌, None, Contains, Ok}
+use Rattle.std.specs.Prelude.{◌≡◌, ◌⊎◌, ◌<◌, ◌≤◌, ◌+◌, ◌/◌, ℕ, List, [], ◌∷◌, ◌++◌, length, drop, bit_and, if◌then◌else◌, None, true, Contains, Ok}
 use Rattle.sector_disk.specs.Lists.{Content, sector, put_sectors}
 use Rattle.sector_disk.specs.Disk.{Candidates, candidates_of, content}
 use Rattle.jnl_format.specs.Info.{with_info}
 use Rattle.jnl_format.specs.Header.{header_bytes}
 use Rattle.jnl_format.specs.Text.{bad_list, text_homes}
-use Rattle.jnl_format.specs.Recovery.{recovery, replayed}
+use Rattle.jnl_format.specs.Recovery.{Journal, journal_in, recovery, replayed}
 use Rattle.jnl_format.specs.declared.blocks.Home.{Home}
 use Rattle.jnl_format.specs.declared.blocks.Volume.{Volume}
 use Rattle.jnl_format.specs.declared.structures.Info.{Info}
 use Rattle.jnl_format.specs.declared.structures.Header.{Header}
+use Rattle.jnl_format.proofs.Alike.{KeepsHeader}
 use Rattle.jnl_format.proofs.Mixing.{IsHomeOf}
 use Rattle.jnl_replay.specs.Plan.{journal_of}
 use Rattle.jnl_replay.specs.declared.plan.Plan.{Plan}
@@ -63,8 +64,25 @@ pub record AgreesOutsideJournal (plan : Plan) (old new : Content) : Type 0 where
   pub size : length new ≡ length old
   pub each : (at : ℕ) → (sector new at ≡ sector old at) ⊎ (at ≡ plan.info.offset / 512) ⊎ (at ≡ plan.place.info_sector)
 
--- a content that stands for what this one does, but in the journal header and the info block
+-- a sector of the journal, or the info block
+abbrev pub IsJournalSector : Plan → ℕ → Type 0
+IsJournalSector plan at = ((plan.info.offset / 512 ≤ at) × (at < plan.info.offset / 512 + plan.info.size / 512)) ⊎ (at ≡ plan.place.info_sector)
+
+-- A content that stands for what this one does, but in the journal header and the info block. It can be mounted: its
+-- volume header is accepted and of the same volume, and its journal has the same place, order and sizes. Its journal
+-- header and its info block are those of before, or those that a replay writes. The journal's own sectors of what it
+-- stands for are its own.
 pub record StandsForSame (plan : Plan) (old image : Content) : Type 0 where
   pub recovered : Content
   pub stands : recovery image ≡ Ok recovered
   pub agrees : AgreesOutsideJournal plan (replayed (journal_of plan) old) recovered
+  pub volume : KeepsHeader old image
+  pub journal : Journal
+  pub found : journal_in plan.place.info_sector image ≡ Ok journal
+  pub offset : journal.info.offset ≡ plan.info.offset
+  pub size : journal.info.size ≡ plan.info.size
+  pub order : journal.header.order ≡ plan.header.order
+  pub blhdr : journal.header.blhdr ≡ plan.header.blhdr
+  pub header : (sector image (plan.info.offset / 512) ≡ sector old (plan.info.offset / 512)) ⊎ (sector image (plan.info.offset / 512) ≡ empty_header plan old)
+  pub info : (sector image plan.place.info_sector ≡ sector old plan.place.info_sector) ⊎ ((plan.fresh ≡ true) × (sector image plan.place.info_sector ≡ with_info (initialised plan.info) (sector old plan.place.info_sector)))
+  pub own : (s : ℕ) → IsJournalSector plan s → sector recovered s ≡ sector image s

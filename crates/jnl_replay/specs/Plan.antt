@@ -1,6 +1,7 @@
 -- What a plan is, and what it is for.
 use Rattle.std.specs.Prelude.{◌≡◌, ◌<◌, ◌≤◌, ◌+◌, ◌%◌, ◌*◌, ℕ, length, Option, None, Some, Result, Ok, Err}
 use Rattle.volume_header.specs.Refusal.{header_refusal}
+use Rattle.jnl_format.specs.Header.{IsHeader}
 use Rattle.jnl_format.specs.Recovery.{Content, header_of_volume, info_sector_of, Journal, journal_in, text_fault, recovery}
 use Rattle.jnl_format.specs.declared.structures.JnlRefusal.{JnlRefusal}
 use Rattle.jnl_replay.specs.declared.plan.Place.{Place}
@@ -51,3 +52,4 @@ pub record FitsPlan (total : ℕ) (plan : Plan) : Type 0 where
   pub end_low : 512 ≤ plan.header.end
   pub end_high : plan.header.end < plan.info.size
   pub blhdr : 512 ≤ plan.header.blhdr
+  pub header : IsHeader plan.info.size plan.header

@@ -20,6 +20,7 @@ pub fn empty_journal<D: SectorDisk>(disk: &mut D, plan: &Plan) -> Result<(), Fai
     requires { FitsPlan (D.state disk.old).sectors plan.now }
     ensures settled { IsTrue (D.state disk.old).tells → OnOk result ((D.state disk.new).candidates ≡ only (with_empty_header plan.now (content (D.state disk.old)))) }
     ensures crash { IsTrue (D.state disk.old).tells → Leaves (D.state disk.old) (D.state disk.new) (Mixes (D.state disk.old).candidates (plan.now.info.offset / 512) (empty_header plan.now (content (D.state disk.old)) ∷ [])) }
+    ensures barriers { (D.state disk.new).barriers ≤ (D.state disk.old).barriers + 1 }
     ensures same { SameDisk (D.state disk.old) (D.state disk.new) }
     ensures sink { SameSink (D.state disk.old) (D.state disk.new) }
     ensures cause { HasCause (D.state disk.old).faults (D.state disk.new).faults result }
@@ -49,6 +50,7 @@ pub fn clear_flag<D: SectorDisk>(disk: &mut D, plan: &Plan) -> Result<(), Failed
     ensures settled { IsTrue (D.state disk.old).tells → OnOk result ((D.state disk.new).candidates ≡ only (with_info_done plan.now (content (D.state disk.old)))) }
     ensures crash { IsTrue (D.state disk.old).tells → Leaves (D.state disk.old) (D.state disk.new)
         (Mixes (D.state disk.old).candidates plan.now.place.info_sector (with_info (initialised plan.now.info) (sector (content (D.state disk.old)) plan.now.place.info_sector) ∷ [])) }
+    ensures barriers { (D.state disk.new).barriers ≤ (D.state disk.old).barriers + 1 }
     ensures same { SameDisk (D.state disk.old) (D.state disk.new) }
     ensures sink { SameSink (D.state disk.old) (D.state disk.new) }
     ensures cause { HasCause (D.state disk.old).faults (D.state disk.new).faults result }

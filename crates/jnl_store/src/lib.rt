@@ -1,11 +1,19 @@
-//! The transactions of a journaled volume.
+//! The transactions of a journaled volume: what is put becomes durable all or nothing.
 #![tactic(auto)]
 
+mod batch;
+mod calls;
+mod commit;
 mod form;
 mod list_header;
 mod lists;
 mod puts;
+mod resting;
+mod space;
+mod store;
+mod transaction;
 
 pub use form::{ListForm, capacity};
-pub use lists::write_lists;
 pub use puts::Put;
+pub use space::Space;
+pub use store::{Store, StoreFault};

@@ -25,7 +25,7 @@ returns-in_err-write_homes-clause-crash g c tells settled =
     let j = journal_of plan in
     let a = homes_of_plan c0 plan t s0.sectors is c.text_of-text.ensures.is (length-content s0 (g.met.D.SectorDisk.well_formed c.args.disk.now) tells) in
     leaves_with s0 s1 (IsHomeMix (words t c0) (homes_of j c0) s0.candidates) (StandsForSame plan c0) (c.write_homes.ensures.crash tells (volume_of plan.place.info_sector j c0) (homes_of j c0) a)
-    (λ image m. stands_mixed c0 plan is image
+    (λ image m. stands_mixed c0 plan is s0.sectors c.requires.fits image
     (subst (λ (w : List ℕ). MixesHomes w (homes_of j c0) c0 image) (words_of_plan c0 plan t c.text_of-text.ensures.is)
     (mix_settled (words t c0) (homes_of j c0) c0 image (subst (λ (d : Candidates). IsHomeMix (words t c0) (homes_of j c0) d image) settled m))))
 
@@ -42,7 +42,7 @@ returns-in_err-barrier-clause-crash g c tells settled =
     let a = homes_of_plan c0 plan t s0.sectors is c.text_of-text.ensures.is (length-content s0 (g.met.D.SectorDisk.well_formed c.args.disk.now) tells) in
     let first : Leaves s0 s1 (StandsForSame plan c0) =
     leaves_with s0 s1 (IsHomeMix (words t c0) (homes_of j c0) s0.candidates) (StandsForSame plan c0) (c.write_homes.ensures.crash tells (volume_of plan.place.info_sector j c0) (homes_of j c0) a)
-    (λ image m. stands_mixed c0 plan is image
+    (λ image m. stands_mixed c0 plan is s0.sectors c.requires.fits image
     (subst (λ (w : List ℕ). MixesHomes w (homes_of j c0) c0 image) (words_of_plan c0 plan t c.text_of-text.ensures.is)
     (mix_settled (words t c0) (homes_of j c0) c0 image (subst (λ (d : Candidates). IsHomeMix (words t c0) (homes_of j c0) d image) settled m)))) in
     leaves_barrier s0 s1 s2 (StandsForSame plan c0) first c.write_homes.ensures.sink c.barrier.ensures.sink c.barrier.ensures.time (barrier_failed s0 s1 s2 (StandsForSame plan c0) first c.in_err-barrier.ensures.failed)
@@ -64,14 +64,14 @@ returns-clause-crash g c tells settled =
     let P : Content → Type 0 = StandsForSame plan c0 in
     let first : Leaves s0 s1 P =
     leaves_with s0 s1 (IsHomeMix (words t c0) (homes_of j c0) s0.candidates) P (c.write_homes.ensures.crash tells (volume_of plan.place.info_sector j c0) (homes_of j c0) a)
-    (λ image m. stands_mixed c0 plan is image
+    (λ image m. stands_mixed c0 plan is s0.sectors c.requires.fits image
     (subst (λ (w : List ℕ). MixesHomes w (homes_of j c0) c0 image) (words_of_plan c0 plan t same)
     (mix_settled (words t c0) (homes_of j c0) c0 image (subst (λ (d : Candidates). IsHomeMix (words t c0) (homes_of j c0) d image) settled m)))) in
     let home : content s1 ≡ replayed j c0 =
     c.in_ok-write_homes.ensures.written tells (volume_of plan.place.info_sector j c0) (homes_of j c0) a ∙ ap (λ (w : List ℕ). with_homes w (homes_of j c0) c0) (words_of_plan c0 plan t same) in
     let second : Leaves s0 s2 P =
     leaves_barrier s0 s1 s2 P first c.write_homes.ensures.sink c.barrier.ensures.sink c.barrier.ensures.time
-    (barrier_now s1 s2 P c.in_ok-barrier.ensures.settled (subst P (sym home) (stands_replayed c0 plan is))) in
+    (barrier_now s1 s2 P c.in_ok-barrier.ensures.settled (subst P (sym home) (stands_replayed c0 plan is s0.sectors c.requires.fits))) in
     let t2 : IsTrue s2.tells = c.barrier.ensures.same.tells ∙ c.write_homes.ensures.same.tells ∙ tells in
     let now : content s2 ≡ replayed j c0 = settled_content s1 s2 c.in_ok-barrier.ensures.settled ∙ home in
     let only_now : s2.candidates ≡ only (replayed j c0) = c.in_ok-barrier.ensures.settled ∙ ap only home in
