@@ -16,3 +16,4 @@ pub mod Kept
 pub mod Images
 pub mod Live
 pub mod Commits
+pub mod Settling
