@@ -1,5 +1,5 @@
 -- A store and its disk between two transactions, and after a barrier.
-use Rattle.std.proofs.Common.{◌≡◌, ◌⊎◌, ℕ, ◌-◌, ◌/◌, ◌<◌, ◌≤◌, Bool, true, false, ◌&&◌, List, [], ◌∷◌, inl, inr, length, refl, sym, ◌∙◌, ap, subst, arith}
+use Rattle.std.proofs.Common.{◌≡◌, ◌⊎◌, ℕ, ◌-◌, ◌/◌, ◌<◌, ◌≤◌, true, ◌&&◌, List, [], ◌∷◌, inl, inr, length, refl, sym, ◌∙◌, ap, subst, arith}
 use Rattle.std.specs.Prelude.{IsTrue, Result, Ok, Err, OnOk, OnErr}
 use Rattle.std.proofs.lemmas.Bool.{and_from, and_parts, cases_lt}
 use Rattle.std.proofs.lemmas.List.{get_or_past, length-map}
@@ -23,12 +23,12 @@ use Rattle.jnl_replay.specs.declared.plan.Plan.{Plan}
 use Rattle.jnl_store.specs.Journal.{IsAtRest, IsClosed, are_open, keeps_journal}
 use Rattle.jnl_store.specs.Overlay.{overlay}
 use Rattle.jnl_store.specs.Standing.{IsReady, IsWritten, Settles, StandsFor, StandsForDurable, StandsForEither, StandsForOne}
-use Rattle.jnl_store.specs.Store.{Keeps, KeepsOn, content_over, durable_of, is_kept}
+use Rattle.jnl_store.specs.Store.{KeepsOn, content_over, durable_of, is_kept}
 use Rattle.jnl_store.specs.declared.store.Store.{Store}
 use Rattle.jnl_store.specs.declared.puts.Put.{Put}
 use Rattle.jnl_store.proofs.Attached.{keeps_only}
 use Rattle.jnl_store.proofs.Images.{text_agrees, text_stands}
-use Rattle.jnl_store.proofs.Journals.{HoldsJournal, KeepsJournal, keeps_from, keeps_parts}
+use Rattle.jnl_store.proofs.Journals.{keeps_from, keeps_parts}
 use Rattle.jnl_store.proofs.Quiet.{rest_replayed, stands_quiet}
 
 -- with no list live, the durable content is the disk's
@@ -55,8 +55,7 @@ kept_from store sectors candidates a b c =
 pub image_quiet : (store : Store) (disk : State) (image : Content) → KeepsOn store disk → IsImage disk.candidates image → StandsForDurable store disk image
 image_quiet store disk image k is =
     let j = keeps_parts store.plan disk.candidates (kept_parts store disk.sectors disk.candidates k.1.kept).0 in
-    let m : MixesInRing (span_of store.plan) 512 [] disk.candidates image = record { size = is.size; each = λ s inside. inl (is.each s inside) } in
-    (
+    let m : MixesInRing (span_of store.plan) 512 [] disk.candidates image = record { size = is.size; each = λ s inside. inl (is.each s inside) } in (
       image,
       text_stands store.plan store.rest disk j [] (omega arith) image m,
       subst (λ (d : Content). AgreesOutside (λ s. IsSpilled store.plan disk.candidates s ⊎ IsClosed store.plan s) d image) (sym (durable_is store (content disk))) (text_agrees store.plan store.rest disk j [] (omega arith) image m),

@@ -1,5 +1,4 @@
-use Rattle.std.proofs.Common.{refl, ◌∙◌, ap}
-use Rattle.sector_disk.specs.Disk.{only}
+use Rattle.std.proofs.Common.{refl}
 use Rattle.jnl_store.proofs.Settling.{barrier_quiet, settles, still_quiet}
 use Rattle.jnl_store.proofs.store.Store.settle.Goals as goal
 

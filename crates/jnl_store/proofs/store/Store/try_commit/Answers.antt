@@ -1,4 +1,4 @@
-use Rattle.std.proofs.Common.{◌≡◌, ◌/◌, ◌-◌, ◌≤◌, List, [], length, refl, sym, ◌∙◌, ap, subst, arith}
+use Rattle.std.proofs.Common.{◌≡◌, ◌/◌, ◌-◌, ◌≤◌, List, [], length, refl, sym, ap, subst, arith}
 use Rattle.sector_disk.specs.Disk.{Leaves, content}
 use Rattle.jnl_store.specs.Batch.{Staged}
 use Rattle.jnl_store.specs.Lists.{text_sectors}
