@@ -15,3 +15,4 @@ pub mod Attached
 pub mod Kept
 pub mod Images
 pub mod Live
+pub mod SpacedPuts
