@@ -16,3 +16,5 @@ pub mod Kept
 pub mod Images
 pub mod Live
 pub mod SpacedPuts
+pub mod SpacedTime
+pub mod SpacedSame
