@@ -17,3 +17,6 @@ pub mod Images
 pub mod Live
 pub mod Commits
 pub mod Settling
+pub mod SpacedPuts
+pub mod SpacedTime
+pub mod SpacedSame
