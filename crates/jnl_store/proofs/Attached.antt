@@ -108,7 +108,7 @@ module _ (c : Content) (plan : Plan) (is : IsPlan c plan) (total : ℕ) (fits : 
       let here : sector image at ≡ v = one_here d at v at_inside in
       let info_is : info_after plan ≡ initialised plan.info = ap (λ b. cond b (initialised plan.info) plan.info) new in
       let two : at ≢ 2 = λ q. no_info_block (sector c 2) (length c) at is.place.accepted
-          (subst (λ (i : Info). IsInfo (length c * 512) at i) (sym (ap (λ k. info_of (sector c k)) (sym q) ∙ parts.read)) parts.info) in
+      (subst (λ (i : Info). IsInfo (length c * 512) at i) (sym (ap (λ k. info_of (sector c k)) (sym q) ∙ parts.read)) parts.info) in
       let volume : sector image 2 ≡ sector c 2 = one_else d at v at_inside 2 (λ q. two (sym q)) ∙ one_else c base_at e inside 2 not_two in
       let header : sector image base_at ≡ e = one_else d at v at_inside base_at (λ q. not_info (sym q)) ∙ one_here c base_at e inside in
       record {

@@ -18,3 +18,4 @@ pub mod Live
 pub mod SpacedPuts
 pub mod SpacedTime
 pub mod SpacedSame
+pub mod SpacedSpill
