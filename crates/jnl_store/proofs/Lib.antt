@@ -15,6 +15,8 @@ pub mod Attached
 pub mod Kept
 pub mod Images
 pub mod Live
+pub mod Commits
+pub mod Settling
 pub mod SpacedPuts
 pub mod SpacedTime
 pub mod SpacedSame

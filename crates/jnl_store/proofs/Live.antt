@@ -1,46 +1,42 @@
 -- A content with a transaction in its journal stands for itself with the puts in place.
-use Rattle.std.proofs.Common.{◌≡◌, ◌≢◌, ◌⊎◌, ℕ, zero, suc, ◌+◌, ◌-◌, ◌*◌, ◌/◌, ◌%◌, ◌^◌, ◌<◌, ◌≤◌, Bool, true, false, ◌&&◌, ◌||◌, not, List, [], ◌∷◌, ◌++◌, inl, inr, ⊎_elim, length, length-set, get_or, get_or-set_same, set, take, drop, refl, sym, ◌∙◌, ap, subst, arith, cond, eqb, ltb, length-take-le}
-use Rattle.std.specs.Prelude.{None, Some, Ok, Option, IsTrue, is_none, option_map, All}
-use Rattle.std.specs.List.{list_all}
-use Rattle.std.proofs.lemmas.Bool.{and_from, and_parts, cases_eq, cases_lt, eq-eqb, ltb-true, ne_eqb, not-true}
+use Rattle.std.proofs.Common.{◌≡◌, ℕ, ◌+◌, ◌-◌, ◌/◌, ◌%◌, ◌^◌, ◌<◌, Bool, true, false, ◌&&◌, ◌||◌, not, List, [], ◌∷◌, ◌++◌, inl, inr, length, length-set, get_or, get_or-set_same, set, take, drop, refl, sym, ◌∙◌, ap, subst, arith, cond, eqb, ltb, length-take-le}
+use Rattle.std.specs.Prelude.{None, Some, Ok, Option, is_none, option_map, All}
+use Rattle.std.proofs.lemmas.Bool.{and_from, and_parts, cases_lt, eq-eqb, ltb-true, ne_eqb, not-true}
 use Rattle.std.proofs.lemmas.Bool.Decides.{nat_tests}
 use Rattle.std.proofs.lemmas.List.{ext_get_or, get_or-take}
 use Rattle.std.proofs.lemmas.List.Elements.{All-nil, All-cons}
 use Rattle.volume_header.specs.Header.{header_of}
 use Rattle.volume_header.specs.Refusal.{header_refusal}
 use Rattle.volume_header.specs.declared.header.VolumeHeader.{VolumeHeader}
-use Rattle.sector_disk.specs.Lists.{Content, sector, put_sectors}
-use Rattle.sector_disk.specs.Disk.{State, content, only, Mixes}
+use Rattle.sector_disk.specs.Lists.{Content, sector}
 use Rattle.sector_disk.specs.Space.{AgreesOutside}
 use Rattle.jnl_format.specs.Header.{header_bytes}
-use Rattle.jnl_format.specs.Info.{info_fault, holds, is_fresh}
 use Rattle.jnl_format.specs.Ring.{bytes_from, distance, offset_after, ring_text}
-use Rattle.jnl_format.specs.Text.{bad_list, is_same_kind, is_same_layout, has_same_bits, is_same_volume, keeps_volume, text_homes}
+use Rattle.jnl_format.specs.Text.{bad_list, is_same_volume, keeps_volume, text_homes}
 use Rattle.jnl_format.specs.Recovery.{header_of_volume, journaling_version, foreign_fault, info_in, journal_in, or_else, recovery, replayed, text_fault, text_of, volume_of, with_homes}
 use Rattle.jnl_format.specs.declared.blocks.Volume.{Volume}
-use Rattle.jnl_format.specs.declared.structures.Header.{Header}
 use Rattle.jnl_format.specs.declared.structures.JnlRefusal.TheVariants.{BadList, ForeignJournal}
 use Rattle.jnl_format.proofs.Alike.{KeepsHeader, stands_for, recovers}
 use Rattle.jnl_format.proofs.Recovering.{journal_is_kept}
-use Rattle.jnl_format.proofs.Volumes.{IsSame, same_as, same_refl}
+use Rattle.jnl_format.proofs.Volumes.{IsSame, same_as}
 use Rattle.jnl_ring.specs.Span.{InBuffer, IsSpan, sector_after}
 use Rattle.jnl_ring.specs.declared.span.Span.{Span}
-use Rattle.jnl_ring.proofs.Bytes.{AreWhole, HasJournal, length-journal}
+use Rattle.jnl_ring.proofs.Bytes.{HasJournal, length-journal}
 use Rattle.jnl_ring.proofs.RingLaws.{in_journal}
 use Rattle.jnl_ring.proofs.Texts.{journal_in as bytes_in, ring_byte}
 use Rattle.jnl_ring.proofs.Wrap.{distance_short, length-from}
 use Rattle.jnl_replay.specs.Plan.{IsPlace, IsPlan, journal_of}
 use Rattle.jnl_replay.specs.declared.plan.Plan.{Plan}
 use Rattle.jnl_replay.proofs.Checks.{place_of}
-use Rattle.jnl_store.specs.Batch.{AreOnce, has, names}
+use Rattle.jnl_store.specs.Batch.{AreOnce, names}
 use Rattle.jnl_store.specs.Journal.{IsAtRest, IsClosed, are_open, is_closed}
 use Rattle.jnl_store.specs.Lists.{IsFitPut, IsForm, lists_text}
 use Rattle.jnl_store.specs.Overlay.{overlay}
 use Rattle.jnl_store.specs.Plan.{form_of, span_of, with_text}
 use Rattle.jnl_store.specs.Standing.{IsInForm, StandsFor}
 use Rattle.jnl_store.specs.declared.puts.Put.{Put}
-use Rattle.jnl_store.proofs.Batches.{both_false, overlay-other}
-use Rattle.jnl_store.proofs.Images.{closed_info, closed_own, closed_parts, overlay_agrees}
+use Rattle.jnl_store.proofs.Batches.{overlay-other}
+use Rattle.jnl_store.proofs.Images.{closed_info, closed_own, overlay_agrees}
 use Rattle.jnl_store.proofs.Journals.{HoldsJournal}
 use Rattle.jnl_store.proofs.ListsLaws.{good_lists, lists_overlay}
 use Rattle.jnl_store.proofs.Quiet.{found_still, header_found, old_is, volume_still}

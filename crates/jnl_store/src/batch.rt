@@ -96,6 +96,7 @@ impl Batch {
         requires { (length self.old.all < self.old.room) ⊎ IsTrue (names self.old.all at) }
         ensures content { (c : Content) → overlay self.new.all c ≡ slice_set (overlay self.old.all c) at from.now }
         ensures names { (s : ℕ) → names self.new.all s ≡ (s == at || names self.old.all s) }
+        ensures few { length self.new.all ≤ length self.old.all + 1 }
         ensures count { length self.new.all ≡ (if names self.old.all at then length self.old.all else length self.old.all + 1) }
         ensures room { self.new.room ≡ self.old.room }
         ensures kept { self.new.kept ≡ self.old.kept }

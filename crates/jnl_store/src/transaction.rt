@@ -32,11 +32,12 @@ pub fn transact<D: SectorDisk>(disk: &mut D, plan: &Plan, puts: &[Put]) -> Resul
     requires rest { IsAtRest plan.now }
     requires fits { FitsPlan (D.state disk.old).sectors plan.now }
     requires once { AreOnce puts.now }
+    requires ready { IsTrue (D.state disk.old).tells → IsReady plan.now puts.now (D.state disk.old) }
     requires room { text_sectors plan.now.header.blhdr (length puts.now) ≤ plan.now.info.size / 512 - 2 }
     ensures plan { IfOk result (λ done. (end : ℕ) × (done ≡ rested (with_text plan.now 512 end))) }
     ensures rest { IfOk result IsAtRest }
-    ensures done { IsReady plan.now puts.now (D.state disk.old) → IfOk result (λ done. IsWritten plan.now done puts.now (D.state disk.old) (D.state disk.new)) }
-    ensures crash { IsReady plan.now puts.now (D.state disk.old) → Leaves (D.state disk.old) (D.state disk.new)
+    ensures done { IsTrue (D.state disk.old).tells → IfOk result (λ done. IsWritten plan.now done puts.now (D.state disk.old) (D.state disk.new)) }
+    ensures crash { IsTrue (D.state disk.old).tells → Leaves (D.state disk.old) (D.state disk.new)
         (StandsForOne plan.now (D.state disk.old) (content (D.state disk.old)) (overlay puts.now (content (D.state disk.old)))) }
     ensures barriers { (D.state disk.new).barriers ≤ (D.state disk.old).barriers + 4 }
     ensures same { SameDisk (D.state disk.old) (D.state disk.new) }
