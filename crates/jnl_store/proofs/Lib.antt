@@ -8,3 +8,16 @@ pub mod ListsRing
 pub mod ListsSectors
 pub mod ListsStanding
 pub mod ListsText
+pub mod Journals
+pub mod Quiet
+pub mod One
+pub mod Attached
+pub mod Kept
+pub mod Images
+pub mod Live
+pub mod Commits
+pub mod Settling
+pub mod SpacedPuts
+pub mod SpacedTime
+pub mod SpacedSame
+pub mod SpacedSpill
