@@ -8,3 +8,9 @@ pub mod ListsRing
 pub mod ListsSectors
 pub mod ListsStanding
 pub mod ListsText
+pub mod Journals
+pub mod Quiet
+pub mod One
+pub mod Attached
+pub mod Kept
+pub mod Images

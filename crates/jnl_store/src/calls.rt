@@ -2,6 +2,7 @@
 ghost use Rattle.std.specs.Prelude.{◌≡◌, ◌<◌, ◌≤◌, ◌+◌, ◌-◌, ℕ, [], Bool, IsTrue, IfOk, OnOk, OnErr, length};
 ghost use Rattle.sector_disk.specs.Lists.{Content};
 ghost use Rattle.sector_disk.specs.Disk.{only};
+ghost use Rattle.jnl_ring.proofs.Bytes.{AreWhole};
 ghost use Rattle.jnl_replay.specs.Homing.{after_replay};
 ghost use Rattle.jnl_replay.specs.Plan.{FitsPlan, IsPlan};
 ghost use Rattle.jnl_store.specs.Batch.{AreOnce};
@@ -30,7 +31,7 @@ impl Store {
         ensures faults { IfOk result (λ store. store.faults ≡ 0) }
         ensures slots { IfOk result (λ store. store.slots ≡ cache) }
         // On the disk that a replay of the plan leaves, it keeps what it has to keep.
-        ensures keeps { (sectors : ℕ) (content : Content) → FitsPlan sectors plan.now → length content ≡ sectors → IsPlan content plan.now
+        ensures keeps { (sectors : ℕ) (content : Content) → FitsPlan sectors plan.now → length content ≡ sectors → AreWhole content → IsPlan content plan.now
             → IfOk result (λ store. Keeps store sectors (only (after_replay plan.now content))) }
     {
         Ok(Store {

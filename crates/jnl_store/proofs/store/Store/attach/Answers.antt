@@ -1,0 +1,11 @@
+use Rattle.std.proofs.Common.{◌≡◌, ◌/◌, ◌<◌, List, ℕ, refl, sym, ◌∙◌, ap, arith}
+use Rattle.jnl_replay.specs.Homing.{after_replay}
+use Rattle.jnl_replay.specs.declared.plan.Plan.{Plan}
+use Rattle.jnl_store.specs.Batch.{Staged}
+use Rattle.jnl_store.specs.Plan.{rested}
+use Rattle.jnl_store.proofs.Attached.{attached}
+use Rattle.jnl_store.proofs.store.Store.attach.Goals as goal
+
+pub returns-clause-keeps : goal.returns-clause-keeps
+returns-clause-keeps c sectors content fits size whole is =
+    attached content c.args.plan.now is sectors fits size whole _ c.rest.ensures (ap (λ (s : Staged). s.all) c.new.ensures) (ap (λ (s : Staged). s.kept) c.new.ensures)
