@@ -1,19 +1,17 @@
 -- The disk that a replay leaves holds the journal of the store that is attached.
-use Rattle.std.proofs.Common.{◌≡◌, ◌≢◌, ◌⊎◌, ℕ, ◌+◌, ◌*◌, ◌/◌, ◌^◌, ◌<◌, ◌≤◌, Bool, true, false, ◌||◌, ◌&&◌, not, List, [], ◌∷◌, ◌++◌, inl, inr, length, take, drop, refl, sym, ◌∙◌, ap, subst, arith, cond, eqb}
-use Rattle.std.specs.Prelude.{None, Ok, Option, IsTrue}
-use Rattle.std.proofs.lemmas.List.{get_or-map, length-map}
-use Rattle.std.proofs.lemmas.Bool.{and_from}
-use Rattle.sector_disk.specs.Lists.{Content, sector, put_sectors}
-use Rattle.sector_disk.specs.Disk.{Candidates, candidates_of, content_of, only}
+use Rattle.std.proofs.Common.{◌≡◌, ◌≢◌, ℕ, ◌*◌, ◌/◌, ◌^◌, ◌<◌, ◌≤◌, Bool, true, false, ◌||◌, not, List, [], ◌∷◌, ◌++◌, inl, inr, length, take, drop, refl, sym, ◌∙◌, ap, subst, arith, cond, eqb}
+use Rattle.std.specs.Prelude.{None}
+use Rattle.std.proofs.lemmas.List.{get_or-map}
+use Rattle.sector_disk.specs.Lists.{Content, sector}
+use Rattle.sector_disk.specs.Disk.{candidates_of, only}
 use Rattle.sector_disk.proofs.Candidates.{content_of-only}
 use Rattle.jnl_format.specs.Header.{header_bytes, header_spelled}
 use Rattle.jnl_format.specs.Checksum.{checksum_of}
 use Rattle.jnl_format.specs.Info.{info_of, info_fault, holds, is_fresh, with_info, IsInfo}
-use Rattle.jnl_format.specs.Recovery.{header_of_volume, info_in, journal_in, replayed, Journal, homes_of, text_of}
+use Rattle.jnl_format.specs.Recovery.{replayed, Journal, homes_of, text_of}
 use Rattle.jnl_format.specs.declared.structures.Info.{Info}
 use Rattle.jnl_format.specs.declared.structures.Header.{Header}
-use Rattle.jnl_format.specs.declared.structures.JnlRefusal.{JnlRefusal}
-use Rattle.jnl_format.proofs.Alike.{KeepsHeader, same_place, IsPlaceOf}
+use Rattle.jnl_format.proofs.Alike.{KeepsHeader, same_place}
 use Rattle.jnl_format.proofs.Headers.{take_header}
 use Rattle.jnl_format.proofs.InfoBack.{info_back, flag_off, flags_fit, no_info_block}
 use Rattle.jnl_format.proofs.Mixing.{length-with_homes}
@@ -108,7 +106,7 @@ module _ (c : Content) (plan : Plan) (is : IsPlan c plan) (total : ℕ) (fits : 
       let here : sector image at ≡ v = one_here d at v at_inside in
       let info_is : info_after plan ≡ initialised plan.info = ap (λ b. cond b (initialised plan.info) plan.info) new in
       let two : at ≢ 2 = λ q. no_info_block (sector c 2) (length c) at is.place.accepted
-          (subst (λ (i : Info). IsInfo (length c * 512) at i) (sym (ap (λ k. info_of (sector c k)) (sym q) ∙ parts.read)) parts.info) in
+      (subst (λ (i : Info). IsInfo (length c * 512) at i) (sym (ap (λ k. info_of (sector c k)) (sym q) ∙ parts.read)) parts.info) in
       let volume : sector image 2 ≡ sector c 2 = one_else d at v at_inside 2 (λ q. two (sym q)) ∙ one_else c base_at e inside 2 not_two in
       let header : sector image base_at ≡ e = one_else d at v at_inside base_at (λ q. not_info (sym q)) ∙ one_here c base_at e inside in
       record {
@@ -161,10 +159,10 @@ length_by c plan total fits size false =
     let inside : base_at < length rc = omega (arith, long_rc, size, fits.inside, fits.least) in
     length-one rc base_at (empty_header plan rc) inside ∙ long_rc
 
-length-after : (c : Content) (plan : Plan) (total : ℕ) → FitsPlan total plan → length c ≡ total → length (after_replay plan c) ≡ length c
+pub length-after : (c : Content) (plan : Plan) (total : ℕ) → FitsPlan total plan → length c ≡ total → length (after_replay plan c) ≡ length c
 length-after c plan total fits size = length_by c plan total fits size plan.fresh
 
-offset_is : (plan : Plan) (fresh : Bool) → plan.fresh ≡ fresh → (info_after plan).offset ≡ plan.info.offset
+pub offset_is : (plan : Plan) (fresh : Bool) → plan.fresh ≡ fresh → (info_after plan).offset ≡ plan.info.offset
 offset_is plan true e = ap (λ b. (cond b (initialised plan.info) plan.info).offset) e
 offset_is plan false e = ap (λ b. (cond b (initialised plan.info) plan.info).offset) e
 

@@ -150,3 +150,11 @@ room_left puts at room (inr named) other = absurd (true≢false (sym named ∙ o
 pub pushed : {T E : Type 0} (r : Result T E) (new all : List Put) (put : Put) → IsOk r → new ≡ (if is_ok r then all ++ put ∷ [] else all) → new ≡ all ++ put ∷ []
 pushed (Ok x) new all put ok is = is
 pushed (Err e) new all put ok is = absurd (cc ok)
+
+-- how many there are then
+pub counted_set : (puts all : List Put) (k at : ℕ) (put : Put) → puts ≡ all → has all k at → length (set puts k put) ≡ (if names all at then length all else length all + 1)
+counted_set puts all k at put e h = length-set puts k put ∙ ap (λ (l : List Put). length l) e ∙ sym (ap (λ b. if b then length all else length all + 1) (has-names all k at h))
+
+pub counted_push : (puts all new : List Put) (at : ℕ) (put : Put) → puts ≡ all → names all at ≡ false → new ≡ puts ++ put ∷ [] → length new ≡ (if names all at then length all else length all + 1)
+counted_push puts all new at put e other is =
+    ap (λ (l : List Put). length l) is ∙ length-append puts (put ∷ []) ∙ ap (λ (l : List Put). length l + 1) e ∙ sym (ap (λ b. if b then length all else length all + 1) other)

@@ -1,9 +1,9 @@
 -- What a store keeps, from what holds of its journal and its puts.
-use Rattle.std.proofs.Common.{◌≡◌, ℕ, true, ◌&&◌, [], sym, ◌∙◌, ap}
+use Rattle.std.proofs.Common.{◌≡◌, ℕ, ◌&&◌, [], sym, ◌∙◌, ap}
 use Rattle.std.specs.Prelude.{IsTrue}
 use Rattle.std.proofs.lemmas.Bool.{and_from}
 use Rattle.sector_disk.specs.Lists.{Content}
-use Rattle.sector_disk.specs.Disk.{content_of, only}
+use Rattle.sector_disk.specs.Disk.{only}
 use Rattle.sector_disk.proofs.Candidates.{content_of-only}
 use Rattle.jnl_replay.specs.declared.plan.Plan.{Plan}
 use Rattle.jnl_store.specs.Journal.{are_open, keeps_journal}

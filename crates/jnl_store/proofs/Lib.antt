@@ -14,3 +14,9 @@ pub mod One
 pub mod Attached
 pub mod Kept
 pub mod Images
+pub mod Live
+pub mod Commits
+pub mod Settling
+pub mod SpacedPuts
+pub mod SpacedTime
+pub mod SpacedSame

@@ -1,5 +1,5 @@
 //! The puts since the last commit, in memory that was found before them.
-ghost use Rattle.std.specs.Prelude.{◌≡◌, ◌⊎◌, ◌<◌, ◌≤◌, ◌+◌, ◌==◌, ◌||◌, ℕ, [], IsTrue, Bool, length, slice_set, MatchOption, OnOk, OnErr};
+ghost use Rattle.std.specs.Prelude.{◌≡◌, ◌⊎◌, ◌<◌, ◌≤◌, ◌+◌, ◌==◌, ◌||◌, ℕ, [], IsTrue, Bool, length, slice_set, if◌then◌else◌, MatchOption, OnOk, OnErr};
 ghost use Rattle.sector_disk.specs.Lists.{Content, sector};
 ghost use Rattle.jnl_store.specs.Batch.{AreOnce, has, names};
 ghost use Rattle.jnl_store.specs.Overlay.{overlay};
@@ -96,6 +96,8 @@ impl Batch {
         requires { (length self.old.all < self.old.room) ⊎ IsTrue (names self.old.all at) }
         ensures content { (c : Content) → overlay self.new.all c ≡ slice_set (overlay self.old.all c) at from.now }
         ensures names { (s : ℕ) → names self.new.all s ≡ (s == at || names self.old.all s) }
+        ensures few { length self.new.all ≤ length self.old.all + 1 }
+        ensures count { length self.new.all ≡ (if names self.old.all at then length self.old.all else length self.old.all + 1) }
         ensures room { self.new.room ≡ self.old.room }
         ensures kept { self.new.kept ≡ self.old.kept }
     {

@@ -53,3 +53,32 @@ pub fn puts_at_most(form: &ListForm) -> u64
 {
     u64::from(form.blhdr / 16 - 2)
 }
+
+#[cfg(test)]
+mod tests {
+    use super::*;
+
+    // The largest m with `m + h * ceil(m / E)` at most T, by hand: T is the buffer's sectors but one, h those of a list's
+    // header, E its entries but entry 0.
+    #[test]
+    fn lists_fill_the_buffer_but_one_sector(rt: HostRuntime) {
+        for (sectors, blhdr, want) in [
+            (3, 512, 0),
+            (4, 512, 1),
+            (33, 512, 30),
+            (34, 512, 30),
+            (35, 512, 31),
+            (1_024, 4_096, 990),
+        ] {
+            let span = Span {
+                base: 0,
+                size: 512 * sectors,
+            };
+            let form = ListForm {
+                order: Order::Big,
+                blhdr,
+            };
+            assert_eq!(rt; capacity(&span, &form), want, "{sectors} and {blhdr}");
+        }
+    }
+}

@@ -5,6 +5,7 @@ mod batch;
 mod calls;
 mod commit;
 mod form;
+mod header_sector;
 mod list_header;
 mod lists;
 mod puts;

@@ -1,5 +1,5 @@
 //! A store and its disk, as a space of sectors.
-ghost use Rattle.std.specs.Prelude.{◌≡◌, ◌≢◌, ◌⊎◌, ◌<◌, ◌==◌, ◌||◌, ℕ, Bool, IsTrue, OnOk, OnErr};
+ghost use Rattle.std.specs.Prelude.{◌≡◌, ◌≢◌, ◌⊎◌, ◌<◌, ◌≤◌, ◌+◌, ◌==◌, ◌||◌, ℕ, Bool, IsTrue, OnOk, OnErr, length};
 ghost use Rattle.sector_disk.specs.Lists.{sector};
 ghost use Rattle.sector_disk.specs.Cause.{HasCause, next_count};
 ghost use Rattle.sector_disk.specs.Clock.{Passes};
@@ -86,6 +86,8 @@ impl<D: SectorDisk> SectorSpace for Space<'_, '_, D> {
         ensures disk { Untouched (D.state self.old.disk.now) (D.state self.new.disk.now) }
         ensures store { SameButBatch self.old.store.now self.new.store.now }
         ensures kept { self.new.store.now.batch.kept ≡ self.old.store.now.batch.kept }
+        ensures few { length self.new.store.now.batch.all ≤ length self.old.store.now.batch.all + 1 }
+        ensures reserved { self.new.store.now.batch.room ≡ self.old.store.now.batch.room }
         ensures keeps { KeepsOn self.old.store.now (D.state self.old.disk.now) → (IsClosed self.old.store.now.plan at → ⊥) → KeepsOn self.new.store.now (D.state self.new.disk.now) }
     {
         let store = &mut *self.store;

@@ -2,7 +2,7 @@ use Rattle.std.proofs.Common.{◌≡◌, ◌∙◌, ◌<◌, ◌==◌, ◌||◌,
 use Rattle.jnl_store.specs.Batch.{Staged, has, names}
 use Rattle.jnl_store.specs.Overlay.{overlay}
 use Rattle.jnl_store.specs.declared.puts.Put.{Put}
-use Rattle.jnl_store.proofs.Batches.{has-inside, names-set, names-push, overlay-set, overlay-push, batch-set, batch-push, same_names, room_left, pushed}
+use Rattle.jnl_store.proofs.Batches.{has-inside, names-set, names-push, overlay-set, overlay-push, batch-set, batch-push, same_names, room_left, pushed, counted_set, counted_push}
 use Rattle.jnl_store.proofs.batch.Batch.put.Goals as goal
 
 pub index_mut-requires : goal.index_mut-requires
@@ -52,3 +52,15 @@ returns-in-None-clause-names c s =
     let p = c.push-pushed.ensures in
     ap (λ (l : List Put). names l s) (pushed c.push-pushed.result _ _ _ (p.succeeds (omega (arith, some, c.self.inside.puts.ok.0, c.self.invariant.enough))) p.items)
     ∙ names-push c.self.inside.puts.items _ s ∙ ap (λ (l : List Put). s == c.args.at || names l s) e
+
+pub returns-in-Some-clause-count : goal.returns-in-Some-clause-count
+returns-in-Some-clause-count c =
+    let e : c.self.inside.puts.items ≡ c.args.self.now.all = ap (λ (s : Staged). s.all) c.self.view_is in
+    counted_set c.self.inside.puts.items c.args.self.now.all c.in-Some.k c.args.at _ e c.in-Some.ensures
+
+pub returns-in-None-clause-count : goal.returns-in-None-clause-count
+returns-in-None-clause-count c =
+    let e : c.self.inside.puts.items ≡ c.args.self.now.all = ap (λ (s : Staged). s.all) c.self.view_is in
+    let some : length c.self.inside.puts.items < c.self.inside.room = omega (arith, room_left c.args.self.now.all c.args.at c.args.self.now.room c.requires c.in-None.ensures, ap (λ (l : List Put). length l) e, ap (λ (s : Staged). s.room) c.self.view_is) in
+    let p = c.push-pushed.ensures in
+    counted_push c.self.inside.puts.items c.args.self.now.all _ c.args.at _ e c.in-None.ensures (pushed c.push-pushed.result _ _ _ (p.succeeds (omega (arith, some, c.self.inside.puts.ok.0, c.self.invariant.enough))) p.items)

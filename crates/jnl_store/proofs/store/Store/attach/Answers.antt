@@ -1,8 +1,5 @@
-use Rattle.std.proofs.Common.{◌≡◌, ◌/◌, ◌<◌, List, ℕ, refl, sym, ◌∙◌, ap, arith}
-use Rattle.jnl_replay.specs.Homing.{after_replay}
-use Rattle.jnl_replay.specs.declared.plan.Plan.{Plan}
+use Rattle.std.proofs.Common.{ap}
 use Rattle.jnl_store.specs.Batch.{Staged}
-use Rattle.jnl_store.specs.Plan.{rested}
 use Rattle.jnl_store.proofs.Attached.{attached}
 use Rattle.jnl_store.proofs.store.Store.attach.Goals as goal
 
