@@ -20,3 +20,4 @@ pub mod Settling
 pub mod SpacedPuts
 pub mod SpacedTime
 pub mod SpacedSame
+pub mod SpacedSpill

@@ -1,5 +1,4 @@
-use Rattle.std.proofs.Common.{◌≡◌, ℕ, Bool, true, false, ◌&&◌, sym, ◌∙◌, ap, refl, length, List}
-use Rattle.std.specs.Prelude.{IsTrue}
+use Rattle.std.proofs.Common.{refl, length}
 use Rattle.sector_disk.specs.Disk.{content}
 use Rattle.jnl_format.specs.Recovery.{homes_of, replayed}
 use Rattle.jnl_format.proofs.Mixing.{IsNamed}

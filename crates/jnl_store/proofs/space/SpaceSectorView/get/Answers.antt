@@ -1,12 +1,12 @@
-use Rattle.std.proofs.Common.{◌≡◌, ◌<◌, ◌⊎◌, ℕ, List, length, sym, ◌∙◌, ap, subst, arith}
+use Rattle.std.proofs.Common.{◌≡◌, ◌⊎◌, length, sym, ◌∙◌, ap, subst, arith}
 use Rattle.std.proofs.lemmas.List.{length-map}
 use Rattle.sector_disk.specs.Clock.{Passes}
-use Rattle.sector_disk.specs.Disk.{Candidates, content}
+use Rattle.sector_disk.specs.Disk.{content}
 use Rattle.sector_disk.specs.Lists.{Content, last, sector}
 use Rattle.sector_disk.specs.Space.{AgreesOutside}
 use Rattle.jnl_replay.specs.declared.plan.Plan.{Plan}
 use Rattle.jnl_store.specs.Journal.{IsClosed, IsSpilled}
-use Rattle.jnl_store.specs.Store.{durable_of, SameButFaults}
+use Rattle.jnl_store.specs.Store.{durable_of}
 use Rattle.jnl_store.proofs.Journals.{KeepsJournal}
 use Rattle.jnl_store.proofs.SpacedSame.{keeps_same, sectors_same, space_same}
 use Rattle.jnl_store.proofs.SpacedTime.{durable_is, mounted, mounts_durable, tells_parts}
