@@ -1,18 +1,16 @@
 // A full journal, made by the writers of its format.
 ghost use Rattle.std.specs.Prelude.{◌≤◌};
 
-use hx_bytes::{Order, Sector, write_be16, write_be32};
-use jnl_format::{
-    Entry, Header, Info, ListHead, write_entry, write_header, write_info, write_list,
-};
+use hx_bytes::{Order, Sector};
+use jnl_format::{Entry, Header, ListHead, write_entry, write_header, write_list};
 use mem_disk::MemRig;
+use replay_tests::{BASE, INFO, info_block, volume_header};
 use sector_disk::SectorDisk;
 
 const HEADER: u64 = 2;
 
-const INFO: u64 = 16;
-
-const BASE: u64 = 24;
+// The version `HFSJ`.
+const JOURNALING: u32 = 0x4846_534A;
 
 const LIST_SECTORS: u64 = 8;
 
@@ -41,15 +39,12 @@ pub fn put_journal(rig: &mut MemRig, sectors: u64) -> Journal
     requires least { 1024 ≤ sectors }
     requires most { sectors ≤ 1048576 }
 {
-    put(rig, HEADER, &volume_header((3 + sectors / 4) as u32));
-    let mut block = [0; 512];
-    let info = Info {
-        flags: 1,
-        offset: BASE * 512,
-        size: sectors * 512,
-    };
-    write_info(&info, &mut block);
-    put(rig, INFO, &block);
+    put(
+        rig,
+        HEADER,
+        &volume_header(JOURNALING, (3 + sectors / 4) as u32),
+    );
+    put(rig, INFO, &info_block(1, sectors * 512));
     let journal = put_lists(rig, sectors);
     let mut head = [0; 512];
     let header = Header {
@@ -63,19 +58,6 @@ pub fn put_journal(rig: &mut MemRig, sectors: u64) -> Journal
     put(rig, BASE, &head);
     let _settled = rig.barrier();
     journal
-}
-
-/// A volume header of so many blocks of 4,096 bytes, whose info block is block 2.
-fn volume_header(blocks: u32) -> Sector {
-    let mut sector = [0; 512];
-    write_be16(&mut sector, 0, 0x4858);
-    write_be16(&mut sector, 2, 5);
-    write_be32(&mut sector, 4, 0x2100);
-    write_be32(&mut sector, 8, 0x4846_534A);
-    write_be32(&mut sector, 12, 2);
-    write_be32(&mut sector, 40, 4096);
-    write_be32(&mut sector, 44, blocks);
-    sector
 }
 
 // Lists as large as there is room for, up to one sector before the buffer would be full.

@@ -1,9 +1,7 @@
 // Journals replayed, refused, and cut off in the middle.
 use crate::find_plan;
-use crate::journals::{
-    BASE, INFO, header_block, info_block, list_block, list_of, sealed_header, sealed_list,
-    volume_header, with_number,
-};
+use crate::journals::{list_block, list_of, sealed_header, sealed_list, with_number};
+use crate::volumes::{BASE, INFO, header_block, info_block, volume_header};
 use hx_bytes::{Order, Sector};
 use jnl_format::{Entry, JnlRefusal, checksum};
 use jnl_replay::{Peek, PeekView, ReplayFault, replay};
