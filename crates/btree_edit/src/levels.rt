@@ -7,7 +7,7 @@ ghost use Rattle.btree_node.specs.Store.{HasRoom, HasCause};
 ghost use Rattle.btree_node.specs.Tree.{IsTreeNode, kind_at};
 ghost use Rattle.btree_edit.specs.Desk.{IsDeskOf};
 ghost use Rattle.btree_edit.specs.Editing.{Does};
-ghost use Rattle.btree_edit.specs.Halves.{record_of, put_of, with_put};
+ghost use Rattle.btree_edit.specs.Halves.{record_of};
 ghost use Rattle.btree_edit.specs.LevelEdit.{taken, node_room, edited, records_on, CanEdit, MovesEnds, LevelEdit};
 ghost use Rattle.btree_edit.specs.Writes.{SetsNext, SetsBack, WritesHalves, IsOpened};
 
