@@ -245,7 +245,7 @@ module _ (old new : Store) (height node place : ℕ) (removed : Bool) (put : Lis
         ]
 
         for_two : ((k : ℕ) → k < length (edited old node place removed put) → 5 ≤ length (get_or (edited old node place removed put) k [])) → AreForTwo old.shape.node_size (edited old node place removed put)
-        for_two longer = record { over = over; fits = can.fits; some = longer; }
+        for_two longer = record { over = over; fits = can.fits; some = longer }
 
         pub split_edit : LevelEdit old new height node place removed put 2 true desk before after
         split_edit = record {
