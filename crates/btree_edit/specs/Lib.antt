@@ -8,3 +8,4 @@ pub mod LevelEdit
 pub mod Climb
 pub mod Halves
 pub mod Writes
+pub mod Swapping

@@ -1,4 +1,6 @@
 //! A store of nodes in memory: node 0 stands for the header node, and the map is a list of flags.
+#![tactic(auto, unfolding(crate::specs::Store::unwritten_sectors))]
+
 ghost use Rattle.std.specs.Prelude.{◌≡◌, ◌≤◌, ◌<◌, IsTrue, length, IfOk, IfSome, true, false, ◌↔◌, ◌⊎◌, All, replicate, slice_index_or, OnOk, slice_set};
 ghost use Rattle.btree_node.specs.Kept.{AreNodes};
 ghost use Rattle.btree_node.specs.Store.{HasRoom, Writes, SameRoom, SameNodes};

@@ -1,6 +1,7 @@
 // Trees of all orders and sizes: filled, changed, half emptied, filled again and emptied.
 use crate::edits::{add, change, step_through, take_out};
 use crate::{Flaw, Grove, Kind, Wanted, look};
+use btree_edit::{Inserted, Removed};
 use btree_node::{AttrOrder, CatalogOrder, ExtentOrder, KeyOrder};
 use hx_bytes::OutOfMemory;
 use std::alloc::Global;
@@ -259,5 +260,49 @@ fn a_parent_splits_where_a_key_grows(rt: HostRuntime) -> Result<(), Fail> {
         split = split || tree.shape().free < free;
     }
     assert!(rt; split);
+    Ok(())
+}
+
+fn named_key(alloc: Global, folder: u32, units: u16) -> Result<Vec<u8>, OutOfMemory> {
+    let n = folder.to_be_bytes();
+    let size = units.wrapping_mul(2).wrapping_add(6).to_be_bytes();
+    let long = units.to_be_bytes();
+    let mut key = Vec::from_slice(
+        alloc,
+        &[
+            size[0], size[1], n[0], n[1], n[2], n[3], long[0], long[1],
+        ],
+    )?;
+    for _ in 0..units {
+        key.push(0)?;
+        key.push(b'a')?;
+    }
+    Ok(key)
+}
+
+// A node of 4,096 bytes holds 4,080 bytes of records with their offsets: two of these pairs, and not three. So most leaves have
+// a short key first and the long one behind it. Over 21 leaves the root has 21 records of 16 bytes; a long key makes one take 524.
+#[test]
+fn longer_first_keys_split_the_node_above(rt: HostRuntime) -> Result<(), Fail> {
+    let alloc = rt.alloc();
+    let mut tree = Grove::new(alloc, 4096, 60)?;
+    for units in [1, 255] {
+        for folder in 0..20u32 {
+            let key = named_key(alloc, folder, units)?;
+            let added = tree.add::<CatalogOrder>(&key, &[7; 1500]);
+            assert_eq!(rt; added, Some(Inserted::Done), "{folder}");
+        }
+    }
+    assert_eq!(rt; (tree.shape().depth, tree.shape().leaf_records), (2, 40));
+    for (units, depth) in [(1, 3), (255, 0)] {
+        for folder in 0..20u32 {
+            let key = named_key(alloc, folder, units)?;
+            let gone = tree.take_out::<CatalogOrder>(&key);
+            assert_eq!(rt; gone, Some(Removed::Done), "{folder}");
+            assert!(rt; !tree.has::<CatalogOrder>(&key, &[7; 1500]), "{folder}");
+        }
+        assert_eq!(rt; tree.shape().depth, depth);
+    }
+    assert_eq!(rt; (tree.shape().root, tree.shape().free), (0, 59));
     Ok(())
 }
