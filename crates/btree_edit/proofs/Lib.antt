@@ -5,3 +5,6 @@ pub mod Picking
 pub mod Behind
 pub mod Counting
 pub mod Linking
+pub mod Splices
+pub mod Naming
+pub mod Stepping

@@ -1,0 +1,285 @@
+-- One level of an edit keeps the rules of a tree, and hands on what is still to be done.
+use Rattle.std.proofs.Common.{◌≡◌, ◌≢◌, ◌⊎◌, ℕ, zero, suc, ◌+◌, ◌-◌, ◌*◌, ◌/◌, ◌<◌, ◌≤◌, Bool, true, false, List, [], ◌∷◌, ◌++◌, map, length, take, drop, get_or, inl, inr, refl, sym, ◌∙◌, ap, subst, arith}
+use Rattle.std.proofs.lemmas.Bool.{cases_lt, cases_eq}
+use Rattle.std.proofs.lemmas.List.{nil_from_length, length-append, length-take-le, get_or_append_left, get_or-append_right}
+use Rattle.std.specs.declared.cmp.Ordering.{Ordering}
+use Rattle.std.specs.Prelude.{eqb}
+use Rattle.std.specs.List.{range_with_len, count_by}
+use Rattle.btree_node.specs.Node.{items, IsNode, next_of, back_of, kind_of, height_of, SetsLinks}
+use Rattle.btree_node.specs.Levels.{Nodes, entries, key_of, record_for, splice, Ascends}
+use Rattle.btree_node.specs.Store.{Store}
+use Rattle.btree_node.specs.Tree.{IsTreeNode}
+use Rattle.btree_node.specs.declared.store.TreeShape.{TreeShape}
+use Rattle.btree_node.proofs.Levels.{same_entries, level_spliced, names_spliced}
+use Rattle.btree_edit.specs.LevelEdit.{bit, times, head_or, last_or, Linked, parts_of, LevelEdit}
+use Rattle.btree_edit.specs.Climb.{LevelLists, IsLevel, NoneEmpty, tally, IsTreeBut}
+use Rattle.btree_edit.specs.declared.desk.Desk.{Desk}
+use Rattle.btree_edit.proofs.Counting.{bit_same, bit_other, bit_most, bit_true, bit_false, times-append, times_at, times_is, times_place, times_twice, tally_some, tally_changed, tally_twice, bits_changed}
+use Rattle.btree_edit.proofs.Naming.{names_same}
+use Rattle.btree_edit.proofs.Linking.{head_or-append, head_get, head_in, last_in, last_get, linked_split, linked_join, linked_same, linked_front, linked_back}
+
+-- what holds of each of three lists' nodes
+pub each_of : (P : ℕ → Type 0) (xs ys : List ℕ) → ((k : ℕ) → k < length xs → P (get_or xs k 0)) → ((k : ℕ) → k < length ys → P (get_or ys k 0))
+    → (k : ℕ) → k < length (xs ++ ys) → P (get_or (xs ++ ys) k 0)
+each_of P xs ys first second k inside = elim (cases_lt k (length xs)) [
+  | inl front ↦ subst P (sym (get_or_append_left xs ys 0 k front)) (first k front)
+  | inr back ↦ subst P (sym (get_or-append_right xs ys (length xs) k 0 refl back)) (second (k - length xs) (omega (arith, length-append xs ys)))
+]
+
+-- a level whose nodes stay
+pub level_kept : {is_key : List ℕ → Type 0} {cmp : List ℕ → List ℕ → Ordering} (old new : Store) (height : ℕ) (ns : List ℕ)
+    → new.shape.node_size ≡ old.shape.node_size → new.shape.total ≡ old.shape.total → ((k : ℕ) → k < length ns → new.nodes (get_or ns k 0) ≡ old.nodes (get_or ns k 0))
+    → IsLevel is_key cmp old height ns → IsLevel is_key cmp new height ns
+level_kept {is_key} {cmp} old new height ns size total same level =
+    let same_items : entries new.nodes ns ≡ entries old.nodes ns = same_entries old.nodes new.nodes ns (λ k inside. ap items (same k inside)) in
+    record {
+      nodes = λ k inside. let node = level.nodes k inside in record {
+        inside = omega (arith, node.inside, total);
+        kind = let kind = node.kind in record {
+          cut = subst (λ l. IsNode l) (sym (same k inside)) kind.cut;
+          has_kind = ap kind_of (same k inside) ∙ kind.has_kind;
+          has_height = ap height_of (same k inside) ∙ kind.has_height;
+        };
+        size = ap length (same k inside) ∙ node.size ∙ sym size;
+      };
+      keys = subst (λ l. (k : ℕ) → k < length l → is_key (key_of (get_or l k []))) (sym same_items) level.keys;
+      ascends = subst (λ l. Ascends cmp l) (sym same_items) level.ascends;
+      linked = linked_same old.nodes new.nodes 0 ns 0 (λ k inside. ap back_of (same k inside)) (λ k inside. ap next_of (same k inside)) level.linked;
+      short = λ leaf. subst (λ l. (k : ℕ) → k < length l → length (get_or l k []) ≤ new.shape.node_size / 2 - 10) (sym same_items)
+          (subst (λ n. (k : ℕ) → k < length (entries old.nodes ns) → length (get_or (entries old.nodes ns) k []) ≤ n / 2 - 10) (sym size) (level.short leaf));
+    }
+
+module _ {is_key : List ℕ → Type 0} {cmp : List ℕ → List ℕ → Ordering} (old new : Store) (depth : ℕ) (levels : LevelLists) (j upper : ℕ) (handed : List (List ℕ))
+    (but : IsTreeBut is_key cmp old depth levels (j + 1) upper handed)
+    (node place : ℕ) (removed : Bool) (put : List (List ℕ)) (count : ℕ) (changed : Bool) (desk : Desk) (before after : TreeShape)
+    (edit : LevelEdit old new (depth - j) node place removed put count changed desk before after)
+    (xs ys : List ℕ) (at : levels j ≡ xs ++ node ∷ ys) (of_tree : j < depth)
+  where
+    parts : List ℕ
+    parts = parts_of count node edit.fresh
+
+    -- a node of a level
+    inside_total : (i k : ℕ) → i < depth → k < length (levels i) → get_or (levels i) k 0 < old.shape.total
+    inside_total i k low inside = ((but.each i low).nodes k inside).inside
+
+    -- it stands in the levels once, has its bit, and isn't reserved
+    stands_once : (n i : ℕ) → i < depth → 1 ≤ times n (levels i) → n < old.shape.total → (tally levels depth n ≡ 1) × (bit (old.used n) ≡ 1) × (bit (old.reserved n) ≡ 0)
+    stands_once n i low some inside =
+        let here = tally_some levels depth n i low in
+        let one = but.mapped n inside in
+        let most = bit_most (old.used n) in (omega arith, omega arith, omega arith)
+
+    times_node : times node (levels j) ≡ times node xs + (1 + times node ys)
+    times_node = ap (λ (l : List ℕ). times node l) at ∙ times-append node xs (node ∷ ys) ∙ omega (arith, bit_same node node refl)
+
+    node_low : node < old.shape.total
+    node_low =
+        let long : length xs < length (levels j) = omega (arith, ap length at, length-append xs (node ∷ ys)) in
+        let is : get_or (levels j) (length xs) 0 ≡ node = ap (λ l. get_or l (length xs) 0) at ∙ get_or-append_right xs (node ∷ ys) (length xs) (length xs) 0 refl (omega arith) ∙ ap (λ k. get_or (node ∷ ys) k 0) {y = 0} (omega arith) in
+        subst (λ n. n < old.shape.total) is (inside_total j (length xs) of_tree long)
+
+    node_once : tally levels depth node ≡ 1
+    node_once = (stands_once node j of_tree (omega (arith, times_node)) node_low).0
+
+    not_zero : (n i : ℕ) → i < depth → 1 ≤ times n (levels i) → n < old.shape.total → n ≢ 0
+    not_zero n i low some inside is =
+        let free : bit (old.reserved n) ≡ 0 = (stands_once n i low some inside).2 in
+        let held : bit (old.reserved n) ≡ 1 = ap (λ k. bit (old.reserved k)) is ∙ ap bit but.header in
+        absurd (omega arith)
+
+    -- another node of the tree isn't among those that hold the records then
+    apart : (n i : ℕ) → i < depth → 1 ≤ times n (levels i) → n < old.shape.total → n ≢ node → times n parts ≡ 0
+    unfolding parts
+    apart n i low some inside other =
+        let used = (stands_once n i low some inside).1 in
+        let none : times n (node ∷ []) ≡ 0 = omega (arith, bit_other node n (λ e. other (sym e))) in
+        omega (arith, edit.used n, bit_most (new.used n))
+
+    in_front : (k : ℕ) → k < length xs → 1 ≤ times (get_or xs k 0) (levels j)
+    in_front k inside =
+        omega (arith, ap (λ (l : List ℕ). times (get_or xs k 0) l) at, times-append (get_or xs k 0) xs (node ∷ ys), times_at xs k inside)
+
+    in_back : (k : ℕ) → k < length ys → 1 ≤ times (get_or ys k 0) (levels j)
+    in_back k inside =
+        omega (arith, ap (λ (l : List ℕ). times (get_or ys k 0) l) at, times-append (get_or ys k 0) xs (node ∷ ys), times_at ys k inside)
+
+    before_node : ℕ
+    before_node = back_of (old.nodes node)
+
+    behind_node : ℕ
+    behind_node = next_of (old.nodes node)
+
+    old_links : Linked old.nodes 0 (xs ++ node ∷ ys) 0
+    old_links = subst (λ l. Linked old.nodes 0 l 0) at (but.each j of_tree).linked
+
+    links_split : Linked old.nodes 0 xs node × Linked old.nodes (last_or xs 0) (node ∷ ys) 0
+    links_split = linked_split old.nodes 0 xs (node ∷ ys) 0 old_links
+
+    before_is : before_node ≡ last_or xs 0
+    unfolding before_node
+    before_is = links_split.1.0
+
+    behind_is : behind_node ≡ head_or ys 0
+    unfolding behind_node
+    behind_is = links_split.1.1
+
+    links_behind : Linked old.nodes node ys 0
+    links_behind = links_split.1.2
+
+    -- what stays of a node beside the changed one
+    record Stays (n : ℕ) : Type 0 where
+      records : items (new.nodes n) ≡ items (old.nodes n)
+      is_node : IsTreeNode new (depth - j) n
+      next : n ≢ before_node → next_of (new.nodes n) ≡ next_of (old.nodes n)
+      back : n ≢ behind_node → back_of (new.nodes n) ≡ back_of (old.nodes n)
+
+    still_node : (n behind earlier : ℕ) → SetsLinks behind earlier (old.nodes n) (new.nodes n) → IsTreeNode old (depth - j) n → IsTreeNode new (depth - j) n
+    still_node n behind earlier sets is = let kind = is.kind in record {
+      inside = omega (arith, is.inside, edit.same.total);
+      kind = record { cut = sets.cut kind.cut; has_kind = sets.kind ∙ kind.has_kind; has_height = sets.height ∙ kind.has_height };
+      size = sets.size ∙ is.size ∙ sym edit.same.node_size;
+    }
+
+    stays : (n : ℕ) → n ≢ node → times n parts ≡ 0 → old.reserved n ≡ false → n ≢ 0 → IsTreeNode old (depth - j) n → Stays n
+    unfolding parts before_node behind_node
+    stays n other none free some is = elim (cases_eq n (back_of (old.nodes node))) [
+      | inl first ↦
+          let sets = edit.back (λ e. some (first ∙ e)) in
+          subst Stays (sym first) (record {
+            records = sets.items (subst (λ m. IsTreeNode old (depth - j) m) first is).kind.cut;
+            is_node = still_node (back_of (old.nodes node)) _ _ sets (subst (λ m. IsTreeNode old (depth - j) m) first is);
+            next = λ e. absurd (e refl);
+            back = λ e. sets.back;
+          })
+      | inr not_first ↦ elim (cases_eq n (next_of (old.nodes node))) [
+        | inl second ↦
+            let sets = edit.next (λ e. some (second ∙ e)) in
+            subst Stays (sym second) (record {
+              records = sets.items (subst (λ m. IsTreeNode old (depth - j) m) second is).kind.cut;
+              is_node = still_node (next_of (old.nodes node)) _ _ sets (subst (λ m. IsTreeNode old (depth - j) m) second is);
+              next = λ e. sets.next;
+              back = λ e. absurd (e refl);
+            })
+        | inr not_second ↦
+            let same = edit.others n free other none not_first not_second in
+            let kind = is.kind in
+            record {
+              records = ap items same;
+              is_node = record {
+                inside = omega (arith, is.inside, edit.same.total);
+                kind = record {
+                  cut = subst (λ l. IsNode l) (sym same) kind.cut;
+                  has_kind = ap kind_of same ∙ kind.has_kind;
+                  has_height = ap height_of same ∙ kind.has_height;
+                };
+                size = ap length same ∙ is.size ∙ sym edit.same.node_size;
+              };
+              next = λ e. ap next_of same;
+              back = λ e. ap back_of same;
+            }
+      ]
+    ]
+
+    place_in_level : (n : ℕ) → 1 ≤ times n (levels j) → (k : ℕ) × (k < length (levels j)) × (get_or (levels j) k 0 ≡ n)
+    place_in_level n some = times_place n (levels j) some
+
+    node_of_level : (n : ℕ) → 1 ≤ times n (levels j) → IsTreeNode old (depth - j) n
+    node_of_level n some =
+        let place_of = place_in_level n some in subst (λ m. IsTreeNode old (depth - j) m) place_of.2 ((but.each j of_tree).nodes place_of.0 place_of.1)
+
+    stays_beside : (n : ℕ) → 1 ≤ times n (levels j) → n ≢ node → Stays n
+    stays_beside n some other =
+        let is = node_of_level n some in
+        let once = stands_once n j of_tree some is.inside in
+        stays n other (apart n j of_tree some is.inside other) (bit_false (old.reserved n) once.2) (not_zero n j of_tree some is.inside) is
+
+    most_once : (n : ℕ) → 1 ≤ times n (levels j) → times n xs + (bit (eqb node n) + times n ys) ≤ 1
+    most_once n some =
+        let once = stands_once n j of_tree some (node_of_level n some).inside in
+        omega (arith, tally_some levels depth n j of_tree, ap (λ (l : List ℕ). times n l) at, times-append n xs (node ∷ ys))
+
+    front_other : (k : ℕ) → k < length xs → get_or xs k 0 ≢ node
+    front_other k inside is =
+        let once = most_once (get_or xs k 0) (in_front k inside) in
+        absurd (omega (arith, times_at xs k inside, bit_same node (get_or xs k 0) (sym is)))
+
+    back_other : (k : ℕ) → k < length ys → get_or ys k 0 ≢ node
+    back_other k inside is =
+        let once = most_once (get_or ys k 0) (in_back k inside) in
+        absurd (omega (arith, times_at ys k inside, bit_same node (get_or ys k 0) (sym is)))
+
+    front_stays : (k : ℕ) → k < length xs → Stays (get_or xs k 0)
+    front_stays k inside = stays_beside (get_or xs k 0) (in_front k inside) (front_other k inside)
+
+    back_stays : (k : ℕ) → k < length ys → Stays (get_or ys k 0)
+    back_stays k inside = stays_beside (get_or ys k 0) (in_back k inside) (back_other k inside)
+
+    -- a node before the changed one isn't the one behind it, and only the last of them is the one before it
+    front_not_behind : (k : ℕ) → k < length xs → get_or xs k 0 ≢ behind_node
+    front_not_behind k inside is = elim (cases_lt 0 (length ys)) [
+      | inl some ↦
+          let head : 1 ≤ times (get_or xs k 0) ys = subst (λ n. 1 ≤ times n ys) (sym (is ∙ behind_is)) (head_in ys 0 some) in
+          absurd (omega (arith, most_once (get_or xs k 0) (in_front k inside), times_at xs k inside, head))
+      | inr none ↦
+          let empty : ys ≡ [] = nil_from_length ys (omega arith) in
+          let zero_is : get_or xs k 0 ≡ 0 = is ∙ behind_is ∙ ap (λ l. head_or l 0) empty in
+          not_zero (get_or xs k 0) j of_tree (in_front k inside) (node_of_level (get_or xs k 0) (in_front k inside)).inside zero_is
+    ]
+
+    back_not_before : (k : ℕ) → k < length ys → get_or ys k 0 ≢ before_node
+    back_not_before k inside is = elim (cases_lt 0 (length xs)) [
+      | inl some ↦
+          let last : 1 ≤ times (get_or ys k 0) xs = subst (λ n. 1 ≤ times n xs) (sym (is ∙ before_is)) (last_in xs 0 some) in
+          absurd (omega (arith, most_once (get_or ys k 0) (in_back k inside), times_at ys k inside, last))
+      | inr none ↦
+          let empty : xs ≡ [] = nil_from_length xs (omega arith) in
+          let zero_is : get_or ys k 0 ≡ 0 = is ∙ before_is ∙ ap (λ l. last_or l 0) empty in
+          not_zero (get_or ys k 0) j of_tree (in_back k inside) (node_of_level (get_or ys k 0) (in_back k inside)).inside zero_is
+    ]
+
+    front_not_before : (k : ℕ) → suc k < length xs → get_or xs k 0 ≢ before_node
+    front_not_before k inside is =
+        let last : get_or xs (length xs - 1) 0 ≡ get_or xs k 0 = sym (last_get xs 0 (omega arith)) ∙ sym before_is ∙ sym is in
+        let twice = times_twice (get_or xs k 0) xs k (length xs - 1) (omega arith) (omega arith) refl last in
+        absurd (omega (arith, most_once (get_or xs k 0) (in_front k (omega arith)), twice))
+
+    back_not_behind : (k : ℕ) → suc k < length ys → get_or ys (suc k) 0 ≢ behind_node
+    back_not_behind k inside is =
+        let first : get_or ys 0 0 ≡ get_or ys (suc k) 0 = head_get ys ∙ sym behind_is ∙ sym is in
+        let twice = times_twice (get_or ys (suc k) 0) ys 0 (suc k) (omega arith) (omega arith) first refl in
+        absurd (omega (arith, most_once (get_or ys (suc k) 0) (in_back (suc k) (omega arith)), twice))
+
+    links_front : Linked new.nodes 0 xs (head_or (parts ++ ys) 0)
+    unfolding parts before_node behind_node
+    links_front =
+        linked_front old.nodes new.nodes 0 xs node (head_or (parts_of count node edit.fresh ++ ys) 0)
+        (λ k inside. (front_stays k inside).back (front_not_behind k inside))
+        (λ k inside. (front_stays k (omega arith)).next (front_not_before k inside))
+        (λ some.
+        let nonzero : back_of (old.nodes node) ≢ 0 = λ e.
+        let last = last_in xs 0 some in
+        not_zero (last_or xs 0) j of_tree (omega (arith, last, ap (λ (l : List ℕ). times (last_or xs 0) l) at, times-append (last_or xs 0) xs (node ∷ ys)))
+        (node_of_level (last_or xs 0) (omega (arith, last, ap (λ (l : List ℕ). times (last_or xs 0) l) at, times-append (last_or xs 0) xs (node ∷ ys)))).inside (sym before_is ∙ e) in
+        ap (λ n. next_of (new.nodes n)) (sym before_is) ∙ (edit.back nonzero).next
+            ∙ ap (λ n. head_or (parts_of count node edit.fresh) n) behind_is ∙ sym (head_or-append (parts_of count node edit.fresh) ys 0))
+        links_split.0
+
+    links_back : Linked new.nodes (last_or parts (last_or xs 0)) ys 0
+    unfolding parts before_node behind_node
+    links_back =
+        linked_back old.nodes new.nodes node (last_or (parts_of count node edit.fresh) (last_or xs 0)) ys 0
+        (λ k inside. (back_stays k inside).next (back_not_before k inside))
+        (λ k inside. (back_stays (suc k) (omega arith)).back (back_not_behind k inside))
+        (λ some.
+        let head : 1 ≤ times (head_or ys 0) (levels j) = omega (arith, head_in ys 0 some, ap (λ (l : List ℕ). times (head_or ys 0) l) at, times-append (head_or ys 0) xs (node ∷ ys)) in
+        let nonzero : next_of (old.nodes node) ≢ 0 = λ e. not_zero (head_or ys 0) j of_tree head (node_of_level (head_or ys 0) head).inside (sym behind_is ∙ e) in
+        ap (λ n. back_of (new.nodes n)) (sym behind_is) ∙ (edit.next nonzero).back ∙ ap (λ n. last_or (parts_of count node edit.fresh) n) before_is)
+        links_behind
+
+    new_links : Linked new.nodes 0 (xs ++ (parts ++ ys)) 0
+    unfolding parts before_node behind_node
+    new_links =
+        let middle : Linked new.nodes (last_or xs 0) (parts_of count node edit.fresh) (head_or ys 0) =
+        subst (λ n. Linked new.nodes n (parts_of count node edit.fresh) (head_or ys 0)) before_is (subst (λ n. Linked new.nodes (back_of (old.nodes node)) (parts_of count node edit.fresh) n) behind_is edit.links) in
+        linked_join new.nodes 0 xs (parts_of count node edit.fresh ++ ys) 0 links_front
+        (linked_join new.nodes (last_or xs 0) (parts_of count node edit.fresh) ys 0 middle links_back)
