@@ -8,3 +8,4 @@ pub mod Linking
 pub mod Splices
 pub mod Naming
 pub mod Stepping
+pub mod Whole

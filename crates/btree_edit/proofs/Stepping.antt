@@ -55,7 +55,7 @@ module _ {is_key : List ℕ → Type 0} {cmp : List ℕ → List ℕ → Orderin
     (edit : LevelEdit old new (depth - j) node place removed put count changed desk before after)
     (xs ys : List ℕ) (at : levels j ≡ xs ++ node ∷ ys) (of_tree : j < depth)
   where
-    parts : List ℕ
+    abbrev pub parts : List ℕ
     parts = parts_of count node edit.fresh
 
     -- a node of a level
@@ -89,7 +89,6 @@ module _ {is_key : List ℕ → Type 0} {cmp : List ℕ → List ℕ → Orderin
 
     -- another node of the tree isn't among those that hold the records then
     apart : (n i : ℕ) → i < depth → 1 ≤ times n (levels i) → n < old.shape.total → n ≢ node → times n parts ≡ 0
-    unfolding parts
     apart n i low some inside other =
         let used = (stands_once n i low some inside).1 in
         let none : times n (node ∷ []) ≡ 0 = omega (arith, bit_other node n (λ e. other (sym e))) in
@@ -141,7 +140,7 @@ module _ {is_key : List ℕ → Type 0} {cmp : List ℕ → List ℕ → Orderin
     }
 
     stays : (n : ℕ) → n ≢ node → times n parts ≡ 0 → old.reserved n ≡ false → n ≢ 0 → IsTreeNode old (depth - j) n → Stays n
-    unfolding parts before_node behind_node
+    unfolding before_node behind_node
     stays n other none free some is = elim (cases_eq n (back_of (old.nodes node))) [
       | inl first ↦
           let sets = edit.back (λ e. some (first ∙ e)) in
@@ -250,7 +249,7 @@ module _ {is_key : List ℕ → Type 0} {cmp : List ℕ → List ℕ → Orderin
         absurd (omega (arith, most_once (get_or ys (suc k) 0) (in_back (suc k) (omega arith)), twice))
 
     links_front : Linked new.nodes 0 xs (head_or (parts ++ ys) 0)
-    unfolding parts before_node behind_node
+    unfolding before_node behind_node
     links_front =
         linked_front old.nodes new.nodes 0 xs node (head_or (parts_of count node edit.fresh ++ ys) 0)
         (λ k inside. (front_stays k inside).back (front_not_behind k inside))
@@ -265,7 +264,7 @@ module _ {is_key : List ℕ → Type 0} {cmp : List ℕ → List ℕ → Orderin
         links_split.0
 
     links_back : Linked new.nodes (last_or parts (last_or xs 0)) ys 0
-    unfolding parts before_node behind_node
+    unfolding before_node behind_node
     links_back =
         linked_back old.nodes new.nodes node (last_or (parts_of count node edit.fresh) (last_or xs 0)) ys 0
         (λ k inside. (back_stays k inside).next (back_not_before k inside))
@@ -277,9 +276,169 @@ module _ {is_key : List ℕ → Type 0} {cmp : List ℕ → List ℕ → Orderin
         links_behind
 
     new_links : Linked new.nodes 0 (xs ++ (parts ++ ys)) 0
-    unfolding parts before_node behind_node
+    unfolding before_node behind_node
     new_links =
         let middle : Linked new.nodes (last_or xs 0) (parts_of count node edit.fresh) (head_or ys 0) =
         subst (λ n. Linked new.nodes n (parts_of count node edit.fresh) (head_or ys 0)) before_is (subst (λ n. Linked new.nodes (back_of (old.nodes node)) (parts_of count node edit.fresh) n) behind_is edit.links) in
         linked_join new.nodes 0 xs (parts_of count node edit.fresh ++ ys) 0 links_front
         (linked_join new.nodes (last_or xs 0) (parts_of count node edit.fresh) ys 0 middle links_back)
+
+    -- the nodes of the other levels stay as they were
+    pub others_kept : (i : ℕ) → i < depth → i ≢ j → (k : ℕ) → k < length (levels i) → new.nodes (get_or (levels i) k 0) ≡ old.nodes (get_or (levels i) k 0)
+    unfolding before_node behind_node
+    others_kept i low other k inside =
+        let n : ℕ = get_or (levels i) k 0 in
+        let some : 1 ≤ times (get_or (levels i) k 0) (levels i) = times_at (levels i) k inside in
+        let small = inside_total i k low inside in
+        let once = stands_once (get_or (levels i) k 0) i low some small in
+        -- it stands in no other level
+        let alone : times (get_or (levels i) k 0) (levels j) ≡ 0 = elim (cases_lt 0 (times (get_or (levels i) k 0) (levels j))) [
+          | inl too ↦ elim (cases_lt i j) [
+            | inl less ↦ absurd (omega (arith, once.0, tally_twice levels depth (get_or (levels i) k 0) i j less of_tree some too))
+            | inr more ↦ absurd (omega (arith, once.0, tally_twice levels depth (get_or (levels i) k 0) j i (omega arith) low too some))
+          ]
+          | inr none ↦ omega arith
+        ] in
+        let whole : times (get_or (levels i) k 0) xs + (bit (eqb node (get_or (levels i) k 0)) + times (get_or (levels i) k 0) ys) ≡ 0 =
+        omega (arith, ap (λ (l : List ℕ). times (get_or (levels i) k 0) l) at, times-append (get_or (levels i) k 0) xs (node ∷ ys)) in
+        let not_node : get_or (levels i) k 0 ≢ node = λ e. absurd (omega (arith, bit_same node (get_or (levels i) k 0) (sym e))) in
+        let zero_not = not_zero (get_or (levels i) k 0) i low some small in
+        let not_before : get_or (levels i) k 0 ≢ back_of (old.nodes node) = λ e. elim (cases_lt 0 (length xs)) [
+          | inl any ↦ absurd (omega (arith, subst (λ m. 1 ≤ times m xs) (sym (e ∙ before_is)) (last_in xs 0 any)))
+          | inr none ↦ zero_not (e ∙ before_is ∙ ap (λ l. last_or l 0) (nil_from_length xs (omega arith)))
+        ] in
+        let not_behind : get_or (levels i) k 0 ≢ next_of (old.nodes node) = λ e. elim (cases_lt 0 (length ys)) [
+          | inl any ↦ absurd (omega (arith, subst (λ m. 1 ≤ times m ys) (sym (e ∙ behind_is)) (head_in ys 0 any)))
+          | inr none ↦ zero_not (e ∙ behind_is ∙ ap (λ l. head_or l 0) (nil_from_length ys (omega arith)))
+        ] in
+        edit.others (get_or (levels i) k 0) (bit_false (old.reserved (get_or (levels i) k 0)) once.2) not_node (apart (get_or (levels i) k 0) i low some small not_node) not_before not_behind
+
+    same_level : (i : ℕ) → i < depth → i ≢ j → entries new.nodes (levels i) ≡ entries old.nodes (levels i)
+    same_level i low other = same_entries old.nodes new.nodes (levels i) (λ k inside. ap items (others_kept i low other k inside))
+
+    same_level_names : (i : ℕ) → i < depth → i ≢ j → map (λ n. record_for new.nodes n) (levels i) ≡ map (λ n. record_for old.nodes n) (levels i)
+    same_level_names i low other = names_same old.nodes new.nodes (levels i) (λ k inside. ap items (others_kept i low other k inside))
+
+    -- the records of the level then
+    abbrev pub goal_records : List (List ℕ)
+    goal_records = splice (entries old.nodes (levels j)) (length (entries old.nodes xs) + place) (length (entries old.nodes xs) + (place + bit removed)) put
+
+    parts_long : length parts ≡ count
+    parts_long = omega (arith, length-take-le count (node ∷ edit.fresh ∷ []) edit.most)
+
+    module _ (within : place + bit removed ≤ length (items (old.nodes node)))
+        (keys : (k : ℕ) → k < length goal_records → is_key (key_of (get_or goal_records k [])))
+        (ascends : Ascends cmp goal_records)
+        (short : depth - j ≡ 1 → (k : ℕ) → k < length goal_records → length (get_or goal_records k []) ≤ old.shape.node_size / 2 - 10)
+        (some_front : NoneEmpty old.nodes xs) (some_back : NoneEmpty old.nodes ys)
+        (named : j + 1 < depth → map (λ n. record_for old.nodes n) (levels (j + 1)) ≡ goal_records)
+        (changed_levels : LevelLists) (here : changed_levels j ≡ xs ++ (parts ++ ys)) (elsewhere : (i : ℕ) → i ≢ j → changed_levels i ≡ levels i)
+      where
+        records_here : entries new.nodes (xs ++ (parts ++ ys)) ≡ goal_records
+        records_here =
+            level_spliced old.nodes new.nodes xs ys (parts_of count node edit.fresh) node place (place + bit removed) put
+            (λ k inside. (front_stays k inside).records) (λ k inside. (back_stays k inside).records) (omega arith) within edit.records
+            ∙ ap (λ l. splice (entries old.nodes l) (length (entries old.nodes xs) + place) (length (entries old.nodes xs) + (place + bit removed)) put) (sym at)
+
+        pub records_then : entries new.nodes (changed_levels j) ≡ goal_records
+        records_then = ap (λ l. entries new.nodes l) here ∙ records_here
+
+        part_node : (k : ℕ) → k < length parts → IsTreeNode new (depth - j) (get_or parts k 0)
+        part_node k inside = edit.nodes k (omega (arith, parts_long))
+
+        part_some : (k : ℕ) → k < length parts → 0 < length (items (new.nodes (get_or parts k 0)))
+        part_some k inside = edit.some k (omega (arith, parts_long))
+
+        is_level : IsLevel is_key cmp new (depth - j) (xs ++ (parts ++ ys))
+        is_level = record {
+          nodes = each_of (λ n. IsTreeNode new (depth - j) n) xs (parts ++ ys) (λ k inside. (front_stays k inside).is_node)
+              (each_of (λ n. IsTreeNode new (depth - j) n) parts ys (λ k inside. part_node k inside) (λ k inside. (back_stays k inside).is_node));
+          keys = subst (λ l. (k : ℕ) → k < length l → is_key (key_of (get_or l k []))) (sym records_here) keys;
+          ascends = subst (λ l. Ascends cmp l) (sym records_here) ascends;
+          linked = new_links;
+          short = λ leaf. subst (λ l. (k : ℕ) → k < length l → length (get_or l k []) ≤ new.shape.node_size / 2 - 10) (sym records_here)
+              (subst (λ m. (k : ℕ) → k < length goal_records → length (get_or goal_records k []) ≤ m / 2 - 10) (sym edit.same.node_size) (short leaf));
+        }
+
+        none_empty : NoneEmpty new.nodes (xs ++ (parts ++ ys))
+        none_empty =
+            each_of (λ n. 0 < length (items (new.nodes n))) xs (parts ++ ys)
+            (λ k inside. subst (λ l. 0 < length l) (sym (front_stays k inside).records) (some_front k inside))
+            (each_of (λ n. 0 < length (items (new.nodes n))) parts ys (λ k inside. part_some k inside)
+            (λ k inside. subst (λ l. 0 < length l) (sym (back_stays k inside).records) (some_back k inside)))
+
+        level_then : (i : ℕ) → i < depth → IsLevel is_key cmp new (depth - i) (changed_levels i)
+        level_then i low = elim (cases_eq i j) [
+          | inl is ↦ subst (λ m. IsLevel is_key cmp new (depth - m) (changed_levels m)) (sym is) (subst (λ l. IsLevel is_key cmp new (depth - j) l) (sym here) is_level)
+          | inr other ↦
+              subst (λ l. IsLevel is_key cmp new (depth - i) l) (sym (elsewhere i other))
+              (level_kept old new (depth - i) (levels i) edit.same.node_size edit.same.total (others_kept i low other) (but.each i low))
+        ]
+
+        some_then : (i : ℕ) → i < depth → 0 < i ⊎ (j ≤ i) → NoneEmpty new.nodes (changed_levels i)
+        some_then i low which = elim (cases_eq i j) [
+          | inl is ↦ subst (λ m. NoneEmpty new.nodes (changed_levels m)) (sym is) (subst (λ l. NoneEmpty new.nodes l) (sym here) none_empty)
+          | inr other ↦
+              let above : 0 < i ⊎ (j + 1 ≤ i) = elim which [ | inl low_one ↦ inl low_one | inr from ↦ inr (omega arith) ] in
+              subst (λ l. NoneEmpty new.nodes l) (sym (elsewhere i other))
+              (λ k inside. subst (λ l. 0 < length l) (sym (ap items (others_kept i low other k inside))) (but.some i low above k inside))
+        ]
+
+        names_of : (i : ℕ) → i < depth → i ≢ j → map (λ n. record_for new.nodes n) (changed_levels i) ≡ map (λ n. record_for old.nodes n) (levels i)
+        names_of i low other = ap (λ l. map (λ n. record_for new.nodes n) l) (elsewhere i other) ∙ same_level_names i low other
+
+        records_of : (i : ℕ) → i < depth → i ≢ j → entries new.nodes (changed_levels i) ≡ entries old.nodes (levels i)
+        records_of i low other = ap (λ l. entries new.nodes l) (elsewhere i other) ∙ same_level i low other
+
+        named_then : (i : ℕ) → i + 1 < depth → i + 1 ≢ j → entries new.nodes (changed_levels i) ≡ map (λ n. record_for new.nodes n) (changed_levels (i + 1))
+        named_then i low other = elim (cases_eq i j) [
+          | inl is ↦
+              let next_low : j + 1 < depth = omega arith in
+              ap (λ m. entries new.nodes (changed_levels m)) is ∙ records_then ∙ sym (named next_low) ∙ sym (names_of (j + 1) next_low (λ e. absurd (omega arith)))
+              ∙ ap (λ m. map (λ n. record_for new.nodes n) (changed_levels (m + 1))) (sym is)
+          | inr apart_one ↦
+              records_of i (omega arith) apart_one ∙ but.named i low (λ e. absurd (omega arith)) ∙ sym (names_of (i + 1) low other)
+        ]
+
+        wanted_then : (i : ℕ) → i + 1 < depth → i + 1 ≡ j
+            → map (λ n. record_for new.nodes n) (changed_levels (i + 1)) ≡ splice (entries new.nodes (changed_levels i)) (length xs) (length xs + 1) (map (λ n. record_for new.nodes n) parts)
+        wanted_then i low is =
+            let above : entries new.nodes (changed_levels i) ≡ map (λ n. record_for old.nodes n) (xs ++ node ∷ ys) =
+            records_of i (omega arith) (λ e. absurd (omega arith)) ∙ but.named i low (λ e. absurd (omega arith)) ∙ ap (λ m. map (λ n. record_for old.nodes n) (levels m)) is ∙ ap (λ l. map (λ n. record_for old.nodes n) l) at in
+            ap (λ m. map (λ n. record_for new.nodes n) (changed_levels m)) is
+            ∙ ap (λ l. map (λ n. record_for new.nodes n) l) here
+            ∙ names_spliced old.nodes new.nodes xs ys parts node (λ k inside. (front_stays k inside).records) (λ k inside. (back_stays k inside).records)
+            ∙ ap (λ l. splice l (length xs) (length xs + 1) (map (λ n. record_for new.nodes n) parts)) (sym above)
+
+        mapped_then : (n : ℕ) → n < new.shape.total → tally changed_levels depth n + bit (new.reserved n) ≡ bit (new.used n)
+        mapped_then n inside =
+            omega (
+              arith,
+              but.mapped n (omega (arith, edit.same.total)),
+              tally_changed levels changed_levels depth n j of_tree (λ i low other. elsewhere i other),
+              ap (λ (l : List ℕ). times n l) at,
+              times-append n xs (node ∷ ys),
+              ap (λ (l : List ℕ). times n l) here,
+              times-append n xs (parts_of count node edit.fresh ++ ys),
+              times-append n (parts_of count node edit.fresh) ys,
+              edit.used n,
+              ap bit (edit.same.reserved n),
+            )
+
+        free_then : new.shape.free + count_by (λ n. new.used n) (range_with_len 0 new.shape.total) ≡ new.shape.total
+        free_then =
+            let bits = bits_changed new.used old.used (node ∷ []) (parts_of count node edit.fresh) old.shape.total edit.used
+            (λ k inside. subst (λ n. n < old.shape.total) (ap (λ i. get_or (node ∷ []) i 0) {x = 0} {y = k} (omega arith)) node_low)
+            (λ k inside. omega (arith, (edit.nodes k (omega (arith, parts_long))).inside, edit.same.total)) in
+            omega (arith, bits, ap (λ m. count_by (λ n. new.used n) (range_with_len 0 m)) edit.same.total, but.free, edit.free, parts_long, edit.same.total)
+
+        pub stepped : IsTreeBut is_key cmp new depth changed_levels j (length xs) (map (λ n. record_for new.nodes n) parts)
+        stepped = record {
+          each = level_then;
+          some = some_then;
+          named = named_then;
+          wanted = wanted_then;
+          mapped = mapped_then;
+          header = edit.same.reserved 0 ∙ but.header;
+          free = free_then;
+        }
