@@ -9,3 +9,4 @@ pub mod Splices
 pub mod Naming
 pub mod Stepping
 pub mod Whole
+pub mod Crowning

@@ -89,8 +89,8 @@ child_names nodes (n ∷ ns) each =
 
 -- levels that hand nothing on are those of a tree
 module _ {is_key : List ℕ → Type 0} {cmp : List ℕ → List ℕ → Ordering} (key_length : (a : List ℕ) → is_key a → length a ≡ big_at 2 a 0 + 2)
-    (store : Store) (levels : LevelLists) (place : ℕ) (put : List (List ℕ))
-    (but : IsTreeBut is_key cmp store store.shape.depth levels 0 place put)
+    (store : Store) (levels : LevelLists) (from place : ℕ) (put : List (List ℕ))
+    (but : IsTreeBut is_key cmp store store.shape.depth levels from place put) (nothing : (j : ℕ) → j + 1 < store.shape.depth → j + 1 ≢ from)
     (small : store.shape.total ≤ 2 ^ 32) (top : 0 < store.shape.depth → levels 0 ≡ store.shape.root ∷ [])
   where
     pub same_level : (j : ℕ) → j < store.shape.depth → level_of store j ≡ levels j
@@ -99,7 +99,7 @@ module _ {is_key : List ℕ → Type 0} {cmp : List ℕ → List ℕ → Orderin
         let above : j + 1 < store.shape.depth = omega arith in
         let next : level_of store (suc j) ≡ map child_of (entries store.nodes (levels j)) = ap (λ l. map child_of (entries store.nodes l)) (same_level j (omega arith)) in
         let here = but.each (suc j) low in
-        next ∙ ap (λ l. map child_of l) (but.named j above (λ e. absurd (omega arith)))
+        next ∙ ap (λ l. map child_of l) (but.named j above (nothing j above))
         ∙ ap (λ i. map child_of (map (λ n. record_for store.nodes n) (levels i))) (add-one j)
         ∙ child_names store.nodes (levels (suc j))
             (λ k inside. name_child is_key cmp key_length store.nodes (levels (suc j)) (but.some (suc j) low (inl (omega arith))) here.keys k inside
@@ -115,7 +115,7 @@ module _ {is_key : List ℕ → Type 0} {cmp : List ℕ → List ℕ → Orderin
     has_levels = record {
       nodes = λ j k low inside. (is_level j low).nodes k inside;
       named = λ j low. at_level (λ l. entries store.nodes l ≡ map (λ n. record_for store.nodes n) (level_of store (j + 1))) j (omega arith)
-          (at_level (λ l. entries store.nodes (levels j) ≡ map (λ n. record_for store.nodes n) l) (j + 1) low (but.named j low (λ e. absurd (omega arith))));
+          (at_level (λ l. entries store.nodes (levels j) ≡ map (λ n. record_for store.nodes n) l) (j + 1) low (but.named j low (nothing j low)));
       some = λ j k low inside. at_level (λ l. NoneEmpty store.nodes l) (j + 1) low (but.some (j + 1) low (inl (omega arith))) k inside;
       keys = λ j k low inside. (is_level j low).keys k inside;
       short = λ j k leaf inside. (is_level j (omega arith)).short (omega arith) k inside;
