@@ -10,3 +10,5 @@ pub mod Naming
 pub mod Stepping
 pub mod Whole
 pub mod Crowning
+pub mod Fitting
+pub mod Spots

@@ -6,3 +6,5 @@ pub mod Answers
 pub mod Following
 pub mod LevelEdit
 pub mod Climb
+pub mod Way
+pub mod Rising
