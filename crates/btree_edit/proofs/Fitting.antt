@@ -46,9 +46,16 @@ taken_replaced xs ys p inside =
       ap (λ n. taken (drop n xs)) {x = p + 1} {y = suc p} (omega arith),
     )
 
-pub taken_some : (longest : ℕ) (rs : List (List ℕ)) → ((k : ℕ) → k < length rs → length (get_or rs k []) + 2 ≤ longest) → taken rs ≤ length rs * longest
-taken_some longest [] each = omega arith
-taken_some longest (r ∷ rs) each =
-    let rest = taken_some longest rs (λ k inside. each (suc k) (omega arith)) in
+-- one record, and two
+pub taken_one : (longest : ℕ) (rs : List (List ℕ)) → length rs ≤ 1 → ((k : ℕ) → k < length rs → length (get_or rs k []) + 2 ≤ longest) → taken rs ≤ longest
+taken_one longest [] few each = omega arith
+taken_one longest (r ∷ []) few each =
     let first : length r + 2 ≤ longest = each 0 (omega arith) in
-    omega (arith, taken_cons r rs, rest, first)
+    omega (arith, taken_cons r [])
+taken_one longest (r ∷ r2 ∷ rs) few each = absurd (omega arith)
+
+pub taken_two : (longest : ℕ) (rs : List (List ℕ)) → length rs ≤ 2 → ((k : ℕ) → k < length rs → length (get_or rs k []) + 2 ≤ longest) → taken rs ≤ 2 * longest
+taken_two longest [] few each = omega arith
+taken_two longest (r ∷ rs) few each =
+    let first : length r + 2 ≤ longest = each 0 (omega arith) in
+    omega (arith, taken_cons r rs, taken_one longest rs (omega arith) (λ k inside. each (suc k) (omega arith)))

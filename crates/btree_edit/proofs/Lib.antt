@@ -12,3 +12,4 @@ pub mod Whole
 pub mod Crowning
 pub mod Fitting
 pub mod Spots
+pub mod Ascent

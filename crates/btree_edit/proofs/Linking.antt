@@ -96,3 +96,8 @@ pub last_get : (ns : List ℕ) (b : ℕ) → 0 < length ns → last_or ns b ≡ 
 last_get [] b some = absurd (omega arith)
 last_get (n ∷ []) b some = refl
 last_get (n ∷ m ∷ ns) b some = last_get (m ∷ ns) n (omega arith) ∙ ap (λ i. get_or (n ∷ m ∷ ns) i 0) {x = suc (length (m ∷ ns) - 1)} {y = length (n ∷ m ∷ ns) - 1} (omega arith)
+
+-- the last of some nodes, whatever stands before them
+pub last_some : (ns : List ℕ) (a b : ℕ) → 0 < length ns → last_or ns a ≡ last_or ns b
+last_some [] a b some = absurd (omega arith)
+last_some (n ∷ ns) a b some = refl

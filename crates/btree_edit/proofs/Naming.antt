@@ -66,16 +66,20 @@ module _ (is_key : List ℕ → Type 0) (cmp : List ℕ → List ℕ → Orderin
         ∙ ap (λ (l : List ℕ). big_at 4 l 0) (sym (append-nil (big 4 (get_or ns k 0))))
         ∙ number_at-number_bytes Big 4 (get_or ns k 0) 0 [] [] refl small
 
-    named_at : (k : ℕ) → k < length ns → get_or (map (λ n. record_for nodes n) ns) k [] ≡ record_for nodes (get_or ns k 0)
+    pub named_at : (k : ℕ) → k < length ns → get_or (map (λ n. record_for nodes n) ns) k [] ≡ record_for nodes (get_or ns k 0)
     named_at k inside = get_or-map (λ n. record_for nodes n) ns k 0 [] inside
 
-    names_long : length (map (λ n. record_for nodes n) ns) ≡ length ns
+    pub names_long : length (map (λ n. record_for nodes n) ns) ≡ length ns
     names_long = length-map ns (λ n. record_for nodes n)
 
     pub names_keys : (k : ℕ) → k < length (map (λ n. record_for nodes n) ns) → is_key (key_of (get_or (map (λ n. record_for nodes n) ns) k []))
     names_keys k inside =
         let within : k < length ns = omega (arith, names_long) in
         subst is_key (sym (ap key_of (named_at k within) ∙ name_key k within)) (first_is_key k within)
+
+    pub name_long : (k : ℕ) → k < length ns → length (record_for nodes (get_or ns k 0)) ≡ length (first_key nodes (get_or ns k 0)) + 4
+    name_long k inside =
+        omega (arith, length-append (first_key nodes (get_or ns k 0)) (big 4 (get_or ns k 0)), length-number_bytes Big 4 (get_or ns k 0))
 
     pub names_short : (most : ℕ) → ((a : List ℕ) → is_key a → length a ≤ most) → (k : ℕ) → k < length (map (λ n. record_for nodes n) ns) → length (get_or (map (λ n. record_for nodes n) ns) k []) ≤ most + 4
     names_short most bound k inside =

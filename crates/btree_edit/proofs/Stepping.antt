@@ -102,10 +102,10 @@ module _ {is_key : List ℕ → Type 0} {cmp : List ℕ → List ℕ → Orderin
     in_back k inside =
         omega (arith, ap (λ (l : List ℕ). times (get_or ys k 0) l) at, times-append (get_or ys k 0) xs (node ∷ ys), times_at ys k inside)
 
-    before_node : ℕ
+    abbrev pub before_node : ℕ
     before_node = back_of (old.nodes node)
 
-    behind_node : ℕ
+    abbrev pub behind_node : ℕ
     behind_node = next_of (old.nodes node)
 
     old_links : Linked old.nodes 0 (xs ++ node ∷ ys) 0
@@ -114,12 +114,10 @@ module _ {is_key : List ℕ → Type 0} {cmp : List ℕ → List ℕ → Orderin
     links_split : Linked old.nodes 0 xs node × Linked old.nodes (last_or xs 0) (node ∷ ys) 0
     links_split = linked_split old.nodes 0 xs (node ∷ ys) 0 old_links
 
-    before_is : before_node ≡ last_or xs 0
-    unfolding before_node
+    pub before_is : before_node ≡ last_or xs 0
     before_is = links_split.1.0
 
-    behind_is : behind_node ≡ head_or ys 0
-    unfolding behind_node
+    pub behind_is : behind_node ≡ head_or ys 0
     behind_is = links_split.1.1
 
     links_behind : Linked old.nodes node ys 0
@@ -140,7 +138,6 @@ module _ {is_key : List ℕ → Type 0} {cmp : List ℕ → List ℕ → Orderin
     }
 
     stays : (n : ℕ) → n ≢ node → times n parts ≡ 0 → old.reserved n ≡ false → n ≢ 0 → IsTreeNode old (depth - j) n → Stays n
-    unfolding before_node behind_node
     stays n other none free some is = elim (cases_eq n (back_of (old.nodes node))) [
       | inl first ↦
           let sets = edit.back (λ e. some (first ∙ e)) in
@@ -197,12 +194,12 @@ module _ {is_key : List ℕ → Type 0} {cmp : List ℕ → List ℕ → Orderin
         let once = stands_once n j of_tree some (node_of_level n some).inside in
         omega (arith, tally_some levels depth n j of_tree, ap (λ (l : List ℕ). times n l) at, times-append n xs (node ∷ ys))
 
-    front_other : (k : ℕ) → k < length xs → get_or xs k 0 ≢ node
+    pub front_other : (k : ℕ) → k < length xs → get_or xs k 0 ≢ node
     front_other k inside is =
         let once = most_once (get_or xs k 0) (in_front k inside) in
         absurd (omega (arith, times_at xs k inside, bit_same node (get_or xs k 0) (sym is)))
 
-    back_other : (k : ℕ) → k < length ys → get_or ys k 0 ≢ node
+    pub back_other : (k : ℕ) → k < length ys → get_or ys k 0 ≢ node
     back_other k inside is =
         let once = most_once (get_or ys k 0) (in_back k inside) in
         absurd (omega (arith, times_at ys k inside, bit_same node (get_or ys k 0) (sym is)))
@@ -214,7 +211,7 @@ module _ {is_key : List ℕ → Type 0} {cmp : List ℕ → List ℕ → Orderin
     back_stays k inside = stays_beside (get_or ys k 0) (in_back k inside) (back_other k inside)
 
     -- a node before the changed one isn't the one behind it, and only the last of them is the one before it
-    front_not_behind : (k : ℕ) → k < length xs → get_or xs k 0 ≢ behind_node
+    pub front_not_behind : (k : ℕ) → k < length xs → get_or xs k 0 ≢ behind_node
     front_not_behind k inside is = elim (cases_lt 0 (length ys)) [
       | inl some ↦
           let head : 1 ≤ times (get_or xs k 0) ys = subst (λ n. 1 ≤ times n ys) (sym (is ∙ behind_is)) (head_in ys 0 some) in
@@ -249,7 +246,6 @@ module _ {is_key : List ℕ → Type 0} {cmp : List ℕ → List ℕ → Orderin
         absurd (omega (arith, most_once (get_or ys (suc k) 0) (in_back (suc k) (omega arith)), twice))
 
     links_front : Linked new.nodes 0 xs (head_or (parts ++ ys) 0)
-    unfolding before_node behind_node
     links_front =
         linked_front old.nodes new.nodes 0 xs node (head_or (parts_of count node edit.fresh ++ ys) 0)
         (λ k inside. (front_stays k inside).back (front_not_behind k inside))
@@ -264,7 +260,6 @@ module _ {is_key : List ℕ → Type 0} {cmp : List ℕ → List ℕ → Orderin
         links_split.0
 
     links_back : Linked new.nodes (last_or parts (last_or xs 0)) ys 0
-    unfolding before_node behind_node
     links_back =
         linked_back old.nodes new.nodes node (last_or (parts_of count node edit.fresh) (last_or xs 0)) ys 0
         (λ k inside. (back_stays k inside).next (back_not_before k inside))
@@ -276,7 +271,6 @@ module _ {is_key : List ℕ → Type 0} {cmp : List ℕ → List ℕ → Orderin
         links_behind
 
     new_links : Linked new.nodes 0 (xs ++ (parts ++ ys)) 0
-    unfolding before_node behind_node
     new_links =
         let middle : Linked new.nodes (last_or xs 0) (parts_of count node edit.fresh) (head_or ys 0) =
         subst (λ n. Linked new.nodes n (parts_of count node edit.fresh) (head_or ys 0)) before_is (subst (λ n. Linked new.nodes (back_of (old.nodes node)) (parts_of count node edit.fresh) n) behind_is edit.links) in
@@ -285,7 +279,6 @@ module _ {is_key : List ℕ → Type 0} {cmp : List ℕ → List ℕ → Orderin
 
     -- the nodes of the other levels stay as they were
     pub others_kept : (i : ℕ) → i < depth → i ≢ j → (k : ℕ) → k < length (levels i) → new.nodes (get_or (levels i) k 0) ≡ old.nodes (get_or (levels i) k 0)
-    unfolding before_node behind_node
     others_kept i low other k inside =
         let n : ℕ = get_or (levels i) k 0 in
         let some : 1 ≤ times (get_or (levels i) k 0) (levels i) = times_at (levels i) k inside in
