@@ -2,11 +2,11 @@
 use Rattle.std.proofs.Common.{◌≡◌, ◌≢◌, ◌⊎◌, ℕ, zero, suc, add-one, ◌+◌, ◌-◌, ◌*◌, ◌/◌, ◌^◌, ◌<◌, ◌≤◌, Bool, true, false, cond, List, [], ◌∷◌, ◌++◌, map, length, take, drop, get_or, inl, inr, refl, sym, ◌∙◌, ap, subst, arith}
 use Rattle.std.proofs.lemmas.Bool.{cases_lt, cases_eq}
 use Rattle.std.proofs.lemmas.Bool.Decides.{eqb_tells}
-use Rattle.std.proofs.lemmas.List.{nil_from_length, length-take, length-take-le, length-drop, get_or-take, get_or-map, append-nil}
+use Rattle.std.proofs.lemmas.List.{nil_from_length, length-map, length-take, length-take-le, length-drop, get_or-take, get_or-drop, get_or-map, append-nil}
 use Rattle.std.specs.Prelude.{eqb}
 use Rattle.std.specs.declared.cmp.Ordering.{Ordering}
 use Rattle.hx_bytes.specs.Field.{big_at}
-use Rattle.btree_node.specs.Node.{items, IsNode}
+use Rattle.btree_node.specs.Node.{items, next_of, back_of}
 use Rattle.btree_node.specs.Levels.{entries, key_of, first_key, record_for, splice, Ascends}
 use Rattle.btree_node.specs.Store.{Store, SameStore}
 use Rattle.btree_node.specs.Tree.{level_of, entries_of, IsTreeNode, IsTree}
@@ -19,13 +19,15 @@ use Rattle.btree_edit.specs.Way.{stop_at, way_place, IsWay}
 use Rattle.btree_edit.specs.Rising.{leaf_start, leaves_edited, AreOfOneLength, CanClimb, Climbs}
 use Rattle.btree_edit.specs.declared.desk.Desk.{Desk}
 use Rattle.btree_edit.specs.declared.desk.Stop.{Stop}
+use Rattle.btree_edit.proofs.Counting.{bit_other}
 use Rattle.btree_edit.proofs.Descent.{split_at}
-use Rattle.btree_edit.proofs.Splices.{length-splice, spliced_middle, each_spliced}
+use Rattle.btree_edit.proofs.Splices.{length-splice, spliced_middle, each_spliced, splice_same}
 use Rattle.btree_edit.proofs.Naming.{names_same, named_at, names_long, name_long, names_keys, names_short, names_ascend, first_is_key}
 use Rattle.btree_edit.proofs.Fitting.{taken_fits, taken_put, taken_replaced, taken_one, taken_two}
 use Rattle.btree_edit.proofs.Linking.{head_get, last_get, head_or-append, last_or-append, last_some}
+use Rattle.btree_edit.proofs.Stepping.{stepped, records_then, others_kept, front_other, back_other, before_is, behind_is}
 use Rattle.btree_edit.proofs.Whole.{but_of_tree}
-use Rattle.btree_edit.proofs.Crowning.{but_kept, kept_entries}
+use Rattle.btree_edit.proofs.Crowning.{but_kept, is_used}
 use Rattle.btree_edit.proofs.Spots.{spot_of}
 
 -- where a climb is: so many levels are done, and this is handed on to the next
@@ -44,11 +46,17 @@ pub record IsAscent (is_key : List ℕ → Type 0) (cmp : List ℕ → List ℕ 
   pub enough : spare ≤ left + done
   pub first : shape.first ≡ head_or (levels (a.shape.depth - 1)) 0
   pub last : shape.last ≡ last_or (levels (a.shape.depth - 1)) 0
+  pub root : shape.root ≡ a.shape.root
+  pub depth : shape.depth ≡ a.shape.depth
   pub others : (n : ℕ) → a.reserved n ≡ false → a.used n ≡ false → s.used n ≡ false → s.nodes n ≡ a.nodes n
 
 last_is : (l : List ℕ) → get_or l (length l - 1) 0 ≡ last_or l 0
 last_is [] = refl
 last_is (n ∷ l) = sym (last_get (n ∷ l) 0 (omega arith))
+
+head_some : (l : List ℕ) (d b : ℕ) → 0 < length l → get_or l 0 d ≡ head_or l b
+head_some [] d b some = absurd (omega arith)
+head_some (n ∷ l) d b some = refl
 
 -- one level is another list
 abbrev pub with_level : ℕ → List ℕ → LevelLists → LevelLists
@@ -103,6 +111,8 @@ module _ {is_key : List ℕ → Type 0} {cmp : List ℕ → List ℕ → Orderin
           enough = omega arith;
           first = ap (λ h. h.first) shape_is ∙ can.tree.header.first (a.shape.depth - 1) leaf ∙ head_get (level_of a (a.shape.depth - 1));
           last = ap (λ h. h.last) shape_is ∙ can.tree.header.last (a.shape.depth - 1) leaf ∙ last_is (level_of a (a.shape.depth - 1));
+          root = ap (λ h. h.root) shape_is;
+          depth = ap (λ h. h.depth) shape_is;
           others = λ n free unused still. refl;
         }
 
@@ -129,6 +139,8 @@ module _ {is_key : List ℕ → Type 0} {cmp : List ℕ → List ℕ → Orderin
           enough = asc.enough;
           first = asc.first;
           last = asc.last;
+          root = asc.root;
+          depth = asc.depth;
           others = λ n free unused still. nodes n ∙ asc.others n free unused (sym (used n) ∙ still);
         }
 
@@ -418,9 +430,9 @@ module _ {is_key : List ℕ → Type 0} {cmp : List ℕ → List ℕ → Orderin
                 ∙ ap length (named_at is_key cmp key_length s.nodes (asc.levels (j + 1)) (below_some some) (below_level some).keys (length (entries s.nodes xs) + p + k) new_place)
                 ∙ name_long is_key cmp key_length s.nodes (asc.levels (j + 1)) (below_some some) (below_level some).keys (length (entries s.nodes xs) + p + k) new_place
                 ∙ ap (λ n. n + 4)
-                    (one (first_key s.nodes (get_or (asc.levels (j + 1)) (length (entries s.nodes xs) + p + k) 0)) (first_key a.nodes (get_or (level_of a (j + 1)) (length (entries s.nodes xs) + p) 0))
-                    (first_is_key is_key cmp key_length s.nodes (asc.levels (j + 1)) (below_some some) (below_level some).keys (length (entries s.nodes xs) + p + k) new_place)
-                    (first_is_key is_key cmp key_length a.nodes (level_of a (j + 1)) a_some a_level.keys (length (entries s.nodes xs) + p) old_place))
+                (one (first_key s.nodes (get_or (asc.levels (j + 1)) (length (entries s.nodes xs) + p + k) 0)) (first_key a.nodes (get_or (level_of a (j + 1)) (length (entries s.nodes xs) + p) 0))
+                (first_is_key is_key cmp key_length s.nodes (asc.levels (j + 1)) (below_some some) (below_level some).keys (length (entries s.nodes xs) + p + k) new_place)
+                (first_is_key is_key cmp key_length a.nodes (level_of a (j + 1)) a_some a_level.keys (length (entries s.nodes xs) + p) old_place))
                 ∙ sym old_record
 
             same_room : taken (edited s node p gone (records_on next desk)) ≤ node_room s.shape.node_size
@@ -433,7 +445,7 @@ module _ {is_key : List ℕ → Type 0} {cmp : List ℕ → List ℕ → Orderin
                 )
 
         pub fits : FitsTwo s.shape.node_size (edited s node p gone (records_on next desk))
-        fits = elim (cases_lt 0 done) [ | inl some ↦ index_fits some | inr none ↦ leaf_fits (omega arith) ]
+        fits = elim (cases_lt 0 done) [ inl some ↦ index_fits some | inr none ↦ leaf_fits (omega arith) ]
 
         -- where no node may be taken, none is needed
         pub needs_none : AreOfOneLength is_key → put ≡ [] → taken (edited s node p gone (records_on next desk)) ≤ node_room s.shape.node_size
@@ -448,5 +460,323 @@ module _ {is_key : List ℕ → Type 0} {cmp : List ℕ → List ℕ → Orderin
           spot = spot_of s a.shape.depth asc.levels (j + 1) (way_place a path (j + 1)) (records_on next desk) but j of_tree (way_place a path j) node q_inside node_is;
           inside = within;
           fits = fits;
-          enough = elim can.enough [ | inl many ↦ inr (omega (arith, asc.enough)) | inr (none_put, one) ↦ inl (needs_none one none_put) ];
+          enough = elim can.enough [ inl many ↦ inr (omega (arith, asc.enough)) | inr (none_put, one) ↦ inl (needs_none one none_put) ];
+        }
+
+        module _ (t : Store) (count : ℕ) (changed : Bool) (desk2 : Desk) (shape2 : TreeShape) (left2 : ℕ)
+            (edit : LevelEdit s t (a.shape.depth - j) node p gone (records_on next desk) count changed desk2 shape shape2) (spent : left ≤ left2 + 1)
+          where
+            abbrev pub parts : List ℕ
+            parts = parts_of count node edit.fresh
+
+            levels2 : LevelLists
+            levels2 = with_level j (xs ++ (parts ++ ys)) asc.levels
+
+            at_j : levels2 j ≡ xs ++ (parts ++ ys)
+            unfolding levels2
+            at_j = with_level_here j (xs ++ (parts ++ ys)) asc.levels
+
+            elsewhere : (i : ℕ) → i ≢ j → levels2 i ≡ asc.levels i
+            unfolding levels2
+            elsewhere i other = with_level_other j (xs ++ (parts ++ ys)) asc.levels i other
+
+            -- beside the root there is no node of its level, and elsewhere none is empty
+            root_alone : length (level_of a 0) ≡ 1
+            root_alone = refl
+
+            xs_none : j ≡ 0 → length xs ≡ 0
+            xs_none root = omega (arith, xs_long, ap (λ i. way_place a path i) root)
+
+            ys_none : j ≡ 0 → length ys ≡ 0
+            ys_none root = omega (arith, length-drop (suc (way_place a path j)) (asc.levels j), ap length level_is, ap (λ i. length (level_of a i)) root)
+
+            some_level : 0 < j → NoneEmpty s.nodes (asc.levels j)
+            some_level above_root = but.some j of_tree (inl above_root)
+
+            some_xs : NoneEmpty s.nodes xs
+            some_xs k inside = elim (cases_lt 0 j) [
+              | inl above_root ↦
+                  subst (λ n. 0 < length (items (s.nodes n))) (sym (get_or-take (way_place a path j) (asc.levels j) k 0 (omega (arith, xs_long)))) (some_level above_root k (omega (arith, xs_long, q_inside)))
+              | inr root ↦ absurd (omega (arith, xs_none (omega arith)))
+            ]
+
+            some_ys : NoneEmpty s.nodes ys
+            some_ys k inside = elim (cases_lt 0 j) [
+              | inl above_root ↦
+                  subst (λ n. 0 < length (items (s.nodes n))) (sym (get_or-drop (suc (way_place a path j)) (asc.levels j) k 0))
+                  (some_level above_root (suc (way_place a path j) + k) (omega (arith, length-drop (suc (way_place a path j)) (asc.levels j))))
+              | inr root ↦ absurd (omega (arith, ys_none (omega arith)))
+            ]
+
+            named_goal : j + 1 < a.shape.depth → map (λ n. record_for s.nodes n) (asc.levels (j + 1)) ≡ goal
+            named_goal low = goal_above (omega arith)
+
+            but2 : IsTreeBut is_key cmp t a.shape.depth levels2 j (length xs) (map (λ n. record_for t.nodes n) parts)
+            but2 =
+                stepped s t a.shape.depth asc.levels j (way_place a path (j + 1)) (records_on next desk) but node p gone (records_on next desk) count changed desk2 shape shape2 edit xs ys whole of_tree
+                within goal_keys goal_ascends goal_short some_xs some_ys named_goal levels2 at_j elsewhere
+
+            made_here : entries t.nodes (levels2 j) ≡ goal
+            made_here =
+                records_then s t a.shape.depth asc.levels j (way_place a path (j + 1)) (records_on next desk) but node p gone (records_on next desk) count changed desk2 shape shape2 edit xs ys whole of_tree
+                within goal_keys goal_ascends goal_short some_xs some_ys named_goal levels2 at_j elsewhere
+
+            stays : (i : ℕ) → i < a.shape.depth → i ≢ j → (k : ℕ) → k < length (asc.levels i) → t.nodes (get_or (asc.levels i) k 0) ≡ s.nodes (get_or (asc.levels i) k 0)
+            stays = others_kept s t a.shape.depth asc.levels j (way_place a path (j + 1)) (records_on next desk) but node p gone (records_on next desk) count changed desk2 shape shape2 edit xs ys whole of_tree
+
+            kept2 : (i k : ℕ) → i < j → k < length (level_of a i) → t.nodes (get_or (level_of a i) k 0) ≡ a.nodes (get_or (level_of a i) k 0)
+            kept2 i k low inside =
+                let is : asc.levels i ≡ level_of a i = asc.old_levels i (omega arith) in
+                subst (λ l. t.nodes (get_or l k 0) ≡ s.nodes (get_or l k 0)) is (stays i (omega arith) (λ e. absurd (omega arith)) k (omega (arith, ap length is)))
+                ∙ asc.kept i k (omega arith) inside
+
+            leaves_then : entries t.nodes (levels2 (a.shape.depth - 1)) ≡ leaves_edited a path at removed put
+            leaves_then = elim (cases_lt 0 done) [
+              | inl some ↦
+                  let other : a.shape.depth - 1 ≢ j = λ e. absurd (omega arith) in
+                  ap (λ l. entries t.nodes l) (elsewhere (a.shape.depth - 1) other)
+                  ∙ same_entries s.nodes t.nodes (asc.levels (a.shape.depth - 1)) (λ k inside. ap items (stays (a.shape.depth - 1) (omega arith) other k inside))
+                  ∙ (asc.later some).1
+              | inr none ↦ ap (λ i. entries t.nodes (levels2 i)) (sym (leaf_is (omega arith))) ∙ made_here ∙ goal_leaf (omega arith)
+            ]
+
+            handed_on : records_on count desk2 ≡ map (λ n. record_for t.nodes n) parts
+            handed_on = edit.handed
+
+            root_is : j ≡ 0 → node ≡ a.shape.root
+            root_is root = sym (can.way.node j of_tree) ∙ ap (λ i. get_or (level_of a i) (way_place a path i) 0) root
+
+            top_parts : j ≡ 0 → levels2 0 ≡ parts
+            top_parts root =
+                ap (λ i. levels2 i) (sym root) ∙ at_j ∙ ap (λ l. l ++ (parts ++ ys)) (nil_from_length xs (xs_none root))
+                ∙ ap (λ l. parts ++ l) (nil_from_length ys (ys_none root)) ∙ append-nil parts
+
+            front_is : shape2.first ≡ head_or (levels2 (a.shape.depth - 1)) 0
+            front_is = elim (cases_lt 0 done) [
+              | inl some ↦
+                  let other : a.shape.depth - 1 ≢ j = λ e. absurd (omega arith) in
+                  (edit.ends.above (λ e. absurd (omega arith))).0 ∙ asc.first ∙ sym (ap (λ l. head_or l 0) (elsewhere (a.shape.depth - 1) other))
+              | inr none ↦
+                  let leaf : j ≡ a.shape.depth - 1 = leaf_is (omega arith) in
+                  let was : shape.first ≡ head_or xs node = asc.first ∙ ap (λ i. head_or (asc.levels i) 0) (sym leaf) ∙ ap (λ l. head_or l 0) whole ∙ head_or-append xs (node ∷ ys) 0 in
+                  let is : head_or (levels2 (a.shape.depth - 1)) 0 ≡ head_or xs (head_or (parts ++ ys) 0) =
+                  ap (λ i. head_or (levels2 i) 0) (sym leaf) ∙ ap (λ l. head_or l 0) at_j ∙ head_or-append xs (parts ++ ys) 0 in
+                  elim (cases_lt 0 (length xs)) [
+                    | inl any ↦
+                        let first_node : get_or xs 0 0 ≡ head_or xs node = head_some xs 0 node any in
+                        let not_it : shape.first ≢ node = λ e.
+                        front_other s t a.shape.depth asc.levels j (way_place a path (j + 1)) (records_on next desk) but node p gone (records_on next desk) count changed desk2 shape shape2 edit xs ys whole of_tree 0 any (first_node ∙ sym was ∙ e) in
+                        edit.ends.other_first (omega arith) not_it ∙ was ∙ sym first_node ∙ head_some xs 0 (head_or (parts ++ ys) 0) any ∙ sym is
+                    | inr none_xs ↦
+                        let empty : xs ≡ [] = nil_from_length xs (omega arith) in
+                        edit.ends.first (omega arith) (was ∙ ap (λ l. head_or l node) empty)
+                        ∙ ap (λ n. head_or parts n) (behind_is s t a.shape.depth asc.levels j (way_place a path (j + 1)) (records_on next desk) but node p gone (records_on next desk) count changed desk2 shape shape2 edit xs ys whole of_tree)
+                        ∙ sym (head_or-append parts ys 0) ∙ sym (ap (λ l. head_or l (head_or (parts ++ ys) 0)) empty) ∙ sym is
+                  ]
+            ]
+
+            back_is : shape2.last ≡ last_or (levels2 (a.shape.depth - 1)) 0
+            back_is = elim (cases_lt 0 done) [
+              | inl some ↦
+                  let other : a.shape.depth - 1 ≢ j = λ e. absurd (omega arith) in
+                  (edit.ends.above (λ e. absurd (omega arith))).1 ∙ asc.last ∙ sym (ap (λ l. last_or l 0) (elsewhere (a.shape.depth - 1) other))
+              | inr none ↦
+                  let leaf : j ≡ a.shape.depth - 1 = leaf_is (omega arith) in
+                  let was : shape.last ≡ last_or ys node = asc.last ∙ ap (λ i. last_or (asc.levels i) 0) (sym leaf) ∙ ap (λ l. last_or l 0) whole ∙ last_or-append xs (node ∷ ys) 0 in
+                  let is : last_or (levels2 (a.shape.depth - 1)) 0 ≡ last_or ys (last_or parts (last_or xs 0)) =
+                  ap (λ i. last_or (levels2 i) 0) (sym leaf) ∙ ap (λ l. last_or l 0) at_j ∙ last_or-append xs (parts ++ ys) 0 ∙ last_or-append parts ys (last_or xs 0) in
+                  elim (cases_lt 0 (length ys)) [
+                    | inl any ↦
+                        let last_node : get_or ys (length ys - 1) 0 ≡ last_or ys node = sym (last_get ys node any) in
+                        let not_it : shape.last ≢ node = λ e.
+                        back_other s t a.shape.depth asc.levels j (way_place a path (j + 1)) (records_on next desk) but node p gone (records_on next desk) count changed desk2 shape shape2 edit xs ys whole of_tree (length ys - 1) (omega arith) (last_node ∙ sym was ∙ e) in
+                        edit.ends.other_last (omega arith) not_it ∙ was ∙ last_some ys node (last_or parts (last_or xs 0)) any ∙ sym is
+                    | inr none_ys ↦
+                        let empty : ys ≡ [] = nil_from_length ys (omega arith) in
+                        edit.ends.last (omega arith) (was ∙ ap (λ l. last_or l node) empty)
+                        ∙ ap (λ n. last_or parts n) (before_is s t a.shape.depth asc.levels j (way_place a path (j + 1)) (records_on next desk) but node p gone (records_on next desk) count changed desk2 shape shape2 edit xs ys whole of_tree)
+                        ∙ sym (ap (λ l. last_or l (last_or parts (last_or xs 0))) empty) ∙ sym is
+                  ]
+            ]
+
+            others_then : (n : ℕ) → a.reserved n ≡ false → a.used n ≡ false → t.used n ≡ false → t.nodes n ≡ a.nodes n
+            others_then n free unused still = by (s.used n) refl
+              where
+                spot : IsInLevel s (a.shape.depth - j) node
+                spot = can_edit.spot
+
+                free_now : s.reserved n ≡ false
+                free_now = same.reserved n ∙ free
+
+                not_zero : n ≢ 0
+                not_zero is =
+                    let held : a.reserved n ≡ true = ap (λ m. a.reserved m) is ∙ can.tree.mapped.header in cc
+
+                node_in_a : get_or (level_of a j) (way_place a path j) 0 ≡ node
+                node_in_a = can.way.node j of_tree
+
+                node_used : bit (a.used node) ≡ 1
+                node_used =
+                    subst (λ m. bit (a.used m) ≡ 1) node_in_a
+                    (is_used a a.shape.depth (λ i. level_of a i) a.shape.depth 0 [] (but_of_tree a can.tree 0 []) j (way_place a path j) of_tree (can.way.inside j of_tree))
+
+                by : (b : Bool) → s.used n ≡ b → t.nodes n ≡ a.nodes n
+                by true used =
+                    let is : node ≡ n = elim (cases_eq node n) [
+                      | inl e ↦ e
+                      | inr other ↦ absurd (omega (arith, edit.used n, ap bit used, ap bit still, bit_other node n other))
+                    ] in
+                    absurd (omega (arith, node_used, ap (λ m. bit (a.used m)) is, ap bit unused))
+                by false unused_now =
+                    let other : n ≢ node = λ e.
+                    let u1 : s.used n ≡ true = ap (λ m. s.used m) e ∙ spot.used in absurd (omega (arith, ap bit u1, ap bit unused_now)) in
+                    let none : times n (parts_of count node edit.fresh) ≡ 0 = omega (arith, edit.used n, ap bit unused_now, ap bit still, bit_other node n (λ e. other (sym e))) in
+                    let not_back : n ≢ back_of (s.nodes node) = λ e. elim (cases_eq (back_of (s.nodes node)) 0) [
+                      | inl zero_is ↦ not_zero (e ∙ zero_is)
+                      | inr some ↦ let u1 : s.used n ≡ true = ap (λ m. s.used m) e ∙ (spot.before some).0.used in absurd (omega (arith, ap bit u1, ap bit unused_now))
+                    ] in
+                    let not_next : n ≢ next_of (s.nodes node) = λ e. elim (cases_eq (next_of (s.nodes node)) 0) [
+                      | inl zero_is ↦ not_zero (e ∙ zero_is)
+                      | inr some ↦ let u1 : s.used n ≡ true = ap (λ m. s.used m) e ∙ (spot.behind some).0.used in absurd (omega (arith, ap bit u1, ap bit unused_now))
+                    ] in
+                    edit.others n free_now other none not_back not_next ∙ asc.others n free unused unused_now
+
+            alone_then : AreOfOneLength is_key → put ≡ [] → count ≤ 1
+            alone_then one none_put = elim (cases_eq count 2) [
+              | inl two ↦ absurd (omega (arith, edit.split two, needs_none one none_put))
+              | inr other ↦ omega (arith, edit.most)
+            ]
+
+            pub ascent_step : IsAscent is_key cmp a t path at removed put spare shape2 desk2 (done + 1) count true left2
+            ascent_step =
+                let from2 : j ≡ a.shape.depth - (done + 1) = omega arith in
+                let as_handed : IsTreeBut is_key cmp t a.shape.depth levels2 j (way_place a path j) (records_on count desk2) =
+                subst (λ l. IsTreeBut is_key cmp t a.shape.depth levels2 j (way_place a path j) l) (sym handed_on)
+                (subst (λ n. IsTreeBut is_key cmp t a.shape.depth levels2 j n (map (λ m. record_for t.nodes m) parts)) xs_long but2) in
+                record {
+                  levels = levels2;
+                  fresh = edit.fresh;
+                  but = subst (λ d. IsTreeBut is_key cmp t a.shape.depth levels2 d (way_place a path d) (records_on count desk2)) from2 as_handed;
+                  old_levels = λ i low. elsewhere i (λ e. absurd (omega arith)) ∙ asc.old_levels i (omega arith);
+                  kept = λ i k low inside. kept2 i k (omega arith) inside;
+                  begin = λ none. absurd (omega arith);
+                  later = λ some. (refl, leaves_then);
+                  top = λ some all.
+                      let root : j ≡ 0 = omega arith in (
+                        top_parts root ∙ ap (λ n. parts_of count n edit.fresh) (root_is root),
+                        handed_on ∙ sym (ap (λ l. map (λ n. record_for t.nodes n) l) (top_parts root)),
+                      );
+                  few = edit.most;
+                  alone = alone_then;
+                  enough = omega (arith, asc.enough, spent);
+                  first = front_is;
+                  last = back_is;
+                  root = edit.ends.root ∙ asc.root;
+                  depth = edit.ends.depth ∙ asc.depth;
+                  others = others_then;
+                }
+
+            -- where the record that names the node stays, the level above stays too
+            module _ (unchanged : changed ≡ false) where
+              one_part : count ≡ 1
+              one_part = (edit.kept unchanged).0
+
+              same_name : record_for t.nodes node ≡ record_for s.nodes node
+              same_name = (edit.kept unchanged).1
+
+              parts_is : parts ≡ node ∷ []
+              parts_is = ap (λ n. parts_of n node edit.fresh) one_part
+
+              names_stay : map (λ n. record_for t.nodes n) parts ≡ record_for s.nodes node ∷ []
+              names_stay = ap (λ l. map (λ n. record_for t.nodes n) l) parts_is ∙ ap (λ l. l ∷ []) same_name
+
+              named_whole : (i : ℕ) → i + 1 < a.shape.depth → i + 1 ≢ 0 → entries t.nodes (levels2 i) ≡ map (λ n. record_for t.nodes n) (levels2 (i + 1))
+              named_whole i low other = elim (cases_eq (i + 1) j) [
+                | inr apart ↦ but2.named i low apart
+                | inl is ↦
+                    let above_j : asc.levels i ≡ level_of a i = asc.old_levels i (omega arith) in
+                    let was : entries t.nodes (levels2 i) ≡ map (λ n. record_for s.nodes n) (asc.levels j) =
+                    ap (λ l. entries t.nodes l) (elsewhere i (λ e. absurd (omega arith)))
+                    ∙ same_entries s.nodes t.nodes (asc.levels i) (λ k inside. ap items (stays i (omega arith) (λ e. absurd (omega arith)) k inside))
+                    ∙ but.named i low (λ e. absurd (omega arith)) ∙ ap (λ m. map (λ n. record_for s.nodes n) (asc.levels m)) is in
+                    let place : get_or (entries t.nodes (levels2 i)) (length xs) [] ≡ record_for s.nodes node =
+                    ap (λ l. get_or l (length xs) []) was
+                    ∙ ap (λ n. get_or (map (λ m. record_for s.nodes m) (asc.levels j)) n []) xs_long
+                    ∙ get_or-map (λ m. record_for s.nodes m) (asc.levels j) (way_place a path j) 0 [] q_inside
+                    ∙ ap (λ n. record_for s.nodes n) node_is in
+                    let long : length xs < length (entries t.nodes (levels2 i)) = omega (arith, ap length was, length-map (asc.levels j) (λ n. record_for s.nodes n), xs_long, q_inside) in
+                    sym (
+                    but2.wanted i low is
+                    ∙ ap (λ l. splice (entries t.nodes (levels2 i)) (length xs) (length xs + 1) l) (names_stay ∙ ap (λ r. r ∷ []) (sym place))
+                    ∙ splice_same (entries t.nodes (levels2 i)) (length xs) [] long
+                    )
+              ]
+
+              root_some : 0 < j → 0 < length (items (t.nodes a.shape.root))
+              root_some above_root =
+                  let below = can.way.below 0 (omega arith) in
+                  let root : (stop_at path 0).node ≡ a.shape.root = sym (can.way.node 0 (omega arith)) in
+                  omega (arith, below, ap (λ n. length (items (a.nodes n))) root, ap (λ l. length (items l)) (kept2 0 0 above_root (omega arith)))
+
+              top_level : levels2 0 ≡ a.shape.root ∷ []
+              top_level = elim (cases_lt 0 j) [
+                | inl above_root ↦ elsewhere 0 (λ e. absurd (omega arith)) ∙ asc.old_levels 0 (omega arith)
+                | inr none ↦ let root : j ≡ 0 = omega arith in top_parts root ∙ parts_is ∙ ap (λ n. n ∷ []) (root_is root)
+              ]
+
+              pub ascent_stop : Climbs is_key cmp a t (leaves_edited a path at removed put) shape2 1 left2 desk2
+              ascent_stop = record {
+                levels = levels2;
+                fresh = 0;
+                but = record {
+                  each = but2.each;
+                  some = λ i low which. elim (cases_lt 0 i) [
+                    | inl below ↦ but2.some i low (inl below)
+                    | inr none ↦ elim (cases_lt 0 j) [
+                      | inr root ↦ but2.some i low (inr (omega arith))
+                      | inl above_root ↦
+                          let first : i ≡ 0 = omega arith in
+                          subst (λ m. NoneEmpty t.nodes (levels2 m)) (sym first)
+                          (subst (λ l. NoneEmpty t.nodes l) (sym top_level)
+                          (λ k inside. subst (λ n. 0 < length (items (t.nodes n))) (ap (λ m. get_or (a.shape.root ∷ []) m 0) {x = 0} {y = k} (omega arith)) (root_some above_root)))
+                    ]
+                  ];
+                  named = named_whole;
+                  wanted = λ i low is. absurd (omega arith);
+                  mapped = but2.mapped;
+                  header = but2.header;
+                  free = but2.free;
+                };
+                most = omega arith;
+                top = top_level;
+                made = leaves_then;
+                handed = λ two. absurd (omega arith);
+                spare = λ two. absurd (omega arith);
+                first = front_is;
+                last = back_is;
+                root = edit.ends.root ∙ asc.root;
+                depth = edit.ends.depth ∙ asc.depth;
+                others = others_then;
+              }
+
+    -- all levels are done
+    pub ascent_end : (s : Store) (shape : TreeShape) (desk : Desk) (done next : ℕ) (gone : Bool) (left : ℕ) → a.shape.depth ≡ done
+        → IsAscent is_key cmp a s path at removed put spare shape desk done next gone left → Climbs is_key cmp a s (leaves_edited a path at removed put) shape next left desk
+    ascent_end s shape desk done next gone left all asc =
+        let some : 0 < done = omega (arith, can.some) in
+        record {
+          levels = asc.levels;
+          fresh = asc.fresh;
+          but = but_whole (way_place a path 0) (records_on next desk)
+              (subst (λ d. IsTreeBut is_key cmp s a.shape.depth asc.levels d (way_place a path d) (records_on next desk)) {x = a.shape.depth - done} {y = 0} (omega arith) asc.but);
+          most = asc.few;
+          top = (asc.top some all).0;
+          made = (asc.later some).1;
+          handed = λ two. (asc.top some all).1;
+          spare = λ two. elim can.enough [ inl many ↦ omega (arith, asc.enough) | inr (none_put, one) ↦ absurd (omega (arith, asc.alone one none_put)) ];
+          first = asc.first;
+          last = asc.last;
+          root = asc.root;
+          depth = asc.depth;
+          others = asc.others;
         }

@@ -58,8 +58,12 @@ module _ {is_key : List ℕ → Type 0} {cmp : List ℕ → List ℕ → Orderin
       wanted = λ j low is. kept_names (j + 1) low ∙ but.wanted j low is ∙ sym (ap (λ l. splice l place (place + 1) put) (kept_entries j (omega arith)));
       mapped = λ n inside. omega (arith, but.mapped n (omega arith), ap bit (used n), ap bit (reserved n));
       header = reserved 0 ∙ but.header;
-      free = omega (arith, but.free, ap (λ m. count_by (λ n. new.used n) (range_with_len 0 m)) total,
-          bits_changed new.used old.used [] [] old.shape.total (λ k. ap (λ b. bit b + 0) (used k)) (λ k inside. absurd (omega arith)) (λ k inside. absurd (omega arith)));
+      free = omega (
+        arith,
+        but.free,
+        ap (λ m. count_by (λ n. new.used n) (range_with_len 0 m)) total,
+        bits_changed new.used old.used [] [] old.shape.total (λ k. ap (λ b. bit b + 0) (used k)) (λ k inside. absurd (omega arith)) (λ k inside. absurd (omega arith)),
+      );
     }
 
 -- a tree is one in each store that keeps it
@@ -175,9 +179,13 @@ module _ {is_key : List ℕ → Type 0} {cmp : List ℕ → List ℕ → Orderin
       wanted = λ j low is. absurd (omega arith);
       mapped = λ n inside. omega (arith, tally_below (above m levels) depth n, but.mapped n (omega arith), used n, ap bit (reserved n));
       header = reserved 0 ∙ but.header;
-      free = omega (arith, but.free, ap (λ b. count_by (λ n. new.used n) (range_with_len 0 b)) total,
-          bits_changed new.used old.used [] (m ∷ []) old.shape.total (λ k. omega (arith, used k)) (λ k inside. absurd (omega arith))
-          (λ k inside. omega (arith, node.inside, ap (λ i. get_or (m ∷ []) i 0) {x = 0} {y = k} (omega arith))));
+      free = omega (
+        arith,
+        but.free,
+        ap (λ b. count_by (λ n. new.used n) (range_with_len 0 b)) total,
+        bits_changed new.used old.used [] (m ∷ []) old.shape.total (λ k. omega (arith, used k)) (λ k inside. absurd (omega arith))
+            (λ k inside. omega (arith, node.inside, ap (λ i. get_or (m ∷ []) i 0) {x = 0} {y = k} (omega arith))),
+      );
     }
 
 -- a root that names one node is given back
@@ -207,7 +215,7 @@ module _ {is_key : List ℕ → Type 0} {cmp : List ℕ → List ℕ → Orderin
         ap (λ l. child_of (get_or l 0 [])) root_records
         ∙ ap child_of (get_or-map (λ n. record_for old.nodes n) (levels 1) 0 0 [] (omega (arith, child_long)))
         ∙ name_child is_key cmp key_length old.nodes (levels 1) (but.some 1 (omega arith) (inr (omega arith))) level.keys 0 (omega (arith, child_long))
-            (omega (arith, in_total old (suc depth) levels 0 place put but 1 0 (omega arith) (omega (arith, child_long))))
+        (omega (arith, in_total old (suc depth) levels 0 place put but 1 0 (omega arith) (omega (arith, child_long))))
 
     one_of : (l : List ℕ) → length l ≡ 1 → l ≡ get_or l 0 0 ∷ []
     one_of [] long = absurd (omega arith)
@@ -225,13 +233,17 @@ module _ {is_key : List ℕ → Type 0} {cmp : List ℕ → List ℕ → Orderin
       named = λ j low other.
           let at : suc j + 1 ≡ suc (j + 1) = omega arith in
           same_entries old.nodes new.nodes (levels (suc j)) (λ k inside. ap items (keeps (suc j) k (omega arith) inside))
-              ∙ but.named (suc j) (omega arith) (λ e. absurd (omega arith)) ∙ ap (λ i. map (λ n. record_for old.nodes n) (levels i)) at ∙ sym (names_keep (suc (j + 1)) (omega arith));
+          ∙ but.named (suc j) (omega arith) (λ e. absurd (omega arith)) ∙ ap (λ i. map (λ n. record_for old.nodes n) (levels i)) at ∙ sym (names_keep (suc (j + 1)) (omega arith));
       wanted = λ j low is. absurd (omega arith);
       mapped = λ n inside. omega (arith, tally_below levels depth n, but.mapped n (omega arith), used n, ap bit (reserved n), ap (λ (l : List ℕ). times n l) top);
       header = reserved 0 ∙ but.header;
-      free = omega (arith, but.free, ap (λ b. count_by (λ n. new.used n) (range_with_len 0 b)) total,
-          bits_changed new.used old.used (root ∷ []) [] old.shape.total (λ k. omega (arith, used k))
-          (λ k inside. omega (arith, root_in, ap (λ i. get_or (root ∷ []) i 0) {x = 0} {y = k} (omega arith))) (λ k inside. absurd (omega arith)));
+      free = omega (
+        arith,
+        but.free,
+        ap (λ b. count_by (λ n. new.used n) (range_with_len 0 b)) total,
+        bits_changed new.used old.used (root ∷ []) [] old.shape.total (λ k. omega (arith, used k))
+            (λ k inside. omega (arith, root_in, ap (λ i. get_or (root ∷ []) i 0) {x = 0} {y = k} (omega arith))) (λ k inside. absurd (omega arith)),
+      );
     }
       where
         root_in : root < old.shape.total

@@ -9,7 +9,6 @@ use Rattle.btree_node.proofs.Items.{records_take}
 use Rattle.btree_edit.specs.LevelEdit.{taken, node_room, FitsTwo}
 use Rattle.btree_edit.proofs.Splices.{each_spliced}
 
-
 taken_cons : (r : List ℕ) (rs : List (List ℕ)) → taken (r ∷ rs) ≡ length r + 2 + taken rs
 taken_cons r rs = sum_by-cons (λ (bytes : List ℕ). length bytes + 2) r rs
 

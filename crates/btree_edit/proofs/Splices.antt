@@ -1,7 +1,8 @@
 -- Lists with others in place of a part, place by place.
 use Rattle.std.proofs.Common.{◌≡◌, ◌≢◌, ◌⊎◌, ℕ, zero, suc, ◌+◌, ◌-◌, ◌*◌, ◌<◌, ◌≤◌, List, [], ◌∷◌, ◌++◌, map, length, take, drop, get_or, inl, inr, refl, sym, ◌∙◌, ap, subst, arith}
 use Rattle.std.proofs.lemmas.Bool.{cases_lt}
-use Rattle.std.proofs.lemmas.List.{length-append, length-take-le, length-drop, get_or_append_left, get_or-append_right, get_or-take, get_or-drop, map-append, take-map, drop-map}
+use Rattle.std.proofs.lemmas.List.{length-append, length-take-le, length-drop, get_or_append_left, get_or-append_right, get_or-take, get_or-drop, map-append, take-map, drop-map, take-append-drop}
+use Rattle.std.proofs.Math.Seq.{drop-cons}
 use Rattle.std.specs.declared.cmp.Ordering.{Ordering}
 use Rattle.std.specs.declared.cmp.Ordering.TheVariants.{Less}
 use Rattle.btree_node.specs.Levels.{key_of, splice, Ascends}
@@ -48,6 +49,13 @@ module _ {X : Type 0} (xs ys : List X) (p q : ℕ) (ordered : p ≤ q) (inside :
           subst P (sym (ap (λ i. get_or (splice xs p q ys) i d) is ∙ spliced_back (k - p - length ys))) (old (q + (k - p - length ys)) (omega (arith, length-splice)))
     ]
   ]
+
+-- one element in its own place
+pub splice_same : {X : Type 0} (xs : List X) (p : ℕ) (d : X) → p < length xs → splice xs p (p + 1) (get_or xs p d ∷ []) ≡ xs
+splice_same xs p d inside =
+    ap (λ n. take p xs ++ (get_or xs p d ∷ drop n xs)) {x = p + 1} {y = suc p} (omega arith)
+    ∙ ap (λ l. take p xs ++ l) (sym (drop-cons xs p d inside))
+    ∙ take-append-drop p xs
 
 pub map-splice : {X Y : Type 0} (f : X → Y) (xs : List X) (p q : ℕ) (ys : List X) → map f (splice xs p q ys) ≡ splice (map f xs) p q (map f ys)
 map-splice f xs p q ys =

@@ -256,7 +256,7 @@ module _ {is_key : List ℕ → Type 0} {cmp : List ℕ → List ℕ → Orderin
         not_zero (last_or xs 0) j of_tree (omega (arith, last, ap (λ (l : List ℕ). times (last_or xs 0) l) at, times-append (last_or xs 0) xs (node ∷ ys)))
         (node_of_level (last_or xs 0) (omega (arith, last, ap (λ (l : List ℕ). times (last_or xs 0) l) at, times-append (last_or xs 0) xs (node ∷ ys)))).inside (sym before_is ∙ e) in
         ap (λ n. next_of (new.nodes n)) (sym before_is) ∙ (edit.back nonzero).next
-            ∙ ap (λ n. head_or (parts_of count node edit.fresh) n) behind_is ∙ sym (head_or-append (parts_of count node edit.fresh) ys 0))
+        ∙ ap (λ n. head_or (parts_of count node edit.fresh) n) behind_is ∙ sym (head_or-append (parts_of count node edit.fresh) ys 0))
         links_split.0
 
     links_back : Linked new.nodes (last_or parts (last_or xs 0)) ys 0
@@ -372,7 +372,7 @@ module _ {is_key : List ℕ → Type 0} {cmp : List ℕ → List ℕ → Orderin
         some_then i low which = elim (cases_eq i j) [
           | inl is ↦ subst (λ m. NoneEmpty new.nodes (changed_levels m)) (sym is) (subst (λ l. NoneEmpty new.nodes l) (sym here) none_empty)
           | inr other ↦
-              let above : 0 < i ⊎ (j + 1 ≤ i) = elim which [ | inl low_one ↦ inl low_one | inr from ↦ inr (omega arith) ] in
+              let above : 0 < i ⊎ (j + 1 ≤ i) = elim which [ inl low_one ↦ inl low_one | inr from ↦ inr (omega arith) ] in
               subst (λ l. NoneEmpty new.nodes l) (sym (elsewhere i other))
               (λ k inside. subst (λ l. 0 < length l) (sym (ap items (others_kept i low other k inside))) (but.some i low above k inside))
         ]

@@ -74,7 +74,7 @@ module _ {is_key : List ℕ → Type 0} {cmp : List ℕ → List ℕ → Orderin
   pub but_of_tree : (place : ℕ) (put : List (List ℕ)) → IsTreeBut is_key cmp store store.shape.depth (λ j. level_of store j) store.shape.depth place put
   but_of_tree place put = record {
     each = level_is;
-    some = λ j low which. elim which [ | inl below ↦ some_of j low below | inr past ↦ absurd (omega arith) ];
+    some = λ j low which. elim which [ inl below ↦ some_of j low below | inr past ↦ absurd (omega arith) ];
     named = λ j low other. tree.levels.named j low;
     wanted = λ j low is. absurd (omega arith);
     mapped = mapped_is;
@@ -102,8 +102,8 @@ module _ {is_key : List ℕ → Type 0} {cmp : List ℕ → List ℕ → Orderin
         next ∙ ap (λ l. map child_of l) (but.named j above (nothing j above))
         ∙ ap (λ i. map child_of (map (λ n. record_for store.nodes n) (levels i))) (add-one j)
         ∙ child_names store.nodes (levels (suc j))
-            (λ k inside. name_child is_key cmp key_length store.nodes (levels (suc j)) (but.some (suc j) low (inl (omega arith))) here.keys k inside
-            (omega (arith, (here.nodes k inside).inside)))
+        (λ k inside. name_child is_key cmp key_length store.nodes (levels (suc j)) (but.some (suc j) low (inl (omega arith))) here.keys k inside
+        (omega (arith, (here.nodes k inside).inside)))
 
     at_level : (P : List ℕ → Type 0) (j : ℕ) → j < store.shape.depth → P (levels j) → P (level_of store j)
     at_level P j low h = subst P (sym (same_level j low)) h

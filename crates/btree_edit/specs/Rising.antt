@@ -41,7 +41,7 @@ pub record CanClimb (is_key : List ℕ → Type 0) (cmp : List ℕ → List ℕ 
   pub enough : store.shape.depth + 1 ≤ spare ⊎ ((put ≡ []) × AreOfOneLength is_key)
 
 -- A climb makes these the records of the leaves, and keeps the rules of a tree below the nodes that hold what its root held: none, the root, or the root and a fresh node.
-pub record Climbs (is_key : List ℕ → Type 0) (cmp : List ℕ → List ℕ → Ordering) (old new : Store) (records : List (List ℕ)) (before after : TreeShape) (count left : ℕ) (desk : Desk) : Type 0 where
+pub record Climbs (is_key : List ℕ → Type 0) (cmp : List ℕ → List ℕ → Ordering) (old new : Store) (records : List (List ℕ)) (after : TreeShape) (count left : ℕ) (desk : Desk) : Type 0 where
   pub levels : LevelLists
   pub fresh : ℕ
   pub but : IsTreeBut is_key cmp new old.shape.depth levels 0 0 []
@@ -52,7 +52,7 @@ pub record Climbs (is_key : List ℕ → Type 0) (cmp : List ℕ → List ℕ �
   pub spare : count ≡ 2 → 0 < left
   pub first : after.first ≡ head_or (levels (old.shape.depth - 1)) 0
   pub last : after.last ≡ last_or (levels (old.shape.depth - 1)) 0
-  pub root : after.root ≡ before.root
-  pub depth : after.depth ≡ before.depth
+  pub root : after.root ≡ old.shape.root
+  pub depth : after.depth ≡ old.shape.depth
   -- nodes that were free and are free stay as they were
   pub others : (n : ℕ) → old.reserved n ≡ false → old.used n ≡ false → new.used n ≡ false → new.nodes n ≡ old.nodes n
