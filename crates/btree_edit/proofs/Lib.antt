@@ -13,3 +13,5 @@ pub mod Crowning
 pub mod Fitting
 pub mod Spots
 pub mod Ascent
+pub mod Cuts
+pub mod OneLevel

@@ -8,3 +8,5 @@ pub mod LevelEdit
 pub mod Climb
 pub mod Way
 pub mod Rising
+pub mod Halves
+pub mod Writes

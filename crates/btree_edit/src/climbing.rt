@@ -151,6 +151,7 @@ fn climb<N: NodeStore>(
     spare: u32,
 ) -> Result<Climbed, Failed>
     requires desk { IsDeskOf (N.state store.old).shape.node_size desk.old }
+    requires few { count ≤ 2 }
     requires depth { shape.old.depth ≤ 12 }
     requires room { HasRoom (4 * shape.old.depth) (N.state store.old) }
     requires free { spare ≤ (N.state store.old).shape.free }
@@ -273,6 +274,7 @@ fn rise<N: NodeStore>(
     spare: u32,
 ) -> Result<(), Failed>
     requires desk { IsDeskOf (N.state store.old).shape.node_size desk.old }
+    requires few { count ≤ 2 }
     requires depth { shape.old.depth ≤ 12 }
     requires room { HasRoom (4 * shape.old.depth + 5) (N.state store.old) }
     requires free { spare ≤ (N.state store.old).shape.free }
@@ -298,6 +300,7 @@ pub(crate) fn rebuild<N: NodeStore>(
     records: u32,
 ) -> Result<(), Failed>
     requires desk { IsDeskOf (N.state store.old).shape.node_size desk.old }
+    requires few { count ≤ 2 }
     requires depth { shape.old.depth ≤ 12 }
     requires room { HasRoom (4 * shape.old.depth + 6) (N.state store.old) }
     requires free { spare ≤ (N.state store.old).shape.free }

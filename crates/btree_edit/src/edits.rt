@@ -107,6 +107,7 @@ fn change<N: NodeStore, K: KeyOrder>(
     count: u8,
     fixed: bool,
 ) -> Result<(), Failed>
+    requires few { count ≤ 2 }
     requires desk { IsDeskOf (N.state store.old).shape.node_size desk.old }
     requires key { K.is_key key.now }
     requires free { fixed ≡ false → (N.state store.old).shape.depth + 1 ≤ (N.state store.old).shape.free }

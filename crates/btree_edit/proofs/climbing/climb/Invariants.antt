@@ -7,6 +7,7 @@ abbrev pub invariant-loop-done : goal.invariant-loop-done
 invariant-loop-done g l = let before = g.N.NodeStore.state l.fn.store in let now = g.N.NodeStore.state l.store in record {
   depth : l.shape.depth ≡ l.fn.shape.depth;
   same_depth : l.depth ≡ l.fn.shape.depth;
+  few : l.next ≤ 2;
   desk : IsDeskOf before.shape.node_size l.desk;
   budget : l.budget ≤ 4 * l.fn.shape.depth;
   enough : 4 * l.fn.shape.depth ≤ l.budget + 4 * l.done;
