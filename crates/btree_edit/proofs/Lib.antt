@@ -15,3 +15,4 @@ pub mod Spots
 pub mod Ascent
 pub mod Cuts
 pub mod OneLevel
+pub mod Ways

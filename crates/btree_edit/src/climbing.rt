@@ -3,59 +3,13 @@ ghost use Rattle.std.specs.Prelude.{◌≡◌, ◌≤◌, ◌<◌, ◌+◌, ◌*
 ghost use Rattle.btree_node.specs.Store.{HasRoom, HasCause};
 ghost use Rattle.btree_edit.specs.Desk.{IsDeskOf};
 ghost use Rattle.btree_edit.specs.Editing.{Does};
-ghost use Rattle.btree_edit.specs.Reading.{ReadsOnly};
 
-use crate::desk::{Desk, Stop};
+use crate::desk::Desk;
 use crate::levels::{Handed, Spot, edit_level};
-use crate::search::{child_part, kind_at, place, read_node, step};
+use crate::search::{child_part, kind_at, read_node};
 use crate::splitting::put;
-use btree_node::{KeyOrder, NodeStore, TreeShape};
+use btree_node::{NodeStore, TreeShape};
 use hx_bytes::Failed;
-
-/// Goes down from the root to the leaf of a key, and keeps the way.
-pub(crate) fn trace<N: NodeStore, K: KeyOrder>(
-    store: &mut N,
-    desk: &mut Desk,
-    key: &[u8],
-) -> Result<bool, Failed>
-    requires desk { IsDeskOf (N.state store.old).shape.node_size desk.old }
-    requires key { K.is_key key.now }
-    ensures some { IfOk result (λ yes. IsTrue yes → 0 < (N.state store.old).shape.depth) }
-    ensures most { IfOk result (λ yes. IsTrue yes → (N.state store.old).shape.depth ≤ 12) }
-    ensures desk { IsDeskOf (N.state store.old).shape.node_size desk.new }
-    ensures first { desk.new.first ≡ desk.old.first }
-    ensures reads { ReadsOnly (N.state store.old).shape.depth (N.state store.old) (N.state store.new) }
-    ensures cause { HasCause (N.state store.old).faults (N.state store.new).faults result }
-    ensures below { N.follows store.old store.new }
-{
-    let shape = store.shape();
-    if shape.depth == 0 || shape.depth > 12 {
-        return Ok(false);
-    }
-    let mut node = shape.root;
-    for level in 0..shape.depth {
-        let height = shape.depth - level;
-        if !read_node(store, &mut desk.node, node, height)? {
-            return Ok(false);
-        }
-        if height == 1 {
-            let Some(at) = place::<K>(&desk.node, key) else {
-                return Ok(false);
-            };
-            desk.path[level as usize] = Stop { node, at };
-        } else {
-            let Some(step) = step::<K>(&desk.node, key) else {
-                return Ok(false);
-            };
-            desk.path[level as usize] = Stop {
-                node,
-                at: step.index,
-            };
-            node = step.child;
-        }
-    }
-    Ok(true)
-}
 
 /// Makes the first leaf of an empty tree, with the record on the desk.
 fn plant<N: NodeStore>(store: &mut N, desk: &mut Desk, shape: &mut TreeShape) -> Result<(), Failed>

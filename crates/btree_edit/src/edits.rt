@@ -6,10 +6,11 @@ ghost use Rattle.btree_edit.specs.Desk.{IsDeskOf};
 ghost use Rattle.btree_edit.specs.Editing.{Does, edit_writes};
 ghost use Rattle.btree_edit.specs.Answers.{AnswersInsert, AnswersRemove};
 
-use crate::climbing::{begin, rebuild, trace};
+use crate::climbing::{begin, rebuild};
 use crate::desk::Desk;
 use crate::finding::{Found, find};
 use crate::search::read_node;
+use crate::tracing::trace;
 use btree_node::{KeyOrder, NodeStore};
 use hx_bytes::Failed;
 

@@ -11,6 +11,7 @@ mod search;
 mod splitting;
 #[cfg(test)]
 mod tests;
+mod tracing;
 
 pub use desk::Desk;
 pub use edits::{Inserted, Removed, insert, remove, replace};
