@@ -2,7 +2,7 @@
 use Rattle.std.proofs.Common.{◌≡◌, ◌≢◌, ◌⊎◌, ℕ, zero, suc, add-one, ◌+◌, ◌-◌, ◌*◌, ◌/◌, ◌^◌, ◌<◌, ◌≤◌, Bool, true, false, cond, List, [], ◌∷◌, ◌++◌, map, length, take, drop, get_or, inl, inr, refl, sym, ◌∙◌, ap, subst, arith}
 use Rattle.std.proofs.lemmas.Bool.{cases_lt, cases_eq}
 use Rattle.std.proofs.lemmas.Bool.Decides.{eqb_tells}
-use Rattle.std.proofs.lemmas.List.{nil_from_length, length-map, length-take, length-take-le, length-drop, get_or-take, get_or-drop, get_or-map, append-nil}
+use Rattle.std.proofs.lemmas.List.{nil_from_length, length-append, length-map, length-take, length-take-le, length-drop, get_or-take, get_or-drop, get_or-map, append-nil}
 use Rattle.std.specs.Prelude.{eqb}
 use Rattle.std.specs.declared.cmp.Ordering.{Ordering}
 use Rattle.hx_bytes.specs.Field.{big_at}
@@ -19,7 +19,7 @@ use Rattle.btree_edit.specs.Way.{stop_at, way_place, IsWay}
 use Rattle.btree_edit.specs.Rising.{leaf_start, leaves_edited, AreOfOneLength, CanClimb, Climbs}
 use Rattle.btree_edit.specs.declared.desk.Desk.{Desk}
 use Rattle.btree_edit.specs.declared.desk.Stop.{Stop}
-use Rattle.btree_edit.proofs.Counting.{bit_other}
+use Rattle.btree_edit.proofs.Counting.{bit_true, bit_other, times-append, times_at, times_place}
 use Rattle.btree_edit.proofs.Descent.{split_at}
 use Rattle.btree_edit.proofs.Splices.{length-splice, spliced_middle, each_spliced, splice_same}
 use Rattle.btree_edit.proofs.Naming.{names_same, named_at, names_long, name_long, names_keys, names_short, names_ascend, first_is_key}
@@ -29,6 +29,7 @@ use Rattle.btree_edit.proofs.Stepping.{stepped, records_then, others_kept, front
 use Rattle.btree_edit.proofs.Whole.{but_of_tree}
 use Rattle.btree_edit.proofs.Crowning.{but_kept, is_used}
 use Rattle.btree_edit.proofs.Spots.{spot_of}
+use Rattle.btree_edit.proofs.Repeated.{same_store_both}
 
 -- where a climb is: so many levels are done, and this is handed on to the next
 pub record IsAscent (is_key : List ℕ → Type 0) (cmp : List ℕ → List ℕ → Ordering) (a s : Store) (path : List Stop) (at : ℕ) (removed : Bool) (put : List (List ℕ)) (spare : ℕ)
@@ -48,6 +49,7 @@ pub record IsAscent (is_key : List ℕ → Type 0) (cmp : List ℕ → List ℕ 
   pub last : shape.last ≡ last_or (levels (a.shape.depth - 1)) 0
   pub root : shape.root ≡ a.shape.root
   pub depth : shape.depth ≡ a.shape.depth
+  pub single : (i : ℕ) → i < a.shape.depth → length (levels i) ≡ 1 → a.used (get_or (levels i) 0 0) ≡ true
   pub others : (n : ℕ) → a.reserved n ≡ false → a.used n ≡ false → s.used n ≡ false → s.nodes n ≡ a.nodes n
 
 last_is : (l : List ℕ) → get_or l (length l - 1) 0 ≡ last_or l 0
@@ -90,10 +92,14 @@ module _ {is_key : List ℕ → Type 0} {cmp : List ℕ → List ℕ → Orderin
     (key_length : (x : List ℕ) → is_key x → length x ≡ big_at 2 x 0 + 2) (key_most : (x : List ℕ) → is_key x → length x ≤ max + 2)
     (a : Store) (path : List Stop) (at : ℕ) (removed : Bool) (put : List (List ℕ)) (spare : ℕ) (can : CanClimb is_key cmp max a path at removed put spare)
   where
+    used_in_tree : (i k : ℕ) → i < a.shape.depth → k < length (level_of a i) → a.used (get_or (level_of a i) k 0) ≡ true
+    used_in_tree i k low inside =
+        bit_true (a.used (get_or (level_of a i) k 0)) (omega (arith, is_used a a.shape.depth (λ m. level_of a m) a.shape.depth 0 [] (but_of_tree a can.tree 0 []) i k low inside))
+
     -- at first nothing is done
-    pub ascent_start : (shape : TreeShape) (desk : Desk) (next : ℕ) → shape ≡ a.shape → records_on next desk ≡ put → next ≤ 2 → (AreOfOneLength is_key → put ≡ [] → next ≤ 1)
+    pub ascent_start : (shape : TreeShape) (desk : Desk) (next : ℕ) → shape ≡ a.shape → records_on next desk ≡ put → next ≤ 2
         → IsAscent is_key cmp a a path at removed put spare shape desk 0 next removed spare
-    ascent_start shape desk next shape_is on few alone =
+    ascent_start shape desk next shape_is on few =
         let deep : a.shape.depth - 0 ≡ a.shape.depth = omega arith in
         let leaf : a.shape.depth - 1 + 1 ≡ a.shape.depth = omega (arith, can.some) in
         record {
@@ -107,12 +113,13 @@ module _ {is_key : List ℕ → Type 0} {cmp : List ℕ → List ℕ → Orderin
           later = λ some. absurd (omega arith);
           top = λ some. absurd (omega arith);
           few = few;
-          alone = alone;
+          alone = λ one none. omega (arith, ap length (on ∙ none), length-take next ((desk.first.key ++ desk.first.value) ∷ (desk.second.key ++ desk.second.value) ∷ []));
           enough = omega arith;
           first = ap (λ h. h.first) shape_is ∙ can.tree.header.first (a.shape.depth - 1) leaf ∙ head_get (level_of a (a.shape.depth - 1));
           last = ap (λ h. h.last) shape_is ∙ can.tree.header.last (a.shape.depth - 1) leaf ∙ last_is (level_of a (a.shape.depth - 1));
           root = ap (λ h. h.root) shape_is;
           depth = ap (λ h. h.depth) shape_is;
+          single = λ i low one. used_in_tree i 0 low (omega arith);
           others = λ n free unused still. refl;
         }
 
@@ -141,6 +148,7 @@ module _ {is_key : List ℕ → Type 0} {cmp : List ℕ → List ℕ → Orderin
           last = asc.last;
           root = asc.root;
           depth = asc.depth;
+          single = asc.single;
           others = λ n free unused still. nodes n ∙ asc.others n free unused (sym (used n) ∙ still);
         }
 
@@ -641,6 +649,40 @@ module _ {is_key : List ℕ → Type 0} {cmp : List ℕ → List ℕ → Orderin
                     ] in
                     edit.others n free_now other none not_back not_next ∙ asc.others n free unused unused_now
 
+            used_of_level : (n : ℕ) → 1 ≤ times n (asc.levels j) → a.used n ≡ true
+            used_of_level n some =
+                let place = times_place n (asc.levels j) some in
+                subst (λ m. a.used m ≡ true) (ap (λ l. get_or l place.0 0) (sym level_is) ∙ place.2) (used_in_tree j place.0 of_tree (omega (arith, place.1, ap length level_is)))
+
+            part_used : (n : ℕ) → length parts ≤ 1 → 1 ≤ times n parts → a.used n ≡ true
+            part_used n few some =
+                let long : length parts ≡ count = length-take-le count (node ∷ edit.fresh ∷ []) edit.most in
+                elim (cases_eq count 1) [
+                  | inl one ↦
+                      let is : times n (node ∷ []) ≡ times n parts = ap (λ c. times n (parts_of c node edit.fresh)) (sym one) in
+                      used_of_level n (omega (arith, is, some, ap (λ (l : List ℕ). times n l) whole, times-append n xs (node ∷ ys)))
+                  | inr other ↦
+                      let none : count ≡ 0 = omega arith in
+                      absurd (omega (arith, some, ap (λ c. times n (parts_of c node edit.fresh)) none))
+                ]
+
+            single_here : length (levels2 j) ≡ 1 → a.used (get_or (levels2 j) 0 0) ≡ true
+            single_here one =
+                let n : ℕ = get_or (levels2 j) 0 0 in
+                let long : length xs + (length parts + length ys) ≡ 1 = omega (arith, one, ap length at_j, length-append xs (parts ++ ys), length-append parts ys) in
+                let there : 1 ≤ times (get_or (levels2 j) 0 0) xs + (times (get_or (levels2 j) 0 0) parts + times (get_or (levels2 j) 0 0) ys) =
+                omega (arith, times_at (levels2 j) 0 (omega (arith, one)), ap (λ (l : List ℕ). times (get_or (levels2 j) 0 0) l) at_j, times-append (get_or (levels2 j) 0 0) xs (parts ++ ys), times-append (get_or (levels2 j) 0 0) parts ys) in
+                elim (cases_lt 0 (times (get_or (levels2 j) 0 0) parts)) [
+                  | inl some ↦ part_used (get_or (levels2 j) 0 0) (omega arith) some
+                  | inr none ↦ used_of_level (get_or (levels2 j) 0 0) (omega (arith, there, ap (λ (l : List ℕ). times (get_or (levels2 j) 0 0) l) whole, times-append (get_or (levels2 j) 0 0) xs (node ∷ ys)))
+                ]
+
+            single_then : (i : ℕ) → i < a.shape.depth → length (levels2 i) ≡ 1 → a.used (get_or (levels2 i) 0 0) ≡ true
+            single_then i low one = elim (cases_eq i j) [
+              | inl is ↦ subst (λ m. a.used (get_or (levels2 m) 0 0) ≡ true) (sym is) (single_here (ap (λ m. length (levels2 m)) (sym is) ∙ one))
+              | inr other ↦ subst (λ l. a.used (get_or l 0 0) ≡ true) (sym (elsewhere i other)) (asc.single i low (ap length (sym (elsewhere i other)) ∙ one))
+            ]
+
             alone_then : AreOfOneLength is_key → put ≡ [] → count ≤ 1
             alone_then one none_put = elim (cases_eq count 2) [
               | inl two ↦ absurd (omega (arith, edit.split two, needs_none one none_put))
@@ -673,6 +715,7 @@ module _ {is_key : List ℕ → Type 0} {cmp : List ℕ → List ℕ → Orderin
                   last = back_is;
                   root = edit.ends.root ∙ asc.root;
                   depth = edit.ends.depth ∙ asc.depth;
+                  single = single_then;
                   others = others_then;
                 }
 
@@ -756,13 +799,15 @@ module _ {is_key : List ℕ → Type 0} {cmp : List ℕ → List ℕ → Orderin
                 last = back_is;
                 root = edit.ends.root ∙ asc.root;
                 depth = edit.ends.depth ∙ asc.depth;
+                alone = single_then;
+                same = same_store_both same edit.same;
                 others = others_then;
               }
 
     -- all levels are done
-    pub ascent_end : (s : Store) (shape : TreeShape) (desk : Desk) (done next : ℕ) (gone : Bool) (left : ℕ) → a.shape.depth ≡ done
+    pub ascent_end : (s : Store) → SameStore a s → (shape : TreeShape) (desk : Desk) (done next : ℕ) (gone : Bool) (left : ℕ) → a.shape.depth ≡ done
         → IsAscent is_key cmp a s path at removed put spare shape desk done next gone left → Climbs is_key cmp a s (leaves_edited a path at removed put) shape next left desk
-    ascent_end s shape desk done next gone left all asc =
+    ascent_end s same shape desk done next gone left all asc =
         let some : 0 < done = omega (arith, can.some) in
         record {
           levels = asc.levels;
@@ -778,5 +823,7 @@ module _ {is_key : List ℕ → Type 0} {cmp : List ℕ → List ℕ → Orderin
           last = asc.last;
           root = asc.root;
           depth = asc.depth;
+          alone = asc.single;
+          same = same;
           others = asc.others;
         }

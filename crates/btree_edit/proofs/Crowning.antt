@@ -4,9 +4,11 @@ use Rattle.std.proofs.lemmas.Bool.{cases_lt, cases_eq}
 use Rattle.std.proofs.lemmas.List.{length-map, get_or-map, append-nil, nil_from_length}
 use Rattle.std.specs.declared.cmp.Ordering.{Ordering}
 use Rattle.std.specs.List.{range_with_len, count_by}
-use Rattle.hx_bytes.specs.Field.{big_at}
+use Rattle.hx_bytes.specs.Field.{big_at, big}
+use Rattle.hx_bytes.specs.declared.fields.Order.TheVariants.{Big}
+use Rattle.hx_bytes.proofs.Laws.{length-number_bytes}
 use Rattle.btree_node.specs.Node.{items, next_of, back_of}
-use Rattle.btree_node.specs.Levels.{Nodes, Pair, entries, leaves, key_of, child_of, pair_of, record_for, splice, Ascends}
+use Rattle.btree_node.specs.Levels.{Nodes, Pair, entries, leaves, key_of, value_of, first_key, child_of, pair_of, record_for, splice, Ascends}
 use Rattle.btree_node.specs.Store.{Store}
 use Rattle.btree_node.specs.Tree.{level_of, pairs_of, IsTreeNode, HasHeader, IsTree}
 use Rattle.btree_node.proofs.Levels.{same_entries}
@@ -14,7 +16,8 @@ use Rattle.btree_node.proofs.Ranks.{none_before}
 use Rattle.btree_edit.specs.LevelEdit.{bit, times, Linked}
 use Rattle.btree_edit.specs.Climb.{LevelLists, IsLevel, NoneEmpty, tally, IsTreeBut}
 use Rattle.btree_edit.proofs.Counting.{bit_same, bit_other, bit_most, bit_false, times_at, tally_some, tally_below, tally_none, bits_changed}
-use Rattle.btree_edit.proofs.Naming.{names_same, names_keys, names_ascend, name_child}
+use Rattle.btree_edit.proofs.Naming.{first_is_key, names_same, names_keys, names_ascend, name_child}
+use Rattle.btree_edit.proofs.Pairs.{value_of_joined}
 use Rattle.btree_edit.proofs.Stepping.{level_kept}
 use Rattle.btree_edit.proofs.Whole.{but_of_tree, same_level, tree_of, pairs_then}
 
@@ -190,19 +193,9 @@ module _ {is_key : List ℕ → Type 0} {cmp : List ℕ → List ℕ → Orderin
 
 -- a root that names one node is given back
 module _ {is_key : List ℕ → Type 0} {cmp : List ℕ → List ℕ → Ordering} (key_length : (a : List ℕ) → is_key a → length a ≡ big_at 2 a 0 + 2)
-    (old new : Store) (depth : ℕ) (levels : LevelLists) (place : ℕ) (put : List (List ℕ)) (but : IsTreeBut is_key cmp old (suc depth) levels 0 place put)
+    (old : Store) (depth : ℕ) (levels : LevelLists) (place : ℕ) (put : List (List ℕ)) (but : IsTreeBut is_key cmp old (suc depth) levels 0 place put)
     (root : ℕ) (top : levels 0 ≡ root ∷ []) (below : 0 < depth) (one : length (items (old.nodes root)) ≡ 1) (small : old.shape.total ≤ 2 ^ 32)
-    (same : (n : ℕ) → old.reserved n ≡ false → new.nodes n ≡ old.nodes n)
-    (used : (n : ℕ) → bit (new.used n) + times n (root ∷ []) ≡ bit (old.used n))
-    (size : new.shape.node_size ≡ old.shape.node_size) (total : new.shape.total ≡ old.shape.total) (free : new.shape.free ≡ old.shape.free + 1)
-    (reserved : (n : ℕ) → new.reserved n ≡ old.reserved n)
   where
-    keeps : (j k : ℕ) → j < suc depth → k < length (levels j) → new.nodes (get_or (levels j) k 0) ≡ old.nodes (get_or (levels j) k 0)
-    keeps j k low inside = same (get_or (levels j) k 0) (not_reserved old (suc depth) levels 0 place put but j k low inside)
-
-    names_keep : (j : ℕ) → j < suc depth → map (λ n. record_for new.nodes n) (levels j) ≡ map (λ n. record_for old.nodes n) (levels j)
-    names_keep j low = names_same old.nodes new.nodes (levels j) (λ k inside. ap items (keeps j k low inside))
-
     root_records : items (old.nodes root) ≡ map (λ n. record_for old.nodes n) (levels 1)
     root_records = sym (append-nil (items (old.nodes root))) ∙ ap (λ l. entries old.nodes l) (sym top) ∙ but.named 0 (omega arith) (λ e. absurd (omega arith))
 
@@ -217,6 +210,18 @@ module _ {is_key : List ℕ → Type 0} {cmp : List ℕ → List ℕ → Orderin
         ∙ name_child is_key cmp key_length old.nodes (levels 1) (but.some 1 (omega arith) (inr (omega arith))) level.keys 0 (omega (arith, child_long))
         (omega (arith, in_total old (suc depth) levels 0 place put but 1 0 (omega arith) (omega (arith, child_long))))
 
+    pub child_named : 4 ≤ length (value_of (get_or (items (old.nodes root)) 0 []))
+    child_named =
+        let level = but.each 1 (omega arith) in
+        let first = first_is_key is_key cmp key_length old.nodes (levels 1) (but.some 1 (omega arith) (inr (omega arith))) level.keys 0 (omega (arith, child_long)) in
+        omega (
+          arith,
+          ap (λ l. length (value_of (get_or l 0 []))) root_records,
+          ap (λ l. length (value_of l)) (get_or-map (λ n. record_for old.nodes n) (levels 1) 0 0 [] (omega (arith, child_long))),
+          ap length (value_of_joined (first_key old.nodes (get_or (levels 1) 0 0)) (key_length (first_key old.nodes (get_or (levels 1) 0 0)) first) (big 4 (get_or (levels 1) 0 0))),
+          length-number_bytes Big 4 (get_or (levels 1) 0 0),
+        )
+
     one_of : (l : List ℕ) → length l ≡ 1 → l ≡ get_or l 0 0 ∷ []
     one_of [] long = absurd (omega arith)
     one_of (n ∷ []) long = refl
@@ -225,30 +230,41 @@ module _ {is_key : List ℕ → Type 0} {cmp : List ℕ → List ℕ → Orderin
     pub new_top : levels 1 ≡ child_of (get_or (items (old.nodes root)) 0 []) ∷ []
     new_top = one_of (levels 1) child_long ∙ ap (λ n. n ∷ []) (sym child_is)
 
-    pub lowered : IsTreeBut is_key cmp new depth (λ j. levels (suc j)) 0 0 []
-    lowered = record {
-      each = λ j low. subst (λ h. IsLevel is_key cmp new h (levels (suc j))) {x = suc depth - suc j} (omega arith)
-          (level_kept old new (suc depth - suc j) (levels (suc j)) size total (λ k inside. keeps (suc j) k (omega arith) inside) (but.each (suc j) (omega arith)));
-      some = λ j low which k inside. subst (λ l. 0 < length (items l)) (sym (keeps (suc j) k (omega arith) inside)) (but.some (suc j) (omega arith) (inr (omega arith)) k inside);
-      named = λ j low other.
-          let at : suc j + 1 ≡ suc (j + 1) = omega arith in
-          same_entries old.nodes new.nodes (levels (suc j)) (λ k inside. ap items (keeps (suc j) k (omega arith) inside))
-          ∙ but.named (suc j) (omega arith) (λ e. absurd (omega arith)) ∙ ap (λ i. map (λ n. record_for old.nodes n) (levels i)) at ∙ sym (names_keep (suc (j + 1)) (omega arith));
-      wanted = λ j low is. absurd (omega arith);
-      mapped = λ n inside. omega (arith, tally_below levels depth n, but.mapped n (omega arith), used n, ap bit (reserved n), ap (λ (l : List ℕ). times n l) top);
-      header = reserved 0 ∙ but.header;
-      free = omega (
-        arith,
-        but.free,
-        ap (λ b. count_by (λ n. new.used n) (range_with_len 0 b)) total,
-        bits_changed new.used old.used (root ∷ []) [] old.shape.total (λ k. omega (arith, used k))
-            (λ k inside. omega (arith, root_in, ap (λ i. get_or (root ∷ []) i 0) {x = 0} {y = k} (omega arith))) (λ k inside. absurd (omega arith)),
-      );
-    }
+    module _ (new : Store) (same : (n : ℕ) → old.reserved n ≡ false → new.nodes n ≡ old.nodes n)
+        (used : (n : ℕ) → bit (new.used n) + times n (root ∷ []) ≡ bit (old.used n))
+        (size : new.shape.node_size ≡ old.shape.node_size) (total : new.shape.total ≡ old.shape.total) (free : new.shape.free ≡ old.shape.free + 1)
+        (reserved : (n : ℕ) → new.reserved n ≡ old.reserved n)
       where
-        root_in : root < old.shape.total
-        root_in =
-            subst (λ n. n < old.shape.total) (ap (λ l. get_or l 0 0) top) (in_total old (suc depth) levels 0 place put but 0 0 (omega arith) (omega (arith, ap length top)))
+        keeps : (j k : ℕ) → j < suc depth → k < length (levels j) → new.nodes (get_or (levels j) k 0) ≡ old.nodes (get_or (levels j) k 0)
+        keeps j k low inside = same (get_or (levels j) k 0) (not_reserved old (suc depth) levels 0 place put but j k low inside)
+
+        names_keep : (j : ℕ) → j < suc depth → map (λ n. record_for new.nodes n) (levels j) ≡ map (λ n. record_for old.nodes n) (levels j)
+        names_keep j low = names_same old.nodes new.nodes (levels j) (λ k inside. ap items (keeps j k low inside))
+
+        pub lowered : IsTreeBut is_key cmp new depth (λ j. levels (suc j)) 0 0 []
+        lowered = record {
+          each = λ j low. subst (λ h. IsLevel is_key cmp new h (levels (suc j))) {x = suc depth - suc j} (omega arith)
+              (level_kept old new (suc depth - suc j) (levels (suc j)) size total (λ k inside. keeps (suc j) k (omega arith) inside) (but.each (suc j) (omega arith)));
+          some = λ j low which k inside. subst (λ l. 0 < length (items l)) (sym (keeps (suc j) k (omega arith) inside)) (but.some (suc j) (omega arith) (inr (omega arith)) k inside);
+          named = λ j low other.
+              let at : suc j + 1 ≡ suc (j + 1) = omega arith in
+              same_entries old.nodes new.nodes (levels (suc j)) (λ k inside. ap items (keeps (suc j) k (omega arith) inside))
+              ∙ but.named (suc j) (omega arith) (λ e. absurd (omega arith)) ∙ ap (λ i. map (λ n. record_for old.nodes n) (levels i)) at ∙ sym (names_keep (suc (j + 1)) (omega arith));
+          wanted = λ j low is. absurd (omega arith);
+          mapped = λ n inside. omega (arith, tally_below levels depth n, but.mapped n (omega arith), used n, ap bit (reserved n), ap (λ (l : List ℕ). times n l) top);
+          header = reserved 0 ∙ but.header;
+          free = omega (
+            arith,
+            but.free,
+            ap (λ b. count_by (λ n. new.used n) (range_with_len 0 b)) total,
+            bits_changed new.used old.used (root ∷ []) [] old.shape.total (λ k. omega (arith, used k))
+                (λ k inside. omega (arith, root_in, ap (λ i. get_or (root ∷ []) i 0) {x = 0} {y = k} (omega arith))) (λ k inside. absurd (omega arith)),
+          );
+        }
+          where
+            root_in : root < old.shape.total
+            root_in =
+                subst (λ n. n < old.shape.total) (ap (λ l. get_or l 0 0) top) (in_total old (suc depth) levels 0 place put but 0 0 (omega arith) (omega (arith, ap length top)))
 
 -- levels below none
 module _ {is_key : List ℕ → Type 0} {cmp : List ℕ → List ℕ → Ordering}

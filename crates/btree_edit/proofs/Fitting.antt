@@ -3,7 +3,7 @@ use Rattle.std.proofs.Common.{◌≡◌, ◌⊎◌, ℕ, zero, suc, ◌+◌, ◌
 use Rattle.std.proofs.lemmas.List.{take-append-drop, length-drop, drop-drop}
 use Rattle.std.proofs.lemmas.List.Sums.{sum_by-append, sum_by-cons}
 use Rattle.std.proofs.Math.Seq.{drop-cons}
-use Rattle.btree_node.specs.Node.{offset, record_count, items, IsNode}
+use Rattle.btree_node.specs.Node.{offset, record_count, items, IsNode, IsNodeSize}
 use Rattle.btree_node.specs.Levels.{splice}
 use Rattle.btree_node.proofs.Items.{records_take}
 use Rattle.btree_edit.specs.LevelEdit.{taken, node_room, FitsTwo}
@@ -58,3 +58,12 @@ taken_two longest [] few each = omega arith
 taken_two longest (r ∷ rs) few each =
     let first : length r + 2 ≤ longest = each 0 (omega arith) in
     omega (arith, taken_cons r rs, taken_one longest rs (omega arith) (λ k inside. each (suc k) (omega arith)))
+
+pub size_least : (n : ℕ) → IsNodeSize n → 512 ≤ n
+size_least n (inl is) = omega arith
+size_least n (inr (inl is)) = omega arith
+size_least n (inr (inr (inl is))) = omega arith
+size_least n (inr (inr (inr (inl is)))) = omega arith
+size_least n (inr (inr (inr (inr (inl is))))) = omega arith
+size_least n (inr (inr (inr (inr (inr (inl is)))))) = omega arith
+size_least n (inr (inr (inr (inr (inr (inr is)))))) = omega arith

@@ -16,3 +16,5 @@ pub mod Ascent
 pub mod Cuts
 pub mod OneLevel
 pub mod Ways
+pub mod Settling
+pub mod Doing

@@ -7,6 +7,7 @@ mod edits;
 mod finding;
 mod following;
 mod levels;
+mod roots;
 mod search;
 mod splitting;
 #[cfg(test)]
