@@ -7,8 +7,10 @@ mod edits;
 mod finding;
 mod following;
 mod levels;
+mod roots;
 mod search;
 mod splitting;
+mod tracing;
 
 pub use desk::Desk;
 pub use edits::{Inserted, Removed, insert, remove, replace};

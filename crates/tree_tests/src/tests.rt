@@ -269,9 +269,7 @@ fn named_key(alloc: Global, folder: u32, units: u16) -> Result<Vec<u8>, OutOfMem
     let long = units.to_be_bytes();
     let mut key = Vec::from_slice(
         alloc,
-        &[
-            size[0], size[1], n[0], n[1], n[2], n[3], long[0], long[1],
-        ],
+        &[size[0], size[1], n[0], n[1], n[2], n[3], long[0], long[1]],
     )?;
     for _ in 0..units {
         key.push(0)?;
