@@ -1,5 +1,5 @@
 -- A store and its disk between two transactions, and after a barrier.
-use Rattle.std.proofs.Common.{◌≡◌, ◌⊎◌, ℕ, ◌-◌, ◌/◌, ◌<◌, ◌≤◌, true, ◌&&◌, List, [], ◌∷◌, inl, inr, ⊎_elim, length, refl, sym, ◌∙◌, ap, subst, arith}
+use Rattle.std.proofs.Common.{◌≡◌, ◌⊎◌, ℕ, ◌-◌, ◌/◌, ◌<◌, ◌≤◌, true, false, ◌&&◌, List, [], ◌∷◌, inl, inr, ⊎_elim, length, refl, sym, ◌∙◌, ap, subst, arith}
 use Rattle.std.specs.Prelude.{IsTrue, Result, Ok, Err, OnOk, OnErr}
 use Rattle.std.proofs.lemmas.Bool.{and_from, and_parts, cases_lt}
 use Rattle.std.proofs.lemmas.List.{get_or_past, length-map}
@@ -22,7 +22,7 @@ use Rattle.jnl_store.proofs.ListsLaws.{sectors_monotone}
 use Rattle.jnl_replay.specs.declared.plan.Plan.{Plan}
 use Rattle.jnl_store.specs.Journal.{IsAtRest, IsClosed, are_open, keeps_journal}
 use Rattle.jnl_store.specs.Overlay.{overlay}
-use Rattle.jnl_store.specs.Standing.{IsReady, IsWritten, Settles, StandsFor, StandsForDurable, StandsForEither, StandsForOne}
+use Rattle.jnl_store.specs.Standing.{StandsBetween, IsReady, IsWritten, Settles, StandsFor, StandsForDurable, StandsForEither, StandsForOne}
 use Rattle.jnl_store.specs.Store.{Keeps, KeepsOn, content_over, durable_of, is_kept}
 use Rattle.jnl_store.specs.declared.store.Store.{Store}
 use Rattle.jnl_store.specs.declared.puts.Put.{Put}
@@ -51,15 +51,34 @@ unfolding is_kept
 kept_from store sectors candidates a b c =
     and_from (keeps_journal store.plan candidates && are_open store.plan sectors store.batch.all) (are_open store.plan sectors store.batch.kept) (and_from (keeps_journal store.plan candidates) (are_open store.plan sectors store.batch.all) a b) c
 
+-- a disk with these candidates, of which nothing else is said
+abbrev told_only : Candidates → State
+told_only candidates = record {
+  tells = true;
+  tells_left = false;
+  names = [];
+  sectors = 0;
+  candidates = candidates;
+  told = [];
+  faults = 0;
+  sink_faults = 0;
+  barriers = 0;
+  clock = record { moment = 0; left = λ t image told. ⊥ };
+}
+
 -- what a crash leaves while nothing is written
-pub image_quiet : (store : Store) (disk : State) (image : Content) → KeepsOn store disk → IsImage disk.candidates image → StandsForDurable store disk image
-image_quiet store disk image k is =
-    let j = keeps_parts store.plan disk.candidates (kept_parts store disk.sectors disk.candidates k.1.kept).0 in
-    let m : MixesInRing (span_of store.plan) 512 [] disk.candidates image = record { size = is.size; each = λ s inside. inl (is.each s inside) } in (
+pub image_between : (store : Store) (sectors : ℕ) (candidates : Candidates) (image : Content) → Keeps store sectors candidates → IsImage candidates image → StandsBetween store candidates image
+image_between store sectors candidates image k is =
+    let disk = told_only candidates in
+    let j = keeps_parts store.plan candidates (kept_parts store sectors candidates k.kept).0 in
+    let m : MixesInRing (span_of store.plan) 512 [] candidates image = record { size = is.size; each = λ s inside. inl (is.each s inside) } in (
       image,
       text_stands store.plan store.rest disk j [] (omega arith) image m,
-      subst (λ (d : Content). AgreesOutside (λ s. IsSpilled store.plan disk.candidates s ⊎ IsClosed store.plan s) d image) (sym (durable_is store (content disk))) (text_agrees store.plan store.rest disk j [] (omega arith) image m),
+      subst (λ (d : Content). AgreesOutside (λ s. IsSpilled store.plan candidates s ⊎ IsClosed store.plan s) d image) (sym (durable_is store (content_of candidates))) (text_agrees store.plan store.rest disk j [] (omega arith) image m),
     )
+
+pub image_quiet : (store : Store) (disk : State) (image : Content) → KeepsOn store disk → IsImage disk.candidates image → StandsForDurable store disk image
+image_quiet store disk image k is = image_between store disk.sectors disk.candidates image k.1 is
 
 pub still_quiet : (store : Store) (disk : State) → KeepsOn store disk → Leaves disk disk (StandsForDurable store disk)
 still_quiet store disk k = record { time = none_passes disk.clock _; now = λ image is. image_quiet store disk image k is }
