@@ -81,7 +81,7 @@ impl Store {
         ensures same { SameDisk (D.state disk.old) (D.state disk.new) }
         ensures sink { SameSink (D.state disk.old) (D.state disk.new) }
     {
-        if self.faults > 0 {
+        if self.faults != 0 {
             return Err(StoreFault::Failed(self.faults));
         }
         match self.settle(disk) {
