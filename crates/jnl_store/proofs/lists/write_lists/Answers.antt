@@ -6,7 +6,7 @@ use Rattle.jnl_ring.specs.Span.{sector_after}
 use Rattle.jnl_ring.proofs.Bytes.{disk_has}
 use Rattle.jnl_ring.proofs.Written.{grows_maybe, puts_all, wrote_all, wrote_leaves, wrote_one}
 use Rattle.jnl_store.specs.Lists.{lists_sectors}
-use Rattle.jnl_store.proofs.ListsRing.{text_alone}
+use Rattle.jnl_store.proofs.ListsRing.{text_alone, unsure_value, written_value}
 use Rattle.jnl_store.proofs.ListsSectors.{concat-lists_sectors, length-lists_sectors, lists_sector, lists_whole}
 use Rattle.jnl_store.proofs.lists.write_lists.Goals as goal
 
@@ -24,7 +24,7 @@ loop-k-preserved g c =
     let place = span.base + c.advance-offset.result / 512 in
     wrote_one span c.args.from list k place (g.D.SectorDisk.state c.args.disk.now) now (g.D.SectorDisk.state c.write.new.self)
     (g.met.D.SectorDisk.well_formed c.args.disk.now) c.requires.span c.requires.on_disk c.requires.from c.requires.whole (omega (arith, long)) (omega (arith, long))
-    here c.loop-k.invariant (c.in_ok-write.ensures.written ∙ ap (with_candidate now.candidates place) value) c.write.ensures.barriers c.write.ensures.same c.write.ensures.sink c.write.ensures.time c.write.ensures.cause.later
+    here c.loop-k.invariant (written_value now.candidates (g.D.SectorDisk.state c.write.new.self).candidates place k c.text_sector-sector.result list value c.in_ok-write.ensures.written) c.write.ensures.barriers c.write.ensures.same c.write.ensures.sink c.write.ensures.time c.write.ensures.cause.later
 
 pub returns-in_err-write-clause-grows : goal.returns-in_err-write-clause-grows
 returns-in_err-write-clause-grows g c =
@@ -39,8 +39,7 @@ returns-in_err-write-clause-grows g c =
     let value : c.text_sector-sector.result ≡ sector list k = c.text_sector-sector.ensures.value ∙ sym (lists_sector form c.requires.form puts k (omega arith)) in
     let here : span.base + c.advance-offset.result / 512 ≡ sector_after span c.args.from k = ap (λ n. span.base + n / 512) c.advance-offset.ensures.after in
     grows_maybe span c.args.from list k (g.D.SectorDisk.state c.args.disk.now).candidates now.candidates new.candidates (omega (arith, long)) c.loop-k.invariant.grows
-    (subst (λ n. MayHaveWritten now.candidates n (sector list k) new.candidates) here
-    (subst (λ (v : List ℕ). MayHaveWritten now.candidates (span.base + c.advance-offset.result / 512) v new.candidates) value c.in_err-write.ensures.unsure))
+    (unsure_value now.candidates new.candidates (span.base + c.advance-offset.result / 512) (sector_after span c.args.from k) k c.text_sector-sector.result list value here c.in_err-write.ensures.unsure)
 
 pub returns-in_err-write-clause-crash : goal.returns-in_err-write-clause-crash
 returns-in_err-write-clause-crash g c =
@@ -57,8 +56,7 @@ returns-in_err-write-clause-crash g c =
     let here : span.base + c.advance-offset.result / 512 ≡ sector_after span c.args.from k = ap (λ n. span.base + n / 512) c.advance-offset.ensures.after in
     wrote_leaves span c.args.from list k old now new c.loop-k.invariant c.write.ensures.sink
     (grows_maybe span c.args.from list k old.candidates now.candidates new.candidates (omega (arith, long)) c.loop-k.invariant.grows
-    (subst (λ n. MayHaveWritten now.candidates n (sector list k) new.candidates) here
-    (subst (λ (v : List ℕ). MayHaveWritten now.candidates (span.base + c.advance-offset.result / 512) v new.candidates) value c.in_err-write.ensures.unsure)))
+    (unsure_value now.candidates new.candidates (span.base + c.advance-offset.result / 512) (sector_after span c.args.from k) k c.text_sector-sector.result list value here c.in_err-write.ensures.unsure))
     c.write.ensures.time
 
 pub returns-clause-puts : goal.returns-clause-puts
