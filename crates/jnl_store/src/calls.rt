@@ -26,6 +26,7 @@ impl Store {
     pub fn attach(alloc: Global, plan: &Plan, cache: u32) -> Result<Store, OutOfMemory>
         requires fits { (sectors : ℕ) × FitsPlan sectors plan.now }
         ensures plan { IfOk result (λ store. store.plan ≡ rested plan.now) }
+        ensures still_fits { (sectors : ℕ) → FitsPlan sectors plan.now → IfOk result (λ store. FitsPlan sectors store.plan) }
         ensures nothing { IfOk result (λ store. store.batch ≡ record { all = []; kept = []; room = 0 }) }
         ensures settled { IfOk result (λ store. store.unsettled ≡ Bool.false) }
         ensures faults { IfOk result (λ store. store.faults ≡ 0) }
