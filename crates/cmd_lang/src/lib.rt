@@ -13,5 +13,5 @@ mod split;
 mod words;
 
 pub use fault::LineFault;
-pub use line::read_line;
+pub use line::{MOST_BYTES, read_line};
 pub use reply::print_reply;

@@ -16,7 +16,7 @@ use std::alloc::Global;
 use std::str;
 
 /// The most bytes of a line, without its newline.
-const MOST_BYTES: usize = 140_000;
+pub const MOST_BYTES: usize = 140_000;
 
 /// The command that a line spells, which is given without its newline.
 ///

@@ -8,7 +8,7 @@ use Rattle.hfs_model.specs.Bits.{is_marked}
 use Rattle.hfs_model.specs.Names.{are_thin_names}
 use Rattle.hfs_model.specs.Node.{IsNode, header_head, leaf_head, header_items}
 use Rattle.hfs_model.specs.Reading.{names_in}
-use Rattle.hfs_model.specs.Thin.{IsHeader, IsEmptyJournal, HasFixedParts, AreThin, bitmap_text, info_text, extents_tree, attributes_tree, catalog_tree, leaf_items}
+use Rattle.hfs_model.specs.Thin.{IsHeader, IsJournal, HasFixedParts, AreThin, bitmap_text, info_text, extents_tree, attributes_tree, catalog_tree, leaf_items}
 use Rattle.hfs_model.proofs.NameLists.{both}
 use Rattle.hfs_model.proofs.Threads.{names_in_leaf}
 
@@ -34,7 +34,7 @@ five_joined a b c d e r is ha hb hc hd he = cc
 pub fixed_told : (a b c d e r : Bool) (parts : Parts) (info : List ℕ) (extents attributes : TreeHeader) → r ≡ (a && b && c && d && e) → info ≡ info_text → extents ≡ extents_tree → attributes ≡ attributes_tree
     → IsTrue a ↔ (concat parts.bitmap ≡ bitmap_text)
     → IsTrue b ↔ (parts.info ≡ info)
-    → IsTrue c ↔ IsEmptyJournal parts.journal
+    → IsTrue c ↔ IsJournal parts.journal
     → IsTrue d ↔ IsNode (concat parts.extents) header_head (header_items extents (is_marked 1 None))
     → IsTrue e ↔ IsNode (concat parts.attributes) header_head (header_items attributes (is_marked 1 None))
     → IsTrue r ↔ HasFixedParts parts

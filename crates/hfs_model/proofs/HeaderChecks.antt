@@ -9,9 +9,9 @@ use Rattle.hx_bytes.proofs.Laws.{length-number_bytes, number_at-number_bytes}
 use Rattle.volume_header.specs.declared.header.VolumeHeader.{VolumeHeader}
 use Rattle.volume_header.specs.Header.{header_bytes, identity_bytes, history_bytes, blocks_bytes, counters_bytes, forks_bytes}
 use Rattle.jnl_format.specs.declared.structures.Header.{Header}
-use Rattle.jnl_format.specs.Header.{header_spelled, is_offset, wrapped}
+use Rattle.jnl_format.specs.Header.{header_spelled, is_offset}
 use Rattle.jnl_format.specs.Checksum.{checksum_of}
-use Rattle.hfs_model.specs.Thin.{IsHeader, IsEmptyJournal, thin_header, is_clean_in, writes_in, journal_text}
+use Rattle.hfs_model.specs.Thin.{IsHeader, IsJournal, thin_header, is_clean_in, writes_in, journal_text}
 use Rattle.hfs_model.proofs.NameLists.{both}
 
 -- the attributes of a header
@@ -81,9 +81,9 @@ end_at head sum rest small =
     let long : length front ≡ 16 = simp (length-append, length-number_bytes order) refl in
     ap (λ (l : List ℕ). number_at order 8 l 16) split ∙ number_at-number_bytes order 8 head.end 16 front behind long small
 
--- both offsets are in the buffer, and nothing is between them
-abbrev pub is_empty_range : ℕ → ℕ → Bool
-is_empty_range start end = is_offset 1048576 start && is_offset 1048576 end && (wrapped 1048576 start == wrapped 1048576 end)
+-- both offsets are in the buffer
+abbrev pub is_range : ℕ → ℕ → Bool
+is_range start end = is_offset 1048576 start && is_offset 1048576 end
 
 le_then : (at : ℕ) → nat_le at 1048576 ≡ true → at < 18446744073709551616
 le_then at h = grind (arith, nat_tests)
@@ -93,53 +93,42 @@ offset_small at h =
     let parts = both (at % 512 == 0 && nat_le 512 at) (nat_le at 1048576) h in
     le_then (at) parts.1
 
-same_from_test : (a b : ℕ) → (a == b) ≡ true → a ≡ b
-same_from_test a b h = grind (arith, nat_tests)
-
-test_from_same : (a b : ℕ) → a ≡ b → (a == b) ≡ true
-test_from_same a b h = grind (arith, nat_tests)
-
--- the header of an empty journal has its offsets where they are read
-pub journal_start : (sector : List ℕ) (journal : IsEmptyJournal sector) → number_at Little 8 sector 8 ≡ journal.start
+-- the header of a journal has its offsets where they are read
+pub journal_start : (sector : List ℕ) (journal : IsJournal sector) → number_at Little 8 sector 8 ≡ journal.start
 journal_start sector journal =
     ap (λ (l : List ℕ). number_at Little 8 l 8) journal.is
     ∙ start_at (record { order = Little; start = journal.start; end = journal.end; size = 1048576; blhdr = 4096 }) _ (replicate 468 0) (offset_small journal.start journal.starts)
 
-pub journal_end : (sector : List ℕ) (journal : IsEmptyJournal sector) → number_at Little 8 sector 16 ≡ journal.end
+pub journal_end : (sector : List ℕ) (journal : IsJournal sector) → number_at Little 8 sector 16 ≡ journal.end
 journal_end sector journal =
     ap (λ (l : List ℕ). number_at Little 8 l 16) journal.is
     ∙ end_at (record { order = Little; start = journal.start; end = journal.end; size = 1048576; blhdr = 4096 }) _ (replicate 468 0) (offset_small journal.end journal.ends)
 
-range_from_journal : (sector : List ℕ) (journal : IsEmptyJournal sector) → is_empty_range journal.start journal.end ≡ true
-range_from_journal sector journal =
-    ap (λ (b : Bool). b && is_offset 1048576 journal.end && (wrapped 1048576 journal.start == wrapped 1048576 journal.end)) journal.starts
-    ∙ ap (λ (b : Bool). b && (wrapped 1048576 journal.start == wrapped 1048576 journal.end)) journal.ends
-    ∙ test_from_same (wrapped 1048576 journal.start) (wrapped 1048576 journal.end) journal.empty
+range_from_journal : (sector : List ℕ) (journal : IsJournal sector) → is_range journal.start journal.end ≡ true
+range_from_journal sector journal = ap (λ (b : Bool). b && is_offset 1048576 journal.end) journal.starts ∙ journal.ends
 
--- what is read is no empty range: the journal isn't empty
-pub journal_refused : (start end : ℕ) (r : Bool) (sector : List ℕ) → start ≡ number_at Little 8 sector 8 → end ≡ number_at Little 8 sector 16 → r ≡ is_empty_range start end → r ≡ false → IsEmptyJournal sector → ⊥
+-- what is read is no range: it is no header of a journal
+pub journal_refused : (start end : ℕ) (r : Bool) (sector : List ℕ) → start ≡ number_at Little 8 sector 8 → end ≡ number_at Little 8 sector 16 → r ≡ is_range start end → r ≡ false → IsJournal sector → ⊥
 journal_refused start end r sector start_is end_is range refused journal =
     let start_same : start ≡ journal.start = start_is ∙ journal_start sector journal in
     let end_same : end ≡ journal.end = end_is ∙ journal_end sector journal in
-    let holds : r ≡ true = range ∙ ap (λ (n : ℕ). is_empty_range n end) start_same ∙ ap (λ (n : ℕ). is_empty_range journal.start n) end_same ∙ range_from_journal sector journal in
+    let holds : r ≡ true = range ∙ ap (λ (n : ℕ). is_range n end) start_same ∙ ap (λ (n : ℕ). is_range journal.start n) end_same ∙ range_from_journal sector journal in
     absurd (cc (holds, refused))
 
--- it is an empty range: the journal is empty exactly where the header made of it is the same
-pub journal_told : (start end : ℕ) (range r : Bool) (sector text : List ℕ) → start ≡ number_at Little 8 sector 8 → end ≡ number_at Little 8 sector 16 → range ≡ is_empty_range start end → range ≡ true
-    → text ≡ journal_text start end → IsTrue r ↔ (text ≡ sector) → IsTrue r ↔ IsEmptyJournal sector
+-- it is a range: it is the header of a journal exactly where the header made of it is the same
+pub journal_told : (start end : ℕ) (range r : Bool) (sector text : List ℕ) → start ≡ number_at Little 8 sector 8 → end ≡ number_at Little 8 sector 16 → range ≡ is_range start end → range ≡ true
+    → text ≡ journal_text start end → IsTrue r ↔ (text ≡ sector) → IsTrue r ↔ IsJournal sector
 journal_told start end range r sector text start_is end_is range_is stands made told =
-    let all : is_empty_range start end ≡ true = sym range_is ∙ stands in
-    let outer = both _ (wrapped 1048576 start == wrapped 1048576 end) all in
-    let inner = both (is_offset 1048576 start) (is_offset 1048576 end) outer.0 in (
+    let all : is_range start end ≡ true = sym range_is ∙ stands in
+    let inner = both (is_offset 1048576 start) (is_offset 1048576 end) all in (
       (λ holds. record {
         start = start;
         end = end;
         starts = inner.0;
         ends = inner.1;
-        empty = same_from_test (wrapped 1048576 start) (wrapped 1048576 end) outer.1;
         is = sym (told.0 holds) ∙ made;
       }),
-      (λ (journal : IsEmptyJournal sector).
+      (λ (journal : IsJournal sector).
           let start_same : start ≡ journal.start = start_is ∙ journal_start sector journal in
           let end_same : end ≡ journal.end = end_is ∙ journal_end sector journal in
           told.1 (made ∙ ap (λ (n : ℕ). journal_text n end) start_same ∙ ap (λ (n : ℕ). journal_text journal.start n) end_same ∙ sym journal.is)),

@@ -24,3 +24,9 @@ pub record OnlyFolders (old new : Parts) : Type 0 where
   pub journal : new.journal ≡ old.journal
   pub extents : new.extents ≡ old.extents
   pub attributes : new.attributes ≡ old.attributes
+
+-- all but the header is the same
+pub record OnlyHeader (old new : Parts) : Type 0 where
+  pub folders : OnlyFolders old new
+  pub catalog : new.catalog ≡ old.catalog
+  pub leaf : new.leaf ≡ old.leaf

@@ -100,14 +100,18 @@ abbrev pub journal_text : ℕ → ℕ → List ℕ
 journal_text start end =
     journal.header_bytes (record { order = Little; start = start; end = end; size = 1048576; blhdr = 4096 }) ++ replicate 468 0
 
--- the header of an empty journal: it may start, and so end, at any sector of the buffer
-pub record IsEmptyJournal (bytes : List ℕ) : Type 0 where
+-- the header of a journal: it may start and end at any sector of the buffer
+pub record IsJournal (bytes : List ℕ) : Type 0 where
   pub start : ℕ
   pub end : ℕ
   pub starts : IsTrue (is_offset 1048576 start)
   pub ends : IsTrue (is_offset 1048576 end)
-  pub empty : wrapped 1048576 start ≡ wrapped 1048576 end
   pub is : bytes ≡ journal_text start end
+
+-- the same of an empty journal, which ends where it starts
+pub record IsEmptyJournal (bytes : List ℕ) : Type 0 where
+  pub header : IsJournal bytes
+  pub empty : wrapped 1048576 header.start ≡ wrapped 1048576 header.end
 
 -- a tree of sixteen nodes without a record
 abbrev pub empty_tree : ℕ → ℕ → TreeHeader
@@ -225,11 +229,11 @@ leaf_items names =
     first_items (length names)
     ++ (map (folder_item names) (in_order names) ++ (journal_threads ++ folder_threads 18 names))
 
--- what doesn't depend on the folders: the bitmap, the journal, and two trees without a record
+-- what doesn't depend on the folders: the bitmap, the journal's info block and header, and two trees without a record
 pub record HasFixedParts (parts : Parts) : Type 0 where
   pub bitmap : concat parts.bitmap ≡ bitmap_text
   pub info : parts.info ≡ info_text
-  pub journal : IsEmptyJournal parts.journal
+  pub journal : IsJournal parts.journal
   pub extents : IsNode (concat parts.extents) header_head (header_items extents_tree (is_marked 1 None))
   pub attributes : IsNode (concat parts.attributes) header_head (header_items attributes_tree (is_marked 1 None))
 
@@ -243,7 +247,8 @@ pub record AreThin (parts : Parts) (names : List (List ℕ)) : Type 0 where
   pub catalog : IsNode (concat parts.catalog) header_head (header_items (catalog_tree (length names)) (is_marked 2 None))
   pub leaf : IsNode (concat parts.leaf) leaf_head (leaf_items names)
 
--- this content is a thin volume with these folders in its root
+-- This content is a thin volume with these folders in its root. What its journal would write to its sectors isn't
+-- looked at, so it is said of a content whose journal is empty, or of what a content stands for.
 pub record IsThin (content : List (List ℕ)) (names : List (List ℕ)) : Type 0 where
   pub size : length content ≡ 16384
   pub parts : AreThin (parts_of content) names

@@ -1,8 +1,8 @@
 //! The volume header, the journal's info block and the journal's header of a thin volume.
 ghost use Rattle.std.specs.Prelude.{◌≡◌, ◌≤◌, ◌<◌, ◌*◌, ◌^◌, ◌==◌, ◌&&◌, ◌↔◌, IsTrue};
 ghost use Rattle.volume_header.specs.Header.{header_bytes};
-ghost use Rattle.jnl_format.specs.Header.{is_offset, wrapped};
-ghost use Rattle.hfs_model.specs.Thin.{IsHeader, IsEmptyJournal, special_fork, thin_header, is_clean_in, writes_in, info_text, journal_text};
+ghost use Rattle.jnl_format.specs.Header.{is_offset};
+ghost use Rattle.hfs_model.specs.Thin.{IsHeader, IsJournal, special_fork, thin_header, is_clean_in, writes_in, info_text, journal_text};
 
 use crate::leaf::{no_fork, one_run};
 use crate::text::are_same;
@@ -135,25 +135,19 @@ fn is_journal_offset(at: u64) -> bool
     at % 512 == 0 && 512 <= at && at <= JOURNAL_SIZE
 }
 
-fn wrapped(at: u64) -> u64
-    ensures { result ≡ wrapped 1048576 at }
+fn is_journal_range(start: u64, end: u64) -> bool
+    ensures { result ≡ (is_offset 1048576 start && is_offset 1048576 end) }
 {
-    if at == JOURNAL_SIZE { 512 } else { at }
+    is_journal_offset(start) && is_journal_offset(end)
 }
 
-fn is_empty_range(start: u64, end: u64) -> bool
-    ensures { result ≡ (is_offset 1048576 start && is_offset 1048576 end && (wrapped 1048576 start == wrapped 1048576 end)) }
-{
-    is_journal_offset(start) && is_journal_offset(end) && wrapped(start) == wrapped(end)
-}
-
-/// Whether this is the header of an empty journal.
-pub(crate) fn is_empty_journal(sector: &Sector) -> bool
-    ensures { IsTrue result ↔ IsEmptyJournal sector.now }
+/// Whether this is the header of the journal of a thin volume.
+pub(crate) fn is_journal(sector: &Sector) -> bool
+    ensures { IsTrue result ↔ IsJournal sector.now }
 {
     let start = read_o64(sector, 8, Order::Little);
     let end = read_o64(sector, 16, Order::Little);
-    if !is_empty_range(start, end) {
+    if !is_journal_range(start, end) {
         return false;
     }
     are_same(&journal_sector(start, end), sector)

@@ -28,6 +28,6 @@ pub use language_laws::{
 pub use laws::{lines_end, one_list};
 pub use names::{are_thin_names, contains, is_thin_name, place_of, sorted};
 pub use node::{NodeHead, TreeHeader};
-pub use parts::{Parts, fresh_parts, thin_names, with_names};
+pub use parts::{Parts, fresh_parts, thin_names, with_mark, with_names};
 pub use refusal::Refusal;
 pub use reply::{Change, ChangeKind, Changes, Facts, Gauge, ListedName, Listing, Reply, TreeGauge};

@@ -4,7 +4,7 @@ ghost use Rattle.volume_header.specs.Header.{header_bytes};
 ghost use Rattle.std.specs.List.{concat};
 ghost use Rattle.hfs_model.specs.Names.{are_thin_names};
 ghost use Rattle.hfs_model.specs.Node.{node_over, leaf_head};
-ghost use Rattle.hfs_model.specs.Parts.{OnlyFolders};
+ghost use Rattle.hfs_model.specs.Parts.{OnlyFolders, OnlyHeader};
 ghost use Rattle.hfs_model.specs.Thin.{AreThin, AreFresh, HasFixedParts, thin_header, is_clean_in, writes_in, leaf_items};
 
 use crate::blocks::{
@@ -12,7 +12,7 @@ use crate::blocks::{
     leaf_node,
 };
 use crate::headers::{
-    header_sector, info_sector, is_clean, is_empty_journal, is_header, journal_sector, write_count,
+    header_sector, info_sector, is_clean, is_header, is_journal, journal_sector, write_count,
 };
 use crate::names::are_thin_names;
 use crate::reading::read_names;
@@ -93,7 +93,7 @@ fn has_fixed_parts(alloc: Global, parts: &Parts) -> Result<bool, OutOfMemory>
 {
     let bitmap = is_bitmap(alloc, &parts.bitmap)?;
     let info = are_same(&parts.info, &info_sector());
-    let journal = is_empty_journal(&parts.journal);
+    let journal = is_journal(&parts.journal);
     let extents_tree = empty_tree(EXTENTS_KEY, EXTENTS_ATTRIBUTES);
     let attributes_tree = empty_tree(ATTRIBUTES_KEY, ATTRIBUTES_ATTRIBUTES);
     let extents = is_header_node(alloc, &parts.extents, &extents_tree, 1)?;
@@ -156,4 +156,27 @@ pub fn with_names(alloc: Global, parts: &Parts, names: &Names) -> Result<Parts, 
         catalog: cut(catalog.as_slice()),
         leaf: cut(leaf.as_slice()),
     })
+}
+
+/// The parts with bit 8 of the header's attributes set or cleared, and with this write count. They are those of a thin
+/// volume with these folders.
+pub fn with_mark(parts: &Parts, names: &Names, is_clean: bool, writes: u32) -> Parts
+    requires { AreThin parts.now names.now }
+    ensures thin { AreThin result names.now }
+    ensures header { result.header ≡ header_bytes (thin_header (length names.now) is_clean writes) }
+    ensures others { OnlyHeader parts.now result }
+{
+    Parts {
+        header: header_sector(names.len() as u32, is_clean, writes),
+        ..*parts
+    }
+}
+
+impl Parts {
+    /// The header's write count.
+    pub fn write_count(&self) -> u32
+        ensures { result ≡ writes_in self.now.header }
+    {
+        write_count(&self.header)
+    }
 }

@@ -264,7 +264,7 @@ fn damaged_parts_are_refused(rt: HostRuntime) -> Result<(), Fail> {
     for (at, parts) in damaged.iter().enumerate() {
         assert!(rt; is_refused(alloc, parts)?, "damage {at}");
     }
-    // free space, and another start of an empty journal, are open
+    // free space, and where the journal starts and ends, are open
     let mut open = good;
     open.leaf[5][0] = 1;
     open.journal[9] = 4;
@@ -272,6 +272,11 @@ fn damaged_parts_are_refused(rt: HostRuntime) -> Result<(), Fail> {
     open.journal[36] = 0x65;
     open.journal[38] = 0x56;
     assert!(rt; found(alloc, &open, &["x"])?);
+    let mut live = good;
+    live.journal[17] = 0x04;
+    live.journal[36] = 0x67;
+    live.journal[38] = 0x54;
+    assert!(rt; found(alloc, &live, &["x"])?);
     Ok(())
 }
 

@@ -3,11 +3,9 @@ pub mod FoldersPlaced
 pub mod PartsPlaced
 pub mod Pieces
 pub mod Reading
-pub mod Requests
 pub mod Results
 pub mod Sessions
 pub mod Serving
-pub mod Sorted
 pub mod Telling
 pub mod Thin
 pub mod Usage

@@ -4,18 +4,20 @@ ghost use Rattle.sector_disk.specs.Disk.{SameDisk, SameSink, ToldFront, IsSettle
 ghost use Rattle.hfs_model.specs.Names.{are_thin_names};
 ghost use Rattle.hfs_model.specs.Thin.{AreThin, IsThin};
 ghost use Rattle.hfs_model.specs.Parts.{parts_of};
+ghost use Rattle.hfs_model.specs.Text.{reply_text};
 ghost use Rattle.hfsx_server.specs.Cause.{IsCause};
 ghost use Rattle.hfsx_server.specs.Input.{ahead, weight, IsLine, SameSource};
-ghost use Rattle.hfsx_server.specs.Session.{reply_of, folders_after, text_of, answer, after, HasThinName};
+ghost use Rattle.hfsx_server.specs.Session.{step, with_folder, answer, after};
 ghost use Rattle.hfsx_server.specs.Serving.{Answers, AnswersFront, IsThinForNone};
 ghost use Rattle.hfsx_server.specs.Volume.{OnlyReads, Holds};
 
 use crate::{
-    Input, LONGEST_LINE, Line, MountFault, Reply, Request, ServeFault, VOLUME_SECTORS, print_reply,
-    read_parts, read_request, reply_to, tell_whole, write_folders,
+    Deed, Input, Line, MountFault, ServeFault, VOLUME_SECTORS, deed_of, read_command, read_parts,
+    tell_whole, write_folders,
 };
-use hfs_model::{Parts, thin_names, with_names};
-use hx_bytes::{Failed, Names, Trouble, Units};
+use cmd_lang::{MOST_BYTES, print_reply};
+use hfs_model::{Command, Parts, Refusal, thin_names, with_names};
+use hx_bytes::{Bytes, Failed, Names, Trouble, Units};
 use sector_disk::{Rig, SectorDisk, Source};
 use std::alloc::Global;
 
@@ -89,7 +91,7 @@ impl Server {
         ensures source { IsCause ServeFault.Source (S.stream source.old).faults (S.stream source.new).faults result }
         ensures sink { IsCause ServeFault.Sink (R.state rig.old).sink_faults (R.state rig.new).sink_faults result }
     {
-        match self.input.next_line(alloc, source, LONGEST_LINE)? {
+        match self.input.next_line(alloc, source, MOST_BYTES)? {
             Some(line) => {
                 self.answer(alloc, rig, &line)?;
                 Ok(Served::More)
@@ -103,9 +105,9 @@ impl Server {
         requires thin { AreThin self.old.parts self.old.names }
         requires size { (R.state rig.old).sectors ≡ VOLUME_SECTORS }
         requires holds { IsTrue (R.state rig.old).tells → Holds (R.state rig.old) self.old.parts }
-        ensures told { IsTrue (R.state rig.old).tells → (text : List ℕ) → IsLine LONGEST_LINE text line.now → OnOk result ((R.state rig.new).told ≡ (R.state rig.old).told ++ answer self.old.names text) }
-        ensures front { IsTrue (R.state rig.old).tells → (text : List ℕ) → IsLine LONGEST_LINE text line.now → OnErr result (ToldFront (R.state rig.old).told (answer self.old.names text) (R.state rig.new).told) }
-        ensures folders { (text : List ℕ) → IsLine LONGEST_LINE text line.now → OnOk result (self.new.names ≡ after self.old.names text) }
+        ensures told { IsTrue (R.state rig.old).tells → (text : List ℕ) → IsLine MOST_BYTES text line.now → OnOk result ((R.state rig.new).told ≡ (R.state rig.old).told ++ answer self.old.names text) }
+        ensures front { IsTrue (R.state rig.old).tells → (text : List ℕ) → IsLine MOST_BYTES text line.now → OnErr result (ToldFront (R.state rig.old).told (answer self.old.names text) (R.state rig.new).told) }
+        ensures folders { (text : List ℕ) → IsLine MOST_BYTES text line.now → OnOk result (self.new.names ≡ after self.old.names text) }
         ensures thin { OnOk result (AreThin self.new.parts self.new.names) }
         ensures holds { IsTrue (R.state rig.old).tells → OnOk result (Holds (R.state rig.new) self.new.parts) }
         ensures settled { IsTrue (R.state rig.old).tells → IsSettled (R.state rig.old) → OnOk result (IsSettled (R.state rig.new)) }
@@ -115,27 +117,26 @@ impl Server {
         ensures disk { IsCause ServeFault.Disk (R.state rig.old).faults (R.state rig.new).faults result }
         ensures sink { IsCause ServeFault.Sink (R.state rig.old).sink_faults (R.state rig.new).sink_faults result }
     {
-        let request = read_request(alloc, line)?;
-        let text = self.do_request(alloc, rig, request)?;
-        match tell_whole(rig, &text) {
+        let command = read_command(alloc, line)?;
+        let text = self.do_line(alloc, rig, command)?;
+        match tell_whole(rig, text.as_slice()) {
             Ok(()) => Ok(()),
             Err(Failed) => Err(ServeFault::Sink),
         }
     }
 
-    // Does what is asked for, and gives the text of the reply.
-    fn do_request<D: SectorDisk>(
+    // Does what a line asks for that was read, and gives the text of the reply.
+    fn do_line<D: SectorDisk>(
         &mut self,
         alloc: Global,
         disk: &mut D,
-        request: Request,
-    ) -> Result<Vec<u8>, Trouble>
+        read: Result<Command, Refusal>,
+    ) -> Result<Bytes, Trouble>
         requires thin { AreThin self.old.parts self.old.names }
-        requires named { HasThinName request }
         requires size { (D.state disk.old).sectors ≡ VOLUME_SECTORS }
         requires holds { IsTrue (D.state disk.old).tells → Holds (D.state disk.old) self.old.parts }
-        ensures text { IfOk result (λ text. text.items ≡ text_of self.old.names (reply_of self.old.names request)) }
-        ensures names { OnOk result (self.new.names ≡ folders_after self.old.names request (reply_of self.old.names request)) }
+        ensures text { IfOk result (λ text. text ≡ reply_text (step self.old.names read).0) }
+        ensures names { OnOk result (self.new.names ≡ (step self.old.names read).1) }
         ensures thin { OnOk result (AreThin self.new.parts self.new.names) }
         ensures holds { IsTrue (D.state disk.old).tells → OnOk result (Holds (D.state disk.new) self.new.parts) }
         ensures settled { IsTrue (D.state disk.old).tells → IsSettled (D.state disk.old) → OnOk result (IsSettled (D.state disk.new)) }
@@ -144,25 +145,24 @@ impl Server {
         ensures sink { SameSink (D.state disk.old) (D.state disk.new) }
         ensures cause { IsCause Trouble.Disk (D.state disk.old).faults (D.state disk.new).faults result }
     {
-        let reply = reply_to(&self.names, &request);
-        let text = print_reply(alloc, &self.names, reply)?;
-        self.change(alloc, disk, request, reply)?;
+        let Deed { reply, folder } = deed_of(alloc, &self.names, read)?;
+        let text = print_reply(alloc, &reply)?;
+        self.change(alloc, disk, folder)?;
         Ok(text)
     }
 
-    // Makes the folder that is asked for, where it may be made.
+    // Makes a folder, if one is to be made.
     fn change<D: SectorDisk>(
         &mut self,
         alloc: Global,
         disk: &mut D,
-        request: Request,
-        reply: Reply,
+        folder: Option<Units>,
     ) -> Result<(), Trouble>
         requires thin { AreThin self.old.parts self.old.names }
-        requires room { IsTrue (are_thin_names (folders_after self.old.names request reply)) }
+        requires room { IsTrue (are_thin_names (with_folder self.old.names folder)) }
         requires size { (D.state disk.old).sectors ≡ VOLUME_SECTORS }
         requires holds { IsTrue (D.state disk.old).tells → Holds (D.state disk.old) self.old.parts }
-        ensures names { OnOk result (self.new.names ≡ folders_after self.old.names request reply) }
+        ensures names { OnOk result (self.new.names ≡ with_folder self.old.names folder) }
         ensures thin { OnOk result (AreThin self.new.parts self.new.names) }
         ensures holds { IsTrue (D.state disk.old).tells → OnOk result (Holds (D.state disk.new) self.new.parts) }
         ensures settled { IsTrue (D.state disk.old).tells → IsSettled (D.state disk.old) → OnOk result (IsSettled (D.state disk.new)) }
@@ -171,7 +171,7 @@ impl Server {
         ensures sink { SameSink (D.state disk.old) (D.state disk.new) }
         ensures cause { IsCause Trouble.Disk (D.state disk.old).faults (D.state disk.new).faults result }
     {
-        match folder_to_make(request, reply) {
+        match folder {
             Some(name) => self.make_folder(alloc, disk, name),
             None => Ok(()),
         }
@@ -200,22 +200,5 @@ impl Server {
         self.parts = with_names(alloc, &self.parts, &self.names)?;
         write_folders(disk, &self.parts)?;
         Ok(())
-    }
-}
-
-// The name of the folder that is to be made, if one is.
-fn folder_to_make(request: Request, reply: Reply) -> Option<Units>
-    ensures { MatchOption result ((names : List (List ℕ)) → folders_after names request reply ≡ names) (λ name. (names : List (List ℕ)) → folders_after names request reply ≡ names ++ name ∷ []) }
-{
-    match request {
-        Request::MakeFolder(name) => match reply {
-            Reply::Made => Some(name),
-            Reply::Names => None,
-            Reply::Exists => None,
-            Reply::NoRoom => None,
-            Reply::BadCommand => None,
-        },
-        Request::ListRoot => None,
-        Request::Unreadable => None,
     }
 }

@@ -2,6 +2,7 @@
 use crate::{fresh, run_on};
 use hfsx_server::Status;
 use mem_disk::MemRig;
+use std::alloc::{AllocError, Global};
 use std::test::Fail;
 
 #[test]
@@ -24,20 +25,28 @@ fn lines_are_answered(rt: HostRuntime) -> Result<(), Fail> {
             "mkdir /a\nmkdir /b\nmkdir /c\nmkdir /d\nmkdir /e\nmkdir /f\nmkdir /g\nmkdir /h\nmkdir /i\nmkdir /j\nmkdir /k\nmkdir /l\nmkdir /m\nmkdir /a\nls /\n",
             "ok\nok\nok\nok\nok\nok\nok\nok\nok\nok\nok\nok\nno NoRoom 12\nno Exists\nok 12 a/ b/ c/ d/ e/ f/ g/ h/ i/ j/ k/ l/\n",
         ),
-        // 31 letters are a name, 32 aren't; a line may be of any length.
-        ("mkdir /aaaaaaaaaaaaaaaaaaaaaaaaaaaaaaa\n", "ok\n"),
+        // What is built, and what isn't: other commands, other folders and other names.
         (
-            "mkdir /aaaaaaaaaaaaaaaaaaaaaaaaaaaaaaaa\n",
-            "no BadCommand\n",
+            "mkdir /a\ncreate /f\nmkdir /a/b\nsync\n",
+            "ok\nno NotBuilt\nno NotBuilt\nok\n",
         ),
         (
-            "mkdir /aaaaaaaaaaaaaaaaaaaaaaaaaaaaaaaaaaaaaaaaaaaaaaaaaaaaaaaaaaaaaaaaaaaaaaaaaaaaaaa\nls /\n",
-            "no BadCommand\nok 0\n",
+            "mkdir /aaaaaaaaaaaaaaaaaaaaaaaaaaaaaaa\nmkdir /aaaaaaaaaaaaaaaaaaaaaaaaaaaaaaaa\nmkdir /A\nls /a\n",
+            "ok\nno NotBuilt\nno NotBuilt\nno NotBuilt\n",
         ),
-        // Other commands, letters and spaces.
+        // Words, spaces and paths that no command has.
         (
-            "mkdir /A\nmkdir x\nls\nls / \ncreate /a\n",
+            "mkdir x\nls\nls / \nmkdir  /a\nat 4294967296\n",
             "no BadCommand\nno BadCommand\nno BadCommand\nno BadCommand\nno BadCommand\n",
+        ),
+        (
+            "mkdir /a/\nls //\nmv /% x\nmv /% /x\n",
+            "no BadName\nno BadName\nno BadCommand\nno BadName\n",
+        ),
+        // The volume's own names come before what isn't built, in either path.
+        (
+            "mkdir /.journal\nls /.journal_info_block\nstat /%u0000%u0000%u0000%u0000HFS+%u0020Private%u0020Data/x\nmv /a /.journal\nmv /.journal /a\nmkdir /a/.journal\nmkdir /.journa\n",
+            "no Private\nno Private\nno Private\nno Private\nno Private\nno NotBuilt\nno NotBuilt\n",
         ),
     ] {
         let mut rig = fresh(alloc)?;
@@ -59,6 +68,36 @@ fn folders_are_there_in_a_second_run(rt: HostRuntime) -> Result<(), Fail> {
         let mut again = MemRig::from_image(alloc, &image)?;
         run_on(alloc, "run v.img", &mut again, b"ls /\n")?;
         assert_eq!(rt; again.told(), b"ok 2 x/ y/\n".as_slice());
+    }
+    Ok(())
+}
+
+// The bytes of `mkdir /`, so many letters, and a newline.
+fn long_line(alloc: Global, letters: usize) -> Result<Vec<u8>, AllocError> {
+    let mut line = Vec::from_slice(alloc, b"mkdir /")?;
+    for _letter in 0..letters {
+        line.push(b'a')?;
+    }
+    line.push(b'\n')?;
+    Ok(line)
+}
+
+#[test]
+fn a_long_line_is_refused_and_the_next_one_served(rt: HostRuntime) -> Result<(), Fail> {
+    let alloc = rt.alloc();
+    for (letters, told) in [
+        // 256 letters, and 140,000 bytes with `mkdir /`: a name that is too long.
+        (256, "no NameTooLong\nok 0\n"),
+        (139_993, "no NameTooLong\nok 0\n"),
+        // 140,001 bytes.
+        (139_994, "no TooLong\nok 0\n"),
+    ] {
+        let mut rig = fresh(alloc)?;
+        let mut input = long_line(alloc, letters)?;
+        input.extend_from_slice(b"ls /\n")?;
+        let ended = run_on(alloc, "run v.img", &mut rig, &input)?;
+        assert_eq!(rt; ended, Status::Done);
+        assert_eq!(rt; rig.told(), told.as_bytes());
     }
     Ok(())
 }

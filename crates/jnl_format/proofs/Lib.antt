@@ -1,10 +1,13 @@
 pub mod Alike
 pub mod Fields
+pub mod HeaderBack
 pub mod Headers
 pub mod Homes
 pub mod InfoBack
+pub mod ListBack
 pub mod Lists
 pub mod Mixing
+pub mod Places
 pub mod ReadBack
 pub mod Recovering
 pub mod Volumes

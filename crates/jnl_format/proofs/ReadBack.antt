@@ -62,12 +62,12 @@ magic_is Big rest =
     ∙ ap (λ b. cond b (Some Big) None) (eq-eqb (number_at Big 4 (number_bytes Big 4 0x4A4E4C78 ++ rest) 0) 0x4A4E4C78 (here Big 4 0x4A4E4C78 rest (lit< tt)))
 
 -- the bytes kept while the checksum's field is zero
-zeros_are : (o : Order) → big 4 0 ≡ number_bytes o 4 0
+pub zeros_are : (o : Order) → big 4 0 ≡ number_bytes o 4 0
 unfolding number_bytes
 zeros_are Little = refl
 zeros_are Big = refl
 
-none_by : (b : Bool) (x : JnlRefusal) (rest : Option JnlRefusal) → b ≡ true → rest ≡ None → cond (not b) (Some x) rest ≡ None
+pub none_by : (b : Bool) (x : JnlRefusal) (rest : Option JnlRefusal) → b ≡ true → rest ≡ None → cond (not b) (Some x) rest ≡ None
 none_by true x rest h e = e
 none_by false x rest h e = absurd (cc h)
 
@@ -78,13 +78,13 @@ wrapped_by : (size at : ℕ) → at < size → wrapped size at ≡ at
 wrapped_by size at below = ap (λ b. cond b 512 at) (ne_eqb at size (λ e. omega arith))
 
 -- the first 36 bytes, and what follows the checksum
-abbrev front : Header → List ℕ
+abbrev pub front : Header → List ℕ
 front h = number_bytes h.order 4 0x4A4E4C78 ++ number_bytes h.order 4 0x12345678 ++ number_bytes h.order 8 h.start ++ number_bytes h.order 8 h.end ++ number_bytes h.order 8 h.size ++ number_bytes h.order 4 h.blhdr
 
-length-front : (h : Header) → length (front h) ≡ 36
+pub length-front : (h : Header) → length (front h) ≡ 36
 length-front h = simp (length-append, length-number_bytes)
 
-sum_is : (h : Header) (sum : ℕ) (rest : List ℕ) → header_sum (header_spelled sum h ++ rest) ≡ checksum_of (header_spelled 0 h)
+pub sum_is : (h : Header) (sum : ℕ) (rest : List ℕ) → header_sum (header_spelled sum h ++ rest) ≡ checksum_of (header_spelled 0 h)
 sum_is h sum rest =
     let o = h.order in
     let tail = number_bytes o 4 512 ++ rest in

@@ -4,4 +4,5 @@ pub mod Info
 pub mod List
 pub mod Recovery
 pub mod Ring
+pub mod RoundTrip
 pub mod Text

@@ -4,6 +4,7 @@
 mod blocks;
 mod header;
 mod info;
+mod laws;
 mod list;
 mod structures;
 mod sums;
@@ -11,6 +12,7 @@ mod sums;
 pub use blocks::{Home, Volume};
 pub use header::{read_header, write_header};
 pub use info::{first_info_fault, info_fields, read_info, write_info};
+pub use laws::{entry_round_trip, header_written_back, info_written_back, list_round_trip};
 pub use list::{read_entry, read_list, write_entry, write_list};
 pub use structures::{Entry, Header, Info, JnlRefusal, ListHead};
 pub use sums::checksum;

@@ -1,6 +1,6 @@
 //! A journal replayed: its blocks home, and then its header emptied.
 ghost use Rattle.std.specs.Prelude.{◌≡◌, ◌≤◌, ◌+◌, IsTrue, OnOk, Bool};
-ghost use Rattle.sector_disk.specs.Cause.{HasCause};
+ghost use Rattle.sector_disk.specs.Cause.{HasCause, next_count};
 ghost use Rattle.sector_disk.specs.Disk.{IsSettled, Leaves, SameDisk, SameSink, content, only};
 ghost use Rattle.jnl_format.specs.Recovery.{replayed};
 ghost use Rattle.jnl_replay.specs.Homing.{StandsForSame, after_replay, with_empty_header, with_info_done};
@@ -20,6 +20,7 @@ fn replay_lists<D: SectorDisk>(disk: &mut D, plan: &Plan) -> Result<(), Failed>
     requires plan { IsTrue (D.state disk.old).tells → IsPlan (content (D.state disk.old)) plan.now }
     ensures replayed { IsTrue (D.state disk.old).tells → OnOk result ((D.state disk.new).candidates ≡ only (with_empty_header plan.now (replayed (journal_of plan.now) (content (D.state disk.old))))) }
     ensures crash { IsTrue (D.state disk.old).tells → IsSettled (D.state disk.old) → Leaves (D.state disk.old) (D.state disk.new) (StandsForSame plan.now (content (D.state disk.old))) }
+    ensures counted { OnOk result ((D.state disk.new).barriers ≡ next_count (next_count (D.state disk.old).barriers)) }
     ensures barriers { (D.state disk.new).barriers ≤ (D.state disk.old).barriers + 2 }
     ensures same { SameDisk (D.state disk.old) (D.state disk.new) }
     ensures sink { SameSink (D.state disk.old) (D.state disk.new) }
@@ -39,6 +40,7 @@ fn initialise<D: SectorDisk>(disk: &mut D, plan: &Plan) -> Result<(), Failed>
     requires plan { IsTrue (D.state disk.old).tells → IsPlan (content (D.state disk.old)) plan.now }
     ensures replayed { IsTrue (D.state disk.old).tells → OnOk result ((D.state disk.new).candidates ≡ only (with_info_done plan.now (with_empty_header plan.now (content (D.state disk.old))))) }
     ensures crash { IsTrue (D.state disk.old).tells → IsSettled (D.state disk.old) → Leaves (D.state disk.old) (D.state disk.new) (StandsForSame plan.now (content (D.state disk.old))) }
+    ensures counted { OnOk result ((D.state disk.new).barriers ≡ next_count (next_count (D.state disk.old).barriers)) }
     ensures barriers { (D.state disk.new).barriers ≤ (D.state disk.old).barriers + 2 }
     ensures same { SameDisk (D.state disk.old) (D.state disk.new) }
     ensures sink { SameSink (D.state disk.old) (D.state disk.new) }
@@ -59,6 +61,8 @@ pub fn replay<D: SectorDisk>(disk: &mut D, plan: &Plan) -> Result<(), Failed>
     ensures replayed { IsTrue (D.state disk.old).tells → OnOk result ((D.state disk.new).candidates ≡ only (after_replay plan.now (content (D.state disk.old)))) }
     // A crash at any moment of the call, or at its end, leaves a content that stands for the same.
     ensures crash { IsTrue (D.state disk.old).tells → IsSettled (D.state disk.old) → Leaves (D.state disk.old) (D.state disk.new) (StandsForSame plan.now (content (D.state disk.old))) }
+    // It calls two barriers at most, and ends well with two, also where the journal still had to be initialised.
+    ensures counted { OnOk result ((D.state disk.new).barriers ≡ next_count (next_count (D.state disk.old).barriers)) }
     ensures barriers { (D.state disk.new).barriers ≤ (D.state disk.old).barriers + 2 }
     ensures same { SameDisk (D.state disk.old) (D.state disk.new) }
     ensures sink { SameSink (D.state disk.old) (D.state disk.new) }

@@ -1,6 +1,11 @@
 //! A view of what a volume stands for.
-ghost use Rattle.std.specs.Prelude.{◌≡◌, ◌+◌, ◌≤◌, IfSome, None, if◌then◌else◌, ◌==◌};
+ghost use Rattle.std.specs.Prelude.{◌≡◌, ◌+◌, ◌≤◌, ◌<◌, IsTrue, IfSome, OnOk, None, if◌then◌else◌, ◌==◌};
+ghost use Rattle.sector_disk.specs.Cause.{HasCause};
+ghost use Rattle.sector_disk.specs.Disk.{content};
+ghost use Rattle.sector_disk.specs.Lists.{sector};
 ghost use Rattle.jnl_replay.specs.Peeking.{place_in};
+ghost use Rattle.jnl_replay.specs.Reading.{OnlyReads};
+ghost use Rattle.jnl_replay.specs.Viewing.{shown};
 
 use crate::index::Peek;
 use crate::text::read_text;
@@ -26,6 +31,25 @@ impl Peek {
         }
         self.index.get(&at).copied()
     }
+
+    /// Reads a sector of what a disk stands for, of which the peek was made. It writes nothing.
+    pub fn read<D: SectorDisk>(
+        &self,
+        disk: &mut D,
+        at: u64,
+        into: &mut Sector,
+    ) -> Result<(), Failed>
+        requires { at < (D.state disk.old).sectors }
+        ensures value { IsTrue (D.state disk.old).tells → OnOk result (into.new ≡ sector (shown self.now (D.state disk.old).sectors (content (D.state disk.old))) at) }
+        ensures reads { OnlyReads (D.state disk.old) (D.state disk.new) }
+        ensures cause { HasCause (D.state disk.old).faults (D.state disk.new).faults result }
+    {
+        let sectors = disk.sectors();
+        match self.place_of(at, sectors) {
+            Some(place) => read_text(disk, &self.text, place, into),
+            None => disk.read(at, into),
+        }
+    }
 }
 
 impl<D: SectorDisk> SectorView for PeekView<'_, '_, D> {
@@ -41,10 +65,6 @@ impl<D: SectorDisk> SectorView for PeekView<'_, '_, D> {
     }
 
     fn get(&mut self, at: u64, into: &mut Sector) -> Result<(), Failed> {
-        let sectors = self.disk.sectors();
-        match self.peek.place_of(at, sectors) {
-            Some(place) => read_text(self.disk, &self.peek.text, place, into),
-            None => self.disk.read(at, into),
-        }
+        self.peek.read(self.disk, at, into)
     }
 }

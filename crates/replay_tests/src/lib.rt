@@ -7,5 +7,7 @@ mod finding;
 mod journals;
 #[cfg(test)]
 mod tests;
+mod volumes;
 
 pub use finding::find_plan;
+pub use volumes::{BASE, INFO, header_block, info_block, volume_header};

@@ -26,7 +26,7 @@ returns-clause-thin c = record {
   fixed = record {
     bitmap = c.cut.ensures ∙ c.as_slice-5.ensures.value ∙ c.in_ok-bitmap.ensures;
     info = c.info_sector.ensures;
-    journal = record { start = 512; end = 512; starts = refl; ends = refl; empty = refl; is = c.journal_sector.ensures };
+    journal = record { start = 512; end = 512; starts = refl; ends = refl; is = c.journal_sector.ensures };
     extents =
         node_renamed _ _ header_head _ (header_items extents_tree (is_marked 1 None)) (c.cut-2.ensures ∙ c.as_slice-6.ensures.value)
         (ap (λ (t : TreeHeader). header_items t (is_marked 1 None)) c.empty_tree-extents_tree.ensures) c.in_ok-extents.ensures.node;

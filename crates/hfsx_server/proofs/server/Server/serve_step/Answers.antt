@@ -17,7 +17,7 @@ pub returns-in_err-answer-in-Some-clause-stopped : goal.returns-in_err-answer-in
 returns-in_err-answer-in-Some-clause-stopped g c =
     let before = g.S.Source.stream c.args.source.now in
     let after = g.S.Source.stream c.next_line.new.source in
-    let read = subst (λ next. IfSome next (λ line. (text : List ℕ) × IsLine 64 text line × (IsTrue before.tells → lines (ahead c.args.self.now.input before) ≡ text ∷ lines (ahead c.next_line.new.self after)))) c.in-Some.is c.in_ok-line.ensures.line in
+    let read = subst (λ next. IfSome next (λ line. (text : List ℕ) × IsLine 140000 text line × (IsTrue before.tells → lines (ahead c.args.self.now.input before) ≡ text ∷ lines (ahead c.next_line.new.self after)))) c.in-Some.is c.in_ok-line.ensures.line in
     on_err_of _ c.from_residual-in_err-answer-in-Some.result (
       read.0 ∷ [],
       front_line (g.R.SectorDisk.state c.args.rig.now) (g.R.SectorDisk.state c.answer.new.rig) c.args.self.now.names c.args.self.now.input before read.0 _ read.2
@@ -28,7 +28,7 @@ pub returns-in_ok-answer-in-Some-clause-served : goal.returns-in_ok-answer-in-So
 returns-in_ok-answer-in-Some-clause-served g c =
     let before = g.S.Source.stream c.args.source.now in
     let after = g.S.Source.stream c.next_line.new.source in
-    let read = subst (λ next. IfSome next (λ line. (text : List ℕ) × IsLine 64 text line × (IsTrue before.tells → lines (ahead c.args.self.now.input before) ≡ text ∷ lines (ahead c.next_line.new.self after)))) c.in-Some.is c.in_ok-line.ensures.line in (
+    let read = subst (λ next. IfSome next (λ line. (text : List ℕ) × IsLine 140000 text line × (IsTrue before.tells → lines (ahead c.args.self.now.input before) ≡ text ∷ lines (ahead c.next_line.new.self after)))) c.in-Some.is c.in_ok-line.ensures.line in (
       read.0 ∷ [],
       answers_line (g.R.SectorDisk.state c.args.rig.now) (g.R.SectorDisk.state c.answer.new.rig) c.args.self.now.names c.answer.new.self.names c.args.self.now.input c.answer.new.self.input before after read.0
           (λ tells. read.2 tells ∙ ap (λ (l : List ℕ). read.0 ∷ lines (ahead l after)) (sym c.answer.ensures.input))
