@@ -1,174 +1,208 @@
-// What calls of a store make of a disk, and what they answer.
-use crate::mounted::Mounted;
-use crate::volumes::{disk_of, volume};
+// What calls of a store answer, and which of them call a device.
+use crate::steps::{Answer, Step, answers_are, calls_of_last};
 use hx_bytes::Order;
 use jnl_ring::Span;
-use jnl_store::{ListForm, StoreFault, capacity};
+use jnl_store::{ListForm, capacity};
 use std::test::Fail;
+
+const DONE: Answer = Answer::Done;
+
+// One put, committed twice.
+const TWICE: [Step; 5] = [
+    Step::Begin(1),
+    Step::Put(100, 7),
+    Step::Keep,
+    Step::Commit,
+    Step::Commit,
+];
 
 #[test]
 fn a_commit_with_nothing_put_calls_no_device(rt: HostRuntime) -> Result<(), Fail> {
     let alloc = rt.alloc();
-    let mut disk = disk_of(alloc, &volume(alloc)?)?;
-    let Some(mut store) = Mounted::mount(alloc, &mut disk)? else {
-        assert!(rt; false);
-        return Ok(());
-    };
-    store.begin(alloc, 1)?;
-    store.put(&mut disk, 100, 7);
-    store.keep();
-    assert_eq!(rt; store.pending(), 1);
-    let before = disk.rig.calls();
-    assert_eq!(rt; store.commit(&mut disk), Some(Ok(())));
-    let once = disk.rig.calls();
-    assert!(rt; before < once);
-    assert_eq!(rt; store.pending(), 0);
-    assert_eq!(rt; store.commit(&mut disk), Some(Ok(())));
-    assert_eq!(rt; disk.rig.calls(), once);
-    assert_eq!(rt; store.byte(&mut disk, 100), 7);
+    assert!(rt; answers_are(alloc, &TWICE, &[DONE; 5])?);
+    assert!(rt; 0 < calls_of_last(alloc, &TWICE[..4])?);
+    assert_eq!(rt; calls_of_last(alloc, &TWICE)?, 0);
     Ok(())
+}
+
+const COMMITTED: [Step; 9] = [
+    Step::Begin(1),
+    Step::Put(100, 7),
+    Step::Byte(100),
+    Step::Oldest(100),
+    Step::Pending,
+    Step::Keep,
+    Step::Commit,
+    Step::Oldest(100),
+    Step::Pending,
+];
+
+#[test]
+fn a_put_is_on_the_disk_after_the_commit(rt: HostRuntime) -> Result<(), Fail> {
+    let wanted = [
+        DONE,
+        DONE,
+        Answer::Number(7),
+        Answer::Number(0),
+        Answer::Number(1),
+        DONE,
+        DONE,
+        Answer::Number(7),
+        Answer::Number(0),
+    ];
+    assert!(rt; answers_are(rt.alloc(), &COMMITTED, &wanted)?);
+    Ok(())
+}
+
+const FAILING: [Step; 8] = [
+    Step::Begin(2),
+    Step::Put(100, 7),
+    Step::Put(101, 8),
+    Step::Keep,
+    Step::Fail(0),
+    Step::Commit,
+    Step::Commit,
+    Step::Checkpoint,
+];
+
+// A commit whose call with this number fails, and two calls behind it.
+fn failing(call: u64) -> [Step; 8] {
+    let mut steps = FAILING;
+    steps[4] = Step::Fail(call);
+    steps
 }
 
 #[test]
 fn a_fault_is_answered_and_then_counted(rt: HostRuntime) -> Result<(), Fail> {
     let alloc = rt.alloc();
-    let image = volume(alloc)?;
-    let mut calls = 1;
-    let mut call = 0;
-    while call < calls && call < 100 {
-        let mut disk = disk_of(alloc, &image)?;
-        let Some(mut store) = Mounted::mount(alloc, &mut disk)? else {
-            assert!(rt; false);
-            return Ok(());
-        };
-        store.begin(alloc, 2)?;
-        store.put(&mut disk, 100, 7);
-        store.put(&mut disk, 101, 8);
-        store.keep();
-        let before = disk.rig.calls();
-        if call == 0 {
-            // The first round counts the calls of a commit that succeeds.
-            assert_eq!(rt; store.commit(&mut disk), Some(Ok(())));
-            calls = disk.rig.calls().saturating_sub(before).saturating_add(1);
-        } else {
-            disk.rig.fail_on(alloc, before.saturating_add(call - 1))?;
-            assert_eq!(rt;
-                store.commit(&mut disk),
-                Some(Err(StoreFault::Disk)),
-                "call {call}"
-            );
-            let failed = disk.rig.calls();
-            assert_eq!(rt;
-                store.commit(&mut disk),
-                Some(Err(StoreFault::Failed(1))),
-                "call {call}"
-            );
-            assert_eq!(rt;
-                store.checkpoint(&mut disk),
-                Some(Err(StoreFault::Failed(1))),
-                "call {call}"
-            );
-            assert_eq!(rt; disk.rig.calls(), failed, "call {call}");
-        }
-        call += 1;
+    let failed = Answer::Failed(1);
+    let wanted = [DONE, DONE, DONE, DONE, DONE, Answer::Disk, failed, failed];
+    let calls = calls_of_last(
+        alloc,
+        &[
+            Step::Begin(2),
+            Step::Put(100, 7),
+            Step::Put(101, 8),
+            Step::Keep,
+            Step::Commit,
+        ],
+    )?;
+    assert!(rt; 8 < calls && calls < 100);
+    for call in 0..calls {
+        let steps = failing(call);
+        assert!(rt; answers_are(alloc, &steps, &wanted)?, "call {call}");
+        assert_eq!(rt; calls_of_last(alloc, &steps)?, 0, "call {call}");
+        assert_eq!(rt; calls_of_last(alloc, &steps[..7])?, 0, "call {call}");
     }
-    assert!(rt; 8 < calls);
+    // The call behind the last doesn't fail the commit.
+    assert!(rt; !answers_are(alloc, &failing(calls), &wanted)?);
     Ok(())
 }
 
+// A sector that was put is no device call; a read and a write that fail are counted.
+const READING: [Step; 9] = [
+    Step::Begin(1),
+    Step::Put(100, 7),
+    Step::Keep,
+    Step::Fail(0),
+    Step::Fail(1),
+    Step::Byte(100),
+    Step::Byte(101),
+    Step::Spill(101, 9),
+    Step::Commit,
+];
+
 #[test]
-fn a_read_that_fails_is_counted_too(rt: HostRuntime) -> Result<(), Fail> {
+fn faults_of_a_space_are_counted(rt: HostRuntime) -> Result<(), Fail> {
     let alloc = rt.alloc();
-    let mut disk = disk_of(alloc, &volume(alloc)?)?;
-    let Some(mut store) = Mounted::mount(alloc, &mut disk)? else {
-        assert!(rt; false);
-        return Ok(());
-    };
-    store.begin(alloc, 1)?;
-    store.put(&mut disk, 100, 7);
-    store.keep();
-    let next = disk.rig.calls();
-    disk.rig.fail_on(alloc, next)?;
-    disk.rig.fail_on(alloc, next.saturating_add(1))?;
-    // A sector that was put is no device call.
-    assert_eq!(rt; store.byte(&mut disk, 100), 7);
-    assert_eq!(rt; disk.rig.calls(), next);
-    assert_eq!(rt; store.byte(&mut disk, 101), 255);
-    assert!(rt; !store.spill(&mut disk, 101, 9));
-    assert_eq!(rt; store.commit(&mut disk), Some(Err(StoreFault::Failed(2))));
+    let wanted = [
+        DONE,
+        DONE,
+        DONE,
+        DONE,
+        DONE,
+        Answer::Number(7),
+        Answer::Number(255),
+        Answer::Disk,
+        Answer::Failed(2),
+    ];
+    assert!(rt; answers_are(alloc, &READING, &wanted)?);
+    assert_eq!(rt; calls_of_last(alloc, &READING[..6])?, 0);
     Ok(())
 }
+
+const UNDONE: [Step; 16] = [
+    Step::Begin(2),
+    Step::Put(100, 1),
+    // The same sector again takes no more room.
+    Step::Put(100, 2),
+    Step::HasSpare(1),
+    Step::Keep,
+    Step::Begin(2),
+    Step::HasSpare(2),
+    Step::Put(100, 3),
+    Step::Put(101, 3),
+    Step::Byte(100),
+    Step::Undo,
+    Step::Byte(100),
+    Step::Byte(101),
+    Step::Pending,
+    Step::Commit,
+    Step::Oldest(100),
+];
 
 #[test]
 fn an_undone_put_is_gone(rt: HostRuntime) -> Result<(), Fail> {
-    let alloc = rt.alloc();
-    let mut disk = disk_of(alloc, &volume(alloc)?)?;
-    let Some(mut store) = Mounted::mount(alloc, &mut disk)? else {
-        assert!(rt; false);
-        return Ok(());
-    };
-    store.begin(alloc, 2)?;
-    let room = store.spare(&mut disk);
-    assert!(rt; 2 <= room);
-    store.put(&mut disk, 100, 1);
-    assert_eq!(rt; store.spare(&mut disk), room.saturating_sub(1));
-    // The same sector again takes no more room.
-    store.put(&mut disk, 100, 2);
-    assert_eq!(rt; store.spare(&mut disk), room.saturating_sub(1));
-    store.keep();
-    store.begin(alloc, 2)?;
-    assert!(rt; 2 <= store.spare(&mut disk));
-    store.put(&mut disk, 100, 3);
-    store.put(&mut disk, 101, 3);
-    assert_eq!(rt; store.byte(&mut disk, 100), 3);
-    assert_eq!(rt; store.pending(), 2);
-    let before = store.spare(&mut disk);
-    store.undo();
-    assert!(rt; before <= store.spare(&mut disk));
-    assert_eq!(rt; store.byte(&mut disk, 100), 2);
-    assert_eq!(rt; store.byte(&mut disk, 101), 0);
-    assert_eq!(rt; store.pending(), 1);
-    assert_eq!(rt; store.commit(&mut disk), Some(Ok(())));
-    assert_eq!(rt; store.byte(&mut disk, 100), 2);
-    assert_eq!(rt; store.byte(&mut disk, 101), 0);
+    let wanted = [
+        DONE,
+        DONE,
+        DONE,
+        DONE,
+        DONE,
+        DONE,
+        DONE,
+        DONE,
+        DONE,
+        Answer::Number(3),
+        DONE,
+        Answer::Number(2),
+        Answer::Number(0),
+        Answer::Number(1),
+        DONE,
+        Answer::Number(2),
+    ];
+    assert!(rt; answers_are(rt.alloc(), &UNDONE, &wanted)?);
     Ok(())
 }
+
+const SPILLED: [Step; 6] = [
+    Step::Spill(100, 7),
+    Step::Byte(100),
+    Step::Oldest(100),
+    Step::Commit,
+    Step::Oldest(100),
+    Step::Commit,
+];
 
 #[test]
 fn a_spilled_sector_is_written_at_once(rt: HostRuntime) -> Result<(), Fail> {
     let alloc = rt.alloc();
-    let mut disk = disk_of(alloc, &volume(alloc)?)?;
-    let Some(mut store) = Mounted::mount(alloc, &mut disk)? else {
-        assert!(rt; false);
-        return Ok(());
-    };
-    let before = disk.rig.calls();
-    assert!(rt; store.spill(&mut disk, 100, 7));
-    assert_eq!(rt; disk.rig.calls(), before.saturating_add(1));
-    assert_eq!(rt; store.byte(&mut disk, 100), 7);
-    let image = disk.rig.image(alloc, 0)?;
-    assert_eq!(rt; disk_byte(&image.sectors, 100), 0);
-    // A commit makes it stable, with nothing put.
-    assert_eq!(rt; store.commit(&mut disk), Some(Ok(())));
-    let image = disk.rig.image(alloc, 0)?;
-    assert_eq!(rt; disk_byte(&image.sectors, 100), 7);
-    let settled = disk.rig.calls();
-    assert_eq!(rt; store.commit(&mut disk), Some(Ok(())));
-    assert_eq!(rt; disk.rig.calls(), settled);
+    let wanted = [
+        DONE,
+        Answer::Number(7),
+        Answer::Number(0),
+        DONE,
+        Answer::Number(7),
+        DONE,
+    ];
+    assert!(rt; answers_are(alloc, &SPILLED, &wanted)?);
+    assert_eq!(rt; calls_of_last(alloc, &SPILLED[..1])?, 1);
+    assert_eq!(rt; calls_of_last(alloc, &SPILLED)?, 0);
     Ok(())
-}
-
-// The first byte of a sector.
-fn disk_byte(sectors: &[[u8; 512]], at: usize) -> u8 {
-    match sectors.get(at) {
-        Some(sector) => sector[0],
-        None => 255,
-    }
 }
 
 #[test]
 fn a_transaction_has_the_capacity_of_the_format(rt: HostRuntime) -> Result<(), Fail> {
-    let alloc = rt.alloc();
     // A journal of 2,048 sectors with list headers of 4,096 bytes, as a new volume of 16,384 sectors has it.
     let span = Span {
         base: 24,
@@ -180,11 +214,6 @@ fn a_transaction_has_the_capacity_of_the_format(rt: HostRuntime) -> Result<(), F
     };
     assert_eq!(rt; capacity(&span, &form), 1982);
     // One of 64 sectors with list headers of 512 bytes: 60 sectors in two lists.
-    let mut disk = disk_of(alloc, &volume(alloc)?)?;
-    let Some(store) = Mounted::mount(alloc, &mut disk)? else {
-        assert!(rt; false);
-        return Ok(());
-    };
-    assert_eq!(rt; store.capacity(), 60);
+    assert!(rt; answers_are(rt.alloc(), &[Step::Capacity], &[Answer::Number(60)])?);
     Ok(())
 }
