@@ -2,6 +2,7 @@
 ghost use Rattle.std.specs.Prelude.{◌≡◌, Ok};
 ghost use Rattle.hfs_model.specs.Language.{value_of};
 ghost use Rattle.hfs_model.specs.Spelling.{Spells, IsReadAsSpelled, IsReadAsPath, IsReadAsValue};
+ghost use Rattle.hfs_model.specs.Written.{IsReadBack};
 ghost use Rattle.hfs_model.specs.Shown.{ShowsRefusal, ShowsContent, ShowsFacts, ShowsGauge, ShowsListing, ShowsReply, ShowReplies, IsOneLine};
 ghost use Rattle.hfs_model.specs.Text.{value_text};
 
@@ -15,6 +16,11 @@ pub fn line_is_read_as_spelled(line: &[u8], command: &Command)
 /// One line doesn't spell two commands.
 pub fn line_spells_one_command(line: &[u8], one: &Command, other: &Command)
     ensures { Spells line.now one.now → Spells line.now other.now → one.now ≡ other.now }
+{}
+
+/// Each command has a line: what is written of a command is read to it.
+pub fn command_is_read_back(command: &Command)
+    ensures { IsReadBack command.now }
 {}
 
 /// A word is read to a path exactly where it spells it.
