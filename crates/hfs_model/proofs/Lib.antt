@@ -20,3 +20,4 @@ pub mod Words
 pub mod Listings
 pub mod OneLine
 pub mod Replies
+pub mod Written

@@ -11,8 +11,13 @@ use Rattle.hfs_model.specs.declared.reply.Reply.TheVariants as reply
 use Rattle.hfs_model.specs.declared.reply.Gauge.{Gauge}
 use Rattle.hfs_model.specs.declared.reply.TreeGauge.{TreeGauge}
 use Rattle.hfs_model.specs.declared.reply.ListedName.{ListedName}
-use Rattle.hfs_model.specs.Text.{field, fields, name_text, size_fields, reply_text}
-use Rattle.hfs_model.specs.Shown.{AreNames, FitsReply, ShowsReply, tree_numbers, gauge_numbers}
+use Rattle.std.proofs.lemmas.List.{append_cancel_left}
+use Rattle.std.proofs.lemmas.List.Elements.{All-head, All-tail}
+use Rattle.hfs_model.specs.Lines.{lines}
+use Rattle.hfs_model.proofs.Lines.{lines-nil}
+use Rattle.hfs_model.proofs.OneLine.{one_line}
+use Rattle.hfs_model.specs.Text.{body_text, field, fields, name_text, size_fields, reply_text}
+use Rattle.hfs_model.specs.Shown.{AreNames, FitsReply, ShowsReply, ShowReplies, HasNames, tree_numbers, gauge_numbers}
 use Rattle.hfs_model.proofs.Shown.{both_tails, after_numbers, first_low, mode_line, line_is, gauge_is, facts_shown, content_shown, gauge_shown, refusal_shown}
 use Rattle.hfs_model.proofs.Words.{word_ends, first_digit, clear_decimal}
 use Rattle.hfs_model.proofs.Listings.{names_line, listing_is, line_first, behind, behind_first, listing_shown}
@@ -154,3 +159,41 @@ reply_shown (reply.No a) (reply.Facts b) ha hb is = apart (kinds (reply.No a) (r
 reply_shown (reply.No a) (reply.Content b) ha hb is = apart (kinds (reply.No a) (reply.Content b) is) refl
 reply_shown (reply.No a) (reply.Gauge b) ha hb is = apart (kinds (reply.No a) (reply.Gauge b) is) refl
 reply_shown (reply.No a) (reply.No b) ha hb is = refusal_shown a b ha hb is
+
+-- ---- many replies
+
+fits_names : (r : Reply) → FitsReply r → HasNames r
+fits_names reply.Ok fits = tt
+fits_names (reply.Listing names) fits = fits
+fits_names (reply.Facts facts) fits = tt
+fits_names (reply.Content value) fits = tt
+fits_names (reply.Gauge gauge) fits = tt
+fits_names (reply.No refusal) fits = tt
+
+line_same : (line other : List ℕ) (ls ms : List (List ℕ)) → line ∷ ls ≡ other ∷ ms → line ≡ other
+line_same line other ls ms is = cc
+
+line_never : (line : List ℕ) (ls : List (List ℕ)) → [] ≡ line ∷ ls → ⊥
+line_never line ls is = cc
+
+-- the text of the first reply, and the texts behind it
+first_text : (one other : Reply) (xs ys : List ℕ) → FitsReply one → FitsReply other → reply_text one ++ xs ≡ reply_text other ++ ys → (reply_text one ≡ reply_text other) × (xs ≡ ys)
+unfolding reply_text
+first_text one other xs ys ha hb is =
+    let body : body_text one ≡ body_text other = line_same (body_text one) (body_text other) (lines xs) (lines ys)
+    (sym (one_line one (fits_names one ha) xs) ∙ ap lines is ∙ one_line other (fits_names other hb) ys) in
+    let text : reply_text one ≡ reply_text other = ap (λ x. x ++ 10 ∷ []) body in
+    (text, append_cancel_left (reply_text other) xs ys (ap (λ x. x ++ xs) (sym text) ∙ is))
+
+some_text : (r : Reply) (xs : List ℕ) → FitsReply r → [] ≡ reply_text r ++ xs → ⊥
+some_text r xs fits is = line_never (body_text r) (lines xs) (sym lines-nil ∙ ap lines is ∙ one_line r (fits_names r fits) xs)
+
+pub replies_shown : (these others : List Reply) → ShowReplies these others
+replies_shown [] [] ha hb is = tt
+replies_shown [] (s ∷ ss) ha hb is = absurd (some_text s (flat_map reply_text ss) (All-head FitsReply s ss hb) is)
+replies_shown (r ∷ rs) [] ha hb is = absurd (some_text r (flat_map reply_text rs) (All-head FitsReply r rs ha) (sym is))
+replies_shown (r ∷ rs) (s ∷ ss) ha hb is =
+    let fr = All-head FitsReply r rs ha in
+    let fs = All-head FitsReply s ss hb in
+    let parts = first_text r s (flat_map reply_text rs) (flat_map reply_text ss) fr fs is in
+    (reply_shown r s fr fs parts.0, replies_shown rs ss (All-tail FitsReply r rs ha) (All-tail FitsReply s ss hb) parts.1)

@@ -31,7 +31,7 @@ word_ends (a ∷ ns) (b ∷ bs) x y xs ys ca cb ex ey is =
 
 -- ---- decimal numbers
 
-abbrev is_digit : ℕ → Bool
+abbrev pub is_digit : ℕ → Bool
 is_digit b = nat_le 48 b && nat_le b 57
 
 last_digit : (n : ℕ) → is_digit (digit_glyph false (n % 10)) ≡ true
@@ -60,10 +60,14 @@ first_of (d ∷ ds) some are =
     let parts : (is_digit d ≡ true) × (list_all is_digit ds ≡ true) = and_parts _ _ are in
     (d, ds, grind (arith, nat_tests), grind (arith, nat_tests), refl)
 
+pub decimal_digits : (n : ℕ) → list_all is_digit (decimal n) ≡ true
+unfolding digits
+decimal_digits n = all_digits 64 n [] refl
+
 -- a number begins with a digit
 pub first_digit : (n : ℕ) → (d : ℕ) × (ds : List ℕ) × (48 ≤ d) × (d ≤ 57) × (decimal n ≡ d ∷ ds)
 unfolding digits
-first_digit n = first_of (decimal n) (some_first 63 n) (all_digits 64 n [] refl)
+first_digit n = first_of (decimal n) (some_first 63 n) (decimal_digits n)
 
 clear_digits : (text : List ℕ) → list_all is_digit text ≡ true → all_clear text ≡ true
 clear_digits [] are = refl
@@ -73,5 +77,4 @@ clear_digits (d ∷ ds) are =
     rw (clear, clear_digits ds parts.1) refl
 
 pub clear_decimal : (n : ℕ) → all_clear (decimal n) ≡ true
-unfolding digits
-clear_decimal n = clear_digits (decimal n) (all_digits 64 n [] refl)
+clear_decimal n = clear_digits (decimal n) (decimal_digits n)

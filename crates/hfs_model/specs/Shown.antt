@@ -1,9 +1,9 @@
 -- What the text of a reply shows of it.
-use Rattle.std.specs.Prelude.{◌≡◌, ◌<◌, ◌≤◌, ◌%◌, ◌^◌, ℕ, false, List, [], ◌∷◌, ◌++◌, length}
+use Rattle.std.specs.Prelude.{◌≡◌, ◌<◌, ◌≤◌, ◌%◌, ◌^◌, ℕ, false, List, [], ◌∷◌, ◌++◌, length, All}
 use Rattle.hfs_model.specs.declared.refusal.Refusal.{Refusal}
 use Rattle.hfs_model.specs.declared.reply.Reply.{Reply}
 use Rattle.hfs_model.specs.declared.reply.Reply.TheVariants as reply
-use Rattle.std.specs.List.{flat_map}
+use Rattle.std.specs.List.{flat_map, AllZip}
 use Rattle.hfs_model.specs.declared.reply.Facts.{Facts}
 use Rattle.hfs_model.specs.declared.reply.Gauge.{Gauge}
 use Rattle.hfs_model.specs.declared.reply.TreeGauge.{TreeGauge}
@@ -96,3 +96,7 @@ SameReply _ _ = ⊥
 -- two replies with one text are the same reply, as far as it shows them
 abbrev pub ShowsReply : Reply → Reply → Type 0
 ShowsReply one other = FitsReply one → FitsReply other → reply_text one ≡ reply_text other → SameReply one other
+
+-- two lists of replies whose texts in a row are the same are as long and have the same replies, as far as the texts show
+abbrev pub ShowReplies : List Reply → List Reply → Type 0
+ShowReplies these others = All FitsReply these → All FitsReply others → flat_map reply_text these ≡ flat_map reply_text others → AllZip SameReply these others

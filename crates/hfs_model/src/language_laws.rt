@@ -2,7 +2,8 @@
 ghost use Rattle.std.specs.Prelude.{◌≡◌, Ok};
 ghost use Rattle.hfs_model.specs.Language.{value_of};
 ghost use Rattle.hfs_model.specs.Spelling.{Spells, IsReadAsSpelled, IsReadAsPath, IsReadAsValue};
-ghost use Rattle.hfs_model.specs.Shown.{ShowsRefusal, ShowsContent, ShowsFacts, ShowsGauge, ShowsListing, ShowsReply, IsOneLine};
+ghost use Rattle.hfs_model.specs.Written.{IsReadBack};
+ghost use Rattle.hfs_model.specs.Shown.{ShowsRefusal, ShowsContent, ShowsFacts, ShowsGauge, ShowsListing, ShowsReply, ShowReplies, IsOneLine};
 ghost use Rattle.hfs_model.specs.Text.{value_text};
 
 use crate::{Command, Facts, Gauge, Listing, Path, Refusal, Reply};
@@ -15,6 +16,11 @@ pub fn line_is_read_as_spelled(line: &[u8], command: &Command)
 /// One line doesn't spell two commands.
 pub fn line_spells_one_command(line: &[u8], one: &Command, other: &Command)
     ensures { Spells line.now one.now → Spells line.now other.now → one.now ≡ other.now }
+{}
+
+/// Each command has a line: what is written of a command is read to it.
+pub fn command_is_read_back(command: &Command)
+    ensures { IsReadBack command.now }
 {}
 
 /// A word is read to a path exactly where it spells it.
@@ -63,6 +69,11 @@ pub fn listing_is_shown(one: &Listing, other: &Listing)
 /// a gauge with blocks of 13 bytes.
 pub fn reply_is_shown(one: &Reply, other: &Reply)
     ensures { ShowsReply one.now other.now }
+{}
+
+/// The texts of replies, one behind the other, show each of the replies.
+pub fn replies_are_shown(these: &[Reply], others: &[Reply])
+    ensures { ShowReplies these.now others.now }
 {}
 
 /// The text of a reply is one line: it has a newline at its end, and no other.

@@ -27,7 +27,7 @@ encode_pair u v pair =
     cond-false _ _ _ large ∙ rw (first, second) refl
 
 -- the characters of units, where each is there
-abbrev these : List (Option ℕ) → List ℕ
+abbrev pub these : List (Option ℕ) → List ℕ
 these = map (λ o. unwrap_or o 0xFFFD)
 
 abbrev unpaired : List (Option ℕ) → Bool
