@@ -31,7 +31,7 @@ fresh_found c plan new (is_new f e) = (f, ap (λ (j : Journal). j.header) e)
 fresh_found c plan new (is_kept header f r e) = absurd (let x = ap (λ (j : Journal). j.fresh) e in cc)
 
 -- the two flags that count are the same
-same_fault : (volume : ℕ) (taken : Bool) (info : Info) → info_fault volume taken (initialised info) ≡ info_fault volume taken info
+pub same_fault : (volume : ℕ) (taken : Bool) (info : Info) → info_fault volume taken (initialised info) ≡ info_fault volume taken info
 same_fault volume taken info =
     let rest : Option JnlRefusal = cond (not (eqb (info.offset % 512) 0) || taken) (Some (BadInfo 36)) (cond (not (is_sized volume info)) (Some (BadInfo 44)) None) in
     ap (λ x. cond (not (eqb x 0)) (Some OtherDevice) (cond (not (not (eqb (bit_and (bit_and info.flags 4294967291) 1) 0))) (Some (BadInfo 0)) rest)) (elsewhere_stays info.flags)
@@ -159,7 +159,7 @@ module _ (c : Content) (plan : Plan) (is : IsPlan c plan) (total : ℕ) (fits : 
         order = refl;
         blhdr = refl;
         header = inr header_new;
-        info = inr (info_new ∙ ap (with_info done) was);
+        info = inr (new, info_new ∙ ap (with_info done) was);
         own = λ s own. refl;
       }
 

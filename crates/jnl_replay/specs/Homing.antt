@@ -1,5 +1,5 @@
 -- Blocks written home: what a crash leaves on the way, and what stands at the end.
-use Rattle.std.specs.Prelude.{◌≡◌, ◌⊎◌, ◌<◌, ◌≤◌, ◌+◌, ◌/◌, ℕ, List, [], ◌∷◌, ◌++◌, length, drop, bit_and, if◌then◌else◌, None, Contains, Ok}
+use Rattle.std.specs.Prelude.{◌≡◌, ◌⊎◌, ◌<◌, ◌≤◌, ◌+◌, ◌/◌, ℕ, List, [], ◌∷◌, ◌++◌, length, drop, bit_and, if◌then◌else◌, None, true, Contains, Ok}
 use Rattle.sector_disk.specs.Lists.{Content, sector, put_sectors}
 use Rattle.sector_disk.specs.Disk.{Candidates, candidates_of, content}
 use Rattle.jnl_format.specs.Info.{with_info}
@@ -84,5 +84,5 @@ pub record StandsForSame (plan : Plan) (old image : Content) : Type 0 where
   pub order : journal.header.order ≡ plan.header.order
   pub blhdr : journal.header.blhdr ≡ plan.header.blhdr
   pub header : (sector image (plan.info.offset / 512) ≡ sector old (plan.info.offset / 512)) ⊎ (sector image (plan.info.offset / 512) ≡ empty_header plan old)
-  pub info : (sector image plan.place.info_sector ≡ sector old plan.place.info_sector) ⊎ (sector image plan.place.info_sector ≡ with_info (initialised plan.info) (sector old plan.place.info_sector))
+  pub info : (sector image plan.place.info_sector ≡ sector old plan.place.info_sector) ⊎ ((plan.fresh ≡ true) × (sector image plan.place.info_sector ≡ with_info (initialised plan.info) (sector old plan.place.info_sector)))
   pub own : (s : ℕ) → IsJournalSector plan s → sector recovered s ≡ sector image s

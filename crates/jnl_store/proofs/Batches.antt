@@ -1,0 +1,160 @@
+-- Puts found, added and changed, and what they make of a content.
+use Rattle.std.proofs.Common.{◌≡◌, ◌≢◌, ◌⊎◌, ◌<◌, ◌≤◌, ◌+◌, ℕ, zero, suc, Bool, true, false, ◌||◌, List, [], ◌∷◌, ◌++◌, length, get_or, set, take, refl, sym, ◌∙◌, ap, inl, inr, arith, eqb, length-set, length-append, subst, get_or-set_same, get_or-set_other}
+use Rattle.std.proofs.lemmas.Bool.{eqb-false, eq-eqb, ne_eqb, true≢false, cases_eq}
+use Rattle.std.proofs.lemmas.List.{set_comm, set-set, take_more, take_all}
+use Rattle.std.proofs.lemmas.List.Sums.{fold_push}
+use Rattle.std.specs.Prelude.{Result, Ok, Err, IsOk, is_ok, IsTrue, if◌then◌else◌}
+use Rattle.sector_disk.specs.Lists.{Content, sector}
+use Rattle.jnl_store.specs.Batch.{AreOnce, IsBatch, has, names}
+use Rattle.jnl_store.specs.Overlay.{overlay}
+use Rattle.jnl_store.specs.declared.puts.Put.{Put}
+
+pub both_false : (a b : Bool) → (a || b) ≡ false → (a ≡ false) × (b ≡ false)
+both_false true b h = absurd (cc h)
+both_false false b h = (refl, h)
+
+or_last : (a b c : Bool) → (a || (b || c)) ≡ (b || (a || c))
+or_last true true c = refl
+or_last true false c = refl
+or_last false true c = refl
+or_last false false c = refl
+
+or_false : (a : Bool) → (a || false) ≡ a
+or_false true = refl
+or_false false = refl
+
+pub names-push : (puts : List Put) (put : Put) (s : ℕ) → names (puts ++ put ∷ []) s ≡ (eqb s put.at || names puts s)
+names-push [] put s = refl
+names-push (p ∷ ps) put s = ap (λ b. eqb s p.at || b) (names-push ps put s) ∙ or_last (eqb s p.at) (eqb s put.at) (names ps s)
+
+pub names-set : (puts : List Put) (k : ℕ) (put : Put) (s : ℕ) → has puts k put.at → names (set puts k put) s ≡ names puts s
+names-set [] k put s h = absurd h
+names-set (p ∷ ps) zero put s h = ap (λ n. eqb s n || names ps s) (sym h)
+names-set (p ∷ ps) (suc k) put s h = ap (λ b. eqb s p.at || b) (names-set ps k put s h)
+
+pub has-inside : (puts : List Put) (k at : ℕ) → has puts k at → k < length puts
+has-inside [] k at h = absurd h
+has-inside (p ∷ ps) zero at h = omega arith
+has-inside (p ∷ ps) (suc k) at h = let below = has-inside ps k at h in omega arith
+
+or_true : (a b : Bool) → b ≡ true → (a || b) ≡ true
+or_true true b h = refl
+or_true false b h = h
+
+pub has-names : (puts : List Put) (k at : ℕ) → has puts k at → names puts at ≡ true
+has-names [] k at h = absurd h
+has-names (p ∷ ps) zero at h = ap (λ b. b || names ps at) (eq-eqb at p.at (sym h))
+has-names (p ∷ ps) (suc k) at h = or_true (eqb at p.at) (names ps at) (has-names ps k at h)
+
+-- the named put, and each before it
+pub has_here : (puts : List Put) (k : ℕ) (put : Put) → k < length puts → (get_or puts k put).at ≡ put.at → has puts k put.at
+has_here [] k put below is = absurd (omega (arith, below))
+has_here (p ∷ ps) zero put below is = is
+has_here (p ∷ ps) (suc k) put below is = has_here ps k put (omega (arith, below)) is
+
+pub once-push : (puts : List Put) (put : Put) → AreOnce puts → names puts put.at ≡ false → AreOnce (puts ++ put ∷ [])
+once-push [] put once other = (refl, tt)
+once-push (p ∷ ps) put once other =
+    let o = both_false (eqb put.at p.at) (names ps put.at) other in
+    let apart : eqb p.at put.at ≡ false = ne_eqb p.at put.at (λ e. eqb-false put.at p.at o.0 (sym e)) in
+    (names-push ps put p.at ∙ ap (λ b. b || names ps p.at) apart ∙ once.0, once-push ps put once.1 o.1)
+
+pub once-set : (puts : List Put) (k : ℕ) (put : Put) → AreOnce puts → has puts k put.at → AreOnce (set puts k put)
+once-set [] k put once h = absurd h
+once-set (p ∷ ps) zero put once h = (ap (names ps) (sym h) ∙ once.0, once.1)
+once-set (p ∷ ps) (suc k) put once h = (names-set ps k put p.at h ∙ once.0, once-set ps k put once.1 h)
+
+-- a sector that isn't named may be set before or behind
+pub overlay-apart : (puts : List Put) (c : Content) (at : ℕ) (value : List ℕ) → names puts at ≡ false → overlay puts (set c at value) ≡ set (overlay puts c) at value
+overlay-apart [] c at value other = refl
+overlay-apart (p ∷ ps) c at value other =
+    let o = both_false (eqb at p.at) (names ps at) other in
+    ap (overlay ps) (sym (set_comm c p.at at p.bytes value (λ e. eqb-false at p.at o.0 (sym e)))) ∙ overlay-apart ps (set c p.at p.bytes) at value o.1
+
+pub overlay-set : (puts : List Put) (k : ℕ) (put : Put) (c : Content) → AreOnce puts → has puts k put.at → overlay (set puts k put) c ≡ set (overlay puts c) put.at put.bytes
+overlay-set [] k put c once h = absurd h
+overlay-set (p ∷ ps) zero put c once h =
+    let alone : names ps put.at ≡ false = ap (names ps) (sym h) ∙ once.0 in
+    overlay-apart ps c put.at put.bytes alone
+    ∙ ap (λ (x : Content). x) (sym (ap (λ n. set (overlay ps (set c n p.bytes)) put.at put.bytes) h
+    ∙ ap (λ (x : Content). set x put.at put.bytes) (overlay-apart ps c put.at p.bytes alone)
+    ∙ set-set (overlay ps c) put.at p.bytes put.bytes))
+overlay-set (p ∷ ps) (suc k) put c once h = overlay-set ps k put (set c p.at p.bytes) once.1 h
+
+pub overlay-push : (puts : List Put) (put : Put) (c : Content) → overlay (puts ++ put ∷ []) c ≡ set (overlay puts c) put.at put.bytes
+overlay-push puts put c = fold_push (λ (under : Content) (p : Put). set under p.at p.bytes) c puts put
+
+-- a sector that no put names is as it was
+pub overlay-other : (puts : List Put) (c : Content) (at : ℕ) → names puts at ≡ false → sector (overlay puts c) at ≡ sector c at
+overlay-other [] c at other = refl
+overlay-other (p ∷ ps) c at other =
+    let o = both_false (eqb at p.at) (names ps at) other in
+    overlay-other ps (set c p.at p.bytes) at o.1 ∙ get_or-set_other c p.at at p.bytes [] (eqb-false at p.at o.0)
+
+-- and one that is named has the put's bytes
+pub overlay-at : (puts : List Put) (k at : ℕ) (put : Put) (c : Content) → AreOnce puts → has puts k at → at < length c → (get_or puts k put).bytes ≡ sector (overlay puts c) at
+overlay-at [] k at put c once h inside = absurd h
+overlay-at (p ∷ ps) zero at put c once h inside =
+    let alone : names ps at ≡ false = ap (names ps) (sym h) ∙ once.0 in
+    sym (overlay-other ps (set c p.at p.bytes) at alone ∙ ap (λ n. sector (set c n p.bytes) at) h ∙ get_or-set_same c at p.bytes [] inside)
+overlay-at (p ∷ ps) (suc k) at put c once h inside = overlay-at ps k at put (set c p.at p.bytes) once.1 h (omega (arith, inside, length-set c p.at p.bytes))
+
+-- the search for a put, one after another
+pub has_at : (puts : List Put) (k at : ℕ) (put : Put) → k < length puts → put ≡ get_or puts k put → put.at ≡ at → has puts k at
+has_at [] k at put below is same = absurd (omega (arith, below))
+has_at (p ∷ ps) zero at put below is same = sym (ap (λ (q : Put). q.at) is) ∙ same
+has_at (p ∷ ps) (suc k) at put below is same = has_at ps k at put (omega (arith, below)) is same
+
+pub names_more : (puts : List Put) (k at : ℕ) (put : Put) → k < length puts → put ≡ get_or puts k put → put.at ≢ at → names (take k puts) at ≡ false → names (take (k + 1) puts) at ≡ false
+names_more puts k at put below is other before =
+    ap (λ (l : List Put). names l at) (take_more puts k put below) ∙ names-push (take k puts) (get_or puts k put) at
+    ∙ ap (λ b. b || names (take k puts) at) (ap (λ (q : Put). eqb at q.at) (sym is) ∙ ne_eqb at put.at (λ e. other (sym e))) ∙ before
+
+pub take_end : (puts : List Put) (k at : ℕ) → length puts ≤ k → names (take k puts) at ≡ false → names puts at ≡ false
+take_end puts k at end none = ap (λ (l : List Put). names l at) (sym (take_all k puts end)) ∙ none
+
+pub batch-set : (all kept : List Put) (room memory more k : ℕ) (put : Put) → IsBatch all kept room memory more → has all k put.at → IsBatch (set all k put) kept room memory more
+batch-set all kept room memory more k put is h = record {
+  once = once-set all k put is.once h;
+  kept_once = is.kept_once;
+  some = omega (arith, is.some, length-set all k put);
+  kept_some = is.kept_some;
+  enough = is.enough;
+  enough_kept = is.enough_kept;
+}
+
+pub batch-push : (all kept new : List Put) (room memory more now : ℕ) (put : Put) → IsBatch all kept room memory more → names all put.at ≡ false → length all < room → memory ≤ now → new ≡ all ++ put ∷ [] → IsBatch new kept room now more
+batch-push all kept new room memory more now put is other some grown pushed = record {
+  once = subst AreOnce (sym pushed) (once-push all put is.once other);
+  kept_once = is.kept_once;
+  some = omega (arith, some, ap length pushed, length-append all (put ∷ []));
+  kept_some = is.kept_some;
+  enough = omega (arith, is.enough, grown);
+  enough_kept = is.enough_kept;
+}
+
+-- what was named stays named, and so does each other
+pub same_names : (puts : List Put) (k at s : ℕ) → has puts k at → names puts s ≡ (eqb s at || names puts s)
+same_names puts k at s h = elim (cases_eq s at) [
+  | inl same ↦
+      let named : names puts s ≡ true = ap (names puts) same ∙ has-names puts k at h in
+      named ∙ sym (or_true (eqb s at) (names puts s) named)
+  | inr other ↦ ap (λ b. b || names puts s) (sym (ne_eqb s at other))
+]
+
+-- a sector that isn't named yet finds room
+pub room_left : (puts : List Put) (at room : ℕ) → (length puts < room) ⊎ IsTrue (names puts at) → names puts at ≡ false → length puts < room
+room_left puts at room (inl some) other = some
+room_left puts at room (inr named) other = absurd (true≢false (sym named ∙ other))
+
+pub pushed : {T E : Type 0} (r : Result T E) (new all : List Put) (put : Put) → IsOk r → new ≡ (if is_ok r then all ++ put ∷ [] else all) → new ≡ all ++ put ∷ []
+pushed (Ok x) new all put ok is = is
+pushed (Err e) new all put ok is = absurd (cc ok)
+
+-- how many there are then
+pub counted_set : (puts all : List Put) (k at : ℕ) (put : Put) → puts ≡ all → has all k at → length (set puts k put) ≡ (if names all at then length all else length all + 1)
+counted_set puts all k at put e h = length-set puts k put ∙ ap (λ (l : List Put). length l) e ∙ sym (ap (λ b. if b then length all else length all + 1) (has-names all k at h))
+
+pub counted_push : (puts all new : List Put) (at : ℕ) (put : Put) → puts ≡ all → names all at ≡ false → new ≡ puts ++ put ∷ [] → length new ≡ (if names all at then length all else length all + 1)
+counted_push puts all new at put e other is =
+    ap (λ (l : List Put). length l) is ∙ length-append puts (put ∷ []) ∙ ap (λ (l : List Put). length l + 1) e ∙ sym (ap (λ b. if b then length all else length all + 1) other)

@@ -1,0 +1,9 @@
+pub mod Batch
+pub mod Journal
+pub mod Lists
+pub mod Overlay
+pub mod Plan
+pub mod SpaceLaws
+pub mod Spaces
+pub mod Standing
+pub mod Store

@@ -1,0 +1,20 @@
+//! The transactions of a journaled volume: what is put becomes durable all or nothing.
+#![tactic(auto)]
+
+mod batch;
+mod calls;
+mod commit;
+mod form;
+mod header_sector;
+mod list_header;
+mod lists;
+mod puts;
+mod resting;
+mod space;
+mod store;
+mod transaction;
+
+pub use form::{ListForm, capacity};
+pub use puts::Put;
+pub use space::Space;
+pub use store::{Store, StoreFault};
