@@ -10,3 +10,4 @@ pub mod Way
 pub mod Rising
 pub mod Halves
 pub mod Writes
+pub mod Sorted
