@@ -296,3 +296,13 @@ module _ (is_key : List ℕ → Type 0) (cmp : List ℕ → List ℕ → Orderin
 
   pub pairs_long : 0 < store.shape.depth → length (pairs_of store) ≡ length (entries_of store (store.shape.depth - 1))
   pairs_long some = ap length (pairs_are some) ∙ length-map (entries_of store (store.shape.depth - 1)) pair_of
+
+  -- the record at an index of the leaf stands at this place of all leaves
+  pub leaf_place : (key : List ℕ) (node : ℕ) → 0 < store.shape.depth → (leads : LeadsTo cmp key store (store.shape.depth - 1) node) (index : ℕ) → index < length (items (store.nodes node))
+      → (length (entries store.nodes leads.front) + index < length (pairs_of store))
+      × (get_or (pairs_of store) (length (entries store.nodes leads.front) + index) ([], []) ≡ pair_of (get_or (items (store.nodes node)) index []))
+  leaf_place key node some leads index inside =
+      let within : length (entries store.nodes leads.front) + index < length (entries_of store (store.shape.depth - 1)) = omega (arith, in_level key (store.shape.depth - 1) node leads) in (
+        omega (arith, pairs_long some, within),
+        pair_at some (length (entries store.nodes leads.front) + index) within ∙ ap pair_of (of_level key (store.shape.depth - 1) node leads index inside),
+      )

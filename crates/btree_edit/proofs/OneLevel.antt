@@ -1,7 +1,8 @@
 -- What the writes of one level make of it.
-use Rattle.std.proofs.Common.{◌≡◌, ◌≢◌, ℕ, zero, suc, ◌+◌, ◌-◌, ◌<◌, ◌≤◌, Bool, true, false, IsTrue, List, [], ◌∷◌, ◌++◌, length, take, drop, get_or, inl, inr, refl, sym, ◌∙◌, ap, subst, arith}
+use Rattle.std.proofs.Common.{◌≡◌, ◌≢◌, ℕ, zero, suc, ◌+◌, ◌-◌, ◌*◌, ◌<◌, ◌≤◌, Bool, true, false, IsTrue, List, [], ◌∷◌, ◌++◌, length, take, drop, get_or, inl, inr, refl, sym, ◌∙◌, ap, subst, arith}
 use Rattle.std.proofs.lemmas.Bool.{cases_eq}
 use Rattle.std.specs.Prelude.{eqb}
+use Rattle.std.specs.List.{sum_by}
 use Rattle.std.proofs.lemmas.List.{append-nil, get_or_append_left, get_or-take, length-take, length-append, take_at, drop_at}
 use Rattle.hx_bytes.specs.Field.{big}
 use Rattle.btree_node.specs.Node.{items, kind_of, height_of, next_of, back_of, IsNode, IsNodeOf, SameHead, SetsLinks}
@@ -10,8 +11,8 @@ use Rattle.btree_node.specs.Store.{Store, SameStore, ChangesOnly, MapsOnly, with
 use Rattle.btree_node.specs.Tree.{kind_at, IsTreeNode}
 use Rattle.btree_node.specs.declared.store.TreeShape.{TreeShape}
 use Rattle.btree_edit.specs.declared.desk.Desk.{Desk}
-use Rattle.btree_edit.specs.Halves.{record_of, with_put, IsSplit}
-use Rattle.btree_edit.specs.LevelEdit.{bit, times, taken, node_room, edited, CanEdit, MovesEnds, LevelEdit}
+use Rattle.btree_edit.specs.Halves.{record_of, with_put, IsSplit, AreForTwo}
+use Rattle.btree_edit.specs.LevelEdit.{bit, times, taken, node_room, edited, CanEdit, HasSixth, MovesEnds, LevelEdit}
 use Rattle.btree_edit.specs.Writes.{SetsNext, SetsBack, WritesHalves, IsOpened}
 use Rattle.btree_edit.proofs.Counting.{bit_same, bit_other}
 
@@ -65,6 +66,9 @@ opens store height node place removed put spare bytes can is head =
       inside = omega (arith, ap (λ (l : List (List ℕ)). length l) is, length-append (take place all) (drop (place + bit removed) all), length-take place all, can.inside);
       head = head;
     }
+
+still_sixth : (old new : List ℕ) → length new ≡ length old → items new ≡ items old → HasSixth old → HasSixth new
+still_sixth old new size is some = omega (arith, size, some, ap (λ (l : List (List ℕ)). sum_by (λ bytes. length bytes) l) is)
 
 pub above_zero : (n : ℕ) → eqb n 0 ≡ false → 0 < n
 above_zero zero is = cc
@@ -130,6 +134,7 @@ module _ (old new : Store) (height node place : ℕ) (removed : Bool) (put : Lis
           shape = shapes ∙ ap (λ n. with_free old.shape n) (ap (λ (s : TreeShape). s.free) (sym shapes));
           same = same;
           split = λ two. absurd (omega (arith, two));
+          sixth = λ two. absurd (omega (arith, two));
           handed = ap (λ (r : List ℕ). r ∷ []) (name ∙ ap (λ (l : List ℕ). key_of (get_or (items l) 0 []) ++ big 4 node) (sym writes.here));
           kept = λ is. (refl, ap (λ (r : List ℕ). key_of r ++ big 4 node) (ap (λ (l : List (List ℕ)). get_or l 0 []) kept_records ∙ first_same (stays is)));
           ends = record {
@@ -178,6 +183,7 @@ module _ (old new : Store) (height node place : ℕ) (removed : Bool) (put : Lis
           shape = shapes ∙ ap (λ n. with_free old.shape n) (ap (λ (s : TreeShape). s.free) (sym shapes));
           same = same;
           split = λ two. absurd (omega (arith, two));
+          sixth = λ two. absurd (omega (arith, two));
           handed = refl;
           kept = λ is. cc;
           ends = ends;
@@ -191,6 +197,7 @@ module _ (old new : Store) (height node place : ℕ) (removed : Bool) (put : Lis
         (split : IsSplit (kind_at height) height (edited old node place removed put) opened front back) (head : SameHead (old.nodes node) opened)
         (name : record_of desk.first ≡ key_of (get_or (items front) 0 []) ++ big 4 node) (other_name : record_of desk.second ≡ key_of (get_or (items back) 0 []) ++ big 4 fresh)
         (over : node_room old.shape.node_size < taken (edited old node place removed put))
+        (sixth : AreForTwo old.shape.node_size (edited old node place removed put) → HasSixth front × HasSixth back)
         (ends : MovesEnds height node (node ∷ fresh ∷ []) (back_of (old.nodes node)) (next_of (old.nodes node)) before after)
       where
         other_used : (n : ℕ) → old.used n ≡ true → n ≢ fresh
@@ -237,6 +244,9 @@ module _ (old new : Store) (height node place : ℕ) (removed : Bool) (put : Lis
           | inr other ↦ omega (arith, ap bit (beside.used k ∙ halves.used k ∙ maps.others k other), bit_other fresh k (λ is. other (sym is)))
         ]
 
+        for_two : ((k : ℕ) → k < length (edited old node place removed put) → 5 ≤ length (get_or (edited old node place removed put) k [])) → AreForTwo old.shape.node_size (edited old node place removed put)
+        for_two longer = record { over = over; fits = can.fits; some = longer }
+
         pub split_edit : LevelEdit old new height node place removed put 2 true desk before after
         split_edit = record {
           fresh = fresh;
@@ -268,6 +278,7 @@ module _ (old new : Store) (height node place : ℕ) (removed : Bool) (put : Lis
           shape = shapes ∙ ap (λ n. with_free old.shape n) (ap (λ (s : TreeShape). s.free) (sym shapes));
           same = same;
           split = λ _. over;
+          sixth = λ _ longer. two_only (λ n. HasSixth (new.nodes n)) node fresh (still_sixth front (new.nodes node) in_node.size node_items (sixth (for_two longer)).0) (still_sixth back (new.nodes fresh) in_fresh.size fresh_items (sixth (for_two longer)).1);
           handed = ap (λ (r : List ℕ). r ∷ record_of desk.second ∷ []) (name ∙ ap (λ (l : List (List ℕ)). key_of (get_or l 0 []) ++ big 4 node) (sym node_items))
               ∙ ap (λ (r : List ℕ). record_for new.nodes node ∷ r ∷ []) (other_name ∙ ap (λ (l : List (List ℕ)). key_of (get_or l 0 []) ++ big 4 fresh) (sym fresh_items));
           kept = λ is. cc;

@@ -1,5 +1,5 @@
 -- The records of a node, with others put among them, in two nodes.
-use Rattle.std.specs.Prelude.{◌≡◌, ◌<◌, ◌≤◌, ℕ, ℤ, ◌+◌, ◌*◌, List, [], ◌∷◌, ◌++◌, length, take, sum_by, slice_index_or}
+use Rattle.std.specs.Prelude.{◌≡◌, ◌<◌, ◌≤◌, ℕ, ℤ, ◌+◌, ◌*◌, List, [], ◌∷◌, ◌++◌, length, take, slice_index_or}
 use Rattle.btree_node.specs.Node.{items, IsNodeOf, SameHead}
 use Rattle.btree_node.specs.Levels.{splice}
 use Rattle.btree_edit.specs.Held.{HeldPair}
@@ -32,10 +32,6 @@ pub record IsSplit (kind : ℤ) (height : ℕ) (records : List (List ℕ)) (old 
   pub is_back : IsNodeOf kind height back
   pub head : SameHead old front
   pub size : length back ≡ length old
-
--- a sixth of a node is bytes of its records
-abbrev pub HasSixth : List ℕ → Type 0
-HasSixth node = length node ≤ 6 * sum_by (λ bytes. length bytes) (items node)
 
 -- records that are over for one node, fit in two, and have five bytes or more
 pub record AreForTwo (size : ℕ) (records : List (List ℕ)) : Type 0 where

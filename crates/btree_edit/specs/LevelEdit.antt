@@ -72,6 +72,10 @@ pub record FitsTwo (size : ℕ) (records : List (List ℕ)) : Type 0 where
   pub half : 2 * longest ≤ node_room size
   pub whole : taken records + longest ≤ 2 * node_room size
 
+-- a sixth of a node is bytes of its records
+abbrev pub HasSixth : List ℕ → Type 0
+HasSixth node = length node ≤ 6 * sum_by (λ bytes. length bytes) (items node)
+
 -- an edit of a node that has its place, and for which there is room, in this node or in two
 pub record CanEdit (store : Store) (height node place : ℕ) (removed : Bool) (put : List (List ℕ)) (spare : ℕ) : Type 0 where
   pub spot : IsInLevel store height node
@@ -116,6 +120,9 @@ pub record LevelEdit (old new : Store) (height node place : ℕ) (removed : Bool
   pub same : SameStore old new
   -- a node is split only where its records don't fit into it
   pub split : count ≡ 2 → node_room old.shape.node_size < taken (edited old node place removed put)
+  -- where each record has five bytes or more, the records of both halves have a sixth of the node
+  pub sixth : count ≡ 2 → ((k : ℕ) → k < length (edited old node place removed put) → 5 ≤ length (slice_index_or (edited old node place removed put) k []))
+      → (k : ℕ) → k < 2 → HasSixth (new.nodes (slice_index (parts_of count node fresh) k))
   -- what is handed on
   pub handed : records_on count desk ≡ map (λ n. record_for new.nodes n) (parts_of count node fresh)
   pub kept : changed ≡ false → (count ≡ 1) × (record_for new.nodes node ≡ record_for old.nodes node)

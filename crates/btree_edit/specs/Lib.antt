@@ -11,3 +11,4 @@ pub mod Rising
 pub mod Halves
 pub mod Writes
 pub mod Sorted
+pub mod Swapping

@@ -1,9 +1,11 @@
 //! Pairs added, removed and changed.
-ghost use Rattle.std.specs.Prelude.{◌≡◌, ◌≤◌, ◌<◌, ◌+◌, ◌-◌, ◌*◌, ◌/◌, ◌^◌, ◌⊎◌, true, false, IsTrue, length, OnOk, IfOk};
+ghost use Rattle.std.specs.Prelude.{◌≡◌, ◌≤◌, ◌<◌, ◌+◌, ◌-◌, ◌*◌, ◌/◌, ◌^◌, ◌⊎◌, ◌++◌, true, false, IsTrue, length, OnOk, IfOk};
 ghost use Rattle.btree_node.specs.Store.{HasRoom, HasCause};
 ghost use Rattle.btree_node.specs.Tree.{IsTree, pairs_of};
 ghost use Rattle.btree_edit.specs.Desk.{IsDeskOf};
 ghost use Rattle.btree_edit.specs.Editing.{Does, edit_writes};
+ghost use Rattle.btree_edit.specs.Halves.{record_of};
+ghost use Rattle.btree_edit.specs.Swapping.{HasRecord, SwapsRecord};
 ghost use Rattle.btree_edit.specs.Answers.{AnswersInsert, AnswersRemove};
 
 use crate::climbing::{begin, rebuild};
@@ -205,7 +207,8 @@ fn put_value(desk: &mut Desk, value: &[u8])
     ensures node { desk.new.node ≡ desk.old.node }
     ensures other { desk.new.other ≡ desk.old.other }
     ensures held { desk.new.held ≡ desk.old.held }
-    ensures first { desk.new.first.room ≡ desk.old.first.room }
+    ensures first { length desk.old.held.key + length value.now ≤ desk.old.first.room → record_of desk.new.first ≡ desk.old.held.key ++ value.now }
+    ensures room { desk.new.first.room ≡ desk.old.first.room }
     ensures second { desk.new.second ≡ desk.old.second }
     ensures path { desk.new.path ≡ desk.old.path }
 {
@@ -225,7 +228,9 @@ fn swap_value<N: NodeStore>(
     index: u16,
 ) -> Result<(), Failed>
     requires desk { IsDeskOf (N.state store.old).shape.node_size desk.old }
-    requires room { HasRoom 1 (N.state store.old) }
+    requires room { HasRoom 1 (N.state store.old) ⊎ IsTrue ((N.state store.old).written node) }
+    ensures swaps { IsTrue (N.state store.old).tells → HasRecord (N.state store.old) node index (length (record_of desk.old.first))
+        → OnOk result (SwapsRecord node index (record_of desk.old.first) (N.state store.old) (N.state store.new)) }
     ensures desk { IsDeskOf (N.state store.old).shape.node_size desk.new }
     ensures shape { (N.state store.new).shape ≡ (N.state store.old).shape }
     ensures does { Does 1 0 (N.state store.old) (N.state store.new) }

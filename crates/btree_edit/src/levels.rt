@@ -1,13 +1,13 @@
 //! One level of an edit: a record of one node is replaced by others, and the level above is told.
-ghost use Rattle.std.specs.Prelude.{◌≡◌, ◌≢◌, ◌≤◌, ◌<◌, ◌+◌, ◌-◌, ◌++◌, [], ◌∷◌, ℕ, Bool, true, false, List, min, length, slice_index_or, OnOk, OnErr, IfOk, IsTrue};
+ghost use Rattle.std.specs.Prelude.{◌≡◌, ◌≢◌, ◌≤◌, ◌<◌, ◌+◌, ◌-◌, ◌++◌, [], ◌∷◌, ℕ, Bool, true, false, List, min, length, slice_index_or, OnOk, IfOk, IsTrue};
 ghost use Rattle.hx_bytes.specs.Field.{big};
-ghost use Rattle.btree_node.specs.Node.{IsNode, IsNodeOf, SameHead, items, room_beside, next_of, back_of};
+ghost use Rattle.btree_node.specs.Node.{IsNode, IsNodeOf, SameHead, items, room_beside, next_of};
 ghost use Rattle.btree_node.specs.Levels.{key_of};
 ghost use Rattle.btree_node.specs.Store.{HasRoom, HasCause};
 ghost use Rattle.btree_node.specs.Tree.{IsTreeNode, kind_at};
 ghost use Rattle.btree_edit.specs.Desk.{IsDeskOf};
 ghost use Rattle.btree_edit.specs.Editing.{Does};
-ghost use Rattle.btree_edit.specs.Halves.{record_of, put_of, with_put};
+ghost use Rattle.btree_edit.specs.Halves.{record_of};
 ghost use Rattle.btree_edit.specs.LevelEdit.{taken, node_room, edited, records_on, CanEdit, MovesEnds, LevelEdit};
 ghost use Rattle.btree_edit.specs.Writes.{SetsNext, SetsBack, WritesHalves, IsOpened};
 

@@ -1,9 +1,9 @@
 //! A node that can't hold its records is split: what is behind the middle moves into a fresh node.
-ghost use Rattle.std.specs.Prelude.{◌≡◌, ◌≤◌, ◌<◌, ◌+◌, ◌*◌, ◌^◌, [], ◌∷◌, ◌++◌, IsTrue, length, take, drop, insert, remove, slice_index_or};
+ghost use Rattle.std.specs.Prelude.{◌≡◌, ◌≤◌, ◌<◌, ◌+◌, ◌*◌, ◌^◌, [], IsTrue, length, take, drop, insert, remove, slice_index_or};
 ghost use Rattle.btree_node.specs.Node.{IsNode, IsNodeOf, SameHead, items, room_beside};
 ghost use Rattle.btree_node.specs.Levels.{splice};
-ghost use Rattle.btree_edit.specs.Halves.{record_of, put_of, with_put, IsMiddle, IsSplit, HasSixth, AreForTwo};
-ghost use Rattle.btree_edit.specs.LevelEdit.{bit, taken, node_room, FitsTwo};
+ghost use Rattle.btree_edit.specs.Halves.{record_of, put_of, with_put, IsMiddle, IsSplit, AreForTwo};
+ghost use Rattle.btree_edit.specs.LevelEdit.{bit, taken, node_room, FitsTwo, HasSixth};
 
 use crate::desk::Held;
 use btree_node::Node;

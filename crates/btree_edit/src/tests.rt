@@ -3,7 +3,7 @@ ghost use Rattle.std.specs.Prelude.{IsTrue};
 ghost use Rattle.btree_edit.specs.Desk.{IsDeskOf};
 
 use crate::{Desk, Found, Inserted, Removed, find, insert, remove};
-use btree_node::{ExtentOrder, KeyOrder, MemNodes, NodeStore};
+use btree_node::{CatalogOrder, ExtentOrder, KeyOrder, MemNodes, NodeStore};
 
 /// Whether a desk is one for nodes of this size.
 fn is_desk_of(desk: &Desk, size: u32) -> bool
@@ -98,4 +98,72 @@ fn two_hundred_keys_in_and_out(rt: HostRuntime) {
         (shape.depth, shape.root, shape.free, shape.leaf_records),
         (0, 0, 99, 0)
     );
+}
+
+/// A name of one unit in a folder.
+fn short_key(folder: u32) -> [u8; 10] {
+    let n = folder.to_be_bytes();
+    [0, 8, n[0], n[1], n[2], n[3], 0, 1, 97, 97]
+}
+
+/// A name of 255 units in a folder; it is above the short one.
+fn long_key(folder: u32) -> [u8; 518] {
+    let n = folder.to_be_bytes();
+    let mut key = [97u8; 518];
+    key[0] = 2;
+    key[1] = 4;
+    key[2] = n[0];
+    key[3] = n[1];
+    key[4] = n[2];
+    key[5] = n[3];
+    key[6] = 0;
+    key[7] = 255;
+    key
+}
+
+// A node of 4,096 bytes holds 4,080 bytes of records with their offsets: two of these pairs, and not three. So most leaves have
+// a short key first and the long one behind it. Over 21 leaves the root has 21 records of 16 bytes; a long key makes one take 524.
+#[test]
+fn longer_first_keys_split_the_node_above(rt: HostRuntime) {
+    let alloc = rt.alloc();
+    let mut store = MemNodes::new(alloc, 4096, 60).expect(&rt, "memory");
+    let mut desk = Desk::new(alloc, 4096).expect(&rt, "memory");
+    for i in 0..20u32 {
+        assert!(rt;
+            add_pair::<CatalogOrder>(&mut store, &mut desk, &short_key(i), &[7; 1500]),
+            "{i}"
+        );
+    }
+    for i in 0..20u32 {
+        assert!(rt;
+            add_pair::<CatalogOrder>(&mut store, &mut desk, &long_key(i), &[7; 1500]),
+            "{i}"
+        );
+    }
+    assert_eq!(rt; (store.shape().depth, store.shape().leaf_records), (2, 40));
+    for i in 0..20u32 {
+        assert!(rt;
+            drop_pair::<CatalogOrder>(&mut store, &mut desk, &short_key(i)),
+            "{i}"
+        );
+    }
+    assert_eq!(rt; (store.shape().depth, store.shape().leaf_records), (3, 20));
+    for i in 0..20u32 {
+        assert!(rt;
+            has_key::<CatalogOrder>(&mut store, &mut desk, &long_key(i)),
+            "{i}"
+        );
+        assert!(rt;
+            !has_key::<CatalogOrder>(&mut store, &mut desk, &short_key(i)),
+            "{i}"
+        );
+    }
+    for i in 0..20u32 {
+        assert!(rt;
+            drop_pair::<CatalogOrder>(&mut store, &mut desk, &long_key(i)),
+            "{i}"
+        );
+    }
+    let shape = store.shape();
+    assert_eq!(rt; (shape.depth, shape.root, shape.free), (0, 0, 59));
 }

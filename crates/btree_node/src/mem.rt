@@ -1,4 +1,6 @@
 //! A store of nodes in memory: node 0 stands for the header, and the map is a list of flags.
+#![tactic(auto, unfolding(crate::specs::Store::unwritten_sectors))]
+
 ghost use Rattle.std.specs.Prelude.{◌≡◌, ◌≤◌, ◌<◌, IsTrue, length, IfOk, IfSome, true, false, ◌↔◌};
 ghost use Rattle.btree_node.specs.Mem.{mem_state};
 ghost use Rattle.btree_node.specs.Store.{HasRoom, Writes, SameRoom};

@@ -2,7 +2,7 @@ use Rattle.std.proofs.Common.{refl, ◌≡◌, ◌≢◌, ℕ, ◌-◌, ◌∙�
 use Rattle.btree_node.specs.Store.{SameStore, MapsOnly, with_free}
 use Rattle.btree_node.specs.Node.{next_of, items}
 use Rattle.btree_node.specs.Tree.{IsTreeNode, kind_at}
-use Rattle.btree_edit.specs.Halves.{record_of, IsSplit, with_put}
+use Rattle.btree_edit.specs.Halves.{record_of, IsSplit, AreForTwo, with_put}
 use Rattle.btree_edit.specs.LevelEdit.{edited, records_on}
 use Rattle.btree_edit.specs.Writes.{SetsBack, WritesHalves}
 use Rattle.btree_edit.proofs.OneLevel.{split_edit, still_tree_node}
@@ -48,4 +48,6 @@ returns-clause-edit g c = λ tells kind removed spare opened over.
     c.args.desk.now.node front back c.set_back.new.desk c.args.shape.now c.end_behind.new.shape maps free plain c.in_ok-fresh.ensures.inside halves
     (subst (λ n. SetsBack n fresh last new) next_is beside) shapes c.requires.free cut opened.head
     (ap record_of c.set_back.ensures.first ∙ c.write_halves-next.ensures.first cut.some_front) (ap record_of c.set_back.ensures.second ∙ c.write_halves-next.ensures.second cut.some_back)
-    over (c.end_behind.ensures.ends _ _)
+    over
+    (λ two. c.if-not-split.ensures.sixth (subst (λ n. AreForTwo n (with_put (items c.args.desk.now.node) c.args.at put)) (sym c.requires.desk.node) (subst (λ l. AreForTwo old.shape.node_size l) (sym opened.records) two)))
+    (c.end_behind.ensures.ends _ _)
