@@ -276,3 +276,16 @@ module _ (is_key : List ℕ → Type 0) (cmp : List ℕ → List ℕ → Orderin
           long_is,
           high,
         )
+
+-- the first pair of all
+pub first_pair : (is_key : List ℕ → Type 0) (cmp : List ℕ → List ℕ → Ordering) → ((x : List ℕ) → is_key x → length x ≡ big_at 2 x 0 + 2) → (key own value : List ℕ) → is_key own → own ≡ key
+    → (old new : List Pair) → old ≡ [] → new ≡ map pair_of ((own ++ value) ∷ []) → AddsPair cmp key value old new
+first_pair is_key cmp key_length key own value is_own same old new none is = record {
+  place = 0;
+  inside = omega arith;
+  before = λ k before. absurd (omega arith);
+  behind = λ k from to. absurd (omega (arith, ap length none));
+  is = is
+      ∙ ap (λ (p : Pair). p ∷ []) (ap (λ (l : List ℕ). (l, value_of (own ++ value))) (key_of_joined own (key_length own is_own) value ∙ same) ∙ ap (λ (l : List ℕ). (key, l)) (value_of_joined own (key_length own is_own) value))
+      ∙ sym (ap (λ (l : List Pair). splice l 0 0 ((key, value) ∷ [])) none);
+}

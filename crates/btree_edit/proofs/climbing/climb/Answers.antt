@@ -41,7 +41,7 @@ loop-done-init g c =
       left = omega arith;
       written = omega arith;
       taken = omega arith;
-      does = record { fewer = omega arith; some = omega arith; left = omega arith; free = omega arith; later = omega arith; same = record { tells = refl; names = refl; node_size = refl; total = refl; reserved = λ n. refl } };
+      does = record { fewer = omega arith; some = omega arith; left = omega arith; sectors = omega arith; free = omega arith; later = omega arith; same = record { tells = refl; names = refl; node_size = refl; total = refl; reserved = λ n. refl } };
       below = g.met.N.NodeStore.follows_refl c.args.store.now;
     }
 
@@ -113,6 +113,7 @@ loop-done-preserved g c =
         fewer = omega (arith, inv.does.fewer, done_is.fewer, reads.room.unwritten);
         some = omega (arith, inv.written, inv.enough, ok.cost, done_is.some, reads.room.unwritten);
         left = omega (arith, inv.does.left, done_is.left, reads.room.unwritten, reads.room.writes_left);
+        sectors = omega (arith, inv.does.sectors, done_is.sectors, reads.room.sectors, reads.room.sectors_left);
         free = omega (arith, inv.taken, ap (λ h. h.free) reads.shape, done_is.free, spent);
         later = omega (arith, inv.does.later, c.read_node.ensures.cause.later, done_is.later);
         same = same_store_both inv.does.same (same_store_both reads.same done_is.same);
