@@ -104,9 +104,15 @@ module _ {is_key : List ℕ → Type 0} {cmp : List ℕ → List ℕ → Orderin
           wanted = λ j low. absurd (omega arith);
           mapped = λ n inside. omega (arith, but.mapped n (omega (arith, same.total)), tally_root n, used n, ap bit (same.reserved n));
           header = same.reserved 0 ∙ but.header;
-          free = omega (arith, but.free, free, same.total, ap (λ m. count_by (λ n. t.used n) (range_with_len 0 m)) same.total,
-              bits_changed t.used s.used (s.shape.root ∷ []) [] s.shape.total (λ k. omega (arith, used k))
-              (λ k inside. omega (arith, root_low, ap (λ i. get_or (s.shape.root ∷ []) i 0) {x = 0} {y = k} (omega arith))) (λ k inside. absurd (omega arith)));
+          free = omega (
+            arith,
+            but.free,
+            free,
+            same.total,
+            ap (λ m. count_by (λ n. t.used n) (range_with_len 0 m)) same.total,
+            bits_changed t.used s.used (s.shape.root ∷ []) [] s.shape.total (λ k. omega (arith, used k))
+                (λ k inside. omega (arith, root_low, ap (λ i. get_or (s.shape.root ∷ []) i 0) {x = 0} {y = k} (omega arith))) (λ k inside. absurd (omega arith)),
+          );
         }
 
     pub makes_from_bare : (t u : Store) (records : List (List ℕ)) → MapsOnly s.shape.root false s t → SameStore s t → MakesTree is_key cmp t u records → MakesTree is_key cmp s u records

@@ -123,7 +123,7 @@ module _ (is_key : List ℕ → Type 0) (cmp : List ℕ → List ℕ → Orderin
               ∙ ap (λ n. splice (map pair_of (entries_of s (s.shape.depth - 1))) (leaf_start s path + (stop_at path (s.shape.depth - 1)).at) n (pair_of (key ++ value) ∷ [])) {y = leaf_start s path + (stop_at path (s.shape.depth - 1)).at} (omega arith)
               ∙ ap (λ l. splice l (leaf_start s path + (stop_at path (s.shape.depth - 1)).at) (leaf_start s path + (stop_at path (s.shape.depth - 1)).at) (pair_of (key ++ value) ∷ [])) (sym pairs_is)
               ∙ ap (λ (p : Pair). splice (pairs_of s) (leaf_start s path + (stop_at path (s.shape.depth - 1)).at) (leaf_start s path + (stop_at path (s.shape.depth - 1)).at) (p ∷ []))
-                  (ap (λ (l : List ℕ). (l, value_of (key ++ value))) key_is ∙ ap (λ (l : List ℕ). (key, l)) (value_of_joined key (key_length key is_a_key) value));
+              (ap (λ (l : List ℕ). (l, value_of (key ++ value))) key_is ∙ ap (λ (l : List ℕ). (key, l)) (value_of_joined key (key_length key is_a_key) value));
         }
 
         pub count_added : length (leaves_edited s path (stop_at path (s.shape.depth - 1)).at false ((key ++ value) ∷ [])) ≡ s.shape.leaf_records + 1
@@ -210,7 +210,7 @@ module _ (is_key : List ℕ → Type 0) (cmp : List ℕ → List ℕ → Orderin
         ascends = ascends_spliced cmp (entries_of s (s.shape.depth - 1)) [] (leaf_start s path + ((stop_at path (s.shape.depth - 1)).at - 1)) (leaf_start s path + ((stop_at path (s.shape.depth - 1)).at - 1 + 1))
             (omega arith) high ascends (λ i j less inside. absurd (omega arith)) (λ k m before inside. absurd (omega arith)) (λ k m inside. absurd (omega arith));
         wide = wide;
-        enough = elim many [ | inl enough ↦ inl enough | inr one ↦ inr (refl, one) ];
+        enough = elim many [ inl enough ↦ inl enough | inr one ↦ inr (refl, one) ];
       }
 
       pub count_dropped : length (leaves_edited s path ((stop_at path (s.shape.depth - 1)).at - 1) true []) + 1 ≡ s.shape.leaf_records
@@ -265,7 +265,7 @@ module _ (is_key : List ℕ → Type 0) (cmp : List ℕ → List ℕ → Orderin
           equal = equal_is;
           is = is ∙ edited_pairs ((own ++ value) ∷ [])
               ∙ ap (λ (p : Pair). splice (pairs_of s) (leaf_start s path + ((stop_at path (s.shape.depth - 1)).at - 1)) (leaf_start s path + ((stop_at path (s.shape.depth - 1)).at - 1) + 1) (p ∷ []))
-                  (changed_pair ∙ ap (λ (l : List ℕ). (l, value)) (own_is ∙ sym (ap (λ (p : Pair). p.0) pair_found)));
+              (changed_pair ∙ ap (λ (l : List ℕ). (l, value)) (own_is ∙ sym (ap (λ (p : Pair). p.0) pair_found)));
         }
 
         pub count_changed : length (leaves_edited s path ((stop_at path (s.shape.depth - 1)).at - 1) true ((own ++ value) ∷ [])) ≡ s.shape.leaf_records

@@ -141,6 +141,8 @@ pub fn insert<N: NodeStore, K: KeyOrder>(
     ensures cause { HasCause (N.state store.old).faults (N.state store.new).faults result }
     ensures below { N.follows store.old store.new }
 {
+    let shape = store.shape();
+    let _total = total_of(&shape);
     match find::<N, K>(store, desk, key)? {
         Found::At { .. } => Ok(Inserted::Exists),
         Found::Absent => {
@@ -220,6 +222,8 @@ pub fn remove<N: NodeStore, K: KeyOrder>(
     ensures cause { HasCause (N.state store.old).faults (N.state store.new).faults result }
     ensures below { N.follows store.old store.new }
 {
+    let shape = store.shape();
+    let _total = total_of(&shape);
     match find::<N, K>(store, desk, key)? {
         Found::At { .. } => {
             drop_pair::<N, K>(store, desk, key, K::FIXED)?;
@@ -290,6 +294,8 @@ pub fn replace<N: NodeStore, K: KeyOrder>(
     ensures cause { HasCause (N.state store.old).faults (N.state store.new).faults result }
     ensures below { N.follows store.old store.new }
 {
+    let shape = store.shape();
+    let _total = total_of(&shape);
     match find::<N, K>(store, desk, key)? {
         Found::At { node, index } => {
             let same = value.len() == desk.value().len();

@@ -94,7 +94,7 @@ returns-clause-adds g c = λ tells wide key short absent.
     subst (λ l. CanClimb g.K.KeyOrder.is_key g.K.KeyOrder.cmp g.K.KeyOrder.MAX m c.trace.new.desk.path (stop_at c.trace.new.desk.path (c.shape-shape.result.depth - 1)).at false l c.spare_of-spare.result) put_is
     (subst (λ d. CanClimb g.K.KeyOrder.is_key g.K.KeyOrder.cmp g.K.KeyOrder.MAX m c.trace.new.desk.path (stop_at c.trace.new.desk.path (d - 1)).at false ((c.args.key.now ++ c.args.desk.now.first.value) ∷ []) c.spare_of-spare.result) deep can) in
     let leaves_is : leaves_edited m c.trace.new.desk.path (stop_at c.trace.new.desk.path (m.shape.depth - 1)).at false ((c.args.key.now ++ c.args.desk.now.first.value) ∷ [])
-        ≡ leaves_edited m c.trace.new.desk.path (stop_at c.trace.new.desk.path (c.shape-shape.result.depth - 1)).at false (records_on 1 c.trace.new.desk) =
+    ≡ leaves_edited m c.trace.new.desk.path (stop_at c.trace.new.desk.path (c.shape-shape.result.depth - 1)).at false (records_on 1 c.trace.new.desk) =
     ap (λ d. leaves_edited m c.trace.new.desk.path (stop_at c.trace.new.desk.path (d - 1)).at false ((c.args.key.now ++ c.args.desk.now.first.value) ∷ [])) deep
     ∙ ap (λ l. leaves_edited m c.trace.new.desk.path (stop_at c.trace.new.desk.path (c.shape-shape.result.depth - 1)).at false l) put_is in
     let records : c.saturating_add-records.result ≡ length (leaves_edited m c.trace.new.desk.path (stop_at c.trace.new.desk.path (c.shape-shape.result.depth - 1)).at false (records_on 1 c.trace.new.desk)) =
