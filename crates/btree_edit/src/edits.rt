@@ -8,7 +8,7 @@ ghost use Rattle.btree_edit.specs.Editing.{Does, edit_writes};
 ghost use Rattle.btree_edit.specs.Halves.{record_of};
 ghost use Rattle.btree_edit.specs.LevelEdit.{node_room};
 ghost use Rattle.btree_edit.specs.Rising.{MakesTree, IsLeafRecord};
-ghost use Rattle.btree_edit.specs.Sorted.{AddsPair, DropsPair, InsertsPair, RemovesPair, KeepsFreeNodes, EditsTree};
+ghost use Rattle.btree_edit.specs.Sorted.{AddsPair, DropsPair, ChangesPair, HoldsKeyOf, InsertsPair, RemovesPair, KeepsFreeNodes, EditsTree};
 ghost use Rattle.btree_edit.specs.Swapping.{HasRecord, SwapsRecord};
 ghost use Rattle.btree_edit.specs.Answers.{AnswersInsert, AnswersRemove};
 
@@ -233,44 +233,39 @@ pub fn remove<N: NodeStore, K: KeyOrder>(
     }
 }
 
-/// Replaces the record of the key by those on the desk, of which there are so many.
-fn change<N: NodeStore, K: KeyOrder>(
+/// Puts the pair on the desk in the place of the pair with its key, whatever its length.
+pub(crate) fn change_pair<N: NodeStore, K: KeyOrder>(
     store: &mut N,
     desk: &mut Desk,
     key: &[u8],
-    index: u16,
-    count: u8,
-    fixed: bool,
 ) -> Result<(), Failed>
-    requires few { count ≤ 2 }
     requires desk { IsDeskOf (N.state store.old).shape.node_size desk.old }
     requires key { K.is_key key.now }
     requires tree { IsTrue (N.state store.old).tells → IsTree K.is_key K.cmp (N.state store.old) }
-    requires free { fixed ≡ false → (N.state store.old).shape.depth + 1 ≤ (N.state store.old).shape.free }
+    requires depth { (N.state store.old).shape.depth ≤ 11 }
+    requires free { (N.state store.old).shape.depth + 1 ≤ (N.state store.old).shape.free }
     requires room { HasRoom (edit_writes (N.state store.old).shape.depth) (N.state store.old) }
+    ensures changes { IsTrue (N.state store.old).tells → 3 * (K.MAX + 8) ≤ node_room (N.state store.old).shape.node_size
+        → HoldsKeyOf K.cmp key.now (N.state store.old) desk.old.first.key → length (record_of desk.old.first) ≤ (N.state store.old).shape.node_size / 2 - 10
+        → OnOk result (EditsTree K.is_key K.cmp (N.state store.old) (N.state store.new) (λ old new. ChangesPair K.cmp key.now desk.old.first.value old new)) }
     ensures desk { IsDeskOf (N.state store.old).shape.node_size desk.new }
     ensures depth { OnOk result ((N.state store.new).shape.depth ≤ (N.state store.old).shape.depth + 1) }
     ensures does { Does (edit_writes (N.state store.old).shape.depth) ((N.state store.old).shape.depth + 1) (N.state store.old) (N.state store.new) }
-    ensures free { fixed ≡ true → (N.state store.old).shape.free ≤ (N.state store.new).shape.free }
     ensures cause { HasCause (N.state store.old).faults (N.state store.new).faults result }
     ensures below { N.follows store.old store.new }
 {
     let mut shape = store.shape();
+    let _total = total_of(&shape);
     if !trace::<N, K>(store, desk, key)? {
         return Ok(());
     }
-    let spare = spare_of(fixed, shape.depth);
-    let records = records_after(shape.leaf_records, count);
-    rebuild::<N, K>(store, desk, &mut shape, index, true, count, spare, records)
-}
-
-/// The number of pairs after one was taken away and so many put in its place.
-fn records_after(records: u32, count: u8) -> u32 {
-    if count == 0 {
-        records.saturating_sub(1)
-    } else {
-        records
+    let at = desk.path[(shape.depth - 1) as usize].at;
+    if at == 0 {
+        return Ok(());
     }
+    let spare = spare_of(false, shape.depth);
+    let records = shape.leaf_records;
+    rebuild::<N, K>(store, desk, &mut shape, at - 1, true, 1, spare, records)
 }
 
 /// Gives the pair with a key another value; its key stays as it stands in the tree.
@@ -365,6 +360,8 @@ fn give_value<N: NodeStore, K: KeyOrder>(
 ) -> Result<(), Failed>
     requires desk { IsDeskOf (N.state store.old).shape.node_size desk.old }
     requires key { K.is_key key.now }
+    requires tree { IsTrue (N.state store.old).tells → IsTree K.is_key K.cmp (N.state store.old) }
+    requires depth { (N.state store.old).shape.depth ≤ 11 }
     requires free { (N.state store.old).shape.depth + 1 ≤ (N.state store.old).shape.free }
     requires room { HasRoom (edit_writes (N.state store.old).shape.depth) (N.state store.old) }
     ensures desk { IsDeskOf (N.state store.old).shape.node_size desk.new }
@@ -376,6 +373,6 @@ fn give_value<N: NodeStore, K: KeyOrder>(
     if same {
         swap_value(store, desk, node, index)
     } else {
-        change::<N, K>(store, desk, key, index, 1, false)
+        change_pair::<N, K>(store, desk, key)
     }
 }
