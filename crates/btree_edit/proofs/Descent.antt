@@ -43,6 +43,10 @@ leads_root cmp total key store ascends =
       first = λ place at none. refl;
     }
 
+pub leads_root_front : (cmp : List ℕ → List ℕ → Ordering) (total : IsTotalOrder cmp) (key : List ℕ) (store : Store) (ascends : Ascends cmp (entries_of store 0)) → length (leads_root cmp total key store ascends).front ≡ 0
+unfolding leads_root
+leads_root_front cmp total key store ascends = refl
+
 -- the list with one place in the middle
 pub split_at : (l : List ℕ) (p : ℕ) → p < length l → l ≡ take p l ++ get_or l p 0 ∷ drop (suc p) l
 split_at l p inside = sym (take-append-drop p l) ∙ ap (λ r. take p l ++ r) (drop-cons l p 0 inside)
@@ -195,6 +199,11 @@ module _ (is_key : List ℕ → Type 0) (cmp : List ℕ → List ℕ → Orderin
             (rank_of place (subst (λ n. IsPlace cmp key (items (store.nodes n)) place) child_of_step at));
         first = λ place at none. first_of_level place (subst (λ n. IsPlace cmp key (items (store.nodes n)) place) child_of_step at) none;
       }
+
+      -- the child stands behind those of the records before
+      pub leads_step_front : length leads_step.front ≡ length (entries store.nodes leads.front) + step.index
+      unfolding leads_step p start
+      leads_step_front = omega (arith, length-take p lower, in_lower)
 
   -- a node that a key leads to is one of the tree
   pub leads_node : (key : List ℕ) (j node : ℕ) → LeadsTo cmp key store j node → j < store.shape.depth → IsTreeNode store (store.shape.depth - j) node

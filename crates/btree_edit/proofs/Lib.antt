@@ -5,5 +5,16 @@ pub mod Picking
 pub mod Behind
 pub mod Counting
 pub mod Linking
+pub mod Splices
+pub mod Naming
+pub mod Stepping
+pub mod Whole
+pub mod Crowning
+pub mod Fitting
+pub mod Spots
+pub mod Ascent
 pub mod Cuts
 pub mod OneLevel
+pub mod Ways
+pub mod Settling
+pub mod Doing

@@ -91,3 +91,13 @@ pub linked_backs : (nodes : Nodes) (b : ℕ) (ns : List ℕ) → Linked nodes b 
 linked_backs nodes b [] h k inside = absurd (omega arith)
 linked_backs nodes b (n ∷ ns) (back, next, rest) zero inside = back
 linked_backs nodes b (n ∷ ns) (back, next, rest) (suc k) inside = linked_backs nodes n ns rest k (omega arith)
+
+pub last_get : (ns : List ℕ) (b : ℕ) → 0 < length ns → last_or ns b ≡ get_or ns (length ns - 1) 0
+last_get [] b some = absurd (omega arith)
+last_get (n ∷ []) b some = refl
+last_get (n ∷ m ∷ ns) b some = last_get (m ∷ ns) n (omega arith) ∙ ap (λ i. get_or (n ∷ m ∷ ns) i 0) {x = suc (length (m ∷ ns) - 1)} {y = length (n ∷ m ∷ ns) - 1} (omega arith)
+
+-- the last of some nodes, whatever stands before them
+pub last_some : (ns : List ℕ) (a b : ℕ) → 0 < length ns → last_or ns a ≡ last_or ns b
+last_some [] a b some = absurd (omega arith)
+last_some (n ∷ ns) a b some = refl

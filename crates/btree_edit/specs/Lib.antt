@@ -6,6 +6,8 @@ pub mod Answers
 pub mod Following
 pub mod LevelEdit
 pub mod Climb
+pub mod Way
+pub mod Rising
 pub mod Halves
 pub mod Writes
 pub mod Swapping

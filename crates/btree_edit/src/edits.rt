@@ -8,10 +8,11 @@ ghost use Rattle.btree_edit.specs.Halves.{record_of};
 ghost use Rattle.btree_edit.specs.Swapping.{HasRecord, SwapsRecord};
 ghost use Rattle.btree_edit.specs.Answers.{AnswersInsert, AnswersRemove};
 
-use crate::climbing::{begin, rebuild, trace};
+use crate::climbing::{begin, rebuild};
 use crate::desk::Desk;
 use crate::finding::{Found, find};
 use crate::search::read_node;
+use crate::tracing::trace;
 use btree_node::{KeyOrder, NodeStore};
 use hx_bytes::Failed;
 
@@ -53,7 +54,7 @@ fn add<N: NodeStore, K: KeyOrder>(store: &mut N, desk: &mut Desk, key: &[u8]) ->
 {
     let mut shape = store.shape();
     if shape.depth == 0 {
-        return begin(store, desk);
+        return begin::<N, K>(store, desk);
     }
     if !trace::<N, K>(store, desk, key)? {
         return Ok(());
@@ -61,7 +62,7 @@ fn add<N: NodeStore, K: KeyOrder>(store: &mut N, desk: &mut Desk, key: &[u8]) ->
     let at = desk.path[(shape.depth - 1) as usize].at;
     let spare = spare_of(false, shape.depth);
     let records = shape.leaf_records.saturating_add(1);
-    rebuild(store, desk, &mut shape, at, false, 1, spare, records)
+    rebuild::<N, K>(store, desk, &mut shape, at, false, 1, spare, records)
 }
 
 /// Adds a pair.
@@ -127,7 +128,7 @@ fn change<N: NodeStore, K: KeyOrder>(
     }
     let spare = spare_of(fixed, shape.depth);
     let records = records_after(shape.leaf_records, count);
-    rebuild(store, desk, &mut shape, index, true, count, spare, records)
+    rebuild::<N, K>(store, desk, &mut shape, index, true, count, spare, records)
 }
 
 /// The number of pairs after one was taken away and so many put in its place.

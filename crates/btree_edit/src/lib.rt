@@ -7,10 +7,12 @@ mod edits;
 mod finding;
 mod following;
 mod levels;
+mod roots;
 mod search;
 mod splitting;
 #[cfg(test)]
 mod tests;
+mod tracing;
 
 pub use desk::Desk;
 pub use edits::{Inserted, Removed, insert, remove, replace};
