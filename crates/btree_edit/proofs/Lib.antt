@@ -18,3 +18,4 @@ pub mod OneLevel
 pub mod Ways
 pub mod Settling
 pub mod Doing
+pub mod Swaps
