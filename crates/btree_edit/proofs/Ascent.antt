@@ -152,6 +152,17 @@ module _ {is_key : List ℕ → Type 0} {cmp : List ℕ → List ℕ → Orderin
           others = λ n free unused still. nodes n ∙ asc.others n free unused (sym (used n) ∙ still);
         }
 
+    -- the node of the way is one of the tree
+    pub way_node : (s : Store) (shape : TreeShape) (desk : Desk) (done next : ℕ) (gone : Bool) (left : ℕ) → IsAscent is_key cmp a s path at removed put spare shape desk done next gone left
+        → (j : ℕ) → j + (done + 1) ≡ a.shape.depth → IsTreeNode s (done + 1) (stop_at path j).node
+    way_node s shape desk done next gone left asc j j_is =
+        let of_tree : j < a.shape.depth = omega arith in
+        let is : asc.levels j ≡ level_of a j = asc.old_levels j (omega arith) in
+        let inside : way_place a path j < length (asc.levels j) = omega (arith, can.way.inside j of_tree, ap length is) in
+        let node : get_or (asc.levels j) (way_place a path j) 0 ≡ (stop_at path j).node = ap (λ l. get_or l (way_place a path j) 0) is ∙ can.way.node j of_tree in
+        subst (λ h. IsTreeNode s h (stop_at path j).node) {x = a.shape.depth - j} (omega arith)
+        (subst (λ n. IsTreeNode s (a.shape.depth - j) n) node ((asc.but.each j of_tree).nodes (way_place a path j) inside))
+
     -- the next level
     module _ (s : Store) (same : SameStore a s) (shape : TreeShape) (desk : Desk) (done next : ℕ) (gone : Bool) (left : ℕ)
         (asc : IsAscent is_key cmp a s path at removed put spare shape desk done next gone left)

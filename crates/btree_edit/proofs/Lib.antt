@@ -19,3 +19,4 @@ pub mod Ways
 pub mod Settling
 pub mod Doing
 pub mod Swaps
+pub mod PairEdits

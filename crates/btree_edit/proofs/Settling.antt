@@ -318,3 +318,17 @@ module _ {is_key : List ℕ → Type 0} {cmp : List ℕ → List ℕ → Orderin
       rises = rises_read start s t records shape shape_is nodes same lowering.rises;
       alone = λ j inside one. lowering.alone j inside one;
     }
+
+    -- the count of the records is beside the rest
+    pub with_records : (start s : Store) (records : List (List ℕ)) (shape : TreeShape) (many : ℕ) → Rises is_key cmp start s records shape → Rises is_key cmp start s records (record shape { leaf_records = many })
+    with_records start s records shape many rises = record {
+      levels = rises.levels;
+      but = rises.but;
+      top = rises.top;
+      made = rises.made;
+      first = rises.first;
+      last = rises.last;
+      none = rises.none;
+      same = rises.same;
+      others = rises.others;
+    }
