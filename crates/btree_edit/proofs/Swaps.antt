@@ -1,24 +1,36 @@
 -- A record of a leaf replaced by another with its key and its length: the tree is one still.
 use Rattle.std.proofs.Common.{◌≡◌, ◌≢◌, ◌⊎◌, ℕ, zero, suc, ◌+◌, ◌-◌, ◌/◌, ◌^◌, ◌<◌, ◌≤◌, true, false, List, [], ◌∷◌, ◌++◌, map, length, take, drop, get_or, set, inl, inr, refl, sym, ◌∙◌, ap, subst, arith}
-use Rattle.std.proofs.lemmas.Bool.{cases_eq}
+use Rattle.std.proofs.lemmas.Bool.{cases_eq, cases_lt}
 use Rattle.std.proofs.lemmas.List.{length-set, length-append, length-map, append-nil, set_split, get_or_at, get_or_append_left, get_or-append_right, get_or-set_same, get_or-set_other}
+use Rattle.std.specs.Cmp.{IsTotalOrder}
 use Rattle.std.specs.declared.cmp.Ordering.{Ordering}
+use Rattle.std.specs.declared.cmp.Ordering.TheVariants.{Less, Equal, Greater}
 use Rattle.std.specs.List.{range_with_len, count_by}
 use Rattle.hx_bytes.specs.Field.{big_at, big}
-use Rattle.btree_node.specs.Node.{items, IsNode, next_of, back_of, kind_of, height_of}
-use Rattle.btree_node.specs.Levels.{entries, leaves, key_of, pair_of, record_for, splice, Ascends}
-use Rattle.btree_node.specs.Store.{Store, SameStore}
+use Rattle.btree_node.specs.Node.{items, IsNode, SameHead, next_of, back_of, kind_of, height_of}
+use Rattle.btree_node.specs.Levels.{Pair, entries, leaves, key_of, value_of, pair_of, record_for, splice, Ascends}
+use Rattle.btree_node.specs.Store.{Store, SameStore, SameNodes}
 use Rattle.btree_node.specs.Tree.{level_of, entries_of, pairs_of, IsTreeNode, HasHeader, IsReached, IsTree}
 use Rattle.btree_node.proofs.Levels.{same_entries, level_spliced}
-use Rattle.btree_node.proofs.Ranks.{in_node, level_long}
+use Rattle.btree_node.proofs.Ranks.{in_node, level_long, below_all}
 use Rattle.btree_edit.specs.Climb.{IsLevel, IsTreeBut}
-use Rattle.btree_edit.specs.Desk.{StandsIn}
+use Rattle.btree_edit.specs.Desk.{StandsIn, HoldsPair, Finds, IsInTree}
+use Rattle.btree_edit.specs.declared.finding.Found.{Found}
+use Rattle.btree_edit.specs.declared.finding.Found.TheVariants.{At}
+use Rattle.btree_edit.specs.declared.desk.Desk.{Desk}
 use Rattle.btree_edit.specs.LevelEdit.{bit}
 use Rattle.btree_edit.specs.Rising.{MakesTree}
-use Rattle.btree_edit.specs.Swapping.{SwapsRecord}
+use Rattle.btree_edit.specs.Swapping.{HasRecord, SwapsRecord, HasValueOf}
+use Rattle.btree_edit.specs.Sorted.{ChangesPair, EditsTree}
+use Rattle.std.proofs.lemmas.List.Sums.{get_or-le-sum_by}
 use Rattle.btree_edit.proofs.Counting.{bits_changed}
+use Rattle.btree_edit.proofs.Cuts.{node_holds}
 use Rattle.btree_edit.proofs.Linking.{linked_same}
 use Rattle.btree_edit.proofs.OneLevel.{still_tree_node}
+use Rattle.btree_edit.proofs.Descent.{pairs_are, pair_at, pairs_long}
+use Rattle.btree_edit.proofs.Pairs.{key_of_joined, value_of_joined}
+use Rattle.btree_edit.proofs.Repeated.{same_store_both}
+use Rattle.btree_edit.proofs.Splices.{map-splice}
 use Rattle.btree_edit.proofs.Stepping.{level_kept}
 use Rattle.btree_edit.proofs.Whole.{but_of_tree, same_level, tree_of, pairs_then}
 
@@ -264,3 +276,126 @@ module _ {is_key : List ℕ → Type 0} {cmp : List ℕ → List ℕ → Orderin
       where
         clash : false ≡ true → ⊥
         clash e = cc
+
+-- The pair that was found gets another value of its length.
+module _ {is_key : List ℕ → Type 0} {cmp : List ℕ → List ℕ → Ordering} (total : IsTotalOrder cmp) (key_length : (a : List ℕ) → is_key a → length a ≡ big_at 2 a 0 + 2)
+    (old : Store) (desk : Desk) (node index k : ℕ) (key value : List ℕ) (tree : IsTree is_key cmp old) (stands : StandsIn old node index k) (holds : HoldsPair old desk k)
+    (item : get_or (items (old.nodes node)) index [] ≡ desk.held.key ++ desk.held.value) (long : length value ≡ length desk.held.value)
+  where
+    found_within : k < length (entries_of old (old.shape.depth - 1))
+    found_within = omega (arith, holds.inside, pairs_long is_key cmp total key_length old tree.levels tree.ordered stands.some)
+
+    found_pair : get_or (pairs_of old) k ([], []) ≡ pair_of (get_or (entries_of old (old.shape.depth - 1)) k [])
+    found_pair = pair_at is_key cmp total key_length old tree.levels tree.ordered stands.some k found_within
+
+    pub found_key : is_key desk.held.key
+    found_key = subst is_key (sym (holds.key ∙ ap (λ (p : Pair). p.0) found_pair)) (tree.levels.keys (old.shape.depth - 1) k (omega (arith, stands.some)) found_within)
+
+    other_own : key_of (desk.held.key ++ value) ≡ key_of (get_or (items (old.nodes node)) index [])
+    other_own = key_of_joined desk.held.key (key_length desk.held.key found_key) value ∙ sym (key_of_joined desk.held.key (key_length desk.held.key found_key) desk.held.value) ∙ ap key_of (sym item)
+
+    other_long : length (desk.held.key ++ value) ≡ length (get_or (items (old.nodes node)) index [])
+    other_long = omega (arith, ap length item, length-append desk.held.key value, length-append desk.held.key desk.held.value, long)
+
+    found_at : get_or (level_of old (old.shape.depth - 1)) (length stands.front) 0 ≡ node
+    found_at = ap (λ l. get_or l (length stands.front) 0) stands.is ∙ get_or_at stands.front node stands.back 0 (length stands.front) refl
+
+    found_inside : length stands.front < length (level_of old (old.shape.depth - 1))
+    found_inside = omega (arith, ap length stands.is, length-append stands.front (node ∷ stands.back))
+
+    -- it is a record of a leaf in a store that was read
+    pub has_record : (mid : Store) → SameStore old mid → mid.nodes node ≡ old.nodes node → HasRecord mid node index (length (desk.held.key ++ value))
+    has_record mid same nodes = record {
+      is_node = still_tree_node old mid 1 node same nodes
+          (subst (λ h. IsTreeNode old h node) {x = old.shape.depth - (old.shape.depth - 1)} (omega (arith, stands.some))
+          (subst (λ n. IsTreeNode old (old.shape.depth - (old.shape.depth - 1)) n) found_at (tree.levels.nodes (old.shape.depth - 1) (length stands.front) (omega (arith, stands.some)) found_inside)));
+      of_tree = same.reserved node ∙ tree.mapped.of_tree node (record { below = old.shape.depth - 1; place = length stands.front; of_tree = omega (arith, stands.some); inside = found_inside; is = found_at });
+      inside = omega (arith, stands.inside, ap (λ l. length (items l)) nodes);
+      long = ap (λ l. length (get_or (items l) index [])) nodes ∙ sym other_long;
+    }
+
+    pub value_swapped : (mid new : Store) → SameStore old mid → mid.shape ≡ old.shape → SameNodes old mid → SwapsRecord node index (desk.held.key ++ value) mid new → SameStore mid new → new.shape ≡ mid.shape
+        → old.shape.total ≤ 2 ^ 32 → cmp desk.held.key key ≡ Equal → EditsTree is_key cmp old new (λ before after. ChangesPair cmp key value before after)
+    value_swapped mid new same_read shape_read read swaps same shape small equal =
+        let whole : SwapsRecord node index (desk.held.key ++ value) old new = record {
+          items = swaps.items ∙ ap (λ l. set (items l) index (desk.held.key ++ value)) (read.nodes node);
+          cut = swaps.cut;
+          head = subst (λ l. SameHead l (new.nodes node)) (read.nodes node) swaps.head;
+          others = λ n other. swaps.others n other ∙ read.nodes n;
+          used = λ n. swaps.used n ∙ read.used n;
+        } in
+        let both = same_store_both same_read same in
+        let makes = swapped key_length old new node index k (desk.held.key ++ value) tree stands whole both (shape ∙ shape_read) (omega (arith, both.total, small)) other_own other_long in
+        let pair : pair_of (desk.held.key ++ value) ≡ ((get_or (pairs_of old) k ([], [])).0, value) =
+        ap (λ a. (a, value_of (desk.held.key ++ value))) (key_of_joined desk.held.key (key_length desk.held.key found_key) value ∙ holds.key)
+        ∙ ap (λ b. ((get_or (pairs_of old) k ([], [])).0, b)) (value_of_joined desk.held.key (key_length desk.held.key found_key) value) in
+        record {
+          pairs = record {
+            place = k;
+            inside = holds.inside;
+            equal = ap (λ l. cmp l key) (sym holds.key) ∙ equal;
+            is = makes.pairs
+                ∙ map-splice pair_of (entries_of old (old.shape.depth - 1)) k (k + 1) ((desk.held.key ++ value) ∷ [])
+                ∙ ap (λ l. splice l k (k + 1) (pair_of (desk.held.key ++ value) ∷ [])) (sym (pairs_are is_key cmp total key_length old tree.levels tree.ordered stands.some))
+                ∙ ap (λ p. splice (pairs_of old) k (k + 1) (p ∷ [])) pair;
+          };
+          tree = makes.tree;
+          others = makes.others;
+        }
+
+-- a tree has a key once
+module _ {is_key : List ℕ → Type 0} {cmp : List ℕ → List ℕ → Ordering} (total : IsTotalOrder cmp) (key_length : (a : List ℕ) → is_key a → length a ≡ big_at 2 a 0 + 2)
+    (store : Store) (tree : IsTree is_key cmp store) (key : List ℕ) (some : 0 < store.shape.depth)
+  where
+    many_pairs : length (pairs_of store) ≡ length (entries_of store (store.shape.depth - 1))
+    many_pairs = pairs_long is_key cmp total key_length store tree.levels tree.ordered some
+
+    key_there : (m : ℕ) → m < length (pairs_of store) → (get_or (pairs_of store) m ([], [])).0 ≡ key_of (get_or (entries_of store (store.shape.depth - 1)) m [])
+    key_there m inside = ap (λ (p : Pair). p.0) (pair_at is_key cmp total key_length store tree.levels tree.ordered some m (omega (arith, inside, many_pairs)))
+
+    equal_not_greater : Equal ≡ Greater → ⊥
+    equal_not_greater e = cc
+
+    less_not_equal : Less ≡ Equal → ⊥
+    less_not_equal e = cc
+
+    not_twice : (a b : ℕ) → a < b → b < length (pairs_of store) → cmp (get_or (pairs_of store) a ([], [])).0 key ≡ Equal → cmp (get_or (pairs_of store) b ([], [])).0 key ≡ Equal → ⊥
+    not_twice a b less inside is other =
+        let below : cmp (get_or (pairs_of store) a ([], [])).0 (get_or (pairs_of store) b ([], [])).0 ≡ Less =
+        ap (λ l. cmp l (get_or (pairs_of store) b ([], [])).0) (key_there a (omega arith)) ∙ ap (λ l. cmp (key_of (get_or (entries_of store (store.shape.depth - 1)) a [])) l) (key_there b inside)
+        ∙ tree.ordered.ascends (store.shape.depth - 1) (omega (arith, some)) a b less (omega (arith, inside, many_pairs)) in
+        less_not_equal (sym (below_all cmp total (get_or (pairs_of store) a ([], [])).0 (get_or (pairs_of store) b ([], [])).0 key below (λ e. equal_not_greater (sym other ∙ e))) ∙ is)
+
+    pub key_once : (i j : ℕ) → i < length (pairs_of store) → j < length (pairs_of store) → cmp (get_or (pairs_of store) i ([], [])).0 key ≡ Equal → cmp (get_or (pairs_of store) j ([], [])).0 key ≡ Equal → i ≡ j
+    key_once i j first second one two = elim (cases_lt i j) [
+      | inl less ↦ absurd (not_twice i j less second one two)
+      | inr more ↦ elim (cases_lt j i) [
+        | inl less ↦ absurd (not_twice j i less first two one)
+        | inr same ↦ omega (arith, more, same)
+      ]
+    ]
+
+    -- a value that was found has the length of the one with this key
+    pub found_size : (size : ℕ) → HasValueOf cmp key size store → (desk : Desk) (k : ℕ) → HoldsPair store desk k → cmp desk.held.key key ≡ Equal → size ≡ length desk.held.value
+    found_size size has desk k holds equal =
+        let is : k ≡ has.place = key_once k has.place holds.inside has.inside (ap (λ l. cmp l key) (sym holds.key) ∙ equal) has.equal in
+        sym has.long ∙ ap (λ m. length (get_or (pairs_of store) m ([], [])).1) (sym is) ∙ ap (λ (l : List ℕ). length l) (sym holds.value)
+
+-- what a search says of the pair that it found
+pub record IsFound (cmp : List ℕ → List ℕ → Ordering) (key : List ℕ) (store : Store) (desk : Desk) (node index : ℕ) : Type 0 where
+  pub k : ℕ
+  pub holds : HoldsPair store desk k
+  pub stands : StandsIn store node index k
+  pub equal : cmp desk.held.key key ≡ Equal
+  pub item : get_or (items (store.nodes node)) index [] ≡ desk.held.key ++ desk.held.value
+
+pub is_found : (cmp : List ℕ → List ℕ → Ordering) (key : List ℕ) (store : Store) (desk : Desk) (node index : ℕ) (found : Found) → found ≡ At node index → Finds cmp key store desk found → IsInTree store desk found → IsFound cmp key store desk node index
+is_found cmp key store desk node index found is finds stands =
+    let here : Finds cmp key store desk (At node index) = subst (λ f. Finds cmp key store desk f) is finds in
+    let place : IsInTree store desk (At node index) = subst (λ f. IsInTree store desk f) is stands in
+    record { k = place.0; holds = place.1; stands = place.2; equal = here.0; item = here.2 }
+
+-- a record takes no more than its node
+pub record_short : (store : Store) (leaf index size : ℕ) → HasRecord store leaf index size → size ≤ store.shape.node_size
+record_short store leaf index size has =
+    omega (arith, has.long, get_or-le-sum_by (λ (bytes : List ℕ). length bytes + 2) (items (store.nodes leaf)) index [] has.inside, node_holds (store.nodes leaf) has.is_node.kind.cut, has.is_node.size)
