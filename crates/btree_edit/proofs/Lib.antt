@@ -20,3 +20,4 @@ pub mod Settling
 pub mod Doing
 pub mod Swaps
 pub mod PairEdits
+pub mod Outcomes

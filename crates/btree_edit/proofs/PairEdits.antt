@@ -123,7 +123,7 @@ module _ (is_key : List ℕ → Type 0) (cmp : List ℕ → List ℕ → Orderin
               ∙ ap (λ n. splice (map pair_of (entries_of s (s.shape.depth - 1))) (leaf_start s path + (stop_at path (s.shape.depth - 1)).at) n (pair_of (key ++ value) ∷ [])) {y = leaf_start s path + (stop_at path (s.shape.depth - 1)).at} (omega arith)
               ∙ ap (λ l. splice l (leaf_start s path + (stop_at path (s.shape.depth - 1)).at) (leaf_start s path + (stop_at path (s.shape.depth - 1)).at) (pair_of (key ++ value) ∷ [])) (sym pairs_is)
               ∙ ap (λ (p : Pair). splice (pairs_of s) (leaf_start s path + (stop_at path (s.shape.depth - 1)).at) (leaf_start s path + (stop_at path (s.shape.depth - 1)).at) (p ∷ []))
-                  (ap (λ (l : List ℕ). (l, value_of (key ++ value))) key_is ∙ ap (λ (l : List ℕ). (key, l)) (value_of_joined key (key_length key is_a_key) value));
+              (ap (λ (l : List ℕ). (l, value_of (key ++ value))) key_is ∙ ap (λ (l : List ℕ). (key, l)) (value_of_joined key (key_length key is_a_key) value));
         }
 
         pub count_added : length (leaves_edited s path (stop_at path (s.shape.depth - 1)).at false ((key ++ value) ∷ [])) ≡ s.shape.leaf_records + 1
@@ -173,7 +173,10 @@ module _ (is_key : List ℕ → Type 0) (cmp : List ℕ → List ℕ → Orderin
       pub pair_found : get_or (pairs_of s) (leaf_start s path + ((stop_at path (s.shape.depth - 1)).at - 1)) ([], []) ≡ pair_of (get_or (items (s.nodes (stop_at path (s.shape.depth - 1)).node)) ((stop_at path (s.shape.depth - 1)).at - 1) [])
       pair_found = pair_is (leaf_start s path + ((stop_at path (s.shape.depth - 1)).at - 1)) place_low ∙ ap pair_of record_is
 
-      equal_is : cmp (get_or (pairs_of s) (leaf_start s path + ((stop_at path (s.shape.depth - 1)).at - 1)) ([], [])).0 key ≡ Equal
+      pub pair_inside : leaf_start s path + ((stop_at path (s.shape.depth - 1)).at - 1) < length (pairs_of s)
+      pair_inside = omega (arith, place_low, long_is)
+
+      pub equal_is : cmp (get_or (pairs_of s) (leaf_start s path + ((stop_at path (s.shape.depth - 1)).at - 1)) ([], [])).0 key ≡ Equal
       equal_is = ap (λ (p : Pair). cmp p.0 key) pair_found ∙ found.1
 
       end_is : leaf_start s path + ((stop_at path (s.shape.depth - 1)).at - 1 + 1) ≡ leaf_start s path + ((stop_at path (s.shape.depth - 1)).at - 1) + 1
@@ -210,7 +213,7 @@ module _ (is_key : List ℕ → Type 0) (cmp : List ℕ → List ℕ → Orderin
         ascends = ascends_spliced cmp (entries_of s (s.shape.depth - 1)) [] (leaf_start s path + ((stop_at path (s.shape.depth - 1)).at - 1)) (leaf_start s path + ((stop_at path (s.shape.depth - 1)).at - 1 + 1))
             (omega arith) high ascends (λ i j less inside. absurd (omega arith)) (λ k m before inside. absurd (omega arith)) (λ k m inside. absurd (omega arith));
         wide = wide;
-        enough = elim many [ | inl enough ↦ inl enough | inr one ↦ inr (refl, one) ];
+        enough = elim many [ inl enough ↦ inl enough | inr one ↦ inr (refl, one) ];
       }
 
       pub count_dropped : length (leaves_edited s path ((stop_at path (s.shape.depth - 1)).at - 1) true []) + 1 ≡ s.shape.leaf_records
@@ -265,7 +268,7 @@ module _ (is_key : List ℕ → Type 0) (cmp : List ℕ → List ℕ → Orderin
           equal = equal_is;
           is = is ∙ edited_pairs ((own ++ value) ∷ [])
               ∙ ap (λ (p : Pair). splice (pairs_of s) (leaf_start s path + ((stop_at path (s.shape.depth - 1)).at - 1)) (leaf_start s path + ((stop_at path (s.shape.depth - 1)).at - 1) + 1) (p ∷ []))
-                  (changed_pair ∙ ap (λ (l : List ℕ). (l, value)) (own_is ∙ sym (ap (λ (p : Pair). p.0) pair_found)));
+              (changed_pair ∙ ap (λ (l : List ℕ). (l, value)) (own_is ∙ sym (ap (λ (p : Pair). p.0) pair_found)));
         }
 
         pub count_changed : length (leaves_edited s path ((stop_at path (s.shape.depth - 1)).at - 1) true ((own ++ value) ∷ [])) ≡ s.shape.leaf_records
@@ -276,3 +279,16 @@ module _ (is_key : List ℕ → Type 0) (cmp : List ℕ → List ℕ → Orderin
           long_is,
           high,
         )
+
+-- the first pair of all
+pub first_pair : (is_key : List ℕ → Type 0) (cmp : List ℕ → List ℕ → Ordering) → ((x : List ℕ) → is_key x → length x ≡ big_at 2 x 0 + 2) → (key own value : List ℕ) → is_key own → own ≡ key
+    → (old new : List Pair) → old ≡ [] → new ≡ map pair_of ((own ++ value) ∷ []) → AddsPair cmp key value old new
+first_pair is_key cmp key_length key own value is_own same old new none is = record {
+  place = 0;
+  inside = omega arith;
+  before = λ k before. absurd (omega arith);
+  behind = λ k from to. absurd (omega (arith, ap length none));
+  is = is
+      ∙ ap (λ (p : Pair). p ∷ []) (ap (λ (l : List ℕ). (l, value_of (own ++ value))) (key_of_joined own (key_length own is_own) value ∙ same) ∙ ap (λ (l : List ℕ). (key, l)) (value_of_joined own (key_length own is_own) value))
+      ∙ sym (ap (λ (l : List Pair). splice l 0 0 ((key, value) ∷ [])) none);
+}

@@ -90,11 +90,11 @@ module _ {is_key : List ℕ → Type 0} {cmp : List ℕ → List ℕ → Orderin
           size = ap length takes.here ∙ size ∙ sym takes.same.node_size;
         } in
         let but = topped key_length s t start.shape.depth climbs.levels 0 [] climbs.but node tree_node
-            (ap next_of takes.here ∙ next) (ap back_of takes.here ∙ back)
-            (omega (arith, ap length (ap items takes.here ∙ are)))
-            (subst (λ l. (k : ℕ) → k < length l → is_key (key_of (get_or l k []))) (sym here) (names_keys is_key cmp key_length s.nodes (climbs.levels 0) none_empty level.keys))
-            (subst (λ l. Ascends cmp l) (sym here) (names_ascend is_key cmp key_length s.nodes (climbs.levels 0) none_empty level.keys level.ascends))
-            (λ none. absurd (omega arith)) (λ any. here) takes.others takes.used takes.same.node_size takes.same.total takes.free takes.same.reserved in
+        (ap next_of takes.here ∙ next) (ap back_of takes.here ∙ back)
+        (omega (arith, ap length (ap items takes.here ∙ are)))
+        (subst (λ l. (k : ℕ) → k < length l → is_key (key_of (get_or l k []))) (sym here) (names_keys is_key cmp key_length s.nodes (climbs.levels 0) none_empty level.keys))
+        (subst (λ l. Ascends cmp l) (sym here) (names_ascend is_key cmp key_length s.nodes (climbs.levels 0) none_empty level.keys level.ascends))
+        (λ none. absurd (omega arith)) (λ any. here) takes.others takes.used takes.same.node_size takes.same.total takes.free takes.same.reserved in
         let deep : suc start.shape.depth ≡ shape.depth + 1 = sym at in
         let low : start.shape.depth ≡ suc (start.shape.depth - 1) = omega arith in
         let lowest : (f : ℕ → List ℕ) → above node climbs.levels start.shape.depth ≡ climbs.levels (start.shape.depth - 1) = λ f. ap (λ i. above node climbs.levels i) low in
@@ -130,9 +130,9 @@ module _ {is_key : List ℕ → Type 0} {cmp : List ℕ → List ℕ → Orderin
         let only : (P : List ℕ → Type 0) → P rec → (k : ℕ) → k < length (items (t.nodes node)) → P (get_or (items (t.nodes node)) k []) = λ P h.
         subst (λ l. (k : ℕ) → k < length l → P (get_or l k [])) (sym here) (λ k inside. subst (λ i. P (get_or (rec ∷ []) i [])) {x = 0} (omega arith) h) in
         let but = topped key_length s t 0 (λ j. []) 0 [] bare node tree_node (ap next_of takes.here ∙ next) (ap back_of takes.here ∙ back) (omega (arith, ap length here))
-            (only (λ r. is_key (key_of r)) is_record.key)
-            (subst (λ l. Ascends cmp l) (sym here) (λ i j less inside. absurd (omega arith)))
-            (λ none. only (λ r. length r ≤ s.shape.node_size / 2 - 10) is_record.short) (λ some. absurd (omega arith)) takes.others takes.used takes.same.node_size takes.same.total takes.free takes.same.reserved in
+        (only (λ r. is_key (key_of r)) is_record.key)
+        (subst (λ l. Ascends cmp l) (sym here) (λ i j less inside. absurd (omega arith)))
+        (λ none. only (λ r. length r ≤ s.shape.node_size / 2 - 10) is_record.short) (λ some. absurd (omega arith)) takes.others takes.used takes.same.node_size takes.same.total takes.free takes.same.reserved in
         record {
           levels = above node (λ j. []);
           but = but;
@@ -164,17 +164,20 @@ module _ {is_key : List ℕ → Type 0} {cmp : List ℕ → List ℕ → Orderin
     -- a root that stays
     pub rises_kept : (start s : Store) (records : List (List ℕ)) (shape : TreeShape) (left : ℕ) (desk : Desk) → Climbs is_key cmp start s records shape 1 left desk → 0 < start.shape.depth
         → IsLowering is_key cmp start s records shape
-    rises_kept start s records shape left desk climbs some = record { alone = λ j inside one. climbs.alone j (omega (arith, climbs.depth)) one; rises = record {
-      levels = climbs.levels;
-      but = subst (λ d. IsTreeBut is_key cmp s d climbs.levels 0 0 []) (sym climbs.depth) climbs.but;
-      top = λ any. climbs.top ∙ ap (λ n. n ∷ []) (sym climbs.root);
-      made = ap (λ d. leaf_records s climbs.levels d) {y = suc (start.shape.depth - 1)} (omega (arith, climbs.depth)) ∙ climbs.made;
-      first = λ any. climbs.first ∙ ap (λ i. head_or (climbs.levels i) 0) {y = shape.depth - 1} (omega (arith, climbs.depth));
-      last = λ any. climbs.last ∙ ap (λ i. last_or (climbs.levels i) 0) {y = shape.depth - 1} (omega (arith, climbs.depth));
-      none = λ none. absurd (omega (arith, climbs.depth));
-      same = climbs.same;
-      others = climbs.others;
-    } }
+    rises_kept start s records shape left desk climbs some = record {
+      alone = λ j inside one. climbs.alone j (omega (arith, climbs.depth)) one;
+      rises = record {
+        levels = climbs.levels;
+        but = subst (λ d. IsTreeBut is_key cmp s d climbs.levels 0 0 []) (sym climbs.depth) climbs.but;
+        top = λ any. climbs.top ∙ ap (λ n. n ∷ []) (sym climbs.root);
+        made = ap (λ d. leaf_records s climbs.levels d) {y = suc (start.shape.depth - 1)} (omega (arith, climbs.depth)) ∙ climbs.made;
+        first = λ any. climbs.first ∙ ap (λ i. head_or (climbs.levels i) 0) {y = shape.depth - 1} (omega (arith, climbs.depth));
+        last = λ any. climbs.last ∙ ap (λ i. last_or (climbs.levels i) 0) {y = shape.depth - 1} (omega (arith, climbs.depth));
+        none = λ none. absurd (omega (arith, climbs.depth));
+        same = climbs.same;
+        others = climbs.others;
+      };
+    }
 
     -- a store that was read
     pub rises_read : (start s t : Store) (records : List (List ℕ)) (shape : TreeShape) → t.shape ≡ s.shape → SameNodes s t → SameStore s t → Rises is_key cmp start s records shape → Rises is_key cmp start t records shape
@@ -239,28 +242,28 @@ module _ {is_key : List ℕ → Type 0} {cmp : List ℕ → List ℕ → Orderin
             let lowest : (i : ℕ) → i ≡ shape.depth - 1 - 1 → rises.levels (suc i) ≡ rises.levels (shape.depth - 1) = λ i is. ap (λ k. rises.levels k) (omega arith) in
             record {
               rises = record {
-              levels = λ j. rises.levels (suc j);
-              but = but;
-              top = λ some. new_top key_length s (shape.depth - 1) rises.levels 0 [] but_root shape.root top_is (omega arith) one small;
-              made = ap (λ d. leaf_records t (λ j. rises.levels (suc j)) d) low
-                  ∙ ap (λ l. entries t.nodes l) (lowest (shape.depth - 1 - 1) refl)
-                  ∙ same_entries s.nodes t.nodes (rises.levels (shape.depth - 1)) (λ k inside. ap items (maps.nodes (get_or (rises.levels (shape.depth - 1)) k 0)
-                      (not_reserved s shape.depth rises.levels 0 0 [] rises.but (shape.depth - 1) k (omega arith) inside)))
-                  ∙ ap (λ d. leaf_records s rises.levels d) {x = suc (shape.depth - 1)} {y = shape.depth} (omega arith)
-                  ∙ rises.made;
-              first = λ some. rises.first (omega arith) ∙ ap (λ l. head_or l 0) (sym (lowest (shape.depth - 1 - 1) refl));
-              last = λ some. rises.last (omega arith) ∙ ap (λ l. last_or l 0) (sym (lowest (shape.depth - 1 - 1) refl));
-              none = λ none. absurd (omega arith);
-              same = same_store_both rises.same same;
-              others = λ n free_one unused still.
-                  let before : s.used n ≡ false = elim (cases_eq n shape.root) [
-                    | inl is ↦
-                        let was : start.used shape.root ≡ true = subst (λ m. start.used m ≡ true) root_at (lowering.alone 0 (omega arith) (ap length top_is)) in
-                        absurd (omega (arith, ap bit was, ap bit unused, ap (λ m. bit (start.used m)) is))
-                    | inr other ↦ sym (maps.others n other) ∙ still
-                  ] in
-                  maps.nodes n (rises.same.reserved n ∙ free_one) ∙ rises.others n free_one unused before;
-            };
+                levels = λ j. rises.levels (suc j);
+                but = but;
+                top = λ some. new_top key_length s (shape.depth - 1) rises.levels 0 [] but_root shape.root top_is (omega arith) one small;
+                made = ap (λ d. leaf_records t (λ j. rises.levels (suc j)) d) low
+                    ∙ ap (λ l. entries t.nodes l) (lowest (shape.depth - 1 - 1) refl)
+                    ∙ same_entries s.nodes t.nodes (rises.levels (shape.depth - 1)) (λ k inside. ap items (maps.nodes (get_or (rises.levels (shape.depth - 1)) k 0)
+                    (not_reserved s shape.depth rises.levels 0 0 [] rises.but (shape.depth - 1) k (omega arith) inside)))
+                    ∙ ap (λ d. leaf_records s rises.levels d) {x = suc (shape.depth - 1)} {y = shape.depth} (omega arith)
+                    ∙ rises.made;
+                first = λ some. rises.first (omega arith) ∙ ap (λ l. head_or l 0) (sym (lowest (shape.depth - 1 - 1) refl));
+                last = λ some. rises.last (omega arith) ∙ ap (λ l. last_or l 0) (sym (lowest (shape.depth - 1 - 1) refl));
+                none = λ none. absurd (omega arith);
+                same = same_store_both rises.same same;
+                others = λ n free_one unused still.
+                    let before : s.used n ≡ false = elim (cases_eq n shape.root) [
+                      | inl is ↦
+                          let was : start.used shape.root ≡ true = subst (λ m. start.used m ≡ true) root_at (lowering.alone 0 (omega arith) (ap length top_is)) in
+                          absurd (omega (arith, ap bit was, ap bit unused, ap (λ m. bit (start.used m)) is))
+                      | inr other ↦ sym (maps.others n other) ∙ still
+                    ] in
+                    maps.nodes n (rises.same.reserved n ∙ free_one) ∙ rises.others n free_one unused before;
+              };
               alone = λ j inside one_node. lowering.alone (suc j) (omega arith) one_node;
             }
 

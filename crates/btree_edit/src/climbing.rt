@@ -151,10 +151,7 @@ pub(crate) fn rebuild<N: NodeStore, K: KeyOrder>(
 }
 
 /// Makes the first leaf, and writes the tree's numbers.
-pub(crate) fn begin<N: NodeStore, K: KeyOrder>(
-    store: &mut N,
-    desk: &mut Desk,
-) -> Result<(), Failed>
+pub(crate) fn begin<N: NodeStore, K: KeyOrder>(store: &mut N, desk: &mut Desk) -> Result<(), Failed>
     requires desk { IsDeskOf (N.state store.old).shape.node_size desk.old }
     requires room { HasRoom 3 (N.state store.old) }
     requires free { 0 < (N.state store.old).shape.free }

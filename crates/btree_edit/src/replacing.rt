@@ -2,26 +2,22 @@
 ghost use Rattle.std.specs.Prelude.{◌≡◌, ◌≢◌, ◌≤◌, ◌<◌, ◌+◌, ◌-◌, ◌*◌, ◌/◌, ◌⊎◌, ◌++◌, IsTrue, length, OnOk, IfOk};
 ghost use Rattle.btree_node.specs.Store.{HasRoom, HasCause};
 ghost use Rattle.btree_node.specs.Tree.{IsTree, pairs_of};
-ghost use Rattle.btree_edit.specs.Desk.{IsDeskOf};
+ghost use Rattle.btree_edit.specs.Desk.{IsDeskOf, HasKey};
 ghost use Rattle.btree_edit.specs.Editing.{Does, edit_writes};
 ghost use Rattle.btree_edit.specs.Halves.{record_of};
-ghost use Rattle.btree_edit.specs.Sorted.{ChangesPair, EditsTree};
-ghost use Rattle.btree_edit.specs.Swapping.{HasRecord, SwapsRecord, HasValueOf, IsLeafWritten, ChangesLeafAlone};
+ghost use Rattle.btree_edit.specs.LevelEdit.{node_room};
+ghost use Rattle.btree_edit.specs.Sorted.{ChangesPair, ReplacesPair, KeepsFreeNodes, EditsTree};
+ghost use Rattle.btree_edit.specs.Swapping.{HasRecord, SwapsRecord, HasValueOf, IsStoredKey, IsLeafWritten, ChangesLeafAlone};
 ghost use Rattle.btree_edit.specs.Answers.{AnswersRemove};
 
+use crate::climbing::rebuild;
 use crate::desk::Desk;
-use crate::edits::{Removed, change};
+use crate::edits::{Removed, total_of};
 use crate::finding::{Found, find};
 use crate::search::read_node;
-use btree_node::{KeyOrder, NodeStore, TreeShape};
+use crate::tracing::trace;
+use btree_node::{KeyOrder, NodeStore};
 use hx_bytes::Failed;
-
-/// How many nodes a tree's file has.
-fn total_of(shape: &TreeShape) -> u32
-    ensures { result ≡ shape.now.total }
-{
-    shape.total
-}
 
 /// Gives the pair with a key another value; its key stays as it stands in the tree.
 pub fn replace<N: NodeStore, K: KeyOrder>(
@@ -33,17 +29,23 @@ pub fn replace<N: NodeStore, K: KeyOrder>(
     requires desk { IsDeskOf (N.state store.old).shape.node_size desk.old }
     requires key { K.is_key key.now }
     requires tree { IsTrue (N.state store.old).tells → IsTree K.is_key K.cmp (N.state store.old) }
+    // The node size is one that the format allows the tree: three index records with the longest keys fit.
+    requires wide { IsTrue (N.state store.old).tells → 3 * (K.MAX + 8) ≤ node_room (N.state store.old).shape.node_size }
     requires short { length key.now + length value.now ≤ (N.state store.old).shape.node_size / 2 - 10 }
     // A value of the length of the old one wants no free node, and one write at most.
+    requires depth { HasValueOf K.cmp key.now (length value.now) (N.state store.old) ⊎ ((N.state store.old).shape.depth ≤ 11) }
     requires free { HasValueOf K.cmp key.now (length value.now) (N.state store.old) ⊎ ((N.state store.old).shape.depth + 1 ≤ (N.state store.old).shape.free) }
     requires room { (HasValueOf K.cmp key.now (length value.now) (N.state store.old) × (HasRoom 1 (N.state store.old) ⊎ IsLeafWritten K.cmp key.now (N.state store.old)))
         ⊎ HasRoom (edit_writes (N.state store.old).shape.depth) (N.state store.old) }
     // Absent exactly where the tree doesn't have the key.
     ensures answer { IsTrue (N.state store.old).tells → IfOk result (λ answer. AnswersRemove K.cmp key.now (N.state store.old) answer) }
-    // With a value of the length of the old one the pairs are the sorted list with that value changed, in a tree.
-    ensures changes { HasValueOf K.cmp key.now (length value.now) (N.state store.old)
-        → OnOk result (EditsTree K.is_key K.cmp (N.state store.old) (N.state store.new) (λ before after. ChangesPair K.cmp key.now value.now before after)) }
-    // Then the leaf alone is changed, by one write, and the shape stays.
+    // The pairs are the sorted list with that one value changed.
+    ensures pairs { IsTrue (N.state store.old).tells → IfOk result (λ answer. ReplacesPair K.cmp key.now value.now (pairs_of (N.state store.old)) (pairs_of (N.state store.new)) answer) }
+    // They keep the rules of a tree.
+    ensures tree { IsTrue (N.state store.old).tells → OnOk result (IsTree K.is_key K.cmp (N.state store.new)) }
+    // Nodes that aren't the tree's stay as they were.
+    ensures others { IsTrue (N.state store.old).tells → OnOk result (KeepsFreeNodes (N.state store.old) (N.state store.new)) }
+    // A value of the length of the old one changes the leaf alone, by one write, and keeps the shape.
     ensures alone { HasValueOf K.cmp key.now (length value.now) (N.state store.old) → OnOk result (ChangesLeafAlone K.cmp key.now (N.state store.old) (N.state store.new)) }
     ensures once { HasValueOf K.cmp key.now (length value.now) (N.state store.old) → Does 1 0 (N.state store.old) (N.state store.new) }
     ensures kept { HasValueOf K.cmp key.now (length value.now) (N.state store.old) → (N.state store.new).shape ≡ (N.state store.old).shape }
@@ -69,6 +71,8 @@ fn put_value(desk: &mut Desk, value: &[u8])
     ensures node { desk.new.node ≡ desk.old.node }
     ensures other { desk.new.other ≡ desk.old.other }
     ensures held { desk.new.held ≡ desk.old.held }
+    ensures key { length desk.old.held.key + length value.now ≤ desk.old.first.room → desk.new.first.key ≡ desk.old.held.key }
+    ensures value { length desk.old.held.key + length value.now ≤ desk.old.first.room → desk.new.first.value ≡ value.now }
     ensures first { length desk.old.held.key + length value.now ≤ desk.old.first.room → record_of desk.new.first ≡ desk.old.held.key ++ value.now }
     ensures room { desk.new.first.room ≡ desk.old.first.room }
     ensures second { desk.new.second ≡ desk.old.second }
@@ -111,6 +115,41 @@ fn swap_value<N: NodeStore>(
     Ok(())
 }
 
+/// Puts the pair on the desk in the place of the one with its key, which the tree has.
+fn change_value<N: NodeStore, K: KeyOrder>(
+    store: &mut N,
+    desk: &mut Desk,
+    key: &[u8],
+) -> Result<(), Failed>
+    requires desk { IsDeskOf (N.state store.old).shape.node_size desk.old }
+    requires key { K.is_key key.now }
+    requires tree { IsTrue (N.state store.old).tells → IsTree K.is_key K.cmp (N.state store.old) }
+    requires depth { (N.state store.old).shape.depth ≤ 11 }
+    requires free { (N.state store.old).shape.depth + 1 ≤ (N.state store.old).shape.free }
+    requires room { HasRoom (edit_writes (N.state store.old).shape.depth) (N.state store.old) }
+    ensures changes { IsTrue (N.state store.old).tells → 3 * (K.MAX + 8) ≤ node_room (N.state store.old).shape.node_size → HasKey K.cmp key.now (pairs_of (N.state store.old))
+        → length (record_of desk.old.first) ≤ (N.state store.old).shape.node_size / 2 - 10 → IsStoredKey K.cmp key.now (N.state store.old) desk.old.first.key
+        → OnOk result (EditsTree K.is_key K.cmp (N.state store.old) (N.state store.new) (λ before after. ChangesPair K.cmp key.now desk.old.first.value before after)) }
+    ensures desk { IsDeskOf (N.state store.old).shape.node_size desk.new }
+    ensures depth { OnOk result ((N.state store.new).shape.depth ≤ (N.state store.old).shape.depth + 1) }
+    ensures does { Does (edit_writes (N.state store.old).shape.depth) ((N.state store.old).shape.depth + 1) (N.state store.old) (N.state store.new) }
+    ensures cause { HasCause (N.state store.old).faults (N.state store.new).faults result }
+    ensures below { N.follows store.old store.new }
+{
+    let mut shape = store.shape();
+    let _total = total_of(&shape);
+    if !trace::<N, K>(store, desk, key)? {
+        return Ok(());
+    }
+    let at = desk.path[(shape.depth - 1) as usize].at;
+    if at == 0 {
+        return Ok(());
+    }
+    let spare = shape.depth as u32 + 1;
+    let records = shape.leaf_records;
+    rebuild::<N, K>(store, desk, &mut shape, at - 1, true, 1, spare, records)
+}
+
 /// Gives the pair on the desk, which stands in this leaf, another value: in the leaf alone where the lengths are the same.
 fn give_value<N: NodeStore, K: KeyOrder>(
     store: &mut N,
@@ -123,11 +162,16 @@ fn give_value<N: NodeStore, K: KeyOrder>(
     requires desk { IsDeskOf (N.state store.old).shape.node_size desk.old }
     requires key { K.is_key key.now }
     requires tree { IsTrue (N.state store.old).tells → IsTree K.is_key K.cmp (N.state store.old) }
+    requires depth { length value.now ≢ length desk.old.held.value → (N.state store.old).shape.depth ≤ 11 }
     requires free { length value.now ≢ length desk.old.held.value → (N.state store.old).shape.depth + 1 ≤ (N.state store.old).shape.free }
     requires once { length value.now ≡ length desk.old.held.value → HasRoom 1 (N.state store.old) ⊎ IsTrue ((N.state store.old).written node) }
     requires room { length value.now ≢ length desk.old.held.value → HasRoom (edit_writes (N.state store.old).shape.depth) (N.state store.old) }
     ensures swaps { length value.now ≡ length desk.old.held.value → IsTrue (N.state store.old).tells → HasRecord (N.state store.old) node index (length (desk.old.held.key ++ value.now))
         → OnOk result (SwapsRecord node index (desk.old.held.key ++ value.now) (N.state store.old) (N.state store.new)) }
+    ensures changes { length value.now ≢ length desk.old.held.value → IsTrue (N.state store.old).tells → 3 * (K.MAX + 8) ≤ node_room (N.state store.old).shape.node_size
+        → HasKey K.cmp key.now (pairs_of (N.state store.old)) → length (desk.old.held.key ++ value.now) ≤ (N.state store.old).shape.node_size / 2 - 10
+        → IsStoredKey K.cmp key.now (N.state store.old) desk.old.held.key
+        → OnOk result (EditsTree K.is_key K.cmp (N.state store.old) (N.state store.new) (λ before after. ChangesPair K.cmp key.now value.now before after)) }
     ensures shape { length value.now ≡ length desk.old.held.value → (N.state store.new).shape ≡ (N.state store.old).shape }
     ensures does_one { length value.now ≡ length desk.old.held.value → Does 1 0 (N.state store.old) (N.state store.new) }
     ensures does { Does (edit_writes (N.state store.old).shape.depth) ((N.state store.old).shape.depth + 1) (N.state store.old) (N.state store.new) }
@@ -141,5 +185,5 @@ fn give_value<N: NodeStore, K: KeyOrder>(
     if same {
         return swap_value(store, desk, node, index);
     }
-    change::<N, K>(store, desk, key, index, 1, false)
+    change_value::<N, K>(store, desk, key)
 }

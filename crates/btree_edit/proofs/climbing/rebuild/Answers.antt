@@ -11,7 +11,7 @@ returns-clause-tree g c = λ tells shape_is can many low.
     let records = leaves_edited a c.args.desk.now.path c.args.at c.args.removed (records_on c.args.count c.args.desk.now) in
     c.settle.ensures.settles (same.tells ∙ tells) a (leaves_edited a c.args.desk.now.path c.args.at c.args.removed (records_on c.args.count c.args.desk.now))
     (omega (arith, can.small, same.total))
-    (elim low [ | inl none ↦ omega (arith, c.rise.ensures.kept none, c.requires.depth) | inr less ↦ omega (arith, c.rise.ensures.depth) ])
+    (elim low [ inl none ↦ omega (arith, c.rise.ensures.kept none, c.requires.depth) | inr less ↦ omega (arith, c.rise.ensures.depth) ])
     many
     (with_records g.K.KeyOrder.MAX g.met.K.KeyOrder.key_length g.met.K.KeyOrder.key_most a (g.N.NodeStore.state c.rise.new.store) (leaves_edited a c.args.desk.now.path c.args.at c.args.removed (records_on c.args.count c.args.desk.now)) c.rise.new.shape c.args.records
     (c.in_ok-rise.ensures.rises tells shape_is can))
