@@ -17,7 +17,7 @@ use Rattle.btree_edit.specs.LevelEdit.{bit, node_room}
 use Rattle.btree_edit.specs.Reading.{LeadsTo, IsPlace}
 use Rattle.btree_edit.specs.Way.{stop_at, way_place, IsWay, LeadsWay}
 use Rattle.btree_edit.specs.Rising.{leaf_start, leaves_edited, AreOfOneLength, CanClimb, MakesTree}
-use Rattle.btree_edit.specs.Sorted.{AddsPair, DropsPair, ChangesPair}
+use Rattle.btree_edit.specs.Sorted.{AddsPair, DropsPair, ChangesPair, HoldsKeyOf}
 use Rattle.btree_edit.specs.declared.desk.Stop.{Stop}
 use Rattle.btree_edit.proofs.Pairs.{key_of_joined, value_of_joined}
 use Rattle.btree_edit.proofs.Descent.{of_level, in_level, leads_absent, pairs_are, pair_at, pairs_long}
@@ -224,6 +224,30 @@ module _ (is_key : List ℕ → Type 0) (cmp : List ℕ → List ℕ → Orderin
         long_is,
         high,
       )
+
+      -- a pair with the key is the one that was found
+      same_place : (k r : ℕ) → k < length (entries_of s (s.shape.depth - 1)) → r < length (entries_of s (s.shape.depth - 1))
+          → cmp (key_of (get_or (entries_of s (s.shape.depth - 1)) k [])) key ≡ Equal → cmp (key_of (get_or (entries_of s (s.shape.depth - 1)) r [])) key ≡ Equal → k < r → ⊥
+      same_place k r first second equal_k equal_r less =
+          let both : cmp (key_of (get_or (entries_of s (s.shape.depth - 1)) k [])) (key_of (get_or (entries_of s (s.shape.depth - 1)) r [])) ≡ cmp key (key_of (get_or (entries_of s (s.shape.depth - 1)) r [])) =
+          total.congr (key_of (get_or (entries_of s (s.shape.depth - 1)) k [])) key (key_of (get_or (entries_of s (s.shape.depth - 1)) r [])) equal_k in
+          let turned : cmp key (key_of (get_or (entries_of s (s.shape.depth - 1)) r [])) ≡ Equal = total.antisymm key (key_of (get_or (entries_of s (s.shape.depth - 1)) r [])) ∙ ap ordering_reverse equal_r in
+          let lesser : cmp (key_of (get_or (entries_of s (s.shape.depth - 1)) k [])) (key_of (get_or (entries_of s (s.shape.depth - 1)) r [])) ≡ Less = ascends k r less second in
+          let clash : Less ≡ Equal = sym lesser ∙ both ∙ turned in cc
+
+      pub own_key_is : (own : List ℕ) → HoldsKeyOf cmp key s own → own ≡ key_of (get_or (items (s.nodes (stop_at path (s.shape.depth - 1)).node)) ((stop_at path (s.shape.depth - 1)).at - 1) [])
+      own_key_is own (k, inside, equal, is) =
+          let low_k : k < length (entries_of s (s.shape.depth - 1)) = omega (arith, inside, long_is) in
+          let equal_k : cmp (key_of (get_or (entries_of s (s.shape.depth - 1)) k [])) key ≡ Equal = ap (λ (p : Pair). cmp p.0 key) (sym (pair_is k low_k)) ∙ equal in
+          let equal_r : cmp (key_of (get_or (entries_of s (s.shape.depth - 1)) (leaf_start s path + ((stop_at path (s.shape.depth - 1)).at - 1)) [])) key ≡ Equal = ap (λ l. cmp (key_of l) key) record_is ∙ found.1 in
+          let here : k ≡ leaf_start s path + ((stop_at path (s.shape.depth - 1)).at - 1) = elim (cases_lt k (leaf_start s path + ((stop_at path (s.shape.depth - 1)).at - 1))) [
+            | inl less ↦ absurd (same_place k (leaf_start s path + ((stop_at path (s.shape.depth - 1)).at - 1)) low_k place_low equal_k equal_r less)
+            | inr not_less ↦ elim (cases_lt (leaf_start s path + ((stop_at path (s.shape.depth - 1)).at - 1)) k) [
+              | inl more ↦ absurd (same_place (leaf_start s path + ((stop_at path (s.shape.depth - 1)).at - 1)) k place_low low_k equal_r equal_k more)
+              | inr not_more ↦ omega arith
+            ]
+          ] in
+          is ∙ ap (λ i. (get_or (pairs_of s) i ([], [])).0) here ∙ ap (λ (p : Pair). p.0) pair_found
 
       -- the key's own record with another value
       module _ (own value : List ℕ) (own_is : own ≡ key_of (get_or (items (s.nodes (stop_at path (s.shape.depth - 1)).node)) ((stop_at path (s.shape.depth - 1)).at - 1) [])) (short : length (own ++ value) ≤ s.shape.node_size / 2 - 10) where

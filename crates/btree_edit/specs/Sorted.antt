@@ -56,3 +56,8 @@ pub record EditsTree (is_key : List ℕ → Type 0) (cmp : List ℕ → List ℕ
   pub pairs : changes (pairs_of old) (pairs_of new)
   pub tree : IsTree is_key cmp new
   pub others : KeepsFreeNodes old new
+
+-- this is the key, as the tree has it, of the pair with a key
+abbrev pub HoldsKeyOf : (List ℕ → List ℕ → Ordering) → List ℕ → Store → List ℕ → Type 0
+HoldsKeyOf cmp key store own =
+    (k : ℕ) × (k < length (pairs_of store)) × (cmp (slice_index_or (pairs_of store) k ([], [])).0 key ≡ Equal) × (own ≡ (slice_index_or (pairs_of store) k ([], [])).0)

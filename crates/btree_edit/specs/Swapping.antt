@@ -30,10 +30,6 @@ pub record HasValueOf (cmp : List ℕ → List ℕ → Ordering) (key : List ℕ
   pub equal : cmp (slice_index_or (pairs_of store) place ([], [])).0 key ≡ Equal
   pub long : length (slice_index_or (pairs_of store) place ([], [])).1 ≡ size
 
--- this is the key as the tree has it
-abbrev pub IsStoredKey : (List ℕ → List ℕ → Ordering) → List ℕ → Store → List ℕ → Type 0
-IsStoredKey cmp key store own = (place : ℕ) → place < length (pairs_of store) → cmp (slice_index_or (pairs_of store) place ([], [])).0 key ≡ Equal → own ≡ (slice_index_or (pairs_of store) place ([], [])).0
-
 -- the leaf with the pair of this key was written since the last commit
 abbrev pub IsLeafWritten : (List ℕ → List ℕ → Ordering) → List ℕ → Store → Type 0
 IsLeafWritten cmp key store = (leaf index place : ℕ) → StandsIn store leaf index place → cmp (slice_index_or (pairs_of store) place ([], [])).0 key ≡ Equal → IsTrue (store.written leaf)

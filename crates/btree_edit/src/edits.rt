@@ -1,5 +1,5 @@
 //! Pairs added, removed and changed.
-ghost use Rattle.std.specs.Prelude.{◌≡◌, ◌≤◌, ◌<◌, ◌+◌, ◌-◌, ◌*◌, ◌/◌, ◌^◌, ◌⊎◌, ◌++◌, ◌∷◌, [], true, false, IsTrue, length, OnOk, IfOk};
+ghost use Rattle.std.specs.Prelude.{◌≡◌, ◌≤◌, ◌<◌, ◌+◌, ◌-◌, ◌*◌, ◌/◌, ◌^◌, ◌∷◌, [], true, false, IsTrue, length, OnOk, IfOk};
 ghost use Rattle.btree_node.specs.Node.{items};
 ghost use Rattle.btree_node.specs.Store.{HasRoom, HasCause};
 ghost use Rattle.btree_node.specs.Tree.{IsTree, pairs_of};
@@ -8,7 +8,7 @@ ghost use Rattle.btree_edit.specs.Editing.{Does, edit_writes};
 ghost use Rattle.btree_edit.specs.Halves.{record_of};
 ghost use Rattle.btree_edit.specs.LevelEdit.{node_room};
 ghost use Rattle.btree_edit.specs.Rising.{MakesTree, IsLeafRecord};
-ghost use Rattle.btree_edit.specs.Sorted.{AddsPair, DropsPair, InsertsPair, RemovesPair, KeepsFreeNodes, EditsTree};
+ghost use Rattle.btree_edit.specs.Sorted.{AddsPair, DropsPair, ChangesPair, HoldsKeyOf, InsertsPair, RemovesPair, KeepsFreeNodes, EditsTree};
 ghost use Rattle.btree_edit.specs.Answers.{AnswersInsert, AnswersRemove};
 
 use crate::climbing::{begin, rebuild};
@@ -34,7 +34,7 @@ pub enum Removed {
 }
 
 /// How many nodes an edit may take: none where all keys have one length.
-pub(crate) fn spare_of(fixed: bool, depth: u16) -> u32
+fn spare_of(fixed: bool, depth: u16) -> u32
     ensures none { fixed ≡ true → result ≡ 0 }
     ensures some { fixed ≡ false → result ≡ depth + 1 }
 {
@@ -230,4 +230,39 @@ pub fn remove<N: NodeStore, K: KeyOrder>(
         }
         Found::Absent => Ok(Removed::Absent),
     }
+}
+
+/// Puts the pair on the desk in the place of the pair with its key, whatever its length.
+pub(crate) fn change_pair<N: NodeStore, K: KeyOrder>(
+    store: &mut N,
+    desk: &mut Desk,
+    key: &[u8],
+) -> Result<(), Failed>
+    requires desk { IsDeskOf (N.state store.old).shape.node_size desk.old }
+    requires key { K.is_key key.now }
+    requires tree { IsTrue (N.state store.old).tells → IsTree K.is_key K.cmp (N.state store.old) }
+    requires depth { (N.state store.old).shape.depth ≤ 11 }
+    requires free { (N.state store.old).shape.depth + 1 ≤ (N.state store.old).shape.free }
+    requires room { HasRoom (edit_writes (N.state store.old).shape.depth) (N.state store.old) }
+    ensures changes { IsTrue (N.state store.old).tells → 3 * (K.MAX + 8) ≤ node_room (N.state store.old).shape.node_size
+        → HoldsKeyOf K.cmp key.now (N.state store.old) desk.old.first.key → length (record_of desk.old.first) ≤ (N.state store.old).shape.node_size / 2 - 10
+        → OnOk result (EditsTree K.is_key K.cmp (N.state store.old) (N.state store.new) (λ old new. ChangesPair K.cmp key.now desk.old.first.value old new)) }
+    ensures desk { IsDeskOf (N.state store.old).shape.node_size desk.new }
+    ensures depth { OnOk result ((N.state store.new).shape.depth ≤ (N.state store.old).shape.depth + 1) }
+    ensures does { Does (edit_writes (N.state store.old).shape.depth) ((N.state store.old).shape.depth + 1) (N.state store.old) (N.state store.new) }
+    ensures cause { HasCause (N.state store.old).faults (N.state store.new).faults result }
+    ensures below { N.follows store.old store.new }
+{
+    let mut shape = store.shape();
+    let _total = total_of(&shape);
+    if !trace::<N, K>(store, desk, key)? {
+        return Ok(());
+    }
+    let at = desk.path[(shape.depth - 1) as usize].at;
+    if at == 0 {
+        return Ok(());
+    }
+    let spare = spare_of(false, shape.depth);
+    let records = shape.leaf_records;
+    rebuild::<N, K>(store, desk, &mut shape, at - 1, true, 1, spare, records)
 }

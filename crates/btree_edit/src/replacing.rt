@@ -2,20 +2,18 @@
 ghost use Rattle.std.specs.Prelude.{◌≡◌, ◌≢◌, ◌≤◌, ◌<◌, ◌+◌, ◌-◌, ◌*◌, ◌/◌, ◌⊎◌, ◌++◌, IsTrue, length, OnOk, IfOk};
 ghost use Rattle.btree_node.specs.Store.{HasRoom, HasCause};
 ghost use Rattle.btree_node.specs.Tree.{IsTree, pairs_of};
-ghost use Rattle.btree_edit.specs.Desk.{IsDeskOf, HasKey};
+ghost use Rattle.btree_edit.specs.Desk.{IsDeskOf};
 ghost use Rattle.btree_edit.specs.Editing.{Does, edit_writes};
 ghost use Rattle.btree_edit.specs.Halves.{record_of};
 ghost use Rattle.btree_edit.specs.LevelEdit.{node_room};
-ghost use Rattle.btree_edit.specs.Sorted.{ChangesPair, ReplacesPair, KeepsFreeNodes, EditsTree};
-ghost use Rattle.btree_edit.specs.Swapping.{HasRecord, SwapsRecord, HasValueOf, IsStoredKey, IsLeafWritten, ChangesLeafAlone};
+ghost use Rattle.btree_edit.specs.Sorted.{HoldsKeyOf, ChangesPair, ReplacesPair, KeepsFreeNodes, EditsTree};
+ghost use Rattle.btree_edit.specs.Swapping.{HasRecord, SwapsRecord, HasValueOf, IsLeafWritten, ChangesLeafAlone};
 ghost use Rattle.btree_edit.specs.Answers.{AnswersRemove};
 
-use crate::climbing::rebuild;
 use crate::desk::Desk;
-use crate::edits::{Removed, total_of};
+use crate::edits::{Removed, change_pair, total_of};
 use crate::finding::{Found, find};
 use crate::search::read_node;
-use crate::tracing::trace;
 use btree_node::{KeyOrder, NodeStore};
 use hx_bytes::Failed;
 
@@ -115,41 +113,6 @@ fn swap_value<N: NodeStore>(
     Ok(())
 }
 
-/// Puts the pair on the desk in the place of the one with its key, which the tree has.
-fn change_value<N: NodeStore, K: KeyOrder>(
-    store: &mut N,
-    desk: &mut Desk,
-    key: &[u8],
-) -> Result<(), Failed>
-    requires desk { IsDeskOf (N.state store.old).shape.node_size desk.old }
-    requires key { K.is_key key.now }
-    requires tree { IsTrue (N.state store.old).tells → IsTree K.is_key K.cmp (N.state store.old) }
-    requires depth { (N.state store.old).shape.depth ≤ 11 }
-    requires free { (N.state store.old).shape.depth + 1 ≤ (N.state store.old).shape.free }
-    requires room { HasRoom (edit_writes (N.state store.old).shape.depth) (N.state store.old) }
-    ensures changes { IsTrue (N.state store.old).tells → 3 * (K.MAX + 8) ≤ node_room (N.state store.old).shape.node_size → HasKey K.cmp key.now (pairs_of (N.state store.old))
-        → length (record_of desk.old.first) ≤ (N.state store.old).shape.node_size / 2 - 10 → IsStoredKey K.cmp key.now (N.state store.old) desk.old.first.key
-        → OnOk result (EditsTree K.is_key K.cmp (N.state store.old) (N.state store.new) (λ before after. ChangesPair K.cmp key.now desk.old.first.value before after)) }
-    ensures desk { IsDeskOf (N.state store.old).shape.node_size desk.new }
-    ensures depth { OnOk result ((N.state store.new).shape.depth ≤ (N.state store.old).shape.depth + 1) }
-    ensures does { Does (edit_writes (N.state store.old).shape.depth) ((N.state store.old).shape.depth + 1) (N.state store.old) (N.state store.new) }
-    ensures cause { HasCause (N.state store.old).faults (N.state store.new).faults result }
-    ensures below { N.follows store.old store.new }
-{
-    let mut shape = store.shape();
-    let _total = total_of(&shape);
-    if !trace::<N, K>(store, desk, key)? {
-        return Ok(());
-    }
-    let at = desk.path[(shape.depth - 1) as usize].at;
-    if at == 0 {
-        return Ok(());
-    }
-    let spare = shape.depth as u32 + 1;
-    let records = shape.leaf_records;
-    rebuild::<N, K>(store, desk, &mut shape, at - 1, true, 1, spare, records)
-}
-
 /// Gives the pair on the desk, which stands in this leaf, another value: in the leaf alone where the lengths are the same.
 fn give_value<N: NodeStore, K: KeyOrder>(
     store: &mut N,
@@ -169,8 +132,8 @@ fn give_value<N: NodeStore, K: KeyOrder>(
     ensures swaps { length value.now ≡ length desk.old.held.value → IsTrue (N.state store.old).tells → HasRecord (N.state store.old) node index (length (desk.old.held.key ++ value.now))
         → OnOk result (SwapsRecord node index (desk.old.held.key ++ value.now) (N.state store.old) (N.state store.new)) }
     ensures changes { length value.now ≢ length desk.old.held.value → IsTrue (N.state store.old).tells → 3 * (K.MAX + 8) ≤ node_room (N.state store.old).shape.node_size
-        → HasKey K.cmp key.now (pairs_of (N.state store.old)) → length (desk.old.held.key ++ value.now) ≤ (N.state store.old).shape.node_size / 2 - 10
-        → IsStoredKey K.cmp key.now (N.state store.old) desk.old.held.key
+        → length (desk.old.held.key ++ value.now) ≤ (N.state store.old).shape.node_size / 2 - 10
+        → HoldsKeyOf K.cmp key.now (N.state store.old) desk.old.held.key
         → OnOk result (EditsTree K.is_key K.cmp (N.state store.old) (N.state store.new) (λ before after. ChangesPair K.cmp key.now value.now before after)) }
     ensures shape { length value.now ≡ length desk.old.held.value → (N.state store.new).shape ≡ (N.state store.old).shape }
     ensures does_one { length value.now ≡ length desk.old.held.value → Does 1 0 (N.state store.old) (N.state store.new) }
@@ -185,5 +148,5 @@ fn give_value<N: NodeStore, K: KeyOrder>(
     if same {
         return swap_value(store, desk, node, index);
     }
-    change_value::<N, K>(store, desk, key)
+    change_pair::<N, K>(store, desk, key)
 }

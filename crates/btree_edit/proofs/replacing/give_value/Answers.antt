@@ -17,11 +17,11 @@ returns-then-same-clause-swaps g c = λ size tells has.
     (c.swap_value.ensures.swaps tells (subst (λ b. HasRecord s c.args.node c.args.index (length b)) (sym first_is) has))
 
 pub returns-clause-changes : goal.returns-clause-changes
-returns-clause-changes g c = λ other tells wide has short stored.
+returns-clause-changes g c = λ other tells wide short stored.
     let s = g.N.NodeStore.state c.args.store.now in
-    let t = g.N.NodeStore.state c.change_value.new.store in
+    let t = g.N.NodeStore.state c.change_pair.new.store in
     let fits : length c.args.desk.now.held.key + length c.args.value.now ≤ c.args.desk.now.first.room =
     omega (arith, short, length-append c.args.desk.now.held.key c.args.value.now, c.requires.desk.first) in
     let first_is = c.put_value.ensures.first fits in
-    subst (λ v. OnOk c.change_value.result (EditsTree g.K.KeyOrder.is_key g.K.KeyOrder.cmp s t (λ before after. ChangesPair g.K.KeyOrder.cmp c.args.key.now v before after))) (c.put_value.ensures.value fits)
-    (c.change_value.ensures.changes tells wide has (omega (arith, short, ap length first_is)) (λ place inside equal. c.put_value.ensures.key fits ∙ stored place inside equal))
+    subst (λ v. OnOk c.change_pair.result (EditsTree g.K.KeyOrder.is_key g.K.KeyOrder.cmp s t (λ before after. ChangesPair g.K.KeyOrder.cmp c.args.key.now v before after))) (c.put_value.ensures.value fits)
+    (c.change_pair.ensures.changes tells wide (stored.0, stored.1, stored.2, c.put_value.ensures.key fits ∙ stored.3) (omega (arith, short, ap length first_is)))

@@ -6,9 +6,8 @@ use Rattle.btree_node.specs.Levels.{Pair}
 use Rattle.btree_node.specs.Tree.{pairs_of}
 use Rattle.btree_edit.specs.LevelEdit.{node_room}
 use Rattle.btree_edit.specs.Sorted.{ChangesPair, EditsTree}
-use Rattle.btree_edit.specs.Editing.{Does}
-use Rattle.btree_edit.specs.Swapping.{SwapsRecord, IsStoredKey}
-use Rattle.btree_edit.specs.Desk.{Finds, HasKey}
+use Rattle.btree_edit.specs.Editing.{Does, edit_writes}
+use Rattle.btree_edit.specs.Swapping.{SwapsRecord}
 use Rattle.btree_edit.proofs.Crowning.{tree_kept}
 use Rattle.btree_edit.proofs.Doing.{does_both, does_read}
 use Rattle.btree_edit.proofs.Swaps.{is_found, found_key, found_size, has_record, value_swapped, key_once}
@@ -211,13 +210,11 @@ edits_found g c tells =
           let wide : 3 * (g.K.KeyOrder.MAX + 8) ≤ node_room m.shape.node_size = subst (λ n. 3 * (g.K.KeyOrder.MAX + 8) ≤ node_room n) (sym reads.same.node_size) (c.requires.wide tells) in
           let short : length (c.find.new.desk.held.key ++ c.args.value.now) ≤ m.shape.node_size / 2 - 10 =
           subst (λ n. length (c.find.new.desk.held.key ++ c.args.value.now) ≤ n / 2 - 10) (sym reads.same.node_size) (omega (arith, long, c.requires.short, length-append c.find.new.desk.held.key c.args.value.now)) in
-          let has : HasKey cmp key (pairs_of m) = subst (λ l. HasKey cmp key l) (sym same_pairs) (found.k, found.holds.inside, equal) in
-          let stored : IsStoredKey cmp key s c.find.new.desk.held.key = λ place inside is.
-          found.holds.key ∙ ap (λ n. (get_or (pairs_of s) n ([], [])).0) (key_once g.met.K.KeyOrder.total g.met.K.KeyOrder.key_length s tree key found.stands.some found.k place found.holds.inside inside equal is) in
-          let stored_m : IsStoredKey cmp key m c.find.new.desk.held.key = λ place inside is.
-          stored place (omega (arith, inside, ap length same_pairs)) (ap (λ (l : List Pair). cmp (get_or l place ([], [])).0 key) (sym same_pairs) ∙ is) ∙ ap (λ (l : List Pair). (get_or l place ([], [])).0) (sym same_pairs) in
+          let inside : found.k < length (pairs_of m) = omega (arith, found.holds.inside, ap length same_pairs) in
+          let equal_m : cmp (get_or (pairs_of m) found.k ([], [])).0 key ≡ Equal = ap (λ (l : List Pair). cmp (get_or l found.k ([], [])).0 key) same_pairs ∙ equal in
+          let stored : c.find.new.desk.held.key ≡ (get_or (pairs_of m) found.k ([], [])).0 = found.holds.key ∙ ap (λ (l : List Pair). (get_or l found.k ([], [])).0) (sym same_pairs) in
           edits_read g.met.K.KeyOrder.key_length s.shape.depth s m reads tells small tree t (λ before after. ChangesPair cmp key c.args.value.now before after)
-          (c.in_ok-give_value-in-At.ensures.changes other (subst (λ b. IsTrue b) (sym reads.same.tells) tells) wide has short stored_m)
+          (c.in_ok-give_value-in-At.ensures.changes other (subst (λ b. IsTrue b) (sym reads.same.tells) tells) wide short (found.k, inside, equal_m, stored))
     ]
 
 pub returns-in_ok-give_value-in-At-clause-pairs : goal.returns-in_ok-give_value-in-At-clause-pairs
@@ -240,3 +237,21 @@ returns-in-Absent-clause-tree g c = λ tells.
     let s = g.N.NodeStore.state c.args.store.now in
     let small : s.shape.total ≤ 2 ^ 32 = omega (arith, ap (λ h. h.total) c.shape-shape.ensures, c.total_of-total.ensures, c.total_of-total.type_inv) in
     read_tree g.met.K.KeyOrder.key_length s.shape.depth s (g.N.NodeStore.state c.find.new.store) c.find.ensures.reads tells small (c.requires.tree tells)
+
+pub returns-in_err-give_value-in-At-clause-does : goal.returns-in_err-give_value-in-At-clause-does
+returns-in_err-give_value-in-At-clause-does g c =
+    let s = g.N.NodeStore.state c.args.store.now in
+    let m = g.N.NodeStore.state c.find.new.store in
+    let reads = c.find.ensures.reads in
+    let depth : m.shape.depth ≡ s.shape.depth = ap (λ h. h.depth) reads.shape in
+    subst (λ d. Does (edit_writes d) (d + 1) s (g.N.NodeStore.state c.give_value.new.store)) depth
+    (does_both 0 0 (edit_writes m.shape.depth) (m.shape.depth + 1) (edit_writes m.shape.depth) (m.shape.depth + 1) (does_read s.shape.depth reads c.find.ensures.cause.later) c.give_value.ensures.does (omega arith) (omega arith))
+
+pub returns-in_ok-give_value-in-At-clause-does : goal.returns-in_ok-give_value-in-At-clause-does
+returns-in_ok-give_value-in-At-clause-does g c =
+    let s = g.N.NodeStore.state c.args.store.now in
+    let m = g.N.NodeStore.state c.find.new.store in
+    let reads = c.find.ensures.reads in
+    let depth : m.shape.depth ≡ s.shape.depth = ap (λ h. h.depth) reads.shape in
+    subst (λ d. Does (edit_writes d) (d + 1) s (g.N.NodeStore.state c.give_value.new.store)) depth
+    (does_both 0 0 (edit_writes m.shape.depth) (m.shape.depth + 1) (edit_writes m.shape.depth) (m.shape.depth + 1) (does_read s.shape.depth reads c.find.ensures.cause.later) c.give_value.ensures.does (omega arith) (omega arith))
