@@ -173,7 +173,10 @@ module _ (is_key : List ℕ → Type 0) (cmp : List ℕ → List ℕ → Orderin
       pub pair_found : get_or (pairs_of s) (leaf_start s path + ((stop_at path (s.shape.depth - 1)).at - 1)) ([], []) ≡ pair_of (get_or (items (s.nodes (stop_at path (s.shape.depth - 1)).node)) ((stop_at path (s.shape.depth - 1)).at - 1) [])
       pair_found = pair_is (leaf_start s path + ((stop_at path (s.shape.depth - 1)).at - 1)) place_low ∙ ap pair_of record_is
 
-      equal_is : cmp (get_or (pairs_of s) (leaf_start s path + ((stop_at path (s.shape.depth - 1)).at - 1)) ([], [])).0 key ≡ Equal
+      pub pair_inside : leaf_start s path + ((stop_at path (s.shape.depth - 1)).at - 1) < length (pairs_of s)
+      pair_inside = omega (arith, place_low, long_is)
+
+      pub equal_is : cmp (get_or (pairs_of s) (leaf_start s path + ((stop_at path (s.shape.depth - 1)).at - 1)) ([], [])).0 key ≡ Equal
       equal_is = ap (λ (p : Pair). cmp p.0 key) pair_found ∙ found.1
 
       end_is : leaf_start s path + ((stop_at path (s.shape.depth - 1)).at - 1 + 1) ≡ leaf_start s path + ((stop_at path (s.shape.depth - 1)).at - 1) + 1

@@ -1,5 +1,5 @@
 //! Pairs added, removed and changed.
-ghost use Rattle.std.specs.Prelude.{◌≡◌, ◌≤◌, ◌<◌, ◌+◌, ◌-◌, ◌*◌, ◌/◌, ◌^◌, ◌⊎◌, ◌++◌, ◌∷◌, [], true, false, IsTrue, length, OnOk, IfOk};
+ghost use Rattle.std.specs.Prelude.{◌≡◌, ◌≤◌, ◌<◌, ◌+◌, ◌-◌, ◌*◌, ◌/◌, ◌^◌, ◌∷◌, [], true, false, IsTrue, length, OnOk, IfOk};
 ghost use Rattle.btree_node.specs.Node.{items};
 ghost use Rattle.btree_node.specs.Store.{HasRoom, HasCause};
 ghost use Rattle.btree_node.specs.Tree.{IsTree, pairs_of};
@@ -9,7 +9,6 @@ ghost use Rattle.btree_edit.specs.Halves.{record_of};
 ghost use Rattle.btree_edit.specs.LevelEdit.{node_room};
 ghost use Rattle.btree_edit.specs.Rising.{BoundsRoot, MakesTree, IsLeafRecord};
 ghost use Rattle.btree_edit.specs.Sorted.{AddsPair, DropsPair, ChangesPair, HoldsKeyOf, InsertsPair, RemovesPair, KeepsFreeNodes, EditsTree};
-ghost use Rattle.btree_edit.specs.Swapping.{HasRecord, SwapsRecord};
 ghost use Rattle.btree_edit.specs.Answers.{AnswersInsert, AnswersRemove};
 
 use crate::climbing::{begin, rebuild};
@@ -43,7 +42,7 @@ fn spare_of(fixed: bool, depth: u16) -> u32
 }
 
 /// How many nodes a tree's file has.
-fn total_of(shape: &TreeShape) -> u32
+pub(crate) fn total_of(shape: &TreeShape) -> u32
     ensures { result ≡ shape.now.total }
 {
     shape.total
@@ -280,113 +279,4 @@ pub(crate) fn change_pair<N: NodeStore, K: KeyOrder>(
     let spare = spare_of(false, shape.depth);
     let records = shape.leaf_records;
     rebuild::<N, K>(store, desk, &mut shape, at - 1, true, 1, spare, records)
-}
-
-/// Gives the pair with a key another value; its key stays as it stands in the tree.
-pub fn replace<N: NodeStore, K: KeyOrder>(
-    store: &mut N,
-    desk: &mut Desk,
-    key: &[u8],
-    value: &[u8],
-) -> Result<Removed, Failed>
-    requires desk { IsDeskOf (N.state store.old).shape.node_size desk.old }
-    requires key { K.is_key key.now }
-    requires tree { IsTrue (N.state store.old).tells → IsTree K.is_key K.cmp (N.state store.old) }
-    requires short { length key.now + length value.now ≤ (N.state store.old).shape.node_size / 2 - 10 }
-    requires free { (N.state store.old).shape.depth + 1 ≤ (N.state store.old).shape.free }
-    requires room { HasRoom (edit_writes (N.state store.old).shape.depth) (N.state store.old) }
-    // Absent exactly where the tree doesn't have the key.
-    ensures answer { IsTrue (N.state store.old).tells → IfOk result (λ answer. AnswersRemove K.cmp key.now (N.state store.old) answer) }
-    ensures desk { IsDeskOf (N.state store.old).shape.node_size desk.new }
-    ensures depth { OnOk result ((N.state store.new).shape.depth ≤ (N.state store.old).shape.depth + 1) }
-    ensures does { Does (edit_writes (N.state store.old).shape.depth) ((N.state store.old).shape.depth + 1) (N.state store.old) (N.state store.new) }
-    ensures cause { HasCause (N.state store.old).faults (N.state store.new).faults result }
-    ensures below { N.follows store.old store.new }
-{
-    let shape = store.shape();
-    let _total = total_of(&shape);
-    match find::<N, K>(store, desk, key)? {
-        Found::At { node, index } => {
-            let same = value.len() == desk.value().len();
-            put_value(desk, value);
-            give_value::<N, K>(store, desk, key, node, index, same)?;
-            Ok(Removed::Done)
-        }
-        Found::Absent => Ok(Removed::Absent),
-    }
-}
-
-/// Keeps the key of the pair that was found, with another value.
-fn put_value(desk: &mut Desk, value: &[u8])
-    ensures node { desk.new.node ≡ desk.old.node }
-    ensures other { desk.new.other ≡ desk.old.other }
-    ensures held { desk.new.held ≡ desk.old.held }
-    ensures first { length desk.old.held.key + length value.now ≤ desk.old.first.room → record_of desk.new.first ≡ desk.old.held.key ++ value.now }
-    ensures room { desk.new.first.room ≡ desk.old.first.room }
-    ensures second { desk.new.second ≡ desk.old.second }
-    ensures path { desk.new.path ≡ desk.old.path }
-{
-    let key = desk.held.key();
-    if key.len() <= desk.first.room()
-        && value.len() <= desk.first.room().saturating_sub(key.len())
-    {
-        desk.first.put(key, value);
-    }
-}
-
-/// Puts the pair on the desk in the place of a record of its length in a leaf.
-fn swap_value<N: NodeStore>(
-    store: &mut N,
-    desk: &mut Desk,
-    node: u32,
-    index: u16,
-) -> Result<(), Failed>
-    requires desk { IsDeskOf (N.state store.old).shape.node_size desk.old }
-    requires room { HasRoom 1 (N.state store.old) ⊎ IsTrue ((N.state store.old).written node) }
-    ensures swaps { IsTrue (N.state store.old).tells → HasRecord (N.state store.old) node index (length (record_of desk.old.first))
-        → OnOk result (SwapsRecord node index (record_of desk.old.first) (N.state store.old) (N.state store.new)) }
-    ensures desk { IsDeskOf (N.state store.old).shape.node_size desk.new }
-    ensures shape { (N.state store.new).shape ≡ (N.state store.old).shape }
-    ensures does { Does 1 0 (N.state store.old) (N.state store.new) }
-    ensures cause { HasCause (N.state store.old).faults (N.state store.new).faults result }
-    ensures below { N.follows store.old store.new }
-{
-    if !read_node(store, &mut desk.node, node, 1)? || index >= desk.node.count() {
-        return Ok(());
-    }
-    if desk.first.size() > desk.node.item(index).len() + 2 {
-        return Ok(());
-    }
-    desk.node
-        .replace(index, desk.first.key(), desk.first.value());
-    store.save(node, &desk.node);
-    Ok(())
-}
-
-/// Puts the pair on the desk in the place of the record with its key: in the leaf alone where the lengths are the same.
-fn give_value<N: NodeStore, K: KeyOrder>(
-    store: &mut N,
-    desk: &mut Desk,
-    key: &[u8],
-    node: u32,
-    index: u16,
-    same: bool,
-) -> Result<(), Failed>
-    requires desk { IsDeskOf (N.state store.old).shape.node_size desk.old }
-    requires key { K.is_key key.now }
-    requires tree { IsTrue (N.state store.old).tells → IsTree K.is_key K.cmp (N.state store.old) }
-    requires depth { (N.state store.old).shape.depth ≤ 11 }
-    requires free { (N.state store.old).shape.depth + 1 ≤ (N.state store.old).shape.free }
-    requires room { HasRoom (edit_writes (N.state store.old).shape.depth) (N.state store.old) }
-    ensures desk { IsDeskOf (N.state store.old).shape.node_size desk.new }
-    ensures depth { OnOk result ((N.state store.new).shape.depth ≤ (N.state store.old).shape.depth + 1) }
-    ensures does { Does (edit_writes (N.state store.old).shape.depth) ((N.state store.old).shape.depth + 1) (N.state store.old) (N.state store.new) }
-    ensures cause { HasCause (N.state store.old).faults (N.state store.new).faults result }
-    ensures below { N.follows store.old store.new }
-{
-    if same {
-        swap_value(store, desk, node, index)
-    } else {
-        change_pair::<N, K>(store, desk, key)
-    }
 }

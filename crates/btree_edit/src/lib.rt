@@ -7,6 +7,7 @@ mod edits;
 mod finding;
 mod following;
 mod levels;
+mod replacing;
 mod roots;
 mod search;
 mod splitting;
@@ -15,6 +16,7 @@ mod tests;
 mod tracing;
 
 pub use desk::Desk;
-pub use edits::{Inserted, Removed, insert, remove, replace};
+pub use edits::{Inserted, Removed, insert, remove};
 pub use finding::{Found, find};
 pub use following::next;
+pub use replacing::replace;
