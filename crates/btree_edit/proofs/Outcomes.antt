@@ -23,6 +23,10 @@ pub on_ok_then : {T E : Type 0} {P Q : Type 0} (r : Result T E) → (P → Q) �
 on_ok_then (Ok x) f h = f h
 on_ok_then (Err x) f h = h
 
+pub on_ok_both : {T E : Type 0} {P Q R : Type 0} (r : Result T E) → (P → Q → R) → OnOk r P → OnOk r Q → OnOk r R
+on_ok_both (Ok x) f p q = f p q
+on_ok_both (Err x) f p q = q
+
 module _ {is_key : List ℕ → Type 0} {cmp : List ℕ → List ℕ → Ordering} (key_length : (x : List ℕ) → is_key x → length x ≡ big_at 2 x 0 + 2)
     (most : ℕ) (a b : Store) (reads : ReadsOnly most a b) (tells : IsTrue a.tells) (small : a.shape.total ≤ 2 ^ 32) (tree : IsTree is_key cmp a)
   where

@@ -15,7 +15,7 @@ use Rattle.btree_edit.specs.Held.{HeldPair}
 use Rattle.btree_edit.specs.Halves.{record_of, put_of}
 use Rattle.btree_edit.specs.LevelEdit.{bit, times, head_or, last_or, taken, node_room, records_on}
 use Rattle.btree_edit.specs.Climb.{LevelLists, IsLevel, NoneEmpty, IsTreeBut}
-use Rattle.btree_edit.specs.Rising.{Climbs, leaf_records, Rises, IsLowering, BoundsRoot, MakesTree, IsBare, IsLeafRecord, TakesNode}
+use Rattle.btree_edit.specs.Rising.{Climbs, leaf_records, Rises, IsLowering, BoundsRoot, HasThickRoot, MakesTree, IsBare, IsLeafRecord, TakesNode}
 use Rattle.btree_edit.specs.declared.desk.Desk.{Desk}
 use Rattle.btree_edit.proofs.Counting.{bit_same, bit_other, bit_most, bit_true}
 use Rattle.btree_edit.proofs.Fitting.{taken_one, taken_two}
@@ -63,9 +63,9 @@ module _ {is_key : List ℕ → Type 0} {cmp : List ℕ → List ℕ → Orderin
     (key_length : (x : List ℕ) → is_key x → length x ≡ big_at 2 x 0 + 2) (key_most : (x : List ℕ) → is_key x → length x ≤ max + 2)
   where
     -- what two records that name nodes take
-    pub two_fit : (start s : Store) (records : List (List ℕ)) (shape : TreeShape) (left : ℕ) (desk : Desk) → Climbs is_key cmp max start s records shape 2 left desk → 0 < start.shape.depth
+    pub two_fit : (start s : Store) (records : List (List ℕ)) (shape : TreeShape) (left budget : ℕ) (desk : Desk) → Climbs is_key cmp max start s records shape 2 left desk budget → 0 < start.shape.depth
         → 3 * (max + 8) ≤ node_room s.shape.node_size → taken (put_of 2 desk.first desk.second) ≤ node_room s.shape.node_size
-    two_fit start s records shape left desk climbs some wide =
+    two_fit start s records shape left budget desk climbs some wide =
         let names : records_on 2 desk ≡ map (λ n. record_for s.nodes n) (climbs.levels 0) = climbs.handed refl in
         let level = climbs.but.each 0 some in
         let each = names_short is_key cmp key_length s.nodes (climbs.levels 0) (climbs.but.some 0 some (inr (omega arith))) level.keys (max + 2) key_most in
@@ -74,11 +74,11 @@ module _ {is_key : List ℕ → Type 0} {cmp : List ℕ → List ℕ → Orderin
         omega (arith, taken_two (max + 8) (records_on 2 desk) (omega arith) here)
 
     -- a root above two nodes
-    pub rises_raised : (start s t : Store) (records : List (List ℕ)) (shape : TreeShape) (left : ℕ) (desk : Desk) → Climbs is_key cmp max start s records shape 2 left desk → 0 < start.shape.depth
+    pub rises_raised : (start s t : Store) (records : List (List ℕ)) (shape : TreeShape) (left budget : ℕ) (desk : Desk) → Climbs is_key cmp max start s records shape 2 left desk budget → 0 < start.shape.depth
         → (node : ℕ) (bytes : List ℕ) → TakesNode s t node bytes → IsNodeOf (kind_at (shape.depth + 1)) (shape.depth + 1) bytes → length bytes ≡ s.shape.node_size
         → next_of bytes ≡ 0 → back_of bytes ≡ 0 → items bytes ≡ put_of 2 desk.first desk.second
         → Rises is_key cmp max start t records (record shape { depth = shape.depth + 1; root = node })
-    rises_raised start s t records shape left desk climbs some node bytes takes is_node size next back are =
+    rises_raised start s t records shape left budget desk climbs some node bytes takes is_node size next back are =
         let names : items bytes ≡ map (λ n. record_for s.nodes n) (climbs.levels 0) = are ∙ climbs.handed refl in
         let level = climbs.but.each 0 some in
         let none_empty = climbs.but.some 0 some (inr (omega arith)) in
@@ -152,9 +152,9 @@ module _ {is_key : List ℕ → Type 0} {cmp : List ℕ → List ℕ → Orderin
         }
 
     -- a tree whose leaves are gone
-    pub rises_emptied : (start s : Store) (records : List (List ℕ)) (shape after : TreeShape) (left : ℕ) (desk : Desk) → Climbs is_key cmp max start s records shape 0 left desk → 0 < start.shape.depth
+    pub rises_emptied : (start s : Store) (records : List (List ℕ)) (shape after : TreeShape) (left budget : ℕ) (desk : Desk) → Climbs is_key cmp max start s records shape 0 left desk budget → 0 < start.shape.depth
         → after.depth ≡ 0 → after.root ≡ 0 → after.first ≡ 0 → after.last ≡ 0 → Rises is_key cmp max start s records after
-    rises_emptied start s records shape after left desk climbs some depth root first last = record {
+    rises_emptied start s records shape after left budget desk climbs some depth root first last = record {
       levels = climbs.levels;
       but = subst (λ d. IsTreeBut is_key cmp s d climbs.levels 0 0 []) (sym depth) (emptied s start.shape.depth climbs.levels 0 [] climbs.but climbs.top);
       top = λ any. absurd (omega arith);
@@ -169,9 +169,13 @@ module _ {is_key : List ℕ → Type 0} {cmp : List ℕ → List ℕ → Orderin
     }
 
     -- a root that stays
-    pub rises_kept : (start s : Store) (records : List (List ℕ)) (shape : TreeShape) (left : ℕ) (desk : Desk) → Climbs is_key cmp max start s records shape 1 left desk → 0 < start.shape.depth
-        → IsLowering is_key cmp max start s records shape
-    rises_kept start s records shape left desk climbs some = record {
+    pub rises_kept : (start s : Store) (records : List (List ℕ)) (shape : TreeShape) (left budget : ℕ) (desk : Desk) → Climbs is_key cmp max start s records shape 1 left desk budget → 0 < start.shape.depth
+        → IsLowering is_key cmp max start s records shape (budget + 5)
+    rises_kept start s records shape left budget desk climbs some = record {
+      some = omega (arith, climbs.depth);
+      split = climbs.thrift.split;
+      twin = λ any. subst (λ n. 2 ≤ length (climbs.levels (n - climbs.thrift.split))) (sym climbs.depth) (climbs.thrift.twin any);
+      enough = omega (arith, climbs.thrift.enough, climbs.depth);
       low = omega (arith, climbs.depth);
       alone = λ j inside one. climbs.alone j (omega (arith, climbs.depth)) one;
       rises = record {
@@ -220,7 +224,7 @@ module _ {is_key : List ℕ → Type 0} {cmp : List ℕ → List ℕ → Orderin
         by_depth (suc d) all levels = all (levels d)
 
     -- a root with one record is given back
-    module _ (start s t : Store) (records : List (List ℕ)) (shape : TreeShape) (lowering : IsLowering is_key cmp max start s records shape) (deep : 1 < shape.depth) (one : length (items (s.nodes shape.root)) ≡ 1) (small : s.shape.total ≤ 2 ^ 32)
+    module _ (start s t : Store) (records : List (List ℕ)) (shape : TreeShape) (rest : ℕ) (lowering : IsLowering is_key cmp max start s records shape rest) (more : 0 < rest) (deep : 1 < shape.depth) (one : length (items (s.nodes shape.root)) ≡ 1) (small : s.shape.total ≤ 2 ^ 32)
       where
         abbrev rises : Rises is_key cmp max start s records shape
         rises = lowering.rises
@@ -237,6 +241,14 @@ module _ {is_key : List ℕ → Type 0} {cmp : List ℕ → List ℕ → Orderin
         root_at : get_or (rises.levels 0) 0 0 ≡ shape.root
         root_at = ap (λ l. get_or l 0 0) top_is
 
+        split_inside : 0 < lowering.split → shape.depth - lowering.split ≡ suc (shape.depth - 1 - lowering.split)
+        split_inside any = elim (cases_lt lowering.split shape.depth) [
+          | inl below ↦ omega arith
+          | inr past ↦
+              let top_two = lowering.twin any in
+              absurd (omega (arith, top_two, ap (λ i. length (rises.levels i)) {x = shape.depth - lowering.split} {y = 0} (omega arith), ap length top_is))
+        ]
+
         -- it may be given back
         pub root_used : s.used shape.root ≡ true
         root_used = bit_true (s.used shape.root) (omega (arith, subst (λ n. bit (s.used n) ≡ 1) root_at (is_used s shape.depth rises.levels 0 0 [] rises.but 0 0 (omega arith) (omega (arith, ap length top_is)))))
@@ -249,7 +261,7 @@ module _ {is_key : List ℕ → Type 0} {cmp : List ℕ → List ℕ → Orderin
         root_record = child_named key_length s (shape.depth - 1) rises.levels 0 [] but_root shape.root top_is (omega arith) one small
 
         pub rises_lowered : MapsOnly shape.root false s t → t.shape.node_size ≡ s.shape.node_size → t.shape.free ≡ s.shape.free + 1 → SameStore s t
-            → IsLowering is_key cmp max start t records (record shape { root = child_of (get_or (items (s.nodes shape.root)) 0 []); depth = shape.depth - 1 })
+            → IsLowering is_key cmp max start t records (record shape { root = child_of (get_or (items (s.nodes shape.root)) 0 []); depth = shape.depth - 1 }) (rest - 1)
         rises_lowered maps size free same =
             let used : (n : ℕ) → bit (t.used n) + times n (shape.root ∷ []) ≡ bit (s.used n) = λ n. elim (cases_eq n shape.root) [
               | inl is ↦ omega (arith, ap bit (ap (λ k. t.used k) is ∙ maps.here), ap bit (ap (λ k. s.used k) is ∙ root_used), bit_same shape.root n (sym is))
@@ -288,6 +300,10 @@ module _ {is_key : List ℕ → Type 0} {cmp : List ℕ → List ℕ → Orderin
                     maps.nodes n (rises.same.reserved n ∙ free_one) ∙ rises.others n free_one unused before;
               };
               low = omega (arith, lowering.low);
+              some = omega arith;
+              split = lowering.split;
+              twin = λ any. subst (λ i. 2 ≤ length (rises.levels i)) {x = shape.depth - lowering.split} (split_inside any) (lowering.twin any);
+              enough = omega (arith, lowering.enough);
               alone = λ j inside one_node. lowering.alone (suc j) (omega arith) one_node;
             }
 
@@ -339,9 +355,13 @@ module _ {is_key : List ℕ → Type 0} {cmp : List ℕ → List ℕ → Orderin
         by_depth (suc d) is =
             same_entries s.nodes t.nodes (rises.levels d) (λ k inside. ap items (only.nodes (get_or (rises.levels d) k 0) (not_reserved s shape.depth rises.levels 0 0 [] rises.but d k (omega arith) inside)))
 
-    pub lowering_read : (start s t : Store) (records : List (List ℕ)) (shape : TreeShape) → t.shape ≡ s.shape → SameNodes s t → SameStore s t → IsLowering is_key cmp max start s records shape → IsLowering is_key cmp max start t records shape
+    pub lowering_read : (start s t : Store) (records : List (List ℕ)) (shape : TreeShape) (rest : ℕ) → t.shape ≡ s.shape → SameNodes s t → SameStore s t → IsLowering is_key cmp max start s records shape rest → IsLowering is_key cmp max start t records shape rest
     unfolding rises_read
-    lowering_read start s t records shape shape_is nodes same lowering = record {
+    lowering_read start s t records shape rest shape_is nodes same lowering = record {
+      some = lowering.some;
+      split = lowering.split;
+      twin = lowering.twin;
+      enough = lowering.enough;
       rises = rises_read start s t records shape shape_is nodes same lowering.rises;
       low = lowering.low;
       alone = λ j inside one. lowering.alone j inside one;
@@ -377,3 +397,30 @@ module _ {is_key : List ℕ → Type 0} {cmp : List ℕ → List ℕ → Orderin
           two = λ any less. same (omega (arith, depth)) ∙ rises.bounds.two any (omega (arith, depth));
           over = λ deep less. rises.bounds.over deep (omega (arith, depth));
         }
+
+    -- while a root has one record, another may be given back
+    pub lowering_end : (start s : Store) (records : List (List ℕ)) (shape : TreeShape) → IsLowering is_key cmp max start s records shape 0 → ⊥
+    lowering_end start s records shape lowering =
+        let top = lowering.rises.top lowering.some in
+        let two = lowering.twin (omega (arith, lowering.enough, lowering.some)) in
+        absurd (omega (arith, two, ap (λ i. length (lowering.rises.levels i)) {x = shape.depth - lowering.split} {y = 0} (omega (arith, lowering.enough)), ap length top))
+
+    pub lowering_root : (start s : Store) (records : List (List ℕ)) (shape : TreeShape) (rest : ℕ) → IsLowering is_key cmp max start s records shape rest → IsTreeNode s shape.depth shape.root × (1 ≤ length (items (s.nodes shape.root)))
+    lowering_root start s records shape rest lowering =
+        let top = lowering.rises.top lowering.some in
+        let at : get_or (lowering.rises.levels 0) 0 0 ≡ shape.root = ap (λ l. get_or l 0 0) top in
+        let inside : 0 < length (lowering.rises.levels 0) = omega (arith, ap length top) in (
+          subst (λ h. IsTreeNode s h shape.root) {x = shape.depth - 0} (omega arith) (subst (λ n. IsTreeNode s (shape.depth - 0) n) at ((lowering.rises.but.each 0 lowering.some).nodes 0 inside)),
+          subst (λ n. 1 ≤ length (items (s.nodes n))) at (lowering.rises.but.some 0 lowering.some (inr (omega arith)) 0 inside),
+        )
+
+    pub settled_thick : (s t : Store) (start : Store) (records : List (List ℕ)) (shape : TreeShape) → Rises is_key cmp max start s records shape
+        → t.shape ≡ (record { node_size = s.shape.node_size; depth = shape.depth; root = shape.root; first = shape.first; last = shape.last; leaf_records = shape.leaf_records; total = s.shape.total; free = s.shape.free })
+        → ShapesOnly s t → HasThickRoot s shape.depth shape.root → HasThickRoot t t.shape.depth t.shape.root
+    settled_thick s t start records shape rises shape_is only thick = λ deep.
+        let depth : t.shape.depth ≡ shape.depth = ap (λ h. h.depth) shape_is in
+        let root : t.shape.root ≡ shape.root = ap (λ h. h.root) shape_is in
+        let some : 0 < shape.depth = omega (arith, depth) in
+        let top = rises.top some in
+        let unreserved : s.reserved shape.root ≡ false = subst (λ n. s.reserved n ≡ false) (ap (λ l. get_or l 0 0) top) (not_reserved s shape.depth rises.levels 0 0 [] rises.but 0 0 some (omega (arith, ap length top))) in
+        omega (arith, thick (omega (arith, depth)), ap (λ n. length (items (t.nodes n))) root, ap (λ l. length (items l)) (only.nodes shape.root unreserved))

@@ -49,8 +49,19 @@ pub record BoundsRoot (max : ℕ) (old new : Store) (depth root : ℕ) : Type 0 
   -- it comes above an index root only where one record more of the longest doesn't fit beside as many of them as there are
   pub over : 1 < old.shape.depth → old.shape.depth < depth → node_room old.shape.node_size < (max + 8) * (length (items (old.nodes old.shape.root)) + 1)
 
+-- Of so many levels that were changed, the highest that was split has two nodes or more, and each level above it took at most three of the writes that there were for it.
+pub record IsThrifty (depth : ℕ) (levels : LevelLists) (done budget : ℕ) : Type 0 where
+  pub split : ℕ
+  pub low : split ≤ done
+  pub twin : 0 < split → 2 ≤ length (levels (depth - split))
+  pub enough : 4 * depth ≤ budget + split + 3 * done
+
+-- an index root has two records or more
+abbrev pub HasThickRoot : Store → ℕ → ℕ → Type 0
+HasThickRoot store depth root = 1 < depth → 2 ≤ length (items (store.nodes root))
+
 -- A climb makes these the records of the leaves, and keeps the rules of a tree below the nodes that hold what its root held: none, the root, or the root and a fresh node.
-pub record Climbs (is_key : List ℕ → Type 0) (cmp : List ℕ → List ℕ → Ordering) (max : ℕ) (old new : Store) (records : List (List ℕ)) (after : TreeShape) (count left : ℕ) (desk : Desk) : Type 0 where
+pub record Climbs (is_key : List ℕ → Type 0) (cmp : List ℕ → List ℕ → Ordering) (max : ℕ) (old new : Store) (records : List (List ℕ)) (after : TreeShape) (count left : ℕ) (desk : Desk) (budget : ℕ) : Type 0 where
   pub levels : LevelLists
   pub fresh : ℕ
   pub but : IsTreeBut is_key cmp new old.shape.depth levels 0 0 []
@@ -66,6 +77,7 @@ pub record Climbs (is_key : List ℕ → Type 0) (cmp : List ℕ → List ℕ �
   -- the root has at most one record more, or its records and one more of the longest didn't fit
   pub grown : 1 < old.shape.depth → count ≡ 1 → length (items (new.nodes old.shape.root)) ≤ length (items (old.nodes old.shape.root)) + 1
   pub over : 1 < old.shape.depth → count ≡ 2 → node_room old.shape.node_size < (max + 8) * (length (items (old.nodes old.shape.root)) + 1)
+  pub thrift : IsThrifty old.shape.depth levels old.shape.depth budget
   -- a node that stands alone in its level was in use before
   pub alone : (j : ℕ) → j < old.shape.depth → length (levels j) ≡ 1 → old.used (slice_index (levels j) 0) ≡ true
   pub same : SameStore old new
@@ -90,10 +102,14 @@ pub record Rises (is_key : List ℕ → Type 0) (cmp : List ℕ → List ℕ →
   pub same : SameStore old new
   pub others : (n : ℕ) → old.reserved n ≡ false → old.used n ≡ false → new.used n ≡ false → new.nodes n ≡ old.nodes n
 
--- The same, while roots with one record are given back: a node that stands alone in its level was in use before.
-pub record IsLowering (is_key : List ℕ → Type 0) (cmp : List ℕ → List ℕ → Ordering) (max : ℕ) (old new : Store) (records : List (List ℕ)) (after : TreeShape) : Type 0 where
+-- The same, while roots with one record are given back, of which so many more may be: a node that stands alone in its level was in use before, and a level that was split isn't passed.
+pub record IsLowering (is_key : List ℕ → Type 0) (cmp : List ℕ → List ℕ → Ordering) (max : ℕ) (old new : Store) (records : List (List ℕ)) (after : TreeShape) (rest : ℕ) : Type 0 where
   pub rises : Rises is_key cmp max old new records after
   pub low : after.depth ≤ old.shape.depth
+  pub some : 0 < after.depth
+  pub split : ℕ
+  pub twin : 0 < split → 2 ≤ length (rises.levels (after.depth - split))
+  pub enough : after.depth ≤ rest + split
   pub alone : (j : ℕ) → j < after.depth → length (rises.levels j) ≡ 1 → old.used (slice_index (rises.levels j) 0) ≡ true
 
 -- A tree with these records in its leaves; nodes that were free and are free stay as they were.

@@ -7,9 +7,11 @@ ghost use Rattle.btree_edit.specs.Desk.{IsDeskOf, HasKey};
 ghost use Rattle.btree_edit.specs.Editing.{Does, edit_writes};
 ghost use Rattle.btree_edit.specs.Halves.{record_of};
 ghost use Rattle.btree_edit.specs.LevelEdit.{node_room};
-ghost use Rattle.btree_edit.specs.Rising.{BoundsRoot, MakesTree, IsLeafRecord};
+ghost use Rattle.btree_edit.specs.Rising.{BoundsRoot, HasThickRoot, MakesTree, IsLeafRecord};
 ghost use Rattle.btree_edit.specs.Sorted.{AddsPair, DropsPair, ChangesPair, HoldsKeyOf, InsertsPair, RemovesPair, KeepsFreeNodes, EditsTree};
 ghost use Rattle.btree_edit.specs.Answers.{AnswersInsert, AnswersRemove};
+ghost use Rattle.btree_edit.specs.declared.edits.Inserted.TheVariants as Inserted;
+ghost use Rattle.btree_edit.specs.declared.edits.Removed.TheVariants as Removed;
 
 use crate::climbing::{begin, rebuild};
 use crate::desk::Desk;
@@ -91,6 +93,9 @@ fn add<N: NodeStore, K: KeyOrder>(store: &mut N, desk: &mut Desk, key: &[u8]) ->
     ensures roots { IsTrue (N.state store.old).tells → 3 * (K.MAX + 8) ≤ node_room (N.state store.old).shape.node_size → desk.old.first.key ≡ key.now
         → length (record_of desk.old.first) ≤ (N.state store.old).shape.node_size / 2 - 10 → (HasKey K.cmp key.now (pairs_of (N.state store.old)) → ⊥)
         → OnOk result (BoundsRoot K.MAX (N.state store.old) (N.state store.new) (N.state store.new).shape.depth (N.state store.new).shape.root) }
+    ensures thick { IsTrue (N.state store.old).tells → 3 * (K.MAX + 8) ≤ node_room (N.state store.old).shape.node_size → desk.old.first.key ≡ key.now
+        → length (record_of desk.old.first) ≤ (N.state store.old).shape.node_size / 2 - 10 → (HasKey K.cmp key.now (pairs_of (N.state store.old)) → ⊥)
+        → OnOk result (HasThickRoot (N.state store.new) (N.state store.new).shape.depth (N.state store.new).shape.root) }
     ensures desk { IsDeskOf (N.state store.old).shape.node_size desk.new }
     ensures depth { OnOk result ((N.state store.new).shape.depth ≤ (N.state store.old).shape.depth + 1) }
     ensures does { Does (edit_writes (N.state store.old).shape.depth) ((N.state store.old).shape.depth + 1) (N.state store.old) (N.state store.new) }
@@ -138,6 +143,8 @@ pub fn insert<N: NodeStore, K: KeyOrder>(
     ensures others { IsTrue (N.state store.old).tells → OnOk result (KeepsFreeNodes (N.state store.old) (N.state store.new)) }
     // An index root gets at most one record more; a root above it has two, and comes only where its records are many.
     ensures roots { IsTrue (N.state store.old).tells → OnOk result (BoundsRoot K.MAX (N.state store.old) (N.state store.new) (N.state store.new).shape.depth (N.state store.new).shape.root) }
+    // A root index with one record doesn't stay.
+    ensures thick { IsTrue (N.state store.old).tells → IfOk result (λ answer. answer ≡ Inserted.Done → HasThickRoot (N.state store.new) (N.state store.new).shape.depth (N.state store.new).shape.root) }
     ensures desk { IsDeskOf (N.state store.old).shape.node_size desk.new }
     // It raises the tree by at most one level.
     ensures depth { OnOk result ((N.state store.new).shape.depth ≤ (N.state store.old).shape.depth + 1) }
@@ -177,6 +184,8 @@ fn drop_pair<N: NodeStore, K: KeyOrder>(
         → OnOk result (EditsTree K.is_key K.cmp (N.state store.old) (N.state store.new) (λ old new. DropsPair K.cmp key.now old new)) }
     ensures roots { IsTrue (N.state store.old).tells → 3 * (K.MAX + 8) ≤ node_room (N.state store.old).shape.node_size → HasKey K.cmp key.now (pairs_of (N.state store.old))
         → OnOk result (BoundsRoot K.MAX (N.state store.old) (N.state store.new) (N.state store.new).shape.depth (N.state store.new).shape.root) }
+    ensures thick { IsTrue (N.state store.old).tells → 3 * (K.MAX + 8) ≤ node_room (N.state store.old).shape.node_size → HasKey K.cmp key.now (pairs_of (N.state store.old))
+        → OnOk result (HasThickRoot (N.state store.new) (N.state store.new).shape.depth (N.state store.new).shape.root) }
     ensures desk { IsDeskOf (N.state store.old).shape.node_size desk.new }
     ensures depth { OnOk result ((N.state store.new).shape.depth ≤ (N.state store.old).shape.depth + 1) }
     ensures kept { fixed ≡ true → OnOk result ((N.state store.new).shape.depth ≤ (N.state store.old).shape.depth) }
@@ -223,6 +232,8 @@ pub fn remove<N: NodeStore, K: KeyOrder>(
     ensures others { IsTrue (N.state store.old).tells → OnOk result (KeepsFreeNodes (N.state store.old) (N.state store.new)) }
     // An index root gets at most one record more; a root above it has two, and comes only where its records are many.
     ensures roots { IsTrue (N.state store.old).tells → OnOk result (BoundsRoot K.MAX (N.state store.old) (N.state store.new) (N.state store.new).shape.depth (N.state store.new).shape.root) }
+    // A root index with one record doesn't stay.
+    ensures thick { IsTrue (N.state store.old).tells → IfOk result (λ answer. answer ≡ Removed.Done → HasThickRoot (N.state store.new) (N.state store.new).shape.depth (N.state store.new).shape.root) }
     ensures desk { IsDeskOf (N.state store.old).shape.node_size desk.new }
     ensures depth { OnOk result ((N.state store.new).shape.depth ≤ (N.state store.old).shape.depth + 1) }
     ensures does { Does (edit_writes (N.state store.old).shape.depth) ((N.state store.old).shape.depth + 1) (N.state store.old) (N.state store.new) }
@@ -261,6 +272,9 @@ pub(crate) fn change_pair<N: NodeStore, K: KeyOrder>(
     ensures roots { IsTrue (N.state store.old).tells → 3 * (K.MAX + 8) ≤ node_room (N.state store.old).shape.node_size
         → HoldsKeyOf K.cmp key.now (N.state store.old) desk.old.first.key → length (record_of desk.old.first) ≤ (N.state store.old).shape.node_size / 2 - 10
         → OnOk result (BoundsRoot K.MAX (N.state store.old) (N.state store.new) (N.state store.new).shape.depth (N.state store.new).shape.root) }
+    ensures thick { IsTrue (N.state store.old).tells → 3 * (K.MAX + 8) ≤ node_room (N.state store.old).shape.node_size
+        → HoldsKeyOf K.cmp key.now (N.state store.old) desk.old.first.key → length (record_of desk.old.first) ≤ (N.state store.old).shape.node_size / 2 - 10
+        → OnOk result (HasThickRoot (N.state store.new) (N.state store.new).shape.depth (N.state store.new).shape.root) }
     ensures desk { IsDeskOf (N.state store.old).shape.node_size desk.new }
     ensures depth { OnOk result ((N.state store.new).shape.depth ≤ (N.state store.old).shape.depth + 1) }
     ensures does { Does (edit_writes (N.state store.old).shape.depth) ((N.state store.old).shape.depth + 1) (N.state store.old) (N.state store.new) }

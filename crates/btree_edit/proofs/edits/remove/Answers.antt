@@ -107,3 +107,17 @@ returns-in_ok-drop_pair-in-At-clause-roots g c = λ tells.
 pub returns-in-Absent-clause-roots : goal.returns-in-Absent-clause-roots
 returns-in-Absent-clause-roots g c = λ tells.
     bounds_same g.K.KeyOrder.MAX (g.N.NodeStore.state c.args.store.now).shape.depth (g.N.NodeStore.state c.args.store.now) (g.N.NodeStore.state c.find.new.store) c.find.ensures.reads tells
+
+pub returns-in_ok-drop_pair-in-At-clause-thick : goal.returns-in_ok-drop_pair-in-At-clause-thick
+returns-in_ok-drop_pair-in-At-clause-thick g c = λ tells done.
+    let s = g.N.NodeStore.state c.args.store.now in
+    let m = g.N.NodeStore.state c.find.new.store in
+    let reads = c.find.ensures.reads in
+    let total : s.shape.total ≡ c.total_of-total.result = ap (λ h. h.total) (sym c.shape-shape.ensures) ∙ sym c.total_of-total.ensures in
+    let small : s.shape.total ≤ 2 ^ 32 = omega (arith, total, c.total_of-total.type_inv) in
+    let tree = c.requires.tree tells in
+    let t = g.N.NodeStore.state c.drop_pair.new.store in
+    let found = subst (λ (f : Found). Finds g.K.KeyOrder.cmp c.args.key.now s c.find.new.desk f) c.in-At.is (c.in_ok-find.ensures.found tells) in
+    let has : HasKey g.K.KeyOrder.cmp c.args.key.now (pairs_of m) = subst (λ l. HasKey g.K.KeyOrder.cmp c.args.key.now l) (sym (read_pairs g.met.K.KeyOrder.key_length s.shape.depth s m reads tells small tree)) (found_key g.K.KeyOrder.cmp c.args.key.now s c.find.new.desk c.in-At.node c.in-At.index found) in
+    let wide : 3 * (g.K.KeyOrder.MAX + 8) ≤ node_room m.shape.node_size = subst (λ n. 3 * (g.K.KeyOrder.MAX + 8) ≤ node_room n) (sym reads.same.node_size) (c.requires.wide tells) in
+    c.in_ok-drop_pair-in-At.ensures.thick (reads.same.tells ∙ tells) wide has
