@@ -105,14 +105,14 @@ module _ {is_key : List ℕ → Type 0} {cmp : List ℕ → List ℕ → Orderin
     tree_node height n node = elim (cases_eq n leaf) [
       | inr other ↦ still_tree_node old new height n same (swaps.others n other) node
       | inl is ↦ record {
-          inside = omega (arith, node.inside, same.total);
-          kind = record {
-            cut = subst (λ m. IsNode (new.nodes m)) (sym is) swaps.cut;
-            has_kind = subst (λ m. kind_of (new.nodes m) ≡ kind_of (old.nodes m)) (sym is) swaps.head.kind ∙ node.kind.has_kind;
-            has_height = subst (λ m. height_of (new.nodes m) ≡ height_of (old.nodes m)) (sym is) swaps.head.height ∙ node.kind.has_height;
-          };
-          size = subst (λ m. length (new.nodes m) ≡ length (old.nodes m)) (sym is) swaps.head.size ∙ node.size ∙ sym same.node_size;
-        }
+        inside = omega (arith, node.inside, same.total);
+        kind = record {
+          cut = subst (λ m. IsNode (new.nodes m)) (sym is) swaps.cut;
+          has_kind = subst (λ m. kind_of (new.nodes m) ≡ kind_of (old.nodes m)) (sym is) swaps.head.kind ∙ node.kind.has_kind;
+          has_height = subst (λ m. height_of (new.nodes m) ≡ height_of (old.nodes m)) (sym is) swaps.head.height ∙ node.kind.has_height;
+        };
+        size = subst (λ m. length (new.nodes m) ≡ length (old.nodes m)) (sym is) swaps.head.size ∙ node.size ∙ sym same.node_size;
+      }
     ]
 
     front_same : (i : ℕ) → i < length stands.front → items (new.nodes (get_or stands.front i 0)) ≡ items (old.nodes (get_or stands.front i 0))

@@ -62,7 +62,7 @@ returns-clause-changes g c = λ tells wide holds short.
     subst (λ l. CanClimb g.K.KeyOrder.is_key g.K.KeyOrder.cmp g.K.KeyOrder.MAX m c.trace.new.desk.path ((stop_at c.trace.new.desk.path (c.shape-shape.result.depth - 1)).at - 1) true l c.spare_of-spare.result) put_is
     (subst (λ d. CanClimb g.K.KeyOrder.is_key g.K.KeyOrder.cmp g.K.KeyOrder.MAX m c.trace.new.desk.path ((stop_at c.trace.new.desk.path (d - 1)).at - 1) true (record_of c.args.desk.now.first ∷ []) c.spare_of-spare.result) deep can) in
     let leaves_is : leaves_edited m c.trace.new.desk.path ((stop_at c.trace.new.desk.path (m.shape.depth - 1)).at - 1) true (record_of c.args.desk.now.first ∷ [])
-        ≡ leaves_edited m c.trace.new.desk.path ((stop_at c.trace.new.desk.path (c.shape-shape.result.depth - 1)).at - 1) true (records_on 1 c.trace.new.desk) =
+    ≡ leaves_edited m c.trace.new.desk.path ((stop_at c.trace.new.desk.path (c.shape-shape.result.depth - 1)).at - 1) true (records_on 1 c.trace.new.desk) =
     ap (λ d. leaves_edited m c.trace.new.desk.path ((stop_at c.trace.new.desk.path (d - 1)).at - 1) true (record_of c.args.desk.now.first ∷ [])) deep
     ∙ ap (λ l. leaves_edited m c.trace.new.desk.path ((stop_at c.trace.new.desk.path (c.shape-shape.result.depth - 1)).at - 1) true l) put_is in
     let records : c.shape-shape.result.leaf_records ≡ length (leaves_edited m c.trace.new.desk.path ((stop_at c.trace.new.desk.path (c.shape-shape.result.depth - 1)).at - 1) true (records_on 1 c.trace.new.desk)) =
