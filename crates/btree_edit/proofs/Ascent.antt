@@ -3,6 +3,7 @@ use Rattle.std.proofs.Common.{◌≡◌, ◌≢◌, ◌⊎◌, ℕ, zero, suc, a
 use Rattle.std.proofs.lemmas.Bool.{cases_lt, cases_eq}
 use Rattle.std.proofs.lemmas.Bool.Decides.{eqb_tells}
 use Rattle.std.proofs.lemmas.List.{nil_from_length, length-append, length-map, length-take, length-take-le, length-drop, get_or-take, get_or-drop, get_or-map, append-nil}
+use Rattle.std.proofs.Math.Nat.{mul-le-mul_left}
 use Rattle.std.specs.Prelude.{eqb}
 use Rattle.std.specs.declared.cmp.Ordering.{Ordering}
 use Rattle.hx_bytes.specs.Field.{big_at}
@@ -23,7 +24,7 @@ use Rattle.btree_edit.proofs.Counting.{bit_true, bit_other, times-append, times_
 use Rattle.btree_edit.proofs.Descent.{split_at}
 use Rattle.btree_edit.proofs.Splices.{length-splice, spliced_middle, each_spliced, splice_same}
 use Rattle.btree_edit.proofs.Naming.{names_same, named_at, names_long, name_long, names_keys, names_short, names_ascend, first_is_key}
-use Rattle.btree_edit.proofs.Fitting.{taken_fits, taken_put, taken_replaced, taken_one, taken_two}
+use Rattle.btree_edit.proofs.Fitting.{taken_fits, taken_put, taken_replaced, taken_one, taken_two, taken_each}
 use Rattle.btree_edit.proofs.Linking.{head_get, last_get, head_or-append, last_or-append, last_some}
 use Rattle.btree_edit.proofs.Stepping.{stepped, records_then, others_kept, front_other, back_other, before_is, behind_is}
 use Rattle.btree_edit.proofs.Whole.{but_of_tree}
@@ -32,7 +33,7 @@ use Rattle.btree_edit.proofs.Spots.{spot_of}
 use Rattle.btree_edit.proofs.Repeated.{same_store_both}
 
 -- where a climb is: so many levels are done, and this is handed on to the next
-pub record IsAscent (is_key : List ℕ → Type 0) (cmp : List ℕ → List ℕ → Ordering) (a s : Store) (path : List Stop) (at : ℕ) (removed : Bool) (put : List (List ℕ)) (spare : ℕ)
+pub record IsAscent (is_key : List ℕ → Type 0) (cmp : List ℕ → List ℕ → Ordering) (max : ℕ) (a s : Store) (path : List Stop) (at : ℕ) (removed : Bool) (put : List (List ℕ)) (spare : ℕ)
     (shape : TreeShape) (desk : Desk) (done next : ℕ) (gone : Bool) (left : ℕ) : Type 0 where
   pub levels : LevelLists
   pub fresh : ℕ
@@ -50,6 +51,8 @@ pub record IsAscent (is_key : List ℕ → Type 0) (cmp : List ℕ → List ℕ 
   pub root : shape.root ≡ a.shape.root
   pub depth : shape.depth ≡ a.shape.depth
   pub single : (i : ℕ) → i < a.shape.depth → length (levels i) ≡ 1 → a.used (get_or (levels i) 0 0) ≡ true
+  pub grown : 0 < done → a.shape.depth ≡ done → 1 < a.shape.depth → next ≡ 1 → length (items (s.nodes a.shape.root)) ≤ length (items (a.nodes a.shape.root)) + 1
+  pub over : 0 < done → a.shape.depth ≡ done → 1 < a.shape.depth → next ≡ 2 → node_room a.shape.node_size < (max + 8) * (length (items (a.nodes a.shape.root)) + 1)
   pub others : (n : ℕ) → a.reserved n ≡ false → a.used n ≡ false → s.used n ≡ false → s.nodes n ≡ a.nodes n
 
 last_is : (l : List ℕ) → get_or l (length l - 1) 0 ≡ last_or l 0
@@ -98,7 +101,7 @@ module _ {is_key : List ℕ → Type 0} {cmp : List ℕ → List ℕ → Orderin
 
     -- at first nothing is done
     pub ascent_start : (shape : TreeShape) (desk : Desk) (next : ℕ) → shape ≡ a.shape → records_on next desk ≡ put → next ≤ 2
-        → IsAscent is_key cmp a a path at removed put spare shape desk 0 next removed spare
+        → IsAscent is_key cmp max a a path at removed put spare shape desk 0 next removed spare
     ascent_start shape desk next shape_is on few =
         let deep : a.shape.depth - 0 ≡ a.shape.depth = omega arith in
         let leaf : a.shape.depth - 1 + 1 ≡ a.shape.depth = omega (arith, can.some) in
@@ -120,6 +123,8 @@ module _ {is_key : List ℕ → Type 0} {cmp : List ℕ → List ℕ → Orderin
           root = ap (λ h. h.root) shape_is;
           depth = ap (λ h. h.depth) shape_is;
           single = λ i low one. used_in_tree i 0 low (omega arith);
+          grown = λ some. absurd (omega arith);
+          over = λ some. absurd (omega arith);
           others = λ n free unused still. refl;
         }
 
@@ -127,7 +132,7 @@ module _ {is_key : List ℕ → Type 0} {cmp : List ℕ → List ℕ → Orderin
     pub ascent_read : (s t : Store) (shape : TreeShape) (desk desk2 : Desk) (done next : ℕ) (gone : Bool) (left : ℕ)
         → t.shape ≡ s.shape → ((n : ℕ) → t.nodes n ≡ s.nodes n) → ((n : ℕ) → t.used n ≡ s.used n) → ((n : ℕ) → t.reserved n ≡ s.reserved n)
         → records_on next desk2 ≡ records_on next desk
-        → IsAscent is_key cmp a s path at removed put spare shape desk done next gone left → IsAscent is_key cmp a t path at removed put spare shape desk2 done next gone left
+        → IsAscent is_key cmp max a s path at removed put spare shape desk done next gone left → IsAscent is_key cmp max a t path at removed put spare shape desk2 done next gone left
     ascent_read s t shape desk desk2 done next gone left same nodes used reserved on asc =
         let same_all : (ns : List ℕ) → entries t.nodes ns ≡ entries s.nodes ns = λ ns. same_entries s.nodes t.nodes ns (λ k inside. ap items (nodes (get_or ns k 0))) in
         record {
@@ -149,11 +154,13 @@ module _ {is_key : List ℕ → Type 0} {cmp : List ℕ → List ℕ → Orderin
           root = asc.root;
           depth = asc.depth;
           single = asc.single;
+          grown = λ some all deep one. omega (arith, asc.grown some all deep one, ap (λ l. length (items l)) (nodes a.shape.root));
+          over = asc.over;
           others = λ n free unused still. nodes n ∙ asc.others n free unused (sym (used n) ∙ still);
         }
 
     -- the node of the way is one of the tree
-    pub way_node : (s : Store) (shape : TreeShape) (desk : Desk) (done next : ℕ) (gone : Bool) (left : ℕ) → IsAscent is_key cmp a s path at removed put spare shape desk done next gone left
+    pub way_node : (s : Store) (shape : TreeShape) (desk : Desk) (done next : ℕ) (gone : Bool) (left : ℕ) → IsAscent is_key cmp max a s path at removed put spare shape desk done next gone left
         → (j : ℕ) → j + (done + 1) ≡ a.shape.depth → IsTreeNode s (done + 1) (stop_at path j).node
     way_node s shape desk done next gone left asc j j_is =
         let of_tree : j < a.shape.depth = omega arith in
@@ -165,7 +172,7 @@ module _ {is_key : List ℕ → Type 0} {cmp : List ℕ → List ℕ → Orderin
 
     -- the next level
     module _ (s : Store) (same : SameStore a s) (shape : TreeShape) (desk : Desk) (done next : ℕ) (gone : Bool) (left : ℕ)
-        (asc : IsAscent is_key cmp a s path at removed put spare shape desk done next gone left)
+        (asc : IsAscent is_key cmp max a s path at removed put spare shape desk done next gone left)
         (j : ℕ) (j_is : j + (done + 1) ≡ a.shape.depth) (p : ℕ) (p_leaf : done ≡ 0 → p ≡ at) (p_above : 0 < done → p ≡ (stop_at path j).at)
       where
         abbrev pub node : ℕ
@@ -700,7 +707,34 @@ module _ {is_key : List ℕ → Type 0} {cmp : List ℕ → List ℕ → Orderin
               | inr other ↦ omega (arith, edit.most)
             ]
 
-            pub ascent_step : IsAscent is_key cmp a t path at removed put spare shape2 desk2 (done + 1) count true left2
+            -- the root's records, where it is the last to be changed
+            edited_long : 0 < done → length (edited s node p gone (records_on next desk)) ≤ length (items (s.nodes node)) + 1
+            edited_long some =
+                let long = length-splice (items (s.nodes node)) (records_on next desk) p (p + bit gone) (omega arith) within [] in
+                omega (arith, long, ap bit (asc.later some).0, put_few some)
+
+            root_grown : j ≡ 0 → 0 < done → count ≡ 1 → length (items (t.nodes a.shape.root)) ≤ length (items (a.nodes a.shape.root)) + 1
+            root_grown top some one =
+                let made : items (t.nodes node) ≡ edited s node p gone (records_on next desk) =
+                sym (append-nil (items (t.nodes node))) ∙ ap (λ c. entries t.nodes (parts_of c node edit.fresh)) (sym one) ∙ edit.records in
+                omega (
+                  arith,
+                  ap length made,
+                  edited_long some,
+                  ap length node_same,
+                  ap (λ n. length (items (t.nodes n))) (root_is top),
+                  ap (λ n. length (items (a.nodes n))) (root_is top),
+                )
+
+            root_over : j ≡ 0 → 0 < done → count ≡ 2 → node_room a.shape.node_size < (max + 8) * (length (items (a.nodes a.shape.root)) + 1)
+            root_over top some two =
+                let full = edit.split two in
+                let each = taken_each (max + 8) (edited s node p gone (records_on next desk)) (edited_each (λ r. length r + 2 ≤ max + 8) (old_most some) (put_most some)) in
+                let more : (max + 8) * length (edited s node p gone (records_on next desk)) ≤ (max + 8) * (length (items (a.nodes a.shape.root)) + 1) =
+                mul-le-mul_left (max + 8) (omega (arith, edited_long some, ap length node_same, ap (λ n. length (items (a.nodes n))) (root_is top))) in
+                omega (arith, full, each, more, size_same)
+
+            pub ascent_step : IsAscent is_key cmp max a t path at removed put spare shape2 desk2 (done + 1) count true left2
             ascent_step =
                 let from2 : j ≡ a.shape.depth - (done + 1) = omega arith in
                 let as_handed : IsTreeBut is_key cmp t a.shape.depth levels2 j (way_place a path j) (records_on count desk2) =
@@ -727,6 +761,8 @@ module _ {is_key : List ℕ → Type 0} {cmp : List ℕ → List ℕ → Orderin
                   root = edit.ends.root ∙ asc.root;
                   depth = edit.ends.depth ∙ asc.depth;
                   single = single_then;
+                  grown = λ some all deep one. root_grown (omega arith) (omega arith) one;
+                  over = λ some all deep two. root_over (omega arith) (omega arith) two;
                   others = others_then;
                 }
 
@@ -778,7 +814,7 @@ module _ {is_key : List ℕ → Type 0} {cmp : List ℕ → List ℕ → Orderin
                 | inr none ↦ let root : j ≡ 0 = omega arith in top_parts root ∙ parts_is ∙ ap (λ n. n ∷ []) (root_is root)
               ]
 
-              pub ascent_stop : Climbs is_key cmp a t (leaves_edited a path at removed put) shape2 1 left2 desk2
+              pub ascent_stop : Climbs is_key cmp max a t (leaves_edited a path at removed put) shape2 1 left2 desk2
               ascent_stop = record {
                 levels = levels2;
                 fresh = 0;
@@ -811,13 +847,18 @@ module _ {is_key : List ℕ → Type 0} {cmp : List ℕ → List ℕ → Orderin
                 root = edit.ends.root ∙ asc.root;
                 depth = edit.ends.depth ∙ asc.depth;
                 alone = single_then;
+                grown = λ deep one. elim (cases_lt 0 j) [
+                  | inl above_root ↦ omega (arith, ap (λ l. length (items l)) (kept2 0 0 above_root (omega arith)))
+                  | inr none ↦ root_grown (omega arith) (omega arith) one_part
+                ];
+                over = λ deep two. absurd (omega arith);
                 same = same_store_both same edit.same;
                 others = others_then;
               }
 
     -- all levels are done
     pub ascent_end : (s : Store) → SameStore a s → (shape : TreeShape) (desk : Desk) (done next : ℕ) (gone : Bool) (left : ℕ) → a.shape.depth ≡ done
-        → IsAscent is_key cmp a s path at removed put spare shape desk done next gone left → Climbs is_key cmp a s (leaves_edited a path at removed put) shape next left desk
+        → IsAscent is_key cmp max a s path at removed put spare shape desk done next gone left → Climbs is_key cmp max a s (leaves_edited a path at removed put) shape next left desk
     ascent_end s same shape desk done next gone left all asc =
         let some : 0 < done = omega (arith, can.some) in
         record {
@@ -835,6 +876,8 @@ module _ {is_key : List ℕ → Type 0} {cmp : List ℕ → List ℕ → Orderin
           root = asc.root;
           depth = asc.depth;
           alone = asc.single;
+          grown = λ deep one. asc.grown some all deep one;
+          over = λ deep two. asc.over some all deep two;
           same = same;
           others = asc.others;
         }

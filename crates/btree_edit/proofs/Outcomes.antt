@@ -10,10 +10,10 @@ use Rattle.btree_node.specs.Node.{items}
 use Rattle.btree_node.specs.Levels.{Pair, entries, leaves, child_of, pair_of}
 use Rattle.btree_node.specs.Store.{Store, SameStore, SameNodes, MapsOnly}
 use Rattle.btree_node.specs.Tree.{level_of, entries_of, pairs_of, IsTree}
-use Rattle.btree_edit.specs.LevelEdit.{bit, times}
+use Rattle.btree_edit.specs.LevelEdit.{bit, times, node_room}
 use Rattle.btree_edit.specs.Climb.{tally, IsTreeBut}
 use Rattle.btree_edit.specs.Reading.{ReadsOnly}
-use Rattle.btree_edit.specs.Rising.{MakesTree, IsBare}
+use Rattle.btree_edit.specs.Rising.{BoundsRoot, MakesTree, IsBare}
 use Rattle.btree_edit.specs.Sorted.{KeepsFreeNodes, EditsTree}
 use Rattle.btree_edit.proofs.Counting.{bit_same, bit_other, bit_true, tally_below, tally_none, bits_changed}
 use Rattle.btree_edit.proofs.Crowning.{tree_kept, pairs_kept, is_used, not_reserved}
@@ -145,4 +145,38 @@ makes_read most a b t records reads tells makes =
       tree = makes.tree;
       pairs = makes.pairs;
       others = λ n free unused still. makes.others n (reads.same.reserved n ∙ free) (nodes.used n ∙ unused) still ∙ nodes.nodes n;
+    }
+
+-- the root's records, over reads before
+pub bounds_read : (max most : ℕ) (a b t : Store) (depth root : ℕ) → ReadsOnly most a b → IsTrue a.tells → BoundsRoot max b t depth root → BoundsRoot max a t depth root
+bounds_read max most a b t depth root reads tells bounds =
+    let deep : b.shape.depth ≡ a.shape.depth = ap (λ h. h.depth) reads.shape in
+    let same : length (items (b.nodes b.shape.root)) ≡ length (items (a.nodes a.shape.root)) =
+    ap (λ h. length (items (b.nodes h.root))) reads.shape ∙ ap (λ l. length (items l)) ((reads.tree tells).nodes a.shape.root) in
+    record {
+      grown = λ some is. omega (arith, bounds.grown (omega (arith, deep)) (is ∙ sym deep), same);
+      two = λ some less. bounds.two (omega (arith, deep)) (omega (arith, deep));
+      over = λ some less.
+          subst (λ n. node_room a.shape.node_size < (max + 8) * (n + 1)) same
+          (subst (λ n. node_room n < (max + 8) * (length (items (b.nodes b.shape.root)) + 1)) reads.same.node_size (bounds.over (omega (arith, deep)) (omega (arith, deep))));
+    }
+
+-- a first leaf
+pub bounds_first : (max : ℕ) (a t : Store) (depth root : ℕ) → depth ≡ 1 → BoundsRoot max a t depth root
+bounds_first max a t depth root one = record {
+  grown = λ some is. absurd (omega arith);
+  two = λ some less. absurd (omega arith);
+  over = λ some less. absurd (omega arith);
+}
+
+-- nothing but reads
+pub bounds_same : (max most : ℕ) (a b : Store) → ReadsOnly most a b → IsTrue a.tells → BoundsRoot max a b b.shape.depth b.shape.root
+bounds_same max most a b reads tells =
+    let deep : b.shape.depth ≡ a.shape.depth = ap (λ h. h.depth) reads.shape in
+    let same : length (items (b.nodes b.shape.root)) ≡ length (items (a.nodes a.shape.root)) =
+    ap (λ h. length (items (b.nodes h.root))) reads.shape ∙ ap (λ l. length (items l)) ((reads.tree tells).nodes a.shape.root) in
+    record {
+      grown = λ some is. omega (arith, same);
+      two = λ some less. absurd (omega (arith, deep));
+      over = λ some less. absurd (omega (arith, deep));
     }

@@ -7,7 +7,7 @@ ghost use Rattle.btree_edit.specs.Desk.{IsDeskOf, HasKey};
 ghost use Rattle.btree_edit.specs.Editing.{Does, edit_writes};
 ghost use Rattle.btree_edit.specs.Halves.{record_of};
 ghost use Rattle.btree_edit.specs.LevelEdit.{node_room};
-ghost use Rattle.btree_edit.specs.Rising.{MakesTree, IsLeafRecord};
+ghost use Rattle.btree_edit.specs.Rising.{BoundsRoot, MakesTree, IsLeafRecord};
 ghost use Rattle.btree_edit.specs.Sorted.{AddsPair, DropsPair, ChangesPair, HoldsKeyOf, InsertsPair, RemovesPair, KeepsFreeNodes, EditsTree};
 ghost use Rattle.btree_edit.specs.Answers.{AnswersInsert, AnswersRemove};
 
@@ -56,6 +56,8 @@ fn replant<N: NodeStore, K: KeyOrder>(store: &mut N, desk: &mut Desk) -> Result<
     ensures tree { IsTrue (N.state store.old).tells → IsTree K.is_key K.cmp (N.state store.old) → 0 < (N.state store.old).shape.depth
         → length (items ((N.state store.old).nodes (N.state store.old).shape.root)) ≡ 0 → IsLeafRecord K.is_key (N.state store.old) (record_of desk.old.first)
         → OnOk result (MakesTree K.is_key K.cmp (N.state store.old) (N.state store.new) (record_of desk.old.first ∷ [])) }
+    ensures one { IsTrue (N.state store.old).tells → IsTree K.is_key K.cmp (N.state store.old) → 0 < (N.state store.old).shape.depth
+        → length (items ((N.state store.old).nodes (N.state store.old).shape.root)) ≡ 0 → OnOk result ((N.state store.new).shape.depth ≡ 1) }
     ensures desk { IsDeskOf (N.state store.old).shape.node_size desk.new }
     ensures depth { OnOk result ((N.state store.new).shape.depth ≤ (N.state store.old).shape.depth + 1) }
     ensures does { Does 4 1 (N.state store.old) (N.state store.new) }
@@ -86,6 +88,9 @@ fn add<N: NodeStore, K: KeyOrder>(store: &mut N, desk: &mut Desk, key: &[u8]) ->
     ensures adds { IsTrue (N.state store.old).tells → 3 * (K.MAX + 8) ≤ node_room (N.state store.old).shape.node_size → desk.old.first.key ≡ key.now
         → length (record_of desk.old.first) ≤ (N.state store.old).shape.node_size / 2 - 10 → (HasKey K.cmp key.now (pairs_of (N.state store.old)) → ⊥)
         → OnOk result (EditsTree K.is_key K.cmp (N.state store.old) (N.state store.new) (λ old new. AddsPair K.cmp key.now desk.old.first.value old new)) }
+    ensures roots { IsTrue (N.state store.old).tells → 3 * (K.MAX + 8) ≤ node_room (N.state store.old).shape.node_size → desk.old.first.key ≡ key.now
+        → length (record_of desk.old.first) ≤ (N.state store.old).shape.node_size / 2 - 10 → (HasKey K.cmp key.now (pairs_of (N.state store.old)) → ⊥)
+        → OnOk result (BoundsRoot K.MAX (N.state store.old) (N.state store.new) (N.state store.new).shape.depth (N.state store.new).shape.root) }
     ensures desk { IsDeskOf (N.state store.old).shape.node_size desk.new }
     ensures depth { OnOk result ((N.state store.new).shape.depth ≤ (N.state store.old).shape.depth + 1) }
     ensures does { Does (edit_writes (N.state store.old).shape.depth) ((N.state store.old).shape.depth + 1) (N.state store.old) (N.state store.new) }
@@ -131,6 +136,8 @@ pub fn insert<N: NodeStore, K: KeyOrder>(
     ensures tree { IsTrue (N.state store.old).tells → OnOk result (IsTree K.is_key K.cmp (N.state store.new)) }
     // Nodes that aren't the tree's stay as they were.
     ensures others { IsTrue (N.state store.old).tells → OnOk result (KeepsFreeNodes (N.state store.old) (N.state store.new)) }
+    // An index root gets at most one record more; a root above it has two, and comes only where its records are many.
+    ensures roots { IsTrue (N.state store.old).tells → OnOk result (BoundsRoot K.MAX (N.state store.old) (N.state store.new) (N.state store.new).shape.depth (N.state store.new).shape.root) }
     ensures desk { IsDeskOf (N.state store.old).shape.node_size desk.new }
     // It raises the tree by at most one level.
     ensures depth { OnOk result ((N.state store.new).shape.depth ≤ (N.state store.old).shape.depth + 1) }
@@ -168,6 +175,8 @@ fn drop_pair<N: NodeStore, K: KeyOrder>(
     requires room { HasRoom (edit_writes (N.state store.old).shape.depth) (N.state store.old) }
     ensures drops { IsTrue (N.state store.old).tells → 3 * (K.MAX + 8) ≤ node_room (N.state store.old).shape.node_size → HasKey K.cmp key.now (pairs_of (N.state store.old))
         → OnOk result (EditsTree K.is_key K.cmp (N.state store.old) (N.state store.new) (λ old new. DropsPair K.cmp key.now old new)) }
+    ensures roots { IsTrue (N.state store.old).tells → 3 * (K.MAX + 8) ≤ node_room (N.state store.old).shape.node_size → HasKey K.cmp key.now (pairs_of (N.state store.old))
+        → OnOk result (BoundsRoot K.MAX (N.state store.old) (N.state store.new) (N.state store.new).shape.depth (N.state store.new).shape.root) }
     ensures desk { IsDeskOf (N.state store.old).shape.node_size desk.new }
     ensures depth { OnOk result ((N.state store.new).shape.depth ≤ (N.state store.old).shape.depth + 1) }
     ensures kept { fixed ≡ true → OnOk result ((N.state store.new).shape.depth ≤ (N.state store.old).shape.depth) }
@@ -212,6 +221,8 @@ pub fn remove<N: NodeStore, K: KeyOrder>(
     ensures tree { IsTrue (N.state store.old).tells → OnOk result (IsTree K.is_key K.cmp (N.state store.new)) }
     // Nodes that aren't the tree's stay as they were.
     ensures others { IsTrue (N.state store.old).tells → OnOk result (KeepsFreeNodes (N.state store.old) (N.state store.new)) }
+    // An index root gets at most one record more; a root above it has two, and comes only where its records are many.
+    ensures roots { IsTrue (N.state store.old).tells → OnOk result (BoundsRoot K.MAX (N.state store.old) (N.state store.new) (N.state store.new).shape.depth (N.state store.new).shape.root) }
     ensures desk { IsDeskOf (N.state store.old).shape.node_size desk.new }
     ensures depth { OnOk result ((N.state store.new).shape.depth ≤ (N.state store.old).shape.depth + 1) }
     ensures does { Does (edit_writes (N.state store.old).shape.depth) ((N.state store.old).shape.depth + 1) (N.state store.old) (N.state store.new) }
@@ -247,6 +258,9 @@ pub(crate) fn change_pair<N: NodeStore, K: KeyOrder>(
     ensures changes { IsTrue (N.state store.old).tells → 3 * (K.MAX + 8) ≤ node_room (N.state store.old).shape.node_size
         → HoldsKeyOf K.cmp key.now (N.state store.old) desk.old.first.key → length (record_of desk.old.first) ≤ (N.state store.old).shape.node_size / 2 - 10
         → OnOk result (EditsTree K.is_key K.cmp (N.state store.old) (N.state store.new) (λ old new. ChangesPair K.cmp key.now desk.old.first.value old new)) }
+    ensures roots { IsTrue (N.state store.old).tells → 3 * (K.MAX + 8) ≤ node_room (N.state store.old).shape.node_size
+        → HoldsKeyOf K.cmp key.now (N.state store.old) desk.old.first.key → length (record_of desk.old.first) ≤ (N.state store.old).shape.node_size / 2 - 10
+        → OnOk result (BoundsRoot K.MAX (N.state store.old) (N.state store.new) (N.state store.new).shape.depth (N.state store.new).shape.root) }
     ensures desk { IsDeskOf (N.state store.old).shape.node_size desk.new }
     ensures depth { OnOk result ((N.state store.new).shape.depth ≤ (N.state store.old).shape.depth + 1) }
     ensures does { Does (edit_writes (N.state store.old).shape.depth) ((N.state store.old).shape.depth + 1) (N.state store.old) (N.state store.new) }

@@ -52,3 +52,13 @@ pub returns-clause-below : goal.returns-clause-below
 returns-clause-below g c =
     g.met.N.NodeStore.follows_trans c.args.store.now c.read_node.new.store c.begin.new.store c.read_node.ensures.below
     (g.met.N.NodeStore.follows_trans c.read_node.new.store c.give_node.new.self c.begin.new.store c.give_node.ensures.below c.begin.ensures.below)
+
+pub returns-then-not-branch-clause-one : goal.returns-then-not-branch-clause-one
+returns-then-not-branch-clause-one g c = λ tells tree some none.
+    let s = g.N.NodeStore.state c.args.store.now in
+    let shape = c.shape-shape.ensures in
+    let node : IsTreeNode s s.shape.depth s.shape.root = subst (λ h. IsTreeNode s h s.shape.root) {x = s.shape.depth - 0} (omega arith) (tree.levels.nodes 0 0 some (omega arith)) in
+    let here : IsTreeNode s c.shape-shape.result.depth c.shape-shape.result.root =
+    subst (λ h. IsTreeNode s h.depth h.root) (sym shape) node in
+    let yes : c.in_ok-read_node.field-0 ≡ true = c.in_ok-read_node.ensures.sound tells here.inside here.kind (omega (arith, tree.header.depth, ap (λ h. h.depth) shape)) in
+    absurd (clashing (sym yes ∙ c.if-not-branch.true))

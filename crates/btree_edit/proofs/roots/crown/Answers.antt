@@ -8,13 +8,13 @@ returns-then-end-eq0-clause-crowns g c = λ tells start records small some wide 
     let s = g.N.NodeStore.state c.args.store.now in
     let clears = c.clear_shape.ensures in
     rises_emptied g.K.KeyOrder.MAX g.met.K.KeyOrder.key_length g.met.K.KeyOrder.key_most start s records c.args.shape.now c.clear_shape.new.shape c.args.end.left c.args.desk.now
-    (subst (λ n. Climbs g.K.KeyOrder.is_key g.K.KeyOrder.cmp start s records c.args.shape.now n c.args.end.left c.args.desk.now) c.if-end-eq0.true climbs) some clears.depth clears.root clears.first clears.last
+    (subst (λ n. Climbs g.K.KeyOrder.is_key g.K.KeyOrder.cmp g.K.KeyOrder.MAX start s records c.args.shape.now n c.args.end.left c.args.desk.now) c.if-end-eq0.true climbs) some clears.depth clears.root clears.first clears.last
 
 pub returns-then-end-eq2-clause-crowns : goal.returns-then-end-eq2-clause-crowns
 returns-then-end-eq2-clause-crowns g c = λ tells start records small some wide climbs.
     let s = g.N.NodeStore.state c.args.store.now in
     c.raise.ensures.raises tells start records c.args.end.left
-    (subst (λ n. Climbs g.K.KeyOrder.is_key g.K.KeyOrder.cmp start s records c.args.shape.now n c.args.end.left c.args.desk.now) c.if-end-eq2.true climbs) some wide
+    (subst (λ n. Climbs g.K.KeyOrder.is_key g.K.KeyOrder.cmp g.K.KeyOrder.MAX start s records c.args.shape.now n c.args.end.left c.args.desk.now) c.if-end-eq2.true climbs) some wide
 
 pub returns-clause-crowns : goal.returns-clause-crowns
 returns-clause-crowns g c = λ tells start records small some wide climbs.
@@ -22,4 +22,4 @@ returns-clause-crowns g c = λ tells start records small some wide climbs.
     let one : c.args.end.count ≡ 1 = omega (arith, climbs.most, c.if-end-eq0.false, c.if-end-eq2.false) in
     c.lower.ensures.lowers tells start records small c.requires.depth
     (rises_kept g.K.KeyOrder.MAX g.met.K.KeyOrder.key_length g.met.K.KeyOrder.key_most start s records c.args.shape.now c.args.end.left c.args.desk.now
-    (subst (λ n. Climbs g.K.KeyOrder.is_key g.K.KeyOrder.cmp start s records c.args.shape.now n c.args.end.left c.args.desk.now) one climbs) some)
+    (subst (λ n. Climbs g.K.KeyOrder.is_key g.K.KeyOrder.cmp g.K.KeyOrder.MAX start s records c.args.shape.now n c.args.end.left c.args.desk.now) one climbs) some)

@@ -19,7 +19,7 @@ loop-done-preserved g c =
     record {
       depth = omega (arith, inv.depth);
       lowers = λ tells start records small low lowering.
-          let here : IsLowering g.K.KeyOrder.is_key g.K.KeyOrder.cmp start s records c.loop-done.shape = inv.lowers tells start records small low lowering in
+          let here : IsLowering g.K.KeyOrder.is_key g.K.KeyOrder.cmp g.K.KeyOrder.MAX start s records c.loop-done.shape = inv.lowers tells start records small low lowering in
           let tells_s = inv.does.same.tells ∙ tells in
           let then_read = lowering_read g.K.KeyOrder.MAX g.met.K.KeyOrder.key_length g.met.K.KeyOrder.key_most start s m records c.loop-done.shape reads.shape (reads.tree tells_s) reads.same here in
           let yes : c.in_ok-read_node.field-0 ≡ true = c.if-not-branch.false in
@@ -35,7 +35,7 @@ loop-done-preserved g c =
           let item : c.item.result.now ≡ get_or (items (m.nodes c.loop-done.shape.root)) 0 [] = c.item.ensures.value ∙ ap (λ l. get_or (items l) 0 []) into in
           let child : c.child_part-child.result ≡ child_of (get_or (items (m.nodes c.loop-done.shape.root)) 0 []) =
           c.child_part-child.ensures (subst (λ l. 4 ≤ length (value_of l)) (sym item) named) ∙ ap child_of item in
-          subst (λ n. IsLowering g.K.KeyOrder.is_key g.K.KeyOrder.cmp start t records (record c.loop-done.shape { root = n; depth = c.loop-done.shape.depth - 1 })) (sym child)
+          subst (λ n. IsLowering g.K.KeyOrder.is_key g.K.KeyOrder.cmp g.K.KeyOrder.MAX start t records (record c.loop-done.shape { root = n; depth = c.loop-done.shape.depth - 1 })) (sym child)
           (rises_lowered g.K.KeyOrder.MAX g.met.K.KeyOrder.key_length g.met.K.KeyOrder.key_most start m t records c.loop-done.shape then_read deep one small_m
           (ok.tree tells_m used free) gave.same.node_size (ok.one_more tells_m used free) gave.same);
       desk = record { node = c.read_node.ensures.size ∙ inv.desk.node; other = inv.desk.other; held = inv.desk.held; first = inv.desk.first; second = inv.desk.second; path = inv.desk.path };
