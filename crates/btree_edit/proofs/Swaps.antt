@@ -19,7 +19,7 @@ use Rattle.btree_edit.specs.declared.finding.Found.{Found}
 use Rattle.btree_edit.specs.declared.finding.Found.TheVariants.{At}
 use Rattle.btree_edit.specs.declared.desk.Desk.{Desk}
 use Rattle.btree_edit.specs.LevelEdit.{bit}
-use Rattle.btree_edit.specs.Rising.{MakesTree}
+use Rattle.btree_edit.specs.Rising.{MakesTree, BoundsRoot}
 use Rattle.btree_edit.specs.Swapping.{HasRecord, SwapsRecord, HasValueOf}
 use Rattle.btree_edit.specs.Sorted.{ChangesPair, EditsTree}
 use Rattle.std.proofs.lemmas.List.Sums.{get_or-le-sum_by}
@@ -399,3 +399,19 @@ is_found cmp key store desk node index found is finds stands =
 pub record_short : (store : Store) (leaf index size : ℕ) → HasRecord store leaf index size → size ≤ store.shape.node_size
 record_short store leaf index size has =
     omega (arith, has.long, get_or-le-sum_by (λ (bytes : List ℕ). length bytes + 2) (items (store.nodes leaf)) index [] has.inside, node_holds (store.nodes leaf) has.is_node.kind.cut, has.is_node.size)
+
+-- a swap leaves each node its number of records, and so the root
+pub bounds_swapped : (max : ℕ) (old mid new : Store) (node index : ℕ) (bytes : List ℕ) → mid.shape ≡ old.shape → SameNodes old mid → SwapsRecord node index bytes mid new → new.shape ≡ mid.shape → BoundsRoot max old new new.shape.depth new.shape.root
+bounds_swapped max old mid new node index bytes shape_read read swaps shape =
+    let deep : new.shape.depth ≡ old.shape.depth = ap (λ h. h.depth) (shape ∙ shape_read) in
+    let root : new.shape.root ≡ old.shape.root = ap (λ h. h.root) (shape ∙ shape_read) in
+    let long : length (items (new.nodes old.shape.root)) ≡ length (items (mid.nodes old.shape.root)) = elim (cases_eq old.shape.root node) [
+      | inl is ↦ subst (λ m. length (items (new.nodes m)) ≡ length (items (mid.nodes m))) (sym is) (ap length swaps.items ∙ length-set (items (mid.nodes node)) index bytes)
+      | inr other ↦ ap (λ l. length (items l)) (swaps.others old.shape.root other)
+    ] in
+    let same : length (items (new.nodes new.shape.root)) ≡ length (items (old.nodes old.shape.root)) = ap (λ n. length (items (new.nodes n))) root ∙ long ∙ ap (λ l. length (items l)) (read.nodes old.shape.root) in
+    record {
+      grown = λ some is. omega (arith, same);
+      two = λ some less. absurd (omega (arith, deep, less));
+      over = λ some less. absurd (omega (arith, deep, less));
+    }

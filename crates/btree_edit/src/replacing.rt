@@ -6,6 +6,7 @@ ghost use Rattle.btree_edit.specs.Desk.{IsDeskOf};
 ghost use Rattle.btree_edit.specs.Editing.{Does, edit_writes};
 ghost use Rattle.btree_edit.specs.Halves.{record_of};
 ghost use Rattle.btree_edit.specs.LevelEdit.{node_room};
+ghost use Rattle.btree_edit.specs.Rising.{BoundsRoot};
 ghost use Rattle.btree_edit.specs.Sorted.{HoldsKeyOf, ChangesPair, ReplacesPair, KeepsFreeNodes, EditsTree};
 ghost use Rattle.btree_edit.specs.Swapping.{HasRecord, SwapsRecord, HasValueOf, IsLeafWritten, ChangesLeafAlone};
 ghost use Rattle.btree_edit.specs.Answers.{AnswersRemove};
@@ -43,6 +44,8 @@ pub fn replace<N: NodeStore, K: KeyOrder>(
     ensures tree { IsTrue (N.state store.old).tells → OnOk result (IsTree K.is_key K.cmp (N.state store.new)) }
     // Nodes that aren't the tree's stay as they were.
     ensures others { IsTrue (N.state store.old).tells → OnOk result (KeepsFreeNodes (N.state store.old) (N.state store.new)) }
+    // An index root gets at most one record more, and the tree rises only where it has no room for one.
+    ensures roots { IsTrue (N.state store.old).tells → OnOk result (BoundsRoot K.MAX (N.state store.old) (N.state store.new) (N.state store.new).shape.depth (N.state store.new).shape.root) }
     // A value of the length of the old one changes the leaf alone, by one write, and keeps the shape.
     ensures alone { HasValueOf K.cmp key.now (length value.now) (N.state store.old) → OnOk result (ChangesLeafAlone K.cmp key.now (N.state store.old) (N.state store.new)) }
     ensures once { HasValueOf K.cmp key.now (length value.now) (N.state store.old) → Does 1 0 (N.state store.old) (N.state store.new) }
@@ -135,6 +138,9 @@ fn give_value<N: NodeStore, K: KeyOrder>(
         → length (desk.old.held.key ++ value.now) ≤ (N.state store.old).shape.node_size / 2 - 10
         → HoldsKeyOf K.cmp key.now (N.state store.old) desk.old.held.key
         → OnOk result (EditsTree K.is_key K.cmp (N.state store.old) (N.state store.new) (λ before after. ChangesPair K.cmp key.now value.now before after)) }
+    ensures roots { length value.now ≢ length desk.old.held.value → IsTrue (N.state store.old).tells → 3 * (K.MAX + 8) ≤ node_room (N.state store.old).shape.node_size
+        → length (desk.old.held.key ++ value.now) ≤ (N.state store.old).shape.node_size / 2 - 10 → HoldsKeyOf K.cmp key.now (N.state store.old) desk.old.held.key
+        → OnOk result (BoundsRoot K.MAX (N.state store.old) (N.state store.new) (N.state store.new).shape.depth (N.state store.new).shape.root) }
     ensures shape { length value.now ≡ length desk.old.held.value → (N.state store.new).shape ≡ (N.state store.old).shape }
     ensures does_one { length value.now ≡ length desk.old.held.value → Does 1 0 (N.state store.old) (N.state store.new) }
     ensures does { Does (edit_writes (N.state store.old).shape.depth) ((N.state store.old).shape.depth + 1) (N.state store.old) (N.state store.new) }

@@ -44,7 +44,7 @@ fn add_pair<K: KeyOrder>(store: &mut MemNodes, desk: &mut Desk, key: &[u8], valu
 /// Removes a pair where the conditions of `remove` hold.
 fn drop_pair<K: KeyOrder>(store: &mut MemNodes, desk: &mut Desk, key: &[u8]) -> bool {
     let shape = store.shape();
-    if !K::valid(key) || !is_desk_of(desk, shape.node_size) || shape.depth > 12 {
+    if !K::valid(key) || !is_desk_of(desk, shape.node_size) || shape.depth > 11 {
         return false;
     }
     if shape.depth as u32 + 1 > shape.free || !store.has_room(4 * (shape.depth as u32 + 1) + 4) {

@@ -5,13 +5,14 @@ use Rattle.std.proofs.lemmas.List.{length-append}
 use Rattle.btree_node.specs.Levels.{Pair}
 use Rattle.btree_node.specs.Tree.{pairs_of}
 use Rattle.btree_edit.specs.LevelEdit.{node_room}
+use Rattle.btree_edit.specs.Rising.{BoundsRoot}
 use Rattle.btree_edit.specs.Sorted.{ChangesPair, EditsTree}
 use Rattle.btree_edit.specs.Editing.{Does, edit_writes}
 use Rattle.btree_edit.specs.Swapping.{SwapsRecord}
 use Rattle.btree_edit.proofs.Crowning.{tree_kept}
 use Rattle.btree_edit.proofs.Doing.{does_both, does_read}
-use Rattle.btree_edit.proofs.Swaps.{is_found, found_key, found_size, has_record, value_swapped, key_once}
-use Rattle.btree_edit.proofs.Outcomes.{read_tree, read_pairs, edits_read}
+use Rattle.btree_edit.proofs.Swaps.{bounds_swapped, is_found, found_key, found_size, has_record, value_swapped, key_once}
+use Rattle.btree_edit.proofs.Outcomes.{read_tree, read_pairs, edits_read, bounds_read, bounds_same}
 use Rattle.btree_edit.proofs.replacing.replace.Given.{Over}
 use Rattle.btree_edit.proofs.replacing.replace.Goals.{In_ok-give_value-in-At}
 use Rattle.btree_edit.proofs.replacing.replace.Goals as goal
@@ -184,6 +185,7 @@ returns-in_ok-give_value-in-At-clause-alone g c = λ has.
 -- where the pair was found, its value is changed
 edits_found : (g : Over) (c : In_ok-give_value-in-At g) → IsTrue (g.N.NodeStore.state c.args.store.now).tells
     → EditsTree g.K.KeyOrder.is_key g.K.KeyOrder.cmp (g.N.NodeStore.state c.args.store.now) (g.N.NodeStore.state c.give_value.new.store) (λ before after. ChangesPair g.K.KeyOrder.cmp c.args.key.now c.args.value.now before after)
+    × BoundsRoot g.K.KeyOrder.MAX (g.N.NodeStore.state c.args.store.now) (g.N.NodeStore.state c.give_value.new.store) (g.N.NodeStore.state c.give_value.new.store).shape.depth (g.N.NodeStore.state c.give_value.new.store).shape.root
 edits_found g c tells =
     let s = g.N.NodeStore.state c.args.store.now in
     let m = g.N.NodeStore.state c.find.new.store in
@@ -200,9 +202,11 @@ edits_found g c tells =
       | inl same ↦
           let swaps : SwapsRecord c.in-At.node c.in-At.index (c.find.new.desk.held.key ++ c.args.value.now) m t =
           c.in_ok-give_value-in-At.ensures.swaps same (subst (λ b. IsTrue b) (sym reads.same.tells) tells)
-          (has_record g.met.K.KeyOrder.total g.met.K.KeyOrder.key_length s c.find.new.desk c.in-At.node c.in-At.index found.k key c.args.value.now tree found.stands found.holds found.item same m reads.same ((reads.tree tells).nodes c.in-At.node)) in
-          value_swapped g.met.K.KeyOrder.total g.met.K.KeyOrder.key_length s c.find.new.desk c.in-At.node c.in-At.index found.k key c.args.value.now tree found.stands found.holds found.item same
-          m t reads.same reads.shape (reads.tree tells) swaps (c.give_value.ensures.does_one same).same (c.give_value.ensures.shape same) small found.equal
+          (has_record g.met.K.KeyOrder.total g.met.K.KeyOrder.key_length s c.find.new.desk c.in-At.node c.in-At.index found.k key c.args.value.now tree found.stands found.holds found.item same m reads.same ((reads.tree tells).nodes c.in-At.node)) in (
+            value_swapped g.met.K.KeyOrder.total g.met.K.KeyOrder.key_length s c.find.new.desk c.in-At.node c.in-At.index found.k key c.args.value.now tree found.stands found.holds found.item same
+                m t reads.same reads.shape (reads.tree tells) swaps (c.give_value.ensures.does_one same).same (c.give_value.ensures.shape same) small found.equal,
+            bounds_swapped g.K.KeyOrder.MAX s m t c.in-At.node c.in-At.index (c.find.new.desk.held.key ++ c.args.value.now) reads.shape (reads.tree tells) swaps (c.give_value.ensures.shape same),
+          )
       | inr other ↦
           let same_pairs = read_pairs g.met.K.KeyOrder.key_length s.shape.depth s m reads tells small tree in
           let own : g.K.KeyOrder.is_key c.find.new.desk.held.key = found_key g.met.K.KeyOrder.total g.met.K.KeyOrder.key_length s c.find.new.desk c.in-At.node c.in-At.index found.k key c.find.new.desk.held.value tree found.stands found.holds found.item refl in
@@ -213,18 +217,21 @@ edits_found g c tells =
           let inside : found.k < length (pairs_of m) = omega (arith, found.holds.inside, ap length same_pairs) in
           let equal_m : cmp (get_or (pairs_of m) found.k ([], [])).0 key ≡ Equal = ap (λ (l : List Pair). cmp (get_or l found.k ([], [])).0 key) same_pairs ∙ equal in
           let stored : c.find.new.desk.held.key ≡ (get_or (pairs_of m) found.k ([], [])).0 = found.holds.key ∙ ap (λ (l : List Pair). (get_or l found.k ([], [])).0) (sym same_pairs) in
-          edits_read g.met.K.KeyOrder.key_length s.shape.depth s m reads tells small tree t (λ before after. ChangesPair cmp key c.args.value.now before after)
-          (c.in_ok-give_value-in-At.ensures.changes other (subst (λ b. IsTrue b) (sym reads.same.tells) tells) wide short (found.k, inside, equal_m, stored))
+          let told : IsTrue m.tells = subst (λ b. IsTrue b) (sym reads.same.tells) tells in (
+            edits_read g.met.K.KeyOrder.key_length s.shape.depth s m reads tells small tree t (λ before after. ChangesPair cmp key c.args.value.now before after)
+                (c.in_ok-give_value-in-At.ensures.changes other (subst (λ b. IsTrue b) (sym reads.same.tells) tells) wide short (found.k, inside, equal_m, stored)),
+            bounds_read g.K.KeyOrder.MAX s.shape.depth s m t t.shape.depth t.shape.root reads tells (c.in_ok-give_value-in-At.ensures.roots other told wide short (found.k, inside, equal_m, stored)),
+          )
     ]
 
 pub returns-in_ok-give_value-in-At-clause-pairs : goal.returns-in_ok-give_value-in-At-clause-pairs
-returns-in_ok-give_value-in-At-clause-pairs g c = λ tells. (edits_found g c tells).pairs
+returns-in_ok-give_value-in-At-clause-pairs g c = λ tells. (edits_found g c tells).0.pairs
 
 pub returns-in_ok-give_value-in-At-clause-tree : goal.returns-in_ok-give_value-in-At-clause-tree
-returns-in_ok-give_value-in-At-clause-tree g c = λ tells. (edits_found g c tells).tree
+returns-in_ok-give_value-in-At-clause-tree g c = λ tells. (edits_found g c tells).0.tree
 
 pub returns-in_ok-give_value-in-At-clause-others : goal.returns-in_ok-give_value-in-At-clause-others
-returns-in_ok-give_value-in-At-clause-others g c = λ tells. (edits_found g c tells).others
+returns-in_ok-give_value-in-At-clause-others g c = λ tells. (edits_found g c tells).0.others
 
 pub returns-in-Absent-clause-pairs : goal.returns-in-Absent-clause-pairs
 returns-in-Absent-clause-pairs g c = λ tells.
@@ -255,3 +262,10 @@ returns-in_ok-give_value-in-At-clause-does g c =
     let depth : m.shape.depth ≡ s.shape.depth = ap (λ h. h.depth) reads.shape in
     subst (λ d. Does (edit_writes d) (d + 1) s (g.N.NodeStore.state c.give_value.new.store)) depth
     (does_both 0 0 (edit_writes m.shape.depth) (m.shape.depth + 1) (edit_writes m.shape.depth) (m.shape.depth + 1) (does_read s.shape.depth reads c.find.ensures.cause.later) c.give_value.ensures.does (omega arith) (omega arith))
+
+pub returns-in_ok-give_value-in-At-clause-roots : goal.returns-in_ok-give_value-in-At-clause-roots
+returns-in_ok-give_value-in-At-clause-roots g c = λ tells. (edits_found g c tells).1
+
+pub returns-in-Absent-clause-roots : goal.returns-in-Absent-clause-roots
+returns-in-Absent-clause-roots g c = λ tells.
+    bounds_same g.K.KeyOrder.MAX (g.N.NodeStore.state c.args.store.now).shape.depth (g.N.NodeStore.state c.args.store.now) (g.N.NodeStore.state c.find.new.store) c.find.ensures.reads tells
