@@ -3,6 +3,7 @@ use Rattle.std.proofs.Common.{◌≡◌, ◌≢◌, ◌⊎◌, ℕ, zero, suc, a
 use Rattle.std.proofs.lemmas.Bool.{cases_lt, cases_eq}
 use Rattle.std.proofs.lemmas.Bool.Decides.{eqb_tells}
 use Rattle.std.proofs.lemmas.List.{nil_from_length, length-append, length-map, length-take, length-take-le, length-drop, get_or-take, get_or-drop, get_or-map, append-nil}
+use Rattle.std.proofs.Math.Nat.{mul-le-mul_left}
 use Rattle.std.specs.Prelude.{eqb}
 use Rattle.std.specs.declared.cmp.Ordering.{Ordering}
 use Rattle.hx_bytes.specs.Field.{big_at}
@@ -16,14 +17,14 @@ use Rattle.btree_node.proofs.Ranks.{in_node, level_long}
 use Rattle.btree_edit.specs.LevelEdit.{bit, times, head_or, last_or, taken, node_room, parts_of, records_on, edited, IsInLevel, FitsTwo, CanEdit, LevelEdit}
 use Rattle.btree_edit.specs.Climb.{LevelLists, IsLevel, NoneEmpty, IsTreeBut}
 use Rattle.btree_edit.specs.Way.{stop_at, way_place, IsWay}
-use Rattle.btree_edit.specs.Rising.{leaf_start, leaves_edited, AreOfOneLength, CanClimb, Climbs}
+use Rattle.btree_edit.specs.Rising.{leaf_start, leaves_edited, IsThrifty, AreOfOneLength, CanClimb, Climbs}
 use Rattle.btree_edit.specs.declared.desk.Desk.{Desk}
 use Rattle.btree_edit.specs.declared.desk.Stop.{Stop}
 use Rattle.btree_edit.proofs.Counting.{bit_true, bit_other, times-append, times_at, times_place}
 use Rattle.btree_edit.proofs.Descent.{split_at}
 use Rattle.btree_edit.proofs.Splices.{length-splice, spliced_middle, each_spliced, splice_same}
 use Rattle.btree_edit.proofs.Naming.{names_same, named_at, names_long, name_long, names_keys, names_short, names_ascend, first_is_key}
-use Rattle.btree_edit.proofs.Fitting.{taken_fits, taken_put, taken_replaced, taken_one, taken_two}
+use Rattle.btree_edit.proofs.Fitting.{taken_fits, taken_put, taken_replaced, taken_one, taken_two, taken_each}
 use Rattle.btree_edit.proofs.Linking.{head_get, last_get, head_or-append, last_or-append, last_some}
 use Rattle.btree_edit.proofs.Stepping.{stepped, records_then, others_kept, front_other, back_other, before_is, behind_is}
 use Rattle.btree_edit.proofs.Whole.{but_of_tree}
@@ -32,8 +33,8 @@ use Rattle.btree_edit.proofs.Spots.{spot_of}
 use Rattle.btree_edit.proofs.Repeated.{same_store_both}
 
 -- where a climb is: so many levels are done, and this is handed on to the next
-pub record IsAscent (is_key : List ℕ → Type 0) (cmp : List ℕ → List ℕ → Ordering) (a s : Store) (path : List Stop) (at : ℕ) (removed : Bool) (put : List (List ℕ)) (spare : ℕ)
-    (shape : TreeShape) (desk : Desk) (done next : ℕ) (gone : Bool) (left : ℕ) : Type 0 where
+pub record IsAscent (is_key : List ℕ → Type 0) (cmp : List ℕ → List ℕ → Ordering) (max : ℕ) (a s : Store) (path : List Stop) (at : ℕ) (removed : Bool) (put : List (List ℕ)) (spare : ℕ)
+    (shape : TreeShape) (desk : Desk) (done next : ℕ) (gone : Bool) (left budget : ℕ) : Type 0 where
   pub levels : LevelLists
   pub fresh : ℕ
   pub but : IsTreeBut is_key cmp s a.shape.depth levels (a.shape.depth - done) (way_place a path (a.shape.depth - done)) (records_on next desk)
@@ -45,11 +46,14 @@ pub record IsAscent (is_key : List ℕ → Type 0) (cmp : List ℕ → List ℕ 
   pub few : next ≤ 2
   pub alone : AreOfOneLength is_key → put ≡ [] → next ≤ 1
   pub enough : spare ≤ left + done
+  pub thrift : IsThrifty a.shape.depth levels done budget
   pub first : shape.first ≡ head_or (levels (a.shape.depth - 1)) 0
   pub last : shape.last ≡ last_or (levels (a.shape.depth - 1)) 0
   pub root : shape.root ≡ a.shape.root
   pub depth : shape.depth ≡ a.shape.depth
   pub single : (i : ℕ) → i < a.shape.depth → length (levels i) ≡ 1 → a.used (get_or (levels i) 0 0) ≡ true
+  pub grown : 0 < done → a.shape.depth ≡ done → 1 < a.shape.depth → next ≡ 1 → length (items (s.nodes a.shape.root)) ≤ length (items (a.nodes a.shape.root)) + 1
+  pub over : 0 < done → a.shape.depth ≡ done → 1 < a.shape.depth → next ≡ 2 → node_room a.shape.node_size < (max + 8) * (length (items (a.nodes a.shape.root)) + 1)
   pub others : (n : ℕ) → a.reserved n ≡ false → a.used n ≡ false → s.used n ≡ false → s.nodes n ≡ a.nodes n
 
 last_is : (l : List ℕ) → get_or l (length l - 1) 0 ≡ last_or l 0
@@ -98,7 +102,7 @@ module _ {is_key : List ℕ → Type 0} {cmp : List ℕ → List ℕ → Orderin
 
     -- at first nothing is done
     pub ascent_start : (shape : TreeShape) (desk : Desk) (next : ℕ) → shape ≡ a.shape → records_on next desk ≡ put → next ≤ 2
-        → IsAscent is_key cmp a a path at removed put spare shape desk 0 next removed spare
+        → IsAscent is_key cmp max a a path at removed put spare shape desk 0 next removed spare (4 * a.shape.depth)
     ascent_start shape desk next shape_is on few =
         let deep : a.shape.depth - 0 ≡ a.shape.depth = omega arith in
         let leaf : a.shape.depth - 1 + 1 ≡ a.shape.depth = omega (arith, can.some) in
@@ -115,20 +119,23 @@ module _ {is_key : List ℕ → Type 0} {cmp : List ℕ → List ℕ → Orderin
           few = few;
           alone = λ one none. omega (arith, ap length (on ∙ none), length-take next ((desk.first.key ++ desk.first.value) ∷ (desk.second.key ++ desk.second.value) ∷ []));
           enough = omega arith;
+          thrift = record { split = 0; low = omega arith; twin = λ some. absurd (omega arith); enough = omega arith };
           first = ap (λ h. h.first) shape_is ∙ can.tree.header.first (a.shape.depth - 1) leaf ∙ head_get (level_of a (a.shape.depth - 1));
           last = ap (λ h. h.last) shape_is ∙ can.tree.header.last (a.shape.depth - 1) leaf ∙ last_is (level_of a (a.shape.depth - 1));
           root = ap (λ h. h.root) shape_is;
           depth = ap (λ h. h.depth) shape_is;
           single = λ i low one. used_in_tree i 0 low (omega arith);
+          grown = λ some. absurd (omega arith);
+          over = λ some. absurd (omega arith);
           others = λ n free unused still. refl;
         }
 
     -- a store that was read
-    pub ascent_read : (s t : Store) (shape : TreeShape) (desk desk2 : Desk) (done next : ℕ) (gone : Bool) (left : ℕ)
+    pub ascent_read : (s t : Store) (shape : TreeShape) (desk desk2 : Desk) (done next : ℕ) (gone : Bool) (left budget : ℕ)
         → t.shape ≡ s.shape → ((n : ℕ) → t.nodes n ≡ s.nodes n) → ((n : ℕ) → t.used n ≡ s.used n) → ((n : ℕ) → t.reserved n ≡ s.reserved n)
         → records_on next desk2 ≡ records_on next desk
-        → IsAscent is_key cmp a s path at removed put spare shape desk done next gone left → IsAscent is_key cmp a t path at removed put spare shape desk2 done next gone left
-    ascent_read s t shape desk desk2 done next gone left same nodes used reserved on asc =
+        → IsAscent is_key cmp max a s path at removed put spare shape desk done next gone left budget → IsAscent is_key cmp max a t path at removed put spare shape desk2 done next gone left budget
+    ascent_read s t shape desk desk2 done next gone left budget same nodes used reserved on asc =
         let same_all : (ns : List ℕ) → entries t.nodes ns ≡ entries s.nodes ns = λ ns. same_entries s.nodes t.nodes ns (λ k inside. ap items (nodes (get_or ns k 0))) in
         record {
           levels = asc.levels;
@@ -144,18 +151,21 @@ module _ {is_key : List ℕ → Type 0} {cmp : List ℕ → List ℕ → Orderin
           few = asc.few;
           alone = asc.alone;
           enough = asc.enough;
+          thrift = asc.thrift;
           first = asc.first;
           last = asc.last;
           root = asc.root;
           depth = asc.depth;
           single = asc.single;
+          grown = λ some all deep one. omega (arith, asc.grown some all deep one, ap (λ l. length (items l)) (nodes a.shape.root));
+          over = asc.over;
           others = λ n free unused still. nodes n ∙ asc.others n free unused (sym (used n) ∙ still);
         }
 
     -- the node of the way is one of the tree
-    pub way_node : (s : Store) (shape : TreeShape) (desk : Desk) (done next : ℕ) (gone : Bool) (left : ℕ) → IsAscent is_key cmp a s path at removed put spare shape desk done next gone left
+    pub way_node : (s : Store) (shape : TreeShape) (desk : Desk) (done next : ℕ) (gone : Bool) (left budget : ℕ) → IsAscent is_key cmp max a s path at removed put spare shape desk done next gone left budget
         → (j : ℕ) → j + (done + 1) ≡ a.shape.depth → IsTreeNode s (done + 1) (stop_at path j).node
-    way_node s shape desk done next gone left asc j j_is =
+    way_node s shape desk done next gone left budget asc j j_is =
         let of_tree : j < a.shape.depth = omega arith in
         let is : asc.levels j ≡ level_of a j = asc.old_levels j (omega arith) in
         let inside : way_place a path j < length (asc.levels j) = omega (arith, can.way.inside j of_tree, ap length is) in
@@ -164,8 +174,8 @@ module _ {is_key : List ℕ → Type 0} {cmp : List ℕ → List ℕ → Orderin
         (subst (λ n. IsTreeNode s (a.shape.depth - j) n) node ((asc.but.each j of_tree).nodes (way_place a path j) inside))
 
     -- the next level
-    module _ (s : Store) (same : SameStore a s) (shape : TreeShape) (desk : Desk) (done next : ℕ) (gone : Bool) (left : ℕ)
-        (asc : IsAscent is_key cmp a s path at removed put spare shape desk done next gone left)
+    module _ (s : Store) (same : SameStore a s) (shape : TreeShape) (desk : Desk) (done next : ℕ) (gone : Bool) (left budget : ℕ)
+        (asc : IsAscent is_key cmp max a s path at removed put spare shape desk done next gone left budget)
         (j : ℕ) (j_is : j + (done + 1) ≡ a.shape.depth) (p : ℕ) (p_leaf : done ≡ 0 → p ≡ at) (p_above : 0 < done → p ≡ (stop_at path j).at)
       where
         abbrev pub node : ℕ
@@ -484,6 +494,7 @@ module _ {is_key : List ℕ → Type 0} {cmp : List ℕ → List ℕ → Orderin
 
         module _ (t : Store) (count : ℕ) (changed : Bool) (desk2 : Desk) (shape2 : TreeShape) (left2 : ℕ)
             (edit : LevelEdit s t (a.shape.depth - j) node p gone (records_on next desk) count changed desk2 shape shape2) (spent : left ≤ left2 + 1)
+            (budget2 cost : ℕ) (paid : budget ≤ budget2 + cost) (cheap : cost ≤ 4) (thrifty : (count ≡ 2) ⊎ (cost ≤ 3))
           where
             abbrev pub parts : List ℕ
             parts = parts_of count node edit.fresh
@@ -700,7 +711,53 @@ module _ {is_key : List ℕ → Type 0} {cmp : List ℕ → List ℕ → Orderin
               | inr other ↦ omega (arith, edit.most)
             ]
 
-            pub ascent_step : IsAscent is_key cmp a t path at removed put spare shape2 desk2 (done + 1) count true left2
+            -- the root's records, where it is the last to be changed
+            edited_long : 0 < done → length (edited s node p gone (records_on next desk)) ≤ length (items (s.nodes node)) + 1
+            edited_long some =
+                let long = length-splice (items (s.nodes node)) (records_on next desk) p (p + bit gone) (omega arith) within [] in
+                omega (arith, long, ap bit (asc.later some).0, put_few some)
+
+            root_grown : j ≡ 0 → 0 < done → count ≡ 1 → length (items (t.nodes a.shape.root)) ≤ length (items (a.nodes a.shape.root)) + 1
+            root_grown top some one =
+                let made : items (t.nodes node) ≡ edited s node p gone (records_on next desk) =
+                sym (append-nil (items (t.nodes node))) ∙ ap (λ c. entries t.nodes (parts_of c node edit.fresh)) (sym one) ∙ edit.records in
+                omega (
+                  arith,
+                  ap length made,
+                  edited_long some,
+                  ap length node_same,
+                  ap (λ n. length (items (t.nodes n))) (root_is top),
+                  ap (λ n. length (items (a.nodes n))) (root_is top),
+                )
+
+            root_over : j ≡ 0 → 0 < done → count ≡ 2 → node_room a.shape.node_size < (max + 8) * (length (items (a.nodes a.shape.root)) + 1)
+            root_over top some two =
+                let full = edit.split two in
+                let each = taken_each (max + 8) (edited s node p gone (records_on next desk)) (edited_each (λ r. length r + 2 ≤ max + 8) (old_most some) (put_most some)) in
+                let more : (max + 8) * length (edited s node p gone (records_on next desk)) ≤ (max + 8) * (length (items (a.nodes a.shape.root)) + 1) =
+                mul-le-mul_left (max + 8) (omega (arith, edited_long some, ap length node_same, ap (λ n. length (items (a.nodes n))) (root_is top))) in
+                omega (arith, full, each, more, size_same)
+
+            thrift_then : IsThrifty a.shape.depth levels2 (done + 1) budget2
+            thrift_then = elim thrifty [
+              | inl two ↦
+                  let here : a.shape.depth - (done + 1) ≡ j = omega arith in
+                  let long : length parts ≡ count = length-take-le count (node ∷ edit.fresh ∷ []) edit.most in
+                  record {
+                    split = done + 1;
+                    low = omega arith;
+                    twin = λ some. omega (arith, ap (λ i. length (levels2 i)) here, ap length at_j, length-append xs (parts ++ ys), length-append parts ys, long);
+                    enough = omega (arith, asc.thrift.enough, asc.thrift.low, paid, cheap);
+                  }
+              | inr few ↦ record {
+                split = asc.thrift.split;
+                low = omega (arith, asc.thrift.low);
+                twin = λ some. subst (λ l. 2 ≤ length l) (sym (elsewhere (a.shape.depth - asc.thrift.split) (λ e. absurd (omega (arith, asc.thrift.low))))) (asc.thrift.twin some);
+                enough = omega (arith, asc.thrift.enough, paid);
+              }
+            ]
+
+            pub ascent_step : IsAscent is_key cmp max a t path at removed put spare shape2 desk2 (done + 1) count true left2 budget2
             ascent_step =
                 let from2 : j ≡ a.shape.depth - (done + 1) = omega arith in
                 let as_handed : IsTreeBut is_key cmp t a.shape.depth levels2 j (way_place a path j) (records_on count desk2) =
@@ -722,11 +779,14 @@ module _ {is_key : List ℕ → Type 0} {cmp : List ℕ → List ℕ → Orderin
                   few = edit.most;
                   alone = alone_then;
                   enough = omega (arith, asc.enough, spent);
+                  thrift = thrift_then;
                   first = front_is;
                   last = back_is;
                   root = edit.ends.root ∙ asc.root;
                   depth = edit.ends.depth ∙ asc.depth;
                   single = single_then;
+                  grown = λ some all deep one. root_grown (omega arith) (omega arith) one;
+                  over = λ some all deep two. root_over (omega arith) (omega arith) two;
                   others = others_then;
                 }
 
@@ -778,7 +838,7 @@ module _ {is_key : List ℕ → Type 0} {cmp : List ℕ → List ℕ → Orderin
                 | inr none ↦ let root : j ≡ 0 = omega arith in top_parts root ∙ parts_is ∙ ap (λ n. n ∷ []) (root_is root)
               ]
 
-              pub ascent_stop : Climbs is_key cmp a t (leaves_edited a path at removed put) shape2 1 left2 desk2
+              pub ascent_stop : Climbs is_key cmp max a t (leaves_edited a path at removed put) shape2 1 left2 desk2 budget2
               ascent_stop = record {
                 levels = levels2;
                 fresh = 0;
@@ -811,14 +871,20 @@ module _ {is_key : List ℕ → Type 0} {cmp : List ℕ → List ℕ → Orderin
                 root = edit.ends.root ∙ asc.root;
                 depth = edit.ends.depth ∙ asc.depth;
                 alone = single_then;
+                thrift = record { split = thrift_then.split; low = omega (arith, thrift_then.low); twin = thrift_then.twin; enough = omega (arith, thrift_then.enough) };
+                grown = λ deep one. elim (cases_lt 0 j) [
+                  | inl above_root ↦ omega (arith, ap (λ l. length (items l)) (kept2 0 0 above_root (omega arith)))
+                  | inr none ↦ root_grown (omega arith) (omega arith) one_part
+                ];
+                over = λ deep two. absurd (omega arith);
                 same = same_store_both same edit.same;
                 others = others_then;
               }
 
     -- all levels are done
-    pub ascent_end : (s : Store) → SameStore a s → (shape : TreeShape) (desk : Desk) (done next : ℕ) (gone : Bool) (left : ℕ) → a.shape.depth ≡ done
-        → IsAscent is_key cmp a s path at removed put spare shape desk done next gone left → Climbs is_key cmp a s (leaves_edited a path at removed put) shape next left desk
-    ascent_end s same shape desk done next gone left all asc =
+    pub ascent_end : (s : Store) → SameStore a s → (shape : TreeShape) (desk : Desk) (done next : ℕ) (gone : Bool) (left budget : ℕ) → a.shape.depth ≡ done
+        → IsAscent is_key cmp max a s path at removed put spare shape desk done next gone left budget → Climbs is_key cmp max a s (leaves_edited a path at removed put) shape next left desk budget
+    ascent_end s same shape desk done next gone left budget all asc =
         let some : 0 < done = omega (arith, can.some) in
         record {
           levels = asc.levels;
@@ -835,6 +901,9 @@ module _ {is_key : List ℕ → Type 0} {cmp : List ℕ → List ℕ → Orderin
           root = asc.root;
           depth = asc.depth;
           alone = asc.single;
+          thrift = record { split = asc.thrift.split; low = omega (arith, asc.thrift.low); twin = asc.thrift.twin; enough = omega (arith, asc.thrift.enough) };
+          grown = λ deep one. asc.grown some all deep one;
+          over = λ deep two. asc.over some all deep two;
           same = same;
           others = asc.others;
         }

@@ -59,6 +59,13 @@ taken_two longest (r ∷ rs) few each =
     let first : length r + 2 ≤ longest = each 0 (omega arith) in
     omega (arith, taken_cons r rs, taken_one longest rs (omega arith) (λ k inside. each (suc k) (omega arith)))
 
+pub taken_each : (longest : ℕ) (rs : List (List ℕ)) → ((k : ℕ) → k < length rs → length (get_or rs k []) + 2 ≤ longest) → taken rs ≤ longest * length rs
+taken_each longest [] each = omega arith
+taken_each longest (r ∷ rs) each =
+    let first : length r + 2 ≤ longest = each 0 (omega arith) in
+    let rest = taken_each longest rs (λ k inside. each (suc k) (omega arith)) in
+    omega (arith, taken_cons r rs, first, rest)
+
 pub size_least : (n : ℕ) → IsNodeSize n → 512 ≤ n
 size_least n (inl is) = omega arith
 size_least n (inr (inl is)) = omega arith

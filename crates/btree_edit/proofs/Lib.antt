@@ -18,3 +18,6 @@ pub mod OneLevel
 pub mod Ways
 pub mod Settling
 pub mod Doing
+pub mod Swaps
+pub mod PairEdits
+pub mod Outcomes

@@ -6,8 +6,8 @@ use Rattle.hx_bytes.specs.Field.{big_at}
 use Rattle.btree_node.specs.Node.{items}
 use Rattle.btree_node.specs.Levels.{Pair, entries, key_of, value_of}
 use Rattle.btree_node.specs.Store.{Store}
-use Rattle.btree_node.specs.Tree.{HasLevels, IsOrdered}
-use Rattle.btree_edit.specs.Desk.{Finds, Picks, HoldsNone, HoldsPair, StandsIn, IsInTree}
+use Rattle.btree_node.specs.Tree.{pairs_of, HasLevels, IsOrdered}
+use Rattle.btree_edit.specs.Desk.{HasKey, Finds, Picks, HoldsNone, HoldsPair, StandsIn, IsInTree}
 use Rattle.btree_edit.specs.Reading.{LeadsTo, HasNoKey, IsPlace}
 use Rattle.btree_edit.specs.declared.desk.Desk.{Desk}
 use Rattle.btree_edit.specs.declared.finding.Found.{Found}
@@ -70,3 +70,10 @@ module _ (is_key : List ℕ → Type 0) (cmp : List ℕ → List ℕ → Orderin
           }),
         )
     stands Absent picked = tt
+
+-- where a pair was found, the tree has the key
+pub found_key : (cmp : List ℕ → List ℕ → Ordering) (key : List ℕ) (store : Store) (desk : Desk) (node index : ℕ) → Finds cmp key store desk (At node index) → HasKey cmp key (pairs_of store)
+found_key cmp key store desk node index found =
+    let k = found.1.0 in
+    let holds = found.1.1 in
+    (k, holds.inside, ap (λ l. cmp l key) (sym holds.key) ∙ found.0)

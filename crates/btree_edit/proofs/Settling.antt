@@ -15,7 +15,7 @@ use Rattle.btree_edit.specs.Held.{HeldPair}
 use Rattle.btree_edit.specs.Halves.{record_of, put_of}
 use Rattle.btree_edit.specs.LevelEdit.{bit, times, head_or, last_or, taken, node_room, records_on}
 use Rattle.btree_edit.specs.Climb.{LevelLists, IsLevel, NoneEmpty, IsTreeBut}
-use Rattle.btree_edit.specs.Rising.{Climbs, leaf_records, Rises, IsLowering, MakesTree, IsBare, IsLeafRecord, TakesNode}
+use Rattle.btree_edit.specs.Rising.{Climbs, leaf_records, Rises, IsLowering, BoundsRoot, HasThickRoot, MakesTree, IsBare, IsLeafRecord, TakesNode}
 use Rattle.btree_edit.specs.declared.desk.Desk.{Desk}
 use Rattle.btree_edit.proofs.Counting.{bit_same, bit_other, bit_most, bit_true}
 use Rattle.btree_edit.proofs.Fitting.{taken_one, taken_two}
@@ -63,9 +63,9 @@ module _ {is_key : List ℕ → Type 0} {cmp : List ℕ → List ℕ → Orderin
     (key_length : (x : List ℕ) → is_key x → length x ≡ big_at 2 x 0 + 2) (key_most : (x : List ℕ) → is_key x → length x ≤ max + 2)
   where
     -- what two records that name nodes take
-    pub two_fit : (start s : Store) (records : List (List ℕ)) (shape : TreeShape) (left : ℕ) (desk : Desk) → Climbs is_key cmp start s records shape 2 left desk → 0 < start.shape.depth
+    pub two_fit : (start s : Store) (records : List (List ℕ)) (shape : TreeShape) (left budget : ℕ) (desk : Desk) → Climbs is_key cmp max start s records shape 2 left desk budget → 0 < start.shape.depth
         → 3 * (max + 8) ≤ node_room s.shape.node_size → taken (put_of 2 desk.first desk.second) ≤ node_room s.shape.node_size
-    two_fit start s records shape left desk climbs some wide =
+    two_fit start s records shape left budget desk climbs some wide =
         let names : records_on 2 desk ≡ map (λ n. record_for s.nodes n) (climbs.levels 0) = climbs.handed refl in
         let level = climbs.but.each 0 some in
         let each = names_short is_key cmp key_length s.nodes (climbs.levels 0) (climbs.but.some 0 some (inr (omega arith))) level.keys (max + 2) key_most in
@@ -74,11 +74,11 @@ module _ {is_key : List ℕ → Type 0} {cmp : List ℕ → List ℕ → Orderin
         omega (arith, taken_two (max + 8) (records_on 2 desk) (omega arith) here)
 
     -- a root above two nodes
-    pub rises_raised : (start s t : Store) (records : List (List ℕ)) (shape : TreeShape) (left : ℕ) (desk : Desk) → Climbs is_key cmp start s records shape 2 left desk → 0 < start.shape.depth
+    pub rises_raised : (start s t : Store) (records : List (List ℕ)) (shape : TreeShape) (left budget : ℕ) (desk : Desk) → Climbs is_key cmp max start s records shape 2 left desk budget → 0 < start.shape.depth
         → (node : ℕ) (bytes : List ℕ) → TakesNode s t node bytes → IsNodeOf (kind_at (shape.depth + 1)) (shape.depth + 1) bytes → length bytes ≡ s.shape.node_size
         → next_of bytes ≡ 0 → back_of bytes ≡ 0 → items bytes ≡ put_of 2 desk.first desk.second
-        → Rises is_key cmp start t records (record shape { depth = shape.depth + 1; root = node })
-    rises_raised start s t records shape left desk climbs some node bytes takes is_node size next back are =
+        → Rises is_key cmp max start t records (record shape { depth = shape.depth + 1; root = node })
+    rises_raised start s t records shape left budget desk climbs some node bytes takes is_node size next back are =
         let names : items bytes ≡ map (λ n. record_for s.nodes n) (climbs.levels 0) = are ∙ climbs.handed refl in
         let level = climbs.but.each 0 some in
         let none_empty = climbs.but.some 0 some (inr (omega arith)) in
@@ -90,11 +90,11 @@ module _ {is_key : List ℕ → Type 0} {cmp : List ℕ → List ℕ → Orderin
           size = ap length takes.here ∙ size ∙ sym takes.same.node_size;
         } in
         let but = topped key_length s t start.shape.depth climbs.levels 0 [] climbs.but node tree_node
-            (ap next_of takes.here ∙ next) (ap back_of takes.here ∙ back)
-            (omega (arith, ap length (ap items takes.here ∙ are)))
-            (subst (λ l. (k : ℕ) → k < length l → is_key (key_of (get_or l k []))) (sym here) (names_keys is_key cmp key_length s.nodes (climbs.levels 0) none_empty level.keys))
-            (subst (λ l. Ascends cmp l) (sym here) (names_ascend is_key cmp key_length s.nodes (climbs.levels 0) none_empty level.keys level.ascends))
-            (λ none. absurd (omega arith)) (λ any. here) takes.others takes.used takes.same.node_size takes.same.total takes.free takes.same.reserved in
+        (ap next_of takes.here ∙ next) (ap back_of takes.here ∙ back)
+        (omega (arith, ap length (ap items takes.here ∙ are)))
+        (subst (λ l. (k : ℕ) → k < length l → is_key (key_of (get_or l k []))) (sym here) (names_keys is_key cmp key_length s.nodes (climbs.levels 0) none_empty level.keys))
+        (subst (λ l. Ascends cmp l) (sym here) (names_ascend is_key cmp key_length s.nodes (climbs.levels 0) none_empty level.keys level.ascends))
+        (λ none. absurd (omega arith)) (λ any. here) takes.others takes.used takes.same.node_size takes.same.total takes.free takes.same.reserved in
         let deep : suc start.shape.depth ≡ shape.depth + 1 = sym at in
         let low : start.shape.depth ≡ suc (start.shape.depth - 1) = omega arith in
         let lowest : (f : ℕ → List ℕ) → above node climbs.levels start.shape.depth ≡ climbs.levels (start.shape.depth - 1) = λ f. ap (λ i. above node climbs.levels i) low in
@@ -111,6 +111,11 @@ module _ {is_key : List ℕ → Type 0} {cmp : List ℕ → List ℕ → Orderin
           first = λ any. climbs.first ∙ ap (λ l. head_or l 0) (sym (lowest (λ i. [])) ∙ ap (λ i. above node climbs.levels i) {y = shape.depth + 1 - 1} (omega arith));
           last = λ any. climbs.last ∙ ap (λ l. last_or l 0) (sym (lowest (λ i. [])) ∙ ap (λ i. above node climbs.levels i) {y = shape.depth + 1 - 1} (omega arith));
           none = λ none. absurd (omega arith);
+          bounds = record {
+            grown = λ deep_start same_depth. absurd (omega (arith, climbs.depth));
+            two = λ any less. ap length (ap items takes.here ∙ are);
+            over = λ deep_start less. climbs.over deep_start refl;
+          };
           same = same_store_both climbs.same takes.same;
           others = others_taken start s t node bytes takes climbs.same climbs.others;
         }
@@ -119,7 +124,7 @@ module _ {is_key : List ℕ → Type 0} {cmp : List ℕ → List ℕ → Orderin
     pub rises_planted : (s t : Store) (shape : TreeShape) (bytes rec : List ℕ) → IsBare is_key cmp s → IsLeafRecord is_key s rec
         → (node : ℕ) → TakesNode s t node bytes → IsNodeOf (kind_at 1) 1 bytes → length bytes ≡ s.shape.node_size
         → next_of bytes ≡ 0 → back_of bytes ≡ 0 → items bytes ≡ rec ∷ []
-        → Rises is_key cmp s t (rec ∷ []) (record shape { depth = 1; root = node; first = node; last = node })
+        → Rises is_key cmp max s t (rec ∷ []) (record shape { depth = 1; root = node; first = node; last = node })
     rises_planted s t shape bytes rec bare is_record node takes is_node size next back are =
         let here : items (t.nodes node) ≡ rec ∷ [] = ap items takes.here ∙ are in
         let tree_node : IsTreeNode t 1 node = record {
@@ -130,9 +135,9 @@ module _ {is_key : List ℕ → Type 0} {cmp : List ℕ → List ℕ → Orderin
         let only : (P : List ℕ → Type 0) → P rec → (k : ℕ) → k < length (items (t.nodes node)) → P (get_or (items (t.nodes node)) k []) = λ P h.
         subst (λ l. (k : ℕ) → k < length l → P (get_or l k [])) (sym here) (λ k inside. subst (λ i. P (get_or (rec ∷ []) i [])) {x = 0} (omega arith) h) in
         let but = topped key_length s t 0 (λ j. []) 0 [] bare node tree_node (ap next_of takes.here ∙ next) (ap back_of takes.here ∙ back) (omega (arith, ap length here))
-            (only (λ r. is_key (key_of r)) is_record.key)
-            (subst (λ l. Ascends cmp l) (sym here) (λ i j less inside. absurd (omega arith)))
-            (λ none. only (λ r. length r ≤ s.shape.node_size / 2 - 10) is_record.short) (λ some. absurd (omega arith)) takes.others takes.used takes.same.node_size takes.same.total takes.free takes.same.reserved in
+        (only (λ r. is_key (key_of r)) is_record.key)
+        (subst (λ l. Ascends cmp l) (sym here) (λ i j less inside. absurd (omega arith)))
+        (λ none. only (λ r. length r ≤ s.shape.node_size / 2 - 10) is_record.short) (λ some. absurd (omega arith)) takes.others takes.used takes.same.node_size takes.same.total takes.free takes.same.reserved in
         record {
           levels = above node (λ j. []);
           but = but;
@@ -141,14 +146,15 @@ module _ {is_key : List ℕ → Type 0} {cmp : List ℕ → List ℕ → Orderin
           first = λ any. refl;
           last = λ any. refl;
           none = λ none. absurd (omega arith);
+          bounds = record { grown = λ deep same_depth. absurd (omega arith); two = λ any less. absurd (omega arith); over = λ deep less. absurd (omega arith) };
           same = takes.same;
           others = λ n free unused still. takes.others n free (λ e. absurd (omega (arith, takes.used n, ap bit still, bit_same node n (sym e))));
         }
 
     -- a tree whose leaves are gone
-    pub rises_emptied : (start s : Store) (records : List (List ℕ)) (shape after : TreeShape) (left : ℕ) (desk : Desk) → Climbs is_key cmp start s records shape 0 left desk → 0 < start.shape.depth
-        → after.depth ≡ 0 → after.root ≡ 0 → after.first ≡ 0 → after.last ≡ 0 → Rises is_key cmp start s records after
-    rises_emptied start s records shape after left desk climbs some depth root first last = record {
+    pub rises_emptied : (start s : Store) (records : List (List ℕ)) (shape after : TreeShape) (left budget : ℕ) (desk : Desk) → Climbs is_key cmp max start s records shape 0 left desk budget → 0 < start.shape.depth
+        → after.depth ≡ 0 → after.root ≡ 0 → after.first ≡ 0 → after.last ≡ 0 → Rises is_key cmp max start s records after
+    rises_emptied start s records shape after left budget desk climbs some depth root first last = record {
       levels = climbs.levels;
       but = subst (λ d. IsTreeBut is_key cmp s d climbs.levels 0 0 []) (sym depth) (emptied s start.shape.depth climbs.levels 0 [] climbs.but climbs.top);
       top = λ any. absurd (omega arith);
@@ -157,27 +163,41 @@ module _ {is_key : List ℕ → Type 0} {cmp : List ℕ → List ℕ → Orderin
       first = λ any. absurd (omega arith);
       last = λ any. absurd (omega arith);
       none = λ none. (root, first, last);
+      bounds = record { grown = λ deep same_depth. absurd (omega (arith, depth)); two = λ any less. absurd (omega (arith, depth)); over = λ deep less. absurd (omega (arith, depth)) };
       same = climbs.same;
       others = climbs.others;
     }
 
     -- a root that stays
-    pub rises_kept : (start s : Store) (records : List (List ℕ)) (shape : TreeShape) (left : ℕ) (desk : Desk) → Climbs is_key cmp start s records shape 1 left desk → 0 < start.shape.depth
-        → IsLowering is_key cmp start s records shape
-    rises_kept start s records shape left desk climbs some = record { alone = λ j inside one. climbs.alone j (omega (arith, climbs.depth)) one; rises = record {
-      levels = climbs.levels;
-      but = subst (λ d. IsTreeBut is_key cmp s d climbs.levels 0 0 []) (sym climbs.depth) climbs.but;
-      top = λ any. climbs.top ∙ ap (λ n. n ∷ []) (sym climbs.root);
-      made = ap (λ d. leaf_records s climbs.levels d) {y = suc (start.shape.depth - 1)} (omega (arith, climbs.depth)) ∙ climbs.made;
-      first = λ any. climbs.first ∙ ap (λ i. head_or (climbs.levels i) 0) {y = shape.depth - 1} (omega (arith, climbs.depth));
-      last = λ any. climbs.last ∙ ap (λ i. last_or (climbs.levels i) 0) {y = shape.depth - 1} (omega (arith, climbs.depth));
-      none = λ none. absurd (omega (arith, climbs.depth));
-      same = climbs.same;
-      others = climbs.others;
-    } }
+    pub rises_kept : (start s : Store) (records : List (List ℕ)) (shape : TreeShape) (left budget : ℕ) (desk : Desk) → Climbs is_key cmp max start s records shape 1 left desk budget → 0 < start.shape.depth
+        → IsLowering is_key cmp max start s records shape (budget + 5)
+    rises_kept start s records shape left budget desk climbs some = record {
+      some = omega (arith, climbs.depth);
+      split = climbs.thrift.split;
+      twin = λ any. subst (λ n. 2 ≤ length (climbs.levels (n - climbs.thrift.split))) (sym climbs.depth) (climbs.thrift.twin any);
+      enough = omega (arith, climbs.thrift.enough, climbs.depth);
+      low = omega (arith, climbs.depth);
+      alone = λ j inside one. climbs.alone j (omega (arith, climbs.depth)) one;
+      rises = record {
+        levels = climbs.levels;
+        but = subst (λ d. IsTreeBut is_key cmp s d climbs.levels 0 0 []) (sym climbs.depth) climbs.but;
+        top = λ any. climbs.top ∙ ap (λ n. n ∷ []) (sym climbs.root);
+        made = ap (λ d. leaf_records s climbs.levels d) {y = suc (start.shape.depth - 1)} (omega (arith, climbs.depth)) ∙ climbs.made;
+        first = λ any. climbs.first ∙ ap (λ i. head_or (climbs.levels i) 0) {y = shape.depth - 1} (omega (arith, climbs.depth));
+        last = λ any. climbs.last ∙ ap (λ i. last_or (climbs.levels i) 0) {y = shape.depth - 1} (omega (arith, climbs.depth));
+        none = λ none. absurd (omega (arith, climbs.depth));
+        bounds = record {
+          grown = λ deep same_depth. omega (arith, climbs.grown deep refl, ap (λ n. length (items (s.nodes n))) climbs.root);
+          two = λ any less. absurd (omega (arith, climbs.depth));
+          over = λ deep less. absurd (omega (arith, climbs.depth));
+        };
+        same = climbs.same;
+        others = climbs.others;
+      };
+    }
 
     -- a store that was read
-    pub rises_read : (start s t : Store) (records : List (List ℕ)) (shape : TreeShape) → t.shape ≡ s.shape → SameNodes s t → SameStore s t → Rises is_key cmp start s records shape → Rises is_key cmp start t records shape
+    pub rises_read : (start s t : Store) (records : List (List ℕ)) (shape : TreeShape) → t.shape ≡ s.shape → SameNodes s t → SameStore s t → Rises is_key cmp max start s records shape → Rises is_key cmp max start t records shape
     rises_read start s t records shape shape_is nodes same rises =
         let same_all : (ns : List ℕ) → entries t.nodes ns ≡ entries s.nodes ns = λ ns. same_entries s.nodes t.nodes ns (λ k inside. ap items (nodes.nodes (get_or ns k 0))) in
         let leaves_same : (d : ℕ) → leaf_records t rises.levels d ≡ leaf_records s rises.levels d = λ d. by_depth d same_all rises.levels in
@@ -190,6 +210,11 @@ module _ {is_key : List ℕ → Type 0} {cmp : List ℕ → List ℕ → Orderin
           first = rises.first;
           last = rises.last;
           none = rises.none;
+          bounds = record {
+            grown = λ deep same_depth. omega (arith, rises.bounds.grown deep same_depth, ap (λ l. length (items l)) (nodes.nodes shape.root));
+            two = λ any less. ap (λ l. length (items l)) (nodes.nodes shape.root) ∙ rises.bounds.two any less;
+            over = rises.bounds.over;
+          };
           same = same_store_both rises.same same;
           others = λ n free unused still. nodes.nodes n ∙ rises.others n free unused (sym (nodes.used n) ∙ still);
         }
@@ -199,9 +224,9 @@ module _ {is_key : List ℕ → Type 0} {cmp : List ℕ → List ℕ → Orderin
         by_depth (suc d) all levels = all (levels d)
 
     -- a root with one record is given back
-    module _ (start s t : Store) (records : List (List ℕ)) (shape : TreeShape) (lowering : IsLowering is_key cmp start s records shape) (deep : 1 < shape.depth) (one : length (items (s.nodes shape.root)) ≡ 1) (small : s.shape.total ≤ 2 ^ 32)
+    module _ (start s t : Store) (records : List (List ℕ)) (shape : TreeShape) (rest : ℕ) (lowering : IsLowering is_key cmp max start s records shape rest) (more : 0 < rest) (deep : 1 < shape.depth) (one : length (items (s.nodes shape.root)) ≡ 1) (small : s.shape.total ≤ 2 ^ 32)
       where
-        abbrev rises : Rises is_key cmp start s records shape
+        abbrev rises : Rises is_key cmp max start s records shape
         rises = lowering.rises
 
         deep_is : shape.depth ≡ suc (shape.depth - 1)
@@ -216,6 +241,14 @@ module _ {is_key : List ℕ → Type 0} {cmp : List ℕ → List ℕ → Orderin
         root_at : get_or (rises.levels 0) 0 0 ≡ shape.root
         root_at = ap (λ l. get_or l 0 0) top_is
 
+        split_inside : 0 < lowering.split → shape.depth - lowering.split ≡ suc (shape.depth - 1 - lowering.split)
+        split_inside any = elim (cases_lt lowering.split shape.depth) [
+          | inl below ↦ omega arith
+          | inr past ↦
+              let top_two = lowering.twin any in
+              absurd (omega (arith, top_two, ap (λ i. length (rises.levels i)) {x = shape.depth - lowering.split} {y = 0} (omega arith), ap length top_is))
+        ]
+
         -- it may be given back
         pub root_used : s.used shape.root ≡ true
         root_used = bit_true (s.used shape.root) (omega (arith, subst (λ n. bit (s.used n) ≡ 1) root_at (is_used s shape.depth rises.levels 0 0 [] rises.but 0 0 (omega arith) (omega (arith, ap length top_is)))))
@@ -228,7 +261,7 @@ module _ {is_key : List ℕ → Type 0} {cmp : List ℕ → List ℕ → Orderin
         root_record = child_named key_length s (shape.depth - 1) rises.levels 0 [] but_root shape.root top_is (omega arith) one small
 
         pub rises_lowered : MapsOnly shape.root false s t → t.shape.node_size ≡ s.shape.node_size → t.shape.free ≡ s.shape.free + 1 → SameStore s t
-            → IsLowering is_key cmp start t records (record shape { root = child_of (get_or (items (s.nodes shape.root)) 0 []); depth = shape.depth - 1 })
+            → IsLowering is_key cmp max start t records (record shape { root = child_of (get_or (items (s.nodes shape.root)) 0 []); depth = shape.depth - 1 }) (rest - 1)
         rises_lowered maps size free same =
             let used : (n : ℕ) → bit (t.used n) + times n (shape.root ∷ []) ≡ bit (s.used n) = λ n. elim (cases_eq n shape.root) [
               | inl is ↦ omega (arith, ap bit (ap (λ k. t.used k) is ∙ maps.here), ap bit (ap (λ k. s.used k) is ∙ root_used), bit_same shape.root n (sym is))
@@ -239,33 +272,43 @@ module _ {is_key : List ℕ → Type 0} {cmp : List ℕ → List ℕ → Orderin
             let lowest : (i : ℕ) → i ≡ shape.depth - 1 - 1 → rises.levels (suc i) ≡ rises.levels (shape.depth - 1) = λ i is. ap (λ k. rises.levels k) (omega arith) in
             record {
               rises = record {
-              levels = λ j. rises.levels (suc j);
-              but = but;
-              top = λ some. new_top key_length s (shape.depth - 1) rises.levels 0 [] but_root shape.root top_is (omega arith) one small;
-              made = ap (λ d. leaf_records t (λ j. rises.levels (suc j)) d) low
-                  ∙ ap (λ l. entries t.nodes l) (lowest (shape.depth - 1 - 1) refl)
-                  ∙ same_entries s.nodes t.nodes (rises.levels (shape.depth - 1)) (λ k inside. ap items (maps.nodes (get_or (rises.levels (shape.depth - 1)) k 0)
-                      (not_reserved s shape.depth rises.levels 0 0 [] rises.but (shape.depth - 1) k (omega arith) inside)))
-                  ∙ ap (λ d. leaf_records s rises.levels d) {x = suc (shape.depth - 1)} {y = shape.depth} (omega arith)
-                  ∙ rises.made;
-              first = λ some. rises.first (omega arith) ∙ ap (λ l. head_or l 0) (sym (lowest (shape.depth - 1 - 1) refl));
-              last = λ some. rises.last (omega arith) ∙ ap (λ l. last_or l 0) (sym (lowest (shape.depth - 1 - 1) refl));
-              none = λ none. absurd (omega arith);
-              same = same_store_both rises.same same;
-              others = λ n free_one unused still.
-                  let before : s.used n ≡ false = elim (cases_eq n shape.root) [
-                    | inl is ↦
-                        let was : start.used shape.root ≡ true = subst (λ m. start.used m ≡ true) root_at (lowering.alone 0 (omega arith) (ap length top_is)) in
-                        absurd (omega (arith, ap bit was, ap bit unused, ap (λ m. bit (start.used m)) is))
-                    | inr other ↦ sym (maps.others n other) ∙ still
-                  ] in
-                  maps.nodes n (rises.same.reserved n ∙ free_one) ∙ rises.others n free_one unused before;
-            };
+                levels = λ j. rises.levels (suc j);
+                but = but;
+                top = λ some. new_top key_length s (shape.depth - 1) rises.levels 0 [] but_root shape.root top_is (omega arith) one small;
+                made = ap (λ d. leaf_records t (λ j. rises.levels (suc j)) d) low
+                    ∙ ap (λ l. entries t.nodes l) (lowest (shape.depth - 1 - 1) refl)
+                    ∙ same_entries s.nodes t.nodes (rises.levels (shape.depth - 1)) (λ k inside. ap items (maps.nodes (get_or (rises.levels (shape.depth - 1)) k 0)
+                    (not_reserved s shape.depth rises.levels 0 0 [] rises.but (shape.depth - 1) k (omega arith) inside)))
+                    ∙ ap (λ d. leaf_records s rises.levels d) {x = suc (shape.depth - 1)} {y = shape.depth} (omega arith)
+                    ∙ rises.made;
+                first = λ some. rises.first (omega arith) ∙ ap (λ l. head_or l 0) (sym (lowest (shape.depth - 1 - 1) refl));
+                last = λ some. rises.last (omega arith) ∙ ap (λ l. last_or l 0) (sym (lowest (shape.depth - 1 - 1) refl));
+                none = λ none. absurd (omega arith);
+                bounds = record {
+                  grown = λ deep_start same_depth. absurd (omega (arith, lowering.low));
+                  two = λ any less. absurd (omega (arith, lowering.low));
+                  over = λ deep_start less. absurd (omega (arith, lowering.low));
+                };
+                same = same_store_both rises.same same;
+                others = λ n free_one unused still.
+                    let before : s.used n ≡ false = elim (cases_eq n shape.root) [
+                      | inl is ↦
+                          let was : start.used shape.root ≡ true = subst (λ m. start.used m ≡ true) root_at (lowering.alone 0 (omega arith) (ap length top_is)) in
+                          absurd (omega (arith, ap bit was, ap bit unused, ap (λ m. bit (start.used m)) is))
+                      | inr other ↦ sym (maps.others n other) ∙ still
+                    ] in
+                    maps.nodes n (rises.same.reserved n ∙ free_one) ∙ rises.others n free_one unused before;
+              };
+              low = omega (arith, lowering.low);
+              some = omega arith;
+              split = lowering.split;
+              twin = λ any. subst (λ i. 2 ≤ length (rises.levels i)) {x = shape.depth - lowering.split} (split_inside any) (lowering.twin any);
+              enough = omega (arith, lowering.enough);
               alone = λ j inside one_node. lowering.alone (suc j) (omega arith) one_node;
             }
 
     -- the tree's numbers are written
-    pub settled : (start s t : Store) (records : List (List ℕ)) (shape : TreeShape) → Rises is_key cmp start s records shape → s.shape.total ≤ 2 ^ 32 → shape.depth ≤ 12 → shape.leaf_records ≡ length records
+    pub settled : (start s t : Store) (records : List (List ℕ)) (shape : TreeShape) → Rises is_key cmp max start s records shape → s.shape.total ≤ 2 ^ 32 → shape.depth ≤ 12 → shape.leaf_records ≡ length records
         → t.shape ≡ (record { node_size = s.shape.node_size; depth = shape.depth; root = shape.root; first = shape.first; last = shape.last; leaf_records = shape.leaf_records; total = s.shape.total; free = s.shape.free })
         → ShapesOnly s t → SameStore s t → MakesTree is_key cmp start t records
     settled start s t records shape rises small low many shape_is only same =
@@ -312,15 +355,20 @@ module _ {is_key : List ℕ → Type 0} {cmp : List ℕ → List ℕ → Orderin
         by_depth (suc d) is =
             same_entries s.nodes t.nodes (rises.levels d) (λ k inside. ap items (only.nodes (get_or (rises.levels d) k 0) (not_reserved s shape.depth rises.levels 0 0 [] rises.but d k (omega arith) inside)))
 
-    pub lowering_read : (start s t : Store) (records : List (List ℕ)) (shape : TreeShape) → t.shape ≡ s.shape → SameNodes s t → SameStore s t → IsLowering is_key cmp start s records shape → IsLowering is_key cmp start t records shape
+    pub lowering_read : (start s t : Store) (records : List (List ℕ)) (shape : TreeShape) (rest : ℕ) → t.shape ≡ s.shape → SameNodes s t → SameStore s t → IsLowering is_key cmp max start s records shape rest → IsLowering is_key cmp max start t records shape rest
     unfolding rises_read
-    lowering_read start s t records shape shape_is nodes same lowering = record {
+    lowering_read start s t records shape rest shape_is nodes same lowering = record {
+      some = lowering.some;
+      split = lowering.split;
+      twin = lowering.twin;
+      enough = lowering.enough;
       rises = rises_read start s t records shape shape_is nodes same lowering.rises;
+      low = lowering.low;
       alone = λ j inside one. lowering.alone j inside one;
     }
 
     -- the count of the records is beside the rest
-    pub with_records : (start s : Store) (records : List (List ℕ)) (shape : TreeShape) (many : ℕ) → Rises is_key cmp start s records shape → Rises is_key cmp start s records (record shape { leaf_records = many })
+    pub with_records : (start s : Store) (records : List (List ℕ)) (shape : TreeShape) (many : ℕ) → Rises is_key cmp max start s records shape → Rises is_key cmp max start s records (record shape { leaf_records = many })
     with_records start s records shape many rises = record {
       levels = rises.levels;
       but = rises.but;
@@ -329,6 +377,50 @@ module _ {is_key : List ℕ → Type 0} {cmp : List ℕ → List ℕ → Orderin
       first = rises.first;
       last = rises.last;
       none = rises.none;
+      bounds = rises.bounds;
       same = rises.same;
       others = rises.others;
     }
+
+    pub settled_root : (start s t : Store) (records : List (List ℕ)) (shape : TreeShape) → Rises is_key cmp max start s records shape
+        → t.shape ≡ (record { node_size = s.shape.node_size; depth = shape.depth; root = shape.root; first = shape.first; last = shape.last; leaf_records = shape.leaf_records; total = s.shape.total; free = s.shape.free })
+        → ShapesOnly s t → BoundsRoot max start t t.shape.depth t.shape.root
+    settled_root start s t records shape rises shape_is only =
+        let depth : t.shape.depth ≡ shape.depth = ap (λ h. h.depth) shape_is in
+        let root : t.shape.root ≡ shape.root = ap (λ h. h.root) shape_is in
+        let same : 0 < shape.depth → length (items (t.nodes t.shape.root)) ≡ length (items (s.nodes shape.root)) = λ some.
+        let top = rises.top some in
+        let unreserved : s.reserved shape.root ≡ false = subst (λ n. s.reserved n ≡ false) (ap (λ l. get_or l 0 0) top) (not_reserved s shape.depth rises.levels 0 0 [] rises.but 0 0 some (omega (arith, ap length top))) in
+        ap (λ n. length (items (t.nodes n))) root ∙ ap (λ l. length (items l)) (only.nodes shape.root unreserved) in
+        record {
+          grown = λ deep same_depth. omega (arith, same (omega (arith, depth)), rises.bounds.grown deep (sym depth ∙ same_depth));
+          two = λ any less. same (omega (arith, depth)) ∙ rises.bounds.two any (omega (arith, depth));
+          over = λ deep less. rises.bounds.over deep (omega (arith, depth));
+        }
+
+    -- while a root has one record, another may be given back
+    pub lowering_end : (start s : Store) (records : List (List ℕ)) (shape : TreeShape) → IsLowering is_key cmp max start s records shape 0 → ⊥
+    lowering_end start s records shape lowering =
+        let top = lowering.rises.top lowering.some in
+        let two = lowering.twin (omega (arith, lowering.enough, lowering.some)) in
+        absurd (omega (arith, two, ap (λ i. length (lowering.rises.levels i)) {x = shape.depth - lowering.split} {y = 0} (omega (arith, lowering.enough)), ap length top))
+
+    pub lowering_root : (start s : Store) (records : List (List ℕ)) (shape : TreeShape) (rest : ℕ) → IsLowering is_key cmp max start s records shape rest → IsTreeNode s shape.depth shape.root × (1 ≤ length (items (s.nodes shape.root)))
+    lowering_root start s records shape rest lowering =
+        let top = lowering.rises.top lowering.some in
+        let at : get_or (lowering.rises.levels 0) 0 0 ≡ shape.root = ap (λ l. get_or l 0 0) top in
+        let inside : 0 < length (lowering.rises.levels 0) = omega (arith, ap length top) in (
+          subst (λ h. IsTreeNode s h shape.root) {x = shape.depth - 0} (omega arith) (subst (λ n. IsTreeNode s (shape.depth - 0) n) at ((lowering.rises.but.each 0 lowering.some).nodes 0 inside)),
+          subst (λ n. 1 ≤ length (items (s.nodes n))) at (lowering.rises.but.some 0 lowering.some (inr (omega arith)) 0 inside),
+        )
+
+    pub settled_thick : (s t : Store) (start : Store) (records : List (List ℕ)) (shape : TreeShape) → Rises is_key cmp max start s records shape
+        → t.shape ≡ (record { node_size = s.shape.node_size; depth = shape.depth; root = shape.root; first = shape.first; last = shape.last; leaf_records = shape.leaf_records; total = s.shape.total; free = s.shape.free })
+        → ShapesOnly s t → HasThickRoot s shape.depth shape.root → HasThickRoot t t.shape.depth t.shape.root
+    settled_thick s t start records shape rises shape_is only thick = λ deep.
+        let depth : t.shape.depth ≡ shape.depth = ap (λ h. h.depth) shape_is in
+        let root : t.shape.root ≡ shape.root = ap (λ h. h.root) shape_is in
+        let some : 0 < shape.depth = omega (arith, depth) in
+        let top = rises.top some in
+        let unreserved : s.reserved shape.root ≡ false = subst (λ n. s.reserved n ≡ false) (ap (λ l. get_or l 0 0) top) (not_reserved s shape.depth rises.levels 0 0 [] rises.but 0 0 some (omega (arith, ap length top))) in
+        omega (arith, thick (omega (arith, depth)), ap (λ n. length (items (t.nodes n))) root, ap (λ l. length (items l)) (only.nodes shape.root unreserved))

@@ -85,10 +85,10 @@ module _ (is_key : List ℕ → Type 0) (cmp : List ℕ → List ℕ → Orderin
           let front_is : on.leads.front ≡ take (way_place store path level) (level_of store level) =
           sym (take_at on.leads.front (node ∷ on.leads.back) (way_place store path level) on.front) ∙ ap (λ l. take (way_place store path level) l) (sym on.leads.is) in
           leads_step_front is_key cmp total key_length store levels ordered level above key node on.leads lead is_lead
-              ∙ ap (λ l. length (entries store.nodes l) + lead.index) front_is
-              ∙ ap (λ n. length (entries store.nodes (take n (level_of store level))) + lead.index) (sym (same_place level (omega arith)))
-              ∙ ap (λ n. length (entries store.nodes (take (way_place store (set path level stop) level) (level_of store level))) + n) (sym index ∙ sym (ap (λ (s : Stop). s.at) new_stop))
-              ∙ ap (λ i. way_place store (set path level stop) i) {x = suc level} {y = level + 1} (omega arith);
+          ∙ ap (λ l. length (entries store.nodes l) + lead.index) front_is
+          ∙ ap (λ n. length (entries store.nodes (take n (level_of store level))) + lead.index) (sym (same_place level (omega arith)))
+          ∙ ap (λ n. length (entries store.nodes (take (way_place store (set path level stop) level) (level_of store level))) + n) (sym index ∙ sym (ap (λ (s : Stop). s.at) new_stop))
+          ∙ ap (λ i. way_place store (set path level stop) i) {x = suc level} {y = level + 1} (omega arith);
     }
 
     -- the last step

@@ -10,4 +10,5 @@ pub mod Way
 pub mod Rising
 pub mod Halves
 pub mod Writes
+pub mod Sorted
 pub mod Swapping

@@ -40,8 +40,28 @@ pub record CanClimb (is_key : List ℕ → Type 0) (cmp : List ℕ → List ℕ 
   pub wide : 3 * (max + 8) ≤ node_room store.shape.node_size
   pub enough : store.shape.depth + 1 ≤ spare ⊎ ((put ≡ []) × AreOfOneLength is_key)
 
+-- What an edit does to the records of the root, where this is the depth and the root then.
+pub record BoundsRoot (max : ℕ) (old new : Store) (depth root : ℕ) : Type 0 where
+  -- an index root that stays has at most one record more
+  pub grown : 1 < old.shape.depth → depth ≡ old.shape.depth → length (items (new.nodes root)) ≤ length (items (old.nodes old.shape.root)) + 1
+  -- a root above the old one has two records
+  pub two : 0 < old.shape.depth → old.shape.depth < depth → length (items (new.nodes root)) ≡ 2
+  -- it comes above an index root only where one record more of the longest doesn't fit beside as many of them as there are
+  pub over : 1 < old.shape.depth → old.shape.depth < depth → node_room old.shape.node_size < (max + 8) * (length (items (old.nodes old.shape.root)) + 1)
+
+-- Of so many levels that were changed, the highest that was split has two nodes or more, and each level above it took at most three of the writes that there were for it.
+pub record IsThrifty (depth : ℕ) (levels : LevelLists) (done budget : ℕ) : Type 0 where
+  pub split : ℕ
+  pub low : split ≤ done
+  pub twin : 0 < split → 2 ≤ length (levels (depth - split))
+  pub enough : 4 * depth ≤ budget + split + 3 * done
+
+-- an index root has two records or more
+abbrev pub HasThickRoot : Store → ℕ → ℕ → Type 0
+HasThickRoot store depth root = 1 < depth → 2 ≤ length (items (store.nodes root))
+
 -- A climb makes these the records of the leaves, and keeps the rules of a tree below the nodes that hold what its root held: none, the root, or the root and a fresh node.
-pub record Climbs (is_key : List ℕ → Type 0) (cmp : List ℕ → List ℕ → Ordering) (old new : Store) (records : List (List ℕ)) (after : TreeShape) (count left : ℕ) (desk : Desk) : Type 0 where
+pub record Climbs (is_key : List ℕ → Type 0) (cmp : List ℕ → List ℕ → Ordering) (max : ℕ) (old new : Store) (records : List (List ℕ)) (after : TreeShape) (count left : ℕ) (desk : Desk) (budget : ℕ) : Type 0 where
   pub levels : LevelLists
   pub fresh : ℕ
   pub but : IsTreeBut is_key cmp new old.shape.depth levels 0 0 []
@@ -54,6 +74,10 @@ pub record Climbs (is_key : List ℕ → Type 0) (cmp : List ℕ → List ℕ �
   pub last : after.last ≡ last_or (levels (old.shape.depth - 1)) 0
   pub root : after.root ≡ old.shape.root
   pub depth : after.depth ≡ old.shape.depth
+  -- the root has at most one record more, or its records and one more of the longest didn't fit
+  pub grown : 1 < old.shape.depth → count ≡ 1 → length (items (new.nodes old.shape.root)) ≤ length (items (old.nodes old.shape.root)) + 1
+  pub over : 1 < old.shape.depth → count ≡ 2 → node_room old.shape.node_size < (max + 8) * (length (items (old.nodes old.shape.root)) + 1)
+  pub thrift : IsThrifty old.shape.depth levels old.shape.depth budget
   -- a node that stands alone in its level was in use before
   pub alone : (j : ℕ) → j < old.shape.depth → length (levels j) ≡ 1 → old.used (slice_index (levels j) 0) ≡ true
   pub same : SameStore old new
@@ -66,20 +90,26 @@ leaf_records store levels zero = []
 leaf_records store levels (suc above) = entries store.nodes (levels above)
 
 -- The nodes are a tree with these records in its leaves, once its header has these numbers.
-pub record Rises (is_key : List ℕ → Type 0) (cmp : List ℕ → List ℕ → Ordering) (old new : Store) (records : List (List ℕ)) (after : TreeShape) : Type 0 where
+pub record Rises (is_key : List ℕ → Type 0) (cmp : List ℕ → List ℕ → Ordering) (max : ℕ) (old new : Store) (records : List (List ℕ)) (after : TreeShape) : Type 0 where
   pub levels : LevelLists
   pub but : IsTreeBut is_key cmp new after.depth levels 0 0 []
   pub top : 0 < after.depth → levels 0 ≡ after.root ∷ []
   pub made : leaf_records new levels after.depth ≡ records
   pub first : 0 < after.depth → after.first ≡ head_or (levels (after.depth - 1)) 0
   pub last : 0 < after.depth → after.last ≡ last_or (levels (after.depth - 1)) 0
+  pub bounds : BoundsRoot max old new after.depth after.root
   pub none : after.depth ≡ 0 → (after.root ≡ 0) × (after.first ≡ 0) × (after.last ≡ 0)
   pub same : SameStore old new
   pub others : (n : ℕ) → old.reserved n ≡ false → old.used n ≡ false → new.used n ≡ false → new.nodes n ≡ old.nodes n
 
--- The same, while roots with one record are given back: a node that stands alone in its level was in use before.
-pub record IsLowering (is_key : List ℕ → Type 0) (cmp : List ℕ → List ℕ → Ordering) (old new : Store) (records : List (List ℕ)) (after : TreeShape) : Type 0 where
-  pub rises : Rises is_key cmp old new records after
+-- The same, while roots with one record are given back, of which so many more may be: a node that stands alone in its level was in use before, and a level that was split isn't passed.
+pub record IsLowering (is_key : List ℕ → Type 0) (cmp : List ℕ → List ℕ → Ordering) (max : ℕ) (old new : Store) (records : List (List ℕ)) (after : TreeShape) (rest : ℕ) : Type 0 where
+  pub rises : Rises is_key cmp max old new records after
+  pub low : after.depth ≤ old.shape.depth
+  pub some : 0 < after.depth
+  pub split : ℕ
+  pub twin : 0 < split → 2 ≤ length (rises.levels (after.depth - split))
+  pub enough : after.depth ≤ rest + split
   pub alone : (j : ℕ) → j < after.depth → length (rises.levels j) ≡ 1 → old.used (slice_index (rises.levels j) 0) ≡ true
 
 -- A tree with these records in its leaves; nodes that were free and are free stay as they were.

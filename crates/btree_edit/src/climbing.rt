@@ -5,7 +5,7 @@ ghost use Rattle.btree_edit.specs.Desk.{IsDeskOf};
 ghost use Rattle.btree_edit.specs.Editing.{Does};
 ghost use Rattle.btree_edit.specs.Halves.{record_of};
 ghost use Rattle.btree_edit.specs.LevelEdit.{records_on};
-ghost use Rattle.btree_edit.specs.Rising.{leaves_edited, CanClimb, Climbs, Rises, MakesTree, IsBare, IsLeafRecord};
+ghost use Rattle.btree_edit.specs.Rising.{leaves_edited, BoundsRoot, HasThickRoot, CanClimb, Climbs, Rises, MakesTree, IsBare, IsLeafRecord};
 
 use crate::desk::Desk;
 use crate::levels::{Spot, edit_level};
@@ -30,7 +30,7 @@ fn climb<N: NodeStore, K: KeyOrder>(
     requires room { HasRoom (4 * shape.old.depth) (N.state store.old) }
     requires free { spare ≤ (N.state store.old).shape.free }
     ensures climbs { IsTrue (N.state store.old).tells → shape.old ≡ (N.state store.old).shape → CanClimb K.is_key K.cmp K.MAX (N.state store.old) desk.old.path at removed (records_on count desk.old) spare
-        → IfOk result (λ end. Climbs K.is_key K.cmp (N.state store.old) (N.state store.new) (leaves_edited (N.state store.old) desk.old.path at removed (records_on count desk.old)) shape.new end.count end.left desk.new) }
+        → IfOk result (λ end. Climbs K.is_key K.cmp K.MAX (N.state store.old) (N.state store.new) (leaves_edited (N.state store.old) desk.old.path at removed (records_on count desk.old)) shape.new end.count end.left desk.new end.budget) }
     ensures desk { IsDeskOf (N.state store.old).shape.node_size desk.new }
     ensures depth { shape.new.depth ≡ shape.old.depth }
     ensures left { IfOk result (λ end. end.left ≤ spare) }
@@ -106,7 +106,9 @@ fn rise<N: NodeStore, K: KeyOrder>(
     requires room { HasRoom (4 * shape.old.depth + 5) (N.state store.old) }
     requires free { spare ≤ (N.state store.old).shape.free }
     ensures rises { IsTrue (N.state store.old).tells → shape.old ≡ (N.state store.old).shape → CanClimb K.is_key K.cmp K.MAX (N.state store.old) desk.old.path at removed (records_on count desk.old) spare
-        → OnOk result (Rises K.is_key K.cmp (N.state store.old) (N.state store.new) (leaves_edited (N.state store.old) desk.old.path at removed (records_on count desk.old)) shape.new) }
+        → OnOk result (Rises K.is_key K.cmp K.MAX (N.state store.old) (N.state store.new) (leaves_edited (N.state store.old) desk.old.path at removed (records_on count desk.old)) shape.new) }
+    ensures thick { IsTrue (N.state store.old).tells → shape.old ≡ (N.state store.old).shape → CanClimb K.is_key K.cmp K.MAX (N.state store.old) desk.old.path at removed (records_on count desk.old) spare
+        → OnOk result (HasThickRoot (N.state store.new) shape.new.depth shape.new.root) }
     ensures desk { IsDeskOf (N.state store.old).shape.node_size desk.new }
     ensures depth { shape.new.depth ≤ shape.old.depth + 1 }
     ensures kept { spare ≡ 0 → shape.new.depth ≤ shape.old.depth }
@@ -137,6 +139,10 @@ pub(crate) fn rebuild<N: NodeStore, K: KeyOrder>(
     ensures tree { IsTrue (N.state store.old).tells → shape.old ≡ (N.state store.old).shape → CanClimb K.is_key K.cmp K.MAX (N.state store.old) desk.old.path at removed (records_on count desk.old) spare
         → records ≡ length (leaves_edited (N.state store.old) desk.old.path at removed (records_on count desk.old)) → (spare ≡ 0) ⊎ (shape.old.depth ≤ 11)
         → OnOk result (MakesTree K.is_key K.cmp (N.state store.old) (N.state store.new) (leaves_edited (N.state store.old) desk.old.path at removed (records_on count desk.old))) }
+    ensures roots { IsTrue (N.state store.old).tells → shape.old ≡ (N.state store.old).shape → CanClimb K.is_key K.cmp K.MAX (N.state store.old) desk.old.path at removed (records_on count desk.old) spare
+        → OnOk result (BoundsRoot K.MAX (N.state store.old) (N.state store.new) (N.state store.new).shape.depth (N.state store.new).shape.root) }
+    ensures thick { IsTrue (N.state store.old).tells → shape.old ≡ (N.state store.old).shape → CanClimb K.is_key K.cmp K.MAX (N.state store.old) desk.old.path at removed (records_on count desk.old) spare
+        → OnOk result (HasThickRoot (N.state store.new) (N.state store.new).shape.depth (N.state store.new).shape.root) }
     ensures desk { IsDeskOf (N.state store.old).shape.node_size desk.new }
     ensures depth { OnOk result ((N.state store.new).shape.depth ≤ shape.old.depth + 1) }
     ensures kept { spare ≡ 0 → OnOk result ((N.state store.new).shape.depth ≤ shape.old.depth) }
@@ -151,10 +157,7 @@ pub(crate) fn rebuild<N: NodeStore, K: KeyOrder>(
 }
 
 /// Makes the first leaf, and writes the tree's numbers.
-pub(crate) fn begin<N: NodeStore, K: KeyOrder>(
-    store: &mut N,
-    desk: &mut Desk,
-) -> Result<(), Failed>
+pub(crate) fn begin<N: NodeStore, K: KeyOrder>(store: &mut N, desk: &mut Desk) -> Result<(), Failed>
     requires desk { IsDeskOf (N.state store.old).shape.node_size desk.old }
     requires room { HasRoom 3 (N.state store.old) }
     requires free { 0 < (N.state store.old).shape.free }

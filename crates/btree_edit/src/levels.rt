@@ -1,5 +1,5 @@
 //! One level of an edit: a record of one node is replaced by others, and the level above is told.
-ghost use Rattle.std.specs.Prelude.{◌≡◌, ◌≢◌, ◌≤◌, ◌<◌, ◌+◌, ◌-◌, ◌++◌, [], ◌∷◌, ℕ, Bool, true, false, List, min, length, slice_index_or, OnOk, IfOk, IsTrue};
+ghost use Rattle.std.specs.Prelude.{◌≡◌, ◌≢◌, ◌≤◌, ◌<◌, ◌+◌, ◌-◌, ◌⊎◌, ◌++◌, [], ◌∷◌, ℕ, Bool, true, false, List, min, length, slice_index_or, OnOk, IfOk, IsTrue};
 ghost use Rattle.hx_bytes.specs.Field.{big};
 ghost use Rattle.btree_node.specs.Node.{IsNode, IsNodeOf, SameHead, items, room_beside, next_of};
 ghost use Rattle.btree_node.specs.Levels.{key_of};
@@ -213,6 +213,7 @@ fn split_node<N: NodeStore>(
     ensures desk { IsDeskOf (N.state store.old).shape.node_size desk.new }
     ensures path { desk.new.path ≡ desk.old.path }
     ensures depth { shape.new.depth ≡ shape.old.depth }
+    ensures thrift { IfOk result (λ handed. (handed.count ≡ 2) ⊎ (handed.cost ≤ 3)) }
     ensures cost { IfOk result (λ handed. handed.cost ≤ 4) }
     ensures done { IfOk result (λ handed. Does handed.cost 1 (N.state store.old) (N.state store.new)) }
     ensures does { Does 4 1 (N.state store.old) (N.state store.new) }
@@ -302,7 +303,7 @@ fn fill_node<N: NodeStore>(
     ensures desk { IsDeskOf (N.state store.old).shape.node_size desk.new }
     ensures path { desk.new.path ≡ desk.old.path }
     ensures depth { shape.new.depth ≡ shape.old.depth }
-    ensures cost { IfOk result (λ handed. handed.cost ≤ 4) }
+    ensures cost { IfOk result (λ handed. handed.cost ≤ 3) }
     ensures done { IfOk result (λ handed. Does handed.cost 0 (N.state store.old) (N.state store.new)) }
     ensures does { Does 4 0 (N.state store.old) (N.state store.new) }
     ensures cause { HasCause (N.state store.old).faults (N.state store.new).faults result }
@@ -346,6 +347,8 @@ pub(crate) fn edit_level<N: NodeStore>(
     ensures path { desk.new.path ≡ desk.old.path }
     ensures depth { shape.new.depth ≡ shape.old.depth }
     ensures cost { IfOk result (λ handed. handed.cost ≤ 4) }
+    // Only a node that was split takes four writes.
+    ensures thrift { IfOk result (λ handed. (handed.count ≡ 2) ⊎ (handed.cost ≤ 3)) }
     ensures done { IfOk result (λ handed. Does handed.cost (min 1 spare) (N.state store.old) (N.state store.new)) }
     ensures does { Does 4 (min 1 spare) (N.state store.old) (N.state store.new) }
     ensures cause { HasCause (N.state store.old).faults (N.state store.new).faults result }

@@ -7,7 +7,7 @@ ghost use Rattle.btree_edit.specs.Desk.{IsDeskOf};
 ghost use Rattle.btree_edit.specs.Editing.{Does};
 ghost use Rattle.btree_edit.specs.Halves.{record_of, put_of};
 ghost use Rattle.btree_edit.specs.LevelEdit.{taken, node_room};
-ghost use Rattle.btree_edit.specs.Rising.{Climbs, Rises, IsLowering, MakesTree, IsBare, IsLeafRecord};
+ghost use Rattle.btree_edit.specs.Rising.{BoundsRoot, HasThickRoot, Climbs, Rises, IsLowering, MakesTree, IsBare, IsLeafRecord};
 
 use crate::desk::{Desk, Held};
 use crate::search::{child_part, kind_at, read_node};
@@ -43,7 +43,7 @@ pub(crate) fn plant<N: NodeStore, K: KeyOrder>(
     requires room { HasRoom 2 (N.state store.old) }
     requires free { 0 < (N.state store.old).shape.free }
     ensures plants { IsTrue (N.state store.old).tells → IsBare K.is_key K.cmp (N.state store.old) → IsLeafRecord K.is_key (N.state store.old) (record_of desk.old.first)
-        → OnOk result (Rises K.is_key K.cmp (N.state store.old) (N.state store.new) (record_of desk.old.first ∷ []) shape.new) }
+        → OnOk result (Rises K.is_key K.cmp K.MAX (N.state store.old) (N.state store.new) (record_of desk.old.first ∷ []) shape.new) }
     ensures desk { IsDeskOf (N.state store.old).shape.node_size desk.new }
     ensures depth { OnOk result (shape.new.depth ≡ 1) }
     ensures does { Does 2 1 (N.state store.old) (N.state store.new) }
@@ -71,9 +71,10 @@ fn raise<N: NodeStore, K: KeyOrder>(
     requires depth { shape.old.depth ≤ 12 }
     requires room { HasRoom 2 (N.state store.old) }
     requires free { 0 < (N.state store.old).shape.free }
-    ensures raises { IsTrue (N.state store.old).tells → (start : Store) (records : List (List ℕ)) (left : ℕ) → Climbs K.is_key K.cmp start (N.state store.old) records shape.old 2 left desk.old → 0 < start.shape.depth
-        → 3 * (K.MAX + 8) ≤ node_room (N.state store.old).shape.node_size → OnOk result (Rises K.is_key K.cmp start (N.state store.new) records shape.new) }
+    ensures raises { IsTrue (N.state store.old).tells → (start : Store) (records : List (List ℕ)) (left budget : ℕ) → Climbs K.is_key K.cmp K.MAX start (N.state store.old) records shape.old 2 left desk.old budget → 0 < start.shape.depth
+        → 3 * (K.MAX + 8) ≤ node_room (N.state store.old).shape.node_size → OnOk result (Rises K.is_key K.cmp K.MAX start (N.state store.new) records shape.new) }
     ensures desk { IsDeskOf (N.state store.old).shape.node_size desk.new }
+    ensures higher { OnOk result (shape.new.depth ≡ shape.old.depth + 1) }
     ensures depth { shape.new.depth ≤ shape.old.depth + 1 }
     ensures does { Does 2 1 (N.state store.old) (N.state store.new) }
     ensures cause { HasCause (N.state store.old).faults (N.state store.new).faults result }
@@ -104,7 +105,9 @@ fn lower<N: NodeStore, K: KeyOrder>(
     requires desk { IsDeskOf (N.state store.old).shape.node_size desk.old }
     requires room { HasRoom most (N.state store.old) }
     ensures lowers { IsTrue (N.state store.old).tells → (start : Store) (records : List (List ℕ)) → (N.state store.old).shape.total ≤ 2 ^ 32 → shape.old.depth ≤ 12
-        → IsLowering K.is_key K.cmp start (N.state store.old) records shape.old → OnOk result (Rises K.is_key K.cmp start (N.state store.new) records shape.new) }
+        → IsLowering K.is_key K.cmp K.MAX start (N.state store.old) records shape.old most → OnOk result (Rises K.is_key K.cmp K.MAX start (N.state store.new) records shape.new) }
+    ensures thick { IsTrue (N.state store.old).tells → (start : Store) (records : List (List ℕ)) → (N.state store.old).shape.total ≤ 2 ^ 32 → shape.old.depth ≤ 12
+        → IsLowering K.is_key K.cmp K.MAX start (N.state store.old) records shape.old most → OnOk result (HasThickRoot (N.state store.new) shape.new.depth shape.new.root) }
     ensures desk { IsDeskOf (N.state store.old).shape.node_size desk.new }
     ensures depth { shape.new.depth ≤ shape.old.depth }
     ensures does { Does most 0 (N.state store.old) (N.state store.new) }
@@ -164,7 +167,10 @@ pub(crate) fn crown<N: NodeStore, K: KeyOrder>(
     requires free { end.left ≤ (N.state store.old).shape.free }
     ensures crowns { IsTrue (N.state store.old).tells → (start : Store) (records : List (List ℕ)) → (N.state store.old).shape.total ≤ 2 ^ 32 → 0 < start.shape.depth
         → 3 * (K.MAX + 8) ≤ node_room (N.state store.old).shape.node_size
-        → Climbs K.is_key K.cmp start (N.state store.old) records shape.old end.count end.left desk.old → OnOk result (Rises K.is_key K.cmp start (N.state store.new) records shape.new) }
+        → Climbs K.is_key K.cmp K.MAX start (N.state store.old) records shape.old end.count end.left desk.old end.budget → OnOk result (Rises K.is_key K.cmp K.MAX start (N.state store.new) records shape.new) }
+    ensures thick { IsTrue (N.state store.old).tells → (start : Store) (records : List (List ℕ)) → (N.state store.old).shape.total ≤ 2 ^ 32 → 0 < start.shape.depth
+        → 3 * (K.MAX + 8) ≤ node_room (N.state store.old).shape.node_size
+        → Climbs K.is_key K.cmp K.MAX start (N.state store.old) records shape.old end.count end.left desk.old end.budget → OnOk result (HasThickRoot (N.state store.new) shape.new.depth shape.new.root) }
     ensures desk { IsDeskOf (N.state store.old).shape.node_size desk.new }
     ensures depth { shape.new.depth ≤ shape.old.depth + 1 }
     ensures kept { end.left ≡ 0 → shape.new.depth ≤ shape.old.depth }
@@ -189,7 +195,11 @@ pub(crate) fn crown<N: NodeStore, K: KeyOrder>(
 pub(crate) fn settle<N: NodeStore, K: KeyOrder>(store: &mut N, shape: &TreeShape)
     requires { HasRoom 1 (N.state store.old) }
     ensures settles { IsTrue (N.state store.old).tells → (start : Store) (records : List (List ℕ)) → (N.state store.old).shape.total ≤ 2 ^ 32 → shape.now.depth ≤ 12
-        → shape.now.leaf_records ≡ length records → Rises K.is_key K.cmp start (N.state store.old) records shape.now → MakesTree K.is_key K.cmp start (N.state store.new) records }
+        → shape.now.leaf_records ≡ length records → Rises K.is_key K.cmp K.MAX start (N.state store.old) records shape.now → MakesTree K.is_key K.cmp start (N.state store.new) records }
+    ensures roots { IsTrue (N.state store.old).tells → (start : Store) (records : List (List ℕ)) → Rises K.is_key K.cmp K.MAX start (N.state store.old) records shape.now
+        → BoundsRoot K.MAX start (N.state store.new) (N.state store.new).shape.depth (N.state store.new).shape.root }
+    ensures thick { IsTrue (N.state store.old).tells → (start : Store) (records : List (List ℕ)) → Rises K.is_key K.cmp K.MAX start (N.state store.old) records shape.now
+        → HasThickRoot (N.state store.old) shape.now.depth shape.now.root → HasThickRoot (N.state store.new) (N.state store.new).shape.depth (N.state store.new).shape.root }
     ensures depth { (N.state store.new).shape.depth ≡ shape.now.depth }
     ensures does { Does 1 0 (N.state store.old) (N.state store.new) }
     ensures faults { (N.state store.new).faults ≡ (N.state store.old).faults }

@@ -15,7 +15,7 @@ invariant-loop-done g l = let before = g.N.NodeStore.state l.fn.store in let now
   path : l.desk.path ≡ l.fn.desk.path;
   ascent : IsTrue before.tells → l.fn.shape ≡ before.shape
       → CanClimb g.K.KeyOrder.is_key g.K.KeyOrder.cmp g.K.KeyOrder.MAX before l.fn.desk.path l.fn.at l.fn.removed (records_on l.fn.count l.fn.desk) l.fn.spare
-      → IsAscent g.K.KeyOrder.is_key g.K.KeyOrder.cmp before now l.fn.desk.path l.fn.at l.fn.removed (records_on l.fn.count l.fn.desk) l.fn.spare l.shape l.desk l.done l.next l.gone l.left;
+      → IsAscent g.K.KeyOrder.is_key g.K.KeyOrder.cmp g.K.KeyOrder.MAX before now l.fn.desk.path l.fn.at l.fn.removed (records_on l.fn.count l.fn.desk) l.fn.spare l.shape l.desk l.done l.next l.gone l.left l.budget;
   desk : IsDeskOf before.shape.node_size l.desk;
   budget : l.budget ≤ 4 * l.fn.shape.depth;
   enough : 4 * l.fn.shape.depth ≤ l.budget + 4 * l.done;

@@ -79,8 +79,14 @@ loop-level-preserved g c =
           on_step g.K.KeyOrder.is_key g.K.KeyOrder.cmp g.met.K.KeyOrder.total g.met.K.KeyOrder.key_length s t.levels t.ordered c.args.key.now c.loop-level.desk.path c.loop-level.level c.loop-level.node (before.way tells)
           (record { node = c.loop-level.node; at = c.in-Some.step.index }) (omega (arith, before.desk.path, before.most)) refl low c.in-Some.step
           (subst (λ l. IsLead g.K.KeyOrder.cmp c.args.key.now (items l) c.in-Some.step) into c.in-Some.ensures.step) refl;
-      desk = record { node = c.read_node.ensures.size ∙ before.desk.node; other = before.desk.other; held = before.desk.held; first = before.desk.first; second = before.desk.second;
-          path = length-set c.loop-level.desk.path c.loop-level.level (record { node = c.loop-level.node; at = c.in-Some.step.index }) ∙ before.desk.path };
+      desk = record {
+        node = c.read_node.ensures.size ∙ before.desk.node;
+        other = before.desk.other;
+        held = before.desk.held;
+        first = before.desk.first;
+        second = before.desk.second;
+        path = length-set c.loop-level.desk.path c.loop-level.level (record { node = c.loop-level.node; at = c.in-Some.step.index }) ∙ before.desk.path;
+      };
       held = before.held;
       first = before.first;
       reads = reads_both c.loop-level.level 1 (c.loop-level.level + 1) before.reads c.read_node.ensures.reads (omega arith);
