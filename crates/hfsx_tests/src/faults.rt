@@ -19,11 +19,21 @@ fn a_source_that_fails_ends_the_run(rt: HostRuntime) -> Result<(), Fail> {
 #[test]
 fn a_disk_that_fails_ends_the_run(rt: HostRuntime) -> Result<(), Fail> {
     let alloc = rt.alloc();
-    // The first call reads the volume; the 45th writes the folder.
-    for (call, told) in [(0, ""), (44, "ok 0\n")] {
+    let lines = b"ls /\nmkdir /x\nls /\n".as_slice();
+    let mut clean = fresh(alloc)?;
+    assert_eq!(rt;
+        run_on(alloc, "run v.img", &mut clean, lines)?,
+        Status::Done
+    );
+    assert_eq!(rt; clean.told(), b"ok 0\nok\nok 1 x/\n".as_slice());
+    // The first call reads the header, and the last is one of those that unmount the volume.
+    for (call, told) in [
+        (0, ""),
+        (clean.calls().saturating_sub(1), "ok 0\nok\nok 1 x/\n"),
+    ] {
         let mut rig = fresh(alloc)?;
         rig.fail_on(alloc, call)?;
-        let ended = run_on(alloc, "run v.img", &mut rig, b"ls /\nmkdir /x\nls /\n")?;
+        let ended = run_on(alloc, "run v.img", &mut rig, lines)?;
         assert_eq!(rt; ended, Status::Disk);
         assert_eq!(rt; rig.told(), told.as_bytes());
     }

@@ -71,19 +71,19 @@ fn wrong_words_tell_the_usage(rt: HostRuntime) -> Result<(), Fail> {
     Ok(())
 }
 
-// Whether the image is refused, and its line is told.
-fn is_refused(alloc: Global, rig: &mut MemRig) -> Result<bool, OutOfMemory> {
+// Whether the image is refused with this line, and isn't written.
+fn is_refused(alloc: Global, rig: &mut MemRig, line: &str) -> Result<bool, OutOfMemory> {
     let ended = run_on(alloc, "run v.img", rig, b"ls /\n")?;
-    Ok(ended == Status::Refused && rig.told() == b"refused NotYet 0\n".as_slice())
+    Ok(ended == Status::Refused && rig.told() == line.as_bytes())
 }
 
 #[test]
 fn an_image_that_is_no_volume_is_refused(rt: HostRuntime) -> Result<(), Fail> {
     let alloc = rt.alloc();
-    // Zeros, and an image of another size.
+    // Zeros, and too few of them.
     let mut zeros = MemRig::new(alloc, 16_384)?;
-    assert!(rt; is_refused(alloc, &mut zeros)?);
+    assert!(rt; is_refused(alloc, &mut zeros, "refused NotHfsx 0 0\n")?);
     let mut small = MemRig::new(alloc, 8)?;
-    assert!(rt; is_refused(alloc, &mut small)?);
+    assert!(rt; is_refused(alloc, &mut small, "refused LimitSectors 8\n")?);
     Ok(())
 }
