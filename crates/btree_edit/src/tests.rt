@@ -2,7 +2,7 @@
 ghost use Rattle.std.specs.Prelude.{IsTrue};
 ghost use Rattle.btree_edit.specs.Desk.{IsDeskOf};
 
-use crate::{Desk, Found, Inserted, Removed, find, insert, remove};
+use crate::{Desk, Found, Inserted, Removed, find, insert, next, remove, replace};
 use btree_node::{CatalogOrder, ExtentOrder, KeyOrder, MemNodes, NodeStore};
 
 /// Whether a desk is one for nodes of this size.
@@ -51,6 +51,35 @@ fn drop_pair<K: KeyOrder>(store: &mut MemNodes, desk: &mut Desk, key: &[u8]) -> 
         return false;
     }
     matches!(remove::<MemNodes, K>(store, desk, key), Ok(Removed::Done))
+}
+
+/// Gives a pair another value where the conditions of `replace` hold.
+fn set_pair<K: KeyOrder>(store: &mut MemNodes, desk: &mut Desk, key: &[u8], value: &[u8]) -> bool {
+    let shape = store.shape();
+    if !K::valid(key) || !is_desk_of(desk, shape.node_size) || shape.node_size > 32768 {
+        return false;
+    }
+    if key.len() > 600 || value.len() > 20000 {
+        return false;
+    }
+    if key.len() + value.len() + 10 > (shape.node_size / 2) as usize || shape.depth > 11 {
+        return false;
+    }
+    if shape.depth as u32 + 1 > shape.free || !store.has_room(4 * (shape.depth as u32 + 1) + 4) {
+        return false;
+    }
+    matches!(
+        replace::<MemNodes, K>(store, desk, key, value),
+        Ok(Removed::Done)
+    )
+}
+
+/// Whether a pair is above a key.
+fn has_next<K: KeyOrder>(store: &mut MemNodes, desk: &mut Desk, key: &[u8]) -> bool {
+    if !K::valid(key) || !is_desk_of(desk, store.shape().node_size) {
+        return false;
+    }
+    matches!(next::<MemNodes, K>(store, desk, key), Ok(true))
 }
 
 /// Whether the tree has a key.
@@ -166,4 +195,26 @@ fn longer_first_keys_split_the_node_above(rt: HostRuntime) {
     }
     let shape = store.shape();
     assert_eq!(rt; (shape.depth, shape.root, shape.free), (0, 0, 59));
+}
+
+#[test]
+fn a_value_is_replaced_and_the_next_pair_is_found(rt: HostRuntime) {
+    let alloc = rt.alloc();
+    let mut store = MemNodes::new(alloc, 512, 20).expect(&rt, "memory");
+    let mut desk = Desk::new(alloc, 512).expect(&rt, "memory");
+    for i in 0..12u32 {
+        assert!(rt;
+            add_pair::<ExtentOrder>(&mut store, &mut desk, &extent_key(i), &[7; 64]),
+            "{i}"
+        );
+    }
+    assert!(rt; set_pair::<ExtentOrder>(&mut store, &mut desk, &extent_key(5), &[8; 64]));
+    assert!(rt; set_pair::<ExtentOrder>(&mut store, &mut desk, &extent_key(6), &[9; 100]));
+    assert!(rt; !set_pair::<ExtentOrder>(&mut store, &mut desk, &extent_key(12), &[9; 64]));
+    assert!(rt; has_next::<ExtentOrder>(&mut store, &mut desk, &extent_key(4)));
+    assert!(rt; desk.key() == extent_key(5).as_slice() && desk.value() == [8u8; 64].as_slice());
+    assert!(rt; has_next::<ExtentOrder>(&mut store, &mut desk, &extent_key(5)));
+    assert!(rt; desk.key() == extent_key(6).as_slice() && desk.value() == [9u8; 100].as_slice());
+    assert!(rt; !has_next::<ExtentOrder>(&mut store, &mut desk, &extent_key(11)));
+    assert_eq!(rt; store.shape().leaf_records, 12);
 }
