@@ -1,5 +1,5 @@
 -- The climb of an edit, level by level.
-use Rattle.std.proofs.Common.{◌≡◌, ◌≢◌, ◌⊎◌, ℕ, zero, suc, add-one, ◌+◌, ◌-◌, ◌*◌, ◌/◌, ◌^◌, ◌<◌, ◌≤◌, Bool, true, false, cond, List, [], ◌∷◌, ◌++◌, map, length, take, drop, get_or, inl, inr, refl, sym, ◌∙◌, ap, subst, arith}
+use Rattle.std.proofs.Common.{◌≡◌, ◌≢◌, ◌⊎◌, ℕ, suc, ◌+◌, ◌-◌, ◌*◌, ◌/◌, ◌<◌, ◌≤◌, Bool, true, false, cond, List, [], ◌∷◌, ◌++◌, map, length, take, drop, get_or, inl, inr, refl, sym, ◌∙◌, ap, subst, arith}
 use Rattle.std.proofs.lemmas.Bool.{cases_lt, cases_eq}
 use Rattle.std.proofs.lemmas.Bool.Decides.{eqb_tells}
 use Rattle.std.proofs.lemmas.List.{nil_from_length, length-append, length-map, length-take, length-take-le, length-drop, get_or-take, get_or-drop, get_or-map, append-nil}
@@ -10,13 +10,13 @@ use Rattle.hx_bytes.specs.Field.{big_at}
 use Rattle.btree_node.specs.Node.{items, next_of, back_of}
 use Rattle.btree_node.specs.Levels.{entries, key_of, first_key, record_for, splice, Ascends}
 use Rattle.btree_node.specs.Store.{Store, SameStore}
-use Rattle.btree_node.specs.Tree.{level_of, entries_of, IsTreeNode, IsTree}
+use Rattle.btree_node.specs.Tree.{level_of, entries_of, IsTreeNode}
 use Rattle.btree_node.specs.declared.store.TreeShape.{TreeShape}
 use Rattle.btree_node.proofs.Levels.{same_entries}
 use Rattle.btree_node.proofs.Ranks.{in_node, level_long}
 use Rattle.btree_edit.specs.LevelEdit.{bit, times, head_or, last_or, taken, node_room, parts_of, records_on, edited, IsInLevel, FitsTwo, CanEdit, LevelEdit}
 use Rattle.btree_edit.specs.Climb.{LevelLists, IsLevel, NoneEmpty, IsTreeBut}
-use Rattle.btree_edit.specs.Way.{stop_at, way_place, IsWay}
+use Rattle.btree_edit.specs.Way.{stop_at, way_place}
 use Rattle.btree_edit.specs.Rising.{leaf_start, leaves_edited, IsThrifty, AreOfOneLength, CanClimb, Climbs}
 use Rattle.btree_edit.specs.declared.desk.Desk.{Desk}
 use Rattle.btree_edit.specs.declared.desk.Stop.{Stop}

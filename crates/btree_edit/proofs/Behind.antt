@@ -1,16 +1,15 @@
 -- The least pair above a key.
-use Rattle.std.proofs.Common.{◌≡◌, ◌≢◌, ◌⊎◌, ℕ, zero, suc, add-one, ◌+◌, ◌-◌, ◌<◌, ◌≤◌, List, [], ◌∷◌, ◌++◌, length, get_or, inl, inr, refl, sym, ◌∙◌, ap, subst, arith, true, false}
+use Rattle.std.proofs.Common.{◌≡◌, ◌≢◌, ℕ, zero, suc, ◌+◌, ◌-◌, ◌<◌, ◌≤◌, List, [], ◌∷◌, ◌++◌, length, get_or, inl, inr, refl, sym, ◌∙◌, ap, subst, arith, true, false}
 use Rattle.std.specs.Prelude.{Bool, Option, Some, None, IfSome, IfNone, IsTrue}
 use Rattle.std.proofs.lemmas.Bool.{cases_lt}
 use Rattle.std.proofs.lemmas.List.{length-append, get_or-append_right, get_or_append_left}
 use Rattle.std.specs.Cmp.{IsTotalOrder}
 use Rattle.std.specs.declared.cmp.Ordering.{Ordering}
-use Rattle.std.specs.declared.cmp.Ordering.TheVariants.{Less, Equal, Greater}
 use Rattle.hx_bytes.specs.Field.{big_at}
 use Rattle.btree_node.specs.Node.{items, next_of, IsNodeOf}
 use Rattle.btree_node.specs.Levels.{Pair, entries, key_of, value_of, pair_of, IsRank}
 use Rattle.btree_node.specs.Store.{Store}
-use Rattle.btree_node.specs.Tree.{level_of, entries_of, pairs_of, HasLevels, IsOrdered, IsTree, IsTreeNode, IsReached, kind_at}
+use Rattle.btree_node.specs.Tree.{level_of, entries_of, pairs_of, IsTree, IsTreeNode, IsReached, kind_at}
 use Rattle.btree_node.proofs.Ranks.{level_long, behind_node}
 use Rattle.btree_edit.specs.Desk.{FindsNext, IsAbove, HoldsPair, HoldsNone}
 use Rattle.btree_edit.specs.Following.{IsInLeaf, IsLocated, StepsOver}

@@ -1,6 +1,6 @@
 -- A tree that gets a root, loses one, or stays as it is.
-use Rattle.std.proofs.Common.{◌≡◌, ◌≢◌, ◌⊎◌, ℕ, zero, suc, add-one, ◌+◌, ◌-◌, ◌/◌, ◌^◌, ◌<◌, ◌≤◌, Bool, true, false, List, [], ◌∷◌, ◌++◌, map, length, get_or, inl, inr, refl, sym, ◌∙◌, ap, subst, arith}
-use Rattle.std.proofs.lemmas.Bool.{cases_lt, cases_eq}
+use Rattle.std.proofs.Common.{◌≡◌, ◌≢◌, ◌⊎◌, ℕ, zero, suc, ◌+◌, ◌-◌, ◌/◌, ◌^◌, ◌<◌, ◌≤◌, false, List, [], ◌∷◌, map, length, get_or, inl, inr, refl, sym, ◌∙◌, ap, subst, arith}
+use Rattle.std.proofs.lemmas.Bool.{cases_lt}
 use Rattle.std.proofs.lemmas.List.{length-map, get_or-map, append-nil, nil_from_length}
 use Rattle.std.specs.declared.cmp.Ordering.{Ordering}
 use Rattle.std.specs.List.{range_with_len, count_by}
@@ -8,15 +8,14 @@ use Rattle.hx_bytes.specs.Field.{big_at, big}
 use Rattle.hx_bytes.specs.declared.fields.Order.TheVariants.{Big}
 use Rattle.hx_bytes.proofs.Laws.{length-number_bytes}
 use Rattle.btree_node.specs.Node.{items, next_of, back_of}
-use Rattle.btree_node.specs.Levels.{Nodes, Pair, entries, leaves, key_of, value_of, first_key, child_of, pair_of, record_for, splice, Ascends}
+use Rattle.btree_node.specs.Levels.{entries, leaves, key_of, value_of, first_key, child_of, pair_of, record_for, splice, Ascends}
 use Rattle.btree_node.specs.Store.{Store}
 use Rattle.btree_node.specs.Tree.{level_of, pairs_of, IsTreeNode, HasHeader, IsTree}
 use Rattle.btree_node.proofs.Levels.{same_entries}
-use Rattle.btree_node.proofs.Ranks.{none_before}
-use Rattle.btree_edit.specs.LevelEdit.{bit, times, Linked}
+use Rattle.btree_edit.specs.LevelEdit.{bit, times}
 use Rattle.btree_edit.specs.Climb.{LevelLists, IsLevel, NoneEmpty, tally, IsTreeBut}
-use Rattle.btree_edit.proofs.Counting.{bit_same, bit_other, bit_most, bit_false, times_at, tally_some, tally_below, tally_none, bits_changed}
-use Rattle.btree_edit.proofs.Naming.{first_is_key, names_same, names_keys, names_ascend, name_child}
+use Rattle.btree_edit.proofs.Counting.{bit_same, bit_most, bit_false, times_at, tally_some, tally_below, tally_none, bits_changed}
+use Rattle.btree_edit.proofs.Naming.{first_is_key, names_same, name_child}
 use Rattle.btree_edit.proofs.Pairs.{value_of_joined}
 use Rattle.btree_edit.proofs.Stepping.{level_kept}
 use Rattle.btree_edit.proofs.Whole.{but_of_tree, same_level, tree_of, pairs_then}

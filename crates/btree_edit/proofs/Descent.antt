@@ -1,8 +1,8 @@
 -- From level to level towards a key.
-use Rattle.std.proofs.Common.{◌≡◌, ◌≢◌, ◌⊎◌, ℕ, zero, suc, add-one, ◌+◌, ◌-◌, ◌*◌, ◌<◌, ◌≤◌, List, [], ◌∷◌, ◌++◌, map, length, take, drop, get_or, inl, inr, refl, sym, ◌∙◌, ap, subst, arith, length-drop}
+use Rattle.std.proofs.Common.{◌≡◌, ◌≢◌, ℕ, zero, suc, add-one, ◌+◌, ◌-◌, ◌<◌, ◌≤◌, List, [], ◌∷◌, ◌++◌, map, length, take, drop, get_or, inl, inr, refl, sym, ◌∙◌, ap, subst, arith, length-drop}
 use Rattle.std.proofs.Math.Seq.{drop-cons}
 use Rattle.std.proofs.lemmas.Bool.{cases_lt}
-use Rattle.std.proofs.lemmas.List.{length-take, length-append, length-map, get_or-map, get_or-drop, get_or_append_left, get_or-append_right, take-append-drop, append-nil}
+use Rattle.std.proofs.lemmas.List.{length-take, length-append, length-map, get_or-map, get_or-drop, get_or-append_right, take-append-drop, append-nil}
 use Rattle.std.specs.Cmp.{IsTotalOrder}
 use Rattle.std.specs.declared.cmp.Ordering.{Ordering}
 use Rattle.std.specs.declared.cmp.Ordering.TheVariants.{Less, Equal, Greater}
@@ -10,15 +10,14 @@ use Rattle.hx_bytes.specs.Field.{big_at, big}
 use Rattle.hx_bytes.specs.declared.fields.Order.TheVariants.{Big}
 use Rattle.hx_bytes.proofs.Laws.{length-number_bytes}
 use Rattle.btree_node.specs.Node.{items}
-use Rattle.btree_node.specs.Levels.{Nodes, Pair, entries, level, leaves, key_of, value_of, child_of, pair_of, first_key, record_for, Ascends, IsRank}
+use Rattle.btree_node.specs.Levels.{Pair, entries, level, leaves, key_of, value_of, child_of, pair_of, first_key, record_for, Ascends, IsRank}
 use Rattle.btree_node.specs.Store.{Store}
 use Rattle.btree_node.specs.Tree.{level_of, entries_of, pairs_of, HasLevels, IsOrdered, IsTreeNode}
-use Rattle.btree_node.proofs.Levels.{entries-append}
 use Rattle.btree_node.proofs.Ranks.{below_all, above_all, in_node, level_long, none_before, rank_below, front}
 use Rattle.btree_edit.specs.Desk.{HasKey}
 use Rattle.btree_edit.specs.Reading.{IsPlace, HasNoKey, IsLead, LeadsTo}
 use Rattle.btree_edit.specs.declared.search.Lead.{Lead}
-use Rattle.btree_edit.proofs.Pairs.{key_of_joined, value_of_joined, pair_joined}
+use Rattle.btree_edit.proofs.Pairs.{key_of_joined, value_of_joined}
 
 -- among rising keys the first that is above a key has all others behind it
 pub place_rank : (cmp : List ℕ → List ℕ → Ordering) → IsTotalOrder cmp → (key : List ℕ) (records : List (List ℕ)) (place : ℕ) → Ascends cmp records → IsPlace cmp key records place → IsRank cmp key records place

@@ -1,5 +1,5 @@
 -- What calls write and take, one after another.
-use Rattle.std.proofs.Common.{◌≡◌, ◌≤◌, ◌<◌, ◌+◌, ◌-◌, ℕ, refl, sym, ◌∙◌, ap, arith}
+use Rattle.std.proofs.Common.{◌≤◌, ◌+◌, ℕ, ap, arith}
 use Rattle.btree_node.specs.Store.{Store, SameStore, Writes}
 use Rattle.btree_edit.specs.Editing.{Does}
 use Rattle.btree_edit.specs.Reading.{ReadsOnly}

@@ -1,13 +1,12 @@
 -- What the records of a node take, and where they fit.
-use Rattle.std.proofs.Common.{◌≡◌, ◌⊎◌, ℕ, zero, suc, ◌+◌, ◌-◌, ◌*◌, ◌<◌, ◌≤◌, List, [], ◌∷◌, ◌++◌, length, take, drop, get_or, inl, inr, refl, sym, ◌∙◌, ap, subst, arith}
-use Rattle.std.proofs.lemmas.List.{take-append-drop, length-drop, drop-drop}
+use Rattle.std.proofs.Common.{◌≡◌, ℕ, suc, ◌+◌, ◌*◌, ◌<◌, ◌≤◌, List, [], ◌∷◌, ◌++◌, length, take, drop, get_or, inl, inr, ap, arith}
+use Rattle.std.proofs.lemmas.List.{take-append-drop}
 use Rattle.std.proofs.lemmas.List.Sums.{sum_by-append, sum_by-cons}
 use Rattle.std.proofs.Math.Seq.{drop-cons}
-use Rattle.btree_node.specs.Node.{offset, record_count, items, IsNode, IsNodeSize}
+use Rattle.btree_node.specs.Node.{items, IsNode, IsNodeSize}
 use Rattle.btree_node.specs.Levels.{splice}
 use Rattle.btree_node.proofs.Items.{records_take}
-use Rattle.btree_edit.specs.LevelEdit.{taken, node_room, FitsTwo}
-use Rattle.btree_edit.proofs.Splices.{each_spliced}
+use Rattle.btree_edit.specs.LevelEdit.{taken, node_room}
 
 taken_cons : (r : List ℕ) (rs : List (List ℕ)) → taken (r ∷ rs) ≡ length r + 2 + taken rs
 taken_cons r rs = sum_by-cons (λ (bytes : List ℕ). length bytes + 2) r rs

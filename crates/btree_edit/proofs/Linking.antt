@@ -1,5 +1,5 @@
 -- The links of the nodes of a level.
-use Rattle.std.proofs.Common.{◌≡◌, ◌≢◌, ◌⊎◌, ℕ, zero, suc, ◌+◌, ◌-◌, ◌<◌, ◌≤◌, List, [], ◌∷◌, ◌++◌, length, get_or, inl, inr, refl, sym, ◌∙◌, ap, subst, arith}
+use Rattle.std.proofs.Common.{◌≡◌, ℕ, zero, suc, ◌+◌, ◌-◌, ◌<◌, ◌≤◌, List, [], ◌∷◌, ◌++◌, length, get_or, refl, sym, ◌∙◌, ap, arith}
 use Rattle.btree_node.specs.Node.{next_of, back_of}
 use Rattle.btree_node.specs.Levels.{Nodes}
 use Rattle.btree_edit.specs.LevelEdit.{times, head_or, last_or, Linked}

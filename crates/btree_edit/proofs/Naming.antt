@@ -1,13 +1,12 @@
 -- The records that name the nodes of a level.
-use Rattle.std.proofs.Common.{◌≡◌, ℕ, zero, suc, ◌+◌, ◌-◌, ◌^◌, ◌<◌, ◌≤◌, List, [], ◌∷◌, ◌++◌, map, length, take, drop, get_or, refl, sym, ◌∙◌, ap, subst, arith}
+use Rattle.std.proofs.Common.{◌≡◌, ℕ, suc, ◌+◌, ◌^◌, ◌<◌, ◌≤◌, List, [], ◌∷◌, ◌++◌, map, length, take, drop, get_or, refl, sym, ◌∙◌, ap, subst, arith}
 use Rattle.std.proofs.lemmas.List.{append-nil, length-append, length-map, length-take-le, get_or-map, get_or-take, take-take}
 use Rattle.std.specs.declared.cmp.Ordering.{Ordering}
-use Rattle.std.specs.declared.cmp.Ordering.TheVariants.{Less}
 use Rattle.hx_bytes.specs.Field.{big_at, big}
 use Rattle.hx_bytes.specs.declared.fields.Order.TheVariants.{Big}
 use Rattle.hx_bytes.proofs.Laws.{length-number_bytes, number_at-number_bytes}
 use Rattle.btree_node.specs.Node.{items}
-use Rattle.btree_node.specs.Levels.{Nodes, entries, key_of, value_of, child_of, first_key, record_for, Ascends}
+use Rattle.btree_node.specs.Levels.{Nodes, entries, key_of, child_of, first_key, record_for, Ascends}
 use Rattle.btree_node.proofs.Ranks.{in_node, level_long}
 use Rattle.btree_edit.specs.Climb.{NoneEmpty}
 use Rattle.btree_edit.proofs.Descent.{split_at}

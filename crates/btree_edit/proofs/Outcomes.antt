@@ -1,8 +1,8 @@
 -- What an edit leaves, over reads before it.
-use Rattle.std.proofs.Common.{◌≡◌, ◌≢◌, ◌⊎◌, ℕ, zero, suc, ◌+◌, ◌-◌, ◌*◌, ◌^◌, ◌<◌, ◌≤◌, Bool, true, false, List, [], ◌∷◌, ◌++◌, map, length, get_or, Result, Ok, Err, OnOk, inl, inr, refl, sym, ◌∙◌, ap, subst, arith}
+use Rattle.std.proofs.Common.{◌≡◌, ◌≢◌, ℕ, zero, suc, ◌+◌, ◌-◌, ◌*◌, ◌^◌, ◌<◌, ◌≤◌, true, false, List, [], ◌∷◌, map, length, get_or, Result, Ok, Err, OnOk, inl, inr, sym, ◌∙◌, ap, subst, arith}
 use Rattle.std.specs.Prelude.{IsTrue}
 use Rattle.std.proofs.lemmas.Bool.{cases_lt, cases_eq}
-use Rattle.std.proofs.lemmas.List.{append-nil, nil_from_length, length-map}
+use Rattle.std.proofs.lemmas.List.{append-nil, nil_from_length}
 use Rattle.std.specs.declared.cmp.Ordering.{Ordering}
 use Rattle.std.specs.List.{range_with_len, count_by}
 use Rattle.hx_bytes.specs.Field.{big_at}
@@ -11,7 +11,7 @@ use Rattle.btree_node.specs.Levels.{Pair, entries, leaves, child_of, pair_of}
 use Rattle.btree_node.specs.Store.{Store, SameStore, SameNodes, MapsOnly}
 use Rattle.btree_node.specs.Tree.{level_of, entries_of, pairs_of, IsTree}
 use Rattle.btree_edit.specs.LevelEdit.{bit, times, node_room}
-use Rattle.btree_edit.specs.Climb.{tally, IsTreeBut}
+use Rattle.btree_edit.specs.Climb.{tally}
 use Rattle.btree_edit.specs.Reading.{ReadsOnly}
 use Rattle.btree_edit.specs.Rising.{BoundsRoot, MakesTree, IsBare}
 use Rattle.btree_edit.specs.Sorted.{KeepsFreeNodes, EditsTree}

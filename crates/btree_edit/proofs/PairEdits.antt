@@ -1,26 +1,25 @@
 -- From the edit of a leaf to the sorted list of pairs.
-use Rattle.std.proofs.Common.{◌≡◌, ◌≢◌, ◌⊎◌, ℕ, zero, suc, ◌+◌, ◌-◌, ◌*◌, ◌/◌, ◌^◌, ◌<◌, ◌≤◌, Bool, true, false, List, [], ◌∷◌, ◌++◌, map, length, take, get_or, inl, inr, refl, sym, ◌∙◌, ap, subst, arith}
+use Rattle.std.proofs.Common.{◌≡◌, ◌⊎◌, ℕ, ◌+◌, ◌-◌, ◌*◌, ◌/◌, ◌^◌, ◌<◌, ◌≤◌, true, false, List, [], ◌∷◌, ◌++◌, map, length, take, get_or, inl, inr, refl, sym, ◌∙◌, ap, subst, arith}
 use Rattle.std.proofs.Math.Path.{fun_ext}
-use Rattle.std.proofs.lemmas.Bool.{cases_lt, cases_eq}
-use Rattle.std.proofs.lemmas.List.{take_at, length-map, get_or-map}
+use Rattle.std.proofs.lemmas.Bool.{cases_lt}
+use Rattle.std.proofs.lemmas.List.{take_at}
 use Rattle.std.specs.Cmp.{IsTotalOrder}
 use Rattle.std.specs.Ordering.{ordering_reverse}
 use Rattle.std.specs.declared.cmp.Ordering.{Ordering}
 use Rattle.std.specs.declared.cmp.Ordering.TheVariants.{Less, Equal, Greater}
 use Rattle.hx_bytes.specs.Field.{big_at}
 use Rattle.btree_node.specs.Node.{items}
-use Rattle.btree_node.specs.Levels.{Pair, entries, leaves, key_of, value_of, pair_of, splice, Ascends, IsRank}
+use Rattle.btree_node.specs.Levels.{Pair, entries, key_of, value_of, pair_of, splice, Ascends, IsRank}
 use Rattle.btree_node.specs.Store.{Store}
 use Rattle.btree_node.specs.Tree.{level_of, entries_of, pairs_of, IsTree}
 use Rattle.btree_edit.specs.Desk.{HasKey}
-use Rattle.btree_edit.specs.LevelEdit.{bit, node_room}
-use Rattle.btree_edit.specs.Reading.{LeadsTo, IsPlace}
-use Rattle.btree_edit.specs.Way.{stop_at, way_place, IsWay, LeadsWay}
-use Rattle.btree_edit.specs.Rising.{leaf_start, leaves_edited, AreOfOneLength, CanClimb, MakesTree}
+use Rattle.btree_edit.specs.LevelEdit.{node_room}
+use Rattle.btree_edit.specs.Way.{stop_at, way_place, LeadsWay}
+use Rattle.btree_edit.specs.Rising.{leaf_start, leaves_edited, AreOfOneLength, CanClimb}
 use Rattle.btree_edit.specs.Sorted.{AddsPair, DropsPair, ChangesPair, HoldsKeyOf}
 use Rattle.btree_edit.specs.declared.desk.Stop.{Stop}
 use Rattle.btree_edit.proofs.Pairs.{key_of_joined, value_of_joined}
-use Rattle.btree_edit.proofs.Descent.{of_level, in_level, leads_absent, pairs_are, pair_at, pairs_long}
+use Rattle.btree_edit.proofs.Descent.{of_level, leads_absent, pairs_are, pair_at, pairs_long}
 use Rattle.btree_edit.proofs.Splices.{length-splice, map-splice, ascends_spliced}
 
 -- a way in a store that was read

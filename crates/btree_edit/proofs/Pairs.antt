@@ -1,11 +1,11 @@
 -- Keys and values of records.
-use Rattle.std.proofs.Common.{◌≡◌, ◌⊎◌, ℕ, ◌+◌, ◌-◌, ◌<◌, ◌≤◌, List, [], ◌∷◌, ◌++◌, length, take, drop, get_or, inl, inr, refl, sym, ◌∙◌, ap, subst, arith, length-drop}
+use Rattle.std.proofs.Common.{◌≡◌, ◌⊎◌, ℕ, ◌+◌, ◌<◌, ◌≤◌, List, ◌++◌, length, take, drop, inl, inr, sym, ◌∙◌, ap, arith, length-drop}
 use Rattle.std.proofs.lemmas.Bool.{cases_lt}
-use Rattle.std.proofs.lemmas.List.{length-take, length-append, take_all, drop_all, take_at, drop_at, take-append-drop}
-use Rattle.hx_bytes.specs.Field.{big_at, big}
+use Rattle.std.proofs.lemmas.List.{length-take, take_all, drop_all, take_at, drop_at, take-append-drop}
+use Rattle.hx_bytes.specs.Field.{big_at}
 use Rattle.hx_bytes.specs.declared.fields.Order.TheVariants.{Big}
-use Rattle.hx_bytes.proofs.Laws.{number_at-drop, number_at-front, length-number_bytes}
-use Rattle.btree_node.specs.Levels.{key_of, value_of, child_of, first_key, record_for, Nodes}
+use Rattle.hx_bytes.proofs.Laws.{number_at-drop, number_at-front}
+use Rattle.btree_node.specs.Levels.{key_of, value_of, child_of}
 
 pub take_length : (m : ℕ) (l : List ℕ) → take (length (take m l)) l ≡ take m l
 take_length m l = elim (cases_lt (length l) m) [

@@ -1,5 +1,5 @@
 -- What the search of the leaf says of the tree.
-use Rattle.std.proofs.Common.{◌≡◌, ◌≢◌, ◌⊎◌, ℕ, ◌+◌, ◌-◌, ◌<◌, ◌≤◌, List, [], ◌++◌, length, get_or, inl, inr, refl, sym, ◌∙◌, ap, subst, arith}
+use Rattle.std.proofs.Common.{◌≡◌, ℕ, ◌+◌, ◌-◌, ◌<◌, List, [], ◌++◌, length, get_or, inl, inr, refl, sym, ◌∙◌, ap, subst, arith}
 use Rattle.std.specs.Cmp.{IsTotalOrder}
 use Rattle.std.specs.declared.cmp.Ordering.{Ordering}
 use Rattle.hx_bytes.specs.Field.{big_at}
@@ -7,7 +7,7 @@ use Rattle.btree_node.specs.Node.{items}
 use Rattle.btree_node.specs.Levels.{Pair, entries, key_of, value_of}
 use Rattle.btree_node.specs.Store.{Store}
 use Rattle.btree_node.specs.Tree.{pairs_of, HasLevels, IsOrdered}
-use Rattle.btree_edit.specs.Desk.{HasKey, Finds, Picks, HoldsNone, HoldsPair, StandsIn, IsInTree}
+use Rattle.btree_edit.specs.Desk.{HasKey, Finds, Picks, HoldsNone, StandsIn, IsInTree}
 use Rattle.btree_edit.specs.Reading.{LeadsTo, HasNoKey, IsPlace}
 use Rattle.btree_edit.specs.declared.desk.Desk.{Desk}
 use Rattle.btree_edit.specs.declared.finding.Found.{Found}

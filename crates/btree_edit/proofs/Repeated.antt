@@ -1,5 +1,5 @@
 -- Calls that only read, one after another.
-use Rattle.std.proofs.Common.{◌≡◌, ◌<◌, ◌≤◌, ◌+◌, ℕ, refl, sym, ◌∙◌, ap, subst, arith}
+use Rattle.std.proofs.Common.{◌<◌, ◌≤◌, ◌+◌, ℕ, refl, sym, ◌∙◌, subst, arith}
 use Rattle.std.specs.Prelude.{IsTrue}
 use Rattle.btree_node.specs.Node.{IsNodeOf}
 use Rattle.btree_node.specs.Store.{Store, SameStore, SameNodes, SameRoom}

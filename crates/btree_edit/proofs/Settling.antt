@@ -1,6 +1,5 @@
 -- The end of an edit: the root, and the tree's numbers.
-use Rattle.std.proofs.Common.{◌≡◌, ◌≢◌, ◌⊎◌, ℕ, zero, suc, ◌+◌, ◌-◌, ◌*◌, ◌/◌, ◌^◌, ◌<◌, ◌≤◌, Bool, true, false, List, [], ◌∷◌, ◌++◌, map, length, take, get_or, inl, inr, refl, sym, ◌∙◌, ap, subst, arith}
-use Rattle.std.specs.Prelude.{IsTrue}
+use Rattle.std.proofs.Common.{◌≡◌, ◌≢◌, ℕ, zero, suc, ◌+◌, ◌-◌, ◌*◌, ◌/◌, ◌^◌, ◌<◌, ◌≤◌, Bool, true, false, List, [], ◌∷◌, map, length, get_or, inl, inr, refl, sym, ◌∙◌, ap, subst, arith}
 use Rattle.std.proofs.lemmas.Bool.{cases_lt, cases_eq}
 use Rattle.std.proofs.lemmas.List.{length-map, append-nil}
 use Rattle.std.specs.declared.cmp.Ordering.{Ordering}
@@ -8,22 +7,21 @@ use Rattle.hx_bytes.specs.Field.{big_at}
 use Rattle.btree_node.specs.Node.{items, next_of, back_of, IsNodeOf}
 use Rattle.btree_node.specs.Levels.{entries, leaves, key_of, value_of, child_of, pair_of, record_for, Ascends}
 use Rattle.btree_node.specs.Store.{Store, SameStore, SameNodes, ChangesOnly, MapsOnly, ShapesOnly, with_free}
-use Rattle.btree_node.specs.Tree.{level_of, pairs_of, kind_at, IsTreeNode, HasHeader, IsTree}
+use Rattle.btree_node.specs.Tree.{level_of, pairs_of, kind_at, IsTreeNode, HasHeader}
 use Rattle.btree_node.specs.declared.store.TreeShape.{TreeShape}
 use Rattle.btree_node.proofs.Levels.{same_entries}
-use Rattle.btree_edit.specs.Held.{HeldPair}
-use Rattle.btree_edit.specs.Halves.{record_of, put_of}
+use Rattle.btree_edit.specs.Halves.{put_of}
 use Rattle.btree_edit.specs.LevelEdit.{bit, times, head_or, last_or, taken, node_room, records_on}
-use Rattle.btree_edit.specs.Climb.{LevelLists, IsLevel, NoneEmpty, IsTreeBut}
+use Rattle.btree_edit.specs.Climb.{LevelLists, IsTreeBut}
 use Rattle.btree_edit.specs.Rising.{Climbs, leaf_records, Rises, IsLowering, BoundsRoot, HasThickRoot, MakesTree, IsBare, IsLeafRecord, TakesNode}
 use Rattle.btree_edit.specs.declared.desk.Desk.{Desk}
 use Rattle.btree_edit.proofs.Counting.{bit_same, bit_other, bit_most, bit_true}
-use Rattle.btree_edit.proofs.Fitting.{taken_one, taken_two}
+use Rattle.btree_edit.proofs.Fitting.{taken_two}
 use Rattle.btree_edit.proofs.Linking.{head_get, last_get}
-use Rattle.btree_edit.proofs.Naming.{names_keys, names_ascend, names_short, names_long}
+use Rattle.btree_edit.proofs.Naming.{names_keys, names_ascend, names_short}
 use Rattle.btree_edit.proofs.Repeated.{same_store_both}
 use Rattle.btree_edit.proofs.Whole.{tree_of, same_level, pairs_then}
-use Rattle.btree_edit.proofs.Crowning.{in_total, not_reserved, is_used, but_kept, above, topped, lowered, child_named, new_top, emptied, none_at}
+use Rattle.btree_edit.proofs.Crowning.{not_reserved, is_used, but_kept, above, topped, lowered, child_named, new_top, emptied, none_at}
 
 -- a fresh node that was taken and written
 pub takes_node : (s m t : Store) (node : ℕ) (bytes : List ℕ) → 0 < s.shape.free → node < s.shape.total → s.used node ≡ false → s.reserved node ≡ false → MapsOnly node true s m

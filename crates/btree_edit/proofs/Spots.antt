@@ -1,13 +1,12 @@
 -- A node of a tree's levels stands between its neighbours.
-use Rattle.std.proofs.Common.{◌≡◌, ◌≢◌, ◌⊎◌, ℕ, zero, suc, ◌+◌, ◌-◌, ◌<◌, ◌≤◌, true, false, List, [], ◌∷◌, ◌++◌, length, get_or, inl, inr, refl, sym, ◌∙◌, ap, subst, arith}
-use Rattle.std.proofs.lemmas.Bool.{cases_lt, cases_eq}
+use Rattle.std.proofs.Common.{◌≡◌, ◌≢◌, ℕ, suc, ◌+◌, ◌-◌, ◌<◌, ◌≤◌, true, false, List, length, get_or, inl, inr, refl, sym, ◌∙◌, ap, subst, arith}
+use Rattle.std.proofs.lemmas.Bool.{cases_lt}
 use Rattle.std.proofs.lemmas.List.{get_or_past}
 use Rattle.std.specs.declared.cmp.Ordering.{Ordering}
 use Rattle.btree_node.specs.Node.{next_of, back_of}
 use Rattle.btree_node.specs.Store.{Store}
-use Rattle.btree_node.specs.Tree.{IsTreeNode}
-use Rattle.btree_edit.specs.LevelEdit.{bit, times, head_or, last_or, Linked, IsBeside, IsInLevel}
-use Rattle.btree_edit.specs.Climb.{LevelLists, IsLevel, tally, IsTreeBut}
+use Rattle.btree_edit.specs.LevelEdit.{IsBeside, IsInLevel}
+use Rattle.btree_edit.specs.Climb.{LevelLists, IsTreeBut}
 use Rattle.btree_edit.proofs.Counting.{bit_true, times_twice, tally_some}
 use Rattle.btree_edit.proofs.Linking.{linked_next, linked_backs}
 use Rattle.btree_edit.proofs.Crowning.{once_there, not_reserved, is_used}

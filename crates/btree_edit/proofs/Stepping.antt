@@ -1,12 +1,12 @@
 -- One level of an edit keeps the rules of a tree, and hands on what is still to be done.
-use Rattle.std.proofs.Common.{◌≡◌, ◌≢◌, ◌⊎◌, ℕ, zero, suc, ◌+◌, ◌-◌, ◌*◌, ◌/◌, ◌<◌, ◌≤◌, Bool, true, false, List, [], ◌∷◌, ◌++◌, map, length, take, drop, get_or, inl, inr, refl, sym, ◌∙◌, ap, subst, arith}
+use Rattle.std.proofs.Common.{◌≡◌, ◌≢◌, ◌⊎◌, ℕ, suc, ◌+◌, ◌-◌, ◌/◌, ◌<◌, ◌≤◌, Bool, false, List, [], ◌∷◌, ◌++◌, map, length, get_or, inl, inr, refl, sym, ◌∙◌, ap, subst, arith}
 use Rattle.std.proofs.lemmas.Bool.{cases_lt, cases_eq}
 use Rattle.std.proofs.lemmas.List.{nil_from_length, length-append, length-take-le, get_or_append_left, get_or-append_right}
 use Rattle.std.specs.declared.cmp.Ordering.{Ordering}
 use Rattle.std.specs.Prelude.{eqb}
 use Rattle.std.specs.List.{range_with_len, count_by}
 use Rattle.btree_node.specs.Node.{items, IsNode, next_of, back_of, kind_of, height_of, SetsLinks}
-use Rattle.btree_node.specs.Levels.{Nodes, entries, key_of, record_for, splice, Ascends}
+use Rattle.btree_node.specs.Levels.{entries, key_of, record_for, splice, Ascends}
 use Rattle.btree_node.specs.Store.{Store}
 use Rattle.btree_node.specs.Tree.{IsTreeNode}
 use Rattle.btree_node.specs.declared.store.TreeShape.{TreeShape}
@@ -14,7 +14,7 @@ use Rattle.btree_node.proofs.Levels.{same_entries, level_spliced, names_spliced}
 use Rattle.btree_edit.specs.LevelEdit.{bit, times, head_or, last_or, Linked, parts_of, LevelEdit}
 use Rattle.btree_edit.specs.Climb.{LevelLists, IsLevel, NoneEmpty, tally, IsTreeBut}
 use Rattle.btree_edit.specs.declared.desk.Desk.{Desk}
-use Rattle.btree_edit.proofs.Counting.{bit_same, bit_other, bit_most, bit_true, bit_false, times-append, times_at, times_is, times_place, times_twice, tally_some, tally_changed, tally_twice, bits_changed}
+use Rattle.btree_edit.proofs.Counting.{bit_same, bit_other, bit_most, bit_false, times-append, times_at, times_place, times_twice, tally_some, tally_changed, tally_twice, bits_changed}
 use Rattle.btree_edit.proofs.Naming.{names_same}
 use Rattle.btree_edit.proofs.Linking.{head_or-append, head_get, head_in, last_in, last_get, linked_split, linked_join, linked_same, linked_front, linked_back}
 

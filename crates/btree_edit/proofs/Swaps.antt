@@ -1,5 +1,5 @@
 -- A record of a leaf replaced by another with its key and its length: the tree is one still.
-use Rattle.std.proofs.Common.{◌≡◌, ◌≢◌, ◌⊎◌, ℕ, zero, suc, ◌+◌, ◌-◌, ◌/◌, ◌^◌, ◌<◌, ◌≤◌, true, false, List, [], ◌∷◌, ◌++◌, map, length, take, drop, get_or, set, inl, inr, refl, sym, ◌∙◌, ap, subst, arith}
+use Rattle.std.proofs.Common.{◌≡◌, ◌≢◌, ◌⊎◌, ℕ, suc, ◌+◌, ◌-◌, ◌/◌, ◌^◌, ◌<◌, ◌≤◌, true, false, List, [], ◌∷◌, ◌++◌, map, length, take, drop, get_or, set, inl, inr, refl, sym, ◌∙◌, ap, subst, arith}
 use Rattle.std.proofs.lemmas.Bool.{cases_eq, cases_lt}
 use Rattle.std.proofs.lemmas.List.{length-set, length-append, length-map, append-nil, set_split, get_or_at, get_or_append_left, get_or-append_right, get_or-set_same, get_or-set_other}
 use Rattle.std.specs.Cmp.{IsTotalOrder}
@@ -10,7 +10,7 @@ use Rattle.hx_bytes.specs.Field.{big_at, big}
 use Rattle.btree_node.specs.Node.{items, IsNode, SameHead, next_of, back_of, kind_of, height_of}
 use Rattle.btree_node.specs.Levels.{Pair, entries, leaves, key_of, value_of, pair_of, record_for, splice, Ascends}
 use Rattle.btree_node.specs.Store.{Store, SameStore, SameNodes}
-use Rattle.btree_node.specs.Tree.{level_of, entries_of, pairs_of, IsTreeNode, HasHeader, IsReached, IsTree}
+use Rattle.btree_node.specs.Tree.{level_of, entries_of, pairs_of, IsTreeNode, HasHeader, IsTree}
 use Rattle.btree_node.proofs.Levels.{same_entries, level_spliced}
 use Rattle.btree_node.proofs.Ranks.{in_node, level_long, below_all}
 use Rattle.btree_edit.specs.Climb.{IsLevel, IsTreeBut}

@@ -1,5 +1,5 @@
 -- The way from the root to a leaf, step by step.
-use Rattle.std.proofs.Common.{◌≡◌, ◌≢◌, ◌⊎◌, ℕ, zero, suc, ◌+◌, ◌-◌, ◌<◌, ◌≤◌, List, [], ◌∷◌, ◌++◌, length, take, set, get_or, inl, inr, refl, sym, ◌∙◌, ap, subst, arith}
+use Rattle.std.proofs.Common.{◌≡◌, ℕ, zero, suc, ◌+◌, ◌-◌, ◌<◌, ◌≤◌, List, [], ◌∷◌, length, take, set, get_or, inl, inr, refl, sym, ◌∙◌, ap, subst, arith}
 use Rattle.std.proofs.lemmas.Bool.{cases_lt, cases_eq}
 use Rattle.std.proofs.lemmas.List.{take_at, get_or-set_other, get_or-set_same}
 use Rattle.std.specs.Cmp.{IsTotalOrder}
@@ -10,10 +10,10 @@ use Rattle.btree_node.specs.Levels.{entries}
 use Rattle.btree_node.specs.Store.{Store}
 use Rattle.btree_node.specs.Tree.{level_of, HasLevels, IsOrdered}
 use Rattle.btree_edit.specs.Reading.{LeadsTo, IsPlace, IsLead}
-use Rattle.btree_edit.specs.Way.{stop_at, way_place, IsWay, LeadsWay}
+use Rattle.btree_edit.specs.Way.{stop_at, way_place, LeadsWay}
 use Rattle.btree_edit.specs.declared.desk.Stop.{Stop}
 use Rattle.btree_edit.specs.declared.search.Lead.{Lead}
-use Rattle.btree_edit.proofs.Descent.{leads_root, leads_step, leads_step_front, node_place, node_in_level}
+use Rattle.btree_edit.proofs.Descent.{leads_step, leads_step_front, node_place, node_in_level}
 
 -- the first so many steps of a way, and the node that they lead to
 pub record IsOnWay (cmp : List ℕ → List ℕ → Ordering) (key : List ℕ) (store : Store) (path : List Stop) (level node : ℕ) : Type 0 where

@@ -1,16 +1,15 @@
 -- The rules of a tree, by its levels from the root and by lists of nodes.
-use Rattle.std.proofs.Common.{◌≡◌, ◌≢◌, ◌⊎◌, ℕ, zero, suc, add-one, ◌+◌, ◌-◌, ◌^◌, ◌<◌, ◌≤◌, Bool, true, false, List, [], ◌∷◌, ◌++◌, map, length, get_or, inl, inr, refl, sym, ◌∙◌, ap, subst, arith}
+use Rattle.std.proofs.Common.{◌≡◌, ◌≢◌, ◌⊎◌, ℕ, zero, suc, add-one, ◌+◌, ◌-◌, ◌^◌, ◌<◌, ◌≤◌, Bool, true, false, List, [], ◌∷◌, map, length, get_or, inl, inr, refl, sym, ◌∙◌, ap, subst, arith}
 use Rattle.std.specs.Prelude.{IsTrue}
 use Rattle.std.proofs.lemmas.Bool.{cases_lt, cases_eq}
 use Rattle.std.specs.declared.cmp.Ordering.{Ordering}
 use Rattle.hx_bytes.specs.Field.{big_at}
-use Rattle.btree_node.specs.Node.{items}
-use Rattle.btree_node.specs.Levels.{Nodes, Pair, entries, level, leaves, key_of, child_of, pair_of, record_for, Ascends}
+use Rattle.btree_node.specs.Levels.{Nodes, entries, leaves, child_of, pair_of, record_for}
 use Rattle.btree_node.specs.Store.{Store}
-use Rattle.btree_node.specs.Tree.{level_of, entries_of, pairs_of, IsTreeNode, HasLevels, IsOrdered, HasHeader, IsReached, IsMapped, IsTree}
-use Rattle.btree_edit.specs.LevelEdit.{bit, times, Linked}
+use Rattle.btree_node.specs.Tree.{level_of, pairs_of, HasLevels, IsOrdered, HasHeader, IsReached, IsMapped, IsTree}
+use Rattle.btree_edit.specs.LevelEdit.{bit, times}
 use Rattle.btree_edit.specs.Climb.{LevelLists, IsLevel, NoneEmpty, tally, IsTreeBut}
-use Rattle.btree_edit.proofs.Counting.{bit_most, bit_true, bit_false, times_at, times_is, times_place, times_twice, times_none, times_once, tally_some, tally_none, tally_place, tally_twice, tally_one}
+use Rattle.btree_edit.proofs.Counting.{bit_most, bit_true, bit_false, times_at, times_is, times_place, times_twice, times_none, times_once, tally_some, tally_place, tally_twice, tally_one}
 use Rattle.btree_edit.proofs.Linking.{linked_from, linked_next, linked_backs}
 use Rattle.btree_edit.proofs.Naming.{name_child}
 

@@ -1,5 +1,5 @@
 -- What edits take.
-use Rattle.std.specs.Prelude.{◌≡◌, ◌≤◌, ◌<◌, ℕ, ◌+◌, ◌*◌, min, IsTrue}
+use Rattle.std.specs.Prelude.{◌≤◌, ℕ, ◌+◌, ◌*◌}
 use Rattle.btree_node.specs.Store.{Store, SameStore, unwritten_sectors}
 
 -- at most so many nodes were written for the first time since the last commit, each took at most its sectors, and at most so many free nodes were taken

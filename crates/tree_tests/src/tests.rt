@@ -304,3 +304,30 @@ fn longer_first_keys_split_the_node_above(rt: HostRuntime) -> Result<(), Fail> {
     assert_eq!(rt; (tree.shape().root, tree.shape().free), (0, 59));
     Ok(())
 }
+
+/// The value of a number's pair with each byte turned.
+fn turned(alloc: Global, wanted: &Wanted, number: u32) -> Result<Vec<u8>, OutOfMemory> {
+    let mut turned = Vec::new(alloc);
+    for byte in &wanted.value(alloc, number)? {
+        turned.push(*byte ^ 0xFF)?;
+    }
+    Ok(turned)
+}
+
+#[test]
+fn a_value_of_the_same_length_is_written_into_its_leaf_alone(rt: HostRuntime) -> Result<(), Fail> {
+    let alloc = rt.alloc();
+    let mut tree = tree_of(alloc, 512)?;
+    let mut list = wanted(alloc, Kind::Extents, 0, 65, 60)?;
+    assert_eq!(rt; add_all::<ExtentOrder>(alloc, &mut tree, &mut list, Way::Rising, 60), Ok(()));
+    for number in 0..60u32 {
+        let key = list.key(alloc, number)?;
+        let value = turned(alloc, &list, number)?;
+        let before = tree.start();
+        assert_eq!(rt; tree.change::<ExtentOrder>(&key, &value), Some(Removed::Done), "{number}");
+        assert_eq!(rt; tree.store.nodes.count_written(), 1, "{number}");
+        assert_eq!(rt; tree.shape(), before, "{number}");
+        assert!(rt; tree.has::<ExtentOrder>(&key, &value), "{number}");
+    }
+    Ok(())
+}

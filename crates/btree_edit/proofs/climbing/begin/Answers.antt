@@ -1,4 +1,4 @@
-use Rattle.std.proofs.Common.{◌≡◌, ◌≤◌, ◌∷◌, [], ◌∙◌, refl, sym, ap, subst, arith}
+use Rattle.std.proofs.Common.{◌∷◌, [], ◌∙◌, refl, arith}
 use Rattle.btree_edit.specs.Halves.{record_of}
 use Rattle.btree_edit.proofs.Settling.{with_records}
 use Rattle.btree_edit.proofs.climbing.begin.Goals as goal

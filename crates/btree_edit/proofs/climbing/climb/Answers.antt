@@ -1,17 +1,14 @@
-use Rattle.std.proofs.Common.{rules, ◌≡◌, ◌≤◌, ◌<◌, ◌+◌, ◌-◌, ◌*◌, ◌^◌, min, ℕ, zero, suc, ℤ, List, length, true, false, refl, sym, ◌∙◌, ap, subst, arith}
-use Rattle.btree_node.specs.Store.{SameStore}
+use Rattle.std.proofs.Common.{◌≡◌, ◌≤◌, ◌<◌, ◌+◌, ◌-◌, ◌*◌, ℕ, zero, suc, ℤ, List, true, refl, sym, ◌∙◌, ap, subst, arith}
 use mir.Syntax.{w8}
 use mir.Val.{to_z, of_z}
 use Rattle.std.specs.Prelude.{IsTrue}
 use Rattle.btree_node.specs.Tree.{kind_at, IsTreeNode}
 use Rattle.btree_edit.specs.Desk.{IsDeskOf}
-use Rattle.btree_edit.specs.Editing.{Does}
 use Rattle.btree_edit.specs.LevelEdit.{records_on, CanEdit, LevelEdit}
 use Rattle.btree_edit.specs.Way.{stop_at}
 use Rattle.btree_edit.specs.declared.desk.Stop.{Stop}
 use Rattle.btree_edit.proofs.Behind.{clashing}
 use Rattle.btree_edit.proofs.Repeated.{same_store_both}
-use Rattle.btree_edit.proofs.Doing.{does_both, does_read}
 use Rattle.btree_edit.proofs.Ascent.{IsAscent, ascent_start, ascent_read, ascent_step, ascent_stop, ascent_end, can_edit, way_node}
 use Rattle.btree_edit.proofs.climbing.climb.Goals as goal
 

@@ -1,4 +1,4 @@
-use Rattle.std.proofs.Common.{◌≡◌, ◌≤◌, ◌+◌, ◌*◌, ◌∙◌, inl, inr, sym, ap, subst, arith}
+use Rattle.std.proofs.Common.{◌∙◌, inl, inr, arith}
 use Rattle.btree_edit.specs.LevelEdit.{records_on}
 use Rattle.btree_edit.specs.Rising.{leaves_edited}
 use Rattle.btree_edit.proofs.Settling.{with_records}

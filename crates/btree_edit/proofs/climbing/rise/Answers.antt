@@ -1,4 +1,4 @@
-use Rattle.std.proofs.Common.{◌≡◌, ◌≤◌, ◌+◌, ◌*◌, ◌∙◌, sym, ap, subst, arith}
+use Rattle.std.proofs.Common.{◌≤◌, ◌+◌, ◌*◌, ◌∙◌, sym, subst, arith}
 use Rattle.btree_edit.specs.LevelEdit.{records_on, node_room}
 use Rattle.btree_edit.specs.Rising.{leaves_edited}
 use Rattle.btree_edit.proofs.climbing.rise.Goals as goal

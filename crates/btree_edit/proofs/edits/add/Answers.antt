@@ -1,7 +1,6 @@
-use Rattle.std.proofs.Common.{◌≡◌, ◌⊎◌, ◌≤◌, ◌<◌, ◌+◌, ◌-◌, ◌*◌, ◌/◌, ◌^◌, ◌++◌, List, [], ◌∷◌, map, length, true, false, inl, inr, refl, sym, ◌∙◌, ap, subst, arith}
-use Rattle.std.specs.Prelude.{IsTrue}
+use Rattle.std.proofs.Common.{◌≡◌, ◌≤◌, ◌<◌, ◌+◌, ◌-◌, ◌*◌, ◌/◌, ◌^◌, ◌++◌, [], ◌∷◌, map, length, false, inr, refl, sym, ◌∙◌, ap, subst, arith}
 use Rattle.btree_node.specs.Node.{items}
-use Rattle.btree_node.specs.Levels.{key_of, value_of, pair_of}
+use Rattle.btree_node.specs.Levels.{key_of, pair_of}
 use Rattle.btree_node.specs.Tree.{pairs_of}
 use Rattle.btree_edit.specs.Desk.{HasKey}
 use Rattle.btree_edit.specs.Halves.{record_of}
@@ -9,7 +8,7 @@ use Rattle.btree_edit.specs.LevelEdit.{node_room, records_on}
 use Rattle.btree_edit.specs.Rising.{leaves_edited, CanClimb, IsLeafRecord}
 use Rattle.btree_edit.specs.Way.{stop_at, LeadsWay}
 use Rattle.btree_edit.specs.Sorted.{AddsPair}
-use Rattle.btree_edit.proofs.Pairs.{key_of_joined, value_of_joined}
+use Rattle.btree_edit.proofs.Pairs.{key_of_joined}
 use Rattle.btree_edit.proofs.PairEdits.{way_read, can_insert, adds, count_added, first_pair}
 use Rattle.btree_edit.proofs.Outcomes.{on_ok_then, bounds_read, bounds_first, read_tree, read_pairs, edits_read, edits_made, bare_pairs, bare_of_none}
 use Rattle.btree_edit.proofs.edits.add.Goals as goal

@@ -1,15 +1,14 @@
-use Rattle.std.proofs.Common.{◌≡◌, ◌⊎◌, ◌≤◌, ◌<◌, ◌+◌, ◌-◌, ◌*◌, ◌/◌, ◌^◌, ◌++◌, ℕ, Equal, get_or, List, Bool, [], ◌∷◌, map, length, true, false, inl, inr, refl, sym, ◌∙◌, ap, subst, arith}
-use Rattle.std.specs.Prelude.{IsTrue}
+use Rattle.std.proofs.Common.{◌≡◌, ◌≤◌, ◌<◌, ◌+◌, ◌-◌, ◌*◌, ◌/◌, ◌^◌, ◌++◌, ℕ, Equal, get_or, List, [], ◌∷◌, map, length, true, inr, refl, sym, ◌∙◌, ap, subst, arith}
 use Rattle.btree_node.specs.Levels.{Pair, pair_of}
 use Rattle.btree_node.specs.Tree.{pairs_of}
 use Rattle.btree_edit.specs.Desk.{HasKey}
 use Rattle.btree_edit.specs.LevelEdit.{node_room, records_on}
-use Rattle.btree_edit.specs.Rising.{leaves_edited, AreOfOneLength, CanClimb, MakesTree}
+use Rattle.btree_edit.specs.Rising.{leaves_edited, CanClimb}
 use Rattle.btree_edit.specs.Way.{stop_at, LeadsWay}
 use Rattle.btree_edit.specs.Sorted.{ChangesPair, HoldsKeyOf}
 use Rattle.btree_edit.specs.Halves.{record_of}
 use Rattle.btree_edit.proofs.PairEdits.{way_read, can_change, changes, count_changed, found_some, own_key_is}
-use Rattle.btree_edit.proofs.Outcomes.{on_ok_then, bounds_read, bounds_first, read_tree, read_pairs, edits_read, edits_made, bare_pairs}
+use Rattle.btree_edit.proofs.Outcomes.{on_ok_then, bounds_read, read_tree, read_pairs, edits_read, edits_made, bare_pairs}
 use Rattle.btree_edit.proofs.edits.change_pair.Goals as goal
 
 pub trace-requires-clause-tree : goal.trace-requires-clause-tree

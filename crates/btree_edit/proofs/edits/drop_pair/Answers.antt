@@ -1,14 +1,13 @@
-use Rattle.std.proofs.Common.{◌≡◌, ◌⊎◌, ◌≤◌, ◌<◌, ◌+◌, ◌-◌, ◌*◌, ◌^◌, List, Bool, [], map, length, true, false, inl, inr, refl, sym, ◌∙◌, ap, subst, arith}
-use Rattle.std.specs.Prelude.{IsTrue}
+use Rattle.std.proofs.Common.{◌≡◌, ◌⊎◌, ◌≤◌, ◌+◌, ◌-◌, ◌*◌, ◌^◌, Bool, [], map, length, true, false, inl, inr, refl, sym, ◌∙◌, ap, subst, arith}
 use Rattle.btree_node.specs.Levels.{pair_of}
 use Rattle.btree_node.specs.Tree.{pairs_of}
 use Rattle.btree_edit.specs.Desk.{HasKey}
 use Rattle.btree_edit.specs.LevelEdit.{node_room}
-use Rattle.btree_edit.specs.Rising.{leaves_edited, AreOfOneLength, CanClimb, MakesTree}
+use Rattle.btree_edit.specs.Rising.{leaves_edited, AreOfOneLength, CanClimb}
 use Rattle.btree_edit.specs.Way.{stop_at, LeadsWay}
 use Rattle.btree_edit.specs.Sorted.{DropsPair}
 use Rattle.btree_edit.proofs.PairEdits.{way_read, can_remove, drops, count_dropped, found_some}
-use Rattle.btree_edit.proofs.Outcomes.{on_ok_then, bounds_read, bounds_first, read_tree, read_pairs, edits_read, edits_made, bare_pairs}
+use Rattle.btree_edit.proofs.Outcomes.{on_ok_then, bounds_read, read_tree, read_pairs, edits_read, edits_made, bare_pairs}
 use Rattle.btree_edit.proofs.edits.drop_pair.Goals as goal
 
 pub trace-requires-clause-tree : goal.trace-requires-clause-tree

@@ -1,11 +1,9 @@
-use Rattle.std.proofs.Common.{◌≡◌, ◌≤◌, ◌<◌, ◌+◌, ◌*◌, ◌/◌, ◌^◌, ◌++◌, List, length, true, false, refl, sym, ◌∙◌, ap, subst, arith}
+use Rattle.std.proofs.Common.{◌≡◌, ◌≤◌, ◌+◌, ◌*◌, ◌^◌, sym, ◌∙◌, ap, subst, arith}
 use Rattle.std.specs.Prelude.{IsTrue}
-use Rattle.std.proofs.lemmas.List.{length-append}
 use Rattle.btree_node.specs.Tree.{pairs_of}
 use Rattle.btree_edit.specs.Desk.{HasKey, Finds}
-use Rattle.btree_edit.specs.Halves.{record_of}
 use Rattle.btree_edit.specs.LevelEdit.{node_room}
-use Rattle.btree_edit.specs.Sorted.{AddsPair, DropsPair, EditsTree}
+use Rattle.btree_edit.specs.Sorted.{DropsPair}
 use Rattle.btree_edit.specs.declared.finding.Found.{Found}
 use Rattle.btree_edit.proofs.Picking.{found_key}
 use Rattle.btree_edit.proofs.Outcomes.{bounds_read, bounds_same, read_tree, read_pairs, edits_read}

@@ -1,12 +1,11 @@
-use Rattle.std.proofs.Common.{◌≡◌, ◌≤◌, ◌<◌, ◌+◌, ◌-◌, ◌/◌, ◌^◌, ◌∷◌, [], length, true, false, refl, sym, ◌∙◌, ap, subst, arith}
+use Rattle.std.proofs.Common.{◌≡◌, ◌≤◌, ◌<◌, ◌-◌, ◌/◌, ◌^◌, ◌∷◌, [], length, true, false, sym, ◌∙◌, ap, subst, arith}
 use Rattle.std.specs.Prelude.{IsTrue}
 use Rattle.btree_node.specs.Node.{items}
-use Rattle.btree_node.specs.Tree.{IsTree, IsTreeNode}
+use Rattle.btree_node.specs.Tree.{IsTreeNode}
 use Rattle.btree_node.specs.Store.{MapsOnly}
 use Rattle.btree_edit.specs.Halves.{record_of}
-use Rattle.btree_edit.specs.Rising.{IsLeafRecord, MakesTree}
+use Rattle.btree_edit.specs.Rising.{IsLeafRecord}
 use Rattle.btree_edit.proofs.Behind.{clashing}
-use Rattle.btree_edit.proofs.Repeated.{still_node}
 use Rattle.btree_edit.proofs.Outcomes.{on_ok_then, read_tree, root_in_use, root_not_reserved, bare_then, makes_from_bare, makes_read}
 use Rattle.btree_edit.proofs.edits.replant.Goals as goal
 

@@ -1,7 +1,7 @@
-use Rattle.std.proofs.Common.{◌≡◌, ◌≤◌, ◌<◌, ◌-◌, ◌+◌, length, get_or, [], ap, sym, subst, ◌∙◌, arith, refl, inl, inr, true, false}
+use Rattle.std.proofs.Common.{◌≡◌, ◌≤◌, ◌<◌, ◌-◌, ◌+◌, length, ap, sym, subst, ◌∙◌, arith, refl, inl, inr, true, false}
 use Rattle.btree_node.specs.Node.{items}
 use Rattle.btree_node.specs.Tree.{IsTreeNode}
-use Rattle.btree_edit.specs.Reading.{LeadsTo, ReadsOnly, HasNoKey, IsLead}
+use Rattle.btree_edit.specs.Reading.{LeadsTo, HasNoKey, IsLead}
 use Rattle.btree_edit.proofs.Descent.{leads_root, leads_step, leads_node, leads_keys, leads_empty}
 use Rattle.btree_edit.proofs.Repeated.{reads_none, reads_both, still_node}
 use Rattle.btree_edit.proofs.finding.descend.Goals as goal

@@ -1,4 +1,4 @@
-use Rattle.std.proofs.Common.{◌≡◌, ◌≤◌, ◌<◌, length, ap, sym, subst, ◌∙◌, arith, true, false}
+use Rattle.std.proofs.Common.{◌≤◌, length, ap, sym, subst, ◌∙◌}
 use Rattle.btree_node.specs.Node.{items}
 use Rattle.btree_edit.specs.Following.{IsInLeaf, IsLocated}
 use Rattle.btree_edit.proofs.Behind.{next_here, next_over, steps_same, leaf_same, not_inside}

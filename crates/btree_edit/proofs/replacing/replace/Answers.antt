@@ -1,4 +1,4 @@
-use Rattle.std.proofs.Common.{◌≡◌, ◌≢◌, ◌≤◌, ◌<◌, ◌+◌, ◌*◌, ◌^◌, ◌++◌, ◌-◌, ◌/◌, List, [], get_or, refl, IsTrue, length, inl, inr, ap, sym, ◌∙◌, subst, arith}
+use Rattle.std.proofs.Common.{◌≡◌, ◌≤◌, ◌<◌, ◌+◌, ◌*◌, ◌^◌, ◌++◌, ◌-◌, ◌/◌, List, [], get_or, refl, IsTrue, length, inl, inr, ap, sym, ◌∙◌, subst, arith}
 use Rattle.std.specs.declared.cmp.Ordering.TheVariants.{Equal}
 use Rattle.std.proofs.lemmas.Bool.{cases_eq}
 use Rattle.std.proofs.lemmas.List.{length-append}
@@ -11,7 +11,7 @@ use Rattle.btree_edit.specs.Editing.{Does, edit_writes}
 use Rattle.btree_edit.specs.Swapping.{SwapsRecord}
 use Rattle.btree_edit.proofs.Crowning.{tree_kept}
 use Rattle.btree_edit.proofs.Doing.{does_both, does_read}
-use Rattle.btree_edit.proofs.Swaps.{bounds_swapped, is_found, found_key, found_size, has_record, value_swapped, key_once}
+use Rattle.btree_edit.proofs.Swaps.{bounds_swapped, is_found, found_key, found_size, has_record, value_swapped}
 use Rattle.btree_edit.proofs.Outcomes.{read_tree, read_pairs, edits_read, bounds_read, bounds_same}
 use Rattle.btree_edit.proofs.replacing.replace.Given.{Over}
 use Rattle.btree_edit.proofs.replacing.replace.Goals.{In_ok-give_value-in-At}

@@ -1,4 +1,4 @@
-use Rattle.std.proofs.Common.{◌≡◌, ℕ, sym, subst, arith}
+use Rattle.std.proofs.Common.{◌≡◌, subst, arith}
 use Rattle.btree_edit.specs.Rising.{Climbs}
 use Rattle.btree_edit.proofs.Outcomes.{on_ok_both}
 use Rattle.btree_edit.proofs.Settling.{rises_emptied, rises_kept}

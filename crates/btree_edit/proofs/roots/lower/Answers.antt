@@ -1,4 +1,4 @@
-use Rattle.std.proofs.Common.{rules, ◌≡◌, ◌≤◌, ◌<◌, ◌+◌, ◌-◌, ◌^◌, length, get_or, [], true, refl, sym, ◌∙◌, ap, subst, arith}
+use Rattle.std.proofs.Common.{◌≡◌, ◌≤◌, ◌<◌, ◌+◌, ◌-◌, ◌^◌, length, get_or, [], true, refl, sym, ◌∙◌, ap, subst, arith}
 use Rattle.btree_node.specs.Node.{items}
 use Rattle.btree_node.specs.Levels.{child_of, value_of}
 use Rattle.btree_edit.specs.Rising.{IsLowering}

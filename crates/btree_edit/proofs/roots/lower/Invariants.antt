@@ -1,4 +1,4 @@
-use Rattle.std.proofs.Common.{◌≡◌, ◌≤◌, ◌<◌, ◌+◌, ◌-◌, ◌^◌, ℕ, List}
+use Rattle.std.proofs.Common.{◌≤◌, ◌-◌, ◌^◌, ℕ, List}
 use Rattle.std.specs.Prelude.{IsTrue}
 use Rattle.btree_node.specs.Store.{Store}
 use Rattle.btree_edit.specs.Desk.{IsDeskOf}

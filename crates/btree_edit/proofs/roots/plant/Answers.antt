@@ -1,4 +1,4 @@
-use Rattle.std.proofs.Common.{◌≡◌, ◌≤◌, ◌+◌, ◌∷◌, [], length, get_or, refl, sym, ◌∙◌, ap, arith}
+use Rattle.std.proofs.Common.{◌≤◌, ◌+◌, ◌∷◌, [], length, get_or, ◌∙◌, ap, arith}
 use Rattle.btree_edit.specs.Halves.{record_of}
 use Rattle.btree_edit.specs.LevelEdit.{taken, node_room}
 use Rattle.btree_edit.proofs.Fitting.{size_least, taken_one}

@@ -1,4 +1,4 @@
-use Rattle.std.proofs.Common.{◌≡◌, ◌≤◌, ◌<◌, ◌+◌, length, refl, sym, ◌∙◌, ap, subst, arith}
+use Rattle.std.proofs.Common.{◌≤◌, length, sym, ◌∙◌, subst}
 use Rattle.btree_edit.specs.Halves.{put_of}
 use Rattle.btree_edit.specs.LevelEdit.{taken, node_room}
 use Rattle.btree_edit.proofs.Settling.{takes_node, rises_raised, two_fit}

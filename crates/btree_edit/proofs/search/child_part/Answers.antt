@@ -1,4 +1,4 @@
-use Rattle.std.proofs.Common.{◌≡◌, ◌≤◌, ◌<◌, length, ap, ◌∙◌, arith, inl, inr}
+use Rattle.std.proofs.Common.{◌∙◌, arith, inl, inr}
 use Rattle.btree_edit.proofs.Pairs.{child_read, value_long}
 use Rattle.btree_edit.proofs.search.child_part.Goals as goal
 

@@ -1,4 +1,4 @@
-use Rattle.std.proofs.Common.{◌≡◌, ◌≢◌, ◌<◌, ℕ, get_or, []}
+use Rattle.std.proofs.Common.{◌≢◌, ◌<◌, ℕ, get_or, []}
 use Rattle.std.specs.declared.cmp.Ordering.TheVariants.{Greater}
 use Rattle.btree_node.specs.Node.{items}
 use Rattle.btree_node.specs.Levels.{key_of}

@@ -1,10 +1,9 @@
-use Rattle.std.proofs.Common.{rules, ◌≡◌, ◌≤◌, ◌<◌, ◌-◌, ◌+◌, ℕ, length, set, get_or, [], ap, sym, subst, ◌∙◌, arith, refl, inl, inr, true, false}
-use Rattle.std.specs.Prelude.{IsTrue}
+use Rattle.std.proofs.Common.{◌≡◌, ◌<◌, ◌-◌, ◌+◌, length, set, ap, sym, subst, ◌∙◌, arith, refl, inl, inr, true}
 use Rattle.std.proofs.lemmas.List.{length-set}
 use Rattle.btree_node.specs.Node.{items}
 use Rattle.btree_node.specs.Tree.{IsTreeNode}
-use Rattle.btree_edit.specs.Reading.{LeadsTo, ReadsOnly, HasNoKey, IsLead, IsPlace}
-use Rattle.btree_edit.specs.Way.{stop_at, LeadsWay}
+use Rattle.btree_edit.specs.Reading.{HasNoKey, IsLead, IsPlace}
+use Rattle.btree_edit.specs.Way.{LeadsWay}
 use Rattle.btree_edit.proofs.Behind.{clashing}
 use Rattle.btree_edit.proofs.Descent.{leads_root, leads_root_front, leads_node, leads_keys}
 use Rattle.btree_edit.proofs.Repeated.{reads_none, reads_both, still_node}

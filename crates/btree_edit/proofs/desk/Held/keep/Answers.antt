@@ -1,4 +1,4 @@
-use Rattle.std.proofs.Common.{◌≡◌, ◌≤◌, ◌<◌, length, take, drop, ap, ◌∙◌, arith, inl, inr}
+use Rattle.std.proofs.Common.{◌≡◌, length, take, drop, ap, ◌∙◌, arith}
 use Rattle.btree_edit.specs.Held.{HeldPair}
 use Rattle.btree_edit.proofs.Pairs.{kept_part, kept_size, key_short, key_taken, value_dropped}
 use Rattle.btree_edit.proofs.desk.Held.keep.Goals as goal
