@@ -319,12 +319,19 @@ fn a_value_of_the_same_length_is_written_into_its_leaf_alone(rt: HostRuntime) ->
     let alloc = rt.alloc();
     let mut tree = tree_of(alloc, 512)?;
     let mut list = wanted(alloc, Kind::Extents, 0, 65, 60)?;
-    assert_eq!(rt; add_all::<ExtentOrder>(alloc, &mut tree, &mut list, Way::Rising, 60), Ok(()));
+    assert_eq!(rt;
+        add_all::<ExtentOrder>(alloc, &mut tree, &mut list, Way::Rising, 60),
+        Ok(())
+    );
     for number in 0..60u32 {
         let key = list.key(alloc, number)?;
         let value = turned(alloc, &list, number)?;
         let before = tree.start();
-        assert_eq!(rt; tree.change::<ExtentOrder>(&key, &value), Some(Removed::Done), "{number}");
+        assert_eq!(rt;
+            tree.change::<ExtentOrder>(&key, &value),
+            Some(Removed::Done),
+            "{number}"
+        );
         assert_eq!(rt; tree.store.nodes.count_written(), 1, "{number}");
         assert_eq!(rt; tree.shape(), before, "{number}");
         assert!(rt; tree.has::<ExtentOrder>(&key, &value), "{number}");
