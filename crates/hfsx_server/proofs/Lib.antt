@@ -5,6 +5,7 @@ pub mod Finding
 pub mod Cuts
 pub mod Finished
 pub mod FoldersPlaced
+pub mod Formatted
 pub mod PartsPlaced
 pub mod Lines
 pub mod Mounted

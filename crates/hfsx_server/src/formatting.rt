@@ -1,10 +1,10 @@
 // A volume that is formatted.
 ghost use Rattle.std.specs.Prelude.{◌≡◌, ◌≢◌, ◌↔◌, ◌++◌, [], IsTrue, OnOk};
 ghost use Rattle.sector_disk.specs.Cause.{Rose};
-ghost use Rattle.sector_disk.specs.Disk.{SameDisk, SameSink, IsSettled, content};
-ghost use Rattle.hfs_model.specs.Thin.{IsThin};
+ghost use Rattle.sector_disk.specs.Disk.{SameDisk, SameSink};
 ghost use Rattle.hfsx_server.specs.Cause.{IsCause};
 ghost use Rattle.hfsx_server.specs.Telling.{Tells, refusal_text, size_refusal, formatted_text};
+ghost use Rattle.hfsx_server.specs.Volume.{IsUnmounted};
 
 use crate::{Refusal, Status, VOLUME_SECTORS, tell_refusal, tell_whole, write_parts};
 use hfs_model::fresh_parts;
@@ -18,8 +18,7 @@ const FORMATTED: &[u8; 33] = b"formatted 2048 blocks, 1692 free\n";
 pub fn format<R: Rig>(alloc: Global, rig: &mut R) -> Status
     ensures refused { (result ≡ Status.Refused) ↔ ((R.state rig.old).sectors ≢ VOLUME_SECTORS) }
     ensures refusal { result ≡ Status.Refused → Tells (R.state rig.old) (R.state rig.new) (refusal_text (size_refusal (R.state rig.old).sectors)) }
-    ensures thin { IsTrue (R.state rig.old).tells → result ≡ Status.Done → IsThin (content (R.state rig.new)) [] }
-    ensures settled { IsTrue (R.state rig.old).tells → result ≡ Status.Done → IsSettled (R.state rig.new) }
+    ensures unmounted { IsTrue (R.state rig.old).tells → result ≡ Status.Done → IsUnmounted (R.state rig.new) [] }
     ensures told { IsTrue (R.state rig.old).tells → result ≡ Status.Done → (R.state rig.new).told ≡ (R.state rig.old).told ++ formatted_text }
     ensures no_usage { result ≢ Status.Usage }
     ensures no_source { result ≢ Status.Source }
@@ -51,8 +50,7 @@ pub fn format<R: Rig>(alloc: Global, rig: &mut R) -> Status
 // Writes a volume without folders.
 fn make_volume<D: SectorDisk>(alloc: Global, disk: &mut D) -> Result<(), Trouble>
     requires { (D.state disk.old).sectors ≡ VOLUME_SECTORS }
-    ensures thin { IsTrue (D.state disk.old).tells → OnOk result (IsThin (content (D.state disk.new)) []) }
-    ensures settled { IsTrue (D.state disk.old).tells → OnOk result (IsSettled (D.state disk.new)) }
+    ensures unmounted { IsTrue (D.state disk.old).tells → OnOk result (IsUnmounted (D.state disk.new) []) }
     ensures same { SameDisk (D.state disk.old) (D.state disk.new) }
     ensures sink { SameSink (D.state disk.old) (D.state disk.new) }
     ensures cause { IsCause Trouble.Disk (D.state disk.old).faults (D.state disk.new).faults result }

@@ -2,11 +2,10 @@
 ghost use Rattle.std.specs.Prelude.{◌≡◌, ◌≢◌, ◌⊎◌, ◌↔◌, ◌++◌, ◌<◌, ◌≤◌, [], ℕ, List, IsTrue, length};
 ghost use Rattle.sector_disk.specs.Cause.{Rose};
 ghost use Rattle.sector_disk.specs.Disk.{SameDisk, IsSettled, content};
-ghost use Rattle.hfs_model.specs.Thin.{IsThin};
 ghost use Rattle.hfs_model.specs.Lines.{lines};
 ghost use Rattle.hfsx_server.specs.Headline.{Entry, Headline, IsFinished};
 ghost use Rattle.hfsx_server.specs.Telling.{ToldRefusal, ToldUnlessFailed, refusal_text, size_refusal, usage_text, formatted_text};
-ghost use Rattle.hfsx_server.specs.Volume.{Tree, IsMountable, MountsTo};
+ghost use Rattle.hfsx_server.specs.Volume.{Tree, IsMountable, IsUnmounted, MountsTo};
 ghost use Rattle.hfsx_server.specs.Words.{texts, AreRun, AreFormat, AreInUse};
 
 use crate::{Status, Work, format, read_words, run, tell_usage};
@@ -31,9 +30,9 @@ pub fn hfsx<R: Rig, S: Source>(
     ensures format_refused { AreFormat (texts words.now) (R.state rig.old).sectors → (result ≡ Status.Refused) ↔ ((R.state rig.old).sectors ≢ 16384) }
     ensures format_refusal { AreFormat (texts words.now) (R.state rig.old).sectors → IsTrue (R.state rig.old).tells → result ≡ Status.Refused
         → ToldUnlessFailed (R.state rig.old) (R.state rig.new) (refusal_text (size_refusal (R.state rig.old).sectors)) }
-    // Status 0 means that the image is an empty volume with nothing pending, and that its line was told.
+    // Status 0 means that the image is a volume without folders, unmounted and with nothing pending, and that its line was told.
     ensures formatted { AreFormat (texts words.now) (R.state rig.old).sectors → IsTrue (R.state rig.old).tells → result ≡ Status.Done
-        → IsThin (content (R.state rig.new)) [] × IsSettled (R.state rig.new) × ((R.state rig.new).told ≡ (R.state rig.old).told ++ formatted_text) }
+        → IsUnmounted (R.state rig.new) [] × ((R.state rig.new).told ≡ (R.state rig.old).told ++ formatted_text) }
 
     // `run`: status 1 stands exactly where the image isn't mountable, unless it couldn't be read, and then the first refusal
     // that stands is told.

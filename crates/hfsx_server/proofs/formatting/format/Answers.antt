@@ -1,8 +1,7 @@
 use Rattle.std.proofs.Common.{◌≡◌, ◌<◌, ◌∙◌, ◌++◌, [], ℕ, List, IsTrue, sym, ap, subst, arith}
-use Rattle.sector_disk.specs.Disk.{Candidates, content_of}
-use Rattle.hfs_model.specs.Thin.{IsThin}
 use Rattle.hfsx_server.specs.declared.refusal.Refusal.TheVariants.{TooSmall, TooLarge}
 use Rattle.hfsx_server.specs.Telling.{Tells, refusal_text, size_refusal, formatted_text}
+use Rattle.hfsx_server.proofs.Formatted.{unmounted_told}
 use Rattle.hfsx_server.proofs.Telling.{too_small, too_large}
 use Rattle.hfsx_server.proofs.formatting.format.Goals as goal
 
@@ -24,8 +23,9 @@ returns-then-sectors-gt-VOLUME_SECTORS-clause-refusal g c _ =
     subst (λ (n : ℕ). Tells old new (refusal_text (size_refusal n))) number
     (subst (λ refusal. Tells old new (refusal_text refusal)) (sym (too_large c.sectors-sectors.result large)) c.tell_refusal-then-sectors-gt-VOLUME_SECTORS.ensures)
 
-pub returns-in-Ok-tell_whole-clause-thin : goal.returns-in-Ok-tell_whole-clause-thin
-returns-in-Ok-tell_whole-clause-thin g c tells _ = subst (λ (d : Candidates). IsThin (content_of d) []) (sym c.tell_whole.ensures.candidates) (c.in-Ok.ensures.thin tells)
+pub returns-in-Ok-tell_whole-clause-unmounted : goal.returns-in-Ok-tell_whole-clause-unmounted
+returns-in-Ok-tell_whole-clause-unmounted g c tells _ =
+    unmounted_told (g.R.SectorDisk.state c.make_volume.new.disk) (g.R.SectorDisk.state c.tell_whole.new.rig) [] c.tell_whole.ensures.candidates (c.in-Ok.ensures.unmounted tells)
 
 pub returns-in-Ok-tell_whole-clause-told : goal.returns-in-Ok-tell_whole-clause-told
 returns-in-Ok-tell_whole-clause-told g c tells _ =
