@@ -43,6 +43,10 @@ leads_root cmp total key store ascends =
       first = λ place at none. refl;
     }
 
+pub leads_root_front : (cmp : List ℕ → List ℕ → Ordering) (total : IsTotalOrder cmp) (key : List ℕ) (store : Store) (ascends : Ascends cmp (entries_of store 0)) → length (leads_root cmp total key store ascends).front ≡ 0
+unfolding leads_root
+leads_root_front cmp total key store ascends = refl
+
 -- the list with one place in the middle
 pub split_at : (l : List ℕ) (p : ℕ) → p < length l → l ≡ take p l ++ get_or l p 0 ∷ drop (suc p) l
 split_at l p inside = sym (take-append-drop p l) ∙ ap (λ r. take p l ++ r) (drop-cons l p 0 inside)
@@ -196,6 +200,11 @@ module _ (is_key : List ℕ → Type 0) (cmp : List ℕ → List ℕ → Orderin
         first = λ place at none. first_of_level place (subst (λ n. IsPlace cmp key (items (store.nodes n)) place) child_of_step at) none;
       }
 
+      -- the child stands behind those of the records before
+      pub leads_step_front : length leads_step.front ≡ length (entries store.nodes leads.front) + step.index
+      unfolding leads_step p start
+      leads_step_front = omega (arith, length-take p lower, in_lower)
+
   -- a node that a key leads to is one of the tree
   pub leads_node : (key : List ℕ) (j node : ℕ) → LeadsTo cmp key store j node → j < store.shape.depth → IsTreeNode store (store.shape.depth - j) node
   leads_node key j node leads inside =
@@ -287,3 +296,13 @@ module _ (is_key : List ℕ → Type 0) (cmp : List ℕ → List ℕ → Orderin
 
   pub pairs_long : 0 < store.shape.depth → length (pairs_of store) ≡ length (entries_of store (store.shape.depth - 1))
   pairs_long some = ap length (pairs_are some) ∙ length-map (entries_of store (store.shape.depth - 1)) pair_of
+
+  -- the record at an index of the leaf stands at this place of all leaves
+  pub leaf_place : (key : List ℕ) (node : ℕ) → 0 < store.shape.depth → (leads : LeadsTo cmp key store (store.shape.depth - 1) node) (index : ℕ) → index < length (items (store.nodes node))
+      → (length (entries store.nodes leads.front) + index < length (pairs_of store))
+      × (get_or (pairs_of store) (length (entries store.nodes leads.front) + index) ([], []) ≡ pair_of (get_or (items (store.nodes node)) index []))
+  leaf_place key node some leads index inside =
+      let within : length (entries store.nodes leads.front) + index < length (entries_of store (store.shape.depth - 1)) = omega (arith, in_level key (store.shape.depth - 1) node leads) in (
+        omega (arith, pairs_long some, within),
+        pair_at some (length (entries store.nodes leads.front) + index) within ∙ ap pair_of (of_level key (store.shape.depth - 1) node leads index inside),
+      )

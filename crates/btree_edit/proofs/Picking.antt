@@ -4,16 +4,16 @@ use Rattle.std.specs.Cmp.{IsTotalOrder}
 use Rattle.std.specs.declared.cmp.Ordering.{Ordering}
 use Rattle.hx_bytes.specs.Field.{big_at}
 use Rattle.btree_node.specs.Node.{items}
-use Rattle.btree_node.specs.Levels.{Pair, key_of, value_of}
+use Rattle.btree_node.specs.Levels.{Pair, entries, key_of, value_of}
 use Rattle.btree_node.specs.Store.{Store}
-use Rattle.btree_node.specs.Tree.{HasLevels, IsOrdered}
-use Rattle.btree_edit.specs.Desk.{Finds, Picks, HoldsNone, HoldsPair}
+use Rattle.btree_node.specs.Tree.{pairs_of, HasLevels, IsOrdered}
+use Rattle.btree_edit.specs.Desk.{HasKey, Finds, Picks, HoldsNone, HoldsPair, StandsIn, IsInTree}
 use Rattle.btree_edit.specs.Reading.{LeadsTo, HasNoKey, IsPlace}
 use Rattle.btree_edit.specs.declared.desk.Desk.{Desk}
 use Rattle.btree_edit.specs.declared.finding.Found.{Found}
 use Rattle.btree_edit.specs.declared.finding.Found.TheVariants.{At, Absent}
 use Rattle.btree_edit.proofs.Pairs.{pair_joined}
-use Rattle.btree_edit.proofs.Descent.{leads_keys, leads_absent, leads_pair}
+use Rattle.btree_edit.proofs.Descent.{leads_keys, leads_absent, leads_pair, leaf_place}
 
 module _ (is_key : List ℕ → Type 0) (cmp : List ℕ → List ℕ → Ordering) (total : IsTotalOrder cmp)
     (key_length : (a : List ℕ) → is_key a → length a ≡ big_at 2 a 0 + 2)
@@ -47,3 +47,33 @@ module _ (is_key : List ℕ → Type 0) (cmp : List ℕ → List ℕ → Orderin
       ],
       record { key = ap (λ h. h.key) same ∙ none.key; value = ap (λ h. h.value) same ∙ none.value },
     )
+
+    -- where it is, it stands in the leaf
+    pub stands : (found : Found) → Picks is_key cmp key node old new found → IsInTree store new found
+    stands (At at index) (is, place, equal, own, value) =
+        let inside : index < length (items (store.nodes node)) = omega (arith, place.within, ap (λ l. length (items l)) into) in
+        let pair = leaf_place is_key cmp total key_length store levels ordered key node some leads index inside in
+        let item : get_or (items old.node) index [] ≡ get_or (items (store.nodes node)) index [] = ap (λ l. get_or (items l) index []) into in (
+          length (entries store.nodes leads.front) + index,
+          record {
+            inside = pair.0;
+            key = own ∙ ap key_of item ∙ sym (ap (λ (p : Pair). p.0) pair.1);
+            value = value ∙ ap value_of item ∙ sym (ap (λ (p : Pair). p.1) pair.1);
+          },
+          subst (λ n. StandsIn store n index (length (entries store.nodes leads.front) + index)) (sym is) (record {
+            some = some;
+            front = leads.front;
+            back = leads.back;
+            is = leads.is;
+            inside = inside;
+            place = refl;
+          }),
+        )
+    stands Absent picked = tt
+
+-- where a pair was found, the tree has the key
+pub found_key : (cmp : List ℕ → List ℕ → Ordering) (key : List ℕ) (store : Store) (desk : Desk) (node index : ℕ) → Finds cmp key store desk (At node index) → HasKey cmp key (pairs_of store)
+found_key cmp key store desk node index found =
+    let k = found.1.0 in
+    let holds = found.1.1 in
+    (k, holds.inside, ap (λ l. cmp l key) (sym holds.key) ∙ found.0)

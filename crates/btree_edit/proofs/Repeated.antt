@@ -19,13 +19,13 @@ pub same_nodes_both : {a b c : Store} → SameNodes a b → SameNodes b c → Sa
 same_nodes_both p q = record { nodes = λ n. q.nodes n ∙ p.nodes n; used = λ n. q.used n ∙ p.used n }
 
 pub same_room_both : {a b c : Store} → SameRoom a b → SameRoom b c → SameRoom a c
-same_room_both p q = record { written = λ n. q.written n ∙ p.written n; unwritten = q.unwritten ∙ p.unwritten; writes_left = q.writes_left ∙ p.writes_left; sectors_left = q.sectors_left ∙ p.sectors_left }
+same_room_both p q = record { written = λ n. q.written n ∙ p.written n; unwritten = q.unwritten ∙ p.unwritten; writes_left = q.writes_left ∙ p.writes_left; sectors_left = q.sectors_left ∙ p.sectors_left; sectors = q.sectors ∙ p.sectors }
 
 pub reads_none : (a : Store) → ReadsOnly 0 a a
 reads_none a = record {
   shape = refl;
   tree = λ tells. record { nodes = λ n. refl; used = λ n. refl };
-  room = record { written = λ n. refl; unwritten = refl; writes_left = refl; sectors_left = refl };
+  room = record { written = λ n. refl; unwritten = refl; writes_left = refl; sectors_left = refl; sectors = refl };
   loads = omega arith;
   same = record { tells = refl; names = refl; node_size = refl; total = refl; reserved = λ n. refl };
 }

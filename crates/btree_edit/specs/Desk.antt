@@ -1,11 +1,11 @@
 -- What a search finds.
-use Rattle.std.specs.Prelude.{◌≡◌, ◌≢◌, ◌<◌, ◌≤◌, ℕ, ◌+◌, ◌-◌, ◌⊎◌, List, Bool, true, false, [], ◌++◌, length, slice_index_or}
+use Rattle.std.specs.Prelude.{◌≡◌, ◌≢◌, ◌<◌, ◌≤◌, ℕ, ◌+◌, ◌-◌, ◌⊎◌, List, Bool, true, false, [], ◌++◌, ◌∷◌, length, slice_index_or}
 use Rattle.std.specs.declared.cmp.Ordering.{Ordering}
 use Rattle.std.specs.declared.cmp.Ordering.TheVariants.{Greater, Equal}
 use Rattle.btree_node.specs.Node.{items}
-use Rattle.btree_node.specs.Levels.{Pair, key_of, value_of}
+use Rattle.btree_node.specs.Levels.{Pair, entries, key_of, value_of}
 use Rattle.btree_node.specs.Store.{Store}
-use Rattle.btree_node.specs.Tree.{pairs_of}
+use Rattle.btree_node.specs.Tree.{level_of, pairs_of}
 use Rattle.btree_edit.specs.Reading.{IsPlace, HasNoKey}
 use Rattle.btree_edit.specs.declared.desk.Desk.{Desk}
 use Rattle.btree_edit.specs.declared.finding.Found.{Found}
@@ -40,6 +40,20 @@ abbrev pub Finds : (List ℕ → List ℕ → Ordering) → List ℕ → Store �
 Finds cmp key store desk (At node index) =
     (cmp desk.held.key key ≡ Equal) × ((k : ℕ) × HoldsPair store desk k) × (slice_index_or (items (store.nodes node)) index [] ≡ desk.held.key ++ desk.held.value)
 Finds cmp key store desk Absent = (HasKey cmp key (pairs_of store) → ⊥) × HoldsNone desk
+
+-- the record at an index of a leaf of the tree is the one at this place of all leaves
+pub record StandsIn (store : Store) (leaf index k : ℕ) : Type 0 where
+  pub some : 0 < store.shape.depth
+  pub front : List ℕ
+  pub back : List ℕ
+  pub is : level_of store (store.shape.depth - 1) ≡ front ++ leaf ∷ back
+  pub inside : index < length (items (store.nodes leaf))
+  pub place : k ≡ length (entries store.nodes front) + index
+
+-- At: the node is a leaf of the tree, and the pair on the desk is the one that stands there
+abbrev pub IsInTree : Store → Desk → Found → Type 0
+IsInTree store desk (At node index) = (k : ℕ) × HoldsPair store desk k × StandsIn store node index k
+IsInTree store desk Absent = Unit {0}
 
 -- the search of one leaf: where the key is, the desk has its pair; else the desk is as it was
 abbrev pub Picks : (List ℕ → Type 0) → (List ℕ → List ℕ → Ordering) → List ℕ → ℕ → Desk → Desk → Found → Type 0

@@ -4,3 +4,11 @@ pub mod Reading
 pub mod Editing
 pub mod Answers
 pub mod Following
+pub mod LevelEdit
+pub mod Climb
+pub mod Way
+pub mod Rising
+pub mod Halves
+pub mod Writes
+pub mod Sorted
+pub mod Swapping

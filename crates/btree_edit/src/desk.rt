@@ -89,9 +89,17 @@ impl Held {
 
     /// How many bytes the pair takes in a node, with its offset.
     pub(crate) fn size(&self) -> usize
-        ensures { result ≡ length self.now.key + length self.now.value + 2 }
+        ensures size { result ≡ length self.now.key + length self.now.value + 2 }
+        ensures within { result ≤ self.now.room + 2 }
     {
         self.len + 2
+    }
+
+    /// The key with the value behind it.
+    pub(crate) fn record(&self) -> &[u8]
+        ensures { result.now ≡ self.now.key ++ self.now.value }
+    {
+        &self.bytes[..self.len]
     }
 
     pub(crate) fn key(&self) -> &[u8]

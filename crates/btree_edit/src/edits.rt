@@ -1,16 +1,24 @@
 //! Pairs added, removed and changed.
-ghost use Rattle.std.specs.Prelude.{◌≡◌, ◌≤◌, ◌<◌, ◌+◌, ◌-◌, ◌*◌, ◌/◌, ◌^◌, ◌⊎◌, true, false, IsTrue, length, OnOk, IfOk};
+ghost use Rattle.std.specs.Prelude.{◌≡◌, ◌≤◌, ◌<◌, ◌+◌, ◌-◌, ◌*◌, ◌/◌, ◌^◌, ◌∷◌, [], true, false, IsTrue, length, OnOk, IfOk};
+ghost use Rattle.btree_node.specs.Node.{items};
 ghost use Rattle.btree_node.specs.Store.{HasRoom, HasCause};
 ghost use Rattle.btree_node.specs.Tree.{IsTree, pairs_of};
-ghost use Rattle.btree_edit.specs.Desk.{IsDeskOf};
+ghost use Rattle.btree_edit.specs.Desk.{IsDeskOf, HasKey};
 ghost use Rattle.btree_edit.specs.Editing.{Does, edit_writes};
+ghost use Rattle.btree_edit.specs.Halves.{record_of};
+ghost use Rattle.btree_edit.specs.LevelEdit.{node_room};
+ghost use Rattle.btree_edit.specs.Rising.{BoundsRoot, HasThickRoot, MakesTree, IsLeafRecord};
+ghost use Rattle.btree_edit.specs.Sorted.{AddsPair, DropsPair, ChangesPair, HoldsKeyOf, InsertsPair, RemovesPair, KeepsFreeNodes, EditsTree};
 ghost use Rattle.btree_edit.specs.Answers.{AnswersInsert, AnswersRemove};
+ghost use Rattle.btree_edit.specs.declared.edits.Inserted.TheVariants as Inserted;
+ghost use Rattle.btree_edit.specs.declared.edits.Removed.TheVariants as Removed;
 
-use crate::climbing::{begin, rebuild, trace};
+use crate::climbing::{begin, rebuild};
 use crate::desk::Desk;
 use crate::finding::{Found, find};
 use crate::search::read_node;
-use btree_node::{KeyOrder, NodeStore};
+use crate::tracing::trace;
+use btree_node::{KeyOrder, NodeStore, TreeShape};
 use hx_bytes::Failed;
 
 /// How an insert ended.
@@ -35,14 +43,59 @@ fn spare_of(fixed: bool, depth: u16) -> u32
     if fixed { 0 } else { depth as u32 + 1 }
 }
 
+/// How many nodes a tree's file has.
+pub(crate) fn total_of(shape: &TreeShape) -> u32
+    ensures { result ≡ shape.now.total }
+{
+    shape.total
+}
+
+/// Gives back a root without records, and plants the tree anew.
+fn replant<N: NodeStore, K: KeyOrder>(store: &mut N, desk: &mut Desk) -> Result<(), Failed>
+    requires desk { IsDeskOf (N.state store.old).shape.node_size desk.old }
+    requires room { HasRoom 4 (N.state store.old) }
+    requires free { 0 < (N.state store.old).shape.free }
+    ensures tree { IsTrue (N.state store.old).tells → IsTree K.is_key K.cmp (N.state store.old) → 0 < (N.state store.old).shape.depth
+        → length (items ((N.state store.old).nodes (N.state store.old).shape.root)) ≡ 0 → IsLeafRecord K.is_key (N.state store.old) (record_of desk.old.first)
+        → OnOk result (MakesTree K.is_key K.cmp (N.state store.old) (N.state store.new) (record_of desk.old.first ∷ [])) }
+    ensures one { IsTrue (N.state store.old).tells → IsTree K.is_key K.cmp (N.state store.old) → 0 < (N.state store.old).shape.depth
+        → length (items ((N.state store.old).nodes (N.state store.old).shape.root)) ≡ 0 → OnOk result ((N.state store.new).shape.depth ≡ 1) }
+    ensures desk { IsDeskOf (N.state store.old).shape.node_size desk.new }
+    ensures depth { OnOk result ((N.state store.new).shape.depth ≤ (N.state store.old).shape.depth + 1) }
+    ensures does { Does 4 1 (N.state store.old) (N.state store.new) }
+    ensures cause { HasCause (N.state store.old).faults (N.state store.new).faults result }
+    ensures below { N.follows store.old store.new }
+{
+    let shape = store.shape();
+    let _total = total_of(&shape);
+    if !read_node(store, &mut desk.node, shape.root, shape.depth)? {
+        return Ok(());
+    }
+    if desk.node.count() > 0 {
+        return Ok(());
+    }
+    store.give_node(shape.root)?;
+    begin::<N, K>(store, desk)
+}
+
 /// Adds the pair on the desk, whose key the tree doesn't have.
 fn add<N: NodeStore, K: KeyOrder>(store: &mut N, desk: &mut Desk, key: &[u8]) -> Result<(), Failed>
     requires desk { IsDeskOf (N.state store.old).shape.node_size desk.old }
     requires key { K.is_key key.now }
+    requires tree { IsTrue (N.state store.old).tells → IsTree K.is_key K.cmp (N.state store.old) }
     requires records { (N.state store.old).shape.leaf_records < 2 ^ 32 - 1 }
     requires depth { (N.state store.old).shape.depth ≤ 11 }
     requires free { (N.state store.old).shape.depth + 1 ≤ (N.state store.old).shape.free }
     requires room { HasRoom (edit_writes (N.state store.old).shape.depth) (N.state store.old) }
+    ensures adds { IsTrue (N.state store.old).tells → 3 * (K.MAX + 8) ≤ node_room (N.state store.old).shape.node_size → desk.old.first.key ≡ key.now
+        → length (record_of desk.old.first) ≤ (N.state store.old).shape.node_size / 2 - 10 → (HasKey K.cmp key.now (pairs_of (N.state store.old)) → ⊥)
+        → OnOk result (EditsTree K.is_key K.cmp (N.state store.old) (N.state store.new) (λ old new. AddsPair K.cmp key.now desk.old.first.value old new)) }
+    ensures roots { IsTrue (N.state store.old).tells → 3 * (K.MAX + 8) ≤ node_room (N.state store.old).shape.node_size → desk.old.first.key ≡ key.now
+        → length (record_of desk.old.first) ≤ (N.state store.old).shape.node_size / 2 - 10 → (HasKey K.cmp key.now (pairs_of (N.state store.old)) → ⊥)
+        → OnOk result (BoundsRoot K.MAX (N.state store.old) (N.state store.new) (N.state store.new).shape.depth (N.state store.new).shape.root) }
+    ensures thick { IsTrue (N.state store.old).tells → 3 * (K.MAX + 8) ≤ node_room (N.state store.old).shape.node_size → desk.old.first.key ≡ key.now
+        → length (record_of desk.old.first) ≤ (N.state store.old).shape.node_size / 2 - 10 → (HasKey K.cmp key.now (pairs_of (N.state store.old)) → ⊥)
+        → OnOk result (HasThickRoot (N.state store.new) (N.state store.new).shape.depth (N.state store.new).shape.root) }
     ensures desk { IsDeskOf (N.state store.old).shape.node_size desk.new }
     ensures depth { OnOk result ((N.state store.new).shape.depth ≤ (N.state store.old).shape.depth + 1) }
     ensures does { Does (edit_writes (N.state store.old).shape.depth) ((N.state store.old).shape.depth + 1) (N.state store.old) (N.state store.new) }
@@ -50,16 +103,17 @@ fn add<N: NodeStore, K: KeyOrder>(store: &mut N, desk: &mut Desk, key: &[u8]) ->
     ensures below { N.follows store.old store.new }
 {
     let mut shape = store.shape();
+    let _total = total_of(&shape);
     if shape.depth == 0 {
-        return begin(store, desk);
+        return begin::<N, K>(store, desk);
     }
     if !trace::<N, K>(store, desk, key)? {
-        return Ok(());
+        return replant::<N, K>(store, desk);
     }
     let at = desk.path[(shape.depth - 1) as usize].at;
     let spare = spare_of(false, shape.depth);
     let records = shape.leaf_records.saturating_add(1);
-    rebuild(store, desk, &mut shape, at, false, 1, spare, records)
+    rebuild::<N, K>(store, desk, &mut shape, at, false, 1, spare, records)
 }
 
 /// Adds a pair.
@@ -72,6 +126,8 @@ pub fn insert<N: NodeStore, K: KeyOrder>(
     requires desk { IsDeskOf (N.state store.old).shape.node_size desk.old }
     requires key { K.is_key key.now }
     requires tree { IsTrue (N.state store.old).tells → IsTree K.is_key K.cmp (N.state store.old) }
+    // The node size is one that the format allows the tree: three index records with the longest keys fit.
+    requires wide { IsTrue (N.state store.old).tells → 3 * (K.MAX + 8) ≤ node_room (N.state store.old).shape.node_size }
     requires short { length key.now + length value.now ≤ (N.state store.old).shape.node_size / 2 - 10 }
     requires records { (N.state store.old).shape.leaf_records < 2 ^ 32 - 1 }
     requires depth { (N.state store.old).shape.depth ≤ 11 }
@@ -79,6 +135,16 @@ pub fn insert<N: NodeStore, K: KeyOrder>(
     requires room { HasRoom (edit_writes (N.state store.old).shape.depth) (N.state store.old) }
     // Exists exactly where the tree has the key.
     ensures answer { IsTrue (N.state store.old).tells → IfOk result (λ answer. AnswersInsert K.cmp key.now (N.state store.old) answer) }
+    // The pairs are the sorted list with that one pair added.
+    ensures pairs { IsTrue (N.state store.old).tells → IfOk result (λ answer. InsertsPair K.cmp key.now value.now (pairs_of (N.state store.old)) (pairs_of (N.state store.new)) answer) }
+    // They keep the rules of a tree.
+    ensures tree { IsTrue (N.state store.old).tells → OnOk result (IsTree K.is_key K.cmp (N.state store.new)) }
+    // Nodes that aren't the tree's stay as they were.
+    ensures others { IsTrue (N.state store.old).tells → OnOk result (KeepsFreeNodes (N.state store.old) (N.state store.new)) }
+    // An index root gets at most one record more; a root above it has two, and comes only where its records are many.
+    ensures roots { IsTrue (N.state store.old).tells → OnOk result (BoundsRoot K.MAX (N.state store.old) (N.state store.new) (N.state store.new).shape.depth (N.state store.new).shape.root) }
+    // A root index with one record doesn't stay.
+    ensures thick { IsTrue (N.state store.old).tells → IfOk result (λ answer. answer ≡ Inserted.Done → HasThickRoot (N.state store.new) (N.state store.new).shape.depth (N.state store.new).shape.root) }
     ensures desk { IsDeskOf (N.state store.old).shape.node_size desk.new }
     // It raises the tree by at most one level.
     ensures depth { OnOk result ((N.state store.new).shape.depth ≤ (N.state store.old).shape.depth + 1) }
@@ -88,6 +154,8 @@ pub fn insert<N: NodeStore, K: KeyOrder>(
     ensures cause { HasCause (N.state store.old).faults (N.state store.new).faults result }
     ensures below { N.follows store.old store.new }
 {
+    let shape = store.shape();
+    let _total = total_of(&shape);
     match find::<N, K>(store, desk, key)? {
         Found::At { .. } => Ok(Inserted::Exists),
         Found::Absent => {
@@ -98,42 +166,46 @@ pub fn insert<N: NodeStore, K: KeyOrder>(
     }
 }
 
-/// Replaces the record of the key by those on the desk, of which there are so many.
-fn change<N: NodeStore, K: KeyOrder>(
+/// Takes away the pair with a key that the tree has.
+fn drop_pair<N: NodeStore, K: KeyOrder>(
     store: &mut N,
     desk: &mut Desk,
     key: &[u8],
-    index: u16,
-    count: u8,
     fixed: bool,
 ) -> Result<(), Failed>
     requires desk { IsDeskOf (N.state store.old).shape.node_size desk.old }
     requires key { K.is_key key.now }
+    requires tree { IsTrue (N.state store.old).tells → IsTree K.is_key K.cmp (N.state store.old) }
+    requires fixed { fixed ≡ K.FIXED }
+    requires depth { fixed ≡ false → (N.state store.old).shape.depth ≤ 11 }
     requires free { fixed ≡ false → (N.state store.old).shape.depth + 1 ≤ (N.state store.old).shape.free }
     requires room { HasRoom (edit_writes (N.state store.old).shape.depth) (N.state store.old) }
+    ensures drops { IsTrue (N.state store.old).tells → 3 * (K.MAX + 8) ≤ node_room (N.state store.old).shape.node_size → HasKey K.cmp key.now (pairs_of (N.state store.old))
+        → OnOk result (EditsTree K.is_key K.cmp (N.state store.old) (N.state store.new) (λ old new. DropsPair K.cmp key.now old new)) }
+    ensures roots { IsTrue (N.state store.old).tells → 3 * (K.MAX + 8) ≤ node_room (N.state store.old).shape.node_size → HasKey K.cmp key.now (pairs_of (N.state store.old))
+        → OnOk result (BoundsRoot K.MAX (N.state store.old) (N.state store.new) (N.state store.new).shape.depth (N.state store.new).shape.root) }
+    ensures thick { IsTrue (N.state store.old).tells → 3 * (K.MAX + 8) ≤ node_room (N.state store.old).shape.node_size → HasKey K.cmp key.now (pairs_of (N.state store.old))
+        → OnOk result (HasThickRoot (N.state store.new) (N.state store.new).shape.depth (N.state store.new).shape.root) }
     ensures desk { IsDeskOf (N.state store.old).shape.node_size desk.new }
     ensures depth { OnOk result ((N.state store.new).shape.depth ≤ (N.state store.old).shape.depth + 1) }
+    ensures kept { fixed ≡ true → OnOk result ((N.state store.new).shape.depth ≤ (N.state store.old).shape.depth) }
     ensures does { Does (edit_writes (N.state store.old).shape.depth) ((N.state store.old).shape.depth + 1) (N.state store.old) (N.state store.new) }
     ensures free { fixed ≡ true → (N.state store.old).shape.free ≤ (N.state store.new).shape.free }
     ensures cause { HasCause (N.state store.old).faults (N.state store.new).faults result }
     ensures below { N.follows store.old store.new }
 {
     let mut shape = store.shape();
+    let _total = total_of(&shape);
     if !trace::<N, K>(store, desk, key)? {
         return Ok(());
     }
-    let spare = spare_of(fixed, shape.depth);
-    let records = records_after(shape.leaf_records, count);
-    rebuild(store, desk, &mut shape, index, true, count, spare, records)
-}
-
-/// The number of pairs after one was taken away and so many put in its place.
-fn records_after(records: u32, count: u8) -> u32 {
-    if count == 0 {
-        records.saturating_sub(1)
-    } else {
-        records
+    let at = desk.path[(shape.depth - 1) as usize].at;
+    if at == 0 {
+        return Ok(());
     }
+    let spare = spare_of(fixed, shape.depth);
+    let records = shape.leaf_records.saturating_sub(1);
+    rebuild::<N, K>(store, desk, &mut shape, at - 1, true, 0, spare, records)
 }
 
 /// Removes the pair with a key.
@@ -145,125 +217,80 @@ pub fn remove<N: NodeStore, K: KeyOrder>(
     requires desk { IsDeskOf (N.state store.old).shape.node_size desk.old }
     requires key { K.is_key key.now }
     requires tree { IsTrue (N.state store.old).tells → IsTree K.is_key K.cmp (N.state store.old) }
+    // The node size is one that the format allows the tree: three index records with the longest keys fit.
+    requires wide { IsTrue (N.state store.old).tells → 3 * (K.MAX + 8) ≤ node_room (N.state store.old).shape.node_size }
+    requires depth { K.FIXED ≡ false → (N.state store.old).shape.depth ≤ 11 }
     requires free { K.FIXED ≡ false → (N.state store.old).shape.depth + 1 ≤ (N.state store.old).shape.free }
     requires room { HasRoom (edit_writes (N.state store.old).shape.depth) (N.state store.old) }
     // Absent exactly where the tree doesn't have the key.
     ensures answer { IsTrue (N.state store.old).tells → IfOk result (λ answer. AnswersRemove K.cmp key.now (N.state store.old) answer) }
+    // The pairs are the sorted list without that one pair.
+    ensures pairs { IsTrue (N.state store.old).tells → IfOk result (λ answer. RemovesPair K.cmp key.now (pairs_of (N.state store.old)) (pairs_of (N.state store.new)) answer) }
+    // They keep the rules of a tree.
+    ensures tree { IsTrue (N.state store.old).tells → OnOk result (IsTree K.is_key K.cmp (N.state store.new)) }
+    // Nodes that aren't the tree's stay as they were.
+    ensures others { IsTrue (N.state store.old).tells → OnOk result (KeepsFreeNodes (N.state store.old) (N.state store.new)) }
+    // An index root gets at most one record more; a root above it has two, and comes only where its records are many.
+    ensures roots { IsTrue (N.state store.old).tells → OnOk result (BoundsRoot K.MAX (N.state store.old) (N.state store.new) (N.state store.new).shape.depth (N.state store.new).shape.root) }
+    // A root index with one record doesn't stay.
+    ensures thick { IsTrue (N.state store.old).tells → IfOk result (λ answer. answer ≡ Removed.Done → HasThickRoot (N.state store.new) (N.state store.new).shape.depth (N.state store.new).shape.root) }
     ensures desk { IsDeskOf (N.state store.old).shape.node_size desk.new }
     ensures depth { OnOk result ((N.state store.new).shape.depth ≤ (N.state store.old).shape.depth + 1) }
     ensures does { Does (edit_writes (N.state store.old).shape.depth) ((N.state store.old).shape.depth + 1) (N.state store.old) (N.state store.new) }
-    // In an order of one key length it takes no node.
+    // In an order of one key length it takes no node, and doesn't raise the tree.
     ensures free { K.FIXED ≡ true → (N.state store.old).shape.free ≤ (N.state store.new).shape.free }
+    ensures kept { K.FIXED ≡ true → OnOk result ((N.state store.new).shape.depth ≤ (N.state store.old).shape.depth) }
     ensures cause { HasCause (N.state store.old).faults (N.state store.new).faults result }
     ensures below { N.follows store.old store.new }
 {
+    let shape = store.shape();
+    let _total = total_of(&shape);
     match find::<N, K>(store, desk, key)? {
-        Found::At { index, .. } => {
-            change::<N, K>(store, desk, key, index, 0, K::FIXED)?;
+        Found::At { .. } => {
+            drop_pair::<N, K>(store, desk, key, K::FIXED)?;
             Ok(Removed::Done)
         }
         Found::Absent => Ok(Removed::Absent),
     }
 }
 
-/// Gives the pair with a key another value; its key stays as it stands in the tree.
-pub fn replace<N: NodeStore, K: KeyOrder>(
+/// Puts the pair on the desk in the place of the pair with its key, whatever its length.
+pub(crate) fn change_pair<N: NodeStore, K: KeyOrder>(
     store: &mut N,
     desk: &mut Desk,
     key: &[u8],
-    value: &[u8],
-) -> Result<Removed, Failed>
+) -> Result<(), Failed>
     requires desk { IsDeskOf (N.state store.old).shape.node_size desk.old }
     requires key { K.is_key key.now }
     requires tree { IsTrue (N.state store.old).tells → IsTree K.is_key K.cmp (N.state store.old) }
-    requires short { length key.now + length value.now ≤ (N.state store.old).shape.node_size / 2 - 10 }
+    requires depth { (N.state store.old).shape.depth ≤ 11 }
     requires free { (N.state store.old).shape.depth + 1 ≤ (N.state store.old).shape.free }
     requires room { HasRoom (edit_writes (N.state store.old).shape.depth) (N.state store.old) }
-    // Absent exactly where the tree doesn't have the key.
-    ensures answer { IsTrue (N.state store.old).tells → IfOk result (λ answer. AnswersRemove K.cmp key.now (N.state store.old) answer) }
+    ensures changes { IsTrue (N.state store.old).tells → 3 * (K.MAX + 8) ≤ node_room (N.state store.old).shape.node_size
+        → HoldsKeyOf K.cmp key.now (N.state store.old) desk.old.first.key → length (record_of desk.old.first) ≤ (N.state store.old).shape.node_size / 2 - 10
+        → OnOk result (EditsTree K.is_key K.cmp (N.state store.old) (N.state store.new) (λ old new. ChangesPair K.cmp key.now desk.old.first.value old new)) }
+    ensures roots { IsTrue (N.state store.old).tells → 3 * (K.MAX + 8) ≤ node_room (N.state store.old).shape.node_size
+        → HoldsKeyOf K.cmp key.now (N.state store.old) desk.old.first.key → length (record_of desk.old.first) ≤ (N.state store.old).shape.node_size / 2 - 10
+        → OnOk result (BoundsRoot K.MAX (N.state store.old) (N.state store.new) (N.state store.new).shape.depth (N.state store.new).shape.root) }
+    ensures thick { IsTrue (N.state store.old).tells → 3 * (K.MAX + 8) ≤ node_room (N.state store.old).shape.node_size
+        → HoldsKeyOf K.cmp key.now (N.state store.old) desk.old.first.key → length (record_of desk.old.first) ≤ (N.state store.old).shape.node_size / 2 - 10
+        → OnOk result (HasThickRoot (N.state store.new) (N.state store.new).shape.depth (N.state store.new).shape.root) }
     ensures desk { IsDeskOf (N.state store.old).shape.node_size desk.new }
     ensures depth { OnOk result ((N.state store.new).shape.depth ≤ (N.state store.old).shape.depth + 1) }
     ensures does { Does (edit_writes (N.state store.old).shape.depth) ((N.state store.old).shape.depth + 1) (N.state store.old) (N.state store.new) }
     ensures cause { HasCause (N.state store.old).faults (N.state store.new).faults result }
     ensures below { N.follows store.old store.new }
 {
-    match find::<N, K>(store, desk, key)? {
-        Found::At { node, index } => {
-            let same = value.len() == desk.value().len();
-            put_value(desk, value);
-            give_value::<N, K>(store, desk, key, node, index, same)?;
-            Ok(Removed::Done)
-        }
-        Found::Absent => Ok(Removed::Absent),
-    }
-}
-
-/// Keeps the key of the pair that was found, with another value.
-fn put_value(desk: &mut Desk, value: &[u8])
-    ensures node { desk.new.node ≡ desk.old.node }
-    ensures other { desk.new.other ≡ desk.old.other }
-    ensures held { desk.new.held ≡ desk.old.held }
-    ensures first { desk.new.first.room ≡ desk.old.first.room }
-    ensures second { desk.new.second ≡ desk.old.second }
-    ensures path { desk.new.path ≡ desk.old.path }
-{
-    let key = desk.held.key();
-    if key.len() <= desk.first.room()
-        && value.len() <= desk.first.room().saturating_sub(key.len())
-    {
-        desk.first.put(key, value);
-    }
-}
-
-/// Puts the pair on the desk in the place of a record of its length in a leaf.
-fn swap_value<N: NodeStore>(
-    store: &mut N,
-    desk: &mut Desk,
-    node: u32,
-    index: u16,
-) -> Result<(), Failed>
-    requires desk { IsDeskOf (N.state store.old).shape.node_size desk.old }
-    requires room { HasRoom 1 (N.state store.old) }
-    ensures desk { IsDeskOf (N.state store.old).shape.node_size desk.new }
-    ensures shape { (N.state store.new).shape ≡ (N.state store.old).shape }
-    ensures does { Does 1 0 (N.state store.old) (N.state store.new) }
-    ensures cause { HasCause (N.state store.old).faults (N.state store.new).faults result }
-    ensures below { N.follows store.old store.new }
-{
-    if !read_node(store, &mut desk.node, node, 1)? || index >= desk.node.count() {
+    let mut shape = store.shape();
+    let _total = total_of(&shape);
+    if !trace::<N, K>(store, desk, key)? {
         return Ok(());
     }
-    if desk.first.size() > desk.node.item(index).len() + 2 {
+    let at = desk.path[(shape.depth - 1) as usize].at;
+    if at == 0 {
         return Ok(());
     }
-    desk.node
-        .replace(index, desk.first.key(), desk.first.value());
-    store.save(node, &desk.node);
-    Ok(())
-}
-
-/// Puts the pair on the desk in the place of the record with its key: in the leaf alone where the lengths are the same.
-fn give_value<N: NodeStore, K: KeyOrder>(
-    store: &mut N,
-    desk: &mut Desk,
-    key: &[u8],
-    node: u32,
-    index: u16,
-    same: bool,
-) -> Result<(), Failed>
-    requires desk { IsDeskOf (N.state store.old).shape.node_size desk.old }
-    requires key { K.is_key key.now }
-    requires free { (N.state store.old).shape.depth + 1 ≤ (N.state store.old).shape.free }
-    requires room { HasRoom (edit_writes (N.state store.old).shape.depth) (N.state store.old) }
-    ensures desk { IsDeskOf (N.state store.old).shape.node_size desk.new }
-    ensures depth { OnOk result ((N.state store.new).shape.depth ≤ (N.state store.old).shape.depth + 1) }
-    ensures does { Does (edit_writes (N.state store.old).shape.depth) ((N.state store.old).shape.depth + 1) (N.state store.old) (N.state store.new) }
-    ensures cause { HasCause (N.state store.old).faults (N.state store.new).faults result }
-    ensures below { N.follows store.old store.new }
-{
-    if same {
-        swap_value(store, desk, node, index)
-    } else {
-        change::<N, K>(store, desk, key, index, 1, false)
-    }
+    let spare = spare_of(false, shape.depth);
+    let records = shape.leaf_records;
+    rebuild::<N, K>(store, desk, &mut shape, at - 1, true, 1, spare, records)
 }

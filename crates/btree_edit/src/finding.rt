@@ -3,7 +3,7 @@ ghost use Rattle.std.specs.Prelude.{◌≡◌, ◌≤◌, ◌+◌, ◌-◌, ◌<
 ghost use Rattle.btree_node.specs.Node.{IsNode};
 ghost use Rattle.btree_node.specs.Store.{HasCause};
 ghost use Rattle.btree_node.specs.Tree.{IsTree};
-ghost use Rattle.btree_edit.specs.Desk.{IsDeskOf, Finds, Picks};
+ghost use Rattle.btree_edit.specs.Desk.{IsDeskOf, Finds, IsInTree, Picks};
 ghost use Rattle.btree_edit.specs.Reading.{ReadsOnly, LeadsToLeaf};
 
 use crate::desk::Desk;
@@ -93,6 +93,8 @@ pub fn find<N: NodeStore, K: KeyOrder>(
     requires tree { IsTrue (N.state store.old).tells → IsTree K.is_key K.cmp (N.state store.old) }
     // It answers At exactly where the tree has the key, and leaves the pair.
     ensures found { IsTrue (N.state store.old).tells → IfOk result (λ found. Finds K.cmp key.now (N.state store.old) desk.new found) }
+    // The pair stands in that leaf of the tree.
+    ensures place { IsTrue (N.state store.old).tells → IfOk result (λ found. IsInTree (N.state store.old) desk.new found) }
     // It loads one node a level, and changes nothing.
     ensures reads { ReadsOnly (N.state store.old).shape.depth (N.state store.old) (N.state store.new) }
     ensures desk { IsDeskOf (N.state store.old).shape.node_size desk.new }

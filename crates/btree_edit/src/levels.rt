@@ -1,14 +1,21 @@
 //! One level of an edit: a record of one node is replaced by others, and the level above is told.
-ghost use Rattle.std.specs.Prelude.{◌≡◌, ◌≤◌, ◌<◌, ◌+◌, min, length, OnErr, IfOk};
+ghost use Rattle.std.specs.Prelude.{◌≡◌, ◌≢◌, ◌≤◌, ◌<◌, ◌+◌, ◌-◌, ◌⊎◌, ◌++◌, [], ◌∷◌, ℕ, Bool, true, false, List, min, length, slice_index_or, OnOk, IfOk, IsTrue};
+ghost use Rattle.hx_bytes.specs.Field.{big};
+ghost use Rattle.btree_node.specs.Node.{IsNode, IsNodeOf, SameHead, items, room_beside, next_of};
+ghost use Rattle.btree_node.specs.Levels.{key_of};
 ghost use Rattle.btree_node.specs.Store.{HasRoom, HasCause};
+ghost use Rattle.btree_node.specs.Tree.{IsTreeNode, kind_at};
 ghost use Rattle.btree_edit.specs.Desk.{IsDeskOf};
 ghost use Rattle.btree_edit.specs.Editing.{Does};
+ghost use Rattle.btree_edit.specs.Halves.{record_of};
+ghost use Rattle.btree_edit.specs.LevelEdit.{taken, node_room, edited, records_on, CanEdit, MovesEnds, LevelEdit};
+ghost use Rattle.btree_edit.specs.Writes.{SetsNext, SetsBack, WritesHalves, IsOpened};
 
-use crate::desk::Desk;
+use crate::desk::{Desk, Held};
 use crate::search::{key_part, read_node};
-use crate::splitting::{put, split, take_out};
+use crate::splitting::{put_all, put_taken, split, take_out};
 use btree_node::{Node, NodeStore, TreeShape};
-use hx_bytes::Failed;
+use hx_bytes::{Failed, write_be32};
 
 /// What a level hands on: how many records name its nodes now, whether that is news, and how many nodes it wrote.
 #[derive(Clone, Copy)]
@@ -17,6 +24,13 @@ pub(crate) struct Handed {
     pub(crate) changed: bool,
     pub(crate) cost: u32,
 }
+
+/// What a level hands on that couldn't be changed.
+const NOTHING: Handed = Handed {
+    count: 1,
+    changed: false,
+    cost: 0,
+};
 
 /// A node's place in the tree.
 #[derive(Clone, Copy)]
@@ -27,81 +41,155 @@ pub(crate) struct Spot {
 }
 
 /// The key of a node's first record.
-fn first_key(node: &Node, kind: i8, height: u8) -> &[u8] {
-    if !node.check(kind, height) || node.count() == 0 {
+fn first_key(node: &Node) -> &[u8]
+    requires { IsNode node.now }
+    ensures key { 0 < length (items node.now) → result.now ≡ key_of (slice_index_or (items node.now) 0 []) }
+    ensures size { length result.now + 16 ≤ length node.now }
+{
+    let _size = node.bytes().len();
+    if node.count() == 0 {
         return &[];
     }
     key_part(node.item(0))
 }
 
-/// Keeps the record that names the node on the desk.
-fn name_node(desk: &mut Desk, spot: Spot)
-    requires { length desk.old.node ≤ desk.old.first.room }
-    ensures node { desk.new.node ≡ desk.old.node }
-    ensures other { desk.new.other ≡ desk.old.other }
-    ensures held { desk.new.held ≡ desk.old.held }
-    ensures first { desk.new.first.room ≡ desk.old.first.room }
-    ensures second { desk.new.second ≡ desk.old.second }
-    ensures path { desk.new.path ≡ desk.old.path }
+/// The bytes of a node's number.
+fn number_bytes(number: u32) -> [u8; 4]
+    ensures { result ≡ big 4 number }
 {
-    let key = first_key(&desk.node, spot.kind, spot.height);
-    if key.len() <= desk.node.bytes().len() - 4 {
-        desk.first.put(key, &spot.node.to_be_bytes());
-    }
+    let mut bytes = [0u8; 4];
+    write_be32(&mut bytes, 0, number);
+    bytes
 }
 
-/// Keeps the record that names the fresh node on the desk.
-fn name_other(desk: &mut Desk, spot: Spot, fresh: u32)
-    requires { length desk.old.other ≤ desk.old.second.room }
-    ensures node { desk.new.node ≡ desk.old.node }
-    ensures other { desk.new.other ≡ desk.old.other }
-    ensures held { desk.new.held ≡ desk.old.held }
-    ensures first { desk.new.first ≡ desk.old.first }
-    ensures second { desk.new.second.room ≡ desk.old.second.room }
-    ensures path { desk.new.path ≡ desk.old.path }
+/// Keeps the record that names a node in the level above: its first key and its number.
+fn name_node(name: &mut Held, node: &Node, number: u32)
+    requires cut { IsNode node.now }
+    requires room { length node.now ≤ name.old.room }
+    ensures room { name.new.room ≡ name.old.room }
+    ensures name { 0 < length (items node.now) → record_of name.new ≡ key_of (slice_index_or (items node.now) 0 []) ++ big 4 number }
 {
-    let key = first_key(&desk.other, spot.kind, spot.height);
-    if key.len() <= desk.other.bytes().len() - 4 {
-        desk.second.put(key, &fresh.to_be_bytes());
-    }
+    name.put(first_key(node), &number_bytes(number));
 }
 
-/// Which link of a node is set.
-#[derive(Clone, Copy)]
-enum Side {
-    Next,
-    Back,
-}
-
-/// Sets a link of a node, where there is such a node.
-fn set_link<N: NodeStore>(
+/// Sets which node stands behind a node, where there is such a node.
+fn set_next<N: NodeStore>(
     store: &mut N,
     desk: &mut Desk,
     height: u8,
     node: u32,
-    side: Side,
     to: u32,
 ) -> Result<(), Failed>
     requires desk { IsDeskOf (N.state store.old).shape.node_size desk.old }
     requires room { HasRoom 1 (N.state store.old) }
+    ensures next { IsTrue (N.state store.old).tells → (node ≢ 0 → IsTreeNode (N.state store.old) height node) → (node ≢ 0 → (N.state store.old).reserved node ≡ false)
+        → OnOk result (SetsNext node to (N.state store.old) (N.state store.new)) }
+    ensures shape { (N.state store.new).shape ≡ (N.state store.old).shape }
     ensures desk { IsDeskOf (N.state store.old).shape.node_size desk.new }
+    ensures node { desk.new.node ≡ desk.old.node }
+    ensures first { desk.new.first ≡ desk.old.first }
+    ensures second { desk.new.second ≡ desk.old.second }
+    ensures path { desk.new.path ≡ desk.old.path }
     ensures does { Does 1 0 (N.state store.old) (N.state store.new) }
     ensures cause { HasCause (N.state store.old).faults (N.state store.new).faults result }
     ensures below { N.follows store.old store.new }
 {
-    if !read_node(store, &mut desk.other, node, height as u16)? {
+    if node == 0 || !read_node(store, &mut desk.other, node, height as u16)? {
         return Ok(());
     }
-    let (next, back) = desk.other.links();
-    match side {
-        Side::Next => desk.other.set_links(to, back),
-        Side::Back => desk.other.set_links(next, to),
-    }
+    let (_next, back) = desk.other.links();
+    desk.other.set_links(to, back);
     store.save(node, &desk.other);
     Ok(())
 }
 
-/// Splits the node on the desk.
+/// Sets which node stands before a node, where there is such a node.
+fn set_back<N: NodeStore>(
+    store: &mut N,
+    desk: &mut Desk,
+    height: u8,
+    node: u32,
+    to: u32,
+) -> Result<(), Failed>
+    requires desk { IsDeskOf (N.state store.old).shape.node_size desk.old }
+    requires room { HasRoom 1 (N.state store.old) }
+    ensures back { IsTrue (N.state store.old).tells → (node ≢ 0 → IsTreeNode (N.state store.old) height node) → (node ≢ 0 → (N.state store.old).reserved node ≡ false)
+        → OnOk result (SetsBack node to (N.state store.old) (N.state store.new)) }
+    ensures shape { (N.state store.new).shape ≡ (N.state store.old).shape }
+    ensures desk { IsDeskOf (N.state store.old).shape.node_size desk.new }
+    ensures node { desk.new.node ≡ desk.old.node }
+    ensures first { desk.new.first ≡ desk.old.first }
+    ensures second { desk.new.second ≡ desk.old.second }
+    ensures path { desk.new.path ≡ desk.old.path }
+    ensures does { Does 1 0 (N.state store.old) (N.state store.new) }
+    ensures cause { HasCause (N.state store.old).faults (N.state store.new).faults result }
+    ensures below { N.follows store.old store.new }
+{
+    if node == 0 || !read_node(store, &mut desk.other, node, height as u16)? {
+        return Ok(());
+    }
+    let (next, _back) = desk.other.links();
+    desk.other.set_links(next, to);
+    store.save(node, &desk.other);
+    Ok(())
+}
+
+/// Writes the two halves on the desk with the links between them, and keeps the records that name them. Answers the node behind them.
+fn write_halves<N: NodeStore>(store: &mut N, desk: &mut Desk, spot: Spot, fresh: u32) -> u32
+    requires desk { IsDeskOf (N.state store.old).shape.node_size desk.old }
+    requires node { IsNode desk.old.node }
+    requires other { IsNode desk.old.other }
+    requires inside { spot.node < (N.state store.old).shape.total }
+    requires fresh { fresh < (N.state store.old).shape.total }
+    requires room { HasRoom 2 (N.state store.old) }
+    ensures halves { IsTrue (N.state store.old).tells → spot.node ≢ fresh → (N.state store.old).reserved spot.node ≡ false → (N.state store.old).reserved fresh ≡ false
+        → WritesHalves spot.node fresh desk.old.node desk.old.other (N.state store.old) (N.state store.new) }
+    ensures next { result ≡ next_of desk.old.node }
+    ensures first { 0 < length (items desk.old.node) → record_of desk.new.first ≡ key_of (slice_index_or (items desk.old.node) 0 []) ++ big 4 spot.node }
+    ensures second { 0 < length (items desk.old.other) → record_of desk.new.second ≡ key_of (slice_index_or (items desk.old.other) 0 []) ++ big 4 fresh }
+    ensures shape { (N.state store.new).shape ≡ (N.state store.old).shape }
+    ensures desk { IsDeskOf (N.state store.old).shape.node_size desk.new }
+    ensures path { desk.new.path ≡ desk.old.path }
+    ensures does { Does 2 0 (N.state store.old) (N.state store.new) }
+    ensures faults { (N.state store.new).faults ≡ (N.state store.old).faults }
+    ensures below { N.follows store.old store.new }
+{
+    let (next, back) = desk.node.links();
+    desk.node.set_links(fresh, back);
+    desk.other.set_links(next, spot.node);
+    store.save(spot.node, &desk.node);
+    store.save(fresh, &desk.other);
+    name_node(&mut desk.first, &desk.node, spot.node);
+    name_node(&mut desk.second, &desk.other, fresh);
+    next
+}
+
+/// A leaf that is split may have been the last one.
+fn end_behind(shape: &mut TreeShape, spot: Spot, fresh: u32)
+    ensures ends { (before behind : ℕ) → MovesEnds spot.height spot.node (spot.node ∷ fresh ∷ []) before behind shape.old shape.new }
+    ensures depth { shape.new.depth ≡ shape.old.depth }
+{
+    if spot.height == 1 && shape.last == spot.node {
+        shape.last = fresh;
+    }
+}
+
+/// A leaf that goes may have been the first one or the last one.
+fn end_beside(shape: &mut TreeShape, spot: Spot, next: u32, back: u32)
+    ensures ends { MovesEnds spot.height spot.node [] back next shape.old shape.new }
+{
+    if spot.height != 1 {
+        return;
+    }
+    if shape.first == spot.node {
+        shape.first = next;
+    }
+    if shape.last == spot.node {
+        shape.last = back;
+    }
+}
+
+/// Splits the node on the desk. Where it can't be cut in two nodes that hold their records, nothing is written.
 fn split_node<N: NodeStore>(
     store: &mut N,
     desk: &mut Desk,
@@ -111,18 +199,29 @@ fn split_node<N: NodeStore>(
     count: u8,
 ) -> Result<Handed, Failed>
     requires desk { IsDeskOf (N.state store.old).shape.node_size desk.old }
+    requires node { IsNodeOf spot.kind spot.height desk.old.node }
+    requires few { count ≤ 2 }
+    requires place { at ≤ length (items desk.old.node) }
     requires inside { spot.node < (N.state store.old).shape.total }
     requires room { HasRoom 4 (N.state store.old) }
     requires free { 0 < (N.state store.old).shape.free }
+    ensures edit { IsTrue (N.state store.old).tells → spot.kind ≡ kind_at spot.height → (removed : Bool) (spare : ℕ)
+        → IsOpened (N.state store.old) spot.height spot.node at removed (records_on count desk.old) spare desk.old.node
+        → node_room (N.state store.old).shape.node_size < taken (edited (N.state store.old) spot.node at removed (records_on count desk.old))
+        → IfOk result (λ handed. LevelEdit (N.state store.old) (N.state store.new) spot.height spot.node at removed (records_on count desk.old) handed.count handed.changed desk.new shape.old shape.new) }
+    ensures few { IfOk result (λ handed. handed.count ≤ 2) }
     ensures desk { IsDeskOf (N.state store.old).shape.node_size desk.new }
+    ensures path { desk.new.path ≡ desk.old.path }
     ensures depth { shape.new.depth ≡ shape.old.depth }
-    ensures cost { IfOk result (λ handed. handed.cost ≡ 4) }
+    ensures thrift { IfOk result (λ handed. (handed.count ≡ 2) ⊎ (handed.cost ≤ 3)) }
+    ensures cost { IfOk result (λ handed. handed.cost ≤ 4) }
+    ensures done { IfOk result (λ handed. Does handed.cost 1 (N.state store.old) (N.state store.new)) }
     ensures does { Does 4 1 (N.state store.old) (N.state store.new) }
     ensures cause { HasCause (N.state store.old).faults (N.state store.new).faults result }
     ensures below { N.follows store.old store.new }
 {
-    let fresh = store.take_node()?;
-    split(
+    let _size = desk.node.bytes().len();
+    if !split(
         &mut desk.node,
         &mut desk.other,
         spot.kind,
@@ -131,20 +230,13 @@ fn split_node<N: NodeStore>(
         &desk.first,
         &desk.second,
         count,
-    );
-    let (next, back) = desk.node.links();
-    desk.node.set_links(fresh, back);
-    desk.other.set_links(next, spot.node);
-    store.save(spot.node, &desk.node);
-    store.save(fresh, &desk.other);
-    name_node(desk, spot);
-    name_other(desk, spot, fresh);
-    if next != 0 {
-        set_link(store, desk, spot.height, next, Side::Back, fresh)?;
+    ) {
+        return Ok(NOTHING);
     }
-    if spot.height == 1 && shape.last == spot.node {
-        shape.last = fresh;
-    }
+    let fresh = store.take_node()?;
+    let next = write_halves(store, desk, spot, fresh);
+    set_back(store, desk, spot.height, next, fresh)?;
+    end_behind(shape, spot, fresh);
     Ok(Handed {
         count: 2,
         changed: true,
@@ -162,7 +254,14 @@ fn drop_node<N: NodeStore>(
     requires desk { IsDeskOf (N.state store.old).shape.node_size desk.old }
     requires inside { spot.node < (N.state store.old).shape.total }
     requires room { HasRoom 3 (N.state store.old) }
+    ensures edit { IsTrue (N.state store.old).tells → (place spare : ℕ) (removed : Bool) (put : List (List ℕ))
+        → CanEdit (N.state store.old) spot.height spot.node place removed put spare
+        → edited (N.state store.old) spot.node place removed put ≡ []
+        → SameHead ((N.state store.old).nodes spot.node) desk.old.node
+        → IfOk result (λ handed. LevelEdit (N.state store.old) (N.state store.new) spot.height spot.node place removed put handed.count handed.changed desk.new shape.old shape.new) }
+    ensures few { IfOk result (λ handed. handed.count ≤ 2) }
     ensures desk { IsDeskOf (N.state store.old).shape.node_size desk.new }
+    ensures path { desk.new.path ≡ desk.old.path }
     ensures depth { shape.new.depth ≡ shape.old.depth }
     ensures cost { IfOk result (λ handed. handed.cost ≡ 3) }
     ensures does { Does 3 0 (N.state store.old) (N.state store.new) }
@@ -170,19 +269,10 @@ fn drop_node<N: NodeStore>(
     ensures below { N.follows store.old store.new }
 {
     let (next, back) = desk.node.links();
-    if back != 0 {
-        set_link(store, desk, spot.height, back, Side::Next, next)?;
-    }
-    if next != 0 {
-        set_link(store, desk, spot.height, next, Side::Back, back)?;
-    }
+    set_next(store, desk, spot.height, back, next)?;
+    set_back(store, desk, spot.height, next, back)?;
     store.give_node(spot.node)?;
-    if spot.height == 1 && shape.first == spot.node {
-        shape.first = next;
-    }
-    if spot.height == 1 && shape.last == spot.node {
-        shape.last = back;
-    }
+    end_beside(shape, spot, next, back);
     Ok(Handed {
         count: 0,
         changed: true,
@@ -190,34 +280,46 @@ fn drop_node<N: NodeStore>(
     })
 }
 
-/// Whether the node on the desk has room for the records on the desk.
-fn has_room(desk: &Desk, spot: Spot, count: u8) -> bool {
-    let one = if count > 0 { desk.first.size() } else { 0 };
-    let two = if count > 1 { desk.second.size() } else { 0 };
-    desk.node.check(spot.kind, spot.height) && one.saturating_add(two) <= desk.node.room() as usize
-}
-
-/// Puts the records on the desk into the node on the desk.
-fn put_records(desk: &mut Desk, spot: Spot, at: u16, count: u8)
-    ensures node { length desk.new.node ≡ length desk.old.node }
-    ensures other { desk.new.other ≡ desk.old.other }
-    ensures held { desk.new.held ≡ desk.old.held }
-    ensures first { desk.new.first ≡ desk.old.first }
-    ensures second { desk.new.second ≡ desk.old.second }
+/// Puts the records on the desk into the node on the desk, and writes it; a node without records is given back.
+fn fill_node<N: NodeStore>(
+    store: &mut N,
+    desk: &mut Desk,
+    shape: &mut TreeShape,
+    spot: Spot,
+    at: u16,
+    count: u8,
+) -> Result<Handed, Failed>
+    requires desk { IsDeskOf (N.state store.old).shape.node_size desk.old }
+    requires node { IsNodeOf spot.kind spot.height desk.old.node }
+    requires few { count ≤ 2 }
+    requires place { at ≤ length (items desk.old.node) }
+    requires fits { taken (records_on count desk.old) ≤ room_beside (length desk.old.node) (items desk.old.node) }
+    requires inside { spot.node < (N.state store.old).shape.total }
+    requires room { HasRoom 4 (N.state store.old) }
+    ensures edit { IsTrue (N.state store.old).tells → (removed : Bool) (spare : ℕ)
+        → IsOpened (N.state store.old) spot.height spot.node at removed (records_on count desk.old) spare desk.old.node
+        → IfOk result (λ handed. LevelEdit (N.state store.old) (N.state store.new) spot.height spot.node at removed (records_on count desk.old) handed.count handed.changed desk.new shape.old shape.new) }
+    ensures few { IfOk result (λ handed. handed.count ≤ 2) }
+    ensures desk { IsDeskOf (N.state store.old).shape.node_size desk.new }
     ensures path { desk.new.path ≡ desk.old.path }
+    ensures depth { shape.new.depth ≡ shape.old.depth }
+    ensures cost { IfOk result (λ handed. handed.cost ≤ 3) }
+    ensures done { IfOk result (λ handed. Does handed.cost 0 (N.state store.old) (N.state store.new)) }
+    ensures does { Does 4 0 (N.state store.old) (N.state store.new) }
+    ensures cause { HasCause (N.state store.old).faults (N.state store.new).faults result }
+    ensures below { N.follows store.old store.new }
 {
-    if count > 0 {
-        put(&mut desk.node, spot.kind, spot.height, at, &desk.first);
+    put_all(&mut desk.node, &desk.first, &desk.second, at, count);
+    if desk.node.count() == 0 {
+        return drop_node(store, desk, shape, spot);
     }
-    if count > 1 {
-        put(
-            &mut desk.node,
-            spot.kind,
-            spot.height,
-            at.saturating_add(1),
-            &desk.second,
-        );
-    }
+    store.save(spot.node, &desk.node);
+    name_node(&mut desk.first, &desk.node, spot.node);
+    Ok(Handed {
+        count: 1,
+        changed: at == 0,
+        cost: 1,
+    })
 }
 
 /// Replaces a record of the node on the desk, or none, by the records on the desk. It takes a node only where `spare` is over 0.
@@ -232,39 +334,36 @@ pub(crate) fn edit_level<N: NodeStore>(
     spare: u32,
 ) -> Result<Handed, Failed>
     requires desk { IsDeskOf (N.state store.old).shape.node_size desk.old }
+    requires node { IsNodeOf spot.kind spot.height desk.old.node }
+    requires few { count ≤ 2 }
     requires inside { spot.node < (N.state store.old).shape.total }
     requires room { HasRoom 4 (N.state store.old) }
     requires free { spare ≤ (N.state store.old).shape.free }
+    ensures edit { IsTrue (N.state store.old).tells → desk.old.node ≡ (N.state store.old).nodes spot.node → spot.kind ≡ kind_at spot.height
+        → CanEdit (N.state store.old) spot.height spot.node at removed (records_on count desk.old) spare
+        → IfOk result (λ handed. LevelEdit (N.state store.old) (N.state store.new) spot.height spot.node at removed (records_on count desk.old) handed.count handed.changed desk.new shape.old shape.new) }
+    ensures few { IfOk result (λ handed. handed.count ≤ 2) }
     ensures desk { IsDeskOf (N.state store.old).shape.node_size desk.new }
+    ensures path { desk.new.path ≡ desk.old.path }
     ensures depth { shape.new.depth ≡ shape.old.depth }
     ensures cost { IfOk result (λ handed. handed.cost ≤ 4) }
+    // Only a node that was split takes four writes.
+    ensures thrift { IfOk result (λ handed. (handed.count ≡ 2) ⊎ (handed.cost ≤ 3)) }
     ensures done { IfOk result (λ handed. Does handed.cost (min 1 spare) (N.state store.old) (N.state store.new)) }
     ensures does { Does 4 (min 1 spare) (N.state store.old) (N.state store.new) }
     ensures cause { HasCause (N.state store.old).faults (N.state store.new).faults result }
     ensures below { N.follows store.old store.new }
 {
-    if removed {
-        take_out(&mut desk.node, spot.kind, spot.height, at);
+    let _size = desk.node.bytes().len();
+    take_out(&mut desk.node, at, removed);
+    if at > desk.node.count() {
+        return Ok(NOTHING);
     }
-    if !has_room(desk, spot, count) {
-        if spare == 0 {
-            return Ok(Handed {
-                count: 1,
-                changed: false,
-                cost: 0,
-            });
-        }
-        return split_node(store, desk, shape, spot, at, count);
+    if put_taken(&desk.first, &desk.second, count) <= desk.node.room() as usize {
+        return fill_node(store, desk, shape, spot, at, count);
     }
-    put_records(desk, spot, at, count);
-    if desk.node.count() == 0 {
-        return drop_node(store, desk, shape, spot);
+    if spare == 0 {
+        return Ok(NOTHING);
     }
-    store.save(spot.node, &desk.node);
-    name_node(desk, spot);
-    Ok(Handed {
-        count: 1,
-        changed: at == 0,
-        cost: 1,
-    })
+    split_node(store, desk, shape, spot, at, count)
 }

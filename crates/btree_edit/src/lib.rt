@@ -7,12 +7,14 @@ mod edits;
 mod finding;
 mod following;
 mod levels;
+mod replacing;
+mod roots;
 mod search;
 mod splitting;
-#[cfg(test)]
-mod tests;
+mod tracing;
 
 pub use desk::Desk;
-pub use edits::{Inserted, Removed, insert, remove, replace};
+pub use edits::{Inserted, Removed, insert, remove};
 pub use finding::{Found, find};
 pub use following::next;
+pub use replacing::replace;

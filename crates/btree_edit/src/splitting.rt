@@ -1,98 +1,213 @@
-//! A node that can't hold its records is split: some of them move into a fresh node behind it.
-ghost use Rattle.std.specs.Prelude.{◌≡◌, ◌≤◌, ◌+◌, length};
+//! A node that can't hold its records is split: what is behind the middle moves into a fresh node.
+ghost use Rattle.std.specs.Prelude.{◌≡◌, ◌≤◌, ◌<◌, ◌+◌, ◌*◌, ◌^◌, [], IsTrue, length, take, drop, insert, remove, slice_index_or};
+ghost use Rattle.btree_node.specs.Node.{IsNode, IsNodeOf, SameHead, items, room_beside};
+ghost use Rattle.btree_node.specs.Levels.{splice};
+ghost use Rattle.btree_edit.specs.Halves.{record_of, put_of, with_put, IsMiddle, IsSplit, AreForTwo};
+ghost use Rattle.btree_edit.specs.LevelEdit.{bit, taken, node_room, FitsTwo, HasSixth};
 
 use crate::desk::Held;
 use btree_node::Node;
 
 /// Puts a record into a node that has room for it.
-pub(crate) fn put(node: &mut Node, kind: i8, height: u8, at: u16, record: &Held)
-    ensures { length node.new ≡ length node.old }
+pub(crate) fn put(node: &mut Node, kind: i8, height: u8, at: u16, pair: &Held)
+    ensures items { IsNodeOf kind height node.old → at ≤ length (items node.old) → length (record_of pair.now) + 2 ≤ room_beside (length node.old) (items node.old) → items node.new ≡ insert (items node.old) at (record_of pair.now) }
+    ensures is_node { IsNodeOf kind height node.old → IsNodeOf kind height node.new }
+    ensures head { SameHead node.old node.new }
 {
     if !node.check(kind, height) || at > node.count() {
         return;
     }
-    if record.size() <= node.room() as usize {
-        node.insert(at, record.key(), record.value());
+    if pair.size() <= node.room() as usize {
+        node.insert(at, pair.key(), pair.value());
     }
 }
 
-/// Takes a record out of a node.
-pub(crate) fn take_out(node: &mut Node, kind: i8, height: u8, at: u16)
-    ensures { length node.new ≡ length node.old }
+/// Takes a record out of a node, or none.
+pub(crate) fn take_out(node: &mut Node, at: u16, removed: bool)
+    requires cut { IsNode node.old }
+    ensures items { at + bit removed ≤ length (items node.old) → items node.new ≡ splice (items node.old) at (at + bit removed) [] }
+    ensures cut { IsNode node.new }
+    ensures head { SameHead node.old node.new }
 {
-    if node.check(kind, height) && at < node.count() {
+    if removed && at < node.count() {
         node.remove(at);
     }
 }
 
-/// The size of a node's last record with its offset, or 0.
-fn last_size(node: &Node, kind: i8, height: u8) -> usize
-    ensures { result ≤ length node.now + 2 }
+/// What the records of a node take.
+pub(crate) fn node_taken(node: &Node) -> usize
+    requires cut { IsNode node.now }
+    ensures taken { result ≡ taken (items node.now) }
+    ensures fits { result + 16 ≤ length node.now }
 {
-    if !node.check(kind, height) || node.count() == 0 {
-        return 0;
-    }
-    node.item(node.count() - 1).len() + 2
+    let size = node.bytes().len();
+    size - 16 - node.room() as usize
 }
 
-/// Moves the last record of a node to the front of the other.
-fn move_last(node: &mut Node, other: &mut Node, kind: i8, height: u8)
-    ensures node { length node.new ≡ length node.old }
-    ensures other { length other.new ≡ length other.old }
+/// What the records that are put take.
+pub(crate) fn put_taken(first: &Held, second: &Held, count: u8) -> usize
+    requires few { count ≤ 2 }
+    requires first { first.now.room ≤ 32768 }
+    requires second { second.now.room ≤ 32768 }
+    ensures taken { result ≡ taken (put_of count first.now second.now) }
+    ensures small { result ≤ 65540 }
 {
-    if !node.check(kind, height) || !other.check(kind, height) || node.count() == 0 {
+    match count {
+        0 => 0,
+        1 => first.size(),
+        _ => first.size() + second.size(),
+    }
+}
+
+/// Puts the records into a node that has room for them.
+pub(crate) fn put_all(node: &mut Node, first: &Held, second: &Held, at: u16, count: u8)
+    requires cut { IsNode node.old }
+    requires few { count ≤ 2 }
+    requires place { at ≤ length (items node.old) }
+    requires room { taken (put_of count first.now second.now) ≤ room_beside (length node.old) (items node.old) }
+    ensures items { items node.new ≡ with_put (items node.old) at (put_of count first.now second.now) }
+    ensures cut { IsNode node.new }
+    ensures head { SameHead node.old node.new }
+{
+    if count > 1 {
+        node.insert(at, second.key(), second.value());
+    }
+    if count > 0 {
+        node.insert(at, first.key(), first.value());
+    }
+}
+
+/// One of the records of a node with others put at a place.
+fn joined<'a>(
+    node: &'a Node,
+    first: &'a Held,
+    second: &'a Held,
+    at: u16,
+    count: u8,
+    i: usize,
+) -> &'a [u8]
+    requires cut { IsNode node.now }
+    requires few { count ≤ 2 }
+    requires place { at ≤ length (items node.now) }
+    requires inside { i < length (items node.now) + count }
+    ensures { result.now ≡ slice_index_or (with_put (items node.now) at (put_of count first.now second.now)) i [] }
+{
+    let _records = node.count();
+    let place = at as usize;
+    if i < place {
+        return node.item(i as u16);
+    }
+    if i >= place + count as usize {
+        return node.item((i - count as usize) as u16);
+    }
+    if i == place {
+        first.record()
+    } else {
+        second.record()
+    }
+}
+
+/// A place in a list of records, and what those before it take.
+#[derive(Clone, Copy)]
+struct Cut {
+    at: usize,
+    front: usize,
+}
+
+/// The place nearest to the middle of all that the records take.
+fn middle(node: &Node, first: &Held, second: &Held, at: u16, count: u8, total: usize) -> Cut
+    requires cut { IsNode node.now }
+    requires few { count ≤ 2 }
+    requires place { at ≤ length (items node.now) }
+    requires total { total ≡ taken (with_put (items node.now) at (put_of count first.now second.now)) }
+    requires small { total < 2 ^ 20 }
+    ensures middle { IsMiddle (with_put (items node.now) at (put_of count first.now second.now)) result.at }
+    ensures front { result.front ≡ taken (take result.at (with_put (items node.now) at (put_of count first.now second.now))) }
+{
+    let many = node.count() as usize + count as usize;
+    let mut front = 0;
+    for i in 0..many {
+        let size = joined(node, first, second, at, count, i).len() + 2;
+        if 2 * front + size >= total {
+            return Cut { at: i, front };
+        }
+        front += size;
+    }
+    Cut { at: many, front }
+}
+
+/// Puts the records from a place on into the other node, which is empty.
+fn fill_back(
+    other: &mut Node,
+    node: &Node,
+    first: &Held,
+    second: &Held,
+    at: u16,
+    count: u8,
+    from: usize,
+)
+    requires other { IsNode other.old }
+    requires empty { items other.old ≡ [] }
+    requires cut { IsNode node.now }
+    requires few { count ≤ 2 }
+    requires place { at ≤ length (items node.now) }
+    requires from { from ≤ length (items node.now) + count }
+    requires fits { 16 + taken (drop from (with_put (items node.now) at (put_of count first.now second.now))) ≤ length other.old }
+    ensures items { items other.new ≡ drop from (with_put (items node.now) at (put_of count first.now second.now)) }
+    ensures cut { IsNode other.new }
+    ensures head { SameHead other.old other.new }
+{
+    let many = node.count() as usize + count as usize;
+    for i in from..many {
+        other.insert(
+            other.count(),
+            joined(node, first, second, at, count, i),
+            &[],
+        );
+    }
+}
+
+/// Keeps a node's first records.
+fn keep_first(node: &mut Node, many: usize)
+    requires cut { IsNode node.old }
+    requires within { many ≤ length (items node.old) }
+    ensures items { items node.new ≡ take many (items node.old) }
+    ensures cut { IsNode node.new }
+    ensures head { SameHead node.old node.new }
+{
+    let all = node.count() as usize;
+    for i in many..all {
+        node.remove(node.count() - 1);
+    }
+}
+
+/// Keeps those before a place in the node.
+fn keep_front(node: &mut Node, first: &Held, second: &Held, at: u16, count: u8, to: usize)
+    requires cut { IsNode node.old }
+    requires few { count ≤ 2 }
+    requires place { at ≤ length (items node.old) }
+    requires to { to ≤ length (items node.old) + count }
+    requires fits { 16 + taken (take to (with_put (items node.old) at (put_of count first.now second.now))) ≤ length node.old }
+    ensures items { items node.new ≡ take to (with_put (items node.old) at (put_of count first.now second.now)) }
+    ensures cut { IsNode node.new }
+    ensures head { SameHead node.old node.new }
+{
+    let place = at as usize;
+    if to <= place {
+        keep_first(node, to);
         return;
     }
-    let last = node.count() - 1;
-    let item = node.item(last);
-    if item.len() + 2 <= other.room() as usize {
-        other.insert(0, item, &[]);
-        node.remove(last);
+    let put = to - place;
+    if put < count as usize {
+        keep_first(node, place);
+        put_all(node, first, second, at, put as u8);
+        return;
     }
+    keep_first(node, to - count as usize);
+    put_all(node, first, second, at, count);
 }
 
-/// Whether a record moves into the other half too: the half then has no more than what is left.
-fn belongs(right: usize, size: usize, total: usize) -> bool {
-    right.saturating_mul(2).saturating_add(size) <= total
-}
-
-/// Moves records from the end of a node down to a place, as long as the other stays the smaller half; answers the size of the other.
-fn move_back(
-    node: &mut Node,
-    other: &mut Node,
-    kind: i8,
-    height: u8,
-    floor: u16,
-    total: usize,
-    start: usize,
-) -> usize
-    ensures node { length node.new ≡ length node.old }
-    ensures other { length other.new ≡ length other.old }
-{
-    let mut right = start;
-    for _at in 0..node.count() {
-        let size = last_size(node, kind, height);
-        if node.count() <= floor || !belongs(right, size, total) {
-            return right;
-        }
-        move_last(node, other, kind, height);
-        right = right.saturating_add(size);
-    }
-    right
-}
-
-/// What a node and some records take together.
-fn total_size(node: &Node, kind: i8, height: u8, first: &Held, second: &Held, count: u8) -> usize {
-    if !node.check(kind, height) {
-        return 0;
-    }
-    let used = node.bytes().len().saturating_sub(16 + node.room() as usize);
-    let one = if count > 0 { first.size() } else { 0 };
-    let two = if count > 1 { second.size() } else { 0 };
-    used.saturating_add(one).saturating_add(two)
-}
-
-/// Splits a node into which some records belong at a place: the other takes what is behind the middle.
+/// Splits a node into which some records belong at a place: the other takes what is behind the middle. Tells whether both halves fit; if not, the node is as before.
 pub(crate) fn split(
     node: &mut Node,
     other: &mut Node,
@@ -102,40 +217,31 @@ pub(crate) fn split(
     first: &Held,
     second: &Held,
     count: u8,
-)
+) -> bool
+    requires node { IsNodeOf kind height node.old }
+    requires other { length other.old ≡ length node.old }
+    requires few { count ≤ 2 }
+    requires place { at ≤ length (items node.old) }
+    requires first { first.now.room ≤ 32768 }
+    requires second { second.now.room ≤ 32768 }
+    ensures split { IsTrue result → IsSplit kind height (with_put (items node.old) at (put_of count first.now second.now)) node.old node.new other.new }
+    ensures sure { node_room (length node.old) < taken (with_put (items node.old) at (put_of count first.now second.now)) → FitsTwo (length node.old) (with_put (items node.old) at (put_of count first.now second.now)) → IsTrue result }
+    ensures sixth { AreForTwo (length node.old) (with_put (items node.old) at (put_of count first.now second.now)) → HasSixth node.new × HasSixth other.new }
     ensures node { length node.new ≡ length node.old }
     ensures other { length other.new ≡ length other.old }
 {
     other.clear(kind, height);
-    let total = total_size(node, kind, height, first, second, count);
-    let mut right = move_back(node, other, kind, height, at, total, 0);
-    let mut left = count;
-    if node.count() == at {
-        if left == 2 && belongs(right, second.size(), total) {
-            put(other, kind, height, 0, second);
-            right = right.saturating_add(second.size());
-            left = 1;
-        }
-        if left == 1 && belongs(right, first.size(), total) {
-            put(other, kind, height, 0, first);
-            right = right.saturating_add(first.size());
-            left = 0;
-        }
-        if left == 0 {
-            move_back(node, other, kind, height, 0, total, right);
-        }
+    let size = node.bytes().len();
+    let total = node_taken(node) + put_taken(first, second, count);
+    let cut = middle(node, first, second, at, count, total);
+    let many = node.count() as usize + count as usize;
+    if cut.at == 0 || cut.at >= many {
+        return false;
     }
-    put_rest(node, kind, height, at, first, second, left);
-}
-
-/// Puts the records that stay in the first half.
-fn put_rest(node: &mut Node, kind: i8, height: u8, at: u16, first: &Held, second: &Held, left: u8)
-    ensures { length node.new ≡ length node.old }
-{
-    if left > 0 {
-        put(node, kind, height, at, first);
+    if cut.front + 16 > size || total - cut.front + 16 > size {
+        return false;
     }
-    if left > 1 {
-        put(node, kind, height, at.saturating_add(1), second);
-    }
+    fill_back(other, node, first, second, at, count, cut.at);
+    keep_front(node, first, second, at, count, cut.at);
+    true
 }

@@ -11,3 +11,4 @@ pub mod Descriptor
 pub mod Units
 pub mod Levels
 pub mod Ranks
+pub mod Flags

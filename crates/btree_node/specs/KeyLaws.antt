@@ -102,6 +102,24 @@ catalog_same a b are_a are_b key_a key_b e =
       ]
     ])
 
+-- keys of one place have names of one length
+pub catalog_length : (a b : List ℕ) → IsCatalogKey a → IsCatalogKey b → catalog_cmp a b ≡ Equal → length a ≡ length b
+catalog_length a b key_a key_b e =
+    let name : catalog_units a ≡ catalog_units b = slice_cmp-IsAntisymmetric nat_cmp-IsAntisymmetric (catalog_units a) (catalog_units b) (then_second (nat_cmp (catalog_parent a) (catalog_parent b)) (slice_cmp nat_cmp (catalog_units a) (catalog_units b)) e) in
+    let rest_a : length (drop 8 a) ≡ 2 * big_at 2 a 6 = omega (arith, length-drop 8 a, key_a.size, key_a.name) in
+    let rest_b : length (drop 8 b) ≡ 2 * big_at 2 b 6 = omega (arith, length-drop 8 b, key_b.size, key_b.name) in
+    let many : big_at 2 a 6 ≡ big_at 2 b 6 = sym (length_units (drop 8 a) (big_at 2 a 6) rest_a) ∙ ap length name ∙ length_units (drop 8 b) (big_at 2 b 6) rest_b in
+    omega (arith, many, key_a.size, key_b.size, key_a.name, key_b.name)
+
+pub attr_length : (a b : List ℕ) → IsAttrKey a → IsAttrKey b → attr_cmp a b ≡ Equal → length a ≡ length b
+attr_length a b key_a key_b e =
+    let more : ordering_then (slice_cmp nat_cmp (attr_units a) (attr_units b)) (nat_cmp (attr_start a) (attr_start b)) ≡ Equal = then_second (nat_cmp (attr_file a) (attr_file b)) (ordering_then (slice_cmp nat_cmp (attr_units a) (attr_units b)) (nat_cmp (attr_start a) (attr_start b))) e in
+    let name : attr_units a ≡ attr_units b = slice_cmp-IsAntisymmetric nat_cmp-IsAntisymmetric (attr_units a) (attr_units b) (then_first (slice_cmp nat_cmp (attr_units a) (attr_units b)) (nat_cmp (attr_start a) (attr_start b)) more) in
+    let rest_a : length (drop 14 a) ≡ 2 * big_at 2 a 12 = omega (arith, length-drop 14 a, key_a.size, key_a.name) in
+    let rest_b : length (drop 14 b) ≡ 2 * big_at 2 b 12 = omega (arith, length-drop 14 b, key_b.size, key_b.name) in
+    let many : big_at 2 a 12 ≡ big_at 2 b 12 = sym (length_units (drop 14 a) (big_at 2 a 12) rest_a) ∙ ap length name ∙ length_units (drop 14 b) (big_at 2 b 12) rest_b in
+    omega (arith, many, key_a.size, key_b.size, key_a.name, key_b.name)
+
 pub extent_same : (a b : List ℕ) → AreBytes a → AreBytes b → IsExtentKey a → IsExtentKey b → extent_cmp a b ≡ Equal → extent_plain a ≡ extent_plain b
 extent_same a b are_a are_b key_a key_b e =
     let file : extent_file a ≡ extent_file b = nat_cmp-IsAntisymmetric (extent_file a) (extent_file b) (then_first (nat_cmp (extent_file a) (extent_file b)) (ordering_then (nat_cmp (extent_fork a) (extent_fork b)) (nat_cmp (extent_start a) (extent_start b))) e) in

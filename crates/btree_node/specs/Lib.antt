@@ -5,4 +5,5 @@ pub mod KeyLaws
 pub mod Levels
 pub mod Store
 pub mod Tree
+pub mod Kept
 pub mod Mem

@@ -1,16 +1,17 @@
--- The store in memory, as a contract sees it: it tells no content.
-use Rattle.std.specs.Prelude.{ℕ, ◌*◌, ◌/◌, true, false, [], slice_index_or}
+-- The store in memory, as a contract sees it.
+use Rattle.std.specs.Prelude.{◌≡◌, ◌<◌, ℕ, ◌+◌, ◌*◌, ◌/◌, ◌==◌, true, [], slice_index_or}
 use Rattle.btree_node.specs.Store.{Store}
 use Rattle.btree_node.specs.declared.mem.MemNodes.{MemNodes}
 
+-- node 0 stands for the header node, and there is no map node
 abbrev pub mem_state : MemNodes → Store
 mem_state mem = record {
-  tells = false;
+  tells = true;
   names = [];
   shape = mem.shape;
-  nodes = λ n. [];
-  used = λ n. false;
-  reserved = λ n. false;
+  nodes = λ n. slice_index_or mem.nodes.items n [];
+  used = λ n. slice_index_or mem.used.items n true;
+  reserved = λ n. n == 0;
   written = λ n. slice_index_or mem.written.items n true;
   unwritten = mem.unwritten;
   writes_left = mem.writes_left;
@@ -18,3 +19,15 @@ mem_state mem = record {
   loads = mem.loads;
   faults = mem.faults;
 }
+
+-- the store has a tree without a node
+pub record IsBare (size count : ℕ) (store : Store) : Type 0 where
+  pub node_size : store.shape.node_size ≡ size
+  pub total : store.shape.total ≡ count
+  pub free : store.shape.free + 1 ≡ count
+  pub depth : store.shape.depth ≡ 0
+  pub root : store.shape.root ≡ 0
+  pub first : store.shape.first ≡ 0
+  pub last : store.shape.last ≡ 0
+  pub leaf_records : store.shape.leaf_records ≡ 0
+  pub used : (n : ℕ) → n < count → store.used n ≡ (n == 0)

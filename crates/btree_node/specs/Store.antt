@@ -29,6 +29,10 @@ pub record Store : Type 0 where
 abbrev pub node_sectors : Store → ℕ
 node_sectors store = store.shape.node_size / 512
 
+-- the sectors of all nodes that weren't written since the last commit
+unfoldable pub unwritten_sectors : Store → ℕ
+unwritten_sectors store = store.unwritten * node_sectors store
+
 -- there is room to write so many nodes, or all that aren't written yet
 abbrev pub HasRoom : ℕ → Store → Type 0
 HasRoom many store = min many store.unwritten ≤ store.writes_left
@@ -78,6 +82,7 @@ pub record SameRoom (old new : Store) : Type 0 where
   pub unwritten : new.unwritten ≡ old.unwritten
   pub writes_left : new.writes_left ≡ old.writes_left
   pub sectors_left : new.sectors_left ≡ old.sectors_left
+  pub sectors : unwritten_sectors new ≡ unwritten_sectors old
 
 -- at most so many nodes were written for the first time since the last commit, and each took at most its sectors
 pub record Writes (most : ℕ) (old new : Store) : Type 0 where
@@ -85,7 +90,7 @@ pub record Writes (most : ℕ) (old new : Store) : Type 0 where
   pub fewer : new.unwritten ≤ old.unwritten
   pub some : old.unwritten ≤ new.unwritten + most
   pub left : old.writes_left + new.unwritten ≤ new.writes_left + old.unwritten
-  pub sectors : old.sectors_left ≤ new.sectors_left + (old.unwritten - new.unwritten) * node_sectors old
+  pub sectors : old.sectors_left + unwritten_sectors new ≤ new.sectors_left + unwritten_sectors old
 
 -- the shape with another number of free nodes
 abbrev pub with_free : TreeShape → ℕ → TreeShape

@@ -21,7 +21,7 @@ pub struct AttrOrder;
 impl KeyOrder for CatalogOrder {
     ghost use Rattle.std.proofs.Common.{refl, arith, false};
     ghost use Rattle.btree_node.specs.Keys.{IsCatalogKey, catalog_cmp};
-    ghost use Rattle.btree_node.specs.KeyLaws.{catalog_total, catalog_same};
+    ghost use Rattle.btree_node.specs.KeyLaws.{catalog_total, catalog_same, catalog_length};
 
     ghost is_key = { IsCatalogKey };
 
@@ -42,6 +42,8 @@ impl KeyOrder for CatalogOrder {
     ghost key_length = { λ _ key. key.size };
 
     ghost key_most = { λ _ key. Prim.omega arith };
+
+    ghost same_length = { catalog_length };
 
     ghost one_length = { λ _ _ fixed _ _. Prim.cc };
 
@@ -90,6 +92,8 @@ impl KeyOrder for ExtentOrder {
 
     ghost key_most = { λ _ key. Prim.omega arith };
 
+    ghost same_length = { λ _ _ first second _. first.long ∙ sym second.long };
+
     ghost one_length = { λ _ _ fixed first second. first.long ∙ sym second.long };
 
     const MAX: u32 = 10;
@@ -110,7 +114,7 @@ impl KeyOrder for ExtentOrder {
 impl KeyOrder for AttrOrder {
     ghost use Rattle.std.proofs.Common.{refl, arith, false};
     ghost use Rattle.btree_node.specs.Keys.{IsAttrKey, attr_cmp, attr_plain};
-    ghost use Rattle.btree_node.specs.KeyLaws.{attr_total, attr_same, attr_plain_length};
+    ghost use Rattle.btree_node.specs.KeyLaws.{attr_total, attr_same, attr_length, attr_plain_length};
 
     ghost is_key = { IsAttrKey };
 
@@ -131,6 +135,8 @@ impl KeyOrder for AttrOrder {
     ghost key_length = { λ _ key. key.size };
 
     ghost key_most = { λ _ key. Prim.omega arith };
+
+    ghost same_length = { attr_length };
 
     ghost one_length = { λ _ _ fixed _ _. Prim.cc };
 

@@ -1,7 +1,9 @@
-//! A store of nodes in memory: node 0 stands for the header, and the map is a list of flags.
-ghost use Rattle.std.specs.Prelude.{◌≡◌, ◌≤◌, ◌<◌, IsTrue, length, IfOk, IfSome, true, false, ◌↔◌};
-ghost use Rattle.btree_node.specs.Mem.{mem_state};
-ghost use Rattle.btree_node.specs.Store.{HasRoom, Writes, SameRoom};
+//! A store of nodes in memory: node 0 stands for the header node, and the map is a list of flags.
+#![tactic(auto, unfolding(crate::specs::Store::unwritten_sectors))]
+
+ghost use Rattle.std.specs.Prelude.{◌≡◌, ◌≤◌, ◌<◌, IsTrue, length, IfOk, IfSome, true, false, ◌↔◌, ◌⊎◌, All, replicate, slice_index_or, OnOk, slice_set};
+ghost use Rattle.btree_node.specs.Kept.{AreNodes};
+ghost use Rattle.btree_node.specs.Store.{HasRoom, Writes, SameRoom, SameNodes};
 ghost use Rattle.btree_node.specs.Node.{IsNodeSize};
 
 use crate::node::Node;
@@ -20,22 +22,44 @@ pub struct MemNodes {
     writes_left: u32,
     loads: u64,
     faults: u64,
+    ghost kept: { AreNodes shape nodes.items used.items written.items },
+}
+
+/// Nodes of zeros.
+fn blank_nodes(alloc: Global, node_size: u32, total: u32) -> Result<Vec<Node>, OutOfMemory>
+    requires { IsNodeSize node_size }
+    ensures count { IfOk result (λ nodes. length nodes.items ≡ total) }
+    ensures size { IfOk result (λ nodes. All (λ node. length node ≡ node_size) nodes.items) }
+{
+    let mut nodes = Vec::new(alloc);
+    for _at in 0..total {
+        nodes.push(Node::new(alloc, node_size)?)?;
+    }
+    Ok(nodes)
+}
+
+/// Takes all flags away.
+fn forget(flags: &mut [bool])
+    ensures { length flags.new ≡ length flags.old }
+{
+    for flag in flags {
+        *flag = false;
+    }
 }
 
 impl MemNodes {
+    ghost use Rattle.btree_node.specs.Mem.{mem_state, IsBare};
+
     /// Nodes of zeros; the first is in use.
     pub fn new(alloc: Global, node_size: u32, total: u32) -> Result<MemNodes, OutOfMemory>
         requires size { IsNodeSize node_size }
         requires some { 0 < total }
+        ensures bare { IfOk result (λ store. IsBare node_size total (mem_state store)) }
     {
-        let mut nodes = Vec::new(alloc);
-        let mut used = Vec::new(alloc);
-        let mut written = Vec::new(alloc);
-        for at in 0..total {
-            nodes.push(Node::new(alloc, node_size)?)?;
-            used.push(at == 0)?;
-            written.push(false)?;
-        }
+        let nodes = blank_nodes(alloc, node_size, total)?;
+        let mut used = vec![in alloc; false; total as usize]?;
+        used[0] = true;
+        let written = vec![in alloc; false; total as usize]?;
         let shape = TreeShape {
             node_size,
             depth: 0,
@@ -59,17 +83,23 @@ impl MemNodes {
     }
 
     /// All nodes count as not yet written again, as after a commit.
-    pub fn commit(&mut self, writes_left: u32) {
-        for at in 0..self.written.len() {
-            self.written[at] = false;
-        }
+    pub fn commit(&mut self, writes_left: u32)
+        ensures shape { self.new.shape ≡ self.old.shape }
+        ensures tree { SameNodes (mem_state self.old) (mem_state self.new) }
+        ensures unwritten { self.new.unwritten ≡ self.old.shape.total }
+        ensures left { self.new.writes_left ≡ writes_left }
+    {
+        forget(&mut self.written);
         self.unwritten = self.shape.total;
         self.writes_left = writes_left;
     }
 
     /// Whether a node is in use.
-    pub fn is_used(&self, node: u32) -> bool {
-        (node as usize) < self.used.len() && self.used[node as usize]
+    pub fn is_used(&self, node: u32) -> bool
+        requires { node < self.now.shape.total }
+        ensures { result ≡ (mem_state self.now).used node }
+    {
+        self.used[node as usize]
     }
 
     /// Whether so many nodes, or all that aren't written yet, may be written before the next commit.
@@ -87,10 +117,11 @@ impl MemNodes {
     /// The first node that isn't in use.
     fn first_free(&self) -> Option<u32>
         ensures inside { IfSome result (λ node. node < self.now.shape.total) }
-        ensures has { IfSome result (λ node. node < length self.now.used.items) }
+        ensures behind { IfSome result (λ node. 0 < node) }
+        ensures free { IfSome result (λ node. (mem_state self.now).used node ≡ false) }
     {
         for node in 1..self.shape.total {
-            if (node as usize) < self.used.len() && !self.used[node as usize] {
+            if !self.used[node as usize] {
                 return Some(node);
             }
         }
@@ -98,7 +129,9 @@ impl MemNodes {
     }
 
     fn note(&mut self, node: u32)
+        requires { node < self.old.shape.total }
         ensures shape { self.new.shape ≡ self.old.shape }
+        ensures tree { SameNodes (mem_state self.old) (mem_state self.new) }
         ensures loads { self.new.loads ≡ self.old.loads }
         ensures faults { self.new.faults ≡ self.old.faults }
         ensures writes { Writes 1 (mem_state self.old) (mem_state self.new) }
@@ -106,7 +139,7 @@ impl MemNodes {
         ensures written { IsTrue ((mem_state self.new).written node) }
     {
         let at = node as usize;
-        if at >= self.written.len() || self.written[at] {
+        if self.written[at] {
             return;
         }
         self.written[at] = true;
@@ -139,18 +172,12 @@ impl NodeStore for MemNodes {
 
     fn load(&mut self, node: u32, into: &mut Node) -> Result<(), Failed> {
         self.loads = self.loads.saturating_add(1);
-        let at = node as usize;
-        if at < self.nodes.len() && self.nodes[at].bytes().len() == into.bytes().len() {
-            into.copy_from(&self.nodes[at]);
-        }
+        into.copy_from(&self.nodes[node as usize]);
         Ok(())
     }
 
     fn save(&mut self, node: u32, from: &Node) {
-        let at = node as usize;
-        if at < self.nodes.len() && self.nodes[at].bytes().len() == from.bytes().len() {
-            self.nodes[at].copy_from(from);
-        }
+        self.nodes[node as usize].copy_from(from);
         self.note(node);
     }
 
@@ -166,9 +193,10 @@ impl NodeStore for MemNodes {
     }
 
     fn give_node(&mut self, node: u32) -> Result<(), Failed> {
-        let at = node as usize;
-        if at < self.used.len() && self.used[at] && self.shape.free < self.shape.total {
-            self.used[at] = false;
+        // The free nodes are fewer than all, whose number has its range.
+        let _total = self.shape.total;
+        if self.used[node as usize] {
+            self.used[node as usize] = false;
             self.shape.free += 1;
             self.note(0);
         }

@@ -49,5 +49,8 @@ pub trait KeyOrder {
 
     ghost key_most: { (a : List ℕ) → is_key a → length a ≤ MAX + 2 };
 
+    /// Keys of one place in the order have one length.
+    ghost same_length: { (a b : List ℕ) → is_key a → is_key b → cmp a b ≡ Equal → length a ≡ length b };
+
     ghost one_length: { (a b : List ℕ) → FIXED ≡ true → is_key a → is_key b → length a ≡ length b };
 }

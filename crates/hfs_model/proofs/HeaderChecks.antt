@@ -1,5 +1,5 @@
 -- What is read from a thin volume's headers is what they were made of.
-use Rattle.std.proofs.Common.{◌≡◌, ℕ, ◌+◌, ◌*◌, ◌^◌, ◌<◌, ◌≤◌, Bool, true, false, ◌&&◌, cond, eqb, List, [], ◌∷◌, ◌++◌, length, replicate, IsTrue, refl, sym, ◌∙◌, ap, subst, arith}
+use Rattle.std.proofs.Common.{◌≡◌, ℕ, ◌^◌, ◌<◌, Bool, true, false, ◌&&◌, List, ◌++◌, length, replicate, IsTrue, refl, sym, ◌∙◌, ap, arith}
 use Rattle.std.specs.Prelude.{◌↔◌, ◌==◌, ◌%◌, nat_le}
 use Rattle.std.proofs.lemmas.Bool.Decides.{nat_tests}
 use Rattle.std.proofs.lemmas.List.{length-append, append_assoc}
@@ -10,7 +10,6 @@ use Rattle.volume_header.specs.declared.header.VolumeHeader.{VolumeHeader}
 use Rattle.volume_header.specs.Header.{header_bytes, identity_bytes, history_bytes, blocks_bytes, counters_bytes, forks_bytes}
 use Rattle.jnl_format.specs.declared.structures.Header.{Header}
 use Rattle.jnl_format.specs.Header.{header_spelled, is_offset}
-use Rattle.jnl_format.specs.Checksum.{checksum_of}
 use Rattle.hfs_model.specs.Thin.{IsHeader, IsJournal, thin_header, is_clean_in, writes_in, journal_text}
 use Rattle.hfs_model.proofs.NameLists.{both}
 

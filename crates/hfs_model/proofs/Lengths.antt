@@ -1,6 +1,6 @@
 -- How long the records of the catalog's leaf are.
-use Rattle.std.proofs.Common.{◌≡◌, ℕ, zero, suc, ◌+◌, ◌*◌, ◌<◌, ◌≤◌, Bool, true, false, List, [], ◌∷◌, ◌++◌, length, map, codes, replicate, IsTrue, refl, sym, ◌∙◌, ap, arith, pos}
-use Rattle.std.specs.List.{All, concat, flat_map}
+use Rattle.std.proofs.Common.{◌≡◌, ℕ, suc, ◌+◌, ◌*◌, ◌≤◌, Bool, true, false, List, [], ◌∷◌, ◌++◌, length, map, codes, replicate, IsTrue, refl, ◌∙◌, ap, arith}
+use Rattle.std.specs.List.{All, concat}
 use Rattle.std.proofs.lemmas.List.{length-append, length-map, append_assoc}
 use Rattle.std.proofs.lemmas.List.Folds.{concat-append}
 use Rattle.std.proofs.lemmas.List.Elements.{All-head, All-tail, All-weaker}
@@ -8,7 +8,7 @@ use Rattle.hx_bytes.specs.Field.{big}
 use Rattle.hx_bytes.specs.Fork.{fork_bytes, extents_bytes}
 use Rattle.hx_bytes.specs.declared.fields.Order.TheVariants.{Big}
 use Rattle.hx_bytes.proofs.Laws.{length-number_bytes}
-use Rattle.cat_records.specs.Records.{units_bytes, catalog_bytes, entry_bytes}
+use Rattle.cat_records.specs.Records.{units_bytes, entry_bytes}
 use Rattle.cat_records.specs.Keys.{catalog_key_bytes}
 use Rattle.hfs_model.specs.declared.node.TreeHeader.{TreeHeader}
 use Rattle.hfs_model.specs.Bits.{bits_bytes}

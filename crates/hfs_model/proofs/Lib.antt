@@ -16,3 +16,8 @@ pub mod Results
 pub mod Paths
 pub mod Values
 pub mod Shown
+pub mod Words
+pub mod Listings
+pub mod OneLine
+pub mod Replies
+pub mod Written

@@ -1,6 +1,6 @@
 -- The parts of a node's bytes: their lengths, and the table of offsets entry by entry.
-use Rattle.std.proofs.Common.{◌≡◌, ℕ, ◌+◌, ◌-◌, ◌*◌, ◌<◌, ◌≤◌, List, [], ◌∷◌, ◌++◌, length, take, drop, get_or, refl, sym, ◌∙◌, ap, subst, arith}
-use Rattle.std.proofs.lemmas.List.{take_more, drop_more, append-nil, length-append, take_all, drop_all, get_or_read, drop_at, take_at, length-take-le, length-drop, append_assoc}
+use Rattle.std.proofs.Common.{◌≡◌, ℕ, ◌+◌, ◌-◌, ◌*◌, ◌≤◌, List, [], ◌∷◌, ◌++◌, length, take, drop, get_or, refl, sym, ◌∙◌, ap, subst, arith}
+use Rattle.std.proofs.lemmas.List.{take_more, drop_more, append-nil, length-append, drop_all, get_or_read, drop_at, take_at, length-take-le, length-drop, append_assoc}
 use Rattle.std.proofs.lemmas.List.Folds.{concat-append}
 use Rattle.std.specs.List.{concat}
 use Rattle.hx_bytes.specs.Field.{big}

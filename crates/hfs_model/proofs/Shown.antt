@@ -19,7 +19,7 @@ use Rattle.hfs_model.proofs.Results.{ok_same}
 
 -- ---- numbers
 
-both_tails : (x y : ℕ) (xs ys : List ℕ) → x ∷ xs ≡ y ∷ ys → (x ≡ y) × (xs ≡ ys)
+pub both_tails : (x y : ℕ) (xs ys : List ℕ) → x ∷ xs ≡ y ∷ ys → (x ≡ y) × (xs ≡ ys)
 both_tails x y xs ys is = (cc, cc)
 
 -- digits end at the first byte below them
@@ -47,11 +47,11 @@ number_first n m x y xs ys hn hm hx hy is =
     (sym kn.1 ∙ ap (digits_value 10) parts.0 ∙ km.1, parts.1)
 
 -- the text of numbers begins with a space, or ends with the line
-abbrev after_numbers : List ℕ → List ℕ
+abbrev pub after_numbers : List ℕ → List ℕ
 after_numbers numbers = fields numbers ++ 10 ∷ []
 
--- its first byte is below a digit
-first_low : (numbers : List ℕ) → (x : ℕ) × (xs : List ℕ) × (x < 48) × (after_numbers numbers ≡ x ∷ xs)
+-- its first byte is a space or the newline
+pub first_low : (numbers : List ℕ) → (x : ℕ) × (xs : List ℕ) × (x < 33) × (after_numbers numbers ≡ x ∷ xs)
 first_low [] = (10, [], omega arith, refl)
 first_low (n ∷ numbers) = (32, (decimal n ++ fields numbers) ++ 10 ∷ [], omega arith, refl)
 
@@ -65,7 +65,7 @@ numbers_shown (a ∷ ns) (b ∷ bs) ha hb is =
     let lb = first_low bs in
     let joined : decimal a ++ la.0 ∷ la.1 ≡ decimal b ++ lb.0 ∷ lb.1 =
     ap (λ x. decimal a ++ x) (sym la.3) ∙ sym (append_assoc (decimal a) (fields ns) (10 ∷ [])) ∙ rest ∙ append_assoc (decimal b) (fields bs) (10 ∷ []) ∙ ap (λ x. decimal b ++ x) lb.3 in
-    let parts = number_first a b la.0 lb.0 la.1 lb.1 ha.0 hb.0 la.2 lb.2 joined in
+    let parts = number_first a b la.0 lb.0 la.1 lb.1 ha.0 hb.0 (omega (arith, la.2)) (omega (arith, lb.2)) joined in
     let more = numbers_shown ns bs ha.1 hb.1 (la.3 ∙ parts.1 ∙ sym lb.3) in
     cc (parts.0, more)
 
@@ -239,17 +239,17 @@ content_shown one other ha hb is =
 -- ---- facts
 
 -- the end of the line: three dates
-abbrev dates_line : ℕ → ℕ → ℕ → List ℕ
+abbrev pub dates_line : ℕ → ℕ → ℕ → List ℕ
 dates_line c d e = 32 ∷ (decimal c ++ 32 ∷ (decimal d ++ 32 ∷ (decimal e ++ 10 ∷ [])))
 
 -- the line from its mode on
-abbrev mode_line : Facts → List ℕ
+abbrev pub mode_line : Facts → List ℕ
 mode_line f = 32 ∷ (48 + f.mode / 512 % 8) ∷ (48 + f.mode / 64 % 8) ∷ (48 + f.mode / 8 % 8) ∷ (48 + f.mode % 8) ∷ dates_line f.created f.changed f.attribute
 
 joined : (k i s m c d e z : List ℕ) → k ++ i ++ s ++ m ++ c ++ d ++ e ++ z ≡ k ++ (i ++ (s ++ (m ++ (c ++ (d ++ (e ++ z))))))
 joined k i s m c d e z = simp append_assoc
 
-line_is : (f : Facts) → reply_text (reply.Facts f) ≡ codes "ok" ++ (kind_text f ++ (field f.id ++ (size_fields f ++ mode_line f)))
+pub line_is : (f : Facts) → reply_text (reply.Facts f) ≡ codes "ok" ++ (kind_text f ++ (field f.id ++ (size_fields f ++ mode_line f)))
 unfolding reply_text
 line_is f = ap (λ x. codes "ok" ++ x) (joined (kind_text f) (field f.id) (size_fields f) (32 ∷ mode_text f.mode) (field f.created) (field f.changed) (field f.attribute) (10 ∷ []))
 
@@ -343,7 +343,7 @@ trees_text (tree ∷ trees) = three_fields (field tree.depth) (field tree.nodes)
 five_fields : (a b c d e t z : List ℕ) → a ++ b ++ c ++ d ++ e ++ t ++ z ≡ (a ++ (b ++ (c ++ (d ++ (e ++ t))))) ++ z
 five_fields a b c d e t z = simp append_assoc
 
-gauge_is : (g : Gauge) → reply_text (reply.Gauge g) ≡ codes "ok" ++ after_numbers (gauge_numbers g)
+pub gauge_is : (g : Gauge) → reply_text (reply.Gauge g) ≡ codes "ok" ++ after_numbers (gauge_numbers g)
 unfolding reply_text
 gauge_is g =
     ap (λ x. codes "ok" ++ x)

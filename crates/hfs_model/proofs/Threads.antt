@@ -1,6 +1,6 @@
 -- The names that are read in a leaf are the names that its records were made of.
-use Rattle.std.proofs.Common.{◌≡◌, ℕ, zero, suc, ◌+◌, ◌-◌, ◌*◌, ◌/◌, ◌^◌, ◌<◌, ◌≤◌, min, Bool, true, false, List, [], ◌∷◌, ◌++◌, length, take, drop, IsTrue, refl, sym, ◌∙◌, ap, subst, arith, pos}
-use Rattle.std.specs.List.{All, concat, list_all}
+use Rattle.std.proofs.Common.{◌≡◌, ℕ, ◌+◌, ◌-◌, ◌*◌, ◌/◌, ◌<◌, ◌≤◌, min, true, false, List, [], ◌∷◌, ◌++◌, length, IsTrue, refl, sym, ◌∙◌, ap, arith, pos}
+use Rattle.std.specs.List.{All, concat}
 use Rattle.std.specs.Int.{w16, cast_unsigned}
 use Rattle.std.proofs.lemmas.Bool.Decides.{nat_tests}
 use Rattle.std.proofs.lemmas.List.{length-append, append_assoc}
@@ -16,9 +16,9 @@ use Rattle.hfs_model.specs.Names.{is_thin_unit, are_thin_names}
 use Rattle.hfs_model.specs.Node.{IsNode, leaf_head, descriptor_bytes, offsets_bytes}
 use Rattle.hfs_model.specs.Thin.{catalog_item, new_thread, folder_threads, leaf_items}
 use Rattle.hfs_model.specs.Reading.{names_at, folders_in, threads_in, names_in}
-use Rattle.hfs_model.proofs.NameLists.{ThinName, ThinList, thin_list, All-from_list_all}
+use Rattle.hfs_model.proofs.NameLists.{ThinName, thin_list, All-from_list_all}
 use Rattle.hfs_model.proofs.Nodes.{length-descriptor_bytes, offsets_split, offsets_last}
-use Rattle.hfs_model.proofs.Lengths.{items_before, leaf_items_is, length-items_before, length-leaf_items, length-folder_threads, length-units_bytes, before_fits}
+use Rattle.hfs_model.proofs.Lengths.{items_before, leaf_items_is, length-items_before, length-leaf_items, length-units_bytes, before_fits}
 
 -- the units behind a front
 units_at-units_bytes : (front units rest : List ℕ) (at : ℕ) → length front ≡ at → All (λ unit. unit < 65536) units → units_at (front ++ (units_bytes units ++ rest)) at (length units) ≡ units

@@ -1,5 +1,5 @@
 -- A bitmap: a bit for each number, from the highest bit of the first byte on.
-use Rattle.std.specs.Prelude.{ℕ, zero, suc, ◌+◌, ◌*◌, ◌==◌, ◌||◌, nat_lt, Bool, true, false, List, [], ◌∷◌, if◌then◌else◌, Option, Some, None}
+use Rattle.std.specs.Prelude.{ℕ, zero, suc, ◌+◌, ◌*◌, ◌==◌, ◌||◌, nat_lt, Bool, false, List, [], ◌∷◌, if◌then◌else◌, Option, Some, None}
 
 -- the number in there, if one is
 abbrev pub is_that : Option ℕ → ℕ → Bool

@@ -8,4 +8,5 @@ pub mod Reading
 pub mod Text
 pub mod Language
 pub mod Spelling
+pub mod Written
 pub mod Shown

@@ -9,7 +9,6 @@ use Rattle.hx_bytes.specs.declared.extents.ExtentRecord.{ExtentRecord}
 use Rattle.hx_bytes.specs.declared.extents.ForkRecord.{ForkRecord}
 use Rattle.volume_header.specs.declared.header.VolumeHeader.{VolumeHeader}
 use Rattle.volume_header.specs.Header.{header_bytes}
-use Rattle.jnl_format.specs.declared.structures.Header.{Header}
 use Rattle.jnl_format.specs.Header.{is_offset, wrapped}
 use Rattle.jnl_format.specs.Header as journal
 use Rattle.jnl_format.specs.Info.{with_info}

@@ -2,10 +2,11 @@
 ghost use Rattle.std.specs.Prelude.{◌≡◌, Ok};
 ghost use Rattle.hfs_model.specs.Language.{value_of};
 ghost use Rattle.hfs_model.specs.Spelling.{Spells, IsReadAsSpelled, IsReadAsPath, IsReadAsValue};
-ghost use Rattle.hfs_model.specs.Shown.{ShowsRefusal, ShowsContent, ShowsFacts, ShowsGauge};
+ghost use Rattle.hfs_model.specs.Written.{IsReadBack};
+ghost use Rattle.hfs_model.specs.Shown.{ShowsRefusal, ShowsContent, ShowsFacts, ShowsGauge, ShowsListing, ShowsReply, ShowReplies, IsOneLine};
 ghost use Rattle.hfs_model.specs.Text.{value_text};
 
-use crate::{Command, Facts, Gauge, Path, Refusal};
+use crate::{Command, Facts, Gauge, Listing, Path, Refusal, Reply};
 
 /// A line is read to a command exactly where it spells it.
 pub fn line_is_read_as_spelled(line: &[u8], command: &Command)
@@ -15,6 +16,11 @@ pub fn line_is_read_as_spelled(line: &[u8], command: &Command)
 /// One line doesn't spell two commands.
 pub fn line_spells_one_command(line: &[u8], one: &Command, other: &Command)
     ensures { Spells line.now one.now → Spells line.now other.now → one.now ≡ other.now }
+{}
+
+/// Each command has a line: what is written of a command is read to it.
+pub fn command_is_read_back(command: &Command)
+    ensures { IsReadBack command.now }
 {}
 
 /// A word is read to a path exactly where it spells it.
@@ -50,4 +56,27 @@ pub fn facts_are_shown(one: Facts, other: Facts)
 /// The text of a gauge shows its numbers.
 pub fn gauge_is_shown(one: Gauge, other: Gauge)
     ensures { ShowsGauge one other }
+{}
+
+/// The text of a listing shows its names, in their order, and which of them are folders.
+pub fn listing_is_shown(one: &Listing, other: &Listing)
+    ensures { ShowsListing one.now other.now }
+{}
+
+/// The text of a reply shows its kind and all that the text of this kind shows.
+///
+/// Blocks of 512 bytes or more are wanted, for a listing of 13 names that are numbers has the text of
+/// a gauge with blocks of 13 bytes.
+pub fn reply_is_shown(one: &Reply, other: &Reply)
+    ensures { ShowsReply one.now other.now }
+{}
+
+/// The texts of replies, one behind the other, show each of the replies.
+pub fn replies_are_shown(these: &[Reply], others: &[Reply])
+    ensures { ShowReplies these.now others.now }
+{}
+
+/// The text of a reply is one line: it has a newline at its end, and no other.
+pub fn reply_is_one_line(reply: &Reply)
+    ensures { IsOneLine reply.now }
 {}

@@ -21,9 +21,10 @@ mod text;
 
 pub use command::{Command, Path};
 pub use language_laws::{
-    content_is_shown, facts_are_shown, gauge_is_shown, line_is_read_as_spelled,
-    line_spells_one_command, path_is_read_as_spelled, refusal_is_shown, value_is_read_as_spelled,
-    value_is_read_back,
+    command_is_read_back, content_is_shown, facts_are_shown, gauge_is_shown,
+    line_is_read_as_spelled, line_spells_one_command, listing_is_shown, path_is_read_as_spelled,
+    refusal_is_shown, replies_are_shown, reply_is_one_line, reply_is_shown,
+    value_is_read_as_spelled, value_is_read_back,
 };
 pub use laws::{lines_end, one_list};
 pub use names::{are_thin_names, contains, is_thin_name, place_of, sorted};

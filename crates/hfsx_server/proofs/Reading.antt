@@ -1,11 +1,11 @@
 -- A line on its way out of a source.
-use Rattle.std.proofs.Common.{◌≡◌, ◌↔◌, Bool, true, false, ◌≤◌, ◌<◌, ◌+◌, ◌++◌, ◌∷◌, [], ℕ, List, IsTrue, length, refl, sym, ◌∙◌, ap, subst, arith, append_assoc, length-append}
+use Rattle.std.proofs.Common.{◌≡◌, ◌↔◌, inl, inr, Bool, true, false, ◌≤◌, ◌<◌, ◌+◌, ◌++◌, ◌∷◌, [], ℕ, List, IsTrue, length, refl, sym, ◌∙◌, ap, subst, arith, append_assoc, length-append}
 use Rattle.std.proofs.lemmas.List.{append-nil}
 use Rattle.sector_disk.specs.Source.{Stream}
 use Rattle.hfs_model.specs.Lines.{lines, HasNoNewline}
 use Rattle.hfs_model.proofs.Lines.{lines-nil, lines_ended, lines_last, HasNoNewline-nil, HasNoNewline-push}
 use Rattle.hfsx_server.specs.declared.input.Line.{Line}
-use Rattle.hfsx_server.specs.Input.{ahead, weight, IsLine, SameSource}
+use Rattle.hfsx_server.specs.Input.{ahead, weight, IsLine, SameSource, TakesLines}
 
 -- some bytes of a line have come so far
 pub record Reads (limit : ℕ) (taken : List ℕ) (old : Stream) (taken_now : List ℕ) (now : Stream) (line : Line) : Type 0 where
@@ -35,21 +35,44 @@ module _ (limit : ℕ) (taken : List ℕ) (old : Stream) (taken_now : List ℕ) 
   }
 
   -- a newline ends the line
-  pub reads_ended : (taken_new : List ℕ) (new : Stream) → (IsTrue now.tells → ahead taken_now now ≡ 10 ∷ ahead taken_new new) → IsTrue old.tells → lines (ahead taken old) ≡ reads.text ∷ lines (ahead taken_new new)
-  reads_ended taken_new new came tells = ap lines (reads.bytes tells ∙ ap (λ (l : List ℕ). reads.text ++ l) (came (still tells))) ∙ lines_ended reads.text (ahead taken_new new) reads.no_newline
+  pub reads_ended : (taken_new : List ℕ) (new : Stream) → (IsTrue now.tells → ahead taken_now now ≡ 10 ∷ ahead taken_new new) → IsTrue old.tells → TakesLines taken old (reads.text ∷ []) taken_new new
+  reads_ended taken_new new came tells = record {
+    used = reads.text ++ 10 ∷ [];
+    bytes = reads.bytes tells ∙ ap (λ (l : List ℕ). reads.text ++ l) (came (still tells)) ∙ sym (append_assoc reads.text (10 ∷ []) (ahead taken_new new));
+    cut = inl (λ more. ap lines (append_assoc reads.text (10 ∷ []) more) ∙ lines_ended reads.text more reads.no_newline);
+  }
 
   -- so does the end of the source, where something of a line has come
-  pub reads_last : (taken_new : List ℕ) (new : Stream) → (reads.text ≡ [] → ⊥) → (IsTrue now.tells → ahead taken_now now ≡ []) → (IsTrue now.tells → ahead taken_new new ≡ []) → IsTrue old.tells → lines (ahead taken old) ≡ reads.text ∷ lines (ahead taken_new new)
-  reads_last taken_new new some none at_end tells =
-      ap lines (reads.bytes tells ∙ ap (λ (l : List ℕ). reads.text ++ l) (none (still tells)) ∙ append-nil reads.text) ∙ last_line reads.text reads.no_newline some ∙ ap (λ (l : List ℕ). reads.text ∷ lines l) (sym (at_end (still tells)))
+  pub reads_last : (taken_new : List ℕ) (new : Stream) → (reads.text ≡ [] → ⊥) → (IsTrue now.tells → ahead taken_now now ≡ []) → (IsTrue now.tells → ahead taken_new new ≡ []) → IsTrue old.tells → TakesLines taken old (reads.text ∷ []) taken_new new
+  reads_last taken_new new some none at_end tells = record {
+    used = reads.text;
+    bytes = reads.bytes tells ∙ ap (λ (l : List ℕ). reads.text ++ l) (none (still tells) ∙ sym (at_end (still tells)));
+    cut = inr (at_end (still tells), last_line reads.text reads.no_newline some);
+  }
     where
-      last_line : (text : List ℕ) → HasNoNewline text → (text ≡ [] → ⊥) → lines text ≡ text ∷ lines []
+      last_line : (text : List ℕ) → HasNoNewline text → (text ≡ [] → ⊥) → lines text ≡ text ∷ []
       last_line [] no_newline some = absurd (some refl)
-      last_line (byte ∷ text) no_newline some = lines_last byte text no_newline ∙ ap (λ (l : List (List ℕ)). (byte ∷ text) ∷ l) (sym lines-nil)
+      last_line (byte ∷ text) no_newline some = lines_last byte text no_newline
 
   -- nothing came before the end
-  pub reads_none : reads.text ≡ [] → (IsTrue now.tells → ahead taken_now now ≡ []) → IsTrue old.tells → lines (ahead taken old) ≡ []
-  reads_none none at_end tells = ap lines (reads.bytes tells ∙ ap (λ (l : List ℕ). l ++ ahead taken_now now) none ∙ at_end (still tells)) ∙ lines-nil
+  pub reads_none : reads.text ≡ [] → (IsTrue now.tells → ahead taken_now now ≡ []) → IsTrue old.tells → ahead taken old ≡ []
+  reads_none none at_end tells = reads.bytes tells ∙ ap (λ (l : List ℕ). l ++ ahead taken_now now) none ∙ at_end (still tells)
+
+  -- what is gone stood first
+  pub reads_gone : (left : List ℕ) → left ≡ now.left → IsTrue old.tells → (gone : List ℕ) × (ahead taken old ≡ gone ++ left)
+  reads_gone left is tells = (reads.text ++ taken_now, reads.bytes tells ∙ sym (append_assoc reads.text taken_now now.left) ∙ ap (λ (l : List ℕ). (reads.text ++ taken_now) ++ l) (sym is))
+
+  pub reads_gone_byte : (taken_new : List ℕ) (new : Stream) (byte : ℕ) → (IsTrue now.tells → ahead taken_now now ≡ byte ∷ ahead taken_new new) → IsTrue old.tells → (gone : List ℕ) × (ahead taken old ≡ gone ++ new.left)
+  reads_gone_byte taken_new new byte came tells = (
+    reads.text ++ (byte ∷ taken_new),
+    reads.bytes tells ∙ ap (λ (l : List ℕ). reads.text ++ l) (came (still tells)) ∙ sym (append_assoc reads.text (byte ∷ taken_new) new.left),
+  )
+
+  pub reads_gone_end : (taken_new : List ℕ) (new : Stream) → (IsTrue now.tells → ahead taken_now now ≡ []) → (IsTrue now.tells → ahead taken_new new ≡ []) → IsTrue old.tells → (gone : List ℕ) × (ahead taken old ≡ gone ++ new.left)
+  reads_gone_end taken_new new none at_end tells = (
+    reads.text ++ taken_new,
+    reads.bytes tells ∙ ap (λ (l : List ℕ). reads.text ++ l) (none (still tells) ∙ sym (at_end (still tells))) ∙ sym (append_assoc reads.text taken_new new.left),
+  )
 
 pub reads_nothing : (limit : ℕ) (taken : List ℕ) (old : Stream) (line : Line) → IsLine limit [] line → Reads limit taken old taken old line
 reads_nothing limit taken old line is = record {

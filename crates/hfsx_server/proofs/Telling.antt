@@ -1,13 +1,16 @@
 -- Lines that are told piece by piece.
-use Rattle.std.proofs.Common.{◌≡◌, ◌≤◌, ◌<◌, ◌+◌, ◌++◌, ℕ, List, Result, Ok, Err, IsTrue, inl, inr, ⊎_elim, subst, length, take, refl, sym, ◌∙◌, ap, arith, append_assoc, length-append}
+use Rattle.std.proofs.Common.{◌≡◌, ◌≤◌, ◌<◌, ◌+◌, ◌++◌, ◌∷◌, [], ℕ, zero, suc, List, Result, Ok, Err, IsTrue, inl, inr, ⊎_elim, subst, length, take, drop, get_or, refl, sym, ◌∙◌, ap, arith, append_assoc, length-append, take-append-drop}
 use Rattle.std.specs.Prelude.{OnOk, OnErr}
-use Rattle.std.proofs.lemmas.List.{take-append-le}
+use Rattle.std.proofs.lemmas.List.{append-nil, take-append-le}
+use Rattle.std.proofs.lemmas.Grind.{flat_map-append}
+use Rattle.hfs_model.specs.Text.{field, fields}
 use Rattle.std.proofs.Math.Seq.{take-append-add}
 use Rattle.sector_disk.specs.Cause.{Rose, HasCause}
 use Rattle.sector_disk.specs.Disk.{State, SameDisk, ToldFront}
 use Rattle.std.proofs.lemmas.Bool.Decides.{nat_tests}
+use Rattle.sector_disk.proofs.Writing.{same_after}
 use Rattle.hfsx_server.specs.declared.refusal.Refusal.TheVariants.{TooSmall, TooLarge}
-use Rattle.hfsx_server.specs.Telling.{Tells, ToldUnlessFailed, size_refusal}
+use Rattle.hfsx_server.specs.Telling.{Tells, Telling, ToldUnlessFailed, size_refusal}
 
 -- a front of the first piece is one of the whole
 pub front_first : (old new first rest : List ℕ) → ToldFront old first new → ToldFront old (first ++ rest) new
@@ -49,3 +52,130 @@ pub told_from : (old mid new : State) (text : List ℕ) → mid.told ≡ old.tol
 told_from old mid new text told faults so =
     ⊎_elim (λ whole. inl (whole ∙ ap (λ (l : List ℕ). l ++ text) told))
     (λ front. inr (subst (λ (n : ℕ). Rose n new.sink_faults) faults front.0, subst (λ (l : List ℕ). ToldFront l text new.told) told front.1)) so
+
+on_ok_told : {T E : Type 0} {P Q : Type 0} (r : Result T E) → (P → Q) → OnOk r P → OnOk r Q
+on_ok_told (Ok x) goes is = goes is
+on_ok_told (Err e) goes is = tt
+
+pub on_err_rose : {T E : Type 0} (r : Result T E) (old mid new : ℕ) → old ≤ mid → OnErr r (Rose mid new) → OnErr r (Rose old new)
+on_err_rose (Ok x) old mid new later rose = tt
+on_err_rose (Err e) old mid new later rose = omega (arith, later, rose)
+
+-- one text behind another
+pub telling_both : {T U E : Type 0} (old mid new : State) (first rest : List ℕ) (r : Result T E) (q : Result U E) (x : T) → r ≡ Ok x → Telling old mid first r → Telling mid new rest q → Telling old new (first ++ rest) q
+telling_both old mid new first rest r q x is a b = record {
+  told = λ tells.
+      let so_far : mid.told ≡ old.told ++ first = subst (λ (r : Result _ _). OnOk r (mid.told ≡ old.told ++ first)) is (a.told tells) in
+      on_ok_told q (λ told. told ∙ ap (λ (l : List ℕ). l ++ rest) so_far ∙ append_assoc old.told first rest) (b.told (subst IsTrue (sym a.same.tells) tells));
+  unsure = λ tells.
+      let so_far : mid.told ≡ old.told ++ first = subst (λ (r : Result _ _). OnOk r (mid.told ≡ old.told ++ first)) is (a.told tells) in
+      front_rest old.told mid.told new.told first rest so_far (b.unsure (subst IsTrue (sym a.same.tells) tells));
+  candidates = b.candidates ∙ a.candidates;
+  barriers = b.barriers ∙ a.barriers;
+  faults = b.faults ∙ a.faults;
+  same = same_after old mid new a.same b.same;
+  cause = record { later = omega (arith, a.cause.later, b.cause.later); failed = on_err_rose q old.sink_faults mid.sink_faults new.sink_faults a.cause.later b.cause.failed };
+}
+
+-- the first text failed
+pub telling_failed : {T U E : Type 0} (old new : State) (first rest : List ℕ) (r : Result T E) (q : Result U E) (e : E) (f : E) → r ≡ Err e → q ≡ Err f → Telling old new first r → Telling old new (first ++ rest) q
+telling_failed old new first rest r q e f is failed a = record {
+  told = λ tells. subst (λ (q : Result _ _). OnOk q (new.told ≡ old.told ++ (first ++ rest))) (sym failed) tt;
+  unsure = λ tells. front_first old.told new.told first rest (a.unsure tells);
+  candidates = a.candidates;
+  barriers = a.barriers;
+  faults = a.faults;
+  same = a.same;
+  cause = record { later = a.cause.later; failed = subst (λ (q : Result _ _). OnErr q (Rose old.sink_faults new.sink_faults)) (sym failed) (subst (λ (r : Result _ _). OnErr r (Rose old.sink_faults new.sink_faults)) is a.cause.failed) };
+}
+
+-- what a telling says, whether the sink failed or not
+pub tells_all : {T E : Type 0} (r : Result T E) (old new : State) (text : List ℕ) → Telling old new text r → Tells old new text
+tells_all r old new text t = tells_of r old new text t.told t.unsure t.candidates t.barriers t.faults t.same t.cause
+
+-- all of the text was told
+abbrev pub ToldAll : State → State → List ℕ → Type 0
+ToldAll old new text = Telling {T = ℕ} {E = ℕ} old new text (Ok 0)
+
+pub told_nothing : (old : State) → ToldAll old old []
+told_nothing old = record {
+  told = λ tells. sym (append-nil old.told);
+  unsure = λ tells. (0, omega arith, sym (append-nil old.told));
+  candidates = refl;
+  barriers = refl;
+  faults = refl;
+  same = record { tells = refl; tells_left = refl; names = refl; sectors = refl };
+  cause = record { later = omega arith; failed = tt };
+}
+
+fields_more : (list : List ℕ) (k : ℕ) → k < length list → fields (take (suc k) list) ≡ fields (take k list) ++ field (get_or list k 0)
+fields_more [] k inside = absurd (omega (arith, inside))
+fields_more (n ∷ []) zero inside = append-nil (field n)
+fields_more (n ∷ m ∷ list) zero inside = append-nil (field n)
+fields_more (n ∷ list) (suc k) inside = ap (λ (l : List ℕ). field n ++ l) (fields_more list k (omega (arith, inside))) ∙ sym (append_assoc (field n) (fields (take k list)) (field (get_or list k 0)))
+
+fields_next : (list : List ℕ) (k : ℕ) → k < length list → fields (take (k + 1) list) ≡ fields (take k list) ++ field (get_or list k 0)
+fields_next list k inside =
+    let same : suc k ≡ k + 1 = omega arith in
+    subst (λ (n : ℕ). fields (take n list) ≡ fields (take k list) ++ field (get_or list k 0)) same (fields_more list k inside)
+
+fields_split : (list : List ℕ) (k : ℕ) → k < length list → (fields (take k list) ++ field (get_or list k 0)) ++ fields (drop (k + 1) list) ≡ fields list
+fields_split list k inside =
+    ap (λ (l : List ℕ). l ++ fields (drop (k + 1) list)) (sym (fields_next list k inside)) ∙ sym (flat_map-append field (take (k + 1) list) (drop (k + 1) list))
+    ∙ ap (λ (l : List ℕ). fields l) (take-append-drop (k + 1) list)
+
+-- one number more
+pub told_next : {T E : Type 0} (old mid new : State) (list : List ℕ) (k : ℕ) (x : T) → k < length list → ToldAll old mid (fields (take k list)) → Telling {E = E} mid new (field (get_or list k 0)) (Ok x) → ToldAll old new (fields (take (k + 1) list))
+told_next old mid new list k x inside so_far told =
+    let both = telling_both {E = ℕ} old mid new (fields (take k list)) (field (get_or list k 0)) (Ok 0) (Ok x) 0 refl so_far (record {
+      told = told.told;
+      unsure = told.unsure;
+      candidates = told.candidates;
+      barriers = told.barriers;
+      faults = told.faults;
+      same = told.same;
+      cause = record { later = told.cause.later; failed = tt };
+    }) in
+    subst (λ (l : List ℕ). ToldAll old new l) (sym (fields_next list k inside)) (record {
+      told = both.told;
+      unsure = both.unsure;
+      candidates = both.candidates;
+      barriers = both.barriers;
+      faults = both.faults;
+      same = both.same;
+      cause = record { later = both.cause.later; failed = tt };
+    })
+
+-- the last number that was begun failed
+pub told_failed : {T U E : Type 0} (old mid new : State) (list : List ℕ) (k : ℕ) (e f : E) (q : Result U E) → k < length list → q ≡ Err f → ToldAll old mid (fields (take k list)) → Telling {T = T} mid new (field (get_or list k 0)) (Err e) → Telling old new (fields list) q
+told_failed {T} {U} {E} old mid new list k e f q inside failed so_far told =
+    let first = fields (take k list) ++ field (get_or list k 0) in
+    let so : Telling {T = ℕ} {E = E} old mid (fields (take k list)) (Ok 0) = record {
+      told = so_far.told;
+      unsure = so_far.unsure;
+      candidates = so_far.candidates;
+      barriers = so_far.barriers;
+      faults = so_far.faults;
+      same = so_far.same;
+      cause = record { later = so_far.cause.later; failed = tt };
+    } in
+    let both : Telling {T = T} {E = E} old new first (Err e) = telling_both old mid new (fields (take k list)) (field (get_or list k 0)) (Ok 0) (Err e) 0 refl so told in
+    subst (λ (l : List ℕ). Telling old new l q) (fields_split list k inside) (telling_failed old new first (fields (drop (k + 1) list)) (Err e) q e f refl failed both)
+
+-- all numbers were told
+pub told_whole : {T E : Type 0} (old new : State) (list : List ℕ) (k : ℕ) (x : T) → take k list ≡ list → ToldAll old new (fields (take k list)) → Telling {E = E} old new (fields list) (Ok x)
+told_whole old new list k x all so_far =
+    let whole = subst (λ (l : List ℕ). ToldAll old new (fields l)) all so_far in
+    record {
+      told = whole.told;
+      unsure = whole.unsure;
+      candidates = whole.candidates;
+      barriers = whole.barriers;
+      faults = whole.faults;
+      same = whole.same;
+      cause = record { later = whole.cause.later; failed = tt };
+    }
+
+pub take_nothing : (list : List ℕ) → take 0 list ≡ []
+take_nothing [] = refl
+take_nothing (n ∷ list) = refl

@@ -5,10 +5,18 @@ use Rattle.std.proofs.lemmas.List.{ext_get_or, length-map}
 use Rattle.sector_disk.specs.Lists.{Content, sector, put_sectors, last}
 use Rattle.sector_disk.specs.Disk.{State, IsDisk, Candidates, SameDisk, SameSink, IsSettled, content, content_of, only}
 use Rattle.sector_disk.proofs.Candidates.{content_of-only}
+use Rattle.std.proofs.Common.{Bool, true, false, cond}
+use Rattle.std.specs.Prelude.{◌==◌}
+use Rattle.std.specs.List.{range_with_len}
+use Rattle.std.proofs.lemmas.List.FromFn.{length-range_with_len}
+use Rattle.jnl_replay.specs.Peeking.{peeked, seen, place_in}
+use Rattle.jnl_replay.specs.Text.{words}
+use Rattle.jnl_replay.specs.Viewing.{shown}
+use Rattle.jnl_replay.specs.declared.index.Peek.{Peek}
 use Rattle.hfs_model.specs.declared.parts.Parts.{Parts}
 use Rattle.hfs_model.specs.Parts.{OnlyFolders, parts_of}
 use Rattle.hfs_model.specs.Thin.{AreThin, IsThin}
-use Rattle.hfsx_server.specs.Volume.{Holds}
+use Rattle.hfsx_server.specs.Volume.{HoldsAll}
 use Rattle.hfsx_server.proofs.Pieces.{sector-range, length-range}
 use Rattle.hfsx_server.proofs.FoldersPlaced.{folders_put, folders_size}
 use Rattle.hfsx_server.proofs.PartsPlaced.{others_put, others_size}
@@ -35,7 +43,7 @@ settled_of disk c is = is ∙ ap only (sym (content_is disk c is))
 pub settled_kept : (old new : State) → new.candidates ≡ old.candidates → IsSettled old → IsSettled new
 settled_kept old new same settled = same ∙ settled ∙ ap (λ (d : Candidates). only (content_of d)) (sym same)
 
-holds_after : (disk : State) (c : Content) (parts : Parts) → disk.candidates ≡ only c → length c ≡ 16384 → parts_of c ≡ parts → Holds disk parts
+holds_after : (disk : State) (c : Content) (parts : Parts) → disk.candidates ≡ only c → length c ≡ 16384 → parts_of c ≡ parts → HoldsAll disk parts
 holds_after disk c parts is size there =
     let now = content_is disk c is in
     record { size = ap length now ∙ size; parts_are = ap parts_of now ∙ there }
@@ -47,7 +55,7 @@ put_on disk new c first list is put = put ∙ ap (λ (d : Content). only (put_se
 module _ (s0 : State) (parts : Parts) (size : length (content s0) ≡ 16384) where
   module _ (b_catalog : length parts.catalog ≡ 8) (b_leaf : length parts.leaf ≡ 8) (s1 s2 s3 : State) (w1 : s1.candidates ≡ only (put_sectors (content s0) 2328 parts.catalog))
       (w2 : s2.candidates ≡ only (put_sectors (content s1) 2336 parts.leaf)) (w3 : s3.candidates ≡ only (put_sectors (content s2) 2 (parts.header ∷ []))) where
-    pub folders_hold : OnlyFolders (parts_of (content s0)) parts → Holds s3 parts
+    pub folders_hold : OnlyFolders (parts_of (content s0)) parts → HoldsAll s3 parts
     folders_hold others =
         let p2 = put_on s1 s2 _ 2336 parts.leaf (content_is s1 _ w1) w2 in
         let p3 = put_on s2 s3 _ 2 (parts.header ∷ []) (content_is s2 _ p2) w3 in
@@ -67,12 +75,17 @@ module _ (s0 : State) (parts : Parts) (size : length (content s0) ≡ 16384) whe
         subst (λ (d : Content). OnlyFolders (parts_of d) parts) (sym (content_is s6 _ p6)) (others_put (content s0) parts size b_bitmap b_extents b_attributes)
 
 -- a disk that holds the parts of a thin volume holds that volume
-pub thin_of_holds : (disk : State) (parts : Parts) (names : List (List ℕ)) → Holds disk parts → AreThin parts names → IsThin (content disk) names
+pub thin_of_holds : (disk : State) (parts : Parts) (names : List (List ℕ)) → HoldsAll disk parts → AreThin parts names → IsThin (content disk) names
 thin_of_holds disk parts names holds thin = record { size = holds.size; parts = subst (λ p. AreThin p names) (sym holds.parts_are) thin }
 
--- the parts that were read stand on the disk
-pub mounted_holds : (old new : State) (parts : Parts) → IsDisk old → IsTrue old.tells → old.sectors ≡ 16384 → new.candidates ≡ old.candidates → parts_of (content old) ≡ parts → Holds new parts
-mounted_holds old new parts good tells sectors same is = record {
-  size = ap (λ (d : Candidates). length (content_of d)) same ∙ size_of old good tells ∙ sectors;
-  parts_are = ap (λ (d : Candidates). parts_of (content_of d)) same ∙ is;
-}
+-- a peek shows as many sectors as the disk has
+pub length-shown : (peek : Peek) (sectors : ℕ) (c : Content) → length (shown peek sectors c) ≡ length c
+length-shown peek sectors c = shown_length (sectors == peek.sectors) peek c
+  where
+    shown_length : (same : Bool) (peek : Peek) (c : Content) → length (cond same (peeked peek c) c) ≡ length c
+    shown_length true peek c = length-map (range_with_len 0 (length c)) (λ at. seen (words peek.text c) c at (place_in peek at)) ∙ length-range_with_len 0 (length c)
+    shown_length false peek c = refl
+
+-- a peek shows the same where the disk was only read
+pub shown_same : (peek : Peek) (old new : State) → new.candidates ≡ old.candidates → new.sectors ≡ old.sectors → shown peek new.sectors (content new) ≡ shown peek old.sectors (content old)
+shown_same peek old new same sectors = ap (λ (d : Candidates). shown peek new.sectors (content_of d)) same ∙ ap (λ n. shown peek n (content old)) sectors

@@ -1,9 +1,11 @@
 pub mod Cause
 pub mod Faults
+pub mod Finding
 pub mod Input
 pub mod Serving
 pub mod Session
 pub mod Status
 pub mod Telling
 pub mod Volume
+pub mod Headline
 pub mod Words

@@ -1,45 +1,113 @@
--- What a server has done: the lines that it has read, and the replies that it has told.
-use Rattle.std.specs.Prelude.{◌≡◌, ◌++◌, [], ℕ, List, IsTrue}
-use Rattle.sector_disk.specs.Disk.{State, content}
+-- A server on its rig, and how its run goes on from call to call.
+use Rattle.std.specs.Prelude.{◌≡◌, ◌⊎◌, ◌≤◌, ℕ, List, [], ◌++◌, length, false, IsTrue}
+use Rattle.sector_disk.specs.Clock.{Passes}
+use Rattle.sector_disk.specs.Disk.{State, IsImage, content}
+use Rattle.sector_disk.specs.Lists.{Content, sector}
 use Rattle.sector_disk.specs.Source.{Stream}
+use Rattle.hx_bytes.specs.declared.fields.Order.TheVariants.{Little}
+use Rattle.jnl_replay.specs.Plan.{FitsPlan}
+use Rattle.jnl_replay.specs.declared.plan.Plan.{Plan}
+use Rattle.jnl_store.specs.Store.{KeepsOn, content_over, spare_of}
+use Rattle.jnl_store.specs.declared.store.Store.{Store}
+use Rattle.hfs_model.specs.Language.{command_of}
 use Rattle.hfs_model.specs.Lines.{lines}
-use Rattle.hfs_model.specs.Thin.{IsThin}
+use Rattle.hfs_model.specs.Thin.{AreThin, IsJournal}
+use Rattle.hfs_model.specs.declared.parts.Parts.{Parts}
+use Rattle.hfsx_server.specs.Finding.{IsLargePlan}
+use Rattle.hfsx_server.specs.Headline.{Entry, IsFront, IsRun, Survives, lines_of, replies_of, tree_after}
 use Rattle.hfsx_server.specs.Input.{ahead}
-use Rattle.hfsx_server.specs.Session.{answers, after_all}
+use Rattle.hfsx_server.specs.Session.{step}
+use Rattle.hfsx_server.specs.Volume.{Tree, Holds, MountsTo, least_capacity}
+use Rattle.hfsx_server.specs.declared.server.Server.{Server}
 
--- the content isn't that of a volume with some folders in its root and nothing else
-abbrev pub IsThinForNone : List (List ℕ) → Type 0
-IsThinForNone content = (names : List (List ℕ)) → ¬ IsThin content names
+-- ---- a server on its rig
 
--- the one list begins with the other
-abbrev pub IsFront : {A : Type 0} → List A → List A → Type 0
-IsFront {A} front whole = (rest : List A) × (whole ≡ front ++ rest)
+-- the journal of a thin volume: its place, its size and its form
+pub record IsThinPlan (plan : Plan) : Type 0 where
+  pub info_sector : plan.place.info_sector ≡ 16
+  pub offset : plan.info.offset ≡ 12288
+  pub size : plan.info.size ≡ 1048576
+  pub order : plan.header.order ≡ Little
+  pub blhdr : plan.header.blhdr ≡ 4096
 
--- These lines were read and answered: their replies were told, and their folders were made.
-pub record Answers (old : State) (names : List (List ℕ)) (taken : List ℕ) (source : Stream) (run : List (List ℕ)) (new : State) (names_new : List (List ℕ)) (taken_new : List ℕ) (source_new : Stream) : Type 0 where
-  pub read : IsTrue source.tells → lines (ahead taken source) ≡ run ++ lines (ahead taken_new source_new)
-  pub told : IsTrue old.tells → new.told ≡ old.told ++ answers names run
-  pub folders : names_new ≡ after_all names run
+-- The store keeps what it has to keep, and the disk holds these parts, whatever the journal's header says.
+pub record Stands (store : Store) (parts : Parts) (rig : State) : Type 0 where
+  pub keeps : KeepsOn store rig
+  pub plan : IsThinPlan store.plan
+  pub holds : Holds (content rig) parts
+  pub journal : IsJournal (sector (content rig) 24)
 
--- these lines were read, and a front of their replies was told
-pub record AnswersFront (old : State) (names : List (List ℕ)) (taken : List ℕ) (source : Stream) (run : List (List ℕ)) (new : State) : Type 0 where
-  pub read : IsTrue source.tells → IsFront run (lines (ahead taken source))
-  pub told : IsTrue old.tells → (w : List ℕ) × IsFront w (answers names run) × (new.told ≡ old.told ++ w)
+-- Nothing is put or spilled, no call has failed, and a transaction holds enough sectors.
+pub record IsIdle (store : Store) (parts : Parts) (rig : State) : Type 0 where
+  pub size : rig.sectors ≡ 16384
+  pub fits : FitsPlan rig.sectors store.plan
+  pub large : IsLargePlan store.plan
+  pub no_fault : store.faults ≡ 0
+  pub nothing : store.batch.all ≡ []
+  pub settled : store.unsettled ≡ false
+  pub stands : IsTrue rig.tells → Stands store parts rig
 
--- all of these lines were answered: their replies were told, and the volume has the folders that they made
-pub record IsServed (old : State) (names lines : List (List ℕ)) (new : State) : Type 0 where
-  pub told : new.told ≡ old.told ++ answers names lines
-  pub thin : IsThin (content new) (after_all names lines)
+-- the store keeps what it has to keep, the disk holds the old parts, and what was put makes the new ones of them
+pub record Changes (store : Store) (old new : Parts) (rig : State) : Type 0 where
+  pub stands : Stands store old rig
+  pub target : Holds (content_over store (content rig)) new
+  pub own : sector (content_over store (content rig)) 24 ≡ sector (content rig) 24
 
--- all lines of a source were answered
-pub record ServesAll (old : State) (names : List (List ℕ)) (source : Stream) (new : State) (source_new : Stream) : Type 0 where
-  pub run : List (List ℕ)
-  pub served : IsServed old names run new
-  pub all : IsTrue source.tells → run ≡ lines source.left
-  pub end : IsTrue source.tells → source_new.left ≡ []
+-- Parts were put, which are to become durable. No call has failed, and a transaction holds them.
+pub record IsReady (store : Store) (old new : Parts) (rig : State) : Type 0 where
+  pub size : rig.sectors ≡ 16384
+  pub fits : FitsPlan rig.sectors store.plan
+  pub large : IsLargePlan store.plan
+  pub few : length store.batch.all ≤ least_capacity
+  pub no_fault : store.faults ≡ 0
+  pub settled : store.unsettled ≡ false
+  pub thin : (tree : Tree) × AreThin old tree
+  pub thin_new : (tree : Tree) × AreThin new tree
+  pub changes : IsTrue rig.tells → Changes store old new rig
 
--- What was told is a front of the replies to the first lines of a source.
-pub record ServesSome (old : State) (names : List (List ℕ)) (source : Stream) (new : State) : Type 0 where
-  pub run : List (List ℕ)
-  pub first : IsTrue source.tells → IsFront run (lines source.left)
-  pub told : (w : List ℕ) × IsFront w (answers names run) × (new.told ≡ old.told ++ w)
+-- a crash at this moment leaves what mounts to this tree
+abbrev pub Rests : State → Tree → Type 0
+Rests disk tree = (image : Content) → IsImage disk.candidates image → MountsTo image tree
+
+-- The server may serve its volume on this rig. There is room for the one sector that its end needs.
+pub record IsServing (server : Server) (rig : State) : Type 0 where
+  pub thin : AreThin server.parts server.names
+  pub idle : IsIdle server.store server.parts rig
+  pub spare : 1 ≤ spare_of server.store
+  pub rests : IsTrue rig.tells → Rests rig server.names
+
+-- the server has read one more line, and else it is as before
+pub record SameButLines (old new : Server) : Type 0 where
+  pub store : new.store ≡ old.store
+  pub parts : new.parts ≡ old.parts
+  pub names : new.names ≡ old.names
+  pub input : new.input ≡ old.input
+
+-- ---- its run
+
+-- the entry of a line that is served on this tree
+abbrev pub entry_of : Tree → List ℕ → Entry
+entry_of tree line = record { line = line; reply = (step tree (command_of line)).0; before = tree; after = (step tree (command_of line)).1 }
+
+-- what a crash leaves, over all that was told, of which this was told before
+abbrev pub SurvivesFrom : Tree → List ℕ → List Entry → Content → List ℕ → Type 0
+SurvivesFrom start before run image told = (w : List ℕ) × (told ≡ before ++ w) × Survives start run image w
+
+-- at every moment of the run and at its end, whatever ends it
+pub record Crashes (start : Tree) (old : State) (run : List Entry) (new : State) : Type 0 where
+  pub run_is : IsRun start run
+  pub time : Passes old.clock new.clock (SurvivesFrom start old.told run)
+  pub told : (w : List ℕ) × IsFront w (replies_of run) × (new.told ≡ old.told ++ w)
+
+-- the run was served to its end: all of its replies were told, and a crash leaves the tree after it
+pub record Serves (start : Tree) (old : State) (run : List Entry) (new : State) : Type 0 where
+  pub run_is : IsRun start run
+  pub time : Passes old.clock new.clock (SurvivesFrom start old.told run)
+  pub told : new.told ≡ old.told ++ replies_of run
+  pub rests : Rests new (tree_after start run)
+
+-- what was taken begins with the lines of the run, of which the last may be answered in part
+pub record Stops (taken : List ℕ) (source : Stream) (run : List Entry) (source_new : Stream) : Type 0 where
+  pub used : List ℕ
+  pub bytes : ahead taken source ≡ used ++ source_new.left
+  pub first : IsFront (lines_of run) (lines used)

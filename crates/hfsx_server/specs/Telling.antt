@@ -1,19 +1,56 @@
 -- Lines that are told before the program ends.
-use Rattle.std.specs.Prelude.{◌≡◌, ◌⊎◌, ◌≤◌, ◌++◌, ℕ, List, IsTrue, codes, decimal, nat_lt, if◌then◌else◌}
-use Rattle.sector_disk.specs.Cause.{Rose}
-use Rattle.sector_disk.specs.Disk.{State, SameDisk, ToldFront}
+use Rattle.std.specs.Prelude.{◌≡◌, ◌⊎◌, ◌≤◌, ◌++◌, ℕ, List, [], ◌∷◌, IsTrue, Result, OnOk, codes, decimal, nat_lt, if◌then◌else◌}
+use Rattle.sector_disk.specs.Cause.{Rose, HasCause}
+use Rattle.sector_disk.specs.Disk.{State, SameDisk, ToldFront, content}
 use Rattle.hfsx_server.specs.declared.refusal.Refusal.{Refusal}
-use Rattle.hfsx_server.specs.declared.refusal.Refusal.TheVariants.{TooSmall, TooLarge, NotYet}
+use Rattle.hfsx_server.specs.declared.refusal.Refusal.TheVariants.{TooSmall, TooLarge}
+use Rattle.volume_header.specs.declared.refusal.HeaderRefusal.{HeaderRefusal}
+use Rattle.volume_header.specs.declared.refusal.HeaderRefusal.TheVariants as header
+use Rattle.jnl_format.specs.declared.structures.JnlRefusal.{JnlRefusal}
+use Rattle.jnl_format.specs.declared.structures.JnlRefusal.TheVariants as jnl
+use Rattle.hfs_model.specs.Text.{fields}
+use Rattle.hfsx_server.specs.Volume.{Refuses}
+use Rattle.hfsx_server.specs.declared.faults.MountFault.{MountFault}
+use Rattle.hfsx_server.specs.declared.faults.MountFault.TheVariants as fault
 
 -- how the program is called
 abbrev pub usage_text : List ℕ
 usage_text = codes "usage: hfsx format IMAGE SECTORS | run IMAGE | check IMAGE | gen SEED COUNT\n"
 
--- the line of a refusal: its name and its number
+-- the line of a refusal: its name and its numbers
+abbrev pub refused_text : List ℕ → List ℕ → List ℕ
+refused_text name numbers = codes "refused " ++ name ++ fields numbers ++ codes "\n"
+
+-- a size that isn't formatted
 abbrev pub refusal_text : Refusal → List ℕ
-refusal_text (TooSmall sectors) = codes "refused TooSmall " ++ decimal sectors ++ codes "\n"
-refusal_text (TooLarge sectors) = codes "refused TooLarge " ++ decimal sectors ++ codes "\n"
-refusal_text (NotYet part) = codes "refused NotYet " ++ decimal part ++ codes "\n"
+refusal_text (TooSmall sectors) = refused_text (codes "TooSmall") (sectors ∷ [])
+refusal_text (TooLarge sectors) = refused_text (codes "TooLarge") (sectors ∷ [])
+
+-- a volume header that isn't accepted
+abbrev pub header_text : HeaderRefusal → List ℕ
+header_text (header.LimitSectors sectors) = refused_text (codes "LimitSectors") (sectors ∷ [])
+header_text (header.NotHfsx signature version) = refused_text (codes "NotHfsx") (signature ∷ version ∷ [])
+header_text (header.BadGeometry offset) = refused_text (codes "BadGeometry") (offset ∷ [])
+header_text header.NotJournaled = refused_text (codes "NotJournaled") []
+header_text header.IdsReused = refused_text (codes "IdsReused") []
+
+-- a journal that can't be replayed
+abbrev pub journal_text : JnlRefusal → List ℕ
+journal_text (jnl.BadInfo offset) = refused_text (codes "BadInfo") (offset ∷ [])
+journal_text jnl.OtherDevice = refused_text (codes "OtherDevice") []
+journal_text (jnl.BadHeader offset) = refused_text (codes "BadHeader") (offset ∷ [])
+journal_text (jnl.BadList offset) = refused_text (codes "BadList") (offset ∷ [])
+journal_text (jnl.ForeignJournal version) = refused_text (codes "ForeignJournal") (version ∷ [])
+
+-- an image that isn't served
+abbrev pub fault_text : MountFault → List ℕ
+fault_text (fault.Header why) = header_text why
+fault_text fault.SoftwareLocked = refused_text (codes "SoftwareLocked") []
+fault_text (fault.Journal why) = journal_text why
+fault_text (fault.JournalTooSmall need has) = refused_text (codes "JournalTooSmall") (need ∷ has ∷ [])
+fault_text (fault.NotYet part) = refused_text (codes "NotYet") (part ∷ [])
+fault_text fault.Disk = refused_text (codes "Disk") []
+fault_text fault.Memory = refused_text (codes "Memory") []
 
 -- why an image of so many sectors isn't formatted
 abbrev pub size_refusal : ℕ → Refusal
@@ -27,6 +64,16 @@ formatted_text = codes "formatted 2048 blocks, 1692 free\n"
 abbrev pub ToldUnlessFailed : State → State → List ℕ → Type 0
 ToldUnlessFailed old new text = (new.told ≡ old.told ++ text) ⊎ (Rose old.sink_faults new.sink_faults × ToldFront old.told text new.told)
 
+-- the text was told where the call answers Ok, and a front of it else, and the disk was left alone
+pub record Telling {T E : Type 0} (old new : State) (text : List ℕ) (result : Result T E) : Type 0 where
+  pub told : IsTrue old.tells → OnOk result (new.told ≡ old.told ++ text)
+  pub unsure : IsTrue old.tells → ToldFront old.told text new.told
+  pub candidates : new.candidates ≡ old.candidates
+  pub barriers : new.barriers ≡ old.barriers
+  pub faults : new.faults ≡ old.faults
+  pub same : SameDisk old new
+  pub cause : HasCause old.sink_faults new.sink_faults result
+
 -- this text was told, and the disk was left alone
 pub record Tells (old new : State) (text : List ℕ) : Type 0 where
   pub told : IsTrue old.tells → ToldUnlessFailed old new text
@@ -35,3 +82,7 @@ pub record Tells (old new : State) (text : List ℕ) : Type 0 where
   pub faults : new.faults ≡ old.faults
   pub sink : old.sink_faults ≤ new.sink_faults
   pub same : SameDisk old new
+
+-- a refusal of the image stands, and its line was told
+abbrev pub ToldRefusal : State → State → Type 0
+ToldRefusal old new = (why : MountFault) × Refuses (content old) why × ToldUnlessFailed old new (fault_text why)

@@ -1,19 +1,62 @@
 // Why the server stops, and why an image isn't served.
-ghost use Rattle.std.specs.Prelude.{◌≡◌};
-ghost use Rattle.hfsx_server.specs.Faults.{status_of};
+ghost use Rattle.std.specs.Prelude.{◌≡◌, ◌↔◌, IsTrue};
+ghost use Rattle.hfsx_server.specs.Faults.{status_of, status_of_mount};
+ghost use Rattle.hfsx_server.specs.Volume.{IsRefusal};
 
 use crate::{LineFault, Status};
 use hx_bytes::{Failed, OutOfMemory, Trouble};
+use jnl_format::JnlRefusal;
+use volume_header::HeaderRefusal;
 
-/// Why an image isn't served.
+/// Why an image isn't served. Of the refusals, the first in this order that stands is told.
 #[derive(Clone, Copy, Debug, PartialEq, Eq)]
 pub enum MountFault {
+    /// Its volume header isn't accepted.
+    Header(HeaderRefusal),
+    /// It is locked by software.
+    SoftwareLocked,
+    /// Its journal can't be replayed.
+    Journal(JnlRefusal),
+    /// A transaction of its journal must hold `need` sectors, and holds `has`.
+    JournalTooSmall { need: u64, has: u64 },
     /// It isn't one that this program serves yet.
     NotYet(u32),
-    /// It could not be read.
+    /// It could not be read or written.
     Disk,
     /// There was no memory.
     Memory,
+}
+
+impl MountFault {
+    /// Whether it refuses the image, and is no fault of the disk or of memory.
+    pub fn is_refusal(&self) -> bool
+        ensures { IsTrue result ↔ IsRefusal self.now }
+    {
+        match self {
+            MountFault::Header(_) => true,
+            MountFault::SoftwareLocked => true,
+            MountFault::Journal(_) => true,
+            MountFault::JournalTooSmall { .. } => true,
+            MountFault::NotYet(_) => true,
+            MountFault::Disk => false,
+            MountFault::Memory => false,
+        }
+    }
+
+    /// The status of a run that ends so.
+    pub fn status(&self) -> Status
+        ensures { result ≡ status_of_mount self.now }
+    {
+        match self {
+            MountFault::Header(_) => Status::Refused,
+            MountFault::SoftwareLocked => Status::Refused,
+            MountFault::Journal(_) => Status::Refused,
+            MountFault::JournalTooSmall { .. } => Status::Refused,
+            MountFault::NotYet(_) => Status::Refused,
+            MountFault::Disk => Status::Disk,
+            MountFault::Memory => Status::Memory,
+        }
+    }
 }
 
 /// Why the server stopped.
@@ -27,6 +70,8 @@ pub enum ServeFault {
     Sink,
     /// There was no memory.
     Memory,
+    /// There were too many lines.
+    TooMany,
 }
 
 impl ServeFault {
@@ -39,6 +84,7 @@ impl ServeFault {
             ServeFault::Source => Status::Source,
             ServeFault::Sink => Status::Sink,
             ServeFault::Memory => Status::Memory,
+            ServeFault::TooMany => Status::TooMany,
         }
     }
 }
@@ -62,6 +108,20 @@ impl From<OutOfMemory> for MountFault {
 
     fn from(_: OutOfMemory) -> Self {
         MountFault::Memory
+    }
+}
+
+impl From<Trouble> for MountFault {
+    ghost use Rattle.std.specs.Prelude.{◌≡◌};
+    ghost use Rattle.hfsx_server.specs.Faults.{mount_fault_of};
+
+    ghost from_gives = { λ trouble e. e ≡ mount_fault_of trouble };
+
+    fn from(trouble: Trouble) -> Self {
+        match trouble {
+            Trouble::Disk => MountFault::Disk,
+            Trouble::Memory => MountFault::Memory,
+        }
     }
 }
 

@@ -1,9 +1,8 @@
 // Lines of a source, one by one, of which no more than a limit is held.
 ghost use Rattle.std.specs.Prelude.{◌≡◌, ◌<◌, ◌≤◌, ◌++◌, ◌∷◌, ◌-◌, ◌↔◌, [], ℕ, List, IsTrue, length, MatchOption, IfOk, IfSome, IfNone, OnSome, OnOk, OnErr};
 ghost use Rattle.sector_disk.specs.Cause.{HasCause};
-ghost use Rattle.hfs_model.specs.Lines.{lines};
 ghost use Rattle.hfsx_server.specs.Cause.{IsCause};
-ghost use Rattle.hfsx_server.specs.Input.{ahead, weight, IsLine, SameSource};
+ghost use Rattle.hfsx_server.specs.Input.{ahead, weight, IsLine, SameSource, TakesLines};
 
 use hx_bytes::{Bytes, Failed, OutOfMemory};
 use sector_disk::Source;
@@ -88,8 +87,10 @@ impl Input {
         limit: usize,
     ) -> Result<Option<Line>, LineFault>
         ensures line { IfOk result (λ next. IfSome next (λ line. (text : List ℕ) × IsLine limit text line
-            × (IsTrue (S.stream source.old).tells → lines (ahead self.old (S.stream source.old)) ≡ text ∷ lines (ahead self.new (S.stream source.new))))) }
-        ensures end { IsTrue (S.stream source.old).tells → IfOk result (λ next. IfNone next ((lines (ahead self.old (S.stream source.old)) ≡ []) × (ahead self.new (S.stream source.new) ≡ []))) }
+            × (IsTrue (S.stream source.old).tells → TakesLines self.old (S.stream source.old) (text ∷ []) self.new (S.stream source.new)))) }
+        ensures end { IsTrue (S.stream source.old).tells → IfOk result (λ next. IfNone next ((ahead self.old (S.stream source.old) ≡ []) × (ahead self.new (S.stream source.new) ≡ []))) }
+        // Whatever it answers, the bytes that were taken stood first.
+        ensures gone { IsTrue (S.stream source.old).tells → (gone : List ℕ) × (ahead self.old (S.stream source.old) ≡ gone ++ (S.stream source.new).left) }
         // Each line brings the end nearer.
         ensures nearer { IfOk result (λ next. OnSome next (weight self.new (S.stream source.new) < weight self.old (S.stream source.old))) }
         ensures same { SameSource (S.stream source.old) (S.stream source.new) }
@@ -114,6 +115,7 @@ impl Input {
     fn next_byte<S: Source>(&mut self, source: &mut S) -> Result<Option<u8>, Failed>
         ensures byte { IsTrue (S.stream source.old).tells → IfOk result (λ next. IfSome next (λ byte. ahead self.old (S.stream source.old) ≡ byte ∷ ahead self.new (S.stream source.new))) }
         ensures end { IsTrue (S.stream source.old).tells → IfOk result (λ next. IfNone next ((ahead self.old (S.stream source.old) ≡ []) × (ahead self.new (S.stream source.new) ≡ []))) }
+        ensures kept { OnErr result ((S.stream source.new).left ≡ (S.stream source.old).left) }
         ensures nearer { IfOk result (λ next. OnSome next (weight self.new (S.stream source.new) < weight self.old (S.stream source.old))) }
         ensures no_more { weight self.new (S.stream source.new) ≤ weight self.old (S.stream source.old) }
         ensures same { SameSource (S.stream source.old) (S.stream source.new) }
@@ -136,6 +138,7 @@ impl Input {
         requires { self.old ≡ [] }
         ensures filled { IsTrue (S.stream source.old).tells → OnOk result ((S.stream source.old).left ≡ self.new ++ (S.stream source.new).left) }
         ensures end { IsTrue (S.stream source.old).tells → OnOk result (self.new ≡ [] → (S.stream source.old).left ≡ []) }
+        ensures kept { OnErr result ((S.stream source.new).left ≡ (S.stream source.old).left) }
         ensures no_more { weight self.new (S.stream source.new) ≤ weight self.old (S.stream source.old) }
         ensures same { SameSource (S.stream source.old) (S.stream source.new) }
         ensures cause { HasCause (S.stream source.old).faults (S.stream source.new).faults result }

@@ -1,14 +1,18 @@
 //! The server of a volume: the words of a command line, the lines of a source, their replies, and the top call.
 #![tactic(auto)]
 
+mod changing;
 mod faults;
 mod formatting;
 mod input;
+mod mounting;
+mod puts;
 mod refusal;
 mod running;
 mod server;
 mod session;
 mod sink;
+mod starting;
 mod status;
 mod top;
 mod volume;
@@ -17,12 +21,14 @@ mod words;
 pub use faults::{MountFault, ServeFault};
 pub use formatting::format;
 pub use input::{Input, Line, LineFault};
-pub use refusal::{Refusal, tell_refusal, tell_usage};
+pub use mounting::{Found, find_volume};
+pub use refusal::{Refusal, tell_fault, tell_refusal, tell_usage};
 pub use running::run;
-pub use server::{Served, Server, mount};
+pub use server::{Served, Server};
 pub use session::{Deed, MOST_FOLDERS, deed_of, read_command};
 pub use sink::tell_whole;
+pub use starting::mount;
 pub use status::Status;
 pub use top::hfsx;
-pub use volume::{VOLUME_SECTORS, read_parts, write_folders, write_parts};
+pub use volume::{VOLUME_SECTORS, read_parts, write_parts};
 pub use words::{Work, read_words};

@@ -1,23 +1,22 @@
 // Refusals of an image or a size, and lines that are told before the program ends.
-ghost use Rattle.std.specs.Prelude.{◌≡◌, ◌≤◌, ◌++◌, ◌∷◌, [], IsTrue, OnOk, codes, decimal};
-ghost use Rattle.sector_disk.specs.Cause.{HasCause};
-ghost use Rattle.sector_disk.specs.Disk.{SameDisk, ToldFront};
-ghost use Rattle.hfsx_server.specs.Telling.{Tells, refusal_text, usage_text};
+ghost use Rattle.std.specs.Prelude.{◌++◌};
+ghost use Rattle.hfs_model.specs.Text.{field, fields};
+ghost use Rattle.hfsx_server.specs.Telling.{Tells, Telling, fault_text, header_text, journal_text, refusal_text, refused_text, usage_text};
 
-use crate::tell_whole;
+use crate::{MountFault, tell_whole};
 use hx_bytes::Failed;
 use itoa::Buffer;
+use jnl_format::JnlRefusal;
 use sector_disk::Rig;
+use volume_header::HeaderRefusal;
 
-/// Why an image or a size is refused.
+/// Why a size is refused.
 #[derive(Clone, Copy, Debug, PartialEq, Eq)]
 pub enum Refusal {
     /// A volume has more sectors than this.
     TooSmall(u64),
     /// A volume has fewer sectors than this.
     TooLarge(u64),
-    /// The image isn't one that this program serves yet.
-    NotYet(u32),
 }
 
 const USAGE: &[u8; 76] =
@@ -30,29 +29,95 @@ pub fn tell_usage<R: Rig>(rig: &mut R)
     let _ = tell_whole(rig, USAGE);
 }
 
-/// Tells a refusal. A sink that fails is left at that.
+/// Tells why a size is refused. A sink that fails is left at that.
 pub fn tell_refusal<R: Rig>(rig: &mut R, refusal: Refusal)
     ensures { Tells (R.state rig.old) (R.state rig.new) (refusal_text refusal) }
 {
     let _ = match refusal {
-        Refusal::TooSmall(sectors) => tell_number(rig, b"refused TooSmall ", sectors),
-        Refusal::TooLarge(sectors) => tell_number(rig, b"refused TooLarge ", sectors),
-        Refusal::NotYet(part) => tell_number(rig, b"refused NotYet ", u64::from(part)),
+        Refusal::TooSmall(sectors) => tell_refused(rig, b"TooSmall", &[sectors]),
+        Refusal::TooLarge(sectors) => tell_refused(rig, b"TooLarge", &[sectors]),
     };
 }
 
-// A line of some words and a number.
-fn tell_number<R: Rig>(rig: &mut R, words: &[u8], number: u64) -> Result<(), Failed>
-    ensures told { IsTrue (R.state rig.old).tells → OnOk result ((R.state rig.new).told ≡ (R.state rig.old).told ++ (words.now ++ decimal number ++ codes "\n")) }
-    ensures unsure { IsTrue (R.state rig.old).tells → ToldFront (R.state rig.old).told (words.now ++ decimal number ++ codes "\n") (R.state rig.new).told }
-    ensures candidates { (R.state rig.new).candidates ≡ (R.state rig.old).candidates }
-    ensures barriers { (R.state rig.new).barriers ≡ (R.state rig.old).barriers }
-    ensures faults { (R.state rig.new).faults ≡ (R.state rig.old).faults }
-    ensures same { SameDisk (R.state rig.old) (R.state rig.new) }
-    ensures cause { HasCause (R.state rig.old).sink_faults (R.state rig.new).sink_faults result }
+/// Tells why an image isn't served. A sink that fails is left at that.
+pub fn tell_fault<R: Rig>(rig: &mut R, fault: MountFault)
+    ensures { Tells (R.state rig.old) (R.state rig.new) (fault_text fault) }
+{
+    let _ = match fault {
+        MountFault::Header(why) => tell_header(rig, why),
+        MountFault::SoftwareLocked => tell_refused(rig, b"SoftwareLocked", &[]),
+        MountFault::Journal(why) => tell_journal(rig, why),
+        MountFault::JournalTooSmall { need, has } => {
+            tell_refused(rig, b"JournalTooSmall", &[need, has])
+        }
+        MountFault::NotYet(part) => tell_refused(rig, b"NotYet", &[u64::from(part)]),
+        MountFault::Disk => tell_refused(rig, b"Disk", &[]),
+        MountFault::Memory => tell_refused(rig, b"Memory", &[]),
+    };
+}
+
+// A volume header that isn't accepted.
+fn tell_header<R: Rig>(rig: &mut R, why: HeaderRefusal) -> Result<(), Failed>
+    ensures { Telling (R.state rig.old) (R.state rig.new) (header_text why) result }
+{
+    match why {
+        HeaderRefusal::LimitSectors(sectors) => tell_refused(rig, b"LimitSectors", &[sectors]),
+        HeaderRefusal::NotHfsx { signature, version } => {
+            tell_refused(rig, b"NotHfsx", &[u64::from(signature), u64::from(version)])
+        }
+        HeaderRefusal::BadGeometry(offset) => {
+            tell_refused(rig, b"BadGeometry", &[u64::from(offset)])
+        }
+        HeaderRefusal::NotJournaled => tell_refused(rig, b"NotJournaled", &[]),
+        HeaderRefusal::IdsReused => tell_refused(rig, b"IdsReused", &[]),
+    }
+}
+
+// A journal that can't be replayed.
+fn tell_journal<R: Rig>(rig: &mut R, why: JnlRefusal) -> Result<(), Failed>
+    ensures { Telling (R.state rig.old) (R.state rig.new) (journal_text why) result }
+{
+    match why {
+        JnlRefusal::BadInfo(offset) => tell_refused(rig, b"BadInfo", &[u64::from(offset)]),
+        JnlRefusal::OtherDevice => tell_refused(rig, b"OtherDevice", &[]),
+        JnlRefusal::BadHeader(offset) => tell_refused(rig, b"BadHeader", &[u64::from(offset)]),
+        JnlRefusal::BadList(offset) => tell_refused(rig, b"BadList", &[offset]),
+        JnlRefusal::ForeignJournal(version) => {
+            tell_refused(rig, b"ForeignJournal", &[u64::from(version)])
+        }
+    }
+}
+
+// The line of a refusal: its name and its numbers.
+fn tell_refused<R: Rig>(rig: &mut R, name: &[u8], numbers: &[u64]) -> Result<(), Failed>
+    ensures { Telling (R.state rig.old) (R.state rig.new) (refused_text name.now numbers.now) result }
+{
+    tell_piece(rig, b"refused ")?;
+    tell_piece(rig, name)?;
+    tell_numbers(rig, numbers)?;
+    tell_piece(rig, b"\n")
+}
+
+// Numbers, each behind a space.
+fn tell_numbers<R: Rig>(rig: &mut R, numbers: &[u64]) -> Result<(), Failed>
+    ensures { Telling (R.state rig.old) (R.state rig.new) (fields numbers.now) result }
+{
+    for number in numbers {
+        tell_number(rig, *number)?;
+    }
+    Ok(())
+}
+
+fn tell_number<R: Rig>(rig: &mut R, number: u64) -> Result<(), Failed>
+    ensures { Telling (R.state rig.old) (R.state rig.new) (field number) result }
 {
     let mut buffer = Buffer::new();
-    tell_whole(rig, words)?;
-    tell_whole(rig, buffer.format(number).as_bytes())?;
-    tell_whole(rig, b"\n")
+    tell_piece(rig, b" ")?;
+    tell_piece(rig, buffer.format(number).as_bytes())
+}
+
+fn tell_piece<R: Rig>(rig: &mut R, bytes: &[u8]) -> Result<(), Failed>
+    ensures { Telling (R.state rig.old) (R.state rig.new) bytes.now result }
+{
+    tell_whole(rig, bytes)
 }

@@ -1,32 +1,42 @@
-// A volume that is served: it is mounted, and then does what line after line asks for.
-ghost use Rattle.std.specs.Prelude.{◌≡◌, ◌<◌, ◌≤◌, ◌++◌, ◌∷◌, [], ℕ, List, IsTrue, IsErrOf, IfOk, MatchOption, OnOk, OnErr};
-ghost use Rattle.sector_disk.specs.Disk.{SameDisk, SameSink, ToldFront, IsSettled, content};
+// A volume that is served: line after line is answered, each as a transaction of its own.
+ghost use Rattle.std.specs.Prelude.{◌≡◌, ◌≢◌, ◌⊎◌, ◌<◌, ◌≤◌, ◌+◌, ◌++◌, ◌∷◌, [], ℕ, List, IsTrue, IsErrOf, IfOk, IfErr, OnOk, OnErr, length};
+ghost use Rattle.sector_disk.specs.Cause.{HasCause};
+ghost use Rattle.sector_disk.specs.Disk.{Leaves, SameDisk, SameSink, ToldFront};
+ghost use Rattle.jnl_store.specs.Store.{spare_of};
+ghost use Rattle.hfs_model.specs.Language.{command_of};
+ghost use Rattle.hfs_model.specs.Lines.{lines};
 ghost use Rattle.hfs_model.specs.Names.{are_thin_names};
-ghost use Rattle.hfs_model.specs.Thin.{AreThin, IsThin};
-ghost use Rattle.hfs_model.specs.Parts.{parts_of};
+ghost use Rattle.hfs_model.specs.Parts.{OnlyFolders, OnlyHeader};
 ghost use Rattle.hfs_model.specs.Text.{reply_text};
+ghost use Rattle.hfs_model.specs.Thin.{AreThin};
 ghost use Rattle.hfsx_server.specs.Cause.{IsCause};
-ghost use Rattle.hfsx_server.specs.Input.{ahead, weight, IsLine, SameSource};
+ghost use Rattle.hfsx_server.specs.Headline.{Entry, lines_of, tree_after};
+ghost use Rattle.hfsx_server.specs.Input.{ahead, weight, IsLine, SameSource, TakesLines};
 ghost use Rattle.hfsx_server.specs.Session.{step, with_folder, answer, after};
-ghost use Rattle.hfsx_server.specs.Serving.{Answers, AnswersFront, IsThinForNone};
-ghost use Rattle.hfsx_server.specs.Volume.{OnlyReads, Holds};
+ghost use Rattle.hfsx_server.specs.Serving.{SameButLines, entry_of, Crashes, IsIdle, IsServing, Rests, Serves, Stops};
+ghost use Rattle.hfsx_server.specs.Volume.{Tree, IsUnmounted, MountsTo};
 
-use crate::{
-    Deed, Input, Line, MountFault, ServeFault, VOLUME_SECTORS, deed_of, read_command, read_parts,
-    tell_whole, write_folders,
-};
+use crate::changing::{change_folders, change_header};
+use crate::{Deed, Input, Line, ServeFault, deed_of, read_command, tell_whole};
 use cmd_lang::{MOST_BYTES, print_reply};
-use hfs_model::{Command, Parts, Refusal, thin_names, with_names};
+use hfs_model::{Command, Parts, Refusal, with_mark, with_names};
 use hx_bytes::{Bytes, Failed, Names, Trouble, Units};
+use jnl_store::{Store, StoreFault};
 use sector_disk::{Rig, SectorDisk, Source};
 use std::alloc::Global;
+
+/// The sectors that a new folder changes, and one for the end.
+const FOLDER_LOAD: u64 = 18;
 
 /// A volume that is served.
 #[derive(Drop)]
 pub struct Server {
-    names: Names,
-    parts: Parts,
-    input: Input,
+    pub(crate) store: Store,
+    pub(crate) parts: Parts,
+    pub(crate) names: Names,
+    pub(crate) input: Input,
+    /// How many lines were read.
+    pub(crate) lines: u32,
 }
 
 /// Whether there is more to serve.
@@ -38,61 +48,39 @@ pub enum Served {
     End,
 }
 
-/// Reads a volume, to serve it. A refused image isn't written.
-pub fn mount<R: Rig>(alloc: Global, rig: &mut R) -> Result<Server, MountFault>
-    ensures thin { IfOk result (λ server. AreThin server.parts server.names) }
-    ensures size { OnOk result ((R.state rig.old).sectors ≡ VOLUME_SECTORS) }
-    ensures empty { IfOk result (λ server. server.input ≡ []) }
-    ensures holds { IsTrue (R.state rig.old).tells → IfOk result (λ server. parts_of (content (R.state rig.old)) ≡ server.parts) }
-    // Exactly an image that is thin for no list of names is refused.
-    ensures not_yet { IsTrue (R.state rig.old).tells → (part : ℕ) → IsErrOf result (MountFault.NotYet part) → IsThinForNone (content (R.state rig.old)) }
-    ensures not_yet_0 { (part : ℕ) → IsErrOf result (MountFault.NotYet part) → part ≡ 0 }
-    ensures only_reads { OnlyReads (R.state rig.old) (R.state rig.new) }
-    ensures cause { IsCause MountFault.Disk (R.state rig.old).faults (R.state rig.new).faults result }
-{
-    if rig.sectors() != VOLUME_SECTORS {
-        return Err(MountFault::NotYet(0));
-    }
-    let parts = read_parts(rig)?;
-    match thin_names(alloc, &parts)? {
-        Some(names) => Ok(Server {
-            names,
-            parts,
-            input: Input::new(),
-        }),
-        None => Err(MountFault::NotYet(0)),
-    }
-}
-
 impl Server {
-    /// Answers the next line: what it asks for is on the disk behind a barrier, and then the reply is told.
+    /// Answers the next line: what it changes is durable, and then the reply is told. Line number 4,294,967,295,
+    /// counted from 0, is one too many.
     pub fn serve_step<R: Rig, S: Source>(
         &mut self,
         alloc: Global,
         rig: &mut R,
         source: &mut S,
     ) -> Result<Served, ServeFault>
-        requires thin { AreThin self.old.parts self.old.names }
-        requires size { (R.state rig.old).sectors ≡ VOLUME_SECTORS }
-        requires holds { IsTrue (R.state rig.old).tells → Holds (R.state rig.old) self.old.parts }
+        requires serving { IsServing self.old (R.state rig.old) }
 
-        ensures served { OnOk result ((run : List (List ℕ)) × Answers (R.state rig.old) self.old.names self.old.input (S.stream source.old) run (R.state rig.new) self.new.names self.new.input (S.stream source.new)) }
+        // At Ok the lines that were taken out of the source have their replies told, and what they changed is durable.
+        ensures serving { OnOk result (IsServing self.new (R.state rig.new)) }
+        ensures served { IsTrue (R.state rig.old).tells → OnOk result ((run : List Entry) × Serves self.old.names (R.state rig.old) run (R.state rig.new) × (self.new.names ≡ tree_after self.old.names run)
+            × (self.new.lines ≡ self.old.lines + length run) × (IsTrue (S.stream source.old).tells → TakesLines self.old.input (S.stream source.old) (lines_of run) self.new.input (S.stream source.new))) }
+        ensures fits { OnOk result (self.old.lines ≤ 4294967295 → self.new.lines ≤ 4294967295) }
         ensures end { IsTrue (S.stream source.old).tells → IfOk result (λ served. served ≡ Served.End → ahead self.new.input (S.stream source.new) ≡ []) }
-        // Whatever stops it, what was told is a front of the replies.
-        ensures stopped { OnErr result ((run : List (List ℕ)) × AnswersFront (R.state rig.old) self.old.names self.old.input (S.stream source.old) run (R.state rig.new)) }
-        ensures thin { OnOk result (AreThin self.new.parts self.new.names) }
-        ensures holds { IsTrue (R.state rig.old).tells → OnOk result (Holds (R.state rig.new) self.new.parts) }
-        ensures settled { IsTrue (R.state rig.old).tells → IsSettled (R.state rig.old) → OnOk result (IsSettled (R.state rig.new)) }
         ensures nearer { IfOk result (λ served. served ≡ Served.More → weight self.new.input (S.stream source.new) < weight self.old.input (S.stream source.old)) }
+        // Whatever stops it, a crash leaves the tree before the line or after it, and of its reply a front was told.
+        ensures stopped { IsTrue (R.state rig.old).tells → OnErr result ((run : List Entry) × Crashes self.old.names (R.state rig.old) run (R.state rig.new)
+            × (IsTrue (S.stream source.old).tells → Stops self.old.input (S.stream source.old) run (S.stream source.new))) }
 
         ensures same { SameDisk (R.state rig.old) (R.state rig.new) }
         ensures same_source { SameSource (S.stream source.old) (S.stream source.new) }
         ensures disk { IsCause ServeFault.Disk (R.state rig.old).faults (R.state rig.new).faults result }
         ensures source { IsCause ServeFault.Source (S.stream source.old).faults (S.stream source.new).faults result }
         ensures sink { IsCause ServeFault.Sink (R.state rig.old).sink_faults (R.state rig.new).sink_faults result }
+        // There are too many lines exactly where one more is read.
+        ensures many { IsErrOf result ServeFault.TooMany → (self.old.lines ≡ 4294967295) × (IsTrue (S.stream source.old).tells → lines (ahead self.old.input (S.stream source.old)) ≢ []) }
     {
         match self.input.next_line(alloc, source, MOST_BYTES)? {
             Some(line) => {
+                self.count_line()?;
                 self.answer(alloc, rig, &line)?;
                 Ok(Served::More)
             }
@@ -100,20 +88,32 @@ impl Server {
         }
     }
 
+    // One more line was read.
+    fn count_line(&mut self) -> Result<(), ServeFault>
+        ensures counted { OnOk result (self.new.lines ≡ self.old.lines + 1) }
+        ensures many { OnErr result (self.old.lines ≡ 4294967295) }
+        ensures fits { self.new.lines ≤ 4294967295 }
+        ensures fault { IfErr result (λ fault. fault ≡ ServeFault.TooMany) }
+        ensures others { SameButLines self.old self.new }
+    {
+        if self.lines == u32::MAX {
+            return Err(ServeFault::TooMany);
+        }
+        self.lines += 1;
+        Ok(())
+    }
+
     // Answers a line.
     fn answer<R: Rig>(&mut self, alloc: Global, rig: &mut R, line: &Line) -> Result<(), ServeFault>
-        requires thin { AreThin self.old.parts self.old.names }
-        requires size { (R.state rig.old).sectors ≡ VOLUME_SECTORS }
-        requires holds { IsTrue (R.state rig.old).tells → Holds (R.state rig.old) self.old.parts }
-        ensures told { IsTrue (R.state rig.old).tells → (text : List ℕ) → IsLine MOST_BYTES text line.now → OnOk result ((R.state rig.new).told ≡ (R.state rig.old).told ++ answer self.old.names text) }
-        ensures front { IsTrue (R.state rig.old).tells → (text : List ℕ) → IsLine MOST_BYTES text line.now → OnErr result (ToldFront (R.state rig.old).told (answer self.old.names text) (R.state rig.new).told) }
-        ensures folders { (text : List ℕ) → IsLine MOST_BYTES text line.now → OnOk result (self.new.names ≡ after self.old.names text) }
-        ensures thin { OnOk result (AreThin self.new.parts self.new.names) }
-        ensures holds { IsTrue (R.state rig.old).tells → OnOk result (Holds (R.state rig.new) self.new.parts) }
-        ensures settled { IsTrue (R.state rig.old).tells → IsSettled (R.state rig.old) → OnOk result (IsSettled (R.state rig.new)) }
-        ensures input { self.new.input ≡ self.old.input }
+        requires serving { IsServing self.old (R.state rig.old) }
+        ensures serving { OnOk result (IsServing self.new (R.state rig.new)) }
+        ensures served { IsTrue (R.state rig.old).tells → (text : List ℕ) → IsLine MOST_BYTES text line.now → OnOk result (Serves self.old.names (R.state rig.old) (entry_of self.old.names text ∷ []) (R.state rig.new)) }
+        ensures stopped { IsTrue (R.state rig.old).tells → (text : List ℕ) → IsLine MOST_BYTES text line.now → OnErr result (Crashes self.old.names (R.state rig.old) (entry_of self.old.names text ∷ []) (R.state rig.new)) }
+        ensures names { (text : List ℕ) → IsLine MOST_BYTES text line.now → OnOk result (self.new.names ≡ after self.old.names text) }
+        ensures input { (self.new.input ≡ self.old.input) × (self.new.lines ≡ self.old.lines) }
         ensures same { SameDisk (R.state rig.old) (R.state rig.new) }
         ensures no_source { IsErrOf result ServeFault.Source → ⊥ }
+        ensures no_many { IsErrOf result ServeFault.TooMany → ⊥ }
         ensures disk { IsCause ServeFault.Disk (R.state rig.old).faults (R.state rig.new).faults result }
         ensures sink { IsCause ServeFault.Sink (R.state rig.old).sink_faults (R.state rig.new).sink_faults result }
     {
@@ -125,22 +125,19 @@ impl Server {
         }
     }
 
-    // Does what a line asks for that was read, and gives the text of the reply.
+    // Does what a line asks for that was read, and gives the text of the reply. What it changes is durable then.
     fn do_line<D: SectorDisk>(
         &mut self,
         alloc: Global,
         disk: &mut D,
         read: Result<Command, Refusal>,
     ) -> Result<Bytes, Trouble>
-        requires thin { AreThin self.old.parts self.old.names }
-        requires size { (D.state disk.old).sectors ≡ VOLUME_SECTORS }
-        requires holds { IsTrue (D.state disk.old).tells → Holds (D.state disk.old) self.old.parts }
+        requires serving { IsServing self.old (D.state disk.old) }
+        ensures serving { OnOk result (IsServing self.new (D.state disk.new)) }
         ensures text { IfOk result (λ text. text ≡ reply_text (step self.old.names read).0) }
         ensures names { OnOk result (self.new.names ≡ (step self.old.names read).1) }
-        ensures thin { OnOk result (AreThin self.new.parts self.new.names) }
-        ensures holds { IsTrue (D.state disk.old).tells → OnOk result (Holds (D.state disk.new) self.new.parts) }
-        ensures settled { IsTrue (D.state disk.old).tells → IsSettled (D.state disk.old) → OnOk result (IsSettled (D.state disk.new)) }
-        ensures input { self.new.input ≡ self.old.input }
+        ensures crash { IsTrue (D.state disk.old).tells → Leaves (D.state disk.old) (D.state disk.new) (λ image. MountsTo image self.old.names ⊎ MountsTo image (step self.old.names read).1) }
+        ensures input { (self.new.input ≡ self.old.input) × (self.new.lines ≡ self.old.lines) }
         ensures same { SameDisk (D.state disk.old) (D.state disk.new) }
         ensures sink { SameSink (D.state disk.old) (D.state disk.new) }
         ensures cause { IsCause Trouble.Disk (D.state disk.old).faults (D.state disk.new).faults result }
@@ -158,15 +155,12 @@ impl Server {
         disk: &mut D,
         folder: Option<Units>,
     ) -> Result<(), Trouble>
-        requires thin { AreThin self.old.parts self.old.names }
+        requires serving { IsServing self.old (D.state disk.old) }
         requires room { IsTrue (are_thin_names (with_folder self.old.names folder)) }
-        requires size { (D.state disk.old).sectors ≡ VOLUME_SECTORS }
-        requires holds { IsTrue (D.state disk.old).tells → Holds (D.state disk.old) self.old.parts }
+        ensures serving { OnOk result (IsServing self.new (D.state disk.new)) }
         ensures names { OnOk result (self.new.names ≡ with_folder self.old.names folder) }
-        ensures thin { OnOk result (AreThin self.new.parts self.new.names) }
-        ensures holds { IsTrue (D.state disk.old).tells → OnOk result (Holds (D.state disk.new) self.new.parts) }
-        ensures settled { IsTrue (D.state disk.old).tells → IsSettled (D.state disk.old) → OnOk result (IsSettled (D.state disk.new)) }
-        ensures input { self.new.input ≡ self.old.input }
+        ensures crash { IsTrue (D.state disk.old).tells → Leaves (D.state disk.old) (D.state disk.new) (λ image. MountsTo image self.old.names ⊎ MountsTo image (with_folder self.old.names folder)) }
+        ensures input { (self.new.input ≡ self.old.input) × (self.new.lines ≡ self.old.lines) }
         ensures same { SameDisk (D.state disk.old) (D.state disk.new) }
         ensures sink { SameSink (D.state disk.old) (D.state disk.new) }
         ensures cause { IsCause Trouble.Disk (D.state disk.old).faults (D.state disk.new).faults result }
@@ -183,22 +177,38 @@ impl Server {
         disk: &mut D,
         name: Units,
     ) -> Result<(), Trouble>
-        requires thin { AreThin self.old.parts self.old.names }
+        requires serving { IsServing self.old (D.state disk.old) }
         requires room { IsTrue (are_thin_names (self.old.names ++ name ∷ [])) }
-        requires size { (D.state disk.old).sectors ≡ VOLUME_SECTORS }
-        requires holds { IsTrue (D.state disk.old).tells → Holds (D.state disk.old) self.old.parts }
+        ensures serving { OnOk result (IsServing self.new (D.state disk.new)) }
         ensures names { OnOk result (self.new.names ≡ self.old.names ++ name ∷ []) }
-        ensures thin { OnOk result (AreThin self.new.parts self.new.names) }
-        ensures holds { IsTrue (D.state disk.old).tells → OnOk result (Holds (D.state disk.new) self.new.parts) }
-        ensures settled { IsTrue (D.state disk.old).tells → IsSettled (D.state disk.old) → OnOk result (IsSettled (D.state disk.new)) }
-        ensures input { self.new.input ≡ self.old.input }
+        ensures crash { IsTrue (D.state disk.old).tells → Leaves (D.state disk.old) (D.state disk.new) (λ image. MountsTo image self.old.names ⊎ MountsTo image (self.old.names ++ name ∷ [])) }
+        ensures input { (self.new.input ≡ self.old.input) × (self.new.lines ≡ self.old.lines) }
         ensures same { SameDisk (D.state disk.old) (D.state disk.new) }
         ensures sink { SameSink (D.state disk.old) (D.state disk.new) }
         ensures cause { IsCause Trouble.Disk (D.state disk.old).faults (D.state disk.new).faults result }
     {
         self.names.push(name)?;
-        self.parts = with_names(alloc, &self.parts, &self.names)?;
-        write_folders(disk, &self.parts)?;
+        let parts = with_names(alloc, &self.parts, &self.names)?;
+        self.store.begin(alloc, FOLDER_LOAD)?;
+        change_folders(&mut self.store, disk, &self.parts, &parts)?;
+        self.parts = parts;
         Ok(())
+    }
+
+    /// Sets bit 8 of the header's attributes, and leaves the journal empty. It takes no memory.
+    pub fn finish<R: Rig>(&mut self, rig: &mut R) -> Result<(), StoreFault>
+        requires serving { IsServing self.old (R.state rig.old) }
+        ensures finished { IsTrue (R.state rig.old).tells → OnOk result (IsUnmounted (R.state rig.new) self.old.names) }
+        ensures crash { IsTrue (R.state rig.old).tells → Leaves (R.state rig.old) (R.state rig.new) (λ image. MountsTo image self.old.names) }
+        ensures same { SameDisk (R.state rig.old) (R.state rig.new) }
+        ensures sink { SameSink (R.state rig.old) (R.state rig.new) }
+        ensures cause { HasCause (R.state rig.old).faults (R.state rig.new).faults result }
+    {
+        let parts = with_mark(&self.parts, &self.names, true, self.parts.write_count());
+        match change_header(&mut self.store, rig, &self.parts, &parts) {
+            Ok(()) => self.parts = parts,
+            Err(Failed) => return Err(StoreFault::Disk),
+        }
+        self.store.checkpoint(rig)
     }
 }

@@ -1,11 +1,12 @@
 // The top call of the program.
-ghost use Rattle.std.specs.Prelude.{◌≡◌, ◌≢◌, ◌⊎◌, ◌↔◌, ◌++◌, [], ℕ, List, IsTrue};
+ghost use Rattle.std.specs.Prelude.{◌≡◌, ◌≢◌, ◌⊎◌, ◌↔◌, ◌++◌, ◌<◌, ◌≤◌, [], ℕ, List, IsTrue, length};
 ghost use Rattle.sector_disk.specs.Cause.{Rose};
 ghost use Rattle.sector_disk.specs.Disk.{SameDisk, IsSettled, content};
 ghost use Rattle.hfs_model.specs.Thin.{IsThin};
-ghost use Rattle.hfsx_server.specs.declared.refusal.Refusal.TheVariants.{NotYet};
-ghost use Rattle.hfsx_server.specs.Serving.{IsThinForNone, ServesAll, ServesSome};
-ghost use Rattle.hfsx_server.specs.Telling.{ToldUnlessFailed, refusal_text, size_refusal, usage_text, formatted_text};
+ghost use Rattle.hfs_model.specs.Lines.{lines};
+ghost use Rattle.hfsx_server.specs.Headline.{Entry, Headline, IsFinished};
+ghost use Rattle.hfsx_server.specs.Telling.{ToldRefusal, ToldUnlessFailed, refusal_text, size_refusal, usage_text, formatted_text};
+ghost use Rattle.hfsx_server.specs.Volume.{Tree, IsMountable, MountsTo};
 ghost use Rattle.hfsx_server.specs.Words.{texts, AreRun, AreFormat, AreInUse};
 
 use crate::{Status, Work, format, read_words, run, tell_usage};
@@ -34,19 +35,22 @@ pub fn hfsx<R: Rig, S: Source>(
     ensures formatted { AreFormat (texts words.now) (R.state rig.old).sectors → IsTrue (R.state rig.old).tells → result ≡ Status.Done
         → IsThin (content (R.state rig.new)) [] × IsSettled (R.state rig.new) × ((R.state rig.new).told ≡ (R.state rig.old).told ++ formatted_text) }
 
-    // `run`: status 1 stands exactly where the content is no thin volume, unless it couldn't be read.
-    ensures run_refused { AreRun (texts words.now) → IsTrue (R.state rig.old).tells → result ≡ Status.Refused → IsThinForNone (content (R.state rig.old)) }
-    ensures run_refuses { AreRun (texts words.now) → IsTrue (R.state rig.old).tells → IsThinForNone (content (R.state rig.old))
+    // `run`: status 1 stands exactly where the image isn't mountable, unless it couldn't be read, and then the first refusal
+    // that stands is told.
+    ensures run_refused { AreRun (texts words.now) → IsTrue (R.state rig.old).tells → result ≡ Status.Refused → ToldRefusal (R.state rig.old) (R.state rig.new) × ¬ IsMountable (content (R.state rig.old)) }
+    ensures run_refuses { AreRun (texts words.now) → IsTrue (R.state rig.old).tells → ¬ IsMountable (content (R.state rig.old))
         → (result ≡ Status.Refused) ⊎ ((result ≡ Status.Disk) ⊎ (result ≡ Status.Memory)) }
-    ensures run_refusal { AreRun (texts words.now) → IsTrue (R.state rig.old).tells → result ≡ Status.Refused
-        → ToldUnlessFailed (R.state rig.old) (R.state rig.new) (refusal_text (NotYet 0)) }
-    // Status 0 means that all lines of the source were answered, and that the volume has the folders that they made.
-    ensures served { AreRun (texts words.now) → IsTrue (R.state rig.old).tells → (names : List (List ℕ)) → IsThin (content (R.state rig.old)) names
-        → result ≡ Status.Done → ServesAll (R.state rig.old) names (S.stream source.old) (R.state rig.new) (S.stream source.new) }
-    ensures settled { AreRun (texts words.now) → IsTrue (R.state rig.old).tells → IsSettled (R.state rig.old) → result ≡ Status.Done → IsSettled (R.state rig.new) }
-    // Whatever ends the run, what was told is a front of the replies.
-    ensures replies { AreRun (texts words.now) → IsTrue (R.state rig.old).tells → (names : List (List ℕ)) → IsThin (content (R.state rig.old)) names
-        → ServesSome (R.state rig.old) names (S.stream source.old) (R.state rig.new) }
+    // From a mountable image with nothing pending, whatever ends the run and whenever power fails: there is one run, so
+    // that each image that a crash may leave mounts to the tree after some of its lines, which has each line whose reply
+    // was told by then. Status 0 means that all lines of the source were answered and that the volume is unmounted.
+    ensures headline { AreRun (texts words.now) → IsTrue (R.state rig.old).tells → IsSettled (R.state rig.old) → (start : Tree) → MountsTo (content (R.state rig.old)) start → (run : List Entry)
+        × Headline start (R.state rig.old) (S.stream source.old) run (R.state rig.new) (S.stream source.new)
+        × (result ≡ Status.Done → IsFinished start (R.state rig.old) (S.stream source.old) run (R.state rig.new) (S.stream source.new)) }
+    ensures end { AreRun (texts words.now) → IsTrue (S.stream source.old).tells → result ≡ Status.Done → (S.stream source.new).left ≡ [] }
+    // Status 7 stands exactly where line number 4,294,967,295 is read.
+    ensures many { IsTrue (S.stream source.old).tells → IsTrue (R.state rig.old).tells → result ≡ Status.TooMany → 4294967295 < length (lines (S.stream source.old).left) }
+    ensures few { AreRun (texts words.now) → IsTrue (S.stream source.old).tells → IsTrue (R.state rig.old).tells → IsSettled (R.state rig.old) → IsMountable (content (R.state rig.old)) → result ≡ Status.Done
+        → length (lines (S.stream source.old).left) ≤ 4294967295 }
 
     // What is refused, and wrong words, leave the image as it was.
     ensures unwritten { (result ≡ Status.Refused) ⊎ (result ≡ Status.Usage) → (R.state rig.new).candidates ≡ (R.state rig.old).candidates }
@@ -54,7 +58,6 @@ pub fn hfsx<R: Rig, S: Source>(
     ensures disk { result ≡ Status.Disk → Rose (R.state rig.old).faults (R.state rig.new).faults }
     ensures source { result ≡ Status.Source → Rose (S.stream source.old).faults (S.stream source.new).faults }
     ensures sink { result ≡ Status.Sink → Rose (R.state rig.old).sink_faults (R.state rig.new).sink_faults }
-    ensures no_many { result ≢ Status.TooMany }
     ensures same { SameDisk (R.state rig.old) (R.state rig.new) }
 {
     match read_words(words) {

@@ -4,16 +4,19 @@ ghost use Rattle.sector_disk.specs.Lists.{sector};
 ghost use Rattle.sector_disk.specs.Cause.{HasCause};
 ghost use Rattle.sector_disk.specs.Disk.{SameDisk, SameSink, IsSettled, content};
 ghost use Rattle.hfs_model.specs.Parts.{OnlyFolders, parts_of};
-ghost use Rattle.hfsx_server.specs.Volume.{OnlyReads, Holds};
+ghost use Rattle.jnl_replay.specs.Reading.{OnlyReads};
+ghost use Rattle.jnl_replay.specs.Viewing.{shown};
+ghost use Rattle.hfsx_server.specs.Volume.{HoldsAll};
 
 use hfs_model::Parts;
 use hx_bytes::{Failed, Sector};
+use jnl_replay::Peek;
 use sector_disk::{SectorDisk, write_all_then_barrier};
 
 /// The number of sectors of a volume.
 pub const VOLUME_SECTORS: u64 = 16_384;
 
-const HEADER: u64 = 2;
+pub(crate) const HEADER: u64 = 2;
 
 const BITMAP: u64 = 8;
 
@@ -25,28 +28,28 @@ const EXTENTS: u64 = 2_072;
 
 const ATTRIBUTES: u64 = 2_200;
 
-const CATALOG: u64 = 2_328;
+pub(crate) const CATALOG: u64 = 2_328;
 
-const LEAF: u64 = 2_336;
+pub(crate) const LEAF: u64 = 2_336;
 
 const ALTERNATE: u64 = 16_382;
 
-/// Reads the parts of a volume.
-pub fn read_parts<D: SectorDisk>(disk: &mut D) -> Result<Parts, Failed>
+/// Reads the parts of what a disk stands for, of which the peek was made.
+pub fn read_parts<D: SectorDisk>(disk: &mut D, peek: &Peek) -> Result<Parts, Failed>
     requires { (D.state disk.old).sectors ≡ VOLUME_SECTORS }
-    ensures parts { IsTrue (D.state disk.old).tells → IfOk result (λ parts. parts ≡ parts_of (content (D.state disk.old))) }
-    ensures only_reads { OnlyReads (D.state disk.old) (D.state disk.new) }
+    ensures parts { IsTrue (D.state disk.old).tells → IfOk result (λ parts. parts ≡ parts_of (shown peek.now (D.state disk.old).sectors (content (D.state disk.old)))) }
+    ensures reads { OnlyReads (D.state disk.old) (D.state disk.new) }
     ensures cause { HasCause (D.state disk.old).faults (D.state disk.new).faults result }
 {
-    let header = read_sector(disk, HEADER)?;
-    let alternate = read_sector(disk, ALTERNATE)?;
-    let bitmap = read_block(disk, BITMAP)?;
-    let info = read_sector(disk, INFO)?;
-    let journal = read_sector(disk, JOURNAL)?;
-    let extents = read_block(disk, EXTENTS)?;
-    let attributes = read_block(disk, ATTRIBUTES)?;
-    let catalog = read_block(disk, CATALOG)?;
-    let leaf = read_block(disk, LEAF)?;
+    let header = read_sector(disk, peek, HEADER)?;
+    let alternate = read_sector(disk, peek, ALTERNATE)?;
+    let bitmap = read_block(disk, peek, BITMAP)?;
+    let info = read_sector(disk, peek, INFO)?;
+    let journal = read_sector(disk, peek, JOURNAL)?;
+    let extents = read_block(disk, peek, EXTENTS)?;
+    let attributes = read_block(disk, peek, ATTRIBUTES)?;
+    let catalog = read_block(disk, peek, CATALOG)?;
+    let leaf = read_block(disk, peek, LEAF)?;
     Ok(Parts {
         header,
         alternate,
@@ -60,29 +63,29 @@ pub fn read_parts<D: SectorDisk>(disk: &mut D) -> Result<Parts, Failed>
     })
 }
 
-fn read_sector<D: SectorDisk>(disk: &mut D, at: u64) -> Result<Sector, Failed>
+fn read_sector<D: SectorDisk>(disk: &mut D, peek: &Peek, at: u64) -> Result<Sector, Failed>
     requires { at < (D.state disk.old).sectors }
-    ensures value { IsTrue (D.state disk.old).tells → IfOk result (λ value. value ≡ sector (content (D.state disk.old)) at) }
-    ensures only_reads { OnlyReads (D.state disk.old) (D.state disk.new) }
+    ensures value { IsTrue (D.state disk.old).tells → IfOk result (λ value. value ≡ sector (shown peek.now (D.state disk.old).sectors (content (D.state disk.old))) at) }
+    ensures reads { OnlyReads (D.state disk.old) (D.state disk.new) }
     ensures cause { HasCause (D.state disk.old).faults (D.state disk.new).faults result }
 {
     let mut value = [0; 512];
-    disk.read(at, &mut value)?;
+    peek.read(disk, at, &mut value)?;
     Ok(value)
 }
 
 // The eight sectors of a block.
-fn read_block<D: SectorDisk>(disk: &mut D, first: u64) -> Result<[Sector; 8], Failed>
+fn read_block<D: SectorDisk>(disk: &mut D, peek: &Peek, first: u64) -> Result<[Sector; 8], Failed>
     requires { first + 8 ≤ (D.state disk.old).sectors }
-    ensures block { IsTrue (D.state disk.old).tells → IfOk result (λ block. block ≡ slice_range (content (D.state disk.old)) first (first + 8)) }
-    ensures only_reads { OnlyReads (D.state disk.old) (D.state disk.new) }
+    ensures block { IsTrue (D.state disk.old).tells → IfOk result (λ block. block ≡ slice_range (shown peek.now (D.state disk.old).sectors (content (D.state disk.old))) first (first + 8)) }
+    ensures reads { OnlyReads (D.state disk.old) (D.state disk.new) }
     ensures cause { HasCause (D.state disk.old).faults (D.state disk.new).faults result }
 {
     // The last of them has a number, since the disk counts its sectors by one.
     let _sectors = disk.sectors();
     let mut block = [[0; 512]; 8];
     for at in 0..8 {
-        block[at] = read_sector(disk, first + at as u64)?;
+        block[at] = read_sector(disk, peek, first + at as u64)?;
     }
     Ok(block)
 }
@@ -90,7 +93,7 @@ fn read_block<D: SectorDisk>(disk: &mut D, first: u64) -> Result<[Sector; 8], Fa
 /// Writes all parts of a volume, each behind a barrier.
 pub fn write_parts<D: SectorDisk>(disk: &mut D, parts: &Parts) -> Result<(), Failed>
     requires { (D.state disk.old).sectors ≡ VOLUME_SECTORS }
-    ensures written { IsTrue (D.state disk.old).tells → OnOk result (Holds (D.state disk.new) parts.now) }
+    ensures written { IsTrue (D.state disk.old).tells → OnOk result (HoldsAll (D.state disk.new) parts.now) }
     ensures settled { IsTrue (D.state disk.old).tells → OnOk result (IsSettled (D.state disk.new)) }
     ensures same { SameDisk (D.state disk.old) (D.state disk.new) }
     ensures sink { SameSink (D.state disk.old) (D.state disk.new) }
@@ -105,10 +108,10 @@ pub fn write_parts<D: SectorDisk>(disk: &mut D, parts: &Parts) -> Result<(), Fai
     write_folders(disk, parts)
 }
 
-/// Writes the parts of a volume that change where a folder is made, each behind a barrier.
-pub fn write_folders<D: SectorDisk>(disk: &mut D, parts: &Parts) -> Result<(), Failed>
+// Writes the parts of a volume that list its folders, each behind a barrier.
+fn write_folders<D: SectorDisk>(disk: &mut D, parts: &Parts) -> Result<(), Failed>
     requires { (D.state disk.old).sectors ≡ VOLUME_SECTORS }
-    ensures written { IsTrue (D.state disk.old).tells → OnOk result (OnlyFolders (parts_of (content (D.state disk.old))) parts.now → Holds (D.state disk.new) parts.now) }
+    ensures written { IsTrue (D.state disk.old).tells → OnOk result (OnlyFolders (parts_of (content (D.state disk.old))) parts.now → HoldsAll (D.state disk.new) parts.now) }
     ensures settled { IsTrue (D.state disk.old).tells → OnOk result (IsSettled (D.state disk.new)) }
     ensures same { SameDisk (D.state disk.old) (D.state disk.new) }
     ensures sink { SameSink (D.state disk.old) (D.state disk.new) }

@@ -162,6 +162,10 @@ length_by c plan total fits size false =
 pub length-after : (c : Content) (plan : Plan) (total : ℕ) → FitsPlan total plan → length c ≡ total → length (after_replay plan c) ≡ length c
 length-after c plan total fits size = length_by c plan total fits size plan.fresh
 
+pub size_is : (plan : Plan) (fresh : Bool) → plan.fresh ≡ fresh → (info_after plan).size ≡ plan.info.size
+size_is plan true e = ap (λ b. (cond b (initialised plan.info) plan.info).size) e
+size_is plan false e = ap (λ b. (cond b (initialised plan.info) plan.info).size) e
+
 pub offset_is : (plan : Plan) (fresh : Bool) → plan.fresh ≡ fresh → (info_after plan).offset ≡ plan.info.offset
 offset_is plan true e = ap (λ b. (cond b (initialised plan.info) plan.info).offset) e
 offset_is plan false e = ap (λ b. (cond b (initialised plan.info) plan.info).offset) e

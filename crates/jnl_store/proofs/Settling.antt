@@ -1,5 +1,5 @@
 -- A store and its disk between two transactions, and after a barrier.
-use Rattle.std.proofs.Common.{◌≡◌, ◌⊎◌, ℕ, ◌-◌, ◌/◌, ◌<◌, ◌≤◌, true, ◌&&◌, List, [], ◌∷◌, inl, inr, length, refl, sym, ◌∙◌, ap, subst, arith}
+use Rattle.std.proofs.Common.{◌≡◌, ◌⊎◌, ℕ, ◌-◌, ◌/◌, ◌%◌, ◌<◌, ◌≤◌, true, false, ◌&&◌, List, [], ◌∷◌, inl, inr, ⊎_elim, length, refl, sym, ◌∙◌, ap, subst, arith}
 use Rattle.std.specs.Prelude.{IsTrue, Result, Ok, Err, OnOk, OnErr}
 use Rattle.std.proofs.lemmas.Bool.{and_from, and_parts, cases_lt}
 use Rattle.std.proofs.lemmas.List.{get_or_past, length-map}
@@ -17,16 +17,19 @@ use Rattle.jnl_store.specs.Journal.{IsSpilled}
 use Rattle.jnl_ring.specs.Writing.{MixesInRing}
 use Rattle.jnl_ring.proofs.RingLaws.{barrier_leaves}
 use Rattle.jnl_store.specs.Lists.{IsCapacity, IsForm, text_sectors}
-use Rattle.jnl_store.specs.Plan.{form_of, span_of}
+use Rattle.jnl_store.specs.Plan.{form_of, rested, span_of}
 use Rattle.jnl_store.proofs.ListsLaws.{sectors_monotone}
+use Rattle.jnl_format.specs.declared.structures.Info.{Info}
+use Rattle.jnl_replay.specs.Plan.{FitsPlan}
+use Rattle.jnl_replay.specs.declared.plan.Place.{Place}
 use Rattle.jnl_replay.specs.declared.plan.Plan.{Plan}
 use Rattle.jnl_store.specs.Journal.{IsAtRest, IsClosed, are_open, keeps_journal}
 use Rattle.jnl_store.specs.Overlay.{overlay}
-use Rattle.jnl_store.specs.Standing.{IsReady, IsWritten, Settles, StandsFor, StandsForDurable, StandsForEither, StandsForOne}
-use Rattle.jnl_store.specs.Store.{KeepsOn, content_over, durable_of, is_kept}
+use Rattle.jnl_store.specs.Standing.{StandsBetween, IsReady, IsWritten, Settles, StandsFor, StandsForDurable, StandsForEither, StandsForOne}
+use Rattle.jnl_store.specs.Store.{Keeps, KeepsOn, SameJournal, content_over, durable_of, is_kept}
 use Rattle.jnl_store.specs.declared.store.Store.{Store}
 use Rattle.jnl_store.specs.declared.puts.Put.{Put}
-use Rattle.jnl_store.proofs.Attached.{keeps_only}
+use Rattle.jnl_store.proofs.Attached.{keeps_only, offset_is, size_is}
 use Rattle.jnl_store.proofs.Images.{text_agrees, text_stands}
 use Rattle.jnl_store.proofs.Journals.{keeps_from, keeps_parts}
 use Rattle.jnl_store.proofs.Quiet.{rest_replayed, stands_quiet}
@@ -51,15 +54,34 @@ unfolding is_kept
 kept_from store sectors candidates a b c =
     and_from (keeps_journal store.plan candidates && are_open store.plan sectors store.batch.all) (are_open store.plan sectors store.batch.kept) (and_from (keeps_journal store.plan candidates) (are_open store.plan sectors store.batch.all) a b) c
 
+-- a disk with these candidates, of which nothing else is said
+abbrev told_only : Candidates → State
+told_only candidates = record {
+  tells = true;
+  tells_left = false;
+  names = [];
+  sectors = 0;
+  candidates = candidates;
+  told = [];
+  faults = 0;
+  sink_faults = 0;
+  barriers = 0;
+  clock = record { moment = 0; left = λ t image told. ⊥ };
+}
+
 -- what a crash leaves while nothing is written
-pub image_quiet : (store : Store) (disk : State) (image : Content) → KeepsOn store disk → IsImage disk.candidates image → StandsForDurable store disk image
-image_quiet store disk image k is =
-    let j = keeps_parts store.plan disk.candidates (kept_parts store disk.sectors disk.candidates k.1.kept).0 in
-    let m : MixesInRing (span_of store.plan) 512 [] disk.candidates image = record { size = is.size; each = λ s inside. inl (is.each s inside) } in (
+pub image_between : (store : Store) (sectors : ℕ) (candidates : Candidates) (image : Content) → Keeps store sectors candidates → IsImage candidates image → StandsBetween store candidates image
+image_between store sectors candidates image k is =
+    let disk = told_only candidates in
+    let j = keeps_parts store.plan candidates (kept_parts store sectors candidates k.kept).0 in
+    let m : MixesInRing (span_of store.plan) 512 [] candidates image = record { size = is.size; each = λ s inside. inl (is.each s inside) } in (
       image,
       text_stands store.plan store.rest disk j [] (omega arith) image m,
-      subst (λ (d : Content). AgreesOutside (λ s. IsSpilled store.plan disk.candidates s ⊎ IsClosed store.plan s) d image) (sym (durable_is store (content disk))) (text_agrees store.plan store.rest disk j [] (omega arith) image m),
+      subst (λ (d : Content). AgreesOutside (λ s. IsSpilled store.plan candidates s ⊎ IsClosed store.plan s) d image) (sym (durable_is store (content_of candidates))) (text_agrees store.plan store.rest disk j [] (omega arith) image m),
     )
+
+pub image_quiet : (store : Store) (disk : State) (image : Content) → KeepsOn store disk → IsImage disk.candidates image → StandsForDurable store disk image
+image_quiet store disk image k is = image_between store disk.sectors disk.candidates image k.1 is
 
 pub still_quiet : (store : Store) (disk : State) → KeepsOn store disk → Leaves disk disk (StandsForDurable store disk)
 still_quiet store disk k = record { time = none_passes disk.clock _; now = λ image is. image_quiet store disk image k is }
@@ -179,3 +201,93 @@ pub room_by : (plan : Plan) (puts : ℕ) → IsAtRest plan → (most : ℕ) × I
 room_by plan puts rest fits =
     let form : IsForm (form_of plan) = record { whole = rest.header.blhdr_whole; least = rest.header.blhdr_low; most = rest.header.blhdr_high } in
     omega (arith, sectors_monotone (form_of plan) form puts fits.0 fits.2, fits.1.fits)
+
+-- another list of open puts in place of what was put, or of what was kept
+pub keeps_batch : (old new : Store) (sectors : ℕ) (candidates : Candidates) → new.plan ≡ old.plan → new.unsettled ≡ old.unsettled → (new.batch.all ≡ old.batch.all) ⊎ (new.batch.all ≡ old.batch.kept) → (new.batch.kept ≡ old.batch.all) ⊎ (new.batch.kept ≡ old.batch.kept)
+    → Keeps old sectors candidates → Keeps new sectors candidates
+keeps_batch old new sectors candidates plan_is same all kept k =
+    let p = kept_parts old sectors candidates k.kept in
+    let to_new : (puts : List Put) → are_open old.plan sectors puts ≡ true → are_open new.plan sectors puts ≡ true = λ puts h. ap (λ (q : Plan). are_open q sectors puts) plan_is ∙ h in
+    record {
+      kept = kept_from new sectors candidates (ap (λ (q : Plan). keeps_journal q candidates) plan_is ∙ p.0)
+          (⊎_elim (λ e. ap (are_open new.plan sectors) e ∙ to_new old.batch.all p.1) (λ e. ap (are_open new.plan sectors) e ∙ to_new old.batch.kept p.2) all)
+          (⊎_elim (λ e. ap (are_open new.plan sectors) e ∙ to_new old.batch.all p.1) (λ e. ap (are_open new.plan sectors) e ∙ to_new old.batch.kept p.2) kept);
+      settled = λ u. k.settled (sym same ∙ u);
+    }
+
+-- the durable content is that of the plan
+pub same_durable : (a b : Store) (c : Content) → a.plan ≡ b.plan → durable_of a c ≡ durable_of b c
+same_durable a b c e = durable_is a c ∙ sym (durable_is b c)
+
+-- what a begin leaves of the lists
+pub begun_batch : {T E : Type 0} (result : Result T E) (a b : Staged) → OnOk result (b ≡ record { all = a.all; kept = a.all; room = b.room }) → OnErr result (b ≡ a) → (b.all ≡ a.all) × ((b.kept ≡ a.all) ⊎ (b.kept ≡ a.kept))
+begun_batch (Ok x) a b kept same = (ap (λ (s : Staged). s.all) kept, inl (ap (λ (s : Staged). s.kept) kept))
+begun_batch (Err e) a b kept same = (ap (λ (s : Staged). s.all) same, inr (ap (λ (s : Staged). s.kept) same))
+
+-- the same journal fits the same disk
+pub fits_still : (old new : Store) (before after : ℕ) → after ≡ before → SameJournal old new → FitsPlan before old.plan → FitsPlan after new.plan
+fits_still old new before after same j f =
+    let w = new.rest.header in
+    let place : new.plan.place.info_sector ≡ old.plan.place.info_sector = ap (λ (p : Place). p.info_sector) j.place in
+    let offset : new.plan.info.offset ≡ old.plan.info.offset = ap (λ (i : Info). i.offset) j.info in
+    let size : new.plan.info.size ≡ old.plan.info.size = ap (λ (i : Info). i.size) j.info in
+    record {
+      sectors = omega (arith, same, f.sectors);
+      info_sector = omega (arith, same, place, f.info_sector);
+      offset = ap (λ n. n % 512) offset ∙ f.offset;
+      whole = ap (λ n. n % 512) size ∙ f.whole;
+      least = new.rest.least;
+      inside = omega (arith, same, offset, size, f.inside);
+      start_low = w.start_low;
+      start_high = w.start_high;
+      end_low = w.end_low;
+      end_high = w.end_high;
+      blhdr = w.blhdr_low;
+      header = w;
+    }
+
+-- the plan after a replay is at rest
+pub rested_rests : (plan : Plan) (sectors : ℕ) → FitsPlan sectors plan → IsAtRest (rested plan)
+rested_rests plan sectors f =
+    let size : (rested plan).info.size ≡ plan.info.size = size_is plan plan.fresh refl in
+    let w = f.header in
+    record {
+      header = record {
+        start_whole = w.end_whole;
+        start_low = w.end_low;
+        start_high = omega (arith, w.end_high, size);
+        end_whole = w.end_whole;
+        end_low = w.end_low;
+        end_high = omega (arith, w.end_high, size);
+        size = w.size ∙ sym size;
+        blhdr_whole = w.blhdr_whole;
+        blhdr_low = w.blhdr_low;
+        blhdr_high = w.blhdr_high;
+      };
+      least = omega (arith, f.least, size);
+      most = omega (arith, f.inside, f.sectors, size);
+      whole = ap (λ n. n % 512) size ∙ f.whole;
+      empty = refl;
+      old = refl;
+    }
+
+pub fits_rested : (plan now : Plan) (sectors : ℕ) → IsAtRest now → now ≡ rested plan → FitsPlan sectors plan → FitsPlan sectors now
+fits_rested plan now sectors rest is f =
+    let w = rest.header in
+    let place : now.place.info_sector ≡ plan.place.info_sector = ap (λ (p : Plan). p.place.info_sector) is in
+    let offset : now.info.offset ≡ plan.info.offset = ap (λ (p : Plan). p.info.offset) is ∙ offset_is plan plan.fresh refl in
+    let size : now.info.size ≡ plan.info.size = ap (λ (p : Plan). p.info.size) is ∙ size_is plan plan.fresh refl in
+    record {
+      sectors = f.sectors;
+      info_sector = omega (arith, place, f.info_sector);
+      offset = ap (λ n. n % 512) offset ∙ f.offset;
+      whole = ap (λ n. n % 512) size ∙ f.whole;
+      least = rest.least;
+      inside = omega (arith, offset, size, f.inside);
+      start_low = w.start_low;
+      start_high = w.start_high;
+      end_low = w.end_low;
+      end_high = w.end_high;
+      blhdr = w.blhdr_low;
+      header = w;
+    }

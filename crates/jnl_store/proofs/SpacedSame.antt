@@ -1,13 +1,11 @@
 -- Spaces over stores that differ in their counts of faults alone, and over the same sectors.
-use Rattle.std.proofs.Common.{◌≡◌, ◌⊎◌, ℕ, Bool, true, false, ◌&&◌, List, [], ◌∷◌, ◌++◌, inl, inr, ⊎_elim, refl, sym, ◌∙◌, ap, subst}
+use Rattle.std.proofs.Common.{◌≡◌, ℕ, ◌&&◌, List, [], ◌∷◌, ◌++◌, inl, ⊎_elim, sym, ◌∙◌, ap, subst}
 use Rattle.std.specs.Prelude.{IsTrue, ◌↔◌}
 use Rattle.sector_disk.specs.Disk.{Candidates, State, content, content_of, only, SameDisk, SameSink}
 use Rattle.sector_disk.specs.Lists.{Content}
 use Rattle.sector_disk.specs.Space.{SameSectors, SameSpace}
-use Rattle.jnl_format.specs.Recovery.{homes_of}
 use Rattle.jnl_format.specs.declared.blocks.Home.{Home}
 use Rattle.jnl_format.proofs.Mixing.{IsNamed}
-use Rattle.jnl_replay.specs.Plan.{journal_of}
 use Rattle.jnl_replay.specs.declared.plan.Plan.{Plan}
 use Rattle.jnl_store.specs.Batch.{Staged, names}
 use Rattle.jnl_store.specs.Journal.{IsClosed, IsSpilled, are_open, keeps_journal}

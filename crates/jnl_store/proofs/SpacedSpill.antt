@@ -1,5 +1,5 @@
 -- What a spill makes of a space.
-use Rattle.std.proofs.Common.{◌≡◌, ◌≢◌, ◌⊎◌, ℕ, ◌+◌, ◌*◌, ◌/◌, ◌<◌, ◌≤◌, Bool, true, false, ◌&&◌, List, [], ◌∷◌, ◌++◌, Contains, inl, inr, ⊎_elim, length, set, refl, sym, ◌∙◌, ap, subst, arith, length-append, length-set, get_or-set_same, get_or-set_other}
+use Rattle.std.proofs.Common.{◌≡◌, ◌≢◌, ◌⊎◌, ℕ, ◌/◌, ◌<◌, Bool, true, false, ◌&&◌, List, [], ◌∷◌, ◌++◌, inl, inr, ⊎_elim, length, set, refl, sym, ◌∙◌, ap, subst, arith, length-append, length-set, get_or-set_same, get_or-set_other}
 use Rattle.std.specs.Prelude.{IsTrue, ◌↔◌}
 use Rattle.std.proofs.lemmas.Bool.{cases_Bool, cases_eq, cases_lt, true≢false}
 use Rattle.std.proofs.lemmas.List.{get_or-map, get_or_past, length-map, set-get_or, set-set, set_past}
@@ -7,20 +7,17 @@ use Rattle.sector_disk.specs.Disk.{Candidates, IsDisk, MayHaveWritten, State, ca
 use Rattle.sector_disk.specs.Lists.{Content, last, sector}
 use Rattle.sector_disk.specs.Space.{MayHaveSpilled, Spills}
 use Rattle.sector_disk.proofs.Candidates.{content_of-with_candidate}
-use Rattle.jnl_format.specs.Recovery.{replayed}
-use Rattle.jnl_replay.specs.Plan.{journal_of}
 use Rattle.jnl_replay.specs.declared.plan.Plan.{Plan}
 use Rattle.jnl_store.specs.Batch.{Staged, names}
 use Rattle.jnl_store.specs.Journal.{IsAtRest, IsClosed, IsSpilled, keeps_journal}
 use Rattle.jnl_store.specs.Overlay.{overlay}
 use Rattle.jnl_store.specs.Spaces.{over}
-use Rattle.jnl_store.specs.Store.{IsLive, content_over, durable_of}
+use Rattle.jnl_store.specs.Store.{content_over, durable_of}
 use Rattle.jnl_store.specs.declared.store.Store.{Store}
 use Rattle.jnl_store.proofs.Batches.{overlay-apart}
 use Rattle.jnl_store.proofs.Images.{closed_info, closed_own}
 use Rattle.jnl_store.proofs.Journals.{KeepsJournal, keeps_from, keeps_parts}
 use Rattle.jnl_store.proofs.Quiet.{holds_still}
-use Rattle.jnl_store.proofs.SpacedPuts.{iff_same}
 use Rattle.jnl_store.proofs.SpacedSame.{closed_same, content_same, durable_same, live_same}
 use Rattle.jnl_store.proofs.SpacedTime.{durable_is}
 

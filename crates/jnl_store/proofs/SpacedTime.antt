@@ -1,6 +1,6 @@
 -- What crashes leave of a space whose disk is at rest but for what was spilled.
-use Rattle.std.proofs.Common.{◌≡◌, ◌≢◌, ◌⊎◌, ℕ, ◌/◌, ◌<◌, ◌≤◌, Bool, true, false, ◌&&◌, List, [], inl, inr, ⊎_elim, Contains, length, refl, sym, ◌∙◌, ap, subst, arith, eqb, cond}
-use Rattle.std.specs.Prelude.{IsTrue, None, Ok, Option, Result, is_none}
+use Rattle.std.proofs.Common.{◌≡◌, ◌⊎◌, ℕ, ◌/◌, true, ◌&&◌, List, [], inl, inr, ⊎_elim, length, refl, sym, ◌∙◌, ap, subst, arith, eqb, cond}
+use Rattle.std.specs.Prelude.{IsTrue, Option, is_none}
 use Rattle.std.specs.Int.{bit_at}
 use Rattle.std.proofs.lemmas.Bool.{and_parts, and_from, cases_lt, eq-eqb}
 use Rattle.std.proofs.lemmas.List.{length-map, get_or_past}
@@ -10,17 +10,15 @@ use Rattle.volume_header.specs.declared.refusal.HeaderRefusal.{HeaderRefusal}
 use Rattle.sector_disk.specs.Clock.{Clock, Passes}
 use Rattle.sector_disk.specs.Disk.{Candidates, IsImage, LeftNow, State, candidates_of, content, content_of}
 use Rattle.sector_disk.specs.Lists.{Content, last, sector}
-use Rattle.sector_disk.specs.Space.{AgreesOutside, LeavesDurable}
-use Rattle.jnl_format.specs.Recovery.{Journal, header_of_volume, homes_of, journal_in, recovery, replayed, text_of}
+use Rattle.sector_disk.specs.Space.{AgreesOutside}
+use Rattle.jnl_format.specs.Recovery.{header_of_volume, homes_of, journal_in}
 use Rattle.jnl_format.specs.Text.{has_same_bits, is_same_kind, is_same_layout, is_same_volume, text_homes}
-use Rattle.jnl_format.specs.declared.blocks.Home.{Home}
-use Rattle.jnl_format.specs.declared.structures.JnlRefusal.{JnlRefusal}
 use Rattle.jnl_replay.specs.Plan.{journal_of}
 use Rattle.jnl_replay.specs.declared.plan.Plan.{Plan}
 use Rattle.jnl_replay.proofs.Stages.{empty_text}
 use Rattle.jnl_store.specs.Journal.{IsAtRest, IsClosed, IsSpilled, are_open, keeps_journal}
-use Rattle.jnl_store.specs.Spaces.{found, found_in, is_in_form, is_mountable, over}
-use Rattle.jnl_store.specs.Store.{Keeps, durable_of, is_kept}
+use Rattle.jnl_store.specs.Spaces.{found, found_in, is_in_form, is_mountable}
+use Rattle.jnl_store.specs.Store.{durable_of, is_kept}
 use Rattle.jnl_store.specs.declared.store.Store.{Store}
 use Rattle.jnl_store.proofs.Images.{closed_or, one_is, same_or_more}
 use Rattle.jnl_store.proofs.Journals.{HoldsJournal, KeepsJournal, keeps_parts}

@@ -3,6 +3,7 @@ pub mod Journal
 pub mod Lists
 pub mod Overlay
 pub mod Plan
+pub mod Seen
 pub mod SpaceLaws
 pub mod Spaces
 pub mod Standing

@@ -1,7 +1,7 @@
 -- What a crash leaves while a store writes, as a mount finds it.
 use Rattle.std.specs.Prelude.{◌≡◌, ◌⊎◌, ℕ, ◌/◌, ◌++◌, List, drop, IsTrue, Ok}
 use Rattle.sector_disk.specs.Lists.{Content, sector}
-use Rattle.sector_disk.specs.Disk.{State, IsSettled, content}
+use Rattle.sector_disk.specs.Disk.{Candidates, State, IsSettled, content, content_of}
 use Rattle.sector_disk.specs.Space.{AgreesOutside}
 use Rattle.jnl_format.specs.Header.{header_bytes, IsHeader}
 use Rattle.jnl_format.specs.Recovery.{header_of_volume, journaling_version, recovery}
@@ -35,6 +35,12 @@ pub record StandsFor (plan : Plan) (old image recovered : Content) : Type 0 wher
 -- the same content, but in what was spilled and in the journal itself
 abbrev pub AgreesDurable : Plan → State → Content → Content → Type 0
 AgreesDurable plan disk durable recovered = AgreesOutside (λ s. IsSpilled plan disk.candidates s ⊎ IsClosed plan s) durable recovered
+
+-- the image of these candidates stands for the durable content, but in what was spilled and in the journal itself
+abbrev pub StandsBetween : Store → Candidates → Content → Type 0
+StandsBetween store candidates image =
+    (recovered : Content) × StandsFor store.plan (content_of candidates) image recovered
+    × AgreesOutside (λ s. IsSpilled store.plan candidates s ⊎ IsClosed store.plan s) (durable_of store (content_of candidates)) recovered
 
 -- the image stands for the durable content, but in what was spilled and in the journal itself
 abbrev pub StandsForDurable : Store → State → Content → Type 0

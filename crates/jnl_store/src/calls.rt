@@ -1,14 +1,14 @@
 //! The calls of a store that reach no disk.
 ghost use Rattle.std.specs.Prelude.{◌≡◌, ◌<◌, ◌≤◌, ◌+◌, ◌-◌, ℕ, [], Bool, IsTrue, IfOk, OnOk, OnErr, length};
 ghost use Rattle.sector_disk.specs.Lists.{Content};
-ghost use Rattle.sector_disk.specs.Disk.{only};
+ghost use Rattle.sector_disk.specs.Disk.{Candidates, only};
 ghost use Rattle.jnl_ring.proofs.Bytes.{AreWhole};
 ghost use Rattle.jnl_replay.specs.Homing.{after_replay};
 ghost use Rattle.jnl_replay.specs.Plan.{FitsPlan, IsPlan};
 ghost use Rattle.jnl_store.specs.Batch.{AreOnce};
 ghost use Rattle.jnl_store.specs.Lists.{IsCapacity};
 ghost use Rattle.sector_disk.specs.Cause.{next_count};
-ghost use Rattle.jnl_store.specs.Store.{Keeps, SameButBatch, spare_of};
+ghost use Rattle.jnl_store.specs.Store.{Keeps, SameButBatch, durable_of, spare_of};
 ghost use Rattle.jnl_store.specs.Plan.{form_of, rested, span_of};
 
 use crate::batch::Batch;
@@ -21,11 +21,12 @@ use jnl_ring::Span;
 use std::alloc::Global;
 
 impl Store {
-    /// The store of a disk that a replay of this plan has left, or of any other disk with the same volume and an
-    /// empty journal like that one. Nothing is pending there. `cache` is the number of slots for sectors; no slot is used yet.
+    /// The store of the disk that a replay of this plan leaves. `cache` is the number of slots for sectors; no slot is
+    /// used yet. It may be made before the replay.
     pub fn attach(alloc: Global, plan: &Plan, cache: u32) -> Result<Store, OutOfMemory>
         requires fits { (sectors : ℕ) × FitsPlan sectors plan.now }
         ensures plan { IfOk result (λ store. store.plan ≡ rested plan.now) }
+        ensures still_fits { (sectors : ℕ) → FitsPlan sectors plan.now → IfOk result (λ store. FitsPlan sectors store.plan) }
         ensures nothing { IfOk result (λ store. store.batch ≡ record { all = []; kept = []; room = 0 }) }
         ensures settled { IfOk result (λ store. store.unsettled ≡ Bool.false) }
         ensures faults { IfOk result (λ store. store.faults ≡ 0) }
@@ -33,6 +34,8 @@ impl Store {
         // On the disk that a replay of the plan leaves, it keeps what it has to keep.
         ensures keeps { (sectors : ℕ) (content : Content) → FitsPlan sectors plan.now → length content ≡ sectors → AreWhole content → IsPlan content plan.now
             → IfOk result (λ store. Keeps store sectors (only (after_replay plan.now content))) }
+        // No list is live there: the durable content is the disk's.
+        ensures durable { (content : Content) → IfOk result (λ store. durable_of store content ≡ content) }
     {
         Ok(Store {
             plan: rest(plan),
@@ -82,6 +85,7 @@ impl Store {
         ensures spare { spare_of self.old ≤ spare_of self.new }
         ensures kept { OnOk result (self.new.batch ≡ record { all = self.old.batch.all; kept = self.old.batch.all; room = self.new.batch.room }) }
         ensures rest { SameButBatch self.old self.new }
+        ensures keeps { (sectors : ℕ) (candidates : Candidates) → Keeps self.old sectors candidates → Keeps self.new sectors candidates }
         ensures same { OnErr result (self.new ≡ self.old) }
     {
         self.batch.begin(sectors)
@@ -91,6 +95,7 @@ impl Store {
     pub fn keep(&mut self)
         ensures kept { self.new.batch ≡ record self.old.batch { kept = self.old.batch.all } }
         ensures rest { SameButBatch self.old self.new }
+        ensures keeps { (sectors : ℕ) (candidates : Candidates) → Keeps self.old sectors candidates → Keeps self.new sectors candidates }
     {
         self.batch.keep();
     }
@@ -99,6 +104,7 @@ impl Store {
     pub fn undo(&mut self)
         ensures dropped { self.new.batch ≡ record self.old.batch { all = self.old.batch.kept } }
         ensures rest { SameButBatch self.old self.new }
+        ensures keeps { (sectors : ℕ) (candidates : Candidates) → Keeps self.old sectors candidates → Keeps self.new sectors candidates }
     {
         self.batch.undo();
     }

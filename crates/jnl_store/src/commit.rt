@@ -43,6 +43,7 @@ impl Store {
         ensures nothing { OnOk result ((self.new.batch.all ≡ []) × (self.new.batch.kept ≡ []) × (self.new.unsettled ≡ Bool.false) × (self.new.faults ≡ self.old.faults)) }
         ensures room { spare_of self.old ≤ spare_of self.new }
         ensures journal { SameJournal self.old self.new }
+        ensures still_fits { FitsPlan (D.state disk.new).sectors self.new.plan }
         ensures barriers { (D.state disk.new).barriers ≤ (D.state disk.old).barriers + 4 }
         ensures same { SameDisk (D.state disk.old) (D.state disk.new) }
         ensures sink { SameSink (D.state disk.old) (D.state disk.new) }
@@ -77,11 +78,12 @@ impl Store {
         ensures batch { self.new.batch ≡ self.old.batch }
         ensures settled { OnOk result ((self.new.unsettled ≡ Bool.false) × (self.new.faults ≡ self.old.faults)) }
         ensures journal { SameJournal self.old self.new }
+        ensures still_fits { FitsPlan (D.state disk.new).sectors self.new.plan }
         ensures barriers { (D.state disk.new).barriers ≤ (D.state disk.old).barriers + 2 }
         ensures same { SameDisk (D.state disk.old) (D.state disk.new) }
         ensures sink { SameSink (D.state disk.old) (D.state disk.new) }
     {
-        if self.faults > 0 {
+        if self.faults != 0 {
             return Err(StoreFault::Failed(self.faults));
         }
         match self.settle(disk) {

@@ -6,6 +6,7 @@ mod calls;
 mod commit;
 mod form;
 mod header_sector;
+mod law;
 mod list_header;
 mod lists;
 mod puts;
@@ -15,6 +16,7 @@ mod store;
 mod transaction;
 
 pub use form::{ListForm, capacity};
+pub use law::crashes_leave_durable;
 pub use puts::Put;
 pub use space::Space;
 pub use store::{Store, StoreFault};

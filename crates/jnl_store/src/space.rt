@@ -8,7 +8,7 @@ ghost use Rattle.sector_disk.specs.Space.{SameSpace, SameRoom, TakesRoom, SameSe
 ghost use Rattle.jnl_replay.specs.Reading.{OnlyReads};
 ghost use Rattle.jnl_store.specs.Journal.{IsClosed};
 ghost use Rattle.jnl_store.specs.Store.{KeepsOn, SameButBatch, SameButFaults};
-ghost use Rattle.jnl_store.specs.Spaces.{over};
+ghost use Rattle.jnl_store.specs.Seen.{seen};
 
 use crate::store::Store;
 use hx_bytes::{Failed, Sector};
@@ -36,13 +36,13 @@ impl<D: SectorDisk> SectorView for Space<'_, '_, D> {
 
     /// What was put into the sector, or else what the disk has there.
     fn get(&mut self, at: u64, into: &mut Sector) -> Result<(), Failed>
-        requires { at < (over self.old.store.ghost_name self.old.disk.ghost_name self.old.store.now (D.state self.old.disk.now)).sectors }
-        ensures value { IsTrue (over self.old.store.ghost_name self.old.disk.ghost_name self.old.store.now (D.state self.old.disk.now)).tells → OnOk result (into.new ≡ sector (over self.old.store.ghost_name self.old.disk.ghost_name self.old.store.now (D.state self.old.disk.now)).content at) }
-        ensures sectors { IsTrue (over self.old.store.ghost_name self.old.disk.ghost_name self.old.store.now (D.state self.old.disk.now)).tells → SameSectors (over self.old.store.ghost_name self.old.disk.ghost_name self.old.store.now (D.state self.old.disk.now)) (over self.new.store.ghost_name self.new.disk.ghost_name self.new.store.now (D.state self.new.disk.now)) }
-        ensures time { IsTrue (over self.old.store.ghost_name self.old.disk.ghost_name self.old.store.now (D.state self.old.disk.now)).tells → Passes (over self.old.store.ghost_name self.old.disk.ghost_name self.old.store.now (D.state self.old.disk.now)).clock (over self.new.store.ghost_name self.new.disk.ghost_name self.new.store.now (D.state self.new.disk.now)).clock (LeavesDurable (over self.new.store.ghost_name self.new.disk.ghost_name self.new.store.now (D.state self.new.disk.now))) }
-        ensures room { SameRoom (over self.old.store.ghost_name self.old.disk.ghost_name self.old.store.now (D.state self.old.disk.now)) (over self.new.store.ghost_name self.new.disk.ghost_name self.new.store.now (D.state self.new.disk.now)) }
-        ensures same { SameSpace (over self.old.store.ghost_name self.old.disk.ghost_name self.old.store.now (D.state self.old.disk.now)) (over self.new.store.ghost_name self.new.disk.ghost_name self.new.store.now (D.state self.new.disk.now)) }
-        ensures cause { HasCause (over self.old.store.ghost_name self.old.disk.ghost_name self.old.store.now (D.state self.old.disk.now)).faults (over self.new.store.ghost_name self.new.disk.ghost_name self.new.store.now (D.state self.new.disk.now)).faults result }
+        requires { at < (seen D.state self.old).sectors }
+        ensures value { IsTrue (seen D.state self.old).tells → OnOk result (into.new ≡ sector (seen D.state self.old).content at) }
+        ensures sectors { IsTrue (seen D.state self.old).tells → SameSectors (seen D.state self.old) (seen D.state self.new) }
+        ensures time { IsTrue (seen D.state self.old).tells → Passes (seen D.state self.old).clock (seen D.state self.new).clock (LeavesDurable (seen D.state self.new)) }
+        ensures room { SameRoom (seen D.state self.old) (seen D.state self.new) }
+        ensures same { SameSpace (seen D.state self.old) (seen D.state self.new) }
+        ensures cause { HasCause (seen D.state self.old).faults (seen D.state self.new).faults result }
         // The disk is only read, and the store counts a fault.
         ensures reads { OnlyReads (D.state self.old.disk.now) (D.state self.new.disk.now) }
         ensures store { SameButFaults self.old.store.now self.new.store.now }
@@ -75,14 +75,14 @@ impl<D: SectorDisk> SectorSpace for Space<'_, '_, D> {
 
     /// Notes the sector for the next commit. The disk isn't called.
     fn put(&mut self, at: u64, from: &Sector)
-        requires inside { at < (over self.old.store.ghost_name self.old.disk.ghost_name self.old.store.now (D.state self.old.disk.now)).sectors }
-        requires open { IsTrue (over self.old.store.ghost_name self.old.disk.ghost_name self.old.store.now (D.state self.old.disk.now)).tells → (over self.old.store.ghost_name self.old.disk.ghost_name self.old.store.now (D.state self.old.disk.now)).closed at → ⊥ }
-        requires room { (0 < (over self.old.store.ghost_name self.old.disk.ghost_name self.old.store.now (D.state self.old.disk.now)).spare) ⊎ IsTrue ((over self.old.store.ghost_name self.old.disk.ghost_name self.old.store.now (D.state self.old.disk.now)).put at) }
-        ensures puts { IsTrue (over self.old.store.ghost_name self.old.disk.ghost_name self.old.store.now (D.state self.old.disk.now)).tells → Puts (over self.old.store.ghost_name self.old.disk.ghost_name self.old.store.now (D.state self.old.disk.now)) at from.now (over self.new.store.ghost_name self.new.disk.ghost_name self.new.store.now (D.state self.new.disk.now)) }
-        ensures time { IsTrue (over self.old.store.ghost_name self.old.disk.ghost_name self.old.store.now (D.state self.old.disk.now)).tells → Passes (over self.old.store.ghost_name self.old.disk.ghost_name self.old.store.now (D.state self.old.disk.now)).clock (over self.new.store.ghost_name self.new.disk.ghost_name self.new.store.now (D.state self.new.disk.now)).clock (LeavesDurable (over self.new.store.ghost_name self.new.disk.ghost_name self.new.store.now (D.state self.new.disk.now))) }
-        ensures room { TakesRoom (over self.old.store.ghost_name self.old.disk.ghost_name self.old.store.now (D.state self.old.disk.now)) at (over self.new.store.ghost_name self.new.disk.ghost_name self.new.store.now (D.state self.new.disk.now)) }
-        ensures same { SameSpace (over self.old.store.ghost_name self.old.disk.ghost_name self.old.store.now (D.state self.old.disk.now)) (over self.new.store.ghost_name self.new.disk.ghost_name self.new.store.now (D.state self.new.disk.now)) }
-        ensures faults { (over self.new.store.ghost_name self.new.disk.ghost_name self.new.store.now (D.state self.new.disk.now)).faults ≡ (over self.old.store.ghost_name self.old.disk.ghost_name self.old.store.now (D.state self.old.disk.now)).faults }
+        requires inside { at < (seen D.state self.old).sectors }
+        requires open { IsTrue (seen D.state self.old).tells → (seen D.state self.old).closed at → ⊥ }
+        requires room { (0 < (seen D.state self.old).spare) ⊎ IsTrue ((seen D.state self.old).put at) }
+        ensures puts { IsTrue (seen D.state self.old).tells → Puts (seen D.state self.old) at from.now (seen D.state self.new) }
+        ensures time { IsTrue (seen D.state self.old).tells → Passes (seen D.state self.old).clock (seen D.state self.new).clock (LeavesDurable (seen D.state self.new)) }
+        ensures room { TakesRoom (seen D.state self.old) at (seen D.state self.new) }
+        ensures same { SameSpace (seen D.state self.old) (seen D.state self.new) }
+        ensures faults { (seen D.state self.new).faults ≡ (seen D.state self.old).faults }
         ensures disk { Untouched (D.state self.old.disk.now) (D.state self.new.disk.now) }
         ensures store { SameButBatch self.old.store.now self.new.store.now }
         ensures kept { self.new.store.now.batch.kept ≡ self.old.store.now.batch.kept }
@@ -96,16 +96,16 @@ impl<D: SectorDisk> SectorSpace for Space<'_, '_, D> {
 
     /// Writes the sector to the disk at once.
     fn spill(&mut self, at: u64, from: &Sector) -> Result<(), Failed>
-        requires inside { at < (over self.old.store.ghost_name self.old.disk.ghost_name self.old.store.now (D.state self.old.disk.now)).sectors }
-        requires open { IsTrue (over self.old.store.ghost_name self.old.disk.ghost_name self.old.store.now (D.state self.old.disk.now)).tells → (over self.old.store.ghost_name self.old.disk.ghost_name self.old.store.now (D.state self.old.disk.now)).closed at → ⊥ }
+        requires inside { at < (seen D.state self.old).sectors }
+        requires open { IsTrue (seen D.state self.old).tells → (seen D.state self.old).closed at → ⊥ }
         requires no_header { at ≢ 2 }
-        requires idle { IsTrue (over self.old.store.ghost_name self.old.disk.ghost_name self.old.store.now (D.state self.old.disk.now)).tells → (over self.old.store.ghost_name self.old.disk.ghost_name self.old.store.now (D.state self.old.disk.now)).live at → ⊥ }
-        ensures spills { IsTrue (over self.old.store.ghost_name self.old.disk.ghost_name self.old.store.now (D.state self.old.disk.now)).tells → OnOk result (Spills (over self.old.store.ghost_name self.old.disk.ghost_name self.old.store.now (D.state self.old.disk.now)) at from.now (over self.new.store.ghost_name self.new.disk.ghost_name self.new.store.now (D.state self.new.disk.now))) }
-        ensures unsure { IsTrue (over self.old.store.ghost_name self.old.disk.ghost_name self.old.store.now (D.state self.old.disk.now)).tells → OnErr result (MayHaveSpilled (over self.old.store.ghost_name self.old.disk.ghost_name self.old.store.now (D.state self.old.disk.now)) at from.now (over self.new.store.ghost_name self.new.disk.ghost_name self.new.store.now (D.state self.new.disk.now))) }
-        ensures time { IsTrue (over self.old.store.ghost_name self.old.disk.ghost_name self.old.store.now (D.state self.old.disk.now)).tells → Passes (over self.old.store.ghost_name self.old.disk.ghost_name self.old.store.now (D.state self.old.disk.now)).clock (over self.new.store.ghost_name self.new.disk.ghost_name self.new.store.now (D.state self.new.disk.now)).clock (LeavesDurable (over self.new.store.ghost_name self.new.disk.ghost_name self.new.store.now (D.state self.new.disk.now))) }
-        ensures room { SameRoom (over self.old.store.ghost_name self.old.disk.ghost_name self.old.store.now (D.state self.old.disk.now)) (over self.new.store.ghost_name self.new.disk.ghost_name self.new.store.now (D.state self.new.disk.now)) }
-        ensures same { SameSpace (over self.old.store.ghost_name self.old.disk.ghost_name self.old.store.now (D.state self.old.disk.now)) (over self.new.store.ghost_name self.new.disk.ghost_name self.new.store.now (D.state self.new.disk.now)) }
-        ensures cause { HasCause (over self.old.store.ghost_name self.old.disk.ghost_name self.old.store.now (D.state self.old.disk.now)).faults (over self.new.store.ghost_name self.new.disk.ghost_name self.new.store.now (D.state self.new.disk.now)).faults result }
+        requires idle { IsTrue (seen D.state self.old).tells → (seen D.state self.old).live at → ⊥ }
+        ensures spills { IsTrue (seen D.state self.old).tells → OnOk result (Spills (seen D.state self.old) at from.now (seen D.state self.new)) }
+        ensures unsure { IsTrue (seen D.state self.old).tells → OnErr result (MayHaveSpilled (seen D.state self.old) at from.now (seen D.state self.new)) }
+        ensures time { IsTrue (seen D.state self.old).tells → Passes (seen D.state self.old).clock (seen D.state self.new).clock (LeavesDurable (seen D.state self.new)) }
+        ensures room { SameRoom (seen D.state self.old) (seen D.state self.new) }
+        ensures same { SameSpace (seen D.state self.old) (seen D.state self.new) }
+        ensures cause { HasCause (seen D.state self.old).faults (seen D.state self.new).faults result }
         ensures disk { SameDisk (D.state self.old.disk.now) (D.state self.new.disk.now) }
         ensures sink { SameSink (D.state self.old.disk.now) (D.state self.new.disk.now) }
         ensures batch { self.new.store.now.batch ≡ self.old.store.now.batch }

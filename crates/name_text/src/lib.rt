@@ -10,7 +10,7 @@ mod read;
 mod units;
 
 pub use hx_bytes::Units;
-pub use laws::{printed_is_read_back, text_is_read_as_spelled};
+pub use laws::{printed_is_one_word, printed_is_read_back, text_is_read_as_spelled};
 pub use order::compare;
 pub use piece::{NameFault, Piece};
 pub use print::print_component;

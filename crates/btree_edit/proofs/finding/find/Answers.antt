@@ -4,7 +4,7 @@ use Rattle.btree_node.specs.Tree.{IsTreeNode}
 use Rattle.btree_edit.specs.Reading.{LeadsTo, LeadsToLeaf}
 use Rattle.btree_edit.proofs.Descent.{leads_node}
 use Rattle.btree_edit.proofs.Repeated.{still_node}
-use Rattle.btree_edit.proofs.Picking.{finds}
+use Rattle.btree_edit.proofs.Picking.{finds, stands}
 use Rattle.btree_edit.proofs.finding.find.Goals as goal
 
 clashing : true ≡ false → ⊥
@@ -33,6 +33,19 @@ returns-clause-found g c = λ tells.
     let yes : c.in_ok-read_node.field-0 ≡ true = c.if-not-branch.false in
     let into : c.read_node.new.into ≡ s.nodes c.in-Some.node = c.in_ok-read_node.ensures.value (c.descend.ensures.reads.same.tells ∙ tells) yes ∙ (c.descend.ensures.reads.tree tells).nodes c.in-Some.node in
     finds g.K.KeyOrder.is_key g.K.KeyOrder.cmp g.met.K.KeyOrder.total g.met.K.KeyOrder.key_length s t.levels t.ordered c.args.key.now c.in-Some.node some leads
+    (record { node = c.read_node.new.into; other = c.descend.new.desk.other; held = c.descend.new.desk.held; first = c.descend.new.desk.first; second = c.descend.new.desk.second; path = c.descend.new.desk.path }) c.pick.new.desk into
+    (record { key = ap (λ h. h.key) c.descend.ensures.held ∙ c.forget.ensures.key; value = ap (λ h. h.value) c.descend.ensures.held ∙ c.forget.ensures.value })
+    c.pick.result c.pick.ensures.picks
+
+pub returns-clause-place : goal.returns-clause-place
+returns-clause-place g c = λ tells.
+    let s = g.N.NodeStore.state c.args.store.now in
+    let t = c.requires.tree tells in
+    let some : 0 < s.shape.depth = (subst (λ o. IsSome o → 0 < s.shape.depth) c.in-Some.is c.in_ok-node.ensures.depth) (search rules) in
+    let leads : LeadsTo g.K.KeyOrder.cmp c.args.key.now s (s.shape.depth - 1) c.in-Some.node = subst (λ o. LeadsToLeaf g.K.KeyOrder.cmp c.args.key.now s o) c.in-Some.is (c.in_ok-node.ensures.leaf tells) in
+    let yes : c.in_ok-read_node.field-0 ≡ true = c.if-not-branch.false in
+    let into : c.read_node.new.into ≡ s.nodes c.in-Some.node = c.in_ok-read_node.ensures.value (c.descend.ensures.reads.same.tells ∙ tells) yes ∙ (c.descend.ensures.reads.tree tells).nodes c.in-Some.node in
+    stands g.K.KeyOrder.is_key g.K.KeyOrder.cmp g.met.K.KeyOrder.total g.met.K.KeyOrder.key_length s t.levels t.ordered c.args.key.now c.in-Some.node some leads
     (record { node = c.read_node.new.into; other = c.descend.new.desk.other; held = c.descend.new.desk.held; first = c.descend.new.desk.first; second = c.descend.new.desk.second; path = c.descend.new.desk.path }) c.pick.new.desk into
     (record { key = ap (λ h. h.key) c.descend.ensures.held ∙ c.forget.ensures.key; value = ap (λ h. h.value) c.descend.ensures.held ∙ c.forget.ensures.value })
     c.pick.result c.pick.ensures.picks

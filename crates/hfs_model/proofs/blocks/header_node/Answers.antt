@@ -1,8 +1,8 @@
-use Rattle.std.proofs.Common.{◌≡◌, ◌+◌, ◌*◌, ◌≤◌, List, ℕ, length, None, sym, ◌∙◌, subst}
+use Rattle.std.proofs.Common.{◌+◌, ◌*◌, ◌≤◌, List, ℕ, length, None, sym, ◌∙◌, subst}
 use Rattle.std.specs.List.{concat}
 use Rattle.std.specs.Result.{IfOk}
 use Rattle.hfs_model.specs.Bits.{is_marked}
-use Rattle.hfs_model.specs.Node.{IsNode, header_head, header_items}
+use Rattle.hfs_model.specs.Node.{IsNode, header_head}
 use Rattle.hfs_model.proofs.Lengths.{header_items_room}
 use Rattle.hfs_model.proofs.blocks.header_node.Goals as goal
 

@@ -1,4 +1,4 @@
-use Rattle.std.proofs.Common.{◌≡◌, List, ℕ, [], drop, sym, ◌∙◌, ap}
+use Rattle.std.proofs.Common.{List, ℕ, [], sym, ◌∙◌, ap}
 use Rattle.std.proofs.lemmas.List.{at_drop_all}
 use Rattle.hfs_model.specs.Names.{in_order, with_all}
 use Rattle.hfs_model.proofs.names.insert_all.Goals as goal

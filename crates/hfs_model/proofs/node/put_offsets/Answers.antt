@@ -1,9 +1,8 @@
-use Rattle.std.proofs.Common.{◌≡◌, ℕ, ◌-◌, ◌+◌, List, ◌++◌, length, sym, ◌∙◌, ap, arith, rules, take}
+use Rattle.std.proofs.Common.{ℕ, ◌-◌, ◌+◌, List, ◌++◌, length, sym, ◌∙◌, ap, arith}
 use Rattle.std.proofs.lemmas.List.{take_all, append_assoc}
 use Rattle.std.specs.List.{concat}
 use Rattle.hx_bytes.specs.Field.{big}
-use Rattle.hfs_model.specs.Node.{offsets_bytes}
-use Rattle.hfs_model.proofs.Nodes.{offsets_start, OffsetStep, offset_step, offsets_end}
+use Rattle.hfs_model.proofs.Nodes.{offsets_start, offset_step, offsets_end}
 use Rattle.hfs_model.proofs.node.put_offsets.Goals as goal
 
 pub loop-left-init : goal.loop-left-init

@@ -1,4 +1,4 @@
-use Rattle.std.proofs.Common.{◌≡◌, ◌<◌, ◌^◌, ◌++◌, true, List, ℕ, [], length, replicate, None, IsTrue, refl, sym, ◌∙◌, ap, subst, arith}
+use Rattle.std.proofs.Common.{◌≡◌, ◌++◌, true, List, ℕ, [], length, replicate, None, IsTrue, refl, sym, ◌∙◌, ap, subst, arith}
 use Rattle.hfs_model.specs.declared.node.TreeHeader.{TreeHeader}
 use Rattle.hfs_model.specs.Bits.{is_marked}
 use Rattle.hfs_model.specs.Names.{are_distinct, are_thin_names}

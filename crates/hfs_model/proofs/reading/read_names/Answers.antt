@@ -1,5 +1,5 @@
 use Rattle.std.proofs.Common.{◌≡◌, ℕ, ◌+◌, ◌-◌, ◌*◌, ◌∷◌, ◌++◌, [], ◌∙◌, ap, arith, rules}
-use Rattle.hfs_model.specs.Reading.{names_at, folders_in, threads_in}
+use Rattle.hfs_model.specs.Reading.{names_at, threads_in}
 use Rattle.hfs_model.proofs.Further.{name_pushed, names_end}
 use Rattle.hfs_model.proofs.reading.read_names.Goals as goal
 

@@ -1,50 +1,52 @@
-use Rattle.std.proofs.Common.{◌≡◌, ◌∙◌, IsTrue, Err, List, ℕ, refl, sym, ap, subst, arith}
+use Rattle.std.proofs.Common.{◌≡◌, ◌≢◌, ◌⊎◌, ◌≤◌, ◌∙◌, ◌++◌, [], ℕ, List, IsTrue, Result, Err, inl, inr, ⊎_elim, length, refl, sym, ap, subst, arith}
 use Rattle.sector_disk.specs.Disk.{content}
-use Rattle.hfs_model.specs.Thin.{AreThin, IsThin}
-use Rattle.hfs_model.proofs.Checks.{one_list}
-use Rattle.hfs_model.specs.Parts.{parts_of}
-use Rattle.hfsx_server.specs.declared.refusal.Refusal.TheVariants.{NotYet}
-use Rattle.hfsx_server.specs.Serving.{ServesAll, ServesSome}
-use Rattle.hfsx_server.specs.Telling.{ToldUnlessFailed, refusal_text}
-use Rattle.hfsx_server.proofs.Sessions.{all_from, some_from, some_nothing, rose_later}
+use Rattle.sector_disk.proofs.Writing.{same_after}
+use Rattle.hfsx_server.specs.declared.faults.MountFault.{MountFault}
+use Rattle.hfsx_server.specs.declared.status.Status.TheVariants as status
+use Rattle.hfsx_server.specs.Headline.{Entry, IsFinished}
+use Rattle.hfsx_server.specs.Serving.{Crashes}
+use Rattle.hfsx_server.specs.Telling.{ToldUnlessFailed, fault_text}
+use Rattle.hfsx_server.specs.Volume.{IsFault, IsRefusal, MountsTo, Refuses, Tree}
+use Rattle.hfsx_server.proofs.Finding.{refused_image}
+use Rattle.hfsx_server.proofs.Mounted.{one_tree}
+use Rattle.hfsx_server.proofs.Ran.{few_lines, finished_before, headline_of, mounted_crashes, none_crashes, none_taken, refusal_of, rests_start}
+use Rattle.hfsx_server.proofs.Statuses.{rose_later, stopped_status}
 use Rattle.hfsx_server.proofs.Telling.{told_from}
-use Rattle.hfsx_server.proofs.Volumes.{mounted_holds, size_of}
 use Rattle.hfsx_server.proofs.running.run.Goals as goal
 
-pub serve-requires-clause-holds : goal.serve-requires-clause-holds
-serve-requires-clause-holds g c tells =
-    let told = subst IsTrue c.mount.ensures.only_reads.same.tells tells in
-    mounted_holds (g.R.SectorDisk.state c.args.rig.now) (g.R.SectorDisk.state c.mount.new.rig) c.in-Ok.server.parts (g.met.R.SectorDisk.well_formed c.args.rig.now) told c.in-Ok.ensures.size
-    c.mount.ensures.only_reads.candidates (c.in-Ok.ensures.holds told)
+pub returns-in-Ok-clause-refused : goal.returns-in-Ok-clause-refused
+returns-in-Ok-clause-refused g c tells is = absurd (c.serve.ensures.no_refused is)
 
 pub returns-in-Ok-clause-refuses : goal.returns-in-Ok-clause-refuses
-returns-in-Ok-clause-refuses g c tells none =
-    let old = g.R.SectorDisk.state c.args.rig.now in
-    let thin : IsThin (content old) c.in-Ok.server.names = record {
-      size = size_of old (g.met.R.SectorDisk.well_formed c.args.rig.now) tells ∙ c.in-Ok.ensures.size;
-      parts = subst (λ parts. AreThin parts c.in-Ok.server.names) (sym (c.in-Ok.ensures.holds tells)) c.in-Ok.ensures.thin;
-    } in
-    absurd (none c.in-Ok.server.names thin)
+returns-in-Ok-clause-refuses g c tells none = absurd (none (c.in-Ok.server.names, c.in-Ok.ensures.found tells))
 
-pub returns-in-Ok-clause-served : goal.returns-in-Ok-clause-served
-returns-in-Ok-clause-served g c tells names thin is =
-    let old = g.R.SectorDisk.state c.args.rig.now in
-    let mid = g.R.SectorDisk.state c.mount.new.rig in
-    let new = g.R.SectorDisk.state c.serve.new.rig in
-    let still = subst IsTrue (sym c.mount.ensures.only_reads.same.tells) tells in
-    let same = one_list (parts_of (content old)) c.in-Ok.server.names names (subst (λ parts. AreThin parts c.in-Ok.server.names) (sym (c.in-Ok.ensures.holds tells)) c.in-Ok.ensures.thin) thin.parts in
-    subst (λ (n : List (List ℕ)). ServesAll old n (g.S.Source.stream c.args.source.now) new (g.S.Source.stream c.serve.new.source)) same
-    (all_from old mid c.in-Ok.server.names (g.S.Source.stream c.args.source.now) new (g.S.Source.stream c.serve.new.source) c.mount.ensures.only_reads.sink.told (c.serve.ensures.served still is))
+pub returns-in-Ok-clause-unwritten : goal.returns-in-Ok-clause-unwritten
+returns-in-Ok-clause-unwritten g c is = absurd (c.serve.ensures.no_refused is)
 
-pub returns-in-Ok-clause-some : goal.returns-in-Ok-clause-some
-returns-in-Ok-clause-some g c tells names thin =
-    let old = g.R.SectorDisk.state c.args.rig.now in
-    let mid = g.R.SectorDisk.state c.mount.new.rig in
-    let new = g.R.SectorDisk.state c.serve.new.rig in
-    let still = subst IsTrue (sym c.mount.ensures.only_reads.same.tells) tells in
-    let same = one_list (parts_of (content old)) c.in-Ok.server.names names (subst (λ parts. AreThin parts c.in-Ok.server.names) (sym (c.in-Ok.ensures.holds tells)) c.in-Ok.ensures.thin) thin.parts in
-    subst (λ (n : List (List ℕ)). ServesSome old n (g.S.Source.stream c.args.source.now) new) same
-    (some_from old mid c.in-Ok.server.names (g.S.Source.stream c.args.source.now) new c.mount.ensures.only_reads.sink.told (c.serve.ensures.some still))
+pub returns-in-Ok-clause-headline : goal.returns-in-Ok-clause-headline
+returns-in-Ok-clause-headline g c tells settled start mounts =
+    let s0 = g.R.SectorDisk.state c.args.rig.now in
+    let s1 = g.R.SectorDisk.state c.mount.new.rig in
+    let s2 = g.R.SectorDisk.state c.serve.new.rig in
+    let c0 = g.S.Source.stream c.args.source.now in
+    let c2 = g.S.Source.stream c.serve.new.source in
+    let same : c.in-Ok.server.names ≡ start = one_tree (content s0) c.in-Ok.server.names start (c.in-Ok.ensures.found tells) mounts in
+    let served = c.serve.ensures.served (c.mount.ensures.same.tells ∙ tells) in
+    let run = served.0 in
+    let crashes = mounted_crashes start s0 s1 s2 run (c.mount.ensures.crash tells settled start mounts) c.mount.ensures.sink (subst (λ (t : Tree). Crashes t s1 run s2) same served.1) in (
+      run,
+      headline_of start s0 c0 run s2 c2 (rests_start s0 start settled mounts) (g.met.R.SectorDisk.only_now c.args.rig.now) crashes served.2,
+      λ done. finished_before start s0 s1 c0 run s2 c2 c.mount.ensures.sink.told (subst (λ (t : Tree). IsFinished t s1 c0 run s2 c2) same (served.3 done).0),
+    )
+
+pub returns-in-Ok-clause-few : goal.returns-in-Ok-clause-few
+returns-in-Ok-clause-few g c told tells settled mountable done =
+    let served = c.serve.ensures.served (c.mount.ensures.same.tells ∙ tells) in
+    let all = served.3 done in
+    few_lines (g.S.Source.stream c.args.source.now) served.0 (all.0.all told) all.1
+
+pub returns-in-Ok-clause-many : goal.returns-in-Ok-clause-many
+returns-in-Ok-clause-many g c told tells is = c.serve.ensures.many (c.mount.ensures.same.tells ∙ tells) told is
 
 pub returns-in-Ok-clause-disk : goal.returns-in-Ok-clause-disk
 returns-in-Ok-clause-disk g c = record {
@@ -52,27 +54,43 @@ returns-in-Ok-clause-disk g c = record {
   rose = λ is. rose_later _ _ _ c.mount.ensures.cause.later (c.serve.ensures.disk.rose is);
 }
 
-pub returns-in-Err-NotYet-clause-refused : goal.returns-in-Err-NotYet-clause-refused
-returns-in-Err-NotYet-clause-refused g c tells _ = c.in-Err-NotYet.ensures.not_yet tells c.in-Err-NotYet.part (ap (λ fault. Err fault) c.in-Err-NotYet.field-0-is)
+pub returns-in-Ok-clause-sink : goal.returns-in-Ok-clause-sink
+returns-in-Ok-clause-sink g c =
+    let s0 = g.R.SectorDisk.state c.args.rig.now in
+    let s1 = g.R.SectorDisk.state c.mount.new.rig in
+    let s2 = g.R.SectorDisk.state c.serve.new.rig in
+    let later : s0.sink_faults ≤ s1.sink_faults = omega (arith, c.mount.ensures.sink.faults) in
+    record {
+      later = omega (arith, later, c.serve.ensures.sink.later);
+      rose = λ is. rose_later s0.sink_faults s1.sink_faults s2.sink_faults later (c.serve.ensures.sink.rose is);
+    }
 
-pub returns-in-Err-NotYet-clause-refusal : goal.returns-in-Err-NotYet-clause-refusal
-returns-in-Err-NotYet-clause-refusal g c tells _ =
-    let old = g.R.SectorDisk.state c.args.rig.now in
-    let mid = g.R.SectorDisk.state c.mount.new.rig in
-    let new = g.R.SectorDisk.state c.tell_refusal.new.rig in
-    let still = subst IsTrue (sym c.mount.ensures.only_reads.same.tells) tells in
-    let none : c.in-Err-NotYet.part ≡ 0 = c.in-Err-NotYet.ensures.not_yet_0 c.in-Err-NotYet.part (ap (λ fault. Err fault) c.in-Err-NotYet.field-0-is) in
-    told_from old mid new (refusal_text (NotYet 0)) c.mount.ensures.only_reads.sink.told c.mount.ensures.only_reads.sink.faults
-    (subst (λ (n : ℕ). ToldUnlessFailed mid new (refusal_text (NotYet n))) (c.in-Err-NotYet.part-is ∙ none) (c.tell_refusal.ensures.told still))
+pub returns-in-Ok-clause-same : goal.returns-in-Ok-clause-same
+returns-in-Ok-clause-same g c = same_after (g.R.SectorDisk.state c.args.rig.now) (g.R.SectorDisk.state c.mount.new.rig) (g.R.SectorDisk.state c.serve.new.rig) c.mount.ensures.same c.serve.ensures.same
 
-pub returns-in-Err-NotYet-clause-some : goal.returns-in-Err-NotYet-clause-some
-returns-in-Err-NotYet-clause-some g c tells names thin =
-    absurd (c.in-Err-NotYet.ensures.not_yet tells c.in-Err-NotYet.part (ap (λ fault. Err fault) c.in-Err-NotYet.field-0-is) names thin)
+pub returns-then-is_refusal-clause-headline : goal.returns-then-is_refusal-clause-headline
+returns-then-is_refusal-clause-headline g c tells settled start mounts =
+    let s0 = g.R.SectorDisk.state c.args.rig.now in
+    let s1 = g.R.SectorDisk.state c.mount.new.rig in
+    let s2 = g.R.SectorDisk.state c.tell_fault.new.rig in
+    let fault = c.in-Err.fault in
+    let is_refusal : IsRefusal fault = c.is_refusal.ensures.0 c.if-is_refusal.true in
+    let refuses : Refuses (content s0) fault = refusal_of (content s0) fault (c.in-Err.ensures.refused tells) is_refusal in
+    absurd (refused_image (content s0) fault refuses (start, mounts))
 
-pub returns-in-Err-Disk-clause-some : goal.returns-in-Err-Disk-clause-some
-returns-in-Err-Disk-clause-some g c tells names thin =
-    some_nothing (g.R.SectorDisk.state c.args.rig.now) (g.R.SectorDisk.state c.mount.new.rig) names (g.S.Source.stream c.args.source.now) c.mount.ensures.only_reads.sink.told
+pub returns-else-is_refusal-clause-few : goal.returns-else-is_refusal-clause-few
+returns-else-is_refusal-clause-few g c told tells settled mountable is =
+    let stop = stopped_status c.in-Err.fault (λ is_refusal. absurd (cc (c.is_refusal.ensures.1 is_refusal, c.if-is_refusal.false))) in
+    ⊎_elim (λ d. absurd (cc (d.1, c.status.ensures, is))) (λ m. absurd (cc (m.1, c.status.ensures, is))) stop
 
-pub returns-in-Err-Memory-clause-some : goal.returns-in-Err-Memory-clause-some
-returns-in-Err-Memory-clause-some g c tells names thin =
-    some_nothing (g.R.SectorDisk.state c.args.rig.now) (g.R.SectorDisk.state c.mount.new.rig) names (g.S.Source.stream c.args.source.now) c.mount.ensures.only_reads.sink.told
+pub returns-else-is_refusal-clause-headline : goal.returns-else-is_refusal-clause-headline
+returns-else-is_refusal-clause-headline g c tells settled start mounts =
+    let stop = stopped_status c.in-Err.fault (λ is_refusal. absurd (cc (c.is_refusal.ensures.1 is_refusal, c.if-is_refusal.false))) in
+    let s0 = g.R.SectorDisk.state c.args.rig.now in
+    let s1 = g.R.SectorDisk.state c.mount.new.rig in
+    let c0 = g.S.Source.stream c.args.source.now in (
+      [],
+      headline_of start s0 c0 [] s1 c0 (rests_start s0 start settled mounts) (g.met.R.SectorDisk.only_now c.args.rig.now)
+          (none_crashes start s0 s1 (c.mount.ensures.crash tells settled start mounts) c.mount.ensures.sink) (λ told. none_taken c0),
+      λ is. ⊎_elim (λ d. absurd (cc (d.1, c.status.ensures, is))) (λ m. absurd (cc (m.1, c.status.ensures, is))) stop,
+    )

@@ -1,4 +1,6 @@
 use Rattle.std.proofs.Common.{◌≡◌, ◌∙◌, ℕ, ⊎_elim, refl, sym, subst}
+use Rattle.sector_disk.specs.Disk.{content}
+use Rattle.hfsx_server.proofs.Finding.{refused_image}
 use Rattle.hfsx_server.specs.Words.{texts, AreRun, AreFormat}
 use Rattle.hfsx_server.proofs.Usage.{not_both, same_sectors}
 use Rattle.hfsx_server.proofs.top.hfsx.Goals as goal
@@ -27,20 +29,33 @@ returns-in-Wrong-clause-format_refused g c format = absurd (c.in-Wrong.ensures.1
 pub returns-then-sectors-clause-unwritten : goal.returns-then-sectors-clause-unwritten
 returns-then-sectors-clause-unwritten g c either = ⊎_elim (λ refused. (c.format.ensures.refusal refused).candidates) (λ usage. absurd (c.format.ensures.no_usage usage)) either
 
-pub returns-then-sectors-clause-served : goal.returns-then-sectors-clause-served
-returns-then-sectors-clause-served g c run tells names thin is = absurd (not_both (texts c.args.words.now) c.in-Format.sectors run c.in-Format.ensures)
+pub returns-then-sectors-clause-run_refused : goal.returns-then-sectors-clause-run_refused
+returns-then-sectors-clause-run_refused g c run tells is = absurd (not_both (texts c.args.words.now) c.in-Format.sectors run c.in-Format.ensures)
 
-pub returns-then-sectors-clause-replies : goal.returns-then-sectors-clause-replies
-returns-then-sectors-clause-replies g c run tells names thin = absurd (not_both (texts c.args.words.now) c.in-Format.sectors run c.in-Format.ensures)
+pub returns-then-sectors-clause-run_refuses : goal.returns-then-sectors-clause-run_refuses
+returns-then-sectors-clause-run_refuses g c run tells none = absurd (not_both (texts c.args.words.now) c.in-Format.sectors run c.in-Format.ensures)
 
-pub returns-else-sectors-clause-served : goal.returns-else-sectors-clause-served
-returns-else-sectors-clause-served g c run tells names thin is = absurd (not_both (texts c.args.words.now) c.in-Format.sectors run c.in-Format.ensures)
+pub returns-then-sectors-clause-headline : goal.returns-then-sectors-clause-headline
+returns-then-sectors-clause-headline g c run tells settled start mounts = absurd (not_both (texts c.args.words.now) c.in-Format.sectors run c.in-Format.ensures)
 
-pub returns-else-sectors-clause-replies : goal.returns-else-sectors-clause-replies
-returns-else-sectors-clause-replies g c run tells names thin = absurd (not_both (texts c.args.words.now) c.in-Format.sectors run c.in-Format.ensures)
+pub returns-then-sectors-clause-end : goal.returns-then-sectors-clause-end
+returns-then-sectors-clause-end g c run told is = absurd (not_both (texts c.args.words.now) c.in-Format.sectors run c.in-Format.ensures)
 
-pub returns-in-Wrong-clause-served : goal.returns-in-Wrong-clause-served
-returns-in-Wrong-clause-served g c run tells names thin is = absurd (c.in-Wrong.ensures.0 run)
+pub returns-then-sectors-clause-few : goal.returns-then-sectors-clause-few
+returns-then-sectors-clause-few g c run told tells settled mountable is = absurd (not_both (texts c.args.words.now) c.in-Format.sectors run c.in-Format.ensures)
 
-pub returns-in-Wrong-clause-replies : goal.returns-in-Wrong-clause-replies
-returns-in-Wrong-clause-replies g c run tells names thin = absurd (c.in-Wrong.ensures.0 run)
+pub returns-else-sectors-clause-run_refuses : goal.returns-else-sectors-clause-run_refuses
+returns-else-sectors-clause-run_refuses g c run tells none = absurd (not_both (texts c.args.words.now) c.in-Format.sectors run c.in-Format.ensures)
+
+pub returns-in-Wrong-clause-run_refuses : goal.returns-in-Wrong-clause-run_refuses
+returns-in-Wrong-clause-run_refuses g c run tells none = absurd (c.in-Wrong.ensures.0 run)
+
+pub returns-else-sectors-clause-headline : goal.returns-else-sectors-clause-headline
+returns-else-sectors-clause-headline g c run tells settled start mounts = absurd (not_both (texts c.args.words.now) c.in-Format.sectors run c.in-Format.ensures)
+
+pub returns-in-Wrong-clause-headline : goal.returns-in-Wrong-clause-headline
+returns-in-Wrong-clause-headline g c run tells settled start mounts = absurd (c.in-Wrong.ensures.0 run)
+
+pub returns-in-Run-clause-run_refused : goal.returns-in-Run-clause-run_refused
+returns-in-Run-clause-run_refused g c run tells is =
+    let told = c.run.ensures.refused tells is in (told, refused_image (content (g.R.SectorDisk.state c.args.rig.now)) told.0 told.1)

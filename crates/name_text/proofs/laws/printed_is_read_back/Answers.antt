@@ -1,5 +1,6 @@
 use Rattle.std.proofs.Common.{arith}
-use Rattle.name_text.proofs.RoundTrip.{read_printed, units_by_index}
+use Rattle.name_text.proofs.Utf16.{units_by_index}
+use Rattle.name_text.proofs.RoundTrip.{read_printed}
 use Rattle.name_text.proofs.laws.printed_is_read_back.Goals as goal
 
 pub returns : goal.returns

@@ -1,6 +1,6 @@
 use Rattle.std.proofs.Common.{◌≡◌, ◌<◌, ◌∷◌, [], ℕ, IsTrue, IfSome, IfNone, OnSome, false, sym, ◌∙◌, subst, arith, List}
 use Rattle.hfsx_server.specs.Input.{ahead, weight}
-use Rattle.hfsx_server.proofs.Reading.{reads_more, reads_ended, reads_last, reads_none, some_text, nearer_last}
+use Rattle.hfsx_server.proofs.Reading.{reads_more, reads_ended, reads_last, reads_none, reads_gone, reads_gone_byte, reads_gone_end, some_text, nearer_last}
 use Rattle.hfsx_server.proofs.input.Input.next_line.Goals as goal
 
 pub loop-line-preserved : goal.loop-line-preserved
@@ -55,3 +55,45 @@ returns-in-Some-eq10-clause-line g c =
           (λ tells. subst (λ byte. ahead c.loop-line.self now ≡ byte ∷ ahead c.next_byte.new.self new) c.in-Some-eq10.field-0-test
           (subst (λ next. IfSome next (λ byte. ahead c.loop-line.self now ≡ byte ∷ ahead c.next_byte.new.self new)) c.in-Some-eq10.is (c.in_ok-next_byte.ensures.byte tells))),
     )
+
+pub returns-then-is_empty-clause-gone : goal.returns-then-is_empty-clause-gone
+returns-then-is_empty-clause-gone g c =
+    let now = g.S.Source.stream c.loop-line.source in
+    let new = g.S.Source.stream c.next_byte.new.source in
+    let reads = c.loop-line.invariant in
+    reads_gone_end c.args.limit c.args.self.now (g.S.Source.stream c.args.source.now) c.loop-line.self now c.loop-line.line reads c.next_byte.new.self new
+    (λ tells. (subst (λ next. IfNone next ((ahead c.loop-line.self now ≡ []) × (ahead c.next_byte.new.self new ≡ []))) c.in-None.is (c.in_ok-next_byte.ensures.end tells)).0)
+    (λ tells. (subst (λ next. IfNone next ((ahead c.loop-line.self now ≡ []) × (ahead c.next_byte.new.self new ≡ []))) c.in-None.is (c.in_ok-next_byte.ensures.end tells)).1)
+
+pub returns-in-None-clause-gone : goal.returns-in-None-clause-gone
+returns-in-None-clause-gone g c =
+    let now = g.S.Source.stream c.loop-line.source in
+    let new = g.S.Source.stream c.next_byte.new.source in
+    let reads = c.loop-line.invariant in
+    reads_gone_end c.args.limit c.args.self.now (g.S.Source.stream c.args.source.now) c.loop-line.self now c.loop-line.line reads c.next_byte.new.self new
+    (λ tells. (subst (λ next. IfNone next ((ahead c.loop-line.self now ≡ []) × (ahead c.next_byte.new.self new ≡ []))) c.in-None.is (c.in_ok-next_byte.ensures.end tells)).0)
+    (λ tells. (subst (λ next. IfNone next ((ahead c.loop-line.self now ≡ []) × (ahead c.next_byte.new.self new ≡ []))) c.in-None.is (c.in_ok-next_byte.ensures.end tells)).1)
+
+pub returns-in-Some-eq10-clause-gone : goal.returns-in-Some-eq10-clause-gone
+returns-in-Some-eq10-clause-gone g c =
+    let now = g.S.Source.stream c.loop-line.source in
+    let new = g.S.Source.stream c.next_byte.new.source in
+    let reads = c.loop-line.invariant in
+    reads_gone_byte c.args.limit c.args.self.now (g.S.Source.stream c.args.source.now) c.loop-line.self now c.loop-line.line reads c.next_byte.new.self new 10
+    (λ tells. subst (λ byte. ahead c.loop-line.self now ≡ byte ∷ ahead c.next_byte.new.self new) c.in-Some-eq10.field-0-test
+    (subst (λ next. IfSome next (λ byte. ahead c.loop-line.self now ≡ byte ∷ ahead c.next_byte.new.self new)) c.in-Some-eq10.is (c.in_ok-next_byte.ensures.byte tells)))
+
+pub returns-in_err-next_byte-clause-gone : goal.returns-in_err-next_byte-clause-gone
+returns-in_err-next_byte-clause-gone g c =
+    let now = g.S.Source.stream c.loop-line.source in
+    let new = g.S.Source.stream c.next_byte.new.source in
+    let reads = c.loop-line.invariant in
+    reads_gone c.args.limit c.args.self.now (g.S.Source.stream c.args.source.now) c.loop-line.self now c.loop-line.line reads new.left c.in_err-next_byte.ensures.kept
+
+pub returns-in_err-line-in-Some-clause-gone : goal.returns-in_err-line-in-Some-clause-gone
+returns-in_err-line-in-Some-clause-gone g c =
+    let now = g.S.Source.stream c.loop-line.source in
+    let new = g.S.Source.stream c.next_byte.new.source in
+    let reads = c.loop-line.invariant in
+    reads_gone_byte c.args.limit c.args.self.now (g.S.Source.stream c.args.source.now) c.loop-line.self now c.loop-line.line reads c.next_byte.new.self new c.in-Some.byte
+    (λ tells. subst (λ next. IfSome next (λ byte. ahead c.loop-line.self now ≡ byte ∷ ahead c.next_byte.new.self new)) c.in-Some.is (c.in_ok-next_byte.ensures.byte tells))

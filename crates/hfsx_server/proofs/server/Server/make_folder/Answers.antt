@@ -1,18 +1,57 @@
-use Rattle.std.proofs.Common.{refl, ◌≡◌, ◌∙◌, sym, subst}
+use Rattle.std.proofs.Common.{◌≡◌, ◌⊎◌, ◌≤◌, ◌+◌, ◌∙◌, ◌++◌, ◌∷◌, [], inl, refl, sym, ap, subst, IsTrue, arith, List, ℕ}
 use Rattle.hx_bytes.specs.declared.faults.Trouble.TheVariants.{Disk}
-use Rattle.hfs_model.specs.Parts.{OnlyFolders}
+use Rattle.jnl_store.specs.Batch.{Staged}
+use Rattle.hfs_model.specs.Thin.{AreThin}
 use Rattle.hfsx_server.proofs.Causes.{cause_ok}
+use Rattle.hfsx_server.proofs.Changed.{idle_begun}
+use Rattle.hfsx_server.proofs.Steps.{leaves_none}
 use Rattle.hfsx_server.proofs.server.Server.make_folder.Goals as goal
 
-pub returns-clause-thin : goal.returns-clause-thin
-returns-clause-thin g c = c.in_ok-self.ensures.thin c.args.self.now.names c.requires.thin
+pub change_folders-requires-clause-idle : goal.change_folders-requires-clause-idle
+change_folders-requires-clause-idle g c =
+    let s0 = g.D.SectorDisk.state c.args.disk.now in
+    idle_begun c.args.self.now.store c.begin.new.self c.args.self.now.parts s0 c.requires.serving.idle c.begin.ensures.rest (ap (λ (b : Staged). b.all) c.in_ok-begin.ensures.kept)
+    (λ keeps. (keeps.0, c.begin.ensures.keeps s0.sectors s0.candidates keeps.1))
 
-pub returns-clause-holds : goal.returns-clause-holds
-returns-clause-holds g c tells =
-    c.in_ok-write_folders.ensures.written tells (subst (λ parts. OnlyFolders parts c.in_ok-self.field-0) (sym (c.requires.holds tells).parts_are) c.in_ok-self.ensures.others)
+pub change_folders-requires-clause-spare : goal.change_folders-requires-clause-spare
+change_folders-requires-clause-spare g c = omega (arith, c.in_ok-begin.ensures.room)
+
+pub change_folders-requires-clause-thin : goal.change_folders-requires-clause-thin
+change_folders-requires-clause-thin g c = (c.args.self.now.names, c.requires.serving.thin)
+
+pub change_folders-requires-clause-thin_new : goal.change_folders-requires-clause-thin_new
+change_folders-requires-clause-thin_new g c = (_, c.in_ok-parts.ensures.thin c.args.self.now.names c.requires.serving.thin)
 
 pub returns-clause-cause : goal.returns-clause-cause
-returns-clause-cause g c = cause_ok Disk _ _ _ _ refl c.write_folders.ensures.cause.later
+returns-clause-cause g c = cause_ok Disk _ _ _ _ refl c.change_folders.ensures.cause.later
 
-pub returns-clause-settled : goal.returns-clause-settled
-returns-clause-settled g c tells settled = c.in_ok-write_folders.ensures.settled tells
+pub returns-in_err-push-clause-crash : goal.returns-in_err-push-clause-crash
+returns-in_err-push-clause-crash g c tells = leaves_none (g.D.SectorDisk.state c.args.disk.now) _ (λ image is. inl (c.requires.serving.rests tells image is))
+
+pub returns-in_err-parts-clause-crash : goal.returns-in_err-parts-clause-crash
+returns-in_err-parts-clause-crash g c tells = leaves_none (g.D.SectorDisk.state c.args.disk.now) _ (λ image is. inl (c.requires.serving.rests tells image is))
+
+pub returns-in_err-begin-clause-crash : goal.returns-in_err-begin-clause-crash
+returns-in_err-begin-clause-crash g c tells = leaves_none (g.D.SectorDisk.state c.args.disk.now) _ (λ image is. inl (c.requires.serving.rests tells image is))
+
+pub returns-in_err-change_folders-clause-crash : goal.returns-in_err-change_folders-clause-crash
+returns-in_err-change_folders-clause-crash g c tells =
+    let names = c.args.self.now.names in
+    let thin : AreThin c.in_ok-parts.parts (names ++ c.args.name ∷ []) = subst (λ (n : List (List ℕ)). AreThin c.in_ok-parts.parts n) c.in_ok-push.ensures.added (c.in_ok-parts.ensures.thin names c.requires.serving.thin) in
+    c.change_folders.ensures.crash tells names (names ++ c.args.name ∷ []) c.requires.serving.thin thin
+
+pub returns-clause-crash : goal.returns-clause-crash
+returns-clause-crash g c tells =
+    let names = c.args.self.now.names in
+    let thin : AreThin c.in_ok-parts.parts (names ++ c.args.name ∷ []) = subst (λ (n : List (List ℕ)). AreThin c.in_ok-parts.parts n) c.in_ok-push.ensures.added (c.in_ok-parts.ensures.thin names c.requires.serving.thin) in
+    c.change_folders.ensures.crash tells names (names ++ c.args.name ∷ []) c.requires.serving.thin thin
+
+pub returns-clause-serving : goal.returns-clause-serving
+returns-clause-serving g c =
+    let thin = c.in_ok-parts.ensures.thin c.args.self.now.names c.requires.serving.thin in
+    record {
+      thin = thin;
+      idle = c.in_ok-change_folders.ensures.idle;
+      spare = c.change_folders.ensures.spare;
+      rests = λ tells. c.in_ok-change_folders.ensures.rests (sym c.change_folders.ensures.same.tells ∙ tells) _ thin;
+    }

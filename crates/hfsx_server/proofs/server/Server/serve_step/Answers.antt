@@ -1,39 +1,65 @@
-use Rattle.std.proofs.Common.{◌≡◌, ◌∙◌, ◌++◌, ◌∷◌, [], IsTrue, IfSome, IfNone, refl, sym, ap, subst, List, ℕ}
+use Rattle.std.proofs.Common.{◌≡◌, ◌≢◌, ◌∙◌, ◌+◌, ◌≤◌, ◌++◌, ◌∷◌, [], IsTrue, IfSome, IfNone, length, refl, sym, ap, subst, arith, List, ℕ}
 use Rattle.hfs_model.specs.Lines.{lines}
-use Rattle.hfs_model.proofs.Lines.{lines-nil}
 use Rattle.hfsx_server.specs.declared.faults.ServeFault.TheVariants.{Disk, Source, Sink}
-use Rattle.hfsx_server.specs.Input.{ahead, IsLine}
+use Rattle.hfsx_server.specs.Headline.{lines_of, tree_after}
+use Rattle.hfsx_server.specs.Input.{ahead, IsLine, TakesLines}
+use Rattle.hfsx_server.specs.Session.{step}
+use Rattle.hfsx_server.specs.Serving.{Crashes, Serves, entry_of}
 use Rattle.hfsx_server.proofs.Causes.{cause_ok}
+use Rattle.hfsx_server.proofs.Lines.{serving_same, stops_none, stops_takes, takes_end}
 use Rattle.hfsx_server.proofs.Results.{on_err_of}
-use Rattle.hfsx_server.proofs.Serving.{answers_nothing, answers_line, front_nothing, front_line}
+use Rattle.hfsx_server.proofs.Runs.{serves_none, serves_crashes, tree_after-none, tree_after-one}
 use Rattle.hfsx_server.proofs.server.Server.serve_step.Goals as goal
 
 pub returns-in_err-line-clause-stopped : goal.returns-in_err-line-clause-stopped
-returns-in_err-line-clause-stopped g c =
+returns-in_err-line-clause-stopped g c tells =
+    let s0 = g.R.SectorDisk.state c.args.rig.now in
+    let names = c.args.self.now.names in
     on_err_of _ c.from_residual.result
-    ([], front_nothing (g.R.SectorDisk.state c.args.rig.now) (g.R.SectorDisk.state c.args.rig.now) c.args.self.now.names c.args.self.now.input (g.S.Source.stream c.args.source.now) (λ _. refl))
+    ([], serves_crashes names s0 s0 [] (serves_none names s0 (c.requires.serving.rests tells)), λ told. stops_none c.args.self.now.input (g.S.Source.stream c.args.source.now) (g.S.Source.stream c.next_line.new.source) (c.next_line.ensures.gone told))
+
+pub returns-in_err-count_line-in-Some-clause-stopped : goal.returns-in_err-count_line-in-Some-clause-stopped
+returns-in_err-count_line-in-Some-clause-stopped g c tells =
+    let s0 = g.R.SectorDisk.state c.args.rig.now in
+    let names = c.args.self.now.names in
+    on_err_of _ c.from_residual-in_err-count_line-in-Some.result
+    ([], serves_crashes names s0 s0 [] (serves_none names s0 (c.requires.serving.rests tells)), λ told. stops_none c.args.self.now.input (g.S.Source.stream c.args.source.now) (g.S.Source.stream c.next_line.new.source) (c.next_line.ensures.gone told))
+
+pub answer-requires : goal.answer-requires
+answer-requires g c =
+    let same = c.count_line.ensures.others in
+    record { serving = serving_same c.args.self.now c.count_line.new.self (g.R.SectorDisk.state c.args.rig.now) same.store same.parts same.names c.requires.serving }
 
 pub returns-in_err-answer-in-Some-clause-stopped : goal.returns-in_err-answer-in-Some-clause-stopped
-returns-in_err-answer-in-Some-clause-stopped g c =
+returns-in_err-answer-in-Some-clause-stopped g c tells =
+    let s0 = g.R.SectorDisk.state c.args.rig.now in
+    let s1 = g.R.SectorDisk.state c.answer.new.rig in
     let before = g.S.Source.stream c.args.source.now in
     let after = g.S.Source.stream c.next_line.new.source in
-    let read = subst (λ next. IfSome next (λ line. (text : List ℕ) × IsLine 140000 text line × (IsTrue before.tells → lines (ahead c.args.self.now.input before) ≡ text ∷ lines (ahead c.next_line.new.self after)))) c.in-Some.is c.in_ok-line.ensures.line in
+    let names = c.args.self.now.names in
+    let same = c.count_line.ensures.others in
+    let read = subst (λ next. IfSome next (λ line. (text : List ℕ) × IsLine 140000 text line × (IsTrue before.tells → TakesLines c.args.self.now.input before (text ∷ []) c.next_line.new.self after))) c.in-Some.is c.in_ok-line.ensures.line in
     on_err_of _ c.from_residual-in_err-answer-in-Some.result (
-      read.0 ∷ [],
-      front_line (g.R.SectorDisk.state c.args.rig.now) (g.R.SectorDisk.state c.answer.new.rig) c.args.self.now.names c.args.self.now.input before read.0 _ read.2
-          (λ tells. c.in_err-answer-in-Some.ensures.front tells read.0 read.1),
+      entry_of names read.0 ∷ [],
+      subst (λ n. Crashes n s0 (entry_of n read.0 ∷ []) s1) same.names (c.in_err-answer-in-Some.ensures.stopped tells read.0 read.1),
+      λ told. stops_takes c.args.self.now.input c.next_line.new.self before after (entry_of names read.0 ∷ []) (read.2 told),
     )
 
 pub returns-in_ok-answer-in-Some-clause-served : goal.returns-in_ok-answer-in-Some-clause-served
-returns-in_ok-answer-in-Some-clause-served g c =
+returns-in_ok-answer-in-Some-clause-served g c tells =
+    let s0 = g.R.SectorDisk.state c.args.rig.now in
+    let s1 = g.R.SectorDisk.state c.answer.new.rig in
     let before = g.S.Source.stream c.args.source.now in
     let after = g.S.Source.stream c.next_line.new.source in
-    let read = subst (λ next. IfSome next (λ line. (text : List ℕ) × IsLine 140000 text line × (IsTrue before.tells → lines (ahead c.args.self.now.input before) ≡ text ∷ lines (ahead c.next_line.new.self after)))) c.in-Some.is c.in_ok-line.ensures.line in (
-      read.0 ∷ [],
-      answers_line (g.R.SectorDisk.state c.args.rig.now) (g.R.SectorDisk.state c.answer.new.rig) c.args.self.now.names c.answer.new.self.names c.args.self.now.input c.answer.new.self.input before after read.0
-          (λ tells. read.2 tells ∙ ap (λ (l : List ℕ). read.0 ∷ lines (ahead l after)) (sym c.answer.ensures.input))
-          (λ tells. c.in_ok-answer-in-Some.ensures.told tells read.0 read.1)
-          (c.in_ok-answer-in-Some.ensures.folders read.0 read.1),
+    let names = c.args.self.now.names in
+    let same = c.count_line.ensures.others in
+    let read = subst (λ next. IfSome next (λ line. (text : List ℕ) × IsLine 140000 text line × (IsTrue before.tells → TakesLines c.args.self.now.input before (text ∷ []) c.next_line.new.self after))) c.in-Some.is c.in_ok-line.ensures.line in
+    let now = c.in_ok-answer-in-Some.ensures in (
+      entry_of names read.0 ∷ [],
+      subst (λ n. Serves n s0 (entry_of n read.0 ∷ []) s1) same.names (now.served tells read.0 read.1),
+      now.names read.0 read.1 ∙ ap (λ n. (step n (Rattle.hfs_model.specs.Language.command_of read.0)).1) same.names ∙ sym (tree_after-one names (entry_of names read.0)),
+      c.answer.ensures.input.1 ∙ c.in_ok-count_line-in-Some.ensures.counted,
+      λ told. subst (λ l. TakesLines c.args.self.now.input before (read.0 ∷ []) l after) (sym (c.answer.ensures.input.0 ∙ same.input)) (read.2 told),
     )
 
 pub returns-in_ok-answer-in-Some-clause-disk : goal.returns-in_ok-answer-in-Some-clause-disk
@@ -46,23 +72,25 @@ pub returns-in_ok-answer-in-Some-clause-sink : goal.returns-in_ok-answer-in-Some
 returns-in_ok-answer-in-Some-clause-sink g c = cause_ok Sink _ _ _ _ refl c.answer.ensures.sink.later
 
 pub returns-in-None-clause-served : goal.returns-in-None-clause-served
-returns-in-None-clause-served g c =
+returns-in-None-clause-served g c tells =
+    let s0 = g.R.SectorDisk.state c.args.rig.now in
     let before = g.S.Source.stream c.args.source.now in
     let after = g.S.Source.stream c.next_line.new.source in
-    let rig = g.R.SectorDisk.state c.args.rig.now in (
+    let names = c.args.self.now.names in (
       [],
-      answers_nothing rig rig c.args.self.now.names c.args.self.now.input c.next_line.new.self before after
-          (λ tells. let end = subst (λ next. IfNone next ((lines (ahead c.args.self.now.input before) ≡ []) × (ahead c.next_line.new.self after ≡ []))) c.in-None.is (c.in_ok-line.ensures.end tells) in
-          end.0 ∙ sym lines-nil ∙ ap lines (sym end.1))
-          (λ _. refl),
+      serves_none names s0 (c.requires.serving.rests tells),
+      sym (tree_after-none names),
+      omega arith,
+      λ told. let end = subst (λ next. IfNone next ((ahead c.args.self.now.input before ≡ []) × (ahead c.next_line.new.self after ≡ []))) c.in-None.is (c.in_ok-line.ensures.end told) in
+          takes_end c.args.self.now.input c.next_line.new.self before after end.0 end.1,
     )
 
 pub returns-in-None-clause-end : goal.returns-in-None-clause-end
 returns-in-None-clause-end g c tells _ =
     let before = g.S.Source.stream c.args.source.now in
     let after = g.S.Source.stream c.next_line.new.source in
-    let end = subst (λ next. IfNone next ((lines (ahead c.args.self.now.input before) ≡ []) × (ahead c.next_line.new.self after ≡ []))) c.in-None.is (c.in_ok-line.ensures.end tells) in
+    let end = subst (λ next. IfNone next ((ahead c.args.self.now.input before ≡ []) × (ahead c.next_line.new.self after ≡ []))) c.in-None.is (c.in_ok-line.ensures.end tells) in
     end.1
 
-pub returns-in_ok-answer-in-Some-clause-settled : goal.returns-in_ok-answer-in-Some-clause-settled
-returns-in_ok-answer-in-Some-clause-settled g c tells settled = c.in_ok-answer-in-Some.ensures.settled tells settled
+pub returns-in-None-clause-serving : goal.returns-in-None-clause-serving
+returns-in-None-clause-serving g c = serving_same c.args.self.now _ (g.R.SectorDisk.state c.args.rig.now) refl refl refl c.requires.serving

@@ -1,0 +1,158 @@
+//! A pair's value replaced: in its leaf alone where the new value has the length of the old one.
+ghost use Rattle.std.specs.Prelude.{◌≡◌, ◌≢◌, ◌≤◌, ◌<◌, ◌+◌, ◌-◌, ◌*◌, ◌/◌, ◌⊎◌, ◌++◌, IsTrue, length, OnOk, IfOk};
+ghost use Rattle.btree_node.specs.Store.{HasRoom, HasCause};
+ghost use Rattle.btree_node.specs.Tree.{IsTree, pairs_of};
+ghost use Rattle.btree_edit.specs.Desk.{IsDeskOf};
+ghost use Rattle.btree_edit.specs.Editing.{Does, edit_writes};
+ghost use Rattle.btree_edit.specs.Halves.{record_of};
+ghost use Rattle.btree_edit.specs.LevelEdit.{node_room};
+ghost use Rattle.btree_edit.specs.Rising.{BoundsRoot};
+ghost use Rattle.btree_edit.specs.Sorted.{HoldsKeyOf, ChangesPair, ReplacesPair, KeepsFreeNodes, EditsTree};
+ghost use Rattle.btree_edit.specs.Swapping.{HasRecord, SwapsRecord, HasValueOf, IsLeafWritten, ChangesLeafAlone};
+ghost use Rattle.btree_edit.specs.Answers.{AnswersRemove};
+
+use crate::desk::Desk;
+use crate::edits::{Removed, change_pair, total_of};
+use crate::finding::{Found, find};
+use crate::search::read_node;
+use btree_node::{KeyOrder, NodeStore};
+use hx_bytes::Failed;
+
+/// Gives the pair with a key another value; its key stays as it stands in the tree.
+pub fn replace<N: NodeStore, K: KeyOrder>(
+    store: &mut N,
+    desk: &mut Desk,
+    key: &[u8],
+    value: &[u8],
+) -> Result<Removed, Failed>
+    requires desk { IsDeskOf (N.state store.old).shape.node_size desk.old }
+    requires key { K.is_key key.now }
+    requires tree { IsTrue (N.state store.old).tells → IsTree K.is_key K.cmp (N.state store.old) }
+    // The node size is one that the format allows the tree: three index records with the longest keys fit.
+    requires wide { IsTrue (N.state store.old).tells → 3 * (K.MAX + 8) ≤ node_room (N.state store.old).shape.node_size }
+    requires short { length key.now + length value.now ≤ (N.state store.old).shape.node_size / 2 - 10 }
+    // A value of the length of the old one wants no free node, and one write at most.
+    requires depth { HasValueOf K.cmp key.now (length value.now) (N.state store.old) ⊎ ((N.state store.old).shape.depth ≤ 11) }
+    requires free { HasValueOf K.cmp key.now (length value.now) (N.state store.old) ⊎ ((N.state store.old).shape.depth + 1 ≤ (N.state store.old).shape.free) }
+    requires room { (HasValueOf K.cmp key.now (length value.now) (N.state store.old) × (HasRoom 1 (N.state store.old) ⊎ IsLeafWritten K.cmp key.now (N.state store.old)))
+        ⊎ HasRoom (edit_writes (N.state store.old).shape.depth) (N.state store.old) }
+    // Absent exactly where the tree doesn't have the key.
+    ensures answer { IsTrue (N.state store.old).tells → IfOk result (λ answer. AnswersRemove K.cmp key.now (N.state store.old) answer) }
+    // The pairs are the sorted list with that one value changed.
+    ensures pairs { IsTrue (N.state store.old).tells → IfOk result (λ answer. ReplacesPair K.cmp key.now value.now (pairs_of (N.state store.old)) (pairs_of (N.state store.new)) answer) }
+    // They keep the rules of a tree.
+    ensures tree { IsTrue (N.state store.old).tells → OnOk result (IsTree K.is_key K.cmp (N.state store.new)) }
+    // Nodes that aren't the tree's stay as they were.
+    ensures others { IsTrue (N.state store.old).tells → OnOk result (KeepsFreeNodes (N.state store.old) (N.state store.new)) }
+    // An index root gets at most one record more, and the tree rises only where it has no room for one.
+    ensures roots { IsTrue (N.state store.old).tells → OnOk result (BoundsRoot K.MAX (N.state store.old) (N.state store.new) (N.state store.new).shape.depth (N.state store.new).shape.root) }
+    // A value of the length of the old one changes the leaf alone, by one write, and keeps the shape.
+    ensures alone { HasValueOf K.cmp key.now (length value.now) (N.state store.old) → OnOk result (ChangesLeafAlone K.cmp key.now (N.state store.old) (N.state store.new)) }
+    ensures once { HasValueOf K.cmp key.now (length value.now) (N.state store.old) → Does 1 0 (N.state store.old) (N.state store.new) }
+    ensures kept { HasValueOf K.cmp key.now (length value.now) (N.state store.old) → (N.state store.new).shape ≡ (N.state store.old).shape }
+    ensures desk { IsDeskOf (N.state store.old).shape.node_size desk.new }
+    ensures depth { OnOk result ((N.state store.new).shape.depth ≤ (N.state store.old).shape.depth + 1) }
+    ensures does { Does (edit_writes (N.state store.old).shape.depth) ((N.state store.old).shape.depth + 1) (N.state store.old) (N.state store.new) }
+    ensures cause { HasCause (N.state store.old).faults (N.state store.new).faults result }
+    ensures below { N.follows store.old store.new }
+{
+    let shape = store.shape();
+    let _total = total_of(&shape);
+    match find::<N, K>(store, desk, key)? {
+        Found::At { node, index } => {
+            give_value::<N, K>(store, desk, key, value, node, index)?;
+            Ok(Removed::Done)
+        }
+        Found::Absent => Ok(Removed::Absent),
+    }
+}
+
+/// Keeps the key of the pair that was found, with another value.
+fn put_value(desk: &mut Desk, value: &[u8])
+    ensures node { desk.new.node ≡ desk.old.node }
+    ensures other { desk.new.other ≡ desk.old.other }
+    ensures held { desk.new.held ≡ desk.old.held }
+    ensures key { length desk.old.held.key + length value.now ≤ desk.old.first.room → desk.new.first.key ≡ desk.old.held.key }
+    ensures value { length desk.old.held.key + length value.now ≤ desk.old.first.room → desk.new.first.value ≡ value.now }
+    ensures first { length desk.old.held.key + length value.now ≤ desk.old.first.room → record_of desk.new.first ≡ desk.old.held.key ++ value.now }
+    ensures room { desk.new.first.room ≡ desk.old.first.room }
+    ensures second { desk.new.second ≡ desk.old.second }
+    ensures path { desk.new.path ≡ desk.old.path }
+{
+    let key = desk.held.key();
+    if key.len() <= desk.first.room()
+        && value.len() <= desk.first.room().saturating_sub(key.len())
+    {
+        desk.first.put(key, value);
+    }
+}
+
+/// Puts the pair on the desk in the place of a record of its length in a leaf.
+fn swap_value<N: NodeStore>(
+    store: &mut N,
+    desk: &mut Desk,
+    node: u32,
+    index: u16,
+) -> Result<(), Failed>
+    requires desk { IsDeskOf (N.state store.old).shape.node_size desk.old }
+    requires room { HasRoom 1 (N.state store.old) ⊎ IsTrue ((N.state store.old).written node) }
+    ensures swaps { IsTrue (N.state store.old).tells → HasRecord (N.state store.old) node index (length (record_of desk.old.first))
+        → OnOk result (SwapsRecord node index (record_of desk.old.first) (N.state store.old) (N.state store.new)) }
+    ensures desk { IsDeskOf (N.state store.old).shape.node_size desk.new }
+    ensures shape { (N.state store.new).shape ≡ (N.state store.old).shape }
+    ensures does { Does 1 0 (N.state store.old) (N.state store.new) }
+    ensures cause { HasCause (N.state store.old).faults (N.state store.new).faults result }
+    ensures below { N.follows store.old store.new }
+{
+    if !read_node(store, &mut desk.node, node, 1)? || index >= desk.node.count() {
+        return Ok(());
+    }
+    if desk.first.size() > desk.node.item(index).len() + 2 {
+        return Ok(());
+    }
+    desk.node
+        .replace(index, desk.first.key(), desk.first.value());
+    store.save(node, &desk.node);
+    Ok(())
+}
+
+/// Gives the pair on the desk, which stands in this leaf, another value: in the leaf alone where the lengths are the same.
+fn give_value<N: NodeStore, K: KeyOrder>(
+    store: &mut N,
+    desk: &mut Desk,
+    key: &[u8],
+    value: &[u8],
+    node: u32,
+    index: u16,
+) -> Result<(), Failed>
+    requires desk { IsDeskOf (N.state store.old).shape.node_size desk.old }
+    requires key { K.is_key key.now }
+    requires tree { IsTrue (N.state store.old).tells → IsTree K.is_key K.cmp (N.state store.old) }
+    requires depth { length value.now ≢ length desk.old.held.value → (N.state store.old).shape.depth ≤ 11 }
+    requires free { length value.now ≢ length desk.old.held.value → (N.state store.old).shape.depth + 1 ≤ (N.state store.old).shape.free }
+    requires once { length value.now ≡ length desk.old.held.value → HasRoom 1 (N.state store.old) ⊎ IsTrue ((N.state store.old).written node) }
+    requires room { length value.now ≢ length desk.old.held.value → HasRoom (edit_writes (N.state store.old).shape.depth) (N.state store.old) }
+    ensures swaps { length value.now ≡ length desk.old.held.value → IsTrue (N.state store.old).tells → HasRecord (N.state store.old) node index (length (desk.old.held.key ++ value.now))
+        → OnOk result (SwapsRecord node index (desk.old.held.key ++ value.now) (N.state store.old) (N.state store.new)) }
+    ensures changes { length value.now ≢ length desk.old.held.value → IsTrue (N.state store.old).tells → 3 * (K.MAX + 8) ≤ node_room (N.state store.old).shape.node_size
+        → length (desk.old.held.key ++ value.now) ≤ (N.state store.old).shape.node_size / 2 - 10
+        → HoldsKeyOf K.cmp key.now (N.state store.old) desk.old.held.key
+        → OnOk result (EditsTree K.is_key K.cmp (N.state store.old) (N.state store.new) (λ before after. ChangesPair K.cmp key.now value.now before after)) }
+    ensures roots { length value.now ≢ length desk.old.held.value → IsTrue (N.state store.old).tells → 3 * (K.MAX + 8) ≤ node_room (N.state store.old).shape.node_size
+        → length (desk.old.held.key ++ value.now) ≤ (N.state store.old).shape.node_size / 2 - 10 → HoldsKeyOf K.cmp key.now (N.state store.old) desk.old.held.key
+        → OnOk result (BoundsRoot K.MAX (N.state store.old) (N.state store.new) (N.state store.new).shape.depth (N.state store.new).shape.root) }
+    ensures shape { length value.now ≡ length desk.old.held.value → (N.state store.new).shape ≡ (N.state store.old).shape }
+    ensures does_one { length value.now ≡ length desk.old.held.value → Does 1 0 (N.state store.old) (N.state store.new) }
+    ensures does { Does (edit_writes (N.state store.old).shape.depth) ((N.state store.old).shape.depth + 1) (N.state store.old) (N.state store.new) }
+    ensures desk { IsDeskOf (N.state store.old).shape.node_size desk.new }
+    ensures depth { OnOk result ((N.state store.new).shape.depth ≤ (N.state store.old).shape.depth + 1) }
+    ensures cause { HasCause (N.state store.old).faults (N.state store.new).faults result }
+    ensures below { N.follows store.old store.new }
+{
+    let same = value.len() == desk.value().len();
+    put_value(desk, value);
+    if same {
+        return swap_value(store, desk, node, index);
+    }
+    change_pair::<N, K>(store, desk, key)
+}

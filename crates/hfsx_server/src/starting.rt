@@ -1,0 +1,101 @@
+// A volume is mounted: found, replayed, and marked as mounted.
+ghost use Rattle.std.specs.Prelude.{◌≡◌, ◌≢◌, ◌≤◌, ◌+◌, [], IsTrue, IfOk, IfErr, OnOk};
+ghost use Rattle.sector_disk.specs.Cause.{HasCause};
+ghost use Rattle.sector_disk.specs.Disk.{IsSettled, Leaves, SameDisk, SameSink, content};
+ghost use Rattle.jnl_replay.specs.Plan.{FitsPlan};
+ghost use Rattle.jnl_replay.specs.Reading.{OnlyReads};
+ghost use Rattle.jnl_store.specs.Plan.{rested};
+ghost use Rattle.jnl_store.specs.Store.{spare_of};
+ghost use Rattle.hfs_model.specs.Parts.{OnlyHeader};
+ghost use Rattle.hfs_model.specs.Thin.{AreThin};
+ghost use Rattle.hfsx_server.specs.Cause.{IsCause};
+ghost use Rattle.hfsx_server.specs.Finding.{IsFound, IsLargePlan};
+ghost use Rattle.hfsx_server.specs.Serving.{IsIdle, IsServing, Rests, Stands};
+ghost use Rattle.hfsx_server.specs.Volume.{Tree, IsFault, IsRefusal, MountsTo};
+
+use crate::changing::change_header;
+use crate::mounting::{Found, find_volume};
+use crate::{Input, MountFault, Server};
+use hfs_model::{Parts, with_mark};
+use hx_bytes::{Failed, Names, Trouble};
+use jnl_replay::replay;
+use jnl_store::Store;
+use sector_disk::{Rig, SectorDisk};
+use std::alloc::Global;
+
+/// The volume header, and one sector for the end.
+const MARK_LOAD: u64 = 2;
+
+/// Mounts a volume, to serve it: it is read and checked, its journal is replayed, and a header is committed with
+/// bit 8 clear and the write count one higher. A refused image isn't written.
+pub fn mount<R: Rig>(alloc: Global, rig: &mut R) -> Result<Server, MountFault>
+    ensures serving { IfOk result (λ server. IsServing server (R.state rig.new)) }
+    ensures begins { IfOk result (λ server. (server.input ≡ []) × (server.lines ≡ 0)) }
+    // The tree is that of the image.
+    ensures found { IsTrue (R.state rig.old).tells → IfOk result (λ server. MountsTo (content (R.state rig.old)) server.names) }
+    // A crash at any moment of the call, or at its end, leaves an image that mounts to the same tree.
+    ensures crash { IsTrue (R.state rig.old).tells → IsSettled (R.state rig.old) → (tree : Tree) → MountsTo (content (R.state rig.old)) tree → Leaves (R.state rig.old) (R.state rig.new) (λ image. MountsTo image tree) }
+    // A refusal is the first that stands, and then nothing was written.
+    ensures refused { IsTrue (R.state rig.old).tells → IfErr result (IsFault (content (R.state rig.old))) }
+    ensures unwritten { IfErr result (λ fault. IsRefusal fault → OnlyReads (R.state rig.old) (R.state rig.new)) }
+    ensures same { SameDisk (R.state rig.old) (R.state rig.new) }
+    ensures sink { SameSink (R.state rig.old) (R.state rig.new) }
+    ensures cause { IsCause MountFault.Disk (R.state rig.old).faults (R.state rig.new).faults result }
+{
+    let found = find_volume(alloc, rig)?;
+    Ok(start(alloc, rig, found)?)
+}
+
+// Replays the journal of a volume that was found, and marks the volume as mounted.
+fn start<D: SectorDisk>(alloc: Global, disk: &mut D, found: Found) -> Result<Server, Trouble>
+    requires thin { AreThin found.parts found.names }
+    requires fits { FitsPlan (D.state disk.old).sectors found.plan }
+    requires large { IsLargePlan found.plan }
+    requires size { (D.state disk.old).sectors ≡ 16384 }
+    requires found { IsTrue (D.state disk.old).tells → IsFound (content (D.state disk.old)) found }
+    ensures serving { IfOk result (λ server. IsServing server (D.state disk.new)) }
+    ensures begins { IfOk result (λ server. (server.input ≡ []) × (server.lines ≡ 0)) }
+    ensures names { IfOk result (λ server. server.names ≡ found.names) }
+    ensures crash { IsTrue (D.state disk.old).tells → IsSettled (D.state disk.old) → Leaves (D.state disk.old) (D.state disk.new) (λ image. MountsTo image found.names) }
+    ensures same { SameDisk (D.state disk.old) (D.state disk.new) }
+    ensures sink { SameSink (D.state disk.old) (D.state disk.new) }
+    ensures cause { IsCause Trouble.Disk (D.state disk.old).faults (D.state disk.new).faults result }
+{
+    replay(disk, &found.plan)?;
+    let mut store = Store::attach(alloc, &found.plan, 0)?;
+    let Found { parts, names, .. } = found;
+    let parts = mark(alloc, &mut store, disk, &parts, &names)?;
+    Ok(Server {
+        store,
+        parts,
+        names,
+        input: Input::new(),
+        lines: 0,
+    })
+}
+
+// Commits the header of a volume that is mounted, and answers its parts with it.
+fn mark<D: SectorDisk>(
+    alloc: Global,
+    store: &mut Store,
+    disk: &mut D,
+    parts: &Parts,
+    names: &Names,
+) -> Result<Parts, Trouble>
+    requires idle { IsIdle store.old parts.now (D.state disk.old) }
+    requires thin { AreThin parts.now names.now }
+    ensures thin { IfOk result (λ new. AreThin new names.now) }
+    ensures idle { IfOk result (λ new. IsIdle store.new new (D.state disk.new)) }
+    ensures spare { OnOk result (1 ≤ spare_of store.new) }
+    ensures rests { IsTrue (D.state disk.old).tells → OnOk result (Rests (D.state disk.new) names.now) }
+    ensures crash { IsTrue (D.state disk.old).tells → IsSettled (D.state disk.old) → Rests (D.state disk.old) names.now → Leaves (D.state disk.old) (D.state disk.new) (λ image. MountsTo image names.now) }
+    ensures same { SameDisk (D.state disk.old) (D.state disk.new) }
+    ensures sink { SameSink (D.state disk.old) (D.state disk.new) }
+    ensures cause { IsCause Trouble.Disk (D.state disk.old).faults (D.state disk.new).faults result }
+{
+    let writes = parts.write_count().wrapping_add(1);
+    let new = with_mark(parts, names, false, writes);
+    store.begin(alloc, MARK_LOAD)?;
+    change_header(store, disk, parts, &new)?;
+    Ok(new)
+}
