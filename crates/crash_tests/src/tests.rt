@@ -1,0 +1,172 @@
+// Runs that are cut off, and runs over devices that fail; each choice of a crash's image is a test of its own.
+use crate::crashes::try_all;
+use crate::journals::{BASE, Damage, HEADER, INFO, changed_sectors, is_refused};
+use crate::replays::is_replayed_after_two_stops;
+use crate::twice::try_pairs;
+use std::test::Fail;
+
+#[test]
+fn the_oldest_values_have_a_front(rt: HostRuntime) -> Result<(), Fail> {
+    let tried = try_all(rt.alloc(), 0)?;
+    assert_eq!(rt; tried.wrong, None);
+    assert!(rt; 100 < tried.crashes);
+    Ok(())
+}
+
+#[test]
+fn the_newest_values_have_a_front(rt: HostRuntime) -> Result<(), Fail> {
+    let tried = try_all(rt.alloc(), 1)?;
+    assert_eq!(rt; tried.wrong, None);
+    assert!(rt; 100 < tried.crashes);
+    Ok(())
+}
+
+#[test]
+fn the_values_of_choice_2_have_a_front(rt: HostRuntime) -> Result<(), Fail> {
+    let tried = try_all(rt.alloc(), 2)?;
+    assert_eq!(rt; tried.wrong, None);
+    assert!(rt; 100 < tried.crashes);
+    Ok(())
+}
+
+#[test]
+fn the_values_of_choice_3_have_a_front(rt: HostRuntime) -> Result<(), Fail> {
+    let tried = try_all(rt.alloc(), 3)?;
+    assert_eq!(rt; tried.wrong, None);
+    assert!(rt; 100 < tried.crashes);
+    Ok(())
+}
+
+#[test]
+fn the_values_of_choice_4_have_a_front(rt: HostRuntime) -> Result<(), Fail> {
+    let tried = try_all(rt.alloc(), 4)?;
+    assert_eq!(rt; tried.wrong, None);
+    assert!(rt; 100 < tried.crashes);
+    Ok(())
+}
+
+#[test]
+fn the_values_of_choice_5_have_a_front(rt: HostRuntime) -> Result<(), Fail> {
+    let tried = try_all(rt.alloc(), 5)?;
+    assert_eq!(rt; tried.wrong, None);
+    assert!(rt; 100 < tried.crashes);
+    Ok(())
+}
+
+#[test]
+fn the_values_of_choice_6_have_a_front(rt: HostRuntime) -> Result<(), Fail> {
+    let tried = try_all(rt.alloc(), 6)?;
+    assert_eq!(rt; tried.wrong, None);
+    assert!(rt; 100 < tried.crashes);
+    Ok(())
+}
+
+#[test]
+fn the_values_of_choice_7_have_a_front(rt: HostRuntime) -> Result<(), Fail> {
+    let tried = try_all(rt.alloc(), 7)?;
+    assert_eq!(rt; tried.wrong, None);
+    assert!(rt; 100 < tried.crashes);
+    Ok(())
+}
+
+#[test]
+fn a_mount_that_is_cut_off_changes_nothing_0(rt: HostRuntime) -> Result<(), Fail> {
+    let tried = try_pairs(rt.alloc(), 0)?;
+    assert_eq!(rt; tried.wrong, None);
+    assert!(rt; 50 < tried.pairs);
+    Ok(())
+}
+
+#[test]
+fn a_mount_that_is_cut_off_changes_nothing_1(rt: HostRuntime) -> Result<(), Fail> {
+    let tried = try_pairs(rt.alloc(), 1)?;
+    assert_eq!(rt; tried.wrong, None);
+    assert!(rt; 50 < tried.pairs);
+    Ok(())
+}
+
+#[test]
+fn a_mount_that_is_cut_off_changes_nothing_2(rt: HostRuntime) -> Result<(), Fail> {
+    let tried = try_pairs(rt.alloc(), 2)?;
+    assert_eq!(rt; tried.wrong, None);
+    assert!(rt; 50 < tried.pairs);
+    Ok(())
+}
+
+#[test]
+fn a_mount_that_is_cut_off_changes_nothing_3(rt: HostRuntime) -> Result<(), Fail> {
+    let tried = try_pairs(rt.alloc(), 3)?;
+    assert_eq!(rt; tried.wrong, None);
+    assert!(rt; 50 < tried.pairs);
+    Ok(())
+}
+
+#[test]
+fn a_mount_that_is_cut_off_changes_nothing_4(rt: HostRuntime) -> Result<(), Fail> {
+    let tried = try_pairs(rt.alloc(), 4)?;
+    assert_eq!(rt; tried.wrong, None);
+    assert!(rt; 50 < tried.pairs);
+    Ok(())
+}
+
+#[test]
+fn a_mount_that_is_cut_off_changes_nothing_5(rt: HostRuntime) -> Result<(), Fail> {
+    let tried = try_pairs(rt.alloc(), 5)?;
+    assert_eq!(rt; tried.wrong, None);
+    assert!(rt; 50 < tried.pairs);
+    Ok(())
+}
+
+#[test]
+fn a_mount_that_is_cut_off_changes_nothing_6(rt: HostRuntime) -> Result<(), Fail> {
+    let tried = try_pairs(rt.alloc(), 6)?;
+    assert_eq!(rt; tried.wrong, None);
+    assert!(rt; 50 < tried.pairs);
+    Ok(())
+}
+
+#[test]
+fn a_mount_that_is_cut_off_changes_nothing_7(rt: HostRuntime) -> Result<(), Fail> {
+    let tried = try_pairs(rt.alloc(), 7)?;
+    assert_eq!(rt; tried.wrong, None);
+    assert!(rt; 50 < tried.pairs);
+    Ok(())
+}
+
+#[test]
+fn a_replay_that_is_stopped_twice_gives_the_same(rt: HostRuntime) -> Result<(), Fail> {
+    for choice in 0..8u64 {
+        assert!(rt;
+            is_replayed_after_two_stops(rt.alloc(), choice)?,
+            "choice {choice}"
+        );
+    }
+    Ok(())
+}
+
+#[test]
+fn a_journal_with_a_fault_is_refused(rt: HostRuntime) -> Result<(), Fail> {
+    let rows = [
+        (Damage::Bit, "refused BadList 512\n"),
+        // The version 10.0, which is 31 30 2E 30.
+        (
+            Damage::Number(HEADER, 8, 825_241_136),
+            "refused ForeignJournal 825241136\n",
+        ),
+        // A start that no journal has.
+        (Damage::Number(BASE, 8, 1), "refused BadHeader 8\n"),
+        // A journal that still has to be initialised counts as empty; such a volume isn't served yet.
+        (Damage::Number(INFO, 0, 5), "refused NotYet 0\n"),
+    ];
+    for (damage, told) in rows {
+        assert!(rt; is_refused(rt.alloc(), damage, told)?, "{told}");
+    }
+    Ok(())
+}
+
+// The list's block for sector 5000 and the volume header; not the block that is skipped.
+#[test]
+fn a_skipped_block_is_stepped_over(rt: HostRuntime) -> Result<(), Fail> {
+    assert_eq!(rt; changed_sectors(rt.alloc())?, 2);
+    Ok(())
+}

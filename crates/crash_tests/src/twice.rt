@@ -1,0 +1,72 @@
+//! Power fails in a run, and again in the mount of what it left.
+use crate::{folders_in, fresh, run_lines};
+use hx_bytes::OutOfMemory;
+use mem_disk::{MemImage, MemRig};
+use std::alloc::Global;
+
+const LINES: &[u8] = b"mkdir /d0\nmkdir /d1\n";
+
+// How many calls of a mount that wrote are passed over between two that are tried.
+const STEP: u64 = 3;
+
+/// What all pairs of crashes left.
+#[derive(Clone, Copy)]
+pub struct Pairs {
+    pub pairs: u64,
+    /// After how many calls of the run and of the mount an image was wrong, if one was.
+    pub wrong: Option<(u64, u64)>,
+}
+
+/// Stops the run after each call that wrote, and the mount of the image of this choice again after such
+/// calls. What the second image has must be what the first one has.
+pub fn try_pairs(alloc: Global, choice: u64) -> Result<Pairs, OutOfMemory> {
+    let start = fresh(alloc)?;
+    let mut whole = MemRig::from_image(alloc, &start)?;
+    run_lines(alloc, &mut whole, LINES)?;
+    let mut tried = Pairs {
+        pairs: 0,
+        wrong: None,
+    };
+    for call in 0..whole.calls() {
+        if whole.wrote(call) {
+            let stop = call.saturating_add(1);
+            let mut rig = MemRig::from_image(alloc, &start)?;
+            rig.stop_after(stop);
+            run_lines(alloc, &mut rig, LINES)?;
+            let image = rig.image(alloc, choice)?;
+            try_mount(alloc, &image, choice, stop, &mut tried)?;
+        }
+    }
+    Ok(tried)
+}
+
+/// Stops the mount of an image after each third call that wrote.
+fn try_mount(
+    alloc: Global,
+    image: &MemImage,
+    choice: u64,
+    stop: u64,
+    tried: &mut Pairs,
+) -> Result<(), OutOfMemory> {
+    let want = folders_in(alloc, image)?;
+    let mut whole = MemRig::from_image(alloc, image)?;
+    run_lines(alloc, &mut whole, b"")?;
+    let mut nth = stop;
+    for call in 0..whole.calls() {
+        if whole.wrote(call) {
+            nth = nth.wrapping_add(1);
+            if nth % STEP == 0 {
+                let again = call.saturating_add(1);
+                let mut rig = MemRig::from_image(alloc, image)?;
+                rig.stop_after(again);
+                run_lines(alloc, &mut rig, b"")?;
+                let second = rig.image(alloc, choice)?;
+                if want.is_none() || folders_in(alloc, &second)? != want {
+                    tried.wrong = Some((stop, again));
+                }
+                tried.pairs = tried.pairs.saturating_add(1);
+            }
+        }
+    }
+    Ok(())
+}
