@@ -1,5 +1,5 @@
 -- A server on its rig, and how its run goes on from call to call.
-use Rattle.std.specs.Prelude.{◌≡◌, ◌⊎◌, ◌≤◌, ◌+◌, ◌%◌, ◌^◌, ℕ, List, [], ◌++◌, length, false, IsTrue}
+use Rattle.std.specs.Prelude.{◌≡◌, ◌≤◌, ◌+◌, ◌%◌, ◌^◌, ℕ, List, [], ◌++◌, length, false, IsTrue}
 use Rattle.sector_disk.specs.Clock.{Passes}
 use Rattle.sector_disk.specs.Disk.{State, IsImage, content}
 use Rattle.sector_disk.specs.Lists.{Content, sector}

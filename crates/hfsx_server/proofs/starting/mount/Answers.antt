@@ -1,8 +1,8 @@
-use Rattle.std.proofs.Common.{◌≡◌, ◌≤◌, ◌∙◌, IsTrue, Result, length, refl, sym, ap, subst, arith}
+use Rattle.std.proofs.Common.{◌≡◌, ◌∙◌, Result, length, refl, sym, ap, subst, arith}
 use Rattle.std.specs.Prelude.{IfErr}
 use Rattle.std.proofs.lemmas.Result.{err_from_is_err_and}
 use Rattle.sector_disk.specs.Lists.{Content}
-use Rattle.sector_disk.specs.Disk.{Candidates, IsImage, Leaves, content, content_of, only}
+use Rattle.sector_disk.specs.Disk.{content, only}
 use Rattle.sector_disk.proofs.Stages.{leaves_both}
 use Rattle.jnl_format.specs.Recovery.{replayed}
 use Rattle.jnl_replay.specs.Plan.{FitsPlan, journal_of}
