@@ -28,6 +28,7 @@ pub mod Telling
 pub mod Thin
 pub mod ThinHeaders
 pub mod ThinJournals
+pub mod ThinMounts
 pub mod Usage
 pub mod Volumes
 pub mod Whole

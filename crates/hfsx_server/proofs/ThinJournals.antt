@@ -1,28 +1,26 @@
 -- The journal of a thin volume: its info block, its header and what a transaction of it holds.
-use Rattle.std.proofs.Common.{◌≡◌, ◌<◌, ◌≤◌, ◌+◌, ◌-◌, ◌*◌, ◌/◌, ◌%◌, ◌^◌, ◌++◌, ℕ, Bool, true, false, not, ◌&&◌, List, [], ◌∷◌, IsTrue, length, replicate, take, drop, refl, sym, ◌∙◌, ap, subst, arith, cond, append_assoc, length-append, eqb}
-use Rattle.std.specs.Prelude.{Option, None, Some, Result, Ok, Err, nat_le, ◌==◌, bit_and}
-use Rattle.std.proofs.lemmas.Bool.{and_parts, and_from, leb-true, eqb-true, le-leb, eq-eqb}
+use Rattle.std.proofs.Common.{◌≡◌, ◌<◌, ◌≤◌, ◌/◌, ◌%◌, ◌^◌, ◌++◌, ℕ, false, List, [], IsTrue, length, replicate, drop, refl, sym, ◌∙◌, ap, subst, arith, cond, append_assoc, length-append, eqb}
+use Rattle.std.specs.Prelude.{Option, None, Some, Ok}
 use Rattle.std.proofs.lemmas.Bool.Decides.{nat_tests}
 use Rattle.hx_bytes.specs.Field.{number_at, number_bytes}
 use Rattle.hx_bytes.specs.declared.fields.Order.{Order}
 use Rattle.hx_bytes.specs.declared.fields.Order.TheVariants.{Little, Big}
 use Rattle.hx_bytes.proofs.Laws.{length-number_bytes, number_at-number_bytes}
-use Rattle.jnl_format.specs.Info.{info_of, with_info, is_fresh, unless_fault}
+use Rattle.jnl_format.specs.Info.{info_of, is_fresh}
 use Rattle.jnl_format.specs.Header.{order_of, header_of, header_fault, header_in, header_read, header_spelled, header_bytes, is_offset, IsHeader}
 use Rattle.jnl_format.specs.Checksum.{checksum_of}
 use Rattle.jnl_format.specs.Recovery.{Content, sector, Journal, journal_in}
 use Rattle.jnl_format.specs.declared.structures.Info.{Info}
 use Rattle.jnl_format.specs.declared.structures.Header.{Header}
-use Rattle.jnl_format.specs.declared.structures.JnlRefusal.{JnlRefusal}
 use Rattle.jnl_format.proofs.Headers.{drop_header}
 use Rattle.jnl_format.proofs.InfoBack.{info_back}
-use Rattle.jnl_format.proofs.Recovering.{Found, is_new, is_kept, IsJournal, journal_parts, found_journal, unless_parts}
+use Rattle.jnl_format.proofs.Recovering.{Found, is_new, is_kept, journal_parts, found_journal, unless_parts}
 use Rattle.jnl_ring.specs.declared.span.Span.{Span}
 use Rattle.jnl_store.specs.Lists.{IsCapacity}
 use Rattle.jnl_store.specs.declared.form.ListForm.{ListForm}
 use Rattle.hfs_model.specs.Thin.{info_text, journal_text}
 use Rattle.hfs_model.specs.Thin as thin
-use Rattle.hfsx_server.specs.Volume.{HoldsAtMost, IsLarge}
+use Rattle.hfsx_server.specs.Volume.{IsLarge}
 
 -- the fields of the info block
 abbrev pub thin_info : Info
@@ -32,10 +30,10 @@ pub info_read : info_of info_text ≡ thin_info
 info_read = info_back thin_info (replicate 512 0) (omega arith) (omega arith) (omega arith) (omega arith)
 
 -- the number of bytes in front of a field, and the field there
-field_at : (n x at : ℕ) (front rest : List ℕ) → length front ≡ at → x < 256 ^ n → number_at Little n (front ++ (number_bytes Little n x ++ rest)) at ≡ x
+pub field_at : (n x at : ℕ) (front rest : List ℕ) → length front ≡ at → x < 256 ^ n → number_at Little n (front ++ (number_bytes Little n x ++ rest)) at ≡ x
 field_at n x at front rest long small = number_at-number_bytes Little n x at front rest long small
 
-magic_at : (start end : ℕ) → number_at Little 4 (journal_text start end) 0 ≡ 0x4A4E4C78
+pub magic_at : (start end : ℕ) → number_at Little 4 (journal_text start end) 0 ≡ 0x4A4E4C78
 magic_at start end =
     let head : Header = record { order = Little; start = start; end = end; size = 1048576; blhdr = 4096 } in
     let sum = checksum_of (header_spelled 0 head) in
@@ -43,7 +41,7 @@ magic_at start end =
     let split : journal_text start end ≡ [] ++ (number_bytes Little 4 0x4A4E4C78 ++ rest) = simp append_assoc in
     ap (λ (l : List ℕ). number_at Little 4 l 0) split ∙ field_at 4 0x4A4E4C78 0 [] rest refl (omega arith)
 
-blhdr_at : (start end : ℕ) → number_at Little 4 (journal_text start end) 32 ≡ 4096
+pub blhdr_at : (start end : ℕ) → number_at Little 4 (journal_text start end) 32 ≡ 4096
 blhdr_at start end =
     let head : Header = record { order = Little; start = start; end = end; size = 1048576; blhdr = 4096 } in
     let sum = checksum_of (header_spelled 0 head) in
@@ -53,7 +51,7 @@ blhdr_at start end =
     let long : length front ≡ 32 = simp (length-append, length-number_bytes Little) refl in
     ap (λ (l : List ℕ). number_at Little 4 l 32) split ∙ field_at 4 4096 32 front rest long (omega arith)
 
-order_is : (sector : List ℕ) → number_at Little 4 sector 0 ≡ 0x4A4E4C78 → order_of sector ≡ Some Little
+pub order_is : (sector : List ℕ) → number_at Little 4 sector 0 ≡ 0x4A4E4C78 → order_of sector ≡ Some Little
 order_is sector is = ap (λ n. cond (eqb n 0x4A4E4C78) (Some Little) (cond (eqb (number_at Big 4 sector 0) 0x4A4E4C78) (Some Big) None)) is
 
 -- a journal header that is read has this order and these list headers

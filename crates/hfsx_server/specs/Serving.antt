@@ -1,17 +1,19 @@
 -- A server on its rig, and how its run goes on from call to call.
-use Rattle.std.specs.Prelude.{◌≡◌, ◌⊎◌, ◌≤◌, ℕ, List, [], ◌++◌, length, false, IsTrue}
+use Rattle.std.specs.Prelude.{◌≡◌, ◌≤◌, ◌+◌, ◌%◌, ◌^◌, ℕ, List, [], ◌++◌, length, false, IsTrue}
 use Rattle.sector_disk.specs.Clock.{Passes}
 use Rattle.sector_disk.specs.Disk.{State, IsImage, content}
 use Rattle.sector_disk.specs.Lists.{Content, sector}
 use Rattle.sector_disk.specs.Source.{Stream}
 use Rattle.hx_bytes.specs.declared.fields.Order.TheVariants.{Little}
+use Rattle.volume_header.specs.Header.{header_bytes}
 use Rattle.jnl_replay.specs.Plan.{FitsPlan}
 use Rattle.jnl_replay.specs.declared.plan.Plan.{Plan}
 use Rattle.jnl_store.specs.Store.{KeepsOn, content_over, spare_of}
 use Rattle.jnl_store.specs.declared.store.Store.{Store}
 use Rattle.hfs_model.specs.Language.{command_of}
 use Rattle.hfs_model.specs.Lines.{lines}
-use Rattle.hfs_model.specs.Thin.{AreThin, IsJournal}
+use Rattle.hfs_model.specs.Parts.{OnlyHeader}
+use Rattle.hfs_model.specs.Thin.{AreThin, IsJournal, thin_header, writes_in}
 use Rattle.hfs_model.specs.declared.parts.Parts.{Parts}
 use Rattle.hfsx_server.specs.Finding.{IsLargePlan}
 use Rattle.hfsx_server.specs.Headline.{Entry, IsFront, IsRun, Survives, lines_of, replies_of, tree_after}
@@ -68,6 +70,12 @@ pub record IsReady (store : Store) (old new : Parts) (rig : State) : Type 0 wher
 -- a crash at this moment leaves what mounts to this tree
 abbrev pub Rests : State → Tree → Type 0
 Rests disk tree = (image : Content) → IsImage disk.candidates image → MountsTo image tree
+
+-- A volume with so many folders is marked as mounted: in its header bit 8 is clear, and the write count is one higher,
+-- and 0 behind the highest. All other parts are as they were.
+pub record IsMarked (folders : ℕ) (old new : Parts) : Type 0 where
+  pub header : new.header ≡ header_bytes (thin_header folders false ((writes_in old.header + 1) % 2 ^ 32))
+  pub others : OnlyHeader old new
 
 -- The server may serve its volume on this rig. There is room for the one sector that its end needs.
 pub record IsServing (server : Server) (rig : State) : Type 0 where

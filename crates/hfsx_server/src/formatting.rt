@@ -1,10 +1,10 @@
 // A volume that is formatted.
 ghost use Rattle.std.specs.Prelude.{◌≡◌, ◌≢◌, ◌↔◌, ◌++◌, [], IsTrue, OnOk};
 ghost use Rattle.sector_disk.specs.Cause.{Rose};
-ghost use Rattle.sector_disk.specs.Disk.{SameDisk, SameSink};
+ghost use Rattle.sector_disk.specs.Disk.{SameDisk, SameSink, content};
 ghost use Rattle.hfsx_server.specs.Cause.{IsCause};
 ghost use Rattle.hfsx_server.specs.Telling.{Tells, refusal_text, size_refusal, formatted_text};
-ghost use Rattle.hfsx_server.specs.Volume.{IsUnmounted};
+ghost use Rattle.hfsx_server.specs.Volume.{IsUnmounted, MountsTo};
 
 use crate::{Refusal, Status, VOLUME_SECTORS, tell_refusal, tell_whole, write_parts};
 use hfs_model::fresh_parts;
@@ -19,6 +19,7 @@ pub fn format<R: Rig>(alloc: Global, rig: &mut R) -> Status
     ensures refused { (result ≡ Status.Refused) ↔ ((R.state rig.old).sectors ≢ VOLUME_SECTORS) }
     ensures refusal { result ≡ Status.Refused → Tells (R.state rig.old) (R.state rig.new) (refusal_text (size_refusal (R.state rig.old).sectors)) }
     ensures unmounted { IsTrue (R.state rig.old).tells → result ≡ Status.Done → IsUnmounted (R.state rig.new) [] }
+    ensures mounts { IsTrue (R.state rig.old).tells → result ≡ Status.Done → MountsTo (content (R.state rig.new)) [] }
     ensures told { IsTrue (R.state rig.old).tells → result ≡ Status.Done → (R.state rig.new).told ≡ (R.state rig.old).told ++ formatted_text }
     ensures no_usage { result ≢ Status.Usage }
     ensures no_source { result ≢ Status.Source }

@@ -1,16 +1,17 @@
 // A volume is mounted: found, replayed, and marked as mounted.
-ghost use Rattle.std.specs.Prelude.{◌≡◌, ◌≢◌, ◌≤◌, ◌+◌, [], IsTrue, IfOk, IfErr, OnOk};
+ghost use Rattle.std.specs.Prelude.{◌≡◌, ◌≢◌, ◌≤◌, ◌+◌, [], length, IsTrue, Ok, IfOk, IfErr, OnOk};
 ghost use Rattle.sector_disk.specs.Cause.{HasCause};
 ghost use Rattle.sector_disk.specs.Disk.{IsSettled, Leaves, SameDisk, SameSink, content};
+ghost use Rattle.jnl_format.specs.Recovery.{Content, recovery};
 ghost use Rattle.jnl_replay.specs.Plan.{FitsPlan};
 ghost use Rattle.jnl_replay.specs.Reading.{OnlyReads};
 ghost use Rattle.jnl_store.specs.Plan.{rested};
 ghost use Rattle.jnl_store.specs.Store.{spare_of};
-ghost use Rattle.hfs_model.specs.Parts.{OnlyHeader};
+ghost use Rattle.hfs_model.specs.Parts.{parts_of};
 ghost use Rattle.hfs_model.specs.Thin.{AreThin};
 ghost use Rattle.hfsx_server.specs.Cause.{IsCause};
 ghost use Rattle.hfsx_server.specs.Finding.{IsFound, IsLargePlan};
-ghost use Rattle.hfsx_server.specs.Serving.{IsIdle, IsServing, Rests, Stands};
+ghost use Rattle.hfsx_server.specs.Serving.{IsIdle, IsMarked, IsServing, Rests, Stands};
 ghost use Rattle.hfsx_server.specs.Volume.{Tree, IsFault, IsRefusal, MountsTo};
 
 use crate::changing::change_header;
@@ -33,6 +34,8 @@ pub fn mount<R: Rig>(alloc: Global, rig: &mut R) -> Result<Server, MountFault>
     ensures begins { IfOk result (λ server. (server.input ≡ []) × (server.lines ≡ 0)) }
     // The tree is that of the image.
     ensures found { IsTrue (R.state rig.old).tells → IfOk result (λ server. MountsTo (content (R.state rig.old)) server.names) }
+    // The parts are those of what the image stands for, but for the header, which is marked.
+    ensures marked { IsTrue (R.state rig.old).tells → IfOk result (λ server. (recovered : Content) × (recovery (content (R.state rig.old)) ≡ Ok recovered) × IsMarked (length server.names) (parts_of recovered) server.parts) }
     // A crash at any moment of the call, or at its end, leaves an image that mounts to the same tree.
     ensures crash { IsTrue (R.state rig.old).tells → IsSettled (R.state rig.old) → (tree : Tree) → MountsTo (content (R.state rig.old)) tree → Leaves (R.state rig.old) (R.state rig.new) (λ image. MountsTo image tree) }
     // A refusal is the first that stands, and then nothing was written.
@@ -56,6 +59,7 @@ fn start<D: SectorDisk>(alloc: Global, disk: &mut D, found: Found) -> Result<Ser
     ensures serving { IfOk result (λ server. IsServing server (D.state disk.new)) }
     ensures begins { IfOk result (λ server. (server.input ≡ []) × (server.lines ≡ 0)) }
     ensures names { IfOk result (λ server. server.names ≡ found.names) }
+    ensures marked { IfOk result (λ server. IsMarked (length found.names) found.parts server.parts) }
     ensures crash { IsTrue (D.state disk.old).tells → IsSettled (D.state disk.old) → Leaves (D.state disk.old) (D.state disk.new) (λ image. MountsTo image found.names) }
     ensures same { SameDisk (D.state disk.old) (D.state disk.new) }
     ensures sink { SameSink (D.state disk.old) (D.state disk.new) }
@@ -85,6 +89,7 @@ fn mark<D: SectorDisk>(
     requires idle { IsIdle store.old parts.now (D.state disk.old) }
     requires thin { AreThin parts.now names.now }
     ensures thin { IfOk result (λ new. AreThin new names.now) }
+    ensures marked { IfOk result (IsMarked (length names.now) parts.now) }
     ensures idle { IfOk result (λ new. IsIdle store.new new (D.state disk.new)) }
     ensures spare { OnOk result (1 ≤ spare_of store.new) }
     ensures rests { IsTrue (D.state disk.old).tells → OnOk result (Rests (D.state disk.new) names.now) }

@@ -30,9 +30,10 @@ pub fn hfsx<R: Rig, S: Source>(
     ensures format_refused { AreFormat (texts words.now) (R.state rig.old).sectors → (result ≡ Status.Refused) ↔ ((R.state rig.old).sectors ≢ 16384) }
     ensures format_refusal { AreFormat (texts words.now) (R.state rig.old).sectors → IsTrue (R.state rig.old).tells → result ≡ Status.Refused
         → ToldUnlessFailed (R.state rig.old) (R.state rig.new) (refusal_text (size_refusal (R.state rig.old).sectors)) }
-    // Status 0 means that the image is a volume without folders, unmounted and with nothing pending, and that its line was told.
+    // Status 0 means that the image is a volume without folders, unmounted and with nothing pending, that it mounts to the
+    // tree without folders, and that its line was told.
     ensures formatted { AreFormat (texts words.now) (R.state rig.old).sectors → IsTrue (R.state rig.old).tells → result ≡ Status.Done
-        → IsUnmounted (R.state rig.new) [] × ((R.state rig.new).told ≡ (R.state rig.old).told ++ formatted_text) }
+        → IsUnmounted (R.state rig.new) [] × MountsTo (content (R.state rig.new)) [] × ((R.state rig.new).told ≡ (R.state rig.old).told ++ formatted_text) }
 
     // `run`: status 1 stands exactly where the image isn't mountable, unless it couldn't be read, and then the first refusal
     // that stands is told.

@@ -1,8 +1,8 @@
 use Rattle.std.proofs.Common.{◌≡◌, ◌<◌, ◌∙◌, ◌++◌, [], ℕ, List, IsTrue, sym, ap, subst, arith}
-use Rattle.hfsx_server.specs.declared.refusal.Refusal.TheVariants.{TooSmall, TooLarge}
 use Rattle.hfsx_server.specs.Telling.{Tells, refusal_text, size_refusal, formatted_text}
 use Rattle.hfsx_server.proofs.Formatted.{unmounted_told}
 use Rattle.hfsx_server.proofs.Telling.{too_small, too_large}
+use Rattle.hfsx_server.proofs.ThinMounts.{unmounted_mounts}
 use Rattle.hfsx_server.proofs.formatting.format.Goals as goal
 
 pub returns-then-sectors-lt-VOLUME_SECTORS-clause-refusal : goal.returns-then-sectors-lt-VOLUME_SECTORS-clause-refusal
@@ -31,3 +31,8 @@ pub returns-in-Ok-tell_whole-clause-told : goal.returns-in-Ok-tell_whole-clause-
 returns-in-Ok-tell_whole-clause-told g c tells _ =
     let still = subst IsTrue (sym c.make_volume.ensures.same.tells) tells in
     c.in-Ok-tell_whole.ensures.told still ∙ ap (λ (l : List ℕ). l ++ formatted_text) c.make_volume.ensures.sink.told
+
+pub returns-in-Ok-tell_whole-clause-mounts : goal.returns-in-Ok-tell_whole-clause-mounts
+returns-in-Ok-tell_whole-clause-mounts g c tells _ =
+    let new = g.R.SectorDisk.state c.tell_whole.new.rig in
+    unmounted_mounts new [] (unmounted_told (g.R.SectorDisk.state c.make_volume.new.disk) new [] c.tell_whole.ensures.candidates (c.in-Ok.ensures.unmounted tells))

@@ -1,8 +1,9 @@
-use Rattle.std.proofs.Common.{◌≡◌, ◌⊎◌, ◌≤◌, ◌+◌, ◌∙◌, IsTrue, ⊎_elim, refl, sym, ap, subst, arith}
-use Rattle.sector_disk.specs.Lists.{Content}
+use Rattle.std.proofs.Common.{◌≡◌, ◌⊎◌, ◌+◌, ◌%◌, ◌^◌, false, length, ⊎_elim, refl, ap, subst, arith}
 use Rattle.sector_disk.proofs.Stages.{leaves_with}
 use Rattle.hx_bytes.specs.declared.faults.Trouble.TheVariants.{Disk}
+use Rattle.volume_header.specs.Header.{header_bytes}
 use Rattle.jnl_store.specs.Batch.{Staged}
+use Rattle.hfs_model.specs.Thin.{thin_header}
 use Rattle.hfsx_server.specs.Volume.{MountsTo}
 use Rattle.hfsx_server.proofs.Causes.{cause_ok}
 use Rattle.hfsx_server.proofs.Changed.{idle_begun}
@@ -51,3 +52,11 @@ returns-in_err-change_header-clause-crash g c tells settled rests =
 
 pub returns-in_err-begin-clause-crash : goal.returns-in_err-begin-clause-crash
 returns-in_err-begin-clause-crash g c tells settled rests = leaves_none (g.D.SectorDisk.state c.args.disk.now) _ rests
+
+pub returns-clause-marked : goal.returns-clause-marked
+returns-clause-marked g c =
+    let new = c.with_mark-new.result in
+    record {
+      header = subst (λ n. new.header ≡ header_bytes (thin_header (length c.args.names.now) false ((n + 1) % 2 ^ 32))) c.write_count-writes.ensures c.with_mark-new.ensures.header;
+      others = c.with_mark-new.ensures.others;
+    }

@@ -1,16 +1,20 @@
-use Rattle.std.proofs.Common.{◌≡◌, ◌≤◌, ◌∙◌, IsTrue, Result, refl, sym, ap, subst, arith}
+use Rattle.std.proofs.Common.{◌≡◌, ◌∙◌, Result, length, refl, sym, ap, subst, arith}
 use Rattle.std.specs.Prelude.{IfErr}
 use Rattle.std.proofs.lemmas.Result.{err_from_is_err_and}
 use Rattle.sector_disk.specs.Lists.{Content}
-use Rattle.sector_disk.specs.Disk.{Candidates, IsImage, Leaves, content, content_of, only}
+use Rattle.sector_disk.specs.Disk.{content, only}
 use Rattle.sector_disk.proofs.Stages.{leaves_both}
-use Rattle.jnl_replay.specs.Plan.{FitsPlan}
+use Rattle.jnl_format.specs.Recovery.{replayed}
+use Rattle.jnl_replay.specs.Plan.{FitsPlan, journal_of}
 use Rattle.jnl_replay.specs.Reading.{OnlyReads}
 use Rattle.jnl_replay.proofs.ReadOn.{same_content}
 use Rattle.hfsx_server.specs.declared.faults.MountFault.{MountFault}
 use Rattle.hfsx_server.specs.declared.faults.MountFault.TheVariants.{Disk}
 use Rattle.hfsx_server.specs.declared.server.Server.{Server}
+use Rattle.hfs_model.specs.Parts.{parts_of}
+use Rattle.hfs_model.specs.declared.parts.Parts.{Parts}
 use Rattle.hfsx_server.specs.Finding.{IsFound}
+use Rattle.hfsx_server.specs.Serving.{IsMarked}
 use Rattle.hfsx_server.specs.Volume.{IsFault, IsRefusal, MountsTo, Tree}
 use Rattle.hfsx_server.proofs.Causes.{cause_ok, cause_troubled}
 use Rattle.hfsx_server.proofs.Finding.{found_mounts}
@@ -89,3 +93,16 @@ start-requires-clause-fits g c = subst (λ n. FitsPlan n c.in_ok-found.found.pla
 
 pub start-requires-clause-size : goal.start-requires-clause-size
 start-requires-clause-size g c = c.find_volume.ensures.reads.same.sectors ∙ c.in_ok-found.ensures.size
+
+pub returns-clause-marked : goal.returns-clause-marked
+returns-clause-marked g c tells =
+    let image = content (g.R.SectorDisk.state c.args.rig.now) in
+    let found = c.in_ok-found.found in
+    let is = c.in_ok-found.ensures.found tells in
+    let server = c.in_ok-start.field-0 in
+    let marked : IsMarked (length found.names) (parts_of (replayed (journal_of found.plan) image)) server.parts =
+    subst (λ (p : Parts). IsMarked (length found.names) p server.parts) is.parts c.in_ok-start.ensures.marked in (
+      replayed (journal_of found.plan) image,
+      is.recovers,
+      subst (λ (n : Tree). IsMarked (length n) (parts_of (replayed (journal_of found.plan) image)) server.parts) (sym c.in_ok-start.ensures.names) marked,
+    )

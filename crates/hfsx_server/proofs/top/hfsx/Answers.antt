@@ -1,12 +1,12 @@
-use Rattle.std.proofs.Common.{◌≡◌, ◌∙◌, ℕ, ⊎_elim, refl, sym, subst}
+use Rattle.std.proofs.Common.{◌∙◌, ⊎_elim, refl, sym}
 use Rattle.sector_disk.specs.Disk.{content}
 use Rattle.hfsx_server.proofs.Finding.{refused_image}
-use Rattle.hfsx_server.specs.Words.{texts, AreRun, AreFormat}
+use Rattle.hfsx_server.specs.Words.{texts}
 use Rattle.hfsx_server.proofs.Usage.{not_both, same_sectors}
 use Rattle.hfsx_server.proofs.top.hfsx.Goals as goal
 
 pub returns-then-sectors-clause-formatted : goal.returns-then-sectors-clause-formatted
-returns-then-sectors-clause-formatted g c words tells is = (c.format.ensures.unmounted tells is, c.format.ensures.told tells is)
+returns-then-sectors-clause-formatted g c words tells is = (c.format.ensures.unmounted tells is, c.format.ensures.mounts tells is, c.format.ensures.told tells is)
 
 pub returns-else-sectors-clause-usage : goal.returns-else-sectors-clause-usage
 returns-else-sectors-clause-usage g c =
