@@ -1,6 +1,7 @@
 pub mod Causes
 pub mod Changed
 pub mod Durable
+pub mod Fetching
 pub mod Finding
 pub mod Cuts
 pub mod Finished

@@ -5,7 +5,8 @@ use Rattle.sector_disk.specs.Source.{Stream}
 use Rattle.hfs_model.specs.Lines.{lines, HasNoNewline}
 use Rattle.hfs_model.proofs.Lines.{lines-nil, lines_ended, lines_last, HasNoNewline-nil, HasNoNewline-push}
 use Rattle.hfsx_server.specs.declared.input.Line.{Line}
-use Rattle.hfsx_server.specs.Input.{ahead, weight, IsLine, SameSource, TakesLines}
+use Rattle.hfsx_server.specs.Input.{ahead, weight, IsLine, SameSource, TakesLines, TakesNoMore}
+use Rattle.hfsx_server.proofs.Fetching.{Fetches, fetches_nothing, fetches_byte, fetches_none, no_more}
 
 -- some bytes of a line have come so far
 pub record Reads (limit : ℕ) (taken : List ℕ) (old : Stream) (taken_now : List ℕ) (now : Stream) (line : Line) : Type 0 where
@@ -16,6 +17,7 @@ pub record Reads (limit : ℕ) (taken : List ℕ) (old : Stream) (taken_now : Li
   pub nearer : length text + weight taken_now now ≤ weight taken old
   pub same : SameSource old now
   pub later : old.faults ≤ now.faults
+  pub fetches : IsTrue old.tells → Fetches taken old text taken_now now
 
 module _ (limit : ℕ) (taken : List ℕ) (old : Stream) (taken_now : List ℕ) (now : Stream) (line : Line) (reads : Reads limit taken old taken_now now line) where
   pub still : IsTrue old.tells → IsTrue now.tells
@@ -23,8 +25,9 @@ module _ (limit : ℕ) (taken : List ℕ) (old : Stream) (taken_now : List ℕ) 
 
   pub reads_more : (taken_new : List ℕ) (new : Stream) (longer : Line) (byte : ℕ) → (byte ≡ 10 → ⊥) → IsLine limit (reads.text ++ byte ∷ []) longer
       → (IsTrue now.tells → ahead taken_now now ≡ byte ∷ ahead taken_new new) → weight taken_new new < weight taken_now now → SameSource now new → now.faults ≤ new.faults
+      → ((taken_now ≡ [] → ⊥) → new ≡ now) → length taken_new ≤ 512
       → Reads limit taken old taken_new new longer
-  reads_more taken_new new longer byte other is came nearer same later = record {
+  reads_more taken_new new longer byte other is came nearer same later still_there few = record {
     text = reads.text ++ byte ∷ [];
     no_newline = HasNoNewline-push reads.text byte reads.no_newline other;
     line_is = is;
@@ -32,6 +35,7 @@ module _ (limit : ℕ) (taken : List ℕ) (old : Stream) (taken_now : List ℕ) 
     nearer = omega (arith, nearer, reads.nearer, length-append reads.text (byte ∷ []));
     same = record { tells = same.tells ∙ reads.same.tells; names = same.names ∙ reads.same.names };
     later = omega (arith, later, reads.later);
+    fetches = λ tells. fetches_byte taken old reads.text taken_now taken_new now new byte still_there few (came (still tells)) reads.no_newline (reads.fetches tells);
   }
 
   -- a newline ends the line
@@ -74,6 +78,24 @@ module _ (limit : ℕ) (taken : List ℕ) (old : Stream) (taken_now : List ℕ) 
     reads.bytes tells ∙ ap (λ (l : List ℕ). reads.text ++ l) (none (still tells) ∙ sym (at_end (still tells))) ∙ sym (append_assoc reads.text taken_new new.left),
   )
 
+  -- no more was taken than the line needs, where one byte more was read, and where none was
+  pub reads_few_byte : (taken_new : List ℕ) (new : Stream) (byte : ℕ) → ((taken_now ≡ [] → ⊥) → new ≡ now) → length taken_new ≤ 512 → (IsTrue now.tells → ahead taken_now now ≡ byte ∷ ahead taken_new new) → IsTrue old.tells → TakesNoMore taken old new
+  reads_few_byte taken_new new byte still_there few came tells =
+      no_more taken old reads.text (byte ∷ []) taken_new new reads.no_newline (omega arith) (fetches_byte taken old reads.text taken_now taken_new now new byte still_there few (came (still tells)) reads.no_newline (reads.fetches tells))
+
+  pub reads_few : (new : Stream) → ((taken_now ≡ [] → ⊥) → new ≡ now) → (IsTrue now.tells → new.left ≡ now.left) → IsTrue old.tells → TakesNoMore taken old new
+  reads_few new still_there kept tells =
+      let fetches = fetches_none taken old reads.text taken_now now new still_there (kept (still tells)) reads.no_newline (reads.fetches tells) in
+      no_more taken old reads.text [] taken_now new reads.no_newline (omega arith) (subst (λ (l : List ℕ). Fetches taken old l taken_now new) (sym (append-nil reads.text)) fetches)
+
+  -- at the end nothing is left, before and after
+  pub reads_few_end : (taken_new : List ℕ) (new : Stream) → ((taken_now ≡ [] → ⊥) → new ≡ now) → (IsTrue now.tells → (ahead taken_now now ≡ []) × (ahead taken_new new ≡ [])) → IsTrue old.tells → TakesNoMore taken old new
+  reads_few_end taken_new new still_there at_end = reads_few new still_there (λ tells. none_behind taken_new new.left (at_end tells).1 ∙ sym (none_behind taken_now now.left (at_end tells).0))
+    where
+      none_behind : (front rest : List ℕ) → front ++ rest ≡ [] → rest ≡ []
+      none_behind [] rest none = none
+      none_behind (byte ∷ front) rest none = absurd (cc none)
+
 pub reads_nothing : (limit : ℕ) (taken : List ℕ) (old : Stream) (line : Line) → IsLine limit [] line → Reads limit taken old taken old line
 reads_nothing limit taken old line is = record {
   text = [];
@@ -83,6 +105,7 @@ reads_nothing limit taken old line is = record {
   nearer = omega arith;
   same = record { tells = refl; names = refl };
   later = omega arith;
+  fetches = λ tells. fetches_nothing taken old;
 }
 
 -- what isn't empty has a byte

@@ -1,7 +1,7 @@
 -- Bytes of a source on their way into lines.
-use Rattle.std.specs.Prelude.{◌≡◌, ◌⊎◌, ◌<◌, ◌≤◌, ◌+◌, ◌*◌, ◌++◌, ℕ, List, [], length}
+use Rattle.std.specs.Prelude.{◌≡◌, ◌⊎◌, ◌<◌, ◌≤◌, ◌+◌, ◌*◌, ◌++◌, ◌∷◌, ℕ, List, [], length}
 use Rattle.sector_disk.specs.Source.{Stream}
-use Rattle.hfs_model.specs.Lines.{lines}
+use Rattle.hfs_model.specs.Lines.{lines, HasNoNewline}
 use Rattle.hfsx_server.specs.declared.input.Line.{Line}
 use Rattle.hfsx_server.specs.declared.input.Line.TheVariants.{Whole, TooLong}
 
@@ -32,3 +32,11 @@ pub record TakesLines (taken : List ℕ) (source : Stream) (some : List (List �
   pub used : List ℕ
   pub bytes : ahead taken source ≡ used ++ ahead taken_new source_new
   pub cut : IsCut used some (ahead taken_new source_new)
+
+-- Where a whole line was there of the bytes taken before, the source wasn't asked. Of the bytes that were taken now, no
+-- more than 65,536 stand behind a newline.
+pub record TakesNoMore (taken : List ℕ) (source source_new : Stream) : Type 0 where
+  pub needed : (source_new ≡ source) ⊎ HasNoNewline taken
+  pub came : List ℕ
+  pub bytes : source.left ≡ came ++ source_new.left
+  pub few : (before behind : List ℕ) → came ≡ before ++ 10 ∷ behind → length behind ≤ 65536

@@ -1,8 +1,8 @@
 // Lines of a source, one by one, of which no more than a limit is held.
-ghost use Rattle.std.specs.Prelude.{◌≡◌, ◌<◌, ◌≤◌, ◌++◌, ◌∷◌, ◌-◌, ◌↔◌, [], ℕ, List, IsTrue, length, MatchOption, IfOk, IfSome, IfNone, OnSome, OnOk, OnErr};
+ghost use Rattle.std.specs.Prelude.{◌≡◌, ◌≢◌, ◌<◌, ◌≤◌, ◌++◌, ◌∷◌, ◌-◌, ◌↔◌, [], ℕ, List, IsTrue, length, MatchOption, IfOk, IfSome, IfNone, OnSome, OnOk, OnErr};
 ghost use Rattle.sector_disk.specs.Cause.{HasCause};
 ghost use Rattle.hfsx_server.specs.Cause.{IsCause};
-ghost use Rattle.hfsx_server.specs.Input.{ahead, weight, IsLine, SameSource, TakesLines};
+ghost use Rattle.hfsx_server.specs.Input.{ahead, weight, IsLine, SameSource, TakesLines, TakesNoMore};
 
 use hx_bytes::{Bytes, Failed, OutOfMemory};
 use sector_disk::Source;
@@ -91,6 +91,7 @@ impl Input {
         ensures end { IsTrue (S.stream source.old).tells → IfOk result (λ next. IfNone next ((ahead self.old (S.stream source.old) ≡ []) × (ahead self.new (S.stream source.new) ≡ []))) }
         // Whatever it answers, the bytes that were taken stood first.
         ensures gone { IsTrue (S.stream source.old).tells → (gone : List ℕ) × (ahead self.old (S.stream source.old) ≡ gone ++ (S.stream source.new).left) }
+        ensures no_more { IsTrue (S.stream source.old).tells → TakesNoMore self.old (S.stream source.old) (S.stream source.new) }
         // Each line brings the end nearer.
         ensures nearer { IfOk result (λ next. OnSome next (weight self.new (S.stream source.new) < weight self.old (S.stream source.old))) }
         ensures same { SameSource (S.stream source.old) (S.stream source.new) }
@@ -116,6 +117,8 @@ impl Input {
         ensures byte { IsTrue (S.stream source.old).tells → IfOk result (λ next. IfSome next (λ byte. ahead self.old (S.stream source.old) ≡ byte ∷ ahead self.new (S.stream source.new))) }
         ensures end { IsTrue (S.stream source.old).tells → IfOk result (λ next. IfNone next ((ahead self.old (S.stream source.old) ≡ []) × (ahead self.new (S.stream source.new) ≡ []))) }
         ensures kept { OnErr result ((S.stream source.new).left ≡ (S.stream source.old).left) }
+        ensures still { self.old ≢ [] → S.stream source.new ≡ S.stream source.old }
+        ensures few { length self.new ≤ 512 }
         ensures nearer { IfOk result (λ next. OnSome next (weight self.new (S.stream source.new) < weight self.old (S.stream source.old))) }
         ensures no_more { weight self.new (S.stream source.new) ≤ weight self.old (S.stream source.old) }
         ensures same { SameSource (S.stream source.old) (S.stream source.new) }
@@ -138,6 +141,7 @@ impl Input {
         requires { self.old ≡ [] }
         ensures filled { IsTrue (S.stream source.old).tells → OnOk result ((S.stream source.old).left ≡ self.new ++ (S.stream source.new).left) }
         ensures end { IsTrue (S.stream source.old).tells → OnOk result (self.new ≡ [] → (S.stream source.old).left ≡ []) }
+        ensures few { length self.new ≤ 512 }
         ensures kept { OnErr result ((S.stream source.new).left ≡ (S.stream source.old).left) }
         ensures no_more { weight self.new (S.stream source.new) ≤ weight self.old (S.stream source.old) }
         ensures same { SameSource (S.stream source.old) (S.stream source.new) }
@@ -151,7 +155,8 @@ impl Input {
 
     // The first of the bytes taken.
     fn pop(&mut self) -> Option<u8>
-        ensures { MatchOption result ((self.old ≡ []) × (self.new ≡ [])) (λ byte. self.old ≡ byte ∷ self.new) }
+        ensures first { MatchOption result ((self.old ≡ []) × (self.new ≡ [])) (λ byte. self.old ≡ byte ∷ self.new) }
+        ensures few { length self.new ≤ 512 }
     {
         if self.start == self.end {
             return None;

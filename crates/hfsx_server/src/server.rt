@@ -11,7 +11,7 @@ ghost use Rattle.hfs_model.specs.Text.{reply_text};
 ghost use Rattle.hfs_model.specs.Thin.{AreThin};
 ghost use Rattle.hfsx_server.specs.Cause.{IsCause};
 ghost use Rattle.hfsx_server.specs.Headline.{Entry, lines_of, tree_after};
-ghost use Rattle.hfsx_server.specs.Input.{ahead, weight, IsLine, SameSource, TakesLines};
+ghost use Rattle.hfsx_server.specs.Input.{ahead, weight, IsLine, SameSource, TakesLines, TakesNoMore};
 ghost use Rattle.hfsx_server.specs.Session.{step, with_folder, answer, after};
 ghost use Rattle.hfsx_server.specs.Serving.{SameButLines, entry_of, Crashes, IsIdle, IsServing, Rests, Serves, Stops};
 ghost use Rattle.hfsx_server.specs.Volume.{Tree, IsUnmounted, MountsTo};
@@ -72,6 +72,8 @@ impl Server {
 
         ensures same { SameDisk (R.state rig.old) (R.state rig.new) }
         ensures same_source { SameSource (S.stream source.old) (S.stream source.new) }
+        // No byte is taken where a whole line was there, and few behind the next newline.
+        ensures no_more { IsTrue (S.stream source.old).tells → TakesNoMore self.old.input (S.stream source.old) (S.stream source.new) }
         ensures disk { IsCause ServeFault.Disk (R.state rig.old).faults (R.state rig.new).faults result }
         ensures source { IsCause ServeFault.Source (S.stream source.old).faults (S.stream source.new).faults result }
         ensures sink { IsCause ServeFault.Sink (R.state rig.old).sink_faults (R.state rig.new).sink_faults result }

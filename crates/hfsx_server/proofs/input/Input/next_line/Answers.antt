@@ -1,6 +1,6 @@
 use Rattle.std.proofs.Common.{◌≡◌, ◌<◌, ◌∷◌, [], ℕ, IsTrue, IfSome, IfNone, OnSome, false, sym, ◌∙◌, subst, arith, List}
 use Rattle.hfsx_server.specs.Input.{ahead, weight}
-use Rattle.hfsx_server.proofs.Reading.{reads_more, reads_ended, reads_last, reads_none, reads_gone, reads_gone_byte, reads_gone_end, some_text, nearer_last}
+use Rattle.hfsx_server.proofs.Reading.{reads_more, reads_ended, reads_last, reads_none, reads_gone, reads_gone_byte, reads_gone_end, reads_few, reads_few_byte, reads_few_end, some_text, nearer_last}
 use Rattle.hfsx_server.proofs.input.Input.next_line.Goals as goal
 
 pub loop-line-preserved : goal.loop-line-preserved
@@ -11,7 +11,7 @@ loop-line-preserved g c =
     c.next_byte.new.self new c.in_ok-line-in-Some.line c.in-Some.byte c.in-Some.byte-test.1 (c.in_ok-line-in-Some.ensures _ c.loop-line.invariant.line_is)
     (λ tells. subst (λ next. IfSome next (λ byte. ahead c.loop-line.self now ≡ byte ∷ ahead c.next_byte.new.self new)) c.in-Some.is (c.in_ok-next_byte.ensures.byte tells))
     (subst (λ next. OnSome next (weight c.next_byte.new.self new < weight c.loop-line.self now)) c.in-Some.is c.in_ok-next_byte.ensures.nearer)
-    c.next_byte.ensures.same c.next_byte.ensures.cause.later
+    c.next_byte.ensures.same c.next_byte.ensures.cause.later c.next_byte.ensures.still c.next_byte.ensures.few
 
 pub returns-then-is_empty-clause-end : goal.returns-then-is_empty-clause-end
 returns-then-is_empty-clause-end g c tells =
@@ -96,4 +96,44 @@ returns-in_err-line-in-Some-clause-gone g c =
     let new = g.S.Source.stream c.next_byte.new.source in
     let reads = c.loop-line.invariant in
     reads_gone_byte c.args.limit c.args.self.now (g.S.Source.stream c.args.source.now) c.loop-line.self now c.loop-line.line reads c.next_byte.new.self new c.in-Some.byte
+    (λ tells. subst (λ next. IfSome next (λ byte. ahead c.loop-line.self now ≡ byte ∷ ahead c.next_byte.new.self new)) c.in-Some.is (c.in_ok-next_byte.ensures.byte tells))
+
+pub returns-then-is_empty-clause-no_more : goal.returns-then-is_empty-clause-no_more
+returns-then-is_empty-clause-no_more g c =
+    let now = g.S.Source.stream c.loop-line.source in
+    let new = g.S.Source.stream c.next_byte.new.source in
+    reads_few_end c.args.limit c.args.self.now (g.S.Source.stream c.args.source.now) c.loop-line.self now c.loop-line.line c.loop-line.invariant
+    c.next_byte.new.self new c.next_byte.ensures.still
+    (λ tells. subst (λ next. IfNone next ((ahead c.loop-line.self now ≡ []) × (ahead c.next_byte.new.self new ≡ []))) c.in-None.is (c.in_ok-next_byte.ensures.end tells))
+
+pub returns-in-None-clause-no_more : goal.returns-in-None-clause-no_more
+returns-in-None-clause-no_more g c =
+    let now = g.S.Source.stream c.loop-line.source in
+    let new = g.S.Source.stream c.next_byte.new.source in
+    reads_few_end c.args.limit c.args.self.now (g.S.Source.stream c.args.source.now) c.loop-line.self now c.loop-line.line c.loop-line.invariant
+    c.next_byte.new.self new c.next_byte.ensures.still
+    (λ tells. subst (λ next. IfNone next ((ahead c.loop-line.self now ≡ []) × (ahead c.next_byte.new.self new ≡ []))) c.in-None.is (c.in_ok-next_byte.ensures.end tells))
+
+pub returns-in-Some-eq10-clause-no_more : goal.returns-in-Some-eq10-clause-no_more
+returns-in-Some-eq10-clause-no_more g c =
+    let now = g.S.Source.stream c.loop-line.source in
+    let new = g.S.Source.stream c.next_byte.new.source in
+    reads_few_byte c.args.limit c.args.self.now (g.S.Source.stream c.args.source.now) c.loop-line.self now c.loop-line.line c.loop-line.invariant
+    c.next_byte.new.self new 10 c.next_byte.ensures.still c.next_byte.ensures.few
+    (λ tells. subst (λ byte. ahead c.loop-line.self now ≡ byte ∷ ahead c.next_byte.new.self new) c.in-Some-eq10.field-0-test
+    (subst (λ next. IfSome next (λ byte. ahead c.loop-line.self now ≡ byte ∷ ahead c.next_byte.new.self new)) c.in-Some-eq10.is (c.in_ok-next_byte.ensures.byte tells)))
+
+pub returns-in_err-next_byte-clause-no_more : goal.returns-in_err-next_byte-clause-no_more
+returns-in_err-next_byte-clause-no_more g c =
+    let now = g.S.Source.stream c.loop-line.source in
+    let new = g.S.Source.stream c.next_byte.new.source in
+    reads_few c.args.limit c.args.self.now (g.S.Source.stream c.args.source.now) c.loop-line.self now c.loop-line.line c.loop-line.invariant
+    new c.next_byte.ensures.still (λ tells. c.in_err-next_byte.ensures.kept)
+
+pub returns-in_err-line-in-Some-clause-no_more : goal.returns-in_err-line-in-Some-clause-no_more
+returns-in_err-line-in-Some-clause-no_more g c =
+    let now = g.S.Source.stream c.loop-line.source in
+    let new = g.S.Source.stream c.next_byte.new.source in
+    reads_few_byte c.args.limit c.args.self.now (g.S.Source.stream c.args.source.now) c.loop-line.self now c.loop-line.line c.loop-line.invariant
+    c.next_byte.new.self new c.in-Some.byte c.next_byte.ensures.still c.next_byte.ensures.few
     (λ tells. subst (λ next. IfSome next (λ byte. ahead c.loop-line.self now ≡ byte ∷ ahead c.next_byte.new.self new)) c.in-Some.is (c.in_ok-next_byte.ensures.byte tells))
