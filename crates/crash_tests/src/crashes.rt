@@ -4,7 +4,8 @@ use hx_bytes::OutOfMemory;
 use mem_disk::MemRig;
 use std::alloc::Global;
 
-const LINES: &[u8] =
+/// A run that makes ten folders, and asks after each that it is durable.
+pub const LINES: &[u8] =
     b"mkdir /d0\nsync\nmkdir /d1\nsync\nmkdir /d2\nsync\nmkdir /d3\nsync\nmkdir /d4\nsync\nmkdir /d5\nsync\nmkdir /d6\nsync\nmkdir /d7\nsync\nmkdir /d8\nsync\nmkdir /d9\nsync\n";
 
 /// What all crashes of a run left.

@@ -73,7 +73,7 @@ fn the_values_of_choice_7_have_a_front(rt: HostRuntime) -> Result<(), Fail> {
 fn a_mount_that_is_cut_off_changes_nothing_0(rt: HostRuntime) -> Result<(), Fail> {
     let tried = try_pairs(rt.alloc(), 0)?;
     assert_eq!(rt; tried.wrong, None);
-    assert!(rt; 50 < tried.pairs);
+    assert!(rt; 500 < tried.pairs);
     Ok(())
 }
 
@@ -81,7 +81,7 @@ fn a_mount_that_is_cut_off_changes_nothing_0(rt: HostRuntime) -> Result<(), Fail
 fn a_mount_that_is_cut_off_changes_nothing_1(rt: HostRuntime) -> Result<(), Fail> {
     let tried = try_pairs(rt.alloc(), 1)?;
     assert_eq!(rt; tried.wrong, None);
-    assert!(rt; 50 < tried.pairs);
+    assert!(rt; 500 < tried.pairs);
     Ok(())
 }
 
@@ -89,7 +89,7 @@ fn a_mount_that_is_cut_off_changes_nothing_1(rt: HostRuntime) -> Result<(), Fail
 fn a_mount_that_is_cut_off_changes_nothing_2(rt: HostRuntime) -> Result<(), Fail> {
     let tried = try_pairs(rt.alloc(), 2)?;
     assert_eq!(rt; tried.wrong, None);
-    assert!(rt; 50 < tried.pairs);
+    assert!(rt; 500 < tried.pairs);
     Ok(())
 }
 
@@ -97,7 +97,7 @@ fn a_mount_that_is_cut_off_changes_nothing_2(rt: HostRuntime) -> Result<(), Fail
 fn a_mount_that_is_cut_off_changes_nothing_3(rt: HostRuntime) -> Result<(), Fail> {
     let tried = try_pairs(rt.alloc(), 3)?;
     assert_eq!(rt; tried.wrong, None);
-    assert!(rt; 50 < tried.pairs);
+    assert!(rt; 500 < tried.pairs);
     Ok(())
 }
 
@@ -105,7 +105,7 @@ fn a_mount_that_is_cut_off_changes_nothing_3(rt: HostRuntime) -> Result<(), Fail
 fn a_mount_that_is_cut_off_changes_nothing_4(rt: HostRuntime) -> Result<(), Fail> {
     let tried = try_pairs(rt.alloc(), 4)?;
     assert_eq!(rt; tried.wrong, None);
-    assert!(rt; 50 < tried.pairs);
+    assert!(rt; 500 < tried.pairs);
     Ok(())
 }
 
@@ -113,7 +113,7 @@ fn a_mount_that_is_cut_off_changes_nothing_4(rt: HostRuntime) -> Result<(), Fail
 fn a_mount_that_is_cut_off_changes_nothing_5(rt: HostRuntime) -> Result<(), Fail> {
     let tried = try_pairs(rt.alloc(), 5)?;
     assert_eq!(rt; tried.wrong, None);
-    assert!(rt; 50 < tried.pairs);
+    assert!(rt; 500 < tried.pairs);
     Ok(())
 }
 
@@ -121,7 +121,7 @@ fn a_mount_that_is_cut_off_changes_nothing_5(rt: HostRuntime) -> Result<(), Fail
 fn a_mount_that_is_cut_off_changes_nothing_6(rt: HostRuntime) -> Result<(), Fail> {
     let tried = try_pairs(rt.alloc(), 6)?;
     assert_eq!(rt; tried.wrong, None);
-    assert!(rt; 50 < tried.pairs);
+    assert!(rt; 500 < tried.pairs);
     Ok(())
 }
 
@@ -129,7 +129,7 @@ fn a_mount_that_is_cut_off_changes_nothing_6(rt: HostRuntime) -> Result<(), Fail
 fn a_mount_that_is_cut_off_changes_nothing_7(rt: HostRuntime) -> Result<(), Fail> {
     let tried = try_pairs(rt.alloc(), 7)?;
     assert_eq!(rt; tried.wrong, None);
-    assert!(rt; 50 < tried.pairs);
+    assert!(rt; 500 < tried.pairs);
     Ok(())
 }
 

@@ -1,13 +1,12 @@
 //! Power fails in a run, and again in the mount of what it left.
+use crate::crashes::LINES;
 use crate::{folders_in, fresh, run_lines};
 use hx_bytes::OutOfMemory;
 use mem_disk::{MemImage, MemRig};
 use std::alloc::Global;
 
-const LINES: &[u8] = b"mkdir /d0\nmkdir /d1\n";
-
 // How many calls of a mount that wrote are passed over between two that are tried.
-const STEP: u64 = 3;
+const STEP: u64 = 24;
 
 /// What all pairs of crashes left.
 #[derive(Clone, Copy)]
@@ -40,7 +39,7 @@ pub fn try_pairs(alloc: Global, choice: u64) -> Result<Pairs, OutOfMemory> {
     Ok(tried)
 }
 
-/// Stops the mount of an image after each third call that wrote.
+/// Stops the mount of an image after some of the calls that wrote, beginning with another one for each image.
 fn try_mount(
     alloc: Global,
     image: &MemImage,
