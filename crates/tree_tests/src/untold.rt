@@ -1,4 +1,6 @@
 // A store whose nodes no contract sees: what a test has made is handed to every call.
+#![tactic(auto, unfolding(btree_node::specs::Store::unwritten_sectors))]
+
 use btree_node::{MemNodes, Node, NodeStore, TreeShape};
 use hx_bytes::Failed;
 
