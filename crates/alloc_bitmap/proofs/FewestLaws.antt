@@ -1,22 +1,22 @@
 -- No way to pick free blocks has fewer extents than the longest runs.
-use Rattle.std.proofs.Common.{◌≡◌, ◌≢◌, ℕ, suc, zero, ◌+◌, ◌-◌, ◌*◌, ◌/◌, ◌%◌, ◌^◌, ◌≤◌, ◌<◌, ◌⊎◌, Bool, true, false, not, ◌==◌, ◌||◌, nat_le, nat_lt, if◌then◌else◌, cond, List, [], ◌∷◌, ◌++◌, length, get_or, take, drop, replicate, refl, sym, ◌∙◌, ap, subst, arith, ⊎_elim}
-use Rattle.std.specs.List.{All, range_with_len}
-use Rattle.std.proofs.lemmas.List.{get_or_past, get_or_default}
-use Rattle.std.proofs.lemmas.Bool.{cases_lt, cases_eq}
+use Rattle.std.proofs.Common.{◌≡◌, ℕ, suc, zero, ◌+◌, ◌-◌, ◌*◌, ◌/◌, ◌^◌, ◌≤◌, ◌<◌, Bool, true, false, ◌||◌, nat_le, List, [], ◌∷◌, ◌++◌, length, get_or, take, drop, replicate, refl, sym, ◌∙◌, ap, subst, arith, ⊎_elim}
+use Rattle.std.specs.List.{All}
+use Rattle.std.proofs.lemmas.List.{get_or_past}
+use Rattle.std.proofs.lemmas.Bool.{cases_lt}
 use Rattle.std.proofs.lemmas.Bool.Decides.{leb_tells, eqb_tells}
 use Rattle.hx_bytes.specs.declared.extents.Extent.{Extent}
 use Rattle.fork_map.specs.Blocks.{blocks_of}
 use Rattle.fork_map.specs.Cut.{front}
-use Rattle.alloc_bitmap.specs.Bits.{mark, has, is_held, count_set}
-use Rattle.alloc_bitmap.specs.Runs.{run_before, runs_from, runs_of, put_by_length, longest_first}
-use Rattle.alloc_bitmap.specs.Ranks.{rank_of}
+use Rattle.flag_rows.specs.Bits.{mark, has}
+use Rattle.flag_rows.specs.Marks.{is_held}
+use Rattle.flag_rows.specs.Runs.{run_before, runs_from, runs_of, put_by_length, longest_first}
 use Rattle.alloc_bitmap.specs.Apart.{times, AreApart}
 use Rattle.alloc_bitmap.specs.Map.{PicksFree}
-use Rattle.alloc_bitmap.proofs.RowLaws.{get_or-mark}
+use Rattle.flag_rows.proofs.RowLaws.{get_or-mark}
 use Rattle.alloc_bitmap.proofs.KeptLaws.{marked_already}
 use Rattle.alloc_bitmap.proofs.ApartLaws.{times-cons, times_held, not_twice, apart_rest, length_blocks}
 use Rattle.alloc_bitmap.proofs.HoldLaws.{has_in}
-use Rattle.alloc_bitmap.proofs.OrderLaws.{Descends, Ascends, ascends_runs, descends_sorted}
+use Rattle.alloc_bitmap.proofs.OrderLaws.{rank_of, Descends, ascends_runs, descends_sorted}
 
 -- how many free blocks have at least `long` free blocks right before them in their run
 abbrev beyond : ℕ → ℕ → List Bool → ℕ

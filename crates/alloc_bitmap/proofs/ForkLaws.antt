@@ -1,13 +1,13 @@
 -- The bits of a fork, sector by sector.
-use Rattle.std.proofs.Common.{◌≡◌, ℕ, ◌+◌, ◌-◌, ◌*◌, ◌/◌, ◌%◌, ◌^◌, ◌≤◌, ◌<◌, ◌⊎◌, Bool, false, List, [], ◌∷◌, ◌++◌, length, get_or, slice_get, Option, Some, None, refl, sym, ◌∙◌, ap, subst, arith, ⊎_elim}
+use Rattle.std.proofs.Common.{◌≡◌, ℕ, ◌+◌, ◌-◌, ◌*◌, ◌/◌, ◌%◌, ◌≤◌, ◌<◌, Bool, false, List, [], ◌++◌, length, get_or, slice_get, Option, Some, None, refl, sym, ◌∙◌, ap, arith, ⊎_elim}
 use Rattle.std.proofs.lemmas.Bool.{cases_lt}
 use Rattle.std.proofs.lemmas.List.{get_or_past}
 use Rattle.hx_bytes.specs.declared.extents.Extent.{Extent}
-use Rattle.alloc_bitmap.specs.Bits.{bit_of, bits_of, sectors_for}
+use Rattle.flag_rows.specs.Bits.{bit_of, bits_of, sectors_for}
 use Rattle.alloc_bitmap.specs.Fork.{sector_or_none, fork_bit, HoldsBits}
 use Rattle.alloc_bitmap.specs.Map.{BlockMap, none}
-use Rattle.alloc_bitmap.proofs.ByteLaws.{bits_empty, bits_left, bits_right}
-use Rattle.alloc_bitmap.proofs.RowLaws.{length-bits_of, get_or-bits_of}
+use Rattle.flag_rows.proofs.ByteLaws.{bits_empty, bits_left, bits_right}
+use Rattle.flag_rows.proofs.RowLaws.{length-bits_of, get_or-bits_of}
 
 pub no_sector_bit : (content : List (List ℕ)) (o : Option ℕ) (k : ℕ) → None ≡ o → bit_of (sector_or_none content o) k ≡ false
 no_sector_bit content o k is = ap (λ p. bit_of (sector_or_none content p) k) (sym is) ∙ bits_empty [] k refl

@@ -1,16 +1,17 @@
 -- Blocks that extents hold.
-use Rattle.std.proofs.Common.{◌≡◌, ◌≢◌, ℕ, suc, zero, ◌+◌, ◌-◌, ◌*◌, ◌^◌, ◌≤◌, ◌<◌, ◌⊎◌, Bool, true, false, not, ◌&&◌, ◌||◌, nat_le, nat_lt, if◌then◌else◌, cond, List, [], ◌∷◌, ◌++◌, length, get_or, take, drop, map, replicate, refl, sym, ◌∙◌, ap, subst, arith, ⊎_elim}
-use Rattle.std.specs.List.{range_with_len, list_any}
-use Rattle.std.proofs.lemmas.List.{same_lists, length-replicate, get_or-replicate, take-append-le, length_push, get_or_default}
+use Rattle.std.proofs.Common.{◌≡◌, ℕ, suc, zero, ◌+◌, ◌-◌, ◌≤◌, ◌<◌, Bool, true, false, not, ◌&&◌, ◌||◌, if◌then◌else◌, List, [], ◌∷◌, ◌++◌, length, get_or, take, drop, replicate, refl, sym, ◌∙◌, ap, subst, arith, ⊎_elim, length-drop}
+use Rattle.std.proofs.lemmas.List.{same_lists, length-replicate, get_or-replicate, length_push, get_or_past, take-append-drop, take_all}
 use Rattle.std.proofs.lemmas.List.FromFn.{length-map-range_with_len, get_or-map-range_with_len}
 use Rattle.std.proofs.lemmas.List.Folds.{list_any-append}
-use Rattle.std.proofs.lemmas.Bool.{cases_lt, le-leb, lt-leb, leb-true}
+use Rattle.std.proofs.lemmas.Bool.{cases_lt, le-leb, lt-leb}
 use Rattle.std.proofs.lemmas.Bool.Decides.{leb_tells}
 use Rattle.hx_bytes.specs.declared.extents.Extent.{Extent}
-use Rattle.alloc_bitmap.specs.Bits.{mark, has, is_held, count_set}
-use Rattle.alloc_bitmap.specs.Kept.{held_by, Fit, AreHolds}
-use Rattle.alloc_bitmap.proofs.RowLaws.{length-mark, get_or-mark}
-use Rattle.alloc_bitmap.proofs.KeptLaws.{count_mark_true, count_set_replicate_false, count_set_le}
+use Rattle.flag_rows.specs.Bits.{mark, has}
+use Rattle.flag_rows.specs.Marks.{is_held}
+use Rattle.alloc_bitmap.specs.Kept.{held_by, AreHolds}
+use Rattle.flag_rows.specs.Marks.{Fit, mark_all}
+use Rattle.flag_rows.proofs.TakeLaws.{length-mark_all, get_or-mark_all}
+use Rattle.flag_rows.proofs.RowLaws.{length-mark, get_or-mark}
 
 pub length-held : (n : ℕ) (es : List Extent) → length (held_by n es) ≡ n
 length-held n es = length-map-range_with_len (λ k. is_held es k) 0 n
@@ -40,29 +41,13 @@ fit_add : (n : ℕ) (es : List Extent) (e : Extent) → Fit n es → e.start + e
 fit_add n [] e f fits = (fits, tt)
 fit_add n (x ∷ es) e f fits = (f.0, fit_add n es e f.1 fits)
 
-pub holds_none : (n : ℕ) (es : List Extent) → n < 2 ^ 32 → es ≡ [] → AreHolds n es 0 0 0
-holds_none n es small is =
-    let none : count_set (held_by n []) ≡ 0 = ap (λ (l : List Bool). count_set l) (held_none n) ∙ count_set_replicate_false n in
-    subst (λ (l : List Extent). AreHolds n l 0 0 0) (sym is) (record { small = small; fit = tt; kept_inside = omega arith; count_is = sym none; kept_is = sym none })
+pub holds_none : (n : ℕ) (es : List Extent) → es ≡ [] → AreHolds n es 0
+holds_none n es is = subst (λ (l : List Extent). AreHolds n l 0) (sym is) (record { fit = tt; kept_inside = omega arith })
 
-pub holds_add : (n : ℕ) (es new : List Extent) (e : Extent) (kept count kept_count fresh : ℕ) → AreHolds n es kept count kept_count → e.start + e.count ≤ n → new ≡ es ++ e ∷ [] → fresh + count_set (held_by n es) ≡ count_set (mark (held_by n es) e true) → AreHolds n new kept (count + fresh) kept_count
-holds_add n es new e kept count kept_count fresh h fits is more =
-    let added = ap (λ (l : List Bool). count_set l) (held_add n es e fits) in
-    subst (λ (l : List Extent). AreHolds n l kept (count + fresh) kept_count) (sym is) (record {
-      small = h.small;
-      fit = fit_add n es e h.fit fits;
-      kept_inside = omega (arith, h.kept_inside, length_push es e);
-      count_is = omega (arith, h.count_is, more, added);
-      kept_is = h.kept_is ∙ ap (λ (l : List Extent). count_set (held_by n l)) (sym (take-append-le kept es (e ∷ []) h.kept_inside));
-    })
+pub holds_add : (n : ℕ) (es new : List Extent) (e : Extent) (kept : ℕ) → AreHolds n es kept → e.start + e.count ≤ n → new ≡ es ++ e ∷ [] → AreHolds n new kept
+holds_add n es new e kept h fits is = subst (λ (l : List Extent). AreHolds n l kept) (sym is) (record { fit = fit_add n es e h.fit fits; kept_inside = omega (arith, h.kept_inside, length_push es e) })
 
-pub few_held : (n : ℕ) (es : List Extent) (e : Extent) (count fresh : ℕ) → e.start + e.count ≤ n → count ≡ count_set (held_by n es) → fresh + count_set (held_by n es) ≡ count_set (mark (held_by n es) e true) → count + fresh ≤ n
-few_held n es e count fresh fits is more = omega (arith, is, more, count_set_le (mark (held_by n es) e true), length-mark (held_by n es) e true (omega (arith, fits, length-held n es)), length-held n es)
-
-pub kept_holds : (n kept : ℕ) (es new : List Extent) (e : Extent) → kept ≤ length es → new ≡ es ++ e ∷ [] → held_by n (take kept new) ≡ held_by n (take kept es)
-kept_holds n kept es new e inside is = ap (λ (l : List Extent). held_by n (take kept l)) is ∙ ap (λ (l : List Extent). held_by n l) (take-append-le kept es (e ∷ []) inside)
-
--- ---- counting blocks that aren't held yet
+-- ---- which blocks an extent has
 pub has_in : (e : Extent) (k : ℕ) → e.start ≤ k → k < e.start + e.count → has e k ≡ true
 has_in e k low high = rw (le-leb e.start k low, le-leb (suc k) (e.start + e.count) high) refl
 
@@ -78,40 +63,92 @@ has_range e k h = ⊎_elim
     (λ under. absurd (let no : false ≡ true = sym (has_below e k under.1) ∙ h in cc no))
     (leb_tells e.start k)
 
-fresh_marks : (xs : List Bool) (s at held new : ℕ) → s ≤ at → at ≤ held → held ≤ new → new ≤ length xs → ((k : ℕ) → held ≤ k → k < new → get_or xs k true ≡ true)
-    → mark xs (record { start = s; count = new - s }) true ≡ mark (mark xs (record { start = s; count = at - s }) true) (record { start = at; count = held - at }) true
-fresh_marks xs s at held new a b c d was =
-    let whole : Extent = record { start = s; count = new - s } in
-    let done : Extent = record { start = s; count = at - s } in
-    let more : Extent = record { start = at; count = held - at } in
-    let f1 : s + (new - s) ≤ length xs = omega arith in
-    let f2 : s + (at - s) ≤ length xs = omega arith in
-    let f3 : at + (held - at) ≤ length (mark xs done true) = omega (arith, length-mark xs done true f2) in
-    same_lists (mark xs whole true) (mark (mark xs done true) more true) (length-mark xs whole true f1 ∙ sym (length-mark (mark xs done true) more true f3 ∙ length-mark xs done true f2))
-    (λ k e lt.
-    let below : k < length xs = omega (arith, lt, length-mark xs whole true f1) in
-    get_or-mark xs whole true k e f1
-    ∙ ⊎_elim
-    (λ (under : k < s). rw (has_below whole k under, has_below more k (omega (arith, under, a)), has_below done k under) refl)
-    (λ (low : s ≤ k). ⊎_elim
-    (λ (first : k < at). rw (has_in whole k low (omega arith), has_below more k first, has_in done k low (omega arith)) refl)
-    (λ (mid : at ≤ k). ⊎_elim
-    (λ (second : k < held). rw (has_in whole k low (omega arith), has_in more k mid (omega arith)) refl)
-    (λ (third : held ≤ k). ⊎_elim
-    (λ (last : k < new). rw (has_in whole k low (omega arith), has_above more k (omega arith), has_above done k (omega arith)) (sym (get_or_default xs k e true below ∙ was k third last)))
-    (λ (past : new ≤ k). rw (has_above whole k (omega arith), has_above more k (omega arith), has_above done k (omega arith)) refl)
-    (cases_lt k new))
-    (cases_lt k held))
-    (cases_lt k at))
-    (cases_lt k s)
-    ∙ sym (get_or-mark (mark xs done true) more true k e f3 ∙ ap (λ b. if has more k then true else b) (get_or-mark xs done true k e f2)))
+-- ---- the first of the holds, and the others
+pub fit_part : (n k : ℕ) (es : List Extent) → Fit n es → Fit n (drop k es)
+fit_part n zero es f = f
+fit_part n (suc k) [] f = tt
+fit_part n (suc k) (e ∷ es) f = fit_part n k es f.1
 
-pub fresh_step : (xs : List Bool) (s at held new : ℕ) → s ≤ at → at ≤ held → held ≤ new → new ≤ length xs → ((k : ℕ) → at ≤ k → k < held → get_or xs k true ≡ false) → ((k : ℕ) → held ≤ k → k < new → get_or xs k true ≡ true)
-    → count_set (mark xs (record { start = s; count = new - s }) true) ≡ count_set (mark xs (record { start = s; count = at - s }) true) + (held - at)
-fresh_step xs s at held new a b c d free was =
-    let done : Extent = record { start = s; count = at - s } in
-    let more : Extent = record { start = at; count = held - at } in
-    let f2 : s + (at - s) ≤ length xs = omega arith in
-    ap (λ (l : List Bool). count_set l) (fresh_marks xs s at held new a b c d was)
-    ∙ count_mark_true (mark xs done true) more true (omega (arith, length-mark xs done true f2))
-    (λ k h. let in_ = has_range more k h in get_or-mark xs done true k true f2 ∙ rw (has_above done k (omega (arith, in_.0, a))) (free k in_.0 (omega (arith, in_.1, b))))
+pub fit_front : (n k : ℕ) (es : List Extent) → Fit n es → Fit n (take k es)
+fit_front n zero es f = tt
+fit_front n (suc k) [] f = tt
+fit_front n (suc k) (e ∷ es) f = (f.0, fit_front n k es f.1)
+
+-- a block is held by one of the first, or by one of the others
+pub held_parts : (kept k : ℕ) (es : List Extent) → is_held es k ≡ (is_held (take kept es) k || is_held (drop kept es) k)
+held_parts kept k es = ap (λ (l : List Extent). is_held l k) (sym (take-append-drop kept es)) ∙ list_any-append (λ (x : Extent). has x k) (take kept es) (drop kept es)
+
+-- ---- flags of held blocks in a row
+-- the number of blocks, and what is seen of the holds
+pub size_seen : (n : ℕ) (es : List Extent) (flags : List Bool) → held_by n es ≡ flags → n ≡ length flags
+size_seen n es flags seen = sym (length-held n es) ∙ ap (λ (l : List Bool). length l) seen
+
+pub held_seen : (n : ℕ) (es : List Extent) (flags : List Bool) (k : ℕ) → held_by n es ≡ flags → k < n → get_or flags k false ≡ is_held es k
+held_seen n es flags k seen lt = ap (λ (l : List Bool). get_or l k false) (sym seen) ∙ get_or-held n es k false lt
+
+pub fit_seen : (n : ℕ) (es : List Extent) (flags taken : List Bool) → held_by n es ≡ flags → length taken ≡ length flags → Fit n es → Fit (length taken) es
+fit_seen n es flags taken seen size f = subst (λ m. Fit m es) (size_seen n es flags seen ∙ sym size) f
+
+set_or : (h t : Bool) → (if h then true else t) ≡ (h || t)
+set_or true t = refl
+set_or false t = refl
+
+cleared_and : (h t : Bool) → (if h then false else t) ≡ (t && not h)
+cleared_and true true = refl
+cleared_and true false = refl
+cleared_and false true = refl
+cleared_and false false = refl
+
+pub marked_in : (n : ℕ) (es : List Extent) (flags taken new : List Bool) (k : ℕ) → held_by n es ≡ flags → length taken ≡ length flags → Fit n es → new ≡ mark_all taken es true → k < length taken → get_or new k false ≡ (get_or flags k false || get_or taken k false)
+marked_in n es flags taken new k seen size f is lt =
+    ap (λ (l : List Bool). get_or l k false) is ∙ get_or-mark_all taken es true k false (fit_seen n es flags taken seen size f)
+    ∙ set_or (is_held es k) (get_or taken k false) ∙ ap (λ b. b || get_or taken k false) (sym (held_seen n es flags k seen (omega (arith, lt, size, size_seen n es flags seen))))
+
+pub cleared_in : (n : ℕ) (es : List Extent) (flags taken new : List Bool) (k : ℕ) → held_by n es ≡ flags → length taken ≡ length flags → Fit n es → new ≡ mark_all taken es false → k < length taken → get_or new k false ≡ (get_or taken k false && not (get_or flags k false))
+cleared_in n es flags taken new k seen size f is lt =
+    ap (λ (l : List Bool). get_or l k false) is ∙ get_or-mark_all taken es false k false (fit_seen n es flags taken seen size f)
+    ∙ cleared_and (is_held es k) (get_or taken k false) ∙ ap (λ b. get_or taken k false && not b) (sym (held_seen n es flags k seen (omega (arith, lt, size, size_seen n es flags seen))))
+
+pub marked_size : (n : ℕ) (es : List Extent) (flags taken new : List Bool) (v : Bool) → held_by n es ≡ flags → length taken ≡ length flags → Fit n es → new ≡ mark_all taken es v → length new ≡ length taken
+marked_size n es flags taken new v seen size f is = ap (λ (l : List Bool). length l) is ∙ length-mark_all taken es v (fit_seen n es flags taken seen size f)
+
+-- ---- the holds that end
+not_front : (a b : Bool) → (a || b) ≡ true → a ≡ false → b ≡ true
+not_front true b is out = absurd (cc out)
+not_front false b is out = is
+
+neither_part : (a b : Bool) → (a || b) ≡ false → b ≡ false
+neither_part true b is = absurd (cc is)
+neither_part false b is = is
+
+is_inside : (xs : List Bool) (k : ℕ) → get_or xs k false ≡ true → k < length xs
+is_inside xs k is = ⊎_elim (λ lt. lt) (λ past. absurd (let no : false ≡ true = sym (get_or_past xs k false past) ∙ is in cc no)) (cases_lt k (length xs))
+
+pub dropped_clear : (n kept : ℕ) (es : List Extent) (flags old taken new : List Bool) (k : ℕ) → held_by n es ≡ flags → held_by n (take kept es) ≡ old → length taken ≡ length flags → Fit n es → new ≡ mark_all taken (drop kept es) false
+    → get_or flags k false ≡ true → get_or old k false ≡ false → get_or new k false ≡ false
+dropped_clear n kept es flags old taken new k seen kept_seen size f is held out =
+    let lt : k < n = omega (arith, is_inside flags k held, size_seen n es flags seen) in
+    let any : (is_held (take kept es) k || is_held (drop kept es) k) ≡ true = sym (held_parts kept k es) ∙ sym (held_seen n es flags k seen lt) ∙ held in
+    let ends : is_held (drop kept es) k ≡ true = not_front (is_held (take kept es) k) (is_held (drop kept es) k) any (sym (held_seen n (take kept es) old k kept_seen lt) ∙ out) in
+    ap (λ (l : List Bool). get_or l k false) is ∙ get_or-mark_all taken (drop kept es) false k false (subst (λ m. Fit m (drop kept es)) (size_seen n es flags seen ∙ sym size) (fit_part n kept es f)) ∙ rw ends refl
+
+pub dropped_others : (n kept : ℕ) (es : List Extent) (flags taken new : List Bool) (k : ℕ) → held_by n es ≡ flags → length taken ≡ length flags → Fit n es → new ≡ mark_all taken (drop kept es) false
+    → get_or flags k false ≡ false → get_or new k false ≡ get_or taken k false
+dropped_others n kept es flags taken new k seen size f is out =
+    let long = size_seen n es flags seen in
+    let fits : Fit (length taken) (drop kept es) = subst (λ m. Fit m (drop kept es)) (long ∙ sym size) (fit_part n kept es f) in
+    ⊎_elim
+    (λ (lt : k < n).
+    let none : is_held (drop kept es) k ≡ false = neither_part (is_held (take kept es) k) (is_held (drop kept es) k) (sym (held_parts kept k es) ∙ sym (held_seen n es flags k seen lt) ∙ out) in
+    ap (λ (l : List Bool). get_or l k false) is ∙ get_or-mark_all taken (drop kept es) false k false fits ∙ rw none refl)
+    (λ (past : n ≤ k).
+    let same : length new ≡ length taken = ap (λ (l : List Bool). length l) is ∙ length-mark_all taken (drop kept es) false fits in
+    get_or_past new k false (omega (arith, past, same, size, long)) ∙ sym (get_or_past taken k false (omega (arith, past, size, long))))
+    (cases_lt k n)
+
+pub dropped_size : (n kept : ℕ) (es : List Extent) (flags taken new : List Bool) → held_by n es ≡ flags → length taken ≡ length flags → Fit n es → new ≡ mark_all taken (drop kept es) false → length new ≡ length taken
+dropped_size n kept es flags taken new seen size f is = ap (λ (l : List Bool). length l) is ∙ length-mark_all taken (drop kept es) false (subst (λ m. Fit m (drop kept es)) (size_seen n es flags seen ∙ sym size) (fit_part n kept es f))
+
+-- the holds from one on, as a slice
+pub slice_rest : (kept : ℕ) (items es : List Extent) → items ≡ es → take (length items - kept) (drop kept items) ≡ drop kept es
+slice_rest kept items es is = take_all (length items - kept) (drop kept items) (omega (arith, length-drop kept items)) ∙ ap (λ (l : List Extent). drop kept l) is

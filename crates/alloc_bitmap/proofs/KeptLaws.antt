@@ -1,71 +1,21 @@
 -- Flags that are marked, and marks that are taken back.
-use Rattle.std.proofs.Common.{◌≡◌, ◌≢◌, ℕ, suc, zero, ◌+◌, ◌-◌, ◌*◌, ◌^◌, ◌≤◌, ◌<◌, ◌⊎◌, Bool, true, false, not, ◌&&◌, ◌||◌, nat_le, nat_lt, if◌then◌else◌, cond, List, [], ◌∷◌, ◌++◌, length, get_or, take, drop, map, replicate, refl, sym, ◌∙◌, ap, subst, arith, ⊎_elim, append_assoc, length-append, length-take, length-drop}
-use Rattle.std.specs.List.{range_with_len, count_by, sum_by, AllByRecursion, list_any}
-use Rattle.std.proofs.lemmas.List.{same_lists, length-replicate, get_or-replicate, get_or_past, get_or_default, take-append-drop}
-use Rattle.std.proofs.lemmas.List.Sums.{sum_by-append, sum_by-cons}
-use Rattle.std.proofs.lemmas.List.Folds.{list_any-append}
-use Rattle.std.proofs.lemmas.Bool.{cases_lt}
-use Rattle.std.proofs.lemmas.Bool.Decides.{leb_tells}
+use Rattle.std.proofs.Common.{◌≡◌, ℕ, ◌+◌, ◌≤◌, ◌<◌, ◌⊎◌, Bool, true, false, not, ◌||◌, if◌then◌else◌, List, [], ◌∷◌, ◌++◌, length, get_or, map, refl, sym, ◌∙◌, ap, subst, arith, ⊎_elim, inl, inr}
+use Rattle.std.proofs.lemmas.List.{same_lists, get_or_default}
 use Rattle.hx_bytes.specs.declared.extents.Extent.{Extent}
 use Rattle.alloc_bitmap.specs.declared.log.Change.{Change}
-use Rattle.alloc_bitmap.specs.Bits.{mark, has, is_held, count_set, free_outside}
-use Rattle.alloc_bitmap.specs.Kept.{mark_all, rewind, held_by, Fit, ChangesFit, IsLogged}
-use Rattle.alloc_bitmap.proofs.RowLaws.{length-mark, get_or-mark}
-use Rattle.alloc_bitmap.proofs.RunLaws.{count_set_true, count_set_false}
-use Rattle.alloc_bitmap.proofs.FreeLaws.{length-free, get_or-free}
-
--- ---- flags that are not held at all
-get_or-map_not : (xs : List Bool) (k : ℕ) (d : Bool) → k < length xs → get_or (map (λ b. not b) xs) k d ≡ not (get_or xs k true)
-get_or-map_not [] k d lt = absurd (omega arith)
-get_or-map_not (x ∷ xs) zero d lt = refl
-get_or-map_not (x ∷ xs) (suc k) d lt = get_or-map_not xs k d (omega arith)
-
-length-map_not : (xs : List Bool) → length (map (λ b. not b) xs) ≡ length xs
-length-map_not [] = refl
-length-map_not (x ∷ xs) = ap (λ n. suc n) (length-map_not xs)
-
-pub free_all_is : (used : List Bool) → free_outside used [] ≡ map (λ b. not b) used
-free_all_is used = same_lists (free_outside used []) (map (λ b. not b) used) (length-free used [] ∙ sym (length-map_not used))
-    (λ k d lt. let below : k < length used = omega (arith, lt, length-free used []) in
-    get_or-free used [] k d below ∙ elim (get_or used k true) as (λ u. (not u && true) ≡ not u) [ true ↦ refl | false ↦ refl ] ∙ sym (get_or-map_not used k d below))
-
-pub count_not : (xs : List Bool) → count_set (map (λ b. not b) xs) + count_set xs ≡ length xs
-count_not [] = refl
-count_not (true ∷ xs) = omega (arith, count_set_false (map (λ b. not b) xs), count_set_true xs, count_not xs)
-count_not (false ∷ xs) = omega (arith, count_set_true (map (λ b. not b) xs), count_set_false xs, count_not xs)
-
-pub count_free_all : (used : List Bool) → count_set (free_outside used []) + count_set used ≡ length used
-count_free_all used = ap (λ (l : List Bool). count_set l + count_set used) (free_all_is used) ∙ count_not used
-
-pub logged_new : (used : List Bool) (n : ℕ) → length used < 2 ^ 32 → n ≡ count_set (free_outside used []) → IsLogged used [] n n
-logged_new used n small is = record { small = small; fit = tt; free_is = omega (arith, is, count_free_all used); kept_is = omega (arith, is, count_free_all used) }
+use Rattle.flag_rows.specs.Bits.{mark, has}
+use Rattle.flag_rows.specs.Marks.{is_held}
+use Rattle.flag_rows.specs.Marks.{mark_all, Fit}
+use Rattle.alloc_bitmap.specs.Kept.{rewind, ChangesFit}
+use Rattle.flag_rows.proofs.RowLaws.{length-mark, get_or-mark}
+use Rattle.flag_rows.proofs.TakeLaws.{length-mark_all, get_or-mark_all}
 
 -- ---- marks by index
-either : (a b v old : Bool) → (if b then v else (if a then v else old)) ≡ (if a || b then v else old)
-either true true v old = refl
-either true false v old = refl
-either false true v old = refl
-either false false v old = refl
-
 other : (a b v old : Bool) → (if a then v else (if b then v else old)) ≡ (if a || b then v else old)
 other true true v old = refl
 other true false v old = refl
 other false true v old = refl
 other false false v old = refl
-
-pub length-mark_all : (xs : List Bool) (es : List Extent) (v : Bool) → Fit (length xs) es → length (mark_all xs es v) ≡ length xs
-length-mark_all xs [] v fit = refl
-length-mark_all xs (e ∷ es) v fit =
-    let same = length-mark xs e v fit.0 in
-    length-mark_all (mark xs e v) es v (subst (λ n. Fit n es) (sym same) fit.1) ∙ same
-
-pub get_or-mark_all : (xs : List Bool) (es : List Extent) (v : Bool) (k : ℕ) (d : Bool) → Fit (length xs) es → get_or (mark_all xs es v) k d ≡ (if is_held es k then v else get_or xs k d)
-get_or-mark_all xs [] v k d fit = refl
-get_or-mark_all xs (e ∷ es) v k d fit =
-    let same = length-mark xs e v fit.0 in
-    get_or-mark_all (mark xs e v) es v k d (subst (λ n. Fit n es) (sym same) fit.1)
-    ∙ ap (λ b. if is_held es k then v else b) (get_or-mark xs e v k d fit.0)
-    ∙ either (has e k) (is_held es k) v (get_or xs k d)
 
 pub length-rewind : (log : List Change) (xs : List Bool) → ChangesFit (length xs) log → length (rewind log xs) ≡ length xs
 length-rewind [] xs fit = refl
@@ -114,24 +64,6 @@ rewind_marked xs es v fit was =
       | false ↦ λ (is : is_held es k ≡ false). refl
     ] refl)
 
--- ---- how many flags are set
-pub count_set_append : (xs ys : List Bool) → count_set (xs ++ ys) ≡ count_set xs + count_set ys
-count_set_append xs ys = sum_by-append (λ (flag : Bool). cond flag 1 0) xs ys
-
-pub count_set_replicate_true : (n : ℕ) → count_set (replicate n true) ≡ n
-count_set_replicate_true zero = refl
-count_set_replicate_true (suc n) = omega (arith, count_set_true (replicate n true), count_set_replicate_true n)
-
-pub count_set_replicate_false : (n : ℕ) → count_set (replicate n false) ≡ 0
-count_set_replicate_false zero = refl
-count_set_replicate_false (suc n) = omega (arith, count_set_false (replicate n false), count_set_replicate_false n)
-
-pub count_set_le : (xs : List Bool) → count_set xs ≤ length xs
-count_set_le xs = omega (arith, count_not xs)
-
-count_mark : (xs : List Bool) (e : Extent) (v : Bool) → count_set (mark xs e v) ≡ count_set (take e.start xs) + (count_set (replicate e.count v) + count_set (drop (e.start + e.count) xs))
-count_mark xs e v = count_set_append (take e.start xs) (replicate e.count v ++ drop (e.start + e.count) xs) ∙ ap (λ n. count_set (take e.start xs) + n) (count_set_append (replicate e.count v) (drop (e.start + e.count) xs))
-
 -- flags that have a value keep it under a mark
 pub marked_already : (xs : List Bool) (e : Extent) (v w : Bool) → e.start + e.count ≤ length xs → ((k : ℕ) → has e k ≡ true → get_or xs k w ≡ v) → mark xs e v ≡ xs
 marked_already xs e v w fits is = same_lists (mark xs e v) xs (length-mark xs e v fits)
@@ -141,12 +73,29 @@ marked_already xs e v w fits is = same_lists (mark xs e v) xs (length-mark xs e 
       | false ↦ λ (h : has e k ≡ false). refl
     ] refl)
 
-pub count_mark_true : (xs : List Bool) (e : Extent) (w : Bool) → e.start + e.count ≤ length xs → ((k : ℕ) → has e k ≡ true → get_or xs k w ≡ false) → count_set (mark xs e true) ≡ count_set xs + e.count
-count_mark_true xs e w fits was =
-    let before = ap (λ (l : List Bool). count_set l) (marked_already xs e false w fits was) in
-    omega (arith, before, count_mark xs e false, count_mark xs e true, count_set_replicate_true e.count, count_set_replicate_false e.count)
+-- what was marked so, and noted, is taken back with the changes before it
+pub kept_same : (xs ys : List Bool) (es : List Extent) (v : Bool) (log : List Change) (more : List Change) → ys ≡ mark_all xs es v → more ≡ log ++ changes_of es v → Fit (length xs) es → ((k : ℕ) → is_held es k ≡ true → get_or xs k v ≡ not v) → rewind more ys ≡ rewind log xs
+kept_same xs ys es v log more is noted fit was = ap (λ (l : List Change). rewind l ys) noted ∙ ap (λ (l : List Bool). rewind (log ++ changes_of es v) l) is
+    ∙ rewind-append log (changes_of es v) (mark_all xs es v) ∙ ap (λ (l : List Bool). rewind log l) (rewind_marked xs es v fit was)
 
-pub count_mark_false : (xs : List Bool) (e : Extent) (w : Bool) → e.start + e.count ≤ length xs → ((k : ℕ) → has e k ≡ true → get_or xs k w ≡ true) → count_set (mark xs e false) + e.count ≡ count_set xs
-count_mark_false xs e w fits was =
-    let before = ap (λ (l : List Bool). count_set l) (marked_already xs e true w fits was) in
-    omega (arith, before, count_mark xs e false, count_mark xs e true, count_set_replicate_true e.count, count_set_replicate_false e.count)
+pub changes_fit_more : (xs ys : List Bool) (es : List Extent) (v : Bool) (log more : List Change) → ys ≡ mark_all xs es v → more ≡ log ++ changes_of es v → Fit (length xs) es → ChangesFit (length xs) log → ChangesFit (length ys) more
+changes_fit_more xs ys es v log more is noted fit before =
+    let long : length ys ≡ length xs = ap (λ (l : List Bool). length l) is ∙ length-mark_all xs es v fit in
+    subst (λ n. ChangesFit n more) (sym long) (subst (λ (l : List Change). ChangesFit (length xs) l) (sym noted) (changes_fit_append (length xs) log (changes_of es v) before (changes_fit (length xs) es v fit)))
+
+-- ---- the same changes taken back in two rows
+-- where a change was taken back, both rows have its value; elsewhere each is as it was
+two_marks : (h v a b x y : Bool) → (a ≡ b) ⊎ ((a ≡ x) × (b ≡ y)) → ((if h then v else a) ≡ (if h then v else b)) ⊎ (((if h then v else a) ≡ x) × ((if h then v else b) ≡ y))
+two_marks true v a b x y e = inl refl
+two_marks false v a b x y e = e
+
+pub rewind_both : (log : List Change) (xs ys : List Bool) (k : ℕ) (d : Bool) → ChangesFit (length xs) log → ChangesFit (length ys) log
+    → (get_or (rewind log xs) k d ≡ get_or (rewind log ys) k d) ⊎ ((get_or (rewind log xs) k d ≡ get_or xs k d) × (get_or (rewind log ys) k d ≡ get_or ys k d))
+rewind_both [] xs ys k d f g = inr (refl, refl)
+rewind_both (c ∷ log) xs ys k d f g =
+    let one = get_or-mark (rewind log xs) c.extent (not c.used) k d (omega (arith, f.0, length-rewind log xs f.1)) in
+    let two = get_or-mark (rewind log ys) c.extent (not c.used) k d (omega (arith, g.0, length-rewind log ys g.1)) in
+    ⊎_elim
+    (λ same. inl (one ∙ same ∙ sym two))
+    (λ each. inr (one ∙ each.0, two ∙ each.1))
+    (two_marks (has c.extent k) (not c.used) (get_or (rewind log xs) k d) (get_or (rewind log ys) k d) (get_or xs k d) (get_or ys k d) (rewind_both log xs ys k d f.1 g.1))

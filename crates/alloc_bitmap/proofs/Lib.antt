@@ -1,13 +1,10 @@
-pub mod ByteLaws
-pub mod RowLaws
-pub mod FreeLaws
-pub mod RunLaws
 pub mod OrderLaws
 pub mod KeptLaws
 pub mod ApartLaws
 pub mod HoldLaws
 pub mod MapLaws
 pub mod TakeLaws
+pub mod TakenLaws
 pub mod SpaceLaws
 pub mod ForkLaws
 pub mod StoreLaws

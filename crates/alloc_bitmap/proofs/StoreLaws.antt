@@ -1,16 +1,9 @@
 -- Changed sectors that are put one after another.
-use Rattle.std.proofs.Common.{◌≡◌, ◌≢◌, ◌⊎◌, ◌↔◌, ℕ, suc, zero, ◌+◌, ◌-◌, ◌*◌, ◌/◌, ◌%◌, ◌^◌, ◌≤◌, ◌<◌, Bool, true, false, not, ◌==◌, ◌&&◌, ◌||◌, if◌then◌else◌, IsTrue, List, [], ◌∷◌, ◌++◌, length, get_or, set, take, drop, slice_get, Option, Some, None, inl, inr, refl, sym, ◌∙◌, ap, subst, arith, ⊎_elim}
+use Rattle.std.proofs.Common.{◌≡◌, ◌≢◌, ◌⊎◌, ℕ, suc, zero, ◌+◌, ◌≤◌, ◌<◌, Bool, true, false, not, ◌&&◌, if◌then◌else◌, IsTrue, List, [], ◌∷◌, length, get_or, take, drop, slice_get, Option, Some, inl, inr, refl, sym, ◌∙◌, ap, arith, ⊎_elim}
 use Rattle.std.proofs.lemmas.Bool.{cases_lt, cases_eq}
-use Rattle.std.proofs.lemmas.Bool.Decides.{eqb_tells}
-use Rattle.std.proofs.lemmas.List.{get_or-take, get_or_past, get_or-set_same, get_or-set_other, length-set, take_all, take_more, drop_more, length-take}
-use Rattle.std.proofs.lemmas.Option.{slice_get-get_or, slice_get_within, get_or_from_slice_get, same_Some}
-use Rattle.sector_disk.specs.Lists.{Content, sector}
-use Rattle.sector_disk.specs.Clock.{Passes}
-use Rattle.sector_disk.specs.Space.{Space, SameSpace, SameRoom, TakesRoom, Puts, AgreesOutside, LeavesDurable}
-use Rattle.alloc_bitmap.specs.Bits.{bit_of, sectors_for}
-use Rattle.alloc_bitmap.specs.Fork.{sector_or_none, fork_bit, HoldsBits, IsChanged, PutsChanged, TakesRoomFor, not_put}
-use Rattle.alloc_bitmap.proofs.SpaceLaws.{space_none, space_both, iff_none, iff_both, leaves_as_before}
-use Rattle.sector_disk.proofs.Passing.{none_passes, both_pass}
+use Rattle.std.proofs.lemmas.List.{get_or-take, get_or_past, drop_more, length-take}
+use Rattle.std.proofs.lemmas.Option.{slice_get_within, get_or_from_slice_get, same_Some}
+use Rattle.alloc_bitmap.specs.Fork.{IsChanged, not_put}
 
 -- the first places of a list of changes
 pub changed_later : (sectors : List ℕ) (changed : List Bool) (p at : ℕ) → IsChanged sectors (take p changed) at → IsChanged sectors changed at

@@ -1,16 +1,16 @@
 -- What a space is while changed sectors of a bitmap are put.
-use Rattle.std.proofs.Common.{◌≡◌, ◌≢◌, ◌⊎◌, ◌↔◌, ℕ, suc, zero, ◌+◌, ◌-◌, ◌*◌, ◌/◌, ◌%◌, ◌^◌, ◌≤◌, ◌<◌, Bool, true, false, not, ◌==◌, ◌&&◌, ◌||◌, if◌then◌else◌, IsTrue, List, [], ◌∷◌, ◌++◌, length, get_or, set, take, drop, slice_get, Option, Some, None, inl, inr, refl, sym, ◌∙◌, ap, subst, arith, ⊎_elim}
+use Rattle.std.proofs.Common.{◌≡◌, ◌≢◌, ◌⊎◌, ℕ, suc, zero, ◌+◌, ◌-◌, ◌*◌, ◌/◌, ◌%◌, ◌≤◌, ◌<◌, Bool, true, false, not, ◌==◌, ◌&&◌, ◌||◌, if◌then◌else◌, IsTrue, List, [], length, get_or, take, drop, slice_get, Some, None, inl, inr, refl, sym, ◌∙◌, ap, subst, arith, ⊎_elim}
 use Rattle.std.proofs.lemmas.Bool.{cases_lt, cases_eq}
 use Rattle.std.proofs.lemmas.Bool.Decides.{eqb_tells}
-use Rattle.std.proofs.lemmas.List.{get_or-set_same, get_or-set_other, length-set, take_all, get_or_past}
-use Rattle.std.proofs.lemmas.Option.{slice_get-get_or, slice_get_within, same_Some}
+use Rattle.std.proofs.lemmas.List.{get_or-set_same, get_or-set_other, length-set}
+use Rattle.std.proofs.lemmas.Option.{slice_get-get_or, same_Some}
 use Rattle.sector_disk.specs.Lists.{Content, sector}
-use Rattle.sector_disk.specs.Clock.{Passes}
-use Rattle.sector_disk.specs.Space.{Space, SameSpace, TakesRoom, Puts, AgreesOutside, LeavesDurable}
+use Rattle.sector_disk.specs.Clock.{TimePasses}
+use Rattle.sector_disk.specs.Space.{Space, SameSpace, TakesRoom, Puts, LeavesDurable}
 use Rattle.sector_disk.proofs.Passing.{none_passes, both_pass}
 use Rattle.fork_map.specs.Blocks.{sectors_of}
 use Rattle.alloc_bitmap.specs.Apart.{AreApart}
-use Rattle.alloc_bitmap.specs.Bits.{bit_of, sectors_for}
+use Rattle.flag_rows.specs.Bits.{bit_of, sectors_for}
 use Rattle.alloc_bitmap.specs.Fork.{sector_or_none, fork_bit, HoldsBits, IsChanged, PutsChanged, TakesRoomFor, not_put}
 use Rattle.alloc_bitmap.proofs.PlaceLaws.{one_sector}
 use Rattle.alloc_bitmap.proofs.SpaceLaws.{space_none, space_both, iff_none, iff_both, leaves_as_before}
@@ -23,8 +23,9 @@ pub record Stored (old now : Space) (sectors : List ℕ) (changed used : List Bo
   pub same : SameSpace old now
   pub faults : now.faults ≡ old.faults
   pub puts : IsTrue old.tells → PutsChanged old sectors (take p changed) now
-  pub bits : IsTrue old.tells → (k : ℕ) → k < length used → k / 4096 < p → get_or changed (k / 4096) false ≡ true → fork_bit now.content sectors k ≡ get_or used k false
-  pub time : IsTrue old.tells → Passes old.clock now.clock (LeavesDurable now)
+  pub bits : IsTrue old.tells → (k : ℕ) → k / 4096 < p → get_or changed (k / 4096) false ≡ true → fork_bit now.content sectors k ≡ get_or used k false
+  pub whole : IsTrue old.tells → (at : ℕ) → IsChanged sectors (take p changed) at → length (sector now.content at) ≡ 512
+  pub time : IsTrue old.tells → TimePasses old.clock now.clock (LeavesDurable now)
 
 no_change : (sectors : List ℕ) (s : ℕ) → IsChanged sectors [] s → ⊥
 no_change sectors s c = let no : false ≡ true = c.1 in absurd (cc no)
@@ -42,7 +43,8 @@ stored_none old sectors changed used room = record {
     live = λ s. (λ l. inl l, λ e. ⊎_elim (λ l. l) (λ c. absurd (no_change sectors s c)) e);
     closed = λ s. iff_none (old.closed s);
   };
-  bits = λ tells k lt below. absurd (omega (arith, below));
+  bits = λ tells k below. absurd (omega (arith, below));
+  whole = λ tells at c. absurd (no_change sectors at c);
   time = λ tells. none_passes old.clock (LeavesDurable old);
 }
 
@@ -68,12 +70,23 @@ stored_skip old now sectors changed used p at s inside is place =
         live = λ k. (λ l. ⊎_elim (λ o. inl o) (λ c. inr (changed_more sectors changed p k c)) ((q.live k).0 l), λ e. (q.live k).1 (⊎_elim (λ o. inl o) (λ c. inr (back k c)) e));
         closed = q.closed;
       };
-      bits = λ tells k lt below c. ⊎_elim
-          (λ (less : k / 4096 < p). s.bits tells k lt less c)
+      bits = λ tells k below c. ⊎_elim
+          (λ (less : k / 4096 < p). s.bits tells k less c)
           (λ (more : p ≤ k / 4096). absurd (let same : k / 4096 ≡ p = omega (arith, more, below) in let no : false ≡ true = sym is ∙ ap (λ j. get_or changed j false) (sym same) ∙ c in cc no))
           (cases_lt (k / 4096) p);
+      whole = λ tells k c. s.whole tells k (back k c);
       time = s.time;
     }
+
+-- sectors that weren't changed are passed over
+pub stored_to : (n : ℕ) (old now : Space) (sectors : List ℕ) (changed used : List Bool) (p : ℕ) → Stored old now sectors changed used p → p + n ≤ length changed → length changed ≤ length sectors
+    → ((k : ℕ) → p ≤ k → k < p + n → get_or changed k false ≡ false) → Stored old now sectors changed used (p + n)
+stored_to zero old now sectors changed used p s inside enough none = subst (λ q. Stored old now sectors changed used q) (let e : p ≡ p + 0 = omega arith in e) s
+stored_to (suc n) old now sectors changed used p s inside enough none =
+    subst (λ q. Stored old now sectors changed used q) (let e : p + 1 + n ≡ p + suc n = omega arith in e)
+    (stored_to n old now sectors changed used (p + 1)
+    (stored_skip old now sectors changed used p (get_or sectors p 0) s (omega (arith, inside)) (none p (omega arith) (omega arith)) (slice_get-get_or sectors p 0 (omega (arith, inside, enough))))
+    (omega (arith, inside)) enough (λ k low high. none k (omega (arith, low)) (omega (arith, high))))
 
 -- ---- a sector that is put
 put_content : (now new : Space) (at : ℕ) (value : List ℕ) (k : ℕ) → Puts now at value new → k ≢ at → sector new.content k ≡ sector now.content k
@@ -127,8 +140,8 @@ other_bit old now new sectors changed used p at k value put q is less place apar
 
 pub stored_put : (old now new : Space) (p2 : ℕ) (blocks : List ℕ) (changed used : List Bool) (p at : ℕ) → let sectors = sectors_of p2 blocks in Stored old now sectors changed used p → p < length changed → get_or changed p false ≡ true → slice_get sectors p ≡ Some at
     → (IsTrue old.tells → AreApart blocks) → (IsTrue now.tells → at < length now.content)
-    → (IsTrue now.tells → (value : List ℕ) × Puts now at value new × ((k : ℕ) → k < 4096 → bit_of value k ≡ get_or used (p * 4096 + k) false))
-    → (IsTrue now.tells → Passes now.clock new.clock (LeavesDurable new)) → TakesRoom now at new → SameSpace now new → new.faults ≡ now.faults → Stored old new sectors changed used (p + 1)
+    → (IsTrue now.tells → (value : List ℕ) × Puts now at value new × (length value ≡ 512) × ((k : ℕ) → k < 4096 → bit_of value k ≡ get_or used (p * 4096 + k) false))
+    → (IsTrue now.tells → TimePasses now.clock new.clock (LeavesDurable new)) → TakesRoom now at new → SameSpace now new → new.faults ≡ now.faults → Stored old new sectors changed used (p + 1)
 stored_put old now new p2 blocks changed used p at s inside is place apart size puts time room same faults =
     let sectors = sectors_of p2 blocks in
     let told : IsTrue old.tells → IsTrue now.tells = λ tells. s.same.tells ∙ tells in
@@ -175,28 +188,27 @@ stored_put old now new p2 blocks changed used p at s inside is place apart size 
         );
         closed = λ k. iff_both (old.closed k) (now.closed k) (new.closed k) (q.closed k) (put.closed k);
       };
-      bits = λ tells k lt below c. let w = puts (told tells) in let put = w.1 in ⊎_elim
-          (λ (less : k / 4096 < p). other_bit old now new sectors changed used p at k w.0 put (k / 4096) refl less place (apart_here p2 blocks p at (apart tells) place) ∙ s.bits tells k lt less c)
+      bits = λ tells k below c. let w = puts (told tells) in let put = w.1 in ⊎_elim
+          (λ (less : k / 4096 < p). other_bit old now new sectors changed used p at k w.0 put (k / 4096) refl less place (apart_here p2 blocks p at (apart tells) place) ∙ s.bits tells k less c)
           (λ (more : p ≤ k / 4096).
           let here : k / 4096 ≡ p = omega (arith, more, below) in
           let back : p * 4096 + k % 4096 ≡ k = omega (arith, here) in
           ap (λ j. bit_of (sector_or_none new.content (slice_get sectors j)) (k % 4096)) here
           ∙ ap (λ o. bit_of (sector_or_none new.content o) (k % 4096)) place
           ∙ ap (λ (l : List ℕ). bit_of l (k % 4096)) (put_there now new at w.0 put (size (told tells)))
-          ∙ w.2 (k % 4096) (omega arith) ∙ ap (λ j. get_or used j false) back)
+          ∙ w.3 (k % 4096) (omega arith) ∙ ap (λ j. get_or used j false) back)
           (cases_lt (k / 4096) p);
+      whole = λ tells k c. let w = puts (told tells) in let put = w.1 in ⊎_elim
+          (λ (here : k ≡ at). ap (λ (l : List ℕ). length l) (ap (λ j. sector new.content j) here ∙ put_there now new at w.0 put (size (told tells))) ∙ w.2)
+          (λ (other : k ≢ at). ap (λ (l : List ℕ). length l) (put_content now new at w.0 k put other)
+          ∙ ⊎_elim (λ b. s.whole tells k b) (λ b. absurd (other (same_Some k at (sym b.1 ∙ place)))) (changed_back sectors changed p k c))
+          (cases_eq k at);
       time = λ tells. let w = puts (told tells) in let put = w.1 in
           both_pass old.clock now.clock new.clock (LeavesDurable now) (LeavesDurable new) (LeavesDurable new) (s.time tells) (time (told tells))
           (λ image bytes l. leaves_as_before now new image bytes put.durable put.spilled put.closed same.told l) (λ image bytes l. l);
     }
 
 -- ---- all of them were put
-pub stored_room : (old now : Space) (sectors : List ℕ) (changed used : List Bool) (p : ℕ) → Stored old now sectors changed used p → length changed ≤ p → TakesRoomFor old sectors changed now
-stored_room old now sectors changed used p s end = subst (λ (l : List Bool). TakesRoomFor old sectors l now) (take_all p changed end) s.room
-
-pub stored_puts : (old now : Space) (sectors : List ℕ) (changed used : List Bool) (p : ℕ) → Stored old now sectors changed used p → length changed ≤ p → IsTrue old.tells → PutsChanged old sectors changed now
-stored_puts old now sectors changed used p s end tells = subst (λ (l : List Bool). PutsChanged old sectors l now) (take_all p changed end) (s.puts tells)
-
 pub stored_bits : (old now : Space) (p2 : ℕ) (blocks : List ℕ) (changed used : List Bool) (p : ℕ) → Stored old now (sectors_of p2 blocks) changed used p → length changed ≤ p → length changed ≡ sectors_for (length used) → sectors_for (length used) ≤ length (sectors_of p2 blocks) → AreApart blocks
     → ((k : ℕ) → k < length used → get_or changed (k / 4096) false ≡ false → fork_bit old.content (sectors_of p2 blocks) k ≡ get_or used k false) → IsTrue old.tells → HoldsBits now.content (sectors_of p2 blocks) used
 stored_bits old now p2 blocks changed used p s end size enough apart others tells = λ k lt.
@@ -205,7 +217,7 @@ stored_bits old now p2 blocks changed used p s end size enough apart others tell
     let below : q < length changed = omega (arith, lt, size) in
     let here : slice_get sectors q ≡ Some (get_or sectors q 0) = slice_get-get_or sectors q 0 (omega (arith, below, size, enough)) in
     elim (get_or changed q false) as (λ b. get_or changed q false ≡ b → fork_bit now.content sectors k ≡ get_or used k false) [
-      | true ↦ λ (c : get_or changed q false ≡ true). s.bits tells k lt (omega (arith, below, end)) c
+      | true ↦ λ (c : get_or changed q false ≡ true). s.bits tells k (omega (arith, below, end)) c
       | false ↦ λ (c : get_or changed q false ≡ false).
           let same : sector now.content (get_or sectors q 0) ≡ sector old.content (get_or sectors q 0) = ⊎_elim (λ e. e)
           (λ w. let w2 = changed_later sectors changed p (get_or sectors q 0) w in

@@ -1,8 +1,7 @@
 -- The blocks of runs in order: which they are, and that none stands twice.
-use Rattle.std.proofs.Common.{◌≡◌, ℕ, suc, zero, ◌+◌, ◌-◌, ◌*◌, ◌^◌, ◌≤◌, ◌<◌, ◌⊎◌, min, Bool, true, false, not, ◌==◌, ◌&&◌, nat_le, nat_lt, if◌then◌else◌, cond, List, [], ◌∷◌, ◌++◌, length, get_or, take, drop, map, refl, sym, ◌∙◌, ap, subst, arith, ⊎_elim, add-zero, zero-add, length-append, length-take}
-use Rattle.std.specs.List.{range_with_len, All}
-use Rattle.std.proofs.lemmas.List.{take-append-drop, get_or_past, get_or_default}
-use Rattle.std.proofs.lemmas.List.FromFn.{length-range_with_len}
+use Rattle.std.proofs.Common.{◌≡◌, ℕ, suc, zero, ◌+◌, ◌-◌, ◌*◌, ◌≤◌, ◌<◌, Bool, true, false, not, ◌==◌, ◌&&◌, if◌then◌else◌, cond, List, [], ◌∷◌, ◌++◌, length, get_or, take, drop, map, refl, sym, ◌∙◌, ap, arith, ⊎_elim, add-zero, zero-add, length-take}
+use Rattle.std.specs.List.{range_with_len}
+use Rattle.std.proofs.lemmas.List.{take-append-drop, get_or_past}
 use Rattle.std.proofs.lemmas.Bool.{cases_lt}
 use Rattle.std.proofs.lemmas.Bool.Decides.{leb_tells, eqb_tells}
 use Rattle.hx_bytes.specs.declared.extents.Extent.{Extent}
@@ -10,16 +9,16 @@ use Rattle.fork_map.specs.Blocks.{blocks_of}
 use Rattle.fork_map.specs.Cut.{front}
 use Rattle.fork_map.proofs.Ranges.{range-append}
 use Rattle.fork_map.proofs.Laws.{blocks-front}
-use Rattle.alloc_bitmap.specs.Bits.{mark, has, is_held, count_set, sectors_for}
-use Rattle.alloc_bitmap.specs.Runs.{run_before, runs_from, runs_of, put_by_length, longest_first}
-use Rattle.alloc_bitmap.specs.Apart.{times, AreApart}
-use Rattle.alloc_bitmap.specs.Kept.{mark_all, Fit, Kept, Held}
-use Rattle.alloc_bitmap.specs.Map.{PicksFree, IsMap, touched_by}
-use Rattle.alloc_bitmap.proofs.ApartLaws.{times-append, times-cons, times_held, times_range, length_blocks}
+use Rattle.flag_rows.specs.Bits.{count_set}
+use Rattle.flag_rows.specs.Marks.{is_held}
+use Rattle.flag_rows.specs.Runs.{run_before, runs_from, runs_of, put_by_length, longest_first}
+use Rattle.alloc_bitmap.specs.Apart.{times}
+use Rattle.flag_rows.specs.Marks.{mark_all, Fit}
+use Rattle.alloc_bitmap.specs.Map.{PicksFree, touched_by}
+use Rattle.alloc_bitmap.proofs.ApartLaws.{times-append, times-cons, times_held, length_blocks}
 use Rattle.alloc_bitmap.proofs.OrderLaws.{Ascends, ascends_runs}
-use Rattle.alloc_bitmap.proofs.RunLaws.{count_set_true, count_set_false}
-use Rattle.alloc_bitmap.proofs.RowLaws.{length-mark, get_or-mark}
-use Rattle.alloc_bitmap.proofs.KeptLaws.{length-mark_all, get_or-mark_all}
+use Rattle.flag_rows.proofs.SumLaws.{count_free, count_used}
+use Rattle.flag_rows.proofs.TakeLaws.{length-mark_all}
 use Rattle.alloc_bitmap.proofs.MapLaws.{open_of, length-open, get_or-open}
 
 -- how many times a block is free in flags that begin at a place
@@ -101,8 +100,8 @@ length_before at (suc m) rest = length_blocks (record { start = at - suc m; coun
 pub length_runs : (at m : ℕ) (xs : List Bool) → length (blocks_of (runs_from at m xs)) ≡ m + count_set xs
 length_runs at zero [] = omega arith
 length_runs at (suc m) [] = omega (arith, length_before at (suc m) [])
-length_runs at m (true ∷ xs) = omega (arith, length_runs (at + 1) (m + 1) xs, count_set_true xs)
-length_runs at m (false ∷ xs) = omega (arith, length_before at m (runs_from (at + 1) 0 xs), length_runs (at + 1) 0 xs, count_set_false xs)
+length_runs at m (true ∷ xs) = omega (arith, length_runs (at + 1) (m + 1) xs, count_free xs)
+length_runs at m (false ∷ xs) = omega (arith, length_before at m (runs_from (at + 1) 0 xs), length_runs (at + 1) 0 xs, count_used xs)
 
 fit_ascends : (n low : ℕ) (runs : List Extent) → Ascends n low runs → Fit n runs
 fit_ascends n low [] a = tt
@@ -157,7 +156,7 @@ picks_chosen xs m enough = record {
       (omega (arith, times_here (blocks_of (front m (longest_first (runs_of xs)))) k d lt, times_chosen xs m (get_or (blocks_of (front m (longest_first (runs_of xs)))) k d)));
 }
 
--- ---- what holds of a bitmap after a change
+-- ---- chosen blocks are neither used nor held
 both : (u h : Bool) → (not u && not h) ≡ true → (u ≡ false) × (h ≡ false)
 both true h is = absurd (cc is)
 both false true is = absurd (cc is)
@@ -168,38 +167,6 @@ unused_chosen used held m k h =
     let free : get_or (open_of used held) k false ≡ true = chosen_free (open_of used held) m k h in
     let inside : k < length used = ⊎_elim (λ lt. lt) (λ past. absurd (let no : false ≡ true = sym (get_or_past (open_of used held) k false (omega (arith, past, length-open used held))) ∙ free in cc no)) (cases_lt k (length used)) in
     both (get_or used k true) (get_or held k false) (sym (get_or-open used held k false inside) ∙ free)
-
-pub map_taken : (used new : Kept) (held : Held) (changed after : List Bool) (es : List Extent) → IsMap used held changed → Fit (length used.flags) es → new.flags ≡ mark_all used.flags es true → new.kept ≡ used.kept → length after ≡ length changed → ((k : ℕ) → is_held es k ≡ true → get_or held.flags k false ≡ false) → IsMap new held after
-map_taken used new held changed after es m fit is kept size free =
-    let long : length new.flags ≡ length used.flags = ap (λ (l : List Bool). length l) is ∙ length-mark_all used.flags es true fit in
-    record {
-      size = m.size ∙ sym long;
-      kept_size = ap (λ (l : List Bool). length l) kept ∙ m.kept_size ∙ sym long;
-      kept_held_size = m.kept_held_size ∙ sym long;
-      changed_size = size ∙ m.changed_size ∙ ap (λ n. sectors_for n) (sym long);
-      apart = λ k h. ap (λ (l : List Bool). get_or l k true) is ∙ get_or-mark_all used.flags es true k true fit ∙ elim (is_held es k) as (λ b. is_held es k ≡ b → (if b then true else get_or used.flags k true) ≡ false) [
-        | true ↦ λ (t : is_held es k ≡ true). absurd (let no : false ≡ true = sym (free k t) ∙ h in cc no)
-        | false ↦ λ (t : is_held es k ≡ false). m.apart k h
-      ] refl;
-      kept_apart = λ k h. ap (λ (l : List Bool). get_or l k true) kept ∙ m.kept_apart k h;
-    }
-
-pub map_given : (used new : Kept) (held hold : Held) (changed after : List Bool) (e : Extent) → IsMap used held changed → e.start + e.count ≤ length used.flags → new.flags ≡ mark used.flags e false → new.kept ≡ used.kept → hold.flags ≡ mark held.flags e true → hold.kept ≡ held.kept → length after ≡ length changed → IsMap new hold after
-map_given used new held hold changed after e m fits is kept held_is held_kept size =
-    let long : length new.flags ≡ length used.flags = ap (λ (l : List Bool). length l) is ∙ length-mark used.flags e false fits in
-    let inside : e.start + e.count ≤ length held.flags = omega (arith, fits, m.size) in
-    let hold_long : length hold.flags ≡ length held.flags = ap (λ (l : List Bool). length l) held_is ∙ length-mark held.flags e true inside in
-    record {
-      size = hold_long ∙ m.size ∙ sym long;
-      kept_size = ap (λ (l : List Bool). length l) kept ∙ m.kept_size ∙ sym long;
-      kept_held_size = ap (λ (l : List Bool). length l) held_kept ∙ m.kept_held_size ∙ sym long;
-      changed_size = size ∙ m.changed_size ∙ ap (λ n. sectors_for n) (sym long);
-      apart = λ k h. ap (λ (l : List Bool). get_or l k true) is ∙ get_or-mark used.flags e false k true fits ∙ elim (has e k) as (λ b. has e k ≡ b → (if b then false else get_or used.flags k true) ≡ false) [
-        | true ↦ λ (t : has e k ≡ true). refl
-        | false ↦ λ (t : has e k ≡ false). m.apart k (sym (get_or-mark held.flags e true k false inside ∙ rw t refl) ∙ sym (ap (λ (l : List Bool). get_or l k false) held_is) ∙ h)
-      ] refl;
-      kept_apart = λ k h. ap (λ (l : List Bool). get_or l k true) kept ∙ m.kept_apart k (sym (ap (λ (l : List Bool). get_or l k false) held_kept) ∙ h);
-    }
 
 -- ---- the sectors that are touched
 pub fit_more : (n m : ℕ) (es : List Extent) → n ≤ m → Fit n es → Fit m es
@@ -218,10 +185,3 @@ touched_fit n (e ∷ es) f = (touched_fits n e f.0, touched_fit n es f.1)
 
 pub touched_size : (changed : List Bool) (es : List Extent) → Fit (length changed * 4096) es → length (mark_all changed (map (λ (e : Extent). touched_by e) es) true) ≡ length changed
 touched_size changed es f = length-mark_all changed (map (λ (e : Extent). touched_by e) es) true (touched_fit (length changed) es f)
-
-if_one : (t : Bool) → ◌≤◌ (if t then 1 else 0) 1
-if_one true = omega arith
-if_one false = omega arith
-
-pub one_apart : (e : Extent) → AreApart (range_with_len e.start e.count ++ [])
-one_apart e = λ b. omega (arith, times-append b (range_with_len e.start e.count) [], times_range e b, if_one (has e b))

@@ -1,9 +1,9 @@
 -- The bits of an allocation file in a content, which is a list of sectors.
-use Rattle.std.specs.Prelude.{◌≡◌, ◌≢◌, ◌⊎◌, ◌↔◌, ℕ, ◌+◌, ◌*◌, ◌/◌, ◌%◌, ◌<◌, ◌≤◌, Bool, true, false, not, ◌&&◌, IsTrue, if◌then◌else◌, ◌∷◌, Option, Some, None, List, [], length, slice_get, slice_index, slice_index_or}
+use Rattle.std.specs.Prelude.{◌≡◌, ◌⊎◌, ◌↔◌, ℕ, ◌+◌, ◌/◌, ◌%◌, ◌<◌, ◌≤◌, Bool, true, false, not, ◌&&◌, IsTrue, if◌then◌else◌, ◌∷◌, Option, Some, None, List, [], length, slice_get, slice_index_or}
 use Rattle.sector_disk.specs.Space.{Space, AgreesOutside}
 use Rattle.hx_bytes.specs.declared.extents.Extent.{Extent}
 use Rattle.fork_map.specs.Blocks.{blocks_of, sectors_of}
-use Rattle.alloc_bitmap.specs.Bits.{bit_of, sectors_for}
+use Rattle.flag_rows.specs.Bits.{bit_of}
 
 -- the sector of a content, or no bytes where there is none
 abbrev pub sector_or_none : List (List ℕ) → Option ℕ → List ℕ
@@ -25,6 +25,10 @@ HoldsBits content sectors flags = (k : ℕ) → k < length flags → fork_bit co
 -- the sector of a fork in which this sector of the bitmap stands, where it was changed
 abbrev pub IsChanged : List ℕ → List Bool → ℕ → Type 0
 IsChanged sectors changed at = (place : ℕ) × (slice_index_or changed place false ≡ true) × (slice_get sectors place ≡ Some at)
+
+-- in the changed sectors of a fork, each bit past the last of these flags is clear
+abbrev pub ClearsRest : List (List ℕ) → List ℕ → List Bool → List Bool → Type 0
+ClearsRest content sectors changed flags = (k : ℕ) → length flags ≤ k → slice_index_or changed (k / 4096) false ≡ true → fork_bit content sectors k ≡ false
 
 -- how many of the changed sectors, from a place on, aren't put yet
 abbrev pub not_put : (ℕ → Bool) → List ℕ → List Bool → ℕ

@@ -1,7 +1,3 @@
-pub mod Bits
-pub mod Rows
-pub mod Runs
-pub mod Ranks
 pub mod Kept
 pub mod Apart
 pub mod Map

@@ -1,16 +1,15 @@
-// The bitmap of a volume.
+//! The bitmap of a volume.
 ghost use Rattle.std.specs.Prelude.{◌≡◌, ◌↔◌, ◌≤◌, ◌*◌, ◌/◌, ◌^◌, true, false, length, map, List, IsTrue, OnOk, OnErr, IfOk};
 ghost use Rattle.hx_bytes.specs.declared.extents.Extent.{Extent};
-ghost use Rattle.alloc_bitmap.specs.Bits.{count_set, mark, sectors_for};
-ghost use Rattle.alloc_bitmap.specs.Kept.{mark_all, Fit};
-ghost use Rattle.alloc_bitmap.specs.Runs.{runs_of, longest_first, longest_of, fewest_of};
+ghost use Rattle.flag_rows.specs.Bits.{count_set, mark, sectors_for};
+ghost use Rattle.flag_rows.specs.Marks.{mark_all, Fit};
+ghost use Rattle.flag_rows.specs.Runs.{runs_of, longest_first, longest_of, fewest_of};
 ghost use Rattle.alloc_bitmap.specs.Map.{BlockMap, free_of, unused_of, none, touched_by, Have, PicksFree};
 ghost use Rattle.fork_map.specs.Cut.{front};
 
-use crate::bits::Bits;
 use crate::holds::Holds;
 use crate::log::Used;
-use crate::runs::{choose, fewest, longest};
+use flag_rows::{Bits, Row};
 use fork_map::ExtentList;
 use hx_bytes::{Extent, OutOfMemory};
 use std::alloc::Global;
@@ -21,6 +20,8 @@ use std::marker::Model;
 pub struct Bitmap {
     pub(crate) used: Used,
     holds: Holds,
+    /// Which blocks are used or held.
+    taken: Row,
     pub(crate) changed: Bits,
     pub(crate) fork: ExtentList,
     pub(crate) block: u32,
@@ -34,7 +35,7 @@ impl Model for Bitmap {
 
     ghost view = { λ b. record { used = b.used.flags; held = b.holds.flags; changed = b.changed; kept_used = b.used.kept; kept_held = b.holds.kept; fork = b.fork; per_block = b.block / 512 } };
 
-    ghost invariant = { λ b. IsMap b.used b.holds b.changed };
+    ghost invariant = { λ b. IsMap b.used b.holds b.changed b.taken };
 }
 
 impl Bitmap {
@@ -49,9 +50,12 @@ impl Bitmap {
     {
         let total = bits.len();
         let changed = Bits::clear(alloc, (total + 4095) / 4096)?;
+        let row = Row::of_bits(alloc, bits)?;
+        let taken = row.copy(alloc)?;
         Ok(Bitmap {
-            used: Used::new(alloc, bits),
+            used: Used::new(alloc, row),
             holds: Holds::new(alloc, total as u32),
+            taken,
             changed,
             fork,
             block,
@@ -62,7 +66,7 @@ impl Bitmap {
     pub fn total(&self) -> u32
         ensures { result ≡ length self.now.used }
     {
-        self.used.bits().len() as u32
+        self.used.row().bits().len() as u32
     }
 
     /// The extents of the bitmap's file.
@@ -84,59 +88,62 @@ impl Bitmap {
     pub fn count_free(&self) -> u32
         ensures { result ≡ count_set (free_of self.now) }
     {
-        self.used.free() - self.holds.count()
+        self.taken.count_clear()
     }
 
     /// How many blocks are free, the held ones too.
     pub fn count_all(&self) -> u32
         ensures { result ≡ count_set (unused_of self.now) }
     {
-        self.used.free()
+        self.used.row().count_clear()
     }
 
     /// The length of the longest run of blocks that are free to take.
     pub fn longest(&self) -> u32
         ensures { result ≡ longest_of (runs_of (free_of self.now)) }
     {
-        longest(self.used.bits(), self.holds.as_slice())
+        self.taken.longest()
     }
 
     /// The length of the longest run of free blocks, the held ones too.
     pub fn longest_all(&self) -> u32
         ensures { result ≡ longest_of (runs_of (unused_of self.now)) }
     {
-        longest(self.used.bits(), &[])
+        self.used.row().longest()
     }
 
     /// How many runs of blocks that are free to take, longest first, have `n` blocks together, or how many there are.
     pub fn fewest(&self, n: u32) -> u32
         ensures { result ≡ fewest_of n (longest_first (runs_of (free_of self.now))) }
     {
-        fewest(self.used.bits(), self.holds.as_slice(), n)
+        self.taken.fewest(n)
     }
 
     /// How many runs of free blocks, the held ones too, have `n` blocks together, or how many there are.
     pub fn fewest_all(&self, n: u32) -> u32
         ensures { result ≡ fewest_of n (longest_first (runs_of (unused_of self.now))) }
     {
-        fewest(self.used.bits(), &[], n)
+        self.used.row().fewest(n)
     }
 
     /// Whether the blocks of an extent lie in the volume and are all used, or all unused.
     pub fn have(&self, e: Extent, used: bool) -> bool
         ensures { IsTrue result ↔ Have self.now.used e used }
     {
-        let bits = self.used.bits();
+        let bits = self.used.row().bits();
         let start = e.start as usize;
         let end = start + e.count as usize;
-        end <= bits.len() && bits.first(start, !used) >= end
+        if bits.len() < end {
+            return false;
+        }
+        bits.first_before(start, end, !used) == end
     }
 
     /// Ends all holds.
     pub fn settle(&mut self)
         ensures { self.new ≡ record self.old { held = none (length self.old.used); kept_held = none (length self.old.used) } }
     {
-        self.holds.settle();
+        self.holds.settle(&mut self.taken);
     }
 
     /// Ends a command: what it changed stays.
@@ -152,8 +159,9 @@ impl Bitmap {
     pub fn undo(&mut self)
         ensures { self.new ≡ record self.old { used = self.old.kept_used; held = self.old.kept_held; changed = none (length self.old.changed) } }
     {
-        self.used.undo();
-        self.holds.undo();
+        self.holds.undo(&mut self.taken);
+        self.used.undo(&mut self.taken);
+        self.holds.mark_in(&mut self.taken);
         self.changed.clear_all();
     }
 
@@ -165,6 +173,7 @@ impl Bitmap {
     {
         self.holds.reserve()?;
         self.holds.add(e);
+        self.taken.set(e, true);
         Ok(())
     }
 
@@ -191,10 +200,15 @@ impl Bitmap {
         ensures taken { IfOk result (λ list. self.new ≡ record self.old { used = mark_all self.old.used list true; changed = mark_all self.old.changed (map (λ extent. touched_by extent) list) true }) }
         ensures same { OnErr result (self.new ≡ self.old) }
     {
-        let used = self.used.bits();
-        let _total = used.len();
-        let list = choose(alloc, used, self.holds.as_slice(), n)?;
-        self.used.change_all(list.as_slice(), true)?;
+        let _total = self.used.row().bits().len();
+        let list = self.taken.take(alloc, n)?;
+        match self.used.change_all(list.as_slice(), true) {
+            Ok(()) => {}
+            Err(fault) => {
+                self.taken.set_all(list.as_slice(), false);
+                return Err(fault);
+            }
+        }
         touch_all(&mut self.changed, list.as_slice());
         Ok(list)
     }

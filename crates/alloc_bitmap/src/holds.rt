@@ -1,66 +1,11 @@
-// Blocks that are held, as a list of extents.
-ghost use Rattle.std.specs.Prelude.{◌≡◌, ◌<◌, ◌≤◌, ◌+◌, ℕ, true, false, length, replicate, MatchOption, OnOk, OnErr};
-ghost use Rattle.alloc_bitmap.specs.Bits.{has, is_held, mark, count_set};
-ghost use Rattle.alloc_bitmap.specs.Kept.{held_by, Fit};
+//! Blocks that are held, as a list of extents.
+ghost use Rattle.std.specs.Prelude.{◌≡◌, ◌<◌, ◌≤◌, ◌+◌, ◌||◌, ◌&&◌, not, ℕ, true, false, length, replicate, slice_index_or, OnOk};
+ghost use Rattle.flag_rows.specs.Bits.{mark};
 
+use flag_rows::Row;
 use hx_bytes::{Extent, OutOfMemory};
 use std::alloc::Global;
 use std::marker::Model;
-
-/// Whether a block is in an extent.
-fn contains(extent: Extent, at: usize) -> bool
-    ensures { result ≡ has extent at }
-{
-    extent.start as usize <= at && at < extent.start as usize + extent.count as usize
-}
-
-/// The end of an extent that has a block, or none where no extent has it.
-pub fn held_to(list: &[Extent], at: usize) -> Option<usize>
-    ensures { MatchOption result (is_held list.now at ≡ false) (λ end. (at < end) × ((k : ℕ) → at ≤ k → k < end → is_held list.now k ≡ true)) }
-{
-    for extent in list {
-        if contains(*extent, at) {
-            return Some(extent.start as usize + extent.count as usize);
-        }
-    }
-    None
-}
-
-/// The first block from `start` up to `end` that an extent has, or `end`.
-pub fn first_held(list: &[Extent], start: usize, end: usize) -> usize
-    requires { start ≤ end }
-    ensures from { start ≤ result }
-    ensures to { result ≤ end }
-    ensures before { (k : ℕ) → start ≤ k → k < result → is_held list.now k ≡ false }
-    ensures found { result < end → is_held list.now result ≡ true }
-{
-    let mut first = end;
-    for extent in list {
-        let from = start.max(extent.start as usize);
-        if from < first && from < extent.start as usize + extent.count as usize {
-            first = from;
-        }
-    }
-    first
-}
-
-/// How many blocks of an extent no extent of the list has.
-fn count_fresh(list: &[Extent], extent: Extent) -> u32
-    ensures { (n : ℕ) → extent.start + extent.count ≤ n → result + count_set (held_by n list.now) ≡ count_set (mark (held_by n list.now) extent true) }
-{
-    let end = extent.start as usize + extent.count as usize;
-    let mut at = extent.start as usize;
-    let mut fresh = 0;
-    while at < end {
-        let held = first_held(list, at, end);
-        fresh += (held - at) as u32;
-        at = match held_to(list, held) {
-            Some(past) => past.min(end),
-            None => end,
-        };
-    }
-    fresh
-}
 
 /// Blocks that are held, and those of the last keep.
 #[derive(Drop)]
@@ -68,8 +13,6 @@ pub struct Holds {
     blocks: u32,
     list: Vec<Extent>,
     kept: usize,
-    count: u32,
-    kept_count: u32,
 }
 
 impl Model for Holds {
@@ -80,7 +23,7 @@ impl Model for Holds {
 
     ghost view = { λ h. record { flags = held_by h.blocks h.list.items; kept = held_by h.blocks (take h.kept h.list.items); room = vec_capacity h.list - vec_len h.list } };
 
-    ghost invariant = { λ h. AreHolds h.blocks h.list.items h.kept h.count h.kept_count };
+    ghost invariant = { λ h. AreHolds h.blocks h.list.items h.kept };
 }
 
 impl Holds {
@@ -93,24 +36,7 @@ impl Holds {
             blocks,
             list: Vec::new(alloc),
             kept: 0,
-            count: 0,
-            kept_count: 0,
         }
-    }
-
-    /// How many blocks are held.
-    pub fn count(&self) -> u32
-        ensures { result ≡ count_set self.now.flags }
-    {
-        self.count
-    }
-
-    /// The held blocks as extents, which may overlap.
-    pub fn as_slice(&self) -> &[Extent]
-        ensures flags { self.now.flags ≡ held_by (length self.now.flags) result.now }
-        ensures fit { Fit (length self.now.flags) result.now }
-    {
-        self.list.as_slice()
     }
 
     /// Finds memory for one more extent.
@@ -130,20 +56,7 @@ impl Holds {
         ensures added { self.new.flags ≡ mark self.old.flags extent true }
         ensures kept { self.new.kept ≡ self.old.kept }
     {
-        let fresh = count_fresh(&self.list, extent);
         let _pushed = self.list.push(extent);
-        self.count += fresh;
-    }
-
-    /// Ends all holds.
-    pub fn settle(&mut self)
-        ensures flags { self.new.flags ≡ replicate (length self.old.flags) false }
-        ensures kept { self.new.kept ≡ replicate (length self.old.flags) false }
-    {
-        self.list.clear();
-        self.kept = 0;
-        self.count = 0;
-        self.kept_count = 0;
     }
 
     pub fn keep(&mut self)
@@ -151,15 +64,41 @@ impl Holds {
         ensures kept { self.new.kept ≡ self.old.flags }
     {
         self.kept = self.list.len();
-        self.kept_count = self.count;
     }
 
-    /// Goes back to the last keep, or to no hold where there was a settle since.
-    pub fn undo(&mut self)
+    /// Ends all holds, and clears the flags of the blocks that were held.
+    pub fn settle(&mut self, taken: &mut Row)
+        requires { length taken.old ≡ length self.old.flags }
+        ensures flags { self.new.flags ≡ replicate (length self.old.flags) false }
+        ensures kept { self.new.kept ≡ replicate (length self.old.flags) false }
+        ensures size { length taken.new ≡ length taken.old }
+        ensures cleared { (k : ℕ) → k < length taken.old → slice_index_or taken.new k false ≡ (slice_index_or taken.old k false && not (slice_index_or self.old.flags k false)) }
+    {
+        taken.set_all(self.list.as_slice(), false);
+        self.list.clear();
+        self.kept = 0;
+    }
+
+    /// Goes back to the last keep, or to no hold where there was a settle since, and clears the flags of the blocks whose hold ends.
+    pub fn undo(&mut self, taken: &mut Row)
+        requires { length taken.old ≡ length self.old.flags }
         ensures flags { self.new.flags ≡ self.old.kept }
         ensures kept { self.new.kept ≡ self.old.kept }
+        ensures size { length taken.new ≡ length taken.old }
+        ensures cleared { (k : ℕ) → slice_index_or self.old.flags k false ≡ true → slice_index_or self.old.kept k false ≡ false → slice_index_or taken.new k false ≡ false }
+        ensures others { (k : ℕ) → slice_index_or self.old.flags k false ≡ false → slice_index_or taken.new k false ≡ slice_index_or taken.old k false }
     {
+        let dropped = &self.list[self.kept..];
+        taken.set_all(dropped, false);
         self.list.truncate(self.kept);
-        self.count = self.kept_count;
+    }
+
+    /// Sets the flags of the held blocks.
+    pub fn mark_in(&self, taken: &mut Row)
+        requires { length taken.old ≡ length self.now.flags }
+        ensures size { length taken.new ≡ length taken.old }
+        ensures marked { (k : ℕ) → k < length taken.old → slice_index_or taken.new k false ≡ (slice_index_or self.now.flags k false || slice_index_or taken.old k false) }
+    {
+        taken.set_all(self.list.as_slice(), true);
     }
 }

@@ -2,12 +2,9 @@
 #![tactic(auto)]
 
 mod bitmap;
-mod bits;
-mod bytes;
 mod holds;
 mod load;
 mod log;
-mod runs;
 mod store;
 
 pub use bitmap::Bitmap;

@@ -1,16 +1,16 @@
-// A bitmap read from its file.
+//! A bitmap read from its file.
 ghost use Rattle.std.specs.Prelude.{◌≡◌, ◌≤◌, ◌<◌, ◌+◌, ◌*◌, ◌/◌, ◌^◌, ℕ, false, IsTrue, length, slice_get, slice_index_or, OnOk, IfOk, OnErr, [], ◌++◌};
 ghost use Rattle.std.specs.Result.{IsErrOf};
 ghost use Rattle.hx_bytes.specs.declared.faults.Trouble.TheVariants.{Disk};
 ghost use Rattle.sector_disk.specs.Cause.{Rose, HasCause};
-ghost use Rattle.sector_disk.specs.Clock.{Passes};
+ghost use Rattle.sector_disk.specs.Clock.{TimePasses};
 ghost use Rattle.sector_disk.specs.Space.{SameSpace, SameRoom, SameSectors, LeavesDurable};
-ghost use Rattle.alloc_bitmap.specs.Bits.{bit_of, sectors_for};
+ghost use Rattle.flag_rows.specs.Bits.{bit_of, sectors_for};
 ghost use Rattle.alloc_bitmap.specs.Fork.{fork_sectors, fork_bit, HoldsBits, sector_or_none};
 ghost use Rattle.alloc_bitmap.specs.Map.{BlockMap, none};
 
 use crate::Bitmap;
-use crate::bits::Bits;
+use flag_rows::Bits;
 use fork_map::ExtentList;
 use hx_bytes::{Failed, OutOfMemory, Sector, Trouble};
 use sector_disk::SectorView;
@@ -27,7 +27,7 @@ fn read_sector<V: SectorView>(
     requires { per_block ≤ 2 ^ 23 }
     ensures value { IsTrue (V.space view.old).tells → OnOk result ((k : ℕ) → k < 4096 → bit_of into.new k ≡ bit_of (sector_or_none (V.space view.old).content (slice_get (fork_sectors fork.now per_block) place)) k) }
     ensures sectors { IsTrue (V.space view.old).tells → SameSectors (V.space view.old) (V.space view.new) }
-    ensures time { IsTrue (V.space view.old).tells → Passes (V.space view.old).clock (V.space view.new).clock (LeavesDurable (V.space view.new)) }
+    ensures time { IsTrue (V.space view.old).tells → TimePasses (V.space view.old).clock (V.space view.new).clock (LeavesDurable (V.space view.new)) }
     ensures room { SameRoom (V.space view.old) (V.space view.new) }
     ensures same { SameSpace (V.space view.old) (V.space view.new) }
     ensures cause { HasCause (V.space view.old).faults (V.space view.new).faults result }
@@ -80,7 +80,7 @@ fn read_bytes<V: SectorView>(
     ensures size { IfOk result (λ bytes. length bytes.items ≡ count * 512) }
     ensures bits { IsTrue (V.space view.old).tells → IfOk result (λ bytes. (k : ℕ) → k < count * 4096 → bit_of bytes.items k ≡ fork_bit (V.space view.old).content (fork_sectors fork.now per_block) k) }
     ensures sectors { IsTrue (V.space view.old).tells → SameSectors (V.space view.old) (V.space view.new) }
-    ensures time { IsTrue (V.space view.old).tells → Passes (V.space view.old).clock (V.space view.new).clock (LeavesDurable (V.space view.new)) }
+    ensures time { IsTrue (V.space view.old).tells → TimePasses (V.space view.old).clock (V.space view.new).clock (LeavesDurable (V.space view.new)) }
     ensures room { SameRoom (V.space view.old) (V.space view.new) }
     ensures same { SameSpace (V.space view.old) (V.space view.new) }
     ensures later { (V.space view.old).faults ≤ (V.space view.new).faults }
@@ -109,7 +109,7 @@ impl Bitmap {
         // No block is held, and nothing is changed.
         ensures rest { IfOk result (λ map. map ≡ record { used = map.used; held = none total; changed = none (sectors_for total); kept_used = map.used; kept_held = none total; fork = fork.now; per_block = block / 512 }) }
         ensures sectors { IsTrue (V.space view.old).tells → SameSectors (V.space view.old) (V.space view.new) }
-        ensures time { IsTrue (V.space view.old).tells → Passes (V.space view.old).clock (V.space view.new).clock (LeavesDurable (V.space view.new)) }
+        ensures time { IsTrue (V.space view.old).tells → TimePasses (V.space view.old).clock (V.space view.new).clock (LeavesDurable (V.space view.new)) }
         ensures room { SameRoom (V.space view.old) (V.space view.new) }
         ensures same { SameSpace (V.space view.old) (V.space view.new) }
         ensures later { (V.space view.old).faults ≤ (V.space view.new).faults }

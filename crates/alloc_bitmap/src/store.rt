@@ -1,15 +1,15 @@
-// A bitmap written to its file.
-ghost use Rattle.std.specs.Prelude.{◌≡◌, ◌⊎◌, ◌≤◌, ◌<◌, ◌+◌, ◌*◌, ◌/◌, ◌^◌, ℕ, true, false, IsTrue, length, slice_get, slice_index_or, List};
+//! A bitmap written to its file.
+ghost use Rattle.std.specs.Prelude.{◌≡◌, ◌⊎◌, ◌≤◌, ◌<◌, ◌+◌, ◌*◌, ◌/◌, ◌^◌, ℕ, true, false, IsTrue, length, slice_get, slice_index_or, List, []};
 ghost use Rattle.std.specs.List.{All};
-ghost use Rattle.sector_disk.specs.Clock.{Passes};
+ghost use Rattle.sector_disk.specs.Clock.{TimePasses};
 ghost use Rattle.sector_disk.specs.Space.{SameSpace, TakesRoom, Puts, LeavesDurable};
 ghost use Rattle.fork_map.specs.Blocks.{blocks_of};
 ghost use Rattle.alloc_bitmap.specs.Apart.{AreApart};
-ghost use Rattle.alloc_bitmap.specs.Bits.{bit_of, sectors_for};
-ghost use Rattle.alloc_bitmap.specs.Fork.{fork_sectors, fork_bit, HoldsBits, IsChanged, PutsChanged, TakesRoomFor, not_put};
+ghost use Rattle.flag_rows.specs.Bits.{bit_of, sectors_for};
+ghost use Rattle.alloc_bitmap.specs.Fork.{fork_sectors, fork_bit, HoldsBits, IsChanged, ClearsRest, PutsChanged, TakesRoomFor, not_put};
 
 use crate::Bitmap;
-use crate::bits::Bits;
+use flag_rows::Bits;
 use fork_map::ExtentList;
 use sector_disk::SectorSpace;
 
@@ -25,14 +25,17 @@ impl Bitmap {
         requires room { not_put (P.SectorView.space space.old).put (fork_sectors self.now.fork self.now.per_block) self.now.changed ≤ (P.SectorView.space space.old).spare }
         ensures holds { IsTrue (P.SectorView.space space.old).tells → HoldsBits (P.SectorView.space space.new).content (fork_sectors self.now.fork self.now.per_block) self.now.used }
         ensures puts { IsTrue (P.SectorView.space space.old).tells → PutsChanged (P.SectorView.space space.old) (fork_sectors self.now.fork self.now.per_block) self.now.changed (P.SectorView.space space.new) }
-        ensures time { IsTrue (P.SectorView.space space.old).tells → Passes (P.SectorView.space space.old).clock (P.SectorView.space space.new).clock (LeavesDurable (P.SectorView.space space.new)) }
+        // Bits past the last block are stored clear, in sectors of 512 bytes.
+        ensures rest { IsTrue (P.SectorView.space space.old).tells → ClearsRest (P.SectorView.space space.new).content (fork_sectors self.now.fork self.now.per_block) self.now.changed self.now.used }
+        ensures whole { IsTrue (P.SectorView.space space.old).tells → (sector : ℕ) → IsChanged (fork_sectors self.now.fork self.now.per_block) self.now.changed sector → length (slice_index_or (P.SectorView.space space.new).content sector []) ≡ 512 }
+        ensures time { IsTrue (P.SectorView.space space.old).tells → TimePasses (P.SectorView.space space.old).clock (P.SectorView.space space.new).clock (LeavesDurable (P.SectorView.space space.new)) }
         ensures room { TakesRoomFor (P.SectorView.space space.old) (fork_sectors self.now.fork self.now.per_block) self.now.changed (P.SectorView.space space.new) }
         ensures same { SameSpace (P.SectorView.space space.old) (P.SectorView.space space.new) }
         ensures faults { (P.SectorView.space space.new).faults ≡ (P.SectorView.space space.old).faults }
     {
         store_changed(
             space,
-            self.used.bits(),
+            self.used.row().bits(),
             &self.changed,
             &self.fork,
             self.block / 512,
@@ -59,19 +62,22 @@ fn store_changed<P: SectorSpace>(
     requires room { not_put (P.SectorView.space space.old).put (fork_sectors fork.now per_block) changed.now ≤ (P.SectorView.space space.old).spare }
     ensures holds { IsTrue (P.SectorView.space space.old).tells → HoldsBits (P.SectorView.space space.new).content (fork_sectors fork.now per_block) used.now }
     ensures puts { IsTrue (P.SectorView.space space.old).tells → PutsChanged (P.SectorView.space space.old) (fork_sectors fork.now per_block) changed.now (P.SectorView.space space.new) }
-    ensures time { IsTrue (P.SectorView.space space.old).tells → Passes (P.SectorView.space space.old).clock (P.SectorView.space space.new).clock (LeavesDurable (P.SectorView.space space.new)) }
+    // Bits past the last block are stored clear, in sectors of 512 bytes.
+    ensures rest { IsTrue (P.SectorView.space space.old).tells → ClearsRest (P.SectorView.space space.new).content (fork_sectors fork.now per_block) changed.now used.now }
+    ensures whole { IsTrue (P.SectorView.space space.old).tells → (sector : ℕ) → IsChanged (fork_sectors fork.now per_block) changed.now sector → length (slice_index_or (P.SectorView.space space.new).content sector []) ≡ 512 }
+    ensures time { IsTrue (P.SectorView.space space.old).tells → TimePasses (P.SectorView.space space.old).clock (P.SectorView.space space.new).clock (LeavesDurable (P.SectorView.space space.new)) }
     ensures room { TakesRoomFor (P.SectorView.space space.old) (fork_sectors fork.now per_block) changed.now (P.SectorView.space space.new) }
     ensures same { SameSpace (P.SectorView.space space.old) (P.SectorView.space space.new) }
     ensures faults { (P.SectorView.space space.new).faults ≡ (P.SectorView.space space.old).faults }
 {
     let count = changed.len();
-    for place in 0..count {
-        if changed.get(place) {
-            match fork.sector_at(per_block, place as u64) {
-                Some(at) => put_place(space, used, at, place),
-                None => return,
-            }
+    let mut place = changed.first(0, true);
+    while place < count {
+        match fork.sector_at(per_block, place as u64) {
+            Some(at) => put_place(space, used, at, place),
+            None => return,
         }
+        place = changed.first(place + 1, true);
     }
 }
 
@@ -82,8 +88,8 @@ fn put_place<P: SectorSpace>(space: &mut P, used: &Bits, at: u64, place: usize)
     requires open { IsTrue (P.SectorView.space space.old).tells → (P.SectorView.space space.old).closed at → ⊥ }
     requires room { (0 < (P.SectorView.space space.old).spare) ⊎ IsTrue ((P.SectorView.space space.old).put at) }
     ensures puts { IsTrue (P.SectorView.space space.old).tells → (value : List ℕ) × Puts (P.SectorView.space space.old) at value (P.SectorView.space space.new)
-        × ((k : ℕ) → k < 4096 → bit_of value k ≡ slice_index_or used.now (place * 4096 + k) false) }
-    ensures time { IsTrue (P.SectorView.space space.old).tells → Passes (P.SectorView.space space.old).clock (P.SectorView.space space.new).clock (LeavesDurable (P.SectorView.space space.new)) }
+        × (length value ≡ 512) × ((k : ℕ) → k < 4096 → bit_of value k ≡ slice_index_or used.now (place * 4096 + k) false) }
+    ensures time { IsTrue (P.SectorView.space space.old).tells → TimePasses (P.SectorView.space space.old).clock (P.SectorView.space space.new).clock (LeavesDurable (P.SectorView.space space.new)) }
     ensures room { TakesRoom (P.SectorView.space space.old) at (P.SectorView.space space.new) }
     ensures same { SameSpace (P.SectorView.space space.old) (P.SectorView.space space.new) }
     ensures faults { (P.SectorView.space space.new).faults ≡ (P.SectorView.space space.old).faults }

@@ -6,7 +6,7 @@ mod lines;
 
 use anyhow::Context;
 use cmd_lang::read_line;
-use hfs_model::Command;
+use hfs_language::Command;
 use lines::LINES;
 use std::alloc::{AllocError, Global};
 use std::env;

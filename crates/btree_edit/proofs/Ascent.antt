@@ -19,7 +19,7 @@ use Rattle.btree_edit.specs.Climb.{LevelLists, IsLevel, NoneEmpty, IsTreeBut}
 use Rattle.btree_edit.specs.Way.{stop_at, way_place}
 use Rattle.btree_edit.specs.Rising.{leaf_start, leaves_edited, IsThrifty, AreOfOneLength, CanClimb, Climbs}
 use Rattle.btree_edit.specs.declared.desk.Desk.{Desk}
-use Rattle.btree_edit.specs.declared.desk.Stop.{Stop}
+use Rattle.btree_edit.specs.declared.desk.PathStep.{PathStep}
 use Rattle.btree_edit.proofs.Counting.{bit_true, bit_other, times-append, times_at, times_place}
 use Rattle.btree_edit.proofs.Descent.{split_at}
 use Rattle.btree_edit.proofs.Splices.{length-splice, spliced_middle, each_spliced, splice_same}
@@ -33,7 +33,7 @@ use Rattle.btree_edit.proofs.Spots.{spot_of}
 use Rattle.btree_edit.proofs.Repeated.{same_store_both}
 
 -- where a climb is: so many levels are done, and this is handed on to the next
-pub record IsAscent (is_key : List ℕ → Type 0) (cmp : List ℕ → List ℕ → Ordering) (max : ℕ) (a s : Store) (path : List Stop) (at : ℕ) (removed : Bool) (put : List (List ℕ)) (spare : ℕ)
+pub record IsAscent (is_key : List ℕ → Type 0) (cmp : List ℕ → List ℕ → Ordering) (max : ℕ) (a s : Store) (path : List PathStep) (at : ℕ) (removed : Bool) (put : List (List ℕ)) (spare : ℕ)
     (shape : TreeShape) (desk : Desk) (done next : ℕ) (gone : Bool) (left budget : ℕ) : Type 0 where
   pub levels : LevelLists
   pub fresh : ℕ
@@ -94,7 +94,7 @@ but_whole place put but = record {
 
 module _ {is_key : List ℕ → Type 0} {cmp : List ℕ → List ℕ → Ordering} (max : ℕ)
     (key_length : (x : List ℕ) → is_key x → length x ≡ big_at 2 x 0 + 2) (key_most : (x : List ℕ) → is_key x → length x ≤ max + 2)
-    (a : Store) (path : List Stop) (at : ℕ) (removed : Bool) (put : List (List ℕ)) (spare : ℕ) (can : CanClimb is_key cmp max a path at removed put spare)
+    (a : Store) (path : List PathStep) (at : ℕ) (removed : Bool) (put : List (List ℕ)) (spare : ℕ) (can : CanClimb is_key cmp max a path at removed put spare)
   where
     used_in_tree : (i k : ℕ) → i < a.shape.depth → k < length (level_of a i) → a.used (get_or (level_of a i) k 0) ≡ true
     used_in_tree i k low inside =

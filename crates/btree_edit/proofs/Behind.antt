@@ -13,7 +13,7 @@ use Rattle.btree_node.specs.Tree.{level_of, entries_of, pairs_of, IsTree, IsTree
 use Rattle.btree_node.proofs.Ranks.{level_long, behind_node}
 use Rattle.btree_edit.specs.Desk.{FindsNext, IsAbove, HoldsPair, HoldsNone}
 use Rattle.btree_edit.specs.Following.{IsInLeaf, IsLocated, StepsOver}
-use Rattle.btree_edit.specs.Reading.{LeadsTo, IsPlace, HasNoKey, ReadsOnly}
+use Rattle.btree_edit.specs.Reading.{LeadsTo, IsPlace, HasNoKey, ReadsNodes}
 use Rattle.btree_edit.specs.declared.desk.Desk.{Desk}
 use Rattle.btree_edit.proofs.Descent.{leads_keys, of_level, in_level, node_place, node_in_level, pair_at, pairs_long}
 
@@ -21,7 +21,7 @@ pub clashing : true ≡ false → ⊥
 clashing e = cc
 
 -- the step over is the same after calls that only read
-pub steps_same : (m : ℕ) (a b : Store) → ReadsOnly m a b → IsTrue a.tells → (old new : Desk) (found : Bool) → StepsOver b old new found → StepsOver a old new found
+pub steps_same : (m : ℕ) (a b : Store) → ReadsNodes m a b → IsTrue a.tells → (old new : Desk) (found : Bool) → StepsOver b old new found → StepsOver a old new found
 steps_same m a b reads tells old new found steps =
     let same = reads.tree tells in
     record {

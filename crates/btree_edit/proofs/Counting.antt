@@ -7,7 +7,7 @@ use Rattle.std.proofs.lemmas.List.Sums.{sum_by-cons}
 use Rattle.std.specs.Prelude.{eqb}
 use Rattle.std.specs.List.{range_with_len, count_by}
 use Rattle.btree_edit.specs.LevelEdit.{bit, times}
-use Rattle.btree_edit.specs.Climb.{tally}
+use Rattle.btree_edit.specs.Climb.{count_in_levels}
 
 pub bit_same : (m n : ℕ) → m ≡ n → bit (eqb m n) ≡ 1
 bit_same m n is = elim (eqb_tells m n) [
@@ -140,21 +140,21 @@ bits_changed p q less_ns more_ns total each first second =
     )
 
 -- levels: how often a node stands in them
-pub tally_some : (levels : ℕ → List ℕ) (depth n j : ℕ) → j < depth → times n (levels j) ≤ tally levels depth n
+pub tally_some : (levels : ℕ → List ℕ) (depth n j : ℕ) → j < depth → times n (levels j) ≤ count_in_levels levels depth n
 tally_some levels zero n j inside = absurd (omega arith)
 tally_some levels (suc depth) n j inside = elim (cases_eq j depth) [
   | inl is ↦ omega (arith, ap (λ i. times n (levels i)) is)
   | inr other ↦ omega (arith, tally_some levels depth n j (omega arith))
 ]
 
-pub tally_same : (old new : ℕ → List ℕ) (depth n : ℕ) → ((j : ℕ) → j < depth → new j ≡ old j) → tally new depth n ≡ tally old depth n
+pub tally_same : (old new : ℕ → List ℕ) (depth n : ℕ) → ((j : ℕ) → j < depth → new j ≡ old j) → count_in_levels new depth n ≡ count_in_levels old depth n
 tally_same old new zero n same = refl
 tally_same old new (suc depth) n same =
     omega (arith, tally_same old new depth n (λ j inside. same j (omega arith)), ap (λ (l : List ℕ). times n l) (same depth (omega arith)))
 
 -- one level is changed
 pub tally_changed : (old new : ℕ → List ℕ) (depth n j : ℕ) → j < depth → ((i : ℕ) → i < depth → i ≢ j → new i ≡ old i)
-    → tally new depth n + times n (old j) ≡ tally old depth n + times n (new j)
+    → count_in_levels new depth n + times n (old j) ≡ count_in_levels old depth n + times n (new j)
 tally_changed old new zero n j inside same = absurd (omega arith)
 tally_changed old new (suc depth) n j inside same = elim (cases_eq j depth) [
   | inl is ↦
@@ -173,15 +173,15 @@ tally_changed old new (suc depth) n j inside same = elim (cases_eq j depth) [
 ]
 
 -- the levels below the first
-pub tally_below : (levels : ℕ → List ℕ) (depth n : ℕ) → tally (λ j. levels (suc j)) depth n + times n (levels 0) ≡ tally levels (suc depth) n
+pub tally_below : (levels : ℕ → List ℕ) (depth n : ℕ) → count_in_levels (λ j. levels (suc j)) depth n + times n (levels 0) ≡ count_in_levels levels (suc depth) n
 tally_below levels zero n = omega arith
 tally_below levels (suc depth) n = omega (arith, tally_below levels depth n)
 
-pub tally_none : (levels : ℕ → List ℕ) (depth n : ℕ) → ((j : ℕ) → j < depth → times n (levels j) ≡ 0) → tally levels depth n ≡ 0
+pub tally_none : (levels : ℕ → List ℕ) (depth n : ℕ) → ((j : ℕ) → j < depth → times n (levels j) ≡ 0) → count_in_levels levels depth n ≡ 0
 tally_none levels zero n none = refl
 tally_none levels (suc depth) n none = omega (arith, tally_none levels depth n (λ j inside. none j (omega arith)), none depth (omega arith))
 
-pub tally_place : (levels : ℕ → List ℕ) (depth n : ℕ) → 1 ≤ tally levels depth n → (j : ℕ) × (j < depth) × (1 ≤ times n (levels j))
+pub tally_place : (levels : ℕ → List ℕ) (depth n : ℕ) → 1 ≤ count_in_levels levels depth n → (j : ℕ) × (j < depth) × (1 ≤ times n (levels j))
 tally_place levels zero n some = absurd (omega arith)
 tally_place levels (suc depth) n some = elim (cases_lt 0 (times n (levels depth))) [
   | inl here ↦ (depth, omega arith, here)
@@ -189,7 +189,7 @@ tally_place levels (suc depth) n some = elim (cases_lt 0 (times n (levels depth)
 ]
 
 -- a node of two levels
-pub tally_twice : (levels : ℕ → List ℕ) (depth n i j : ℕ) → i < j → j < depth → 1 ≤ times n (levels i) → 1 ≤ times n (levels j) → 2 ≤ tally levels depth n
+pub tally_twice : (levels : ℕ → List ℕ) (depth n i j : ℕ) → i < j → j < depth → 1 ≤ times n (levels i) → 1 ≤ times n (levels j) → 2 ≤ count_in_levels levels depth n
 tally_twice levels zero n i j less inside first second = absurd (omega arith)
 tally_twice levels (suc depth) n i j less inside first second = elim (cases_eq j depth) [
   | inl is ↦ omega (arith, ap (λ k. times n (levels k)) is, tally_some levels depth n i (omega arith))
@@ -197,7 +197,7 @@ tally_twice levels (suc depth) n i j less inside first second = elim (cases_eq j
 ]
 
 -- a node of one level alone stands there less_ns often less_ns in all of them
-pub tally_one : (levels : ℕ → List ℕ) (depth n j : ℕ) → j < depth → ((i : ℕ) → i < depth → i ≢ j → times n (levels i) ≡ 0) → tally levels depth n ≡ times n (levels j)
+pub tally_one : (levels : ℕ → List ℕ) (depth n j : ℕ) → j < depth → ((i : ℕ) → i < depth → i ≢ j → times n (levels i) ≡ 0) → count_in_levels levels depth n ≡ times n (levels j)
 tally_one levels zero n j inside none = absurd (omega arith)
 tally_one levels (suc depth) n j inside none = elim (cases_eq j depth) [
   | inl is ↦

@@ -13,7 +13,7 @@ use Rattle.btree_node.specs.Store.{Store}
 use Rattle.btree_node.specs.Tree.{level_of, pairs_of, IsTreeNode, HasHeader, IsTree}
 use Rattle.btree_node.proofs.Levels.{same_entries}
 use Rattle.btree_edit.specs.LevelEdit.{bit, times}
-use Rattle.btree_edit.specs.Climb.{LevelLists, IsLevel, NoneEmpty, tally, IsTreeBut}
+use Rattle.btree_edit.specs.Climb.{LevelLists, IsLevel, NoneEmpty, count_in_levels, IsTreeBut}
 use Rattle.btree_edit.proofs.Counting.{bit_same, bit_most, bit_false, times_at, tally_some, tally_below, tally_none, bits_changed}
 use Rattle.btree_edit.proofs.Naming.{first_is_key, names_same, name_child}
 use Rattle.btree_edit.proofs.Pairs.{value_of_joined}
@@ -27,7 +27,7 @@ module _ {is_key : List ℕ → Type 0} {cmp : List ℕ → List ℕ → Orderin
     pub in_total : get_or (levels j) k 0 < store.shape.total
     in_total = ((but.each j low).nodes k inside).inside
 
-    pub once_there : tally levels depth (get_or (levels j) k 0) ≡ 1
+    pub once_there : count_in_levels levels depth (get_or (levels j) k 0) ≡ 1
     once_there = omega (arith, tally_some levels depth (get_or (levels j) k 0) j low, times_at (levels j) k inside, but.mapped (get_or (levels j) k 0) in_total, bit_most (store.used (get_or (levels j) k 0)))
 
     pub not_reserved : store.reserved (get_or (levels j) k 0) ≡ false

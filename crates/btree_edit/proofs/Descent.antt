@@ -16,7 +16,7 @@ use Rattle.btree_node.specs.Tree.{level_of, entries_of, pairs_of, HasLevels, IsO
 use Rattle.btree_node.proofs.Ranks.{below_all, above_all, in_node, level_long, none_before, rank_below, front}
 use Rattle.btree_edit.specs.Desk.{HasKey}
 use Rattle.btree_edit.specs.Reading.{IsPlace, HasNoKey, IsLead, LeadsTo}
-use Rattle.btree_edit.specs.declared.search.Lead.{Lead}
+use Rattle.btree_edit.specs.declared.search.ChildStep.{ChildStep}
 use Rattle.btree_edit.proofs.Pairs.{key_of_joined, value_of_joined}
 
 -- among rising keys the first that is above a key has all others behind it
@@ -123,7 +123,7 @@ module _ (is_key : List ℕ → Type 0) (cmp : List ℕ → List ℕ → Orderin
     child_is k inside = sym (get_or-map child_of upper k [] 0 inside) ∙ ap (λ l. get_or l k 0) (sym lower_is)
 
     -- the step from a node to its child
-    module _ (key : List ℕ) (node : ℕ) (leads : LeadsTo cmp key store j node) (step : Lead) (is_step : IsLead cmp key (items (store.nodes node)) step) where
+    module _ (key : List ℕ) (node : ℕ) (leads : LeadsTo cmp key store j node) (step : ChildStep) (is_step : IsLead cmp key (items (store.nodes node)) step) where
       start : ℕ
       start = length (entries store.nodes leads.front)
 

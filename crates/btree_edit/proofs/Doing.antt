@@ -1,11 +1,11 @@
 -- What calls write and take, one after another.
 use Rattle.std.proofs.Common.{◌≤◌, ◌+◌, ℕ, ap, arith}
 use Rattle.btree_node.specs.Store.{Store, SameStore, Writes}
-use Rattle.btree_edit.specs.Editing.{Does}
-use Rattle.btree_edit.specs.Reading.{ReadsOnly}
+use Rattle.btree_edit.specs.Editing.{CostsAtMost}
+use Rattle.btree_edit.specs.Reading.{ReadsNodes}
 use Rattle.btree_edit.proofs.Repeated.{same_store_both}
 
-pub does_both : {a b c : Store} (m t n u k v : ℕ) → Does m t a b → Does n u b c → m + n ≤ k → t + u ≤ v → Does k v a c
+pub does_both : {a b c : Store} (m t n u k v : ℕ) → CostsAtMost m t a b → CostsAtMost n u b c → m + n ≤ k → t + u ≤ v → CostsAtMost k v a c
 does_both m t n u k v p q fits takes = record {
   fewer = omega (arith, p.fewer, q.fewer);
   some = omega (arith, p.some, q.some);
@@ -16,7 +16,7 @@ does_both m t n u k v p q fits takes = record {
   same = same_store_both p.same q.same;
 }
 
-pub does_read : {a b : Store} (m : ℕ) → ReadsOnly m a b → a.faults ≤ b.faults → Does 0 0 a b
+pub does_read : {a b : Store} (m : ℕ) → ReadsNodes m a b → a.faults ≤ b.faults → CostsAtMost 0 0 a b
 does_read m p later = record {
   fewer = omega (arith, p.room.unwritten);
   some = omega (arith, p.room.unwritten);
@@ -27,7 +27,7 @@ does_read m p later = record {
   same = p.same;
 }
 
-pub does_write : {a b : Store} (k t : ℕ) → Writes k a b → SameStore a b → a.shape.free ≤ b.shape.free + t → a.faults ≤ b.faults → Does k t a b
+pub does_write : {a b : Store} (k t : ℕ) → Writes k a b → SameStore a b → a.shape.free ≤ b.shape.free + t → a.faults ≤ b.faults → CostsAtMost k t a b
 does_write k t p same free later = record {
   fewer = p.fewer;
   some = p.some;

@@ -21,3 +21,5 @@ pub mod Doing
 pub mod Swaps
 pub mod PairEdits
 pub mod Outcomes
+pub mod Values
+pub mod EditLaws

@@ -108,10 +108,7 @@ module _ (old new : Store) (height node place : ℕ) (removed : Bool) (put : Lis
         (name : record_of desk.first ≡ key_of (get_or (items bytes) 0 []) ++ big 4 node) (stays : changed ≡ false → 0 < place)
       where
         kept_used : (k : ℕ) → new.used k ≡ old.used k
-        kept_used = elim writes.used [
-          | inl reserved ↦ absurd (not_both (old.reserved node) reserved can.spot.of_tree)
-          | inr kept ↦ kept
-        ]
+        kept_used = writes.used
 
         kept_records : items (new.nodes node) ≡ edited old node place removed put
         kept_records = ap items writes.here ∙ made

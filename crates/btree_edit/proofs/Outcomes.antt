@@ -11,8 +11,8 @@ use Rattle.btree_node.specs.Levels.{Pair, entries, leaves, child_of, pair_of}
 use Rattle.btree_node.specs.Store.{Store, SameStore, SameNodes, MapsOnly}
 use Rattle.btree_node.specs.Tree.{level_of, entries_of, pairs_of, IsTree}
 use Rattle.btree_edit.specs.LevelEdit.{bit, times, node_room}
-use Rattle.btree_edit.specs.Climb.{tally}
-use Rattle.btree_edit.specs.Reading.{ReadsOnly}
+use Rattle.btree_edit.specs.Climb.{count_in_levels}
+use Rattle.btree_edit.specs.Reading.{ReadsNodes}
 use Rattle.btree_edit.specs.Rising.{BoundsRoot, MakesTree, IsBare}
 use Rattle.btree_edit.specs.Sorted.{KeepsFreeNodes, EditsTree}
 use Rattle.btree_edit.proofs.Counting.{bit_same, bit_other, bit_true, tally_below, tally_none, bits_changed}
@@ -28,7 +28,7 @@ on_ok_both (Ok x) f p q = f p q
 on_ok_both (Err x) f p q = q
 
 module _ {is_key : List ℕ → Type 0} {cmp : List ℕ → List ℕ → Ordering} (key_length : (x : List ℕ) → is_key x → length x ≡ big_at 2 x 0 + 2)
-    (most : ℕ) (a b : Store) (reads : ReadsOnly most a b) (tells : IsTrue a.tells) (small : a.shape.total ≤ 2 ^ 32) (tree : IsTree is_key cmp a)
+    (most : ℕ) (a b : Store) (reads : ReadsNodes most a b) (tells : IsTrue a.tells) (small : a.shape.total ≤ 2 ^ 32) (tree : IsTree is_key cmp a)
   where
     nodes : SameNodes a b
     nodes = reads.tree tells
@@ -51,12 +51,13 @@ module _ {is_key : List ℕ → Type 0} {cmp : List ℕ → List ℕ → Orderin
     edits_read t P edits = record {
       pairs = subst (λ l. P l (pairs_of t)) read_pairs edits.pairs;
       tree = edits.tree;
+      filled = edits.filled;
       others = λ n free unused still. edits.others n (reads.same.reserved n ∙ free) (nodes.used n ∙ unused) still ∙ nodes.nodes n;
     }
 
 pub edits_made : {is_key : List ℕ → Type 0} {cmp : List ℕ → List ℕ → Ordering} (s t : Store) (records : List (List ℕ)) (P : List Pair → List Pair → Type 0)
     → (pairs_of t ≡ map pair_of records → P (pairs_of s) (pairs_of t)) → MakesTree is_key cmp s t records → EditsTree is_key cmp s t P
-edits_made s t records P change makes = record { pairs = change makes.pairs; tree = makes.tree; others = makes.others }
+edits_made s t records P change makes = record { pairs = change makes.pairs; tree = makes.tree; filled = makes.filled; others = makes.others }
 
 -- a tree whose root has no record has no pair
 module _ {is_key : List ℕ → Type 0} {cmp : List ℕ → List ℕ → Ordering} (s : Store) (tree : IsTree is_key cmp s) where
@@ -75,11 +76,11 @@ module _ {is_key : List ℕ → Type 0} {cmp : List ℕ → List ℕ → Orderin
   ]
 
   module _ (some : 0 < s.shape.depth) (none : length (items (s.nodes s.shape.root)) ≡ 0) where
-    tally_root : (n : ℕ) → tally (λ j. level_of s j) s.shape.depth n ≡ times n (s.shape.root ∷ [])
+    tally_root : (n : ℕ) → count_in_levels (λ j. level_of s j) s.shape.depth n ≡ times n (s.shape.root ∷ [])
     tally_root n =
         omega (
           arith,
-          ap (λ d. tally (λ j. level_of s j) d n) {x = s.shape.depth} {y = suc (s.shape.depth - 1)} (omega arith),
+          ap (λ d. count_in_levels (λ j. level_of s j) d n) {x = s.shape.depth} {y = suc (s.shape.depth - 1)} (omega arith),
           tally_below (λ j. level_of s j) (s.shape.depth - 1) n,
           tally_none (λ j. level_of s (suc j)) (s.shape.depth - 1) n (λ j low. ap (λ (l : List ℕ). times n l) (no_level none j)),
         )
@@ -123,6 +124,7 @@ module _ {is_key : List ℕ → Type 0} {cmp : List ℕ → List ℕ → Orderin
     makes_from_bare t u records maps same makes = record {
       tree = makes.tree;
       pairs = makes.pairs;
+      filled = makes.filled;
       others = λ n free unused still.
           let other : n ≢ s.shape.root = λ e. absurd (omega (arith, ap bit root_in_use, ap (λ k. bit (s.used k)) e, ap bit unused)) in
           makes.others n (same.reserved n ∙ free) (maps.others n other ∙ unused) still ∙ maps.nodes n free;
@@ -137,22 +139,23 @@ bare_of_none s tree none =
       some = λ j low. absurd (omega arith);
       named = λ j low. absurd (omega arith);
       wanted = λ j low. absurd (omega arith);
-      mapped = λ n inside. omega (arith, but.mapped n inside, ap (λ d. tally (λ j. level_of s j) d n) none);
+      mapped = λ n inside. omega (arith, but.mapped n inside, ap (λ d. count_in_levels (λ j. level_of s j) d n) none);
       header = but.header;
       free = but.free;
     }
 
-pub makes_read : {is_key : List ℕ → Type 0} {cmp : List ℕ → List ℕ → Ordering} (most : ℕ) (a b t : Store) (records : List (List ℕ)) → ReadsOnly most a b → IsTrue a.tells → MakesTree is_key cmp b t records → MakesTree is_key cmp a t records
+pub makes_read : {is_key : List ℕ → Type 0} {cmp : List ℕ → List ℕ → Ordering} (most : ℕ) (a b t : Store) (records : List (List ℕ)) → ReadsNodes most a b → IsTrue a.tells → MakesTree is_key cmp b t records → MakesTree is_key cmp a t records
 makes_read most a b t records reads tells makes =
     let nodes = reads.tree tells in
     record {
       tree = makes.tree;
       pairs = makes.pairs;
+      filled = makes.filled;
       others = λ n free unused still. makes.others n (reads.same.reserved n ∙ free) (nodes.used n ∙ unused) still ∙ nodes.nodes n;
     }
 
 -- the root's records, over reads before
-pub bounds_read : (max most : ℕ) (a b t : Store) (depth root : ℕ) → ReadsOnly most a b → IsTrue a.tells → BoundsRoot max b t depth root → BoundsRoot max a t depth root
+pub bounds_read : (max most : ℕ) (a b t : Store) (depth root : ℕ) → ReadsNodes most a b → IsTrue a.tells → BoundsRoot max b t depth root → BoundsRoot max a t depth root
 bounds_read max most a b t depth root reads tells bounds =
     let deep : b.shape.depth ≡ a.shape.depth = ap (λ h. h.depth) reads.shape in
     let same : length (items (b.nodes b.shape.root)) ≡ length (items (a.nodes a.shape.root)) =
@@ -174,7 +177,7 @@ bounds_first max a t depth root one = record {
 }
 
 -- nothing but reads
-pub bounds_same : (max most : ℕ) (a b : Store) → ReadsOnly most a b → IsTrue a.tells → BoundsRoot max a b b.shape.depth b.shape.root
+pub bounds_same : (max most : ℕ) (a b : Store) → ReadsNodes most a b → IsTrue a.tells → BoundsRoot max a b b.shape.depth b.shape.root
 bounds_same max most a b reads tells =
     let deep : b.shape.depth ≡ a.shape.depth = ap (λ h. h.depth) reads.shape in
     let same : length (items (b.nodes b.shape.root)) ≡ length (items (a.nodes a.shape.root)) =

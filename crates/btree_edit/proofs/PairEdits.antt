@@ -17,13 +17,13 @@ use Rattle.btree_edit.specs.LevelEdit.{node_room}
 use Rattle.btree_edit.specs.Way.{stop_at, way_place, LeadsWay}
 use Rattle.btree_edit.specs.Rising.{leaf_start, leaves_edited, AreOfOneLength, CanClimb}
 use Rattle.btree_edit.specs.Sorted.{AddsPair, DropsPair, ChangesPair, HoldsKeyOf}
-use Rattle.btree_edit.specs.declared.desk.Stop.{Stop}
+use Rattle.btree_edit.specs.declared.desk.PathStep.{PathStep}
 use Rattle.btree_edit.proofs.Pairs.{key_of_joined, value_of_joined}
 use Rattle.btree_edit.proofs.Descent.{of_level, leads_absent, pairs_are, pair_at, pairs_long}
 use Rattle.btree_edit.proofs.Splices.{length-splice, map-splice, ascends_spliced}
 
 -- a way in a store that was read
-pub way_read : (cmp : List ℕ → List ℕ → Ordering) (key : List ℕ) (a b : Store) (path : List Stop) → b.shape ≡ a.shape → ((n : ℕ) → b.nodes n ≡ a.nodes n) → LeadsWay cmp key a path → LeadsWay cmp key b path
+pub way_read : (cmp : List ℕ → List ℕ → Ordering) (key : List ℕ) (a b : Store) (path : List PathStep) → b.shape ≡ a.shape → ((n : ℕ) → b.nodes n ≡ a.nodes n) → LeadsWay cmp key a path → LeadsWay cmp key b path
 way_read cmp key a b path shape nodes way =
     let all : a.nodes ≡ b.nodes = fun_ext (λ n. sym (nodes n)) in
     let moved : LeadsWay cmp key (record a { nodes = b.nodes; shape = b.shape }) path =
@@ -39,7 +39,7 @@ way_read cmp key a b path shape nodes way =
 module _ (is_key : List ℕ → Type 0) (cmp : List ℕ → List ℕ → Ordering) (total : IsTotalOrder cmp)
     (key_length : (x : List ℕ) → is_key x → length x ≡ big_at 2 x 0 + 2) (max : ℕ)
     (s : Store) (tree : IsTree is_key cmp s) (small : s.shape.total ≤ 2 ^ 32) (wide : 3 * (max + 8) ≤ node_room s.shape.node_size)
-    (key : List ℕ) (path : List Stop) (way : LeadsWay cmp key s path)
+    (key : List ℕ) (path : List PathStep) (way : LeadsWay cmp key s path)
   where
     low : ℕ
     low = s.shape.depth - 1

@@ -1,7 +1,7 @@
 -- The end of an edit: the root, and the tree's numbers.
 use Rattle.std.proofs.Common.{◌≡◌, ◌≢◌, ℕ, zero, suc, ◌+◌, ◌-◌, ◌*◌, ◌/◌, ◌^◌, ◌<◌, ◌≤◌, Bool, true, false, List, [], ◌∷◌, map, length, get_or, inl, inr, refl, sym, ◌∙◌, ap, subst, arith}
 use Rattle.std.proofs.lemmas.Bool.{cases_lt, cases_eq}
-use Rattle.std.proofs.lemmas.List.{length-map, append-nil}
+use Rattle.std.proofs.lemmas.List.{length-map, length-append, append-nil}
 use Rattle.std.specs.declared.cmp.Ordering.{Ordering}
 use Rattle.hx_bytes.specs.Field.{big_at}
 use Rattle.btree_node.specs.Node.{items, next_of, back_of, IsNodeOf}
@@ -12,8 +12,8 @@ use Rattle.btree_node.specs.declared.store.TreeShape.{TreeShape}
 use Rattle.btree_node.proofs.Levels.{same_entries}
 use Rattle.btree_edit.specs.Halves.{put_of}
 use Rattle.btree_edit.specs.LevelEdit.{bit, times, head_or, last_or, taken, node_room, records_on}
-use Rattle.btree_edit.specs.Climb.{LevelLists, IsTreeBut}
-use Rattle.btree_edit.specs.Rising.{Climbs, leaf_records, Rises, IsLowering, BoundsRoot, HasThickRoot, MakesTree, IsBare, IsLeafRecord, TakesNode}
+use Rattle.btree_edit.specs.Climb.{LevelLists, IsTreeBut, NoneEmpty}
+use Rattle.btree_edit.specs.Rising.{Climbs, leaf_records, Rises, IsLowering, BoundsRoot, RootHasTwoChildren, MakesTree, IsBare, IsLeafRecord, TakesNode}
 use Rattle.btree_edit.specs.declared.desk.Desk.{Desk}
 use Rattle.btree_edit.proofs.Counting.{bit_same, bit_other, bit_most, bit_true}
 use Rattle.btree_edit.proofs.Fitting.{taken_two}
@@ -27,10 +27,7 @@ use Rattle.btree_edit.proofs.Crowning.{not_reserved, is_used, but_kept, above, t
 pub takes_node : (s m t : Store) (node : ℕ) (bytes : List ℕ) → 0 < s.shape.free → node < s.shape.total → s.used node ≡ false → s.reserved node ≡ false → MapsOnly node true s m
     → m.shape ≡ with_free s.shape (s.shape.free - 1) → SameStore s m → ChangesOnly node bytes m t → t.shape ≡ m.shape → SameStore m t → TakesNode s t node bytes
 takes_node s m t node bytes some low unused free maps shape same changes shape2 same2 =
-    let used2 : (n : ℕ) → t.used n ≡ m.used n = elim changes.used [
-      | inl held ↦ λ n. let clash : true ≡ false = sym held ∙ same.reserved node ∙ free in cc
-      | inr is ↦ is
-    ] in
+    let used2 : (n : ℕ) → t.used n ≡ m.used n = changes.used in
     record {
       here = changes.here;
       low = low;
@@ -56,6 +53,27 @@ module _ (start s t : Store) (node : ℕ) (bytes : List ℕ) (takes : TakesNode 
         by : (b : Bool) → s.used n ≡ b → bit (s.used n) ≡ 0 → s.used n ≡ false
         by true e none = absurd (omega (arith, ap bit e))
         by false e none = e
+
+-- each level of a whole tree has a node, and each of its nodes a record
+module _ (is_key : List ℕ → Type 0) (cmp : List ℕ → List ℕ → Ordering) (s : Store) (depth : ℕ) (levels : LevelLists) (but : IsTreeBut is_key cmp s depth levels 0 0 []) (top : 0 < depth → length (levels 0) ≡ 1)
+  where
+    some_entries : (ns : List ℕ) → 0 < length ns → NoneEmpty s.nodes ns → 0 < length (entries s.nodes ns)
+    some_entries [] some full = absurd (omega (arith, some))
+    some_entries (n ∷ ns) some full = omega (arith, full 0 (omega arith), length-append (items (s.nodes n)) (entries s.nodes ns))
+
+    some_nodes : (j : ℕ) → j < depth → 0 < length (levels j)
+    some_nodes zero low = omega (arith, top (omega (arith, low)))
+    some_nodes (suc j) low =
+        let here = some_entries (levels j) (some_nodes j (omega (arith, low))) (but.some j (omega (arith, low)) (inr (omega arith))) in
+        let named = ap length (but.named j (omega (arith, low)) (λ is. absurd (omega (arith, is)))) in
+        let next : levels (j + 1) ≡ levels (suc j) = ap levels {x = j + 1} {y = suc j} (omega arith) in
+        omega (arith, here, named, length-map (levels (j + 1)) (λ n. record_for s.nodes n), ap length next)
+
+    pub some_records : 0 < depth → 0 < length (leaf_records s levels depth)
+    some_records some =
+        let low : depth ≡ suc (depth - 1) = omega (arith, some) in
+        let full = some_entries (levels (depth - 1)) (some_nodes (depth - 1) (omega (arith, some))) (but.some (depth - 1) (omega (arith, some)) (inr (omega arith))) in
+        omega (arith, full, ap (λ d. length (leaf_records s levels d)) low)
 
 module _ {is_key : List ℕ → Type 0} {cmp : List ℕ → List ℕ → Ordering} (max : ℕ)
     (key_length : (x : List ℕ) → is_key x → length x ≡ big_at 2 x 0 + 2) (key_most : (x : List ℕ) → is_key x → length x ≤ max + 2)
@@ -341,6 +359,7 @@ module _ {is_key : List ℕ → Type 0} {cmp : List ℕ → List ℕ → Orderin
         record {
           tree = tree_of key_length t rises.levels 0 0 [] but nothing small2 top header;
           pairs = pairs;
+          filled = λ some. omega (arith, ap length pairs, length-map records pair_of, ap length (sym rises.made), some_records is_key cmp s shape.depth rises.levels rises.but (λ any. ap length (rises.top any)) (omega (arith, some, depth)));
           others = λ n free unused still. only.nodes n (rises.same.reserved n ∙ free) ∙ rises.others n free unused (sym (only.used n) ∙ still);
         }
       where
@@ -414,7 +433,7 @@ module _ {is_key : List ℕ → Type 0} {cmp : List ℕ → List ℕ → Orderin
 
     pub settled_thick : (s t : Store) (start : Store) (records : List (List ℕ)) (shape : TreeShape) → Rises is_key cmp max start s records shape
         → t.shape ≡ (record { node_size = s.shape.node_size; depth = shape.depth; root = shape.root; first = shape.first; last = shape.last; leaf_records = shape.leaf_records; total = s.shape.total; free = s.shape.free })
-        → ShapesOnly s t → HasThickRoot s shape.depth shape.root → HasThickRoot t t.shape.depth t.shape.root
+        → ShapesOnly s t → RootHasTwoChildren s shape.depth shape.root → RootHasTwoChildren t t.shape.depth t.shape.root
     settled_thick s t start records shape rises shape_is only thick = λ deep.
         let depth : t.shape.depth ≡ shape.depth = ap (λ h. h.depth) shape_is in
         let root : t.shape.root ≡ shape.root = ap (λ h. h.root) shape_is in

@@ -12,7 +12,7 @@ use Rattle.btree_node.specs.Tree.{IsTreeNode}
 use Rattle.btree_node.specs.declared.store.TreeShape.{TreeShape}
 use Rattle.btree_node.proofs.Levels.{same_entries, level_spliced, names_spliced}
 use Rattle.btree_edit.specs.LevelEdit.{bit, times, head_or, last_or, Linked, parts_of, LevelEdit}
-use Rattle.btree_edit.specs.Climb.{LevelLists, IsLevel, NoneEmpty, tally, IsTreeBut}
+use Rattle.btree_edit.specs.Climb.{LevelLists, IsLevel, NoneEmpty, count_in_levels, IsTreeBut}
 use Rattle.btree_edit.specs.declared.desk.Desk.{Desk}
 use Rattle.btree_edit.proofs.Counting.{bit_same, bit_other, bit_most, bit_false, times-append, times_at, times_place, times_twice, tally_some, tally_changed, tally_twice, bits_changed}
 use Rattle.btree_edit.proofs.Naming.{names_same}
@@ -63,7 +63,7 @@ module _ {is_key : List ℕ → Type 0} {cmp : List ℕ → List ℕ → Orderin
     inside_total i k low inside = ((but.each i low).nodes k inside).inside
 
     -- it stands in the levels once, has its bit, and isn't reserved
-    stands_once : (n i : ℕ) → i < depth → 1 ≤ times n (levels i) → n < old.shape.total → (tally levels depth n ≡ 1) × (bit (old.used n) ≡ 1) × (bit (old.reserved n) ≡ 0)
+    stands_once : (n i : ℕ) → i < depth → 1 ≤ times n (levels i) → n < old.shape.total → (count_in_levels levels depth n ≡ 1) × (bit (old.used n) ≡ 1) × (bit (old.reserved n) ≡ 0)
     stands_once n i low some inside =
         let here = tally_some levels depth n i low in
         let one = but.mapped n inside in
@@ -78,7 +78,7 @@ module _ {is_key : List ℕ → Type 0} {cmp : List ℕ → List ℕ → Orderin
         let is : get_or (levels j) (length xs) 0 ≡ node = ap (λ l. get_or l (length xs) 0) at ∙ get_or-append_right xs (node ∷ ys) (length xs) (length xs) 0 refl (omega arith) ∙ ap (λ k. get_or (node ∷ ys) k 0) {y = 0} (omega arith) in
         subst (λ n. n < old.shape.total) is (inside_total j (length xs) of_tree long)
 
-    node_once : tally levels depth node ≡ 1
+    node_once : count_in_levels levels depth node ≡ 1
     node_once = (stands_once node j of_tree (omega (arith, times_node)) node_low).0
 
     not_zero : (n i : ℕ) → i < depth → 1 ≤ times n (levels i) → n < old.shape.total → n ≢ 0
@@ -403,7 +403,7 @@ module _ {is_key : List ℕ → Type 0} {cmp : List ℕ → List ℕ → Orderin
             ∙ names_spliced old.nodes new.nodes xs ys parts node (λ k inside. (front_stays k inside).records) (λ k inside. (back_stays k inside).records)
             ∙ ap (λ l. splice l (length xs) (length xs + 1) (map (λ n. record_for new.nodes n) parts)) (sym above)
 
-        mapped_then : (n : ℕ) → n < new.shape.total → tally changed_levels depth n + bit (new.reserved n) ≡ bit (new.used n)
+        mapped_then : (n : ℕ) → n < new.shape.total → count_in_levels changed_levels depth n + bit (new.reserved n) ≡ bit (new.used n)
         mapped_then n inside =
             omega (
               arith,

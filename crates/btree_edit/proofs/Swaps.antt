@@ -11,6 +11,7 @@ use Rattle.btree_node.specs.Node.{items, IsNode, SameHead, next_of, back_of, kin
 use Rattle.btree_node.specs.Levels.{Pair, entries, leaves, key_of, value_of, pair_of, record_for, splice, Ascends}
 use Rattle.btree_node.specs.Store.{Store, SameStore, SameNodes}
 use Rattle.btree_node.specs.Tree.{level_of, entries_of, pairs_of, IsTreeNode, HasHeader, IsTree}
+use Rattle.btree_node.specs.declared.store.TreeShape.{TreeShape}
 use Rattle.btree_node.proofs.Levels.{same_entries, level_spliced}
 use Rattle.btree_node.proofs.Ranks.{in_node, level_long, below_all}
 use Rattle.btree_edit.specs.Climb.{IsLevel, IsTreeBut}
@@ -19,7 +20,7 @@ use Rattle.btree_edit.specs.declared.finding.Found.{Found}
 use Rattle.btree_edit.specs.declared.finding.Found.TheVariants.{At}
 use Rattle.btree_edit.specs.declared.desk.Desk.{Desk}
 use Rattle.btree_edit.specs.LevelEdit.{bit}
-use Rattle.btree_edit.specs.Rising.{MakesTree, BoundsRoot}
+use Rattle.btree_edit.specs.Rising.{MakesTree, BoundsRoot, RootHasTwoChildren}
 use Rattle.btree_edit.specs.Swapping.{HasRecord, SwapsRecord, HasValueOf}
 use Rattle.btree_edit.specs.Sorted.{ChangesPair, EditsTree}
 use Rattle.std.proofs.lemmas.List.Sums.{get_or-le-sum_by}
@@ -271,6 +272,7 @@ module _ {is_key : List ℕ → Type 0} {cmp : List ℕ → List ℕ → Orderin
     swapped = record {
       tree = tree_of key_length new (λ j. level_of old j) new.shape.depth 0 [] moved (λ j below e. absurd (omega arith)) small top header_then;
       pairs = pairs_swapped;
+      filled = λ any. omega (arith, ap length pairs_swapped, length-map records pair_of, many, all_inside);
       others = λ n free unused still. swaps.others n (λ is. absurd (clash (sym unused ∙ ap old.used is ∙ leaf_used)));
     }
       where
@@ -323,6 +325,7 @@ module _ {is_key : List ℕ → Type 0} {cmp : List ℕ → List ℕ → Orderin
           head = subst (λ l. SameHead l (new.nodes node)) (read.nodes node) swaps.head;
           others = λ n other. swaps.others n other ∙ read.nodes n;
           used = λ n. swaps.used n ∙ read.used n;
+          header = swaps.header ∙ read.header;
         } in
         let both = same_store_both same_read same in
         let makes = swapped key_length old new node index k (desk.held.key ++ value) tree stands whole both (shape ∙ shape_read) (omega (arith, both.total, small)) other_own other_long in
@@ -340,6 +343,7 @@ module _ {is_key : List ℕ → Type 0} {cmp : List ℕ → List ℕ → Orderin
                 ∙ ap (λ p. splice (pairs_of old) k (k + 1) (p ∷ [])) pair;
           };
           tree = makes.tree;
+          filled = makes.filled;
           others = makes.others;
         }
 
@@ -415,3 +419,23 @@ bounds_swapped max old mid new node index bytes shape_read read swaps shape =
       two = λ some less. absurd (omega (arith, deep, less));
       over = λ some less. absurd (omega (arith, deep, less));
     }
+
+-- and a root of two records or more still has them
+pub thick_swapped : (old mid new : Store) (node index : ℕ) (bytes : List ℕ) → mid.shape ≡ old.shape → SameNodes old mid → SwapsRecord node index bytes mid new → new.shape ≡ mid.shape
+    → RootHasTwoChildren old old.shape.depth old.shape.root → RootHasTwoChildren new new.shape.depth new.shape.root
+thick_swapped old mid new node index bytes shape_read read swaps shape thick deep =
+    let depth : new.shape.depth ≡ old.shape.depth = ap (λ h. h.depth) (shape ∙ shape_read) in
+    let root : new.shape.root ≡ old.shape.root = ap (λ h. h.root) (shape ∙ shape_read) in
+    let long : length (items (new.nodes old.shape.root)) ≡ length (items (mid.nodes old.shape.root)) = elim (cases_eq old.shape.root node) [
+      | inl is ↦ subst (λ m. length (items (new.nodes m)) ≡ length (items (mid.nodes m))) (sym is) (ap length swaps.items ∙ length-set (items (mid.nodes node)) index bytes)
+      | inr other ↦ ap (λ l. length (items l)) (swaps.others old.shape.root other)
+    ] in
+    let same : length (items (new.nodes new.shape.root)) ≡ length (items (old.nodes old.shape.root)) = ap (λ n. length (items (new.nodes n))) root ∙ long ∙ ap (λ l. length (items l)) (read.nodes old.shape.root) in
+    omega (arith, same, thick (omega (arith, depth, deep)))
+
+-- reads leave the root as it was
+pub thick_read : (old new : Store) → new.shape ≡ old.shape → SameNodes old new → RootHasTwoChildren old old.shape.depth old.shape.root → RootHasTwoChildren new new.shape.depth new.shape.root
+thick_read old new shape read thick deep =
+    let depth : new.shape.depth ≡ old.shape.depth = ap (λ h. h.depth) shape in
+    let same : length (items (new.nodes new.shape.root)) ≡ length (items (old.nodes old.shape.root)) = ap (λ (h : TreeShape). length (items (new.nodes h.root))) shape ∙ ap (λ l. length (items l)) (read.nodes old.shape.root) in
+    omega (arith, same, thick (omega (arith, depth, deep)))

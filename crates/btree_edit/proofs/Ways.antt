@@ -11,12 +11,12 @@ use Rattle.btree_node.specs.Store.{Store}
 use Rattle.btree_node.specs.Tree.{level_of, HasLevels, IsOrdered}
 use Rattle.btree_edit.specs.Reading.{LeadsTo, IsPlace, IsLead}
 use Rattle.btree_edit.specs.Way.{stop_at, way_place, LeadsWay}
-use Rattle.btree_edit.specs.declared.desk.Stop.{Stop}
-use Rattle.btree_edit.specs.declared.search.Lead.{Lead}
+use Rattle.btree_edit.specs.declared.desk.PathStep.{PathStep}
+use Rattle.btree_edit.specs.declared.search.ChildStep.{ChildStep}
 use Rattle.btree_edit.proofs.Descent.{leads_step, leads_step_front, node_place, node_in_level}
 
 -- the first so many steps of a way, and the node that they lead to
-pub record IsOnWay (cmp : List ℕ → List ℕ → Ordering) (key : List ℕ) (store : Store) (path : List Stop) (level node : ℕ) : Type 0 where
+pub record IsOnWay (cmp : List ℕ → List ℕ → Ordering) (key : List ℕ) (store : Store) (path : List PathStep) (level node : ℕ) : Type 0 where
   pub inside : (j : ℕ) → j < level → way_place store path j < length (level_of store j)
   pub is : (j : ℕ) → j < level → get_or (level_of store j) (way_place store path j) 0 ≡ (stop_at path j).node
   pub below : (j : ℕ) → j < level → (stop_at path j).at < length (items (store.nodes (stop_at path j).node))
@@ -24,18 +24,18 @@ pub record IsOnWay (cmp : List ℕ → List ℕ → Ordering) (key : List ℕ) (
   pub front : length leads.front ≡ way_place store path level
 
 -- the place of a node rests on the steps before it
-way_same : (store : Store) (old new : List Stop) (j : ℕ) → ((i : ℕ) → i < j → stop_at new i ≡ stop_at old i) → way_place store new j ≡ way_place store old j
+way_same : (store : Store) (old new : List PathStep) (j : ℕ) → ((i : ℕ) → i < j → stop_at new i ≡ stop_at old i) → way_place store new j ≡ way_place store old j
 way_same store old new zero same = refl
 way_same store old new (suc j) same =
     ap (λ n. length (entries store.nodes (take n (level_of store j))) + (stop_at new j).at) (way_same store old new j (λ i low. same i (omega arith)))
-    ∙ ap (λ (s : Stop). length (entries store.nodes (take (way_place store old j) (level_of store j))) + s.at) (same j (omega arith))
+    ∙ ap (λ (s : PathStep). length (entries store.nodes (take (way_place store old j) (level_of store j))) + s.at) (same j (omega arith))
 
 module _ (is_key : List ℕ → Type 0) (cmp : List ℕ → List ℕ → Ordering) (total : IsTotalOrder cmp)
     (key_length : (a : List ℕ) → is_key a → length a ≡ big_at 2 a 0 + 2)
-    (store : Store) (levels : HasLevels is_key store) (ordered : IsOrdered cmp store) (key : List ℕ) (path : List Stop) (level node : ℕ)
-    (on : IsOnWay cmp key store path level node) (stop : Stop) (long : level < length path) (here : stop.node ≡ node)
+    (store : Store) (levels : HasLevels is_key store) (ordered : IsOrdered cmp store) (key : List ℕ) (path : List PathStep) (level node : ℕ)
+    (on : IsOnWay cmp key store path level node) (stop : PathStep) (long : level < length path) (here : stop.node ≡ node)
   where
-    path2 : List Stop
+    path2 : List PathStep
     path2 = set path level stop
 
     same_stop : (i : ℕ) → i < level → stop_at (set path level stop) i ≡ stop_at path i
@@ -62,23 +62,23 @@ module _ (is_key : List ℕ → Type 0) (cmp : List ℕ → List ℕ → Orderin
           ∙ ap (λ i. get_or (level_of store i) (way_place store path i) 0) is
           ∙ ap (λ n. get_or (level_of store level) n 0) (sym on.front)
           ∙ node_place is_key cmp total key_length store levels ordered key level node on.leads
-          ∙ sym here ∙ sym (ap (λ (s : Stop). s.node) (ap (λ i. stop_at (set path level stop) i) is ∙ new_stop))
+          ∙ sym here ∙ sym (ap (λ (s : PathStep). s.node) (ap (λ i. stop_at (set path level stop) i) is ∙ new_stop))
       | inr other ↦
-          ap (λ n. get_or (level_of store j) n 0) (same_place j (omega arith)) ∙ on.is j (omega arith) ∙ sym (ap (λ (s : Stop). s.node) (same_stop j (omega arith)))
+          ap (λ n. get_or (level_of store j) n 0) (same_place j (omega arith)) ∙ on.is j (omega arith) ∙ sym (ap (λ (s : PathStep). s.node) (same_stop j (omega arith)))
     ]
 
     -- one step more
-    pub on_step : level + 1 < store.shape.depth → (lead : Lead) → IsLead cmp key (items (store.nodes node)) lead → stop.at ≡ lead.index → IsOnWay cmp key store (set path level stop) (level + 1) lead.child
+    pub on_step : level + 1 < store.shape.depth → (lead : ChildStep) → IsLead cmp key (items (store.nodes node)) lead → stop.at ≡ lead.index → IsOnWay cmp key store (set path level stop) (level + 1) lead.child
     on_step above lead is_lead index = record {
       inside = inside2;
       is = is2;
       below = λ j low. elim (cases_eq j level) [
         | inl is ↦
             let stop_is : stop_at (set path level stop) j ≡ stop = ap (λ i. stop_at (set path level stop) i) is ∙ new_stop in
-            omega (arith, ap (λ (s : Stop). s.at) stop_is, ap (λ (s : Stop). length (items (store.nodes s.node))) stop_is, ap (λ n. length (items (store.nodes n))) here, is_lead.inside)
+            omega (arith, ap (λ (s : PathStep). s.at) stop_is, ap (λ (s : PathStep). length (items (store.nodes s.node))) stop_is, ap (λ n. length (items (store.nodes n))) here, is_lead.inside)
         | inr other ↦
             let stop_is = same_stop j (omega arith) in
-            omega (arith, ap (λ (s : Stop). s.at) stop_is, ap (λ (s : Stop). length (items (store.nodes s.node))) stop_is, on.below j (omega arith))
+            omega (arith, ap (λ (s : PathStep). s.at) stop_is, ap (λ (s : PathStep). length (items (store.nodes s.node))) stop_is, on.below j (omega arith))
       ];
       leads = leads_step is_key cmp total key_length store levels ordered level above key node on.leads lead is_lead;
       front =
@@ -87,7 +87,7 @@ module _ (is_key : List ℕ → Type 0) (cmp : List ℕ → List ℕ → Orderin
           leads_step_front is_key cmp total key_length store levels ordered level above key node on.leads lead is_lead
           ∙ ap (λ l. length (entries store.nodes l) + lead.index) front_is
           ∙ ap (λ n. length (entries store.nodes (take n (level_of store level))) + lead.index) (sym (same_place level (omega arith)))
-          ∙ ap (λ n. length (entries store.nodes (take (way_place store (set path level stop) level) (level_of store level))) + n) (sym index ∙ sym (ap (λ (s : Stop). s.at) new_stop))
+          ∙ ap (λ n. length (entries store.nodes (take (way_place store (set path level stop) level) (level_of store level))) + n) (sym index ∙ sym (ap (λ (s : PathStep). s.at) new_stop))
           ∙ ap (λ i. way_place store (set path level stop) i) {x = suc level} {y = level + 1} (omega arith);
     }
 
@@ -96,7 +96,7 @@ module _ (is_key : List ℕ → Type 0) (cmp : List ℕ → List ℕ → Orderin
     on_leaf last place =
         let deep : level ≡ store.shape.depth - 1 = omega arith in
         let leaf_stop : stop_at (set path level stop) (store.shape.depth - 1) ≡ stop = ap (λ i. stop_at (set path level stop) i) (sym deep) ∙ new_stop in
-        let leaf_node : (stop_at (set path level stop) (store.shape.depth - 1)).node ≡ node = ap (λ (s : Stop). s.node) leaf_stop ∙ here in
+        let leaf_node : (stop_at (set path level stop) (store.shape.depth - 1)).node ≡ node = ap (λ (s : PathStep). s.node) leaf_stop ∙ here in
         leads_way deep leaf_stop leaf_node
       where
         leads_way : level ≡ store.shape.depth - 1 → stop_at (set path level stop) (store.shape.depth - 1) ≡ stop → (stop_at (set path level stop) (store.shape.depth - 1)).node ≡ node → LeadsWay cmp key store (set path level stop)
@@ -111,16 +111,16 @@ module _ (is_key : List ℕ → Type 0) (cmp : List ℕ → List ℕ → Orderin
                 node = λ j low. is2 j (omega arith);
                 below = λ j low.
                     let stop_is = same_stop j (omega arith) in
-                    omega (arith, ap (λ (s : Stop). s.at) stop_is, ap (λ (s : Stop). length (items (store.nodes s.node))) stop_is, on.below j (omega arith));
+                    omega (arith, ap (λ (s : PathStep). s.at) stop_is, ap (λ (s : PathStep). length (items (store.nodes s.node))) stop_is, on.below j (omega arith));
               };
               leads = found.0;
               front = found.1;
               place = subst (λ n. IsPlace cmp key (items (store.nodes n)) (stop_at (set path level stop) (store.shape.depth - 1)).at) (sym leaf_node)
-                  (subst (λ (s : Stop). IsPlace cmp key (items (store.nodes node)) s.at) (sym leaf_stop) place);
+                  (subst (λ (s : PathStep). IsPlace cmp key (items (store.nodes node)) s.at) (sym leaf_stop) place);
             }
 
 -- no step yet
-pub on_root : (cmp : List ℕ → List ℕ → Ordering) → IsTotalOrder cmp → (key : List ℕ) (store : Store) (path : List Stop) (leads : LeadsTo cmp key store 0 store.shape.root) → length leads.front ≡ 0
+pub on_root : (cmp : List ℕ → List ℕ → Ordering) → IsTotalOrder cmp → (key : List ℕ) (store : Store) (path : List PathStep) (leads : LeadsTo cmp key store 0 store.shape.root) → length leads.front ≡ 0
     → IsOnWay cmp key store path 0 store.shape.root
 on_root cmp total key store path leads front = record {
   inside = λ j low. absurd (omega arith);
@@ -133,7 +133,7 @@ on_root cmp total key store path leads front = record {
 -- a node on the way without records is the root
 module _ (is_key : List ℕ → Type 0) (cmp : List ℕ → List ℕ → Ordering) (total : IsTotalOrder cmp)
     (key_length : (a : List ℕ) → is_key a → length a ≡ big_at 2 a 0 + 2)
-    (store : Store) (levels : HasLevels is_key store) (ordered : IsOrdered cmp store) (key : List ℕ) (path : List Stop) (level node : ℕ)
+    (store : Store) (levels : HasLevels is_key store) (ordered : IsOrdered cmp store) (key : List ℕ) (path : List PathStep) (level node : ℕ)
     (on : IsOnWay cmp key store path level node) (low : level < store.shape.depth)
   where
     pub bare_root : length (items (store.nodes node)) ≡ 0 → length (items (store.nodes store.shape.root)) ≡ 0

@@ -8,7 +8,7 @@ use Rattle.btree_node.specs.Levels.{Nodes, entries, leaves, child_of, pair_of, r
 use Rattle.btree_node.specs.Store.{Store}
 use Rattle.btree_node.specs.Tree.{level_of, pairs_of, HasLevels, IsOrdered, HasHeader, IsReached, IsMapped, IsTree}
 use Rattle.btree_edit.specs.LevelEdit.{bit, times}
-use Rattle.btree_edit.specs.Climb.{LevelLists, IsLevel, NoneEmpty, tally, IsTreeBut}
+use Rattle.btree_edit.specs.Climb.{LevelLists, IsLevel, NoneEmpty, count_in_levels, IsTreeBut}
 use Rattle.btree_edit.proofs.Counting.{bit_most, bit_true, bit_false, times_at, times_is, times_place, times_twice, times_none, times_once, tally_some, tally_place, tally_twice, tally_one}
 use Rattle.btree_edit.proofs.Linking.{linked_from, linked_next, linked_backs}
 use Rattle.btree_edit.proofs.Naming.{name_child}
@@ -34,7 +34,7 @@ module _ {is_key : List ℕ → Type 0} {cmp : List ℕ → List ℕ → Orderin
       let place = times_place n (level_of store j) some in
       record { below = j; place = place.0; of_tree = low; inside = place.1; is = place.2 }
 
-  once : (n j : ℕ) → j < store.shape.depth → 1 ≤ times n (level_of store j) → tally (λ i. level_of store i) store.shape.depth n ≡ 1
+  once : (n j : ℕ) → j < store.shape.depth → 1 ≤ times n (level_of store j) → count_in_levels (λ i. level_of store i) store.shape.depth n ≡ 1
   once n j low some =
       let mapped = tree.mapped in
       let place = times_place n (level_of store j) some in
@@ -44,8 +44,8 @@ module _ {is_key : List ℕ → Type 0} {cmp : List ℕ → List ℕ → Orderin
       let one = times_once n (level_of store j) (λ i k first second e. (mapped.distinct j i j k low first low second e).1) in
       omega (arith, tally_one (λ i. level_of store i) store.shape.depth n j low alone, one, some)
 
-  mapped_is : (n : ℕ) → n < store.shape.total → tally (λ i. level_of store i) store.shape.depth n + bit (store.reserved n) ≡ bit (store.used n)
-  mapped_is n inside = elim (cases_lt 0 (tally (λ i. level_of store i) store.shape.depth n)) [
+  mapped_is : (n : ℕ) → n < store.shape.total → count_in_levels (λ i. level_of store i) store.shape.depth n + bit (store.reserved n) ≡ bit (store.used n)
+  mapped_is n inside = elim (cases_lt 0 (count_in_levels (λ i. level_of store i) store.shape.depth n)) [
     | inl some ↦
         let place = tally_place (λ i. level_of store i) store.shape.depth n some in
         let there = reached n place.0 place.1 place.2 in
@@ -58,7 +58,7 @@ module _ {is_key : List ℕ → Type 0} {cmp : List ℕ → List ℕ → Orderin
     | inr none ↦ by_reserved (store.reserved n) refl none
   ]
     where
-      by_used : (b : Bool) → store.used n ≡ b → store.reserved n ≡ false → tally (λ i. level_of store i) store.shape.depth n ≤ 0 → b ≡ false
+      by_used : (b : Bool) → store.used n ≡ b → store.reserved n ≡ false → count_in_levels (λ i. level_of store i) store.shape.depth n ≤ 0 → b ≡ false
       by_used true e free none = elim ((tree.mapped.used n inside).0 e) [
         | inl there ↦
             absurd (omega (arith, tally_some (λ i. level_of store i) store.shape.depth n there.below there.of_tree, times_is (level_of store there.below) there.place n there.inside there.is))
@@ -66,7 +66,7 @@ module _ {is_key : List ℕ → Type 0} {cmp : List ℕ → List ℕ → Orderin
       ]
       by_used false e free none = refl
 
-      by_reserved : (b : Bool) → store.reserved n ≡ b → tally (λ i. level_of store i) store.shape.depth n ≤ 0 → tally (λ i. level_of store i) store.shape.depth n + bit (store.reserved n) ≡ bit (store.used n)
+      by_reserved : (b : Bool) → store.reserved n ≡ b → count_in_levels (λ i. level_of store i) store.shape.depth n ≤ 0 → count_in_levels (λ i. level_of store i) store.shape.depth n + bit (store.reserved n) ≡ bit (store.used n)
       by_reserved true e none = omega (arith, ap bit e, ap bit ((tree.mapped.used n inside).1 (inr e)))
       by_reserved false e none = omega (arith, ap bit e, ap bit (by_used (store.used n) refl e none))
 
@@ -127,7 +127,7 @@ module _ {is_key : List ℕ → Type 0} {cmp : List ℕ → List ℕ → Orderin
       back = λ j k low inside. linked_backs store.nodes 0 (level_of store j) (is_level j low).linked k inside;
     }
 
-    some_there : (n : ℕ) → IsReached store n → (n < store.shape.total) × (1 ≤ tally levels store.shape.depth n)
+    some_there : (n : ℕ) → IsReached store n → (n < store.shape.total) × (1 ≤ count_in_levels levels store.shape.depth n)
     some_there n there =
         let inside = (is_level there.below there.of_tree).nodes there.place there.inside in
         let here = times_is (level_of store there.below) there.place n there.inside there.is in (
@@ -141,7 +141,7 @@ module _ {is_key : List ℕ → Type 0} {cmp : List ℕ → List ℕ → Orderin
         )
 
     used_is : (n : ℕ) → n < store.shape.total → store.used n ≡ true → IsReached store n ⊎ IsTrue (store.reserved n)
-    used_is n inside used = elim (cases_lt 0 (tally levels store.shape.depth n)) [
+    used_is n inside used = elim (cases_lt 0 (count_in_levels levels store.shape.depth n)) [
       | inl some ↦
           let found = tally_place levels store.shape.depth n some in
           let here = times_place n (level_of store found.0) (subst (λ l. 1 ≤ times n l) (sym (same_level found.0 found.1)) found.2) in
@@ -167,10 +167,10 @@ module _ {is_key : List ℕ → Type 0} {cmp : List ℕ → List ℕ → Orderin
         let first : 1 ≤ times (get_or (level_of store j) k 0) (levels j) = subst (λ l. 1 ≤ times (get_or (level_of store j) k 0) l) (same_level j low) (times_at (level_of store j) k inside) in
         let second : 1 ≤ times (get_or (level_of store j) k 0) (levels i) =
         subst (λ l. 1 ≤ times (get_or (level_of store j) k 0) l) (same_level i low2) (times_is (level_of store i) m (get_or (level_of store j) k 0) inside2 (sym same)) in
-        let one : tally levels store.shape.depth (get_or (level_of store j) k 0) ≤ 1 = omega (arith, but.mapped (get_or (level_of store j) k 0) ((is_level j low).nodes k inside).inside, bit_most (store.used (get_or (level_of store j) k 0))) in
+        let one : count_in_levels levels store.shape.depth (get_or (level_of store j) k 0) ≤ 1 = omega (arith, but.mapped (get_or (level_of store j) k 0) ((is_level j low).nodes k inside).inside, bit_most (store.used (get_or (level_of store j) k 0))) in
         at (get_or (level_of store j) k 0) first second one
       where
-        at : (n : ℕ) → 1 ≤ times n (levels j) → 1 ≤ times n (levels i) → tally levels store.shape.depth n ≤ 1 → (j ≡ i) × (k ≡ m)
+        at : (n : ℕ) → 1 ≤ times n (levels j) → 1 ≤ times n (levels i) → count_in_levels levels store.shape.depth n ≤ 1 → (j ≡ i) × (k ≡ m)
         at n first second one = elim (cases_eq j i) [
           | inl is ↦ (is, place_of is)
           | inr other ↦ elim (cases_lt j i) [

@@ -25,9 +25,9 @@ abbrev pub NoneEmpty : Nodes → List ℕ → Type 0
 NoneEmpty nodes ns = (k : ℕ) → k < length ns → 0 < length (items (nodes (slice_index ns k)))
 
 -- how often a node stands in the first so many levels
-abbrev pub tally : LevelLists → ℕ → ℕ → ℕ
-tally levels zero n = 0
-tally levels (suc depth) n = tally levels depth n + times n (levels depth)
+abbrev pub count_in_levels : LevelLists → ℕ → ℕ → ℕ
+count_in_levels levels zero n = 0
+count_in_levels levels (suc depth) n = count_in_levels levels depth n + times n (levels depth)
 
 -- The rules of a tree with these levels, but for what the level `from` hands on: the records that name its nodes are those of the level above it,
 -- with `put` in place of the one at `place`. With `from` at 0 they are the rules of a whole tree.
@@ -37,6 +37,6 @@ pub record IsTreeBut (is_key : List ℕ → Type 0) (cmp : List ℕ → List ℕ
   pub named : (j : ℕ) → j + 1 < depth → j + 1 ≢ from → entries store.nodes (levels j) ≡ map (λ n. record_for store.nodes n) (levels (j + 1))
   pub wanted : (j : ℕ) → j + 1 < depth → j + 1 ≡ from → map (λ n. record_for store.nodes n) (levels (j + 1)) ≡ splice (entries store.nodes (levels j)) place (place + 1) put
   -- each node with a bit in the map stands in one of the levels, once, or is reserved
-  pub mapped : (n : ℕ) → n < store.shape.total → tally levels depth n + bit (store.reserved n) ≡ bit (store.used n)
+  pub mapped : (n : ℕ) → n < store.shape.total → count_in_levels levels depth n + bit (store.reserved n) ≡ bit (store.used n)
   pub header : store.reserved 0 ≡ true
   pub free : store.shape.free + count_by (λ n. store.used n) (range_with_len 0 store.shape.total) ≡ store.shape.total

@@ -3,7 +3,7 @@ use Rattle.std.specs.Prelude.{◌≤◌, ℕ, ◌+◌, ◌*◌}
 use Rattle.btree_node.specs.Store.{Store, SameStore, unwritten_sectors}
 
 -- at most so many nodes were written for the first time since the last commit, each took at most its sectors, and at most so many free nodes were taken
-pub record Does (most takes : ℕ) (old new : Store) : Type 0 where
+pub record CostsAtMost (most takes : ℕ) (old new : Store) : Type 0 where
   pub fewer : new.unwritten ≤ old.unwritten
   pub some : old.unwritten ≤ new.unwritten + most
   pub left : old.writes_left + new.unwritten ≤ new.writes_left + old.unwritten

@@ -12,3 +12,5 @@ pub mod Halves
 pub mod Writes
 pub mod Sorted
 pub mod Swapping
+pub mod Edits
+pub mod Causes

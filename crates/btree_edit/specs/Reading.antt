@@ -6,10 +6,10 @@ use Rattle.btree_node.specs.Node.{items}
 use Rattle.btree_node.specs.Levels.{entries, key_of, value_of, child_of, IsRank}
 use Rattle.btree_node.specs.Store.{Store, SameStore, SameNodes, SameRoom}
 use Rattle.btree_node.specs.Tree.{level_of, entries_of, pairs_of}
-use Rattle.btree_edit.specs.declared.search.Lead.{Lead}
+use Rattle.btree_edit.specs.declared.search.ChildStep.{ChildStep}
 
 -- nothing changed but the count of loads, by at most so many
-pub record ReadsOnly (most : ℕ) (old new : Store) : Type 0 where
+pub record ReadsNodes (most : ℕ) (old new : Store) : Type 0 where
   pub shape : new.shape ≡ old.shape
   pub tree : IsTrue old.tells → SameNodes old new
   pub room : SameRoom old new
@@ -27,7 +27,7 @@ abbrev pub HasNoKey : (List ℕ → Type 0) → List (List ℕ) → Type 0
 HasNoKey is_key records = (k : ℕ) × (k < length records) × (is_key (key_of (slice_index_or records k [])) → ⊥)
 
 -- the record of an index node that leads to a key, and the child that it names
-pub record IsLead (cmp : List ℕ → List ℕ → Ordering) (key : List ℕ) (records : List (List ℕ)) (step : Lead) : Type 0 where
+pub record IsLead (cmp : List ℕ → List ℕ → Ordering) (key : List ℕ) (records : List (List ℕ)) (step : ChildStep) : Type 0 where
   pub place : IsPlace cmp key records step.place
   pub index : step.index ≡ step.place - 1
   pub inside : step.index < length records

@@ -10,14 +10,14 @@ use Rattle.btree_edit.specs.LevelEdit.{bit, times, head_or, last_or, node_room, 
 use Rattle.btree_edit.specs.Climb.{LevelLists, IsTreeBut}
 use Rattle.btree_edit.specs.Way.{stop_at, way_place, IsWay}
 use Rattle.btree_edit.specs.declared.desk.Desk.{Desk}
-use Rattle.btree_edit.specs.declared.desk.Stop.{Stop}
+use Rattle.btree_edit.specs.declared.desk.PathStep.{PathStep}
 
 -- how many records stand in the leaves before the leaf of a way
-abbrev pub leaf_start : Store → List Stop → ℕ
+abbrev pub leaf_start : Store → List PathStep → ℕ
 leaf_start store path = length (entries store.nodes (take (way_place store path (store.shape.depth - 1)) (level_of store (store.shape.depth - 1))))
 
 -- the records of the leaves, with others in place of some of the leaf of a way
-abbrev pub leaves_edited : Store → List Stop → ℕ → Bool → List (List ℕ) → List (List ℕ)
+abbrev pub leaves_edited : Store → List PathStep → ℕ → Bool → List (List ℕ) → List (List ℕ)
 leaves_edited store path at removed put =
     splice (entries_of store (store.shape.depth - 1)) (leaf_start store path + at) (leaf_start store path + (at + bit removed)) put
 
@@ -26,7 +26,7 @@ abbrev pub AreOfOneLength : (List ℕ → Type 0) → Type 0
 AreOfOneLength is_key = (a b : List ℕ) → is_key a → is_key b → length a ≡ length b
 
 -- in a tree, an edit of one record of the leaf of a way, with nodes to spare for each level, or one that needs none
-pub record CanClimb (is_key : List ℕ → Type 0) (cmp : List ℕ → List ℕ → Ordering) (max : ℕ) (store : Store) (path : List Stop) (at : ℕ) (removed : Bool) (put : List (List ℕ)) (spare : ℕ) : Type 0 where
+pub record CanClimb (is_key : List ℕ → Type 0) (cmp : List ℕ → List ℕ → Ordering) (max : ℕ) (store : Store) (path : List PathStep) (at : ℕ) (removed : Bool) (put : List (List ℕ)) (spare : ℕ) : Type 0 where
   pub tree : IsTree is_key cmp store
   pub small : store.shape.total ≤ 2 ^ 32
   pub some : 0 < store.shape.depth
@@ -57,8 +57,8 @@ pub record IsThrifty (depth : ℕ) (levels : LevelLists) (done budget : ℕ) : T
   pub enough : 4 * depth ≤ budget + split + 3 * done
 
 -- an index root has two records or more
-abbrev pub HasThickRoot : Store → ℕ → ℕ → Type 0
-HasThickRoot store depth root = 1 < depth → 2 ≤ length (items (store.nodes root))
+abbrev pub RootHasTwoChildren : Store → ℕ → ℕ → Type 0
+RootHasTwoChildren store depth root = 1 < depth → 2 ≤ length (items (store.nodes root))
 
 -- A climb makes these the records of the leaves, and keeps the rules of a tree below the nodes that hold what its root held: none, the root, or the root and a fresh node.
 pub record Climbs (is_key : List ℕ → Type 0) (cmp : List ℕ → List ℕ → Ordering) (max : ℕ) (old new : Store) (records : List (List ℕ)) (after : TreeShape) (count left : ℕ) (desk : Desk) (budget : ℕ) : Type 0 where
@@ -116,6 +116,8 @@ pub record IsLowering (is_key : List ℕ → Type 0) (cmp : List ℕ → List �
 pub record MakesTree (is_key : List ℕ → Type 0) (cmp : List ℕ → List ℕ → Ordering) (old new : Store) (records : List (List ℕ)) : Type 0 where
   pub tree : IsTree is_key cmp new
   pub pairs : pairs_of new ≡ map pair_of records
+  -- a tree without records has no level
+  pub filled : 0 < new.shape.depth → 0 < length (pairs_of new)
   pub others : (n : ℕ) → old.reserved n ≡ false → old.used n ≡ false → new.used n ≡ false → new.nodes n ≡ old.nodes n
 
 -- a store in which no node is the tree's

@@ -55,6 +55,7 @@ KeepsFreeNodes old new = (n : ℕ) → old.reserved n ≡ false → old.used n �
 pub record EditsTree (is_key : List ℕ → Type 0) (cmp : List ℕ → List ℕ → Ordering) (old new : Store) (changes : List Pair → List Pair → Type 0) : Type 0 where
   pub pairs : changes (pairs_of old) (pairs_of new)
   pub tree : IsTree is_key cmp new
+  pub filled : 0 < new.shape.depth → 0 < length (pairs_of new)
   pub others : KeepsFreeNodes old new
 
 -- this is the key, as the tree has it, of the pair with a key

@@ -21,6 +21,7 @@ pub record SwapsRecord (node index : ℕ) (bytes : List ℕ) (old new : Store) :
   pub head : SameHead (old.nodes node) (new.nodes node)
   pub others : (n : ℕ) → n ≢ node → new.nodes n ≡ old.nodes n
   pub used : (n : ℕ) → new.used n ≡ old.used n
+  pub header : new.header ≡ old.header
 
 -- the pair with this key has a value of this length
 pub record HasValueOf (cmp : List ℕ → List ℕ → Ordering) (key : List ℕ) (size : ℕ) (store : Store) : Type 0 where

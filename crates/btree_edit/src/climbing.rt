@@ -2,20 +2,20 @@
 ghost use Rattle.std.specs.Prelude.{◌≡◌, ◌≢◌, ◌≤◌, ◌<◌, ◌+◌, ◌*◌, ◌-◌, ◌^◌, ◌⊎◌, ◌∷◌, [], IsTrue, length, OnOk, IfOk};
 ghost use Rattle.btree_node.specs.Store.{HasRoom, HasCause};
 ghost use Rattle.btree_edit.specs.Desk.{IsDeskOf};
-ghost use Rattle.btree_edit.specs.Editing.{Does};
+ghost use Rattle.btree_edit.specs.Editing.{CostsAtMost};
 ghost use Rattle.btree_edit.specs.Halves.{record_of};
 ghost use Rattle.btree_edit.specs.LevelEdit.{records_on};
-ghost use Rattle.btree_edit.specs.Rising.{leaves_edited, BoundsRoot, HasThickRoot, CanClimb, Climbs, Rises, MakesTree, IsBare, IsLeafRecord};
+ghost use Rattle.btree_edit.specs.Rising.{leaves_edited, BoundsRoot, RootHasTwoChildren, CanClimb, Climbs, Rises, MakesTree, IsBare, IsLeafRecord};
 
 use crate::desk::Desk;
-use crate::levels::{Spot, edit_level};
-use crate::roots::{Climbed, crown, plant, settle};
+use crate::levels::{NodePlace, edit_level};
+use crate::roots::{Propagated, finish_at_root, first_leaf, write_tree_header};
 use crate::search::{kind_at, read_node};
 use btree_node::{KeyOrder, NodeStore, TreeShape};
 use hx_bytes::Failed;
 
 /// Changes the leaf at the end of the way, and then each level above as far as it is told. It takes at most `spare` nodes.
-fn climb<N: NodeStore, K: KeyOrder>(
+fn propagate<N: NodeStore, K: KeyOrder>(
     store: &mut N,
     desk: &mut Desk,
     shape: &mut TreeShape,
@@ -23,7 +23,7 @@ fn climb<N: NodeStore, K: KeyOrder>(
     removed: bool,
     count: u8,
     spare: u32,
-) -> Result<Climbed, Failed>
+) -> Result<Propagated, Failed>
     requires desk { IsDeskOf (N.state store.old).shape.node_size desk.old }
     requires few { count ≤ 2 }
     requires depth { shape.old.depth ≤ 12 }
@@ -37,7 +37,7 @@ fn climb<N: NodeStore, K: KeyOrder>(
     ensures budget { IfOk result (λ end. end.budget ≤ 4 * shape.old.depth) }
     ensures written { IfOk result (λ end. (N.state store.old).unwritten + end.budget ≤ (N.state store.new).unwritten + 4 * shape.old.depth) }
     ensures taken { IfOk result (λ end. (N.state store.old).shape.free + end.left ≤ (N.state store.new).shape.free + spare) }
-    ensures does { Does (4 * shape.old.depth) spare (N.state store.old) (N.state store.new) }
+    ensures does { CostsAtMost (4 * shape.old.depth) spare (N.state store.old) (N.state store.new) }
     ensures cause { HasCause (N.state store.old).faults (N.state store.new).faults result }
     ensures below { N.follows store.old store.new }
 {
@@ -50,13 +50,13 @@ fn climb<N: NodeStore, K: KeyOrder>(
         let height = done + 1;
         let stop = desk.path[(depth - height) as usize];
         if !read_node(store, &mut desk.node, stop.node, height)? {
-            return Ok(Climbed {
+            return Ok(Propagated {
                 count: 1,
                 budget,
                 left,
             });
         }
-        let spot = Spot {
+        let spot = NodePlace {
             node: stop.node,
             height: height as u8,
             kind: kind_at(height),
@@ -66,7 +66,7 @@ fn climb<N: NodeStore, K: KeyOrder>(
         budget -= handed.cost;
         left = left.saturating_sub(1);
         if !handed.changed {
-            return Ok(Climbed {
+            return Ok(Propagated {
                 count: 1,
                 budget,
                 left,
@@ -75,7 +75,7 @@ fn climb<N: NodeStore, K: KeyOrder>(
         next = handed.count;
         gone = true;
     }
-    Ok(Climbed {
+    Ok(Propagated {
         count: next,
         budget,
         left,
@@ -91,7 +91,7 @@ fn place_at(height: u16, at: u16, way: u16) -> u16
 }
 
 /// A climb, and what the root hands on.
-fn rise<N: NodeStore, K: KeyOrder>(
+fn propagate_and_finish<N: NodeStore, K: KeyOrder>(
     store: &mut N,
     desk: &mut Desk,
     shape: &mut TreeShape,
@@ -108,16 +108,16 @@ fn rise<N: NodeStore, K: KeyOrder>(
     ensures rises { IsTrue (N.state store.old).tells → shape.old ≡ (N.state store.old).shape → CanClimb K.is_key K.cmp K.MAX (N.state store.old) desk.old.path at removed (records_on count desk.old) spare
         → OnOk result (Rises K.is_key K.cmp K.MAX (N.state store.old) (N.state store.new) (leaves_edited (N.state store.old) desk.old.path at removed (records_on count desk.old)) shape.new) }
     ensures thick { IsTrue (N.state store.old).tells → shape.old ≡ (N.state store.old).shape → CanClimb K.is_key K.cmp K.MAX (N.state store.old) desk.old.path at removed (records_on count desk.old) spare
-        → OnOk result (HasThickRoot (N.state store.new) shape.new.depth shape.new.root) }
+        → OnOk result (RootHasTwoChildren (N.state store.new) shape.new.depth shape.new.root) }
     ensures desk { IsDeskOf (N.state store.old).shape.node_size desk.new }
     ensures depth { shape.new.depth ≤ shape.old.depth + 1 }
     ensures kept { spare ≡ 0 → shape.new.depth ≤ shape.old.depth }
-    ensures does { Does (4 * shape.old.depth + 5) spare (N.state store.old) (N.state store.new) }
+    ensures does { CostsAtMost (4 * shape.old.depth + 5) spare (N.state store.old) (N.state store.new) }
     ensures cause { HasCause (N.state store.old).faults (N.state store.new).faults result }
     ensures below { N.follows store.old store.new }
 {
-    let end = climb::<N, K>(store, desk, shape, at, removed, count, spare)?;
-    crown::<N, K>(store, desk, shape, end)
+    let end = propagate::<N, K>(store, desk, shape, at, removed, count, spare)?;
+    finish_at_root::<N, K>(store, desk, shape, end)
 }
 
 /// A whole edit along the way on the desk; the tree has so many pairs then.
@@ -142,17 +142,19 @@ pub(crate) fn rebuild<N: NodeStore, K: KeyOrder>(
     ensures roots { IsTrue (N.state store.old).tells → shape.old ≡ (N.state store.old).shape → CanClimb K.is_key K.cmp K.MAX (N.state store.old) desk.old.path at removed (records_on count desk.old) spare
         → OnOk result (BoundsRoot K.MAX (N.state store.old) (N.state store.new) (N.state store.new).shape.depth (N.state store.new).shape.root) }
     ensures thick { IsTrue (N.state store.old).tells → shape.old ≡ (N.state store.old).shape → CanClimb K.is_key K.cmp K.MAX (N.state store.old) desk.old.path at removed (records_on count desk.old) spare
-        → OnOk result (HasThickRoot (N.state store.new) (N.state store.new).shape.depth (N.state store.new).shape.root) }
+        → OnOk result (RootHasTwoChildren (N.state store.new) (N.state store.new).shape.depth (N.state store.new).shape.root) }
     ensures desk { IsDeskOf (N.state store.old).shape.node_size desk.new }
+    ensures records { OnOk result ((N.state store.new).shape.leaf_records ≡ records) }
+    ensures header { IsTrue (N.state store.old).tells → OnOk result ((N.state store.new).header ≡ (N.state store.new).shape) }
     ensures depth { OnOk result ((N.state store.new).shape.depth ≤ shape.old.depth + 1) }
     ensures kept { spare ≡ 0 → OnOk result ((N.state store.new).shape.depth ≤ shape.old.depth) }
-    ensures does { Does (4 * shape.old.depth + 6) spare (N.state store.old) (N.state store.new) }
+    ensures does { CostsAtMost (4 * shape.old.depth + 6) spare (N.state store.old) (N.state store.new) }
     ensures cause { HasCause (N.state store.old).faults (N.state store.new).faults result }
     ensures below { N.follows store.old store.new }
 {
-    rise::<N, K>(store, desk, shape, at, removed, count, spare)?;
+    propagate_and_finish::<N, K>(store, desk, shape, at, removed, count, spare)?;
     shape.leaf_records = records;
-    settle::<N, K>(store, shape);
+    write_tree_header::<N, K>(store, shape);
     Ok(())
 }
 
@@ -164,14 +166,16 @@ pub(crate) fn begin<N: NodeStore, K: KeyOrder>(store: &mut N, desk: &mut Desk) -
     ensures tree { IsTrue (N.state store.old).tells → (N.state store.old).shape.total ≤ 2 ^ 32 → IsBare K.is_key K.cmp (N.state store.old) → IsLeafRecord K.is_key (N.state store.old) (record_of desk.old.first)
         → OnOk result (MakesTree K.is_key K.cmp (N.state store.old) (N.state store.new) (record_of desk.old.first ∷ [])) }
     ensures desk { IsDeskOf (N.state store.old).shape.node_size desk.new }
+    ensures records { OnOk result ((N.state store.new).shape.leaf_records ≡ 1) }
+    ensures header { IsTrue (N.state store.old).tells → OnOk result ((N.state store.new).header ≡ (N.state store.new).shape) }
     ensures depth { OnOk result ((N.state store.new).shape.depth ≡ 1) }
-    ensures does { Does 3 1 (N.state store.old) (N.state store.new) }
+    ensures does { CostsAtMost 3 1 (N.state store.old) (N.state store.new) }
     ensures cause { HasCause (N.state store.old).faults (N.state store.new).faults result }
     ensures below { N.follows store.old store.new }
 {
     let mut shape = store.shape();
-    plant::<N, K>(store, desk, &mut shape)?;
+    first_leaf::<N, K>(store, desk, &mut shape)?;
     shape.leaf_records = 1;
-    settle::<N, K>(store, &shape);
+    write_tree_header::<N, K>(store, &shape);
     Ok(())
 }

@@ -135,7 +135,7 @@ fn put_pair(bytes: &mut [u8], key: &[u8], value: &[u8])
 
 /// A step of the way from the root to a leaf: a node, and the place in it.
 #[derive(Clone, Copy, Debug)]
-pub struct Stop {
+pub struct PathStep {
     pub(crate) node: u32,
     pub(crate) at: u16,
 }
@@ -150,7 +150,7 @@ pub struct Desk {
     pub(crate) first: Held,
     pub(crate) second: Held,
     /// The way from the root, first.
-    pub(crate) path: [Stop; 12],
+    pub(crate) path: [PathStep; 12],
 }
 
 impl Desk {
@@ -171,7 +171,7 @@ impl Desk {
             held,
             first,
             second,
-            path: [Stop { node: 0, at: 0 }; 12],
+            path: [PathStep { node: 0, at: 0 }; 12],
         })
     }
 

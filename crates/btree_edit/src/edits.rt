@@ -2,12 +2,12 @@
 ghost use Rattle.std.specs.Prelude.{◌≡◌, ◌≤◌, ◌<◌, ◌+◌, ◌-◌, ◌*◌, ◌/◌, ◌^◌, ◌∷◌, [], true, false, IsTrue, length, OnOk, IfOk};
 ghost use Rattle.btree_node.specs.Node.{items};
 ghost use Rattle.btree_node.specs.Store.{HasRoom, HasCause};
-ghost use Rattle.btree_node.specs.Tree.{IsTree, pairs_of};
+ghost use Rattle.btree_node.specs.Tree.{IsTree, HasValues, pairs_of};
 ghost use Rattle.btree_edit.specs.Desk.{IsDeskOf, HasKey};
-ghost use Rattle.btree_edit.specs.Editing.{Does, edit_writes};
+ghost use Rattle.btree_edit.specs.Editing.{CostsAtMost, edit_writes};
 ghost use Rattle.btree_edit.specs.Halves.{record_of};
 ghost use Rattle.btree_edit.specs.LevelEdit.{node_room};
-ghost use Rattle.btree_edit.specs.Rising.{BoundsRoot, HasThickRoot, MakesTree, IsLeafRecord};
+ghost use Rattle.btree_edit.specs.Rising.{BoundsRoot, RootHasTwoChildren, MakesTree, IsLeafRecord};
 ghost use Rattle.btree_edit.specs.Sorted.{AddsPair, DropsPair, ChangesPair, HoldsKeyOf, InsertsPair, RemovesPair, KeepsFreeNodes, EditsTree};
 ghost use Rattle.btree_edit.specs.Answers.{AnswersInsert, AnswersRemove};
 ghost use Rattle.btree_edit.specs.declared.edits.Inserted.TheVariants as Inserted;
@@ -17,7 +17,7 @@ use crate::climbing::{begin, rebuild};
 use crate::desk::Desk;
 use crate::finding::{Found, find};
 use crate::search::read_node;
-use crate::tracing::trace;
+use crate::tracing::find_path;
 use btree_node::{KeyOrder, NodeStore, TreeShape};
 use hx_bytes::Failed;
 
@@ -51,7 +51,7 @@ pub(crate) fn total_of(shape: &TreeShape) -> u32
 }
 
 /// Gives back a root without records, and plants the tree anew.
-fn replant<N: NodeStore, K: KeyOrder>(store: &mut N, desk: &mut Desk) -> Result<(), Failed>
+fn restart_empty<N: NodeStore, K: KeyOrder>(store: &mut N, desk: &mut Desk) -> Result<(), Failed>
     requires desk { IsDeskOf (N.state store.old).shape.node_size desk.old }
     requires room { HasRoom 4 (N.state store.old) }
     requires free { 0 < (N.state store.old).shape.free }
@@ -61,8 +61,10 @@ fn replant<N: NodeStore, K: KeyOrder>(store: &mut N, desk: &mut Desk) -> Result<
     ensures one { IsTrue (N.state store.old).tells → IsTree K.is_key K.cmp (N.state store.old) → 0 < (N.state store.old).shape.depth
         → length (items ((N.state store.old).nodes (N.state store.old).shape.root)) ≡ 0 → OnOk result ((N.state store.new).shape.depth ≡ 1) }
     ensures desk { IsDeskOf (N.state store.old).shape.node_size desk.new }
+    ensures records { OnOk result ((N.state store.new).shape.leaf_records ≤ (N.state store.old).shape.leaf_records + 1) }
+    ensures header { IsTrue (N.state store.old).tells → (N.state store.old).header ≡ (N.state store.old).shape → OnOk result ((N.state store.new).header ≡ (N.state store.new).shape) }
     ensures depth { OnOk result ((N.state store.new).shape.depth ≤ (N.state store.old).shape.depth + 1) }
-    ensures does { Does 4 1 (N.state store.old) (N.state store.new) }
+    ensures does { CostsAtMost 4 1 (N.state store.old) (N.state store.new) }
     ensures cause { HasCause (N.state store.old).faults (N.state store.new).faults result }
     ensures below { N.follows store.old store.new }
 {
@@ -95,10 +97,12 @@ fn add<N: NodeStore, K: KeyOrder>(store: &mut N, desk: &mut Desk, key: &[u8]) ->
         → OnOk result (BoundsRoot K.MAX (N.state store.old) (N.state store.new) (N.state store.new).shape.depth (N.state store.new).shape.root) }
     ensures thick { IsTrue (N.state store.old).tells → 3 * (K.MAX + 8) ≤ node_room (N.state store.old).shape.node_size → desk.old.first.key ≡ key.now
         → length (record_of desk.old.first) ≤ (N.state store.old).shape.node_size / 2 - 10 → (HasKey K.cmp key.now (pairs_of (N.state store.old)) → ⊥)
-        → OnOk result (HasThickRoot (N.state store.new) (N.state store.new).shape.depth (N.state store.new).shape.root) }
+        → OnOk result (RootHasTwoChildren (N.state store.new) (N.state store.new).shape.depth (N.state store.new).shape.root) }
     ensures desk { IsDeskOf (N.state store.old).shape.node_size desk.new }
+    ensures records { OnOk result ((N.state store.new).shape.leaf_records ≤ (N.state store.old).shape.leaf_records + 1) }
+    ensures header { IsTrue (N.state store.old).tells → (N.state store.old).header ≡ (N.state store.old).shape → OnOk result ((N.state store.new).header ≡ (N.state store.new).shape) }
     ensures depth { OnOk result ((N.state store.new).shape.depth ≤ (N.state store.old).shape.depth + 1) }
-    ensures does { Does (edit_writes (N.state store.old).shape.depth) ((N.state store.old).shape.depth + 1) (N.state store.old) (N.state store.new) }
+    ensures does { CostsAtMost (edit_writes (N.state store.old).shape.depth) ((N.state store.old).shape.depth + 1) (N.state store.old) (N.state store.new) }
     ensures cause { HasCause (N.state store.old).faults (N.state store.new).faults result }
     ensures below { N.follows store.old store.new }
 {
@@ -107,8 +111,8 @@ fn add<N: NodeStore, K: KeyOrder>(store: &mut N, desk: &mut Desk, key: &[u8]) ->
     if shape.depth == 0 {
         return begin::<N, K>(store, desk);
     }
-    if !trace::<N, K>(store, desk, key)? {
-        return replant::<N, K>(store, desk);
+    if !find_path::<N, K>(store, desk, key)? {
+        return restart_empty::<N, K>(store, desk);
     }
     let at = desk.path[(shape.depth - 1) as usize].at;
     let spare = spare_of(false, shape.depth);
@@ -129,6 +133,7 @@ pub fn insert<N: NodeStore, K: KeyOrder>(
     // The node size is one that the format allows the tree: three index records with the longest keys fit.
     requires wide { IsTrue (N.state store.old).tells → 3 * (K.MAX + 8) ≤ node_room (N.state store.old).shape.node_size }
     requires short { length key.now + length value.now ≤ (N.state store.old).shape.node_size / 2 - 10 }
+    requires value { IsTrue (N.state store.old).tells → K.is_value value.now }
     requires records { (N.state store.old).shape.leaf_records < 2 ^ 32 - 1 }
     requires depth { (N.state store.old).shape.depth ≤ 11 }
     requires free { (N.state store.old).shape.depth + 1 ≤ (N.state store.old).shape.free }
@@ -137,6 +142,8 @@ pub fn insert<N: NodeStore, K: KeyOrder>(
     ensures answer { IsTrue (N.state store.old).tells → IfOk result (λ answer. AnswersInsert K.cmp key.now (N.state store.old) answer) }
     // The pairs are the sorted list with that one pair added.
     ensures pairs { IsTrue (N.state store.old).tells → IfOk result (λ answer. InsertsPair K.cmp key.now value.now (pairs_of (N.state store.old)) (pairs_of (N.state store.new)) answer) }
+    // Their values stay such as the order has.
+    ensures values { IsTrue (N.state store.old).tells → HasValues K.is_value (N.state store.old) → OnOk result (HasValues K.is_value (N.state store.new)) }
     // They keep the rules of a tree.
     ensures tree { IsTrue (N.state store.old).tells → OnOk result (IsTree K.is_key K.cmp (N.state store.new)) }
     // Nodes that aren't the tree's stay as they were.
@@ -144,12 +151,15 @@ pub fn insert<N: NodeStore, K: KeyOrder>(
     // An index root gets at most one record more; a root above it has two, and comes only where its records are many.
     ensures roots { IsTrue (N.state store.old).tells → OnOk result (BoundsRoot K.MAX (N.state store.old) (N.state store.new) (N.state store.new).shape.depth (N.state store.new).shape.root) }
     // A root index with one record doesn't stay.
-    ensures thick { IsTrue (N.state store.old).tells → IfOk result (λ answer. answer ≡ Inserted.Done → HasThickRoot (N.state store.new) (N.state store.new).shape.depth (N.state store.new).shape.root) }
+    ensures thick { IsTrue (N.state store.old).tells → IfOk result (λ answer. answer ≡ Inserted.Done → RootHasTwoChildren (N.state store.new) (N.state store.new).shape.depth (N.state store.new).shape.root) }
     ensures desk { IsDeskOf (N.state store.old).shape.node_size desk.new }
+    // The header node goes on saying the tree's numbers.
+    ensures header { IsTrue (N.state store.old).tells → (N.state store.old).header ≡ (N.state store.old).shape → OnOk result ((N.state store.new).header ≡ (N.state store.new).shape) }
+    ensures records { OnOk result ((N.state store.new).shape.leaf_records ≤ (N.state store.old).shape.leaf_records + 1) }
     // It raises the tree by at most one level.
     ensures depth { OnOk result ((N.state store.new).shape.depth ≤ (N.state store.old).shape.depth + 1) }
     // It writes and takes at most so many nodes.
-    ensures does { Does (edit_writes (N.state store.old).shape.depth) ((N.state store.old).shape.depth + 1) (N.state store.old) (N.state store.new) }
+    ensures does { CostsAtMost (edit_writes (N.state store.old).shape.depth) ((N.state store.old).shape.depth + 1) (N.state store.old) (N.state store.new) }
     // It fails only where the store did.
     ensures cause { HasCause (N.state store.old).faults (N.state store.new).faults result }
     ensures below { N.follows store.old store.new }
@@ -185,18 +195,20 @@ fn drop_pair<N: NodeStore, K: KeyOrder>(
     ensures roots { IsTrue (N.state store.old).tells → 3 * (K.MAX + 8) ≤ node_room (N.state store.old).shape.node_size → HasKey K.cmp key.now (pairs_of (N.state store.old))
         → OnOk result (BoundsRoot K.MAX (N.state store.old) (N.state store.new) (N.state store.new).shape.depth (N.state store.new).shape.root) }
     ensures thick { IsTrue (N.state store.old).tells → 3 * (K.MAX + 8) ≤ node_room (N.state store.old).shape.node_size → HasKey K.cmp key.now (pairs_of (N.state store.old))
-        → OnOk result (HasThickRoot (N.state store.new) (N.state store.new).shape.depth (N.state store.new).shape.root) }
+        → OnOk result (RootHasTwoChildren (N.state store.new) (N.state store.new).shape.depth (N.state store.new).shape.root) }
     ensures desk { IsDeskOf (N.state store.old).shape.node_size desk.new }
+    ensures records { OnOk result ((N.state store.new).shape.leaf_records ≤ (N.state store.old).shape.leaf_records) }
+    ensures header { IsTrue (N.state store.old).tells → (N.state store.old).header ≡ (N.state store.old).shape → OnOk result ((N.state store.new).header ≡ (N.state store.new).shape) }
     ensures depth { OnOk result ((N.state store.new).shape.depth ≤ (N.state store.old).shape.depth + 1) }
     ensures kept { fixed ≡ true → OnOk result ((N.state store.new).shape.depth ≤ (N.state store.old).shape.depth) }
-    ensures does { Does (edit_writes (N.state store.old).shape.depth) ((N.state store.old).shape.depth + 1) (N.state store.old) (N.state store.new) }
+    ensures does { CostsAtMost (edit_writes (N.state store.old).shape.depth) ((N.state store.old).shape.depth + 1) (N.state store.old) (N.state store.new) }
     ensures free { fixed ≡ true → (N.state store.old).shape.free ≤ (N.state store.new).shape.free }
     ensures cause { HasCause (N.state store.old).faults (N.state store.new).faults result }
     ensures below { N.follows store.old store.new }
 {
     let mut shape = store.shape();
     let _total = total_of(&shape);
-    if !trace::<N, K>(store, desk, key)? {
+    if !find_path::<N, K>(store, desk, key)? {
         return Ok(());
     }
     let at = desk.path[(shape.depth - 1) as usize].at;
@@ -226,17 +238,23 @@ pub fn remove<N: NodeStore, K: KeyOrder>(
     ensures answer { IsTrue (N.state store.old).tells → IfOk result (λ answer. AnswersRemove K.cmp key.now (N.state store.old) answer) }
     // The pairs are the sorted list without that one pair.
     ensures pairs { IsTrue (N.state store.old).tells → IfOk result (λ answer. RemovesPair K.cmp key.now (pairs_of (N.state store.old)) (pairs_of (N.state store.new)) answer) }
+    // Their values stay such as the order has.
+    ensures values { IsTrue (N.state store.old).tells → HasValues K.is_value (N.state store.old) → OnOk result (HasValues K.is_value (N.state store.new)) }
     // They keep the rules of a tree.
     ensures tree { IsTrue (N.state store.old).tells → OnOk result (IsTree K.is_key K.cmp (N.state store.new)) }
     // Nodes that aren't the tree's stay as they were.
     ensures others { IsTrue (N.state store.old).tells → OnOk result (KeepsFreeNodes (N.state store.old) (N.state store.new)) }
     // An index root gets at most one record more; a root above it has two, and comes only where its records are many.
     ensures roots { IsTrue (N.state store.old).tells → OnOk result (BoundsRoot K.MAX (N.state store.old) (N.state store.new) (N.state store.new).shape.depth (N.state store.new).shape.root) }
+    // A tree without a pair has no level.
+    ensures bare { IsTrue (N.state store.old).tells → IfOk result (λ answer. answer ≡ Removed.Done → pairs_of (N.state store.new) ≡ [] → (N.state store.new).shape.depth ≡ 0) }
     // A root index with one record doesn't stay.
-    ensures thick { IsTrue (N.state store.old).tells → IfOk result (λ answer. answer ≡ Removed.Done → HasThickRoot (N.state store.new) (N.state store.new).shape.depth (N.state store.new).shape.root) }
+    ensures thick { IsTrue (N.state store.old).tells → IfOk result (λ answer. answer ≡ Removed.Done → RootHasTwoChildren (N.state store.new) (N.state store.new).shape.depth (N.state store.new).shape.root) }
     ensures desk { IsDeskOf (N.state store.old).shape.node_size desk.new }
+    ensures records { OnOk result ((N.state store.new).shape.leaf_records ≤ (N.state store.old).shape.leaf_records) }
+    ensures header { IsTrue (N.state store.old).tells → (N.state store.old).header ≡ (N.state store.old).shape → OnOk result ((N.state store.new).header ≡ (N.state store.new).shape) }
     ensures depth { OnOk result ((N.state store.new).shape.depth ≤ (N.state store.old).shape.depth + 1) }
-    ensures does { Does (edit_writes (N.state store.old).shape.depth) ((N.state store.old).shape.depth + 1) (N.state store.old) (N.state store.new) }
+    ensures does { CostsAtMost (edit_writes (N.state store.old).shape.depth) ((N.state store.old).shape.depth + 1) (N.state store.old) (N.state store.new) }
     // In an order of one key length it takes no node, and doesn't raise the tree.
     ensures free { K.FIXED ≡ true → (N.state store.old).shape.free ≤ (N.state store.new).shape.free }
     ensures kept { K.FIXED ≡ true → OnOk result ((N.state store.new).shape.depth ≤ (N.state store.old).shape.depth) }
@@ -274,16 +292,18 @@ pub(crate) fn change_pair<N: NodeStore, K: KeyOrder>(
         → OnOk result (BoundsRoot K.MAX (N.state store.old) (N.state store.new) (N.state store.new).shape.depth (N.state store.new).shape.root) }
     ensures thick { IsTrue (N.state store.old).tells → 3 * (K.MAX + 8) ≤ node_room (N.state store.old).shape.node_size
         → HoldsKeyOf K.cmp key.now (N.state store.old) desk.old.first.key → length (record_of desk.old.first) ≤ (N.state store.old).shape.node_size / 2 - 10
-        → OnOk result (HasThickRoot (N.state store.new) (N.state store.new).shape.depth (N.state store.new).shape.root) }
+        → OnOk result (RootHasTwoChildren (N.state store.new) (N.state store.new).shape.depth (N.state store.new).shape.root) }
     ensures desk { IsDeskOf (N.state store.old).shape.node_size desk.new }
+    ensures records { OnOk result ((N.state store.new).shape.leaf_records ≡ (N.state store.old).shape.leaf_records) }
+    ensures header { IsTrue (N.state store.old).tells → (N.state store.old).header ≡ (N.state store.old).shape → OnOk result ((N.state store.new).header ≡ (N.state store.new).shape) }
     ensures depth { OnOk result ((N.state store.new).shape.depth ≤ (N.state store.old).shape.depth + 1) }
-    ensures does { Does (edit_writes (N.state store.old).shape.depth) ((N.state store.old).shape.depth + 1) (N.state store.old) (N.state store.new) }
+    ensures does { CostsAtMost (edit_writes (N.state store.old).shape.depth) ((N.state store.old).shape.depth + 1) (N.state store.old) (N.state store.new) }
     ensures cause { HasCause (N.state store.old).faults (N.state store.new).faults result }
     ensures below { N.follows store.old store.new }
 {
     let mut shape = store.shape();
     let _total = total_of(&shape);
-    if !trace::<N, K>(store, desk, key)? {
+    if !find_path::<N, K>(store, desk, key)? {
         return Ok(());
     }
     let at = desk.path[(shape.depth - 1) as usize].at;

@@ -4,7 +4,7 @@ ghost use Rattle.btree_node.specs.Node.{IsNode};
 ghost use Rattle.btree_node.specs.Store.{HasCause};
 ghost use Rattle.btree_node.specs.Tree.{IsTree};
 ghost use Rattle.btree_edit.specs.Desk.{IsDeskOf, Finds, IsInTree, Picks};
-ghost use Rattle.btree_edit.specs.Reading.{ReadsOnly, LeadsToLeaf};
+ghost use Rattle.btree_edit.specs.Reading.{ReadsNodes, LeadsToLeaf};
 
 use crate::desk::Desk;
 use crate::search::{key_part, place, read_node, step};
@@ -31,7 +31,7 @@ pub(crate) fn descend<N: NodeStore, K: KeyOrder>(
     ensures depth { IfOk result (λ leaf. IsSome leaf → 0 < (N.state store.old).shape.depth) }
     ensures desk { IsDeskOf (N.state store.old).shape.node_size desk.new }
     ensures held { desk.new.held ≡ desk.old.held }
-    ensures reads { ReadsOnly ((N.state store.old).shape.depth - 1) (N.state store.old) (N.state store.new) }
+    ensures reads { ReadsNodes ((N.state store.old).shape.depth - 1) (N.state store.old) (N.state store.new) }
     ensures cause { HasCause (N.state store.old).faults (N.state store.new).faults result }
     ensures below { N.follows store.old store.new }
 {
@@ -96,7 +96,7 @@ pub fn find<N: NodeStore, K: KeyOrder>(
     // The pair stands in that leaf of the tree.
     ensures place { IsTrue (N.state store.old).tells → IfOk result (λ found. IsInTree (N.state store.old) desk.new found) }
     // It loads one node a level, and changes nothing.
-    ensures reads { ReadsOnly (N.state store.old).shape.depth (N.state store.old) (N.state store.new) }
+    ensures reads { ReadsNodes (N.state store.old).shape.depth (N.state store.old) (N.state store.new) }
     ensures desk { IsDeskOf (N.state store.old).shape.node_size desk.new }
     // It fails only where the store did.
     ensures cause { HasCause (N.state store.old).faults (N.state store.new).faults result }

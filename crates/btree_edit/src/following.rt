@@ -6,7 +6,7 @@ ghost use Rattle.btree_node.specs.Store.{HasCause};
 ghost use Rattle.btree_node.specs.Tree.{IsTree};
 ghost use Rattle.btree_edit.specs.Desk.{IsDeskOf, FindsNext};
 ghost use Rattle.btree_edit.specs.Following.{IsLocated, StepsOver};
-ghost use Rattle.btree_edit.specs.Reading.{ReadsOnly};
+ghost use Rattle.btree_edit.specs.Reading.{ReadsNodes};
 
 use crate::desk::Desk;
 use crate::finding::descend;
@@ -51,7 +51,7 @@ fn locate<N: NodeStore, K: KeyOrder>(
     ensures cut { IfOk result (λ at. IsSome at → IsNode desk.new.node) }
     ensures desk { IsDeskOf (N.state store.old).shape.node_size desk.new }
     ensures held { desk.new.held ≡ desk.old.held }
-    ensures reads { ReadsOnly (N.state store.old).shape.depth (N.state store.old) (N.state store.new) }
+    ensures reads { ReadsNodes (N.state store.old).shape.depth (N.state store.old) (N.state store.new) }
     ensures cause { HasCause (N.state store.old).faults (N.state store.new).faults result }
     ensures below { N.follows store.old store.new }
 {
@@ -69,7 +69,7 @@ fn step_over<N: NodeStore>(store: &mut N, desk: &mut Desk) -> Result<bool, Faile
     requires desk { IsDeskOf (N.state store.old).shape.node_size desk.old }
     ensures steps { IsTrue (N.state store.old).tells → IfOk result (λ some. StepsOver (N.state store.old) desk.old desk.new some) }
     ensures desk { IsDeskOf (N.state store.old).shape.node_size desk.new }
-    ensures reads { ReadsOnly 1 (N.state store.old) (N.state store.new) }
+    ensures reads { ReadsNodes 1 (N.state store.old) (N.state store.new) }
     ensures cause { HasCause (N.state store.old).faults (N.state store.new).faults result }
     ensures below { N.follows store.old store.new }
 {
@@ -95,7 +95,7 @@ pub fn next<N: NodeStore, K: KeyOrder>(
     // It answers true exactly where a pair is above the key, and leaves the least of them.
     ensures next { IsTrue (N.state store.old).tells → IfOk result (λ some. FindsNext K.cmp key.now (N.state store.old) desk.new some) }
     // It changes nothing.
-    ensures reads { ReadsOnly ((N.state store.old).shape.depth + 1) (N.state store.old) (N.state store.new) }
+    ensures reads { ReadsNodes ((N.state store.old).shape.depth + 1) (N.state store.old) (N.state store.new) }
     ensures desk { IsDeskOf (N.state store.old).shape.node_size desk.new }
     // It fails only where the store did.
     ensures cause { HasCause (N.state store.old).faults (N.state store.new).faults result }

@@ -6,7 +6,7 @@ ghost use Rattle.btree_node.specs.Levels.{key_of};
 ghost use Rattle.btree_node.specs.Store.{HasRoom, HasCause};
 ghost use Rattle.btree_node.specs.Tree.{IsTreeNode, kind_at};
 ghost use Rattle.btree_edit.specs.Desk.{IsDeskOf};
-ghost use Rattle.btree_edit.specs.Editing.{Does};
+ghost use Rattle.btree_edit.specs.Editing.{CostsAtMost};
 ghost use Rattle.btree_edit.specs.Halves.{record_of};
 ghost use Rattle.btree_edit.specs.LevelEdit.{taken, node_room, edited, records_on, CanEdit, MovesEnds, LevelEdit};
 ghost use Rattle.btree_edit.specs.Writes.{SetsNext, SetsBack, WritesHalves, IsOpened};
@@ -19,14 +19,14 @@ use hx_bytes::{Failed, write_be32};
 
 /// What a level hands on: how many records name its nodes now, whether that is news, and how many nodes it wrote.
 #[derive(Clone, Copy)]
-pub(crate) struct Handed {
+pub(crate) struct ForParent {
     pub(crate) count: u8,
     pub(crate) changed: bool,
     pub(crate) cost: u32,
 }
 
 /// What a level hands on that couldn't be changed.
-const NOTHING: Handed = Handed {
+const NOTHING: ForParent = ForParent {
     count: 1,
     changed: false,
     cost: 0,
@@ -34,7 +34,7 @@ const NOTHING: Handed = Handed {
 
 /// A node's place in the tree.
 #[derive(Clone, Copy)]
-pub(crate) struct Spot {
+pub(crate) struct NodePlace {
     pub(crate) node: u32,
     pub(crate) height: u8,
     pub(crate) kind: i8,
@@ -90,7 +90,7 @@ fn set_next<N: NodeStore>(
     ensures first { desk.new.first ≡ desk.old.first }
     ensures second { desk.new.second ≡ desk.old.second }
     ensures path { desk.new.path ≡ desk.old.path }
-    ensures does { Does 1 0 (N.state store.old) (N.state store.new) }
+    ensures does { CostsAtMost 1 0 (N.state store.old) (N.state store.new) }
     ensures cause { HasCause (N.state store.old).faults (N.state store.new).faults result }
     ensures below { N.follows store.old store.new }
 {
@@ -121,7 +121,7 @@ fn set_back<N: NodeStore>(
     ensures first { desk.new.first ≡ desk.old.first }
     ensures second { desk.new.second ≡ desk.old.second }
     ensures path { desk.new.path ≡ desk.old.path }
-    ensures does { Does 1 0 (N.state store.old) (N.state store.new) }
+    ensures does { CostsAtMost 1 0 (N.state store.old) (N.state store.new) }
     ensures cause { HasCause (N.state store.old).faults (N.state store.new).faults result }
     ensures below { N.follows store.old store.new }
 {
@@ -135,7 +135,7 @@ fn set_back<N: NodeStore>(
 }
 
 /// Writes the two halves on the desk with the links between them, and keeps the records that name them. Answers the node behind them.
-fn write_halves<N: NodeStore>(store: &mut N, desk: &mut Desk, spot: Spot, fresh: u32) -> u32
+fn write_halves<N: NodeStore>(store: &mut N, desk: &mut Desk, spot: NodePlace, fresh: u32) -> u32
     requires desk { IsDeskOf (N.state store.old).shape.node_size desk.old }
     requires node { IsNode desk.old.node }
     requires other { IsNode desk.old.other }
@@ -150,7 +150,7 @@ fn write_halves<N: NodeStore>(store: &mut N, desk: &mut Desk, spot: Spot, fresh:
     ensures shape { (N.state store.new).shape ≡ (N.state store.old).shape }
     ensures desk { IsDeskOf (N.state store.old).shape.node_size desk.new }
     ensures path { desk.new.path ≡ desk.old.path }
-    ensures does { Does 2 0 (N.state store.old) (N.state store.new) }
+    ensures does { CostsAtMost 2 0 (N.state store.old) (N.state store.new) }
     ensures faults { (N.state store.new).faults ≡ (N.state store.old).faults }
     ensures below { N.follows store.old store.new }
 {
@@ -165,7 +165,7 @@ fn write_halves<N: NodeStore>(store: &mut N, desk: &mut Desk, spot: Spot, fresh:
 }
 
 /// A leaf that is split may have been the last one.
-fn end_behind(shape: &mut TreeShape, spot: Spot, fresh: u32)
+fn end_behind(shape: &mut TreeShape, spot: NodePlace, fresh: u32)
     ensures ends { (before behind : ℕ) → MovesEnds spot.height spot.node (spot.node ∷ fresh ∷ []) before behind shape.old shape.new }
     ensures depth { shape.new.depth ≡ shape.old.depth }
 {
@@ -175,7 +175,7 @@ fn end_behind(shape: &mut TreeShape, spot: Spot, fresh: u32)
 }
 
 /// A leaf that goes may have been the first one or the last one.
-fn end_beside(shape: &mut TreeShape, spot: Spot, next: u32, back: u32)
+fn end_beside(shape: &mut TreeShape, spot: NodePlace, next: u32, back: u32)
     ensures ends { MovesEnds spot.height spot.node [] back next shape.old shape.new }
 {
     if spot.height != 1 {
@@ -194,10 +194,10 @@ fn split_node<N: NodeStore>(
     store: &mut N,
     desk: &mut Desk,
     shape: &mut TreeShape,
-    spot: Spot,
+    spot: NodePlace,
     at: u16,
     count: u8,
-) -> Result<Handed, Failed>
+) -> Result<ForParent, Failed>
     requires desk { IsDeskOf (N.state store.old).shape.node_size desk.old }
     requires node { IsNodeOf spot.kind spot.height desk.old.node }
     requires few { count ≤ 2 }
@@ -215,8 +215,8 @@ fn split_node<N: NodeStore>(
     ensures depth { shape.new.depth ≡ shape.old.depth }
     ensures thrift { IfOk result (λ handed. (handed.count ≡ 2) ⊎ (handed.cost ≤ 3)) }
     ensures cost { IfOk result (λ handed. handed.cost ≤ 4) }
-    ensures done { IfOk result (λ handed. Does handed.cost 1 (N.state store.old) (N.state store.new)) }
-    ensures does { Does 4 1 (N.state store.old) (N.state store.new) }
+    ensures done { IfOk result (λ handed. CostsAtMost handed.cost 1 (N.state store.old) (N.state store.new)) }
+    ensures does { CostsAtMost 4 1 (N.state store.old) (N.state store.new) }
     ensures cause { HasCause (N.state store.old).faults (N.state store.new).faults result }
     ensures below { N.follows store.old store.new }
 {
@@ -237,7 +237,7 @@ fn split_node<N: NodeStore>(
     let next = write_halves(store, desk, spot, fresh);
     set_back(store, desk, spot.height, next, fresh)?;
     end_behind(shape, spot, fresh);
-    Ok(Handed {
+    Ok(ForParent {
         count: 2,
         changed: true,
         cost: 4,
@@ -249,8 +249,8 @@ fn drop_node<N: NodeStore>(
     store: &mut N,
     desk: &mut Desk,
     shape: &mut TreeShape,
-    spot: Spot,
-) -> Result<Handed, Failed>
+    spot: NodePlace,
+) -> Result<ForParent, Failed>
     requires desk { IsDeskOf (N.state store.old).shape.node_size desk.old }
     requires inside { spot.node < (N.state store.old).shape.total }
     requires room { HasRoom 3 (N.state store.old) }
@@ -264,7 +264,7 @@ fn drop_node<N: NodeStore>(
     ensures path { desk.new.path ≡ desk.old.path }
     ensures depth { shape.new.depth ≡ shape.old.depth }
     ensures cost { IfOk result (λ handed. handed.cost ≡ 3) }
-    ensures does { Does 3 0 (N.state store.old) (N.state store.new) }
+    ensures does { CostsAtMost 3 0 (N.state store.old) (N.state store.new) }
     ensures cause { HasCause (N.state store.old).faults (N.state store.new).faults result }
     ensures below { N.follows store.old store.new }
 {
@@ -273,7 +273,7 @@ fn drop_node<N: NodeStore>(
     set_back(store, desk, spot.height, next, back)?;
     store.give_node(spot.node)?;
     end_beside(shape, spot, next, back);
-    Ok(Handed {
+    Ok(ForParent {
         count: 0,
         changed: true,
         cost: 3,
@@ -285,10 +285,10 @@ fn fill_node<N: NodeStore>(
     store: &mut N,
     desk: &mut Desk,
     shape: &mut TreeShape,
-    spot: Spot,
+    spot: NodePlace,
     at: u16,
     count: u8,
-) -> Result<Handed, Failed>
+) -> Result<ForParent, Failed>
     requires desk { IsDeskOf (N.state store.old).shape.node_size desk.old }
     requires node { IsNodeOf spot.kind spot.height desk.old.node }
     requires few { count ≤ 2 }
@@ -304,8 +304,8 @@ fn fill_node<N: NodeStore>(
     ensures path { desk.new.path ≡ desk.old.path }
     ensures depth { shape.new.depth ≡ shape.old.depth }
     ensures cost { IfOk result (λ handed. handed.cost ≤ 3) }
-    ensures done { IfOk result (λ handed. Does handed.cost 0 (N.state store.old) (N.state store.new)) }
-    ensures does { Does 4 0 (N.state store.old) (N.state store.new) }
+    ensures done { IfOk result (λ handed. CostsAtMost handed.cost 0 (N.state store.old) (N.state store.new)) }
+    ensures does { CostsAtMost 4 0 (N.state store.old) (N.state store.new) }
     ensures cause { HasCause (N.state store.old).faults (N.state store.new).faults result }
     ensures below { N.follows store.old store.new }
 {
@@ -315,7 +315,7 @@ fn fill_node<N: NodeStore>(
     }
     store.save(spot.node, &desk.node);
     name_node(&mut desk.first, &desk.node, spot.node);
-    Ok(Handed {
+    Ok(ForParent {
         count: 1,
         changed: at == 0,
         cost: 1,
@@ -327,12 +327,12 @@ pub(crate) fn edit_level<N: NodeStore>(
     store: &mut N,
     desk: &mut Desk,
     shape: &mut TreeShape,
-    spot: Spot,
+    spot: NodePlace,
     at: u16,
     removed: bool,
     count: u8,
     spare: u32,
-) -> Result<Handed, Failed>
+) -> Result<ForParent, Failed>
     requires desk { IsDeskOf (N.state store.old).shape.node_size desk.old }
     requires node { IsNodeOf spot.kind spot.height desk.old.node }
     requires few { count ≤ 2 }
@@ -349,8 +349,8 @@ pub(crate) fn edit_level<N: NodeStore>(
     ensures cost { IfOk result (λ handed. handed.cost ≤ 4) }
     // Only a node that was split takes four writes.
     ensures thrift { IfOk result (λ handed. (handed.count ≡ 2) ⊎ (handed.cost ≤ 3)) }
-    ensures done { IfOk result (λ handed. Does handed.cost (min 1 spare) (N.state store.old) (N.state store.new)) }
-    ensures does { Does 4 (min 1 spare) (N.state store.old) (N.state store.new) }
+    ensures done { IfOk result (λ handed. CostsAtMost handed.cost (min 1 spare) (N.state store.old) (N.state store.new)) }
+    ensures does { CostsAtMost 4 (min 1 spare) (N.state store.old) (N.state store.new) }
     ensures cause { HasCause (N.state store.old).faults (N.state store.new).faults result }
     ensures below { N.follows store.old store.new }
 {

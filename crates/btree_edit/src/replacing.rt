@@ -1,12 +1,12 @@
 //! A pair's value replaced: in its leaf alone where the new value has the length of the old one.
 ghost use Rattle.std.specs.Prelude.{◌≡◌, ◌≢◌, ◌≤◌, ◌<◌, ◌+◌, ◌-◌, ◌*◌, ◌/◌, ◌⊎◌, ◌++◌, IsTrue, length, OnOk, IfOk};
 ghost use Rattle.btree_node.specs.Store.{HasRoom, HasCause};
-ghost use Rattle.btree_node.specs.Tree.{IsTree, pairs_of};
+ghost use Rattle.btree_node.specs.Tree.{IsTree, HasValues, pairs_of};
 ghost use Rattle.btree_edit.specs.Desk.{IsDeskOf};
-ghost use Rattle.btree_edit.specs.Editing.{Does, edit_writes};
+ghost use Rattle.btree_edit.specs.Editing.{CostsAtMost, edit_writes};
 ghost use Rattle.btree_edit.specs.Halves.{record_of};
 ghost use Rattle.btree_edit.specs.LevelEdit.{node_room};
-ghost use Rattle.btree_edit.specs.Rising.{BoundsRoot};
+ghost use Rattle.btree_edit.specs.Rising.{BoundsRoot, RootHasTwoChildren};
 ghost use Rattle.btree_edit.specs.Sorted.{HoldsKeyOf, ChangesPair, ReplacesPair, KeepsFreeNodes, EditsTree};
 ghost use Rattle.btree_edit.specs.Swapping.{HasRecord, SwapsRecord, HasValueOf, IsLeafWritten, ChangesLeafAlone};
 ghost use Rattle.btree_edit.specs.Answers.{AnswersRemove};
@@ -31,6 +31,7 @@ pub fn replace<N: NodeStore, K: KeyOrder>(
     // The node size is one that the format allows the tree: three index records with the longest keys fit.
     requires wide { IsTrue (N.state store.old).tells → 3 * (K.MAX + 8) ≤ node_room (N.state store.old).shape.node_size }
     requires short { length key.now + length value.now ≤ (N.state store.old).shape.node_size / 2 - 10 }
+    requires value { IsTrue (N.state store.old).tells → K.is_value value.now }
     // A value of the length of the old one wants no free node, and one write at most.
     requires depth { HasValueOf K.cmp key.now (length value.now) (N.state store.old) ⊎ ((N.state store.old).shape.depth ≤ 11) }
     requires free { HasValueOf K.cmp key.now (length value.now) (N.state store.old) ⊎ ((N.state store.old).shape.depth + 1 ≤ (N.state store.old).shape.free) }
@@ -40,19 +41,27 @@ pub fn replace<N: NodeStore, K: KeyOrder>(
     ensures answer { IsTrue (N.state store.old).tells → IfOk result (λ answer. AnswersRemove K.cmp key.now (N.state store.old) answer) }
     // The pairs are the sorted list with that one value changed.
     ensures pairs { IsTrue (N.state store.old).tells → IfOk result (λ answer. ReplacesPair K.cmp key.now value.now (pairs_of (N.state store.old)) (pairs_of (N.state store.new)) answer) }
+    // Their values stay such as the order has.
+    ensures values { IsTrue (N.state store.old).tells → HasValues K.is_value (N.state store.old) → OnOk result (HasValues K.is_value (N.state store.new)) }
     // They keep the rules of a tree.
     ensures tree { IsTrue (N.state store.old).tells → OnOk result (IsTree K.is_key K.cmp (N.state store.new)) }
     // Nodes that aren't the tree's stay as they were.
     ensures others { IsTrue (N.state store.old).tells → OnOk result (KeepsFreeNodes (N.state store.old) (N.state store.new)) }
     // An index root gets at most one record more, and the tree rises only where it has no room for one.
     ensures roots { IsTrue (N.state store.old).tells → OnOk result (BoundsRoot K.MAX (N.state store.old) (N.state store.new) (N.state store.new).shape.depth (N.state store.new).shape.root) }
+    // Where the root index had two records or more, it has.
+    ensures thick { IsTrue (N.state store.old).tells → RootHasTwoChildren (N.state store.old) (N.state store.old).shape.depth (N.state store.old).shape.root
+        → OnOk result (RootHasTwoChildren (N.state store.new) (N.state store.new).shape.depth (N.state store.new).shape.root) }
     // A value of the length of the old one changes the leaf alone, by one write, and keeps the shape.
     ensures alone { HasValueOf K.cmp key.now (length value.now) (N.state store.old) → OnOk result (ChangesLeafAlone K.cmp key.now (N.state store.old) (N.state store.new)) }
-    ensures once { HasValueOf K.cmp key.now (length value.now) (N.state store.old) → Does 1 0 (N.state store.old) (N.state store.new) }
+    ensures once { HasValueOf K.cmp key.now (length value.now) (N.state store.old) → CostsAtMost 1 0 (N.state store.old) (N.state store.new) }
     ensures kept { HasValueOf K.cmp key.now (length value.now) (N.state store.old) → (N.state store.new).shape ≡ (N.state store.old).shape }
     ensures desk { IsDeskOf (N.state store.old).shape.node_size desk.new }
+    // The header node goes on saying the tree's numbers.
+    ensures header { IsTrue (N.state store.old).tells → (N.state store.old).header ≡ (N.state store.old).shape → OnOk result ((N.state store.new).header ≡ (N.state store.new).shape) }
+    ensures records { OnOk result ((N.state store.new).shape.leaf_records ≡ (N.state store.old).shape.leaf_records) }
     ensures depth { OnOk result ((N.state store.new).shape.depth ≤ (N.state store.old).shape.depth + 1) }
-    ensures does { Does (edit_writes (N.state store.old).shape.depth) ((N.state store.old).shape.depth + 1) (N.state store.old) (N.state store.new) }
+    ensures does { CostsAtMost (edit_writes (N.state store.old).shape.depth) ((N.state store.old).shape.depth + 1) (N.state store.old) (N.state store.new) }
     ensures cause { HasCause (N.state store.old).faults (N.state store.new).faults result }
     ensures below { N.follows store.old store.new }
 {
@@ -100,7 +109,7 @@ fn swap_value<N: NodeStore>(
         → OnOk result (SwapsRecord node index (record_of desk.old.first) (N.state store.old) (N.state store.new)) }
     ensures desk { IsDeskOf (N.state store.old).shape.node_size desk.new }
     ensures shape { (N.state store.new).shape ≡ (N.state store.old).shape }
-    ensures does { Does 1 0 (N.state store.old) (N.state store.new) }
+    ensures does { CostsAtMost 1 0 (N.state store.old) (N.state store.new) }
     ensures cause { HasCause (N.state store.old).faults (N.state store.new).faults result }
     ensures below { N.follows store.old store.new }
 {
@@ -141,9 +150,15 @@ fn give_value<N: NodeStore, K: KeyOrder>(
     ensures roots { length value.now ≢ length desk.old.held.value → IsTrue (N.state store.old).tells → 3 * (K.MAX + 8) ≤ node_room (N.state store.old).shape.node_size
         → length (desk.old.held.key ++ value.now) ≤ (N.state store.old).shape.node_size / 2 - 10 → HoldsKeyOf K.cmp key.now (N.state store.old) desk.old.held.key
         → OnOk result (BoundsRoot K.MAX (N.state store.old) (N.state store.new) (N.state store.new).shape.depth (N.state store.new).shape.root) }
+    ensures thick { length value.now ≢ length desk.old.held.value → IsTrue (N.state store.old).tells → 3 * (K.MAX + 8) ≤ node_room (N.state store.old).shape.node_size
+        → length (desk.old.held.key ++ value.now) ≤ (N.state store.old).shape.node_size / 2 - 10 → HoldsKeyOf K.cmp key.now (N.state store.old) desk.old.held.key
+        → OnOk result (RootHasTwoChildren (N.state store.new) (N.state store.new).shape.depth (N.state store.new).shape.root) }
+    ensures header { length value.now ≢ length desk.old.held.value → IsTrue (N.state store.old).tells → (N.state store.old).header ≡ (N.state store.old).shape
+        → OnOk result ((N.state store.new).header ≡ (N.state store.new).shape) }
+    ensures records { OnOk result ((N.state store.new).shape.leaf_records ≡ (N.state store.old).shape.leaf_records) }
     ensures shape { length value.now ≡ length desk.old.held.value → (N.state store.new).shape ≡ (N.state store.old).shape }
-    ensures does_one { length value.now ≡ length desk.old.held.value → Does 1 0 (N.state store.old) (N.state store.new) }
-    ensures does { Does (edit_writes (N.state store.old).shape.depth) ((N.state store.old).shape.depth + 1) (N.state store.old) (N.state store.new) }
+    ensures does_one { length value.now ≡ length desk.old.held.value → CostsAtMost 1 0 (N.state store.old) (N.state store.new) }
+    ensures does { CostsAtMost (edit_writes (N.state store.old).shape.depth) ((N.state store.old).shape.depth + 1) (N.state store.old) (N.state store.new) }
     ensures desk { IsDeskOf (N.state store.old).shape.node_size desk.new }
     ensures depth { OnOk result ((N.state store.new).shape.depth ≤ (N.state store.old).shape.depth + 1) }
     ensures cause { HasCause (N.state store.old).faults (N.state store.new).faults result }

@@ -4,10 +4,10 @@ ghost use Rattle.btree_node.specs.Node.{IsNodeOf, items, next_of, back_of};
 ghost use Rattle.btree_node.specs.Store.{Store, HasRoom, HasCause};
 ghost use Rattle.btree_node.specs.Tree.{kind_at};
 ghost use Rattle.btree_edit.specs.Desk.{IsDeskOf};
-ghost use Rattle.btree_edit.specs.Editing.{Does};
+ghost use Rattle.btree_edit.specs.Editing.{CostsAtMost};
 ghost use Rattle.btree_edit.specs.Halves.{record_of, put_of};
 ghost use Rattle.btree_edit.specs.LevelEdit.{taken, node_room};
-ghost use Rattle.btree_edit.specs.Rising.{BoundsRoot, HasThickRoot, Climbs, Rises, IsLowering, MakesTree, IsBare, IsLeafRecord};
+ghost use Rattle.btree_edit.specs.Rising.{BoundsRoot, RootHasTwoChildren, Climbs, Rises, IsLowering, MakesTree, IsBare, IsLeafRecord};
 
 use crate::desk::{Desk, Held};
 use crate::search::{child_part, kind_at, read_node};
@@ -34,7 +34,7 @@ fn make_node(node: &mut Node, height: u16, first: &Held, second: &Held, count: u
 }
 
 /// Makes the first leaf of an empty tree, with the record on the desk.
-pub(crate) fn plant<N: NodeStore, K: KeyOrder>(
+pub(crate) fn first_leaf<N: NodeStore, K: KeyOrder>(
     store: &mut N,
     desk: &mut Desk,
     shape: &mut TreeShape,
@@ -46,7 +46,7 @@ pub(crate) fn plant<N: NodeStore, K: KeyOrder>(
         → OnOk result (Rises K.is_key K.cmp K.MAX (N.state store.old) (N.state store.new) (record_of desk.old.first ∷ []) shape.new) }
     ensures desk { IsDeskOf (N.state store.old).shape.node_size desk.new }
     ensures depth { OnOk result (shape.new.depth ≡ 1) }
-    ensures does { Does 2 1 (N.state store.old) (N.state store.new) }
+    ensures does { CostsAtMost 2 1 (N.state store.old) (N.state store.new) }
     ensures cause { HasCause (N.state store.old).faults (N.state store.new).faults result }
     ensures below { N.follows store.old store.new }
 {
@@ -62,7 +62,7 @@ pub(crate) fn plant<N: NodeStore, K: KeyOrder>(
 }
 
 /// Makes a root above the two nodes that the records on the desk name.
-fn raise<N: NodeStore, K: KeyOrder>(
+fn add_root<N: NodeStore, K: KeyOrder>(
     store: &mut N,
     desk: &mut Desk,
     shape: &mut TreeShape,
@@ -76,7 +76,7 @@ fn raise<N: NodeStore, K: KeyOrder>(
     ensures desk { IsDeskOf (N.state store.old).shape.node_size desk.new }
     ensures higher { OnOk result (shape.new.depth ≡ shape.old.depth + 1) }
     ensures depth { shape.new.depth ≤ shape.old.depth + 1 }
-    ensures does { Does 2 1 (N.state store.old) (N.state store.new) }
+    ensures does { CostsAtMost 2 1 (N.state store.old) (N.state store.new) }
     ensures cause { HasCause (N.state store.old).faults (N.state store.new).faults result }
     ensures below { N.follows store.old store.new }
 {
@@ -96,7 +96,7 @@ fn raise<N: NodeStore, K: KeyOrder>(
 }
 
 /// Gives back roots that have one record, at most so many.
-fn lower<N: NodeStore, K: KeyOrder>(
+fn drop_single_child_roots<N: NodeStore, K: KeyOrder>(
     store: &mut N,
     desk: &mut Desk,
     shape: &mut TreeShape,
@@ -107,10 +107,10 @@ fn lower<N: NodeStore, K: KeyOrder>(
     ensures lowers { IsTrue (N.state store.old).tells → (start : Store) (records : List (List ℕ)) → (N.state store.old).shape.total ≤ 2 ^ 32 → shape.old.depth ≤ 12
         → IsLowering K.is_key K.cmp K.MAX start (N.state store.old) records shape.old most → OnOk result (Rises K.is_key K.cmp K.MAX start (N.state store.new) records shape.new) }
     ensures thick { IsTrue (N.state store.old).tells → (start : Store) (records : List (List ℕ)) → (N.state store.old).shape.total ≤ 2 ^ 32 → shape.old.depth ≤ 12
-        → IsLowering K.is_key K.cmp K.MAX start (N.state store.old) records shape.old most → OnOk result (HasThickRoot (N.state store.new) shape.new.depth shape.new.root) }
+        → IsLowering K.is_key K.cmp K.MAX start (N.state store.old) records shape.old most → OnOk result (RootHasTwoChildren (N.state store.new) shape.new.depth shape.new.root) }
     ensures desk { IsDeskOf (N.state store.old).shape.node_size desk.new }
     ensures depth { shape.new.depth ≤ shape.old.depth }
-    ensures does { Does most 0 (N.state store.old) (N.state store.new) }
+    ensures does { CostsAtMost most 0 (N.state store.old) (N.state store.new) }
     ensures cause { HasCause (N.state store.old).faults (N.state store.new).faults result }
     ensures below { N.follows store.old store.new }
 {
@@ -134,7 +134,7 @@ fn lower<N: NodeStore, K: KeyOrder>(
 
 /// How a climb ended: how many records name the nodes of the highest level that was changed, how many writes and how many nodes are left.
 #[derive(Clone, Copy)]
-pub(crate) struct Climbed {
+pub(crate) struct Propagated {
     pub(crate) count: u8,
     pub(crate) budget: u32,
     pub(crate) left: u32,
@@ -154,11 +154,11 @@ fn clear_shape(shape: &mut TreeShape)
 }
 
 /// What the root hands on: a new root above two nodes, no root, or roots with one record given back.
-pub(crate) fn crown<N: NodeStore, K: KeyOrder>(
+pub(crate) fn finish_at_root<N: NodeStore, K: KeyOrder>(
     store: &mut N,
     desk: &mut Desk,
     shape: &mut TreeShape,
-    end: Climbed,
+    end: Propagated,
 ) -> Result<(), Failed>
     requires desk { IsDeskOf (N.state store.old).shape.node_size desk.old }
     requires depth { shape.old.depth ≤ 12 }
@@ -170,11 +170,11 @@ pub(crate) fn crown<N: NodeStore, K: KeyOrder>(
         → Climbs K.is_key K.cmp K.MAX start (N.state store.old) records shape.old end.count end.left desk.old end.budget → OnOk result (Rises K.is_key K.cmp K.MAX start (N.state store.new) records shape.new) }
     ensures thick { IsTrue (N.state store.old).tells → (start : Store) (records : List (List ℕ)) → (N.state store.old).shape.total ≤ 2 ^ 32 → 0 < start.shape.depth
         → 3 * (K.MAX + 8) ≤ node_room (N.state store.old).shape.node_size
-        → Climbs K.is_key K.cmp K.MAX start (N.state store.old) records shape.old end.count end.left desk.old end.budget → OnOk result (HasThickRoot (N.state store.new) shape.new.depth shape.new.root) }
+        → Climbs K.is_key K.cmp K.MAX start (N.state store.old) records shape.old end.count end.left desk.old end.budget → OnOk result (RootHasTwoChildren (N.state store.new) shape.new.depth shape.new.root) }
     ensures desk { IsDeskOf (N.state store.old).shape.node_size desk.new }
     ensures depth { shape.new.depth ≤ shape.old.depth + 1 }
     ensures kept { end.left ≡ 0 → shape.new.depth ≤ shape.old.depth }
-    ensures does { Does (end.budget + 5) end.left (N.state store.old) (N.state store.new) }
+    ensures does { CostsAtMost (end.budget + 5) end.left (N.state store.old) (N.state store.new) }
     ensures cause { HasCause (N.state store.old).faults (N.state store.new).faults result }
     ensures below { N.follows store.old store.new }
 {
@@ -186,22 +186,24 @@ pub(crate) fn crown<N: NodeStore, K: KeyOrder>(
         if end.left == 0 {
             return Ok(());
         }
-        return raise::<N, K>(store, desk, shape);
+        return add_root::<N, K>(store, desk, shape);
     }
-    lower::<N, K>(store, desk, shape, end.budget + 5)
+    drop_single_child_roots::<N, K>(store, desk, shape, end.budget + 5)
 }
 
 /// Writes the tree's numbers.
-pub(crate) fn settle<N: NodeStore, K: KeyOrder>(store: &mut N, shape: &TreeShape)
+pub(crate) fn write_tree_header<N: NodeStore, K: KeyOrder>(store: &mut N, shape: &TreeShape)
     requires { HasRoom 1 (N.state store.old) }
     ensures settles { IsTrue (N.state store.old).tells → (start : Store) (records : List (List ℕ)) → (N.state store.old).shape.total ≤ 2 ^ 32 → shape.now.depth ≤ 12
         → shape.now.leaf_records ≡ length records → Rises K.is_key K.cmp K.MAX start (N.state store.old) records shape.now → MakesTree K.is_key K.cmp start (N.state store.new) records }
     ensures roots { IsTrue (N.state store.old).tells → (start : Store) (records : List (List ℕ)) → Rises K.is_key K.cmp K.MAX start (N.state store.old) records shape.now
         → BoundsRoot K.MAX start (N.state store.new) (N.state store.new).shape.depth (N.state store.new).shape.root }
     ensures thick { IsTrue (N.state store.old).tells → (start : Store) (records : List (List ℕ)) → Rises K.is_key K.cmp K.MAX start (N.state store.old) records shape.now
-        → HasThickRoot (N.state store.old) shape.now.depth shape.now.root → HasThickRoot (N.state store.new) (N.state store.new).shape.depth (N.state store.new).shape.root }
+        → RootHasTwoChildren (N.state store.old) shape.now.depth shape.now.root → RootHasTwoChildren (N.state store.new) (N.state store.new).shape.depth (N.state store.new).shape.root }
+    ensures records { (N.state store.new).shape.leaf_records ≡ shape.now.leaf_records }
+    ensures header { IsTrue (N.state store.old).tells → (N.state store.new).header ≡ (N.state store.new).shape }
     ensures depth { (N.state store.new).shape.depth ≡ shape.now.depth }
-    ensures does { Does 1 0 (N.state store.old) (N.state store.new) }
+    ensures does { CostsAtMost 1 0 (N.state store.old) (N.state store.new) }
     ensures faults { (N.state store.new).faults ≡ (N.state store.old).faults }
     ensures below { N.follows store.old store.new }
 {

@@ -4,7 +4,7 @@ ghost use Rattle.btree_node.specs.Node.{IsNode, IsNodeOf, items};
 ghost use Rattle.btree_node.specs.Levels.{key_of, value_of, child_of};
 ghost use Rattle.btree_node.specs.Store.{HasCause};
 ghost use Rattle.btree_node.specs.Tree.{kind_at};
-ghost use Rattle.btree_edit.specs.Reading.{ReadsOnly, IsPlace, HasNoKey, IsLead};
+ghost use Rattle.btree_edit.specs.Reading.{ReadsNodes, IsPlace, HasNoKey, IsLead};
 
 use btree_node::{KeyOrder, Node, NodeStore};
 use hx_bytes::{Failed, read_be16, read_be32};
@@ -55,14 +55,14 @@ pub(crate) fn place<K: KeyOrder>(node: &Node, key: &[u8]) -> Option<u16>
 
 /// A step from an index node towards a key.
 #[derive(Clone, Copy)]
-pub struct Lead {
+pub struct ChildStep {
     pub(crate) place: u16,
     pub(crate) index: u16,
     pub(crate) child: u32,
 }
 
 /// The record of an index node that leads to a key; none where there is no record, or one without a valid key.
-pub(crate) fn step<K: KeyOrder>(node: &Node, key: &[u8]) -> Option<Lead>
+pub(crate) fn step<K: KeyOrder>(node: &Node, key: &[u8]) -> Option<ChildStep>
     requires cut { IsNode node.now }
     requires key { K.is_key key.now }
     ensures step { IfSome result (λ step. IsLead K.cmp key.now (items node.now) step) }
@@ -76,7 +76,7 @@ pub(crate) fn step<K: KeyOrder>(node: &Node, key: &[u8]) -> Option<Lead>
     }
     let index = place.saturating_sub(1);
     let child = child_part(node.item(index));
-    Some(Lead {
+    Some(ChildStep {
         place,
         index,
         child,
@@ -103,7 +103,7 @@ pub(crate) fn read_node<N: NodeStore>(
     ensures value { IsTrue (N.state store.old).tells → IfOk result (λ yes. IsTrue yes → into.new ≡ (N.state store.old).nodes number) }
     ensures sound { IsTrue (N.state store.old).tells → number < (N.state store.old).shape.total → IsNodeOf (kind_at height) height ((N.state store.old).nodes number) → height < 256 → IfOk result (λ yes. IsTrue yes) }
     ensures size { length into.new ≡ length into.old }
-    ensures reads { ReadsOnly 1 (N.state store.old) (N.state store.new) }
+    ensures reads { ReadsNodes 1 (N.state store.old) (N.state store.new) }
     ensures cause { HasCause (N.state store.old).faults (N.state store.new).faults result }
     ensures below { N.follows store.old store.new }
 {

@@ -109,13 +109,13 @@ fn joined<'a>(
 
 /// A place in a list of records, and what those before it take.
 #[derive(Clone, Copy)]
-struct Cut {
+struct SplitPoint {
     at: usize,
     front: usize,
 }
 
 /// The place nearest to the middle of all that the records take.
-fn middle(node: &Node, first: &Held, second: &Held, at: u16, count: u8, total: usize) -> Cut
+fn middle(node: &Node, first: &Held, second: &Held, at: u16, count: u8, total: usize) -> SplitPoint
     requires cut { IsNode node.now }
     requires few { count ≤ 2 }
     requires place { at ≤ length (items node.now) }
@@ -129,11 +129,11 @@ fn middle(node: &Node, first: &Held, second: &Held, at: u16, count: u8, total: u
     for i in 0..many {
         let size = joined(node, first, second, at, count, i).len() + 2;
         if 2 * front + size >= total {
-            return Cut { at: i, front };
+            return SplitPoint { at: i, front };
         }
         front += size;
     }
-    Cut { at: many, front }
+    SplitPoint { at: many, front }
 }
 
 /// Puts the records from a place on into the other node, which is empty.

@@ -4,16 +4,16 @@ ghost use Rattle.btree_node.specs.Node.{items};
 ghost use Rattle.btree_node.specs.Store.{HasCause};
 ghost use Rattle.btree_node.specs.Tree.{IsTree, IsTreeNode};
 ghost use Rattle.btree_edit.specs.Desk.{IsDeskOf};
-ghost use Rattle.btree_edit.specs.Reading.{ReadsOnly};
+ghost use Rattle.btree_edit.specs.Reading.{ReadsNodes};
 ghost use Rattle.btree_edit.specs.Way.{stop_at, LeadsWay};
 
-use crate::desk::{Desk, Stop};
+use crate::desk::{Desk, PathStep};
 use crate::search::{place, read_node, step};
 use btree_node::{KeyOrder, NodeStore};
 use hx_bytes::Failed;
 
 /// Goes down from the root to the leaf of a key, and keeps the way. The leaf stays on the desk.
-pub(crate) fn trace<N: NodeStore, K: KeyOrder>(
+pub(crate) fn find_path<N: NodeStore, K: KeyOrder>(
     store: &mut N,
     desk: &mut Desk,
     key: &[u8],
@@ -30,7 +30,7 @@ pub(crate) fn trace<N: NodeStore, K: KeyOrder>(
     ensures desk { IsDeskOf (N.state store.old).shape.node_size desk.new }
     ensures held { desk.new.held ≡ desk.old.held }
     ensures first { desk.new.first ≡ desk.old.first }
-    ensures reads { ReadsOnly (N.state store.old).shape.depth (N.state store.old) (N.state store.new) }
+    ensures reads { ReadsNodes (N.state store.old).shape.depth (N.state store.old) (N.state store.new) }
     ensures cause { HasCause (N.state store.old).faults (N.state store.new).faults result }
     ensures below { N.follows store.old store.new }
 {
@@ -46,7 +46,7 @@ pub(crate) fn trace<N: NodeStore, K: KeyOrder>(
         let Some(step) = step::<K>(&desk.node, key) else {
             return Ok(false);
         };
-        desk.path[level as usize] = Stop {
+        desk.path[level as usize] = PathStep {
             node,
             at: step.index,
         };
@@ -58,6 +58,6 @@ pub(crate) fn trace<N: NodeStore, K: KeyOrder>(
     let Some(at) = place::<K>(&desk.node, key) else {
         return Ok(false);
     };
-    desk.path[(shape.depth - 1) as usize] = Stop { node, at };
+    desk.path[(shape.depth - 1) as usize] = PathStep { node, at };
     Ok(true)
 }

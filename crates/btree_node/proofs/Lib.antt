@@ -12,3 +12,5 @@ pub mod Units
 pub mod Levels
 pub mod Ranks
 pub mod Flags
+pub mod Heads
+pub mod OneBit

@@ -74,3 +74,13 @@ attr_cmp = then_cmp (on attr_file nat_cmp) (then_cmp (on attr_units (slice_cmp n
 -- the two bytes of padding as zeros
 abbrev pub attr_plain : List ℕ → List ℕ
 attr_plain key = slice_set (slice_set key 2 0) 3 0
+
+-- ---- values
+
+-- an overflow record has eight extents
+abbrev pub is_eight_extents : List ℕ → Type 0
+is_eight_extents value = length value ≡ 64
+
+-- the order of keys says nothing of the values
+abbrev pub anything : List ℕ → Type 0
+anything value = Unit {0}

@@ -5,5 +5,7 @@ pub mod KeyLaws
 pub mod Levels
 pub mod Store
 pub mod Tree
+pub mod TreeFile
 pub mod Kept
 pub mod Mem
+pub mod MemLaws

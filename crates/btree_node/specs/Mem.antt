@@ -3,12 +3,13 @@ use Rattle.std.specs.Prelude.{◌≡◌, ◌<◌, ℕ, ◌+◌, ◌*◌, ◌/◌
 use Rattle.btree_node.specs.Store.{Store}
 use Rattle.btree_node.specs.declared.mem.MemNodes.{MemNodes}
 
--- node 0 stands for the header node, and there is no map node
+-- node 0 stands for the header node, and there is no map node; no call fails
 abbrev pub mem_state : MemNodes → Store
 mem_state mem = record {
   tells = true;
   names = [];
   shape = mem.shape;
+  header = mem.shape;
   nodes = λ n. slice_index_or mem.nodes.items n [];
   used = λ n. slice_index_or mem.used.items n true;
   reserved = λ n. n == 0;
@@ -17,10 +18,10 @@ mem_state mem = record {
   writes_left = mem.writes_left;
   sectors_left = mem.writes_left * (mem.shape.node_size / 512);
   loads = mem.loads;
-  faults = mem.faults;
+  faults = 0;
 }
 
--- the store has a tree without a node
+-- so many nodes of this size, of which node 0 alone is in use, and a tree without a node
 pub record IsBare (size count : ℕ) (store : Store) : Type 0 where
   pub node_size : store.shape.node_size ≡ size
   pub total : store.shape.total ≡ count
@@ -31,3 +32,4 @@ pub record IsBare (size count : ℕ) (store : Store) : Type 0 where
   pub last : store.shape.last ≡ 0
   pub leaf_records : store.shape.leaf_records ≡ 0
   pub used : (n : ℕ) → n < count → store.used n ≡ (n == 0)
+  pub reserved : (n : ℕ) → store.reserved n ≡ (n == 0)

@@ -1,5 +1,5 @@
 -- A node of a B-tree: a descriptor of 14 bytes, the records, free space, and the offsets of the records, which run backwards from the node's end.
-use Rattle.std.specs.Prelude.{◌≡◌, ◌<◌, ◌≤◌, ◌⊎◌, ℕ, ℤ, ◌+◌, ◌-◌, ◌*◌, List, [], length, map, sum_by, slice_index, slice_range, drop, replicate, slice_set}
+use Rattle.std.specs.Prelude.{◌≡◌, ◌<◌, ◌≤◌, ◌⊎◌, ℕ, ℤ, ◌+◌, ◌-◌, ◌*◌, Bool, ◌==◌, ◌||◌, List, [], length, map, sum_by, slice_index, slice_range, drop, replicate, slice_set}
 use Rattle.std.specs.List.{range_with_len}
 use Rattle.std.specs.Int.{cast_signed, cast_unsigned, w8}
 use Rattle.hx_bytes.specs.Field.{big_at, big, put_at}
@@ -7,6 +7,10 @@ use Rattle.hx_bytes.specs.Field.{big_at, big, put_at}
 -- a size that a node can have: a power of two from 512 to 32,768
 abbrev pub IsNodeSize : ℕ → Type 0
 IsNodeSize n = (n ≡ 512) ⊎ (n ≡ 1024) ⊎ (n ≡ 2048) ⊎ (n ≡ 4096) ⊎ (n ≡ 8192) ⊎ (n ≡ 16384) ⊎ (n ≡ 32768)
+
+-- the same as a test
+abbrev pub is_node_size : ℕ → Bool
+is_node_size n = n == 512 || n == 1024 || n == 2048 || n == 4096 || n == 8192 || n == 16384 || n == 32768
 
 -- the node behind this one at the same height, or 0
 unfoldable pub next_of : List ℕ → ℕ

@@ -1,5 +1,7 @@
 -- A store of the nodes of one tree, as a contract sees it.
-use Rattle.std.specs.Prelude.{◌≡◌, ◌≢◌, ◌⊎◌, ◌<◌, ◌≤◌, ℕ, ◌+◌, ◌-◌, ◌*◌, ◌/◌, ◌^◌, ◌==◌, ◌||◌, Bool, true, false, IsTrue, List, min, Result, OnErr, if◌then◌else◌}
+use Rattle.std.specs.Prelude.{◌≡◌, ◌≢◌, ◌⊎◌, ◌<◌, ◌≤◌, ℕ, ◌+◌, ◌-◌, ◌*◌, ◌/◌, ◌^◌, ◌==◌, ◌||◌, Bool, true, false, not, IsTrue, List, min, Result, OnErr, if◌then◌else◌}
+use Rattle.std.specs.List.{count_by, range_with_len}
+use Rattle.btree_node.specs.Node.{IsNodeSize}
 use Rattle.btree_node.specs.declared.store.TreeShape.{TreeShape}
 
 -- All that a contract sees of it.
@@ -9,6 +11,8 @@ pub record Store : Type 0 where
   -- the references that it holds, by their ghost names
   pub names : List ℕ
   pub shape : TreeShape
+  -- the numbers that the header node says
+  pub header : TreeShape
   -- the bytes of each node
   pub nodes : ℕ → List ℕ
   -- whether the map has a node's bit
@@ -28,6 +32,14 @@ pub record Store : Type 0 where
 -- the sectors of one node
 abbrev pub node_sectors : Store → ℕ
 node_sectors store = store.shape.node_size / 512
+
+-- how the numbers of every store go together
+pub record IsWellFormed (store : Store) : Type 0 where
+  pub node_size : IsNodeSize store.shape.node_size
+  pub total : store.shape.total < 2 ^ 32
+  pub free : store.shape.free ≤ store.shape.total
+  pub unwritten : store.unwritten ≡ count_by (λ n. not (store.written n)) (range_with_len 0 store.shape.total)
+  pub writes_left : store.writes_left ≡ store.sectors_left / node_sectors store
 
 -- the sectors of all nodes that weren't written since the last commit
 unfoldable pub unwritten_sectors : Store → ℕ
@@ -58,12 +70,14 @@ pub record SameStore (old new : Store) : Type 0 where
 pub record SameNodes (old new : Store) : Type 0 where
   pub nodes : (n : ℕ) → new.nodes n ≡ old.nodes n
   pub used : (n : ℕ) → new.used n ≡ old.used n
+  pub header : new.header ≡ old.header
 
 -- the nodes that a tree can have are as they were, but for this one
 pub record ChangesOnly (node : ℕ) (bytes : List ℕ) (old new : Store) : Type 0 where
   pub here : new.nodes node ≡ bytes
   pub others : (n : ℕ) → n ≢ node → new.nodes n ≡ old.nodes n
-  pub used : IsTrue (old.reserved node) ⊎ ((n : ℕ) → new.used n ≡ old.used n)
+  pub used : (n : ℕ) → new.used n ≡ old.used n
+  pub header : new.header ≡ old.header
 
 -- the nodes that a tree can have are as they were, and so is the map but for one node
 pub record MapsOnly (node : ℕ) (bit : Bool) (old new : Store) : Type 0 where
@@ -71,10 +85,11 @@ pub record MapsOnly (node : ℕ) (bit : Bool) (old new : Store) : Type 0 where
   pub here : new.used node ≡ bit
   pub others : (n : ℕ) → n ≢ node → new.used n ≡ old.used n
 
--- the nodes that a tree can have are as they were, and so is the map
+-- the nodes that a tree can have are as they were, and so is the map; the header node says the shape
 pub record ShapesOnly (old new : Store) : Type 0 where
   pub nodes : (n : ℕ) → old.reserved n ≡ false → new.nodes n ≡ old.nodes n
   pub used : (n : ℕ) → new.used n ≡ old.used n
+  pub header : new.header ≡ new.shape
 
 -- nothing was written
 pub record SameRoom (old new : Store) : Type 0 where

@@ -1,6 +1,6 @@
 -- What makes nodes a tree.
 use Rattle.std.specs.Prelude.{◌≡◌, ◌⊎◌, ◌<◌, ◌≤◌, ◌↔◌, ℕ, zero, suc, ℤ, pos, negsuc, ◌+◌, ◌-◌, ◌/◌, Bool, true, false, IsTrue, count_by, List, [], ◌∷◌, length, map, slice_index, slice_index_or}
-use Rattle.std.specs.List.{range_with_len}
+use Rattle.std.specs.List.{All, range_with_len}
 use Rattle.std.specs.declared.cmp.Ordering.{Ordering}
 use Rattle.btree_node.specs.Node.{IsNodeOf, items, next_of, back_of}
 use Rattle.btree_node.specs.Levels.{Nodes, Pair, entries, level, leaves, key_of, record_for, Ascends}
@@ -77,3 +77,7 @@ pub record IsTree (is_key : List ℕ → Type 0) (cmp : List ℕ → List ℕ �
   pub ordered : IsOrdered cmp store
   pub header : HasHeader store
   pub mapped : IsMapped store
+
+-- the values of its pairs are such as the tree's order has
+abbrev pub HasValues : (List ℕ → Type 0) → Store → Type 0
+HasValues is_value store = All (λ pair. is_value pair.1) (pairs_of store)

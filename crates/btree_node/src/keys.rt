@@ -12,7 +12,7 @@ use std::cmp::Ordering;
 /// (TN1150, "Catalog File Key", with binary compare).
 pub struct CatalogOrder;
 
-/// The order of the extents overflow file (TN1150, "Extents Overflow File Key").
+/// The order of the extents overflow file, whose values are eight extents (TN1150, "Extents Overflow File Key").
 pub struct ExtentOrder;
 
 /// The order of the attributes file (TN1150, "Attributes File").
@@ -20,7 +20,7 @@ pub struct AttrOrder;
 
 impl KeyOrder for CatalogOrder {
     ghost use Rattle.std.proofs.Common.{refl, arith, false};
-    ghost use Rattle.btree_node.specs.Keys.{IsCatalogKey, catalog_cmp};
+    ghost use Rattle.btree_node.specs.Keys.{IsCatalogKey, catalog_cmp, anything};
     ghost use Rattle.btree_node.specs.KeyLaws.{catalog_total, catalog_same, catalog_length};
 
     ghost is_key = { IsCatalogKey };
@@ -28,6 +28,8 @@ impl KeyOrder for CatalogOrder {
     ghost cmp = { catalog_cmp };
 
     ghost plain = { λ key. key };
+
+    ghost is_value = { anything };
 
     ghost MAX = { 516 };
 
@@ -65,11 +67,15 @@ impl KeyOrder for CatalogOrder {
         let units = read_be16(key, 6) as usize;
         key.len() == size + 2 && size == 6 + 2 * units && units <= 255
     }
+
+    fn valid_value(_value: &[u8]) -> bool {
+        true
+    }
 }
 
 impl KeyOrder for ExtentOrder {
     ghost use Rattle.std.proofs.Common.{refl, arith, sym, ◌∙◌, true};
-    ghost use Rattle.btree_node.specs.Keys.{IsExtentKey, extent_cmp, extent_plain};
+    ghost use Rattle.btree_node.specs.Keys.{IsExtentKey, extent_cmp, extent_plain, is_eight_extents};
     ghost use Rattle.btree_node.specs.KeyLaws.{extent_total, extent_same, extent_plain_length};
 
     ghost is_key = { IsExtentKey };
@@ -77,6 +83,8 @@ impl KeyOrder for ExtentOrder {
     ghost cmp = { extent_cmp };
 
     ghost plain = { extent_plain };
+
+    ghost is_value = { is_eight_extents };
 
     ghost MAX = { 10 };
 
@@ -109,11 +117,15 @@ impl KeyOrder for ExtentOrder {
     fn valid(key: &[u8]) -> bool {
         key.len() == 12 && read_be16(key, 0) == 10 && (key[2] == 0 || key[2] == 255)
     }
+
+    fn valid_value(value: &[u8]) -> bool {
+        value.len() == 64
+    }
 }
 
 impl KeyOrder for AttrOrder {
     ghost use Rattle.std.proofs.Common.{refl, arith, false};
-    ghost use Rattle.btree_node.specs.Keys.{IsAttrKey, attr_cmp, attr_plain};
+    ghost use Rattle.btree_node.specs.Keys.{IsAttrKey, attr_cmp, attr_plain, anything};
     ghost use Rattle.btree_node.specs.KeyLaws.{attr_total, attr_same, attr_length, attr_plain_length};
 
     ghost is_key = { IsAttrKey };
@@ -121,6 +133,8 @@ impl KeyOrder for AttrOrder {
     ghost cmp = { attr_cmp };
 
     ghost plain = { attr_plain };
+
+    ghost is_value = { anything };
 
     ghost MAX = { 266 };
 
@@ -158,6 +172,10 @@ impl KeyOrder for AttrOrder {
         let size = read_be16(key, 0) as usize;
         let units = read_be16(key, 12) as usize;
         key.len() == size + 2 && size == 12 + 2 * units && units <= 127
+    }
+
+    fn valid_value(_value: &[u8]) -> bool {
+        true
     }
 }
 

@@ -4,7 +4,9 @@
 mod bytes;
 mod edits;
 mod head;
+mod header;
 mod keys;
+mod map;
 mod mem;
 mod node;
 mod order;

@@ -1,7 +1,7 @@
 //! A store of nodes in memory: node 0 stands for the header node, and the map is a list of flags.
 #![tactic(auto, unfolding(crate::specs::Store::unwritten_sectors))]
 
-ghost use Rattle.std.specs.Prelude.{◌≡◌, ◌≤◌, ◌<◌, IsTrue, length, IfOk, IfSome, true, false, ◌↔◌, ◌⊎◌, All, replicate, slice_index_or, OnOk, slice_set};
+ghost use Rattle.std.specs.Prelude.{◌≡◌, ◌≤◌, ◌<◌, ◌+◌, ℕ, IsTrue, length, IfOk, true, false, ◌↔◌, ◌⊎◌, All, replicate, slice_index_or, OnOk, slice_set};
 ghost use Rattle.btree_node.specs.Kept.{AreNodes};
 ghost use Rattle.btree_node.specs.Store.{HasRoom, Writes, SameRoom, SameNodes};
 ghost use Rattle.btree_node.specs.Node.{IsNodeSize};
@@ -21,8 +21,7 @@ pub struct MemNodes {
     unwritten: u32,
     writes_left: u32,
     loads: u64,
-    faults: u64,
-    ghost kept: { AreNodes shape nodes.items used.items written.items },
+    ghost kept: { AreNodes shape nodes.items used.items written.items unwritten },
 }
 
 /// Nodes of zeros.
@@ -38,23 +37,15 @@ fn blank_nodes(alloc: Global, node_size: u32, total: u32) -> Result<Vec<Node>, O
     Ok(nodes)
 }
 
-/// Takes all flags away.
-fn forget(flags: &mut [bool])
-    ensures { length flags.new ≡ length flags.old }
-{
-    for flag in flags {
-        *flag = false;
-    }
-}
-
 impl MemNodes {
     ghost use Rattle.btree_node.specs.Mem.{mem_state, IsBare};
 
-    /// Nodes of zeros; the first is in use.
+    /// Nodes of zeros; the first is in use, and all may be written.
     pub fn new(alloc: Global, node_size: u32, total: u32) -> Result<MemNodes, OutOfMemory>
         requires size { IsNodeSize node_size }
         requires some { 0 < total }
         ensures bare { IfOk result (λ store. IsBare node_size total (mem_state store)) }
+        ensures left { IfOk result (λ store. (mem_state store).writes_left ≡ u32.MAX) }
     {
         let nodes = blank_nodes(alloc, node_size, total)?;
         let mut used = vec![in alloc; false; total as usize]?;
@@ -78,18 +69,18 @@ impl MemNodes {
             unwritten: total,
             writes_left: u32::MAX,
             loads: 0,
-            faults: 0,
         })
     }
 
     /// All nodes count as not yet written again, as after a commit.
     pub fn commit(&mut self, writes_left: u32)
-        ensures shape { self.new.shape ≡ self.old.shape }
+        ensures shape { (mem_state self.new).shape ≡ (mem_state self.old).shape }
         ensures tree { SameNodes (mem_state self.old) (mem_state self.new) }
-        ensures unwritten { self.new.unwritten ≡ self.old.shape.total }
-        ensures left { self.new.writes_left ≡ writes_left }
+        ensures written { (n : ℕ) → n < (mem_state self.old).shape.total → (mem_state self.new).written n ≡ false }
+        ensures left { (mem_state self.new).writes_left ≡ writes_left }
+        ensures loads { (mem_state self.new).loads ≡ (mem_state self.old).loads }
     {
-        forget(&mut self.written);
+        self.written.fill(false);
         self.unwritten = self.shape.total;
         self.writes_left = writes_left;
     }
@@ -110,22 +101,25 @@ impl MemNodes {
     }
 
     /// How many nodes were written since the last commit.
-    pub fn count_written(&self) -> u32 {
-        self.shape.total.saturating_sub(self.unwritten)
+    pub fn count_written(&self) -> u32
+        ensures { result + (mem_state self.now).unwritten ≡ (mem_state self.now).shape.total }
+    {
+        self.shape.total - self.unwritten
     }
 
     /// The first node that isn't in use.
-    fn first_free(&self) -> Option<u32>
-        ensures inside { IfSome result (λ node. node < self.now.shape.total) }
-        ensures behind { IfSome result (λ node. 0 < node) }
-        ensures free { IfSome result (λ node. (mem_state self.now).used node ≡ false) }
+    fn first_free(&self) -> u32
+        requires { 0 < self.now.shape.free }
+        ensures inside { result < self.now.shape.total }
+        ensures free { (mem_state self.now).used result ≡ false }
+        ensures before { (n : ℕ) → n < result → (mem_state self.now).used n ≡ true }
     {
-        for node in 1..self.shape.total {
+        for node in 0..self.shape.total {
             if !self.used[node as usize] {
-                return Some(node);
+                return node;
             }
         }
-        None
+        unreachable!()
     }
 
     fn note(&mut self, node: u32)
@@ -133,7 +127,6 @@ impl MemNodes {
         ensures shape { self.new.shape ≡ self.old.shape }
         ensures tree { SameNodes (mem_state self.old) (mem_state self.new) }
         ensures loads { self.new.loads ≡ self.old.loads }
-        ensures faults { self.new.faults ≡ self.old.faults }
         ensures writes { Writes 1 (mem_state self.old) (mem_state self.new) }
         ensures again { IsTrue ((mem_state self.old).written node) → SameRoom (mem_state self.old) (mem_state self.new) }
         ensures written { IsTrue ((mem_state self.new).written node) }
@@ -143,19 +136,20 @@ impl MemNodes {
             return;
         }
         self.written[at] = true;
-        if self.unwritten > 0 {
-            self.unwritten -= 1;
-            self.writes_left = self.writes_left.saturating_sub(1);
-        }
+        self.unwritten -= 1;
+        self.writes_left = self.writes_left.saturating_sub(1);
     }
 }
 
 impl NodeStore for MemNodes {
     ghost use Rattle.btree_node.specs.Mem.{mem_state};
+    ghost use Rattle.btree_node.specs.MemLaws.{mem_well_formed};
 
     ghost state = { mem_state };
 
     ghost follows = { λ _ _. Unit {0} };
+
+    ghost well_formed = { mem_well_formed };
 
     ghost follows_refl = { λ _. tt };
 
@@ -182,10 +176,7 @@ impl NodeStore for MemNodes {
     }
 
     fn take_node(&mut self) -> Result<u32, Failed> {
-        let Some(node) = self.first_free() else {
-            self.faults = self.faults.saturating_add(1);
-            return Err(Failed);
-        };
+        let node = self.first_free();
         self.used[node as usize] = true;
         self.shape.free -= 1;
         self.note(0);
@@ -195,7 +186,7 @@ impl NodeStore for MemNodes {
     fn give_node(&mut self, node: u32) -> Result<(), Failed> {
         // The free nodes are fewer than all, whose number has its range.
         let _total = self.shape.total;
-        if self.used[node as usize] {
+        if node > 0 && self.used[node as usize] {
             self.used[node as usize] = false;
             self.shape.free += 1;
             self.note(0);

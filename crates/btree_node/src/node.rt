@@ -1,11 +1,16 @@
 //! A buffer of one node, seen as its bytes; what they mean is said by the words of `specs/Node.antt`.
-ghost use Rattle.std.specs.Prelude.{◌≡◌, ◌<◌, ◌≤◌, ◌+◌, ◌*◌, ◌/◌, ◌++◌, [], length, replicate, insert, remove, slice_set, slice_index_or, IfOk, IsTrue, ◌↔◌};
+ghost use Rattle.std.specs.Prelude.{◌≡◌, ◌<◌, ◌≤◌, ◌+◌, ◌*◌, ◌/◌, ◌++◌, [], ◌^◌, ℕ, true, false, length, replicate, insert, remove, slice_set, slice_index_or, IfOk, IsTrue, ◌↔◌};
 ghost use Rattle.hx_bytes.specs.Field.{put_at};
+ghost use Rattle.flag_rows.specs.Bits.{bit_of};
 ghost use Rattle.btree_node.specs.Node.{IsNodeSize, IsNode, IsNodeOf, SameHead, SetsLinks, ClearsNode, items, next_of, back_of, room_beside};
+ghost use Rattle.btree_node.specs.TreeFile.{tree_head, shape_of, SetsShape, SetsBit};
 
 use crate::edits::{insert_record, pack, remove_record};
 use crate::head::{clear, set_links};
+use crate::header::{read_shape, write_shape};
+use crate::map::{first_clear, set_bit};
 use crate::reads::{count, is_node_of, record_at, room_left};
+use crate::store::TreeShape;
 use hx_bytes::{OutOfMemory, Sector, read_be32};
 use std::alloc::Global;
 use std::marker::Model;
@@ -152,5 +157,40 @@ impl Node {
         ensures { ClearsNode kind height self.old self.new }
     {
         clear(&mut self.bytes, kind, height);
+    }
+
+    /// The numbers of the tree that a header node says.
+    pub fn shape(&self) -> TreeShape
+        ensures { result ≡ shape_of (tree_head self.now) }
+    {
+        read_shape(&self.bytes)
+    }
+
+    /// Sets the numbers of the tree that a header node says.
+    pub fn set_shape(&mut self, shape: &TreeShape)
+        requires { shape.now.node_size < 2 ^ 16 }
+        ensures { SetsShape shape.now self.old self.new }
+    {
+        write_shape(&mut self.bytes, shape);
+    }
+
+    /// Sets or clears a bit, the highest bit of the first byte being bit 0.
+    pub fn set_bit(&mut self, at: u32, value: bool)
+        requires { at < 8 * length self.old }
+        ensures { SetsBit at value self.old self.new }
+    {
+        set_bit(&mut self.bytes, at as usize, value);
+    }
+
+    /// The first bit from a place on, up to another, that is clear, or the other place.
+    pub fn first_clear(&self, start: u32, end: u32) -> u32
+        requires order { start ≤ end }
+        requires inside { end ≤ 8 * length self.now }
+        ensures from { start ≤ result }
+        ensures to { result ≤ end }
+        ensures before { (k : ℕ) → start ≤ k → k < result → bit_of self.now k ≡ true }
+        ensures clear { result < end → bit_of self.now result ≡ false }
+    {
+        first_clear(&self.bytes, start as usize, end as usize) as u32
     }
 }

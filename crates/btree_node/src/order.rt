@@ -7,7 +7,7 @@ ghost use Rattle.hx_bytes.specs.Field.{AreBytes, big_at};
 
 use std::cmp::Ordering;
 
-/// An order of keys, and which bytes are a key of it (TN1150, "Keyed Records").
+/// An order of keys, and which bytes are a key and a value of its tree (TN1150, "Keyed Records").
 pub trait KeyOrder {
     /// These bytes are a key, with its length in front.
     ghost is_key: { List ℕ → Type 0 };
@@ -17,6 +17,9 @@ pub trait KeyOrder {
 
     /// The key with zeros in its bytes of padding.
     ghost plain: { List ℕ → List ℕ };
+
+    /// These bytes are a value of the order's tree.
+    ghost is_value: { List ℕ → Type 0 };
 
     ghost MAX: { ℕ };
 
@@ -36,6 +39,10 @@ pub trait KeyOrder {
     /// Whether these bytes are a key.
     fn valid(key: &[u8]) -> bool
         ensures { IsTrue result ↔ is_key key.now };
+
+    /// Whether these bytes are a value of the order's tree.
+    fn valid_value(value: &[u8]) -> bool
+        ensures { IsTrue result ↔ is_value value.now };
 
     ghost total: { IsTotalOrder cmp };
 

@@ -1,6 +1,6 @@
 //! A store of the nodes of one tree.
 ghost use Rattle.std.specs.Prelude.{◌≡◌, ◌<◌, ◌≤◌, ◌+◌, ◌-◌, ◌⊎◌, ℕ, true, false, List, IsTrue, length, min, OnOk, OnErr, IfOk, ◌^◌};
-ghost use Rattle.btree_node.specs.Store.{Store, HasRoom, HasCause, SameStore, SameNodes, SameRoom, ChangesOnly, MapsOnly, ShapesOnly, Writes, next_count, with_free};
+ghost use Rattle.btree_node.specs.Store.{Store, IsWellFormed, HasRoom, HasCause, SameStore, SameNodes, SameRoom, ChangesOnly, MapsOnly, ShapesOnly, Writes, next_count, with_free};
 
 use crate::node::Node;
 use hx_bytes::Failed;
@@ -57,16 +57,16 @@ pub trait NodeStore {
         ensures same { SameStore (state self.old) (state self.new) }
         ensures below { follows self.old self.new };
 
-    /// Writes a node.
+    /// Writes a node of the tree. Of the header node and the map nodes nothing is said but that it returns.
     fn save(&mut self, node: u32, from: &Node)
         requires inside { node < (state self.old).shape.total }
         requires size { length from.now ≡ (state self.old).shape.node_size }
         requires room { HasRoom 1 (state self.old) ⊎ IsTrue ((state self.old).written node) }
         ensures shape { (state self.new).shape ≡ (state self.old).shape }
-        ensures tree { IsTrue (state self.old).tells → ChangesOnly node from.now (state self.old) (state self.new) }
+        ensures tree { IsTrue (state self.old).tells → (state self.old).reserved node ≡ false → ChangesOnly node from.now (state self.old) (state self.new) }
         ensures writes { Writes 1 (state self.old) (state self.new) }
         ensures again { IsTrue ((state self.old).written node) → SameRoom (state self.old) (state self.new) }
-        ensures written { IsTrue ((state self.new).written node) }
+        ensures written { (state self.old).reserved node ≡ false → IsTrue ((state self.new).written node) }
         ensures loads { (state self.new).loads ≡ (state self.old).loads }
         ensures faults { (state self.new).faults ≡ (state self.old).faults }
         ensures same { SameStore (state self.old) (state self.new) }
@@ -104,6 +104,8 @@ pub trait NodeStore {
         ensures cause { HasCause (state self.old).faults (state self.new).faults result }
         ensures same { SameStore (state self.old) (state self.new) }
         ensures below { follows self.old self.new };
+
+    ghost well_formed: { (store : Self) → IsWellFormed (state store) };
 
     ghost follows_refl: { (store : Self) → follows store store };
 

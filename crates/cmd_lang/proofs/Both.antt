@@ -1,7 +1,7 @@
 -- Two readings make one of both.
 use Rattle.std.proofs.Common.{◌≡◌, Result, Ok, Err, refl, sym, subst}
-use Rattle.hfs_model.specs.declared.refusal.Refusal.{Refusal}
-use Rattle.hfs_model.specs.Language.{both}
+use Rattle.hfs_language.specs.declared.refusal.Refusal.{Refusal}
+use Rattle.hfs_language.specs.Language.{both}
 use Rattle.cmd_lang.specs.declared.fault.LineFault.{LineFault}
 use Rattle.cmd_lang.specs.declared.fault.LineFault.TheVariants.{No, Memory}
 use Rattle.cmd_lang.specs.Reads.{Reads, both_read}

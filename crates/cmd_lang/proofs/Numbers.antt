@@ -6,8 +6,8 @@ use Rattle.std.proofs.lemmas.Fmt.{decimal_is_IsNumeral}
 use Rattle.std.proofs.lemmas.Str.Parse.{digit_at}
 use Rattle.std.proofs.lemmas.Bool.{cond-true, cond-false, and_parts, and_from, false_from_ne_true, lt-ltb, ltb-true, both_ways}
 use Rattle.std.proofs.lemmas.Bool.Decides.{nat_tests}
-use Rattle.hfs_model.specs.declared.refusal.Refusal.TheVariants.{BadCommand}
-use Rattle.hfs_model.specs.Language.{number_of}
+use Rattle.hfs_language.specs.declared.refusal.Refusal.TheVariants.{BadCommand}
+use Rattle.hfs_language.specs.Language.{number_of}
 
 -- a numeral begins with no plus
 no_plus : (text : List ℕ) → IsNumeral 10 text → without_leading_plus text ≡ text

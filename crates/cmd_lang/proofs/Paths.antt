@@ -2,9 +2,9 @@
 use Rattle.std.proofs.Common.{◌≡◌, ◌≢◌, ℕ, suc, ◌+◌, ◌<◌, length, map, drop, get_or, add-one, drop-cons, Bor, true, false, nat_le, List, [], ◌∷◌, ◌++◌, Option, Some, None, Result, Ok, Err, refl, sym, ap, ◌∙◌, append_assoc, append-nil, arith, ⊎_elim, if◌then◌else◌}
 use Rattle.std.proofs.lemmas.Bool.{cond-false, cases_Bool, ne_eqb}
 use Rattle.std.proofs.lemmas.Bool.Decides.{nat_tests}
-use Rattle.hfs_model.specs.declared.refusal.Refusal.{Refusal}
-use Rattle.hfs_model.specs.Language.{rank, earlier, both, after, in_front, name_of, names_of, path_of}
-use Rattle.hfs_model.specs.declared.refusal.Refusal.TheVariants.{BadCommand}
+use Rattle.hfs_language.specs.declared.refusal.Refusal.{Refusal}
+use Rattle.hfs_language.specs.Language.{rank, earlier, both, after, in_front, name_of, names_of, path_of}
+use Rattle.hfs_language.specs.declared.refusal.Refusal.TheVariants.{BadCommand}
 use Rattle.std.specs.Char.{encode_utf8}
 use Rattle.cmd_lang.specs.Reads.{with_rest, with_next, first_refusal, read_so_far}
 

@@ -1,7 +1,7 @@
 -- What a reader answers, where it may find no memory.
 use Rattle.std.specs.Prelude.{◌≡◌, ℕ, List, [], ◌∷◌, ◌++◌, Option, Some, None, Result, Ok, Err}
-pub use Rattle.hfs_model.specs.Language.{rank, earlier, both, after}
-use Rattle.hfs_model.specs.declared.refusal.Refusal.{Refusal}
+pub use Rattle.hfs_language.specs.Language.{rank, earlier, both, after}
+use Rattle.hfs_language.specs.declared.refusal.Refusal.{Refusal}
 use Rattle.cmd_lang.specs.declared.fault.LineFault.{LineFault}
 use Rattle.cmd_lang.specs.declared.fault.LineFault.TheVariants.{No, Memory}
 

@@ -1,6 +1,6 @@
 //! The words of a line are read to a command, by their number.
 ghost use Rattle.std.specs.Prelude.{◌≡◌, map};
-ghost use Rattle.hfs_model.specs.Language as spec;
+ghost use Rattle.hfs_language.specs.Language as spec;
 ghost use Rattle.cmd_lang.specs.Reads.{Reads};
 
 use crate::LineFault;
@@ -10,7 +10,7 @@ use crate::pairs::{
 };
 use crate::path::read_path;
 use crate::words::{BAD_COMMAND, read_moment};
-use hfs_model::Command;
+use hfs_language::Command;
 use std::alloc::Global;
 
 /// The command that words spell.

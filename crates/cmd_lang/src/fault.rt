@@ -3,7 +3,7 @@ ghost use Rattle.std.specs.Prelude.{◌≡◌, Result};
 ghost use Rattle.cmd_lang.specs.Reads.{rank, earlier, both_read};
 ghost use Rattle.cmd_lang.specs.declared.fault.LineFault.TheVariants.{Memory};
 
-use hfs_model::Refusal;
+use hfs_language::Refusal;
 use hx_bytes::OutOfMemory;
 use std::alloc::{AllocError, AllocFailed};
 

@@ -2,8 +2,8 @@
 ghost use Rattle.std.specs.Prelude.{◌≡◌, ◌==◌, true, false, Ok, Err, IfOk, IfSome, IfNone};
 ghost use Rattle.std.specs.List.{slice_split};
 ghost use Rattle.std.specs.Str.{is_utf8};
-ghost use Rattle.hfs_model.specs.Language.{command_of, words_command};
-ghost use Rattle.hfs_model.specs.declared.refusal.Refusal.{Refusal};
+ghost use Rattle.hfs_language.specs.Language.{command_of, words_command};
+ghost use Rattle.hfs_language.specs.declared.refusal.Refusal.{Refusal};
 ghost use Rattle.cmd_lang.specs.Reads.{Reads};
 ghost use Rattle.cmd_lang.specs.declared.fault.LineFault.TheVariants.{No};
 
@@ -11,7 +11,7 @@ use crate::LineFault;
 use crate::command::read_command;
 use crate::split::words;
 use crate::words::BAD_COMMAND;
-use hfs_model::{Command, Refusal};
+use hfs_language::{Command, Refusal};
 use std::alloc::Global;
 use std::str;
 
@@ -32,7 +32,7 @@ pub fn read_line(alloc: Global, line: &[u8]) -> Result<Command, LineFault>
     }
 }
 
-#[tactic(auto, unfolding(hfs_model::specs::Language::command_of))]
+#[tactic(auto, unfolding(hfs_language::specs::Language::command_of))]
 fn read_bytes(alloc: Global, line: &[u8]) -> Result<Command, LineFault>
     ensures { Reads (command_of line.now) result }
 {

@@ -1,13 +1,13 @@
 //! The arguments of a command, of which the first refusal counts.
 ghost use Rattle.std.specs.Prelude.{◌≡◌};
-ghost use Rattle.hfs_model.specs.Language as spec;
+ghost use Rattle.hfs_language.specs.Language as spec;
 ghost use Rattle.cmd_lang.specs.Reads.{Reads};
 
 use crate::LineFault;
 use crate::fault::both;
 use crate::path::read_path;
 use crate::words::{read_attribute, read_mode, read_number, read_value};
-use hfs_model::Path;
+use hfs_language::Path;
 use hx_bytes::{Bytes, Units};
 use std::alloc::Global;
 

@@ -1,6 +1,6 @@
 //! The path of a file or folder is read.
 ghost use Rattle.std.specs.Prelude.{◌≡◌, map, IfOk, IfErr};
-ghost use Rattle.hfs_model.specs.Language as spec;
+ghost use Rattle.hfs_language.specs.Language as spec;
 ghost use Rattle.cmd_lang.specs.Reads.{Reads, first_refusal, read_so_far, with_next};
 ghost use Rattle.cmd_lang.specs.declared.fault.LineFault.TheVariants.{Memory};
 
@@ -8,11 +8,11 @@ use crate::LineFault;
 use crate::fault::earlier;
 use crate::split::components;
 use crate::words::{BAD_COMMAND, read_name};
-use hfs_model::{Path, Refusal};
+use hfs_language::{Path, Refusal};
 use std::alloc::Global;
 
 /// A path, which is `/` or a slash before each component.
-#[tactic(auto, unfolding(hfs_model::specs::Language::path_of))]
+#[tactic(auto, unfolding(hfs_language::specs::Language::path_of))]
 pub(crate) fn read_path(alloc: Global, word: &str) -> Result<Path, LineFault>
     ensures { Reads (spec.path_of word.now) result }
 {

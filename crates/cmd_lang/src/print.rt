@@ -2,7 +2,7 @@
 ghost use Rattle.std.specs.Prelude.{◌≡◌, ◌++◌, ◌<◌, true, IfOk, OnOk};
 ghost use Rattle.std.specs.List.{flat_map};
 ghost use Rattle.std.specs.Fmt.{digit_glyph};
-ghost use Rattle.hfs_model.specs.Text as spec;
+ghost use Rattle.hfs_language.specs.Text as spec;
 
 use itoa::Buffer;
 use std::alloc::{AllocError, Global};

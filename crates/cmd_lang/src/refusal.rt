@@ -1,9 +1,9 @@
 //! A refusal is printed: `no`, its name and its numbers.
 ghost use Rattle.std.specs.Prelude.{◌≡◌, ◌++◌, codes, OnOk};
-ghost use Rattle.hfs_model.specs.Text as spec;
+ghost use Rattle.hfs_language.specs.Text as spec;
 
 use crate::print::push_field;
-use hfs_model::Refusal;
+use hfs_language::Refusal;
 use hx_bytes::OutOfMemory;
 
 pub(crate) fn push_refusal(text: &mut Vec<u8>, refusal: &Refusal) -> Result<(), OutOfMemory>

@@ -1,17 +1,17 @@
 //! A reply is printed as a line.
 ghost use Rattle.std.specs.Prelude.{◌≡◌, ◌++◌, ◌+◌, ◌<◌, codes, length, IfOk, OnOk};
 ghost use Rattle.std.specs.List.{flat_map};
-ghost use Rattle.hfs_model.specs.Text as spec;
+ghost use Rattle.hfs_language.specs.Text as spec;
 
 use crate::print::{push_bytes, push_field};
 use crate::refusal::push_refusal;
-use hfs_model::{Facts, Gauge, ListedName, Listing, Reply, TreeGauge};
+use hfs_language::{Facts, Gauge, ListedName, Listing, Reply, TreeGauge};
 use hx_bytes::{Bytes, OutOfMemory};
 use name_text::print_component;
 use std::alloc::Global;
 
 /// The text of a reply: one line with its newline, and no other newline.
-#[tactic(auto, unfolding(hfs_model::specs::Text::reply_text))]
+#[tactic(auto, unfolding(hfs_language::specs::Text::reply_text))]
 pub fn print_reply(alloc: Global, reply: &Reply) -> Result<Bytes, OutOfMemory>
     ensures { IfOk result (λ text. text ≡ spec.reply_text reply.now) }
 {

@@ -3,13 +3,13 @@ ghost use Rattle.std.specs.Prelude.{◌≡◌, ◌≤◌, true, drop, length, de
 ghost use Rattle.std.specs.List.{list_all};
 ghost use Rattle.std.specs.Str.Parse.{digits_value};
 ghost use Rattle.percent_encoding.specs.Percent.{percent_decode as unescaped};
-ghost use Rattle.hfs_model.specs.Language as spec;
-ghost use Rattle.hfs_model.specs.Text as spec_text;
+ghost use Rattle.hfs_language.specs.Language as spec;
+ghost use Rattle.hfs_language.specs.Text as spec_text;
 ghost use Rattle.cmd_lang.specs.Reads.{Reads};
 
 use crate::LineFault;
 use crate::print::value_text;
-use hfs_model::Refusal;
+use hfs_language::Refusal;
 use hx_bytes::{Bytes, Units};
 use itoa::Buffer;
 use name_text::{NameFault, read_component};
@@ -55,7 +55,7 @@ pub(crate) fn read_moment(word: &str) -> Result<u32, LineFault>
 }
 
 /// A mode in one to four octal digits.
-#[tactic(auto, unfolding(hfs_model::specs::Language::mode_of))]
+#[tactic(auto, unfolding(hfs_language::specs::Language::mode_of))]
 pub(crate) fn read_mode(word: &str) -> Result<u16, LineFault>
     ensures { Reads (spec.mode_of word.now) result }
 {
@@ -92,7 +92,7 @@ fn octal_value(digits: &[u8]) -> u16
 }
 
 /// A value, spelled as it is printed.
-#[tactic(auto, unfolding(hfs_model::specs::Language::value_of))]
+#[tactic(auto, unfolding(hfs_language::specs::Language::value_of))]
 pub(crate) fn read_value(alloc: Global, word: &str) -> Result<Bytes, LineFault>
     ensures { Reads (spec.value_of word.now) result }
 {
@@ -131,7 +131,7 @@ fn is_spelled(alloc: Global, value: &[u8], text: &[u8]) -> Result<bool, AllocErr
 }
 
 /// A name, as a component of a path spells it.
-#[tactic(auto, unfolding(hfs_model::specs::Language::name_of))]
+#[tactic(auto, unfolding(hfs_language::specs::Language::name_of))]
 pub(crate) fn read_name(alloc: Global, word: &str) -> Result<Units, LineFault>
     ensures { Reads (spec.name_of word.now) result }
 {
@@ -144,7 +144,7 @@ pub(crate) fn read_name(alloc: Global, word: &str) -> Result<Units, LineFault>
 }
 
 /// The name of an attribute, which has at most 127 units.
-#[tactic(auto, unfolding(hfs_model::specs::Language::attribute_of))]
+#[tactic(auto, unfolding(hfs_language::specs::Language::attribute_of))]
 pub(crate) fn read_attribute(alloc: Global, word: &str) -> Result<Units, LineFault>
     ensures { Reads (spec.attribute_of word.now) result }
 {

@@ -1,7 +1,7 @@
 //! Power fails after each write and each barrier of a run.
 use crate::{folders_in, fresh, run_lines};
 use hx_bytes::OutOfMemory;
-use mem_disk::MemRig;
+use mem_disk::{MemImage, MemRig};
 use std::alloc::Global;
 
 /// A run that makes ten folders, and asks after each that it is durable.
@@ -17,11 +17,33 @@ pub struct Tried {
     pub wrong: Option<u64>,
 }
 
+/// All crashes of a run on a new volume.
+pub fn try_all(alloc: Global, choice: u64) -> Result<Tried, OutOfMemory> {
+    try_from(alloc, &fresh(alloc)?, choice)
+}
+
+/// All crashes of a run on a volume of which the ring was nearly gone round before.
+pub fn try_worn(alloc: Global, choice: u64) -> Result<Tried, OutOfMemory> {
+    try_from(alloc, &worn(alloc)?, choice)
+}
+
+// How many mounts the ring is worn by, each of two batches: the header that a mount commits, and that of its end.
+const MOUNTS: u64 = 222;
+
+/// A volume on which 444 batches were committed before. The next list begins so near to the ring's end that the ring
+/// wraps inside one of the lists of the run.
+pub fn worn(alloc: Global) -> Result<MemImage, OutOfMemory> {
+    let mut rig = MemRig::from_image(alloc, &fresh(alloc)?)?;
+    for _ in 0..MOUNTS {
+        run_lines(alloc, &mut rig, b"")?;
+    }
+    rig.image(alloc, 1)
+}
+
 /// Stops the run after each call that wrote, and mounts the image of this choice. It must have the first j
 /// folders, j at least half the number of the lines that were told, rounded up.
-pub fn try_all(alloc: Global, choice: u64) -> Result<Tried, OutOfMemory> {
-    let start = fresh(alloc)?;
-    let mut whole = MemRig::from_image(alloc, &start)?;
+fn try_from(alloc: Global, start: &MemImage, choice: u64) -> Result<Tried, OutOfMemory> {
+    let mut whole = MemRig::from_image(alloc, start)?;
     run_lines(alloc, &mut whole, LINES)?;
     let mut tried = Tried {
         crashes: 0,
@@ -32,7 +54,7 @@ pub fn try_all(alloc: Global, choice: u64) -> Result<Tried, OutOfMemory> {
             continue;
         }
         let stop = call.saturating_add(1);
-        let mut rig = MemRig::from_image(alloc, &start)?;
+        let mut rig = MemRig::from_image(alloc, start)?;
         rig.stop_after(stop);
         let ran = run_lines(alloc, &mut rig, LINES)?;
         let image = rig.image(alloc, choice)?;

@@ -10,26 +10,68 @@ const BASE: usize = 24;
 
 const SIZE: u64 = 1_048_576;
 
-/// How many sectors the first of the live lists of an image has, or 0 where no list is live.
-fn live_sectors(image: &MemImage) -> u64 {
+/// The live lists of an image: how many sectors their text has, and how many blocks go home.
+#[derive(Clone, Copy)]
+struct Live {
+    text: u64,
+    homes: u64,
+}
+
+const NONE: Live = Live { text: 0, homes: 0 };
+
+/// The sector of the journal at which the live lists of an image begin.
+pub fn start_of(image: &MemImage) -> Option<u64> {
+    let block = image.sectors.get(BASE)?;
+    match read_header(block, SIZE) {
+        Ok(header) => Some(header.start / 512),
+        Err(_) => None,
+    }
+}
+
+/// The live lists of an image.
+fn live_lists(image: &MemImage) -> Live {
     let Some(block) = image.sectors.get(BASE) else {
-        return 0;
+        return NONE;
     };
     let Ok(header) = read_header(block, SIZE) else {
-        return 0;
+        return NONE;
     };
-    if header.start == header.end {
-        return 0;
+    let ring = SIZE - 512;
+    let end = if header.start <= header.end {
+        header.end
+    } else {
+        header.end.saturating_add(ring)
+    };
+    let mut homes: u64 = 0;
+    let mut at = header.start;
+    for _ in 0..64 {
+        if end <= at {
+            break;
+        }
+        let offset = if at < SIZE {
+            at
+        } else {
+            at.saturating_sub(ring)
+        };
+        let Some(list) = image
+            .sectors
+            .get(BASE.saturating_add((offset / 512) as usize))
+        else {
+            return NONE;
+        };
+        let mut front = [0; 32];
+        front.copy_from_slice(&list[..32]);
+        match read_list(&front, header.order, header.blhdr) {
+            Some(head) => {
+                homes = homes.saturating_add(u64::from(head.entries).saturating_sub(1));
+                at = at.saturating_add(u64::from(head.used));
+            }
+            None => return NONE,
+        }
     }
-    let at = BASE.saturating_add((header.start / 512) as usize);
-    let Some(list) = image.sectors.get(at) else {
-        return 0;
-    };
-    let mut front = [0; 32];
-    front.copy_from_slice(&list[..32]);
-    match read_list(&front, header.order, header.blhdr) {
-        Some(head) => u64::from(head.entries).saturating_sub(1),
-        None => 0,
+    Live {
+        text: end.saturating_sub(header.start) / 512,
+        homes,
     }
 }
 
@@ -44,7 +86,7 @@ fn live_image(alloc: Global) -> Result<MemImage, OutOfMemory> {
             rig.stop_after(call.saturating_add(1));
             let ran = run_lines(alloc, &mut rig, b"mkdir /d0\n")?;
             let image = rig.image(alloc, 1)?;
-            if ran.lines == 0 && 1 < live_sectors(&image) {
+            if ran.lines == 0 && 1 < live_lists(&image).homes {
                 if let Some(1) = folders_in(alloc, &image)? {
                     return Ok(image);
                 }
@@ -54,9 +96,11 @@ fn live_image(alloc: Global) -> Result<MemImage, OutOfMemory> {
     Ok(start)
 }
 
-/// The disk of an image, whose mount stopped after half of the home sectors of its replay.
+/// The disk of an image, whose mount stopped after half of the home sectors of its replay. Before them the replay writes
+/// the volume header, the info block, the journal header and the lists again, and calls a barrier.
 fn stopped_half_way(alloc: Global, image: &MemImage) -> Result<MemRig, OutOfMemory> {
-    let half = live_sectors(image) / 2;
+    let live = live_lists(image);
+    let half = live.text.saturating_add(4).saturating_add(live.homes / 2);
     let mut whole = MemRig::from_image(alloc, image)?;
     run_lines(alloc, &mut whole, b"")?;
     let mut rig = MemRig::from_image(alloc, image)?;
@@ -78,6 +122,8 @@ pub fn is_replayed_after_two_stops(alloc: Global, choice: u64) -> Result<bool, O
     let live = live_image(alloc)?;
     let once = stopped_half_way(alloc, &live)?.image(alloc, choice)?;
     let twice = stopped_half_way(alloc, &once)?.image(alloc, choice)?;
-    let is_live = 1 < live_sectors(&live) && 1 < live_sectors(&once) && 1 < live_sectors(&twice);
+    let is_live = 1 < live_lists(&live).homes
+        && 1 < live_lists(&once).homes
+        && 1 < live_lists(&twice).homes;
     Ok(is_live && folders_in(alloc, &twice)? == Some(1))
 }

@@ -1,7 +1,7 @@
 // Runs that are cut off, and runs over devices that fail; each choice of a crash's image is a test of its own.
-use crate::crashes::try_all;
+use crate::crashes::{try_all, try_worn, worn};
 use crate::journals::{BASE, Damage, HEADER, INFO, changed_sectors, is_refused};
-use crate::replays::is_replayed_after_two_stops;
+use crate::replays::{is_replayed_after_two_stops, start_of};
 use crate::twice::try_pairs;
 use std::test::Fail;
 
@@ -66,6 +66,79 @@ fn the_values_of_choice_7_have_a_front(rt: HostRuntime) -> Result<(), Fail> {
     let tried = try_all(rt.alloc(), 7)?;
     assert_eq!(rt; tried.wrong, None);
     assert!(rt; 100 < tried.crashes);
+    Ok(())
+}
+
+#[test]
+fn a_ring_that_wraps_has_a_front_0(rt: HostRuntime) -> Result<(), Fail> {
+    let tried = try_worn(rt.alloc(), 0)?;
+    assert_eq!(rt; tried.wrong, None);
+    assert!(rt; 100 < tried.crashes);
+    Ok(())
+}
+
+#[test]
+fn a_ring_that_wraps_has_a_front_1(rt: HostRuntime) -> Result<(), Fail> {
+    let tried = try_worn(rt.alloc(), 1)?;
+    assert_eq!(rt; tried.wrong, None);
+    assert!(rt; 100 < tried.crashes);
+    Ok(())
+}
+
+#[test]
+fn a_ring_that_wraps_has_a_front_2(rt: HostRuntime) -> Result<(), Fail> {
+    let tried = try_worn(rt.alloc(), 2)?;
+    assert_eq!(rt; tried.wrong, None);
+    assert!(rt; 100 < tried.crashes);
+    Ok(())
+}
+
+#[test]
+fn a_ring_that_wraps_has_a_front_3(rt: HostRuntime) -> Result<(), Fail> {
+    let tried = try_worn(rt.alloc(), 3)?;
+    assert_eq!(rt; tried.wrong, None);
+    assert!(rt; 100 < tried.crashes);
+    Ok(())
+}
+
+#[test]
+fn a_ring_that_wraps_has_a_front_4(rt: HostRuntime) -> Result<(), Fail> {
+    let tried = try_worn(rt.alloc(), 4)?;
+    assert_eq!(rt; tried.wrong, None);
+    assert!(rt; 100 < tried.crashes);
+    Ok(())
+}
+
+#[test]
+fn a_ring_that_wraps_has_a_front_5(rt: HostRuntime) -> Result<(), Fail> {
+    let tried = try_worn(rt.alloc(), 5)?;
+    assert_eq!(rt; tried.wrong, None);
+    assert!(rt; 100 < tried.crashes);
+    Ok(())
+}
+
+#[test]
+fn a_ring_that_wraps_has_a_front_6(rt: HostRuntime) -> Result<(), Fail> {
+    let tried = try_worn(rt.alloc(), 6)?;
+    assert_eq!(rt; tried.wrong, None);
+    assert!(rt; 100 < tried.crashes);
+    Ok(())
+}
+
+#[test]
+fn a_ring_that_wraps_has_a_front_7(rt: HostRuntime) -> Result<(), Fail> {
+    let tried = try_worn(rt.alloc(), 7)?;
+    assert_eq!(rt; tried.wrong, None);
+    assert!(rt; 100 < tried.crashes);
+    Ok(())
+}
+
+// Two batches of nine sectors a mount, over 2,047 sectors: the list of the third folder begins 39 sectors before the
+// ring's end, and that of the fourth 14, which a list of 25 sectors passes.
+#[test]
+fn the_worn_ring_wraps_inside_a_list(rt: HostRuntime) -> Result<(), Fail> {
+    let start = start_of(&worn(rt.alloc())?);
+    assert_eq!(rt; start, Some(1 + 222 * 18 % 2047));
     Ok(())
 }
 

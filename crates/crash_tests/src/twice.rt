@@ -6,7 +6,7 @@ use mem_disk::{MemImage, MemRig};
 use std::alloc::Global;
 
 // How many calls of a mount that wrote are passed over between two that are tried.
-const STEP: u64 = 24;
+const STEP: u64 = 160;
 
 /// What all pairs of crashes left.
 #[derive(Clone, Copy)]

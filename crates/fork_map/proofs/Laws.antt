@@ -1,13 +1,13 @@
 -- The blocks of lists that are cut and put together.
-use Rattle.std.proofs.Common.{◌≡◌, ℕ, suc, zero, ◌+◌, ◌-◌, ◌*◌, ◌/◌, ◌%◌, ◌^◌, ◌≤◌, ◌<◌, ◌⊎◌, List, [], ◌∷◌, ◌++◌, length, take, drop, get_or, set, Bool, true, false, ◌==◌, ◌&&◌, nat_le, nat_lt, eqb, if◌then◌else◌, cond, refl, sym, ◌∙◌, ap, arith, append_assoc, add-zero, zero-add, inl, inr, length-append, ⊎_elim, subst, slice_get, Some, None}
-use Rattle.std.proofs.lemmas.List.{append-nil, drop-drop, take-append-le, drop-append-le, drop_all, take_all, drop_more, take_rest}
+use Rattle.std.proofs.Common.{◌≡◌, ℕ, suc, zero, ◌+◌, ◌-◌, ◌*◌, ◌/◌, ◌%◌, ◌^◌, ◌≤◌, ◌<◌, ◌⊎◌, List, [], ◌∷◌, ◌++◌, length, take, drop, get_or, set, true, false, if◌then◌else◌, refl, sym, ◌∙◌, ap, arith, append_assoc, length-append, ⊎_elim, subst, slice_get, Some, None}
+use Rattle.std.proofs.lemmas.List.{append-nil, take-append-le, drop-append-le, drop_all, take_all, drop_more, take_rest}
 use Rattle.std.proofs.lemmas.List.FromFn.{length-range_with_len, get_or-range_with_len}
 use Rattle.std.proofs.lemmas.Bool.Decides.{leb_tells, eqb_tells}
 use Rattle.std.proofs.lemmas.Bool.{lt-leb}
 use Rattle.std.proofs.Math.Seq.{drop-append-add, take-append-add}
 use Rattle.std.proofs.lemmas.Option.{get_or_from_slice_get, slice_get_within, slice_get-get_or}
 use Rattle.std.specs.Option.{option_map}
-use Rattle.std.specs.List.{range_with_len, flat_map, All}
+use Rattle.std.specs.List.{range_with_len}
 use Rattle.hx_bytes.specs.declared.extents.Extent.{Extent}
 use Rattle.fork_map.specs.Blocks.{blocks_of, sectors_of, AreNumbers}
 use Rattle.fork_map.specs.Cut.{front, back, touch, join}

@@ -1,5 +1,5 @@
 -- The blocks and sectors of extents.
-use Rattle.std.specs.Prelude.{ℕ, ◌+◌, ◌*◌, ◌^◌, ◌<◌, List}
+use Rattle.std.specs.Prelude.{ℕ, ◌*◌, ◌^◌, ◌<◌, List}
 use Rattle.std.specs.List.{flat_map, range_with_len, All}
 use Rattle.hx_bytes.specs.declared.extents.Extent.{Extent}
 

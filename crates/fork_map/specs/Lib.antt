@@ -1,3 +1,4 @@
 pub mod Blocks
 pub mod Cut
 pub mod Nodes
+pub mod Cursors

@@ -164,3 +164,20 @@ fn blocks_and_sectors_are_found(rt: HostRuntime) -> Result<(), Fail> {
     assert_eq!(rt; list.sector_at(0, 0), None);
     Ok(())
 }
+
+// A pass over a list with an extent of no block, from each place on, gives the blocks that are found one by one.
+#[test]
+fn a_cursor_gives_block_after_block(rt: HostRuntime) -> Result<(), Fail> {
+    let list = list_of(
+        rt.alloc(),
+        &[(10, 5), (7, 0), (20, 3), (0xFFFF_FFFE, 4), (3, 0)],
+    )?;
+    for from in 0..14u64 {
+        let mut cursor = list.seek(from);
+        for n in from..14u64 {
+            let block = list.next_block(&mut cursor);
+            assert_eq!(rt; block, list.block_at(n), "{n} from {from}");
+        }
+    }
+    Ok(())
+}

@@ -1,4 +1,3 @@
-pub mod Lines
 pub mod Sectors
 pub mod Bitmaps
 pub mod Nodes
@@ -9,15 +8,6 @@ pub mod Further
 pub mod HeaderChecks
 pub mod Checks
 pub mod NameOrder
-pub mod Splitting
-pub mod Lexical
-pub mod Spelled
-pub mod Results
-pub mod Paths
-pub mod Values
-pub mod Shown
-pub mod Words
-pub mod Listings
-pub mod OneLine
-pub mod Replies
-pub mod Written
+mod Worked
+pub mod Filtered
+pub mod Below

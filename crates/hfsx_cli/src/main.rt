@@ -1,39 +1,28 @@
 //! The program `hfsx`: it opens an image and hands it to the top call.
 #![tactic(auto)]
 
-mod file_rig;
-mod stdin_source;
-
-use file_rig::FileRig;
-use hfsx_server::{Work, hfsx, read_words};
-use std::alloc::{AllocError, Global};
+use file_rig::{Failure, FileRig, Image, StdinSource, Store, take_closed, tell};
+use hfsx_server::{Status, Work, hfsx, read_words};
+use std::alloc::AllocError;
 use std::env;
-use std::fs::{File, OpenOptions};
 use std::io::{self, ErrorKind};
 use std::process::ExitCode;
-use stdin_source::StdinSource;
 
-/// The status where the image can't be opened, or can't be given its length.
+/// The status where the image can't be opened, locked or given its length.
 const NO_IMAGE: u8 = 8;
 
-/// The status where there is no memory for the words.
+/// The status where there is no memory to begin with.
 const NO_MEMORY: u8 = 6;
 
 fn main(rt: HostRuntime) -> ExitCode {
-    let words = match words(&rt) {
-        Ok(words) => words,
-        Err(AllocError) => return ExitCode::from(NO_MEMORY),
-    };
-    let mut rig = match open_rig(&rt, words.as_slice()) {
-        Ok(rig) => rig,
-        Err(error) => {
-            let _ = eprintln!(rt; "hfsx: the image can't be opened: {error}");
-            return ExitCode::from(NO_IMAGE);
-        }
-    };
-    let mut source = StdinSource::new(rt.stdin());
-    let status = hfsx(rt.alloc(), words.as_slice(), &mut rig, &mut source);
-    ExitCode::from(status.code())
+    if let Err(error) = take_closed(&rt) {
+        let _ = eprintln!(rt; "hfsx: opening /dev/null: {error}");
+        return ExitCode::from(NO_IMAGE);
+    }
+    match words(&rt) {
+        Ok(words) => ExitCode::from(work(&rt, words.as_slice())),
+        Err(AllocError) => ExitCode::from(NO_MEMORY),
+    }
 }
 
 // The words after the program's name. Words that are no text are no words of this program.
@@ -54,27 +43,59 @@ fn words(rt: &HostRuntime) -> Result<Vec<String>, AllocError> {
     Ok(words)
 }
 
-// The image that the words name, with standard output as its sink.
-fn open_rig(rt: &HostRuntime, words: &[String]) -> io::Result<FileRig<io::Stdout>> {
-    let image = match words {
+// Does what the words ask for, and gives the exit status.
+fn work(rt: &HostRuntime, words: &[String]) -> u8 {
+    let name = match words {
         [_, image, ..] => image.as_str(),
         _ => "",
     };
-    match read_words(words) {
-        Work::Format { sectors } => {
-            let file = OpenOptions::new()
-                .read(true)
-                .write(true)
-                .create(true)
-                .open(rt, image)?;
-            let length = sectors.checked_mul(512).unwrap_or(u64::MAX);
-            file.set_len(length)?;
-            FileRig::new(file, rt.stdout())
+    let (image, sectors) = match image_of(rt, read_words(words), name) {
+        Ok(found) => found,
+        Err(failure) => {
+            tell(rt, &failure, name);
+            return NO_IMAGE;
         }
-        Work::Run => {
-            let file = OpenOptions::new().read(true).write(true).open(rt, image)?;
-            FileRig::new(file, rt.stdout())
-        }
-        Work::Wrong => Ok(FileRig::empty(rt.stdout())),
+    };
+    let store = match Store::new(rt.alloc(), image, sectors) {
+        Ok(store) => store,
+        Err(AllocError) => return NO_MEMORY,
+    };
+    let mut rig = FileRig::new(store, rt.stdout());
+    let mut source = StdinSource::new(rt.stdin());
+    let status = hfsx(rt.alloc(), words, &mut rig, &mut source);
+    match status {
+        Status::Disk => match rig.failure() {
+            Some(failure) => {
+                tell(rt, &failure, name);
+                if failure.act.is_before_work() {
+                    return NO_IMAGE;
+                }
+            }
+            None => {}
+        },
+        Status::Source => tell_stream(rt, "reading standard input", source.failure()),
+        Status::Sink => tell_stream(rt, "writing standard output", rig.sink_failure()),
+        _ => {}
+    }
+    status.code()
+}
+
+// The image that the words name, and its number of sectors.
+fn image_of<'a>(
+    rt: &'a HostRuntime,
+    work: Work,
+    name: &'a str,
+) -> Result<(Image<'a>, u64), Failure> {
+    match work {
+        Work::Format { sectors } => Image::to_format(rt, name, sectors),
+        Work::Run => Image::open(rt, name),
+        Work::Wrong => Ok((Image::Absent, 0)),
+    }
+}
+
+// Tells on standard error what failed of a standard stream.
+fn tell_stream(rt: &HostRuntime, act: &str, failure: Option<io::Error>) {
+    if let Some(error) = failure {
+        let _ = eprintln!(rt; "hfsx: {act}: {error}");
     }
 }

@@ -2,15 +2,15 @@
 use Rattle.std.proofs.Common.{◌≡◌, ◌≢◌, ◌⊎◌, ◌<◌, ◌≤◌, ◌+◌, ◌++◌, ◌∷◌, [], ℕ, List, IsTrue, inl, inr, length, take, refl, sym, ◌∙◌, ap, subst, arith, append_assoc, length-append}
 use Rattle.std.proofs.lemmas.List.{append-nil, take_all}
 use Rattle.sector_disk.specs.Lists.{Content}
-use Rattle.sector_disk.specs.Clock.{Passes}
-use Rattle.sector_disk.specs.Disk.{State, IsImage, Leaves, SameDisk, SameSink}
+use Rattle.sector_disk.specs.Clock.{TimePasses}
+use Rattle.sector_disk.specs.Disk.{State, IsImage, CrashesLeave, SameDisk, SameSink}
 use Rattle.sector_disk.specs.Source.{Stream}
 use Rattle.sector_disk.proofs.Passing.{both_pass}
-use Rattle.hfs_model.specs.Lines.{lines}
-use Rattle.hfs_model.proofs.Lines.{lines-nil}
-use Rattle.hfsx_server.specs.Headline.{AreTaken, Entry, IsFinished, IsFront, lines_of, replies_of, tree_after}
-use Rattle.hfsx_server.specs.Input.{ahead, IsCut, SameSource, TakesLines}
-use Rattle.hfsx_server.specs.Serving.{Crashes, IsServing, Serves, Stops, SurvivesFrom}
+use Rattle.hfs_language.specs.Lines.{lines}
+use Rattle.hfs_language.proofs.Lines.{lines-nil}
+use Rattle.hfsx_server.specs.Headline.{AreTaken, Entry, IsFinished, IsPrefix, lines_of, replies_of, tree_after}
+use Rattle.hfsx_server.specs.Input.{ahead, SplitsIntoLines, SameSource, TakesLines}
+use Rattle.hfsx_server.specs.Serving.{RunSoFar, IsServing, Serves, Stops, SurvivesFrom}
 use Rattle.hfsx_server.specs.Volume.{IsUnmounted, MountsTo, Tree}
 use Rattle.hfsx_server.specs.declared.server.Server.{Server}
 use Rattle.hfsx_server.proofs.Cuts.{all_taken, are_taken, takes_both, takes_none}
@@ -76,14 +76,14 @@ module _ (start : Tree) (old : State) (source : Stream) (server : Server) (now :
       }
 
   -- a server that stopped has answered these lines, the last maybe in part
-  pub stops_so : (new : State) (source_new : Stream) (more : List Entry) → Crashes server.names now more new → Crashes start old (going.run ++ more) new
-  stops_so new source_new more crashes = crashes_both start old now new going.run more going.serves (subst (λ (t : Tree). Crashes t now more new) going.names crashes)
+  pub stops_so : (new : State) (source_new : Stream) (more : List Entry) → RunSoFar server.names now more new → RunSoFar start old (going.run ++ more) new
+  stops_so new source_new more crashes = crashes_both start old now new going.run more going.serves (subst (λ (t : Tree). RunSoFar t now more new) going.names crashes)
 
 none_of : {A : Type 0} (a b : List A) → a ++ b ≡ [] → (a ≡ []) × (b ≡ [])
 none_of [] b none = (refl, none)
 none_of (x ∷ a) b none = absurd (cc none)
 
-front_stops : (used more left bytes : List ℕ) (some others : List (List ℕ)) → IsCut used some bytes → bytes ≡ more ++ left → IsFront others (lines more) → IsFront (some ++ others) (lines (used ++ more))
+front_stops : (used more left bytes : List ℕ) (some others : List (List ℕ)) → SplitsIntoLines used some bytes → bytes ≡ more ++ left → IsPrefix others (lines more) → IsPrefix (some ++ others) (lines (used ++ more))
 front_stops used more left bytes some others (inl cut) is front = (front.0, cut more ∙ ap (λ (l : List (List ℕ)). some ++ l) front.1 ∙ sym (append_assoc some others front.0))
 front_stops used more left bytes some others (inr cut) is front =
     let none = none_of more left (sym is ∙ cut.0) in
@@ -98,7 +98,7 @@ pub stops_taken : (source source_now source_new : Stream) (input : List ℕ) (ru
 stops_taken source source_now source_new input run more takes stops = record {
   taken = takes.used ++ stops.used;
   left = takes.bytes ∙ ap (λ (l : List ℕ). takes.used ++ l) stops.bytes ∙ sym (append_assoc takes.used stops.used source_new.left);
-  first = subst (λ (l : List (List ℕ)). IsFront l (lines (takes.used ++ stops.used))) (sym (lines_of-append run more))
+  first = subst (λ (l : List (List ℕ)). IsPrefix l (lines (takes.used ++ stops.used))) (sym (lines_of-append run more))
       (front_stops takes.used stops.used source_new.left (ahead input source_now) (lines_of run) (lines_of more) takes.cut stops.bytes stops.first);
 }
 
@@ -106,7 +106,7 @@ one_more : (some rest whole : List (List ℕ)) → rest ≢ [] → whole ≡ som
 one_more some [] whole none is = absurd (none refl)
 one_more some (line ∷ rest) whole none is = omega (arith, ap (λ (l : List (List ℕ)). length l) is, length-append some (line ∷ rest))
 
-some_left : (used bytes : List ℕ) (some : List (List ℕ)) → IsCut used some bytes → lines bytes ≢ [] → length some < length (lines (used ++ bytes))
+some_left : (used bytes : List ℕ) (some : List (List ℕ)) → SplitsIntoLines used some bytes → lines bytes ≢ [] → length some < length (lines (used ++ bytes))
 some_left used bytes some (inl cut) more = one_more some (lines bytes) (lines (used ++ bytes)) more (cut bytes)
 some_left used bytes some (inr cut) more = absurd (more (ap lines cut.0 ∙ lines-nil))
 
@@ -118,7 +118,7 @@ too_many source source_now input run takes more =
 
 -- ---- at the end of the source
 
-module _ (start : Tree) (old : State) (source : Stream) (server : Server) (now : State) (source_now : Stream) (going : Going start old source server now source_now) (new : State) (leaves : Leaves now new (λ image. MountsTo image server.names)) (sink : SameSink now new) where
+module _ (start : Tree) (old : State) (source : Stream) (server : Server) (now : State) (source_now : Stream) (going : Going start old source server now source_now) (new : State) (leaves : CrashesLeave now new (λ image. MountsTo image server.names)) (sink : SameSink now new) where
   told_all : new.told ≡ old.told ++ replies_of going.run
   told_all = sink.told ∙ going.serves.told
 
@@ -135,7 +135,7 @@ module _ (start : Tree) (old : State) (source : Stream) (server : Server) (now :
     },
   )
 
-  pub end_crashes : Crashes start old going.run new
+  pub end_crashes : RunSoFar start old going.run new
   end_crashes = record {
     run_is = going.serves.run_is;
     time = both_pass old.clock now.clock new.clock _ _ _ going.serves.time leaves.time (λ image told p. p) (λ image told p. late image told p.0 p.1);

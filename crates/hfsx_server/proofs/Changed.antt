@@ -7,17 +7,17 @@ use Rattle.sector_disk.proofs.Stages.{put_before, put_behind, put_inside, length
 use Rattle.jnl_replay.specs.Plan.{FitsPlan}
 use Rattle.jnl_replay.specs.declared.plan.Plan.{Plan}
 use Rattle.jnl_store.specs.Journal.{IsClosed}
-use Rattle.jnl_store.specs.Store.{KeepsOn, SameButBatch, content_over}
+use Rattle.jnl_store.specs.Store.{KeepsOn, SameButBatch, content_over, durable_of, puts_of}
 use Rattle.jnl_store.specs.declared.store.Store.{Store}
 use Rattle.hfs_model.specs.Parts.{OnlyFolders, OnlyHeader, parts_of}
-use Rattle.hfs_model.specs.Thin.{AreThin}
+use Rattle.hfs_model.specs.Thin.{AreThin, info_text}
 use Rattle.hfs_model.specs.declared.parts.Parts.{Parts}
 use Rattle.hfsx_server.specs.Finding.{IsLargePlan}
 use Rattle.hfsx_server.specs.Serving.{Changes, IsIdle, IsReady, IsThinPlan, Stands}
 use Rattle.hfsx_server.specs.Volume.{Holds, Tree}
 use Rattle.hfsx_server.proofs.FoldersPlaced.{folders_put, folders_size, same_parts}
 use Rattle.hfsx_server.proofs.Pieces.{range_behind}
-use Rattle.hfsx_server.proofs.Settling.{content_nothing}
+use Rattle.hfsx_server.proofs.Settling.{durable_same}
 use Rattle.hfsx_server.proofs.Standing.{closed_thin}
 
 -- sectors of the header, the catalog and its leaf aren't the journal's
@@ -34,15 +34,15 @@ only_header : (old new : Parts) (j : List ℕ) → OnlyHeader old new → OnlyHe
 only_header old new j others = record { folders = only_folders old new j others.folders; catalog = others.catalog; leaf = others.leaf }
 
 -- a content with these parts, of which the journal header is as it was
-holds_of : (c target : Content) (parts : Parts) → length target ≡ 16384 → parts_of target ≡ record parts { journal = sector c 24 } → Holds target parts × (sector target 24 ≡ sector c 24)
+holds_of : (c target : Content) (parts : Parts) → length target ≡ 16384 → parts_of target ≡ record parts { journal = sector c 24 } → Holds target parts
 holds_of c target parts size is =
     let own : sector target 24 ≡ sector c 24 = ap (λ (p : Parts). p.journal) is in
-    (record { size = size; parts_are = is ∙ ap (λ (j : List ℕ). record parts { journal = j }) (sym own) }, own)
+    record { size = size; parts_are = is ∙ ap (λ (j : List ℕ). record parts { journal = j }) (sym own) }
 
 module _ (c : Content) (old new : Parts) (holds : Holds c old) where
   -- the folders were put
   pub put_folders_hold : length new.catalog ≡ 8 → length new.leaf ≡ 8 → OnlyFolders old new
-      → Holds (put_sectors (put_sectors (put_sectors c 2328 new.catalog) 2336 new.leaf) 2 (new.header ∷ [])) new × (sector (put_sectors (put_sectors (put_sectors c 2328 new.catalog) 2336 new.leaf) 2 (new.header ∷ [])) 24 ≡ sector c 24)
+      → Holds (put_sectors (put_sectors (put_sectors c 2328 new.catalog) 2336 new.leaf) 2 (new.header ∷ [])) new
   put_folders_hold b_catalog b_leaf others =
       let goal : Parts = record new { journal = sector c 24 } in
       let same : OnlyFolders (parts_of c) goal = subst (λ (p : Parts). OnlyFolders p goal) (sym holds.parts_are) (only_folders old new (sector c 24) others) in
@@ -52,7 +52,7 @@ module _ (c : Content) (old new : Parts) (holds : Holds c old) where
   fits = omega (arith, holds.size)
 
   -- the header was put
-  pub put_header_holds : OnlyHeader old new → Holds (put_sectors c 2 (new.header ∷ [])) new × (sector (put_sectors c 2 (new.header ∷ [])) 24 ≡ sector c 24)
+  pub put_header_holds : OnlyHeader old new → Holds (put_sectors c 2 (new.header ∷ [])) new
   put_header_holds others =
       let t = put_sectors c 2 (new.header ∷ []) in
       let o = others.folders in
@@ -72,8 +72,8 @@ module _ (c : Content) (old new : Parts) (holds : Holds c old) where
       (range 2336 2344 (omega arith) (omega arith) ∙ ap (λ (p : Parts). p.leaf) was ∙ sym others.leaf))
 
 -- parts were put into an idle store
-pub ready_of : (store0 store1 : Store) (old new : Parts) (s0 s1 : State) → IsIdle store0 old s0 → SameButBatch store0 store1 → Untouched s0 s1 → length store1.batch.all ≤ length store0.batch.all + 17 → (tree : Tree) × AreThin old tree → (tree : Tree) × AreThin new tree
-    → (KeepsOn store0 s0 → KeepsOn store1 s1) → (IsTrue s0.tells → Holds (content_over store1 (content s1)) new × (sector (content_over store1 (content s1)) 24 ≡ sector (content s0) 24)) → IsReady store1 old new s1
+pub ready_of : (store0 store1 : Store) (old new : Parts) (s0 s1 : State) → IsIdle store0 old s0 → SameButBatch store0 store1 → Untouched s0 s1 → length (puts_of store1) ≤ length (puts_of store0) + 17 → (tree : Tree) × AreThin old tree → (tree : Tree) × AreThin new tree
+    → (KeepsOn store0 s0 → KeepsOn store1 s1) → (IsTrue s0.tells → Holds (content_over store1 (content s1)) new) → IsReady store1 old new s1
 ready_of store0 store1 old new s0 s1 idle same none few thin thin_new keeps target =
     let plan = same.plan in
     record {
@@ -93,16 +93,17 @@ ready_of store0 store1 old new s0 s1 idle same none few thin thin_new keeps targ
             stands = record {
               keeps = keeps stands.keeps;
               plan = subst IsThinPlan (sym plan) stands.plan;
-              holds = subst (λ (c : Content). Holds c old) (sym there) stands.holds;
+              holds = subst (λ (c : Content). Holds c old) (sym (durable_same store0 store1 (content s1) same ∙ ap (λ (c : Content). durable_of store0 c) there)) stands.holds;
+              size = subst (λ (c : Content). length c ≡ 16384) (sym there) stands.size;
+              info = subst (λ (c : Content). sector c 16 ≡ info_text) (sym there) stands.info;
               journal = subst (λ (c : Content). Rattle.hfs_model.specs.Thin.IsJournal (sector c 24)) (sym there) stands.journal;
             };
-            target = (target tells0).0;
-            own = (target tells0).1 ∙ ap (λ (c : Content). sector c 24) (sym there);
+            target = target tells0;
           };
     }
 
 -- a command was begun on an idle store
-pub idle_begun : (store0 store1 : Store) (parts : Parts) (s : State) → IsIdle store0 parts s → SameButBatch store0 store1 → store1.batch.all ≡ store0.batch.all → (KeepsOn store0 s → KeepsOn store1 s) → IsIdle store1 parts s
+pub idle_begun : (store0 store1 : Store) (parts : Parts) (s : State) → IsIdle store0 parts s → SameButBatch store0 store1 → puts_of store1 ≡ puts_of store0 → (KeepsOn store0 s → KeepsOn store1 s) → IsIdle store1 parts s
 idle_begun store0 store1 parts s idle same all keeps = record {
   size = idle.size;
   fits = subst (λ (p : Plan). FitsPlan s.sectors p) (sym same.plan) idle.fits;
@@ -112,5 +113,12 @@ idle_begun store0 store1 parts s idle same all keeps = record {
   settled = same.unsettled ∙ idle.settled;
   stands = λ tells.
       let stands = idle.stands tells in
-      record { keeps = keeps stands.keeps; plan = subst IsThinPlan (sym same.plan) stands.plan; holds = stands.holds; journal = stands.journal };
+      record {
+        keeps = keeps stands.keeps;
+        plan = subst IsThinPlan (sym same.plan) stands.plan;
+        holds = subst (λ (c : Content). Holds c parts) (sym (durable_same store0 store1 (content s) same)) stands.holds;
+        size = stands.size;
+        info = stands.info;
+        journal = stands.journal;
+      };
 }

@@ -2,21 +2,21 @@
 use Rattle.std.proofs.Common.{◌≡◌, ◌⊎◌, ◌++◌, ◌∷◌, [], ℕ, List, IsTrue, inl, inr, ⊎_elim, refl, sym, ◌∙◌, ap, subst, append_assoc}
 use Rattle.std.proofs.lemmas.List.{append-nil}
 use Rattle.sector_disk.specs.Source.{Stream}
-use Rattle.hfs_model.specs.Lines.{lines}
-use Rattle.hfs_model.proofs.Lines.{lines-nil}
-use Rattle.hfsx_server.specs.Headline.{Entry, IsFront, AreTaken, lines_of}
-use Rattle.hfsx_server.specs.Input.{ahead, IsCut, TakesLines}
+use Rattle.hfs_language.specs.Lines.{lines}
+use Rattle.hfs_language.proofs.Lines.{lines-nil}
+use Rattle.hfsx_server.specs.Headline.{Entry, IsPrefix, AreTaken, lines_of}
+use Rattle.hfsx_server.specs.Input.{ahead, SplitsIntoLines, TakesLines}
 
 none_left : (a b : List ℕ) → a ++ b ≡ [] → (a ≡ []) × (b ≡ [])
 none_left [] b none = (refl, none)
 none_left (x ∷ a) b none = absurd (cc none)
 
 -- no byte is cut into no line
-none_cut : (used : List ℕ) (some : List (List ℕ)) (rest : List ℕ) → IsCut used some rest → used ≡ [] → some ≡ []
+none_cut : (used : List ℕ) (some : List (List ℕ)) (rest : List ℕ) → SplitsIntoLines used some rest → used ≡ [] → some ≡ []
 none_cut used some rest (inl cut) none = sym (append-nil some) ∙ ap (λ (l : List (List ℕ)). some ++ l) (sym lines-nil) ∙ sym (cut []) ∙ ap lines (append-nil used ∙ none) ∙ lines-nil
 none_cut used some rest (inr cut) none = sym cut.1 ∙ ap lines none ∙ lines-nil
 
-pub cut_both : (used more : List ℕ) (some others : List (List ℕ)) (mid rest : List ℕ) → mid ≡ more ++ rest → IsCut used some mid → IsCut more others rest → IsCut (used ++ more) (some ++ others) rest
+pub cut_both : (used more : List ℕ) (some others : List (List ℕ)) (mid rest : List ℕ) → mid ≡ more ++ rest → SplitsIntoLines used some mid → SplitsIntoLines more others rest → SplitsIntoLines (used ++ more) (some ++ others) rest
 cut_both used more some others mid rest is (inl first) (inl second) = inl (λ tail. ap lines (append_assoc used more tail) ∙ first (more ++ tail) ∙ ap (λ (l : List (List ℕ)). some ++ l) (second tail) ∙ sym (append_assoc some others (lines tail)))
 cut_both used more some others mid rest is (inl first) (inr second) = inr (second.0, first more ∙ ap (λ (l : List (List ℕ)). some ++ l) second.1)
 cut_both used more some others mid rest is (inr first) second =
@@ -36,7 +36,7 @@ takes_both taken mid new source source_mid source_new some others first second =
 }
 
 -- what was taken begins with these lines
-pub front_cut : (used taken left : List ℕ) (some : List (List ℕ)) → IsCut used some (taken ++ left) → IsFront some (lines (used ++ taken))
+pub front_cut : (used taken left : List ℕ) (some : List (List ℕ)) → SplitsIntoLines used some (taken ++ left) → IsPrefix some (lines (used ++ taken))
 front_cut used taken left some (inl cut) = (lines taken, cut taken)
 front_cut used taken left some (inr cut) = ([], ap lines (ap (λ (l : List ℕ). used ++ l) (none_left taken left cut.0).0 ∙ append-nil used) ∙ cut.1 ∙ sym (append-nil some))
 
@@ -47,7 +47,7 @@ are_taken source run taken source_new takes = record {
   first = front_cut takes.used taken source_new.left (lines_of run) takes.cut;
 }
 
-all_cut : (used some_left : List ℕ) (some : List (List ℕ)) → IsCut used some some_left → some_left ≡ [] → lines (used ++ some_left) ≡ some
+all_cut : (used some_left : List ℕ) (some : List (List ℕ)) → SplitsIntoLines used some some_left → some_left ≡ [] → lines (used ++ some_left) ≡ some
 all_cut used some_left some (inl cut) none = cut some_left ∙ ap (λ (l : List (List ℕ)). some ++ l) (ap lines none ∙ lines-nil) ∙ append-nil some
 all_cut used some_left some (inr cut) none = ap lines (ap (λ (l : List ℕ). used ++ l) none ∙ append-nil used) ∙ cut.1
 

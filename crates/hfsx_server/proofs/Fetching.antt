@@ -3,7 +3,7 @@ use Rattle.std.proofs.Common.{◌≡◌, ◌⊎◌, ◌≤◌, ◌<◌, ◌++◌
 use Rattle.std.proofs.lemmas.List.{append-nil, append_cancel_right}
 use Rattle.std.proofs.lemmas.List.Elements.{All-head, All-tail}
 use Rattle.sector_disk.specs.Source.{Stream}
-use Rattle.hfs_model.specs.Lines.{HasNoNewline}
+use Rattle.hfs_language.specs.Lines.{HasNoNewline}
 use Rattle.hfsx_server.specs.Input.{ahead, TakesNoMore}
 
 -- bytes had to be taken, since the line didn't end in those taken before

@@ -1,6 +1,6 @@
 -- A volume that was formatted is one at rest.
 use Rattle.std.proofs.Common.{◌≡◌, ◌<◌, ◌≤◌, ◌^◌, [], ℕ, List, true, false, refl, sym, ◌∙◌, ap, subst, arith}
-use Rattle.sector_disk.specs.Disk.{State, Candidates, IsSettled, content, content_of, only}
+use Rattle.sector_disk.specs.Disk.{State, Candidates, HasNothingPending, content, content_of, only}
 use Rattle.volume_header.specs.Refusal.{is_unmounted}
 use Rattle.volume_header.specs.Header.{header_of}
 use Rattle.volume_header.specs.declared.header.VolumeHeader.{VolumeHeader}
@@ -15,7 +15,7 @@ use Rattle.hfsx_server.proofs.ThinHeaders.{thin_fits}
 fresh_journal : IsEmptyJournal (journal_text 512 512)
 fresh_journal = record { header = record { start = 512; end = 512; starts = refl; ends = refl; is = refl }; empty = refl }
 
-pub fresh_unmounted : (disk : State) (parts : Parts) → HoldsAll disk parts → AreThin parts [] → AreFresh parts → IsSettled disk → IsUnmounted disk []
+pub fresh_unmounted : (disk : State) (parts : Parts) → HoldsAll disk parts → AreThin parts [] → AreFresh parts → HasNothingPending disk → IsUnmounted disk []
 fresh_unmounted disk parts holds thin fresh settled = record {
   has_tree = record { size = holds.size; parts = subst (λ (p : Parts). AreThin p []) (sym holds.parts_are) thin };
   clean =

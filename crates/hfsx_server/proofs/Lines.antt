@@ -2,16 +2,16 @@
 use Rattle.std.proofs.Common.{◌≡◌, ◌⊎◌, ◌≤◌, ◌+◌, ◌++◌, ◌∷◌, [], ℕ, List, IsTrue, inl, inr, ⊎_elim, length, refl, sym, ◌∙◌, ap, subst, arith, append_assoc}
 use Rattle.std.proofs.lemmas.List.{append-nil}
 use Rattle.sector_disk.specs.Lists.{Content}
-use Rattle.sector_disk.specs.Disk.{State, Candidates, IsImage, Leaves, SameDisk, SameSink, content, content_of}
+use Rattle.sector_disk.specs.Disk.{State, Candidates, IsImage, CrashesLeave, SameDisk, SameSink, content, content_of}
 use Rattle.sector_disk.specs.Source.{Stream}
 use Rattle.jnl_replay.specs.Plan.{FitsPlan}
-use Rattle.jnl_store.specs.Store.{Keeps, KeepsOn}
-use Rattle.hfs_model.specs.Lines.{lines}
-use Rattle.hfs_model.specs.Language.{command_of}
-use Rattle.hfsx_server.specs.Headline.{Entry, IsFront, lines_of, replies_of, tree_after}
+use Rattle.jnl_store.specs.Store.{Keeps, KeepsOn, durable_of}
+use Rattle.hfs_language.specs.Lines.{lines}
+use Rattle.hfs_language.specs.Language.{command_of}
+use Rattle.hfsx_server.specs.Headline.{Entry, IsPrefix, lines_of, replies_of, tree_after}
 use Rattle.hfsx_server.specs.Input.{ahead, TakesLines}
 use Rattle.hfsx_server.specs.Session.{step}
-use Rattle.hfsx_server.specs.Serving.{Crashes, IsIdle, IsServing, Rests, Serves, Stands, Stops, entry_of}
+use Rattle.hfsx_server.specs.Serving.{RunSoFar, IsIdle, IsServing, Rests, Serves, Stands, Stops, entry_of}
 use Rattle.hfsx_server.specs.Volume.{Holds, MountsTo, Tree}
 use Rattle.hfsx_server.specs.declared.server.Server.{Server}
 use Rattle.hfsx_server.proofs.Cuts.{front_cut, takes_none}
@@ -52,7 +52,9 @@ idle_told server old new serving same kept =
             record {
               keeps = (tells, subst (λ n. Keeps server.store n new.candidates) (sym same.sectors) (subst (λ (d : Candidates). Keeps server.store old.sectors d) (sym kept) stands.keeps.1));
               plan = stands.plan;
-              holds = subst (λ (c : Content). Holds c server.parts) (sym there) stands.holds;
+              holds = subst (λ (c : Content). Holds (durable_of server.store c) server.parts) (sym there) stands.holds;
+              size = subst (λ (c : Content). length c ≡ 16384) (sym there) stands.size;
+              info = subst (λ (c : Content). Rattle.sector_disk.specs.Lists.sector c 16 ≡ Rattle.hfs_model.specs.Thin.info_text) (sym there) stands.info;
               journal = subst (λ (c : Content). Rattle.hfs_model.specs.Thin.IsJournal (Rattle.sector_disk.specs.Lists.sector c 24)) (sym there) stands.journal;
             };
       };

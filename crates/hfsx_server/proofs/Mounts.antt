@@ -8,8 +8,8 @@ use Rattle.volume_header.specs.Refusal.{header_refusal, is_locked}
 use Rattle.volume_header.specs.declared.header.VolumeHeader.{VolumeHeader}
 use Rattle.jnl_format.specs.Header.{header_bytes, IsHeader}
 use Rattle.jnl_format.specs.Recovery.{Journal, header_of_volume, info_sector_of, recovery, replayed}
-use Rattle.jnl_format.proofs.Alike.{KeepsHeader}
-use Rattle.jnl_format.proofs.Volumes.{IsSame}
+use Rattle.jnl_format.specs.Keeping.{KeepsHeader}
+use Rattle.jnl_format.specs.Keeping.{IsSame}
 use Rattle.jnl_replay.specs.Homing.{StandsForSame, empty_header, emptied}
 use Rattle.jnl_replay.specs.Plan.{journal_of}
 use Rattle.jnl_replay.specs.declared.plan.Plan.{Plan}
@@ -78,10 +78,13 @@ module _ (plan : Plan) (old image recovered target : Content) (parts : Parts) (t
   base : plan.info.offset / 512 ≡ 24
   base = ap (λ n. n / 512) thin.offset
 
-  image_info : sector image 16 ≡ info_text
+  pub stands_size : length image ≡ 16384
+  stands_size = sym (recovery_parts image recovered stands.stands).size ∙ agrees.size ∙ holds.size
+
+  pub image_info : sector image 16 ≡ info_text
   image_info = subst (λ k. sector image k ≡ sector old k) thin.info_sector stands.info ∙ info
 
-  image_journal : IsJournal (sector image 24)
+  pub image_journal : IsJournal (sector image 24)
   image_journal =
       journal_again stands.header (sector old 24) (sector image 24) journal (subst (λ n. IsHeader n stands.header) thin.size stands.form.whole) (stands.form.order ∙ thin.order) (stands.form.blhdr ∙ thin.blhdr)
       (subst (λ k. sector image k ≡ header_bytes stands.header ++ drop 44 (sector old k)) base stands.spelled)
@@ -97,5 +100,5 @@ module _ (plan : Plan) (old image recovered target : Content) (parts : Parts) (t
 
   pub stands_mounts : MountsTo image tree
   stands_mounts =
-      let same : length image ≡ length old = sym (recovery_parts image recovered stands.stands).size ∙ agrees.size ∙ holds.size ∙ sym size in
+      let same : length image ≡ length old = stands_size ∙ sym size in
       mounts_thin image recovered tree (accepted_again old image stands.volume same) stands.stands (holds_thin recovered parts tree stands_holds are stands_journal)

@@ -11,7 +11,7 @@ use Rattle.jnl_store.specs.Overlay.{overlay}
 use Rattle.jnl_store.specs.Store.{KeepsOn, SameButBatch, content_over, durable_of, spare_of}
 use Rattle.jnl_store.specs.declared.puts.Put.{Put}
 use Rattle.jnl_store.specs.declared.store.Store.{Store}
-use Rattle.hfsx_server.proofs.Settling.{durable_rest}
+use Rattle.hfsx_server.proofs.Settling.{length-durable_of}
 use Rattle.hfsx_server.proofs.Steps.{untouched_both}
 
 pub length-overlay : (puts : List Put) (c : Content) → length (overlay puts c) ≡ length c
@@ -19,7 +19,7 @@ length-overlay [] c = refl
 length-overlay (put ∷ puts) c = length-overlay puts (set c put.at put.bytes) ∙ length-set c put.at put.bytes
 
 pub length-content_over : (store : Store) (c : Content) → length (content_over store c) ≡ length c
-length-content_over store c = length-overlay store.batch.all (durable_of store c) ∙ ap (λ (d : Content). length d) (durable_rest store c)
+length-content_over store c = length-overlay store.batch.all (durable_of store c) ∙ length-durable_of store c
 
 pub same_but_both : (old mid new : Store) → SameButBatch old mid → SameButBatch mid new → SameButBatch old new
 same_but_both old mid new a b = record { plan = b.plan ∙ a.plan; unsettled = b.unsettled ∙ a.unsettled; faults = b.faults ∙ a.faults; slots = b.slots ∙ a.slots }

@@ -2,20 +2,20 @@
 use Rattle.std.proofs.Common.{◌≡◌, ◌⊎◌, ◌≤◌, ◌++◌, [], ℕ, List, IsTrue, inl, inr, length, refl, sym, ◌∙◌, ap, subst, arith}
 use Rattle.std.proofs.lemmas.List.{append-nil, length-map}
 use Rattle.sector_disk.specs.Lists.{Content}
-use Rattle.sector_disk.specs.Clock.{Passes}
-use Rattle.sector_disk.specs.Disk.{State, IsImage, IsSettled, LeftNow, Leaves, SameSink, content}
+use Rattle.sector_disk.specs.Clock.{TimePasses}
+use Rattle.sector_disk.specs.Disk.{State, IsImage, HasNothingPending, LeftNow, CrashesLeave, SameSink, content}
 use Rattle.sector_disk.specs.Source.{Stream}
 use Rattle.sector_disk.proofs.Passing.{both_pass, passes_with}
-use Rattle.hfs_model.specs.Lines.{lines}
+use Rattle.hfs_language.specs.Lines.{lines}
 use Rattle.hfsx_server.specs.declared.faults.MountFault.{MountFault}
 use Rattle.hfsx_server.specs.declared.faults.MountFault.TheVariants as fault
 use Rattle.hfsx_server.specs.Headline.{AreTaken, Entry, Headline, IsFinished, lines_of, replies_of, tree_after}
-use Rattle.hfsx_server.specs.Serving.{Crashes, Rests, SurvivesFrom}
+use Rattle.hfsx_server.specs.Serving.{RunSoFar, Rests, SurvivesFrom}
 use Rattle.hfsx_server.specs.Volume.{IsFault, IsRefusal, MountsTo, Refuses, Tree}
 use Rattle.hfsx_server.proofs.Runs.{headline_crash, replies_of-none, survives_early, tree_after-none}
 use Rattle.hfsx_server.proofs.Steps.{settled_image}
 
-pub rests_start : (old : State) (start : Tree) → IsSettled old → MountsTo (content old) start → Rests old start
+pub rests_start : (old : State) (start : Tree) → HasNothingPending old → MountsTo (content old) start → Rests old start
 rests_start old start settled mounts image is = subst (λ (d : Content). MountsTo d start) (sym (settled_image old settled image is)) mounts
 
 -- before the first line, a crash leaves the tree of the start
@@ -23,7 +23,7 @@ early : (start : Tree) (old : State) (run : List Entry) (image : Content) (told 
 early start old run image told mounts is = survives_early start old.told run 0 image told (omega arith) (subst (λ (t : Tree). MountsTo image t) (sym (tree_after-none start)) mounts) is
 
 -- what the mount left, and then the lines
-pub mounted_crashes : (start : Tree) (old mid new : State) (run : List Entry) → Leaves old mid (λ image. MountsTo image start) → SameSink old mid → Crashes start mid run new → Crashes start old run new
+pub mounted_crashes : (start : Tree) (old mid new : State) (run : List Entry) → CrashesLeave old mid (λ image. MountsTo image start) → SameSink old mid → RunSoFar start mid run new → RunSoFar start old run new
 mounted_crashes start old mid new run leaves sink crashes = record {
   run_is = crashes.run_is;
   time = both_pass old.clock mid.clock new.clock _ _ _ leaves.time crashes.time (λ image told p. early start old run image told p.0 p.1)
@@ -32,7 +32,7 @@ mounted_crashes start old mid new run leaves sink crashes = record {
 }
 
 -- the mount failed, and no line was served
-pub none_crashes : (start : Tree) (old new : State) → Leaves old new (λ image. MountsTo image start) → SameSink old new → Crashes start old [] new
+pub none_crashes : (start : Tree) (old new : State) → CrashesLeave old new (λ image. MountsTo image start) → SameSink old new → RunSoFar start old [] new
 none_crashes start old new leaves sink = record {
   run_is = tt;
   time = passes_with old.clock new.clock _ _ leaves.time (λ image told p. early start old [] image told p.0 p.1);
@@ -43,7 +43,7 @@ pub none_taken : (source : Stream) → AreTaken source [] source
 none_taken source = record { taken = []; left = refl; first = (lines [], refl) }
 
 pub headline_of : (start : Tree) (old : State) (source : Stream) (run : List Entry) (new : State) (source_new : Stream) → Rests old start → ((image : Content) (told : List ℕ) → old.clock.left old.clock.moment image told → LeftNow old image told)
-    → Crashes start old run new → (IsTrue source.tells → AreTaken source run source_new) → Headline start old source run new source_new
+    → RunSoFar start old run new → (IsTrue source.tells → AreTaken source run source_new) → Headline start old source run new source_new
 headline_of start old source run new source_new rests only_now crashes taken = record {
   run_is = crashes.run_is;
   lines = taken;

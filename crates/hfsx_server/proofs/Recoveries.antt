@@ -6,9 +6,11 @@ use Rattle.jnl_format.specs.Info.{unless_fault}
 use Rattle.jnl_format.specs.Recovery.{Content, sector, Journal, header_of_volume, info_sector_of, journal_in, text_of, volume_of, text_fault, homes_of, replayed, recovery, recovery_at}
 use Rattle.jnl_format.specs.declared.blocks.Home.{Home}
 use Rattle.jnl_format.specs.declared.blocks.Volume.{Volume}
-use Rattle.jnl_format.proofs.Alike.{KeepsHeader, good_homes, stands_alike}
-use Rattle.jnl_format.proofs.Homes.{IsGoodHome, Each}
-use Rattle.jnl_format.proofs.Mixing.{IsHomeOf, MixesHomes, mixes_with_homes, named_home, not_named}
+use Rattle.jnl_format.proofs.Alike.{good_homes, stands_alike}
+use Rattle.jnl_format.specs.Keeping.{KeepsHeader}
+use Rattle.jnl_format.specs.Named.{IsGoodHome, Each}
+use Rattle.jnl_format.proofs.Mixing.{mixes_with_homes, named_home, not_named}
+use Rattle.jnl_format.specs.Named.{IsHomeOf, MixesHomes}
 use Rattle.jnl_format.proofs.Recovering.{then_parts, unless_parts}
 use Rattle.hfsx_server.specs.Volume.{HasJournal}
 

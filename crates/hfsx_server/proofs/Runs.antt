@@ -4,16 +4,16 @@ use Rattle.std.proofs.Math.Seq.{take-append-add}
 use Rattle.std.proofs.lemmas.Bool.{cases_lt}
 use Rattle.std.proofs.lemmas.List.{length-take-le, append-nil, take_all, take-append-le, append_cancel_left, map-append}
 use Rattle.sector_disk.specs.Lists.{Content}
-use Rattle.sector_disk.specs.Clock.{Clock, Passes, WithTold}
-use Rattle.sector_disk.specs.Disk.{State, Candidates, IsImage, Leaves, LeftNow, SameSink, ToldFront}
+use Rattle.sector_disk.specs.Clock.{Clock, TimePasses, WithTold}
+use Rattle.sector_disk.specs.Disk.{State, Candidates, IsImage, CrashesLeave, LeftNow, SameSink, ToldPrefix}
 use Rattle.sector_disk.proofs.Passing.{none_passes, both_pass, passes_with}
-use Rattle.hfs_model.specs.Text.{reply_text, body_text}
-use Rattle.hfs_model.specs.declared.reply.Reply.{Reply}
-use Rattle.hfs_model.specs.Language.{command_of}
+use Rattle.hfs_language.specs.Text.{reply_text, body_text}
+use Rattle.hfs_language.specs.declared.reply.Reply.{Reply}
+use Rattle.hfs_language.specs.Language.{command_of}
 use Rattle.hfsx_server.specs.Session.{step}
 use Rattle.hfsx_server.specs.Volume.{Tree, MountsTo}
-use Rattle.hfsx_server.specs.Headline.{Entry, IsServed, IsRun, IsFront, Survives, tree_after, replies_of, lines_of}
-use Rattle.hfsx_server.specs.Serving.{Rests, entry_of, SurvivesFrom, Crashes, Serves}
+use Rattle.hfsx_server.specs.Headline.{Entry, IsServed, IsRun, IsPrefix, Survives, tree_after, replies_of, lines_of}
+use Rattle.hfsx_server.specs.Serving.{Rests, entry_of, SurvivesFrom, RunSoFar, Serves}
 
 pub tree_after-none : (start : Tree) → tree_after start [] ≡ start
 unfolding tree_after
@@ -60,11 +60,11 @@ pub lines_of-append : (run more : List Entry) → lines_of (run ++ more) ≡ lin
 lines_of-append run more = map-append (λ (e : Entry). e.line) run more
 
 -- what a front of some bytes is no longer than
-front_length : (front whole : List ℕ) → IsFront front whole → length front ≤ length whole
+front_length : (front whole : List ℕ) → IsPrefix front whole → length front ≤ length whole
 front_length front whole is = omega (arith, ap (λ (l : List ℕ). length l) is.1, length-append front is.0)
 
 -- a list that begins with another one, behind the same front
-front_behind : (a b told : List ℕ) → IsFront (a ++ b) (a ++ told) → IsFront b told
+front_behind : (a b told : List ℕ) → IsPrefix (a ++ b) (a ++ told) → IsPrefix b told
 front_behind a b told is = (is.0, append_cancel_left a told (b ++ is.0) (is.1 ∙ append_assoc a b is.0))
 
 take_past : (run more : List Entry) (k : ℕ) → length run ≤ k → take k (run ++ more) ≡ run ++ take (k - length run) more
@@ -84,7 +84,7 @@ module _ (start : Tree) (run more : List Entry) (image : Content) (told : List �
     front = (holds.front.0 ++ replies_of more, replies_of-append run more ∙ ap (λ (l : List ℕ). l ++ replies_of more) holds.front.1 ∙ append_assoc told holds.front.0 (replies_of more));
     answered = λ k some front. elim (cases_lt (length run) k) [
       | inl past ↦
-          let here = subst (λ (r : List Entry). IsFront (replies_of r) told) (take_past run more k (omega (arith, past))) front in
+          let here = subst (λ (r : List Entry). IsPrefix (replies_of r) told) (take_past run more k (omega (arith, past))) front in
           let long = front_length (replies_of (run ++ take (k - length run) more)) told here in
           let rest : length (take (k - length run) more) ≡ k - length run = length-take-le (k - length run) more (omega (arith, some, length-append run more)) in
           absurd (omega (
@@ -97,7 +97,7 @@ module _ (start : Tree) (run more : List Entry) (image : Content) (told : List �
             length-replies (take (k - length run) more),
             rest,
           ))
-      | inr within ↦ holds.answered k (omega (arith, within)) (subst (λ (r : List Entry). IsFront (replies_of r) told) (take-append-le k run more (omega (arith, within))) front)
+      | inr within ↦ holds.answered k (omega (arith, within)) (subst (λ (r : List Entry). IsPrefix (replies_of r) told) (take-append-le k run more (omega (arith, within))) front)
     ];
   }
 
@@ -110,8 +110,8 @@ module _ (start : Tree) (run more : List Entry) (image : Content) (told : List �
     front = (holds.front.0, replies_of-append run more ∙ ap (λ (l : List ℕ). replies_of run ++ l) holds.front.1 ∙ sym (append_assoc (replies_of run) told holds.front.0));
     answered = λ k some front. elim (cases_lt (length run) k) [
       | inl past ↦
-          let here = subst (λ (r : List Entry). IsFront (replies_of r) (replies_of run ++ told)) (take_past run more k (omega (arith, past))) front in
-          let there = subst (λ (l : List ℕ). IsFront l (replies_of run ++ told)) (replies_of-append run (take (k - length run) more)) here in
+          let here = subst (λ (r : List Entry). IsPrefix (replies_of r) (replies_of run ++ told)) (take_past run more k (omega (arith, past))) front in
+          let there = subst (λ (l : List ℕ). IsPrefix l (replies_of run ++ told)) (replies_of-append run (take (k - length run) more)) here in
           let few = holds.answered (k - length run) (omega (arith, some, length-append run more)) (front_behind (replies_of run) (replies_of (take (k - length run) more)) told there) in
           omega (arith, past, few)
       | inr within ↦ omega (arith, within)
@@ -129,7 +129,7 @@ from_after start before mid run more image told is from = (
 )
 
 module _ (start : Tree) (old mid new : State) (run more : List Entry) (first : Serves start old run mid) where
-  both_time : Passes mid.clock new.clock (SurvivesFrom (tree_after start run) mid.told more) → Passes old.clock new.clock (SurvivesFrom start old.told (run ++ more))
+  both_time : TimePasses mid.clock new.clock (SurvivesFrom (tree_after start run) mid.told more) → TimePasses old.clock new.clock (SurvivesFrom start old.told (run ++ more))
   both_time time =
       both_pass old.clock mid.clock new.clock _ _ _ first.time time
       (λ image told p. from_on start old.told run more image told p)
@@ -145,7 +145,7 @@ module _ (start : Tree) (old mid new : State) (run more : List Entry) (first : S
     rests = subst (Rests new) (sym (tree_after-append start run more)) second.rests;
   }
 
-  pub crashes_both : Crashes (tree_after start run) mid more new → Crashes start old (run ++ more) new
+  pub crashes_both : RunSoFar (tree_after start run) mid more new → RunSoFar start old (run ++ more) new
   crashes_both second = record {
     run_is = run-append start run more first.run_is second.run_is;
     time = both_time second.time;
@@ -165,7 +165,7 @@ serves_none start old rests = record {
   rests = subst (Rests old) (sym (tree_after-none start)) rests;
 }
 
-pub serves_crashes : (start : Tree) (old new : State) (run : List Entry) → Serves start old run new → Crashes start old run new
+pub serves_crashes : (start : Tree) (old new : State) (run : List Entry) → Serves start old run new → RunSoFar start old run new
 serves_crashes start old new run serves = record { run_is = serves.run_is; time = serves.time; told = (replies_of run, ([], sym (append-nil (replies_of run))), serves.told) }
 
 -- ---- moments
@@ -185,7 +185,7 @@ survives_early start before run count image told some mounts is = (
 )
 
 -- a front of the one reply is told
-pub survives_late : (start : Tree) (before : List ℕ) (entry : Entry) (image : Content) (told : List ℕ) → MountsTo image entry.after → ToldFront before (reply_text entry.reply) told → SurvivesFrom start before (entry ∷ []) image told
+pub survives_late : (start : Tree) (before : List ℕ) (entry : Entry) (image : Content) (told : List ℕ) → MountsTo image entry.after → ToldPrefix before (reply_text entry.reply) told → SurvivesFrom start before (entry ∷ []) image told
 survives_late start before entry image told mounts front =
     let text = reply_text entry.reply in
     let k = front.0 in (
@@ -201,7 +201,7 @@ survives_late start before entry image told mounts front =
     )
 
 -- what crashes since the start leave, and what was told
-pub headline_crash : (start : Tree) (old new : State) (run : List Entry) → Rests old start → ((image : Content) (told : List ℕ) → old.clock.left old.clock.moment image told → LeftNow old image told) → Crashes start old run new
+pub headline_crash : (start : Tree) (old new : State) (run : List Entry) → Rests old start → ((image : Content) (told : List ℕ) → old.clock.left old.clock.moment image told → LeftNow old image told) → RunSoFar start old run new
     → (image : Content) (told : List ℕ) → new.clock.left old.clock.moment image (old.told ++ told) → Survives start run image told
 headline_crash start old new run rests only_now crashes image told left =
     let from : SurvivesFrom start old.told run image (old.told ++ told) =
@@ -236,23 +236,23 @@ module _ (tree : Tree) (line : List ℕ) (old mid new : State) where
       (λ was. survives_early tree old.told one 0 image told (omega arith) (subst (MountsTo image) (sym (tree_after-none tree)) was) is)
       (λ now. survives_early tree old.told one 1 image told (omega arith) (subst (MountsTo image) (sym (tree_after-one tree (entry_of tree line))) now) is) which
 
-  pub served_time : Leaves old mid (λ image. MountsTo image tree ⊎ MountsTo image (step tree (command_of line)).1) → Passes old.clock mid.clock (SurvivesFrom tree old.told one)
+  pub served_time : CrashesLeave old mid (λ image. MountsTo image tree ⊎ MountsTo image (step tree (command_of line)).1) → TimePasses old.clock mid.clock (SurvivesFrom tree old.told one)
   served_time leaves = passes_with old.clock mid.clock _ _ leaves.time (λ image told p. early image told p.0 p.1)
 
   -- it was begun, and the reply isn't told
-  pub served_early : Leaves old mid (λ image. MountsTo image tree ⊎ MountsTo image (step tree (command_of line)).1) → SameSink old mid → Crashes tree old one mid
+  pub served_early : CrashesLeave old mid (λ image. MountsTo image tree ⊎ MountsTo image (step tree (command_of line)).1) → SameSink old mid → RunSoFar tree old one mid
   served_early leaves sink = record {
     run_is = entry_run tree line;
     time = served_time leaves;
     told = ([], (replies_of one, refl), sink.told ∙ sym (append-nil old.told));
   }
 
-  module _ (leaves : Leaves old mid (λ image. MountsTo image tree ⊎ MountsTo image (step tree (command_of line)).1)) (sink : SameSink old mid) (rests : Rests mid (step tree (command_of line)).1)
-      (time : Passes mid.clock new.clock (λ image told. IsImage mid.candidates image × ToldFront mid.told text told)) where
-    all_time : Passes old.clock new.clock (SurvivesFrom tree old.told one)
+  module _ (leaves : CrashesLeave old mid (λ image. MountsTo image tree ⊎ MountsTo image (step tree (command_of line)).1)) (sink : SameSink old mid) (rests : Rests mid (step tree (command_of line)).1)
+      (time : TimePasses mid.clock new.clock (λ image told. IsImage mid.candidates image × ToldPrefix mid.told text told)) where
+    all_time : TimePasses old.clock new.clock (SurvivesFrom tree old.told one)
     all_time =
         both_pass old.clock mid.clock new.clock _ _ _ (served_time leaves) time (λ image told p. p)
-        (λ image told p. survives_late tree old.told (entry_of tree line) image told (rests image p.0) (subst (λ (l : List ℕ). ToldFront l text told) sink.told p.1))
+        (λ image told p. survives_late tree old.told (entry_of tree line) image told (rests image p.0) (subst (λ (l : List ℕ). ToldPrefix l text told) sink.told p.1))
 
     -- the reply was told
     pub served_whole : new.told ≡ mid.told ++ text → new.candidates ≡ mid.candidates → Serves tree old one new
@@ -264,7 +264,7 @@ module _ (tree : Tree) (line : List ℕ) (old mid new : State) where
     }
 
     -- a front of it was told
-    pub served_partly : ToldFront mid.told text new.told → Crashes tree old one new
+    pub served_partly : ToldPrefix mid.told text new.told → RunSoFar tree old one new
     served_partly front = record {
       run_is = entry_run tree line;
       time = all_time;

@@ -8,7 +8,7 @@ use Rattle.sector_disk.specs.Space.{AgreesOutside}
 use Rattle.volume_header.specs.Refusal.{header_refusal, is_locked}
 use Rattle.volume_header.specs.Header.{header_of, header_bytes}
 use Rattle.jnl_format.specs.Recovery.{header_of_volume, info_sector_of, recovery}
-use Rattle.jnl_format.proofs.Alike.{KeepsHeader}
+use Rattle.jnl_format.specs.Keeping.{KeepsHeader}
 use Rattle.jnl_replay.specs.declared.plan.Plan.{Plan}
 use Rattle.jnl_store.specs.Journal.{is_closed, IsClosed}
 use Rattle.hfs_model.specs.Parts.{parts_of}

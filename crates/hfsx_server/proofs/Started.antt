@@ -4,7 +4,7 @@ use Rattle.std.specs.Prelude.{Ok, bit_and}
 use Rattle.std.proofs.lemmas.Bool.{cases_eq, cases_lt}
 use Rattle.std.proofs.lemmas.List.{get_or_past}
 use Rattle.sector_disk.specs.Lists.{Content, sector, put_sectors}
-use Rattle.sector_disk.specs.Disk.{State, Candidates, IsImage, IsSettled, Leaves, content, content_of, only}
+use Rattle.sector_disk.specs.Disk.{State, Candidates, IsImage, HasNothingPending, CrashesLeave, content, content_of, only}
 use Rattle.sector_disk.proofs.Candidates.{content_of-only}
 use Rattle.sector_disk.proofs.Stages.{put_before, put_behind, put_inside, length-put}
 use Rattle.hx_bytes.specs.Field.{number_bytes}
@@ -15,12 +15,12 @@ use Rattle.jnl_format.specs.Header.{header_bytes, IsHeader}
 use Rattle.jnl_format.specs.Recovery.{header_of_volume, info_sector_of, journal_in, recovery, replayed}
 use Rattle.jnl_format.specs.declared.structures.Header.{Header}
 use Rattle.jnl_format.specs.declared.structures.Info.{Info}
-use Rattle.jnl_format.proofs.Alike.{KeepsHeader}
+use Rattle.jnl_format.specs.Keeping.{KeepsHeader}
 use Rattle.jnl_replay.specs.Homing.{StandsForSame, after_replay, emptied, empty_header, initialised, with_empty_header}
 use Rattle.jnl_replay.specs.Plan.{FitsPlan, IsPlan, journal_of}
 use Rattle.jnl_replay.specs.declared.plan.Plan.{Plan}
 use Rattle.jnl_store.specs.Plan.{form_of, info_after, rested, span_of}
-use Rattle.jnl_store.specs.Store.{Keeps, KeepsOn}
+use Rattle.jnl_store.specs.Store.{plan_of}
 use Rattle.jnl_store.specs.declared.store.Store.{Store}
 use Rattle.hfs_model.specs.Parts.{parts_of}
 use Rattle.hfs_model.specs.Thin.{AreThin, IsThin, IsJournal, info_text}
@@ -183,7 +183,7 @@ module _ (image : Content) (found : Found) (is : IsFound image found) where
       blhdr = j.thin.blhdr;
     }
 
--- the plan of a journal at rest fits where the plan does
+-- the journal is where it was
 info_place : (plan : Plan) → ((info_after plan).offset ≡ plan.info.offset) × ((info_after plan).size ≡ plan.info.size)
 info_place plan = cases_fresh plan.fresh plan.info
   where
@@ -191,27 +191,7 @@ info_place plan = cases_fresh plan.fresh plan.info
     cases_fresh true info = (refl, refl)
     cases_fresh false info = (refl, refl)
 
-pub fits_rested : (store : Store) (plan : Plan) (total : ℕ) → store.plan ≡ rested plan → FitsPlan total plan → FitsPlan total store.plan
-fits_rested store plan total is fits =
-    let rest = store.rest in
-    let offset : store.plan.info.offset ≡ plan.info.offset = ap (λ (p : Plan). p.info.offset) is ∙ (info_place plan).0 in
-    let size : store.plan.info.size ≡ plan.info.size = ap (λ (p : Plan). p.info.size) is ∙ (info_place plan).1 in
-    record {
-      sectors = fits.sectors;
-      info_sector = omega (arith, fits.info_sector, ap (λ (p : Plan). p.place.info_sector) is);
-      offset = ap (λ n. n % 512) offset ∙ fits.offset;
-      whole = rest.whole;
-      least = rest.least;
-      inside = omega (arith, fits.inside, size, offset);
-      start_low = rest.header.start_low;
-      start_high = rest.header.start_high;
-      end_low = rest.header.end_low;
-      end_high = rest.header.end_high;
-      blhdr = rest.header.blhdr_low;
-      header = rest.header;
-    }
-
-pub large_rested : (store : Store) (plan : Plan) → store.plan ≡ rested plan → IsLargePlan plan → IsLargePlan store.plan
+pub large_rested : (store : Store) (plan : Plan) → plan_of store ≡ rested plan → IsLargePlan plan → IsLargePlan (plan_of store)
 large_rested store plan is large =
     let place = info_place plan in
     let there : IsLargePlan (rested plan) = (

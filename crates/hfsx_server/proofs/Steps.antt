@@ -1,11 +1,11 @@
 -- Stretches of calls: what a crash leaves where some of them touch no device.
 use Rattle.std.proofs.Common.{◌≡◌, ◌⊎◌, ◌<◌, ◌≤◌, ◌∷◌, [], ℕ, List, IsTrue, inl, inr, ⊎_elim, length, refl, sym, ◌∙◌, ap, subst, arith}
 use Rattle.sector_disk.specs.Lists.{Content}
-use Rattle.sector_disk.specs.Clock.{Clock, Passes, WithTold}
-use Rattle.sector_disk.specs.Disk.{State, Candidates, IsImage, IsSettled, Leaves, LeftNow, SameDisk, SameSink, Untouched, content, content_of, only}
+use Rattle.sector_disk.specs.Clock.{Clock, TimePasses, WithTold}
+use Rattle.sector_disk.specs.Disk.{State, Candidates, IsImage, HasNothingPending, CrashesLeave, LeftNow, SameDisk, SameSink, Untouched, content, content_of, only}
 use Rattle.sector_disk.proofs.Passing.{none_passes, both_pass, passes_with}
 use Rattle.sector_disk.proofs.Stages.{image_only, leaves_both}
-use Rattle.jnl_replay.specs.Reading.{OnlyReads}
+use Rattle.sector_disk.specs.Disk.{OnlyReads}
 
 pub untouched_none : (old : State) → Untouched old old
 untouched_none old = record {
@@ -30,7 +30,7 @@ untouched_both old mid new a b = record {
 }
 
 -- calls that touch no device stand before others
-pub untouched_leaves : (old mid new : State) (P : Content → Type 0) → Untouched old mid → Leaves mid new P → Leaves old new P
+pub untouched_leaves : (old mid new : State) (P : Content → Type 0) → Untouched old mid → CrashesLeave mid new P → CrashesLeave old new P
 untouched_leaves old mid new P none leaves = record {
   time = record {
     later = omega (arith, none.moment, leaves.time.later);
@@ -42,15 +42,15 @@ untouched_leaves old mid new P none leaves = record {
 }
 
 -- where nothing is pending, each image is the content
-pub settled_image : (disk : State) → IsSettled disk → (image : Content) → IsImage disk.candidates image → image ≡ content disk
+pub settled_image : (disk : State) → HasNothingPending disk → (image : Content) → IsImage disk.candidates image → image ≡ content disk
 settled_image disk settled image is = image_only (content disk) image (subst (λ (d : Candidates). IsImage d image) settled is)
 
 -- nothing happened
-pub leaves_none : (old : State) (P : Content → Type 0) → ((image : Content) → IsImage old.candidates image → P image) → Leaves old old P
+pub leaves_none : (old : State) (P : Content → Type 0) → ((image : Content) → IsImage old.candidates image → P image) → CrashesLeave old old P
 leaves_none old P now = record { time = none_passes old.clock _; now = now }
 
 -- the disk was only read
-pub leaves_read : (old new : State) (P : Content → Type 0) → OnlyReads old new → ((image : Content) → IsImage old.candidates image → P image) → Leaves old new P
+pub leaves_read : (old new : State) (P : Content → Type 0) → OnlyReads old new → ((image : Content) → IsImage old.candidates image → P image) → CrashesLeave old new P
 leaves_read old new P reads now =
     let P_new : (image : Content) → IsImage new.candidates image → P image = λ image is. now image (subst (λ (d : Candidates). IsImage d image) reads.candidates is) in
     record {

@@ -3,11 +3,11 @@ use Rattle.std.proofs.Common.{◌≡◌, ◌<◌, ◌++◌, ◌∷◌, [], ℕ, 
 use Rattle.std.specs.Prelude.{nat_le}
 use Rattle.std.proofs.lemmas.Bool.Decides.{nat_tests}
 use Rattle.hfs_model.specs.Names.{are_thin_names, is_thin_name, has_name}
-use Rattle.hfs_model.specs.declared.command.Command.{Command}
-use Rattle.hfs_model.specs.declared.command.Command.TheVariants as command
-use Rattle.hfs_model.specs.declared.refusal.Refusal.{Refusal}
-use Rattle.hfs_model.specs.declared.refusal.Refusal.TheVariants as refusal
-use Rattle.hfs_model.specs.declared.reply.Reply.TheVariants as reply
+use Rattle.hfs_language.specs.declared.command.Command.{Command}
+use Rattle.hfs_language.specs.declared.command.Command.TheVariants as command
+use Rattle.hfs_language.specs.declared.refusal.Refusal.{Refusal}
+use Rattle.hfs_language.specs.declared.refusal.Refusal.TheVariants as refusal
+use Rattle.hfs_language.specs.declared.reply.Reply.TheVariants as reply
 use Rattle.hfsx_server.specs.Session.{Step, refused, is_private, make_step, mkdir_step, ls_step, built_step, step}
 use Rattle.hfs_model.proofs.NameOrder.{are_thin_names-push}
 

@@ -12,8 +12,8 @@ use Rattle.volume_header.specs.Header.{header_of, header_bytes, FitsHeader}
 use Rattle.volume_header.specs.declared.header.VolumeHeader.{VolumeHeader}
 use Rattle.volume_header.proofs.ReadBack.{header_of-header_bytes}
 use Rattle.jnl_format.specs.Recovery.{header_of_volume, info_sector_of, journaling_version}
-use Rattle.jnl_format.proofs.Alike.{KeepsHeader}
-use Rattle.jnl_format.proofs.Volumes.{IsSame}
+use Rattle.jnl_format.specs.Keeping.{KeepsHeader}
+use Rattle.jnl_format.specs.Keeping.{IsSame}
 use Rattle.hfs_model.specs.Names.{are_thin_names}
 use Rattle.hfs_model.specs.Thin.{AreThin, IsHeader, thin_header, one_run, special_fork}
 use Rattle.hfs_model.specs.declared.parts.Parts.{Parts}

@@ -3,7 +3,7 @@ use Rattle.std.proofs.Common.{◌≡◌, ◌<◌, ◌≤◌, ◌+◌, ◌-◌, �
 use Rattle.std.specs.Prelude.{slice_range}
 use Rattle.std.proofs.lemmas.List.{ext_get_or, length-map}
 use Rattle.sector_disk.specs.Lists.{Content, sector, put_sectors, last}
-use Rattle.sector_disk.specs.Disk.{State, IsDisk, Candidates, SameDisk, SameSink, IsSettled, content, content_of, only}
+use Rattle.sector_disk.specs.Disk.{State, IsDisk, Candidates, SameDisk, SameSink, HasNothingPending, content, content_of, only}
 use Rattle.sector_disk.proofs.Candidates.{content_of-only}
 use Rattle.std.proofs.Common.{Bool, true, false, cond}
 use Rattle.std.specs.Prelude.{◌==◌}
@@ -36,11 +36,11 @@ pub content_is : (disk : State) (c : Content) → disk.candidates ≡ only c →
 content_is disk c is = ap content_of is ∙ content_of-only c
 
 -- behind a barrier nothing is pending
-pub settled_of : (disk : State) (c : Content) → disk.candidates ≡ only c → IsSettled disk
+pub settled_of : (disk : State) (c : Content) → disk.candidates ≡ only c → HasNothingPending disk
 settled_of disk c is = is ∙ ap only (sym (content_is disk c is))
 
 -- nor is it where the candidates stay
-pub settled_kept : (old new : State) → new.candidates ≡ old.candidates → IsSettled old → IsSettled new
+pub settled_kept : (old new : State) → new.candidates ≡ old.candidates → HasNothingPending old → HasNothingPending new
 settled_kept old new same settled = same ∙ settled ∙ ap (λ (d : Candidates). only (content_of d)) (sym same)
 
 holds_after : (disk : State) (c : Content) (parts : Parts) → disk.candidates ≡ only c → length c ≡ 16384 → parts_of c ≡ parts → HoldsAll disk parts

@@ -3,8 +3,7 @@ use Rattle.std.specs.Prelude.{◌≡◌, ◌≤◌, ℕ, Ok}
 use Rattle.jnl_format.specs.Recovery.{Content, recovery, replayed}
 use Rattle.jnl_replay.specs.Plan.{IsPlan, journal_of}
 use Rattle.jnl_replay.specs.declared.plan.Plan.{Plan}
-use Rattle.jnl_store.specs.Lists.{IsCapacity}
-use Rattle.jnl_store.specs.Plan.{form_of, span_of}
+use Rattle.jnl_store.specs.Plan.{IsCapacityOf}
 use Rattle.hfs_model.specs.Parts.{parts_of}
 use Rattle.hfs_model.specs.Thin.{IsThin}
 use Rattle.hfsx_server.specs.Volume.{IsOpen, least_capacity}
@@ -12,7 +11,7 @@ use Rattle.hfsx_server.specs.declared.mounting.Found.{Found}
 
 -- a transaction of the plan's journal holds enough sectors
 abbrev pub IsLargePlan : Plan → Type 0
-IsLargePlan plan = (most : ℕ) × IsCapacity (span_of plan) (form_of plan) most × (least_capacity ≤ most)
+IsLargePlan plan = (most : ℕ) × IsCapacityOf plan most × (least_capacity ≤ most)
 
 -- the plan is the image's, and what the image stands for has these parts and these folders
 pub record IsFound (image : Content) (found : Found) : Type 0 where

@@ -1,13 +1,13 @@
 -- What a run promises, whatever ends it and whenever power fails.
 use Rattle.std.specs.Prelude.{◌≡◌, ◌≤◌, ℕ, List, [], ◌∷◌, ◌++◌, length, map, take, IsTrue, Result}
-use Rattle.sector_disk.specs.Disk.{State, IsImage, IsSettled, content}
-use Rattle.sector_disk.specs.Clock.{Passes}
+use Rattle.sector_disk.specs.Disk.{State, IsImage, HasNothingPending, content}
+use Rattle.sector_disk.specs.Clock.{TimePasses}
 use Rattle.sector_disk.specs.Lists.{Content}
 use Rattle.sector_disk.specs.Source.{Stream}
-use Rattle.hfs_model.specs.Language.{command_of}
-use Rattle.hfs_model.specs.Lines.{lines}
-use Rattle.hfs_model.specs.Text.{reply_text}
-use Rattle.hfs_model.specs.declared.reply.Reply.{Reply}
+use Rattle.hfs_language.specs.Language.{command_of}
+use Rattle.hfs_language.specs.Lines.{lines}
+use Rattle.hfs_language.specs.Text.{reply_text}
+use Rattle.hfs_language.specs.declared.reply.Reply.{Reply}
 use Rattle.hfsx_server.specs.Session.{step}
 use Rattle.hfsx_server.specs.Volume.{Tree, MountsTo, IsUnmounted}
 
@@ -45,8 +45,8 @@ replies_of [] = []
 replies_of (entry ∷ run) = reply_text entry.reply ++ replies_of run
 
 -- the one list begins with the other
-abbrev pub IsFront : {A : Type 0} → List A → List A → Type 0
-IsFront {A} front whole = (rest : List A) × (whole ≡ front ++ rest)
+abbrev pub IsPrefix : {A : Type 0} → List A → List A → Type 0
+IsPrefix {A} front whole = (rest : List A) × (whole ≡ front ++ rest)
 
 -- ---- what a crash leaves, and what was told
 
@@ -56,14 +56,14 @@ pub record Survives (start : Tree) (run : List Entry) (image : Content) (told : 
   pub count : ℕ
   pub some : count ≤ length run
   pub mounts : MountsTo image (tree_after start (take count run))
-  pub front : IsFront told (replies_of run)
-  pub answered : (k : ℕ) → k ≤ length run → IsFront (replies_of (take k run)) told → k ≤ count
+  pub front : IsPrefix told (replies_of run)
+  pub answered : (k : ℕ) → k ≤ length run → IsPrefix (replies_of (take k run)) told → k ≤ count
 
 -- these lines are the first of the bytes that were taken of a source
 pub record AreTaken (source : Stream) (run : List Entry) (source_new : Stream) : Type 0 where
   pub taken : List ℕ
   pub left : source.left ≡ taken ++ source_new.left
-  pub first : IsFront (lines_of run) (lines taken)
+  pub first : IsPrefix (lines_of run) (lines taken)
 
 -- One run, from this tree over the first lines that were taken, stands for all that may be seen of it: for each image
 -- that a crash may have left at any moment since the start, with the bytes told by then, and for the bytes told at the end.
@@ -71,7 +71,7 @@ pub record Headline (start : Tree) (old : State) (source : Stream) (run : List E
   pub run_is : IsRun start run
   pub lines : IsTrue source.tells → AreTaken source run source_new
   pub crash : (image : Content) (told : List ℕ) → new.clock.left old.clock.moment image (old.told ++ told) → Survives start run image told
-  pub told : (w : List ℕ) × IsFront w (replies_of run) × (new.told ≡ old.told ++ w)
+  pub told : (w : List ℕ) × IsPrefix w (replies_of run) × (new.told ≡ old.told ++ w)
 
 -- A run that was served to the end: each line of the source has its reply told, and the volume is unmounted with the
 -- tree after them all.

@@ -1,7 +1,7 @@
 -- Bytes of a source on their way into lines.
 use Rattle.std.specs.Prelude.{◌≡◌, ◌⊎◌, ◌<◌, ◌≤◌, ◌+◌, ◌*◌, ◌++◌, ◌∷◌, ℕ, List, [], length}
 use Rattle.sector_disk.specs.Source.{Stream}
-use Rattle.hfs_model.specs.Lines.{lines, HasNoNewline}
+use Rattle.hfs_language.specs.Lines.{lines, HasNoNewline}
 use Rattle.hfsx_server.specs.declared.input.Line.{Line}
 use Rattle.hfsx_server.specs.declared.input.Line.TheVariants.{Whole, TooLong}
 
@@ -24,14 +24,14 @@ pub record SameSource (old new : Stream) : Type 0 where
   pub names : new.names ≡ old.names
 
 -- these bytes are cut into these lines, whatever comes behind them, or at the end of all bytes
-abbrev pub IsCut : List ℕ → List (List ℕ) → List ℕ → Type 0
-IsCut used some rest = ((more : List ℕ) → lines (used ++ more) ≡ some ++ lines more) ⊎ ((rest ≡ []) × (lines used ≡ some))
+abbrev pub SplitsIntoLines : List ℕ → List (List ℕ) → List ℕ → Type 0
+SplitsIntoLines used some rest = ((more : List ℕ) → lines (used ++ more) ≡ some ++ lines more) ⊎ ((rest ≡ []) × (lines used ≡ some))
 
 -- the lines of the run were taken out of the bytes ahead
 pub record TakesLines (taken : List ℕ) (source : Stream) (some : List (List ℕ)) (taken_new : List ℕ) (source_new : Stream) : Type 0 where
   pub used : List ℕ
   pub bytes : ahead taken source ≡ used ++ ahead taken_new source_new
-  pub cut : IsCut used some (ahead taken_new source_new)
+  pub cut : SplitsIntoLines used some (ahead taken_new source_new)
 
 -- Where a whole line was there of the bytes taken before, the source wasn't asked. Of the bytes that were taken now, no
 -- more than 65,536 stand behind a newline.

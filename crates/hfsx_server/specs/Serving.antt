@@ -1,6 +1,6 @@
 -- A server on its rig, and how its run goes on from call to call.
-use Rattle.std.specs.Prelude.{◌≡◌, ◌≤◌, ◌+◌, ◌%◌, ◌^◌, ℕ, List, [], ◌++◌, length, false, IsTrue}
-use Rattle.sector_disk.specs.Clock.{Passes}
+use Rattle.std.specs.Prelude.{◌≡◌, ◌≤◌, ◌+◌, ◌%◌, ◌^◌, ℕ, List, [], ◌++◌, length, false, true, IsTrue}
+use Rattle.sector_disk.specs.Clock.{TimePasses}
 use Rattle.sector_disk.specs.Disk.{State, IsImage, content}
 use Rattle.sector_disk.specs.Lists.{Content, sector}
 use Rattle.sector_disk.specs.Source.{Stream}
@@ -8,15 +8,15 @@ use Rattle.hx_bytes.specs.declared.fields.Order.TheVariants.{Little}
 use Rattle.volume_header.specs.Header.{header_bytes}
 use Rattle.jnl_replay.specs.Plan.{FitsPlan}
 use Rattle.jnl_replay.specs.declared.plan.Plan.{Plan}
-use Rattle.jnl_store.specs.Store.{KeepsOn, content_over, spare_of}
+use Rattle.jnl_store.specs.Store.{KeepsOn, content_over, durable_of, faults_of, has_spilled, plan_of, puts_of, spare_of}
 use Rattle.jnl_store.specs.declared.store.Store.{Store}
-use Rattle.hfs_model.specs.Language.{command_of}
-use Rattle.hfs_model.specs.Lines.{lines}
+use Rattle.hfs_language.specs.Language.{command_of}
+use Rattle.hfs_language.specs.Lines.{lines}
 use Rattle.hfs_model.specs.Parts.{OnlyHeader}
-use Rattle.hfs_model.specs.Thin.{AreThin, IsJournal, thin_header, writes_in}
+use Rattle.hfs_model.specs.Thin.{AreThin, IsJournal, info_text, thin_header, writes_in}
 use Rattle.hfs_model.specs.declared.parts.Parts.{Parts}
 use Rattle.hfsx_server.specs.Finding.{IsLargePlan}
-use Rattle.hfsx_server.specs.Headline.{Entry, IsFront, IsRun, Survives, lines_of, replies_of, tree_after}
+use Rattle.hfsx_server.specs.Headline.{Entry, IsPrefix, IsRun, Survives, lines_of, replies_of, tree_after}
 use Rattle.hfsx_server.specs.Input.{ahead}
 use Rattle.hfsx_server.specs.Session.{step}
 use Rattle.hfsx_server.specs.Volume.{Tree, Holds, MountsTo, least_capacity}
@@ -32,37 +32,39 @@ pub record IsThinPlan (plan : Plan) : Type 0 where
   pub order : plan.header.order ≡ Little
   pub blhdr : plan.header.blhdr ≡ 4096
 
--- The store keeps what it has to keep, and the disk holds these parts, whatever the journal's header says.
+-- The store keeps what it has to keep, and what is durable has these parts, whatever the journal's header says. The disk
+-- has the info block and the journal header of such a volume.
 pub record Stands (store : Store) (parts : Parts) (rig : State) : Type 0 where
   pub keeps : KeepsOn store rig
-  pub plan : IsThinPlan store.plan
-  pub holds : Holds (content rig) parts
+  pub plan : IsThinPlan (plan_of store)
+  pub holds : Holds (durable_of store (content rig)) parts
+  pub size : length (content rig) ≡ 16384
+  pub info : sector (content rig) 16 ≡ info_text
   pub journal : IsJournal (sector (content rig) 24)
 
 -- Nothing is put or spilled, no call has failed, and a transaction holds enough sectors.
 pub record IsIdle (store : Store) (parts : Parts) (rig : State) : Type 0 where
   pub size : rig.sectors ≡ 16384
-  pub fits : FitsPlan rig.sectors store.plan
-  pub large : IsLargePlan store.plan
-  pub no_fault : store.faults ≡ 0
-  pub nothing : store.batch.all ≡ []
-  pub settled : store.unsettled ≡ false
+  pub fits : FitsPlan rig.sectors (plan_of store)
+  pub large : IsLargePlan (plan_of store)
+  pub no_fault : faults_of store ≡ 0
+  pub nothing : puts_of store ≡ []
+  pub settled : has_spilled store ≡ false
   pub stands : IsTrue rig.tells → Stands store parts rig
 
--- the store keeps what it has to keep, the disk holds the old parts, and what was put makes the new ones of them
+-- the store keeps what it has to keep, the old parts are durable, and what was put makes the new ones of them
 pub record Changes (store : Store) (old new : Parts) (rig : State) : Type 0 where
   pub stands : Stands store old rig
   pub target : Holds (content_over store (content rig)) new
-  pub own : sector (content_over store (content rig)) 24 ≡ sector (content rig) 24
 
 -- Parts were put, which are to become durable. No call has failed, and a transaction holds them.
 pub record IsReady (store : Store) (old new : Parts) (rig : State) : Type 0 where
   pub size : rig.sectors ≡ 16384
-  pub fits : FitsPlan rig.sectors store.plan
-  pub large : IsLargePlan store.plan
-  pub few : length store.batch.all ≤ least_capacity
-  pub no_fault : store.faults ≡ 0
-  pub settled : store.unsettled ≡ false
+  pub fits : FitsPlan rig.sectors (plan_of store)
+  pub large : IsLargePlan (plan_of store)
+  pub few : length (puts_of store) ≤ least_capacity
+  pub no_fault : faults_of store ≡ 0
+  pub settled : has_spilled store ≡ false
   pub thin : (tree : Tree) × AreThin old tree
   pub thin_new : (tree : Tree) × AreThin new tree
   pub changes : IsTrue rig.tells → Changes store old new rig
@@ -75,6 +77,12 @@ Rests disk tree = (image : Content) → IsImage disk.candidates image → Mounts
 -- and 0 behind the highest. All other parts are as they were.
 pub record IsMarked (folders : ℕ) (old new : Parts) : Type 0 where
   pub header : new.header ≡ header_bytes (thin_header folders false ((writes_in old.header + 1) % 2 ^ 32))
+  pub others : OnlyHeader old new
+
+-- A volume with so many folders is marked as unmounted: in its header bit 8 is set, and the write count is as it was. All
+-- other parts are as they were.
+pub record IsMarkedClean (folders : ℕ) (old new : Parts) : Type 0 where
+  pub header : new.header ≡ header_bytes (thin_header folders true (writes_in old.header))
   pub others : OnlyHeader old new
 
 -- The server may serve its volume on this rig. There is room for the one sector that its end needs.
@@ -102,15 +110,15 @@ abbrev pub SurvivesFrom : Tree → List ℕ → List Entry → Content → List 
 SurvivesFrom start before run image told = (w : List ℕ) × (told ≡ before ++ w) × Survives start run image w
 
 -- at every moment of the run and at its end, whatever ends it
-pub record Crashes (start : Tree) (old : State) (run : List Entry) (new : State) : Type 0 where
+pub record RunSoFar (start : Tree) (old : State) (run : List Entry) (new : State) : Type 0 where
   pub run_is : IsRun start run
-  pub time : Passes old.clock new.clock (SurvivesFrom start old.told run)
-  pub told : (w : List ℕ) × IsFront w (replies_of run) × (new.told ≡ old.told ++ w)
+  pub time : TimePasses old.clock new.clock (SurvivesFrom start old.told run)
+  pub told : (w : List ℕ) × IsPrefix w (replies_of run) × (new.told ≡ old.told ++ w)
 
 -- the run was served to its end: all of its replies were told, and a crash leaves the tree after it
 pub record Serves (start : Tree) (old : State) (run : List Entry) (new : State) : Type 0 where
   pub run_is : IsRun start run
-  pub time : Passes old.clock new.clock (SurvivesFrom start old.told run)
+  pub time : TimePasses old.clock new.clock (SurvivesFrom start old.told run)
   pub told : new.told ≡ old.told ++ replies_of run
   pub rests : Rests new (tree_after start run)
 
@@ -118,4 +126,4 @@ pub record Serves (start : Tree) (old : State) (run : List Entry) (new : State) 
 pub record Stops (taken : List ℕ) (source : Stream) (run : List Entry) (source_new : Stream) : Type 0 where
   pub used : List ℕ
   pub bytes : ahead taken source ≡ used ++ source_new.left
-  pub first : IsFront (lines_of run) (lines used)
+  pub first : IsPrefix (lines_of run) (lines used)

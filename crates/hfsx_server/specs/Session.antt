@@ -1,16 +1,16 @@
 -- Lines, their replies and the folders after them, over the names of the folders in the root.
 use Rattle.std.specs.Prelude.{◌≡◌, ℕ, List, [], ◌∷◌, ◌++◌, Bool, true, false, ◌||◌, nat_le, length, map, Result, Ok, Err, Option, Some, None, codes, if◌then◌else◌}
 use Rattle.std.specs.Str.{bytes_eq}
-use Rattle.hfs_model.specs.Language.{command_of}
+use Rattle.hfs_language.specs.Language.{command_of}
 use Rattle.hfs_model.specs.Names.{is_thin_name, has_name, in_order}
-use Rattle.hfs_model.specs.Text.{reply_text}
-use Rattle.hfs_model.specs.declared.command.Command.{Command}
-use Rattle.hfs_model.specs.declared.command.Command.TheVariants as command
-use Rattle.hfs_model.specs.declared.refusal.Refusal.{Refusal}
-use Rattle.hfs_model.specs.declared.refusal.Refusal.TheVariants as refusal
-use Rattle.hfs_model.specs.declared.reply.Reply.{Reply}
-use Rattle.hfs_model.specs.declared.reply.Reply.TheVariants as reply
-use Rattle.hfs_model.specs.declared.reply.ListedName.{ListedName}
+use Rattle.hfs_language.specs.Text.{reply_text}
+use Rattle.hfs_language.specs.declared.command.Command.{Command}
+use Rattle.hfs_language.specs.declared.command.Command.TheVariants as command
+use Rattle.hfs_language.specs.declared.refusal.Refusal.{Refusal}
+use Rattle.hfs_language.specs.declared.refusal.Refusal.TheVariants as refusal
+use Rattle.hfs_language.specs.declared.reply.Reply.{Reply}
+use Rattle.hfs_language.specs.declared.reply.Reply.TheVariants as reply
+use Rattle.hfs_language.specs.declared.reply.ListedName.{ListedName}
 
 -- the folder of the files that have several names: four zeros, and then these letters
 abbrev pub private_folder : List ℕ

@@ -1,14 +1,14 @@
 -- Lines that are told before the program ends.
 use Rattle.std.specs.Prelude.{◌≡◌, ◌⊎◌, ◌≤◌, ◌++◌, ℕ, List, [], ◌∷◌, IsTrue, Result, OnOk, codes, decimal, nat_lt, if◌then◌else◌}
 use Rattle.sector_disk.specs.Cause.{Rose, HasCause}
-use Rattle.sector_disk.specs.Disk.{State, SameDisk, ToldFront, content}
+use Rattle.sector_disk.specs.Disk.{State, SameDisk, ToldPrefix, content}
 use Rattle.hfsx_server.specs.declared.refusal.Refusal.{Refusal}
 use Rattle.hfsx_server.specs.declared.refusal.Refusal.TheVariants.{TooSmall, TooLarge}
 use Rattle.volume_header.specs.declared.refusal.HeaderRefusal.{HeaderRefusal}
 use Rattle.volume_header.specs.declared.refusal.HeaderRefusal.TheVariants as header
 use Rattle.jnl_format.specs.declared.structures.JnlRefusal.{JnlRefusal}
 use Rattle.jnl_format.specs.declared.structures.JnlRefusal.TheVariants as jnl
-use Rattle.hfs_model.specs.Text.{fields}
+use Rattle.hfs_language.specs.Text.{fields}
 use Rattle.hfsx_server.specs.Volume.{Refuses}
 use Rattle.hfsx_server.specs.declared.faults.MountFault.{MountFault}
 use Rattle.hfsx_server.specs.declared.faults.MountFault.TheVariants as fault
@@ -62,12 +62,12 @@ formatted_text = codes "formatted 2048 blocks, 1692 free\n"
 
 -- the text was told, or the sink failed after a front of it
 abbrev pub ToldUnlessFailed : State → State → List ℕ → Type 0
-ToldUnlessFailed old new text = (new.told ≡ old.told ++ text) ⊎ (Rose old.sink_faults new.sink_faults × ToldFront old.told text new.told)
+ToldUnlessFailed old new text = (new.told ≡ old.told ++ text) ⊎ (Rose old.sink_faults new.sink_faults × ToldPrefix old.told text new.told)
 
 -- the text was told where the call answers Ok, and a front of it else, and the disk was left alone
 pub record Telling {T E : Type 0} (old new : State) (text : List ℕ) (result : Result T E) : Type 0 where
   pub told : IsTrue old.tells → OnOk result (new.told ≡ old.told ++ text)
-  pub unsure : IsTrue old.tells → ToldFront old.told text new.told
+  pub unsure : IsTrue old.tells → ToldPrefix old.told text new.told
   pub candidates : new.candidates ≡ old.candidates
   pub barriers : new.barriers ≡ old.barriers
   pub faults : new.faults ≡ old.faults

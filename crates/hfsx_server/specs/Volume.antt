@@ -1,6 +1,6 @@
 -- What an image is to a mount, and what a disk holds of a volume.
 use Rattle.std.specs.Prelude.{◌≡◌, ◌≢◌, ◌⊎◌, ◌<◌, ◌≤◌, ◌/◌, ℕ, List, length, true, false, None, Some, Ok, Err}
-use Rattle.sector_disk.specs.Disk.{State, IsImage, IsSettled, content}
+use Rattle.sector_disk.specs.Disk.{State, IsImage, HasNothingPending, content}
 use Rattle.sector_disk.specs.Lists.{sector}
 use Rattle.volume_header.specs.Refusal.{header_refusal, is_locked, is_unmounted}
 use Rattle.jnl_format.specs.Recovery.{Content, Journal, header_of_volume, info_sector_of, journal_in, recovery}
@@ -84,7 +84,7 @@ pub record IsUnmounted (disk : State) (tree : Tree) : Type 0 where
   pub has_tree : IsThin (content disk) tree
   pub clean : is_unmounted (header_of_volume (content disk)).attributes ≡ true
   pub empty : IsEmptyJournal (parts_of (content disk)).journal
-  pub settled : IsSettled disk
+  pub settled : HasNothingPending disk
 
 -- these parts stand in a content, whatever stands in the journal's header
 pub record Holds (content : Content) (parts : Parts) : Type 0 where

@@ -1,9 +1,9 @@
 // Parts of a volume, changed by one transaction.
 ghost use Rattle.std.specs.Prelude.{◌≡◌, ◌⊎◌, ◌≤◌, ◌+◌, ◌∷◌, [], IsTrue, OnOk, length};
 ghost use Rattle.sector_disk.specs.Cause.{HasCause};
-ghost use Rattle.sector_disk.specs.Disk.{Leaves, SameDisk, SameSink, Untouched, content};
+ghost use Rattle.sector_disk.specs.Disk.{CrashesLeave, SameDisk, SameSink, Untouched, content};
 ghost use Rattle.sector_disk.specs.Lists.{put_sectors};
-ghost use Rattle.jnl_store.specs.Store.{KeepsOn, SameButBatch, content_over, spare_of};
+ghost use Rattle.jnl_store.specs.Store.{Keeps, KeepsOn, SameButBatch, content_over, faults_of, plan_of, puts_of, spare_of};
 ghost use Rattle.hfs_model.specs.Parts.{OnlyFolders, OnlyHeader};
 ghost use Rattle.hfs_model.specs.Thin.{AreThin};
 ghost use Rattle.hfsx_server.specs.Serving.{IsIdle, IsReady, IsThinPlan, Rests};
@@ -31,7 +31,7 @@ pub(crate) fn change_folders<D: SectorDisk>(
     ensures idle { OnOk result (IsIdle store.new new.now (D.state disk.new)) }
     ensures spare { 1 ≤ spare_of store.new }
     ensures rests { IsTrue (D.state disk.old).tells → (tree : Tree) → AreThin new.now tree → OnOk result (Rests (D.state disk.new) tree) }
-    ensures crash { IsTrue (D.state disk.old).tells → (before after : Tree) → AreThin old.now before → AreThin new.now after → Leaves (D.state disk.old) (D.state disk.new) (λ image. MountsTo image before ⊎ MountsTo image after) }
+    ensures crash { IsTrue (D.state disk.old).tells → (before after : Tree) → AreThin old.now before → AreThin new.now after → CrashesLeave (D.state disk.old) (D.state disk.new) (λ image. MountsTo image before ⊎ MountsTo image after) }
     ensures same { SameDisk (D.state disk.old) (D.state disk.new) }
     ensures sink { SameSink (D.state disk.old) (D.state disk.new) }
     ensures cause { HasCause (D.state disk.old).faults (D.state disk.new).faults result }
@@ -55,7 +55,7 @@ pub(crate) fn change_header<D: SectorDisk>(
     ensures idle { OnOk result (IsIdle store.new new.now (D.state disk.new)) }
     ensures spare { spare_of store.old ≤ spare_of store.new + 1 }
     ensures rests { IsTrue (D.state disk.old).tells → (tree : Tree) → AreThin new.now tree → OnOk result (Rests (D.state disk.new) tree) }
-    ensures crash { IsTrue (D.state disk.old).tells → (before after : Tree) → AreThin old.now before → AreThin new.now after → Leaves (D.state disk.old) (D.state disk.new) (λ image. MountsTo image before ⊎ MountsTo image after) }
+    ensures crash { IsTrue (D.state disk.old).tells → (before after : Tree) → AreThin old.now before → AreThin new.now after → CrashesLeave (D.state disk.old) (D.state disk.new) (λ image. MountsTo image before ⊎ MountsTo image after) }
     ensures same { SameDisk (D.state disk.old) (D.state disk.new) }
     ensures sink { SameSink (D.state disk.old) (D.state disk.new) }
     ensures cause { HasCause (D.state disk.old).faults (D.state disk.new).faults result }
@@ -67,15 +67,16 @@ pub(crate) fn change_header<D: SectorDisk>(
 // Puts the parts that list the folders.
 fn put_folders<D: SectorDisk>(store: &mut Store, disk: &mut D, parts: &Parts)
     requires size { (D.state disk.old).sectors ≡ 16384 }
-    requires plan { IsTrue (D.state disk.old).tells → IsThinPlan store.old.plan }
+    requires plan { IsTrue (D.state disk.old).tells → IsThinPlan (plan_of store.old) }
     requires room { 17 ≤ spare_of store.old }
+    requires keeps { faults_of store.old ≡ 0 → IsTrue (D.state disk.old).tells → Keeps store.old (D.state disk.old).sectors (D.state disk.old).candidates }
     ensures content { KeepsOn store.old (D.state disk.old) → content_over store.new (content (D.state disk.new))
         ≡ put_sectors (put_sectors (put_sectors (content_over store.old (content (D.state disk.old))) 2328 parts.now.catalog) 2336 parts.now.leaf) 2 (parts.now.header ∷ []) }
     ensures keeps { KeepsOn store.old (D.state disk.old) → KeepsOn store.new (D.state disk.new) }
     ensures sizes { (length parts.now.catalog ≡ 8) × (length parts.now.leaf ≡ 8) }
     ensures disk { Untouched (D.state disk.old) (D.state disk.new) }
     ensures store { SameButBatch store.old store.new }
-    ensures few { length store.new.batch.all ≤ length store.old.batch.all + 17 }
+    ensures few { length (puts_of store.new) ≤ length (puts_of store.old) + 17 }
     ensures spare { spare_of store.old ≤ spare_of store.new + 17 }
 {
     put_list(store, disk, CATALOG, &parts.catalog);
@@ -94,7 +95,7 @@ fn make_durable<D: SectorDisk>(
     ensures idle { OnOk result (IsIdle store.new new.now (D.state disk.new)) }
     ensures spare { spare_of store.old ≤ spare_of store.new }
     ensures rests { IsTrue (D.state disk.old).tells → (tree : Tree) → AreThin new.now tree → OnOk result (Rests (D.state disk.new) tree) }
-    ensures crash { IsTrue (D.state disk.old).tells → (before after : Tree) → AreThin old.now before → AreThin new.now after → Leaves (D.state disk.old) (D.state disk.new) (λ image. MountsTo image before ⊎ MountsTo image after) }
+    ensures crash { IsTrue (D.state disk.old).tells → (before after : Tree) → AreThin old.now before → AreThin new.now after → CrashesLeave (D.state disk.old) (D.state disk.new) (λ image. MountsTo image before ⊎ MountsTo image after) }
     ensures same { SameDisk (D.state disk.old) (D.state disk.new) }
     ensures sink { SameSink (D.state disk.old) (D.state disk.new) }
     ensures cause { HasCause (D.state disk.old).faults (D.state disk.new).faults result }

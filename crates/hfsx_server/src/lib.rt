@@ -25,7 +25,7 @@ pub use mounting::{Found, find_volume};
 pub use refusal::{Refusal, tell_fault, tell_refusal, tell_usage};
 pub use running::run;
 pub use server::{Served, Server};
-pub use session::{Deed, MOST_FOLDERS, deed_of, read_command};
+pub use session::{MOST_FOLDERS, Outcome, decide, read_command};
 pub use sink::tell_whole;
 pub use starting::mount;
 pub use status::Status;

@@ -4,9 +4,7 @@ ghost use Rattle.sector_disk.specs.Disk.{content};
 ghost use Rattle.volume_header.specs.Refusal.{header_refusal, is_locked};
 ghost use Rattle.jnl_format.specs.Recovery.{header_of_volume, info_sector_of, recovery, replayed};
 ghost use Rattle.jnl_replay.specs.Plan.{FitsPlan, IsPlan, journal_of};
-ghost use Rattle.jnl_replay.specs.Reading.{OnlyReads};
-ghost use Rattle.jnl_store.specs.Lists.{IsCapacity};
-ghost use Rattle.jnl_store.specs.Plan.{form_of, span_of};
+ghost use Rattle.sector_disk.specs.Disk.{OnlyReads};
 ghost use Rattle.hfs_model.specs.Thin.{AreThin};
 ghost use Rattle.hfsx_server.specs.Cause.{IsCause};
 ghost use Rattle.hfsx_server.specs.Finding.{IsFound, IsLargePlan};
@@ -17,8 +15,7 @@ use crate::{MountFault, VOLUME_SECTORS, read_parts};
 use hfs_model::{Parts, thin_names};
 use hx_bytes::Names;
 use jnl_replay::{Peek, Place, Plan, ReplayFault, validate};
-use jnl_ring::Span;
-use jnl_store::{ListForm, capacity};
+use jnl_store::capacity;
 use sector_disk::SectorDisk;
 use std::alloc::Global;
 use volume_header::{HeaderRefusal, VolumeHeader, read_header};
@@ -50,7 +47,7 @@ pub fn find_volume<D: SectorDisk>(alloc: Global, disk: &mut D) -> Result<Found, 
         return Err(MountFault::SoftwareLocked);
     }
     let plan = find_journal(disk, &header)?;
-    let has = capacity_of(&plan);
+    let has = capacity(&plan);
     if has < LEAST_CAPACITY {
         return Err(MountFault::JournalTooSmall {
             need: LEAST_CAPACITY,
@@ -107,22 +104,6 @@ fn find_journal<D: SectorDisk>(disk: &mut D, header: &VolumeHeader) -> Result<Pl
         Err(ReplayFault::Disk) => Err(MountFault::Disk),
         Err(ReplayFault::Refused(why)) => Err(MountFault::Journal(why)),
     }
-}
-
-// The most sectors that a transaction of the journal holds.
-fn capacity_of(plan: &Plan) -> u64
-    requires { (sectors : ℕ) × FitsPlan sectors plan.now }
-    ensures { IsCapacity (span_of plan.now) (form_of plan.now) result }
-{
-    let span = Span {
-        base: plan.info.offset / 512,
-        size: plan.info.size,
-    };
-    let form = ListForm {
-        order: plan.header.order,
-        blhdr: plan.header.blhdr,
-    };
-    capacity(&span, &form)
 }
 
 // The parts and the folders of what the image stands for.

@@ -1,6 +1,6 @@
 // Refusals of an image or a size, and lines that are told before the program ends.
 ghost use Rattle.std.specs.Prelude.{◌++◌};
-ghost use Rattle.hfs_model.specs.Text.{field, fields};
+ghost use Rattle.hfs_language.specs.Text.{field, fields};
 ghost use Rattle.hfsx_server.specs.Telling.{Tells, Telling, fault_text, header_text, journal_text, refusal_text, refused_text, usage_text};
 
 use crate::{MountFault, tell_whole};

@@ -1,23 +1,23 @@
 // A volume that is served: line after line is answered, each as a transaction of its own.
 ghost use Rattle.std.specs.Prelude.{◌≡◌, ◌≢◌, ◌⊎◌, ◌<◌, ◌≤◌, ◌+◌, ◌++◌, ◌∷◌, [], ℕ, List, IsTrue, IsErrOf, IfOk, IfErr, OnOk, OnErr, length};
 ghost use Rattle.sector_disk.specs.Cause.{HasCause};
-ghost use Rattle.sector_disk.specs.Disk.{Leaves, SameDisk, SameSink, ToldFront};
+ghost use Rattle.sector_disk.specs.Disk.{CrashesLeave, SameDisk, SameSink, ToldPrefix, content};
 ghost use Rattle.jnl_store.specs.Store.{spare_of};
-ghost use Rattle.hfs_model.specs.Language.{command_of};
-ghost use Rattle.hfs_model.specs.Lines.{lines};
+ghost use Rattle.hfs_language.specs.Language.{command_of};
+ghost use Rattle.hfs_language.specs.Lines.{lines};
 ghost use Rattle.hfs_model.specs.Names.{are_thin_names};
 ghost use Rattle.hfs_model.specs.Parts.{OnlyFolders, OnlyHeader};
-ghost use Rattle.hfs_model.specs.Text.{reply_text};
+ghost use Rattle.hfs_language.specs.Text.{reply_text};
 ghost use Rattle.hfs_model.specs.Thin.{AreThin};
 ghost use Rattle.hfsx_server.specs.Cause.{IsCause};
 ghost use Rattle.hfsx_server.specs.Headline.{Entry, lines_of, tree_after};
 ghost use Rattle.hfsx_server.specs.Input.{ahead, weight, IsLine, SameSource, TakesLines, TakesNoMore};
 ghost use Rattle.hfsx_server.specs.Session.{step, with_folder, answer, after};
-ghost use Rattle.hfsx_server.specs.Serving.{SameButLines, entry_of, Crashes, IsIdle, IsServing, Rests, Serves, Stops};
-ghost use Rattle.hfsx_server.specs.Volume.{Tree, IsUnmounted, MountsTo};
+ghost use Rattle.hfsx_server.specs.Serving.{SameButLines, entry_of, RunSoFar, IsIdle, IsMarkedClean, IsServing, Rests, Serves, Stops};
+ghost use Rattle.hfsx_server.specs.Volume.{Tree, Holds, IsUnmounted, MountsTo};
 
 use crate::changing::{change_folders, change_header};
-use crate::{Deed, Input, Line, ServeFault, deed_of, read_command, tell_whole};
+use crate::{Input, Line, Outcome, ServeFault, decide, read_command, tell_whole};
 use cmd_lang::{MOST_BYTES, print_reply};
 use hfs_model::{Command, Parts, Refusal, with_mark, with_names};
 use hx_bytes::{Bytes, Failed, Names, Trouble, Units};
@@ -67,7 +67,7 @@ impl Server {
         ensures end { IsTrue (S.stream source.old).tells → IfOk result (λ served. served ≡ Served.End → ahead self.new.input (S.stream source.new) ≡ []) }
         ensures nearer { IfOk result (λ served. served ≡ Served.More → weight self.new.input (S.stream source.new) < weight self.old.input (S.stream source.old)) }
         // Whatever stops it, a crash leaves the tree before the line or after it, and of its reply a front was told.
-        ensures stopped { IsTrue (R.state rig.old).tells → OnErr result ((run : List Entry) × Crashes self.old.names (R.state rig.old) run (R.state rig.new)
+        ensures stopped { IsTrue (R.state rig.old).tells → OnErr result ((run : List Entry) × RunSoFar self.old.names (R.state rig.old) run (R.state rig.new)
             × (IsTrue (S.stream source.old).tells → Stops self.old.input (S.stream source.old) run (S.stream source.new))) }
 
         ensures same { SameDisk (R.state rig.old) (R.state rig.new) }
@@ -110,7 +110,7 @@ impl Server {
         requires serving { IsServing self.old (R.state rig.old) }
         ensures serving { OnOk result (IsServing self.new (R.state rig.new)) }
         ensures served { IsTrue (R.state rig.old).tells → (text : List ℕ) → IsLine MOST_BYTES text line.now → OnOk result (Serves self.old.names (R.state rig.old) (entry_of self.old.names text ∷ []) (R.state rig.new)) }
-        ensures stopped { IsTrue (R.state rig.old).tells → (text : List ℕ) → IsLine MOST_BYTES text line.now → OnErr result (Crashes self.old.names (R.state rig.old) (entry_of self.old.names text ∷ []) (R.state rig.new)) }
+        ensures stopped { IsTrue (R.state rig.old).tells → (text : List ℕ) → IsLine MOST_BYTES text line.now → OnErr result (RunSoFar self.old.names (R.state rig.old) (entry_of self.old.names text ∷ []) (R.state rig.new)) }
         ensures names { (text : List ℕ) → IsLine MOST_BYTES text line.now → OnOk result (self.new.names ≡ after self.old.names text) }
         ensures input { (self.new.input ≡ self.old.input) × (self.new.lines ≡ self.old.lines) }
         ensures same { SameDisk (R.state rig.old) (R.state rig.new) }
@@ -138,13 +138,13 @@ impl Server {
         ensures serving { OnOk result (IsServing self.new (D.state disk.new)) }
         ensures text { IfOk result (λ text. text ≡ reply_text (step self.old.names read).0) }
         ensures names { OnOk result (self.new.names ≡ (step self.old.names read).1) }
-        ensures crash { IsTrue (D.state disk.old).tells → Leaves (D.state disk.old) (D.state disk.new) (λ image. MountsTo image self.old.names ⊎ MountsTo image (step self.old.names read).1) }
+        ensures crash { IsTrue (D.state disk.old).tells → CrashesLeave (D.state disk.old) (D.state disk.new) (λ image. MountsTo image self.old.names ⊎ MountsTo image (step self.old.names read).1) }
         ensures input { (self.new.input ≡ self.old.input) × (self.new.lines ≡ self.old.lines) }
         ensures same { SameDisk (D.state disk.old) (D.state disk.new) }
         ensures sink { SameSink (D.state disk.old) (D.state disk.new) }
         ensures cause { IsCause Trouble.Disk (D.state disk.old).faults (D.state disk.new).faults result }
     {
-        let Deed { reply, folder } = deed_of(alloc, &self.names, read)?;
+        let Outcome { reply, folder } = decide(alloc, &self.names, read)?;
         let text = print_reply(alloc, &reply)?;
         self.change(alloc, disk, folder)?;
         Ok(text)
@@ -161,7 +161,7 @@ impl Server {
         requires room { IsTrue (are_thin_names (with_folder self.old.names folder)) }
         ensures serving { OnOk result (IsServing self.new (D.state disk.new)) }
         ensures names { OnOk result (self.new.names ≡ with_folder self.old.names folder) }
-        ensures crash { IsTrue (D.state disk.old).tells → Leaves (D.state disk.old) (D.state disk.new) (λ image. MountsTo image self.old.names ⊎ MountsTo image (with_folder self.old.names folder)) }
+        ensures crash { IsTrue (D.state disk.old).tells → CrashesLeave (D.state disk.old) (D.state disk.new) (λ image. MountsTo image self.old.names ⊎ MountsTo image (with_folder self.old.names folder)) }
         ensures input { (self.new.input ≡ self.old.input) × (self.new.lines ≡ self.old.lines) }
         ensures same { SameDisk (D.state disk.old) (D.state disk.new) }
         ensures sink { SameSink (D.state disk.old) (D.state disk.new) }
@@ -183,7 +183,7 @@ impl Server {
         requires room { IsTrue (are_thin_names (self.old.names ++ name ∷ [])) }
         ensures serving { OnOk result (IsServing self.new (D.state disk.new)) }
         ensures names { OnOk result (self.new.names ≡ self.old.names ++ name ∷ []) }
-        ensures crash { IsTrue (D.state disk.old).tells → Leaves (D.state disk.old) (D.state disk.new) (λ image. MountsTo image self.old.names ⊎ MountsTo image (self.old.names ++ name ∷ [])) }
+        ensures crash { IsTrue (D.state disk.old).tells → CrashesLeave (D.state disk.old) (D.state disk.new) (λ image. MountsTo image self.old.names ⊎ MountsTo image (self.old.names ++ name ∷ [])) }
         ensures input { (self.new.input ≡ self.old.input) × (self.new.lines ≡ self.old.lines) }
         ensures same { SameDisk (D.state disk.old) (D.state disk.new) }
         ensures sink { SameSink (D.state disk.old) (D.state disk.new) }
@@ -201,7 +201,12 @@ impl Server {
     pub fn finish<R: Rig>(&mut self, rig: &mut R) -> Result<(), StoreFault>
         requires serving { IsServing self.old (R.state rig.old) }
         ensures finished { IsTrue (R.state rig.old).tells → OnOk result (IsUnmounted (R.state rig.new) self.old.names) }
-        ensures crash { IsTrue (R.state rig.old).tells → Leaves (R.state rig.old) (R.state rig.new) (λ image. MountsTo image self.old.names) }
+        // Bit 8 is set, and nothing else is changed: these are the parts that stand on the disk then.
+        ensures marked { OnOk result (IsMarkedClean (length self.old.names) self.old.parts self.new.parts) }
+        ensures stands { IsTrue (R.state rig.old).tells → OnOk result (Holds (content (R.state rig.new)) self.new.parts) }
+        // A fault of the disk is answered as one.
+        ensures not_failed { (n : ℕ) → result ≢ Err (StoreFault.Failed n) }
+        ensures crash { IsTrue (R.state rig.old).tells → CrashesLeave (R.state rig.old) (R.state rig.new) (λ image. MountsTo image self.old.names) }
         ensures same { SameDisk (R.state rig.old) (R.state rig.new) }
         ensures sink { SameSink (R.state rig.old) (R.state rig.new) }
         ensures cause { HasCause (R.state rig.old).faults (R.state rig.new).faults result }

@@ -1,6 +1,6 @@
 // What a line does, and what is replied to it.
 ghost use Rattle.std.specs.Prelude.{◌≡◌, ◌∷◌, [], ℕ, List, map, length, IsTrue, IfOk, MatchOption};
-ghost use Rattle.hfs_model.specs.Language.{command_of};
+ghost use Rattle.hfs_language.specs.Language.{command_of};
 ghost use Rattle.hfs_model.specs.Names.{in_order};
 ghost use Rattle.hfsx_server.specs.Input.{IsLine};
 ghost use Rattle.hfsx_server.specs.Session.{is_private_name, is_private_path, is_private, refused, as_folder, make_step, mkdir_step, ls_step, built_step, step, with_folder};
@@ -31,13 +31,13 @@ const INFO_BLOCK: &[u16; 19] = &[
 
 /// A reply, and the folder that is to be made before it is told.
 #[derive(Drop)]
-pub struct Deed {
+pub struct Outcome {
     pub reply: Reply,
     pub folder: Option<Units>,
 }
 
 /// The command that a line spells, or the first reason why it spells none.
-#[tactic(auto, unfolding(hfs_model::specs::Language::command_of))]
+#[tactic(auto, unfolding(hfs_language::specs::Language::command_of))]
 pub fn read_command(alloc: Global, line: &Line) -> Result<Result<Command, Refusal>, OutOfMemory>
     ensures { IfOk result (λ read. (text : List ℕ) → IsLine MOST_BYTES text line.now → read ≡ command_of text) }
 {
@@ -52,11 +52,11 @@ pub fn read_command(alloc: Global, line: &Line) -> Result<Result<Command, Refusa
 }
 
 /// What a line does that was read to a command or refused, where the root has these folders.
-pub fn deed_of(
+pub fn decide(
     alloc: Global,
     names: &Names,
     read: Result<Command, Refusal>,
-) -> Result<Deed, OutOfMemory>
+) -> Result<Outcome, OutOfMemory>
     ensures { IfOk result (λ deed. step names.now read ≡ (deed.reply, with_folder names.now deed.folder)) }
 {
     match read {
@@ -71,10 +71,10 @@ pub fn deed_of(
     }
 }
 
-fn refusal(why: Refusal) -> Deed
+fn refusal(why: Refusal) -> Outcome
     ensures { (names : List (List ℕ)) → refused names why ≡ (result.reply, with_folder names result.folder) }
 {
-    Deed {
+    Outcome {
         reply: Reply::No(why),
         folder: None,
     }
@@ -122,13 +122,13 @@ fn is_private_name(name: &[u16]) -> bool
 }
 
 // What a command does that isn't about the volume's own names.
-fn built(alloc: Global, names: &Names, command: Command) -> Result<Deed, OutOfMemory>
+fn built(alloc: Global, names: &Names, command: Command) -> Result<Outcome, OutOfMemory>
     ensures { IfOk result (λ deed. built_step names.now command ≡ (deed.reply, with_folder names.now deed.folder)) }
 {
     match command {
         Command::Mkdir(path) => Ok(mkdir(names, path)),
         Command::Ls(path) => ls(alloc, names, &path),
-        Command::Sync => Ok(Deed {
+        Command::Sync => Ok(Outcome {
             reply: Reply::Ok,
             folder: None,
         }),
@@ -136,7 +136,7 @@ fn built(alloc: Global, names: &Names, command: Command) -> Result<Deed, OutOfMe
     }
 }
 
-fn mkdir(names: &Names, path: Path) -> Deed
+fn mkdir(names: &Names, path: Path) -> Outcome
     ensures { mkdir_step names.now path ≡ (result.reply, with_folder names.now result.folder) }
 {
     match only_name(path) {
@@ -162,7 +162,7 @@ fn only_name(path: Path) -> Option<Units>
     names.pop()
 }
 
-fn make(names: &Names, name: Units) -> Deed
+fn make(names: &Names, name: Units) -> Outcome
     ensures { make_step names.now name ≡ (result.reply, with_folder names.now result.folder) }
 {
     if contains(names, &name) {
@@ -170,20 +170,20 @@ fn make(names: &Names, name: Units) -> Deed
     } else if names.len() >= MOST_FOLDERS {
         refusal(Refusal::NoRoom(12))
     } else {
-        Deed {
+        Outcome {
             reply: Reply::Ok,
             folder: Some(name),
         }
     }
 }
 
-fn ls(alloc: Global, names: &Names, path: &Path) -> Result<Deed, OutOfMemory>
+fn ls(alloc: Global, names: &Names, path: &Path) -> Result<Outcome, OutOfMemory>
     ensures { IfOk result (λ deed. ls_step names.now path.now ≡ (deed.reply, with_folder names.now deed.folder)) }
 {
     if !path.is_empty() {
         return Ok(refusal(Refusal::NotBuilt));
     }
-    Ok(Deed {
+    Ok(Outcome {
         reply: Reply::Listing(listing(alloc, names)?),
         folder: None,
     })

@@ -1,8 +1,8 @@
 // The top call of the program.
 ghost use Rattle.std.specs.Prelude.{◌≡◌, ◌≢◌, ◌⊎◌, ◌↔◌, ◌++◌, ◌<◌, ◌≤◌, [], ℕ, List, IsTrue, length};
 ghost use Rattle.sector_disk.specs.Cause.{Rose};
-ghost use Rattle.sector_disk.specs.Disk.{SameDisk, IsSettled, content};
-ghost use Rattle.hfs_model.specs.Lines.{lines};
+ghost use Rattle.sector_disk.specs.Disk.{SameDisk, HasNothingPending, content};
+ghost use Rattle.hfs_language.specs.Lines.{lines};
 ghost use Rattle.hfsx_server.specs.Headline.{Entry, Headline, IsFinished};
 ghost use Rattle.hfsx_server.specs.Telling.{ToldRefusal, ToldUnlessFailed, refusal_text, size_refusal, usage_text, formatted_text};
 ghost use Rattle.hfsx_server.specs.Volume.{Tree, IsMountable, IsUnmounted, MountsTo};
@@ -43,13 +43,13 @@ pub fn hfsx<R: Rig, S: Source>(
     // From a mountable image with nothing pending, whatever ends the run and whenever power fails: there is one run, so
     // that each image that a crash may leave mounts to the tree after some of its lines, which has each line whose reply
     // was told by then. Status 0 means that all lines of the source were answered and that the volume is unmounted.
-    ensures headline { AreRun (texts words.now) → IsTrue (R.state rig.old).tells → IsSettled (R.state rig.old) → (start : Tree) → MountsTo (content (R.state rig.old)) start → (run : List Entry)
+    ensures headline { AreRun (texts words.now) → IsTrue (R.state rig.old).tells → HasNothingPending (R.state rig.old) → (start : Tree) → MountsTo (content (R.state rig.old)) start → (run : List Entry)
         × Headline start (R.state rig.old) (S.stream source.old) run (R.state rig.new) (S.stream source.new)
         × (result ≡ Status.Done → IsFinished start (R.state rig.old) (S.stream source.old) run (R.state rig.new) (S.stream source.new)) }
     ensures end { AreRun (texts words.now) → IsTrue (S.stream source.old).tells → result ≡ Status.Done → (S.stream source.new).left ≡ [] }
     // Status 7 stands exactly where line number 4,294,967,295 is read.
     ensures many { IsTrue (S.stream source.old).tells → IsTrue (R.state rig.old).tells → result ≡ Status.TooMany → 4294967295 < length (lines (S.stream source.old).left) }
-    ensures few { AreRun (texts words.now) → IsTrue (S.stream source.old).tells → IsTrue (R.state rig.old).tells → IsSettled (R.state rig.old) → IsMountable (content (R.state rig.old)) → result ≡ Status.Done
+    ensures few { AreRun (texts words.now) → IsTrue (S.stream source.old).tells → IsTrue (R.state rig.old).tells → HasNothingPending (R.state rig.old) → IsMountable (content (R.state rig.old)) → result ≡ Status.Done
         → length (lines (S.stream source.old).left) ≤ 4294967295 }
 
     // What is refused, and wrong words, leave the image as it was.

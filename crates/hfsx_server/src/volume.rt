@@ -2,9 +2,9 @@
 ghost use Rattle.std.specs.Prelude.{◌≡◌, ◌≤◌, ◌<◌, ◌+◌, IsTrue, IfOk, OnOk, slice_range};
 ghost use Rattle.sector_disk.specs.Lists.{sector};
 ghost use Rattle.sector_disk.specs.Cause.{HasCause};
-ghost use Rattle.sector_disk.specs.Disk.{SameDisk, SameSink, IsSettled, content};
+ghost use Rattle.sector_disk.specs.Disk.{SameDisk, SameSink, HasNothingPending, content};
 ghost use Rattle.hfs_model.specs.Parts.{OnlyFolders, parts_of};
-ghost use Rattle.jnl_replay.specs.Reading.{OnlyReads};
+ghost use Rattle.sector_disk.specs.Disk.{OnlyReads};
 ghost use Rattle.jnl_replay.specs.Viewing.{shown};
 ghost use Rattle.hfsx_server.specs.Volume.{HoldsAll};
 
@@ -94,7 +94,7 @@ fn read_block<D: SectorDisk>(disk: &mut D, peek: &Peek, first: u64) -> Result<[S
 pub fn write_parts<D: SectorDisk>(disk: &mut D, parts: &Parts) -> Result<(), Failed>
     requires { (D.state disk.old).sectors ≡ VOLUME_SECTORS }
     ensures written { IsTrue (D.state disk.old).tells → OnOk result (HoldsAll (D.state disk.new) parts.now) }
-    ensures settled { IsTrue (D.state disk.old).tells → OnOk result (IsSettled (D.state disk.new)) }
+    ensures settled { IsTrue (D.state disk.old).tells → OnOk result (HasNothingPending (D.state disk.new)) }
     ensures same { SameDisk (D.state disk.old) (D.state disk.new) }
     ensures sink { SameSink (D.state disk.old) (D.state disk.new) }
     ensures cause { HasCause (D.state disk.old).faults (D.state disk.new).faults result }
@@ -112,7 +112,7 @@ pub fn write_parts<D: SectorDisk>(disk: &mut D, parts: &Parts) -> Result<(), Fai
 fn write_folders<D: SectorDisk>(disk: &mut D, parts: &Parts) -> Result<(), Failed>
     requires { (D.state disk.old).sectors ≡ VOLUME_SECTORS }
     ensures written { IsTrue (D.state disk.old).tells → OnOk result (OnlyFolders (parts_of (content (D.state disk.old))) parts.now → HoldsAll (D.state disk.new) parts.now) }
-    ensures settled { IsTrue (D.state disk.old).tells → OnOk result (IsSettled (D.state disk.new)) }
+    ensures settled { IsTrue (D.state disk.old).tells → OnOk result (HasNothingPending (D.state disk.new)) }
     ensures same { SameDisk (D.state disk.old) (D.state disk.new) }
     ensures sink { SameSink (D.state disk.old) (D.state disk.new) }
     ensures cause { HasCause (D.state disk.old).faults (D.state disk.new).faults result }

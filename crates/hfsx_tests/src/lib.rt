@@ -2,6 +2,9 @@
 #![tactic(auto)]
 
 #[cfg(test)]
+mod barriers;
+mod counting;
+#[cfg(test)]
 mod crashes;
 #[cfg(test)]
 mod faults;
@@ -10,6 +13,7 @@ mod formats;
 #[cfg(test)]
 mod lines;
 
+pub use counting::Counting;
 use hfsx_server::{Status, hfsx};
 use hx_bytes::OutOfMemory;
 use mem_disk::{MemRig, MemSource};

@@ -14,11 +14,14 @@ use Rattle.jnl_format.specs.declared.blocks.Volume.{Volume}
 use Rattle.jnl_format.specs.Recovery.{Content, sector, header_of_volume, Journal, and_then, journal_in, text_of, volume_of, list_fault, foreign_fault, text_fault, or_else, homes_of, with_homes, replayed, recovery_at, recovery, info_sector_of}
 use Rattle.jnl_format.specs.declared.structures.JnlRefusal.{JnlRefusal}
 use Rattle.jnl_format.specs.declared.structures.JnlRefusal.TheVariants.{BadList}
-use Rattle.jnl_format.proofs.Homes.{IsGoodHome, Each}
+use Rattle.jnl_format.specs.Named.{IsGoodHome, Each}
 use Rattle.jnl_format.proofs.Lists.{good_text}
-use Rattle.jnl_format.proofs.Mixing.{IsHomeOf, MixesHomes, home_has, named_home, not_named, mixes_agree, same_homes, same_journal}
-use Rattle.jnl_format.proofs.Volumes.{IsSame, same_parts, same_refl, bad_same}
+use Rattle.jnl_format.proofs.Mixing.{home_has, named_home, not_named, mixes_agree, same_homes, same_journal}
+use Rattle.jnl_format.specs.Named.{IsHomeOf, MixesHomes}
+use Rattle.jnl_format.proofs.Volumes.{same_parts, same_refl, bad_same}
+use Rattle.jnl_format.specs.Keeping.{IsSame}
 use Rattle.jnl_format.proofs.Recovering.{IsJournal, journal_parts, same_found}
+use Rattle.jnl_format.specs.Keeping.{KeepsHeader}
 
 or_none : (a b : Option JnlRefusal) → or_else a b ≡ None → (a ≡ None) × (b ≡ None)
 or_none None b h = (refl, h)
@@ -39,11 +42,6 @@ text_parts at version journal content h =
 pub good_homes : (at version : ℕ) (journal : Journal) (content : Content) → text_fault at version journal content ≡ None → Each (IsGoodHome (volume_of at journal content) (text_of journal content)) (homes_of journal content)
 good_homes at version journal content h =
     good_text (volume_of at journal content) journal.header.order journal.header.blhdr (text_of journal content) (length (text_of journal content)) 0 (text_parts at version journal content h).0
-
--- the volume header of a content stays accepted, and one of the same volume
-pub record KeepsHeader (old new : Content) : Type 0 where
-  pub same : IsSame (header_of_volume old) (header_of_volume new)
-  pub accepted : header_refusal (header_of_volume new) (length old) ≡ None
 
 none_is : (o : Option HeaderRefusal) → is_none o ≡ true → o ≡ None
 none_is None h = refl
@@ -71,11 +69,11 @@ header_stays volume text homes old new size head all accepted (inr h) =
     }
 
 -- no home of the journal is one of its own sectors, or the info block's
-not_home : (volume : Volume) (text : List ℕ) (homes : List Home) (old new : Content) (at : ℕ) → Each (IsGoodHome volume text) homes → ((home : Home) → IsGoodHome volume text home → home.sector ≢ at) → (sector new at ≡ sector old at) ⊎ IsHomeOf text homes at (sector new at) → sector new at ≡ sector old at
+pub not_home : (volume : Volume) (text : List ℕ) (homes : List Home) (old new : Content) (at : ℕ) → Each (IsGoodHome volume text) homes → ((home : Home) → IsGoodHome volume text home → home.sector ≢ at) → (sector new at ≡ sector old at) ⊎ IsHomeOf text homes at (sector new at) → sector new at ≡ sector old at
 not_home volume text homes old new at all never (inl e) = e
 not_home volume text homes old new at all never (inr h) = absurd (not_named (IsGoodHome volume text) homes at all never (named_home text homes at (sector new at) h))
 
-never_own : (volume : Volume) (text : List ℕ) (at : ℕ) (home : Home) → volume.first ≤ at → at < volume.first + volume.count → IsGoodHome volume text home → home.sector ≢ at
+pub never_own : (volume : Volume) (text : List ℕ) (at : ℕ) (home : Home) → volume.first ≤ at → at < volume.first + volume.count → IsGoodHome volume text home → home.sector ≢ at
 never_own volume text at home low high good same = elim good.apart [ inl a ↦ absurd (omega arith) | inr b ↦ absurd (omega arith) ]
 
 -- What a content and an image of it have in common, where the image has the content's journal.

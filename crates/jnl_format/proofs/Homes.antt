@@ -8,19 +8,7 @@ use Rattle.jnl_format.specs.Text.{bytes_at, is_skipped, covers, is_inside, is_ap
 use Rattle.jnl_format.specs.declared.blocks.Home.{Home}
 use Rattle.jnl_format.specs.declared.blocks.Volume.{Volume}
 use Rattle.jnl_format.specs.declared.structures.Entry.{Entry}
-
--- what a home must be
-pub record IsGoodHome (volume : Volume) (text : List ℕ) (home : Home) : Type 0 where
-  pub inside : home.sector < volume.sectors
-  pub apart : (home.sector < volume.first) ⊎ (volume.first + volume.count ≤ home.sector)
-  pub no_info : home.sector ≢ volume.info_sector
-  pub placed : home.place + 512 ≤ length text
-  pub header : home.sector ≡ 2 → keeps_volume volume (bytes_at text home.place 512) ≡ true
-
--- each home of a list
-abbrev pub Each : (Home → Type 0) → List Home → Type 0
-Each P [] = Unit {0}
-Each P (h ∷ hs) = P h × Each P hs
+use Rattle.jnl_format.specs.Named.{IsGoodHome, Each}
 
 pub each_append : (P : Home → Type 0) (hs gs : List Home) → Each P hs → Each P gs → Each P (hs ++ gs)
 each_append P [] gs a b = b

@@ -8,7 +8,8 @@ use Rattle.jnl_format.specs.List.{is_list_head}
 use Rattle.jnl_format.specs.Text.{bytes_at, are_blocks, block_bytes, head_at, is_list, bad_list, entry_homes, text_homes}
 use Rattle.jnl_format.specs.declared.blocks.Home.{Home}
 use Rattle.jnl_format.specs.declared.blocks.Volume.{Volume}
-use Rattle.jnl_format.proofs.Homes.{IsGoodHome, Each, each_append, good_blocks}
+use Rattle.jnl_format.proofs.Homes.{each_append, good_blocks}
+use Rattle.jnl_format.specs.Named.{IsGoodHome, Each}
 
 -- what a list must be, want by want
 pub record IsList (volume : Volume) (order : Order) (blhdr : ℕ) (text : List ℕ) (at : ℕ) : Type 0 where

@@ -8,22 +8,8 @@ use Rattle.jnl_format.specs.Ring.{journal_bytes}
 use Rattle.jnl_format.specs.Text.{bytes_at}
 use Rattle.jnl_format.specs.declared.blocks.Home.{Home}
 use Rattle.jnl_format.specs.Recovery.{Content, sector, with_homes}
-use Rattle.jnl_format.proofs.Homes.{Each}
-
--- the bytes of one of these homes of a sector
-abbrev pub IsHomeOf : List ℕ → List Home → ℕ → List ℕ → Type 0
-IsHomeOf text [] at value = ⊥
-IsHomeOf text (h ∷ hs) at value = ((h.sector ≡ at) × (value ≡ bytes_at text h.place 512)) ⊎ IsHomeOf text hs at value
-
--- each sector is the old one, or has the bytes of one of its homes
-pub record MixesHomes (text : List ℕ) (homes : List Home) (old new : Content) : Type 0 where
-  pub size : length new ≡ length old
-  pub each : (at : ℕ) → (sector new at ≡ sector old at) ⊎ IsHomeOf text homes at (sector new at)
-
--- some home is of this sector
-abbrev pub IsNamed : List Home → ℕ → Type 0
-IsNamed [] at = ⊥
-IsNamed (h ∷ hs) at = (h.sector ≡ at) ⊎ IsNamed hs at
+use Rattle.jnl_format.specs.Named.{Each}
+use Rattle.jnl_format.specs.Named.{IsHomeOf, IsNamed, MixesHomes}
 
 pub named_home : (text : List ℕ) (homes : List Home) (at : ℕ) (value : List ℕ) → IsHomeOf text homes at value → IsNamed homes at
 named_home text [] at value h = h

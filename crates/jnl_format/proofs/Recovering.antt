@@ -28,7 +28,7 @@ first_none : (b : Bool) (x : JnlRefusal) (rest : Option JnlRefusal) → cond b (
 first_none true x rest h = absurd (cc h)
 first_none false x rest h = (refl, h)
 
-both_false : (a b : Bool) → (a || b) ≡ false → (a ≡ false) × (b ≡ false)
+pub both_false : (a b : Bool) → (a || b) ≡ false → (a ≡ false) × (b ≡ false)
 both_false true b h = absurd (cc h)
 both_false false b h = (refl, h)
 

@@ -11,18 +11,7 @@ use Rattle.jnl_format.specs.List.{entry_at, is_list_head}
 use Rattle.jnl_format.specs.Text.{bytes_at, is_skipped, covers, is_inside, is_apart, is_same_volume, is_same_kind, is_same_layout, has_same_bits, keeps_volume, keeps_header, is_block, are_blocks, block_bytes, head_at, is_list, bad_list}
 use Rattle.jnl_format.specs.declared.blocks.Volume.{Volume}
 use Rattle.jnl_format.specs.declared.structures.Entry.{Entry}
-
--- what two headers of one volume have in common
-pub record IsSame (old new : VolumeHeader) : Type 0 where
-  pub signature : new.signature ≡ old.signature
-  pub version : new.version ≡ old.version
-  pub last_mounted : new.last_mounted_version ≡ old.last_mounted_version
-  pub info_block : new.journal_info_block ≡ old.journal_info_block
-  pub block_size : new.block_size ≡ old.block_size
-  pub total_blocks : new.total_blocks ≡ old.total_blocks
-  pub bit_12 : bit_at new.attributes 12 ≡ bit_at old.attributes 12
-  pub bit_13 : bit_at new.attributes 13 ≡ bit_at old.attributes 13
-  pub bit_15 : bit_at new.attributes 15 ≡ bit_at old.attributes 15
+use Rattle.jnl_format.specs.Keeping.{IsSame}
 
 pub same_parts : (old new : VolumeHeader) → is_same_volume old new ≡ true → IsSame old new
 unfolding is_same_volume

@@ -1,7 +1,9 @@
 pub mod Checksum
 pub mod Header
 pub mod Info
+pub mod Keeping
 pub mod List
+pub mod Named
 pub mod Recovery
 pub mod Ring
 pub mod RoundTrip

@@ -15,11 +15,13 @@ use Rattle.jnl_format.specs.declared.structures.Info.{Info}
 use Rattle.jnl_format.specs.declared.structures.Header.{Header}
 use Rattle.jnl_format.specs.declared.structures.JnlRefusal.{JnlRefusal}
 use Rattle.jnl_format.specs.declared.structures.JnlRefusal.TheVariants.{OtherDevice, BadInfo}
-use Rattle.jnl_format.proofs.Alike.{KeepsHeader, stands_for, same_place, recovers}
+use Rattle.jnl_format.proofs.Alike.{stands_for, same_place, recovers}
+use Rattle.jnl_format.specs.Keeping.{KeepsHeader}
 use Rattle.jnl_format.proofs.InfoBack.{info_back, flag_off, flags_fit, here_stays, elsewhere_stays, no_info_block}
 use Rattle.jnl_format.proofs.ReadBack.{header_back, checksum_fits}
 use Rattle.jnl_format.proofs.Recovering.{IsJournal, Found, is_new, is_kept, journal_parts, journal_is_fresh, journal_is_kept, apart_sector, kept_journal, fresh_journal, found_journal, unless_parts}
-use Rattle.jnl_format.proofs.Volumes.{IsSame, same_refl}
+use Rattle.jnl_format.proofs.Volumes.{same_refl}
+use Rattle.jnl_format.specs.Keeping.{IsSame}
 use Rattle.jnl_replay.specs.Homing.{AgreesOutsideJournal, StandsForSame, emptied, initialised, empty_header, with_empty_header}
 use Rattle.jnl_replay.specs.Plan.{IsPlan, FitsPlan, journal_of}
 use Rattle.jnl_replay.specs.declared.plan.Plan.{Plan}

@@ -4,24 +4,25 @@ use Rattle.std.specs.Prelude.{Option, None, Some, MatchOption}
 use Rattle.std.proofs.lemmas.List.{append-nil}
 use Rattle.std.proofs.lemmas.List.Sums.{fold_push}
 use Rattle.sector_disk.specs.Lists.{Content, sector}
-use Rattle.sector_disk.specs.Clock.{Passes, WithTold}
-use Rattle.sector_disk.specs.Disk.{State, Candidates, candidates_of, content, content_of, LeftNow, Leaves, SameSink}
+use Rattle.sector_disk.specs.Clock.{TimePasses, WithTold}
+use Rattle.sector_disk.specs.Disk.{State, Candidates, candidates_of, content, content_of, LeftNow, CrashesLeave, SameSink}
 use Rattle.sector_disk.proofs.Passing.{both_pass, none_passes}
 use Rattle.jnl_format.specs.Ring.{journal_bytes, bytes_from}
 use Rattle.jnl_format.specs.Text.{bad_list, are_blocks, block_bytes, sector_homes, entry_homes, text_homes}
 use Rattle.jnl_format.specs.Recovery.{with_home, with_homes}
 use Rattle.jnl_format.specs.declared.blocks.Home.{Home}
 use Rattle.jnl_format.specs.declared.blocks.Volume.{Volume}
-use Rattle.jnl_format.proofs.Homes.{IsGoodHome, Each}
+use Rattle.jnl_format.specs.Named.{IsGoodHome, Each}
 use Rattle.jnl_format.proofs.Lists.{good_text}
-use Rattle.jnl_format.proofs.Mixing.{IsHomeOf, mixes_with_homes, named_home, not_named, same_journal}
+use Rattle.jnl_format.proofs.Mixing.{mixes_with_homes, named_home, not_named, same_journal}
+use Rattle.jnl_format.specs.Named.{IsHomeOf}
 use Rattle.jnl_replay.specs.Homing.{AreHomesOf, GrowsHomes, IsHomeMix}
 use Rattle.jnl_replay.specs.Pending.{Pending, Gives}
-use Rattle.jnl_replay.specs.Reading.{OnlyReads}
+use Rattle.sector_disk.specs.Disk.{OnlyReads}
 use Rattle.jnl_replay.specs.Text.{words}
 use Rattle.jnl_replay.specs.declared.homes.Homes.{Homes}
 use Rattle.jnl_replay.specs.declared.text.Text.{Text}
-use Rattle.jnl_replay.proofs.Growing.{grows_none, grows_both, home_mix}
+use Rattle.sector_disk.proofs.Candidates.{grows_none, grows_both, image_mixes}
 
 mix_cases : (bytes : List ℕ) (homes more : List Home) (old : Candidates) (at : ℕ) (value : List ℕ) → (Contains (candidates_of old at) value ⊎ IsHomeOf bytes homes at value) ⊎ IsHomeOf bytes more at value
     → (IsHomeOf bytes more at value → IsHomeOf bytes homes at value) → Contains (candidates_of old at) value ⊎ IsHomeOf bytes homes at value
@@ -44,7 +45,7 @@ pub record Homed (volume : Volume) (bytes : List ℕ) (c : Homes) (homes : List 
   pub pending : Pending volume bytes c rest
   pub content : content now ≡ with_homes bytes done (content old)
   pub grows : GrowsHomes bytes homes old.candidates now.candidates
-  pub time : Passes old.clock now.clock (WithTold old.told (IsHomeMix bytes homes old.candidates))
+  pub time : TimePasses old.clock now.clock (WithTold old.told (IsHomeMix bytes homes old.candidates))
 
 pub all_good : (total : ℕ) (text : Text) (bytes : List ℕ) (volume : Volume) (homes : List Home) → AreHomesOf total text bytes volume homes → Each (IsGoodHome volume bytes) homes
 all_good total text bytes volume homes a =
@@ -86,7 +87,7 @@ homed_start total text bytes volume homes c s a is size z =
       split = refl;
       pending = start_pending total text bytes volume homes c a is size z;
       content = refl;
-      grows = grows_none bytes homes s.candidates;
+      grows = grows_none (IsHomeOf bytes homes) s.candidates;
       time = none_passes s.clock (WithTold s.told (IsHomeMix bytes homes s.candidates));
     }
 
@@ -116,11 +117,11 @@ homed_read volume bytes c homes old now new h sink reads = record {
   content = ap content_of reads.candidates ∙ h.content;
   grows = subst (GrowsHomes bytes homes old.candidates) (sym reads.candidates) h.grows;
   time = both_pass old.clock now.clock new.clock _ (LeftNow new) _ h.time reads.time (λ image told a. a)
-      (λ image told a. (home_mix bytes homes old.candidates new.candidates image (subst (GrowsHomes bytes homes old.candidates) (sym reads.candidates) h.grows) a.0, a.1 ∙ reads.sink.told ∙ sink.told));
+      (λ image told a. (image_mixes (IsHomeOf bytes homes) old.candidates new.candidates image (subst (GrowsHomes bytes homes old.candidates) (sym reads.candidates) h.grows) a.0, a.1 ∙ reads.sink.told ∙ sink.told));
 }
 
-pub homed_leaves : (volume : Volume) (bytes : List ℕ) (c : Homes) (homes : List Home) (old now : State) → Homed volume bytes c homes old now → Leaves old now (IsHomeMix bytes homes old.candidates)
-homed_leaves volume bytes c homes old now h = record { time = h.time; now = λ image is. home_mix bytes homes old.candidates now.candidates image h.grows is }
+pub homed_leaves : (volume : Volume) (bytes : List ℕ) (c : Homes) (homes : List Home) (old now : State) → Homed volume bytes c homes old now → CrashesLeave old now (IsHomeMix bytes homes old.candidates)
+homed_leaves volume bytes c homes old now h = record { time = h.time; now = λ image is. image_mixes (IsHomeOf bytes homes) old.candidates now.candidates image h.grows is }
 
 within : (bytes : List ℕ) (done rest : List Home) (home : Home) (at : ℕ) (value : List ℕ) → IsHomeOf bytes (home ∷ []) at value → IsHomeOf bytes (done ++ (home ∷ rest)) at value
 within bytes [] rest home at value (inl h) = inl h
@@ -146,22 +147,22 @@ given_none volume bytes now old new rest given same is gives p =
 
 -- a home was written, or a write of it failed
 pub homed_grows : (bytes wrote : List ℕ) (homes done rest : List Home) (home : Home) (old now new : State) → wrote ≡ bytes → homes ≡ done ++ (home ∷ rest) → SameSink old now
-    → GrowsHomes bytes homes old.candidates now.candidates → Passes old.clock now.clock (WithTold old.told (IsHomeMix bytes homes old.candidates))
-    → GrowsHomes wrote (home ∷ []) now.candidates new.candidates → Leaves now new (IsHomeMix wrote (home ∷ []) now.candidates)
-    → GrowsHomes bytes homes old.candidates new.candidates × Passes old.clock new.clock (WithTold old.told (IsHomeMix bytes homes old.candidates))
+    → GrowsHomes bytes homes old.candidates now.candidates → TimePasses old.clock now.clock (WithTold old.told (IsHomeMix bytes homes old.candidates))
+    → GrowsHomes wrote (home ∷ []) now.candidates new.candidates → CrashesLeave now new (IsHomeMix wrote (home ∷ []) now.candidates)
+    → GrowsHomes bytes homes old.candidates new.candidates × TimePasses old.clock new.clock (WithTold old.told (IsHomeMix bytes homes old.candidates))
 homed_grows bytes wrote homes done rest home old now new same is sink grows time more leaves =
     let within_all = given_home bytes done rest homes home is in
     let more_here : GrowsHomes bytes (home ∷ []) now.candidates new.candidates = subst (λ (b : List ℕ). GrowsHomes b (home ∷ []) now.candidates new.candidates) same more in
     let mix : (image : Content) → IsHomeMix wrote (home ∷ []) now.candidates image → IsHomeMix bytes homes old.candidates image =
     λ image m. mix_both bytes homes (home ∷ []) old.candidates now.candidates image grows (subst (λ (b : List ℕ). IsHomeMix b (home ∷ []) now.candidates image) same m) within_all in (
-      grows_both bytes homes (home ∷ []) old.candidates now.candidates new.candidates grows more_here within_all,
+      grows_both (IsHomeOf bytes homes) (IsHomeOf bytes (home ∷ [])) (IsHomeOf bytes homes) old.candidates now.candidates new.candidates grows more_here (λ at value h. h) within_all,
       both_pass old.clock now.clock new.clock _ _ _ time leaves.time (λ image told a. a) (λ image told a. (mix image a.0, a.1 ∙ sink.told)),
     )
 
 -- the walk is one home further
 pub homed_step : (volume : Volume) (bytes wrote : List ℕ) (c next : Homes) (homes : List Home) (old now new : State) (h : Homed volume bytes c homes old now) (home : Home) → wrote ≡ bytes → SameSink old now
     → (more : List Home) × (h.rest ≡ home ∷ more) × Pending volume bytes next more
-    → content new ≡ with_home wrote (content now) home → GrowsHomes wrote (home ∷ []) now.candidates new.candidates → Leaves now new (IsHomeMix wrote (home ∷ []) now.candidates)
+    → content new ≡ with_home wrote (content now) home → GrowsHomes wrote (home ∷ []) now.candidates new.candidates → CrashesLeave now new (IsHomeMix wrote (home ∷ []) now.candidates)
     → Homed volume bytes next homes old new
 homed_step volume bytes wrote c next homes old now new h home same sink given written grows leaves =
     let is : homes ≡ h.done ++ (home ∷ given.0) = h.split ∙ ap (λ (l : List Home). h.done ++ l) given.1 in
@@ -180,12 +181,12 @@ homed_step volume bytes wrote c next homes old now new h home same sink given wr
 
 pub homed_failed : (volume : Volume) (bytes wrote : List ℕ) (c next : Homes) (homes : List Home) (old now new : State) (h : Homed volume bytes c homes old now) (home : Home) → wrote ≡ bytes → SameSink old now
     → (more : List Home) × (h.rest ≡ home ∷ more) × Pending volume bytes next more
-    → GrowsHomes wrote (home ∷ []) now.candidates new.candidates → Leaves now new (IsHomeMix wrote (home ∷ []) now.candidates)
-    → Leaves old new (IsHomeMix bytes homes old.candidates)
+    → GrowsHomes wrote (home ∷ []) now.candidates new.candidates → CrashesLeave now new (IsHomeMix wrote (home ∷ []) now.candidates)
+    → CrashesLeave old new (IsHomeMix bytes homes old.candidates)
 homed_failed volume bytes wrote c next homes old now new h home same sink given grows leaves =
     let is : homes ≡ h.done ++ (home ∷ given.0) = h.split ∙ ap (λ (l : List Home). h.done ++ l) given.1 in
     let g = homed_grows bytes wrote homes h.done given.0 home old now new same is sink h.grows h.time grows leaves in
-    record { time = g.1; now = λ image im. home_mix bytes homes old.candidates new.candidates image g.0 im }
+    record { time = g.1; now = λ image im. image_mixes (IsHomeOf bytes homes) old.candidates new.candidates image g.0 im }
 
 -- the walk is at its end
 pub homed_end : (volume : Volume) (bytes : List ℕ) (c : Homes) (homes : List Home) (old now : State) (h : Homed volume bytes c homes old now) → h.rest ≡ [] → content now ≡ with_homes bytes homes (content old)

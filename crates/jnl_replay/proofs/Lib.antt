@@ -2,13 +2,14 @@ pub mod Checks
 pub mod Common
 pub mod Filling
 pub mod Fresh
-pub mod Growing
+pub mod HomeWritten
 pub mod Homed
 pub mod Listing
 pub mod OneSector
 pub mod Pendings
 pub mod Peeks
 pub mod ReadOn
+pub mod Repeated
 pub mod Stages
 pub mod Stretches
 pub mod Texts

@@ -3,7 +3,7 @@ use Rattle.std.proofs.Common.{◌≡◌, IsTrue, refl, sym, ◌∙◌, ap, subst
 use Rattle.sector_disk.specs.Disk.{State, IsImage, LeftNow, content, content_of, Candidates}
 use Rattle.sector_disk.proofs.Passing.{none_passes, both_pass}
 use Rattle.sector_disk.proofs.Writing.{same_after, sink_after}
-use Rattle.jnl_replay.specs.Reading.{OnlyReads}
+use Rattle.sector_disk.specs.Disk.{OnlyReads}
 use Rattle.jnl_replay.specs.Text.{words, IsText}
 use Rattle.jnl_replay.specs.declared.text.Text.{Text}
 

@@ -1,14 +1,13 @@
 -- What a crash leaves while a journal is replayed: a content that stands for the same.
-use Rattle.std.proofs.Common.{◌≡◌, ◌≢◌, ◌⊎◌, ◌<◌, ◌≤◌, ◌+◌, ◌-◌, ◌*◌, ◌/◌, ◌^◌, ℕ, Bool, false, not, ◌&&◌, List, [], ◌∷◌, ◌++◌, Contains, inl, inr, ⊎_elim, length, take, drop, refl, sym, ◌∙◌, ap, subst, arith, cond, eqb}
+use Rattle.std.proofs.Common.{◌≡◌, ◌≢◌, ◌⊎◌, ◌<◌, ◌≤◌, ◌+◌, ◌-◌, ◌*◌, ◌/◌, ◌^◌, ℕ, Bool, false, not, ◌&&◌, List, [], ◌∷◌, ◌++◌, Contains, inl, inr, length, take, drop, refl, sym, ◌∙◌, ap, subst, arith, cond, eqb}
 use Rattle.std.specs.Prelude.{None, Some, Ok, option_map}
 use Rattle.std.proofs.lemmas.Bool.{cases_lt, cases_eq, le-leb, eq-eqb}
-use Rattle.std.proofs.lemmas.List.{ext_get_or, get_or_past, get_or-map}
-use Rattle.std.proofs.lemmas.List.Elements.{Contains-push_cases}
+use Rattle.std.proofs.lemmas.List.{ext_get_or, get_or_past}
 use Rattle.volume_header.specs.Header.{header_of}
 use Rattle.volume_header.specs.Refusal.{header_refusal}
 use Rattle.sector_disk.specs.Lists.{Content, sector}
-use Rattle.sector_disk.specs.Disk.{candidates_of, only, Mixes}
-use Rattle.sector_disk.proofs.Stages.{mixes_size, mixes_before, mixes_behind, mixes_inside, length-only}
+use Rattle.sector_disk.specs.Disk.{Candidates, IsImage, candidates_of, only, Mixes}
+use Rattle.sector_disk.proofs.Stages.{image_only, mixes_size, mixes_before, mixes_behind, mixes_inside, length-only, only_one}
 use Rattle.jnl_format.specs.Info.{is_fresh}
 use Rattle.jnl_format.specs.Header.{header_bytes, header_read, header_spelled, IsHeader}
 use Rattle.jnl_format.specs.Ring.{journal_bytes, bytes_from, distance, offset_after}
@@ -18,25 +17,21 @@ use Rattle.jnl_format.specs.declared.blocks.Home.{Home}
 use Rattle.jnl_format.specs.declared.structures.Info.{Info}
 use Rattle.jnl_format.specs.declared.structures.Header.{Header}
 use Rattle.jnl_format.specs.declared.structures.JnlRefusal.TheVariants.{BadList, ForeignJournal}
-use Rattle.jnl_format.proofs.Homes.{Each, IsGoodHome}
+use Rattle.jnl_format.specs.Named.{Each, IsGoodHome}
 use Rattle.jnl_format.specs.declared.blocks.Volume.{Volume}
-use Rattle.jnl_format.proofs.Alike.{good_homes, StandsAlike, KeepsHeader, stands_alike, stands_for, same_place, recovers, text_parts}
-use Rattle.jnl_format.proofs.Mixing.{MixesHomes, IsHomeOf, mixes_with_homes, named_home, not_named}
+use Rattle.jnl_format.proofs.Alike.{good_homes, StandsAlike, stands_alike, stands_for, same_place, recovers, text_parts}
+use Rattle.jnl_format.specs.Keeping.{KeepsHeader}
+use Rattle.jnl_format.proofs.Mixing.{mixes_with_homes, named_home, not_named}
+use Rattle.jnl_format.specs.Named.{MixesHomes, IsHomeOf}
 use Rattle.jnl_format.proofs.ReadBack.{header_back, checksum_fits}
 use Rattle.jnl_format.proofs.Recovering.{Found, is_new, is_kept, journal_parts, journal_is_kept, apart_sector, header_parts, kept_journal, found_journal}
-use Rattle.jnl_format.proofs.Volumes.{IsSame}
+use Rattle.jnl_format.specs.Keeping.{IsSame}
 use Rattle.jnl_replay.specs.Homing.{AreHomesOf, IsHomeMix, IsJournalSector, StandsForSame, emptied, empty_header}
 use Rattle.jnl_replay.specs.Plan.{IsPlan, FitsPlan, journal_of}
 use Rattle.jnl_replay.specs.Text.{words, text_in}
 use Rattle.jnl_replay.specs.declared.plan.Plan.{Plan}
 use Rattle.jnl_replay.specs.declared.text.Text.{Text}
 use Rattle.jnl_replay.proofs.Checks.{place_of}
-
--- the candidate of a sector where nothing is pending
-only_one : (c : Content) (at : ℕ) (value : List ℕ) → at < length c → Contains (candidates_of (only c) at) value → value ≡ sector c at
-only_one c at value inside there =
-    let one : candidates_of (only c) at ≡ sector c at ∷ [] = get_or-map (λ (v : List ℕ). v ∷ []) c at [] [] inside in
-    ⊎_elim (λ none. absurd (omega (arith, none.1))) (λ is. sym is) (Contains-push_cases [] (sector c at) value (subst (λ (l : List (List ℕ)). Contains l value) one there))
 
 mix_inside : (bytes : List ℕ) (homes : List Home) (c image : Content) (at : ℕ) → at < length c → Contains (candidates_of (only c) at) (sector image at) ⊎ IsHomeOf bytes homes at (sector image at) → (sector image at ≡ sector c at) ⊎ IsHomeOf bytes homes at (sector image at)
 mix_inside bytes homes c image at inside (inl a) = inl (only_one c at (sector image at) inside a)
@@ -118,6 +113,12 @@ module _ (c : Content) (plan : Plan) (is : IsPlan c plan) where
         info = inl (own_still image m plan.place.info_sector (inr refl));
         own = λ s own. replayed_still s own ∙ sym (own_still image m s own);
       }
+
+  -- none is
+  pub stands_image : (total : ℕ) → FitsPlan total plan → (d : Candidates) → d ≡ only c → (image : Content) → IsImage d image → StandsForSame plan c image
+  stands_image total fits d settled image there =
+      let same : image ≡ c = image_only c image (subst (λ (e : Candidates). IsImage e image) settled there) in
+      stands_mixed total fits image (record { size = ap (λ (i : Content). length i) same; each = λ s. inl (ap (λ (i : Content). sector i s) same) })
 
   -- all are
   pub stands_replayed : (total : ℕ) → FitsPlan total plan → StandsForSame plan c (replayed (journal_of plan) c)

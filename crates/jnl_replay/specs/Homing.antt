@@ -1,7 +1,7 @@
 -- Blocks written home: what a crash leaves on the way, and what stands at the end.
-use Rattle.std.specs.Prelude.{◌≡◌, ◌⊎◌, ◌<◌, ◌≤◌, ◌+◌, ◌/◌, ℕ, List, [], ◌∷◌, ◌++◌, length, drop, bit_and, if◌then◌else◌, None, true, Contains, Ok}
+use Rattle.std.specs.Prelude.{◌≡◌, ◌⊎◌, ◌<◌, ◌≤◌, ◌+◌, ◌/◌, ℕ, List, [], ◌∷◌, ◌++◌, length, drop, bit_and, if◌then◌else◌, None, true, Ok}
 use Rattle.sector_disk.specs.Lists.{Content, sector, put_sectors}
-use Rattle.sector_disk.specs.Disk.{Candidates, candidates_of, content}
+use Rattle.sector_disk.specs.Disk.{Candidates, GrowsBy, MixesBy, content}
 use Rattle.jnl_format.specs.Info.{with_info}
 use Rattle.jnl_format.specs.Header.{header_bytes}
 use Rattle.jnl_format.specs.Text.{bad_list, text_homes}
@@ -10,21 +10,19 @@ use Rattle.jnl_format.specs.declared.blocks.Home.{Home}
 use Rattle.jnl_format.specs.declared.blocks.Volume.{Volume}
 use Rattle.jnl_format.specs.declared.structures.Info.{Info}
 use Rattle.jnl_format.specs.declared.structures.Header.{Header}
-use Rattle.jnl_format.proofs.Alike.{KeepsHeader}
-use Rattle.jnl_format.proofs.Mixing.{IsHomeOf}
+use Rattle.jnl_format.specs.Keeping.{KeepsHeader}
+use Rattle.jnl_format.specs.Named.{IsHomeOf}
 use Rattle.jnl_replay.specs.Plan.{journal_of}
 use Rattle.jnl_replay.specs.declared.plan.Plan.{Plan}
 use Rattle.jnl_replay.specs.declared.text.Text.{Text}
 
 -- each candidate is an old one, or has the bytes of one of these homes
-pub record GrowsHomes (bytes : List ℕ) (homes : List Home) (old new : Candidates) : Type 0 where
-  pub size : length new ≡ length old
-  pub each : (at : ℕ) (value : List ℕ) → Contains (candidates_of new at) value → Contains (candidates_of old at) value ⊎ IsHomeOf bytes homes at value
+abbrev pub GrowsHomes : List ℕ → List Home → Candidates → Candidates → Type 0
+GrowsHomes bytes homes = GrowsBy (IsHomeOf bytes homes)
 
 -- each sector of the image is an old candidate, or has the bytes of one of these homes
-pub record IsHomeMix (bytes : List ℕ) (homes : List Home) (old : Candidates) (image : Content) : Type 0 where
-  pub size : length image ≡ length old
-  pub each : (at : ℕ) → at < length old → Contains (candidates_of old at) (sector image at) ⊎ IsHomeOf bytes homes at (sector image at)
+abbrev pub IsHomeMix : List ℕ → List Home → Candidates → Content → Type 0
+IsHomeMix bytes homes = MixesBy (IsHomeOf bytes homes)
 
 -- these are the homes of a text on a disk of so many sectors, each of whose lists is as it must be
 pub record AreHomesOf (total : ℕ) (text : Text) (bytes : List ℕ) (volume : Volume) (homes : List Home) : Type 0 where

@@ -3,6 +3,6 @@ pub mod Peeking
 pub mod Pending
 pub mod Placed
 pub mod Plan
-pub mod Reading
+pub mod Repeating
 pub mod Text
 pub mod Viewing

@@ -3,7 +3,7 @@ use Rattle.std.specs.Prelude.{◌≡◌, ◌≤◌, ◌+◌, ◌*◌, ◌-◌, �
 use Rattle.jnl_format.specs.Text.{are_blocks, block_bytes, bad_list, sector_homes, entry_homes, text_homes}
 use Rattle.jnl_format.specs.declared.blocks.Home.{Home}
 use Rattle.jnl_format.specs.declared.blocks.Volume.{Volume}
-use Rattle.jnl_format.proofs.Homes.{IsGoodHome, Each}
+use Rattle.jnl_format.specs.Named.{IsGoodHome, Each}
 use Rattle.jnl_replay.specs.declared.homes.Homes.{Homes}
 
 -- all places lie in the text

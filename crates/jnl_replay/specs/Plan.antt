@@ -1,5 +1,5 @@
 -- What a plan is, and what it is for.
-use Rattle.std.specs.Prelude.{◌≡◌, ◌<◌, ◌≤◌, ◌+◌, ◌%◌, ◌*◌, ℕ, length, Option, None, Some, Result, Ok, Err}
+use Rattle.std.specs.Prelude.{◌≡◌, false, ◌<◌, ◌≤◌, ◌+◌, ◌%◌, ◌*◌, ℕ, length, Option, None, Some, Result, Ok, Err}
 use Rattle.volume_header.specs.Refusal.{header_refusal}
 use Rattle.jnl_format.specs.Header.{IsHeader}
 use Rattle.jnl_format.specs.Recovery.{Content, header_of_volume, info_sector_of, Journal, journal_in, text_fault, recovery}
@@ -18,6 +18,11 @@ pub record IsPlace (content : Content) (place : Place) : Type 0 where
 -- the journal of a plan
 abbrev pub journal_of : Plan → Journal
 journal_of plan = record { info = plan.info; header = plan.header; fresh = plan.fresh }
+
+-- the journal was initialised, and no list of it is live
+pub record IsQuick (plan : Plan) : Type 0 where
+  pub old : plan.fresh ≡ false
+  pub empty : plan.header.start ≡ plan.header.end
 
 -- the plan has the content's journal, which has no fault
 pub record IsPlan (content : Content) (plan : Plan) : Type 0 where

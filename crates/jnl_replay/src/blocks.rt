@@ -3,7 +3,7 @@ ghost use Rattle.std.specs.Prelude.{◌≡◌, ◌≤◌, ◌<◌, ◌+◌, ◌*
 ghost use Rattle.sector_disk.specs.Cause.{HasCause};
 ghost use Rattle.sector_disk.specs.Disk.{content};
 ghost use Rattle.jnl_format.specs.Text.{is_skipped, is_inside, is_apart, covers, is_same_volume, is_same_kind, is_same_layout, has_same_bits, keeps_header, keeps_volume, is_block, are_blocks, block_bytes};
-ghost use Rattle.jnl_replay.specs.Reading.{OnlyReads};
+ghost use Rattle.sector_disk.specs.Disk.{OnlyReads};
 ghost use Rattle.jnl_replay.specs.Text.{words, IsText};
 
 use crate::text::{Text, read_entry_at, read_text};
@@ -20,7 +20,7 @@ const ENTRY_BYTES: u64 = 16;
 
 /// Whether the entries at `at`, so many of them, have blocks as they must be, which fill the bytes from
 /// `body` to `end`.
-pub fn fill<D: SectorDisk>(
+pub fn blocks_are_valid<D: SectorDisk>(
     disk: &mut D,
     text: &Text,
     volume: &Volume,

@@ -7,18 +7,17 @@ ghost use Rattle.jnl_format.specs.Info.{holds, is_fresh, IsInfo};
 ghost use Rattle.jnl_format.specs.Header.{header_read, IsHeader};
 ghost use Rattle.jnl_format.specs.Recovery.{info_in, info_from, journal_in, list_fault, foreign_fault, text_fault, fresh_header, recovery, replayed};
 ghost use Rattle.jnl_replay.specs.Plan.{IsPlace, IsPlan, IsRefusedAs, IsFaultOf, IsFirstFault, FitsPlan, journal_of};
-ghost use Rattle.jnl_replay.specs.Reading.{OnlyReads};
+ghost use Rattle.sector_disk.specs.Disk.{OnlyReads};
 ghost use Rattle.jnl_replay.specs.declared.plan.ReplayFault.TheVariants.{Disk};
 
 use crate::lists::first_bad_list;
 use crate::plan::{Place, Plan, ReplayFault};
 use crate::text::text_of;
+use crate::volume::{HEADER_SECTOR, read_volume};
 use hx_bytes::{Order, Sector};
 use jnl_format::{Header, Info, JnlRefusal, Volume, first_info_fault, info_fields, read_header};
 use jnl_ring::advance;
 use sector_disk::SectorDisk;
-
-const HEADER_SECTOR: u64 = 2;
 
 const FRESH: u32 = 4;
 
@@ -210,12 +209,9 @@ fn check_lists<D: SectorDisk>(disk: &mut D, plan: &Plan) -> Result<(), ReplayFau
     ensures cause { IsErrOf result Disk → Rose (D.state disk.old).faults (D.state disk.new).faults }
 {
     let sectors = disk.sectors();
-    let mut block = [0; 512];
-    disk.read(HEADER_SECTOR, &mut block)?;
-    let header = match volume_header::read_header(&block, sectors) {
+    let header = match read_volume(disk, &plan.place) {
         Ok(header) => header,
-        // The header was accepted when the place was taken from it, so the disk reads otherwise now.
-        Err(_) => return Err(ReplayFault::Refused(JnlRefusal::BadHeader(0))),
+        Err(fault) => return Err(fault),
     };
     let text = text_of(plan, sectors);
     let volume = Volume {

@@ -1,7 +1,7 @@
 //! A journal emptied, and its info block told so.
 ghost use Rattle.std.specs.Prelude.{◌≡◌, ◌≤◌, ◌<◌, ◌+◌, ◌/◌, ◌++◌, ◌∷◌, [], IsTrue, OnOk, drop};
 ghost use Rattle.sector_disk.specs.Cause.{HasCause, next_count};
-ghost use Rattle.sector_disk.specs.Disk.{Leaves, Mixes, SameDisk, SameSink, content, only};
+ghost use Rattle.sector_disk.specs.Disk.{CrashesLeave, Mixes, SameDisk, SameSink, content, only};
 ghost use Rattle.jnl_format.specs.Info.{with_info};
 ghost use Rattle.jnl_format.specs.Header.{header_bytes};
 ghost use Rattle.sector_disk.specs.Lists.{sector};
@@ -19,7 +19,7 @@ const ALL_BUT_FRESH: u32 = 0xFFFF_FFFB;
 pub fn empty_journal<D: SectorDisk>(disk: &mut D, plan: &Plan) -> Result<(), Failed>
     requires { FitsPlan (D.state disk.old).sectors plan.now }
     ensures settled { IsTrue (D.state disk.old).tells → OnOk result ((D.state disk.new).candidates ≡ only (with_empty_header plan.now (content (D.state disk.old)))) }
-    ensures crash { IsTrue (D.state disk.old).tells → Leaves (D.state disk.old) (D.state disk.new) (Mixes (D.state disk.old).candidates (plan.now.info.offset / 512) (empty_header plan.now (content (D.state disk.old)) ∷ [])) }
+    ensures crash { IsTrue (D.state disk.old).tells → CrashesLeave (D.state disk.old) (D.state disk.new) (Mixes (D.state disk.old).candidates (plan.now.info.offset / 512) (empty_header plan.now (content (D.state disk.old)) ∷ [])) }
     ensures counted { OnOk result ((D.state disk.new).barriers ≡ next_count (D.state disk.old).barriers) }
     ensures barriers { (D.state disk.new).barriers ≤ (D.state disk.old).barriers + 1 }
     ensures same { SameDisk (D.state disk.old) (D.state disk.new) }
@@ -49,7 +49,7 @@ fn empty(header: &Header) -> Header
 pub fn clear_flag<D: SectorDisk>(disk: &mut D, plan: &Plan) -> Result<(), Failed>
     requires { FitsPlan (D.state disk.old).sectors plan.now }
     ensures settled { IsTrue (D.state disk.old).tells → OnOk result ((D.state disk.new).candidates ≡ only (with_info_done plan.now (content (D.state disk.old)))) }
-    ensures crash { IsTrue (D.state disk.old).tells → Leaves (D.state disk.old) (D.state disk.new)
+    ensures crash { IsTrue (D.state disk.old).tells → CrashesLeave (D.state disk.old) (D.state disk.new)
         (Mixes (D.state disk.old).candidates plan.now.place.info_sector (with_info (initialised plan.now.info) (sector (content (D.state disk.old)) plan.now.place.info_sector) ∷ [])) }
     ensures counted { OnOk result ((D.state disk.new).barriers ≡ next_count (D.state disk.old).barriers) }
     ensures barriers { (D.state disk.new).barriers ≤ (D.state disk.old).barriers + 1 }

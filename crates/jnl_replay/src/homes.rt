@@ -6,7 +6,7 @@ ghost use Rattle.jnl_format.specs.Text.{is_skipped};
 ghost use Rattle.jnl_format.specs.declared.blocks.Home.{Home};
 ghost use Rattle.jnl_format.specs.declared.blocks.Volume.{Volume};
 ghost use Rattle.jnl_replay.specs.Pending.{IsCursor, Pending, GoesOn, Gives, work_left};
-ghost use Rattle.jnl_replay.specs.Reading.{OnlyReads};
+ghost use Rattle.sector_disk.specs.Disk.{OnlyReads};
 ghost use Rattle.jnl_replay.specs.Text.{words, IsText};
 
 use crate::blocks::is_skip;

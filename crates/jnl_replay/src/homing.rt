@@ -1,7 +1,7 @@
 //! The blocks of a journal written home.
 ghost use Rattle.std.specs.Prelude.{◌≡◌, ◌≤◌, ◌<◌, ◌+◌, IsTrue, OnOk, List, [], ◌∷◌};
 ghost use Rattle.sector_disk.specs.Cause.{HasCause};
-ghost use Rattle.sector_disk.specs.Disk.{content, Leaves, SameDisk, SameSink};
+ghost use Rattle.sector_disk.specs.Disk.{content, CrashesLeave, SameDisk, SameSink};
 ghost use Rattle.jnl_format.specs.Recovery.{with_home, with_homes};
 ghost use Rattle.jnl_format.specs.declared.blocks.Home.{Home};
 ghost use Rattle.jnl_format.specs.declared.blocks.Volume.{Volume};
@@ -20,7 +20,7 @@ pub fn write_homes<D: SectorDisk>(disk: &mut D, text: &Text) -> Result<(), Faile
     ensures written { IsTrue (D.state disk.old).tells → (volume : Volume) (homes : List Home) → AreHomesOf (D.state disk.old).sectors text.now (words text.now (content (D.state disk.old))) volume homes
         → OnOk result (content (D.state disk.new) ≡ with_homes (words text.now (content (D.state disk.old))) homes (content (D.state disk.old))) }
     ensures crash { IsTrue (D.state disk.old).tells → (volume : Volume) (homes : List Home) → AreHomesOf (D.state disk.old).sectors text.now (words text.now (content (D.state disk.old))) volume homes
-        → Leaves (D.state disk.old) (D.state disk.new) (IsHomeMix (words text.now (content (D.state disk.old))) homes (D.state disk.old).candidates) }
+        → CrashesLeave (D.state disk.old) (D.state disk.new) (IsHomeMix (words text.now (content (D.state disk.old))) homes (D.state disk.old).candidates) }
     ensures barriers { (D.state disk.new).barriers ≡ (D.state disk.old).barriers }
     ensures same { SameDisk (D.state disk.old) (D.state disk.new) }
     ensures sink { SameSink (D.state disk.old) (D.state disk.new) }
@@ -40,7 +40,7 @@ fn write_home<D: SectorDisk>(disk: &mut D, text: &Text, home: &Home) -> Result<(
     requires placed { home.now.place + 512 ≤ text.now.length }
     ensures written { IsTrue (D.state disk.old).tells → OnOk result (content (D.state disk.new) ≡ with_home (words text.now (content (D.state disk.old))) (content (D.state disk.old)) home.now) }
     ensures grows { IsTrue (D.state disk.old).tells → GrowsHomes (words text.now (content (D.state disk.old))) (home.now ∷ []) (D.state disk.old).candidates (D.state disk.new).candidates }
-    ensures crash { IsTrue (D.state disk.old).tells → Leaves (D.state disk.old) (D.state disk.new) (IsHomeMix (words text.now (content (D.state disk.old))) (home.now ∷ []) (D.state disk.old).candidates) }
+    ensures crash { IsTrue (D.state disk.old).tells → CrashesLeave (D.state disk.old) (D.state disk.new) (IsHomeMix (words text.now (content (D.state disk.old))) (home.now ∷ []) (D.state disk.old).candidates) }
     ensures barriers { (D.state disk.new).barriers ≡ (D.state disk.old).barriers }
     ensures same { SameDisk (D.state disk.old) (D.state disk.new) }
     ensures sink { SameSink (D.state disk.old) (D.state disk.new) }

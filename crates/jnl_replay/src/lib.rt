@@ -10,12 +10,17 @@ mod index;
 mod lists;
 mod peek;
 mod plan;
+mod repeating;
 mod replaying;
 mod text;
 mod view;
+mod volume;
 
 pub use checking::validate;
+pub use emptying::empty_journal;
+pub use homing::write_homes;
 pub use index::Peek;
 pub use plan::{Place, Plan, ReplayFault};
 pub use replaying::replay;
+pub use text::{Text, text_of};
 pub use view::PeekView;

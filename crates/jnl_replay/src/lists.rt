@@ -3,10 +3,10 @@ ghost use Rattle.std.specs.Prelude.{◌≡◌, ◌≤◌, ◌<◌, ◌+◌, IsTr
 ghost use Rattle.sector_disk.specs.Cause.{HasCause};
 ghost use Rattle.sector_disk.specs.Disk.{content};
 ghost use Rattle.jnl_format.specs.Text.{is_list, head_at, bad_list};
-ghost use Rattle.jnl_replay.specs.Reading.{OnlyReads};
+ghost use Rattle.sector_disk.specs.Disk.{OnlyReads};
 ghost use Rattle.jnl_replay.specs.Text.{words, IsText};
 
-use crate::blocks::fill;
+use crate::blocks::blocks_are_valid;
 use crate::text::{Text, read_text};
 use hx_bytes::Failed;
 use jnl_format::{ListHead, Volume, read_list};
@@ -69,7 +69,7 @@ fn list_bytes<D: SectorDisk>(
         return Ok(None);
     }
     let entries = u64::from(head.entries) - 1;
-    if fill(disk, text, volume, at + 32, at + header, at + used, entries)? {
+    if blocks_are_valid(disk, text, volume, at + 32, at + header, at + used, entries)? {
         Ok(Some(used))
     } else {
         Ok(None)

@@ -5,7 +5,7 @@ ghost use Rattle.sector_disk.specs.Disk.{content};
 ghost use Rattle.jnl_format.specs.Recovery.{replayed};
 ghost use Rattle.jnl_replay.specs.Peeking.{peeked};
 ghost use Rattle.jnl_replay.specs.Plan.{FitsPlan, IsPlan, journal_of};
-ghost use Rattle.jnl_replay.specs.Reading.{OnlyReads};
+ghost use Rattle.sector_disk.specs.Disk.{OnlyReads};
 ghost use Rattle.hx_bytes.specs.declared.faults.Trouble.TheVariants.{Disk};
 
 use crate::homes::Homes;

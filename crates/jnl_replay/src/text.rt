@@ -5,7 +5,7 @@ ghost use Rattle.sector_disk.specs.Disk.{content};
 ghost use Rattle.jnl_format.specs.List.{entry_at};
 ghost use Rattle.jnl_format.specs.Text.{bytes_at};
 ghost use Rattle.jnl_replay.specs.Plan.{FitsPlan};
-ghost use Rattle.jnl_replay.specs.Reading.{OnlyReads};
+ghost use Rattle.sector_disk.specs.Disk.{OnlyReads};
 ghost use Rattle.jnl_replay.specs.Text.{words, IsText, text_in};
 
 use crate::plan::Plan;

@@ -4,7 +4,7 @@ ghost use Rattle.sector_disk.specs.Cause.{HasCause};
 ghost use Rattle.sector_disk.specs.Disk.{content};
 ghost use Rattle.sector_disk.specs.Lists.{sector};
 ghost use Rattle.jnl_replay.specs.Peeking.{place_in};
-ghost use Rattle.jnl_replay.specs.Reading.{OnlyReads};
+ghost use Rattle.sector_disk.specs.Disk.{OnlyReads};
 ghost use Rattle.jnl_replay.specs.Viewing.{shown};
 
 use crate::index::Peek;

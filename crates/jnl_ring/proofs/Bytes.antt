@@ -6,10 +6,7 @@ use Rattle.sector_disk.specs.Lists.{Content, sector, last}
 use Rattle.sector_disk.specs.Disk.{State, IsDisk, candidates_of, content}
 use Rattle.sector_disk.proofs.Candidates.{Contains-last}
 use Rattle.jnl_format.specs.Ring.{journal_bytes}
-
--- each has 512 bytes
-abbrev pub AreWhole : Content → Type 0
-AreWhole list = (k : ℕ) → k < length list → length (sector list k) ≡ 512
+use Rattle.jnl_ring.specs.Whole.{AreWhole}
 
 pub length-concat : (list : Content) → AreWhole list → length (concat list) ≡ 512 * length list
 length-concat [] whole = refl

@@ -5,8 +5,8 @@ use Rattle.std.specs.List.{between}
 use borrow.Rule.Slice.PartMut.{put_mid}
 use Rattle.std.proofs.lemmas.List.{append-nil, drop_all, ext_get_or, get_or-take, get_or-drop, get_or_append_left, get_or-append_right}
 use Rattle.sector_disk.specs.Lists.{Content, sector}
-use Rattle.sector_disk.specs.Clock.{Passes, WithTold}
-use Rattle.sector_disk.specs.Disk.{State, Candidates, IsDisk, IsImage, Leaves, LeftNow, SameDisk, SameSink, content, content_of}
+use Rattle.sector_disk.specs.Clock.{TimePasses, WithTold}
+use Rattle.sector_disk.specs.Disk.{State, Candidates, IsDisk, IsImage, CrashesLeave, LeftNow, SameDisk, SameSink, content, content_of}
 use Rattle.sector_disk.proofs.Passing.{none_passes, both_pass}
 use Rattle.sector_disk.proofs.Writing.{same_after, sink_after}
 use Rattle.jnl_format.specs.Ring.{bytes_from, journal_bytes, offset_after}
@@ -38,7 +38,7 @@ pub record ReadSo (span : Span) (at : ℕ) (old now : State) (into : List ℕ) (
   pub room : done ≤ length into
   pub bytes : IsTrue old.tells → (j : ℕ) → j < done → get_or into j 0 ≡ get_or (bytes_from (journal_of old span) at) j 0
   pub candidates : now.candidates ≡ old.candidates
-  pub time : Passes old.clock now.clock (WithTold old.told (IsImage old.candidates))
+  pub time : TimePasses old.clock now.clock (WithTold old.told (IsImage old.candidates))
   pub barriers : now.barriers ≡ old.barriers
   pub same : SameDisk old now
   pub sink : SameSink old now
@@ -57,8 +57,8 @@ read_none span at old into = record {
 }
 
 -- time goes on over a call that leaves the candidates
-pub time_read : (old now new : State) → Passes old.clock now.clock (WithTold old.told (IsImage old.candidates)) → now.candidates ≡ old.candidates → SameSink old now → new.candidates ≡ now.candidates → SameSink now new
-    → Passes now.clock new.clock (LeftNow new) → Passes old.clock new.clock (WithTold old.told (IsImage old.candidates))
+pub time_read : (old now new : State) → TimePasses old.clock now.clock (WithTold old.told (IsImage old.candidates)) → now.candidates ≡ old.candidates → SameSink old now → new.candidates ≡ now.candidates → SameSink now new
+    → TimePasses now.clock new.clock (LeftNow new) → TimePasses old.clock new.clock (WithTold old.told (IsImage old.candidates))
 time_read old now new so_far was before same sink time =
     both_pass old.clock now.clock new.clock _ (LeftNow new) _ so_far time (λ image told p. p)
     (λ image told p. (subst (λ (d : Candidates). IsImage d image) (same ∙ was) p.0, p.1 ∙ sink.told ∙ before.told))
@@ -67,7 +67,7 @@ time_read old now new so_far was before same sink time =
 pub read_more : (span : Span) (at : ℕ) (old now new : State) (into part : List ℕ) (done offset count : ℕ) → IsDisk old → IsSpan span → IsOnDisk span old.sectors → InBuffer span at → ReadSo span at old now into done
     → done + count ≤ length into → length into ≤ span.size - 512 → offset ≡ offset_after span.size at done → offset + count ≤ span.size
     → (IsTrue now.tells → (j : ℕ) → j < count → get_or part j 0 ≡ get_or (journal_of now span) (offset + j) 0)
-    → length part ≡ length into - done → new.candidates ≡ now.candidates → new.barriers ≡ now.barriers → SameDisk now new → SameSink now new → Passes now.clock new.clock (LeftNow new) → now.faults ≤ new.faults
+    → length part ≡ length into - done → new.candidates ≡ now.candidates → new.barriers ≡ now.barriers → SameDisk now new → SameSink now new → TimePasses now.clock new.clock (LeftNow new) → now.faults ≤ new.faults
     → ReadSo span at old new (take done into ++ part) (done + count)
 read_more span at old now new into part done offset count disk is fits from so_far room short lies inside bytes long candidates barriers same sink time faults =
     let front : length (take done into) ≡ done = length-take-le done into so_far.room in
@@ -102,7 +102,7 @@ read_all span at old now into done count disk is fits from so_far all long short
     (λ j below. so_far.bytes tells j (omega (arith, below, all)) ∙ sym (get_or-take count (bytes_from (journal_of old span) at) j 0 (omega (arith, below, long))))
 
 -- each crash left an image of the candidates as they were
-pub read_leaves : (old now : State) → Passes old.clock now.clock (WithTold old.told (IsImage old.candidates)) → now.candidates ≡ old.candidates → Leaves old now (IsImage old.candidates)
+pub read_leaves : (old now : State) → TimePasses old.clock now.clock (WithTold old.told (IsImage old.candidates)) → now.candidates ≡ old.candidates → CrashesLeave old now (IsImage old.candidates)
 read_leaves old now time same = record { time = time; now = λ image is. subst (λ (d : Candidates). IsImage d image) same is }
 
 -- the end of a list was written

@@ -5,15 +5,16 @@ use Rattle.std.proofs.lemmas.List.{ext_get_or, get_or-take, get_or-drop, get_or-
 use Rattle.std.proofs.lemmas.List.Elements.{Contains-push_cases}
 use Rattle.std.specs.List.{concat}
 use Rattle.sector_disk.specs.Lists.{Content, last, sector}
-use Rattle.sector_disk.specs.Clock.{Passes}
-use Rattle.sector_disk.specs.Disk.{State, Candidates, IsDisk, IsImage, Leaves, LeftNow, SameSink, candidates_of, content, only}
+use Rattle.sector_disk.specs.Clock.{TimePasses}
+use Rattle.sector_disk.specs.Disk.{State, Candidates, IsDisk, IsImage, CrashesLeave, LeftNow, SameSink, candidates_of, content, only}
 use Rattle.sector_disk.proofs.Candidates.{settled-each}
 use Rattle.sector_disk.proofs.Passing.{both_pass}
 use Rattle.jnl_format.specs.Ring.{bytes_from, distance, offset_after, ring_text}
 use Rattle.jnl_ring.specs.Span.{InBuffer, IsSpan, sector_after}
 use Rattle.jnl_ring.specs.Writing.{MixesInRing, PutsInRing}
 use Rattle.jnl_ring.specs.declared.span.Span.{Span}
-use Rattle.jnl_ring.proofs.Bytes.{AreWhole, HasJournal, length-concat, length-journal}
+use Rattle.jnl_ring.proofs.Bytes.{HasJournal, length-concat, length-journal}
+use Rattle.jnl_ring.specs.Whole.{AreWhole}
 use Rattle.jnl_ring.proofs.Placing.{apart, whole_offset}
 use Rattle.jnl_ring.proofs.Texts.{journal_in, ring_byte, text_put}
 use Rattle.jnl_ring.proofs.Wrap.{byte_from, distance_after, distance_reaches, distance_short, distance_whole, length-from, offset_after_header, offset_inside, offset_sum}
@@ -135,8 +136,8 @@ barrier_image (Ok x) mid new image disk settled failed is =
 barrier_image (Err e) mid new image disk settled failed is = subst (λ (d : Candidates). IsImage d image) failed is
 
 -- so what held of each image of writes holds over the barrier behind them
-pub barrier_leaves : {T E : Type 0} (result : Result T E) (old mid new : State) (P : Content → Type 0) → IsDisk mid → Leaves old mid P → SameSink old mid → SameSink mid new → OnOk result (new.candidates ≡ only (content mid)) → OnErr result (new.candidates ≡ mid.candidates)
-    → Passes mid.clock new.clock (LeftNow new) → Leaves old new P
+pub barrier_leaves : {T E : Type 0} (result : Result T E) (old mid new : State) (P : Content → Type 0) → IsDisk mid → CrashesLeave old mid P → SameSink old mid → SameSink mid new → OnOk result (new.candidates ≡ only (content mid)) → OnErr result (new.candidates ≡ mid.candidates)
+    → TimePasses mid.clock new.clock (LeftNow new) → CrashesLeave old new P
 barrier_leaves result old mid new P disk first sink same settled failed time = record {
   time =
       both_pass old.clock mid.clock new.clock _ (LeftNow new) _ first.time time (λ image told p. p)

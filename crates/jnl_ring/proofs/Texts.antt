@@ -8,7 +8,8 @@ use Rattle.jnl_format.specs.Ring.{bytes_from, journal_bytes, offset_after}
 use Rattle.jnl_ring.specs.Span.{InBuffer, IsSpan, sector_after}
 use Rattle.jnl_ring.specs.Writing.{PutsInRing}
 use Rattle.jnl_ring.specs.declared.span.Span.{Span}
-use Rattle.jnl_ring.proofs.Bytes.{AreWhole, HasJournal, get_or-concat, journal_byte, length-concat, length-journal}
+use Rattle.jnl_ring.proofs.Bytes.{HasJournal, get_or-concat, journal_byte, length-concat, length-journal}
+use Rattle.jnl_ring.specs.Whole.{AreWhole}
 use Rattle.jnl_ring.proofs.Placing.{apart, byte_at}
 use Rattle.jnl_ring.proofs.Wrap.{byte_from, length-from}
 

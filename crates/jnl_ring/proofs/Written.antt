@@ -3,11 +3,11 @@ use Rattle.std.proofs.Common.{◌≡◌, ◌≢◌, ◌⊎◌, ◌<◌, ◌≤�
 use Rattle.std.proofs.lemmas.Bool.{cases_lt}
 use Rattle.std.proofs.lemmas.List.{length-map}
 use Rattle.sector_disk.specs.Lists.{Content, sector, last}
-use Rattle.sector_disk.specs.Clock.{Passes, WithTold}
-use Rattle.sector_disk.specs.Disk.{State, Candidates, IsDisk, IsImage, Leaves, LeftNow, MayHaveWritten, SameDisk, SameSink, candidates_of, content, content_of, with_candidate}
+use Rattle.sector_disk.specs.Clock.{TimePasses, WithTold}
+use Rattle.sector_disk.specs.Disk.{State, Candidates, IsDisk, IsImage, CrashesLeave, LeftNow, MayHaveWritten, SameDisk, SameSink, candidates_of, content, content_of, with_candidate}
 use Rattle.sector_disk.proofs.Passing.{none_passes, both_pass}
-use Rattle.sector_disk.proofs.Candidates.{content_of-with_candidate, with_candidate-each}
-use Rattle.sector_disk.proofs.Writing.{same_after, sink_after}
+use Rattle.sector_disk.proofs.Candidates.{content_of-with_candidate, grows_none, grows_maybe, image_mixes}
+use Rattle.sector_disk.proofs.Writing.{same_after, sink_after, time_after, leaves_after}
 use Rattle.jnl_ring.specs.Span.{InBuffer, IsOnDisk, IsSpan, sector_after}
 use Rattle.jnl_ring.specs.Writing.{GrowsInRing, IsPlaced, MixesInRing, PutsInRing}
 use Rattle.jnl_ring.specs.declared.span.Span.{Span}
@@ -23,7 +23,7 @@ pub record PutsFront (span : Span) (at : ℕ) (list : Content) (k : ℕ) (old ne
 pub record WroteSo (span : Span) (at : ℕ) (list : Content) (old : State) (k : ℕ) (now : State) : Type 0 where
   pub puts : IsTrue old.tells → PutsFront span at list k (content old) (content now)
   pub grows : GrowsInRing span at list old.candidates now.candidates
-  pub time : Passes old.clock now.clock (WithTold old.told (MixesInRing span at list old.candidates))
+  pub time : TimePasses old.clock now.clock (WithTold old.told (MixesInRing span at list old.candidates))
   pub barriers : now.barriers ≡ old.barriers
   pub same : SameDisk old now
   pub sink : SameSink old now
@@ -32,7 +32,7 @@ pub record WroteSo (span : Span) (at : ℕ) (list : Content) (old : State) (k : 
 pub wrote_none : (span : Span) (at : ℕ) (list : Content) (old : State) → WroteSo span at list old 0 old
 wrote_none span at list old = record {
   puts = λ tells. record { size = refl; there = λ j below. absurd (omega (arith, below)); elsewhere = λ s other. refl };
-  grows = record { size = refl; each = λ s value there. inl there };
+  grows = grows_none (IsPlaced span at list) old.candidates;
   time = none_passes old.clock (WithTold old.told (MixesInRing span at list old.candidates));
   barriers = refl;
   same = record { tells = refl; tells_left = refl; names = refl; sectors = refl };
@@ -56,71 +56,38 @@ put_one span at list k old now is from whole below inside so_far =
       elsewhere = λ s other. get_or-set_other now place s (sector list k) [] (other k (omega arith)) ∙ so_far.elsewhere s (λ j before. other j (omega (arith, before)));
     }
 
-grows_one : (span : Span) (at : ℕ) (list : Content) (k : ℕ) (old now : Candidates) → k < length list → GrowsInRing span at list old now → GrowsInRing span at list old (with_candidate now (sector_after span at k) (sector list k))
-grows_one span at list k old now inside grows = record {
-  size = length-set now (sector_after span at k) (candidates_of now (sector_after span at k) ++ sector list k ∷ []) ∙ grows.size;
-  each = λ s v there. ⊎_elim (λ was. grows.each s v was) (λ is. inr (k, inside, is.0, is.1)) (with_candidate-each now (sector_after span at k) (sector list k) s v there);
-}
-
--- an old candidate once more
-grows_again : (span : Span) (at : ℕ) (list : Content) (old now : Candidates) (place : ℕ) (value : List ℕ) → GrowsInRing span at list old now → (Contains (candidates_of old place) value ⊎ IsPlaced span at list place value)
-    → GrowsInRing span at list old (with_candidate now place value)
-grows_again span at list old now place value grows from = record {
-  size = length-set now place (candidates_of now place ++ value ∷ []) ∙ grows.size;
-  each = λ s v there. ⊎_elim (λ was. grows.each s v was)
-      (λ is. subst (λ n. Contains (candidates_of old n) v ⊎ IsPlaced span at list n v) (sym is.0) (subst (λ (w : List ℕ). Contains (candidates_of old place) w ⊎ IsPlaced span at list place w) (sym is.1) from))
-      (with_candidate-each now place value s v there);
-}
-
--- a write that failed
-pub grows_maybe : (span : Span) (at : ℕ) (list : Content) (k : ℕ) (old now new : Candidates) → k < length list → GrowsInRing span at list old now → MayHaveWritten now (sector_after span at k) (sector list k) new → GrowsInRing span at list old new
-grows_maybe span at list k old now new inside grows (inl same) = subst (GrowsInRing span at list old) (sym same) grows
-grows_maybe span at list k old now new inside grows (inr (inl one)) = subst (GrowsInRing span at list old) (sym one) (grows_one span at list k old now inside grows)
-grows_maybe span at list k old now new inside grows (inr (inr back)) =
-    let place = sector_after span at k in
-    subst (GrowsInRing span at list old) (sym back.1)
-    (grows_again span at list old _ place (last (candidates_of now place)) (grows_one span at list k old now inside grows) (grows.each place _ back.0))
-
-pub image_mixes : (span : Span) (at : ℕ) (list : Content) (old now : Candidates) (image : Content) → GrowsInRing span at list old now → IsImage now image → MixesInRing span at list old image
-image_mixes span at list old now image grows is = record { size = is.size ∙ grows.size; each = λ s inside. grows.each s (sector image s) (is.each s (omega (arith, inside, grows.size))) }
-
--- time goes on over a call after which the candidates have grown
-time_after : (span : Span) (at : ℕ) (list : Content) (old now new : State) → Passes old.clock now.clock (WithTold old.told (MixesInRing span at list old.candidates)) → SameSink old now → SameSink now new
-    → GrowsInRing span at list old.candidates new.candidates → Passes now.clock new.clock (LeftNow new) → Passes old.clock new.clock (WithTold old.told (MixesInRing span at list old.candidates))
-time_after span at list old now new so_far before sink grows time =
-    both_pass old.clock now.clock new.clock _ (LeftNow new) _ so_far time (λ image told p. p)
-    (λ image told p. (image_mixes span at list old.candidates new.candidates image grows p.0, p.1 ∙ sink.told ∙ before.told))
-
 -- one sector more
 pub wrote_one : (span : Span) (at : ℕ) (list : Content) (k place : ℕ) (old now new : State) → IsDisk old → IsSpan span → IsOnDisk span old.sectors → InBuffer span at → at % 512 ≡ 0 → 512 * length list ≤ span.size - 512 → k < length list
     → place ≡ sector_after span at k → WroteSo span at list old k now → new.candidates ≡ with_candidate now.candidates place (sector list k)
-    → new.barriers ≡ now.barriers → SameDisk now new → SameSink now new → Passes now.clock new.clock (LeftNow new) → now.faults ≤ new.faults → WroteSo span at list old (k + 1) new
+    → new.barriers ≡ now.barriers → SameDisk now new → SameSink now new → TimePasses now.clock new.clock (LeftNow new) → now.faults ≤ new.faults → WroteSo span at list old (k + 1) new
 wrote_one span at list k place old now new disk is fits from whole room inside here so_far adds barriers same sink time faults =
     let added : new.candidates ≡ with_candidate now.candidates (sector_after span at k) (sector list k) = adds ∙ ap (λ n. with_candidate now.candidates n (sector list k)) here in
-    let grows : GrowsInRing span at list old.candidates new.candidates = grows_maybe span at list k old.candidates now.candidates new.candidates inside so_far.grows (inr (inl added)) in
+    let grows : GrowsInRing span at list old.candidates new.candidates = grows_maybe (IsPlaced span at list) old.candidates now.candidates new.candidates (sector_after span at k) (sector list k) so_far.grows (k, inside, refl, refl) (inr (inl added)) in
     record {
       puts = λ tells.
           subst (PutsFront span at list (k + 1) (content old)) (sym (ap content_of added ∙ content_of-with_candidate now.candidates (sector_after span at k) (sector list k)))
           (put_one span at list k (content old) (content now) is from whole (omega (arith, room, inside))
           (omega (arith, on_disk span at k old.sectors is from whole (omega (arith, room, inside)) fits, disk.size tells, length-map old.candidates last)) (so_far.puts tells));
       grows = grows;
-      time = time_after span at list old now new so_far.time so_far.sink sink grows time;
+      time = time_after (IsPlaced span at list) old now new so_far.time so_far.sink sink grows time;
       barriers = barriers ∙ so_far.barriers;
       same = same_after old now new so_far.same same;
       sink = sink_after old now new so_far.sink sink;
       faults = omega (arith, so_far.faults, faults);
     }
 
--- and so it leaves mixtures
-pub wrote_leaves : (span : Span) (at : ℕ) (list : Content) (k : ℕ) (old now new : State) → WroteSo span at list old k now → SameSink now new → GrowsInRing span at list old.candidates new.candidates → Passes now.clock new.clock (LeftNow new)
-    → Leaves old new (MixesInRing span at list old.candidates)
-wrote_leaves span at list k old now new so_far sink grows time = record {
-  time = time_after span at list old now new so_far.time so_far.sink sink grows time;
-  now = λ image is. image_mixes span at list old.candidates new.candidates image grows is;
-}
+-- a write failed
+pub unsure_grows : (span : Span) (at : ℕ) (list : Content) (k : ℕ) (old now new : State) → k < length list → WroteSo span at list old k now → MayHaveWritten now.candidates (sector_after span at k) (sector list k) new.candidates → GrowsInRing span at list old.candidates new.candidates
+unsure_grows span at list k old now new inside so_far unsure =
+    grows_maybe (IsPlaced span at list) old.candidates now.candidates new.candidates (sector_after span at k) (sector list k) so_far.grows (k, inside, refl, refl) unsure
 
-pub wrote_all : (span : Span) (at : ℕ) (list : Content) (k : ℕ) (old now : State) → WroteSo span at list old k now → Leaves old now (MixesInRing span at list old.candidates)
-wrote_all span at list k old now so_far = record { time = so_far.time; now = λ image is. image_mixes span at list old.candidates now.candidates image so_far.grows is }
+-- and so it leaves mixtures
+pub wrote_leaves : (span : Span) (at : ℕ) (list : Content) (k : ℕ) (old now new : State) → WroteSo span at list old k now → SameSink now new → GrowsInRing span at list old.candidates new.candidates → TimePasses now.clock new.clock (LeftNow new)
+    → CrashesLeave old new (MixesInRing span at list old.candidates)
+wrote_leaves span at list k old now new so_far sink grows time = leaves_after (IsPlaced span at list) old now new so_far.time so_far.sink sink grows time
+
+pub wrote_all : (span : Span) (at : ℕ) (list : Content) (k : ℕ) (old now : State) → WroteSo span at list old k now → CrashesLeave old now (MixesInRing span at list old.candidates)
+wrote_all span at list k old now so_far = record { time = so_far.time; now = λ image is. image_mixes (IsPlaced span at list) old.candidates now.candidates image so_far.grows is }
 
 -- the whole list stands in the ring
 pub puts_all : (span : Span) (at : ℕ) (list : Content) (k : ℕ) (old new : Content) → k ≡ length list → PutsFront span at list k old new → PutsInRing span at list old new

@@ -1,7 +1,7 @@
 -- A list of sectors is written into the ring, one after another from an offset on.
-use Rattle.std.specs.Prelude.{◌≡◌, ◌≢◌, ◌⊎◌, ◌<◌, ℕ, List, length, Contains}
+use Rattle.std.specs.Prelude.{◌≡◌, ◌≢◌, ◌<◌, ℕ, List, length}
 use Rattle.sector_disk.specs.Lists.{Content, sector}
-use Rattle.sector_disk.specs.Disk.{Candidates, candidates_of}
+use Rattle.sector_disk.specs.Disk.{Candidates, GrowsBy, MixesBy}
 use Rattle.jnl_ring.specs.Span.{sector_after}
 use Rattle.jnl_ring.specs.declared.span.Span.{Span}
 
@@ -16,11 +16,9 @@ abbrev pub IsPlaced : Span → ℕ → Content → ℕ → List ℕ → Type 0
 IsPlaced span at list s value = (k : ℕ) × (k < length list) × (s ≡ sector_after span at k) × (value ≡ sector list k)
 
 -- each candidate is an old one, or stands in the list at its place
-pub record GrowsInRing (span : Span) (at : ℕ) (list : Content) (old new : Candidates) : Type 0 where
-  pub size : length new ≡ length old
-  pub each : (s : ℕ) (value : List ℕ) → Contains (candidates_of new s) value → Contains (candidates_of old s) value ⊎ IsPlaced span at list s value
+abbrev pub GrowsInRing : Span → ℕ → Content → Candidates → Candidates → Type 0
+GrowsInRing span at list = GrowsBy (IsPlaced span at list)
 
 -- each sector of the image is an old candidate, or stands in the list at its place
-pub record MixesInRing (span : Span) (at : ℕ) (list : Content) (old : Candidates) (image : Content) : Type 0 where
-  pub size : length image ≡ length old
-  pub each : (s : ℕ) → s < length old → Contains (candidates_of old s) (sector image s) ⊎ IsPlaced span at list s (sector image s)
+abbrev pub MixesInRing : Span → ℕ → Content → Candidates → Content → Type 0
+MixesInRing span at list = MixesBy (IsPlaced span at list)

@@ -1,8 +1,8 @@
 // Reads that step over the wrap.
 ghost use Rattle.std.specs.Prelude.{◌≡◌, ◌≤◌, ◌<◌, ◌-◌, ◌+◌, ℕ, IsTrue, length, slice_index, take, OnOk, IfOk};
 ghost use Rattle.sector_disk.specs.Cause.{HasCause};
-ghost use Rattle.sector_disk.specs.Clock.{Passes};
-ghost use Rattle.sector_disk.specs.Disk.{IsImage, Leaves, LeftNow, SameDisk, SameSink, content};
+ghost use Rattle.sector_disk.specs.Clock.{TimePasses};
+ghost use Rattle.sector_disk.specs.Disk.{IsImage, CrashesLeave, LeftNow, SameDisk, SameSink, content};
 ghost use Rattle.jnl_format.specs.Ring.{bytes_from, journal_bytes};
 ghost use Rattle.jnl_ring.specs.Span.{InBuffer, IsOnDisk, IsSpan};
 
@@ -23,7 +23,7 @@ pub fn read_at<D: SectorDisk>(
     requires room { length into.old ≤ span.now.size - 512 }
     ensures bytes { IsTrue (D.state disk.old).tells → OnOk result (into.new ≡ take (length into.old) (bytes_from (journal_bytes (content (D.state disk.old)) span.now.base span.now.size) at)) }
     ensures candidates { (D.state disk.new).candidates ≡ (D.state disk.old).candidates }
-    ensures crash { Leaves (D.state disk.old) (D.state disk.new) (IsImage (D.state disk.old).candidates) }
+    ensures crash { CrashesLeave (D.state disk.old) (D.state disk.new) (IsImage (D.state disk.old).candidates) }
     ensures barriers { (D.state disk.new).barriers ≡ (D.state disk.old).barriers }
     ensures same { SameDisk (D.state disk.old) (D.state disk.new) }
     ensures sink { SameSink (D.state disk.old) (D.state disk.new) }
@@ -57,7 +57,7 @@ fn read_piece<D: SectorDisk>(
     ensures barriers { (D.state disk.new).barriers ≡ (D.state disk.old).barriers }
     ensures same { SameDisk (D.state disk.old) (D.state disk.new) }
     ensures sink { SameSink (D.state disk.old) (D.state disk.new) }
-    ensures time { Passes (D.state disk.old).clock (D.state disk.new).clock (LeftNow (D.state disk.new)) }
+    ensures time { TimePasses (D.state disk.old).clock (D.state disk.new).clock (LeftNow (D.state disk.new)) }
     ensures cause { HasCause (D.state disk.old).faults (D.state disk.new).faults result }
 {
     // A sector's number fits, since the disk counts its sectors.

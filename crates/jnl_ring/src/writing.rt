@@ -2,7 +2,7 @@
 ghost use Rattle.std.specs.Prelude.{◌≡◌, ◌≤◌, ◌-◌, ◌*◌, ◌%◌, ◌++◌, IsTrue, length, drop, OnOk};
 ghost use Rattle.std.specs.List.{concat};
 ghost use Rattle.sector_disk.specs.Cause.{HasCause};
-ghost use Rattle.sector_disk.specs.Disk.{Leaves, SameDisk, SameSink, content};
+ghost use Rattle.sector_disk.specs.Disk.{CrashesLeave, SameDisk, SameSink, content};
 ghost use Rattle.jnl_format.specs.Ring.{bytes_from, journal_bytes};
 ghost use Rattle.jnl_ring.specs.Span.{InBuffer, IsOnDisk, IsSpan};
 ghost use Rattle.jnl_ring.specs.Writing.{GrowsInRing, MixesInRing, PutsInRing};
@@ -31,7 +31,7 @@ pub fn write_at<D: SectorDisk>(
     // Also where it fails, and in a crash at any moment of the call or at its end, each sector has
     // an old value or the new one at its place.
     ensures grows { GrowsInRing span.now at from.now (D.state disk.old).candidates (D.state disk.new).candidates }
-    ensures crash { Leaves (D.state disk.old) (D.state disk.new) (MixesInRing span.now at from.now (D.state disk.old).candidates) }
+    ensures crash { CrashesLeave (D.state disk.old) (D.state disk.new) (MixesInRing span.now at from.now (D.state disk.old).candidates) }
     ensures barriers { (D.state disk.new).barriers ≡ (D.state disk.old).barriers }
     ensures same { SameDisk (D.state disk.old) (D.state disk.new) }
     ensures sink { SameSink (D.state disk.old) (D.state disk.new) }

@@ -11,7 +11,8 @@ use Rattle.jnl_format.specs.Info.{info_of, info_fault, holds, is_fresh, with_inf
 use Rattle.jnl_format.specs.Recovery.{replayed, Journal, homes_of, text_of}
 use Rattle.jnl_format.specs.declared.structures.Info.{Info}
 use Rattle.jnl_format.specs.declared.structures.Header.{Header}
-use Rattle.jnl_format.proofs.Alike.{KeepsHeader, same_place}
+use Rattle.jnl_format.proofs.Alike.{same_place}
+use Rattle.jnl_format.specs.Keeping.{KeepsHeader}
 use Rattle.jnl_format.proofs.Headers.{take_header}
 use Rattle.jnl_format.proofs.InfoBack.{info_back, flag_off, flags_fit, no_info_block}
 use Rattle.jnl_format.proofs.Mixing.{length-with_homes}
@@ -23,13 +24,10 @@ use Rattle.jnl_replay.proofs.Checks.{place_of}
 use Rattle.jnl_replay.proofs.Fresh.{same_fault}
 use Rattle.jnl_replay.proofs.Stages.{replayed_still, stands_empty}
 use Rattle.jnl_store.specs.Plan.{info_after, rested}
-use Rattle.jnl_store.specs.Store.{Keeps}
-use Rattle.jnl_store.specs.declared.store.Store.{Store}
 use Rattle.jnl_store.proofs.Journals.{HoldsJournal, KeepsJournal}
-use Rattle.jnl_store.proofs.Kept.{keeps_new}
 use Rattle.jnl_store.proofs.One.{length-one, one_here, one_else}
 use Rattle.jnl_store.proofs.Quiet.{volume_still}
-use Rattle.jnl_ring.proofs.Bytes.{AreWhole}
+use Rattle.jnl_ring.specs.Whole.{AreWhole}
 
 pub fresh_is : (c : Content) (plan : Plan) → Found c plan.info (journal_of plan) → is_fresh plan.info ≡ plan.fresh
 fresh_is c plan (is_new f e) = f ∙ sym (ap (λ (j : Journal). j.fresh) e)
@@ -170,11 +168,9 @@ pub offset_is : (plan : Plan) (fresh : Bool) → plan.fresh ≡ fresh → (info_
 offset_is plan true e = ap (λ b. (cond b (initialised plan.info) plan.info).offset) e
 offset_is plan false e = ap (λ b. (cond b (initialised plan.info) plan.info).offset) e
 
-pub attached : (c : Content) (plan : Plan) → IsPlan c plan → (total : ℕ) → FitsPlan total plan → length c ≡ total → AreWhole c → (store : Store) → store.plan ≡ rested plan → store.batch.all ≡ [] → store.batch.kept ≡ []
-    → Keeps store total (only (after_replay plan c))
-attached c plan is total fits size whole store same none none_kept =
+pub attached_holds : (c : Content) (plan : Plan) → IsPlan c plan → (total : ℕ) → FitsPlan total plan → length c ≡ total → AreWhole c → KeepsJournal (rested plan) (only (after_replay plan c))
+attached_holds c plan is total fits size whole =
     let long = length-after c plan total fits size in
     let two = volume_sector c plan total is fits size in
     let same_offset : (info_after plan).offset ≡ plan.info.offset = offset_is plan plan.fresh refl in
-    keeps_new (rested plan) (after_replay plan c) total store same none none_kept
-    (keeps_only (rested plan) (after_replay plan c) (holds_after c plan is total fits size whole) (omega (arith, long, two)) (omega (arith, long, size, fits.info_sector)) (omega (arith, long, size, same_offset, fits.inside, fits.least)))
+    keeps_only (rested plan) (after_replay plan c) (holds_after c plan is total fits size whole) (omega (arith, long, two)) (omega (arith, long, size, fits.info_sector)) (omega (arith, long, size, same_offset, fits.inside, fits.least))

@@ -1,27 +1,20 @@
 -- Puts found, added and changed, and what they make of a content.
-use Rattle.std.proofs.Common.{◌≡◌, ◌≢◌, ◌⊎◌, ◌<◌, ◌≤◌, ◌+◌, ℕ, zero, suc, Bool, true, false, ◌||◌, List, [], ◌∷◌, ◌++◌, length, get_or, set, take, refl, sym, ◌∙◌, ap, inl, inr, arith, eqb, length-set, length-append, subst, get_or-set_same, get_or-set_other}
+use Rattle.std.proofs.Common.{◌≡◌, ◌⊎◌, ◌<◌, ◌+◌, ℕ, zero, suc, Bool, true, false, ◌||◌, List, [], ◌∷◌, ◌++◌, length, get_or, set, refl, sym, ◌∙◌, ap, inl, inr, arith, eqb, length-set, length-append, get_or-set_same, get_or-set_other}
 use Rattle.std.proofs.lemmas.Bool.{eqb-false, eq-eqb, ne_eqb, true≢false, cases_eq}
-use Rattle.std.proofs.lemmas.List.{set_comm, set-set, take_more, take_all}
+use Rattle.std.proofs.lemmas.List.{set_comm, set-set}
 use Rattle.std.proofs.lemmas.List.Sums.{fold_push}
-use Rattle.std.specs.Prelude.{Result, Ok, Err, IsOk, is_ok, IsTrue, if◌then◌else◌}
+use Rattle.std.specs.Prelude.{Result, Ok, Err, IsOk, is_ok, IsTrue, if◌then◌else◌, None, Some}
 use Rattle.sector_disk.specs.Lists.{Content, sector}
-use Rattle.jnl_store.specs.Batch.{AreOnce, IsBatch, has, names}
+use Rattle.jnl_format.proofs.Recovering.{both_false}
+use Rattle.jnl_store.specs.Batch.{bytes_of, AreOnce, has, names}
 use Rattle.jnl_store.specs.Overlay.{overlay}
 use Rattle.jnl_store.specs.declared.puts.Put.{Put}
-
-pub both_false : (a b : Bool) → (a || b) ≡ false → (a ≡ false) × (b ≡ false)
-both_false true b h = absurd (cc h)
-both_false false b h = (refl, h)
 
 or_last : (a b c : Bool) → (a || (b || c)) ≡ (b || (a || c))
 or_last true true c = refl
 or_last true false c = refl
 or_last false true c = refl
 or_last false false c = refl
-
-or_false : (a : Bool) → (a || false) ≡ a
-or_false true = refl
-or_false false = refl
 
 pub names-push : (puts : List Put) (put : Put) (s : ℕ) → names (puts ++ put ∷ []) s ≡ (eqb s put.at || names puts s)
 names-push [] put s = refl
@@ -45,12 +38,6 @@ pub has-names : (puts : List Put) (k at : ℕ) → has puts k at → names puts 
 has-names [] k at h = absurd h
 has-names (p ∷ ps) zero at h = ap (λ b. b || names ps at) (eq-eqb at p.at (sym h))
 has-names (p ∷ ps) (suc k) at h = or_true (eqb at p.at) (names ps at) (has-names ps k at h)
-
--- the named put, and each before it
-pub has_here : (puts : List Put) (k : ℕ) (put : Put) → k < length puts → (get_or puts k put).at ≡ put.at → has puts k put.at
-has_here [] k put below is = absurd (omega (arith, below))
-has_here (p ∷ ps) zero put below is = is
-has_here (p ∷ ps) (suc k) put below is = has_here ps k put (omega (arith, below)) is
 
 pub once-push : (puts : List Put) (put : Put) → AreOnce puts → names puts put.at ≡ false → AreOnce (puts ++ put ∷ [])
 once-push [] put once other = (refl, tt)
@@ -99,40 +86,6 @@ overlay-at (p ∷ ps) zero at put c once h inside =
     sym (overlay-other ps (set c p.at p.bytes) at alone ∙ ap (λ n. sector (set c n p.bytes) at) h ∙ get_or-set_same c at p.bytes [] inside)
 overlay-at (p ∷ ps) (suc k) at put c once h inside = overlay-at ps k at put (set c p.at p.bytes) once.1 h (omega (arith, inside, length-set c p.at p.bytes))
 
--- the search for a put, one after another
-pub has_at : (puts : List Put) (k at : ℕ) (put : Put) → k < length puts → put ≡ get_or puts k put → put.at ≡ at → has puts k at
-has_at [] k at put below is same = absurd (omega (arith, below))
-has_at (p ∷ ps) zero at put below is same = sym (ap (λ (q : Put). q.at) is) ∙ same
-has_at (p ∷ ps) (suc k) at put below is same = has_at ps k at put (omega (arith, below)) is same
-
-pub names_more : (puts : List Put) (k at : ℕ) (put : Put) → k < length puts → put ≡ get_or puts k put → put.at ≢ at → names (take k puts) at ≡ false → names (take (k + 1) puts) at ≡ false
-names_more puts k at put below is other before =
-    ap (λ (l : List Put). names l at) (take_more puts k put below) ∙ names-push (take k puts) (get_or puts k put) at
-    ∙ ap (λ b. b || names (take k puts) at) (ap (λ (q : Put). eqb at q.at) (sym is) ∙ ne_eqb at put.at (λ e. other (sym e))) ∙ before
-
-pub take_end : (puts : List Put) (k at : ℕ) → length puts ≤ k → names (take k puts) at ≡ false → names puts at ≡ false
-take_end puts k at end none = ap (λ (l : List Put). names l at) (sym (take_all k puts end)) ∙ none
-
-pub batch-set : (all kept : List Put) (room memory more k : ℕ) (put : Put) → IsBatch all kept room memory more → has all k put.at → IsBatch (set all k put) kept room memory more
-batch-set all kept room memory more k put is h = record {
-  once = once-set all k put is.once h;
-  kept_once = is.kept_once;
-  some = omega (arith, is.some, length-set all k put);
-  kept_some = is.kept_some;
-  enough = is.enough;
-  enough_kept = is.enough_kept;
-}
-
-pub batch-push : (all kept new : List Put) (room memory more now : ℕ) (put : Put) → IsBatch all kept room memory more → names all put.at ≡ false → length all < room → memory ≤ now → new ≡ all ++ put ∷ [] → IsBatch new kept room now more
-batch-push all kept new room memory more now put is other some grown pushed = record {
-  once = subst AreOnce (sym pushed) (once-push all put is.once other);
-  kept_once = is.kept_once;
-  some = omega (arith, some, ap length pushed, length-append all (put ∷ []));
-  kept_some = is.kept_some;
-  enough = omega (arith, is.enough, grown);
-  enough_kept = is.enough_kept;
-}
-
 -- what was named stays named, and so does each other
 pub same_names : (puts : List Put) (k at s : ℕ) → has puts k at → names puts s ≡ (eqb s at || names puts s)
 same_names puts k at s h = elim (cases_eq s at) [
@@ -158,3 +111,17 @@ counted_set puts all k at put e h = length-set puts k put ∙ ap (λ (l : List P
 pub counted_push : (puts all new : List Put) (at : ℕ) (put : Put) → puts ≡ all → names all at ≡ false → new ≡ puts ++ put ∷ [] → length new ≡ (if names all at then length all else length all + 1)
 counted_push puts all new at put e other is =
     ap (λ (l : List Put). length l) is ∙ length-append puts (put ∷ []) ∙ ap (λ (l : List Put). length l + 1) e ∙ sym (ap (λ b. if b then length all else length all + 1) other)
+
+-- the bytes of a sector, where it has a put and where it has none
+pub bytes_none : (puts : List Put) (at : ℕ) → names puts at ≡ false → None ≡ bytes_of puts at
+bytes_none [] at none = refl
+bytes_none (p ∷ ps) at none =
+    let o = both_false (eqb at p.at) (names ps at) none in
+    bytes_none ps at o.1 ∙ sym (ap (λ b. if b then Some p.bytes else bytes_of ps at) o.0)
+
+pub bytes_at : (puts : List Put) (k at : ℕ) (put : Put) → AreOnce puts → has puts k at → Some (get_or puts k put).bytes ≡ bytes_of puts at
+bytes_at [] k at put once h = absurd h
+bytes_at (p ∷ ps) zero at put once h = sym (ap (λ b. if b then Some p.bytes else bytes_of ps at) (eq-eqb at p.at (sym h)))
+bytes_at (p ∷ ps) (suc k) at put once h =
+    let apart : eqb at p.at ≡ false = ne_eqb at p.at (λ e. true≢false (sym (has-names ps k at h) ∙ ap (names ps) e ∙ once.0)) in
+    bytes_at ps k at put once.1 h ∙ sym (ap (λ b. if b then Some p.bytes else bytes_of ps at) apart)

@@ -24,12 +24,12 @@ use Rattle.jnl_store.proofs.ListsBytes.{bytes_behind}
 use Rattle.jnl_store.proofs.ListsCount.{IsCount, count_is}
 use Rattle.jnl_store.proofs.ListsHeader.{length-list_bytes}
 use Rattle.jnl_store.proofs.ListsStanding.{IsSmall, Stand, stand, blocks_good, blocks_size, homes_are}
-use Rattle.jnl_store.proofs.ListsText.{length-list_header, length-list_text, length-lists_of, length-lists_text, some_puts}
+use Rattle.jnl_store.proofs.ListsText.{length-list_header, length-list_text, length-lists_of, some_puts}
 
 pub overlay-append : (a b : List Put) (content : Content) → overlay (a ++ b) content ≡ overlay b (overlay a content)
 overlay-append a b content = fold-append (λ (under : Content) (put : Put). set under put.at put.bytes) content a b
 
-with_homes-append : (text : List ℕ) (a b : List Home) (content : Content) → with_homes text (a ++ b) content ≡ with_homes text b (with_homes text a content)
+pub with_homes-append : (text : List ℕ) (a b : List Home) (content : Content) → with_homes text (a ++ b) content ≡ with_homes text b (with_homes text a content)
 with_homes-append text a b content = fold-append (with_home text) content a b
 
 -- a list of these puts stands in a text
@@ -143,7 +143,7 @@ module _ (form : ListForm) (is : IsForm form) where
       }
 
   -- no list is bad
-  none_is_bad : (volume : Volume) (fuel count : ℕ) (puts : List Put) (before text : List ℕ) (at : ℕ) → IsCount most (length puts) count → All (IsFitPut volume) puts → All IsSmall puts → text ≡ before ++ lists_of form.order form.blhdr count puts → length before ≡ at
+  pub none_is_bad : (volume : Volume) (fuel count : ℕ) (puts : List Put) (before text : List ℕ) (at : ℕ) → IsCount most (length puts) count → All (IsFitPut volume) puts → All IsSmall puts → text ≡ before ++ lists_of form.order form.blhdr count puts → length before ≡ at
       → bad_list volume form.order form.blhdr text fuel at ≡ None
   none_is_bad volume zero count puts before text at number fit small whole at_is = refl
   none_is_bad volume (suc fuel) zero puts before text at number fit small whole at_is = none_bad volume form.order form.blhdr text (suc fuel) at (omega (arith, ap length whole, length-append before [], at_is))
@@ -157,7 +157,7 @@ module _ (form : ListForm) (is : IsForm form) where
       ∙ none_is_bad volume fuel more (drop most puts) s.before text (at + head.used) s.count (All-drop (IsFitPut volume) most puts fit) (All-drop IsSmall most puts small) s.behind (omega (arith, s.place, used))
 
   -- all of them stand for the puts
-  all_stand : (volume : Volume) (fuel count : ℕ) (puts : List Put) (before text : List ℕ) (at : ℕ) (content : Content) → volume.sectors < 2 ^ 64 → count ≤ fuel → IsCount most (length puts) count → All (IsFitPut volume) puts → All IsSmall puts
+  pub all_stand : (volume : Volume) (fuel count : ℕ) (puts : List Put) (before text : List ℕ) (at : ℕ) (content : Content) → volume.sectors < 2 ^ 64 → count ≤ fuel → IsCount most (length puts) count → All (IsFitPut volume) puts → All IsSmall puts
       → text ≡ before ++ lists_of form.order form.blhdr count puts → length before ≡ at → with_homes text (text_homes form.order form.blhdr text fuel at) content ≡ overlay puts content
   all_stand volume fuel zero puts before text at content sectors enough number fit small whole at_is =
       ap (λ (hs : List Home). with_homes text hs content) (no_homes form.order form.blhdr text fuel at (omega (arith, ap length whole, length-append before [], at_is)))
@@ -182,7 +182,7 @@ module _ (form : ListForm) (is : IsForm form) where
       ∙ ap (λ (l : List Put). overlay l content) (take-append-drop most puts)
 
 -- puts that fit a volume have sectors that an entry has room for
-are_small : (volume : Volume) (puts : List Put) → volume.sectors < 2 ^ 64 → All (IsFitPut volume) puts → All IsSmall puts
+pub are_small : (volume : Volume) (puts : List Put) → volume.sectors < 2 ^ 64 → All (IsFitPut volume) puts → All IsSmall puts
 are_small volume puts sectors fit = All-weaker (IsFitPut volume) IsSmall (λ (put : Put) (f : IsFitPut volume put). omega (arith, f.inside, sectors)) puts fit
 
 module _ (volume : Volume) (form : ListForm) (puts : List Put) (is : IsForm form) (sectors : volume.sectors < 2 ^ 64) (fit : All (IsFitPut volume) puts) where
@@ -191,15 +191,6 @@ module _ (volume : Volume) (form : ListForm) (puts : List Put) (is : IsForm form
   good_lists =
       let text = lists_text form puts in
       none_is_bad form is volume (length text) (list_count form.blhdr (length puts)) puts [] text 0 (count_is (most_puts form.blhdr) (length puts) (some_puts form is)) fit (are_small volume puts sectors fit) refl refl
-
-  -- and they stand for the puts, in order
-  pub lists_overlay : (content : Content) → (let text = lists_text form puts in with_homes text (text_homes form.order form.blhdr text (length text) 0) content ≡ overlay puts content)
-  lists_overlay content =
-      let text = lists_text form puts in
-      let count = list_count form.blhdr (length puts) in
-      let one : count * 1 ≤ count * (form.blhdr / 512) = mul-le-mul_left count (omega (arith, is.least)) in
-      let enough : count ≤ length text = omega (arith, length-lists_text form is puts, one) in
-      all_stand form is volume (length text) count puts [] text 0 content sectors enough (count_is (most_puts form.blhdr) (length puts) (some_puts form is)) fit (are_small volume puts sectors fit) refl refl
 
 -- more puts fill no fewer sectors
 pub sectors_monotone : (form : ListForm) → IsForm form → (few more : ℕ) → few ≤ more → text_sectors form.blhdr few ≤ text_sectors form.blhdr more

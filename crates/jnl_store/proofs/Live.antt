@@ -1,7 +1,7 @@
 -- A content with a transaction in its journal stands for itself with the puts in place.
-use Rattle.std.proofs.Common.{◌≡◌, ℕ, ◌+◌, ◌-◌, ◌/◌, ◌%◌, ◌^◌, ◌<◌, Bool, true, false, ◌&&◌, ◌||◌, not, List, [], ◌∷◌, ◌++◌, inl, inr, length, length-set, get_or, get_or-set_same, set, take, drop, refl, sym, ◌∙◌, ap, subst, arith, cond, eqb, ltb, length-take-le}
-use Rattle.std.specs.Prelude.{None, Some, Ok, Option, is_none, option_map, All}
-use Rattle.std.proofs.lemmas.Bool.{and_from, and_parts, cases_lt, eq-eqb, ltb-true, ne_eqb, not-true}
+use Rattle.std.proofs.Common.{◌≡◌, ℕ, ◌+◌, ◌-◌, ◌/◌, ◌%◌, ◌^◌, ◌<◌, Bool, true, false, ◌&&◌, not, List, [], ◌∷◌, ◌++◌, inl, inr, length, length-set, get_or, get_or-set_same, set, take, drop, refl, sym, ◌∙◌, ap, arith, cond, eqb, ltb, length-take-le}
+use Rattle.std.specs.Prelude.{None, Some, Ok, Option, is_none, All}
+use Rattle.std.proofs.lemmas.Bool.{and_from, and_parts, cases_lt, eq-eqb, ltb-true, not-true}
 use Rattle.std.proofs.lemmas.Bool.Decides.{nat_tests}
 use Rattle.std.proofs.lemmas.List.{ext_get_or, get_or-take}
 use Rattle.std.proofs.lemmas.List.Elements.{All-nil, All-cons}
@@ -11,35 +11,34 @@ use Rattle.volume_header.specs.declared.header.VolumeHeader.{VolumeHeader}
 use Rattle.sector_disk.specs.Lists.{Content, sector}
 use Rattle.sector_disk.specs.Space.{AgreesOutside}
 use Rattle.jnl_format.specs.Header.{header_bytes}
-use Rattle.jnl_format.specs.Ring.{bytes_from, distance, offset_after, ring_text}
-use Rattle.jnl_format.specs.Text.{bad_list, is_same_volume, keeps_volume, text_homes}
-use Rattle.jnl_format.specs.Recovery.{header_of_volume, journaling_version, foreign_fault, info_in, journal_in, or_else, recovery, replayed, text_fault, text_of, volume_of, with_homes}
+use Rattle.jnl_format.specs.Ring.{bytes_from, distance, ring_text}
+use Rattle.jnl_format.specs.Text.{bad_list, is_same_volume, keeps_volume}
+use Rattle.jnl_format.specs.Recovery.{header_of_volume, journaling_version, info_in, text_of, volume_of}
 use Rattle.jnl_format.specs.declared.blocks.Volume.{Volume}
-use Rattle.jnl_format.specs.declared.structures.JnlRefusal.TheVariants.{BadList, ForeignJournal}
-use Rattle.jnl_format.proofs.Alike.{KeepsHeader, stands_for, recovers}
-use Rattle.jnl_format.proofs.Recovering.{journal_is_kept}
-use Rattle.jnl_format.proofs.Volumes.{IsSame, same_as}
+use Rattle.jnl_format.specs.declared.structures.JnlRefusal.TheVariants.{ForeignJournal}
+use Rattle.jnl_format.specs.Keeping.{KeepsHeader}
+use Rattle.jnl_format.proofs.Volumes.{same_as}
+use Rattle.jnl_format.specs.Keeping.{IsSame}
 use Rattle.jnl_ring.specs.Span.{InBuffer, IsSpan, sector_after}
 use Rattle.jnl_ring.specs.declared.span.Span.{Span}
 use Rattle.jnl_ring.proofs.Bytes.{HasJournal, length-journal}
 use Rattle.jnl_ring.proofs.RingLaws.{in_journal}
 use Rattle.jnl_ring.proofs.Texts.{journal_in as bytes_in, ring_byte}
 use Rattle.jnl_ring.proofs.Wrap.{distance_short, length-from}
-use Rattle.jnl_replay.specs.Plan.{IsPlace, IsPlan, journal_of}
+use Rattle.jnl_replay.specs.Plan.{IsPlace, journal_of}
 use Rattle.jnl_replay.specs.declared.plan.Plan.{Plan}
-use Rattle.jnl_replay.proofs.Checks.{place_of}
 use Rattle.jnl_store.specs.Batch.{AreOnce, names}
 use Rattle.jnl_store.specs.Journal.{IsAtRest, IsClosed, are_open, is_closed}
 use Rattle.jnl_store.specs.Lists.{IsFitPut, IsForm, lists_text}
 use Rattle.jnl_store.specs.Overlay.{overlay}
 use Rattle.jnl_store.specs.Plan.{form_of, span_of, with_text}
-use Rattle.jnl_store.specs.Standing.{IsInForm, StandsFor}
+use Rattle.jnl_store.specs.Standing.{IsInForm}
 use Rattle.jnl_store.specs.declared.puts.Put.{Put}
 use Rattle.jnl_store.proofs.Batches.{overlay-other}
-use Rattle.jnl_store.proofs.Images.{closed_info, closed_own, overlay_agrees}
+use Rattle.jnl_store.proofs.Images.{closed_info, closed_own}
 use Rattle.jnl_store.proofs.Journals.{HoldsJournal}
-use Rattle.jnl_store.proofs.ListsLaws.{good_lists, lists_overlay}
-use Rattle.jnl_store.proofs.Quiet.{found_still, header_found, old_is, volume_still}
+use Rattle.jnl_store.proofs.ListsLaws.{good_lists}
+use Rattle.jnl_store.proofs.Quiet.{found_still}
 
 -- the text is that of the sectors behind the journal header
 module _ (span : Span) (start end : ℕ) (old new : Content) (is : IsSpan span) (had : HasJournal span.base span.size old) (has_it : HasJournal span.base span.size new) (from : InBuffer span start) (to : InBuffer span end) (whole : start % 512 ≡ 0)
@@ -122,20 +121,11 @@ module _ (plan : Plan) (volume : Volume) (old : Content) (first : volume.first �
       ap (keeps_volume volume) (sym here ∙ ap (sector (overlay puts (put_in c put))) two) ∙ header))
       (fit_all puts (put_in c put) once.1 p.1 (length-set c put.at put.bytes ∙ long) header)
 
--- an open put isn't of a closed sector
-pub closed_unnamed : (plan : Plan) (sectors : ℕ) (puts : List Put) (s : ℕ) → are_open plan sectors puts ≡ true → IsClosed plan s → names puts s ≡ false
-closed_unnamed plan sectors [] s free shut = refl
-closed_unnamed plan sectors (put ∷ puts) s free shut =
-    let p = and_parts (ltb put.at sectors && not (is_closed plan put.at)) (are_open plan sectors puts) free in
-    let o = open_put plan sectors put p.0 in
-    let other : eqb s put.at ≡ false = ne_eqb s put.at (λ e. not_closed plan put.at o.1 (subst (IsClosed plan) e shut)) in
-    ap (λ b. b || names puts s) other ∙ closed_unnamed plan sectors puts s p.1 shut
-
 last_not : (b : Bool) (version : ℕ) → cond (b && not true) (Some (ForeignJournal version)) None ≡ None
 last_not true version = refl
 last_not false version = refl
 
-foreign_none : (journal_start journal_end version : ℕ) → version ≡ journaling_version → cond (not (eqb journal_start journal_end) && not (eqb version journaling_version)) (Some (ForeignJournal version)) None ≡ None
+pub foreign_none : (journal_start journal_end version : ℕ) → version ≡ journaling_version → cond (not (eqb journal_start journal_end) && not (eqb version journaling_version)) (Some (ForeignJournal version)) None ≡ None
 foreign_none a b version is = ap (λ t. cond (not (eqb a b) && not t) (Some (ForeignJournal version)) None) (eq-eqb version journaling_version is) ∙ last_not (not (eqb a b)) version
 
 -- Over an older content c0, another content c holds the plan's journal, and an image of it differs in the journal
@@ -174,12 +164,6 @@ module _ (plan : Plan) (puts : List Put) (end : ℕ) (c0 image : Content) (rest 
   still : IsPlace image plan.place × (info_in plan.place.info_sector image ≡ Ok plan.info)
   still = found_still plan c0 image h live.size live.volume live.info
 
-  pub live_found : journal_in plan.place.info_sector image ≡ Ok (journal_of (with_text plan 512 end))
-  live_found =
-      journal_is_kept plan.place.info_sector image plan.info (Ok (with_text plan 512 end).header) still.1 h.old
-      (header_found plan (with_text plan 512 end).header (sector image (plan.info.offset / 512)) (drop 44 (sector c0 (plan.info.offset / 512))) live_form rest.most live.header)
-      ∙ ap (λ j. Ok j) (sym (old_is (with_text plan 512 end) rest.old))
-
   fit : All (IsFitPut (volume_of plan.place.info_sector (journal_of (with_text plan 512 end)) image)) puts
   fit =
       let v = volume_of plan.place.info_sector (journal_of (with_text plan 512 end)) image in
@@ -191,37 +175,3 @@ module _ (plan : Plan) (puts : List Put) (end : ℕ) (c0 image : Content) (rest 
       let v = volume_of plan.place.info_sector (journal_of (with_text plan 512 end)) image in
       ap (λ (t : List ℕ). bad_list v plan.header.order plan.header.blhdr t (length t) 0) live.text
       ∙ good_lists v (form_of plan) puts form_is (omega (arith, small, live.size)) fit
-
-  pub live_fault : text_fault plan.place.info_sector plan.place.last_mounted (journal_of (with_text plan 512 end)) image ≡ None
-  live_fault =
-      ap (λ (o : Option ℕ). or_else (option_map (λ place. BadList (offset_after plan.info.size 512 place)) o) (foreign_fault plan.place.last_mounted (journal_of (with_text plan 512 end)))) good
-      ∙ foreign_none 512 end plan.place.last_mounted (h.place.last_mounted ∙ version)
-
-  pub live_replayed : replayed (journal_of (with_text plan 512 end)) image ≡ overlay puts image
-  live_replayed =
-      let v = volume_of plan.place.info_sector (journal_of (with_text plan 512 end)) image in
-      ap (λ (t : List ℕ). with_homes t (text_homes plan.header.order plan.header.blhdr t (length t) 0) image) live.text
-      ∙ lists_overlay v (form_of plan) puts form_is (omega (arith, small, live.size)) fit image
-
-  pub live_is_plan : IsPlan image (with_text plan 512 end)
-  live_is_plan = record { place = still.0; journal = live_found; text = live_fault }
-
-  pub live_recovers : recovery image ≡ Ok (overlay puts image)
-  live_recovers =
-      recovers plan.place.info_sector plan.place.last_mounted image (place_of image plan.place still.0)
-      ∙ stands_for plan.place.info_sector plan.place.last_mounted (journal_of (with_text plan 512 end)) image live_found live_fault
-      ∙ ap (λ (x : Content). Ok x) live_replayed
-
-  pub live_stands : StandsFor plan c0 image (overlay puts image)
-  live_stands = record {
-    stands = live_recovers;
-    volume = volume_still c0 image h.place.accepted live.volume;
-    info = live.info;
-    header = (with_text plan 512 end).header;
-    form = live_form;
-    spelled = live.header;
-    own = λ s shut. overlay-other puts image s (closed_unnamed plan (length c0) puts s free shut);
-  }
-
-  pub live_agrees : AgreesOutside (IsClosed plan) (overlay puts c0) (overlay puts image)
-  live_agrees = overlay_agrees puts (IsClosed plan) c0 image live.agrees

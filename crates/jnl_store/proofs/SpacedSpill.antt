@@ -1,25 +1,35 @@
 -- What a spill makes of a space.
 use Rattle.std.proofs.Common.{◌≡◌, ◌≢◌, ◌⊎◌, ℕ, ◌/◌, ◌<◌, Bool, true, false, ◌&&◌, List, [], ◌∷◌, ◌++◌, inl, inr, ⊎_elim, length, set, refl, sym, ◌∙◌, ap, subst, arith, length-append, length-set, get_or-set_same, get_or-set_other}
 use Rattle.std.specs.Prelude.{IsTrue, ◌↔◌}
-use Rattle.std.proofs.lemmas.Bool.{cases_Bool, cases_eq, cases_lt, true≢false}
-use Rattle.std.proofs.lemmas.List.{get_or-map, get_or_past, length-map, set-get_or, set-set, set_past}
+use Rattle.std.proofs.lemmas.Bool.{and_from, and_parts, cases_eq, cases_lt, true≢false}
+use Rattle.std.proofs.lemmas.List.{get_or-map, set_comm, set-get_or, set-set, set_past}
 use Rattle.sector_disk.specs.Disk.{Candidates, IsDisk, MayHaveWritten, State, candidates_of, content, content_of, with_candidate}
-use Rattle.sector_disk.specs.Lists.{Content, last, sector}
+use Rattle.sector_disk.specs.Lists.{Content, last}
 use Rattle.sector_disk.specs.Space.{MayHaveSpilled, Spills}
 use Rattle.sector_disk.proofs.Candidates.{content_of-with_candidate}
+use Rattle.jnl_format.specs.Recovery.{homes_of, replayed, text_of, with_homes}
+use Rattle.jnl_format.specs.Text.{bytes_at, text_homes}
+use Rattle.jnl_format.specs.declared.blocks.Home.{Home}
+use Rattle.jnl_format.specs.Named.{IsNamed}
+use Rattle.jnl_ring.specs.Span.{sector_after}
+use Rattle.jnl_ring.proofs.RingLaws.{in_journal}
+use Rattle.jnl_ring.proofs.Wrap.{distance_short}
+use Rattle.jnl_replay.specs.Plan.{journal_of}
 use Rattle.jnl_replay.specs.declared.plan.Plan.{Plan}
 use Rattle.jnl_store.specs.Batch.{Staged, names}
-use Rattle.jnl_store.specs.Journal.{IsAtRest, IsClosed, IsSpilled, keeps_journal}
+use Rattle.jnl_store.specs.InUse.{IsInUse, keeps_lists}
+use Rattle.jnl_store.specs.Journal.{IsClosed, IsSpilled}
 use Rattle.jnl_store.specs.Overlay.{overlay}
+use Rattle.jnl_store.specs.Plan.{span_of}
 use Rattle.jnl_store.specs.Spaces.{over}
 use Rattle.jnl_store.specs.Store.{content_over, durable_of}
+use Rattle.jnl_store.specs.declared.puts.Put.{Put}
 use Rattle.jnl_store.specs.declared.store.Store.{Store}
 use Rattle.jnl_store.proofs.Batches.{overlay-apart}
 use Rattle.jnl_store.proofs.Images.{closed_info, closed_own}
-use Rattle.jnl_store.proofs.Journals.{KeepsJournal, keeps_from, keeps_parts}
-use Rattle.jnl_store.proofs.Quiet.{holds_still}
-use Rattle.jnl_store.proofs.SpacedSame.{closed_same, content_same, durable_same, live_same}
-use Rattle.jnl_store.proofs.SpacedTime.{durable_is}
+use Rattle.jnl_store.proofs.RingKept.{IsFree, KeepsLists, homes_same, kept_over, lists_from, lists_parts, text_same}
+use Rattle.jnl_store.proofs.RingStages.{span_in_use, start_in}
+use Rattle.jnl_store.proofs.SpacedSame.{closed_same, content_same, durable_same, homes_still, live_same}
 
 -- the candidates of one sector alone changed, and there are several of them, or nothing changed
 pub record Changes (at : ℕ) (old new : Candidates) : Type 0 where
@@ -53,82 +63,69 @@ changes_maybe old new at value inside some (inr (inr back)) =
           (arith, some, ap length (here_is mid at again within_mid), length-append (candidates_of mid at) (again ∷ []), ap length (here_is old at value inside), length-append (candidates_of old at) (value ∷ [])));
     })
 
--- what reads give of a sector is its last candidate
-content_at : (d : Candidates) (s : ℕ) → sector (content_of d) s ≡ last (candidates_of d s)
-content_at d s = elim (cases_lt s (length d)) [
-  | inl inside ↦ get_or-map last d s [] [] inside
-  | inr past ↦ get_or_past (content_of d) s [] (omega (arith, past, length-map d last)) ∙ sym (ap last (get_or_past d s [] past))
-]
-
-still_kept : (plan : Plan) (at : ℕ) (old new : Candidates) → length new ≡ length old → ((s : ℕ) → s ≢ at → candidates_of new s ≡ candidates_of old s) → 2 ≢ at → plan.place.info_sector ≢ at → plan.info.offset / 512 ≢ at → KeepsJournal plan old → KeepsJournal plan new
-still_kept plan at old new size other volume info header k =
-    let same : (s : ℕ) → s ≢ at → sector (content_of new) s ≡ sector (content_of old) s = λ s away. content_at new s ∙ ap last (other s away) ∙ sym (content_at old s) in
-    record {
-      volume_one = ap length (other 2 volume) ∙ k.volume_one;
-      info_one = ap length (other plan.place.info_sector info) ∙ k.info_one;
-      header_one = ap length (other (plan.info.offset / 512) header) ∙ k.header_one;
-      holds = holds_still plan (content_of old) (content_of new) k.holds (length-map new last ∙ size ∙ sym (length-map old last)) (same 2 volume) (same plan.place.info_sector info) (same (plan.info.offset / 512) header);
-    }
-
 same_bool : (a b : Bool) → (a ≡ true → b ≡ true) → (b ≡ true → a ≡ true) → a ≡ b
 same_bool true b goes comes = sym (goes refl)
 same_bool false true goes comes = absurd (true≢false (sym (comes refl)))
 same_bool false false goes comes = refl
 
--- no sector that counts is written
-module _ (plan : Plan) (rest : IsAtRest plan) (at : ℕ) (open_at : IsClosed plan at → ⊥) where
-  info_away : plan.place.info_sector ≢ at
-  info_away same = open_at (closed_info plan at (sym same))
+-- a sector that isn't named may be set before or behind
+with_homes_apart : (text : List ℕ) (homes : List Home) (c : Content) (at : ℕ) (value : List ℕ) → (IsNamed homes at → ⊥) → with_homes text homes (set c at value) ≡ set (with_homes text homes c) at value
+with_homes_apart text [] c at value other = refl
+with_homes_apart text (h ∷ hs) c at value other =
+    ap (with_homes text hs) (sym (set_comm c h.sector at (bytes_at text h.place 512) value (λ e. other (inl e)))) ∙ with_homes_apart text hs (set c h.sector (bytes_at text h.place 512)) at value (λ named. other (inr named))
 
-  header_away : plan.info.offset / 512 ≢ at
-  header_away same = open_at (closed_own plan at (omega (arith, same)) (omega (arith, same, rest.least)))
+-- A sector that may be spilled is none that the journal has a part in.
+pub free_of : (plan : Plan) (rest : IsInUse plan) (disk : State) (at : ℕ) → (IsClosed plan at → ⊥) → at ≢ 2 → (IsNamed (homes_of (journal_of plan) (content disk)) at → ⊥) → IsFree plan disk at
+free_of plan rest disk at open_at no_header idle = record {
+  volume = λ same. no_header (sym same);
+  info = λ same. open_at (closed_info plan at (sym same));
+  header = λ same. open_at (closed_own plan at (omega (arith, same)) (omega (arith, same, rest.least)));
+  text = λ k less same.
+      let short = distance_short plan.info.size plan.header.start plan.header.end rest.header.start_low rest.header.end_low rest.header.start_high rest.header.end_high in
+      let there = in_journal (span_of plan) plan.header.start k (span_in_use plan rest) (start_in plan rest) rest.header.start_whole (omega (arith, less, short)) in
+      open_at (closed_own plan at (omega (arith, same, there.0)) (omega (arith, same, there.1)));
+  homes = idle;
+}
 
-  pub kept_spill : (old new : Candidates) → Changes at old new → at ≢ 2 → KeepsJournal plan old → KeepsJournal plan new
-  kept_spill old new changes no_header k = still_kept plan at old new changes.size changes.other (λ e. no_header (sym e)) info_away header_away k
+-- A sector with several candidates is none of these, where all is kept.
+several_free : (plan : Plan) (live : List Put) (disk : State) (at : ℕ) → KeepsLists plan live disk → 1 < length (candidates_of disk.candidates at) → IsFree plan disk at
+several_free plan live disk at k several =
+    let not_one : (s : ℕ) → length (candidates_of disk.candidates s) ≡ 1 → s ≢ at = λ s one same. omega (arith, several, subst (λ n. length (candidates_of disk.candidates n) ≡ 1) same one) in
+    record {
+      volume = not_one 2 k.text.journal.volume_one;
+      info = not_one plan.place.info_sector k.text.journal.info_one;
+      header = not_one (plan.info.offset / 512) k.text.journal.header_one;
+      text = λ i less. not_one (sector_after (span_of plan) plan.header.start i) (k.text.stable i less);
+      homes = λ named. not_one at (k.named at named) refl;
+    }
 
-  pub journal_spill : (old new : Candidates) → Changes at old new → at ≢ 2 → keeps_journal plan new ≡ keeps_journal plan old
-  journal_spill old new changes no_header =
-      let volume : 2 ≢ at = λ e. no_header (sym e) in
-      same_bool (keeps_journal plan new) (keeps_journal plan old)
-      (λ now. keeps_from plan old (still_kept plan at new old (sym changes.size) (λ s away. sym (changes.other s away)) volume info_away header_away (keeps_parts plan new now)))
-      (λ was. keeps_from plan new (still_kept plan at old new changes.size changes.other volume info_away header_away (keeps_parts plan old was)))
-
--- where such a sector is written, the journal isn't kept any more
-watched : (plan : Plan) (at : ℕ) (new : Candidates) → 1 < length (candidates_of new at) → (plan.place.info_sector ≡ at) ⊎ (plan.info.offset / 512 ≡ at) → keeps_journal plan new ≡ false
-watched plan at new several which = elim (cases_Bool (keeps_journal plan new)) [
-  | inl kept ↦
-      let k = keeps_parts plan new kept in
-      ⊎_elim
-      (λ info. absurd (omega (arith, several, subst (λ n. length (candidates_of new n) ≡ 1) info k.info_one)))
-      (λ header. absurd (omega (arith, several, subst (λ n. length (candidates_of new n) ≡ 1) header k.header_one)))
-      which
-  | inr gone ↦ gone
-]
+-- what is live is kept by a spill
+pub kept_spill : (plan : Plan) (rest : IsInUse plan) (live : List Put) (old new : State) (at : ℕ) → IsDisk old → IsDisk new → Changes at old.candidates new.candidates → IsFree plan old at → KeepsLists plan live old → KeepsLists plan live new
+kept_spill plan rest live old new at had is changes free k = kept_over plan rest live old new had is at changes.size changes.other k free
 
 -- what a space tells doesn't change by a spill
-pub tells_spill : (plan : Plan) → IsAtRest plan → (tells all kept : Bool) (at : ℕ) (old new : Candidates) → (IsTrue tells → Changes at old new) → at ≢ 2
-    → (IsTrue (tells && (keeps_journal plan old && all && kept)) → IsClosed plan at → ⊥) → (tells && (keeps_journal plan new && all && kept)) ≡ (tells && (keeps_journal plan old && all && kept))
-tells_spill plan rest false all kept at old new changes no_header open_at = refl
-tells_spill plan rest true all kept at old new changes no_header open_at =
-    let change = changes refl in
-    let case_of : (plan.place.info_sector ≡ at) ⊎ (plan.info.offset / 512 ≡ at) → IsClosed plan at → (keeps_journal plan new && all && kept) ≡ (keeps_journal plan old && all && kept) =
-    λ which shut. ⊎_elim
-    (λ several. ap (λ b. b && all && kept) (watched plan at new several which)
-    ∙ sym (elim (cases_Bool (keeps_journal plan old && all && kept)) [ inl was ↦ absurd (open_at was shut) | inr was ↦ was ]))
-    (λ same. ap (λ (d : Candidates). keeps_journal plan d && all && kept) same)
-    change.more in
-    elim (cases_eq plan.place.info_sector at) [
-      | inl info ↦ case_of (inl info) (closed_info plan at (sym info))
-      | inr no_info ↦ elim (cases_eq (plan.info.offset / 512) at) [
-        | inl header ↦ case_of (inr header) (closed_own plan at (omega (arith, header)) (omega (arith, header, rest.least)))
-        | inr no_base ↦
-            let volume : 2 ≢ at = λ e. no_header (sym e) in
-            ap (λ b. b && all && kept)
-            (same_bool (keeps_journal plan new) (keeps_journal plan old)
-            (λ now. keeps_from plan old (still_kept plan at new old (sym change.size) (λ s away. sym (change.other s away)) volume no_info no_base (keeps_parts plan new now)))
-            (λ was. keeps_from plan new (still_kept plan at old new change.size change.other volume no_info no_base (keeps_parts plan old was))))
-      ]
-    ]
+pub kept_both : (plan : Plan) (rest : IsInUse plan) (live : List Put) (all kept : Bool) (old new : State) (at : ℕ) → IsDisk old → IsDisk new → Changes at old.candidates new.candidates → (IsTrue (keeps_lists plan old.candidates live && all && kept) → IsFree plan old at)
+    → (keeps_lists plan new.candidates live && all && kept) ≡ (keeps_lists plan old.candidates live && all && kept)
+kept_both plan rest live all kept old new at had is changes free =
+    let L = keeps_lists plan old.candidates live in
+    let M = keeps_lists plan new.candidates live in
+    same_bool (M && all && kept) (L && all && kept)
+    (λ now.
+    let p = and_parts (M && all) kept now in
+    let q = and_parts M all p.0 in
+    let back : L ≡ true = ⊎_elim
+    (λ several. let k = lists_parts plan live new q.0 in lists_from plan live old (kept_over plan rest live new old is had at (sym changes.size) (λ s away. sym (changes.other s away)) k (several_free plan live new at k several)))
+    (λ same. ap (λ (d : Candidates). keeps_lists plan d live) (sym same) ∙ q.0)
+    changes.more in
+    and_from (L && all) kept (and_from L all back q.1) p.1)
+    (λ was.
+    let p = and_parts (L && all) kept was in
+    let q = and_parts L all p.0 in
+    and_from (M && all) kept (and_from M all (lists_from plan live new (kept_spill plan rest live old new at had is changes (free was) (lists_parts plan live old q.0))) q.1) p.1)
+
+pub told_both : (t a b : Bool) → (t ≡ true → a ≡ b) → (t && a) ≡ (t && b)
+told_both true a b same = same refl
+told_both false a b same = refl
 
 more_still : (d : Candidates) (at : ℕ) (value : List ℕ) (s : ℕ) → 1 < length (candidates_of d s) → 1 < length (candidates_of (with_candidate d at value) s)
 more_still d at value s more = elim (cases_lt at (length d)) [
@@ -148,17 +145,30 @@ more_before d at value s more = elim (cases_eq s at) [
 ]
 
 module _ (first second : ℕ) (old new : Store) (plan : new.plan ≡ old.plan) (batch : new.batch ≡ old.batch) (before after : State) (at : ℕ) (value : List ℕ) (is : IsDisk before) (tells : IsTrue before.tells) (inside : at < before.sectors)
-    (open_at : IsClosed old.plan at → ⊥) (idle : names old.batch.all at ≡ false) where
+    (open_at : IsClosed old.plan at → ⊥) (idle : names old.batch.all at ≡ false) (now_is : IsDisk after) (k : KeepsLists old.plan old.batch.live before) (free : IsFree old.plan before at) where
   within : at < length before.candidates
   within = omega (arith, inside, is.size tells)
 
-  durable_set : content after ≡ set (content before) at value → durable_of new (content after) ≡ set (durable_of old (content before)) at value
-  durable_set now = durable_is new (content after) ∙ now ∙ ap (λ (c : Content). set c at value) (sym (durable_is old (content before)))
+  after_changes : after.candidates ≡ with_candidate before.candidates at value → Changes at before.candidates after.candidates
+  after_changes written = subst (Changes at before.candidates) (sym written) (changes_one before.candidates at value within (is.each at within))
 
-  content_set : content after ≡ set (content before) at value → content_over new (content after) ≡ set (content_over old (content before)) at value
-  content_set now =
-      ap (λ (b : Staged). overlay b.all (durable_of new (content after))) batch ∙ ap (overlay old.batch.all) (durable_is new (content after) ∙ now) ∙ overlay-apart old.batch.all (content before) at value idle
-      ∙ ap (λ (d : Content). set (overlay old.batch.all d) at value) (sym (durable_is old (content before)))
+  text_still : after.candidates ≡ with_candidate before.candidates at value → text_of (journal_of old.plan) (content after) ≡ text_of (journal_of old.plan) (content before)
+  text_still written = let ch = after_changes written in text_same old.plan old.rest old.batch.live before after is now_is at ch.size ch.other k free
+
+  homes_kept : after.candidates ≡ with_candidate before.candidates at value → homes_of (journal_of new.plan) (content after) ≡ homes_of (journal_of old.plan) (content before)
+  homes_kept written = let ch = after_changes written in ap (λ (p : Plan). homes_of (journal_of p) (content after)) plan ∙ homes_same old.plan old.rest old.batch.live before after is now_is at ch.size ch.other k free
+
+  durable_set : after.candidates ≡ with_candidate before.candidates at value → content after ≡ set (content before) at value → durable_of new (content after) ≡ set (durable_of old (content before)) at value
+  unfolding durable_of
+  durable_set written now =
+      ap (λ (p : Plan). replayed (journal_of p) (content after)) plan
+      ∙ ap (λ (t : List ℕ). with_homes t (text_homes old.plan.header.order old.plan.header.blhdr t (length t) 0) (content after)) (text_still written)
+      ∙ ap (with_homes (text_of (journal_of old.plan) (content before)) (homes_of (journal_of old.plan) (content before))) now
+      ∙ with_homes_apart (text_of (journal_of old.plan) (content before)) (homes_of (journal_of old.plan) (content before)) (content before) at value free.homes
+
+  content_set : after.candidates ≡ with_candidate before.candidates at value → content after ≡ set (content before) at value → content_over new (content after) ≡ set (content_over old (content before)) at value
+  content_set written now =
+      ap (λ (b : Staged). overlay b.all (durable_of new (content after))) batch ∙ ap (overlay old.batch.all) (durable_set written now) ∙ overlay-apart old.batch.all (durable_of old (content before)) at value idle
 
   spilled_with : (d : Candidates) (s : ℕ) → d ≡ with_candidate before.candidates at value → IsSpilled old.plan d s ↔ (IsSpilled old.plan before.candidates s ⊎ (s ≡ at))
   spilled_with d s written = (
@@ -177,10 +187,10 @@ module _ (first second : ℕ) (old new : Store) (plan : new.plan ≡ old.plan) (
   spills written =
       let now : content after ≡ set (content before) at value = ap content_of written ∙ content_of-with_candidate before.candidates at value in
       record {
-        content = content_set now;
-        durable = durable_set now;
+        content = content_set written now;
+        durable = durable_set written now;
         spilled = λ s. subst (λ (p : Plan). IsSpilled p after.candidates s ↔ (IsSpilled old.plan before.candidates s ⊎ (s ≡ at))) (sym plan) (spilled_with after.candidates s written);
-        live = λ s. live_same old new (content before) (content after) s batch;
+        live = λ s. live_same old new (content before) (content after) s batch (homes_kept written);
         closed = λ s. closed_same old new s plan;
       }
 
@@ -193,11 +203,11 @@ module _ (first second : ℕ) (old new : Store) (plan : new.plan ≡ old.plan) (
 
   pub may_spill : MayHaveWritten before.candidates at value after.candidates → MayHaveSpilled (over first second old before) at value (over first second new after)
   may_spill (inl same) = record {
-    content = inr (content_same old new (content before) (content after) batch (ap content_of same));
-    durable = inr (durable_same old new (content before) (content after) (ap content_of same));
+    content = inr (content_same old new (content before) (content after) plan batch (ap content_of same));
+    durable = inr (durable_same old new (content before) (content after) plan (ap content_of same));
     spilled = λ s now. inl (subst (λ (p : Plan). IsSpilled p before.candidates s) plan (subst (λ (d : Candidates). IsSpilled new.plan d s) same now));
     still = λ s was. subst (λ (d : Candidates). IsSpilled new.plan d s) (sym same) (subst (λ (p : Plan). IsSpilled p before.candidates s) (sym plan) was);
-    live = λ s. live_same old new (content before) (content after) s batch;
+    live = λ s. live_same old new (content before) (content after) s batch (homes_still old new (content before) (content after) plan (ap content_of same));
     closed = λ s. closed_same old new s plan;
   }
   may_spill (inr (inl one)) =
@@ -208,8 +218,8 @@ module _ (first second : ℕ) (old new : Store) (plan : new.plan ≡ old.plan) (
       let value_2 = last (candidates_of before.candidates at) in
       let mid = with_candidate before.candidates at value in
       record {
-        content = inr (content_same old new (content before) (content after) batch kept);
-        durable = inr (durable_same old new (content before) (content after) kept);
+        content = inr (content_same old new (content before) (content after) plan batch kept);
+        durable = inr (durable_same old new (content before) (content after) plan kept);
         spilled = λ s now.
             let n : IsSpilled old.plan after.candidates s = subst (λ (p : Plan). IsSpilled p after.candidates s) plan now in
             ⊎_elim (λ once. ⊎_elim (λ more. inl (more, n.1)) (λ here. inr here) (more_before before.candidates at value s once)) (λ here. inr here)
@@ -217,6 +227,6 @@ module _ (first second : ℕ) (old new : Store) (plan : new.plan ≡ old.plan) (
         still = λ s was.
             subst (λ (p : Plan). IsSpilled p after.candidates s) (sym plan)
             (subst (λ (d : Candidates). 1 < length (candidates_of d s)) (sym back.1) (more_still mid at value_2 s (more_still before.candidates at value s was.0)), was.1);
-        live = λ s. live_same old new (content before) (content after) s batch;
+        live = λ s. live_same old new (content before) (content after) s batch (homes_still old new (content before) (content after) plan kept);
         closed = λ s. closed_same old new s plan;
       }

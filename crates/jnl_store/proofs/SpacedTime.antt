@@ -1,37 +1,34 @@
 -- What crashes leave of a space whose disk is at rest but for what was spilled.
-use Rattle.std.proofs.Common.{◌≡◌, ◌⊎◌, ℕ, ◌/◌, true, ◌&&◌, List, [], inl, inr, ⊎_elim, length, refl, sym, ◌∙◌, ap, subst, arith, eqb, cond}
-use Rattle.std.specs.Prelude.{IsTrue, Option, is_none}
+use Rattle.std.proofs.Common.{◌≡◌, ◌⊎◌, ℕ, true, ◌&&◌, [], inl, inr, ⊎_elim, length, refl, sym, ◌∙◌, ap, subst, eqb, cond}
+use Rattle.std.specs.Prelude.{IsTrue, Ok, Option, is_none}
 use Rattle.std.specs.Int.{bit_at}
-use Rattle.std.proofs.lemmas.Bool.{and_parts, and_from, cases_lt, eq-eqb}
-use Rattle.std.proofs.lemmas.List.{length-map, get_or_past}
+use Rattle.std.proofs.lemmas.Bool.{and_parts, and_from, eq-eqb}
 use Rattle.volume_header.specs.Refusal.{header_refusal}
 use Rattle.volume_header.specs.declared.header.VolumeHeader.{VolumeHeader}
 use Rattle.volume_header.specs.declared.refusal.HeaderRefusal.{HeaderRefusal}
-use Rattle.sector_disk.specs.Clock.{Clock, Passes}
-use Rattle.sector_disk.specs.Disk.{Candidates, IsImage, LeftNow, State, candidates_of, content, content_of}
-use Rattle.sector_disk.specs.Lists.{Content, last, sector}
+use Rattle.sector_disk.specs.Clock.{Clock, TimePasses}
+use Rattle.sector_disk.specs.Disk.{IsDisk, LeftNow, State, content}
+use Rattle.sector_disk.specs.Lists.{Content}
 use Rattle.sector_disk.specs.Space.{AgreesOutside}
-use Rattle.jnl_format.specs.Recovery.{header_of_volume, homes_of, journal_in}
-use Rattle.jnl_format.specs.Text.{has_same_bits, is_same_kind, is_same_layout, is_same_volume, text_homes}
-use Rattle.jnl_replay.specs.Plan.{journal_of}
+use Rattle.jnl_format.specs.Recovery.{header_of_volume, homes_of, journal_in, recovery, replayed, text_of, volume_of}
+use Rattle.jnl_format.specs.Text.{has_same_bits, is_same_kind, is_same_layout, is_same_volume}
+use Rattle.jnl_format.proofs.Alike.{good_homes, recovers, stands_for}
+use Rattle.jnl_format.specs.Keeping.{KeepsHeader}
+use Rattle.jnl_format.proofs.Mixing.{mixes_with_homes}
+use Rattle.jnl_format.proofs.Volumes.{same_as}
+use Rattle.jnl_replay.specs.Plan.{IsPlan, journal_of}
 use Rattle.jnl_replay.specs.declared.plan.Plan.{Plan}
-use Rattle.jnl_replay.proofs.Stages.{empty_text}
-use Rattle.jnl_store.specs.Journal.{IsAtRest, IsClosed, IsSpilled, are_open, keeps_journal}
+use Rattle.jnl_replay.proofs.Checks.{place_of}
+use Rattle.jnl_store.specs.InUse.{IsInUse}
+use Rattle.jnl_store.specs.Journal.{IsClosed, IsSpilled}
+use Rattle.jnl_store.specs.Overlay.{overlay}
 use Rattle.jnl_store.specs.Spaces.{found, found_in, is_in_form, is_mountable}
 use Rattle.jnl_store.specs.Store.{durable_of, is_kept}
 use Rattle.jnl_store.specs.declared.store.Store.{Store}
-use Rattle.jnl_store.proofs.Images.{closed_or, one_is, same_or_more}
-use Rattle.jnl_store.proofs.Journals.{HoldsJournal, KeepsJournal, keeps_parts}
-use Rattle.jnl_store.proofs.Quiet.{holds_still, plan_found, recovers_itself, rest_replayed}
-
--- the durable content of a store is what the disk has
-pub durable_is : (store : Store) (c : Content) → durable_of store c ≡ c
-unfolding durable_of
-durable_is store c = rest_replayed store.plan c store.rest
-
--- no sector is named by a live list
-pub no_homes_of : (plan : Plan) (c : Content) → IsAtRest plan → homes_of (journal_of plan) c ≡ []
-no_homes_of plan c rest = ap (λ (t : List ℕ). text_homes plan.header.order plan.header.blhdr t (length t) 0) (empty_text plan.info plan.header plan.fresh c rest.empty)
+use Rattle.jnl_store.proofs.RingHome.{still_agrees, still_plan}
+use Rattle.jnl_store.proofs.RingKept.{KeepsLists, lists_parts, table_is}
+use Rattle.jnl_store.proofs.RingStages.{KeepsText, header_stays}
+use Rattle.jnl_store.proofs.Settling.{kept_parts}
 
 -- a header is of its own volume
 same_volume_self : (h : VolumeHeader) → is_same_volume h h ≡ true
@@ -44,69 +41,57 @@ same_volume_self h =
     let bits : has_same_bits h.attributes h.attributes ≡ true = and_from (eqb (b 12) (b 12) && eqb (b 13) (b 13)) (eqb (b 15) (b 15)) (and_from (eqb (b 12) (b 12)) (eqb (b 13) (b 13)) (r (b 12)) (r (b 13))) (r (b 15)) in
     and_from (is_same_kind h h && is_same_layout h h) (has_same_bits h.attributes h.attributes) (and_from (is_same_kind h h) (is_same_layout h h) kind layout) bits
 
--- a content that holds the journal at rest is found as itself
-pub found_itself : (plan : Plan) (image : Content) → IsAtRest plan → HoldsJournal plan image → found plan image ≡ image
+-- a content with the plan's journal is found as what it stands for
+pub found_live : (plan : Plan) (image : Content) → IsPlan image plan → found plan image ≡ replayed (journal_of plan) image
 unfolding found
-found_itself plan image rest h =
+found_live plan image is =
     let head = header_of_volume image in
+    let r = replayed (journal_of plan) image in
+    let text = text_of (journal_of plan) image in
+    let homes = homes_of (journal_of plan) image in
+    let keeps : KeepsHeader image r =
+    header_stays (volume_of plan.place.info_sector (journal_of plan) image) text homes image r refl refl (good_homes plan.place.info_sector plan.place.last_mounted (journal_of plan) image is.text) is.place.accepted ((mixes_with_homes text homes image).each 2) in
+    let same : is_same_volume (header_of_volume r) head ≡ true = same_as head (header_of_volume r) head keeps.same ∙ same_volume_self head in
     let form : is_in_form plan (journal_in plan.place.info_sector image) ≡ true =
-    ap (is_in_form plan) (plan_found plan image rest h) ∙ and_from (eqb plan.info.size plan.info.size) (eqb plan.header.blhdr plan.header.blhdr) (eq-eqb plan.info.size plan.info.size refl) (eq-eqb plan.header.blhdr plan.header.blhdr refl) in
-    let accepted : is_none (header_refusal head (length image)) ≡ true = ap (λ (o : Option HeaderRefusal). is_none o) h.place.accepted in
-    let mounts : is_mountable plan image image ≡ true =
-    and_from (is_none (header_refusal head (length image)) && is_same_volume head head) (is_in_form plan (journal_in plan.place.info_sector image))
-    (and_from (is_none (header_refusal head (length image))) (is_same_volume head head) accepted (same_volume_self head)) form in
-    ap (found_in plan image) (recovers_itself plan image rest h) ∙ ap (λ b. cond b image []) mounts
-
--- an image of a disk that keeps the journal holds it
-module _ (plan : Plan) (candidates : Candidates) (k : KeepsJournal plan candidates) (image : Content) (is : IsImage candidates image) where
-  still : (s : ℕ) → length (candidates_of candidates s) ≡ 1 → sector image s ≡ sector (content_of candidates) s
-  still s one = elim (cases_lt s (length candidates)) [
-    | inl inside ↦ one_is candidates s (sector image s) one (is.each s inside)
-    | inr past ↦ absurd (omega (arith, one, ap length (get_or_past candidates s [] past)))
-  ]
-
-  pub image_holds : HoldsJournal plan image
-  image_holds = holds_still plan (content_of candidates) image k.holds (is.size ∙ sym (length-map candidates last)) (still 2 k.volume_one) (still plan.place.info_sector k.info_one) (still (plan.info.offset / 512) k.header_one)
-
-  -- and is the content, but in what was spilled and in the journal
-  pub image_agrees : AgreesOutside (λ s. IsSpilled plan candidates s ⊎ IsClosed plan s) (content_of candidates) image
-  image_agrees = record {
-    size = is.size ∙ sym (length-map candidates last);
-    each = λ s. elim (closed_or plan s) [
-      | inl shut ↦ inr (inr shut)
-      | inr free ↦ elim (cases_lt s (length candidates)) [
-        | inl inside ↦ ⊎_elim (λ same. inl same) (λ more. inr (inl (more, free))) (same_or_more candidates s (sector image s) (is.each s inside))
-        | inr past ↦ inl (get_or_past image s [] (omega (arith, past, is.size)) ∙ sym (get_or_past (content_of candidates) s [] (omega (arith, past, length-map candidates last))))
-      ]
-    ];
-  }
+    ap (is_in_form plan) is.journal ∙ and_from (eqb plan.info.size plan.info.size) (eqb plan.header.blhdr plan.header.blhdr) (eq-eqb plan.info.size plan.info.size refl) (eq-eqb plan.header.blhdr plan.header.blhdr refl) in
+    let accepted : is_none (header_refusal head (length image)) ≡ true = ap (λ (o : Option HeaderRefusal). is_none o) is.place.accepted in
+    let mounts : is_mountable plan image r ≡ true =
+    and_from (is_none (header_refusal head (length image)) && is_same_volume (header_of_volume r) head) (is_in_form plan (journal_in plan.place.info_sector image))
+    (and_from (is_none (header_refusal head (length image))) (is_same_volume (header_of_volume r) head) accepted same) form in
+    let recovers_so : recovery image ≡ Ok r = recovers plan.place.info_sector plan.place.last_mounted image (place_of image plan.place is.place) ∙ stands_for plan.place.info_sector plan.place.last_mounted (journal_of plan) image is.journal is.text in
+    ap (found_in plan image) recovers_so ∙ ap (λ b. cond b r []) mounts
 
 -- the clock of a space over a disk with this clock
 abbrev pub mounted : Plan → Clock → Clock
 mounted plan clock = record { moment = clock.moment; left = λ t recovered told. (image : Content) × clock.left t image told × (recovered ≡ found plan image) }
 
 -- what crashes leave, as a mount finds it: the durable content, but in what was spilled and in the journal
-pub mounts_durable : (plan : Plan) (old new : State) (durable : Content) → IsAtRest plan → KeepsJournal plan new.candidates → durable ≡ content new → Passes old.clock new.clock (LeftNow new)
-    → Passes (mounted plan old.clock) (mounted plan new.clock) (λ recovered told. AgreesOutside (λ s. IsSpilled plan new.candidates s ⊎ IsClosed plan s) durable recovered × (told ≡ new.told))
-mounts_durable plan old new durable rest k is time = record {
+pub mounts_durable : (plan : Plan) (old new : State) (durable : Content) → IsInUse plan → IsDisk new → KeepsText plan new → durable ≡ replayed (journal_of plan) (content new) → TimePasses old.clock new.clock (LeftNow new)
+    → TimePasses (mounted plan old.clock) (mounted plan new.clock) (λ recovered told. AgreesOutside (λ s. IsSpilled plan new.candidates s ⊎ IsClosed plan s) durable recovered × (told ≡ new.told))
+mounts_durable plan old new durable rest disk k is time = record {
   later = time.later;
   keeps = λ t recovered told le left. (left.0, time.keeps t left.0 told le left.1, left.2);
   nothing_else = λ t recovered told le left.
       ⊎_elim (λ before. inl (left.0, before, left.2))
       (λ now.
-      let itself : recovered ≡ left.0 = left.2 ∙ found_itself plan left.0 rest (image_holds plan new.candidates k left.0 now.0) in
+      let found_is : recovered ≡ replayed (journal_of plan) left.0 = left.2 ∙ found_live plan left.0 (still_plan plan rest new disk k left.0 now.0) in
       let A : Content → Content → Type 0 = AgreesOutside (λ s. IsSpilled plan new.candidates s ⊎ IsClosed plan s) in
-      inr (subst (A durable) (sym itself) (subst (λ (d : Content). A d left.0) (sym is) (image_agrees plan new.candidates k left.0 now.0)), now.1))
+      inr (subst (A durable) (sym found_is) (subst (λ (d : Content). A d (replayed (journal_of plan) left.0)) (sym is) (still_agrees plan rest new disk k left.0 now.0)), now.1))
       (time.nothing_else t left.0 told le left.1);
 }
 
 -- what a space that tells keeps
-pub kept_journal : (store : Store) (sectors : ℕ) (candidates : Candidates) → IsTrue (is_kept store sectors candidates) → KeepsJournal store.plan candidates
-unfolding is_kept
-kept_journal store sectors candidates h =
-    let a = and_parts (keeps_journal store.plan candidates && are_open store.plan sectors store.batch.all) (are_open store.plan sectors store.batch.kept) h in
-    let b = and_parts (keeps_journal store.plan candidates) (are_open store.plan sectors store.batch.all) a.0 in
-    keeps_parts store.plan candidates b.0
+pub tells_parts : (store : Store) (disk : State) → IsTrue (disk.tells && is_kept store disk.sectors disk.candidates) → IsTrue disk.tells × KeepsLists store.plan store.batch.live disk
+tells_parts store disk tells =
+    let p = and_parts disk.tells (is_kept store disk.sectors disk.candidates) tells in
+    (p.0, lists_parts store.plan store.batch.live disk (kept_parts store disk.sectors disk.candidates p.1).0)
 
-pub tells_parts : (store : Store) (disk : State) → IsTrue (disk.tells && is_kept store disk.sectors disk.candidates) → IsTrue disk.tells × KeepsJournal store.plan disk.candidates
-tells_parts store disk tells = let p = and_parts disk.tells (is_kept store disk.sectors disk.candidates) tells in (p.0, kept_journal store disk.sectors disk.candidates p.1)
+-- the durable content has as many sectors as the disk
+pub durable_is : (store : Store) (c : Content) → durable_of store c ≡ replayed (journal_of store.plan) c
+unfolding durable_of
+durable_is store c = refl
+
+-- and is what the table shows over the disk's
+pub durable_table : (store : Store) (disk : State) → IsDisk disk → KeepsLists store.plan store.batch.live disk → durable_of store (content disk) ≡ overlay store.batch.live (content disk)
+unfolding durable_of
+durable_table store disk is k = sym (table_is store.plan store.rest store.batch.live disk is k)

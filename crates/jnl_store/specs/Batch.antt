@@ -1,11 +1,13 @@
 -- The puts of a batch.
-use Rattle.std.specs.Prelude.{◌≡◌, ◌≤◌, ◌==◌, ◌||◌, ℕ, zero, suc, Bool, false, List, [], ◌∷◌, length}
+use Rattle.std.specs.Prelude.{◌≡◌, ◌≤◌, ◌+◌, ◌==◌, ◌||◌, ℕ, zero, suc, Bool, true, false, not, bytes_eq, if◌then◌else◌, List, [], ◌∷◌, length, Option, None, Some}
 use Rattle.jnl_store.specs.declared.puts.Put.{Put}
 
--- what was put since the last commit, the same at the last keep, and how many sectors there is memory for
+-- what was put since the last commit, the same at the last keep, each sector that a live list names with its newest
+-- bytes, and how many sectors there is memory for
 pub record Staged : Type 0 where
   pub all : List Put
   pub kept : List Put
+  pub live : List Put
   pub room : ℕ
 
 -- one of these puts is of this sector
@@ -24,11 +26,26 @@ abbrev pub AreOnce : List Put → Type 0
 AreOnce [] = Unit {0}
 AreOnce (put ∷ puts) = (names puts put.at ≡ false) × AreOnce puts
 
--- there is memory for the room, in both lists
-pub record IsBatch (all kept : List Put) (room memory more : ℕ) : Type 0 where
-  pub once : AreOnce all
-  pub kept_once : AreOnce kept
+-- the bytes that these puts have for a sector
+abbrev pub bytes_of : List Put → ℕ → Option (List ℕ)
+bytes_of [] at = None
+bytes_of (put ∷ puts) at = if at == put.at then Some put.bytes else bytes_of puts at
+
+-- no bytes both times, or the same
+abbrev pub is_same : Option (List ℕ) → Option (List ℕ) → Bool
+is_same None None = true
+is_same None (Some b) = false
+is_same (Some a) None = false
+is_same (Some a) (Some b) = bytes_eq a b
+
+-- what was put into this sector isn't what was kept of it
+abbrev pub is_dropped : List Put → List Put → ℕ → Bool
+is_dropped all kept at = not (is_same (bytes_of all at) (bytes_of kept at))
+
+-- there is memory for the room, in each list, and for what is live beside it
+pub record IsBatch (all kept live : List Put) (room memory more most : ℕ) : Type 0 where
   pub some : length all ≤ room
-  pub kept_some : length kept ≤ room
+  pub kept_some : length kept ≤ length all
   pub enough : room ≤ memory
   pub enough_kept : room ≤ more
+  pub enough_live : length live + room ≤ most

@@ -1,4 +1,6 @@
 pub mod Batch
+pub mod Table
+pub mod Cache
 pub mod Journal
 pub mod Lists
 pub mod Overlay
@@ -8,3 +10,5 @@ pub mod SpaceLaws
 pub mod Spaces
 pub mod Standing
 pub mod Store
+pub mod InUse
+pub mod Appending

@@ -1,17 +1,15 @@
 -- What a crash leaves while a store writes, as a mount finds it.
-use Rattle.std.specs.Prelude.{◌≡◌, ◌⊎◌, ℕ, ◌/◌, ◌++◌, List, drop, IsTrue, Ok}
+use Rattle.std.specs.Prelude.{◌≡◌, ◌⊎◌, ℕ, ◌/◌, ◌++◌, drop, Ok}
 use Rattle.sector_disk.specs.Lists.{Content, sector}
-use Rattle.sector_disk.specs.Disk.{Candidates, State, IsSettled, content, content_of}
+use Rattle.sector_disk.specs.Disk.{Candidates, State, HasNothingPending, content, content_of}
 use Rattle.sector_disk.specs.Space.{AgreesOutside}
 use Rattle.jnl_format.specs.Header.{header_bytes, IsHeader}
-use Rattle.jnl_format.specs.Recovery.{header_of_volume, journaling_version, recovery}
+use Rattle.jnl_format.specs.Recovery.{recovery}
 use Rattle.jnl_format.specs.declared.structures.Header.{Header}
-use Rattle.jnl_format.proofs.Alike.{KeepsHeader}
+use Rattle.jnl_format.specs.Keeping.{KeepsHeader}
 use Rattle.jnl_replay.specs.declared.plan.Plan.{Plan}
-use Rattle.jnl_store.specs.Journal.{IsClosed, IsSpilled, are_open, keeps_journal}
-use Rattle.jnl_store.specs.Overlay.{overlay}
-use Rattle.jnl_store.specs.Store.{KeepsOn, content_over, durable_of}
-use Rattle.jnl_store.specs.declared.puts.Put.{Put}
+use Rattle.jnl_store.specs.Journal.{IsClosed, IsSpilled}
+use Rattle.jnl_store.specs.Store.{KeepsOn, KeepsRingOn, content_over, durable_of}
 use Rattle.jnl_store.specs.declared.store.Store.{Store}
 
 -- the header of a journal in the same form, whatever its offsets are
@@ -56,26 +54,28 @@ StandsForOne plan disk durable target image =
 abbrev pub StandsForEither : Store → State → Content → Type 0
 StandsForEither store disk image = StandsForOne store.plan disk (durable_of store (content disk)) (content_over store (content disk)) image
 
--- Nothing is pending, no list is live, and the disk's content stands for itself. It is this content but in the
+-- Nothing is pending, and the disk's content stands for the durable content of the store, which is this one but in the
 -- journal itself.
-pub record Settles (old new : Store) (before after : State) (target : Content) : Type 0 where
+pub record MakesDurable (old new : Store) (before after : State) (target : Content) : Type 0 where
   pub keeps : KeepsOn new after
-  pub settled : IsSettled after
+  pub settled : HasNothingPending after
+  pub stands : StandsFor old.plan (content before) (content after) (durable_of new (content after))
+  pub agrees : AgreesOutside (IsClosed old.plan) target (durable_of new (content after))
+
+-- the same, and no list is live
+pub record Checkpoints (old new : Store) (before after : State) (target : Content) : Type 0 where
+  pub settles : MakesDurable old new before after target
+  pub empty : new.plan.header.start ≡ new.plan.header.end
   pub durable : durable_of new (content after) ≡ content after
-  pub stands : StandsFor old.plan (content before) (content after) (content after)
-  pub agrees : AgreesOutside (IsClosed old.plan) target (content after)
 
--- a transaction of these puts may be written on this disk
-pub record IsReady (plan : Plan) (puts : List Put) (disk : State) : Type 0 where
-  pub tells : IsTrue disk.tells
-  pub kept : IsTrue (keeps_journal plan disk.candidates)
-  pub open_puts : IsTrue (are_open plan disk.sectors puts)
-  pub volume : KeepsHeader (content disk) (overlay puts (content disk))
-  pub version : (header_of_volume (content disk)).last_mounted_version ≡ journaling_version
+-- the same two, whatever the slots keep
+pub record RingDurable (old new : Store) (before after : State) (target : Content) : Type 0 where
+  pub keeps : KeepsRingOn new after
+  pub settled : HasNothingPending after
+  pub stands : StandsFor old.plan (content before) (content after) (durable_of new (content after))
+  pub agrees : AgreesOutside (IsClosed old.plan) target (durable_of new (content after))
 
--- it was written, and written home
-pub record IsWritten (plan done : Plan) (puts : List Put) (before after : State) : Type 0 where
-  pub settled : IsSettled after
-  pub kept : IsTrue (keeps_journal done after.candidates)
-  pub stands : StandsFor plan (content before) (content after) (content after)
-  pub agrees : AgreesOutside (IsClosed plan) (overlay puts (content before)) (content after)
+pub record RingCheckpoints (old new : Store) (before after : State) (target : Content) : Type 0 where
+  pub settles : RingDurable old new before after target
+  pub empty : new.plan.header.start ≡ new.plan.header.end
+  pub durable : durable_of new (content after) ≡ content after

@@ -1,53 +1,45 @@
-//! The puts since the last commit, in memory that was found before them.
-ghost use Rattle.std.specs.Prelude.{◌≡◌, ◌⊎◌, ◌<◌, ◌≤◌, ◌+◌, ◌==◌, ◌||◌, ℕ, [], IsTrue, Bool, length, slice_set, if◌then◌else◌, MatchOption, OnOk, OnErr};
+//! The puts since the last commit and the sectors that are live, in memory that was found before them.
+ghost use Rattle.std.specs.Prelude.{◌≡◌, ◌⊎◌, ◌<◌, ◌≤◌, ◌+◌, ◌==◌, ◌||◌, ℕ, [], Bool, IsTrue, length, slice_set, if◌then◌else◌, MatchOption, OnOk, OnErr};
 ghost use Rattle.sector_disk.specs.Lists.{Content, sector};
-ghost use Rattle.jnl_store.specs.Batch.{AreOnce, has, names};
+ghost use Rattle.jnl_store.specs.Batch.{AreOnce, is_dropped, names};
 ghost use Rattle.jnl_store.specs.Overlay.{overlay};
 
+use crate::put_table::PutTable;
 use crate::puts::Put;
 use hx_bytes::{OutOfMemory, Sector};
 use std::alloc::Global;
 use std::marker::Model;
 
-/// Each sector that was put since the last commit, once. What a command put can be dropped until it is kept.
+/// Each sector that was put since the last commit, once. What a command put can be dropped until it is kept. Beside
+/// them stands each sector that a live list of the journal names, with its newest bytes. There is memory for the puts to
+/// join these.
 #[derive(Drop)]
 pub struct Batch {
-    puts: Vec<Put>,
-    kept: Vec<Put>,
+    puts: PutTable,
+    kept: PutTable,
+    live: PutTable,
     room: usize,
 }
 
 impl Model for Batch {
-    ghost use Rattle.std.specs.Prelude.{vec_capacity};
     ghost use Rattle.jnl_store.specs.Batch.{Staged, IsBatch};
 
     ghost Value = { Staged };
 
-    ghost view = { λ b. record { all = b.puts.items; kept = b.kept.items; room = b.room } };
+    ghost view = { λ b. record { all = b.puts.items; kept = b.kept.items; live = b.live.items; room = b.room } };
 
-    ghost invariant = { λ b. IsBatch b.puts.items b.kept.items b.room (vec_capacity b.puts) (vec_capacity b.kept) };
-}
-
-// The place of a sector in a list of puts.
-fn place_of(puts: &[Put], at: u64) -> Option<usize>
-    ensures { MatchOption result (names puts.now at ≡ Bool.false) (λ k. has puts.now k at) }
-{
-    for (k, put) in puts.iter().enumerate() {
-        if put.at == at {
-            return Some(k);
-        }
-    }
-    None
+    ghost invariant = { λ b. IsBatch b.puts.items b.kept.items b.live.items b.room b.puts.memory b.kept.memory b.live.memory };
 }
 
 impl Batch {
     /// Nothing was put, and there is no room.
     pub fn new(alloc: Global) -> Batch
-        ensures { result ≡ record { all = []; kept = []; room = 0 } }
+        ensures { result ≡ record { all = []; kept = []; live = []; room = 0 } }
     {
         Batch {
-            puts: Vec::new(alloc),
-            kept: Vec::new(alloc),
+            puts: PutTable::new(alloc),
+            kept: PutTable::new(alloc),
+            live: PutTable::new(alloc),
             room: 0,
         }
     }
@@ -74,20 +66,31 @@ impl Batch {
         self.puts.as_slice()
     }
 
-    // The place of a sector in the list.
-    fn find(&self, at: u64) -> Option<usize>
-        ensures { MatchOption result (names self.now.all at ≡ Bool.false) (λ k. has self.now.all k at) }
-    {
-        place_of(&self.puts, at)
-    }
-
     /// The bytes that were put into a sector.
     pub fn get(&self, at: u64) -> Option<Sector>
         ensures { (c : Content) → at < length c → MatchOption result (sector (overlay self.now.all c) at ≡ sector c at) (λ bytes. bytes ≡ sector (overlay self.now.all c) at) }
     {
-        match self.find(at) {
-            Some(k) => Some(self.puts[k].bytes),
-            None => None,
+        self.puts.get(at)
+    }
+
+    /// The bytes that the live lists have for a sector.
+    pub fn get_live(&self, at: u64) -> Option<Sector>
+        ensures { (c : Content) → at < length c → MatchOption result (sector (overlay self.now.live c) at ≡ sector c at) (λ bytes. bytes ≡ sector (overlay self.now.live c) at) }
+    {
+        self.live.get(at)
+    }
+
+    /// Whether an undo changes what a sector has.
+    pub fn is_dropped(&self, at: u64) -> bool
+        ensures is { result ≡ is_dropped self.now.all self.now.kept at }
+        ensures same { result ≡ Bool.false → (c : Content) → at < length c → sector (overlay self.now.kept c) at ≡ sector (overlay self.now.all c) at }
+    {
+        match self.puts.get(at) {
+            None => self.kept.get(at).is_some(),
+            Some(bytes) => match self.kept.get(at) {
+                None => true,
+                Some(kept) => bytes[..] != kept[..],
+            },
         }
     }
 
@@ -96,24 +99,20 @@ impl Batch {
         requires { (length self.old.all < self.old.room) ⊎ IsTrue (names self.old.all at) }
         ensures content { (c : Content) → overlay self.new.all c ≡ slice_set (overlay self.old.all c) at from.now }
         ensures names { (s : ℕ) → names self.new.all s ≡ (s == at || names self.old.all s) }
-        ensures few { length self.new.all ≤ length self.old.all + 1 }
         ensures count { length self.new.all ≡ (if names self.old.all at then length self.old.all else length self.old.all + 1) }
+        ensures few { length self.new.all ≤ length self.old.all + 1 }
         ensures room { self.new.room ≡ self.old.room }
         ensures kept { self.new.kept ≡ self.old.kept }
+        ensures live { self.new.live ≡ self.old.live }
     {
         let put = Put { at, bytes: *from };
-        match self.find(at) {
-            Some(k) => self.puts[k] = put,
-            None => {
-                let _pushed = self.puts.push(put);
-            }
-        }
+        self.puts.put(&put);
     }
 
     /// Finds memory for so many sectors more, and keeps what was put so far.
     pub fn begin(&mut self, sectors: u64) -> Result<(), OutOfMemory>
         ensures room { OnOk result (length self.new.all + sectors ≤ self.new.room) }
-        ensures kept { OnOk result (self.new ≡ record { all = self.old.all; kept = self.old.all; room = self.new.room }) }
+        ensures kept { OnOk result (self.new ≡ record { all = self.old.all; kept = self.old.all; live = self.old.live; room = self.new.room }) }
         ensures more { self.old.room ≤ self.new.room }
         ensures same { OnErr result (self.new ≡ self.old) }
     {
@@ -121,7 +120,9 @@ impl Batch {
         self.puts.reserve(sectors)?;
         let room = self.puts.len() + sectors;
         self.kept.reserve(room.saturating_sub(self.kept.len()))?;
-        self.room = self.room.max(room);
+        let room = self.room.max(room);
+        self.live.reserve(room)?;
+        self.room = room;
         self.keep();
         Ok(())
     }
@@ -130,24 +131,43 @@ impl Batch {
     pub fn keep(&mut self)
         ensures { self.new ≡ record self.old { kept = self.old.all } }
     {
-        self.kept.clear();
-        let _copied = self.kept.extend_from_slice(&self.puts);
+        self.kept.copy(&self.puts);
     }
 
     /// All is again as at the last keep.
     pub fn undo(&mut self)
-        ensures { self.new ≡ record self.old { all = self.old.kept } }
+        ensures dropped { self.new ≡ record self.old { all = self.old.kept } }
+        ensures few { length self.old.kept ≤ length self.old.all }
+        ensures once { AreOnce self.old.all × AreOnce self.old.kept }
     {
-        self.puts.clear();
-        let _copied = self.puts.extend_from_slice(&self.kept);
+        self.puts.copy(&self.kept);
     }
 
     /// Nothing is put any more.
     pub fn clear(&mut self)
-        ensures { self.new ≡ record { all = []; kept = []; room = self.old.room } }
+        ensures { self.new ≡ record { all = []; kept = []; live = self.old.live; room = self.old.room } }
     {
         self.puts.clear();
         self.kept.clear();
+    }
+
+    /// What was put is live from now on. It leaves as much room as there was.
+    pub fn make_live(&mut self)
+        ensures content { (c : Content) → overlay self.new.live c ≡ overlay self.old.all (overlay self.old.live c) }
+        ensures nothing { (self.new.all ≡ []) × (self.new.kept ≡ []) }
+        ensures room { self.new.room + length self.old.all ≡ self.old.room }
+    {
+        self.live.put_all(self.puts.as_slice());
+        self.room -= self.puts.len();
+        self.puts.clear();
+        self.kept.clear();
+    }
+
+    /// Nothing is live any more.
+    pub fn forget(&mut self)
+        ensures { self.new ≡ record self.old { live = [] } }
+    {
+        self.live.clear();
     }
 }
 

@@ -1,21 +1,26 @@
 //! The transactions of a journaled volume: what is put becomes durable all or nothing.
 #![tactic(auto)]
 
+mod appending;
 mod batch;
+mod cache;
 mod calls;
 mod commit;
 mod form;
 mod header_sector;
+mod homing;
 mod law;
 mod list_header;
 mod lists;
+mod put_table;
 mod puts;
 mod resting;
+mod ring;
 mod space;
+mod space_calls;
 mod store;
-mod transaction;
 
-pub use form::{ListForm, capacity};
+pub use form::capacity;
 pub use law::crashes_leave_durable;
 pub use puts::Put;
 pub use space::Space;

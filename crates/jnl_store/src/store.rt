@@ -1,7 +1,8 @@
 //! A store: what was put and isn't committed, and where its journal lies.
-ghost use Rattle.jnl_store.specs.Journal.{IsAtRest};
+ghost use Rattle.jnl_store.specs.InUse.{IsInUse};
 
 use crate::batch::Batch;
+use crate::cache::Cache;
 use jnl_replay::Plan;
 
 /// The transactions of one volume. It holds what was put since the last commit, and says where the journal is.
@@ -13,8 +14,9 @@ pub struct Store {
     pub(crate) unsettled: bool,
     /// How many disk faults calls on this store and on its spaces have answered.
     pub(crate) faults: u64,
-    pub(crate) slots: u32,
-    ghost rest: { IsAtRest plan },
+    /// Sectors of the content that were read or changed last.
+    pub(crate) cache: Cache,
+    ghost rest: { IsInUse plan },
 }
 
 /// Why a transaction isn't known to be stable.

@@ -6,7 +6,7 @@ mod spelled;
 
 use anyhow::Context;
 use cmd_lang::{LineFault, print_reply, read_line};
-use hfs_model::Reply;
+use hfs_language::Reply;
 use hx_bytes::OutOfMemory;
 use spelled::line_of;
 use std::alloc::Global;

@@ -1,5 +1,5 @@
 //! A command is written as a line, by hand.
-use hfs_model::{Command, Path};
+use hfs_language::{Command, Path};
 use hx_bytes::{Bytes, OutOfMemory, Units};
 use name_text::print_component;
 use std::alloc::Global;

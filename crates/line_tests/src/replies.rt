@@ -1,5 +1,5 @@
 //! Replies, each with its line.
-use hfs_model::{Facts, Gauge, Refusal, TreeGauge};
+use hfs_language::{Facts, Gauge, Refusal, TreeGauge};
 
 pub(crate) const FOLDER: Facts = Facts {
     folder: true,

@@ -1,6 +1,6 @@
 use crate::replies::{CONTENTS, FILE, FILE_LINE, FOLDER, FOLDER_LINE, GAUGE, GAUGE_LINE, REFUSALS};
 use cmd_lang::{LineFault, print_reply, read_line};
-use hfs_model::{Command, ListedName, Listing, Refusal, Reply};
+use hfs_language::{Command, ListedName, Listing, Refusal, Reply};
 use hx_bytes::{Bytes, Units};
 use std::alloc::{AllocError, Global};
 use std::test::Fail;

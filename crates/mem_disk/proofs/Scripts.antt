@@ -1,7 +1,7 @@
 -- What a call without memory makes of the script.
 use Rattle.std.proofs.Common.{◌≡◌, ◌≤◌, ◌+◌, ◌-◌, ◌++◌, ◌∷◌, [], ℕ, List, Bool, true, false, Result, Ok, Err, OnOk, OnErr, is_err, inl, inr, length, take, ◌∙◌, ap, arith, length-append, length-take}
 use Rattle.sector_disk.specs.Cause.{next_count}
-use Rattle.sector_disk.specs.Disk.{ToldFront}
+use Rattle.sector_disk.specs.Disk.{ToldPrefix}
 use Rattle.mem_disk.specs.Script.{Script, CountsWrite, SpendsRoom}
 
 -- its number was noted
@@ -36,7 +36,7 @@ counts_starved (Ok x) is_bad old now new more bad good counted starved = cc
 
 -- the sink took a front, and then there was no memory
 pub spends_starved : {T E : Type 0} (result : Result T E) (is_bad : Bool) (old spent new : Script) (told bytes now : List ℕ) (count before after : ℕ) → spent.starved ≤ new.starved → is_bad ≡ is_err result → is_bad ≡ true
-    → OnErr result (ToldFront told (take count bytes) now) → count ≤ old.room → before ≡ length told → after ≡ length now
+    → OnErr result (ToldPrefix told (take count bytes) now) → count ≤ old.room → before ≡ length told → after ≡ length now
     → spent ≡ record old { room = old.room - (after - before) } → new ≡ record spent { starved = next_count spent.starved } → SpendsRoom old new told now
 spends_starved (Err e) is_bad old spent new told bytes now count before after more bad good front fits was is spends starved =
     let long : length now ≡ length told + length (take front.0 (take count bytes)) = ap length front.2 ∙ length-append told (take front.0 (take count bytes)) in

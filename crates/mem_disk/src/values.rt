@@ -67,7 +67,7 @@ impl Values {
     }
 
     /// Keeps the last value alone, without memory.
-    pub fn settle(&mut self)
+    pub fn keep_newest(&mut self)
         requires { 0 < length self.old }
         ensures { self.new ≡ last self.old ∷ [] }
     {

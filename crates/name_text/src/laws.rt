@@ -1,7 +1,7 @@
 //! Laws of the language of names, each as a function without a body.
 #![tactic(auto)]
 
-ghost use Rattle.std.specs.Prelude.{◌≡◌, ◌<◌, ◌≤◌, true, Ok, length, encode_utf8_all};
+ghost use Rattle.std.specs.Prelude.{◌≡◌, ◌<◌, ◌≤◌, true, Ok, length, chars, encode_utf8_all};
 ghost use Rattle.std.specs.List.{list_all};
 ghost use Rattle.name_text.specs.Reading.{component};
 ghost use Rattle.name_text.specs.Printing.{component_text, is_clear};
@@ -9,11 +9,12 @@ ghost use Rattle.name_text.specs.Laws.{IsReadAsSpelled};
 
 use crate::Piece;
 
-/// The printed units of a name are read as that name.
+/// The printed text of a name is read as that name, character by character and from its bytes in UTF-8.
 pub fn printed_is_read_back(units: &[u16])
     requires some { 0 < length units.now }
     requires short { length units.now ≤ 255 }
-    ensures { component (component_text units.now) ≡ Ok units.now }
+    ensures characters { component (component_text units.now) ≡ Ok units.now }
+    ensures bytes { component (chars (encode_utf8_all (component_text units.now))) ≡ Ok units.now }
 {}
 
 /// A text is read to just the pieces that spell it, so it spells one list of pieces at most.

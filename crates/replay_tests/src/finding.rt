@@ -2,7 +2,7 @@
 ghost use Rattle.std.specs.Prelude.{◌≡◌, ◌≤◌, ◌*◌, ◌/◌, IsTrue, IfOk};
 ghost use Rattle.sector_disk.specs.Disk.{content};
 ghost use Rattle.jnl_replay.specs.Plan.{FitsPlan, IsPlan};
-ghost use Rattle.jnl_replay.specs.Reading.{OnlyReads};
+ghost use Rattle.sector_disk.specs.Disk.{OnlyReads};
 
 use jnl_format::JnlRefusal;
 use jnl_replay::{Place, Plan, ReplayFault, validate};

@@ -40,8 +40,8 @@ fn transact(
     Ok((disk.rig, made))
 }
 
-// Puts a byte into so many sectors, and keeps them.
-fn put_all(
+/// Puts a byte into so many sectors, and keeps them.
+pub fn put_all(
     alloc: Global,
     store: &mut Mounted,
     disk: &mut Quiet,
@@ -58,7 +58,7 @@ fn put_all(
 
 /// The byte of which so many sectors are full once an image is mounted, or 255 where they differ or there is no
 /// mount.
-fn byte_of(alloc: Global, image: &MemImage, count: u64) -> Result<u8, OutOfMemory> {
+pub fn byte_of(alloc: Global, image: &MemImage, count: u64) -> Result<u8, OutOfMemory> {
     let mut disk = disk_of(alloc, image)?;
     let Some(mut store) = Mounted::mount(alloc, &mut disk)? else {
         return Ok(255);

@@ -1,5 +1,7 @@
 // What a crash leaves of a transaction, at each moment of its commit.
 use crate::commits::{Tried, try_all, try_committed, try_put};
+use crate::losses::try_lost;
+use crate::rounds::{Rounds, calls_of_reads, many_batches, try_rounds};
 use std::test::Fail;
 
 // Some images have the old sectors and some the new ones, and none has others.
@@ -44,5 +46,60 @@ fn a_committed_transaction_stays(rt: HostRuntime) -> Result<(), Fail> {
 fn puts_alone_leave_the_old(rt: HostRuntime) -> Result<(), Fail> {
     let tried = try_put(rt.alloc(), 5)?;
     assert_eq!(rt; (tried.images, tried.new, tried.wrong), (8, 0, false));
+    Ok(())
+}
+
+// Each list has one sector of header, and the ring has 62 sectors beside the one that stays free.
+#[test]
+fn lists_that_wrap_are_whole(rt: HostRuntime) -> Result<(), Fail> {
+    let alloc = rt.alloc();
+    let tables = [
+        // Five lists of eleven sectors, of which the third wraps, and no block is home before the fifth is stable.
+        Rounds {
+            before: 3,
+            count: 5,
+            sectors: 10,
+        },
+        // The sixth list has no room: the five before it go home inside its commit, and it wraps.
+        Rounds {
+            before: 0,
+            count: 6,
+            sectors: 10,
+        },
+        // A transaction of two lists, of which the second wraps in the middle of its blocks.
+        Rounds {
+            before: 1,
+            count: 1,
+            sectors: 31,
+        },
+    ];
+    for rounds in &tables {
+        let tried = try_rounds(alloc, rounds)?;
+        assert!(rt; are_whole(&tried), "{} before", rounds.before);
+    }
+    Ok(())
+}
+
+#[test]
+fn a_ring_is_gone_round_many_times(rt: HostRuntime) -> Result<(), Fail> {
+    let (done, long) = many_batches(rt.alloc(), 400, 1)?;
+    assert_eq!(rt; done, 400);
+    // A list of two sectors: 31 of them fill the ring, so that 12 of 400 commits had no room.
+    assert_eq!(rt; long, 12);
+    Ok(())
+}
+
+#[test]
+fn a_slot_saves_a_read(rt: HostRuntime) -> Result<(), Fail> {
+    assert_eq!(rt; calls_of_reads(rt.alloc(), 0)?, 1000);
+    assert_eq!(rt; calls_of_reads(rt.alloc(), 128)?, 100);
+    Ok(())
+}
+
+#[test]
+fn a_barrier_that_failed_does_no_harm_later(rt: HostRuntime) -> Result<(), Fail> {
+    let lost = try_lost(rt.alloc())?;
+    assert_eq!(rt; lost.wrong, None);
+    assert!(rt; 500 < lost.images);
     Ok(())
 }

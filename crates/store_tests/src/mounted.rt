@@ -1,5 +1,6 @@
 //! A mounted volume: its store, over a disk that is handed in.
 ghost use Rattle.jnl_replay.specs.Plan.{FitsPlan};
+ghost use Rattle.jnl_store.specs.Store.{plan_of};
 
 use crate::Quiet;
 use hx_bytes::OutOfMemory;
@@ -16,13 +17,22 @@ pub const SECTORS: u64 = 2048;
 #[derive(Drop)]
 pub struct Mounted {
     store: Store,
-    ghost fits: { FitsPlan 2048 store.plan },
+    ghost fits: { FitsPlan 2048 (plan_of store) },
 }
 
 impl Mounted {
-    /// Mounts the volume of a disk: its journal is replayed. There is none where its journal is refused, or the
-    /// disk fails.
+    /// Mounts the volume of a disk, with no slot for sectors. There is none where its journal is refused, or the disk
+    /// fails.
     pub fn mount(alloc: Global, disk: &mut Quiet) -> Result<Option<Mounted>, OutOfMemory> {
+        Mounted::mount_with(alloc, disk, 0)
+    }
+
+    /// Mounts the volume of a disk, with so many slots: its journal is replayed.
+    pub fn mount_with(
+        alloc: Global,
+        disk: &mut Quiet,
+        slots: u32,
+    ) -> Result<Option<Mounted>, OutOfMemory> {
         if disk.sectors() != SECTORS {
             return Ok(None);
         }
@@ -34,7 +44,7 @@ impl Mounted {
             Ok(()) => {}
             Err(_) => return Ok(None),
         }
-        let store = Store::attach(alloc, &plan, 0)?;
+        let store = Store::attach(alloc, &plan, slots)?;
         Ok(Some(Mounted { store }))
     }
 

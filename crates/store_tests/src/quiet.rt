@@ -1,4 +1,5 @@
 //! A disk in memory that says nothing of what it holds.
+use crate::kept::Kept;
 use hx_bytes::{Failed, Sector};
 use mem_disk::MemRig;
 use sector_disk::SectorDisk;
@@ -8,6 +9,8 @@ use sector_disk::SectorDisk;
 #[derive(Drop)]
 pub struct Quiet {
     pub rig: MemRig,
+    /// What is stable where a barrier that fails loses what was written before it.
+    pub kept: Kept,
 }
 
 impl SectorDisk for Quiet {
@@ -31,10 +34,21 @@ impl SectorDisk for Quiet {
     }
 
     fn write(&mut self, at: u64, from: &Sector) -> Result<(), Failed> {
-        self.rig.write(at, from)
+        self.rig.write(at, from)?;
+        self.kept.write(at, from);
+        Ok(())
     }
 
     fn barrier(&mut self) -> Result<(), Failed> {
-        self.rig.barrier()
+        match self.rig.barrier() {
+            Ok(()) => {
+                self.kept.barrier(true);
+                Ok(())
+            }
+            Err(failed) => {
+                self.kept.barrier(false);
+                Err(failed)
+            }
+        }
     }
 }

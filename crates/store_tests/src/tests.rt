@@ -1,8 +1,5 @@
 // What calls of a store answer, and which of them call a device.
 use crate::steps::{Answer, Step, answers_are, calls_of_last};
-use hx_bytes::Order;
-use jnl_ring::Span;
-use jnl_store::{ListForm, capacity};
 use std::test::Fail;
 
 const DONE: Answer = Answer::Done;
@@ -25,7 +22,7 @@ fn a_commit_with_nothing_put_calls_no_device(rt: HostRuntime) -> Result<(), Fail
     Ok(())
 }
 
-const COMMITTED: [Step; 9] = [
+const COMMITTED: [Step; 12] = [
     Step::Begin(1),
     Step::Put(100, 7),
     Step::Byte(100),
@@ -33,12 +30,15 @@ const COMMITTED: [Step; 9] = [
     Step::Pending,
     Step::Keep,
     Step::Commit,
-    Step::Oldest(100),
     Step::Pending,
+    Step::Byte(100),
+    Step::Oldest(100),
+    Step::Checkpoint,
+    Step::Oldest(100),
 ];
 
 #[test]
-fn a_put_is_on_the_disk_after_the_commit(rt: HostRuntime) -> Result<(), Fail> {
+fn a_put_is_home_after_the_checkpoint(rt: HostRuntime) -> Result<(), Fail> {
     let wanted = [
         DONE,
         DONE,
@@ -47,8 +47,11 @@ fn a_put_is_on_the_disk_after_the_commit(rt: HostRuntime) -> Result<(), Fail> {
         Answer::Number(1),
         DONE,
         DONE,
+        Answer::Number(0),
         Answer::Number(7),
         Answer::Number(0),
+        DONE,
+        Answer::Number(7),
     ];
     assert!(rt; answers_are(rt.alloc(), &COMMITTED, &wanted)?);
     Ok(())
@@ -87,7 +90,8 @@ fn a_fault_is_answered_and_then_counted(rt: HostRuntime) -> Result<(), Fail> {
             Step::Commit,
         ],
     )?;
-    assert!(rt; 8 < calls && calls < 100);
+    // Three sectors of lists, a barrier, the journal header read and written, and a barrier.
+    assert_eq!(rt; calls, 7);
     for call in 0..calls {
         let steps = failing(call);
         assert!(rt; answers_are(alloc, &steps, &wanted)?, "call {call}");
@@ -131,7 +135,7 @@ fn faults_of_a_space_are_counted(rt: HostRuntime) -> Result<(), Fail> {
     Ok(())
 }
 
-const UNDONE: [Step; 16] = [
+const UNDONE: [Step; 17] = [
     Step::Begin(2),
     Step::Put(100, 1),
     // The same sector again takes no more room.
@@ -148,6 +152,7 @@ const UNDONE: [Step; 16] = [
     Step::Byte(101),
     Step::Pending,
     Step::Commit,
+    Step::Checkpoint,
     Step::Oldest(100),
 ];
 
@@ -168,6 +173,7 @@ fn an_undone_put_is_gone(rt: HostRuntime) -> Result<(), Fail> {
         Answer::Number(2),
         Answer::Number(0),
         Answer::Number(1),
+        DONE,
         DONE,
         Answer::Number(2),
     ];
@@ -203,17 +209,7 @@ fn a_spilled_sector_is_written_at_once(rt: HostRuntime) -> Result<(), Fail> {
 
 #[test]
 fn a_transaction_has_the_capacity_of_the_format(rt: HostRuntime) -> Result<(), Fail> {
-    // A journal of 2,048 sectors with list headers of 4,096 bytes, as a new volume of 16,384 sectors has it.
-    let span = Span {
-        base: 24,
-        size: 1_048_576,
-    };
-    let form = ListForm {
-        order: Order::Little,
-        blhdr: 4096,
-    };
-    assert_eq!(rt; capacity(&span, &form), 1982);
-    // One of 64 sectors with list headers of 512 bytes: 60 sectors in two lists.
+    // A journal of 64 sectors with list headers of 512 bytes: 60 sectors in two lists.
     assert!(rt; answers_are(rt.alloc(), &[Step::Capacity], &[Answer::Number(60)])?);
     Ok(())
 }

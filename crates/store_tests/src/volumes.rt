@@ -1,5 +1,6 @@
 //! A small volume with an empty journal of 64 sectors, whose lists have headers of 512 bytes.
 use crate::Quiet;
+use crate::kept::Kept;
 use crate::mounted::SECTORS;
 use hx_bytes::{Order, OutOfMemory, Sector};
 use mem_disk::{MemImage, MemRig};
@@ -21,7 +22,8 @@ pub fn volume(alloc: Global) -> Result<MemImage, OutOfMemory> {
     rig.image(alloc, 1)
 }
 
-fn put(rig: &mut MemRig, at: u64, sector: &Sector) {
+/// Writes a sector that lies on the disk.
+pub fn put(rig: &mut MemRig, at: u64, sector: &Sector) {
     if at < rig.sectors() {
         let _wrote = rig.write(at, sector);
     }
@@ -31,5 +33,14 @@ fn put(rig: &mut MemRig, at: u64, sector: &Sector) {
 pub fn disk_of(alloc: Global, image: &MemImage) -> Result<Quiet, OutOfMemory> {
     Ok(Quiet {
         rig: MemRig::from_image(alloc, image)?,
+        kept: Kept::nothing(alloc),
+    })
+}
+
+/// The same, where a barrier that fails loses what was written before it.
+pub fn losing_disk_of(alloc: Global, image: &MemImage) -> Result<Quiet, OutOfMemory> {
+    Ok(Quiet {
+        rig: MemRig::from_image(alloc, image)?,
+        kept: Kept::from_image(alloc, image)?,
     })
 }

@@ -5,6 +5,7 @@ mod edits;
 mod grove;
 mod keys;
 mod looking;
+mod planting;
 #[cfg(test)]
 mod tests;
 mod untold;
@@ -13,4 +14,5 @@ pub use edits::{add, change, step_through, take_out};
 pub use grove::Grove;
 pub use keys::{Kind, key_of, value_of};
 pub use looking::{Flaw, Wanted, look};
+pub use planting::plant;
 pub use untold::Untold;

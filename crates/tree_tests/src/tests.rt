@@ -1,8 +1,8 @@
 // Trees of all orders and sizes: filled, changed, half emptied, filled again and emptied.
 use crate::edits::{add, change, step_through, take_out};
-use crate::{Flaw, Grove, Kind, Wanted, look};
+use crate::{Flaw, Grove, Kind, Wanted, look, plant};
 use btree_edit::{Inserted, Removed};
-use btree_node::{AttrOrder, CatalogOrder, ExtentOrder, KeyOrder};
+use btree_node::{AttrOrder, CatalogOrder, ExtentOrder, KeyOrder, NodeStore};
 use hx_bytes::OutOfMemory;
 use std::alloc::Global;
 use std::test::Fail;
@@ -336,5 +336,27 @@ fn a_value_of_the_same_length_is_written_into_its_leaf_alone(rt: HostRuntime) ->
         assert_eq!(rt; tree.shape(), before, "{number}");
         assert!(rt; tree.has::<ExtentOrder>(&key, &value), "{number}");
     }
+    Ok(())
+}
+
+/// Two nodes, of which one is the header node: the first pair takes the other.
+#[test]
+fn a_fresh_store_takes_a_pair(rt: HostRuntime) -> Result<(), Fail> {
+    let key = [0, 10, 0, 0, 0, 0, 0, 16, 0, 0, 0, 5];
+    assert!(rt; ExtentOrder::valid(&key));
+    let store = plant::<ExtentOrder>(rt.alloc(), 512, 2, &key, &[7; 64])?;
+    let shape = store.shape();
+    assert_eq!(rt;
+        (
+            shape.depth,
+            shape.root,
+            shape.first,
+            shape.last,
+            shape.leaf_records,
+            shape.free
+        ),
+        (1, 1, 1, 1, 1, 0)
+    );
+    assert_eq!(rt; store.count_written(), 2);
     Ok(())
 }

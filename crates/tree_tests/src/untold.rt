@@ -12,11 +12,13 @@ pub struct Untold {
 
 impl NodeStore for Untold {
     ghost use Rattle.btree_node.specs.Mem.{mem_state};
-    ghost use Rattle.tree_tests.specs.Untold.{untold};
+    ghost use Rattle.tree_tests.specs.Untold.{untold, untold_well_formed};
 
     ghost state = { λ store. untold (mem_state store.nodes) };
 
     ghost follows = { λ _ _. Unit {0} };
+
+    ghost well_formed = { λ store. untold_well_formed store.nodes };
 
     ghost follows_refl = { λ _. tt };
 

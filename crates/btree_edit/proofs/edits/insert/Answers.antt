@@ -1,6 +1,8 @@
 use Rattle.std.proofs.Common.{◌≡◌, ◌≤◌, ◌+◌, ◌-◌, ◌*◌, ◌/◌, ◌^◌, ◌++◌, length, sym, ◌∙◌, ap, subst, arith}
 use Rattle.std.specs.Prelude.{IsTrue}
 use Rattle.std.proofs.lemmas.List.{length-append}
+use Rattle.std.proofs.lemmas.List.Elements.{All-same}
+use Rattle.btree_node.specs.Levels.{Pair}
 use Rattle.btree_node.specs.Tree.{pairs_of}
 use Rattle.btree_edit.specs.Desk.{HasKey, Finds}
 use Rattle.btree_edit.specs.Halves.{record_of}
@@ -8,6 +10,7 @@ use Rattle.btree_edit.specs.LevelEdit.{node_room}
 use Rattle.btree_edit.specs.Sorted.{AddsPair}
 use Rattle.btree_edit.specs.declared.finding.Found.{Found}
 use Rattle.btree_edit.proofs.Outcomes.{bounds_read, bounds_same, read_tree, read_pairs, edits_read}
+use Rattle.btree_edit.proofs.Values.{values_added}
 use Rattle.btree_edit.proofs.edits.insert.Goals as goal
 
 pub add-requires-clause-tree : goal.add-requires-clause-tree
@@ -136,3 +139,10 @@ returns-in_ok-add-in-Absent-clause-thick g c = λ tells done.
     let short : length (record_of c.put.new.self) ≤ m.shape.node_size / 2 - 10 =
     subst (λ n. length (record_of c.put.new.self) ≤ n / 2 - 10) (sym reads.same.node_size) (omega (arith, ap length rec_is, length-append c.args.key.now c.args.value.now, c.requires.short)) in
     c.in_ok-add-in-Absent.ensures.thick (reads.same.tells ∙ tells) wide c.put.ensures.key short absent
+
+pub returns-in-At-clause-values : goal.returns-in-At-clause-values
+returns-in-At-clause-values g c = λ tells had. All-same (λ (pair : Pair). g.K.KeyOrder.is_value pair.1) _ _ (returns-in-At-clause-pairs g c tells) had
+
+pub returns-in_ok-add-in-Absent-clause-values : goal.returns-in_ok-add-in-Absent-clause-values
+returns-in_ok-add-in-Absent-clause-values g c = λ tells had.
+    values_added g.K.KeyOrder.is_value g.K.KeyOrder.cmp c.args.key.now c.args.value.now _ _ (returns-in_ok-add-in-Absent-clause-pairs g c tells) (c.requires.value tells) had

@@ -32,3 +32,10 @@ returns-clause-roots g c = λ other tells wide short stored.
     omega (arith, short, length-append c.args.desk.now.held.key c.args.value.now, c.requires.desk.first) in
     let first_is = c.put_value.ensures.first fits in
     c.change_pair.ensures.roots tells wide (stored.0, stored.1, stored.2, c.put_value.ensures.key fits ∙ stored.3) (omega (arith, short, ap length first_is))
+
+pub returns-clause-thick : goal.returns-clause-thick
+returns-clause-thick g c = λ other tells wide short stored.
+    let fits : length c.args.desk.now.held.key + length c.args.value.now ≤ c.args.desk.now.first.room =
+    omega (arith, short, length-append c.args.desk.now.held.key c.args.value.now, c.requires.desk.first) in
+    let first_is = c.put_value.ensures.first fits in
+    c.change_pair.ensures.thick tells wide (stored.0, stored.1, stored.2, c.put_value.ensures.key fits ∙ stored.3) (omega (arith, short, ap length first_is))

@@ -2,17 +2,19 @@ use Rattle.std.proofs.Common.{◌≡◌, ◌≤◌, ◌<◌, ◌+◌, ◌*◌, �
 use Rattle.std.specs.declared.cmp.Ordering.TheVariants.{Equal}
 use Rattle.std.proofs.lemmas.Bool.{cases_eq}
 use Rattle.std.proofs.lemmas.List.{length-append}
+use Rattle.std.proofs.lemmas.List.Elements.{All-same}
 use Rattle.btree_node.specs.Levels.{Pair}
 use Rattle.btree_node.specs.Tree.{pairs_of}
 use Rattle.btree_edit.specs.LevelEdit.{node_room}
-use Rattle.btree_edit.specs.Rising.{BoundsRoot}
+use Rattle.btree_edit.specs.Rising.{BoundsRoot, RootHasTwoChildren}
 use Rattle.btree_edit.specs.Sorted.{ChangesPair, EditsTree}
-use Rattle.btree_edit.specs.Editing.{Does, edit_writes}
+use Rattle.btree_edit.specs.Editing.{CostsAtMost, edit_writes}
 use Rattle.btree_edit.specs.Swapping.{SwapsRecord}
 use Rattle.btree_edit.proofs.Crowning.{tree_kept}
 use Rattle.btree_edit.proofs.Doing.{does_both, does_read}
-use Rattle.btree_edit.proofs.Swaps.{bounds_swapped, is_found, found_key, found_size, has_record, value_swapped}
+use Rattle.btree_edit.proofs.Swaps.{bounds_swapped, thick_swapped, thick_read, is_found, found_key, found_size, has_record, value_swapped}
 use Rattle.btree_edit.proofs.Outcomes.{read_tree, read_pairs, edits_read, bounds_read, bounds_same}
+use Rattle.btree_edit.proofs.Values.{values_changed}
 use Rattle.btree_edit.proofs.replacing.replace.Given.{Over}
 use Rattle.btree_edit.proofs.replacing.replace.Goals.{In_ok-give_value-in-At}
 use Rattle.btree_edit.proofs.replacing.replace.Goals as goal
@@ -186,6 +188,9 @@ returns-in_ok-give_value-in-At-clause-alone g c = λ has.
 edits_found : (g : Over) (c : In_ok-give_value-in-At g) → IsTrue (g.N.NodeStore.state c.args.store.now).tells
     → EditsTree g.K.KeyOrder.is_key g.K.KeyOrder.cmp (g.N.NodeStore.state c.args.store.now) (g.N.NodeStore.state c.give_value.new.store) (λ before after. ChangesPair g.K.KeyOrder.cmp c.args.key.now c.args.value.now before after)
     × BoundsRoot g.K.KeyOrder.MAX (g.N.NodeStore.state c.args.store.now) (g.N.NodeStore.state c.give_value.new.store) (g.N.NodeStore.state c.give_value.new.store).shape.depth (g.N.NodeStore.state c.give_value.new.store).shape.root
+    × (RootHasTwoChildren (g.N.NodeStore.state c.args.store.now) (g.N.NodeStore.state c.args.store.now).shape.depth (g.N.NodeStore.state c.args.store.now).shape.root
+    → RootHasTwoChildren (g.N.NodeStore.state c.give_value.new.store) (g.N.NodeStore.state c.give_value.new.store).shape.depth (g.N.NodeStore.state c.give_value.new.store).shape.root)
+    × ((g.N.NodeStore.state c.args.store.now).header ≡ (g.N.NodeStore.state c.args.store.now).shape → (g.N.NodeStore.state c.give_value.new.store).header ≡ (g.N.NodeStore.state c.give_value.new.store).shape)
 edits_found g c tells =
     let s = g.N.NodeStore.state c.args.store.now in
     let m = g.N.NodeStore.state c.find.new.store in
@@ -206,6 +211,8 @@ edits_found g c tells =
             value_swapped g.met.K.KeyOrder.total g.met.K.KeyOrder.key_length s c.find.new.desk c.in-At.node c.in-At.index found.k key c.args.value.now tree found.stands found.holds found.item same
                 m t reads.same reads.shape (reads.tree tells) swaps (c.give_value.ensures.does_one same).same (c.give_value.ensures.shape same) small found.equal,
             bounds_swapped g.K.KeyOrder.MAX s m t c.in-At.node c.in-At.index (c.find.new.desk.held.key ++ c.args.value.now) reads.shape (reads.tree tells) swaps (c.give_value.ensures.shape same),
+            λ thick. thick_swapped s m t c.in-At.node c.in-At.index (c.find.new.desk.held.key ++ c.args.value.now) reads.shape (reads.tree tells) swaps (c.give_value.ensures.shape same) thick,
+            λ says. swaps.header ∙ (reads.tree tells).header ∙ says ∙ sym reads.shape ∙ sym (c.give_value.ensures.shape same),
           )
       | inr other ↦
           let same_pairs = read_pairs g.met.K.KeyOrder.key_length s.shape.depth s m reads tells small tree in
@@ -221,6 +228,8 @@ edits_found g c tells =
             edits_read g.met.K.KeyOrder.key_length s.shape.depth s m reads tells small tree t (λ before after. ChangesPair cmp key c.args.value.now before after)
                 (c.in_ok-give_value-in-At.ensures.changes other (subst (λ b. IsTrue b) (sym reads.same.tells) tells) wide short (found.k, inside, equal_m, stored)),
             bounds_read g.K.KeyOrder.MAX s.shape.depth s m t t.shape.depth t.shape.root reads tells (c.in_ok-give_value-in-At.ensures.roots other told wide short (found.k, inside, equal_m, stored)),
+            λ thick. c.in_ok-give_value-in-At.ensures.thick other told wide short (found.k, inside, equal_m, stored),
+            λ says. c.in_ok-give_value-in-At.ensures.header other told ((reads.tree tells).header ∙ says ∙ sym reads.shape),
           )
     ]
 
@@ -251,7 +260,7 @@ returns-in_err-give_value-in-At-clause-does g c =
     let m = g.N.NodeStore.state c.find.new.store in
     let reads = c.find.ensures.reads in
     let depth : m.shape.depth ≡ s.shape.depth = ap (λ h. h.depth) reads.shape in
-    subst (λ d. Does (edit_writes d) (d + 1) s (g.N.NodeStore.state c.give_value.new.store)) depth
+    subst (λ d. CostsAtMost (edit_writes d) (d + 1) s (g.N.NodeStore.state c.give_value.new.store)) depth
     (does_both 0 0 (edit_writes m.shape.depth) (m.shape.depth + 1) (edit_writes m.shape.depth) (m.shape.depth + 1) (does_read s.shape.depth reads c.find.ensures.cause.later) c.give_value.ensures.does (omega arith) (omega arith))
 
 pub returns-in_ok-give_value-in-At-clause-does : goal.returns-in_ok-give_value-in-At-clause-does
@@ -260,7 +269,7 @@ returns-in_ok-give_value-in-At-clause-does g c =
     let m = g.N.NodeStore.state c.find.new.store in
     let reads = c.find.ensures.reads in
     let depth : m.shape.depth ≡ s.shape.depth = ap (λ h. h.depth) reads.shape in
-    subst (λ d. Does (edit_writes d) (d + 1) s (g.N.NodeStore.state c.give_value.new.store)) depth
+    subst (λ d. CostsAtMost (edit_writes d) (d + 1) s (g.N.NodeStore.state c.give_value.new.store)) depth
     (does_both 0 0 (edit_writes m.shape.depth) (m.shape.depth + 1) (edit_writes m.shape.depth) (m.shape.depth + 1) (does_read s.shape.depth reads c.find.ensures.cause.later) c.give_value.ensures.does (omega arith) (omega arith))
 
 pub returns-in_ok-give_value-in-At-clause-roots : goal.returns-in_ok-give_value-in-At-clause-roots
@@ -269,3 +278,20 @@ returns-in_ok-give_value-in-At-clause-roots g c = λ tells. (edits_found g c tel
 pub returns-in-Absent-clause-roots : goal.returns-in-Absent-clause-roots
 returns-in-Absent-clause-roots g c = λ tells.
     bounds_same g.K.KeyOrder.MAX (g.N.NodeStore.state c.args.store.now).shape.depth (g.N.NodeStore.state c.args.store.now) (g.N.NodeStore.state c.find.new.store) c.find.ensures.reads tells
+
+pub returns-in_ok-give_value-in-At-clause-thick : goal.returns-in_ok-give_value-in-At-clause-thick
+returns-in_ok-give_value-in-At-clause-thick g c = λ tells thick. (edits_found g c tells).2 thick
+
+pub returns-in_ok-give_value-in-At-clause-header : goal.returns-in_ok-give_value-in-At-clause-header
+returns-in_ok-give_value-in-At-clause-header g c = λ tells says. (edits_found g c tells).3 says
+
+pub returns-in_ok-give_value-in-At-clause-values : goal.returns-in_ok-give_value-in-At-clause-values
+returns-in_ok-give_value-in-At-clause-values g c = λ tells had.
+    values_changed g.K.KeyOrder.is_value g.K.KeyOrder.cmp c.args.key.now c.args.value.now _ _ (edits_found g c tells).0.pairs (c.requires.value tells) had
+
+pub returns-in-Absent-clause-thick : goal.returns-in-Absent-clause-thick
+returns-in-Absent-clause-thick g c = λ tells thick.
+    thick_read (g.N.NodeStore.state c.args.store.now) (g.N.NodeStore.state c.find.new.store) c.find.ensures.reads.shape (c.find.ensures.reads.tree tells) thick
+
+pub returns-in-Absent-clause-values : goal.returns-in-Absent-clause-values
+returns-in-Absent-clause-values g c = λ tells had. All-same (λ (pair : Pair). g.K.KeyOrder.is_value pair.1) _ _ (returns-in-Absent-clause-pairs g c tells) had

@@ -1,4 +1,4 @@
-use Rattle.hfs_model.specs.Language as spec
+use Rattle.hfs_language.specs.Language as spec
 use Rattle.cmd_lang.proofs.Both.{reads_both}
 use Rattle.cmd_lang.proofs.pairs.path_and_attribute.Goals as goal
 

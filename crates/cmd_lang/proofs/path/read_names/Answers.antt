@@ -1,4 +1,4 @@
-use Rattle.hfs_model.specs.Language as spec
+use Rattle.hfs_language.specs.Language as spec
 use Rattle.cmd_lang.specs.Reads.{read_so_far}
 use Rattle.std.proofs.Common.{map, Bor, List, ℕ}
 use Rattle.cmd_lang.proofs.Paths.{reads_on}

@@ -1,5 +1,5 @@
 use Rattle.std.proofs.Common.{◌≡◌, map, drop, List, ℕ, Bor}
-use Rattle.hfs_model.specs.Language as spec
+use Rattle.hfs_language.specs.Language as spec
 use Rattle.cmd_lang.specs.Reads.{with_rest, read_so_far}
 use Rattle.cmd_lang.proofs.path.read_names.Given as goal
 

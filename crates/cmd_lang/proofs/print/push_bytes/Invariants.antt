@@ -1,6 +1,6 @@
 use Rattle.std.proofs.Common.{◌≡◌, ◌++◌, drop}
 use Rattle.std.specs.List.{flat_map}
-use Rattle.hfs_model.specs.Text as spec
+use Rattle.hfs_language.specs.Text as spec
 use Rattle.cmd_lang.proofs.print.push_bytes.Given as goal
 
 abbrev pub invariant-loop-byte : goal.invariant-loop-byte

@@ -1,7 +1,7 @@
 use Rattle.std.proofs.Common.{◌≡◌, ◌<◌, ◌≤◌, true, drop}
 use Rattle.std.specs.List.{list_all}
 use Rattle.std.specs.Str.Parse.{digits_value, digits_value_after}
-use Rattle.hfs_model.specs.Language as spec
+use Rattle.hfs_language.specs.Language as spec
 use Rattle.cmd_lang.proofs.words.octal_value.Given as goal
 
 abbrev pub invariant-loop-digit : goal.invariant-loop-digit

@@ -1,4 +1,4 @@
-use Rattle.std.proofs.Common.{◌≡◌, ◌-◌, List, arith, suc, length, sym, ◌∙◌, rules}
+use Rattle.std.proofs.Common.{◌-◌, arith, sym, ◌∙◌}
 use Rattle.fork_map.proofs.Laws.{joins_touching, joins_apart, joins_none}
 use Rattle.fork_map.proofs.edits.push_joined.Goals as goal
 use Rattle.fork_map.proofs.edits.push_joined.Goals.{then-len-gt0+else-touches, else-len-gt0}

@@ -2,6 +2,7 @@ use Rattle.std.proofs.Common.{◌≡◌, ◌<◌, ◌≤◌, ◌+◌, ◌∷◌,
 use Rattle.sector_disk.specs.Lists.{Content, sector, put_sectors}
 use Rattle.sector_disk.specs.Disk.{content}
 use Rattle.sector_disk.proofs.Writing.{same_after, sink_after}
+use Rattle.jnl_store.specs.Store.{durable_of}
 use Rattle.hfsx_server.specs.Volume.{Holds, MountsTo}
 use Rattle.hfsx_server.proofs.Changed.{put_folders_hold, ready_of}
 use Rattle.hfsx_server.proofs.Settling.{content_nothing}
@@ -23,7 +24,7 @@ make_durable-requires g c =
           (λ tells.
           let stands = c.requires.idle.stands tells in
           let is = put.content stands.keeps ∙ ap (λ (d : Content). put_sectors (put_sectors (put_sectors d 2328 new.catalog) 2336 new.leaf) 2 (new.header ∷ [])) (content_nothing c.args.store.now (content s0) c.requires.idle.nothing) in
-          subst (λ (t : Content). Holds t new × (sector t 24 ≡ sector (content s0) 24)) (sym is) (put_folders_hold (content s0) old new stands.holds put.sizes.0 put.sizes.1 c.requires.others));
+          subst (λ (t : Content). Holds t new) (sym is) (put_folders_hold (durable_of c.args.store.now (content s0)) old new stands.holds put.sizes.0 put.sizes.1 c.requires.others));
     }
 
 pub returns-clause-crash : goal.returns-clause-crash

@@ -1,6 +1,7 @@
 use Rattle.std.proofs.Common.{◌≡◌, ◌<◌, ◌≤◌, ◌+◌, ◌∷◌, [], IsTrue, length, refl, sym, ◌∙◌, ap, subst, arith, rules}
 use Rattle.sector_disk.specs.Lists.{Content, sector, put_sectors}
 use Rattle.sector_disk.specs.Disk.{content}
+use Rattle.jnl_store.specs.Store.{durable_of}
 use Rattle.hfsx_server.specs.Volume.{Holds, MountsTo}
 use Rattle.hfsx_server.proofs.Changed.{open_low, put_header_holds, ready_of}
 use Rattle.hfsx_server.proofs.Settling.{content_nothing}
@@ -25,7 +26,7 @@ make_durable-requires g c =
           (λ tells.
           let stands = c.requires.idle.stands tells in
           let is = put.content stands.keeps ∙ ap (λ (d : Content). put_sectors d 2 (new.header ∷ [])) (content_nothing c.args.store.now (content s0) c.requires.idle.nothing) in
-          subst (λ (t : Content). Holds t new × (sector t 24 ≡ sector (content s0) 24)) (sym is) (put_header_holds (content s0) old new stands.holds c.requires.others));
+          subst (λ (t : Content). Holds t new) (sym is) (put_header_holds (durable_of c.args.store.now (content s0)) old new stands.holds c.requires.others));
     }
 
 pub returns-clause-crash : goal.returns-clause-crash

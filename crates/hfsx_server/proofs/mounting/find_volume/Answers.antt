@@ -22,7 +22,7 @@ returns-then-has-lt-LEAST_CAPACITY-clause-refused g c tells =
     let plan = c.in_ok-plan.plan in
     let size = length-content s0 (g.met.D.SectorDisk.well_formed c.args.disk.now) tells in
     let is_open = open_of c0 c.in_ok-header.header s0.sectors (c.in_ok-header.ensures.header tells) c.in_ok-header.ensures.accepted (sym c.is_locked.ensures ∙ c.if-is_locked.false) size in
-    too_small c0 plan c.capacity_of-has.result is_open (subst (λ (d : Content). IsPlan d plan) same (c.in_ok-plan.ensures.plan still)) c.capacity_of-has.ensures c.if-has-lt-LEAST_CAPACITY.true
+    too_small c0 plan c.capacity-has.result is_open (subst (λ (d : Content). IsPlan d plan) same (c.in_ok-plan.ensures.plan still)) c.capacity-has.ensures c.if-has-lt-LEAST_CAPACITY.true
     (subst (λ (d : Content). recovery d ≡ Rattle.std.specs.Prelude.Ok (replayed (journal_of plan) d)) same (c.in_ok-plan.ensures.recovers still))
 
 pub returns-then-has-lt-LEAST_CAPACITY-clause-reads : goal.returns-then-has-lt-LEAST_CAPACITY-clause-reads
@@ -38,7 +38,7 @@ find_tree-requires-clause-plan g c tells =
 pub returns-clause-large : goal.returns-clause-large
 returns-clause-large g c =
     if_ok _ _ c.find_tree.result c.find_tree.ensures.plan
-    (λ found is. subst IsLargePlan (sym is) (c.capacity_of-has.result, c.capacity_of-has.ensures, omega arith))
+    (λ found is. subst IsLargePlan (sym is) (c.capacity-has.result, c.capacity-has.ensures, omega arith))
 
 pub returns-clause-reads : goal.returns-clause-reads
 returns-clause-reads g c =

@@ -37,6 +37,12 @@ put_sector-requires-clause-room g c =
     let inside : c.loop-sector.sector-index < length c.args.list.now = omega arith in
     omega (arith, inside, c.requires.room, c.loop-sector.invariant.spare)
 
+pub put_sector-requires-clause-keeps : goal.put_sector-requires-clause-keeps
+put_sector-requires-clause-keeps g c none tells =
+    let so_far = c.loop-sector.invariant in
+    let tells0 = sym so_far.disk.same.tells ∙ tells in
+    (so_far.keeps (tells0, c.requires.keeps (sym so_far.store.faults ∙ none) tells0)).1
+
 pub loop-sector-preserved : goal.loop-sector-preserved
 loop-sector-preserved g c =
     let s0 = g.D.SectorDisk.state c.args.disk.now in

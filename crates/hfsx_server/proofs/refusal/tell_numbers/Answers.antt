@@ -1,7 +1,7 @@
 use Rattle.std.proofs.Common.{◌≡◌, ◌<◌, ℕ, List, [], length, take, sym, subst, arith}
 use Rattle.std.proofs.lemmas.List.{take_all}
 use Rattle.std.proofs.lemmas.Result.{err_from_is_err_and}
-use Rattle.hfs_model.specs.Text.{fields}
+use Rattle.hfs_language.specs.Text.{fields}
 use Rattle.hfsx_server.proofs.Telling.{ToldAll, told_nothing, told_next, told_failed, told_whole, take_nothing}
 use Rattle.hfsx_server.proofs.refusal.tell_numbers.Goals as goal
 

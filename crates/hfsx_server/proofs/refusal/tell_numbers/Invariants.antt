@@ -1,5 +1,5 @@
 use Rattle.std.proofs.Common.{take}
-use Rattle.hfs_model.specs.Text.{fields}
+use Rattle.hfs_language.specs.Text.{fields}
 use Rattle.hfsx_server.proofs.Telling.{ToldAll}
 use Rattle.hfsx_server.proofs.refusal.tell_numbers.Given as goal
 

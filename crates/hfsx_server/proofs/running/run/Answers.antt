@@ -4,7 +4,7 @@ use Rattle.sector_disk.proofs.Writing.{same_after}
 use Rattle.hfsx_server.specs.declared.faults.MountFault.{MountFault}
 use Rattle.hfsx_server.specs.declared.status.Status.TheVariants as status
 use Rattle.hfsx_server.specs.Headline.{Entry, IsFinished}
-use Rattle.hfsx_server.specs.Serving.{Crashes}
+use Rattle.hfsx_server.specs.Serving.{RunSoFar}
 use Rattle.hfsx_server.specs.Telling.{ToldUnlessFailed, fault_text}
 use Rattle.hfsx_server.specs.Volume.{IsFault, IsRefusal, MountsTo, Refuses, Tree}
 use Rattle.hfsx_server.proofs.Finding.{refused_image}
@@ -33,7 +33,7 @@ returns-in-Ok-clause-headline g c tells settled start mounts =
     let same : c.in-Ok.server.names ≡ start = one_tree (content s0) c.in-Ok.server.names start (c.in-Ok.ensures.found tells) mounts in
     let served = c.serve.ensures.served (c.mount.ensures.same.tells ∙ tells) in
     let run = served.0 in
-    let crashes = mounted_crashes start s0 s1 s2 run (c.mount.ensures.crash tells settled start mounts) c.mount.ensures.sink (subst (λ (t : Tree). Crashes t s1 run s2) same served.1) in (
+    let crashes = mounted_crashes start s0 s1 s2 run (c.mount.ensures.crash tells settled start mounts) c.mount.ensures.sink (subst (λ (t : Tree). RunSoFar t s1 run s2) same served.1) in (
       run,
       headline_of start s0 c0 run s2 c2 (rests_start s0 start settled mounts) (g.met.R.SectorDisk.only_now c.args.rig.now) crashes served.2,
       λ done. finished_before start s0 s1 c0 run s2 c2 c.mount.ensures.sink.told (subst (λ (t : Tree). IsFinished t s1 c0 run s2 c2) same (served.3 done).0),

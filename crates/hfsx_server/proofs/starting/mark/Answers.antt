@@ -2,7 +2,6 @@ use Rattle.std.proofs.Common.{◌≡◌, ◌⊎◌, ◌+◌, ◌%◌, ◌^◌, f
 use Rattle.sector_disk.proofs.Stages.{leaves_with}
 use Rattle.hx_bytes.specs.declared.faults.Trouble.TheVariants.{Disk}
 use Rattle.volume_header.specs.Header.{header_bytes}
-use Rattle.jnl_store.specs.Batch.{Staged}
 use Rattle.hfs_model.specs.Thin.{thin_header}
 use Rattle.hfsx_server.specs.Volume.{MountsTo}
 use Rattle.hfsx_server.proofs.Causes.{cause_ok}
@@ -13,7 +12,7 @@ use Rattle.hfsx_server.proofs.starting.mark.Goals as goal
 pub change_header-requires-clause-idle : goal.change_header-requires-clause-idle
 change_header-requires-clause-idle g c =
     let s0 = g.D.SectorDisk.state c.args.disk.now in
-    idle_begun c.args.store.now c.begin.new.self c.args.parts.now s0 c.requires.idle c.begin.ensures.rest (ap (λ (b : Staged). b.all) c.in_ok-begin.ensures.kept)
+    idle_begun c.args.store.now c.begin.new.self c.args.parts.now s0 c.requires.idle c.begin.ensures.rest c.begin.ensures.puts
     (λ keeps. (keeps.0, c.begin.ensures.keeps s0.sectors s0.candidates keeps.1))
 
 pub change_header-requires-clause-spare : goal.change_header-requires-clause-spare

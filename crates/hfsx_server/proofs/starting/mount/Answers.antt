@@ -6,7 +6,7 @@ use Rattle.sector_disk.specs.Disk.{content, only}
 use Rattle.sector_disk.proofs.Stages.{leaves_both}
 use Rattle.jnl_format.specs.Recovery.{replayed}
 use Rattle.jnl_replay.specs.Plan.{FitsPlan, journal_of}
-use Rattle.jnl_replay.specs.Reading.{OnlyReads}
+use Rattle.sector_disk.specs.Disk.{OnlyReads}
 use Rattle.jnl_replay.proofs.ReadOn.{same_content}
 use Rattle.hfsx_server.specs.declared.faults.MountFault.{MountFault}
 use Rattle.hfsx_server.specs.declared.faults.MountFault.TheVariants.{Disk}

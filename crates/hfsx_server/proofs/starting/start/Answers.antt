@@ -1,6 +1,6 @@
 use Rattle.std.proofs.Common.{◌≡◌, ◌≤◌, ◌∙◌, [], IsTrue, length, refl, sym, ap, subst, arith}
 use Rattle.sector_disk.specs.Lists.{Content, sector}
-use Rattle.sector_disk.specs.Disk.{Candidates, Leaves, content, content_of, only}
+use Rattle.sector_disk.specs.Disk.{Candidates, CrashesLeave, content, content_of, only}
 use Rattle.sector_disk.proofs.Candidates.{content_of-only}
 use Rattle.sector_disk.proofs.Stages.{leaves_both, leaves_with}
 use Rattle.hx_bytes.specs.declared.faults.Trouble.TheVariants.{Disk}
@@ -14,7 +14,8 @@ use Rattle.hfs_model.specs.Thin.{IsJournal}
 use Rattle.std.proofs.lemmas.Result.{err_from_is_err_and}
 use Rattle.hfsx_server.proofs.Causes.{cause_ok, cause_on, cause_other}
 use Rattle.hfsx_server.proofs.Steps.{settled_image}
-use Rattle.hfsx_server.proofs.Started.{after_holds, after_journal, fits_rested, large_rested, rested_thin, same_mounts}
+use Rattle.hfsx_server.proofs.Started.{after_holds, after_journal, large_rested, rested_thin, same_mounts}
+use Rattle.hfsx_server.proofs.Standing.{holds_info}
 use Rattle.hfsx_server.proofs.starting.start.Goals as goal
 
 pub mark-requires-clause-idle : goal.mark-requires-clause-idle
@@ -26,11 +27,11 @@ mark-requires-clause-idle g c =
     let same = c.replay.ensures.same in
     record {
       size = same.sectors ∙ c.requires.size;
-      fits = fits_rested store found.plan s1.sectors c.in_ok-store.ensures.plan (subst (λ n. Rattle.jnl_replay.specs.Plan.FitsPlan n found.plan) (sym same.sectors) c.requires.fits);
+      fits = c.in_ok-store.ensures.still_fits s1.sectors (subst (λ n. Rattle.jnl_replay.specs.Plan.FitsPlan n found.plan) (sym same.sectors) c.requires.fits);
       large = large_rested store found.plan c.in_ok-store.ensures.plan c.requires.large;
-      no_fault = c.in_ok-store.ensures.faults;
-      nothing = ap (λ b. b.all) c.in_ok-store.ensures.nothing;
-      settled = c.in_ok-store.ensures.settled;
+      no_fault = c.in_ok-store.ensures.nothing.2;
+      nothing = c.in_ok-store.ensures.nothing.0;
+      settled = c.in_ok-store.ensures.nothing.1;
       stands = λ tells1.
           let tells : IsTrue s0.tells = sym same.tells ∙ tells1 in
           let c0 = content s0 in
@@ -44,7 +45,9 @@ mark-requires-clause-idle g c =
           record {
             keeps = (tells1, subst (λ n. Keeps store n s1.candidates) (sym same.sectors) (subst (λ (d : Candidates). Keeps store s0.sectors d) (sym after) keeps));
             plan = subst IsThinPlan (sym c.in_ok-store.ensures.plan) (rested_thin c0 found is s0.sectors c.requires.fits long);
-            holds = subst (λ (d : Content). Holds d found.parts) (sym now) (after_holds c0 found is s0.sectors c.requires.fits long);
+            holds = subst (λ (d : Content). Holds d found.parts) (sym (c.in_ok-store.ensures.durable (content s1) ∙ now)) (after_holds c0 found is s0.sectors c.requires.fits long);
+            size = ap (λ (d : Content). length d) now ∙ (after_holds c0 found is s0.sectors c.requires.fits long).size;
+            info = ap (λ (d : Content). sector d 16) now ∙ holds_info (after_replay found.plan c0) found.parts found.names (after_holds c0 found is s0.sectors c.requires.fits long) c.requires.thin;
             journal = subst (λ (d : Content). IsJournal (sector d 24)) (sym now) (after_journal c0 found is s0.sectors c.requires.fits long);
           };
     }

@@ -1,7 +1,7 @@
 use Rattle.std.proofs.Common.{◌≡◌, ◌≤◌, ◌<◌, ◌+◌, ℕ, IsTrue, get_or, [], length}
 use Rattle.sector_disk.specs.Lists.{sector}
 use Rattle.sector_disk.specs.Disk.{content}
-use Rattle.jnl_replay.specs.Reading.{OnlyReads}
+use Rattle.sector_disk.specs.Disk.{OnlyReads}
 use Rattle.jnl_replay.specs.Viewing.{shown}
 use Rattle.hfsx_server.proofs.volume.read_block.Given as goal
 

@@ -1,10 +1,8 @@
-use Rattle.std.proofs.Common.{sym, ◌∙◌, ap, List, ℕ}
+use Rattle.std.proofs.Common.{sym, ◌∙◌, ap, ℕ}
 use Rattle.std.specs.Prelude.{Option, Some, option_map}
-use Rattle.volume_header.specs.Header.{header_of}
 use Rattle.sector_disk.specs.Disk.{content}
 use Rattle.jnl_format.specs.Ring.{offset_after}
 use Rattle.jnl_format.specs.declared.structures.JnlRefusal.TheVariants.{BadList}
-use Rattle.jnl_replay.specs.Reading.{OnlyReads}
 use Rattle.jnl_replay.specs.declared.text.Text.{Text}
 use Rattle.jnl_replay.proofs.Checks.{lists_checked, length-content}
 use Rattle.jnl_replay.proofs.ReadOn.{reads_both, same_content, tells_then}
@@ -12,39 +10,33 @@ use Rattle.jnl_replay.proofs.checking.check_lists.Goals as goal
 
 pub returns-in-None-clause-reads : goal.returns-in-None-clause-reads
 returns-in-None-clause-reads g c =
-    let r = c.read.ensures in
-    reads_both (g.D.SectorDisk.state c.args.disk.now) (g.D.SectorDisk.state c.read.new.self) (g.D.SectorDisk.state c.first_bad_list.new.disk)
-    (record { candidates = r.candidates; barriers = r.barriers; faults = r.cause.later; same = r.same; sink = r.sink; time = r.time }) c.first_bad_list.ensures.reads
+    reads_both (g.D.SectorDisk.state c.args.disk.now) (g.D.SectorDisk.state c.read_volume.new.disk) (g.D.SectorDisk.state c.first_bad_list.new.disk) c.read_volume.ensures.reads c.first_bad_list.ensures.reads
 
 pub returns-in-Some-clause-reads : goal.returns-in-Some-clause-reads
 returns-in-Some-clause-reads g c =
-    let r = c.read.ensures in
-    reads_both (g.D.SectorDisk.state c.args.disk.now) (g.D.SectorDisk.state c.read.new.self) (g.D.SectorDisk.state c.first_bad_list.new.disk)
-    (record { candidates = r.candidates; barriers = r.barriers; faults = r.cause.later; same = r.same; sink = r.sink; time = r.time }) c.first_bad_list.ensures.reads
+    reads_both (g.D.SectorDisk.state c.args.disk.now) (g.D.SectorDisk.state c.read_volume.new.disk) (g.D.SectorDisk.state c.first_bad_list.new.disk) c.read_volume.ensures.reads c.first_bad_list.ensures.reads
 
 pub returns-in-None-clause-sound : goal.returns-in-None-clause-sound
 returns-in-None-clause-sound g c tells =
     let s0 = g.D.SectorDisk.state c.args.disk.now in
-    let s1 = g.D.SectorDisk.state c.read.new.self in
-    let r = c.read.ensures in
-    let reads : OnlyReads s0 s1 = record { candidates = r.candidates; barriers = r.barriers; faults = r.cause.later; same = r.same; sink = r.sink; time = r.time } in
+    let s1 = g.D.SectorDisk.state c.read_volume.new.disk in
+    let reads = c.read_volume.ensures.reads in
     let plan = c.args.plan.now in
     lists_checked (content s0) (content s1) plan c.sectors-sectors.result c.in-Ok.header c.text_of-text.result c.in_ok-first_bad_list.field-0 (same_content s0 s1 reads)
     (c.sectors-sectors.ensures ∙ sym (length-content s0 (g.met.D.SectorDisk.well_formed c.args.disk.now) tells))
-    (c.in-Ok.ensures.read.0 ∙ ap (λ (b : List ℕ). header_of b) (c.in_ok-read.ensures.value tells))
+    (c.in-Ok.ensures.header tells)
     c.text_of-text.ensures.is (c.in_ok-first_bad_list.ensures.value (tells_then s0 s1 reads tells))
     ∙ ap (λ (o : Option ℕ). option_map (λ place. BadList (offset_after plan.info.size plan.header.start place)) o) c.in-None.is
 
 pub returns-in-Some-clause-refused : goal.returns-in-Some-clause-refused
 returns-in-Some-clause-refused g c tells =
     let s0 = g.D.SectorDisk.state c.args.disk.now in
-    let s1 = g.D.SectorDisk.state c.read.new.self in
-    let r = c.read.ensures in
-    let reads : OnlyReads s0 s1 = record { candidates = r.candidates; barriers = r.barriers; faults = r.cause.later; same = r.same; sink = r.sink; time = r.time } in
+    let s1 = g.D.SectorDisk.state c.read_volume.new.disk in
+    let reads = c.read_volume.ensures.reads in
     let plan = c.args.plan.now in
     lists_checked (content s0) (content s1) plan c.sectors-sectors.result c.in-Ok.header c.text_of-text.result c.in_ok-first_bad_list.field-0 (same_content s0 s1 reads)
     (c.sectors-sectors.ensures ∙ sym (length-content s0 (g.met.D.SectorDisk.well_formed c.args.disk.now) tells))
-    (c.in-Ok.ensures.read.0 ∙ ap (λ (b : List ℕ). header_of b) (c.in_ok-read.ensures.value tells))
+    (c.in-Ok.ensures.header tells)
     c.text_of-text.ensures.is (c.in_ok-first_bad_list.ensures.value (tells_then s0 s1 reads tells))
     ∙ ap (λ (o : Option ℕ). option_map (λ place. BadList (offset_after plan.info.size plan.header.start place)) o) c.in-Some.is
     ∙ ap (λ n. Some (BadList n)) (ap (λ (t : Text). offset_after t.span.size t.start c.in-Some.at) (sym c.text_of-text.ensures.is) ∙ sym c.advance-offset.ensures.after)

@@ -4,14 +4,15 @@ use Rattle.sector_disk.specs.Lists.{sector}
 use Rattle.jnl_format.specs.Info.{with_info}
 use Rattle.jnl_format.specs.declared.structures.Info.{Info}
 use Rattle.jnl_replay.specs.Homing.{initialised}
-use Rattle.jnl_replay.specs.Reading.{OnlyReads}
-use Rattle.jnl_replay.proofs.OneSector.{read_mixes, read_then_mixes}
+use Rattle.sector_disk.specs.Disk.{OnlyReads}
+use Rattle.sector_disk.proofs.Writing.{leaves_read}
+use Rattle.jnl_replay.proofs.OneSector.{read_then_mixes}
 use Rattle.jnl_replay.proofs.emptying.clear_flag.Goals as goal
 
 pub returns-in_err-read-clause-crash : goal.returns-in_err-read-clause-crash
 returns-in_err-read-clause-crash g c tells =
     let r = c.read.ensures in
-    read_mixes (g.D.SectorDisk.state c.args.disk.now) (g.D.SectorDisk.state c.read.new.self) _ _
+    leaves_read _ (g.D.SectorDisk.state c.args.disk.now) (g.D.SectorDisk.state c.read.new.self)
     (record { candidates = r.candidates; barriers = r.barriers; faults = r.cause.later; same = r.same; sink = r.sink; time = r.time })
 
 pub returns-clause-crash : goal.returns-clause-crash

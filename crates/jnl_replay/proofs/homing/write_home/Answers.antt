@@ -4,11 +4,12 @@ use Rattle.sector_disk.proofs.Candidates.{content_of-with_candidate}
 use Rattle.jnl_replay.specs.Homing.{GrowsHomes}
 use Rattle.jnl_replay.specs.Text.{words}
 use Rattle.jnl_replay.proofs.Common.{on_ok}
-use Rattle.jnl_replay.proofs.Growing.{grows_written, leaves_grown, leaves_read}
+use Rattle.jnl_replay.proofs.HomeWritten.{home_written}
+use Rattle.sector_disk.proofs.Writing.{leaves_grown, leaves_read}
 use Rattle.jnl_replay.proofs.homing.write_home.Goals as goal
 
 pub returns-in_err-read_text-clause-crash : goal.returns-in_err-read_text-clause-crash
-returns-in_err-read_text-clause-crash g c tells = leaves_read _ _ (g.D.SectorDisk.state c.args.disk.now) (g.D.SectorDisk.state c.read_text.new.disk) c.read_text.ensures.reads
+returns-in_err-read_text-clause-crash g c tells = leaves_read _ (g.D.SectorDisk.state c.args.disk.now) (g.D.SectorDisk.state c.read_text.new.disk) c.read_text.ensures.reads
 
 pub returns-clause-written : goal.returns-clause-written
 returns-clause-written g c tells =
@@ -27,7 +28,7 @@ returns-clause-grows g c tells =
     let s2 = g.D.SectorDisk.state c.write.new.self in
     let w = words c.args.text.now (content s0) in
     subst (λ (d : Candidates). GrowsHomes w (c.args.home.now ∷ []) d s2.candidates) c.read_text.ensures.reads.candidates
-    (grows_written c.write.result w c.args.home.now (g.D.SectorDisk.state c.read_text.new.disk).candidates s2.candidates c.read_text.new.into (c.in_ok-read_text.ensures.value tells) c.write.ensures.written c.write.ensures.unsure)
+    (home_written c.write.result w c.args.home.now (g.D.SectorDisk.state c.read_text.new.disk).candidates s2.candidates c.read_text.new.into (c.in_ok-read_text.ensures.value tells) c.write.ensures.written c.write.ensures.unsure)
 
 pub returns-clause-crash : goal.returns-clause-crash
 returns-clause-crash g c tells =
@@ -35,6 +36,6 @@ returns-clause-crash g c tells =
     let s1 = g.D.SectorDisk.state c.read_text.new.disk in
     let s2 = g.D.SectorDisk.state c.write.new.self in
     let w = words c.args.text.now (content s0) in
-    leaves_grown w _ s0 s1 s2 c.read_text.ensures.reads c.write.ensures.time c.write.ensures.sink
+    leaves_grown _ s0 s1 s2 c.read_text.ensures.reads c.write.ensures.time c.write.ensures.sink
     (subst (λ (d : Candidates). GrowsHomes w (c.args.home.now ∷ []) d s2.candidates) c.read_text.ensures.reads.candidates
-    (grows_written c.write.result w c.args.home.now s1.candidates s2.candidates c.read_text.new.into (c.in_ok-read_text.ensures.value tells) c.write.ensures.written c.write.ensures.unsure))
+    (home_written c.write.result w c.args.home.now s1.candidates s2.candidates c.read_text.new.into (c.in_ok-read_text.ensures.value tells) c.write.ensures.written c.write.ensures.unsure))

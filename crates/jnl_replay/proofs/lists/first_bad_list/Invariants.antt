@@ -1,7 +1,7 @@
 use Rattle.std.proofs.Common.{◌≡◌, ◌≤◌, ◌+◌, ◌-◌, ℕ, IsTrue, length}
 use Rattle.sector_disk.specs.Disk.{content}
 use Rattle.jnl_format.specs.Text.{bad_list}
-use Rattle.jnl_replay.specs.Reading.{OnlyReads}
+use Rattle.sector_disk.specs.Disk.{OnlyReads}
 use Rattle.jnl_replay.specs.Text.{words}
 use Rattle.jnl_replay.proofs.lists.first_bad_list.Given as goal
 

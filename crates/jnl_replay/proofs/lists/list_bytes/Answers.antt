@@ -44,7 +44,7 @@ returns-then-branch-clause-value g c tells =
     let long = length-words s0 t (g.met.D.SectorDisk.well_formed c.args.disk.now) tells c.requires.text in
     let reads = c.read_text.ensures.reads in
     whole_list v t.order t.blhdr w at c.read_text.new.into head (c.in_ok-read_text.ensures.value tells) c.in-Some.ensures c.from-used.result (c.from-entries.result - 1) c.from-used.ensures (ap (λ n. n - 1) c.from-entries.ensures)
-    (sym c.if-branch.true ∙ c.in_ok-fill.ensures.value (tells_then s0 s1 reads tells)
+    (sym c.if-branch.true ∙ c.in_ok-blocks_are_valid.ensures.value (tells_then s0 s1 reads tells)
     ∙ ap (λ (b : List ℕ). filled v t.order b (at + c.from-used.result) (at + 32) (at + c.from-header.result) (c.from-entries.result - 1)) (same_words t s0 s1 reads)
     ∙ ap (λ n. filled v t.order w (at + c.from-used.result) (at + 32) (at + n) (c.from-entries.result - 1)) c.from-header.ensures)
     (let p = sized_back c.from-header.result t.blhdr t.length (length w) at head.used head.last c.from-header.ensures long (c.is_sized.ensures.0 c.if-not-is_sized.false) in
@@ -62,6 +62,6 @@ returns-else-branch-clause-value g c tells =
     let at = c.args.at in
     let reads = c.read_text.ensures.reads in
     unfilled_list v t.order t.blhdr w at c.read_text.new.into head (c.in_ok-read_text.ensures.value tells) c.in-Some.ensures c.from-used.result (c.from-entries.result - 1) c.from-used.ensures (ap (λ n. n - 1) c.from-entries.ensures)
-    (sym c.if-branch.false ∙ c.in_ok-fill.ensures.value (tells_then s0 s1 reads tells)
+    (sym c.if-branch.false ∙ c.in_ok-blocks_are_valid.ensures.value (tells_then s0 s1 reads tells)
     ∙ ap (λ (b : List ℕ). filled v t.order b (at + c.from-used.result) (at + 32) (at + c.from-header.result) (c.from-entries.result - 1)) (same_words t s0 s1 reads)
     ∙ ap (λ n. filled v t.order w (at + c.from-used.result) (at + 32) (at + n) (c.from-entries.result - 1)) c.from-header.ensures)

@@ -1,6 +1,6 @@
 use Rattle.std.proofs.Common.{◌≡◌, ◌∷◌, [], ◌/◌, ◌≤◌, ◌<◌, IsTrue, length, ◌∙◌, ap, subst, arith}
 use Rattle.sector_disk.specs.Lists.{Content, sector}
-use Rattle.sector_disk.specs.Disk.{Leaves, Mixes, Candidates, content, content_of, only}
+use Rattle.sector_disk.specs.Disk.{CrashesLeave, Mixes, Candidates, content, content_of, only}
 use Rattle.sector_disk.proofs.Candidates.{content_of-only}
 use Rattle.sector_disk.proofs.Stages.{stage_leaves, leaves_both}
 use Rattle.jnl_ring.proofs.Bytes.{content_whole}
@@ -12,7 +12,8 @@ use Rattle.jnl_replay.proofs.Fresh.{stage_header, stage_info}
 use Rattle.jnl_replay.proofs.replaying.initialise.Goals as goal
 
 pub returns-in_err-empty_journal-clause-crash : goal.returns-in_err-empty_journal-clause-crash
-returns-in_err-empty_journal-clause-crash g c tells settled =
+returns-in_err-empty_journal-clause-crash g c tells =
+    let settled = c.requires.settled tells in
     let s0 = g.D.SectorDisk.state c.args.disk.now in
     let s1 = g.D.SectorDisk.state c.empty_journal.new.disk in
     let plan = c.args.plan.now in
@@ -22,7 +23,8 @@ returns-in_err-empty_journal-clause-crash g c tells settled =
     (stage_header c0 plan (c.requires.plan tells) s0.sectors c.requires.fits size c.requires.new)
 
 pub returns-clause-crash : goal.returns-clause-crash
-returns-clause-crash g c tells settled =
+returns-clause-crash g c tells =
+    let settled = c.requires.settled tells in
     let s0 = g.D.SectorDisk.state c.args.disk.now in
     let s1 = g.D.SectorDisk.state c.empty_journal.new.disk in
     let s2 = g.D.SectorDisk.state c.clear_flag.new.disk in
@@ -32,7 +34,7 @@ returns-clause-crash g c tells settled =
     let is = c.requires.plan tells in
     let size = length-content s0 (g.met.D.SectorDisk.well_formed c.args.disk.now) tells in
     let P : Content → Type 0 = StandsForSame plan c0 in
-    let first : Leaves s0 s1 P =
+    let first : CrashesLeave s0 s1 P =
     stage_leaves s0 s1 c0 (plan.info.offset / 512) (empty_header plan c0 ∷ []) P settled (c.empty_journal.ensures.crash tells) (stage_header c0 plan is s0.sectors c.requires.fits size c.requires.new) in
     let e = c.empty_journal.ensures in
     let t1 : IsTrue s1.tells = e.same.tells ∙ tells in

@@ -5,7 +5,7 @@ use Rattle.sector_disk.specs.Lists.{sector}
 use Rattle.jnl_ring.specs.Span.{sector_after}
 use Rattle.jnl_ring.proofs.Bytes.{disk_has}
 use Rattle.jnl_ring.proofs.Texts.{text_put}
-use Rattle.jnl_ring.proofs.Written.{grows_maybe, puts_all, wrote_all, wrote_leaves, wrote_none, wrote_one}
+use Rattle.jnl_ring.proofs.Written.{unsure_grows, puts_all, wrote_all, wrote_leaves, wrote_none, wrote_one}
 use Rattle.jnl_ring.proofs.writing.write_at.Goals as goal
 
 pub loop-k-init : goal.loop-k-init
@@ -25,7 +25,7 @@ returns-in_err-write-clause-grows g c =
     let now = g.D.SectorDisk.state c.loop-k.disk in
     let new = g.D.SectorDisk.state c.write.new.self in
     let here : span.base + c.advance-offset.result / 512 ≡ sector_after span c.args.at c.loop-k.k = ap (λ n. span.base + n / 512) c.advance-offset.ensures.after in
-    grows_maybe span c.args.at c.args.from.now c.loop-k.k (g.D.SectorDisk.state c.args.disk.now).candidates now.candidates new.candidates (omega arith) c.loop-k.invariant.grows
+    unsure_grows span c.args.at c.args.from.now c.loop-k.k (g.D.SectorDisk.state c.args.disk.now) now new (omega arith) c.loop-k.invariant
     (subst (λ n. MayHaveWritten now.candidates n (sector c.args.from.now c.loop-k.k) new.candidates) here c.in_err-write.ensures.unsure)
 
 pub returns-in_err-write-clause-crash : goal.returns-in_err-write-clause-crash
@@ -36,7 +36,7 @@ returns-in_err-write-clause-crash g c =
     let new = g.D.SectorDisk.state c.write.new.self in
     let here : span.base + c.advance-offset.result / 512 ≡ sector_after span c.args.at c.loop-k.k = ap (λ n. span.base + n / 512) c.advance-offset.ensures.after in
     wrote_leaves span c.args.at c.args.from.now c.loop-k.k old now new c.loop-k.invariant c.write.ensures.sink
-    (grows_maybe span c.args.at c.args.from.now c.loop-k.k old.candidates now.candidates new.candidates (omega arith) c.loop-k.invariant.grows
+    (unsure_grows span c.args.at c.args.from.now c.loop-k.k old now new (omega arith) c.loop-k.invariant
     (subst (λ n. MayHaveWritten now.candidates n (sector c.args.from.now c.loop-k.k) new.candidates) here c.in_err-write.ensures.unsure))
     c.write.ensures.time
 

@@ -1,8 +1,8 @@
-use Rattle.std.proofs.Common.{◌≡◌, ◌≤◌, ◌+◌, ◌*◌, ◌/◌, ℕ, List, Bool, IsTrue, arith, length, ap, subst, sym, ◌∙◌}
-use Rattle.alloc_bitmap.specs.Bits.{bits_of}
+use Rattle.std.proofs.Common.{◌≡◌, ◌/◌, ℕ, List, Bool, length, ap, ◌∙◌}
+use Rattle.flag_rows.specs.Bits.{bits_of}
 use Rattle.alloc_bitmap.specs.Fork.{fork_sectors}
 use Rattle.alloc_bitmap.specs.Map.{BlockMap}
-use Rattle.alloc_bitmap.proofs.RowLaws.{length-bits_of}
+use Rattle.flag_rows.proofs.RowLaws.{length-bits_of}
 use Rattle.alloc_bitmap.proofs.ForkLaws.{read_all, loaded}
 use Rattle.alloc_bitmap.proofs.bitmap.Bitmap.load.Goals as goal
 

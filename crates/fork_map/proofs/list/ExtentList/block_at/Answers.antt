@@ -1,4 +1,4 @@
-use Rattle.std.proofs.Common.{◌≡◌, ap, sym, ◌∙◌, arith, List, slice_get}
+use Rattle.std.proofs.Common.{ap, sym, ◌∙◌, arith, List, slice_get}
 use Rattle.hx_bytes.specs.declared.extents.Extent.{Extent}
 use Rattle.fork_map.specs.Blocks.{blocks_of}
 use Rattle.fork_map.proofs.Laws.{block_at_cut, no_block_at}

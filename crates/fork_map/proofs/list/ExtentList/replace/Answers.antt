@@ -1,4 +1,4 @@
-use Rattle.std.proofs.Common.{◌≡◌, ap, sym, ◌∙◌, rules, append_assoc, List, take, drop, ◌++◌, ℕ}
+use Rattle.std.proofs.Common.{◌≡◌, ap, ◌∙◌, rules, List, take, drop, ◌++◌, ℕ}
 use Rattle.hx_bytes.specs.declared.extents.Extent.{Extent}
 use Rattle.fork_map.specs.Blocks.{blocks_of}
 use Rattle.fork_map.specs.Cut.{front, back, join}

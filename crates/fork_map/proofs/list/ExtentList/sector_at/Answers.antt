@@ -1,7 +1,7 @@
-use Rattle.std.proofs.Common.{◌≡◌, ◌≤◌, ◌<◌, ◌^◌, ◌+◌, ◌*◌, ◌/◌, ◌%◌, ℕ, ap, sym, ◌∙◌, arith, rules, slice_get, Some, None, refl}
+use Rattle.std.proofs.Common.{◌≤◌, ◌<◌, ◌^◌, ◌+◌, ◌*◌, ◌%◌, ap, sym, ◌∙◌, arith, refl}
 use Rattle.std.proofs.Math.Nat.{mul-le-mul_left}
 use Rattle.std.specs.Option.{option_map}
-use Rattle.fork_map.specs.Blocks.{blocks_of, sectors_of}
+use Rattle.fork_map.specs.Blocks.{blocks_of}
 use Rattle.fork_map.proofs.Laws.{no_sectors, sector_at_place}
 use Rattle.fork_map.proofs.list.ExtentList.sector_at.Goals as goal
 

@@ -1,11 +1,11 @@
 use Rattle.std.proofs.Common.{◌≡◌, ◌⊎◌, ◌≤◌, ◌∙◌, ◌++◌, ◌∷◌, [], IsTrue, inl, refl, sym, ap, subst, arith, List, ℕ, Result}
 use Rattle.std.proofs.lemmas.Result.{err_from_is_err_and}
-use Rattle.sector_disk.specs.Clock.{Passes}
-use Rattle.sector_disk.specs.Disk.{IsImage, Leaves, ToldFront}
-use Rattle.hfs_model.specs.Language.{command_of}
-use Rattle.hfs_model.specs.Text.{reply_text}
-use Rattle.hfs_model.specs.declared.command.Command.{Command}
-use Rattle.hfs_model.specs.declared.refusal.Refusal.{Refusal}
+use Rattle.sector_disk.specs.Clock.{TimePasses}
+use Rattle.sector_disk.specs.Disk.{IsImage, CrashesLeave, ToldPrefix}
+use Rattle.hfs_language.specs.Language.{command_of}
+use Rattle.hfs_language.specs.Text.{reply_text}
+use Rattle.hfs_language.specs.declared.command.Command.{Command}
+use Rattle.hfs_language.specs.declared.refusal.Refusal.{Refusal}
 use Rattle.hfsx_server.specs.declared.faults.ServeFault.TheVariants.{Disk, Source, Sink, TooMany}
 use Rattle.hfsx_server.specs.Session.{step}
 use Rattle.hfsx_server.specs.Volume.{MountsTo}
@@ -44,9 +44,9 @@ returns-in-Ok-clause-served g c tells text is =
     let read : c.in_ok-command.command ≡ command_of text = c.in_ok-command.ensures text is in
     let after = ap (λ (r : Result Command Refusal). (step names r).1) read in
     let words : c.as_slice.result.now ≡ reply_text (step names (command_of text)).0 = c.as_slice.ensures ∙ c.in_ok-text.ensures.text ∙ ap (λ (r : Result Command Refusal). reply_text (step names r).0) read in
-    served_whole names text s0 s1 s2 (subst (λ n. Leaves s0 s1 (λ image. MountsTo image names ⊎ MountsTo image n)) after (c.do_line.ensures.crash tells)) c.do_line.ensures.sink
+    served_whole names text s0 s1 s2 (subst (λ n. CrashesLeave s0 s1 (λ image. MountsTo image names ⊎ MountsTo image n)) after (c.do_line.ensures.crash tells)) c.do_line.ensures.sink
     (subst (λ n. Rattle.hfsx_server.specs.Serving.Rests s1 n) (c.in_ok-text.ensures.names ∙ after) (c.in_ok-text.ensures.serving.rests still))
-    (subst (λ l. Passes s1.clock s2.clock (λ image told. IsImage s1.candidates image × ToldFront s1.told l told)) words (c.tell_whole.ensures.time still))
+    (subst (λ l. TimePasses s1.clock s2.clock (λ image told. IsImage s1.candidates image × ToldPrefix s1.told l told)) words (c.tell_whole.ensures.time still))
     (c.in-Ok.ensures.told still ∙ ap (λ (l : List ℕ). s1.told ++ l) words) c.tell_whole.ensures.candidates
 
 pub returns-clause-stopped : goal.returns-clause-stopped
@@ -59,10 +59,10 @@ returns-clause-stopped g c tells text is =
     let read : c.in_ok-command.command ≡ command_of text = c.in_ok-command.ensures text is in
     let after = ap (λ (r : Result Command Refusal). (step names r).1) read in
     let words : c.as_slice.result.now ≡ reply_text (step names (command_of text)).0 = c.as_slice.ensures ∙ c.in_ok-text.ensures.text ∙ ap (λ (r : Result Command Refusal). reply_text (step names r).0) read in
-    served_partly names text s0 s1 s2 (subst (λ n. Leaves s0 s1 (λ image. MountsTo image names ⊎ MountsTo image n)) after (c.do_line.ensures.crash tells)) c.do_line.ensures.sink
+    served_partly names text s0 s1 s2 (subst (λ n. CrashesLeave s0 s1 (λ image. MountsTo image names ⊎ MountsTo image n)) after (c.do_line.ensures.crash tells)) c.do_line.ensures.sink
     (subst (λ n. Rattle.hfsx_server.specs.Serving.Rests s1 n) (c.in_ok-text.ensures.names ∙ after) (c.in_ok-text.ensures.serving.rests still))
-    (subst (λ l. Passes s1.clock s2.clock (λ image told. IsImage s1.candidates image × ToldFront s1.told l told)) words (c.tell_whole.ensures.time still))
-    (subst (λ l. ToldFront s1.told l s2.told) words (c.in-Err.ensures.unsure still))
+    (subst (λ l. TimePasses s1.clock s2.clock (λ image told. IsImage s1.candidates image × ToldPrefix s1.told l told)) words (c.tell_whole.ensures.time still))
+    (subst (λ l. ToldPrefix s1.told l s2.told) words (c.in-Err.ensures.unsure still))
 
 pub returns-in_err-text-clause-stopped : goal.returns-in_err-text-clause-stopped
 returns-in_err-text-clause-stopped g c tells text is =
@@ -71,7 +71,7 @@ returns-in_err-text-clause-stopped g c tells text is =
     let names = c.args.self.now.names in
     let after = ap (λ (r : Result Command Refusal). (step names r).1) (c.in_ok-command.ensures text is) in
     on_err_of _ c.from_residual-in_err-text.result
-    (served_early names text s0 s1 s1 (subst (λ n. Leaves s0 s1 (λ image. MountsTo image names ⊎ MountsTo image n)) after (c.do_line.ensures.crash tells)) c.do_line.ensures.sink)
+    (served_early names text s0 s1 s1 (subst (λ n. CrashesLeave s0 s1 (λ image. MountsTo image names ⊎ MountsTo image n)) after (c.do_line.ensures.crash tells)) c.do_line.ensures.sink)
 
 pub returns-in_err-command-clause-stopped : goal.returns-in_err-command-clause-stopped
 returns-in_err-command-clause-stopped g c tells text is =

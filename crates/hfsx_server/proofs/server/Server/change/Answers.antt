@@ -1,5 +1,5 @@
 use Rattle.std.proofs.Common.{◌≡◌, ◌⊎◌, List, ℕ, Option, inl, sym, subst}
-use Rattle.sector_disk.specs.Disk.{Leaves}
+use Rattle.sector_disk.specs.Disk.{CrashesLeave}
 use Rattle.hfsx_server.specs.Session.{with_folder}
 use Rattle.hfsx_server.specs.Volume.{MountsTo}
 use Rattle.hfsx_server.proofs.Steps.{leaves_none}
@@ -10,7 +10,7 @@ returns-in-Some-clause-crash g c tells =
     let s0 = g.D.SectorDisk.state c.args.disk.now in
     let s1 = g.D.SectorDisk.state c.make_folder.new.disk in
     let names = c.args.self.now.names in
-    subst (λ (folder : Option (List ℕ)). Leaves s0 s1 (λ image. MountsTo image names ⊎ MountsTo image (with_folder names folder))) (sym c.in-Some.is) (c.make_folder.ensures.crash tells)
+    subst (λ (folder : Option (List ℕ)). CrashesLeave s0 s1 (λ image. MountsTo image names ⊎ MountsTo image (with_folder names folder))) (sym c.in-Some.is) (c.make_folder.ensures.crash tells)
 
 pub returns-in-None-clause-crash : goal.returns-in-None-clause-crash
 returns-in-None-clause-crash g c tells = leaves_none (g.D.SectorDisk.state c.args.disk.now) _ (λ image is. inl (c.requires.serving.rests tells image is))

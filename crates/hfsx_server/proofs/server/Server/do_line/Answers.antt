@@ -1,5 +1,5 @@
 use Rattle.std.proofs.Common.{◌≡◌, ◌⊎◌, ◌∙◌, inl, refl, sym, ap, subst, IsTrue, List, ℕ}
-use Rattle.sector_disk.specs.Disk.{Leaves}
+use Rattle.sector_disk.specs.Disk.{CrashesLeave}
 use Rattle.hx_bytes.specs.declared.faults.Trouble.TheVariants.{Disk}
 use Rattle.hfs_model.specs.Names.{are_thin_names}
 use Rattle.hfsx_server.specs.Session.{Step}
@@ -26,10 +26,10 @@ pub returns-in_err-change-clause-crash : goal.returns-in_err-change-clause-crash
 returns-in_err-change-clause-crash g c tells =
     let s0 = g.D.SectorDisk.state c.args.disk.now in
     let s1 = g.D.SectorDisk.state c.change.new.disk in
-    subst (λ (n : List (List ℕ)). Leaves s0 s1 (λ image. MountsTo image c.args.self.now.names ⊎ MountsTo image n)) (sym (ap (λ (s : Step). s.1) c.in_ok-reply.ensures)) (c.change.ensures.crash tells)
+    subst (λ (n : List (List ℕ)). CrashesLeave s0 s1 (λ image. MountsTo image c.args.self.now.names ⊎ MountsTo image n)) (sym (ap (λ (s : Step). s.1) c.in_ok-reply.ensures)) (c.change.ensures.crash tells)
 
 pub returns-clause-crash : goal.returns-clause-crash
 returns-clause-crash g c tells =
     let s0 = g.D.SectorDisk.state c.args.disk.now in
     let s1 = g.D.SectorDisk.state c.change.new.disk in
-    subst (λ (n : List (List ℕ)). Leaves s0 s1 (λ image. MountsTo image c.args.self.now.names ⊎ MountsTo image n)) (sym (ap (λ (s : Step). s.1) c.in_ok-reply.ensures)) (c.change.ensures.crash tells)
+    subst (λ (n : List (List ℕ)). CrashesLeave s0 s1 (λ image. MountsTo image c.args.self.now.names ⊎ MountsTo image n)) (sym (ap (λ (s : Step). s.1) c.in_ok-reply.ensures)) (c.change.ensures.crash tells)

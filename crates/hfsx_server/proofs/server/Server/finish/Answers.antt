@@ -4,7 +4,7 @@ use Rattle.sector_disk.proofs.Stages.{leaves_both, leaves_with}
 use Rattle.jnl_store.specs.Standing.{StandsForDurable}
 use Rattle.hfsx_server.specs.Volume.{MountsTo}
 use Rattle.hfsx_server.proofs.Causes.{store_cause}
-use Rattle.hfsx_server.proofs.Finished.{durable_mounts, finished}
+use Rattle.hfsx_server.proofs.Finished.{durable_mounts, finished, holds_now}
 use Rattle.hfsx_server.proofs.Results.{on_ok}
 use Rattle.hfsx_server.proofs.server.Server.finish.Goals as goal
 
@@ -34,7 +34,7 @@ returns-clause-crash g c tells =
     let still = c.change_header.ensures.same.tells ∙ tells in
     let idle = c.in-Ok.ensures.idle in
     leaves_both s0 s1 s2 (λ image. MountsTo image names ⊎ MountsTo image names) (StandsForDurable store1 s1) (λ image. MountsTo image names) (c.change_header.ensures.crash tells names names c.requires.serving.thin thin) c.change_header.ensures.sink
-    (c.checkpoint.ensures.crash (idle.stands still).keeps idle.no_fault)
+    (c.checkpoint.ensures.crash idle.no_fault still)
     (λ image either. ⊎_elim (λ was. was) (λ is. is) either)
     (λ image durable. durable_mounts store1 parts s1 names idle thin still image durable)
 
@@ -48,8 +48,21 @@ returns-clause-finished g c tells =
     let thin = c.with_mark-parts.ensures.thin in
     let still = c.change_header.ensures.same.tells ∙ tells in
     let idle = c.in-Ok.ensures.idle in
-    on_ok _ _ c.checkpoint.result (c.checkpoint.ensures.done (idle.stands still).keeps idle.no_fault)
-    (λ settles. finished store1 parts s1 names idle thin still c.checkpoint.new.self s2 settles c.checkpoint.ensures.journal c.write_count.result (omega arith) c.with_mark-parts.ensures.header)
+    on_ok _ _ c.checkpoint.result (c.checkpoint.ensures.done idle.no_fault still)
+    (λ settles. finished store1 parts s1 names idle thin still c.checkpoint.new.self s2 settles c.checkpoint.ensures.journal c.checkpoint.ensures.still_fits c.write_count.result (omega arith) c.with_mark-parts.ensures.header)
+
+pub returns-clause-stands : goal.returns-clause-stands
+returns-clause-stands g c tells =
+    let s1 = g.R.SectorDisk.state c.change_header.new.disk in
+    let s2 = g.R.SectorDisk.state c.checkpoint.new.disk in
+    let store1 = c.change_header.new.store in
+    let still = c.change_header.ensures.same.tells ∙ tells in
+    let idle = c.in-Ok.ensures.idle in
+    on_ok _ _ c.checkpoint.result (c.checkpoint.ensures.done idle.no_fault still)
+    (λ settles. holds_now store1 c.with_mark-parts.result s1 c.args.self.now.names idle c.with_mark-parts.ensures.thin still c.checkpoint.new.self s2 settles c.checkpoint.ensures.journal c.checkpoint.ensures.still_fits)
+
+pub returns-clause-not_failed : goal.returns-clause-not_failed
+returns-clause-not_failed g c = c.checkpoint.ensures.not_failed c.in-Ok.ensures.idle.no_fault
 
 pub returns-clause-cause : goal.returns-clause-cause
 returns-clause-cause g c =
@@ -57,3 +70,6 @@ returns-clause-cause g c =
     let s1 = g.R.SectorDisk.state c.change_header.new.disk in
     let s2 = g.R.SectorDisk.state c.checkpoint.new.disk in
     store_cause c.checkpoint.result s0.faults s1.faults s2.faults c.change_header.ensures.cause.later c.checkpoint.ensures.later (λ is. (c.checkpoint.ensures.disk is).0) (c.checkpoint.ensures.not_failed c.in-Ok.ensures.idle.no_fault)
+
+pub checkpoint-requires-clause-keeps : goal.checkpoint-requires-clause-keeps
+checkpoint-requires-clause-keeps g c no_fault tells = (c.in-Ok.ensures.idle.stands tells).keeps.1

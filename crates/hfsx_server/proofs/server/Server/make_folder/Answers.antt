@@ -1,6 +1,5 @@
 use Rattle.std.proofs.Common.{◌≡◌, ◌⊎◌, ◌≤◌, ◌+◌, ◌∙◌, ◌++◌, ◌∷◌, [], inl, refl, sym, ap, subst, IsTrue, arith, List, ℕ}
 use Rattle.hx_bytes.specs.declared.faults.Trouble.TheVariants.{Disk}
-use Rattle.jnl_store.specs.Batch.{Staged}
 use Rattle.hfs_model.specs.Thin.{AreThin}
 use Rattle.hfsx_server.proofs.Causes.{cause_ok}
 use Rattle.hfsx_server.proofs.Changed.{idle_begun}
@@ -10,7 +9,7 @@ use Rattle.hfsx_server.proofs.server.Server.make_folder.Goals as goal
 pub change_folders-requires-clause-idle : goal.change_folders-requires-clause-idle
 change_folders-requires-clause-idle g c =
     let s0 = g.D.SectorDisk.state c.args.disk.now in
-    idle_begun c.args.self.now.store c.begin.new.self c.args.self.now.parts s0 c.requires.serving.idle c.begin.ensures.rest (ap (λ (b : Staged). b.all) c.in_ok-begin.ensures.kept)
+    idle_begun c.args.self.now.store c.begin.new.self c.args.self.now.parts s0 c.requires.serving.idle c.begin.ensures.rest c.begin.ensures.puts
     (λ keeps. (keeps.0, c.begin.ensures.keeps s0.sectors s0.candidates keeps.1))
 
 pub change_folders-requires-clause-spare : goal.change_folders-requires-clause-spare

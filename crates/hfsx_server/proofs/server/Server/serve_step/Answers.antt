@@ -1,10 +1,10 @@
 use Rattle.std.proofs.Common.{◌≡◌, ◌≢◌, ◌∙◌, ◌+◌, ◌≤◌, ◌++◌, ◌∷◌, [], IsTrue, IfSome, IfNone, length, refl, sym, ap, subst, arith, List, ℕ}
-use Rattle.hfs_model.specs.Lines.{lines}
+use Rattle.hfs_language.specs.Lines.{lines}
 use Rattle.hfsx_server.specs.declared.faults.ServeFault.TheVariants.{Disk, Source, Sink}
 use Rattle.hfsx_server.specs.Headline.{lines_of, tree_after}
 use Rattle.hfsx_server.specs.Input.{ahead, IsLine, TakesLines}
 use Rattle.hfsx_server.specs.Session.{step}
-use Rattle.hfsx_server.specs.Serving.{Crashes, Serves, entry_of}
+use Rattle.hfsx_server.specs.Serving.{RunSoFar, Serves, entry_of}
 use Rattle.hfsx_server.proofs.Causes.{cause_ok}
 use Rattle.hfsx_server.proofs.Lines.{serving_same, stops_none, stops_takes, takes_end}
 use Rattle.hfsx_server.proofs.Results.{on_err_of}
@@ -41,7 +41,7 @@ returns-in_err-answer-in-Some-clause-stopped g c tells =
     let read = subst (λ next. IfSome next (λ line. (text : List ℕ) × IsLine 140000 text line × (IsTrue before.tells → TakesLines c.args.self.now.input before (text ∷ []) c.next_line.new.self after))) c.in-Some.is c.in_ok-line.ensures.line in
     on_err_of _ c.from_residual-in_err-answer-in-Some.result (
       entry_of names read.0 ∷ [],
-      subst (λ n. Crashes n s0 (entry_of n read.0 ∷ []) s1) same.names (c.in_err-answer-in-Some.ensures.stopped tells read.0 read.1),
+      subst (λ n. RunSoFar n s0 (entry_of n read.0 ∷ []) s1) same.names (c.in_err-answer-in-Some.ensures.stopped tells read.0 read.1),
       λ told. stops_takes c.args.self.now.input c.next_line.new.self before after (entry_of names read.0 ∷ []) (read.2 told),
     )
 
@@ -57,7 +57,7 @@ returns-in_ok-answer-in-Some-clause-served g c tells =
     let now = c.in_ok-answer-in-Some.ensures in (
       entry_of names read.0 ∷ [],
       subst (λ n. Serves n s0 (entry_of n read.0 ∷ []) s1) same.names (now.served tells read.0 read.1),
-      now.names read.0 read.1 ∙ ap (λ n. (step n (Rattle.hfs_model.specs.Language.command_of read.0)).1) same.names ∙ sym (tree_after-one names (entry_of names read.0)),
+      now.names read.0 read.1 ∙ ap (λ n. (step n (Rattle.hfs_language.specs.Language.command_of read.0)).1) same.names ∙ sym (tree_after-one names (entry_of names read.0)),
       c.answer.ensures.input.1 ∙ c.in_ok-count_line-in-Some.ensures.counted,
       λ told. subst (λ l. TakesLines c.args.self.now.input before (read.0 ∷ []) l after) (sym (c.answer.ensures.input.0 ∙ same.input)) (read.2 told),
     )

@@ -3,7 +3,7 @@ use Rattle.sector_disk.specs.Disk.{content}
 use Rattle.jnl_format.specs.declared.blocks.Home.{Home}
 use Rattle.jnl_format.specs.declared.blocks.Volume.{Volume}
 use Rattle.jnl_replay.specs.Pending.{IsCursor, Pending, work_left}
-use Rattle.jnl_replay.specs.Reading.{OnlyReads}
+use Rattle.sector_disk.specs.Disk.{OnlyReads}
 use Rattle.jnl_replay.specs.Text.{words}
 use Rattle.jnl_replay.proofs.homes.Homes.next.Given as goal
 

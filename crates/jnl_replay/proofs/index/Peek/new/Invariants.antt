@@ -7,7 +7,7 @@ use Rattle.jnl_format.specs.declared.blocks.Volume.{Volume}
 use Rattle.jnl_replay.specs.Homing.{AreHomesOf}
 use Rattle.jnl_replay.specs.Placed.{ArePlaced}
 use Rattle.jnl_replay.specs.Pending.{IsCursor}
-use Rattle.jnl_replay.specs.Reading.{OnlyReads}
+use Rattle.sector_disk.specs.Disk.{OnlyReads}
 use Rattle.jnl_replay.specs.Text.{words}
 use Rattle.jnl_replay.proofs.Peeks.{Indexed}
 use Rattle.jnl_replay.proofs.index.Peek.new.Given as goal

@@ -1,0 +1,134 @@
+use Rattle.std.proofs.Common.{◌≡◌, ◌<◌, ◌-◌, ◌+◌, length, set, ap, sym, subst, ◌∙◌, arith, refl, inl, inr, true}
+use Rattle.std.proofs.lemmas.List.{length-set}
+use Rattle.btree_node.specs.Node.{items}
+use Rattle.btree_node.specs.Tree.{IsTreeNode}
+use Rattle.btree_edit.specs.Reading.{HasNoKey, IsLead, IsPlace}
+use Rattle.btree_edit.specs.Way.{LeadsWay}
+use Rattle.btree_edit.proofs.Behind.{clashing}
+use Rattle.btree_edit.proofs.Descent.{leads_root, leads_root_front, leads_node, leads_keys}
+use Rattle.btree_edit.proofs.Repeated.{reads_none, reads_both, still_node}
+use Rattle.btree_edit.proofs.Ways.{IsOnWay, on_root, on_step, on_leaf, bare_root}
+use Rattle.btree_edit.proofs.tracing.find_path.Goals as goal
+
+pub loop-level-init : goal.loop-level-init
+loop-level-init g c =
+    let s = g.N.NodeStore.state c.args.store.now in
+    let shape = c.shape-shape.ensures in
+    let depth : c.shape-shape.result.depth ≡ s.shape.depth = ap (λ h. h.depth) shape in
+    record {
+      shape = shape;
+      some = omega arith;
+      most = omega arith;
+      way = λ tells.
+          let ascends = (c.requires.tree tells).ordered.ascends 0 (omega arith) in
+          subst (λ r. IsOnWay g.K.KeyOrder.cmp c.args.key.now s c.args.desk.now.path 0 r) (sym (ap (λ h. h.root) shape))
+          (on_root g.K.KeyOrder.cmp g.met.K.KeyOrder.total c.args.key.now s c.args.desk.now.path (leads_root g.K.KeyOrder.cmp g.met.K.KeyOrder.total c.args.key.now s ascends)
+          (leads_root_front g.K.KeyOrder.cmp g.met.K.KeyOrder.total c.args.key.now s ascends));
+      desk = c.requires.desk;
+      held = refl;
+      first = refl;
+      reads = reads_none s;
+      later = omega arith;
+      below = g.met.N.NodeStore.follows_refl c.args.store.now;
+    }
+
+pub returns-then-not-branch-clause-none : goal.returns-then-not-branch-clause-none
+returns-then-not-branch-clause-none g c = λ tells not some.
+    let s = g.N.NodeStore.state c.args.store.now in
+    let t = c.requires.tree tells in
+    let before = c.loop-level.invariant in
+    let deep : c.shape-shape.result.depth ≡ s.shape.depth = ap (λ h. h.depth) c.shape-shape.ensures in
+    let height : s.shape.depth - c.loop-level.level ≡ c.shape-shape.result.depth - c.loop-level.level = omega arith in
+    let node : IsTreeNode s (c.shape-shape.result.depth - c.loop-level.level) c.loop-level.node = subst (λ h. IsTreeNode s h c.loop-level.node) height
+    (leads_node g.K.KeyOrder.is_key g.K.KeyOrder.cmp g.met.K.KeyOrder.total g.met.K.KeyOrder.key_length s t.levels t.ordered c.args.key.now c.loop-level.level c.loop-level.node (before.way tells).leads (omega (arith, c.loop-level-test.true))) in
+    let still = still_node c.loop-level.level (c.shape-shape.result.depth - c.loop-level.level) c.loop-level.node before.reads tells node in
+    let yes : c.in_ok-read_node.field-0 ≡ true = c.in_ok-read_node.ensures.sound still.0 still.1 still.2 (omega (arith, before.most)) in
+    absurd (clashing (sym yes ∙ c.if-not-branch.true))
+
+pub returns-in_default-clause-none : goal.returns-in_default-clause-none
+returns-in_default-clause-none g c = λ tells not some.
+    let s = g.N.NodeStore.state c.args.store.now in
+    let t = c.requires.tree tells in
+    let before = c.loop-level.invariant in
+    let deep : c.shape-shape.result.depth ≡ s.shape.depth = ap (λ h. h.depth) c.shape-shape.ensures in
+    let yes : c.in_ok-read_node.field-0 ≡ true = c.if-not-branch.false in
+    let into : c.read_node.new.into ≡ s.nodes c.loop-level.node = c.in_ok-read_node.ensures.value (before.reads.same.tells ∙ tells) yes ∙ (before.reads.tree tells).nodes c.loop-level.node in
+    let inside : c.loop-level.level < s.shape.depth = omega (arith, c.loop-level-test.true) in
+    elim c.in_default.ensures.none [
+      | inl no_key ↦ absurd (leads_keys g.K.KeyOrder.is_key g.K.KeyOrder.cmp g.met.K.KeyOrder.total g.met.K.KeyOrder.key_length s t.levels t.ordered c.args.key.now c.loop-level.level c.loop-level.node (before.way tells).leads inside
+          (subst (λ l. HasNoKey g.K.KeyOrder.is_key (items l)) into no_key))
+      | inr none ↦ bare_root g.K.KeyOrder.is_key g.K.KeyOrder.cmp g.met.K.KeyOrder.total g.met.K.KeyOrder.key_length s t.levels t.ordered c.args.key.now c.loop-level.desk.path c.loop-level.level c.loop-level.node (before.way tells) inside
+          (ap (λ l. length (items l)) (sym into) ∙ ap length none)
+    ]
+
+pub loop-level-preserved : goal.loop-level-preserved
+loop-level-preserved g c =
+    let s = g.N.NodeStore.state c.args.store.now in
+    let before = c.loop-level.invariant in
+    let deep : c.shape-shape.result.depth ≡ s.shape.depth = ap (λ h. h.depth) c.shape-shape.ensures in
+    let low : c.loop-level.level + 1 < s.shape.depth = omega (arith, c.loop-level-test.true) in
+    record {
+      shape = before.shape;
+      some = before.some;
+      most = before.most;
+      way = λ tells.
+          let t = c.requires.tree tells in
+          let yes : c.in_ok-read_node.field-0 ≡ true = c.if-not-branch.false in
+          let into : c.read_node.new.into ≡ s.nodes c.loop-level.node = c.in_ok-read_node.ensures.value (before.reads.same.tells ∙ tells) yes ∙ (before.reads.tree tells).nodes c.loop-level.node in
+          on_step g.K.KeyOrder.is_key g.K.KeyOrder.cmp g.met.K.KeyOrder.total g.met.K.KeyOrder.key_length s t.levels t.ordered c.args.key.now c.loop-level.desk.path c.loop-level.level c.loop-level.node (before.way tells)
+          (record { node = c.loop-level.node; at = c.in-Some.step.index }) (omega (arith, before.desk.path, before.most)) refl low c.in-Some.step
+          (subst (λ l. IsLead g.K.KeyOrder.cmp c.args.key.now (items l) c.in-Some.step) into c.in-Some.ensures.step) refl;
+      desk = record {
+        node = c.read_node.ensures.size ∙ before.desk.node;
+        other = before.desk.other;
+        held = before.desk.held;
+        first = before.desk.first;
+        second = before.desk.second;
+        path = length-set c.loop-level.desk.path c.loop-level.level (record { node = c.loop-level.node; at = c.in-Some.step.index }) ∙ before.desk.path;
+      };
+      held = before.held;
+      first = before.first;
+      reads = reads_both c.loop-level.level 1 (c.loop-level.level + 1) before.reads c.read_node.ensures.reads (omega arith);
+      later = omega (arith, before.later, c.read_node.ensures.cause.later);
+      below = g.met.N.NodeStore.follows_trans c.args.store.now c.loop-level.store c.read_node.new.store before.below c.read_node.ensures.below;
+    }
+
+pub returns-then-not-branch-2-clause-none : goal.returns-then-not-branch-2-clause-none
+returns-then-not-branch-2-clause-none g c = λ tells not some.
+    let s = g.N.NodeStore.state c.args.store.now in
+    let t = c.requires.tree tells in
+    let before = c.loop-level.invariant in
+    let deep : c.shape-shape.result.depth ≡ s.shape.depth = ap (λ h. h.depth) c.shape-shape.ensures in
+    let last : s.shape.depth - c.loop-level.level ≡ 1 = omega (arith, c.loop-level-test.false, c.loop-level.auto.level-end) in
+    let node : IsTreeNode s 1 c.loop-level.node = subst (λ h. IsTreeNode s h c.loop-level.node) last
+    (leads_node g.K.KeyOrder.is_key g.K.KeyOrder.cmp g.met.K.KeyOrder.total g.met.K.KeyOrder.key_length s t.levels t.ordered c.args.key.now c.loop-level.level c.loop-level.node (before.way tells).leads (omega arith)) in
+    let still = still_node c.loop-level.level 1 c.loop-level.node before.reads tells node in
+    let yes : c.in_ok-read_node-2.field-0 ≡ true = c.in_ok-read_node-2.ensures.sound still.0 still.1 still.2 (omega arith) in
+    absurd (clashing (sym yes ∙ c.if-not-branch-2.true))
+
+pub returns-in_default-place-clause-none : goal.returns-in_default-place-clause-none
+returns-in_default-place-clause-none g c = λ tells not some.
+    let s = g.N.NodeStore.state c.args.store.now in
+    let t = c.requires.tree tells in
+    let before = c.loop-level.invariant in
+    let deep : c.shape-shape.result.depth ≡ s.shape.depth = ap (λ h. h.depth) c.shape-shape.ensures in
+    let last : s.shape.depth - c.loop-level.level ≡ 1 = omega (arith, c.loop-level-test.false, c.loop-level.auto.level-end) in
+    let yes : c.in_ok-read_node-2.field-0 ≡ true = c.if-not-branch-2.false in
+    let into : c.read_node-2.new.into ≡ s.nodes c.loop-level.node = c.in_ok-read_node-2.ensures.value (before.reads.same.tells ∙ tells) yes ∙ (before.reads.tree tells).nodes c.loop-level.node in
+    absurd (leads_keys g.K.KeyOrder.is_key g.K.KeyOrder.cmp g.met.K.KeyOrder.total g.met.K.KeyOrder.key_length s t.levels t.ordered c.args.key.now c.loop-level.level c.loop-level.node (before.way tells).leads (omega arith)
+    (subst (λ l. HasNoKey g.K.KeyOrder.is_key (items l)) into c.in_default-place.ensures.no_key))
+
+pub returns-clause-way : goal.returns-clause-way
+returns-clause-way g c = λ tells yes_is.
+    let s = g.N.NodeStore.state c.args.store.now in
+    let t = c.requires.tree tells in
+    let before = c.loop-level.invariant in
+    let deep : c.shape-shape.result.depth ≡ s.shape.depth = ap (λ h. h.depth) c.shape-shape.ensures in
+    let last : c.loop-level.level + 1 ≡ s.shape.depth = omega (arith, c.loop-level-test.false, c.loop-level.auto.level-end) in
+    let yes : c.in_ok-read_node-2.field-0 ≡ true = c.if-not-branch-2.false in
+    let into : c.read_node-2.new.into ≡ s.nodes c.loop-level.node = c.in_ok-read_node-2.ensures.value (before.reads.same.tells ∙ tells) yes ∙ (before.reads.tree tells).nodes c.loop-level.node in
+    let place : IsPlace g.K.KeyOrder.cmp c.args.key.now (items (s.nodes c.loop-level.node)) c.in-Some-place.at = subst (λ l. IsPlace g.K.KeyOrder.cmp c.args.key.now (items l) c.in-Some-place.at) into c.in-Some-place.ensures.place in
+    let there : c.loop-level.level ≡ c.shape-shape.result.depth - 1 = omega arith in
+    subst (λ i. LeadsWay g.K.KeyOrder.cmp c.args.key.now s (set c.loop-level.desk.path i (record { node = c.loop-level.node; at = c.in-Some-place.at }))) there
+    (on_leaf g.K.KeyOrder.is_key g.K.KeyOrder.cmp g.met.K.KeyOrder.total g.met.K.KeyOrder.key_length s t.levels t.ordered c.args.key.now c.loop-level.desk.path c.loop-level.level c.loop-level.node (before.way tells)
+    (record { node = c.loop-level.node; at = c.in-Some-place.at }) (omega (arith, before.desk.path, before.most)) refl last place)

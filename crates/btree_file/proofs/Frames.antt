@@ -1,0 +1,32 @@
+-- What a node that is put leaves of the space.
+use Rattle.std.proofs.Common.{◌≡◌, ℕ, IsTrue, List, inl, inr, sym, ◌∙◌, arith, ⊎_elim}
+use Rattle.std.specs.List.{Contains}
+use Rattle.std.proofs.lemmas.Bool.{cases_Bool, true≢false}
+use Rattle.sector_disk.specs.Clock.{TimePasses}
+use Rattle.sector_disk.specs.Space.{Space, SameSpace, LeavesDurable}
+use Rattle.btree_file.specs.Frame.{PutsWithin}
+use Rattle.btree_file.specs.Place.{sectors_at}
+use Rattle.btree_file.specs.Putting.{PutsNode, TakesRoomFor}
+use Rattle.btree_file.proofs.Rooms.{of_fork}
+
+pub put_within : (sectors : List ℕ) (per n : ℕ) (bytes : List ℕ) (old new : Space) → (IsTrue old.tells → PutsNode (sectors_at sectors per n) bytes old new) → TakesRoomFor (sectors_at sectors per n) old new → SameSpace old new
+    → (IsTrue old.tells → TimePasses old.clock new.clock (LeavesDurable new)) → new.faults ≡ old.faults → PutsWithin sectors old new
+put_within sectors per n bytes old new puts room same time faults =
+    let up : (s : ℕ) → Contains (sectors_at sectors per n) s → Contains sectors s = of_fork sectors per n in
+    record {
+      same = same;
+      content = λ tells. record { size = (puts tells).content.size; each = λ s. ⊎_elim (λ e. inl e) (λ c. inr (up s c)) ((puts tells).content.each s) };
+      durable = λ tells. (puts tells).durable;
+      spilled = λ tells. (puts tells).spilled;
+      live = λ tells s l. ⊎_elim (λ o. inl o) (λ c. inr (up s c)) (((puts tells).live s).0 l);
+      still_live = λ tells s l. ((puts tells).live s).1 (inl l);
+      closed = λ tells. (puts tells).closed;
+      put = λ s. elim (cases_Bool (new.put s)) [
+        | inl t ↦ ⊎_elim (λ o. inl (t ∙ sym o)) (λ c. inr (up s c)) ((room.put s).0 t)
+        | inr f ↦ elim (cases_Bool (old.put s)) [ inl t ↦ absurd (true≢false (sym ((room.put s).1 (inl t)) ∙ f)) | inr g ↦ inl (f ∙ sym g) ]
+      ];
+      still_put = λ s t. (room.put s).1 (inl t);
+      spare = omega (arith, room.spare);
+      faults = omega (arith, faults);
+      time = time;
+    }

@@ -1,0 +1,10 @@
+pub mod Place
+pub mod Map
+pub mod State
+pub mod Frame
+pub mod Putting
+pub mod FrameLaws
+pub mod Spots
+pub mod Walks
+pub mod Held
+pub mod Apart

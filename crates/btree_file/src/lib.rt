@@ -1,0 +1,13 @@
+//! The nodes of a tree file: a fork over sectors, with a header record and map nodes.
+#![tactic(auto)]
+
+mod apart;
+mod attaching;
+mod marking;
+mod on;
+mod putting;
+mod reading;
+mod tree;
+
+pub use on::TreeOn;
+pub use tree::{Stretch, TreeFile};

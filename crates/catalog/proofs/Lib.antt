@@ -1,0 +1,12 @@
+pub mod Answers
+pub mod BeforeEdits
+pub mod EntryEdits
+pub mod Faults
+pub mod Keys
+pub mod Pairs
+pub mod Places
+pub mod RecordLengths
+pub mod Removals
+pub mod SingleEdits
+pub mod Standing
+pub mod Updates

@@ -1,0 +1,14 @@
+use Rattle.std.proofs.Common.{◌≤◌, arith}
+use Rattle.btree_edit.proofs.EditLaws.{takes_one}
+use Rattle.catalog.proofs.SingleEdits.{one_edit}
+use Rattle.catalog.proofs.edits.remove_key.Goals as goal
+
+pub returns-clause-takes : goal.returns-clause-takes
+returns-clause-takes g c = takes_one 516 (g.N.NodeStore.state c.args.store.now) (g.N.NodeStore.state c.remove.new.store) c.remove.ensures.does
+
+pub returns-clause-edits : goal.returns-clause-edits
+returns-clause-edits g c =
+    let old = (g.N.NodeStore.state c.args.store.now).shape in
+    let new = (g.N.NodeStore.state c.remove.new.store).shape in
+    one_edit c.remove.result (new.leaf_records ≤ old.leaf_records) (g.N.NodeStore.state c.args.store.now) (g.N.NodeStore.state c.remove.new.store) (λ few. omega (arith, few))
+    c.remove.ensures.does c.remove.ensures.depth c.remove.ensures.records c.remove.ensures.roots

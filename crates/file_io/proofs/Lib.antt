@@ -1,0 +1,11 @@
+pub mod WalkLaws
+pub mod ByteLaws
+pub mod SpaceLaws
+pub mod PartLaws
+pub mod SpillLaws
+pub mod GiveLaws
+pub mod CutLaws
+pub mod PlaceLaws
+pub mod AfterLaws
+pub mod TakenLaws
+pub mod WrittenLaws

@@ -1,0 +1,190 @@
+-- What a space is while sectors of a file are made anew.
+use Rattle.std.specs.Prelude.{slice_set}
+use Rattle.std.proofs.Common.{◌≡◌, ◌≢◌, ◌⊎◌, ℕ, suc, ◌+◌, ◌*◌, ◌/◌, ◌%◌, ◌≤◌, ◌<◌, nat_lt, true, false, IsTrue, List, [], Some, length, get_or, take, slice_get, inl, inr, refl, sym, ◌∙◌, ap, subst, arith, ⊎_elim}
+use Rattle.std.proofs.lemmas.Bool.{cases_lt, cases_eq}
+use Rattle.std.proofs.lemmas.Bool.Decides.{leb_tells}
+use Rattle.std.proofs.lemmas.List.{get_or-set_same, get_or-set_other, length-set}
+use Rattle.std.proofs.lemmas.Option.{slice_get-get_or, slice_get_within, get_or_from_slice_get}
+use Rattle.sector_disk.specs.Lists.{Content, sector}
+use Rattle.sector_disk.specs.Clock.{TimePasses}
+use Rattle.sector_disk.specs.Space.{Space, SameSpace, SameRoom, SameSectors, Spills, MayHaveSpilled, AgreesOutside, LeavesDurable}
+use Rattle.sector_disk.proofs.Passing.{none_passes, both_pass}
+use Rattle.alloc_bitmap.proofs.SpaceLaws.{space_none, space_both, room_both, iff_none, iff_both, time_both}
+use Rattle.file_io.specs.Bytes.{sector_bytes, padded, old_byte, new_byte}
+use Rattle.file_io.specs.Touching.{IsOneOf, IsOnlyRead, SpillsIn}
+use Rattle.file_io.proofs.ByteLaws.{sector_bytes_is}
+
+-- ---- sectors that were spilled
+agrees_none : (these : ℕ → Type 0) (content : Content) → AgreesOutside these content content
+agrees_none these content = record { size = refl; each = λ at. inl refl }
+
+agrees_both : (these : ℕ → Type 0) (a b c : Content) → AgreesOutside these a b → AgreesOutside these b c → AgreesOutside these a c
+agrees_both these a b c p q = record {
+  size = q.size ∙ p.size;
+  each = λ at. ⊎_elim (λ e. ⊎_elim (λ d. inl (e ∙ d)) (λ t. inr t) (p.each at)) (λ t. inr t) (q.each at);
+}
+
+agrees_same : (these : ℕ → Type 0) (a b : Content) → b ≡ a → AgreesOutside these a b
+agrees_same these a b is = record { size = ap (λ (l : Content). length l) is; each = λ at. inl (ap (λ (l : Content). sector l at) is) }
+
+agrees_set : (these : ℕ → Type 0) (a b : Content) (at : ℕ) (value : List ℕ) → b ≡ slice_set a at value → these at → AgreesOutside these a b
+agrees_set these a b at value is here = record {
+  size = ap (λ (l : Content). length l) is ∙ length-set a at value;
+  each = λ k. ⊎_elim
+      (λ (same : k ≡ at). inr (subst (λ j. these j) (sym same) here))
+      (λ (other : k ≢ at). inl (ap (λ (l : Content). sector l k) is ∙ get_or-set_other a at k value [] other))
+      (cases_eq k at);
+}
+
+agrees_either : (these : ℕ → Type 0) (a b : Content) (at : ℕ) (value : List ℕ) → (b ≡ slice_set a at value) ⊎ (b ≡ a) → these at → AgreesOutside these a b
+agrees_either these a b at value is here = ⊎_elim (λ s. agrees_set these a b at value s here) (λ s. agrees_same these a b s) is
+
+pub spills_none : (these : ℕ → Type 0) (space : Space) → SpillsIn these space space
+spills_none these space = record {
+  content = agrees_none these space.content;
+  durable = agrees_none these space.durable;
+  spilled = λ s p. inl p;
+  still = λ s p. p;
+  live = λ s. iff_none (space.live s);
+  closed = λ s. iff_none (space.closed s);
+}
+
+spills_both : (these : ℕ → Type 0) (a b c : Space) → SpillsIn these a b → SpillsIn these b c → SpillsIn these a c
+spills_both these a b c p q = record {
+  content = agrees_both these a.content b.content c.content p.content q.content;
+  durable = agrees_both these a.durable b.durable c.durable p.durable q.durable;
+  spilled = λ s n. ⊎_elim (λ m. p.spilled s m) (λ t. inr t) (q.spilled s n);
+  still = λ s o. q.still s (p.still s o);
+  live = λ s. iff_both (a.live s) (b.live s) (c.live s) (p.live s) (q.live s);
+  closed = λ s. iff_both (a.closed s) (b.closed s) (c.closed s) (p.closed s) (q.closed s);
+}
+
+spills_read : (these : ℕ → Type 0) (a b : Space) → SameSectors a b → SpillsIn these a b
+spills_read these a b s = record {
+  content = agrees_same these a.content b.content s.content;
+  durable = agrees_same these a.durable b.durable s.durable;
+  spilled = λ k n. inl ((s.spilled k).0 n);
+  still = λ k o. (s.spilled k).1 o;
+  live = s.live;
+  closed = s.closed;
+}
+
+spills_one : (these : ℕ → Type 0) (a b : Space) (at : ℕ) (value : List ℕ) → these at → Spills a at value b → SpillsIn these a b
+spills_one these a b at value here s = record {
+  content = agrees_set these a.content b.content at value s.content here;
+  durable = agrees_set these a.durable b.durable at value s.durable here;
+  spilled = λ k n. ⊎_elim (λ o. inl o) (λ same. inr (subst (λ j. these j) (sym same) here)) ((s.spilled k).0 n);
+  still = λ k o. (s.spilled k).1 (inl o);
+  live = s.live;
+  closed = s.closed;
+}
+
+spills_maybe : (these : ℕ → Type 0) (a b : Space) (at : ℕ) (value : List ℕ) → these at → MayHaveSpilled a at value b → SpillsIn these a b
+spills_maybe these a b at value here s = record {
+  content = agrees_either these a.content b.content at value s.content here;
+  durable = agrees_either these a.durable b.durable at value s.durable here;
+  spilled = λ k n. ⊎_elim (λ o. inl o) (λ same. inr (subst (λ j. these j) (sym same) here)) (s.spilled k n);
+  still = s.still;
+  live = s.live;
+  closed = s.closed;
+}
+
+-- what a crash leaves before a spill it leaves after it too
+leaves_spilled : (a b : Space) (at : ℕ) (value : List ℕ) (image : Content) (told : List ℕ) → Spills a at value b → b.told ≡ a.told → LeavesDurable a image told → LeavesDurable b image told
+leaves_spilled a b at value image told s same l = (
+  record {
+    size = l.0.size ∙ sym (ap (λ (c : Content). length c) s.durable ∙ length-set a.durable at value);
+    each = λ k. ⊎_elim
+        (λ (here : k ≡ at). inr (inl ((s.spilled k).1 (inr here))))
+        (λ (other : k ≢ at). ⊎_elim
+        (λ e. inl (e ∙ sym (ap (λ (c : Content). sector c k) s.durable ∙ get_or-set_other a.durable at k value [] other)))
+        (λ these. inr (⊎_elim (λ o. inl ((s.spilled k).1 (inl o))) (λ c. inr ((s.closed k).1 c)) these))
+        (l.0.each k))
+        (cases_eq k at);
+  },
+  l.1 ∙ sym same,
+)
+
+-- the same sector has the same bytes
+pub same_sector_bytes : (a b : Content) (at : ℕ) → sector b at ≡ sector a at → sector_bytes b at ≡ sector_bytes a at
+unfolding sector_bytes
+same_sector_bytes a b at is = ap (λ (l : List ℕ). take 512 (padded 512 l)) is
+
+made_place : (fresh : List ℕ) (n i at : ℕ) → i < n → slice_get fresh n ≡ Some at → get_or fresh i 0 ≡ at → slice_get fresh i ≡ Some at
+made_place fresh n i at lt place is = slice_get-get_or fresh i 0 (omega (arith, lt, slice_get_within fresh n at place)) ∙ ap (λ s. Some s) is
+
+-- ---- the first n sectors of a file's fresh blocks are made
+pub record Made (old now : Space) (from_sectors fresh : List ℕ) (first size from : ℕ) (value : List ℕ) (n : ℕ) : Type 0 where
+  pub same : SameSpace old now
+  pub room : SameRoom old now
+  pub later : old.faults ≤ now.faults
+  pub touches : IsTrue old.tells → SpillsIn (IsOneOf fresh) old now
+  pub time : IsTrue old.tells → TimePasses old.clock now.clock (LeavesDurable now)
+  pub bytes : IsTrue old.tells → (m k : ℕ) → m < n → k < 512 → get_or (sector_bytes now.content (get_or fresh m 0)) k 0 ≡ new_byte old.content from_sectors size from value ((first + m) * 512 + k)
+
+pub made_none : (space : Space) (from_sectors fresh : List ℕ) (first size from : ℕ) (value : List ℕ) → Made space space from_sectors fresh first size from value 0
+made_none space from_sectors fresh first size from value = record {
+  same = space_none space;
+  room = record { put = λ k. refl; spare = refl };
+  later = omega arith;
+  touches = λ tells. spills_none (IsOneOf fresh) space;
+  time = λ tells. none_passes space.clock (LeavesDurable space);
+  bytes = λ tells m k lt below. absurd (omega (arith, lt));
+}
+
+-- a read keeps what was made
+pub made_read : (old now mid : Space) (from_sectors fresh : List ℕ) (first size from : ℕ) (value : List ℕ) (n : ℕ) → Made old now from_sectors fresh first size from value n → IsOnlyRead now mid → Made old mid from_sectors fresh first size from value n
+made_read old now mid from_sectors fresh first size from value n m r = record {
+  same = space_both old now mid m.same r.same;
+  room = room_both old now mid m.room r.room;
+  later = omega (arith, m.later, r.later);
+  touches = λ tells. spills_both (IsOneOf fresh) old now mid (m.touches tells) (spills_read (IsOneOf fresh) now mid (r.sectors (m.same.tells ∙ tells)));
+  time = λ tells. time_both old now mid (r.sectors (m.same.tells ∙ tells)) r.same (m.time tells) (r.time (m.same.tells ∙ tells));
+  bytes = λ tells i k lt below. ap (λ (c : Content). get_or (sector_bytes c (get_or fresh i 0)) k 0) (r.sectors (m.same.tells ∙ tells)).content ∙ m.bytes tells i k lt below;
+}
+
+-- sectors that are none of the fresh ones have the bytes that they had
+pub same_old_byte : (old now : Space) (from_sectors fresh : List ℕ) (size q : ℕ) → SpillsIn (IsOneOf fresh) old now → ((at : ℕ) → IsOneOf fresh at → IsOneOf from_sectors at → ⊥) → size ≤ length from_sectors * 512
+    → old_byte now.content from_sectors size q ≡ old_byte old.content from_sectors size q
+same_old_byte old now from_sectors fresh size q s elsewhere holds = ⊎_elim
+    (λ (inside : (nat_lt q size ≡ true) × (suc q ≤ size)).
+    let there : q / 512 < length from_sectors = omega (arith, inside.1, holds) in
+    let at : ℕ = get_or from_sectors (q / 512) 0 in
+    let one : IsOneOf from_sectors at = (q / 512, slice_get-get_or from_sectors (q / 512) 0 there) in
+    let same : sector now.content at ≡ sector old.content at = ⊎_elim (λ e. e) (λ t. absurd (elsewhere at t one)) (s.content.each at) in
+    rw inside.0 (ap (λ (l : List ℕ). get_or l (q % 512) 0) (same_sector_bytes old.content now.content at same)))
+    (λ (past : (nat_lt q size ≡ false) × (size < suc q)). rw past.0 refl)
+    (leb_tells (suc q) size)
+
+-- a sector is spilled
+pub made_more : (old mid new : Space) (from_sectors fresh : List ℕ) (first size from : ℕ) (value : List ℕ) (n at : ℕ) (made : List ℕ) → Made old mid from_sectors fresh first size from value n → slice_get fresh n ≡ Some at
+    → ((i j s : ℕ) → slice_get fresh i ≡ Some s → slice_get fresh j ≡ Some s → i ≡ j) → length made ≡ 512 → (IsTrue mid.tells → at < length mid.content)
+    → (IsTrue old.tells → (k : ℕ) → k < 512 → get_or made k 0 ≡ new_byte old.content from_sectors size from value ((first + n) * 512 + k))
+    → (IsTrue mid.tells → Spills mid at made new) → (IsTrue mid.tells → TimePasses mid.clock new.clock (LeavesDurable new)) → SameRoom mid new → SameSpace mid new → mid.faults ≤ new.faults
+    → Made old new from_sectors fresh first size from value (n + 1)
+made_more old mid new from_sectors fresh first size from value n at made m place apart long inside right spills time room same later = record {
+  same = space_both old mid new m.same same;
+  room = room_both old mid new m.room room;
+  later = omega (arith, m.later, later);
+  touches = λ tells. spills_both (IsOneOf fresh) old mid new (m.touches tells) (spills_one (IsOneOf fresh) mid new at made (n, place) (spills (m.same.tells ∙ tells)));
+  time = λ tells. let told = m.same.tells ∙ tells in both_pass old.clock mid.clock new.clock (LeavesDurable mid) (LeavesDurable new) (LeavesDurable new) (m.time tells) (time told)
+      (λ image bytes l. leaves_spilled mid new at made image bytes (spills told) same.told l) (λ image bytes l. l);
+  bytes = λ tells i k lt below. let told = m.same.tells ∙ tells in let s = spills told in ⊎_elim
+      (λ (before : i < n).
+      let there : get_or fresh i 0 ≢ at = λ is. absurd (omega (arith, before, apart i n at (made_place fresh n i at before place is) place)) in
+      ap (λ (l : List ℕ). get_or l k 0) (same_sector_bytes mid.content new.content (get_or fresh i 0) (ap (λ (c : Content). sector c (get_or fresh i 0)) s.content ∙ get_or-set_other mid.content at (get_or fresh i 0) made [] there))
+      ∙ m.bytes tells i k before below)
+      (λ (here : n ≤ i).
+      let same_place : i ≡ n = omega (arith, here, lt) in
+      let which : get_or fresh i 0 ≡ at = ap (λ j. get_or fresh j 0) same_place ∙ get_or_from_slice_get fresh n at 0 place in
+      ap (λ j. get_or (sector_bytes new.content j) k 0) which
+      ∙ ap (λ (l : List ℕ). get_or l k 0) (sector_bytes_is new.content at made (ap (λ (c : Content). sector c at) s.content ∙ get_or-set_same mid.content at made [] (inside told)) long)
+      ∙ right tells k below ∙ ap (λ j. new_byte old.content from_sectors size from value ((first + j) * 512 + k)) (sym same_place))
+      (cases_lt i n);
+}
+
+-- a spill that failed
+pub spills_failed : (old mid new : Space) (from_sectors fresh : List ℕ) (first size from : ℕ) (value : List ℕ) (n at : ℕ) (made : List ℕ) → Made old mid from_sectors fresh first size from value n → slice_get fresh n ≡ Some at
+    → (IsTrue mid.tells → MayHaveSpilled mid at made new) → IsTrue old.tells → SpillsIn (IsOneOf fresh) old new
+spills_failed old mid new from_sectors fresh first size from value n at made m place unsure tells =
+    spills_both (IsOneOf fresh) old mid new (m.touches tells) (spills_maybe (IsOneOf fresh) mid new at made (n, place) (unsure (m.same.tells ∙ tells)))

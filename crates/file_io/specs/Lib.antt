@@ -1,0 +1,4 @@
+pub mod Bytes
+pub mod Walks
+pub mod Touching
+pub mod Places

@@ -1,0 +1,197 @@
+//! A store over sectors in memory, and reads that signals interrupt.
+ghost use Rattle.std.specs.Prelude.{◌≡◌, ◌<◌, IfOk};
+
+use crate::again::read_again;
+use crate::failure::{Act, Failure};
+use crate::{Place, Store};
+use hx_bytes::Sector;
+use std::alloc::{AllocError, Global};
+use std::cell::Cell;
+use std::io::{self, ErrorKind, Read};
+use std::process::Abort;
+use std::test::Fail;
+
+/// How often a shelf was called, and whether it fails.
+#[derive(Drop)]
+struct Dial {
+    reads: Cell<u64>,
+    writes: Cell<u64>,
+    fails: Cell<bool>,
+}
+
+/// Sectors in memory, which count their calls and fail while they are told to.
+#[derive(Drop)]
+struct Shelf<'a> {
+    alloc: Global,
+    sectors: Vec<Sector>,
+    flushed: Vec<Sector>,
+    dial: &'a Dial,
+}
+
+fn out_of_order(act: Act) -> Failure {
+    act.failed(io::Error::new(ErrorKind::Other, "out of order"))
+}
+
+impl<'a> Place for Shelf<'a> {
+    ghost use Rattle.std.specs.Prelude.{true};
+
+    ghost state = { λ shelf. record { tells = true; held = shelf.sectors.items; flushed = shelf.flushed.items } };
+
+    fn read_run(&mut self, first: u64, into: &mut [Sector]) -> Result<(), Failure> {
+        self.dial.reads.set(self.dial.reads.get().saturating_add(1));
+        if self.dial.fails.get() {
+            return Err(out_of_order(Act::Reading(first)));
+        }
+        let from = first as usize;
+        let count = into.len();
+        into.copy_from_slice(&self.sectors[from..from + count]);
+        Ok(())
+    }
+
+    fn write_run(&mut self, first: u64, run: &[Sector]) -> Result<(), Failure> {
+        self.dial
+            .writes
+            .set(self.dial.writes.get().saturating_add(1));
+        if self.dial.fails.get() {
+            let count = run.len() as u64;
+            return Err(out_of_order(Act::Writing { first, count }));
+        }
+        let from = first as usize;
+        self.sectors[from..from + run.len()].copy_from_slice(run);
+        Ok(())
+    }
+
+    fn flush(&mut self) -> Result<(), Failure> {
+        if self.dial.fails.get() {
+            return Err(out_of_order(Act::Flushing));
+        }
+        match Vec::from_slice(self.alloc, self.sectors.as_slice()) {
+            Ok(sectors) => {
+                self.flushed = sectors;
+                Ok(())
+            }
+            Err(_) => Err(out_of_order(Act::Flushing)),
+        }
+    }
+}
+
+impl Dial {
+    fn new() -> Dial {
+        Dial {
+            reads: Cell::new(0),
+            writes: Cell::new(0),
+            fails: Cell::new(false),
+        }
+    }
+}
+
+// A store over two hundred sectors of zeros.
+fn store_over<'a>(alloc: Global, dial: &'a Dial) -> Result<Store<Shelf<'a>>, AllocError>
+    ensures { IfOk result (λ store. store.sectors ≡ 200) }
+{
+    let shelf = Shelf {
+        alloc,
+        sectors: vec![in alloc; [0; 512]; 200]?,
+        flushed: Vec::new(alloc),
+        dial,
+    };
+    Store::new(alloc, shelf, 200)
+}
+
+fn put(rt: &impl Abort, store: &mut Store<Shelf<'_>>, at: u64, byte: u8)
+    requires { at < store.old.sectors }
+    ensures { store.new.sectors ≡ store.old.sectors }
+{
+    assert!(rt; store.write(at, &[byte; 512]).is_ok(), "sector {at}");
+}
+
+fn is(rt: &impl Abort, store: &mut Store<Shelf<'_>>, at: u64, byte: u8)
+    requires { at < store.old.sectors }
+    ensures { store.new.sectors ≡ store.old.sectors }
+{
+    let mut sector = [1; 512];
+    assert!(rt; store.read(at, &mut sector).is_ok(), "sector {at}");
+    assert_eq!(rt; sector[511], byte, "sector {at}");
+}
+
+#[test]
+fn neighbours_are_handed_over_together(rt: HostRuntime) -> Result<(), Fail> {
+    let dial = Dial::new();
+    let mut store = store_over(rt.alloc(), &dial)?;
+    put(&rt, &mut store, 10, 1);
+    put(&rt, &mut store, 11, 2);
+    put(&rt, &mut store, 12, 3);
+    put(&rt, &mut store, 11, 4);
+    assert_eq!(rt; dial.writes.get(), 0);
+    is(&rt, &mut store, 11, 4);
+    put(&rt, &mut store, 50, 5);
+    assert_eq!(rt; dial.writes.get(), 1);
+    assert!(rt; store.flush().is_ok());
+    assert_eq!(rt; dial.writes.get(), 2);
+    is(&rt, &mut store, 10, 1);
+    is(&rt, &mut store, 12, 3);
+    is(&rt, &mut store, 50, 5);
+    is(&rt, &mut store, 51, 0);
+    Ok(())
+}
+
+#[test]
+fn a_run_that_could_not_be_handed_over_is_read_and_tried_again(
+    rt: HostRuntime,
+) -> Result<(), Fail> {
+    let dial = Dial::new();
+    let mut store = store_over(rt.alloc(), &dial)?;
+    put(&rt, &mut store, 10, 1);
+    dial.fails.set(true);
+    assert!(rt; store.flush().is_err());
+    assert!(rt; store.write(90, &[9; 512]).is_err());
+    is(&rt, &mut store, 10, 1);
+    dial.fails.set(false);
+    is(&rt, &mut store, 90, 0);
+    assert!(rt; store.flush().is_ok());
+    is(&rt, &mut store, 10, 1);
+    Ok(())
+}
+
+#[test]
+fn reads_go_ahead_and_give_what_was_written_since(rt: HostRuntime) -> Result<(), Fail> {
+    let dial = Dial::new();
+    let mut store = store_over(rt.alloc(), &dial)?;
+    is(&rt, &mut store, 20, 0);
+    is(&rt, &mut store, 21, 0);
+    assert_eq!(rt; dial.reads.get(), 2);
+    is(&rt, &mut store, 84, 0);
+    assert_eq!(rt; dial.reads.get(), 2);
+    put(&rt, &mut store, 30, 7);
+    assert!(rt; store.flush().is_ok());
+    is(&rt, &mut store, 30, 7);
+    assert_eq!(rt; dial.reads.get(), 2);
+    is(&rt, &mut store, 85, 0);
+    assert_eq!(rt; dial.reads.get(), 3);
+    Ok(())
+}
+
+/// A reader that a signal interrupts so many times.
+#[derive(Drop)]
+struct Interrupted {
+    left: u8,
+}
+
+impl Read for Interrupted {
+    fn read(&mut self, into: &mut [u8]) -> io::Result<usize> {
+        if self.left > 0 {
+            self.left -= 1;
+            return Err(io::Error::from(ErrorKind::Interrupted));
+        }
+        Ok(into.len().min(3))
+    }
+}
+
+#[test]
+fn an_interrupted_read_is_made_again(rt: HostRuntime) -> Result<(), Fail> {
+    let mut reader = Interrupted { left: 2 };
+    let mut bytes = [0; 8];
+    assert!(rt; matches!(read_again(&mut reader, &mut bytes), Ok(3)));
+    assert_eq!(rt; reader.left, 0);
+    Ok(())
+}

@@ -1,0 +1,16 @@
+pub mod Answering
+pub mod Lexical
+pub mod Lines
+pub mod Listings
+pub mod Modes
+pub mod OneLine
+pub mod Ordered
+pub mod Paths
+pub mod Replies
+pub mod Results
+pub mod Shown
+pub mod Spelled
+pub mod Splitting
+pub mod Values
+pub mod Words
+pub mod Written

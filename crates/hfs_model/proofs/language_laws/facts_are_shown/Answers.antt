@@ -1,5 +1,0 @@
-use Rattle.hfs_model.proofs.Shown.{facts_shown}
-use Rattle.hfs_model.proofs.language_laws.facts_are_shown.Goals as goal
-
-pub returns : goal.returns
-returns c = facts_shown c.args.one c.args.other

@@ -1,5 +1,0 @@
-use Rattle.hfs_model.proofs.Shown.{gauge_shown}
-use Rattle.hfs_model.proofs.language_laws.gauge_is_shown.Goals as goal
-
-pub returns : goal.returns
-returns c = gauge_shown c.args.one c.args.other

@@ -1,5 +1,0 @@
-use Rattle.hfs_model.proofs.Spelled.{one_command}
-use Rattle.hfs_model.proofs.language_laws.line_spells_one_command.Goals as goal
-
-pub returns : goal.returns
-returns c = one_command c.args.line.now c.args.one.now c.args.other.now

@@ -1,5 +1,0 @@
-use Rattle.hfs_model.proofs.Listings.{listing_shown}
-use Rattle.hfs_model.proofs.language_laws.listing_is_shown.Goals as goal
-
-pub returns : goal.returns
-returns c = listing_shown c.args.one.now c.args.other.now

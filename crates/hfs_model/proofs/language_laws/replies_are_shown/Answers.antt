@@ -1,5 +1,0 @@
-use Rattle.hfs_model.proofs.Replies.{replies_shown}
-use Rattle.hfs_model.proofs.language_laws.replies_are_shown.Goals as goal
-
-pub returns : goal.returns
-returns c = replies_shown c.args.these.now c.args.others.now

@@ -1,5 +1,0 @@
-use Rattle.hfs_model.proofs.OneLine.{one_line}
-use Rattle.hfs_model.proofs.language_laws.reply_is_one_line.Goals as goal
-
-pub returns : goal.returns
-returns c = one_line c.args.reply.now

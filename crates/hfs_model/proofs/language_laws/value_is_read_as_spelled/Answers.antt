@@ -1,5 +1,0 @@
-use Rattle.hfs_model.proofs.Values.{value_spelled}
-use Rattle.hfs_model.proofs.language_laws.value_is_read_as_spelled.Goals as goal
-
-pub returns : goal.returns
-returns c = value_spelled c.args.word.now c.args.value.now

@@ -1,6 +1,0 @@
-use Rattle.std.proofs.Common.{arith}
-use Rattle.hfs_model.proofs.Values.{value_back}
-use Rattle.hfs_model.proofs.language_laws.value_is_read_back.Goals as goal
-
-pub returns : goal.returns
-returns c = value_back c.args.value.now (λ k. omega (arith, c.type_inv.value k))

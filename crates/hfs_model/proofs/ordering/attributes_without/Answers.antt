@@ -1,0 +1,15 @@
+use Rattle.std.proofs.Common.{rules, not, sym, ap, ◌∙◌}
+use Rattle.std.proofs.lemmas.Fn.{filter_same}
+use Rattle.hfs_model.specs.declared.plain.PlainAttribute.{PlainAttribute}
+use Rattle.hfs_model.specs.Sorted.{kept}
+use Rattle.hfs_model.specs.Plain.{is_named}
+use Rattle.hfs_model.proofs.Filtered.{filter-kept}
+use Rattle.hfs_model.proofs.ordering.attributes_without.Goals as goal
+
+pub returns : goal.returns
+returns c =
+    let test = (λ (attribute : PlainAttribute). not (is_named c.args.name.now attribute)) in
+    c.from_vec.ensures
+    ∙ filter_same _ test _ (λ x b f' k. search rules) _ _ c.retain.ensures.filtered
+    ∙ filter-kept test c.into_vec-attributes.result.items
+    ∙ ap (kept test) c.into_vec-attributes.ensures

@@ -1,0 +1,225 @@
+-- The changes that commands are made of, over the lists of a volume.
+use Rattle.std.specs.Prelude.{Bool, ◌&&◌, map, ◌==◌, if◌then◌else◌, not, ◌≡◌, ◌≤◌, ℕ, ◌+◌, ◌*◌, pos, true, false, List, [], ◌++◌, length, take, drop, insert, remove, slice_get, slice_set, All, Contains, Some, IsTrue}
+use Rattle.std.specs.Str.{bytes_eq}
+use Rattle.std.specs.Ordering.{is_lt, nat_cmp, ordering_then}
+use Rattle.std.specs.Cmp.Lexicographic.{slice_cmp}
+use Rattle.hx_bytes.specs.declared.extents.ForkRecord.{ForkRecord}
+use Rattle.volume_header.specs.declared.header.VolumeHeader.{VolumeHeader}
+use Rattle.btree_node.specs.Levels.{Pair}
+use Rattle.cat_records.specs.Keys.{catalog_key_bytes}
+use Rattle.cat_records.specs.Records.{catalog_bytes, is_catalog}
+use Rattle.cat_records.specs.Attributes.{is_attr}
+use Rattle.cat_records.specs.declared.record.CatRecord.{CatRecord}
+use Rattle.cat_records.specs.declared.record.CatRecord.TheVariants.{Folder, File, Thread}
+use Rattle.cat_records.specs.declared.attribute.AttrRecord.TheVariants.{Inline}
+use Rattle.hfs_model.specs.Sorted.{kept, IsInOrder}
+use Rattle.hfs_volume.specs.Records.{Placed, Attribute, placed_of, placed_in, placed_before, attribute_of, is_folder, is_file, is_link, id_of, special_of}
+use Rattle.hfs_volume.specs.Forks.{is_of, data_kind, extents_id, catalog_id, forks_in}
+use Rattle.hfs_volume.specs.Content.{overflow_in_volume, facts_at, VolumeState, TreeFacts, is_set}
+use Rattle.hfs_volume.specs.Reclaim.{blocks_at}
+use Rattle.hfs_volume.specs.Run.{AreFresh}
+
+-- ---- lists
+
+-- one item more
+pub record Adds {X : Type 0} (item : X) (old new : List X) : Type 0 where
+  pub place : ℕ
+  pub within : place ≤ length old
+  pub is : new ≡ insert old place item
+
+-- one item less
+pub record Drops {X : Type 0} (item : X) (old new : List X) : Type 0 where
+  pub place : ℕ
+  pub at : slice_get old place ≡ Some item
+  pub is : new ≡ remove old place
+
+-- one item is another
+pub record Swaps {X : Type 0} (item other : X) (old new : List X) : Type 0 where
+  pub place : ℕ
+  pub at : slice_get old place ≡ Some item
+  pub is : new ≡ slice_set old place other
+
+-- ---- the catalog
+
+-- the records stand in the order of their keys
+abbrev pub AreSorted : List Pair → Type 0
+AreSorted pairs = IsInOrder placed_before (placed_in pairs)
+
+-- the pair of a record
+abbrev pub pair_of : Placed → Pair
+pair_of placed = (catalog_key_bytes placed.parent placed.name, catalog_bytes placed.value)
+
+-- the thread of an entry
+abbrev pub thread_of : Placed → Placed
+thread_of entry = record { parent = id_of entry; name = []; value = Thread (record { of_file = is_file entry.value; spare = pos 0; parent = entry.parent; name = entry.name }) }
+
+-- a record of the tree is this one, whatever its reserved bytes say
+abbrev pub Stands : Placed → Pair → Type 0
+Stands placed pair = placed_of pair ≡ placed
+
+-- a pair spells this record
+pub record Spells (placed : Placed) (pair : Pair) : Type 0 where
+  pub stands : Stands placed pair
+  pub spelled : IsTrue (is_catalog pair.1)
+
+-- an entry and its thread were added
+pub record AddsEntry (entry : Placed) (old new : List Pair) : Type 0 where
+  pub between : List Pair
+  pub pair : Pair
+  pub is_entry : Spells entry pair
+  pub entry_added : Adds pair old between
+  pub thread : Pair
+  pub is_thread : Spells (thread_of entry) thread
+  pub thread_added : Adds thread between new
+
+-- an entry and its thread were removed: put back, they give the old list
+abbrev pub DropsEntry : Placed → List Pair → List Pair → Type 0
+DropsEntry entry old new = AddsEntry entry new old
+
+-- an entry stands at another place, as does its thread's text
+pub record MovesEntry (entry : Placed) (parent : ℕ) (name : List ℕ) (old new : List Pair) : Type 0 where
+  pub between : List Pair
+  pub out : DropsEntry entry old between
+  pub back : AddsEntry (record entry { parent = parent; name = name }) between new
+
+-- another record at the same place, of the same kind, CNID and forks; a link stays one and names what it named
+pub record SameKind (entry other : Placed) : Type 0 where
+  pub place : (other.parent ≡ entry.parent) × (other.name ≡ entry.name)
+  pub kind : (is_folder other.value ≡ is_folder entry.value) × (is_file other.value ≡ is_file entry.value)
+  pub id : id_of other ≡ id_of entry
+  pub forks : forks_in other.value ≡ forks_in entry.value
+  pub link : is_link other ≡ is_link entry
+  pub reference : is_link entry ≡ true → special_of other ≡ special_of entry
+
+-- an entry has another value, of its kind
+pub record ChangesValue (entry : Placed) (value : CatRecord) (old new : List Pair) : Type 0 where
+  pub pair : Pair
+  pub is_entry : Stands entry pair
+  pub other : Pair
+  pub is_other : Spells (record entry { value = value }) other
+  pub swapped : Swaps pair other old new
+  pub alike : SameKind entry (record entry { value = value })
+
+-- as many nodes, of the same size
+pub record HasSameNodes (old new : TreeFacts) : Type 0 where
+  pub total : new.shape.total ≡ old.shape.total
+  pub size : new.shape.node_size ≡ old.shape.node_size
+
+-- the same on a volume: the catalog alone has changed, and the numbers of its tree, but not those of its nodes
+pub record InCatalog (Changes : List Pair → List Pair → Type 0) (old new : VolumeState) : Type 0 where
+  pub changes : Changes old.catalog_pairs new.catalog_pairs
+  pub nodes : HasSameNodes old.catalog_tree new.catalog_tree
+  pub rest : new ≡ record old { catalog_pairs = new.catalog_pairs; catalog_tree = new.catalog_tree }
+
+-- ---- attributes
+
+-- an attribute whose value stands in its record was added
+pub record AddsAttribute (id : ℕ) (name value : List ℕ) (old new : List Pair) : Type 0 where
+  pub pair : Pair
+  pub stands : attribute_of pair ≡ record { id = id; name = name; start = 0; value = Inline value }
+  pub spelled : IsTrue (is_attr pair.1)
+  pub added : Adds pair old new
+
+-- an attribute is that of this name of this folder or file
+abbrev pub is_attribute_of : ℕ → List ℕ → Attribute → Bool
+is_attribute_of id name attribute = (attribute.id == id) && bytes_eq attribute.name name
+
+-- the attribute of this name isn't there any more, if it was, and all others are
+abbrev pub DropsAttribute : ℕ → List ℕ → List Pair → List Pair → Type 0
+DropsAttribute id name old new = new ≡ kept (λ pair. not (is_attribute_of id name (attribute_of pair))) old
+
+-- keys of attributes are in this order: by the number of the folder or file, then by the name's units, then by the place in the value
+abbrev pub attribute_before : Attribute → Attribute → Bool
+attribute_before one other = is_lt (ordering_then (nat_cmp one.id other.id) (ordering_then (slice_cmp nat_cmp one.name other.name) (nat_cmp one.start other.start)))
+
+-- the attributes stand in the order of their keys
+abbrev pub AreSortedAttributes : List Pair → Type 0
+AreSortedAttributes pairs = IsInOrder attribute_before (map attribute_of pairs)
+
+pub record InAttributes (Changes : List Pair → List Pair → Type 0) (old new : VolumeState) : Type 0 where
+  pub changes : Changes old.attribute_pairs new.attribute_pairs
+  pub nodes : HasSameNodes old.attributes_tree new.attributes_tree
+  pub rest : new ≡ record old { attribute_pairs = new.attribute_pairs; attributes_tree = new.attributes_tree }
+
+-- ---- blocks
+
+-- a block's bit is set where it is among the fresh ones, clear where it is among the freed ones, and else as it was
+pub record FlipsBits (fresh freed : List ℕ) (old new : VolumeState) : Type 0 where
+  pub size : length new.bits ≡ length old.bits
+  pub taken : All (λ block. is_set new block ≡ true) fresh
+  pub given : All (λ block. is_set new block ≡ false) freed
+  pub others : (block : ℕ) → (Contains fresh block → ⊥) → (Contains freed block → ⊥) → is_set new block ≡ is_set old block
+
+-- the record with another fork of this kind
+abbrev pub with_fork : ℕ → ForkRecord → CatRecord → CatRecord
+with_fork kind fork (Folder folder) = Folder folder
+with_fork kind fork (File file) = if kind == data_kind then File (record file { data_fork = fork }) else File (record file { resource_fork = fork })
+with_fork kind fork (Thread thread) = Thread thread
+
+-- the record of this file has another fork of this kind; the file isn't a link
+pub record SwapsFork (id kind : ℕ) (old new : List Pair) : Type 0 where
+  pub entry : Placed
+  pub pair : Pair
+  pub is_entry : Stands entry pair
+  pub is_file : (is_file entry.value ≡ true) × (is_link entry ≡ false) × (id_of entry ≡ id)
+  pub fork : ForkRecord
+  pub swapped : Swaps pair (pair.0, catalog_bytes (with_fork kind fork entry.value)) old new
+
+-- Some blocks of a file's fork, from a place on, have fresh ones in their place: none for a cut, and in place of none where blocks are added.
+-- The file's record and the fork's overflow records say so, and so do the bits; every other fork has the blocks that it had.
+pub record PutsBlocks (id kind from count : ℕ) (fresh : List ℕ) (old new : VolumeState) : Type 0 where
+  pub are_fresh : AreFresh old fresh
+  pub within : from + count ≤ length (blocks_at old id kind)
+  pub is : blocks_at new id kind ≡ take from (blocks_at old id kind) ++ (fresh ++ drop (from + count) (blocks_at old id kind))
+  pub file : SwapsFork id kind old.catalog_pairs new.catalog_pairs
+  pub others : kept (λ more. not (is_of id kind more)) (overflow_in_volume new) ≡ kept (λ more. not (is_of id kind more)) (overflow_in_volume old)
+  pub flips : FlipsBits fresh (take count (drop from (blocks_at old id kind))) old new
+  pub rest : new ≡ record old { catalog_pairs = new.catalog_pairs; catalog_tree = new.catalog_tree; overflow_pairs = new.overflow_pairs; extents_tree = new.extents_tree; bits = new.bits }
+
+-- the header with another fork of this special file
+abbrev pub with_tree_fork : ℕ → ForkRecord → VolumeHeader → VolumeHeader
+with_tree_fork id fork head =
+    if id == extents_id then record head { extents_fork = fork } else if id == catalog_id then record head { catalog_fork = fork } else record head { attributes_fork = fork }
+
+-- A tree's file has more blocks behind those that it had, and as many more nodes, which are free but for new map nodes.
+pub record GrowsFile (id more : ℕ) (fresh : List ℕ) (old new : VolumeState) : Type 0 where
+  pub are_fresh : AreFresh old fresh
+  pub is : blocks_at new id data_kind ≡ blocks_at old id data_kind ++ fresh
+  pub nodes : (facts_at new id).shape ≡ record (facts_at old id).shape { total = (facts_at old id).shape.total + more; free = (facts_at new id).shape.free }
+  pub whole : length fresh * old.head.block_size ≡ more * (facts_at old id).shape.node_size
+  pub others : kept (λ more_record. not (is_of id data_kind more_record)) (overflow_in_volume new) ≡ kept (λ more_record. not (is_of id data_kind more_record)) (overflow_in_volume old)
+  pub flips : FlipsBits fresh [] old new
+  pub fork : ForkRecord
+  pub header : new.head ≡ with_tree_fork id fork old.head
+  pub records : (new.catalog_pairs ≡ old.catalog_pairs) × (new.attribute_pairs ≡ old.attribute_pairs)
+
+-- ---- the header
+
+-- a header with the fields of another that say nothing of geometry and forks: dates, counts, the next id, and what mounts write
+abbrev pub with_numbers : VolumeHeader → VolumeHeader → VolumeHeader
+with_numbers head other = record head {
+  attributes = other.attributes;
+  last_mounted_version = other.last_mounted_version;
+  create_date = other.create_date;
+  modify_date = other.modify_date;
+  backup_date = other.backup_date;
+  checked_date = other.checked_date;
+  file_count = other.file_count;
+  folder_count = other.folder_count;
+  free_blocks = other.free_blocks;
+  next_allocation = other.next_allocation;
+  rsrc_clump_size = other.rsrc_clump_size;
+  data_clump_size = other.data_clump_size;
+  next_catalog_id = other.next_catalog_id;
+  write_count = other.write_count;
+  encodings_bitmap = other.encodings_bitmap;
+  finder_info = other.finder_info;
+}
+
+-- only such fields have changed, and the next id doesn't fall
+pub record ChangesHeader (old new : VolumeHeader) : Type 0 where
+  pub numbers : new ≡ with_numbers old new
+  pub next : old.next_catalog_id ≤ new.next_catalog_id
+
+abbrev pub InHeader : VolumeState → VolumeState → Type 0
+InHeader old new = ChangesHeader old.head new.head × (new ≡ record old { head = new.head })

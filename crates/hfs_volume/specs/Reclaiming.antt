@@ -1,0 +1,37 @@
+-- What the last steps of an orphan's removal do to the lists of a volume: an attribute that goes, and the entry that goes.
+use Rattle.std.specs.Prelude.{◌≡◌, ℕ, List, [], Contains}
+use Rattle.std.specs.List.{flat_map}
+use Rattle.btree_node.specs.Levels.{Pair}
+use Rattle.cat_records.specs.declared.record.FileRecord.{FileRecord}
+use Rattle.hfs_volume.specs.Records.{Placed, id_of, attribute_of}
+use Rattle.hfs_volume.specs.Forks.{forks_in, blocks_owned}
+use Rattle.hfs_volume.specs.Links.{orphans_of}
+use Rattle.hfs_volume.specs.Content.{VolumeState, records_of, overflow_in_volume}
+use Rattle.hfs_volume.specs.Sound.{IsSoundVolume}
+use Rattle.hfs_volume.specs.TreeOf.{tree_in}
+use Rattle.hfs_volume.specs.Changes.{AreSorted, DropsEntry, DropsAttribute, InCatalog, InAttributes}
+use Rattle.hfs_volume.specs.Commands.{AreBytesOf, ChangesFields, IsRecounted}
+use Rattle.hfs_volume.specs.Naming.{one_file_less}
+
+-- The entry of a file that lost its last name goes, with its thread, and the private folder has one entry less.
+pub record DropsOrphanEntry (id : ℕ) (old new : VolumeState) : Type 0 where
+  pub sorted : AreSorted old.catalog_pairs
+  pub entry : Placed
+  pub is_orphan : Contains (orphans_of (records_of old)) entry
+  pub is_entry : id_of entry ≡ id
+  pub no_blocks : flat_map (blocks_owned (overflow_in_volume old)) (forks_in entry.value) ≡ []
+  pub no_attributes : (pair : Pair) → Contains old.attribute_pairs pair → (attribute_of pair).id ≡ id → ⊥
+  pub dropped : VolumeState
+  pub drops : InCatalog (DropsEntry entry) (one_file_less old) dropped
+  pub loses : ChangesFields entry.parent (IsRecounted 0 1) dropped new
+
+-- The lists that this leads to are those of a sound volume, and tell the tree that was told.
+abbrev pub OrphanDropped : Type 0
+OrphanDropped =
+    (id : ℕ) (old new : VolumeState) (bytes_of : FileRecord → List ℕ) → AreBytesOf bytes_of → IsSoundVolume old → DropsOrphanEntry id old new → IsSoundVolume new × (tree_in new bytes_of ≡ tree_in old bytes_of)
+
+-- An attribute of a file that lost its last name goes: the same.
+abbrev pub OrphanBared : Type 0
+OrphanBared =
+    (entry : Placed) (name : List ℕ) (old new : VolumeState) (bytes_of : FileRecord → List ℕ) → AreSorted old.catalog_pairs → IsSoundVolume old → Contains (orphans_of (records_of old)) entry
+    → InAttributes (DropsAttribute (id_of entry) name) old new → IsSoundVolume new × (tree_in new bytes_of ≡ tree_in old bytes_of)

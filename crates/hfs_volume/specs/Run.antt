@@ -1,0 +1,160 @@
+-- Runs: lines, each with its reply and the contents before and after it.
+use Rattle.std.specs.Prelude.{◌≡◌, ◌≢◌, ◌⊎◌, ◌<◌, ℕ, ◌+◌, nat_lt, Bool, true, false, List, [], ◌∷◌, ◌++◌, length, map, take, drop, All, Option, Some, None, Result, Ok, Err, IsTrue, if◌then◌else◌}
+use Rattle.jnl_format.specs.Recovery.{Content}
+use Rattle.alloc_bitmap.specs.Apart.{AreApart}
+use Rattle.hfs_language.specs.Language.{command_of}
+use Rattle.hfs_language.specs.Text.{reply_text}
+use Rattle.hfs_language.specs.declared.command.Command.{Command}
+use Rattle.hfs_language.specs.declared.command.Command.TheVariants as command
+use Rattle.hfs_language.specs.declared.refusal.Refusal.{Refusal}
+use Rattle.hfs_language.specs.declared.refusal.Refusal.TheVariants as refusal
+use Rattle.hfs_language.specs.declared.reply.Reply.{Reply}
+use Rattle.hfs_language.specs.declared.reply.Reply.TheVariants as reply
+use Rattle.hfs_volume.specs.declared.cost.Cost.TheVariants as cost
+use Rattle.hfs_model.specs.declared.plain.PlainNode.{PlainNode}
+use Rattle.hfs_model.specs.declared.plain.PlainTree.{PlainTree}
+use Rattle.hfs_model.specs.Step.{step_line, refuses, to_file, only_reads}
+use Rattle.hfs_volume.specs.Forks.{data_kind}
+use Rattle.hfs_volume.specs.Content.{VolumeState, volume_of, is_set}
+use Rattle.hfs_volume.specs.Sound.{IsSound}
+use Rattle.hfs_volume.specs.TreeOf.{tree_of}
+use Rattle.hfs_volume.specs.Weight.{Data, data_of, weight, gauge, needs_cut, first_block, new_blocks_of, old_blocks_of}
+use Rattle.hfs_volume.specs.Reclaim.{GrowsTrees, IsTreeFork, blocks_at, Rests}
+
+-- ---- entries
+
+-- A line that was served: its reply, and what the volume stood for before and after it.
+pub record Entry : Type 0 where
+  pub line : List ℕ
+  pub reply : Reply
+  pub before : Content
+  pub after : Content
+
+-- what the line asks for, or why it spells no command
+abbrev pub asked_by : Entry → Result Command Refusal
+asked_by entry = command_of entry.line
+
+-- blocks that were free, each once
+pub record AreFresh (volume : VolumeState) (blocks : List ℕ) : Type 0 where
+  pub inside : All (λ block. block < volume.head.total_blocks) blocks
+  pub free : All (λ block. is_set volume block ≡ false) blocks
+  pub once : AreApart blocks
+
+-- New blocks stand in place of the old ones from the first that is written on.
+pub record PutsData (put : Data) (old new : VolumeState) : Type 0 where
+  pub fresh : List ℕ
+  pub are_fresh : AreFresh old fresh
+  pub many : length fresh ≡ new_blocks_of old.head.block_size put
+  pub is : blocks_at new put.id data_kind
+      ≡ take (first_block old.head.block_size put) (blocks_at old put.id data_kind)
+      ++ (fresh ++ drop (first_block old.head.block_size put + old_blocks_of old.head.block_size put) (blocks_at old put.id data_kind))
+
+-- what becomes of the forks of files: the one that data is put into has it, and all others have the blocks that they had
+abbrev pub PutsInFork : Option Data → VolumeState → VolumeState → Type 0
+PutsInFork None old new = (id kind : ℕ) → ¬ IsTreeFork id → blocks_at new id kind ≡ blocks_at old id kind
+PutsInFork (Some put) old new = PutsData put old new × ((id kind : ℕ) → ¬ IsTreeFork id → (id ≢ put.id) ⊎ (kind ≢ data_kind) → blocks_at new id kind ≡ blocks_at old id kind)
+
+-- the reply of a command's step, but that `df` is answered by the volume
+abbrev pub reply_to : ℕ → Content → Result Command Refusal → Reply
+reply_to capacity content (Ok command.Df) = reply.Gauge (gauge capacity (volume_of content))
+reply_to capacity content asked = (step_line (tree_of content) asked).0
+
+-- A command that its step doesn't refuse was done: nothing was missing for it, no blocks past the size stood in its way,
+-- each tree has grown by just the nodes that its cost says, and of the forks only the one that it writes has other blocks.
+pub record IsDone (capacity : ℕ) (asked : Command) (old new : Content) : Type 0 where
+  pub load : ℕ
+  pub grow : List ℕ
+  pub affords : weight capacity (volume_of old) (tree_of old) asked ≡ cost.Load load grow
+  pub no_surplus : needs_cut (volume_of old) (data_of (tree_of old) asked) ≡ false
+  pub grows : GrowsTrees grow (volume_of old) (volume_of new)
+  pub forks : PutsInFork (data_of (tree_of old) asked) (volume_of old) (volume_of new)
+  pub reads : IsTrue (only_reads asked) → new ≡ old
+
+-- what a line does to a content: nothing where it is refused
+abbrev pub DoesLine : ℕ → Result Command Refusal → Content → Content → Type 0
+DoesLine capacity (Ok asked) old new = (IsTrue (refuses (tree_of old) (Ok asked)) → new ≡ old) × (refuses (tree_of old) (Ok asked) ≡ false → IsDone capacity asked old new)
+DoesLine capacity (Err why) old new = new ≡ old
+
+-- The line has its reply and its tree.
+pub record IsAnswered (capacity : ℕ) (entry : Entry) : Type 0 where
+  pub reply_is : entry.reply ≡ reply_to capacity entry.before (asked_by entry)
+  pub tree : tree_of entry.after ≡ (step_line (tree_of entry.before) (asked_by entry)).1
+  pub does : DoesLine capacity (asked_by entry) entry.before entry.after
+
+-- The step doesn't refuse the command, but a resource is missing for it.
+pub record LacksResource (capacity : ℕ) (entry : Entry) : Type 0 where
+  pub asked : Command
+  pub is_asked : asked_by entry ≡ Ok asked
+  pub no_refusal : refuses (tree_of entry.before) (Ok asked) ≡ false
+  pub why : Refusal
+  pub weighs : weight capacity (volume_of entry.before) (tree_of entry.before) asked ≡ cost.Refused why
+  pub reply_is : entry.reply ≡ reply.No why
+  pub same : entry.after ≡ entry.before
+
+-- Memory was missing.
+pub record LacksMemory (capacity : ℕ) (entry : Entry) : Type 0 where
+  pub reply_is : entry.reply ≡ reply.No refusal.OutOfMemory
+  pub tree : tree_of entry.after ≡ tree_of entry.before
+  pub same_gauge : gauge capacity (volume_of entry.after) ≡ gauge capacity (volume_of entry.before)
+
+-- what an entry of a run may be
+pub record IsServed (capacity : ℕ) (entry : Entry) : Type 0 where
+  pub sound_before : IsSound entry.before
+  pub sound_after : IsSound entry.after
+  pub is : IsAnswered capacity entry ⊎ (LacksResource capacity entry ⊎ LacksMemory capacity entry)
+
+-- ---- runs
+
+-- the file that a command shrinks
+abbrev pub shrunk_by : PlainTree → Result Command Refusal → Option ℕ
+shrunk_by tree (Ok (command.Trunc path size)) = shrunk_to (to_file tree path)
+  where
+    shrunk_to : Result PlainNode Refusal → Option ℕ
+    shrunk_to (Ok file) = if nat_lt size (length file.bytes) then Some file.id else None
+    shrunk_to (Err why) = None
+shrunk_by tree asked = None
+
+abbrev pub or_before : Option ℕ → Option ℕ → Option ℕ
+or_before None old = old
+or_before (Some id) old = Some id
+
+abbrev pub is_ok : Reply → Bool
+is_ok reply.Ok = true
+is_ok _ = false
+
+-- the file that was shrunk last, after an entry
+abbrev pub shrunk_after : Option ℕ → Entry → Option ℕ
+shrunk_after shrunk entry = if is_ok entry.reply then or_before (shrunk_by (tree_of entry.before) (asked_by entry)) shrunk else shrunk
+
+-- Each entry of a run follows from the content that the one before it left, or from the first content, by housekeeping that comes to rest.
+abbrev pub IsRunFrom : ℕ → Option ℕ → Content → List Entry → Type 0
+IsRunFrom capacity shrunk content [] = Unit {0}
+IsRunFrom capacity shrunk content (entry ∷ run) =
+    Rests capacity shrunk content entry.before × IsServed capacity entry × IsRunFrom capacity (shrunk_after shrunk entry) entry.after run
+
+-- a run from this content, in which no file was shrunk before
+abbrev pub IsRun : ℕ → Content → List Entry → Type 0
+IsRun capacity content run = IsRunFrom capacity None content run
+
+-- the content after a run
+unfoldable pub content_after : Content → List Entry → Content
+content_after content [] = content
+content_after content (entry ∷ run) = content_after entry.after run
+
+-- the tree after a run
+abbrev pub tree_after : Content → List Entry → PlainTree
+tree_after content run = tree_of (content_after content run)
+
+-- the file that was shrunk last, after a run
+unfoldable pub shrunk_in : Option ℕ → List Entry → Option ℕ
+shrunk_in shrunk [] = shrunk
+shrunk_in shrunk (entry ∷ run) = shrunk_in (shrunk_after shrunk entry) run
+
+-- the lines of a run
+abbrev pub lines_of : List Entry → List (List ℕ)
+lines_of run = map (λ entry. entry.line) run
+
+-- the texts of its replies, one after the other
+unfoldable pub replies_of : List Entry → List ℕ
+replies_of [] = []
+replies_of (entry ∷ run) = reply_text entry.reply ++ replies_of run

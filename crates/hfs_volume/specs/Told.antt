@@ -1,0 +1,59 @@
+-- What watchers are told of a run.
+use Rattle.std.specs.Prelude.{ℕ, ◌+◌, List, [], ◌∷◌, ◌++◌, Result, Ok, Err, if◌then◌else◌}
+use Rattle.hfs_language.specs.declared.command.Command.{Command}
+use Rattle.hfs_language.specs.declared.command.Command.TheVariants as command
+use Rattle.hfs_language.specs.declared.refusal.Refusal.{Refusal}
+use Rattle.hfs_language.specs.declared.reply.Change.{Change}
+use Rattle.hfs_language.specs.declared.reply.ChangeKind.{ChangeKind}
+use Rattle.hfs_language.specs.declared.reply.ChangeKind.TheVariants as change
+use Rattle.hfs_model.specs.declared.plain.PlainEntry.{PlainEntry}
+use Rattle.hfs_model.specs.declared.plain.PlainTree.{PlainTree}
+use Rattle.hfs_model.specs.Step.{Place, to_make, to_rm, to_rmdir, to_mv, to_ln, reached}
+use Rattle.hfs_volume.specs.Run.{Entry, asked_by, is_ok}
+use Rattle.hfs_volume.specs.TreeOf.{tree_of}
+
+-- a change of what an entry names, at its place
+abbrev pub of_entry : ℕ → ChangeKind → Result PlainEntry Refusal → List Change
+of_entry line kind (Ok entry) = record { line = line; kind = kind; id = entry.id; parent = entry.parent; name = entry.name } ∷ []
+of_entry line kind (Err why) = []
+
+-- a change that makes a name at a place, of this CNID
+abbrev pub of_place : ℕ → ChangeKind → ℕ → Place → List Change
+of_place line kind id at = record { line = line; kind = kind; id = id; parent = at.folder; name = at.name } ∷ []
+
+abbrev pub of_made : ℕ → PlainTree → Result Place Refusal → List Change
+of_made line tree (Ok at) = of_place line change.Made tree.next_id at
+of_made line tree (Err why) = []
+
+abbrev pub of_pair : ℕ → ChangeKind → Result (PlainEntry × Place) Refusal → List Change
+of_pair line kind (Ok pair) = of_place line kind pair.0.id pair.1
+of_pair line kind (Err why) = []
+
+-- what a command changes on a tree, where its step doesn't refuse it; for the root the parent is 1 and the name is empty
+abbrev pub changes_of : ℕ → PlainTree → Command → List Change
+changes_of line tree (command.Mkdir path) = of_made line tree (to_make tree path)
+changes_of line tree (command.Create path) = of_made line tree (to_make tree path)
+changes_of line tree (command.Rm path) = of_entry line change.Removed (to_rm tree path)
+changes_of line tree (command.Rmdir path) = of_entry line change.Removed (to_rmdir tree path)
+changes_of line tree (command.Mv from to) = of_pair line change.Moved (to_mv tree from to)
+changes_of line tree (command.Ln from to) = of_pair line change.Linked (to_ln tree from to)
+changes_of line tree (command.Write path from []) = []
+changes_of line tree (command.Write path from (byte ∷ value)) = of_entry line change.Content (reached tree path)
+changes_of line tree (command.Trunc path size) = of_entry line change.Content (reached tree path)
+changes_of line tree (command.Chmod path mode) = of_entry line change.Mode (reached tree path)
+changes_of line tree (command.SetAttr path name value) = of_entry line change.Attribute (reached tree path)
+changes_of line tree (command.DelAttr path name) = of_entry line change.Attribute (reached tree path)
+changes_of line tree _ = []
+
+-- what an entry of a run tells: its change where it was answered with ok
+abbrev pub changes_by : ℕ → Entry → List Change
+changes_by line entry = if is_ok entry.reply then changes_asked (asked_by entry) else []
+  where
+    changes_asked : Result Command Refusal → List Change
+    changes_asked (Ok asked) = changes_of line (tree_of entry.before) asked
+    changes_asked (Err why) = []
+
+-- what a run tells, whose first line has this number
+unfoldable pub changes_in : ℕ → List Entry → List Change
+changes_in line [] = []
+changes_in line (entry ∷ run) = changes_by line entry ++ changes_in (line + 1) run

@@ -1,0 +1,33 @@
+//! Whole volumes: when one is sound, which tree it tells, what commands take of it and change in it, and the laws of these.
+#![tactic(auto)]
+
+mod cost;
+mod laws;
+mod laws_aside;
+mod laws_attributes;
+mod laws_changes;
+mod laws_findings;
+mod laws_names;
+mod laws_reclaiming;
+mod laws_steps;
+mod summary;
+
+pub use cost::{Cost, Needs, Room, TreeCost};
+pub use laws::{
+    chmod_does_its_step, create_does_its_step, entry_may_join, header_may_change,
+    hidden_is_computed, mkdir_does_its_step, rmdir_does_its_step, soundness_has_two_halves,
+    value_may_change,
+};
+pub use laws_aside::aside_is_free;
+pub use laws_attributes::{
+    at_does_its_step, delattr_does_its_step, mount_keeps_the_tree, setattr_does_its_step,
+};
+pub use laws_changes::{
+    attribute_may_be_added, attribute_may_be_removed, entry_may_be_added, entry_may_be_moved,
+    entry_may_be_removed,
+};
+pub use laws_findings::{no_finding_is_sound, sound_has_no_finding};
+pub use laws_names::{ln_does_its_step, mv_does_its_step, rm_does_its_step};
+pub use laws_reclaiming::{reclaim_drops_an_attribute, reclaim_drops_an_entry};
+pub use laws_steps::{sound_has_plain_tree, step_keeps_trees};
+pub use summary::Summary;

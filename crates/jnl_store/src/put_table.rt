@@ -1,0 +1,188 @@
+//! Puts of sectors, each sector once, found by its number in logarithmic time, in memory that was found before.
+ghost use Rattle.std.specs.Prelude.{◌≡◌, ◌⊎◌, ◌<◌, ◌≤◌, ◌+◌, ◌^◌, ◌==◌, ◌||◌, ℕ, [], IsTrue, Bool, length, slice_set, if◌then◌else◌, MatchOption, OnOk, OnErr};
+ghost use Rattle.sector_disk.specs.Lists.{Content, sector};
+ghost use Rattle.jnl_store.specs.Batch.{AreOnce, bytes_of, has, names};
+ghost use Rattle.jnl_store.specs.Overlay.{overlay};
+
+use crate::puts::Put;
+use hx_bytes::{OutOfMemory, Sector};
+use std::alloc::Global;
+use std::marker::Model;
+
+/// Puts in the order in which their sectors came. Beside them stand the sectors in rising order, each with the place of
+/// its put.
+#[derive(Drop)]
+pub struct PutTable {
+    puts: Vec<Put>,
+    sectors: Vec<u64>,
+    places: Vec<usize>,
+    memory: usize,
+}
+
+impl Model for PutTable {
+    ghost use Rattle.std.specs.Prelude.{vec_capacity};
+    ghost use Rattle.jnl_store.specs.Table.{Tabled, IsTable};
+
+    ghost Value = { Tabled };
+
+    ghost view = { λ t. record { items = t.puts.items; memory = t.memory } };
+
+    ghost invariant = { λ t. IsTable t.puts.items t.sectors.items t.places.items t.memory (vec_capacity t.puts) (vec_capacity t.sectors) (vec_capacity t.places) };
+}
+
+impl PutTable {
+    /// No put, and no memory for one.
+    pub fn new(alloc: Global) -> PutTable
+        ensures { result ≡ record { items = []; memory = 0 } }
+    {
+        PutTable {
+            puts: Vec::new(alloc),
+            sectors: Vec::new(alloc),
+            places: Vec::new(alloc),
+            memory: 0,
+        }
+    }
+
+    pub fn len(&self) -> usize
+        ensures count { result ≡ length self.now.items }
+        ensures few { result ≤ self.now.memory }
+    {
+        self.puts.len()
+    }
+
+    pub fn as_slice(&self) -> &[Put]
+        ensures items { result.now ≡ self.now.items }
+        ensures once { AreOnce result.now }
+    {
+        self.puts.as_slice()
+    }
+
+    /// Finds memory for so many puts more than there are.
+    pub fn reserve(&mut self, more: usize) -> Result<(), OutOfMemory>
+        ensures room { OnOk result ((length self.new.items + more ≤ self.new.memory) × (self.new.memory < 2 ^ 64)) }
+        ensures items { self.new.items ≡ self.old.items }
+        ensures memory { self.old.memory ≤ self.new.memory }
+        ensures same { OnErr result (self.new ≡ self.old) }
+    {
+        self.puts.reserve(more)?;
+        self.sectors.reserve(more)?;
+        self.places.reserve(more)?;
+        self.memory = self.memory.max(self.puts.len() + more);
+        Ok(())
+    }
+
+    // The place of a sector's put.
+    fn find(&self, at: u64) -> Option<usize>
+        ensures { MatchOption result (names self.now.items at ≡ Bool.false) (λ k. has self.now.items k at) }
+    {
+        match self.sectors.binary_search(&at) {
+            Ok(k) => Some(self.places[k]),
+            Err(_) => None,
+        }
+    }
+
+    /// The bytes that were put into a sector.
+    pub fn get(&self, at: u64) -> Option<Sector>
+        ensures value { (c : Content) → at < length c → MatchOption result (sector (overlay self.now.items c) at ≡ sector c at) (λ bytes. bytes ≡ sector (overlay self.now.items c) at) }
+        ensures bytes { result ≡ bytes_of self.now.items at }
+    {
+        match self.find(at) {
+            Some(k) => Some(self.puts[k].bytes),
+            None => None,
+        }
+    }
+
+    /// Puts a sector, for which there is memory.
+    pub fn put(&mut self, put: &Put)
+        requires { (length self.old.items < self.old.memory) ⊎ IsTrue (names self.old.items put.now.at) }
+        ensures content { (c : Content) → overlay self.new.items c ≡ slice_set (overlay self.old.items c) put.now.at put.now.bytes }
+        ensures names { (s : ℕ) → names self.new.items s ≡ (s == put.now.at || names self.old.items s) }
+        ensures count { length self.new.items ≡ (if names self.old.items put.now.at then length self.old.items else length self.old.items + 1) }
+        ensures memory { self.new.memory ≡ self.old.memory }
+    {
+        match self.sectors.binary_search(&put.at) {
+            Ok(k) => {
+                let place = self.places[k];
+                self.puts[place] = *put;
+            }
+            Err(k) => {
+                let place = self.puts.len();
+                let _sector = self.sectors.insert(k, put.at);
+                let _place = self.places.insert(k, place);
+                let _put = self.puts.push(*put);
+            }
+        }
+    }
+
+    /// Puts all of these, for which there is memory.
+    pub fn put_all(&mut self, puts: &[Put])
+        requires room { length self.old.items + length puts.now ≤ self.old.memory }
+        ensures content { (c : Content) → overlay self.new.items c ≡ overlay puts.now (overlay self.old.items c) }
+        ensures few { length self.new.items ≤ length self.old.items + length puts.now }
+        ensures memory { self.new.memory ≡ self.old.memory }
+    {
+        for put in puts {
+            self.put(put);
+        }
+    }
+
+    /// The puts of another table, for which there is memory.
+    pub fn copy(&mut self, from: &PutTable)
+        requires { length from.now.items ≤ self.old.memory }
+        ensures items { self.new.items ≡ from.now.items }
+        ensures memory { self.new.memory ≡ self.old.memory }
+        ensures once { AreOnce self.old.items × AreOnce from.now.items }
+    {
+        self.puts.clear();
+        self.sectors.clear();
+        self.places.clear();
+        let _puts = self.puts.extend_from_slice(&from.puts);
+        let _sectors = self.sectors.extend_from_slice(&from.sectors);
+        let _places = self.places.extend_from_slice(&from.places);
+    }
+
+    /// No put any more.
+    pub fn clear(&mut self)
+        ensures { self.new ≡ record self.old { items = [] } }
+    {
+        self.puts.clear();
+        self.sectors.clear();
+        self.places.clear();
+    }
+}
+
+#[cfg(test)]
+mod tests {
+    use super::*;
+    use std::test::Fail;
+
+    fn put(at: u64, byte: u8) -> Put {
+        Put {
+            at,
+            bytes: [byte; 512],
+        }
+    }
+
+    // The sectors come in an order that is neither rising nor falling.
+    #[test]
+    fn each_sector_is_found_with_its_last_bytes(rt: HostRuntime) -> Result<(), Fail> {
+        let mut table = PutTable::new(rt.alloc());
+        table.reserve(6)?;
+        table.put_all(&[
+            put(7, 1),
+            put(3, 2),
+            put(9, 3),
+            put(1, 4),
+            put(8, 5),
+            put(3, 6),
+        ]);
+        assert_eq!(rt; table.len(), 5);
+        for (at, byte) in [(1, 4), (3, 6), (7, 1), (8, 5), (9, 3)] {
+            assert_eq!(rt; table.get(at).ok_or("a put")?[511], byte);
+        }
+        for at in [0, 2, 4, 10] {
+            assert!(rt; table.get(at).is_none());
+        }
+        Ok(())
+    }
+}
