@@ -2,7 +2,7 @@
 use Rattle.std.proofs.Common.{◌≡◌, ℕ, ◌+◌, ◌≤◌, ◌<◌, ◌⊎◌, Bool, true, false, not, ◌||◌, if◌then◌else◌, List, [], ◌∷◌, ◌++◌, length, get_or, map, refl, sym, ◌∙◌, ap, subst, arith, ⊎_elim, inl, inr}
 use Rattle.std.proofs.lemmas.List.{same_lists, get_or_default}
 use Rattle.hx_bytes.specs.declared.extents.Extent.{Extent}
-use Rattle.alloc_bitmap.specs.declared.log.Change.{Change}
+use Rattle.alloc_bitmap.specs.declared.log.BitChange.{BitChange}
 use Rattle.flag_rows.specs.Bits.{mark, has}
 use Rattle.flag_rows.specs.Marks.{is_held}
 use Rattle.flag_rows.specs.Marks.{mark_all, Fit}
@@ -17,26 +17,26 @@ other true false v old = refl
 other false true v old = refl
 other false false v old = refl
 
-pub length-rewind : (log : List Change) (xs : List Bool) → ChangesFit (length xs) log → length (rewind log xs) ≡ length xs
+pub length-rewind : (log : List BitChange) (xs : List Bool) → ChangesFit (length xs) log → length (rewind log xs) ≡ length xs
 length-rewind [] xs fit = refl
 length-rewind (c ∷ log) xs fit = let rest = length-rewind log xs fit.1 in length-mark (rewind log xs) c.extent (not c.used) (omega (arith, fit.0, rest)) ∙ rest
 
-pub rewind-append : (log more : List Change) (xs : List Bool) → rewind (log ++ more) xs ≡ rewind log (rewind more xs)
+pub rewind-append : (log more : List BitChange) (xs : List Bool) → rewind (log ++ more) xs ≡ rewind log (rewind more xs)
 rewind-append [] more xs = refl
 rewind-append (c ∷ log) more xs = ap (λ (l : List Bool). mark l c.extent (not c.used)) (rewind-append log more xs)
 
-abbrev pub changes_of : List Extent → Bool → List Change
+abbrev pub changes_of : List Extent → Bool → List BitChange
 changes_of es v = map (λ (e : Extent). record { extent = e; used = v }) es
 
 pub changes_fit : (n : ℕ) (es : List Extent) (v : Bool) → Fit n es → ChangesFit n (changes_of es v)
 changes_fit n [] v fit = tt
 changes_fit n (e ∷ es) v fit = (fit.0, changes_fit n es v fit.1)
 
-pub changes_fit_append : (n : ℕ) (log more : List Change) → ChangesFit n log → ChangesFit n more → ChangesFit n (log ++ more)
+pub changes_fit_append : (n : ℕ) (log more : List BitChange) → ChangesFit n log → ChangesFit n more → ChangesFit n (log ++ more)
 changes_fit_append n [] more a b = b
 changes_fit_append n (c ∷ log) more a b = (a.0, changes_fit_append n log more a.1 b)
 
-pub changes_fit_last : (n : ℕ) (log : List Change) (c : Change) → ChangesFit n (log ++ c ∷ []) → ChangesFit n log × (c.extent.start + c.extent.count ≤ n)
+pub changes_fit_last : (n : ℕ) (log : List BitChange) (c : BitChange) → ChangesFit n (log ++ c ∷ []) → ChangesFit n log × (c.extent.start + c.extent.count ≤ n)
 changes_fit_last n [] c f = (tt, f.0)
 changes_fit_last n (d ∷ log) c f = let rest = changes_fit_last n log c f.1 in ((f.0, rest.0), rest.1)
 
@@ -74,14 +74,14 @@ marked_already xs e v w fits is = same_lists (mark xs e v) xs (length-mark xs e 
     ] refl)
 
 -- what was marked so, and noted, is taken back with the changes before it
-pub kept_same : (xs ys : List Bool) (es : List Extent) (v : Bool) (log : List Change) (more : List Change) → ys ≡ mark_all xs es v → more ≡ log ++ changes_of es v → Fit (length xs) es → ((k : ℕ) → is_held es k ≡ true → get_or xs k v ≡ not v) → rewind more ys ≡ rewind log xs
-kept_same xs ys es v log more is noted fit was = ap (λ (l : List Change). rewind l ys) noted ∙ ap (λ (l : List Bool). rewind (log ++ changes_of es v) l) is
+pub kept_same : (xs ys : List Bool) (es : List Extent) (v : Bool) (log : List BitChange) (more : List BitChange) → ys ≡ mark_all xs es v → more ≡ log ++ changes_of es v → Fit (length xs) es → ((k : ℕ) → is_held es k ≡ true → get_or xs k v ≡ not v) → rewind more ys ≡ rewind log xs
+kept_same xs ys es v log more is noted fit was = ap (λ (l : List BitChange). rewind l ys) noted ∙ ap (λ (l : List Bool). rewind (log ++ changes_of es v) l) is
     ∙ rewind-append log (changes_of es v) (mark_all xs es v) ∙ ap (λ (l : List Bool). rewind log l) (rewind_marked xs es v fit was)
 
-pub changes_fit_more : (xs ys : List Bool) (es : List Extent) (v : Bool) (log more : List Change) → ys ≡ mark_all xs es v → more ≡ log ++ changes_of es v → Fit (length xs) es → ChangesFit (length xs) log → ChangesFit (length ys) more
+pub changes_fit_more : (xs ys : List Bool) (es : List Extent) (v : Bool) (log more : List BitChange) → ys ≡ mark_all xs es v → more ≡ log ++ changes_of es v → Fit (length xs) es → ChangesFit (length xs) log → ChangesFit (length ys) more
 changes_fit_more xs ys es v log more is noted fit before =
     let long : length ys ≡ length xs = ap (λ (l : List Bool). length l) is ∙ length-mark_all xs es v fit in
-    subst (λ n. ChangesFit n more) (sym long) (subst (λ (l : List Change). ChangesFit (length xs) l) (sym noted) (changes_fit_append (length xs) log (changes_of es v) before (changes_fit (length xs) es v fit)))
+    subst (λ n. ChangesFit n more) (sym long) (subst (λ (l : List BitChange). ChangesFit (length xs) l) (sym noted) (changes_fit_append (length xs) log (changes_of es v) before (changes_fit (length xs) es v fit)))
 
 -- ---- the same changes taken back in two rows
 -- where a change was taken back, both rows have its value; elsewhere each is as it was
@@ -89,7 +89,7 @@ two_marks : (h v a b x y : Bool) → (a ≡ b) ⊎ ((a ≡ x) × (b ≡ y)) → 
 two_marks true v a b x y e = inl refl
 two_marks false v a b x y e = e
 
-pub rewind_both : (log : List Change) (xs ys : List Bool) (k : ℕ) (d : Bool) → ChangesFit (length xs) log → ChangesFit (length ys) log
+pub rewind_both : (log : List BitChange) (xs ys : List Bool) (k : ℕ) (d : Bool) → ChangesFit (length xs) log → ChangesFit (length ys) log
     → (get_or (rewind log xs) k d ≡ get_or (rewind log ys) k d) ⊎ ((get_or (rewind log xs) k d ≡ get_or xs k d) × (get_or (rewind log ys) k d ≡ get_or ys k d))
 rewind_both [] xs ys k d f g = inr (refl, refl)
 rewind_both (c ∷ log) xs ys k d f g =

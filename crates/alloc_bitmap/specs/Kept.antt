@@ -3,7 +3,7 @@ use Rattle.std.specs.Prelude.{ℕ, ◌+◌, ◌≤◌, Bool, not, List, [], ◌�
 use Rattle.std.specs.List.{range_with_len, AllByRecursion}
 use Rattle.hx_bytes.specs.declared.extents.Extent.{Extent}
 use Rattle.flag_rows.specs.Marks.{Fit}
-use Rattle.alloc_bitmap.specs.declared.log.Change.{Change}
+use Rattle.alloc_bitmap.specs.declared.log.BitChange.{BitChange}
 use Rattle.flag_rows.specs.Bits.{mark}
 use Rattle.flag_rows.specs.Marks.{is_held}
 
@@ -19,7 +19,7 @@ pub record Held : Type 0 where
   pub room : ℕ
 
 -- what the flags were before these changes
-abbrev pub rewind : List Change → List Bool → List Bool
+abbrev pub rewind : List BitChange → List Bool → List Bool
 rewind [] flags = flags
 rewind (change ∷ rest) flags = mark (rewind rest flags) change.extent (not change.used)
 
@@ -28,7 +28,7 @@ abbrev pub held_by : ℕ → List Extent → List Bool
 held_by n holds = map (λ k. is_held holds k) (range_with_len 0 n)
 
 -- the changes end at n or before
-abbrev pub ChangesFit : ℕ → List Change → Type 0
+abbrev pub ChangesFit : ℕ → List BitChange → Type 0
 ChangesFit n changes = AllByRecursion (λ change. change.extent.start + change.extent.count ≤ n) changes
 
 -- extents that hold some of n blocks, of which the first were there at the last keep

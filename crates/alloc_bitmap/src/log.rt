@@ -2,7 +2,7 @@
 ghost use Rattle.std.specs.Prelude.{◌≡◌, ◌⊎◌, ℕ, ◌++◌, not, true, false, length, map, slice_index_or, OnOk, OnErr};
 ghost use Rattle.flag_rows.specs.Marks.{mark_all, Fit, is_held};
 ghost use Rattle.alloc_bitmap.specs.Kept.{Kept};
-ghost use Rattle.alloc_bitmap.specs.declared.log.Change.{Change};
+ghost use Rattle.alloc_bitmap.specs.declared.log.BitChange.{BitChange};
 
 use flag_rows::Row;
 use hx_bytes::{Extent, OutOfMemory};
@@ -11,7 +11,7 @@ use std::marker::Model;
 
 /// The blocks of an extent became used, or free.
 #[derive(Clone, Copy, Debug)]
-pub struct Change {
+pub struct BitChange {
     extent: Extent,
     used: bool,
 }
@@ -20,7 +20,7 @@ pub struct Change {
 #[derive(Drop)]
 pub struct Used {
     row: Row,
-    log: Vec<Change>,
+    log: Vec<BitChange>,
 }
 
 impl Model for Used {
@@ -88,13 +88,13 @@ impl Used {
 }
 
 /// Notes that the extents changed, or nothing where there is no memory for all of them.
-fn log_all(log: &mut Vec<Change>, list: &[Extent], used: bool) -> Result<(), OutOfMemory>
+fn log_all(log: &mut Vec<BitChange>, list: &[Extent], used: bool) -> Result<(), OutOfMemory>
     ensures noted { OnOk result (log.new.items ≡ log.old.items ++ map (λ extent. record { extent = extent; used = used }) list.now) }
     ensures same { OnErr result (log.new.items ≡ log.old.items) }
 {
     let len = log.len();
     for extent in list {
-        let change = Change {
+        let change = BitChange {
             extent: *extent,
             used,
         };

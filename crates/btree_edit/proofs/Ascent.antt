@@ -335,7 +335,7 @@ module _ {is_key : List ℕ → Type 0} {cmp : List ℕ → List ℕ → Orderin
         room = node_room s.shape.node_size
 
         items_fit : taken (items (s.nodes node)) ≤ node_room s.shape.node_size
-        items_fit = omega (arith, taken_fits (s.nodes node) node_of_tree.kind.cut, node_of_tree.size)
+        items_fit = omega (arith, taken_fits (s.nodes node) node_of_tree.kind.well_formed, node_of_tree.size)
 
         edited_is : bit gone ≡ 0 → taken (edited s node p gone (records_on next desk)) ≡ taken (items (s.nodes node)) + taken (records_on next desk)
         edited_is none = ap (λ n. taken (splice (items (s.nodes node)) p n (records_on next desk))) {y = p} (omega arith) ∙ taken_put (items (s.nodes node)) (records_on next desk) p

@@ -26,7 +26,7 @@ same_links old new behind before same next back = record {
   kind = ap kind_of same;
   height = ap height_of same;
   items = λ _. ap items same;
-  cut = λ cut. subst IsNode (sym same) cut;
+  well_formed = λ cut. subst IsNode (sym same) cut;
 }
 
 pub not_both : (b : Bool) → IsTrue b → b ≡ false → ⊥
@@ -119,7 +119,7 @@ module _ (old new : Store) (height node place : ℕ) (removed : Bool) (put : Lis
           most = omega arith;
           records = append-nil (items (new.nodes node)) ∙ kept_records;
           nodes = one_only (λ n. IsTreeNode new height n) node (tree_node node bytes can.spot.is_node.inside writes.here
-              (record { cut = cut; has_kind = head.kind ∙ can.spot.is_node.kind.has_kind; has_height = head.height ∙ can.spot.is_node.kind.has_height })
+              (record { well_formed = cut; has_kind = head.kind ∙ can.spot.is_node.kind.has_kind; has_height = head.height ∙ can.spot.is_node.kind.has_height })
               (head.size ∙ can.spot.is_node.size));
           some = one_only (λ n. 0 < length (items (new.nodes n))) node (subst (λ (l : List ℕ). 0 < length (items l)) (sym writes.here) some);
           links = (ap back_of writes.here ∙ head.back, ap next_of writes.here ∙ head.next, tt);
@@ -226,10 +226,10 @@ module _ (old new : Store) (height node place : ℕ) (removed : Bool) (put : Lis
         in_fresh = subst (λ (l : List ℕ). SetsLinks (next_of front) node back l) (sym at_fresh) halves.in_fresh
 
         node_items : items (new.nodes node) ≡ items front
-        node_items = in_node.items split.is_front.cut
+        node_items = in_node.items split.is_front.well_formed
 
         fresh_items : items (new.nodes fresh) ≡ items back
-        fresh_items = in_fresh.items split.is_back.cut
+        fresh_items = in_fresh.items split.is_back.well_formed
 
         -- a node that is neither, before the link is set
         far : (n : ℕ) → old.reserved n ≡ false → n ≢ node → n ≢ fresh → last.nodes n ≡ old.nodes n
@@ -254,10 +254,10 @@ module _ (old new : Store) (height node place : ℕ) (removed : Bool) (put : Lis
               ∙ split.joined;
           nodes = two_only (λ n. IsTreeNode new height n) node fresh
               (tree_node node (new.nodes node) can.spot.is_node.inside refl
-              (record { cut = in_node.cut split.is_front.cut; has_kind = in_node.kind ∙ split.is_front.has_kind; has_height = in_node.height ∙ split.is_front.has_height })
+              (record { well_formed = in_node.well_formed split.is_front.well_formed; has_kind = in_node.kind ∙ split.is_front.has_kind; has_height = in_node.height ∙ split.is_front.has_height })
               (in_node.size ∙ split.head.size ∙ head.size ∙ can.spot.is_node.size))
               (tree_node fresh (new.nodes fresh) inside refl
-              (record { cut = in_fresh.cut split.is_back.cut; has_kind = in_fresh.kind ∙ split.is_back.has_kind; has_height = in_fresh.height ∙ split.is_back.has_height })
+              (record { well_formed = in_fresh.well_formed split.is_back.well_formed; has_kind = in_fresh.kind ∙ split.is_back.has_kind; has_height = in_fresh.height ∙ split.is_back.has_height })
               (in_fresh.size ∙ split.size ∙ head.size ∙ can.spot.is_node.size));
           some = two_only (λ n. 0 < length (items (new.nodes n))) node fresh
               (omega (arith, split.some_front, ap (λ (l : List (List ℕ)). length l) node_items))

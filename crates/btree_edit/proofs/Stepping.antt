@@ -36,7 +36,7 @@ level_kept {is_key} {cmp} old new height ns size total same level =
       nodes = λ k inside. let node = level.nodes k inside in record {
         inside = omega (arith, node.inside, total);
         kind = let kind = node.kind in record {
-          cut = subst (λ l. IsNode l) (sym (same k inside)) kind.cut;
+          well_formed = subst (λ l. IsNode l) (sym (same k inside)) kind.well_formed;
           has_kind = ap kind_of (same k inside) ∙ kind.has_kind;
           has_height = ap height_of (same k inside) ∙ kind.has_height;
         };
@@ -133,7 +133,7 @@ module _ {is_key : List ℕ → Type 0} {cmp : List ℕ → List ℕ → Orderin
     still_node : (n behind earlier : ℕ) → SetsLinks behind earlier (old.nodes n) (new.nodes n) → IsTreeNode old (depth - j) n → IsTreeNode new (depth - j) n
     still_node n behind earlier sets is = let kind = is.kind in record {
       inside = omega (arith, is.inside, edit.same.total);
-      kind = record { cut = sets.cut kind.cut; has_kind = sets.kind ∙ kind.has_kind; has_height = sets.height ∙ kind.has_height };
+      kind = record { well_formed = sets.well_formed kind.well_formed; has_kind = sets.kind ∙ kind.has_kind; has_height = sets.height ∙ kind.has_height };
       size = sets.size ∙ is.size ∙ sym edit.same.node_size;
     }
 
@@ -142,7 +142,7 @@ module _ {is_key : List ℕ → Type 0} {cmp : List ℕ → List ℕ → Orderin
       | inl first ↦
           let sets = edit.back (λ e. some (first ∙ e)) in
           subst Stays (sym first) (record {
-            records = sets.items (subst (λ m. IsTreeNode old (depth - j) m) first is).kind.cut;
+            records = sets.items (subst (λ m. IsTreeNode old (depth - j) m) first is).kind.well_formed;
             is_node = still_node (back_of (old.nodes node)) _ _ sets (subst (λ m. IsTreeNode old (depth - j) m) first is);
             next = λ e. absurd (e refl);
             back = λ e. sets.back;
@@ -151,7 +151,7 @@ module _ {is_key : List ℕ → Type 0} {cmp : List ℕ → List ℕ → Orderin
         | inl second ↦
             let sets = edit.next (λ e. some (second ∙ e)) in
             subst Stays (sym second) (record {
-              records = sets.items (subst (λ m. IsTreeNode old (depth - j) m) second is).kind.cut;
+              records = sets.items (subst (λ m. IsTreeNode old (depth - j) m) second is).kind.well_formed;
               is_node = still_node (next_of (old.nodes node)) _ _ sets (subst (λ m. IsTreeNode old (depth - j) m) second is);
               next = λ e. sets.next;
               back = λ e. absurd (e refl);
@@ -164,7 +164,7 @@ module _ {is_key : List ℕ → Type 0} {cmp : List ℕ → List ℕ → Orderin
               is_node = record {
                 inside = omega (arith, is.inside, edit.same.total);
                 kind = record {
-                  cut = subst (λ l. IsNode l) (sym same) kind.cut;
+                  well_formed = subst (λ l. IsNode l) (sym same) kind.well_formed;
                   has_kind = ap kind_of same ∙ kind.has_kind;
                   has_height = ap height_of same ∙ kind.has_height;
                 };

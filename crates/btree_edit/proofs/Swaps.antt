@@ -108,7 +108,7 @@ module _ {is_key : List ℕ → Type 0} {cmp : List ℕ → List ℕ → Orderin
       | inl is ↦ record {
         inside = omega (arith, node.inside, same.total);
         kind = record {
-          cut = subst (λ m. IsNode (new.nodes m)) (sym is) swaps.cut;
+          well_formed = subst (λ m. IsNode (new.nodes m)) (sym is) swaps.well_formed;
           has_kind = subst (λ m. kind_of (new.nodes m) ≡ kind_of (old.nodes m)) (sym is) swaps.head.kind ∙ node.kind.has_kind;
           has_height = subst (λ m. height_of (new.nodes m) ≡ height_of (old.nodes m)) (sym is) swaps.head.height ∙ node.kind.has_height;
         };
@@ -321,7 +321,7 @@ module _ {is_key : List ℕ → Type 0} {cmp : List ℕ → List ℕ → Orderin
     value_swapped mid new same_read shape_read read swaps same shape small equal =
         let whole : SwapsRecord node index (desk.held.key ++ value) old new = record {
           items = swaps.items ∙ ap (λ l. set (items l) index (desk.held.key ++ value)) (read.nodes node);
-          cut = swaps.cut;
+          well_formed = swaps.well_formed;
           head = subst (λ l. SameHead l (new.nodes node)) (read.nodes node) swaps.head;
           others = λ n other. swaps.others n other ∙ read.nodes n;
           used = λ n. swaps.used n ∙ read.used n;
@@ -402,7 +402,7 @@ is_found cmp key store desk node index found is finds stands =
 -- a record takes no more than its node
 pub record_short : (store : Store) (leaf index size : ℕ) → HasRecord store leaf index size → size ≤ store.shape.node_size
 record_short store leaf index size has =
-    omega (arith, has.long, get_or-le-sum_by (λ (bytes : List ℕ). length bytes + 2) (items (store.nodes leaf)) index [] has.inside, node_holds (store.nodes leaf) has.is_node.kind.cut, has.is_node.size)
+    omega (arith, has.long, get_or-le-sum_by (λ (bytes : List ℕ). length bytes + 2) (items (store.nodes leaf)) index [] has.inside, node_holds (store.nodes leaf) has.is_node.kind.well_formed, has.is_node.size)
 
 -- a swap leaves each node its number of records, and so the root
 pub bounds_swapped : (max : ℕ) (old mid new : Store) (node index : ℕ) (bytes : List ℕ) → mid.shape ≡ old.shape → SameNodes old mid → SwapsRecord node index bytes mid new → new.shape ≡ mid.shape → BoundsRoot max old new new.shape.depth new.shape.root

@@ -17,7 +17,7 @@ pub record HasRecord (store : Store) (leaf index size : ℕ) : Type 0 where
 -- the record at an index of a node is another, and nothing else of the nodes and the map is changed
 pub record SwapsRecord (node index : ℕ) (bytes : List ℕ) (old new : Store) : Type 0 where
   pub items : items (new.nodes node) ≡ slice_set (items (old.nodes node)) index bytes
-  pub cut : IsNode (new.nodes node)
+  pub well_formed : IsNode (new.nodes node)
   pub head : SameHead (old.nodes node) (new.nodes node)
   pub others : (n : ℕ) → n ≢ node → new.nodes n ≡ old.nodes n
   pub used : (n : ℕ) → new.used n ≡ old.used n

@@ -56,7 +56,7 @@ pub(crate) fn descend<N: NodeStore, K: KeyOrder>(
 
 /// Looks for a key in the leaf on the desk, and keeps its pair.
 fn pick<K: KeyOrder>(desk: &mut Desk, node: u32, key: &[u8]) -> Found
-    requires cut { IsNode desk.old.node }
+    requires well_formed { IsNode desk.old.node }
     requires size { length desk.old.node ≤ desk.old.held.room }
     requires key { K.is_key key.now }
     ensures picks { Picks K.is_key K.cmp key.now node desk.old desk.new result }

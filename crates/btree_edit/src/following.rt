@@ -16,7 +16,7 @@ use hx_bytes::Failed;
 
 /// Keeps the pair of a record of the leaf on the desk, where it has so many.
 fn keep_record(desk: &mut Desk, at: u16) -> bool
-    requires cut { IsNode desk.old.node }
+    requires well_formed { IsNode desk.old.node }
     requires size { length desk.old.node ≤ desk.old.held.room }
     ensures some { IsTrue result → at < length (items desk.old.node) }
     ensures all { at < length (items desk.old.node) → IsTrue result }
@@ -48,7 +48,7 @@ fn locate<N: NodeStore, K: KeyOrder>(
     requires key { K.is_key key.now }
     requires tree { IsTrue (N.state store.old).tells → IsTree K.is_key K.cmp (N.state store.old) }
     ensures at { IsTrue (N.state store.old).tells → IfOk result (λ at. IsLocated K.cmp key.now (N.state store.old) desk.new at) }
-    ensures cut { IfOk result (λ at. IsSome at → IsNode desk.new.node) }
+    ensures well_formed { IfOk result (λ at. IsSome at → IsNode desk.new.node) }
     ensures desk { IsDeskOf (N.state store.old).shape.node_size desk.new }
     ensures held { desk.new.held ≡ desk.old.held }
     ensures reads { ReadsNodes (N.state store.old).shape.depth (N.state store.old) (N.state store.new) }

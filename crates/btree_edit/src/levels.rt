@@ -64,7 +64,7 @@ fn number_bytes(number: u32) -> [u8; 4]
 
 /// Keeps the record that names a node in the level above: its first key and its number.
 fn name_node(name: &mut Held, node: &Node, number: u32)
-    requires cut { IsNode node.now }
+    requires well_formed { IsNode node.now }
     requires room { length node.now ≤ name.old.room }
     ensures room { name.new.room ≡ name.old.room }
     ensures name { 0 < length (items node.now) → record_of name.new ≡ key_of (slice_index_or (items node.now) 0 []) ++ big 4 number }

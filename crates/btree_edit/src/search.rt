@@ -35,7 +35,7 @@ pub(crate) fn child_part(item: &[u8]) -> u32
 
 /// How many of a node's first records have no key above this one; none where a record has no valid key.
 pub(crate) fn place<K: KeyOrder>(node: &Node, key: &[u8]) -> Option<u16>
-    requires cut { IsNode node.now }
+    requires well_formed { IsNode node.now }
     requires key { K.is_key key.now }
     ensures place { IfSome result (λ at. IsPlace K.cmp key.now (items node.now) at) }
     ensures keys { IfSome result (λ at. (k : ℕ) → k < at → K.is_key (key_of (slice_index_or (items node.now) k []))) }
@@ -63,7 +63,7 @@ pub struct ChildStep {
 
 /// The record of an index node that leads to a key; none where there is no record, or one without a valid key.
 pub(crate) fn step<K: KeyOrder>(node: &Node, key: &[u8]) -> Option<ChildStep>
-    requires cut { IsNode node.now }
+    requires well_formed { IsNode node.now }
     requires key { K.is_key key.now }
     ensures step { IfSome result (λ step. IsLead K.cmp key.now (items node.now) step) }
     ensures none { IfNone result (HasNoKey K.is_key (items node.now) ⊎ (items node.now ≡ [])) }

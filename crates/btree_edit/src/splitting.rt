@@ -24,9 +24,9 @@ pub(crate) fn put(node: &mut Node, kind: i8, height: u8, at: u16, pair: &Held)
 
 /// Takes a record out of a node, or none.
 pub(crate) fn take_out(node: &mut Node, at: u16, removed: bool)
-    requires cut { IsNode node.old }
+    requires well_formed { IsNode node.old }
     ensures items { at + bit removed ≤ length (items node.old) → items node.new ≡ splice (items node.old) at (at + bit removed) [] }
-    ensures cut { IsNode node.new }
+    ensures well_formed { IsNode node.new }
     ensures head { SameHead node.old node.new }
 {
     if removed && at < node.count() {
@@ -36,7 +36,7 @@ pub(crate) fn take_out(node: &mut Node, at: u16, removed: bool)
 
 /// What the records of a node take.
 pub(crate) fn node_taken(node: &Node) -> usize
-    requires cut { IsNode node.now }
+    requires well_formed { IsNode node.now }
     ensures taken { result ≡ taken (items node.now) }
     ensures fits { result + 16 ≤ length node.now }
 {
@@ -61,12 +61,12 @@ pub(crate) fn put_taken(first: &Held, second: &Held, count: u8) -> usize
 
 /// Puts the records into a node that has room for them.
 pub(crate) fn put_all(node: &mut Node, first: &Held, second: &Held, at: u16, count: u8)
-    requires cut { IsNode node.old }
+    requires well_formed { IsNode node.old }
     requires few { count ≤ 2 }
     requires place { at ≤ length (items node.old) }
     requires room { taken (put_of count first.now second.now) ≤ room_beside (length node.old) (items node.old) }
     ensures items { items node.new ≡ with_put (items node.old) at (put_of count first.now second.now) }
-    ensures cut { IsNode node.new }
+    ensures well_formed { IsNode node.new }
     ensures head { SameHead node.old node.new }
 {
     if count > 1 {
@@ -86,7 +86,7 @@ fn joined<'a>(
     count: u8,
     i: usize,
 ) -> &'a [u8]
-    requires cut { IsNode node.now }
+    requires well_formed { IsNode node.now }
     requires few { count ≤ 2 }
     requires place { at ≤ length (items node.now) }
     requires inside { i < length (items node.now) + count }
@@ -116,7 +116,7 @@ struct SplitPoint {
 
 /// The place nearest to the middle of all that the records take.
 fn middle(node: &Node, first: &Held, second: &Held, at: u16, count: u8, total: usize) -> SplitPoint
-    requires cut { IsNode node.now }
+    requires well_formed { IsNode node.now }
     requires few { count ≤ 2 }
     requires place { at ≤ length (items node.now) }
     requires total { total ≡ taken (with_put (items node.now) at (put_of count first.now second.now)) }
@@ -148,13 +148,13 @@ fn fill_back(
 )
     requires other { IsNode other.old }
     requires empty { items other.old ≡ [] }
-    requires cut { IsNode node.now }
+    requires well_formed { IsNode node.now }
     requires few { count ≤ 2 }
     requires place { at ≤ length (items node.now) }
     requires from { from ≤ length (items node.now) + count }
     requires fits { 16 + taken (drop from (with_put (items node.now) at (put_of count first.now second.now))) ≤ length other.old }
     ensures items { items other.new ≡ drop from (with_put (items node.now) at (put_of count first.now second.now)) }
-    ensures cut { IsNode other.new }
+    ensures well_formed { IsNode other.new }
     ensures head { SameHead other.old other.new }
 {
     let many = node.count() as usize + count as usize;
@@ -169,10 +169,10 @@ fn fill_back(
 
 /// Keeps a node's first records.
 fn keep_first(node: &mut Node, many: usize)
-    requires cut { IsNode node.old }
+    requires well_formed { IsNode node.old }
     requires within { many ≤ length (items node.old) }
     ensures items { items node.new ≡ take many (items node.old) }
-    ensures cut { IsNode node.new }
+    ensures well_formed { IsNode node.new }
     ensures head { SameHead node.old node.new }
 {
     let all = node.count() as usize;
@@ -183,13 +183,13 @@ fn keep_first(node: &mut Node, many: usize)
 
 /// Keeps those before a place in the node.
 fn keep_front(node: &mut Node, first: &Held, second: &Held, at: u16, count: u8, to: usize)
-    requires cut { IsNode node.old }
+    requires well_formed { IsNode node.old }
     requires few { count ≤ 2 }
     requires place { at ≤ length (items node.old) }
     requires to { to ≤ length (items node.old) + count }
     requires fits { 16 + taken (take to (with_put (items node.old) at (put_of count first.now second.now))) ≤ length node.old }
     ensures items { items node.new ≡ take to (with_put (items node.old) at (put_of count first.now second.now)) }
-    ensures cut { IsNode node.new }
+    ensures well_formed { IsNode node.new }
     ensures head { SameHead node.old node.new }
 {
     let place = at as usize;

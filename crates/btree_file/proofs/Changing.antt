@@ -151,7 +151,7 @@ module _ (node : List ℕ) (stretch : Stretch) (size : ℕ) (large : 512 ≤ siz
 
   pub record_fits : IsMapRecord node stretch → (14 ≤ stretch.at) × (stretch.at + stretch.len + 2 * (record_count node + 1) ≤ length node)
   record_fits is =
-      let cut : IsNode node = is.grammar.cut in
+      let cut : IsNode node = is.grammar.well_formed in
       let rise : offset node 1 ≤ offset node (record_count node) = offsets_rise node cut 1 (record_count node) (omega (arith, is.some)) (omega arith) in
       (omega (arith, is.from, cut.first), omega (arith, is.to, rise, cut.inside))
 

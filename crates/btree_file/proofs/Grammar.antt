@@ -49,7 +49,7 @@ node_kept a b same node = record {
 }
 
 pub node_of_kept : (kind : ℤ) (height : ℕ) (a b : List ℕ) → SameGrammar a b → IsNodeOf kind height a → IsNodeOf kind height b
-node_of_kept kind height a b same node = record { cut = node_kept a b same node.cut; has_kind = same.kind ∙ node.has_kind; has_height = same.height ∙ node.has_height }
+node_of_kept kind height a b same node = record { well_formed = node_kept a b same node.well_formed; has_kind = same.kind ∙ node.has_kind; has_height = same.height ∙ node.has_height }
 
 pub header_kept : (a b : List ℕ) → SameGrammar a b → IsHeaderNode a → IsHeaderNode b
 header_kept a b same header = (node_of_kept (pos 1) 0 a b same header.0, same.count ∙ header.1)

@@ -34,7 +34,7 @@ are_in nodes size xs large long are k d low = elim (cases_eq k 0) [
       subst (λ (s : Stretch). s.at + s.len ≤ length (nodes s.node)) (sym first) (omega (arith, long, large))
   | inr later ↦
       let is : IsMapRecord (nodes (get_or xs k d).node) (get_or xs k d) = are.each k d (omega (arith, later)) low in
-      let cut = is.grammar.cut in
+      let cut = is.grammar.well_formed in
       omega (arith, is.to, offsets_rise (nodes (get_or xs k d).node) cut 1 (record_count (nodes (get_or xs k d).node)) (omega (arith, is.some)) (omega arith), cut.inside)
 ]
 

@@ -81,7 +81,7 @@ sets_links old mid new next back size next_fits back_fits first second =
       kind = ap (λ n. cast_signed w8 n) (rest 8 (omega arith));
       height = rest 9 (omega arith);
       items = λ cut. same_items old new cut new_long (λ k high. rest k (omega arith));
-      cut = λ cut. same_cut old new cut new_long (λ k high. rest k (omega arith));
+      well_formed = λ cut. same_cut old new cut new_long (λ k high. rest k (omega arith));
     }
 
 module _ (size : ℕ) (kind : ℤ) (height : ℕ) (fits : 512 ≤ size) where
@@ -144,7 +144,7 @@ module _ (size : ℕ) (kind : ℤ) (height : ℕ) (fits : 512 ≤ size) where
   clears_node old new is small made =
       subst (λ l. ClearsNode kind height old l) (sym made) (record {
         is_node = record {
-          cut = record {
+          well_formed = record {
             first = omega (arith, empty_offset);
             rising = λ i low. absurd (omega (arith, empty_count));
             inside = omega (arith, empty_count, ap (λ n. offset (empty_node size kind height) n) empty_count, empty_offset, long);

@@ -145,6 +145,6 @@ module _ (i : ℕ) (bytes old mid new : List ℕ) (cut : IsNode old) (inside : i
     pub inserts_record : InsertsRecord i bytes old new
     inserts_record = record {
       items = inserted_items;
-      cut = inserted_cut;
+      well_formed = inserted_cut;
       head = same_head old new long (λ k low. slot.below k (omega (arith, opened.size, cut.first, offsets_rise old cut 0 (record_count old) (omega arith) (omega arith))) (omega arith) (omega arith) ∙ opened.below k (omega (arith, front_is)));
     }

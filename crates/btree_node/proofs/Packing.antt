@@ -70,7 +70,7 @@ module _ (old mid new : List ℕ) (cut : IsNode old)
     pub packs : Packs old new
     packs = record {
       items = packed_items;
-      cut = packed_cut;
+      well_formed = packed_cut;
       head = same_head old new long (λ k low. byte_front k (omega arith));
       count = same_count;
       first = omega (arith, offset_lower 0 (omega arith), cut.first);

@@ -94,6 +94,6 @@ module _ (i : ℕ) (old mid new : List ℕ) (cut : IsNode old) (inside : i < rec
     pub removes_record : RemovesRecord i old new
     removes_record = record {
       items = removed_items;
-      cut = removed_cut;
+      well_formed = removed_cut;
       head = same_head old new long (λ k low. slot.below k (omega (arith, moved.size, cut.inside, front_is, offsets_rise old cut i (record_count old) (omega arith) (omega arith))) (omega arith) (omega arith) ∙ moved.below k (omega (arith, front_is)));
     }

@@ -64,7 +64,7 @@ pub record ClosesSlot (i n len : ℕ) (old new : List ℕ) : Type 0 where
 -- the same records, from the descriptor's end on
 pub record Packs (old new : List ℕ) : Type 0 where
   pub items : items new ≡ items old
-  pub cut : IsNode new
+  pub well_formed : IsNode new
   pub head : SameHead old new
   pub count : record_count new ≡ record_count old
   pub first : offset new 0 ≡ 14
@@ -72,11 +72,11 @@ pub record Packs (old new : List ℕ) : Type 0 where
 -- one record more in the list
 pub record InsertsRecord (i : ℕ) (bytes old new : List ℕ) : Type 0 where
   pub items : items new ≡ insert (items old) i bytes
-  pub cut : IsNode new
+  pub well_formed : IsNode new
   pub head : SameHead old new
 
 -- one record less
 pub record RemovesRecord (i : ℕ) (old new : List ℕ) : Type 0 where
   pub items : items new ≡ remove (items old) i
-  pub cut : IsNode new
+  pub well_formed : IsNode new
   pub head : SameHead old new

@@ -18,6 +18,7 @@ catalog_parent key = big_at 4 key 2
 abbrev pub catalog_units : List ℕ → List ℕ
 catalog_units key = units (drop 8 key)
 
+-- A key of the catalog: as long as its first field says, which is as long as its name makes it, with a name of at most 255 units.
 pub record IsCatalogKey (key : List ℕ) : Type 0 where
   pub long : 8 ≤ length key
   pub size : length key ≡ big_at 2 key 0 + 2

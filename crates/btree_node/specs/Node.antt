@@ -48,7 +48,7 @@ pub record IsNode (node : List ℕ) : Type 0 where
 
 -- the same, in a node of this kind and height
 pub record IsNodeOf (kind : ℤ) (height : ℕ) (node : List ℕ) : Type 0 where
-  pub cut : IsNode node
+  pub well_formed : IsNode node
   pub has_kind : kind_of node ≡ kind
   pub has_height : height_of node ≡ height
 
@@ -73,7 +73,7 @@ pub record SetsLinks (behind before : ℕ) (old new : List ℕ) : Type 0 where
   pub kind : kind_of new ≡ kind_of old
   pub height : height_of new ≡ height_of old
   pub items : IsNode old → items new ≡ items old
-  pub cut : IsNode old → IsNode new
+  pub well_formed : IsNode old → IsNode new
 
 -- the bytes of an empty node: the kind, the height and the offset of free space, and zeros
 unfoldable pub empty_node : ℕ → ℤ → ℕ → List ℕ

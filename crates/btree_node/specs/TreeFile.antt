@@ -24,6 +24,7 @@ pub record TreeHead : Type 0 where
   pub compare : ℕ
   pub attributes : ℕ
 
+-- the fields that the bytes of a header record spell
 abbrev pub tree_head : List ℕ → TreeHead
 tree_head bytes = record {
   depth = big_at 2 bytes 14;

@@ -71,7 +71,7 @@ fn close_slot(node: &mut [u8], i: usize, n: usize, len: usize)
 pub(crate) fn insert_record(node: &mut [u8], i: usize, key: &[u8], value: &[u8])
     requires size { 512 ≤ length node.old }
     requires small { length node.old ≤ 32768 }
-    requires cut { IsNode node.old }
+    requires well_formed { IsNode node.old }
     requires inside { i ≤ length (items node.old) }
     requires packed { offset node.old 0 ≡ 14 }
     requires room { length key.now + length value.now + 2 ≤ room_beside (length node.old) (items node.old) }
@@ -88,7 +88,7 @@ pub(crate) fn insert_record(node: &mut [u8], i: usize, key: &[u8], value: &[u8])
 pub(crate) fn remove_record(node: &mut [u8], i: usize)
     requires size { 512 ≤ length node.old }
     requires small { length node.old ≤ 32768 }
-    requires cut { IsNode node.old }
+    requires well_formed { IsNode node.old }
     requires inside { i < length (items node.old) }
     ensures { RemovesRecord i node.old node.new }
 {
@@ -104,7 +104,7 @@ pub(crate) fn remove_record(node: &mut [u8], i: usize)
 /// Brings the first record to the end of the descriptor.
 pub(crate) fn pack(node: &mut [u8])
     requires size { 512 ≤ length node.old }
-    requires cut { IsNode node.old }
+    requires well_formed { IsNode node.old }
     ensures { Packs node.old node.new }
 {
     let n = count_records(node);

@@ -84,7 +84,7 @@ impl Node {
 
     /// The bytes of a record: a key with its length, and behind it a value or the number of a child.
     pub fn item(&self, i: u16) -> &[u8]
-        requires cut { IsNode self.now }
+        requires well_formed { IsNode self.now }
         requires inside { i < length (items self.now) }
         ensures value { result.now ≡ slice_index_or (items self.now) i [] }
         ensures size { length result.now ≤ length self.now }
@@ -102,11 +102,11 @@ impl Node {
 
     /// Puts a record behind the first `i`.
     pub fn insert(&mut self, i: u16, key: &[u8], value: &[u8])
-        requires cut { IsNode self.old }
+        requires well_formed { IsNode self.old }
         requires inside { i ≤ length (items self.old) }
         requires room { length key.now + length value.now + 2 ≤ room_beside (length self.old) (items self.old) }
         ensures items { items self.new ≡ insert (items self.old) i (key.now ++ value.now) }
-        ensures cut { IsNode self.new }
+        ensures well_formed { IsNode self.new }
         ensures head { SameHead self.old self.new }
     {
         pack(&mut self.bytes);
@@ -115,10 +115,10 @@ impl Node {
 
     /// Takes a record away.
     pub fn remove(&mut self, i: u16)
-        requires cut { IsNode self.old }
+        requires well_formed { IsNode self.old }
         requires inside { i < length (items self.old) }
         ensures items { items self.new ≡ remove (items self.old) i }
-        ensures cut { IsNode self.new }
+        ensures well_formed { IsNode self.new }
         ensures head { SameHead self.old self.new }
     {
         remove_record(&mut self.bytes, i as usize);
@@ -126,11 +126,11 @@ impl Node {
 
     /// Puts a record in the place of another.
     pub fn replace(&mut self, i: u16, key: &[u8], value: &[u8])
-        requires cut { IsNode self.old }
+        requires well_formed { IsNode self.old }
         requires inside { i < length (items self.old) }
         requires room { length key.now + length value.now ≤ room_beside (length self.old) (items self.old) + length (slice_index_or (items self.old) i []) }
         ensures items { items self.new ≡ slice_set (items self.old) i (key.now ++ value.now) }
-        ensures cut { IsNode self.new }
+        ensures well_formed { IsNode self.new }
         ensures head { SameHead self.old self.new }
     {
         self.remove(i);

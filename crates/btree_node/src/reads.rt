@@ -6,7 +6,7 @@ use crate::bytes::{count_records, get_offset};
 use hx_bytes::read_be16;
 
 /// Whether the offsets rise between the descriptor and themselves.
-pub(crate) fn is_cut(node: &[u8]) -> bool
+pub(crate) fn is_well_formed(node: &[u8]) -> bool
     requires { 512 ≤ length node.now }
     ensures { IsTrue result ↔ IsNode node.now }
 {
@@ -33,7 +33,7 @@ pub(crate) fn is_node_of(node: &[u8], kind: i8, height: u8) -> bool
     if node[8].cast_signed() != kind || node[9] != height {
         return false;
     }
-    is_cut(node)
+    is_well_formed(node)
 }
 
 pub(crate) fn count(node: &[u8]) -> u16
@@ -46,7 +46,7 @@ pub(crate) fn count(node: &[u8]) -> u16
 /// The bytes of a record.
 pub(crate) fn record_at(node: &[u8], i: usize) -> &[u8]
     requires size { 512 ≤ length node.now }
-    requires cut { IsNode node.now }
+    requires well_formed { IsNode node.now }
     requires inside { i < length (items node.now) }
     ensures value { result.now ≡ slice_index_or (items node.now) i [] }
     ensures size { length result.now ≤ length node.now }
@@ -68,7 +68,7 @@ fn part(node: &[u8], at: usize, end: usize) -> &[u8]
 /// How many bytes are left beside the records.
 pub(crate) fn room_left(node: &[u8]) -> usize
     requires size { 512 ≤ length node.now }
-    requires cut { IsNode node.now }
+    requires well_formed { IsNode node.now }
     ensures { result ≡ room_beside (length node.now) (items node.now) }
 {
     let n = count_records(node);

@@ -82,7 +82,7 @@ spills_one these a b at value here s = record {
 spills_maybe : (these : ℕ → Type 0) (a b : Space) (at : ℕ) (value : List ℕ) → these at → MayHaveSpilled a at value b → SpillsIn these a b
 spills_maybe these a b at value here s = record {
   content = agrees_either these a.content b.content at value s.content here;
-  durable = agrees_either these a.durable b.durable at value s.durable here;
+  durable = agrees_either these a.durable b.durable at value (⊎_elim (λ set. inl set.0) (λ same. inr same) s.durable) here;
   spilled = λ k n. ⊎_elim (λ o. inl o) (λ same. inr (subst (λ j. these j) (sym same) here)) (s.spilled k n);
   still = s.still;
   live = s.live;

@@ -16,7 +16,7 @@ use crate::headers::{
 };
 use crate::names::are_thin_names;
 use crate::reading::read_names;
-use crate::text::{are_same, cut, joined, put_repeated};
+use crate::text::{are_same, joined, put_repeated, sectors_of};
 use hx_bytes::{Names, OutOfMemory, Sector};
 use std::alloc::Global;
 
@@ -72,13 +72,13 @@ pub fn fresh_parts(alloc: Global) -> Result<Parts, OutOfMemory>
     Ok(Parts {
         header: header_sector(0, true, 0),
         alternate: header_sector(0, true, 0),
-        bitmap: cut(bitmap.as_slice()),
+        bitmap: sectors_of(bitmap.as_slice()),
         info: info_sector(),
         journal: journal_sector(JOURNAL_BEGIN, JOURNAL_BEGIN),
-        extents: cut(extents.as_slice()),
-        attributes: cut(attributes.as_slice()),
-        catalog: cut(catalog.as_slice()),
-        leaf: cut(leaf.as_slice()),
+        extents: sectors_of(extents.as_slice()),
+        attributes: sectors_of(attributes.as_slice()),
+        catalog: sectors_of(catalog.as_slice()),
+        leaf: sectors_of(leaf.as_slice()),
     })
 }
 
@@ -153,8 +153,8 @@ pub fn with_names(alloc: Global, parts: &Parts, names: &Names) -> Result<Parts, 
         journal: parts.journal,
         extents: parts.extents,
         attributes: parts.attributes,
-        catalog: cut(catalog.as_slice()),
-        leaf: cut(leaf.as_slice()),
+        catalog: sectors_of(catalog.as_slice()),
+        leaf: sectors_of(leaf.as_slice()),
     })
 }
 

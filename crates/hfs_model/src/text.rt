@@ -56,7 +56,7 @@ pub(crate) fn joined(alloc: Global, block: &[Sector; 8]) -> Result<Vec<u8>, OutO
 }
 
 /// The eight sectors of a block.
-pub(crate) fn cut(block: &[u8]) -> [Sector; 8]
+pub(crate) fn sectors_of(block: &[u8]) -> [Sector; 8]
     requires { length block.now ≡ 4096 }
     ensures { concat result ≡ block.now }
 {

@@ -22,7 +22,7 @@ use Rattle.hfs_model.proofs.Checks.{one_list}
 use Rattle.hfsx_server.specs.Finding.{IsFound, IsLargePlan}
 use Rattle.hfsx_server.specs.Volume.{HasJournal, HoldsAtMost, IsFault, IsMountable, IsOpen, IsRefusal, MountsTo, Refuses, Tree}
 use Rattle.volume_header.specs.declared.header.VolumeHeader.{VolumeHeader}
-use Rattle.hfsx_server.specs.declared.mounting.Found.{Found}
+use Rattle.hfsx_server.specs.declared.mounting.FoundVolume.{FoundVolume}
 use Rattle.hfsx_server.specs.declared.faults.MountFault.{MountFault}
 use Rattle.hfsx_server.specs.declared.faults.MountFault.TheVariants as fault
 use Rattle.hfsx_server.proofs.Mounts.{mounts_thin}
@@ -86,5 +86,5 @@ open_of c head sectors is accepted unlocked size = record {
 }
 
 -- what was found is what a mount finds
-pub found_mounts : (c : Content) (found : Found) → IsFound c found → MountsTo c found.names
+pub found_mounts : (c : Content) (found : FoundVolume) → IsFound c found → MountsTo c found.names
 found_mounts c found is = mounts_thin c (replayed (journal_of found.plan) c) found.names is.is_open.accepted is.recovers is.thin

@@ -28,7 +28,7 @@ use Rattle.hfs_model.specs.declared.parts.Parts.{Parts}
 use Rattle.hfsx_server.specs.Finding.{IsFound, IsLargePlan}
 use Rattle.hfsx_server.specs.Serving.{IsIdle, IsThinPlan, Rests, Stands}
 use Rattle.hfsx_server.specs.Volume.{Holds, MountsTo, Tree}
-use Rattle.hfsx_server.specs.declared.mounting.Found.{Found}
+use Rattle.hfsx_server.specs.declared.mounting.FoundVolume.{FoundVolume}
 use Rattle.hfsx_server.proofs.Mounts.{ThinImage, accepted_again, mounts_thin, thin_image}
 use Rattle.hfsx_server.proofs.Recoveries.{recovery_parts}
 use Rattle.hfsx_server.proofs.Standing.{AgreesOutsideOwn, holds_again, holds_thin, thin_holds}
@@ -49,7 +49,7 @@ pub record FoundJournal (plan : Plan) (image : Content) : Type 0 where
   pub info : sector image 16 ≡ info_text
   pub header : IsJournal (sector image 24)
 
-module _ (image : Content) (found : Found) (is : IsFound image found) where
+module _ (image : Content) (found : FoundVolume) (is : IsFound image found) where
   abbrev plan : Plan
   plan = found.plan
 

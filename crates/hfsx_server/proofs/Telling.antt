@@ -9,7 +9,7 @@ use Rattle.sector_disk.specs.Cause.{Rose, HasCause}
 use Rattle.sector_disk.specs.Disk.{State, SameDisk, ToldPrefix}
 use Rattle.std.proofs.lemmas.Bool.Decides.{nat_tests}
 use Rattle.sector_disk.proofs.Writing.{same_after}
-use Rattle.hfsx_server.specs.declared.refusal.Refusal.TheVariants.{TooSmall, TooLarge}
+use Rattle.hfsx_server.specs.declared.refusal.SizeRefusal.TheVariants.{TooSmall, TooLarge}
 use Rattle.hfsx_server.specs.Telling.{Tells, Telling, ToldUnlessFailed, size_refusal}
 
 -- a front of the first piece is one of the whole

@@ -1,8 +1,8 @@
 -- Faults of the server, as those of its parts and as statuses.
 use Rattle.hx_bytes.specs.declared.faults.Trouble.{Trouble}
 use Rattle.hx_bytes.specs.declared.faults.Trouble.TheVariants as trouble
-use Rattle.hfsx_server.specs.declared.input.LineFault.{LineFault}
-use Rattle.hfsx_server.specs.declared.input.LineFault.TheVariants as line
+use Rattle.hfsx_server.specs.declared.input.InputFault.{InputFault}
+use Rattle.hfsx_server.specs.declared.input.InputFault.TheVariants as line
 use Rattle.hfsx_server.specs.declared.faults.MountFault.{MountFault}
 use Rattle.hfsx_server.specs.declared.faults.MountFault.TheVariants as mount
 use Rattle.hfsx_server.specs.declared.faults.ServeFault.{ServeFault}
@@ -11,7 +11,7 @@ use Rattle.hfsx_server.specs.declared.status.Status.{Status}
 use Rattle.hfsx_server.specs.declared.status.Status.TheVariants as status
 
 -- the fault of the server where no line was read
-abbrev pub fault_of_line : LineFault → ServeFault
+abbrev pub fault_of_line : InputFault → ServeFault
 fault_of_line line.Source = fault.Source
 fault_of_line line.Memory = fault.Memory
 

@@ -2,8 +2,8 @@
 use Rattle.std.specs.Prelude.{◌≡◌, ◌⊎◌, ◌≤◌, ◌++◌, ℕ, List, [], ◌∷◌, IsTrue, Result, OnOk, codes, decimal, nat_lt, if◌then◌else◌}
 use Rattle.sector_disk.specs.Cause.{Rose, HasCause}
 use Rattle.sector_disk.specs.Disk.{State, SameDisk, ToldPrefix, content}
-use Rattle.hfsx_server.specs.declared.refusal.Refusal.{Refusal}
-use Rattle.hfsx_server.specs.declared.refusal.Refusal.TheVariants.{TooSmall, TooLarge}
+use Rattle.hfsx_server.specs.declared.refusal.SizeRefusal.{SizeRefusal}
+use Rattle.hfsx_server.specs.declared.refusal.SizeRefusal.TheVariants.{TooSmall, TooLarge}
 use Rattle.volume_header.specs.declared.refusal.HeaderRefusal.{HeaderRefusal}
 use Rattle.volume_header.specs.declared.refusal.HeaderRefusal.TheVariants as header
 use Rattle.jnl_format.specs.declared.structures.JnlRefusal.{JnlRefusal}
@@ -22,7 +22,7 @@ abbrev pub refused_text : List ℕ → List ℕ → List ℕ
 refused_text name numbers = codes "refused " ++ name ++ fields numbers ++ codes "\n"
 
 -- a size that isn't formatted
-abbrev pub refusal_text : Refusal → List ℕ
+abbrev pub refusal_text : SizeRefusal → List ℕ
 refusal_text (TooSmall sectors) = refused_text (codes "TooSmall") (sectors ∷ [])
 refusal_text (TooLarge sectors) = refused_text (codes "TooLarge") (sectors ∷ [])
 
@@ -53,7 +53,7 @@ fault_text fault.Disk = refused_text (codes "Disk") []
 fault_text fault.Memory = refused_text (codes "Memory") []
 
 -- why an image of so many sectors isn't formatted
-abbrev pub size_refusal : ℕ → Refusal
+abbrev pub size_refusal : ℕ → SizeRefusal
 size_refusal sectors = if nat_lt sectors 16384 then TooSmall sectors else TooLarge sectors
 
 -- what is told of a volume that was formatted

@@ -3,7 +3,7 @@ ghost use Rattle.std.specs.Prelude.{◌≡◌, ◌↔◌, IsTrue};
 ghost use Rattle.hfsx_server.specs.Faults.{status_of, status_of_mount};
 ghost use Rattle.hfsx_server.specs.Volume.{IsRefusal};
 
-use crate::{LineFault, Status};
+use crate::{InputFault, Status};
 use hx_bytes::{Failed, OutOfMemory, Trouble};
 use jnl_format::JnlRefusal;
 use volume_header::HeaderRefusal;
@@ -125,16 +125,16 @@ impl From<Trouble> for MountFault {
     }
 }
 
-impl From<LineFault> for ServeFault {
+impl From<InputFault> for ServeFault {
     ghost use Rattle.std.specs.Prelude.{◌≡◌};
     ghost use Rattle.hfsx_server.specs.Faults.{fault_of_line};
 
     ghost from_gives = { λ fault e. e ≡ fault_of_line fault };
 
-    fn from(fault: LineFault) -> Self {
+    fn from(fault: InputFault) -> Self {
         match fault {
-            LineFault::Source => ServeFault::Source,
-            LineFault::Memory => ServeFault::Memory,
+            InputFault::Source => ServeFault::Source,
+            InputFault::Memory => ServeFault::Memory,
         }
     }
 }

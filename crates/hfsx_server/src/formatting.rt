@@ -6,7 +6,7 @@ ghost use Rattle.hfsx_server.specs.Cause.{IsCause};
 ghost use Rattle.hfsx_server.specs.Telling.{Tells, refusal_text, size_refusal, formatted_text};
 ghost use Rattle.hfsx_server.specs.Volume.{IsUnmounted, MountsTo};
 
-use crate::{Refusal, Status, VOLUME_SECTORS, tell_refusal, tell_whole, write_parts};
+use crate::{SizeRefusal, Status, VOLUME_SECTORS, tell_refusal, tell_whole, write_parts};
 use hfs_model::fresh_parts;
 use hx_bytes::{Failed, Trouble};
 use sector_disk::{Rig, SectorDisk};
@@ -30,11 +30,11 @@ pub fn format<R: Rig>(alloc: Global, rig: &mut R) -> Status
 {
     let sectors = rig.sectors();
     if sectors < VOLUME_SECTORS {
-        tell_refusal(rig, Refusal::TooSmall(sectors));
+        tell_refusal(rig, SizeRefusal::TooSmall(sectors));
         return Status::Refused;
     }
     if sectors > VOLUME_SECTORS {
-        tell_refusal(rig, Refusal::TooLarge(sectors));
+        tell_refusal(rig, SizeRefusal::TooLarge(sectors));
         return Status::Refused;
     }
     match make_volume(alloc, rig) {

@@ -38,32 +38,32 @@ pub enum Line {
 
 /// Why no line was read.
 #[derive(Clone, Copy, Debug, PartialEq, Eq)]
-pub enum LineFault {
+pub enum InputFault {
     /// The source failed.
     Source,
     /// There was no memory for the line.
     Memory,
 }
 
-impl From<Failed> for LineFault {
+impl From<Failed> for InputFault {
     ghost use Rattle.std.specs.Prelude.{◌≡◌};
-    ghost use Rattle.hfsx_server.specs.declared.input.LineFault.TheVariants.{Source};
+    ghost use Rattle.hfsx_server.specs.declared.input.InputFault.TheVariants.{Source};
 
     ghost from_gives = { λ _ e. e ≡ Source };
 
     fn from(_: Failed) -> Self {
-        LineFault::Source
+        InputFault::Source
     }
 }
 
-impl From<OutOfMemory> for LineFault {
+impl From<OutOfMemory> for InputFault {
     ghost use Rattle.std.specs.Prelude.{◌≡◌};
-    ghost use Rattle.hfsx_server.specs.declared.input.LineFault.TheVariants.{Memory};
+    ghost use Rattle.hfsx_server.specs.declared.input.InputFault.TheVariants.{Memory};
 
     ghost from_gives = { λ _ e. e ≡ Memory };
 
     fn from(_: OutOfMemory) -> Self {
-        LineFault::Memory
+        InputFault::Memory
     }
 }
 
@@ -85,7 +85,7 @@ impl Input {
         alloc: Global,
         source: &mut S,
         limit: usize,
-    ) -> Result<Option<Line>, LineFault>
+    ) -> Result<Option<Line>, InputFault>
         ensures line { IfOk result (λ next. IfSome next (λ line. (text : List ℕ) × IsLine limit text line
             × (IsTrue (S.stream source.old).tells → TakesLines self.old (S.stream source.old) (text ∷ []) self.new (S.stream source.new)))) }
         ensures end { IsTrue (S.stream source.old).tells → IfOk result (λ next. IfNone next ((ahead self.old (S.stream source.old) ≡ []) × (ahead self.new (S.stream source.new) ≡ []))) }
@@ -95,7 +95,7 @@ impl Input {
         // Each line brings the end nearer.
         ensures nearer { IfOk result (λ next. OnSome next (weight self.new (S.stream source.new) < weight self.old (S.stream source.old))) }
         ensures same { SameSource (S.stream source.old) (S.stream source.new) }
-        ensures cause { IsCause LineFault.Source (S.stream source.old).faults (S.stream source.new).faults result }
+        ensures cause { IsCause InputFault.Source (S.stream source.old).faults (S.stream source.new).faults result }
     {
         let mut line = Line::Whole(Bytes::new(alloc));
         loop {

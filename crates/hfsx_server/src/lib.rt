@@ -20,9 +20,9 @@ mod words;
 
 pub use faults::{MountFault, ServeFault};
 pub use formatting::format;
-pub use input::{Input, Line, LineFault};
-pub use mounting::{Found, find_volume};
-pub use refusal::{Refusal, tell_fault, tell_refusal, tell_usage};
+pub use input::{Input, InputFault, Line};
+pub use mounting::{FoundVolume, find_volume};
+pub use refusal::{SizeRefusal, tell_fault, tell_refusal, tell_usage};
 pub use running::run;
 pub use server::{Served, Server};
 pub use session::{MOST_FOLDERS, Outcome, decide, read_command};

@@ -25,14 +25,14 @@ const LEAST_CAPACITY: u64 = 256;
 
 /// The plan of the journal, and the parts and the folders of what the image stands for.
 #[derive(Drop)]
-pub struct Found {
+pub struct FoundVolume {
     pub plan: Plan,
     pub parts: Parts,
     pub names: Names,
 }
 
 /// Reads and checks an image. Nothing is written.
-pub fn find_volume<D: SectorDisk>(alloc: Global, disk: &mut D) -> Result<Found, MountFault>
+pub fn find_volume<D: SectorDisk>(alloc: Global, disk: &mut D) -> Result<FoundVolume, MountFault>
     ensures found { IsTrue (D.state disk.old).tells → IfOk result (IsFound (content (D.state disk.old))) }
     ensures refused { IsTrue (D.state disk.old).tells → IfErr result (IsFault (content (D.state disk.old))) }
     ensures thin { IfOk result (λ found. AreThin found.parts found.names) }
@@ -107,7 +107,11 @@ fn find_journal<D: SectorDisk>(disk: &mut D, header: &VolumeHeader) -> Result<Pl
 }
 
 // The parts and the folders of what the image stands for.
-fn find_tree<D: SectorDisk>(alloc: Global, disk: &mut D, plan: Plan) -> Result<Found, MountFault>
+fn find_tree<D: SectorDisk>(
+    alloc: Global,
+    disk: &mut D,
+    plan: Plan,
+) -> Result<FoundVolume, MountFault>
     requires fits { FitsPlan (D.state disk.old).sectors plan }
     requires large { IsLargePlan plan }
     requires is_open { IsTrue (D.state disk.old).tells → IsOpen (content (D.state disk.old)) }
@@ -127,7 +131,7 @@ fn find_tree<D: SectorDisk>(alloc: Global, disk: &mut D, plan: Plan) -> Result<F
     let peek = Peek::new(alloc, disk, &plan)?;
     let parts = read_parts(disk, &peek)?;
     match thin_names(alloc, &parts)? {
-        Some(names) => Ok(Found { plan, parts, names }),
+        Some(names) => Ok(FoundVolume { plan, parts, names }),
         None => Err(MountFault::NotYet(0)),
     }
 }

@@ -12,7 +12,7 @@ use volume_header::HeaderRefusal;
 
 /// Why a size is refused.
 #[derive(Clone, Copy, Debug, PartialEq, Eq)]
-pub enum Refusal {
+pub enum SizeRefusal {
     /// A volume has more sectors than this.
     TooSmall(u64),
     /// A volume has fewer sectors than this.
@@ -30,12 +30,12 @@ pub fn tell_usage<R: Rig>(rig: &mut R)
 }
 
 /// Tells why a size is refused. A sink that fails is left at that.
-pub fn tell_refusal<R: Rig>(rig: &mut R, refusal: Refusal)
+pub fn tell_refusal<R: Rig>(rig: &mut R, refusal: SizeRefusal)
     ensures { Tells (R.state rig.old) (R.state rig.new) (refusal_text refusal) }
 {
     let _ = match refusal {
-        Refusal::TooSmall(sectors) => tell_refused(rig, b"TooSmall", &[sectors]),
-        Refusal::TooLarge(sectors) => tell_refused(rig, b"TooLarge", &[sectors]),
+        SizeRefusal::TooSmall(sectors) => tell_refused(rig, b"TooSmall", &[sectors]),
+        SizeRefusal::TooLarge(sectors) => tell_refused(rig, b"TooLarge", &[sectors]),
     };
 }
 

@@ -16,7 +16,7 @@ ghost use Rattle.hfsx_server.specs.Serving.{IsIdle, IsMarked, IsServing, Rests, 
 ghost use Rattle.hfsx_server.specs.Volume.{Tree, IsFault, IsRefusal, MountsTo};
 
 use crate::changing::change_header;
-use crate::mounting::{Found, find_volume};
+use crate::mounting::{FoundVolume, find_volume};
 use crate::{Input, MountFault, Server};
 use hfs_model::{Parts, with_mark};
 use hx_bytes::{Failed, Names, OutOfMemory, Trouble};
@@ -54,7 +54,7 @@ pub fn mount<R: Rig>(alloc: Global, rig: &mut R) -> Result<Server, MountFault>
 }
 
 // Replays the journal of a volume that was found, and marks the volume as mounted.
-fn start<D: SectorDisk>(alloc: Global, disk: &mut D, found: Found) -> Result<Server, Trouble>
+fn start<D: SectorDisk>(alloc: Global, disk: &mut D, found: FoundVolume) -> Result<Server, Trouble>
     requires thin { AreThin found.parts found.names }
     requires fits { FitsPlan (D.state disk.old).sectors found.plan }
     requires large { IsLargePlan found.plan }
@@ -71,7 +71,7 @@ fn start<D: SectorDisk>(alloc: Global, disk: &mut D, found: Found) -> Result<Ser
 {
     replay(disk, &found.plan)?;
     let mut store = attach(alloc, &found.plan)?;
-    let Found { parts, names, .. } = found;
+    let FoundVolume { parts, names, .. } = found;
     let parts = mark(alloc, &mut store, disk, &parts, &names)?;
     Ok(Server {
         store,

@@ -212,7 +212,7 @@ module _ (first second : ℕ) (old new : Store) (plan : new.plan ≡ old.plan) (
   }
   may_spill (inr (inl one)) =
       let p = spills one in
-      record { content = inl p.content; durable = inl p.durable; spilled = λ s now. (p.spilled s).0 now; still = λ s was. (p.spilled s).1 (inl was); live = p.live; closed = p.closed }
+      record { content = inl p.content; durable = inl (p.durable, (p.spilled at).1 (inr refl)); spilled = λ s now. (p.spilled s).0 now; still = λ s was. (p.spilled s).1 (inl was); live = p.live; closed = p.closed }
   may_spill (inr (inr back)) =
       let kept = back_again back.1 in
       let value_2 = last (candidates_of before.candidates at) in

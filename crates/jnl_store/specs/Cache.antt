@@ -46,10 +46,11 @@ abbrev pub IsRead : Plan → Content → Option Put → Type 0
 IsRead plan content None = Unit {0}
 IsRead plan content (Some put) = is_closed plan put.at ≡ true → put.bytes ≡ sector content put.at
 
--- so does each slot
+-- the same of each slot: what it names stays, and what it keeps too where that is no sector of the journal
 abbrev pub EachReread : Plan → Slots → Slots → Type 0
 EachReread plan old new = (length new ≡ length old) × ((k : ℕ) → k < length old → IsReread plan (slice_index_or old k None) (slice_index_or new k None))
 
+-- each slot of a sector of the journal keeps what this content has there
 abbrev pub AreRead : Plan → Content → Slots → Type 0
 AreRead plan content slots = (k : ℕ) → k < length slots → IsRead plan content (slice_index_or slots k None)
 

@@ -11,7 +11,7 @@ returns-clause-edit g c = λ tells removed spare opened.
     let some : 0 < length (items c.put_all.new.node) = omega (arith, c.if-count-eq0.false, c.count.ensures) in
     kept_edit old new c.args.spot.height c.args.spot.node c.args.at removed _ spare opened.can c.save.ensures.same
     c.put_all.new.node _ _ c.args.shape.now (c.save.ensures.tree tells opened.can.spot.of_tree) c.save.ensures.shape
-    (c.put_all.ensures.items ∙ opened.records) c.put_all.ensures.cut
+    (c.put_all.ensures.items ∙ opened.records) c.put_all.ensures.well_formed
     (same_head_both _ _ _ opened.head c.put_all.ensures.head) some (c.name_node.ensures.name some) (above_zero c.args.at)
 
 pub returns-then-count-eq0-clause-edit : goal.returns-then-count-eq0-clause-edit

@@ -58,12 +58,12 @@ returns-clause-split c _ =
       some_front = omega (arith, ap length c.keep_front.ensures.items, length-take c.middle-cut.result.at records, many, some, c.if-cut-eq0.false, c.if-cut-many.false, c.count.ensures);
       some_back = omega (arith, ap length c.fill_back.ensures.items, length-drop c.middle-cut.result.at records, many, some, c.if-cut-many.false, c.count.ensures);
       is_front = record {
-        cut = c.keep_front.ensures.cut;
+        well_formed = c.keep_front.ensures.well_formed;
         has_kind = c.keep_front.ensures.head.kind ∙ c.requires.node.has_kind;
         has_height = c.keep_front.ensures.head.height ∙ c.requires.node.has_height;
       };
       is_back = record {
-        cut = c.fill_back.ensures.cut;
+        well_formed = c.fill_back.ensures.well_formed;
         has_kind = c.fill_back.ensures.head.kind ∙ kind;
         has_height = c.fill_back.ensures.head.height ∙ c.clear.ensures.is_node.has_height;
       };

@@ -9,7 +9,7 @@ returns-then-count-eq0-clause-found c = λ node some. absurd (omega (arith, some
 pub overflow_sub-stretch : goal.overflow_sub-stretch
 overflow_sub-stretch c =
     let node = c.check.ensures.0 c.if-not-check.false in
-    omega (arith, node.cut.rising 0 (omega (arith, c.count.ensures, c.if-count-eq0.false, length-items c.args.page.now)), c.first_record-from.ensures.from, c.first_record-from.ensures.to, ap (λ (l : List ℕ). offset l 0) c.bytes.ensures.value, ap (λ (l : List ℕ). offset l 1) c.bytes.ensures.value)
+    omega (arith, node.well_formed.rising 0 (omega (arith, c.count.ensures, c.if-count-eq0.false, length-items c.args.page.now)), c.first_record-from.ensures.from, c.first_record-from.ensures.to, ap (λ (l : List ℕ). offset l 0) c.bytes.ensures.value, ap (λ (l : List ℕ). offset l 1) c.bytes.ensures.value)
 
 pub returns-clause-read : goal.returns-clause-read
 returns-clause-read c =
@@ -19,11 +19,11 @@ returns-clause-read c =
       grammar = node;
       some = some;
       from = c.first_record-from.ensures.from ∙ ap (λ (l : List ℕ). offset l 0) c.bytes.ensures.value;
-      to = omega (arith, node.cut.rising 0 some, c.first_record-from.ensures.from, c.first_record-from.ensures.to, ap (λ (l : List ℕ). offset l 0) c.bytes.ensures.value, ap (λ (l : List ℕ). offset l 1) c.bytes.ensures.value);
+      to = omega (arith, node.well_formed.rising 0 some, c.first_record-from.ensures.from, c.first_record-from.ensures.to, ap (λ (l : List ℕ). offset l 0) c.bytes.ensures.value, ap (λ (l : List ℕ). offset l 1) c.bytes.ensures.value);
     }
 
 pub returns-clause-low : goal.returns-clause-low
 returns-clause-low c =
     let node = c.check.ensures.0 c.if-not-check.false in
     let some : 0 < record_count c.args.page.now = omega (arith, c.count.ensures, c.if-count-eq0.false, length-items c.args.page.now) in
-    omega (arith, node.cut.rising 0 some, offsets_rise c.args.page.now node.cut 1 (record_count c.args.page.now) (omega (arith, some)) (omega arith), node.cut.inside, c.first_record-from.ensures.from, c.first_record-from.ensures.to, ap (λ (l : List ℕ). offset l 0) c.bytes.ensures.value, ap (λ (l : List ℕ). offset l 1) c.bytes.ensures.value)
+    omega (arith, node.well_formed.rising 0 some, offsets_rise c.args.page.now node.well_formed 1 (record_count c.args.page.now) (omega (arith, some)) (omega arith), node.well_formed.inside, c.first_record-from.ensures.from, c.first_record-from.ensures.to, ap (λ (l : List ℕ). offset l 0) c.bytes.ensures.value, ap (λ (l : List ℕ). offset l 1) c.bytes.ensures.value)

@@ -10,16 +10,16 @@ pub move_down-requires-clause-ordered : goal.move_down-requires-clause-ordered
 move_down-requires-clause-ordered c =
     let node = c.args.node.now in
     let end : offset node c.count_records-n.result ≡ offset node (record_count node) = ap (λ n. offset node n) c.count_records-n.ensures.count in
-    omega (arith, end, offsets_rise node c.requires.cut 0 (record_count node) (omega arith) (omega arith))
+    omega (arith, end, offsets_rise node c.requires.well_formed 0 (record_count node) (omega arith) (omega arith))
 
 pub lower_offsets-requires-clause-fits : goal.lower_offsets-requires-clause-fits
 lower_offsets-requires-clause-fits c = λ j from to.
     let node = c.args.node.now in
     let count = c.count_records-n.ensures.count in
-    let whole = c.requires.cut.inside in
+    let whole = c.requires.well_formed.inside in
     let end : offset node c.count_records-n.result ≡ offset node (record_count node) = ap (λ n. offset node n) count in
     let kept : offset c.move_down.new.bytes j ≡ offset node j = same_offset node c.move_down.new.bytes j c.move_down.ensures.size (omega arith) (λ k here. c.move_down.ensures.above k (omega arith)) in
-    omega (arith, kept, offsets_rise node c.requires.cut 0 j (omega arith) (omega arith))
+    omega (arith, kept, offsets_rise node c.requires.well_formed 0 j (omega arith) (omega arith))
 
 pub returns-then-first-gt14 : goal.returns-then-first-gt14
 returns-then-first-gt14 c =
@@ -33,4 +33,4 @@ returns-then-first-gt14 c =
     (subst (λ e. MovesDown 14 e (c.get_offset-first.result - 14) node mid) end c.move_down.ensures) in
     let lower = subst (λ f. ChangesOffsets 0 (record_count node + 1) (λ a b. b + (f - 14) ≡ a) mid new) first
     (subst (λ n. ChangesOffsets 0 (n + 1) (λ a b. b + (c.get_offset-first.result - 14) ≡ a) mid new) count c.lower_offsets.ensures) in
-    packs node mid new c.requires.cut moved lower
+    packs node mid new c.requires.well_formed moved lower

@@ -15,8 +15,8 @@ none_are_thin = refl
 pub leaf_node-requires-clause-listed : goal.leaf_node-requires-clause-listed
 leaf_node-requires-clause-listed c = subst (λ (l : List (List ℕ)). IsTrue (are_thin_names l)) (sym c.new.ensures) none_are_thin
 
-pub cut-requires : goal.cut-requires
-cut-requires c = ap length (c.as_slice-5.ensures.value ∙ c.in_ok-bitmap.ensures) ∙ length-bits_bytes _ 0 4096
+pub sectors_of-requires : goal.sectors_of-requires
+sectors_of-requires c = ap length (c.as_slice-5.ensures.value ∙ c.in_ok-bitmap.ensures) ∙ length-bits_bytes _ 0 4096
 
 pub returns-clause-thin : goal.returns-clause-thin
 returns-clause-thin c = record {
@@ -24,20 +24,20 @@ returns-clause-thin c = record {
   header = record { is_clean = true; writes = 0; fits = omega arith; is = c.header_sector.ensures };
   alternate = record { is_clean = true; writes = 0; fits = omega arith; is = c.header_sector-2.ensures };
   fixed = record {
-    bitmap = c.cut.ensures ∙ c.as_slice-5.ensures.value ∙ c.in_ok-bitmap.ensures;
+    bitmap = c.sectors_of.ensures ∙ c.as_slice-5.ensures.value ∙ c.in_ok-bitmap.ensures;
     info = c.info_sector.ensures;
     journal = record { start = 512; end = 512; starts = refl; ends = refl; is = c.journal_sector.ensures };
     extents =
-        node_renamed _ _ header_head _ (header_items extents_tree (is_marked 1 None)) (c.cut-2.ensures ∙ c.as_slice-6.ensures.value)
+        node_renamed _ _ header_head _ (header_items extents_tree (is_marked 1 None)) (c.sectors_of-2.ensures ∙ c.as_slice-6.ensures.value)
         (ap (λ (t : TreeHeader). header_items t (is_marked 1 None)) c.empty_tree-extents_tree.ensures) c.in_ok-extents.ensures.node;
     attributes =
-        node_renamed _ _ header_head _ (header_items attributes_tree (is_marked 1 None)) (c.cut-3.ensures ∙ c.as_slice-7.ensures.value)
+        node_renamed _ _ header_head _ (header_items attributes_tree (is_marked 1 None)) (c.sectors_of-3.ensures ∙ c.as_slice-7.ensures.value)
         (ap (λ (t : TreeHeader). header_items t (is_marked 1 None)) c.empty_tree-attributes_tree.ensures) c.in_ok-attributes.ensures.node;
   };
   catalog =
-      node_renamed _ _ header_head _ (header_items (catalog_tree 0) (is_marked 2 None)) (c.cut-4.ensures ∙ c.as_slice-8.ensures.value)
+      node_renamed _ _ header_head _ (header_items (catalog_tree 0) (is_marked 2 None)) (c.sectors_of-4.ensures ∙ c.as_slice-8.ensures.value)
       (ap (λ (t : TreeHeader). header_items t (is_marked 2 None)) c.catalog_tree.ensures) c.in_ok-catalog.ensures.node;
-  leaf = node_renamed _ _ leaf_head _ (leaf_items []) (c.cut-5.ensures ∙ c.as_slice-9.ensures.value) (ap leaf_items c.new.ensures) c.in_ok-leaf.ensures.node;
+  leaf = node_renamed _ _ leaf_head _ (leaf_items []) (c.sectors_of-5.ensures ∙ c.as_slice-9.ensures.value) (ap leaf_items c.new.ensures) c.in_ok-leaf.ensures.node;
 }
 
 pub returns-clause-fresh : goal.returns-clause-fresh
@@ -49,7 +49,7 @@ returns-clause-fresh c =
       alternate = c.header_sector-2.ensures;
       journal = c.journal_sector.ensures;
       leaf =
-          c.cut-5.ensures ∙ c.as_slice-9.ensures.value ∙ c.in_ok-leaf.ensures.value
+          c.sectors_of-5.ensures ∙ c.as_slice-9.ensures.value ∙ c.in_ok-leaf.ensures.value
           ∙ ap (λ (l : List (List ℕ)). node_over leaf_head (leaf_items l) c.as_slice-4.result.now) c.new.ensures
           ∙ ap (λ (l : List ℕ). node_over leaf_head (leaf_items []) l) zeros;
     }

@@ -1,6 +1,6 @@
 use Rattle.std.proofs.Common.{◌≡◌, ℕ, sym, subst, rules, [], ◌∷◌}
 use Rattle.hfsx_server.specs.Telling.{Tells, refusal_text}
-use Rattle.hfsx_server.specs.declared.refusal.Refusal.TheVariants.{TooSmall, TooLarge}
+use Rattle.hfsx_server.specs.declared.refusal.SizeRefusal.TheVariants.{TooSmall, TooLarge}
 use Rattle.hfsx_server.proofs.Telling.{tells_all}
 use Rattle.hfsx_server.proofs.refusal.tell_refusal.Goals as goal
 

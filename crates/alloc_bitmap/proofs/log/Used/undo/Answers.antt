@@ -1,5 +1,5 @@
 use Rattle.std.proofs.Common.{◌≡◌, ◌+◌, ◌≤◌, [], ◌∷◌, List, Bool, false, not, arith, length, get_or, ⊎_elim, inl, inr, ap, subst, ◌∙◌, sym, rules}
-use Rattle.alloc_bitmap.specs.declared.log.Change.{Change}
+use Rattle.alloc_bitmap.specs.declared.log.BitChange.{BitChange}
 use Rattle.alloc_bitmap.specs.Kept.{Kept, rewind, ChangesFit}
 use Rattle.flag_rows.proofs.RowLaws.{length-mark}
 use Rattle.alloc_bitmap.proofs.KeptLaws.{changes_fit_last, rewind-append, rewind_both}
@@ -8,8 +8,8 @@ use Rattle.alloc_bitmap.proofs.log.Used.undo.Goals as goal
 pub loop-change-preserved : goal.loop-change-preserved
 loop-change-preserved c =
     let old = c.loop-change.self-inside in
-    let change : Change = c.in-Some.change in
-    let both = changes_fit_last (length old.row) c.pop.new.self.items change (subst (λ (l : List Change). ChangesFit (length old.row) l) c.in-Some.ensures.items c.loop-change.invariant.fit) in
+    let change : BitChange = c.in-Some.change in
+    let both = changes_fit_last (length old.row) c.pop.new.self.items change (subst (λ (l : List BitChange). ChangesFit (length old.row) l) c.in-Some.ensures.items c.loop-change.invariant.fit) in
     let size : length c.set.new.self ≡ length old.row = ap (λ (l : List Bool). length l) c.set.ensures ∙ length-mark old.row change.extent (not change.used) both.1 in
     let inv = c.loop-change.invariant in
     let taken_fits : change.extent.start + change.extent.count ≤ length c.loop-change.taken = omega (arith, both.1, inv.taken_size, inv.size) in
@@ -17,9 +17,9 @@ loop-change-preserved c =
     record {
       fit = subst (λ n. ChangesFit n c.pop.new.self.items) (sym size) both.0;
       size = size ∙ inv.size;
-      rest = ap (λ (l : List Bool). rewind c.pop.new.self.items l) c.set.ensures ∙ sym (rewind-append c.pop.new.self.items (change ∷ []) old.row) ∙ ap (λ (l : List Change). rewind l old.row) (sym c.in-Some.ensures.items) ∙ inv.rest;
+      rest = ap (λ (l : List Bool). rewind c.pop.new.self.items l) c.set.ensures ∙ sym (rewind-append c.pop.new.self.items (change ∷ []) old.row) ∙ ap (λ (l : List BitChange). rewind l old.row) (sym c.in-Some.ensures.items) ∙ inv.rest;
       taken_size = taken_long ∙ inv.taken_size;
-      taken = ap (λ (l : List Bool). rewind c.pop.new.self.items l) c.set-in-Some.ensures ∙ sym (rewind-append c.pop.new.self.items (change ∷ []) c.loop-change.taken) ∙ ap (λ (l : List Change). rewind l c.loop-change.taken) (sym c.in-Some.ensures.items) ∙ inv.taken;
+      taken = ap (λ (l : List Bool). rewind c.pop.new.self.items l) c.set-in-Some.ensures ∙ sym (rewind-append c.pop.new.self.items (change ∷ []) c.loop-change.taken) ∙ ap (λ (l : List BitChange). rewind l c.loop-change.taken) (sym c.in-Some.ensures.items) ∙ inv.taken;
     }
 
 pub returns-clause-taken : goal.returns-clause-taken

@@ -1,5 +1,5 @@
 use Rattle.hfs_model.proofs.Sectors.{cut_more, cut_all}
-use Rattle.hfs_model.proofs.text.cut.Goals as goal
+use Rattle.hfs_model.proofs.text.sectors_of.Goals as goal
 
 pub loop-at-preserved : goal.loop-at-preserved
 loop-at-preserved c =
