@@ -1,10 +1,10 @@
 // A volume that is served: line after line is answered, each as a transaction of its own.
-ghost use Rattle.std.specs.Prelude.{◌≡◌, ◌≢◌, ◌⊎◌, ◌<◌, ◌≤◌, ◌+◌, ◌++◌, ◌∷◌, [], ℕ, List, IsTrue, IsErrOf, IfOk, IfErr, OnOk, OnErr, length};
+ghost use Rattle.std.specs.Prelude.{◌≡◌, ◌≢◌, ◌⊎◌, ◌↔◌, ◌<◌, ◌≤◌, ◌+◌, ◌++◌, ◌∷◌, [], ℕ, List, IsTrue, IsErrOf, IfOk, IfErr, OnOk, OnErr, length};
 ghost use Rattle.sector_disk.specs.Cause.{HasCause};
 ghost use Rattle.sector_disk.specs.Disk.{CrashesLeave, SameDisk, SameSink, ToldPrefix, content};
 ghost use Rattle.jnl_store.specs.Store.{spare_of};
 ghost use Rattle.hfs_language.specs.Language.{command_of};
-ghost use Rattle.hfs_language.specs.Lines.{lines};
+ghost use Rattle.hfs_language.specs.Lines.{lines, HasNoNewline};
 ghost use Rattle.hfs_model.specs.Names.{are_thin_names};
 ghost use Rattle.hfs_model.specs.Parts.{OnlyFolders, OnlyHeader};
 ghost use Rattle.hfs_language.specs.Text.{reply_text};
@@ -65,10 +65,17 @@ impl Server {
             × (self.new.lines ≡ self.old.lines + length run) × (IsTrue (S.stream source.old).tells → TakesLines self.old.input (S.stream source.old) (lines_of run) self.new.input (S.stream source.new))) }
         ensures fits { OnOk result (self.old.lines ≤ 4294967295 → self.new.lines ≤ 4294967295) }
         ensures end { IsTrue (S.stream source.old).tells → IfOk result (λ served. served ≡ Served.End → ahead self.new.input (S.stream source.new) ≡ []) }
+        // It answers More exactly where it answered a line, and End exactly where no byte was ahead.
+        ensures counts { IfOk result (λ served. (served ≡ Served.More → self.new.lines ≡ self.old.lines + 1) × (served ≡ Served.End → self.new.lines ≡ self.old.lines)) }
+        ensures ends { IsTrue (S.stream source.old).tells → IfOk result (λ served. served ≡ Served.End ↔ (ahead self.old.input (S.stream source.old) ≡ [])) }
         ensures nearer { IfOk result (λ served. served ≡ Served.More → weight self.new.input (S.stream source.new) < weight self.old.input (S.stream source.old)) }
         // Whatever stops it, a crash leaves the tree before the line or after it, and of its reply a front was told.
         ensures stopped { IsTrue (R.state rig.old).tells → OnErr result ((run : List Entry) × RunSoFar self.old.names (R.state rig.old) run (R.state rig.new)
             × (IsTrue (S.stream source.old).tells → Stops self.old.input (S.stream source.old) run (S.stream source.new))) }
+        // Where the source failed or there are too many lines, nothing was done on the rig; a source that failed gave no whole
+        // line more.
+        ensures quiet { IsErrOf result ServeFault.Source ⊎ IsErrOf result ServeFault.TooMany → R.state rig.new ≡ R.state rig.old }
+        ensures begun { IsTrue (S.stream source.old).tells → IsErrOf result ServeFault.Source → (begun : List ℕ) × HasNoNewline begun × (ahead self.old.input (S.stream source.old) ≡ begun ++ (S.stream source.new).left) }
 
         ensures same { SameDisk (R.state rig.old) (R.state rig.new) }
         ensures same_source { SameSource (S.stream source.old) (S.stream source.new) }
