@@ -13,7 +13,7 @@ ghost use Rattle.hfsx_server.specs.Cause.{IsCause};
 ghost use Rattle.hfsx_server.specs.Headline.{Entry, lines_of, tree_after};
 ghost use Rattle.hfsx_server.specs.Input.{ahead, weight, IsLine, SameSource, TakesLines, TakesNoMore};
 ghost use Rattle.hfsx_server.specs.Session.{step, with_folder, answer, after};
-ghost use Rattle.hfsx_server.specs.Serving.{SameButLines, entry_of, RunSoFar, IsIdle, IsMarkedClean, IsServing, Rests, Serves, Stops};
+ghost use Rattle.hfsx_server.specs.Serving.{SameButLines, entry_of, RunSoFar, IsIdle, IsMarkedClean, IsServing, KeepsMark, Rests, Serves, Stops};
 ghost use Rattle.hfsx_server.specs.Volume.{Tree, Holds, IsUnmounted, MountsTo};
 
 use crate::changing::{change_folders, change_header};
@@ -64,6 +64,8 @@ impl Server {
         ensures served { IsTrue (R.state rig.old).tells → OnOk result ((run : List Entry) × Serves self.old.names (R.state rig.old) run (R.state rig.new) × (self.new.names ≡ tree_after self.old.names run)
             × (self.new.lines ≡ self.old.lines + length run) × (IsTrue (S.stream source.old).tells → TakesLines self.old.input (S.stream source.old) (lines_of run) self.new.input (S.stream source.new))) }
         ensures fits { OnOk result (self.old.lines ≤ 4294967295 → self.new.lines ≤ 4294967295) }
+        // No line changes bit 8 of the header, nor the write count.
+        ensures mark { OnOk result (KeepsMark self.old.parts self.new.parts) }
         ensures end { IsTrue (S.stream source.old).tells → IfOk result (λ served. served ≡ Served.End → ahead self.new.input (S.stream source.new) ≡ []) }
         // It answers More exactly where it answered a line, and End exactly where no byte was ahead.
         ensures counts { IfOk result (λ served. (served ≡ Served.More → self.new.lines ≡ self.old.lines + 1) × (served ≡ Served.End → self.new.lines ≡ self.old.lines)) }
@@ -119,6 +121,7 @@ impl Server {
         ensures served { IsTrue (R.state rig.old).tells → (text : List ℕ) → IsLine MOST_BYTES text line.now → OnOk result (Serves self.old.names (R.state rig.old) (entry_of self.old.names text ∷ []) (R.state rig.new)) }
         ensures stopped { IsTrue (R.state rig.old).tells → (text : List ℕ) → IsLine MOST_BYTES text line.now → OnErr result (RunSoFar self.old.names (R.state rig.old) (entry_of self.old.names text ∷ []) (R.state rig.new)) }
         ensures names { (text : List ℕ) → IsLine MOST_BYTES text line.now → OnOk result (self.new.names ≡ after self.old.names text) }
+        ensures mark { OnOk result (KeepsMark self.old.parts self.new.parts) }
         ensures input { (self.new.input ≡ self.old.input) × (self.new.lines ≡ self.old.lines) }
         ensures same { SameDisk (R.state rig.old) (R.state rig.new) }
         ensures no_source { IsErrOf result ServeFault.Source → ⊥ }
@@ -145,6 +148,7 @@ impl Server {
         ensures serving { OnOk result (IsServing self.new (D.state disk.new)) }
         ensures text { IfOk result (λ text. text ≡ reply_text (step self.old.names read).0) }
         ensures names { OnOk result (self.new.names ≡ (step self.old.names read).1) }
+        ensures mark { OnOk result (KeepsMark self.old.parts self.new.parts) }
         ensures crash { IsTrue (D.state disk.old).tells → CrashesLeave (D.state disk.old) (D.state disk.new) (λ image. MountsTo image self.old.names ⊎ MountsTo image (step self.old.names read).1) }
         ensures input { (self.new.input ≡ self.old.input) × (self.new.lines ≡ self.old.lines) }
         ensures same { SameDisk (D.state disk.old) (D.state disk.new) }
@@ -168,6 +172,7 @@ impl Server {
         requires room { IsTrue (are_thin_names (with_folder self.old.names folder)) }
         ensures serving { OnOk result (IsServing self.new (D.state disk.new)) }
         ensures names { OnOk result (self.new.names ≡ with_folder self.old.names folder) }
+        ensures mark { OnOk result (KeepsMark self.old.parts self.new.parts) }
         ensures crash { IsTrue (D.state disk.old).tells → CrashesLeave (D.state disk.old) (D.state disk.new) (λ image. MountsTo image self.old.names ⊎ MountsTo image (with_folder self.old.names folder)) }
         ensures input { (self.new.input ≡ self.old.input) × (self.new.lines ≡ self.old.lines) }
         ensures same { SameDisk (D.state disk.old) (D.state disk.new) }
@@ -190,6 +195,7 @@ impl Server {
         requires room { IsTrue (are_thin_names (self.old.names ++ name ∷ [])) }
         ensures serving { OnOk result (IsServing self.new (D.state disk.new)) }
         ensures names { OnOk result (self.new.names ≡ self.old.names ++ name ∷ []) }
+        ensures mark { OnOk result (KeepsMark self.old.parts self.new.parts) }
         ensures crash { IsTrue (D.state disk.old).tells → CrashesLeave (D.state disk.old) (D.state disk.new) (λ image. MountsTo image self.old.names ⊎ MountsTo image (self.old.names ++ name ∷ [])) }
         ensures input { (self.new.input ≡ self.old.input) × (self.new.lines ≡ self.old.lines) }
         ensures same { SameDisk (D.state disk.old) (D.state disk.new) }
