@@ -105,6 +105,31 @@ leaves_spilled a b at value image told s same l = (
   l.1 ∙ sym same,
 )
 
+-- what a crash leaves before a spill that failed it leaves after it too
+leaves_unsure : (a b : Space) (at : ℕ) (value : List ℕ) (image : Content) (told : List ℕ) → MayHaveSpilled a at value b → b.told ≡ a.told → LeavesDurable a image told → LeavesDurable b image told
+leaves_unsure a b at value image told s same l = (
+  ⊎_elim
+      (λ (set : (b.durable ≡ slice_set a.durable at value) × b.spilled at). record {
+        size = l.0.size ∙ sym (ap (λ (c : Content). length c) set.0 ∙ length-set a.durable at value);
+        each = λ k. ⊎_elim
+            (λ (here : k ≡ at). inr (inl (subst (λ j. b.spilled j) (sym here) set.1)))
+            (λ (other : k ≢ at). ⊎_elim
+            (λ e. inl (e ∙ sym (ap (λ (c : Content). sector c k) set.0 ∙ get_or-set_other a.durable at k value [] other)))
+            (λ these. inr (⊎_elim (λ o. inl (s.still k o)) (λ c. inr ((s.closed k).1 c)) these))
+            (l.0.each k))
+            (cases_eq k at);
+      })
+      (λ (is : b.durable ≡ a.durable). record {
+        size = l.0.size ∙ sym (ap (λ (c : Content). length c) is);
+        each = λ k. ⊎_elim
+            (λ e. inl (e ∙ sym (ap (λ (c : Content). sector c k) is)))
+            (λ these. inr (⊎_elim (λ o. inl (s.still k o)) (λ c. inr ((s.closed k).1 c)) these))
+            (l.0.each k);
+      })
+      s.durable,
+  l.1 ∙ sym same,
+)
+
 -- the same sector has the same bytes
 pub same_sector_bytes : (a b : Content) (at : ℕ) → sector b at ≡ sector a at → sector_bytes b at ≡ sector_bytes a at
 unfolding sector_bytes
@@ -188,3 +213,10 @@ pub spills_failed : (old mid new : Space) (from_sectors fresh : List ℕ) (first
     → (IsTrue mid.tells → MayHaveSpilled mid at made new) → IsTrue old.tells → SpillsIn (IsOneOf fresh) old new
 spills_failed old mid new from_sectors fresh first size from value n at made m place unsure tells =
     spills_both (IsOneOf fresh) old mid new (m.touches tells) (spills_maybe (IsOneOf fresh) mid new at made (n, place) (unsure (m.same.tells ∙ tells)))
+
+pub time_failed : (old mid new : Space) (from_sectors fresh : List ℕ) (first size from : ℕ) (value : List ℕ) (n at : ℕ) (made : List ℕ) → Made old mid from_sectors fresh first size from value n
+    → (IsTrue mid.tells → MayHaveSpilled mid at made new) → (IsTrue mid.tells → TimePasses mid.clock new.clock (LeavesDurable new)) → SameSpace mid new → IsTrue old.tells → TimePasses old.clock new.clock (LeavesDurable new)
+time_failed old mid new from_sectors fresh first size from value n at made m unsure time same tells =
+    let told = m.same.tells ∙ tells in
+    both_pass old.clock mid.clock new.clock (LeavesDurable mid) (LeavesDurable new) (LeavesDurable new) (m.time tells) (time told)
+    (λ image bytes l. leaves_unsure mid new at made image bytes (unsure told) same.told l) (λ image bytes l. l)

@@ -77,7 +77,7 @@ pub fn spill_sectors<P: SectorSpace>(
         slice_index (sector_bytes (P.SectorView.space space.new).content (slice_index (sectors_of per_block (blocks_of fresh.now)) n)) k
         ≡ new_byte (P.SectorView.space space.old).content (sectors_of per_block (blocks_of fork.now)) size from value.now ((first + n) * 512 + k)) }
     ensures touches { IsTrue (P.SectorView.space space.old).tells → SpillsIn (IsOneOf (sectors_of per_block (blocks_of fresh.now))) (P.SectorView.space space.old) (P.SectorView.space space.new) }
-    ensures time { IsTrue (P.SectorView.space space.old).tells → OnOk result (TimePasses (P.SectorView.space space.old).clock (P.SectorView.space space.new).clock (LeavesDurable (P.SectorView.space space.new))) }
+    ensures time { IsTrue (P.SectorView.space space.old).tells → TimePasses (P.SectorView.space space.old).clock (P.SectorView.space space.new).clock (LeavesDurable (P.SectorView.space space.new)) }
     ensures room { SameRoom (P.SectorView.space space.old) (P.SectorView.space space.new) }
     ensures same { SameSpace (P.SectorView.space space.old) (P.SectorView.space space.new) }
     ensures cause { HasCause (P.SectorView.space space.old).faults (P.SectorView.space space.new).faults result }

@@ -52,7 +52,7 @@ pub fn write<P: SectorSpace>(
 
     // Nothing but sectors of the fresh blocks is touched, also where it fails.
     ensures touches { IsTrue (P.SectorView.space space.old).tells → SpillsIn (IsOneOf (sectors_in block (fresh_of map.old (new_blocks block size from (from + length value.now))))) (P.SectorView.space space.old) (P.SectorView.space space.new) }
-    ensures time { IsTrue (P.SectorView.space space.old).tells → OnOk result (TimePasses (P.SectorView.space space.old).clock (P.SectorView.space space.new).clock (LeavesDurable (P.SectorView.space space.new))) }
+    ensures time { IsTrue (P.SectorView.space space.old).tells → TimePasses (P.SectorView.space space.old).clock (P.SectorView.space space.new).clock (LeavesDurable (P.SectorView.space space.new)) }
     ensures room { SameRoom (P.SectorView.space space.old) (P.SectorView.space space.new) }
     ensures same { SameSpace (P.SectorView.space space.old) (P.SectorView.space space.new) }
 
@@ -95,7 +95,7 @@ pub fn grow_step<P: SectorSpace>(
 
     // Nothing but sectors of the fresh blocks is touched, also where it fails.
     ensures touches { IsTrue (P.SectorView.space space.old).tells → SpillsIn (IsOneOf (sectors_in block (fresh_of map.old (new_blocks block size size (to))))) (P.SectorView.space space.old) (P.SectorView.space space.new) }
-    ensures time { IsTrue (P.SectorView.space space.old).tells → OnOk result (TimePasses (P.SectorView.space space.old).clock (P.SectorView.space space.new).clock (LeavesDurable (P.SectorView.space space.new))) }
+    ensures time { IsTrue (P.SectorView.space space.old).tells → TimePasses (P.SectorView.space space.old).clock (P.SectorView.space space.new).clock (LeavesDurable (P.SectorView.space space.new)) }
     ensures room { SameRoom (P.SectorView.space space.old) (P.SectorView.space space.new) }
     ensures same { SameSpace (P.SectorView.space space.old) (P.SectorView.space space.new) }
 
@@ -136,7 +136,7 @@ fn rewrite<P: SectorSpace>(
     ensures enough { IfOk result (λ list. max size end ≤ length (sectors_in block list) * 512) }
     ensures map { AreApart (blocks_of fork.now) → OnOk result (map.new ≡ given (middle (first_block block size from) (old_end block size end) fork.now) (taken (new_blocks block size from end) map.old)) }
     ensures touches { IsTrue (P.SectorView.space space.old).tells → SpillsIn (IsOneOf (sectors_in block (fresh_of map.old (new_blocks block size from end)))) (P.SectorView.space space.old) (P.SectorView.space space.new) }
-    ensures time { IsTrue (P.SectorView.space space.old).tells → OnOk result (TimePasses (P.SectorView.space space.old).clock (P.SectorView.space space.new).clock (LeavesDurable (P.SectorView.space space.new))) }
+    ensures time { IsTrue (P.SectorView.space space.old).tells → TimePasses (P.SectorView.space space.old).clock (P.SectorView.space space.new).clock (LeavesDurable (P.SectorView.space space.new)) }
     ensures room { SameRoom (P.SectorView.space space.old) (P.SectorView.space space.new) }
     ensures same { SameSpace (P.SectorView.space space.old) (P.SectorView.space space.new) }
     ensures later { (P.SectorView.space space.old).faults ≤ (P.SectorView.space space.new).faults }

@@ -4,7 +4,7 @@ use Rattle.sector_disk.specs.Space.{Space}
 use Rattle.fork_map.specs.Blocks.{blocks_of, sectors_of}
 use Rattle.file_io.specs.Bytes.{new_byte}
 use Rattle.file_io.specs.Walks.{StandsAt}
-use Rattle.file_io.proofs.SpillLaws.{made_read, made_more, same_old_byte, spills_failed}
+use Rattle.file_io.proofs.SpillLaws.{made_read, made_more, same_old_byte, spills_failed, time_failed}
 use Rattle.file_io.proofs.spilling.spill_sectors.Goals as goal
 
 pub spill-requires-clause-inside : goal.spill-requires-clause-inside
@@ -31,6 +31,19 @@ returns-in_err-spill-in-Some-clause-touches g c =
     let place : slice_get fresh n ≡ Some c.in-Some.at = sym (c.in-Some.ensures.sector n (c.loop-n.invariant.new_walk c.loop-n-test.true)) in
     spills_failed old mid new had fresh c.args.first c.args.size c.args.from c.args.value.now n c.in-Some.at c.put_part.new.sector
     (made_read old now mid had fresh c.args.first c.args.size c.args.from c.args.value.now n c.loop-n.invariant.made c.old_bytes.ensures.space) place c.in_err-spill-in-Some.ensures.unsure
+
+pub returns-in_err-spill-in-Some-clause-time : goal.returns-in_err-spill-in-Some-clause-time
+returns-in_err-spill-in-Some-clause-time g c =
+    let old : Space = g.P.SectorView.space c.args.space.now in
+    let now : Space = g.P.SectorView.space c.loop-n.space in
+    let mid : Space = g.P.SectorView.space c.old_bytes.new.space in
+    let new : Space = g.P.SectorView.space c.spill.new.self in
+    let n = c.loop-n.n in
+    let had : List ℕ = sectors_of c.args.per_block (blocks_of c.args.fork.now) in
+    let fresh : List ℕ = sectors_of c.args.per_block (blocks_of c.args.fresh.now) in
+    time_failed old mid new had fresh c.args.first c.args.size c.args.from c.args.value.now n c.in-Some.at c.put_part.new.sector
+    (made_read old now mid had fresh c.args.first c.args.size c.args.from c.args.value.now n c.loop-n.invariant.made c.old_bytes.ensures.space)
+    c.in_err-spill-in-Some.ensures.unsure c.spill.ensures.time c.spill.ensures.same
 
 pub returns-in-None-clause-bytes : goal.returns-in-None-clause-bytes
 returns-in-None-clause-bytes g c =
