@@ -24,3 +24,5 @@ pub mod Sound
 pub mod Told
 pub mod TreeOf
 pub mod Weight
+
+pub mod Writing

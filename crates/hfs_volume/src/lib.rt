@@ -12,6 +12,9 @@ mod laws_reclaiming;
 mod laws_steps;
 mod summary;
 
+mod laws_blocks;
+mod laws_writing;
+
 pub use cost::{Cost, Needs, Room, TreeCost};
 pub use laws::{
     chmod_does_its_step, create_does_its_step, entry_may_join, header_may_change,
@@ -31,3 +34,9 @@ pub use laws_names::{ln_does_its_step, mv_does_its_step, rm_does_its_step};
 pub use laws_reclaiming::{reclaim_drops_an_attribute, reclaim_drops_an_entry};
 pub use laws_steps::{sound_has_plain_tree, step_keeps_trees};
 pub use summary::Summary;
+
+pub use laws_blocks::{blocks_may_be_put, tree_may_grow};
+pub use laws_writing::{
+    cut_of_a_shrunk_file_keeps_the_tree, cut_of_an_orphan_keeps_the_tree, growth_keeps_the_tree,
+    trunc_does_its_step, write_does_its_step, write_of_nothing_does_its_step,
+};
