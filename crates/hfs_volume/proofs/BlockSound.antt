@@ -108,8 +108,11 @@ module _ (id kind from count : ℕ) (fresh : List ℕ) (old new : VolumeState) (
       ]
 
   pub put_sound : IsSoundVolume new
-  put_sound = (sound_is_both new).1 (put_shaped, record {
-    entries = entries_counted;
-    links = links_counted;
-    bits = bits_counted (length fresh) count does.free does.next old new sound (bits_again id kind from count fresh begun new puts was_right was_shaped) counts does.counts (ap (λ (h : VolumeHeader). h.free_blocks) head_same) (ap (λ (h : VolumeHeader). h.total_blocks) head_same);
-  })
+  put_sound = (sound_is_both new).1 (
+    put_shaped,
+    record {
+      entries = entries_counted;
+      links = links_counted;
+      bits = bits_counted (length fresh) count does.free does.next old new sound (bits_again id kind from count fresh begun new puts was_right was_shaped) counts does.counts (ap (λ (h : VolumeHeader). h.free_blocks) head_same) (ap (λ (h : VolumeHeader). h.total_blocks) head_same);
+    },
+  )

@@ -47,13 +47,16 @@ module _ (id more : ℕ) (fresh : List ℕ) (old new : VolumeState) (tree : IsTr
   counted_same one other entries files folders counted = record { valences = counted.valences; files = files ∙ counted.files; folders = ap (λ n. n + 1) folders ∙ counted.folders }
 
   pub grown_sound : IsSoundVolume new
-  grown_sound = (sound_is_both new).1 (laws.0, record {
-    entries = subst (λ l. AreCounted new.head (entries_of l)) (sym same_records)
-        (counted_same old.head new.head (entries_of (records_of old)) (ap (λ (h : VolumeHeader). h.file_count) head_is ∙ same_head.file_count) (ap (λ (h : VolumeHeader). h.folder_count) head_is ∙ same_head.folder_count) sound.entries.counts);
-    links = subst HaveLinkCounts (sym same_records) sound.links.counts;
-    bits = bits_counted (length fresh) 0 does.free does.next old new sound laws.1 laws.2 (omega (arith, does.counts)) (ap (λ (h : VolumeHeader). h.free_blocks) head_is ∙ same_head.free_blocks)
-        (ap (λ (h : VolumeHeader). h.total_blocks) head_is ∙ same_head.total_blocks);
-  })
+  grown_sound = (sound_is_both new).1 (
+    laws.0,
+    record {
+      entries = subst (λ l. AreCounted new.head (entries_of l)) (sym same_records)
+          (counted_same old.head new.head (entries_of (records_of old)) (ap (λ (h : VolumeHeader). h.file_count) head_is ∙ same_head.file_count) (ap (λ (h : VolumeHeader). h.folder_count) head_is ∙ same_head.folder_count) sound.entries.counts);
+      links = subst HaveLinkCounts (sym same_records) sound.links.counts;
+      bits = bits_counted (length fresh) 0 does.free does.next old new sound laws.1 laws.2 (omega (arith, does.counts)) (ap (λ (h : VolumeHeader). h.free_blocks) head_is ∙ same_head.free_blocks)
+          (ap (λ (h : VolumeHeader). h.total_blocks) head_is ∙ same_head.total_blocks);
+    },
+  )
 
   pub grown_tree : (bytes_of : FileRecord → List ℕ) → tree_in new bytes_of ≡ tree_in old bytes_of
   unfolding tree_in

@@ -88,7 +88,6 @@ mod WorkedCosts
 mod WorkedSound
 mod WorkedTrees
 mod WorkedVolumes
-
 mod BlockCounts
 mod BlockForks
 mod BlockLaw
