@@ -1,25 +1,24 @@
 -- The forks of a volume, after some blocks of one of them have others in their place that were free.
 use Rattle.std.proofs.Common.{◌≡◌, ◌≢◌, ◌⊎◌, ◌<◌, ◌≤◌, ℕ, zero, suc, ◌+◌, ◌-◌, ◌*◌, ◌/◌, ◌==◌, Bool, true, false, List, [], ◌∷◌, ◌++◌, length, take, drop, inl, inr, refl, sym, ◌∙◌, ap, subst, arith}
-use Rattle.std.specs.Prelude.{Contains, All, ◌&&◌, not, find, cond, Option, Some, if◌then◌else◌}
+use Rattle.std.specs.Prelude.{Contains, ◌&&◌, not, find, cond, Some, if◌then◌else◌}
 use Rattle.std.specs.List.{flat_map, range_with_len}
 use Rattle.std.proofs.lemmas.List.{take-append-drop}
 use Rattle.std.proofs.lemmas.List.Elements.{Contains-append_left, Contains-append_right, Contains-append_cases}
 use Rattle.std.proofs.lemmas.Bool.{eqb-true}
 use Rattle.hx_bytes.specs.declared.extents.Extent.{Extent}
-use Rattle.volume_header.specs.declared.header.VolumeHeader.{VolumeHeader}
 use Rattle.fork_map.specs.Blocks.{blocks_of}
 use Rattle.alloc_bitmap.specs.Apart.{times, AreApart}
 use Rattle.alloc_bitmap.proofs.ApartLaws.{times-append}
 use Rattle.hfs_model.specs.Sorted.{kept}
-use Rattle.hfs_volume.specs.Records.{Placed, Overflow}
-use Rattle.hfs_volume.specs.Forks.{Owned, all_forks, overflow_in, blocks_owned, is_of, in_use, is_full, extents_of, used_blocks, reserved_blocks, bad_extents, extents_id, bad_blocks_id, data_kind, resource_kind}
-use Rattle.hfs_volume.specs.Content.{VolumeState, is_set, records_of, overflow_in_volume}
-use Rattle.hfs_volume.specs.Blocks.{HasForks, HasFork, HasSizes, GoesOn, GoOn, GoOnBad, LieInside, forks_of, used_in, is_among, count_used}
+use Rattle.hfs_volume.specs.Records.{Overflow}
+use Rattle.hfs_volume.specs.Forks.{Owned, overflow_in, blocks_owned, is_of, in_use, is_full, extents_of, used_blocks, reserved_blocks, bad_extents, extents_id, bad_blocks_id, data_kind, resource_kind}
+use Rattle.hfs_volume.specs.Content.{VolumeState, is_set, overflow_in_volume}
+use Rattle.hfs_volume.specs.Blocks.{HasForks, HasFork, HasSizes, GoesOn, GoOn, LieInside, forks_of, used_in, is_among, count_used}
 use Rattle.hfs_volume.specs.Reclaim.{is_fork, blocks_at, blocks_found}
 use Rattle.hfs_volume.specs.Run.{AreFresh}
 use Rattle.hfs_volume.specs.Changes.{FlipsBits}
 use Rattle.hfs_volume.specs.Laws.{HasRightBits}
-use Rattle.hfs_volume.proofs.Members.{at_front, behind, first_or_later, all_of, each_of, kept_stands, kept_cases}
+use Rattle.hfs_volume.proofs.Members.{at_front, behind, all_of, each_of, kept_stands, kept_cases}
 use Rattle.hfs_volume.proofs.Ranks.{true_or_false}
 use Rattle.hfs_volume.proofs.Hiding.{both}
 use Rattle.hfs_volume.proofs.Fitting.{differs, not_same}

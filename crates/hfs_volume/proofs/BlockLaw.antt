@@ -1,19 +1,16 @@
 -- Blocks of a file replaced, added or cut: the rules are kept, each bit is right again, and so many more blocks are used, and so many fewer.
-use Rattle.std.proofs.Common.{◌≡◌, ◌⊎◌, ◌<◌, ◌≤◌, ℕ, ◌+◌, ◌-◌, ◌==◌, Bool, true, false, List, [], ◌∷◌, ◌++◌, length, take, drop, inl, inr, refl, sym, ◌∙◌, ap, subst, arith}
-use Rattle.std.specs.Prelude.{Contains, ◌*◌, not, count_by}
+use Rattle.std.proofs.Common.{◌≡◌, ◌<◌, ◌≤◌, ℕ, ◌+◌, ◌==◌, Bool, true, false, List, length, take, drop, refl, sym, ◌∙◌, ap, subst, arith}
+use Rattle.std.specs.Prelude.{Contains, ◌*◌, count_by}
 use Rattle.std.proofs.lemmas.Bool.{eqb-true}
 use Rattle.std.proofs.lemmas.List.{length-take-le, length-drop}
 use Rattle.volume_header.specs.declared.header.VolumeHeader.{VolumeHeader}
-use Rattle.hfs_model.specs.Sorted.{kept}
-use Rattle.hfs_volume.specs.Records.{Placed, Overflow, entries_of, id_of, is_file, is_folder}
-use Rattle.hfs_volume.specs.Entries.{count_in}
+use Rattle.hfs_volume.specs.Records.{Placed, entries_of, is_file, is_folder}
 use Rattle.hfs_volume.specs.Links.{links_to}
-use Rattle.hfs_volume.specs.Forks.{Owned, is_of, bad_blocks_id, extents_id}
-use Rattle.hfs_volume.specs.Content.{VolumeState, is_set, records_of, overflow_in_volume}
+use Rattle.hfs_volume.specs.Forks.{Owned, bad_blocks_id, extents_id}
+use Rattle.hfs_volume.specs.Content.{VolumeState, is_set, records_of}
 use Rattle.hfs_volume.specs.Blocks.{HasFiles, HasForks, is_among, count_used, used_in}
 use Rattle.hfs_volume.specs.Reclaim.{blocks_at}
-use Rattle.hfs_volume.specs.Run.{AreFresh}
-use Rattle.hfs_volume.specs.Changes.{PutsBlocks, FlipsBits, HasSameNodes}
+use Rattle.hfs_volume.specs.Changes.{PutsBlocks, FlipsBits}
 use Rattle.hfs_volume.specs.Laws.{IsShaped, IsUserFile, HasRightBits, CountsBlocks, BlocksPut}
 use Rattle.hfs_volume.proofs.Members.{each_of}
 use Rattle.hfs_volume.proofs.Fitting.{differs}

@@ -1,6 +1,6 @@
 -- A file's record with another fork: what is said of entries stays so, and of all forks this one is another.
-use Rattle.std.proofs.Common.{◌≡◌, ◌≢◌, ◌⊎◌, ◌<◌, ◌≤◌, ℕ, ◌+◌, ◌==◌, Bool, true, false, List, [], ◌∷◌, ◌++◌, length, inl, inr, refl, sym, ◌∙◌, ap, subst, arith}
-use Rattle.std.specs.Prelude.{Contains, All, IsTrue, ◌&&◌, not, count_by, find, Option, Some, if◌then◌else◌}
+use Rattle.std.proofs.Common.{◌≡◌, ◌⊎◌, ◌<◌, ◌≤◌, ℕ, ◌==◌, Bool, true, false, List, [], ◌∷◌, ◌++◌, inl, inr, refl, sym, ◌∙◌, ap, subst, arith}
+use Rattle.std.specs.Prelude.{Contains, IsTrue, ◌&&◌, not, count_by, Some, if◌then◌else◌}
 use Rattle.std.specs.Str.{bytes_eq}
 use Rattle.std.specs.List.{flat_map}
 use Rattle.std.proofs.lemmas.Slice.Eq.{bytes_eq-Decides}
@@ -9,7 +9,6 @@ use Rattle.std.proofs.lemmas.Grind.{flat_map-append}
 use Rattle.std.proofs.lemmas.List.Elements.{Contains-append_left, Contains-append_right, Contains-append_cases}
 use Rattle.hx_bytes.specs.declared.extents.Extent.{Extent}
 use Rattle.hx_bytes.specs.declared.extents.ForkRecord.{ForkRecord}
-use Rattle.volume_header.specs.declared.header.VolumeHeader.{VolumeHeader}
 use Rattle.fork_map.specs.Blocks.{blocks_of}
 use Rattle.btree_node.specs.Levels.{Pair}
 use Rattle.cat_records.specs.Records.{is_catalog}
@@ -18,17 +17,17 @@ use Rattle.cat_records.specs.declared.record.CatRecord.{CatRecord}
 use Rattle.cat_records.specs.declared.record.CatRecord.TheVariants.{Folder, File, Thread}
 use Rattle.hfs_model.specs.Sorted.{kept}
 use Rattle.hfs_model.specs.Step.{private_name, is_private_name, journal_name, journal_info_name}
-use Rattle.hfs_volume.specs.Records.{Placed, Overflow, attribute_of, placed_in, entries_of, record_at, is_placed_at, id_of, id_in, is_empty, is_folder, is_file, is_thread, is_link, is_link_type, special_of}
+use Rattle.hfs_volume.specs.Records.{Placed, attribute_of, entries_of, record_at, is_placed_at, id_of, id_in, is_empty, is_folder, is_file, is_thread, is_link, is_link_type, special_of}
 use Rattle.hfs_volume.specs.Entries.{AreThreaded, AreRooted, HaveIds, IsUserId}
-use Rattle.hfs_volume.specs.Links.{AreGoodLinks, IsGoodLink, links_to}
+use Rattle.hfs_volume.specs.Links.{AreGoodLinks, IsGoodLink}
 use Rattle.hfs_volume.specs.Attributes.{HasOwner, AreAttributes, IsAttribute, IsOneExtent, journal_extent, info_extent}
-use Rattle.hfs_volume.specs.Forks.{Owned, forks_in, file_forks, all_forks, special_forks, blocks_owned, is_of, data_kind, resource_kind, extents_of}
+use Rattle.hfs_volume.specs.Forks.{Owned, forks_in, file_forks, all_forks, special_forks, blocks_owned, is_of, data_kind, resource_kind}
 use Rattle.hfs_volume.specs.Content.{VolumeState, records_of, overflow_in_volume}
 use Rattle.hfs_volume.specs.Blocks.{forks_of}
 use Rattle.hfs_volume.specs.Reclaim.{is_fork}
 use Rattle.hfs_volume.specs.Changes.{SameKind, SwapsFork, with_fork}
 use Rattle.hfs_volume.specs.Laws.{IsShaped, IsUserFile}
-use Rattle.hfs_volume.proofs.Members.{at_front, behind, first_or_later, in_one, all_of, each_of}
+use Rattle.hfs_volume.proofs.Members.{first_or_later, in_one, all_of, each_of}
 use Rattle.hfs_volume.proofs.Ranks.{true_or_false}
 use Rattle.hfs_volume.proofs.Hiding.{both, same_entry}
 use Rattle.hfs_volume.proofs.Fitting.{differs}

@@ -1,10 +1,8 @@
 -- Blocks of a file replaced, added or cut, and the free ones counted anew: a sound volume stays sound.
-use Rattle.std.proofs.Common.{◌≡◌, ◌⊎◌, ◌<◌, ◌≤◌, ℕ, ◌+◌, ◌==◌, Bool, true, false, List, [], ◌∷◌, ◌++◌, length, inl, inr, refl, sym, ◌∙◌, ap, subst, arith}
-use Rattle.std.specs.Prelude.{Contains, ◌&&◌, count_by}
+use Rattle.std.proofs.Common.{◌≡◌, ℕ, ◌+◌, true, List, length, inl, inr, refl, sym, ◌∙◌, ap, arith}
 use Rattle.volume_header.specs.declared.header.VolumeHeader.{VolumeHeader}
 use Rattle.cat_records.specs.declared.record.FileRecord.{FileRecord}
-use Rattle.cat_records.specs.declared.record.CatRecord.TheVariants.{File}
-use Rattle.hfs_volume.specs.Records.{Placed, entries_of, id_of, is_file, is_folder, special_of, valence_in}
+use Rattle.hfs_volume.specs.Records.{Placed, entries_of, id_of, is_folder, special_of, valence_in}
 use Rattle.hfs_volume.specs.Entries.{AreCounted, count_in}
 use Rattle.hfs_volume.specs.Links.{private_id, is_shared, is_shared_file, HaveLinkCounts}
 use Rattle.hfs_volume.specs.Content.{VolumeState, records_of}
@@ -19,7 +17,7 @@ use Rattle.hfs_volume.proofs.Ranks.{true_or_false}
 use Rattle.hfs_volume.proofs.Heading.{numbered_shaped, used_numbered}
 use Rattle.hfs_volume.proofs.Finishing.{sound_is_both}
 use Rattle.hfs_volume.proofs.Swapping.{shared_either}
-use Rattle.hfs_volume.proofs.BlockLaw.{shaped_again, bits_again, counts_moved, same_count, same_links}
+use Rattle.hfs_volume.proofs.BlockLaw.{shaped_again, bits_again, counts_moved}
 use Rattle.hfs_volume.proofs.BlockRecords.{value, alike, places, named, stood, entry_cases, same_special}
 use Rattle.hfs_volume.proofs.BlockTree.{put_private}
 

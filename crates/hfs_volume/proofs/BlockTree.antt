@@ -1,27 +1,22 @@
 -- What users see after a file's record has another fork: the bytes of its node, and nothing else.
-use Rattle.std.proofs.Common.{◌≡◌, ◌≢◌, ◌⊎◌, ◌<◌, ◌≤◌, ℕ, ◌+◌, ◌==◌, Bool, true, false, List, [], ◌∷◌, ◌++◌, map, inl, inr, refl, sym, ◌∙◌, ap, subst, arith}
-use Rattle.std.specs.Prelude.{Contains, ◌&&◌, ◌||◌, not, is_some, Option, Some, None, Ok, if◌then◌else◌}
+use Rattle.std.proofs.Common.{◌≡◌, ◌≢◌, ℕ, ◌==◌, Bool, true, false, List, [], ◌∷◌, map, refl, sym, ◌∙◌, ap, subst}
+use Rattle.std.specs.Prelude.{Contains, is_some, Option, Some, None, if◌then◌else◌}
 use Rattle.std.specs.List.{flat_map}
-use Rattle.std.proofs.lemmas.Bool.{eqb-true}
 use Rattle.cat_records.specs.declared.record.FileRecord.{FileRecord}
 use Rattle.cat_records.specs.declared.record.CatRecord.{CatRecord}
 use Rattle.cat_records.specs.declared.record.CatRecord.TheVariants.{Folder, File, Thread}
 use Rattle.hfs_model.specs.Plain.{is_node, with_changed}
 use Rattle.hfs_model.specs.declared.plain.PlainNode.{PlainNode}
-use Rattle.hfs_volume.specs.Records.{Placed, entries_of, entry_of, id_of, is_empty, is_folder, is_link}
-use Rattle.hfs_volume.specs.Forks.{data_kind, resource_kind}
+use Rattle.hfs_volume.specs.Records.{Placed, entries_of, entry_of, id_of, is_empty}
 use Rattle.hfs_volume.specs.Links.{private_id}
 use Rattle.hfs_volume.specs.Content.{VolumeState, records_of, attributes_of}
 use Rattle.hfs_volume.specs.TreeOf.{tree_in, seen_entry, plain_node, threaded_node, node_in, node_found, is_plain_file, is_linked}
 use Rattle.hfs_volume.specs.Changes.{PutsBlocks}
 use Rattle.hfs_volume.specs.Laws.{IsShaped}
-use Rattle.hfs_volume.proofs.Hiding.{same_entry}
-use Rattle.hfs_volume.proofs.Ranks.{true_or_false}
-use Rattle.hfs_volume.proofs.Fitting.{differs, not_same}
+use Rattle.hfs_volume.proofs.Fitting.{not_same}
 use Rattle.hfs_volume.proofs.Flat.{flat_agree, flat_changed, found_some}
-use Rattle.hfs_volume.proofs.NodesOf.{nodes_from}
 use Rattle.hfs_volume.proofs.Swapping.{Makes, private_same, entries_seen_same, nodes_seen_changed}
-use Rattle.hfs_volume.proofs.BlockRecords.{value, changed, alike, places, named, alone, entry_id, stood, fields_kept}
+use Rattle.hfs_volume.proofs.BlockRecords.{value, changed, alike, places, named, alone, entry_id, fields_kept}
 
 -- a node with these bytes
 abbrev pub with_new_bytes : List ℕ → PlainNode → PlainNode

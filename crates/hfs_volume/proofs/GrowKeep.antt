@@ -1,6 +1,5 @@
 -- The growth of a tree, and the free blocks counted anew: a sound volume stays sound, with the tree that it had.
-use Rattle.std.proofs.Common.{◌≡◌, ◌⊎◌, ◌<◌, ◌≤◌, ℕ, ◌+◌, ◌*◌, ◌/◌, ◌==◌, Bool, true, false, List, [], ◌∷◌, ◌++◌, length, take, inl, inr, refl, sym, ◌∙◌, ap, subst, arith, length-append}
-use Rattle.std.specs.Prelude.{Contains, All}
+use Rattle.std.proofs.Common.{◌≡◌, ◌<◌, ℕ, ◌+◌, ◌*◌, ◌/◌, List, [], ◌∷◌, ◌++◌, length, take, refl, sym, ◌∙◌, ap, subst, arith, length-append}
 use Rattle.std.proofs.Math.Nat.{mul-div_cancel}
 use Rattle.volume_header.specs.declared.header.VolumeHeader.{VolumeHeader}
 use Rattle.cat_records.specs.declared.record.FileRecord.{FileRecord}
@@ -9,7 +8,7 @@ use Rattle.hfs_volume.specs.Entries.{AreCounted}
 use Rattle.hfs_volume.specs.Links.{HaveLinkCounts}
 use Rattle.hfs_volume.specs.Forks.{all_forks, data_kind}
 use Rattle.hfs_volume.specs.Content.{VolumeState, facts_at, records_of}
-use Rattle.hfs_volume.specs.Reclaim.{IsTreeFork, GrowsBy, GrowsTree, blocks_at}
+use Rattle.hfs_volume.specs.Reclaim.{IsTreeFork, GrowsTree, blocks_at}
 use Rattle.hfs_volume.specs.Sound.{IsSoundVolume}
 use Rattle.hfs_volume.specs.TreeOf.{tree_in}
 use Rattle.hfs_volume.specs.Changes.{GrowsFile, with_tree_fork}

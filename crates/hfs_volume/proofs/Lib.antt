@@ -98,3 +98,4 @@ mod GrowKeep
 mod GrowLaw
 mod TruncCut
 mod WritLaw
+mod WritRows

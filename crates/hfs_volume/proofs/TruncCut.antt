@@ -1,24 +1,19 @@
 -- The steps that cut blocks of a file: a sound volume stays sound, with the tree that it had, and no other fork is cut.
-use Rattle.std.proofs.Common.{◌≡◌, ◌≢◌, ◌⊎◌, ◌<◌, ◌≤◌, ℕ, ◌+◌, ◌==◌, Bool, true, false, List, [], ◌∷◌, ◌++◌, length, take, drop, inl, inr, refl, sym, ◌∙◌, ap, subst, arith, append-nil}
-use Rattle.std.specs.Prelude.{Contains, ◌&&◌, not, find, Option, Some, None}
-use Rattle.std.proofs.lemmas.Bool.{eqb-true}
+use Rattle.std.proofs.Common.{◌≡◌, ◌≤◌, ℕ, ◌+◌, List, [], ◌++◌, take, drop, refl, sym, ◌∙◌, ap, subst, arith, append-nil}
+use Rattle.std.specs.Prelude.{Contains}
 use Rattle.std.proofs.Math.ListN.{drop_of_length-le}
 use Rattle.cat_records.specs.declared.record.FileRecord.{FileRecord}
 use Rattle.hfs_model.specs.declared.plain.PlainNode.{PlainNode}
 use Rattle.hfs_model.specs.Plain.{with_changed}
-use Rattle.hfs_volume.specs.Records.{Placed, Overflow, entries_of, id_of}
+use Rattle.hfs_volume.specs.Records.{Placed, entries_of, id_of}
 use Rattle.hfs_volume.specs.Forks.{data_kind, all_forks}
-use Rattle.hfs_volume.specs.Links.{orphans_of}
-use Rattle.hfs_volume.specs.Content.{VolumeState, records_of, overflow_in_volume, attributes_of}
-use Rattle.hfs_volume.specs.Blocks.{forks_of}
-use Rattle.hfs_volume.specs.Reclaim.{CutsFork, CutsAlone, is_fork, blocks_at, blocks_found, blocks_wanted}
+use Rattle.hfs_volume.specs.Content.{VolumeState, records_of, attributes_of}
+use Rattle.hfs_volume.specs.Reclaim.{CutsAlone, blocks_at, blocks_wanted}
 use Rattle.hfs_volume.specs.Sound.{IsSoundVolume}
 use Rattle.hfs_volume.specs.TreeOf.{tree_in, node_in}
 use Rattle.hfs_volume.specs.Changes.{PutsBlocks}
 use Rattle.hfs_volume.specs.Laws.{IsShaped, IsUserFile, HasRightBits}
-use Rattle.hfs_volume.specs.Writing.{PutsAndCounts, CutsBlocks, KeepsOthers, file_before, file_after, ShrunkCut, OrphanCut}
-use Rattle.hfs_volume.proofs.Members.{at_front, behind}
-use Rattle.hfs_volume.proofs.Ranks.{true_or_false}
+use Rattle.hfs_volume.specs.Writing.{CutsBlocks, KeepsOthers, file_after, ShrunkCut, OrphanCut}
 use Rattle.hfs_volume.proofs.Hiding.{same_entry}
 use Rattle.hfs_volume.proofs.Finishing.{sound_is_both}
 use Rattle.hfs_volume.proofs.Telling.{nodes_are}
@@ -26,7 +21,7 @@ use Rattle.hfs_volume.proofs.NodesOf.{nodes_from, changed_none}
 use Rattle.hfs_volume.proofs.Marks.{private_not_root}
 use Rattle.hfs_volume.proofs.Reclaiming.{stands, private_is, no_node}
 use Rattle.hfs_volume.proofs.BlockRecords.{entry_id, stood}
-use Rattle.hfs_volume.proofs.BlockForks.{Exchanges, blocks_elsewhere}
+use Rattle.hfs_volume.proofs.BlockForks.{blocks_elsewhere}
 use Rattle.hfs_volume.proofs.BlockLaw.{exchanges}
 use Rattle.hfs_volume.proofs.BlockTree.{with_new_bytes, put_tree, set_bytes_same}
 use Rattle.hfs_volume.proofs.BlockSound.{recounted, recounted_shaped, recounted_tree, recounted_right, put_sound}

@@ -1,34 +1,30 @@
 -- `write` and `trunc`: a sound volume stays sound, and its tree is the step's.
-use Rattle.std.proofs.Common.{◌≡◌, ◌≢◌, ◌⊎◌, ◌<◌, ◌≤◌, ℕ, ◌+◌, ◌-◌, ◌==◌, Bool, true, false, List, [], ◌∷◌, ◌++◌, length, map, inl, inr, refl, sym, ◌∙◌, ap, subst, arith}
+use Rattle.std.proofs.Common.{◌≡◌, ◌<◌, ℕ, ◌+◌, ◌==◌, Bool, true, false, List, [], ◌∷◌, length, refl, sym, ◌∙◌, ap, subst, arith}
 use Rattle.std.specs.Prelude.{Contains, ◌&&◌, ◌||◌, not, nat_lt, ok_or, Option, Some, None, Result, Ok, if◌then◌else◌}
 use Rattle.std.proofs.lemmas.Bool.{eqb-true}
-use Rattle.hx_bytes.specs.Field.{put_at}
-use Rattle.volume_header.specs.declared.header.VolumeHeader.{VolumeHeader}
-use Rattle.cat_records.specs.declared.record.EntryFields.{EntryFields}
 use Rattle.cat_records.specs.declared.record.FileRecord.{FileRecord}
 use Rattle.cat_records.specs.declared.record.CatRecord.{CatRecord}
 use Rattle.cat_records.specs.declared.record.CatRecord.TheVariants.{Folder, File, Thread}
 use Rattle.hfs_language.specs.declared.refusal.Refusal.{Refusal}
 use Rattle.hfs_language.specs.declared.refusal.Refusal.TheVariants as refusal
-use Rattle.hfs_language.specs.declared.command.Command.TheVariants as command
 use Rattle.hfs_language.specs.declared.reply.Reply.TheVariants as reply
 use Rattle.hfs_model.specs.declared.plain.PlainNode.{PlainNode}
 use Rattle.hfs_model.specs.declared.plain.PlainTree.{PlainTree}
 use Rattle.hfs_model.specs.Plain.{is_node, node_at, with_changed}
-use Rattle.hfs_model.specs.Step.{step, on, reached, to_node, to_file, to_size, to_write, to_trunc, size_written, then_, unless, padded, with_bytes, written, resized, is_private_name, most_size, most_bytes}
-use Rattle.hfs_volume.specs.Records.{Placed, Attribute, entries_of, id_of, is_folder, is_link, special_of, valence_in}
+use Rattle.hfs_model.specs.Step.{on, reached, to_node, to_file, to_size, size_written, then_, unless, with_bytes, written, resized, is_private_name, most_size, most_bytes}
+use Rattle.hfs_volume.specs.Records.{Placed, entries_of, id_of, is_link, special_of}
 use Rattle.hfs_volume.specs.Forks.{data_kind}
 use Rattle.hfs_volume.specs.Links.{private_id, is_in}
 use Rattle.hfs_volume.specs.Content.{VolumeState, records_of, attributes_of}
 use Rattle.hfs_volume.specs.Sound.{IsSoundVolume}
 use Rattle.hfs_volume.specs.TreeOf.{tree_in, node_in, plain_node, is_plain_folder, is_plain_file, is_linked, is_seen}
 use Rattle.hfs_volume.specs.Changes.{PutsBlocks}
-use Rattle.hfs_volume.specs.Commands.{AreBytesOf, ChangesFields, with_fields}
+use Rattle.hfs_volume.specs.Commands.{AreBytesOf, with_fields}
 use Rattle.hfs_volume.specs.Laws.{IsShaped, IsUserFile}
-use Rattle.hfs_volume.specs.Writing.{RewritesFile, MakesBytes, IsRewritten, file_before, file_after, written_bytes, resized_bytes, WriteDoes, WriteNothingDoes, TruncDoes}
+use Rattle.hfs_volume.specs.Writing.{RewritesFile, MakesBytes, file_after, written_bytes, resized_bytes, WriteDoes, WriteNothingDoes, TruncDoes}
 use Rattle.hfs_volume.proofs.Members.{in_one}
 use Rattle.hfs_volume.proofs.Ranks.{true_or_false}
-use Rattle.hfs_volume.proofs.Hiding.{both, same_entry}
+use Rattle.hfs_volume.proofs.Hiding.{same_entry}
 use Rattle.hfs_volume.proofs.Reaching.{then_ok, unless_ok, found_ok, seen_shows}
 use Rattle.hfs_volume.proofs.Flat.{found_some}
 use Rattle.hfs_volume.proofs.Sharing.{linked_is}

@@ -11,7 +11,7 @@ use Rattle.cat_records.specs.Records.{catalog_bytes, is_catalog}
 use Rattle.cat_records.specs.Attributes.{is_attr}
 use Rattle.cat_records.specs.declared.record.FileRecord.{FileRecord}
 use Rattle.cat_records.specs.declared.record.CatRecord.{CatRecord}
-use Rattle.cat_records.specs.declared.record.CatRecord.TheVariants.{Folder, File, Thread}
+use Rattle.cat_records.specs.declared.record.CatRecord.TheVariants.{File, Thread}
 use Rattle.cat_records.specs.declared.attribute.AttrRecord.TheVariants.{Inline}
 use Rattle.hfs_model.specs.Sorted.{kept, IsInOrder}
 use Rattle.hfs_volume.specs.Records.{Placed, Attribute, placed_of, placed_in, placed_before, attribute_of, is_folder, is_file, is_link, is_link_type, id_of, special_of}

@@ -1,6 +1,6 @@
 -- What `write`, `trunc` and the steps that cut a file do to the lists of a volume, and what the growth of a tree does: the changes that their
 -- code hands in, and what they lead to.
-use Rattle.std.specs.Prelude.{◌≡◌, ◌≢◌, ◌⊎◌, ◌<◌, ◌≤◌, ℕ, ◌+◌, List, [], ◌∷◌, ◌++◌, length, take, replicate, Contains, Ok}
+use Rattle.std.specs.Prelude.{◌≡◌, ◌≢◌, ◌<◌, ◌≤◌, ℕ, ◌+◌, List, [], length, take, Contains, Ok}
 use Rattle.hx_bytes.specs.Field.{put_at}
 use Rattle.volume_header.specs.declared.header.VolumeHeader.{VolumeHeader}
 use Rattle.cat_records.specs.declared.record.EntryFields.{EntryFields}
