@@ -1,0 +1,3 @@
+mod Growths
+mod Heights
+mod Weighing
