@@ -26,6 +26,7 @@ mod Hiding
 mod HidingFile
 mod InOrder
 mod Keeping
+mod Keyed
 mod LinkValues
 mod LinkWants
 mod LinkingFirst

@@ -1,11 +1,9 @@
 -- How a sound volume is kept sound: what each change keeps, and what it does to the numbers that are counted.
 use Rattle.std.specs.Prelude.{◌≡◌, ◌⊎◌, ◌↔◌, ◌<◌, ◌≤◌, ℕ, ◌+◌, ◌==◌, ◌&&◌, Bool, true, false, List, [], length, count_by, All, Contains, None, if◌then◌else◌}
 use Rattle.std.specs.List.{flat_map}
-use Rattle.jnl_format.specs.Recovery.{Content}
 use Rattle.cat_records.specs.declared.record.CatRecord.{CatRecord}
 use Rattle.btree_node.specs.Levels.{Pair}
 use Rattle.volume_header.specs.declared.header.VolumeHeader.{VolumeHeader}
-use Rattle.hfs_model.specs.Plain.{IsPlainTree}
 use Rattle.hfs_model.specs.Step.{private_name, is_private_name}
 use Rattle.hfs_volume.specs.Records.{Placed, Overflow, entries_of, record_at, is_folder, is_file, is_thread, is_link, id_of, special_of, attribute_of, is_empty}
 use Rattle.hfs_volume.specs.Forks.{Owned, forks_in, blocks_owned}
@@ -15,8 +13,8 @@ use Rattle.hfs_volume.specs.Links.{is_shared_file, AreGoodLinks, HaveLinkCounts,
 use Rattle.hfs_volume.specs.Attributes.{AreAttributes, HasOwner}
 use Rattle.hfs_volume.specs.Blocks.{HasSizes, GoesOn, IsGoodHeader, AgreesWith, HasFiles, HasForks, HasBits, used_in, is_among, count_used}
 use Rattle.hfs_volume.specs.Reclaim.{IsTreeFork}
-use Rattle.hfs_volume.specs.Sound.{IsSound, IsSoundVolume}
-use Rattle.hfs_volume.specs.TreeOf.{is_hidden, tree_of}
+use Rattle.hfs_volume.specs.Sound.{IsSoundVolume}
+use Rattle.hfs_volume.specs.TreeOf.{is_hidden}
 use Rattle.hfs_volume.specs.Changes.{AreSorted, AddsEntry, DropsEntry, MovesEntry, ChangesValue, InCatalog, AddsAttribute, DropsAttribute, InAttributes, PutsBlocks, GrowsFile, InHeader}
 
 -- ---- what holds between the changes of a command
@@ -217,7 +215,3 @@ HeaderChanged = (old new : VolumeState) → InHeader old new → IsGoodHeader ne
 -- whether a folder is hidden is computed rightly
 abbrev pub HiddenIsComputed : Type 0
 HiddenIsComputed = (records : List Placed) (next folder : ℕ) → HaveIds next (entries_of records) → AreRooted (entries_of records) → IsHidden records folder ↔ (is_hidden records folder ≡ true)
-
--- the tree of a sound content is one
-abbrev pub SoundHasTree : Type 0
-SoundHasTree = (content : Content) → IsSound content → IsPlainTree (tree_of content)
