@@ -4,8 +4,8 @@ ghost use Rattle.std.specs.Prelude.{◌≤◌};
 use hx_bytes::{Order, Sector};
 use jnl_format::{Entry, Header, ListHead, write_entry, write_header, write_list};
 use mem_disk::MemRig;
-use replay_tests::{BASE, INFO, info_block, volume_header};
 use sector_disk::SectorDisk;
+use test_kit::{BASE, INFO, info_block, put, volume_header};
 
 const HEADER: u64 = 2;
 
@@ -137,11 +137,5 @@ fn put_entry(bytes: &mut [u8; 4096], place: usize, bnum: u64) {
         let mut into = [0; 16];
         write_entry(&entry, Order::Little, &mut into);
         bytes[place..place + 16].copy_from_slice(&into);
-    }
-}
-
-fn put(rig: &mut MemRig, at: u64, sector: &Sector) {
-    if at < rig.sectors() {
-        let _wrote = rig.write(at, sector);
     }
 }

@@ -12,10 +12,10 @@ use hx_bytes::OutOfMemory;
 use jnl_replay::replay;
 use journal::{Journal, home_of, put_journal};
 use mem_disk::MemRig;
-use replay_tests::find_plan;
 use sector_disk::SectorDisk;
 use std::alloc::Global;
 use std::env;
+use test_kit::find_plan;
 
 /// How far a run goes.
 #[derive(Clone, Copy, PartialEq, Eq)]

@@ -1,6 +1,6 @@
 -- What inserts of two pairs say of an entry.
 use Rattle.std.proofs.Common.{◌≡◌, ℕ, List, [], length, refl, sym, ◌∙◌, ap}
-use Rattle.std.specs.Prelude.{None}
+use Rattle.std.specs.Prelude.{None, pos}
 use Rattle.btree_node.specs.Keys.{catalog_cmp}
 use Rattle.btree_node.specs.Levels.{Pair}
 use Rattle.btree_node.specs.Store.{Store}
@@ -10,7 +10,7 @@ use Rattle.btree_edit.specs.Desk.{HasKey}
 use Rattle.btree_edit.specs.Sorted.{AddsPair}
 use Rattle.btree_edit.specs.declared.edits.Inserted.{Inserted}
 use Rattle.btree_edit.specs.declared.edits.Inserted.TheVariants as inserted
-use Rattle.hfs_volume.specs.Changes.{Adds, AddsEntry, Spells, thread_of}
+use Rattle.hfs_volume.specs.Changes.{Adds, Spells, thread_of}
 use Rattle.hfs_volume.specs.Records.{Placed, placed_in, record_at}
 use Rattle.catalog.specs.Entries.{AnswersAdd, Adding}
 use Rattle.catalog.specs.Pairs.{IsKeyOf, AddsBoth}
@@ -29,12 +29,16 @@ add_answer parent name key store inserted.Done is answers = no_key_no_record par
 pub adding_of : (entry : Placed) (pair thread : CatalogPair) (old new : List Pair) (answer : Inserted) → Spells entry (pair.key, pair.value) → Spells (thread_of entry) (thread.key, thread.value)
     → AddsBoth pair thread old new answer → Adding entry old new answer
 adding_of entry pair thread old new inserted.Exists spells spells_thread both = both
-adding_of entry pair thread old new inserted.Done spells spells_thread both = record {
-  between = both.between;
-  pair = (pair.key, pair.value);
-  is_entry = spells;
-  entry_added = adds_of pair.key pair.value old both.between both.one;
-  thread = (thread.key, thread.value);
-  is_thread = spells_thread;
-  thread_added = adds_of thread.key thread.value both.between new both.both;
-}
+adding_of entry pair thread old new inserted.Done spells spells_thread both = (
+  record {
+    between = both.between;
+    pair = (pair.key, pair.value);
+    is_entry = spells;
+    entry_added = adds_of pair.key pair.value old both.between both.one;
+    thread = (thread.key, thread.value);
+    spare = pos 0;
+    is_thread = spells_thread;
+    thread_added = adds_of thread.key thread.value both.between new both.both;
+  },
+  refl,
+)

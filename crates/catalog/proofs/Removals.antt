@@ -17,11 +17,11 @@ use Rattle.btree_node.specs.Levels.{Pair}
 use Rattle.btree_edit.specs.Desk.{HasKey}
 use Rattle.cat_records.specs.declared.record.CatRecord.{CatRecord}
 use Rattle.cat_records.specs.declared.record.CatRecord.TheVariants.{Thread}
-use Rattle.hfs_volume.specs.Changes.{Adds, Spells}
+use Rattle.hfs_volume.specs.Changes.{Adds, Spells, thread_with}
 use Rattle.hfs_volume.specs.Entries.{AreThreaded, HasThread}
 use Rattle.hfs_volume.specs.Records.{Placed, placed_of, placed_in, record_at, entries_of, id_of, id_in, is_file, is_empty, is_placed_at}
 use Rattle.catalog.specs.Pairs.{IsKeyOf, DropsBoth, value_at}
-use Rattle.catalog.specs.Entries.{RemovesEntry, thread_with}
+use Rattle.catalog.specs.Entries.{RemovesEntry}
 use Rattle.catalog.proofs.Keys.{keys_apart}
 use Rattle.catalog.proofs.Places.{AscendByKey, tied_is_found, under_is_tied, both_true, first_true, second_true}
 use Rattle.catalog.proofs.Standing.{record_at-key, tied_stands, dropped_back}
@@ -160,13 +160,13 @@ module _ (parent : ℕ) (name : List ℕ) (old : List Pair) (rec : CatRecord) (e
     removes_entry = record {
       entry = entry;
       found = found;
-      spare = spare;
       drops = record {
         between = drops.between;
         pair = second_pair;
         is_entry = subst (λ p. Spells entry p) stood.2 (tied_stands parent name entry_key old entry stood.0 rises threads.spelled is_entry_key found stood.1 (ap (λ (p : Pair). catalog_cmp p.0 entry_key) stood.2 ∙ drops.both.equal));
         entry_added = dropped_back entry_key drops.between new drops.both;
         thread = first_pair;
+        spare = spare;
         is_thread = subst (λ placed. Spells placed first_pair) thread_is (tied_stands (id_in rec) [] thread_key old thread.0 drops.one.place rises threads.spelled is_thread_key thread_found drops.one.inside drops.one.equal);
         thread_added = back;
       };

@@ -1,52 +1,34 @@
 -- What the calls do to entries.
-use Rattle.std.specs.Prelude.{◌≡◌, ℕ, ℤ, List, [], Option, None, Some}
+use Rattle.std.specs.Prelude.{◌≡◌, ℕ, pos, List, Option, None, Some}
 use Rattle.btree_node.specs.Levels.{Pair}
 use Rattle.btree_edit.specs.declared.edits.Inserted.{Inserted}
 use Rattle.btree_edit.specs.declared.edits.Inserted.TheVariants as inserted
 use Rattle.btree_edit.specs.declared.edits.Removed.{Removed}
 use Rattle.btree_edit.specs.declared.edits.Removed.TheVariants as removed
 use Rattle.cat_records.specs.declared.record.CatRecord.{CatRecord}
-use Rattle.cat_records.specs.declared.record.CatRecord.TheVariants.{Thread}
-use Rattle.hfs_volume.specs.Records.{Placed, placed_in, record_at, id_of, id_in, is_file, is_folder}
-use Rattle.hfs_volume.specs.Changes.{Adds, Swaps, Spells, AddsEntry}
+use Rattle.hfs_volume.specs.Records.{Placed, placed_in, record_at, id_in, is_file, is_folder}
+use Rattle.hfs_volume.specs.Changes.{Swaps, Spells, AddsWith, DropsEntry}
 
 -- Exists exactly where there is a record at the place
 abbrev pub AnswersAdd : Option Placed → Inserted → Type 0
 AnswersAdd found inserted.Exists = found ≡ None → ⊥
 AnswersAdd found inserted.Done = found ≡ None
 
--- what adding an entry does to the pairs, by its answer
+-- What adding an entry does to the pairs, by its answer. The thread's reserved word is 0.
 abbrev pub Adding : Placed → List Pair → List Pair → Inserted → Type 0
 Adding entry old new inserted.Exists = new ≡ old
-Adding entry old new inserted.Done = AddsEntry entry old new
+Adding entry old new inserted.Done = AddsWith (pos 0) entry old new
 
 -- Absent exactly where there is no record at the place
 abbrev pub AnswersRemoval : Option Placed → Removed → Type 0
 AnswersRemoval found removed.Absent = found ≡ None
 AnswersRemoval found removed.Done = found ≡ None → ⊥
 
--- ---- an entry whose thread may say anything in its reserved word
-
--- the thread of an entry, with this in its reserved word
-abbrev pub thread_with : ℤ → Placed → Placed
-thread_with spare entry = record { parent = id_of entry; name = []; value = Thread (record { of_file = is_file entry.value; spare = spare; parent = entry.parent; name = entry.name }) }
-
--- An entry was added, and then such a thread of it. At 0 this is `AddsEntry`.
-pub record AddsWith (spare : ℤ) (entry : Placed) (old new : List Pair) : Type 0 where
-  pub between : List Pair
-  pub pair : Pair
-  pub is_entry : Spells entry pair
-  pub entry_added : Adds pair old between
-  pub thread : Pair
-  pub is_thread : Spells (thread_with spare entry) thread
-  pub thread_added : Adds thread between new
-
--- The entry that stood there and its thread were removed: put back, they give the old list.
+-- The entry that stood there was removed with its thread.
 pub record RemovesEntry (parent : ℕ) (name : List ℕ) (old new : List Pair) : Type 0 where
   pub entry : Placed
   pub found : record_at (placed_in old) parent name ≡ Some entry
-  pub spare : ℤ
-  pub drops : AddsWith spare entry new old
+  pub drops : DropsEntry entry old new
 
 -- what a removal does to the pairs, by its answer
 abbrev pub Removing : ℕ → List ℕ → List Pair → List Pair → Removed → Type 0

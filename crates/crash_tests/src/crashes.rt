@@ -1,8 +1,9 @@
 //! Power fails after each write and each barrier of a run.
-use crate::{folders_in, fresh, run_lines};
+use crate::{folders_in, run_lines};
 use hx_bytes::OutOfMemory;
 use mem_disk::{MemImage, MemRig};
 use std::alloc::Global;
+use test_kit::fresh;
 
 /// A run that makes ten folders, and asks after each that it is durable.
 pub const LINES: &[u8] =

@@ -1,36 +1,17 @@
 //! Journals that a run refuses or replays.
-use crate::{fresh, run};
 use hfsx_server::Status;
 use hx_bytes::{Order, OutOfMemory, Sector, write_be32};
 use jnl_format::{Entry, Header, ListHead, write_entry, write_header, write_list};
 use mem_disk::MemRig;
-use sector_disk::SectorDisk;
 use std::alloc::Global;
+use test_kit::{BASE, fresh, put, run_on, sector_of};
 
 pub const HEADER: u64 = 2;
 
-pub const INFO: u64 = 16;
-
 // The journal of the volume begins in block 3, and has 2,048 sectors.
-pub const BASE: u64 = 24;
-
 const SIZE: u64 = 1_048_576;
 
 const HOME: u64 = 5000;
-
-fn put(rig: &mut MemRig, at: u64, sector: &Sector) {
-    if at < rig.sectors() {
-        let _wrote = rig.write(at, sector);
-    }
-}
-
-fn sector_of(rig: &mut MemRig, at: u64) -> Sector {
-    let mut sector = [0; 512];
-    if at < rig.sectors() {
-        let _read = rig.read(at, &mut sector);
-    }
-    sector
-}
 
 // A change of a big-endian number.
 fn change(rig: &mut MemRig, at: u64, place: usize, number: u32) {
@@ -130,7 +111,7 @@ pub fn is_refused(alloc: Global, damage: Damage, told: &str) -> Result<bool, Out
         Damage::Number(at, place, number) => change(&mut rig, at, place, number),
     }
     let mut mounted = settled(alloc, &rig)?;
-    let ended = run(alloc, "run v.img", &mut mounted, b"ls /\n")?;
+    let ended = run_on(alloc, "run v.img", &mut mounted, b"ls /\n")?;
     let is_told = mounted.told() == told.as_bytes();
     Ok(ended == Status::Refused && is_told && !has_written(&mounted))
 }
@@ -140,7 +121,7 @@ pub fn changed_sectors(alloc: Global) -> Result<u64, OutOfMemory> {
     let rig = live(alloc)?;
     let mut before = settled(alloc, &rig)?;
     let mut mounted = settled(alloc, &rig)?;
-    let ended = run(alloc, "run v.img", &mut mounted, b"ls /\n")?;
+    let ended = run_on(alloc, "run v.img", &mut mounted, b"ls /\n")?;
     if ended != Status::Done || mounted.told() != b"ok 0\n".as_slice() {
         return Ok(0);
     }

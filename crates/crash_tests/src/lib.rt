@@ -2,8 +2,6 @@
 #![tactic(auto)]
 
 mod crashes;
-#[cfg(test)]
-mod faults;
 mod journals;
 mod replays;
 mod runs;
@@ -12,7 +10,7 @@ mod tests;
 mod twice;
 
 pub use crashes::{Tried, try_all, try_worn, worn};
-pub use journals::{BASE, Damage, HEADER, INFO, changed_sectors, is_refused};
+pub use journals::{Damage, HEADER, changed_sectors, is_refused};
 pub use replays::{is_replayed_after_two_stops, start_of};
-pub use runs::{Ran, folders_in, fresh, run, run_lines};
+pub use runs::{Ran, folders_in, run_lines};
 pub use twice::{Pairs, try_pairs};

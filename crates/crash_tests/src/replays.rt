@@ -1,13 +1,12 @@
 //! A replay that is stopped after half of its home sectors, and its repetition too.
-use crate::{folders_in, fresh, run_lines};
+use crate::{folders_in, run_lines};
 use hx_bytes::OutOfMemory;
 use jnl_format::{read_header, read_list};
 use mem_disk::{MemImage, MemRig};
 use std::alloc::Global;
+use test_kit::{BASE, fresh};
 
-// The journal of the volume begins in block 3, and has 2,048 sectors.
-const BASE: usize = 24;
-
+// The journal of the volume has 2,048 sectors.
 const SIZE: u64 = 1_048_576;
 
 /// The live lists of an image: how many sectors their text has, and how many blocks go home.
@@ -21,7 +20,7 @@ const NONE: Live = Live { text: 0, homes: 0 };
 
 /// The sector of the journal at which the live lists of an image begin.
 pub fn start_of(image: &MemImage) -> Option<u64> {
-    let block = image.sectors.get(BASE)?;
+    let block = image.sectors.get(BASE as usize)?;
     match read_header(block, SIZE) {
         Ok(header) => Some(header.start / 512),
         Err(_) => None,
@@ -30,7 +29,7 @@ pub fn start_of(image: &MemImage) -> Option<u64> {
 
 /// The live lists of an image.
 fn live_lists(image: &MemImage) -> Live {
-    let Some(block) = image.sectors.get(BASE) else {
+    let Some(block) = image.sectors.get(BASE as usize) else {
         return NONE;
     };
     let Ok(header) = read_header(block, SIZE) else {
@@ -55,7 +54,7 @@ fn live_lists(image: &MemImage) -> Live {
         };
         let Some(list) = image
             .sectors
-            .get(BASE.saturating_add((offset / 512) as usize))
+            .get(BASE.saturating_add(offset / 512) as usize)
         else {
             return NONE;
         };

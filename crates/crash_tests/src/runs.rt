@@ -1,8 +1,9 @@
 //! Whole runs, and what an image's folders are.
-use hfsx_server::{Status, hfsx};
+use hfsx_server::Status;
 use hx_bytes::OutOfMemory;
-use mem_disk::{MemImage, MemRig, MemSource};
-use std::alloc::{AllocError, Global};
+use mem_disk::{MemImage, MemRig};
+use std::alloc::Global;
+use test_kit::run_on;
 
 /// How a run ended, and how many whole lines it told.
 #[derive(Clone, Copy)]
@@ -26,29 +27,9 @@ const LISTINGS: [&str; 11] = [
     "ok 10 d0/ d1/ d2/ d3/ d4/ d5/ d6/ d7/ d8/ d9/\n",
 ];
 
-/// Runs the program on an image, with these words and these lines.
-pub fn run(
-    alloc: Global,
-    words: &str,
-    rig: &mut MemRig,
-    input: &[u8],
-) -> Result<Status, OutOfMemory> {
-    let words = split(alloc, words)?;
-    let mut source = MemSource::new(alloc, input, 64, None)?;
-    Ok(hfsx(alloc, words.as_slice(), rig, &mut source))
-}
-
-fn split(alloc: Global, line: &str) -> Result<Vec<String>, AllocError> {
-    let mut words = Vec::new(alloc);
-    for word in line.split(' ') {
-        words.push(word.to_string(alloc)?)?;
-    }
-    Ok(words)
-}
-
 /// Serves these lines, and counts the whole lines that were told.
 pub fn run_lines(alloc: Global, rig: &mut MemRig, input: &[u8]) -> Result<Ran, OutOfMemory> {
-    let status = run(alloc, "run v.img", rig, input)?;
+    let status = run_on(alloc, "run v.img", rig, input)?;
     let mut lines: u64 = 0;
     for byte in rig.told() {
         if *byte == b'\n' {
@@ -58,17 +39,10 @@ pub fn run_lines(alloc: Global, rig: &mut MemRig, input: &[u8]) -> Result<Ran, O
     Ok(Ran { status, lines })
 }
 
-/// The volume of 16,384 sectors that `format` makes.
-pub fn fresh(alloc: Global) -> Result<MemImage, OutOfMemory> {
-    let mut rig = MemRig::new(alloc, 16_384)?;
-    run(alloc, "format v.img 16384", &mut rig, b"")?;
-    rig.image(alloc, 1)
-}
-
 /// How many folders a mount of this image finds, where they are the first of those that the runs make.
 pub fn folders_in(alloc: Global, image: &MemImage) -> Result<Option<u64>, OutOfMemory> {
     let mut rig = MemRig::from_image(alloc, image)?;
-    let status = run(alloc, "run v.img", &mut rig, b"ls /\n")?;
+    let status = run_on(alloc, "run v.img", &mut rig, b"ls /\n")?;
     if status != Status::Done {
         return Ok(None);
     }

@@ -1,12 +1,13 @@
 // Runs that are cut off, and runs over devices that fail; each choice of a crash's image is a test of its own.
 use crate::crashes::{try_all, try_worn, worn};
-use crate::journals::{BASE, Damage, HEADER, INFO, changed_sectors, is_refused};
+use crate::journals::{Damage, HEADER, changed_sectors, is_refused};
 use crate::replays::{is_replayed_after_two_stops, start_of};
 use crate::twice::try_pairs;
 use std::test::Fail;
+use test_kit::{BASE, INFO};
 
 #[test]
-fn the_oldest_values_have_a_front(rt: HostRuntime) -> Result<(), Fail> {
+fn the_oldest_values_leave_a_prefix(rt: HostRuntime) -> Result<(), Fail> {
     let tried = try_all(rt.alloc(), 0)?;
     assert_eq!(rt; tried.wrong, None);
     assert!(rt; 100 < tried.crashes);
@@ -14,7 +15,7 @@ fn the_oldest_values_have_a_front(rt: HostRuntime) -> Result<(), Fail> {
 }
 
 #[test]
-fn the_newest_values_have_a_front(rt: HostRuntime) -> Result<(), Fail> {
+fn the_newest_values_leave_a_prefix(rt: HostRuntime) -> Result<(), Fail> {
     let tried = try_all(rt.alloc(), 1)?;
     assert_eq!(rt; tried.wrong, None);
     assert!(rt; 100 < tried.crashes);
@@ -22,7 +23,7 @@ fn the_newest_values_have_a_front(rt: HostRuntime) -> Result<(), Fail> {
 }
 
 #[test]
-fn the_values_of_choice_2_have_a_front(rt: HostRuntime) -> Result<(), Fail> {
+fn the_values_of_choice_2_leave_a_prefix(rt: HostRuntime) -> Result<(), Fail> {
     let tried = try_all(rt.alloc(), 2)?;
     assert_eq!(rt; tried.wrong, None);
     assert!(rt; 100 < tried.crashes);
@@ -30,7 +31,7 @@ fn the_values_of_choice_2_have_a_front(rt: HostRuntime) -> Result<(), Fail> {
 }
 
 #[test]
-fn the_values_of_choice_3_have_a_front(rt: HostRuntime) -> Result<(), Fail> {
+fn the_values_of_choice_3_leave_a_prefix(rt: HostRuntime) -> Result<(), Fail> {
     let tried = try_all(rt.alloc(), 3)?;
     assert_eq!(rt; tried.wrong, None);
     assert!(rt; 100 < tried.crashes);
@@ -38,7 +39,7 @@ fn the_values_of_choice_3_have_a_front(rt: HostRuntime) -> Result<(), Fail> {
 }
 
 #[test]
-fn the_values_of_choice_4_have_a_front(rt: HostRuntime) -> Result<(), Fail> {
+fn the_values_of_choice_4_leave_a_prefix(rt: HostRuntime) -> Result<(), Fail> {
     let tried = try_all(rt.alloc(), 4)?;
     assert_eq!(rt; tried.wrong, None);
     assert!(rt; 100 < tried.crashes);
@@ -46,7 +47,7 @@ fn the_values_of_choice_4_have_a_front(rt: HostRuntime) -> Result<(), Fail> {
 }
 
 #[test]
-fn the_values_of_choice_5_have_a_front(rt: HostRuntime) -> Result<(), Fail> {
+fn the_values_of_choice_5_leave_a_prefix(rt: HostRuntime) -> Result<(), Fail> {
     let tried = try_all(rt.alloc(), 5)?;
     assert_eq!(rt; tried.wrong, None);
     assert!(rt; 100 < tried.crashes);
@@ -54,7 +55,7 @@ fn the_values_of_choice_5_have_a_front(rt: HostRuntime) -> Result<(), Fail> {
 }
 
 #[test]
-fn the_values_of_choice_6_have_a_front(rt: HostRuntime) -> Result<(), Fail> {
+fn the_values_of_choice_6_leave_a_prefix(rt: HostRuntime) -> Result<(), Fail> {
     let tried = try_all(rt.alloc(), 6)?;
     assert_eq!(rt; tried.wrong, None);
     assert!(rt; 100 < tried.crashes);
@@ -62,7 +63,7 @@ fn the_values_of_choice_6_have_a_front(rt: HostRuntime) -> Result<(), Fail> {
 }
 
 #[test]
-fn the_values_of_choice_7_have_a_front(rt: HostRuntime) -> Result<(), Fail> {
+fn the_values_of_choice_7_leave_a_prefix(rt: HostRuntime) -> Result<(), Fail> {
     let tried = try_all(rt.alloc(), 7)?;
     assert_eq!(rt; tried.wrong, None);
     assert!(rt; 100 < tried.crashes);
@@ -70,7 +71,7 @@ fn the_values_of_choice_7_have_a_front(rt: HostRuntime) -> Result<(), Fail> {
 }
 
 #[test]
-fn a_ring_that_wraps_has_a_front_0(rt: HostRuntime) -> Result<(), Fail> {
+fn a_ring_that_wraps_leaves_a_prefix_0(rt: HostRuntime) -> Result<(), Fail> {
     let tried = try_worn(rt.alloc(), 0)?;
     assert_eq!(rt; tried.wrong, None);
     assert!(rt; 100 < tried.crashes);
@@ -78,7 +79,7 @@ fn a_ring_that_wraps_has_a_front_0(rt: HostRuntime) -> Result<(), Fail> {
 }
 
 #[test]
-fn a_ring_that_wraps_has_a_front_1(rt: HostRuntime) -> Result<(), Fail> {
+fn a_ring_that_wraps_leaves_a_prefix_1(rt: HostRuntime) -> Result<(), Fail> {
     let tried = try_worn(rt.alloc(), 1)?;
     assert_eq!(rt; tried.wrong, None);
     assert!(rt; 100 < tried.crashes);
@@ -86,7 +87,7 @@ fn a_ring_that_wraps_has_a_front_1(rt: HostRuntime) -> Result<(), Fail> {
 }
 
 #[test]
-fn a_ring_that_wraps_has_a_front_2(rt: HostRuntime) -> Result<(), Fail> {
+fn a_ring_that_wraps_leaves_a_prefix_2(rt: HostRuntime) -> Result<(), Fail> {
     let tried = try_worn(rt.alloc(), 2)?;
     assert_eq!(rt; tried.wrong, None);
     assert!(rt; 100 < tried.crashes);
@@ -94,7 +95,7 @@ fn a_ring_that_wraps_has_a_front_2(rt: HostRuntime) -> Result<(), Fail> {
 }
 
 #[test]
-fn a_ring_that_wraps_has_a_front_3(rt: HostRuntime) -> Result<(), Fail> {
+fn a_ring_that_wraps_leaves_a_prefix_3(rt: HostRuntime) -> Result<(), Fail> {
     let tried = try_worn(rt.alloc(), 3)?;
     assert_eq!(rt; tried.wrong, None);
     assert!(rt; 100 < tried.crashes);
@@ -102,7 +103,7 @@ fn a_ring_that_wraps_has_a_front_3(rt: HostRuntime) -> Result<(), Fail> {
 }
 
 #[test]
-fn a_ring_that_wraps_has_a_front_4(rt: HostRuntime) -> Result<(), Fail> {
+fn a_ring_that_wraps_leaves_a_prefix_4(rt: HostRuntime) -> Result<(), Fail> {
     let tried = try_worn(rt.alloc(), 4)?;
     assert_eq!(rt; tried.wrong, None);
     assert!(rt; 100 < tried.crashes);
@@ -110,7 +111,7 @@ fn a_ring_that_wraps_has_a_front_4(rt: HostRuntime) -> Result<(), Fail> {
 }
 
 #[test]
-fn a_ring_that_wraps_has_a_front_5(rt: HostRuntime) -> Result<(), Fail> {
+fn a_ring_that_wraps_leaves_a_prefix_5(rt: HostRuntime) -> Result<(), Fail> {
     let tried = try_worn(rt.alloc(), 5)?;
     assert_eq!(rt; tried.wrong, None);
     assert!(rt; 100 < tried.crashes);
@@ -118,7 +119,7 @@ fn a_ring_that_wraps_has_a_front_5(rt: HostRuntime) -> Result<(), Fail> {
 }
 
 #[test]
-fn a_ring_that_wraps_has_a_front_6(rt: HostRuntime) -> Result<(), Fail> {
+fn a_ring_that_wraps_leaves_a_prefix_6(rt: HostRuntime) -> Result<(), Fail> {
     let tried = try_worn(rt.alloc(), 6)?;
     assert_eq!(rt; tried.wrong, None);
     assert!(rt; 100 < tried.crashes);
@@ -126,7 +127,7 @@ fn a_ring_that_wraps_has_a_front_6(rt: HostRuntime) -> Result<(), Fail> {
 }
 
 #[test]
-fn a_ring_that_wraps_has_a_front_7(rt: HostRuntime) -> Result<(), Fail> {
+fn a_ring_that_wraps_leaves_a_prefix_7(rt: HostRuntime) -> Result<(), Fail> {
     let tried = try_worn(rt.alloc(), 7)?;
     assert_eq!(rt; tried.wrong, None);
     assert!(rt; 100 < tried.crashes);

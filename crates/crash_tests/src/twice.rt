@@ -1,9 +1,10 @@
 //! Power fails in a run, and again in the mount of what it left.
 use crate::crashes::LINES;
-use crate::{folders_in, fresh, run_lines};
+use crate::{folders_in, run_lines};
 use hx_bytes::OutOfMemory;
 use mem_disk::{MemImage, MemRig};
 use std::alloc::Global;
+use test_kit::fresh;
 
 // How many calls of a mount that wrote are passed over between two that are tried.
 const STEP: u64 = 160;

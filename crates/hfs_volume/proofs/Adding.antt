@@ -12,7 +12,7 @@ use Rattle.hfs_volume.specs.Forks.{forks_in, used_blocks}
 use Rattle.hfs_volume.specs.Content.{VolumeState, records_of, overflow_in_volume}
 use Rattle.hfs_volume.specs.Blocks.{HasSizes, GoesOn, HasForks, used_in, is_among}
 use Rattle.hfs_volume.specs.TreeOf.{is_hidden}
-use Rattle.hfs_volume.specs.Changes.{AddsEntry, InCatalog, thread_of}
+use Rattle.hfs_volume.specs.Changes.{AddsEntry, InCatalog, thread_with}
 use Rattle.hfs_volume.specs.Laws.{IsShaped, one_if, MayAdd, IsFirstPrivate, EntryAdded}
 use Rattle.hfs_volume.proofs.Counting.{length_kept}
 use Rattle.hfs_volume.proofs.Lying.{lies_still}
@@ -88,7 +88,7 @@ module _ (entry : Placed) (old new : VolumeState) (changes : InCatalog (AddsEntr
     found_first =
         let test : is_placed_at 2 private_name entry ≡ true = (λ i. (first.place.0 i == 2) && bytes_eq (first.place.1 i) private_name) in
         ap (find (is_placed_at 2 private_name)) added_side.second.is
-        ∙ find_none (is_placed_at 2 private_name) added_side.mid added_side.second.place (thread_of entry) (and_false (id_of entry == 2))
+        ∙ find_none (is_placed_at 2 private_name) added_side.mid added_side.second.place (thread_with added_side.spare entry) (and_false (id_of entry == 2))
         ∙ ap (find (is_placed_at 2 private_name)) added_side.first.is
         ∙ find_only (is_placed_at 2 private_name) was added_side.first.place entry test (λ p stands. found_none (is_placed_at 2 private_name) was first.is_new p stands)
 

@@ -42,6 +42,7 @@ use Rattle.hfs_volume.specs.Changes.{Adds, AddsAttribute, DropsAttribute, is_att
 use Rattle.hfs_volume.specs.Laws.{IsShaped, AttributeAdded, AttributeRemoved, CountsSame}
 use Rattle.hfs_volume.specs.Commands.{IsMarkedAlone, ChangesFields}
 use Rattle.hfs_volume.specs.Attributing.{SetAttrDoes, DelAttrDoes, AtDoes, RemountKeeps, with_header_numbers}
+use Rattle.hfs_volume.proofs.Fields.{marked_views, redated}
 use Rattle.hfs_volume.proofs.Counting.{map_insert}
 use Rattle.hfs_volume.proofs.Members.{all_of, each_of, kept_cases, inserted_cases, map_cases}
 use Rattle.hfs_volume.proofs.Flat.{flat_none, flat_one, flat_agree, flat_changed, found_some, AllBefore, flat_in_order}
@@ -58,7 +59,7 @@ use Rattle.hfs_volume.proofs.NodesOf.{nodes_from}
 use Rattle.hfs_volume.proofs.Telling.{nodes_are}
 use Rattle.hfs_volume.proofs.Trees.{nodes_over}
 use Rattle.hfs_volume.proofs.Accounts.{Account, Debts, no_debts, opened, closed}
-use Rattle.hfs_volume.proofs.Refielding.{mark_account, fields_tree, marked_views, redated, marked_is, moment_is}
+use Rattle.hfs_volume.proofs.Refielding.{mark_account, fields_tree, marked_is, moment_is}
 use Rattle.hfs_volume.proofs.Marking.{twice}
 use Rattle.hfs_volume.proofs.HidingFile.{shaped}
 use Rattle.hfs_volume.proofs.DroppingLink.{here}

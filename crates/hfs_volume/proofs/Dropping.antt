@@ -20,7 +20,7 @@ use Rattle.hfs_volume.specs.Attributes.{IsAttribute, HasOwner}
 use Rattle.hfs_volume.specs.Forks.{forks_in, file_forks}
 use Rattle.hfs_volume.specs.Content.{VolumeState, records_of, overflow_in_volume}
 use Rattle.hfs_volume.specs.TreeOf.{is_hidden, is_seen, plain_entry, seen_entry, node_in, threaded_node, node_found}
-use Rattle.hfs_volume.specs.Changes.{AreSorted, Adds, AddsEntry, DropsEntry, InCatalog, thread_of}
+use Rattle.hfs_volume.specs.Changes.{AreSorted, Adds, AddsEntry, DropsEntry, InCatalog, thread_with}
 use Rattle.hfs_volume.specs.Laws.{IsShaped, one_if, Joins}
 use Rattle.hfs_model.specs.declared.plain.PlainNode.{PlainNode}
 use Rattle.hfs_volume.proofs.Counting.{count_insert}
@@ -116,8 +116,8 @@ module _ (entry : Placed) (small big : List Pair) (added : AddsEntry entry small
   first : Adds entry less mid
   first = placed_added entry added.pair small added.between added.entry_added added.is_entry.stands
 
-  second : Adds (thread_of entry) mid more
-  second = placed_added (thread_of entry) added.thread added.between big added.thread_added added.is_thread.stands
+  second : Adds (thread_with added.spare entry) mid more
+  second = placed_added (thread_with added.spare entry) added.thread added.between big added.thread_added added.is_thread.stands
 
   one : Adds entry (entries_of less) (entries_of more)
   one = entries_added entry less mid more first second leaves.named
@@ -197,16 +197,16 @@ module _ (entry : Placed) (small big : List Pair) (added : AddsEntry entry small
           absurd (true_or_false (sym ((hidden_is_computed more next entry.parent ids rooted).0 (hidden.0, private_less ∙ hidden.1, lies_still (entries_of less) (entries_of more) hidden.0 still entry.parent hidden.2)) ∙ leaves.visible))
 
   sorted_mid : IsInOrder placed_before mid
-  sorted_mid = order_less placed_before mid second.place (thread_of entry) (subst (IsInOrder placed_before) second.is sorted)
+  sorted_mid = order_less placed_before mid second.place (thread_with added.spare entry) (subst (IsInOrder placed_before) second.is sorted)
 
   in_mid : (p : Placed) → Contains less p → Contains mid p
   in_mid p stands = subst (λ l. Contains l p) (sym first.is) (still_stands less first.place entry p stands)
 
   in_more : (p : Placed) → Contains less p → Contains more p
-  in_more p stands = subst (λ l. Contains l p) (sym second.is) (still_stands mid second.place (thread_of entry) p (in_mid p stands))
+  in_more p stands = subst (λ l. Contains l p) (sym second.is) (still_stands mid second.place (thread_with added.spare entry) p (in_mid p stands))
 
-  all_cases : (p : Placed) → Contains more p → (p ≡ thread_of entry) ⊎ ((p ≡ entry) ⊎ Contains less p)
-  all_cases p stands = elim (inserted_cases mid second.place (thread_of entry) p (subst (λ l. Contains l p) second.is stands)) [
+  all_cases : (p : Placed) → Contains more p → (p ≡ thread_with added.spare entry) ⊎ ((p ≡ entry) ⊎ Contains less p)
+  all_cases p stands = elim (inserted_cases mid second.place (thread_with added.spare entry) p (subst (λ l. Contains l p) second.is stands)) [
     | inl is ↦ inl is
     | inr there ↦ inr (inserted_cases less first.place entry p (subst (λ l. Contains l p) first.is there))
   ]
@@ -232,7 +232,7 @@ module _ (entry : Placed) (small big : List Pair) (added : AddsEntry entry small
         elim (cases found.0 found.1) [
           | inl same ↦
               let empty : is_empty p.name ≡ true = sym (each_of (λ (q : Placed). is_thread q.value ≡ is_empty q.name) more threads.kinds p (in_more p stands)) ∙ ap is_thread kind in
-              absurd (not_twice (thread_of entry) mid more second sorted p (in_mid p stands) (sym found.2 ∙ ap id_of same) (empty_is p.name empty))
+              absurd (not_twice (thread_with added.spare entry) mid more second sorted p (in_mid p stands) (sym found.2 ∙ ap id_of same) (empty_is p.name empty))
           | inr there ↦ (found.0, there, found.2, found.3)
         ];
   }
@@ -318,7 +318,7 @@ module _ (entry : Placed) (old new : VolumeState) (changes : InCatalog (DropsEnt
   to_mid : Adds entry is (placed_in changes.changes.between)
   to_mid = first entry new.catalog_pairs old.catalog_pairs changes.changes old.head.next_catalog_id leaves sorted shaped.threads shaped.rooted shaped.ids
 
-  from_mid : Adds (thread_of entry) (placed_in changes.changes.between) was
+  from_mid : Adds (thread_with changes.changes.spare entry) (placed_in changes.changes.between) was
   from_mid = second entry new.catalog_pairs old.catalog_pairs changes.changes old.head.next_catalog_id leaves sorted shaped.threads shaped.rooted shaped.ids
 
   there : (p : Placed) → Contains (entries_of is) p → Contains (entries_of was) p

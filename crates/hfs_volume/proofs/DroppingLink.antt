@@ -15,9 +15,9 @@ use Rattle.hfs_volume.specs.TreeOf.{tree_in, id_or_0, shared_file, is_linked}
 use Rattle.hfs_volume.specs.Laws.{IsShaped, IsFolderId, one_if}
 use Rattle.hfs_volume.specs.Commands.{with_counts}
 use Rattle.hfs_volume.specs.Naming.{IsNameOf, one_file_less}
+use Rattle.hfs_volume.proofs.Fields.{BytesBy}
 use Rattle.hfs_volume.proofs.Hiding.{same_entry, one_there}
 use Rattle.hfs_volume.proofs.Seeing.{same_number}
-use Rattle.hfs_volume.proofs.Marking.{BytesBy}
 use Rattle.hfs_volume.proofs.Sharing.{shared_found}
 use Rattle.hfs_volume.proofs.Named.{IsSeenName}
 use Rattle.hfs_volume.proofs.Accounts.{drops, Account, no_debts, opened, heads, Debts}

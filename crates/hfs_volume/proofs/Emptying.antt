@@ -23,11 +23,12 @@ use Rattle.hfs_volume.specs.Blocks.{used_in, is_among, count_used, HasBits}
 use Rattle.hfs_volume.specs.Sound.{IsSoundVolume}
 use Rattle.hfs_volume.specs.TreeOf.{is_seen, tree_in, is_hidden, plain_entry, plain_node, plain_attributes, plain_attribute, node_in, node_found, threaded_node, is_plain_folder, is_plain_file, is_linked}
 use Rattle.hfs_volume.specs.Changes.{InAttributes}
-use Rattle.hfs_volume.specs.Commands.{RemovesFolder, DropsAttributes, one_less_in, without_attributes, with_folder_removed, RmdirDoes}
+use Rattle.hfs_volume.specs.Commands.{AreBytesOf, RemovesFolder, DropsAttributes, with_fields, without_attributes, with_folder_removed, RmdirDoes}
 use Rattle.hfs_volume.specs.Laws.{IsShaped, one_if}
 use Rattle.hfs_model.specs.declared.plain.PlainEntry.{PlainEntry}
 use Rattle.hfs_model.specs.declared.plain.PlainNode.{PlainNode}
 use Rattle.hfs_model.specs.declared.plain.PlainTree.{PlainTree}
+use Rattle.hfs_volume.proofs.Fields.{dated, touched_views, makes_of, not_thread, id_of_fields, valence_now, folder_is_no_file}
 use Rattle.hfs_volume.proofs.Members.{all_of, each_of, kept_stands, kept_cases}
 use Rattle.hfs_volume.proofs.Flat.{flat_agree, found_some}
 use Rattle.hfs_volume.proofs.Ranks.{true_or_false}
@@ -41,7 +42,6 @@ use Rattle.hfs_volume.proofs.Making.{tree_entries}
 use Rattle.hfs_volume.proofs.Finishing.{sound_is_both, shared_is_file}
 use Rattle.hfs_volume.proofs.Keeping.{value_changed, value_counts, value_links, value_used, value_private, value_cases, value_there, value_was}
 use Rattle.hfs_volume.proofs.Marking.{value_tree}
-use Rattle.hfs_volume.proofs.Swapping.{Makes}
 use Rattle.hfs_volume.proofs.Dropping.{counted_less, still, private_less, joins_less, dropped_used, Leaves, folder_dropped, entries_dropped, nodes_dropped}
 
 -- ---- attributes of one CNID removed
@@ -243,10 +243,7 @@ folder_file (Folder f) is = refl
 folder_file (File f) is = absurd (true_or_false (sym is))
 folder_file (Thread f) is = refl
 
-abbrev dated : ℕ → PlainNode → PlainNode
-dated moment node = record node { changed = moment; attribute = moment }
-
-module _ (at : PlainEntry) (old new : VolumeState) (bytes_of : FileRecord → List ℕ) (sound : IsSoundVolume old) (is_empty_one : IsEmptyFolder old bytes_of sound at) (does : RemovesFolder at.id old new) where
+module _ (at : PlainEntry) (old new : VolumeState) (bytes_of : FileRecord → List ℕ) (are : AreBytesOf bytes_of) (sound : IsSoundVolume old) (is_empty_one : IsEmptyFolder old bytes_of sound at) (does : RemovesFolder at.id old new) where
   abbrev was : List Placed
   was = records_of old
 
@@ -266,10 +263,10 @@ module _ (at : PlainEntry) (old new : VolumeState) (bytes_of : FileRecord → Li
   bare = without_attributes old new
 
   abbrev value : CatRecord
-  value = Folder (record { fields = one_less_in old.head.modify_date does.above_fields })
+  value = with_fields (λ _. does.counts.after) does.counts.entry.value
 
   abbrev it : Placed
-  it = record does.above { value = value }
+  it = record does.counts.entry { value = value }
 
   leav : Leaves entry old.head.next_catalog_id was
   leav = leaves old bytes_of sound at is_empty_one entry does.stands does.is_entry
@@ -294,14 +291,14 @@ module _ (at : PlainEntry) (old new : VolumeState) (bytes_of : FileRecord → Li
   shaped_dropped : IsShaped does.dropped
   shaped_dropped = folder_dropped entry bare does.dropped does.drops leav (folder_forks entry.value is_a) does.sorted no_attributes shaped_bare
 
-  above_kind : is_thread does.above.value ≡ false
-  above_kind = ap is_thread does.is_above.0
+  above_kind : is_thread does.counts.entry.value ≡ false
+  above_kind = not_thread does.counts.entry.value does.counts.before does.counts.has
 
   shaped_new : IsShaped new
-  shaped_new = value_changed does.above value does.dropped new does.counts above_kind shaped_dropped
+  shaped_new = value_changed does.counts.entry value does.dropped new does.counts.changes above_kind shaped_dropped
 
   head_is : new.head ≡ with_folder_removed old.head
-  head_is = ap (λ (v : VolumeState). v.head) does.counts.rest ∙ ap (λ (v : VolumeState). v.head) does.drops.rest
+  head_is = ap (λ (v : VolumeState). v.head) does.counts.changes.rest ∙ ap (λ (v : VolumeState). v.head) does.drops.rest
 
   -- ---- the tree
 
@@ -334,23 +331,23 @@ module _ (at : PlainEntry) (old new : VolumeState) (bytes_of : FileRecord → Li
     moment = (ap (λ (v : VolumeState). v.head) does.drops.rest i).modify_date;
   }
 
-  above_at : id_of does.above ≡ entry.parent
-  above_at = ap id_in does.is_above.0 ∙ does.is_above.1
+  above_at : id_of does.counts.entry ≡ entry.parent
+  above_at = id_of_fields does.counts.entry.value does.counts.before does.counts.has ∙ does.counts.is_entry
 
   pub tree_removed : tree_in new bytes_of ≡ removed_folder at (tree_in old bytes_of)
   unfolding tree_in
   tree_removed =
-      value_tree does.above value does.dropped new does.counts above_kind shaped_dropped bytes_of (dated old.head.modify_date) (subst (λ v. Makes (attributes_of does.dropped) bytes_of (dated old.head.modify_date) v value) (sym does.is_above.0) refl)
-      ∙ ap (with_changed (id_of does.above) (dated old.head.modify_date)) tree_gone
+      value_tree does.counts.entry value does.dropped new does.counts.changes above_kind shaped_dropped bytes_of (dated old.head.modify_date) (makes_of (attributes_of does.dropped) bytes_of are.by_fork (dated old.head.modify_date) does.counts.before does.counts.after (touched_views old.head.modify_date 0 1 does.counts.before does.counts.after does.counts.fields) does.counts.fields.id does.counts.entry.value does.counts.has)
+      ∙ ap (with_changed (id_of does.counts.entry) (dated old.head.modify_date)) tree_gone
       ∙ (λ i. with_changed ((above_at ∙ ap (λ (e : PlainEntry). e.parent) plain) i) (dated old.head.modify_date)
       (without_node (does.is_entry i) (without_entry ((ap (λ (e : PlainEntry). e.parent) plain) i) ((ap (λ (e : PlainEntry). e.name) plain) i) (tree_in old bytes_of))))
 
   -- ---- the counts
 
-  counts_were : (test : Placed → Bool) → test it ≡ test does.above → count_by test (entries_of was) ≡ count_by test (entries_of is) + one_if (test entry)
+  counts_were : (test : Placed → Bool) → test it ≡ test does.counts.entry → count_by test (entries_of was) ≡ count_by test (entries_of is) + one_if (test entry)
   counts_were test same =
       counted_less entry does.dropped.catalog_pairs old.catalog_pairs does.drops.changes old.head.next_catalog_id leav does.sorted sound.entries.threads sound.entries.rooted sound.entries.ids test
-      ∙ ap (λ n. n + one_if (test entry)) (sym (value_counts does.above value does.dropped new does.counts above_kind shaped_dropped test same))
+      ∙ ap (λ n. n + one_if (test entry)) (sym (value_counts does.counts.entry value does.dropped new does.counts.changes above_kind shaped_dropped test same))
 
   in_folder_was : (id : ℕ) → count_in (entries_of was) id ≡ count_in (entries_of is) id + one_if (entry.parent == id)
   in_folder_was id = counts_were (λ (p : Placed). p.parent == id) refl
@@ -361,25 +358,34 @@ module _ (at : PlainEntry) (old new : VolumeState) (bytes_of : FileRecord → Li
   was_valence : (p : Placed) → Contains (entries_of was) p → is_folder p.value ≡ true → valence_in p.value ≡ count_in (entries_of was) (id_of p)
   was_valence p stands folder = each_of (λ (q : Placed). is_folder q.value ≡ true → valence_in q.value ≡ count_in (entries_of was) (id_of q)) (entries_of was) sound.entries.counts.valences p stands folder
 
-  id_same : id_of it ≡ id_of does.above
-  id_same = does.counts.changes.alike.id
+  id_same : id_of it ≡ id_of does.counts.entry
+  id_same = does.counts.changes.changes.alike.id
 
-  above_gone : Contains (entries_of gone) does.above
-  above_gone = value_was does.above value does.dropped new does.counts above_kind shaped_dropped
+  above_gone : Contains (entries_of gone) does.counts.entry
+  above_gone = value_was does.counts.entry value does.dropped new does.counts.changes above_kind shaped_dropped
+
+  counting_folder : is_folder does.counts.entry.value ≡ true
+  counting_folder =
+      ap (λ (p : Placed). is_folder p.value) (same_entry old.head.next_catalog_id (entries_of was) sound.entries.ids does.counts.entry leav.folder.0 (there does.counts.entry above_gone) leav.folder.1 (above_at ∙ sym leav.folder.3)) ∙ leav.folder.2
+
+  counting_counts : (valence_in does.counts.entry.value ≡ does.counts.before.count) × (valence_in value ≡ does.counts.after.count)
+  counting_counts = valence_now does.counts.entry.value does.counts.before does.counts.after does.counts.has counting_folder
 
   it_valence : valence_in value ≡ count_in (entries_of is) (id_of it)
   it_valence =
       omega (
         arith,
         in_folder_was (id_of it),
-        was_valence does.above (there does.above above_gone) (ap is_folder does.is_above.0),
-        ap valence_in does.is_above.0,
+        was_valence does.counts.entry (there does.counts.entry above_gone) counting_folder,
+        counting_counts.0,
+        counting_counts.1,
+        does.counts.fields.count,
         ap (count_in (entries_of was)) id_same,
         ap one_if (ap (λ n. entry.parent == n) (id_same ∙ above_at) ∙ same_number entry.parent),
       )
 
   valence_new : (p : Placed) → Contains (entries_of is) p → is_folder p.value ≡ true → valence_in p.value ≡ count_in (entries_of is) (id_of p)
-  valence_new p stands folder = elim (value_cases does.above value does.dropped new does.counts above_kind shaped_dropped p stands) [
+  valence_new p stands folder = elim (value_cases does.counts.entry value does.dropped new does.counts.changes above_kind shaped_dropped p stands) [
     | inl same ↦ subst (λ (q : Placed). valence_in q.value ≡ count_in (entries_of is) (id_of q)) (sym same) it_valence
     | inr left ↦ by_test left (entry.parent == id_of p) refl
   ]
@@ -387,22 +393,22 @@ module _ (at : PlainEntry) (old new : VolumeState) (bytes_of : FileRecord → Li
       by_test : Contains (entries_of gone) p → (b : Bool) → (entry.parent == id_of p) ≡ b → valence_in p.value ≡ count_in (entries_of is) (id_of p)
       by_test left false differ = omega (arith, was_valence p (there p left) folder, in_folder_was (id_of p), ap one_if differ)
       by_test left true same =
-          let it_is : it ≡ p = same_entry new.head.next_catalog_id (entries_of is) shaped_new.ids it p (value_there does.above value does.dropped new does.counts above_kind shaped_dropped) stands (id_same ∙ above_at ∙ eqb-true entry.parent (id_of p) same) in
+          let it_is : it ≡ p = same_entry new.head.next_catalog_id (entries_of is) shaped_new.ids it p (value_there does.counts.entry value does.dropped new does.counts.changes above_kind shaped_dropped) stands (id_same ∙ above_at ∙ eqb-true entry.parent (id_of p) same) in
           subst (λ (q : Placed). valence_in q.value ≡ count_in (entries_of is) (id_of q)) it_is it_valence
 
   some_folder : 1 ≤ count_by (λ (p : Placed). is_folder p.value) (entries_of is)
-  some_folder = one_there (λ (p : Placed). is_folder p.value) (entries_of is) it (value_there does.above value does.dropped new does.counts above_kind shaped_dropped) refl
+  some_folder = one_there (λ (p : Placed). is_folder p.value) (entries_of is) it (value_there does.counts.entry value does.dropped new does.counts.changes above_kind shaped_dropped) (does.counts.changes.changes.alike.kind.0 ∙ counting_folder)
 
   counted_new : AreCounted new.head (entries_of is)
   counted_new = record {
     valences = all_of (λ (q : Placed). is_folder q.value ≡ true → valence_in q.value ≡ count_in (entries_of is) (id_of q)) (entries_of is) valence_new;
-    files = omega (arith, ap (λ (h : VolumeHeader). h.file_count) head_is, sound.entries.counts.files, counts_were (λ (p : Placed). is_file p.value) does.counts.changes.alike.kind.1, ap one_if (folder_file entry.value is_a));
-    folders = omega (arith, ap (λ (h : VolumeHeader). h.folder_count) head_is, sound.entries.counts.folders, counts_were (λ (p : Placed). is_folder p.value) does.counts.changes.alike.kind.0, ap one_if is_a, some_folder);
+    files = omega (arith, ap (λ (h : VolumeHeader). h.file_count) head_is, sound.entries.counts.files, counts_were (λ (p : Placed). is_file p.value) does.counts.changes.changes.alike.kind.1, ap one_if (folder_file entry.value is_a));
+    folders = omega (arith, ap (λ (h : VolumeHeader). h.folder_count) head_is, sound.entries.counts.folders, counts_were (λ (p : Placed). is_folder p.value) does.counts.changes.changes.alike.kind.0, ap one_if is_a, some_folder);
   }
 
   private_is_same : private_id is ≡ private_id was
   private_is_same =
-      value_private does.above value does.dropped new does.counts above_kind shaped_dropped
+      value_private does.counts.entry value does.dropped new does.counts.changes above_kind shaped_dropped
       ∙ sym (private_less entry does.dropped.catalog_pairs old.catalog_pairs does.drops.changes old.head.next_catalog_id leav does.sorted sound.entries.threads sound.entries.rooted sound.entries.ids)
 
   links_same : (reference : ℕ) → length (links_to was reference) ≡ length (links_to is reference)
@@ -413,22 +419,22 @@ module _ (at : PlainEntry) (old new : VolumeState) (bytes_of : FileRecord → Li
         length_kept (is_link_to reference) (entries_of gone),
         counted_less entry does.dropped.catalog_pairs old.catalog_pairs does.drops.changes old.head.next_catalog_id leav does.sorted sound.entries.threads sound.entries.rooted sound.entries.ids (is_link_to reference),
         ap (λ b. one_if (b && (special_of entry == reference))) leav.not_link,
-        value_links does.above value does.dropped new does.counts above_kind shaped_dropped reference,
+        value_links does.counts.entry value does.dropped new does.counts.changes above_kind shaped_dropped reference,
       )
 
   link_counts_new : HaveLinkCounts is
-  link_counts_new reference file stands shared = elim (value_cases does.above value does.dropped new does.counts above_kind shaped_dropped file stands) [
-    | inl same ↦ absurd (true_or_false (sym (shared_is_file (private_id is) reference file shared) ∙ ap (λ (q : Placed). is_file q.value) same))
+  link_counts_new reference file stands shared = elim (value_cases does.counts.entry value does.dropped new does.counts.changes above_kind shaped_dropped file stands) [
+    | inl same ↦ absurd (true_or_false (sym (shared_is_file (private_id is) reference file shared) ∙ ap (λ (q : Placed). is_file q.value) same ∙ does.counts.changes.changes.alike.kind.1 ∙ folder_is_no_file does.counts.entry.value counting_folder))
     | inr left ↦ sound.links.counts reference file (there file left) (ap (λ private. is_shared private reference file) (sym private_is_same) ∙ shared) ∙ links_same reference
   ]
 
   used_new : used_in new ≡ used_in old
   used_new =
-      value_used does.above value does.dropped new does.counts above_kind shaped_dropped
+      value_used does.counts.entry value does.dropped new does.counts.changes above_kind shaped_dropped
       ∙ dropped_used entry bare does.dropped does.drops leav (folder_forks entry.value is_a) does.sorted no_attributes shaped_bare ∙ used_numbered old (with_folder_removed old.head)
 
   bits_new : new.bits ≡ old.bits
-  bits_new = ap (λ (v : VolumeState). v.bits) does.counts.rest ∙ ap (λ (v : VolumeState). v.bits) does.drops.rest
+  bits_new = ap (λ (v : VolumeState). v.bits) does.counts.changes.rest ∙ ap (λ (v : VolumeState). v.bits) does.drops.rest
 
   bits_right : HasBits new
   bits_right = record {
@@ -442,8 +448,8 @@ module _ (at : PlainEntry) (old new : VolumeState) (bytes_of : FileRecord → Li
 
 -- `rmdir`
 pub rmdir_law : RmdirDoes
-rmdir_law path at old new bytes_of sound allowed does =
+rmdir_law path at old new bytes_of are sound allowed does =
     let is = to_rmdir_is old bytes_of sound path at allowed in (
-      sound_removed at old new bytes_of sound is does,
-      tree_removed at old new bytes_of sound is does ∙ sym (ap (λ r. (on (tree_in old bytes_of) r (λ x. (reply.Ok, removed_folder x (tree_in old bytes_of)))).1) allowed),
+      sound_removed at old new bytes_of are sound is does,
+      tree_removed at old new bytes_of are sound is does ∙ sym (ap (λ r. (on (tree_in old bytes_of) r (λ x. (reply.Ok, removed_folder x (tree_in old bytes_of)))).1) allowed),
     )

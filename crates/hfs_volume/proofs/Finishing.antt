@@ -22,7 +22,7 @@ use Rattle.hfs_volume.specs.Content.{VolumeState, records_of, overflow_in_volume
 use Rattle.hfs_volume.specs.Blocks.{HasSizes, GoesOn, GoOn, HasForks, HasFork, forks_of, used_in, is_among, count_used, HasBits}
 use Rattle.hfs_volume.specs.Sound.{IsSoundVolume}
 use Rattle.hfs_volume.specs.TreeOf.{tree_in}
-use Rattle.hfs_volume.specs.Commands.{MakesEntry, IsNewValue, IsEmptyFork, entry_in, one_more_in, with_made}
+use Rattle.hfs_volume.specs.Commands.{AreBytesOf, MakesEntry, IsNewValue, IsEmptyFork, entry_in, with_fields, with_made}
 use Rattle.hfs_volume.specs.Laws.{AreEmptyForks, IsShaped, IsCounted, SoundIsBoth, Joins, one_if}
 use Rattle.hfs_volume.proofs.Members.{all_of, each_of, first_or_later, in_one}
 use Rattle.hfs_volume.proofs.Reaching.{flat_cases}
@@ -30,6 +30,7 @@ use Rattle.hfs_volume.proofs.Ranks.{true_or_false}
 use Rattle.hfs_volume.proofs.Hiding.{same_entry, both}
 use Rattle.hfs_volume.proofs.Seeing.{same_number}
 use Rattle.hfs_volume.proofs.Fitting.{differs, entry_or_old, parent_not_new, none_counted, not_same}
+use Rattle.hfs_volume.proofs.Fields.{not_thread, valence_now, folder_is_no_file}
 use Rattle.hfs_volume.proofs.Shaping.{entry_added_, counted, no_link_more, used_as_before, private_as_before}
 use Rattle.hfs_volume.proofs.Keeping.{value_changed, value_counts, value_links, value_used, value_private, value_cases, value_there, value_was}
 use Rattle.hfs_volume.proofs.Heading.{numbered_shaped, used_numbered}
@@ -175,10 +176,10 @@ new_forks true drawn moment head overflow (Thread f) is none = absurd is
 new_forks false drawn moment head overflow (Folder f) is none = absurd is
 new_forks false drawn moment head overflow (Thread f) is none = absurd is
 
-module _ (folder : Bool) (path : List (List ℕ)) (at : Place) (old new : VolumeState) (bytes_of : FileRecord → List ℕ) (no_bytes : (file : FileRecord) → file.data_fork.logical_size ≡ 0 → bytes_of file ≡ [])
+module _ (folder : Bool) (path : List (List ℕ)) (at : Place) (old new : VolumeState) (bytes_of : FileRecord → List ℕ) (are : AreBytesOf bytes_of)
     (sound : IsSoundVolume old) (not_private : is_private_path path ≡ false) (named : is_empty (last_name path) ≡ false) (makes : MakesEntry folder at old new) (joins : Joins (entry_in at makes.value) (records_of old)) where
   new_is : NewFacts folder old.head.next_catalog_id old.head.modify_date bytes_of makes.value
-  new_is = facts folder path at old new bytes_of no_bytes sound not_private named makes
+  new_is = facts folder path at old new bytes_of are sound not_private named makes
 
   abbrev was : List Placed
   was = records_of old
@@ -196,10 +197,10 @@ module _ (folder : Bool) (path : List (List ℕ)) (at : Place) (old new : Volume
   begun = record old { head = with_made folder old.head }
 
   abbrev value : CatRecord
-  value = Folder (record { fields = one_more_in old.head.modify_date makes.above_fields })
+  value = with_fields (λ _. makes.counts.after) makes.counts.entry.value
 
   abbrev it : Placed
-  it = record makes.above { value = value }
+  it = record makes.counts.entry { value = value }
 
   shaped_begun : IsShaped begun
   shaped_begun = numbered_shaped old (with_made folder old.head) (omega arith) (record { accepted = sound.blocks.header.accepted; next_id = omega (arith, sound.blocks.header.next_id) }) ((sound_is_both old).0 sound).0
@@ -208,50 +209,59 @@ module _ (folder : Bool) (path : List (List ℕ)) (at : Place) (old new : Volume
   no_forks = new_forks folder old.head.next_catalog_id old.head.modify_date begun.head (overflow_in_volume old) makes.value makes.is_new (λ kind. no_overflow old (id_of entry) kind sound.blocks.forks joins.high joins.fresh)
 
   shaped_added : IsShaped makes.added
-  shaped_added = entry_added_ entry begun makes.added makes.adds joins no_forks (drawn_before folder path at old new bytes_of no_bytes sound not_private named makes) shaped_begun
+  shaped_added = entry_added_ entry begun makes.added makes.adds joins no_forks (drawn_before folder path at old new bytes_of are sound not_private named makes) shaped_begun
 
-  above_kind : is_thread makes.above.value ≡ false
-  above_kind = ap is_thread makes.is_above.0
+  above_kind : is_thread makes.counts.entry.value ≡ false
+  above_kind = not_thread makes.counts.entry.value makes.counts.before makes.counts.has
 
   shaped_new : IsShaped new
-  shaped_new = value_changed makes.above value makes.added new makes.counts above_kind shaped_added
+  shaped_new = value_changed makes.counts.entry value makes.added new makes.counts.changes above_kind shaped_added
 
   -- each count has one more where the new folder passes
-  counts_new : (test : Placed → Bool) → test it ≡ test makes.above → count_by test (entries_of is) ≡ count_by test (entries_of was) + one_if (test entry)
+  counts_new : (test : Placed → Bool) → test it ≡ test makes.counts.entry → count_by test (entries_of is) ≡ count_by test (entries_of was) + one_if (test entry)
   counts_new test same =
-      value_counts makes.above value makes.added new makes.counts above_kind shaped_added test same
-      ∙ counted entry begun makes.added makes.adds joins no_forks (drawn_before folder path at old new bytes_of no_bytes sound not_private named makes) shaped_begun test
+      value_counts makes.counts.entry value makes.added new makes.counts.changes above_kind shaped_added test same
+      ∙ counted entry begun makes.added makes.adds joins no_forks (drawn_before folder path at old new bytes_of are sound not_private named makes) shaped_begun test
 
-  id_same : id_of it ≡ id_of makes.above
-  id_same = makes.counts.changes.alike.id
+  id_same : id_of it ≡ id_of makes.counts.entry
+  id_same = makes.counts.changes.changes.alike.id
 
   in_folder_new : (id : ℕ) → count_in (entries_of is) id ≡ count_in (entries_of was) id + one_if (at.folder == id)
   in_folder_new id = counts_new (λ (p : Placed). p.parent == id) refl
 
-  above_at : id_of makes.above ≡ at.folder
-  above_at = above_id folder path at old new bytes_of no_bytes sound not_private named makes
+  above_at : id_of makes.counts.entry ≡ at.folder
+  above_at = above_id folder path at old new bytes_of are sound not_private named makes
 
   old_cases : (p : Placed) → Contains (entries_of mid) p → (p ≡ entry) ⊎ Contains (entries_of was) p
   old_cases = entry_or_old entry old.catalog_pairs makes.added.catalog_pairs makes.adds.changes joins
 
   -- the folder was there before
-  above_was : Contains (entries_of was) makes.above
-  above_was = elim (old_cases makes.above (value_was makes.above value makes.added new makes.counts above_kind shaped_added)) [
+  above_was : Contains (entries_of was) makes.counts.entry
+  above_was = elim (old_cases makes.counts.entry (value_was makes.counts.entry value makes.added new makes.counts.changes above_kind shaped_added)) [
     | inl same ↦ absurd (not_same (id_of joins.folder.0) (id_of entry) (joins.fresh joins.folder.0 joins.folder.1) (joins.folder.3 ∙ sym above_at ∙ ap id_of same))
     | inr there ↦ there
   ]
+
+  above_folder : is_folder makes.counts.entry.value ≡ true
+  above_folder =
+      ap (λ (p : Placed). is_folder p.value) (same_entry old.head.next_catalog_id (entries_of was) sound.entries.ids makes.counts.entry joins.folder.0 above_was joins.folder.1 (above_at ∙ sym joins.folder.3)) ∙ joins.folder.2
+
+  above_counts : (valence_in makes.counts.entry.value ≡ makes.counts.before.count) × (valence_in value ≡ makes.counts.after.count)
+  above_counts = valence_now makes.counts.entry.value makes.counts.before makes.counts.after makes.counts.has above_folder
 
   was_valence : (p : Placed) → Contains (entries_of was) p → is_folder p.value ≡ true → valence_in p.value ≡ count_in (entries_of was) (id_of p)
   was_valence p stands is_a = each_of (λ (q : Placed). is_folder q.value ≡ true → valence_in q.value ≡ count_in (entries_of was) (id_of q)) (entries_of was) sound.entries.counts.valences p stands is_a
 
   it_valence : valence_in value ≡ count_in (entries_of is) (id_of it)
   it_valence =
-      let before = was_valence makes.above above_was (ap is_folder makes.is_above.0) in
+      let before = was_valence makes.counts.entry above_was above_folder in
       omega (
         arith,
         in_folder_new (id_of it),
         before,
-        ap valence_in makes.is_above.0,
+        above_counts.0,
+        above_counts.1,
+        makes.counts.fields.count,
         ap (count_in (entries_of was)) id_same,
         ap one_if (ap (λ n. at.folder == n) (id_same ∙ above_at) ∙ same_number at.folder),
       )
@@ -265,7 +275,7 @@ module _ (folder : Bool) (path : List (List ℕ)) (at : Place) (old new : Volume
   ]
 
   valence_new : (p : Placed) → Contains (entries_of is) p → is_folder p.value ≡ true → valence_in p.value ≡ count_in (entries_of is) (id_of p)
-  valence_new p stands is_a = elim (value_cases makes.above value makes.added new makes.counts above_kind shaped_added p stands) [
+  valence_new p stands is_a = elim (value_cases makes.counts.entry value makes.added new makes.counts.changes above_kind shaped_added p stands) [
     | inl same ↦ subst (λ (q : Placed). valence_in q.value ≡ count_in (entries_of is) (id_of q)) (sym same) it_valence
     | inr there ↦ by_test there (at.folder == id_of p) refl
   ]
@@ -273,46 +283,46 @@ module _ (folder : Bool) (path : List (List ℕ)) (at : Place) (old new : Volume
       by_test : Contains (entries_of mid) p → (b : Bool) → (at.folder == id_of p) ≡ b → valence_in p.value ≡ count_in (entries_of is) (id_of p)
       by_test there false differs = other_valence p there differs is_a
       by_test there true same =
-          let it_is : it ≡ p = same_entry new.head.next_catalog_id (entries_of is) shaped_new.ids it p (value_there makes.above value makes.added new makes.counts above_kind shaped_added) stands (id_same ∙ above_at ∙ eqb-true at.folder (id_of p) same) in
+          let it_is : it ≡ p = same_entry new.head.next_catalog_id (entries_of is) shaped_new.ids it p (value_there makes.counts.entry value makes.added new makes.counts.changes above_kind shaped_added) stands (id_same ∙ above_at ∙ eqb-true at.folder (id_of p) same) in
           subst (λ (q : Placed). valence_in q.value ≡ count_in (entries_of is) (id_of q)) it_is it_valence
 
   head_is : new.head ≡ with_made folder old.head
-  head_is = ap (λ (v : VolumeState). v.head) makes.counts.rest ∙ ap (λ (v : VolumeState). v.head) makes.adds.rest
+  head_is = ap (λ (v : VolumeState). v.head) makes.counts.changes.rest ∙ ap (λ (v : VolumeState). v.head) makes.adds.rest
 
   counted_new : AreCounted new.head (entries_of is)
   counted_new = record {
     valences = all_of (λ (q : Placed). is_folder q.value ≡ true → valence_in q.value ≡ count_in (entries_of is) (id_of q)) (entries_of is) valence_new;
-    files = omega (arith, ap (λ (h : VolumeHeader). h.file_count) head_is, if_less folder old.head.file_count, sound.entries.counts.files, counts_new (λ (p : Placed). is_file p.value) makes.counts.changes.alike.kind.1, ap one_if new_is.is_file_);
-    folders = omega (arith, ap (λ (h : VolumeHeader). h.folder_count) head_is, if_more folder old.head.folder_count, sound.entries.counts.folders, counts_new (λ (p : Placed). is_folder p.value) makes.counts.changes.alike.kind.0, ap one_if new_is.is_a);
+    files = omega (arith, ap (λ (h : VolumeHeader). h.file_count) head_is, if_less folder old.head.file_count, sound.entries.counts.files, counts_new (λ (p : Placed). is_file p.value) makes.counts.changes.changes.alike.kind.1, ap one_if new_is.is_file_);
+    folders = omega (arith, ap (λ (h : VolumeHeader). h.folder_count) head_is, if_more folder old.head.folder_count, sound.entries.counts.folders, counts_new (λ (p : Placed). is_folder p.value) makes.counts.changes.changes.alike.kind.0, ap one_if new_is.is_a);
   }
 
   private_is_same : private_id is ≡ private_id was
   private_is_same =
-      value_private makes.above value makes.added new makes.counts above_kind shaped_added
-      ∙ private_as_before entry begun makes.added makes.adds joins no_forks (drawn_before folder path at old new bytes_of no_bytes sound not_private named makes) shaped_begun
+      value_private makes.counts.entry value makes.added new makes.counts.changes above_kind shaped_added
+      ∙ private_as_before entry begun makes.added makes.adds joins no_forks (drawn_before folder path at old new bytes_of are sound not_private named makes) shaped_begun
 
   links_new : (reference : ℕ) → length (links_to is reference) ≡ length (links_to was reference)
   links_new reference =
-      value_links makes.above value makes.added new makes.counts above_kind shaped_added reference
-      ∙ ap length (no_link_more entry begun makes.added makes.adds joins no_forks (drawn_before folder path at old new bytes_of no_bytes sound not_private named makes) shaped_begun reference)
+      value_links makes.counts.entry value makes.added new makes.counts.changes above_kind shaped_added reference
+      ∙ ap length (no_link_more entry begun makes.added makes.adds joins no_forks (drawn_before folder path at old new bytes_of are sound not_private named makes) shaped_begun reference)
 
   link_counts_new : HaveLinkCounts is
-  link_counts_new reference file stands shared = elim (value_cases makes.above value makes.added new makes.counts above_kind shaped_added file stands) [
-    | inl same ↦ absurd (true_or_false (sym (shared_is_file (private_id is) reference file shared) ∙ ap (λ (q : Placed). is_file q.value) same))
+  link_counts_new reference file stands shared = elim (value_cases makes.counts.entry value makes.added new makes.counts.changes above_kind shaped_added file stands) [
+    | inl same ↦ absurd (true_or_false (sym (shared_is_file (private_id is) reference file shared) ∙ ap (λ (q : Placed). is_file q.value) same ∙ makes.counts.changes.changes.alike.kind.1 ∙ folder_is_no_file makes.counts.entry.value above_folder))
     | inr there ↦ elim (old_cases file there) [
       | inl same ↦ absurd (true_or_false (sym (shared_in (private_id is) reference file shared)
-          ∙ (λ i. is_in (private_is_same i) (same i)) ∙ stands_outside folder path at old new bytes_of no_bytes sound not_private named makes joins))
+          ∙ (λ i. is_in (private_is_same i) (same i)) ∙ stands_outside folder path at old new bytes_of are sound not_private named makes joins))
       | inr first ↦ sound.links.counts reference file first (ap (λ private. is_shared private reference file) (sym private_is_same) ∙ shared) ∙ sym (links_new reference)
     ]
   ]
 
   used_new : used_in new ≡ used_in old
   used_new =
-      value_used makes.above value makes.added new makes.counts above_kind shaped_added
-      ∙ used_as_before entry begun makes.added makes.adds joins no_forks (drawn_before folder path at old new bytes_of no_bytes sound not_private named makes) shaped_begun ∙ used_numbered old (with_made folder old.head)
+      value_used makes.counts.entry value makes.added new makes.counts.changes above_kind shaped_added
+      ∙ used_as_before entry begun makes.added makes.adds joins no_forks (drawn_before folder path at old new bytes_of are sound not_private named makes) shaped_begun ∙ used_numbered old (with_made folder old.head)
 
   bits_new : new.bits ≡ old.bits
-  bits_new = ap (λ (v : VolumeState). v.bits) makes.counts.rest ∙ ap (λ (v : VolumeState). v.bits) makes.adds.rest
+  bits_new = ap (λ (v : VolumeState). v.bits) makes.counts.changes.rest ∙ ap (λ (v : VolumeState). v.bits) makes.adds.rest
 
   bits_right : HasBits new
   bits_right = record {
@@ -326,24 +336,24 @@ module _ (folder : Bool) (path : List (List ℕ)) (at : Place) (old new : Volume
 
 -- `mkdir` and `create`: where the step refuses nothing, the lists that the changes lead to are those of a sound volume, and tell the step's
 -- tree
-pub makes_does : (folder : Bool) (path : List (List ℕ)) (at : Place) (old new : VolumeState) (bytes_of : FileRecord → List ℕ) → ((file : FileRecord) → file.data_fork.logical_size ≡ 0 → bytes_of file ≡ [])
+pub makes_does : (folder : Bool) (path : List (List ℕ)) (at : Place) (old new : VolumeState) (bytes_of : FileRecord → List ℕ) → AreBytesOf bytes_of
     → IsSoundVolume old → is_private_path path ≡ false → is_empty (last_name path) ≡ false
     → to_make (tree_in old bytes_of) path ≡ Ok at → MakesEntry folder at old new → IsSoundVolume new × (tree_in new bytes_of ≡ made folder at (tree_in old bytes_of))
-makes_does folder path at old new bytes_of no_bytes sound not_private named allowed makes = (
-  sound_made folder path at old new bytes_of no_bytes sound not_private named makes (joins_made folder path at old new bytes_of no_bytes sound not_private named makes allowed),
-  tree_steps folder path at old new bytes_of no_bytes sound not_private named makes allowed,
+makes_does folder path at old new bytes_of are sound not_private named allowed makes = (
+  sound_made folder path at old new bytes_of are sound not_private named makes (joins_made folder path at old new bytes_of are sound not_private named makes allowed),
+  tree_steps folder path at old new bytes_of are sound not_private named makes allowed,
 )
 
-pub mkdir_does : (path : List (List ℕ)) (at : Place) (old new : VolumeState) (bytes_of : FileRecord → List ℕ) → ((file : FileRecord) → file.data_fork.logical_size ≡ 0 → bytes_of file ≡ [])
+pub mkdir_does : (path : List (List ℕ)) (at : Place) (old new : VolumeState) (bytes_of : FileRecord → List ℕ) → AreBytesOf bytes_of
     → IsSoundVolume old → is_private_path path ≡ false → is_empty (last_name path) ≡ false
     → to_make (tree_in old bytes_of) path ≡ Ok at → MakesEntry true at old new → IsSoundVolume new × (tree_in new bytes_of ≡ (step (tree_in old bytes_of) (command.Mkdir path)).1)
-mkdir_does path at old new bytes_of no_bytes sound not_private named allowed makes =
-    let done = makes_does true path at old new bytes_of no_bytes sound not_private named allowed makes in
+mkdir_does path at old new bytes_of are sound not_private named allowed makes =
+    let done = makes_does true path at old new bytes_of are sound not_private named allowed makes in
     (done.0, done.1 ∙ sym (ap (λ r. (on (tree_in old bytes_of) r (λ x. (reply.Ok, made true x (tree_in old bytes_of)))).1) allowed))
 
-pub create_does : (path : List (List ℕ)) (at : Place) (old new : VolumeState) (bytes_of : FileRecord → List ℕ) → ((file : FileRecord) → file.data_fork.logical_size ≡ 0 → bytes_of file ≡ [])
+pub create_does : (path : List (List ℕ)) (at : Place) (old new : VolumeState) (bytes_of : FileRecord → List ℕ) → AreBytesOf bytes_of
     → IsSoundVolume old → is_private_path path ≡ false → is_empty (last_name path) ≡ false
     → to_make (tree_in old bytes_of) path ≡ Ok at → MakesEntry false at old new → IsSoundVolume new × (tree_in new bytes_of ≡ (step (tree_in old bytes_of) (command.Create path)).1)
-create_does path at old new bytes_of no_bytes sound not_private named allowed makes =
-    let done = makes_does false path at old new bytes_of no_bytes sound not_private named allowed makes in
+create_does path at old new bytes_of are sound not_private named allowed makes =
+    let done = makes_does false path at old new bytes_of are sound not_private named allowed makes in
     (done.0, done.1 ∙ sym (ap (λ r. (on (tree_in old bytes_of) r (λ x. (reply.Ok, made false x (tree_in old bytes_of)))).1) allowed))

@@ -16,7 +16,7 @@ use Rattle.hfs_volume.specs.Records.{Placed, Attribute, placed_of, placed_in, pl
 use Rattle.hfs_volume.specs.Entries.{AreThreaded, HaveIds, AreRooted, IsUserId, IsRoot, LiesIn, is_it, below}
 use Rattle.hfs_volume.specs.Links.{private_id, is_in, IsHidden}
 use Rattle.hfs_volume.specs.TreeOf.{is_hidden, is_under, is_above, is_seen, plain_entry, seen_entry, node_in, threaded_node, parent_of}
-use Rattle.hfs_volume.specs.Changes.{Adds, AddsEntry, Stands, thread_of}
+use Rattle.hfs_volume.specs.Changes.{Adds, AddsEntry, Stands, thread_with}
 use Rattle.hfs_volume.specs.Laws.{one_if, Joins}
 use Rattle.hfs_model.specs.declared.plain.PlainNode.{PlainNode}
 use Rattle.hfs_volume.proofs.Counting.{map_insert, count_insert, count_cons}
@@ -64,8 +64,8 @@ module _ (entry : Placed) (old new : List Pair) (added : AddsEntry entry old new
   pub first_added : Adds entry (placed_in old) (placed_in added.between)
   first_added = placed_added entry added.pair old added.between added.entry_added added.is_entry.stands
 
-  pub then_added : Adds (thread_of entry) (placed_in added.between) (placed_in new)
-  then_added = placed_added (thread_of entry) added.thread added.between new added.thread_added added.is_thread.stands
+  pub then_added : Adds (thread_with added.spare entry) (placed_in added.between) (placed_in new)
+  then_added = placed_added (thread_with added.spare entry) added.thread added.between new added.thread_added added.is_thread.stands
 
   pub one_entry : Adds entry (entries_of (placed_in old)) (entries_of (placed_in new))
   one_entry = entries_added entry (placed_in old) (placed_in added.between) (placed_in new) first_added then_added joins.named

@@ -14,12 +14,12 @@ use Rattle.hfs_volume.specs.Sound.{IsSoundVolume}
 use Rattle.hfs_volume.specs.TreeOf.{is_hidden, is_seen, id_or_0, shared_file, plain_node, node_in}
 use Rattle.hfs_volume.specs.Laws.{IsShaped, MayMove, IsFolderId}
 use Rattle.hfs_volume.specs.Naming.{private_ids, HasPrivate, IsNameOf}
+use Rattle.hfs_volume.proofs.Fields.{BytesBy}
 use Rattle.hfs_volume.proofs.Members.{each_of}
 use Rattle.hfs_volume.proofs.Ranks.{true_or_false}
 use Rattle.hfs_volume.proofs.Hiding.{same_entry}
 use Rattle.hfs_volume.proofs.Fitting.{differs}
 use Rattle.hfs_volume.proofs.Finishing.{sound_is_both}
-use Rattle.hfs_volume.proofs.Marking.{BytesBy}
 use Rattle.hfs_volume.proofs.Named.{IsSeenName}
 use Rattle.hfs_volume.proofs.Folders.{parent_folder, top_is_folder, folder_after_move}
 use Rattle.hfs_volume.proofs.Moving.{moved_shaped, moved_private}

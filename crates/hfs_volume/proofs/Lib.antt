@@ -14,6 +14,7 @@ mod Dropping
 mod DroppingLink
 mod Emptying
 mod EntryWants
+mod Fields
 mod Files
 mod Finishing
 mod Fitting
@@ -35,6 +36,7 @@ mod Making
 mod Marking
 mod Marks
 mod Members
+mod Moding
 mod Moments
 mod Moving
 mod MovingHidden

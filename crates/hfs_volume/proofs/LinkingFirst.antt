@@ -20,6 +20,7 @@ use Rattle.hfs_volume.specs.TreeOf.{tree_in, is_hidden, is_seen, plain_entry, id
 use Rattle.hfs_volume.specs.Laws.{IsShaped, MayAdd, IsFolderId, one_if}
 use Rattle.hfs_volume.specs.Commands.{with_counts, with_fields}
 use Rattle.hfs_volume.specs.Naming.{private_ids, LinksFirst}
+use Rattle.hfs_volume.proofs.Fields.{touched_views, marked_views, dated, redated, special_now, BytesBy}
 use Rattle.hfs_volume.proofs.Members.{at_front, each_of, behind}
 use Rattle.hfs_volume.proofs.Ranks.{true_or_false}
 use Rattle.hfs_volume.proofs.Hiding.{same_entry}
@@ -27,7 +28,6 @@ use Rattle.hfs_volume.proofs.Seeing.{same_number}
 use Rattle.hfs_volume.proofs.Fitting.{not_same}
 use Rattle.hfs_volume.proofs.Finishing.{sound_is_both}
 use Rattle.hfs_volume.proofs.Keeping.{value_changed}
-use Rattle.hfs_volume.proofs.Marking.{BytesBy}
 use Rattle.hfs_volume.proofs.Reaching.{IsFolder}
 use Rattle.hfs_volume.proofs.Sharing.{shared_is, links_it}
 use Rattle.hfs_volume.proofs.Sides.{still_entry, OneMore, entry_cases, the_entry}
@@ -36,7 +36,7 @@ use Rattle.hfs_volume.proofs.Folders.{folder_still}
 use Rattle.hfs_volume.proofs.Adding.{added_side, added_shaped, shared_after, added_hidden, parent_differs, ordinary_private}
 use Rattle.hfs_volume.proofs.AddingSeen.{tree_more_link, tree_first_link}
 use Rattle.hfs_volume.proofs.Accounts.{moves, Account, Debts, no_debts, opened, closed, heads, adds}
-use Rattle.hfs_volume.proofs.Refielding.{recount_account, mark_account, fields_tree, touched_views, marked_views, dated, redated, id_is, there_was, kind_of, moment_is, special_now}
+use Rattle.hfs_volume.proofs.Refielding.{recount_account, mark_account, fields_tree, id_is, there_was, kind_of, moment_is}
 use Rattle.hfs_volume.proofs.Marks.{number_is, private_folder, unlinked_counted, hidden_unseen, private_hidden, shared_hidden}
 use Rattle.hfs_volume.proofs.MovingOver.{from, to, seen_is_outside, same_hidden, unlinked_is, base_is, found_was, not_shared_unlinked}
 use Rattle.hfs_volume.proofs.Telling.{counted_tree, next_is, has_private_is, nodes_are, private_after_fields, entries_are, file_node, private_counts_tree}

@@ -20,6 +20,7 @@ use Rattle.hfs_volume.specs.TreeOf.{tree_in, is_hidden, is_seen, id_or_0, shared
 use Rattle.hfs_volume.specs.Laws.{IsShaped, MayAdd, IsFolderId, one_if}
 use Rattle.hfs_volume.specs.Commands.{with_counts, with_fields}
 use Rattle.hfs_volume.specs.Naming.{LinksMore}
+use Rattle.hfs_volume.proofs.Fields.{touched_views, marked_views, dated, redated, BytesBy}
 use Rattle.hfs_volume.proofs.Members.{at_front, each_of, in_one}
 use Rattle.hfs_volume.proofs.Flat.{found_none, found_some}
 use Rattle.hfs_volume.proofs.Ranks.{true_or_false, node_is_one}
@@ -28,7 +29,6 @@ use Rattle.hfs_volume.proofs.Seeing.{same_number}
 use Rattle.hfs_volume.proofs.Fitting.{not_same}
 use Rattle.hfs_volume.proofs.Finishing.{sound_is_both, shared_is_file}
 use Rattle.hfs_volume.proofs.Keeping.{value_changed}
-use Rattle.hfs_volume.proofs.Marking.{BytesBy}
 use Rattle.hfs_volume.proofs.Reaching.{IsFolder}
 use Rattle.hfs_volume.proofs.Sharing.{shared_is, shared_found, links_it}
 use Rattle.hfs_volume.proofs.Sides.{still_entry}
@@ -38,7 +38,7 @@ use Rattle.hfs_volume.proofs.NodesOf.{nodes_from, node_stands, changed_none}
 use Rattle.hfs_volume.proofs.Adding.{added_side, added_shaped, shared_after, added_hidden, parent_differs}
 use Rattle.hfs_volume.proofs.AddingSeen.{tree_more_link}
 use Rattle.hfs_volume.proofs.Accounts.{Account, Debts, no_debts, opened, closed, heads, adds}
-use Rattle.hfs_volume.proofs.Refielding.{recount_account, mark_account, fields_tree, touched_views, marked_views, dated, redated, id_is, there_was, kind_of, moment_is}
+use Rattle.hfs_volume.proofs.Refielding.{recount_account, mark_account, fields_tree, id_is, there_was, kind_of, moment_is}
 use Rattle.hfs_volume.proofs.Marks.{number_is}
 use Rattle.hfs_volume.proofs.MovingOver.{seen_is_outside}
 use Rattle.hfs_volume.proofs.Telling.{counted_tree, next_is, has_private_is, nodes_are}

@@ -21,7 +21,7 @@ use Rattle.hfs_volume.specs.Content.{VolumeState, records_of, attributes_of}
 use Rattle.hfs_volume.specs.Sound.{IsSoundVolume}
 use Rattle.hfs_volume.specs.TreeOf.{tree_in, seen_entry, plain_node, plain_attributes, plain_attribute, node_in, threaded_node, is_seen, is_linked, id_or_0, shared_file}
 use Rattle.hfs_volume.specs.Changes.{AddsEntry, ChangesValue}
-use Rattle.hfs_volume.specs.Commands.{MakesEntry, IsNewValue, AreNewFields, entry_in, one_more_in, with_made}
+use Rattle.hfs_volume.specs.Commands.{AreBytesOf, MakesEntry, IsNewValue, AreNewFields, entry_in, with_fields, with_made}
 use Rattle.hfs_volume.specs.Laws.{Joins, one_if}
 use Rattle.hfs_model.specs.declared.plain.PlainEntry.{PlainEntry}
 use Rattle.hfs_model.specs.declared.plain.PlainNode.{PlainNode}
@@ -33,7 +33,8 @@ use Rattle.hfs_volume.proofs.Heading.{more_ids}
 use Rattle.hfs_volume.proofs.Threading.{rooted_kept, threads_kept}
 use Rattle.hfs_volume.proofs.Fitting.{differs, first_added, then_added, fits_in, outside, ids_kept, entries_after, nodes_after, is_seen_new}
 use Rattle.hfs_volume.proofs.Reaching.{new_place_is}
-use Rattle.hfs_volume.proofs.Swapping.{Splits, splits, Makes, private_same, entries_seen_same, nodes_seen_changed, entries_split}
+use Rattle.hfs_volume.proofs.Fields.{dated, touched_views, makes_of, not_thread, id_of_fields}
+use Rattle.hfs_volume.proofs.Swapping.{Splits, splits, private_same, entries_seen_same, nodes_seen_changed, entries_split}
 
 pub kept_none : {X : Type 0} (test : X → Bool) (xs : List X) → ((x : X) → Contains xs x → test x ≡ false) → kept test xs ≡ []
 kept_none test [] none = refl
@@ -133,10 +134,10 @@ any_false : {X : Type 0} (test : X → Bool) (xs : List X) → ((x : X) → test
 any_false test [] none = refl
 any_false test (x ∷ xs) none = (λ i. none x i || list_any test xs) ∙ any_false test xs none
 
-module _ (folder : Bool) (path : List (List ℕ)) (at : Place) (old new : VolumeState) (bytes_of : FileRecord → List ℕ) (no_bytes : (file : FileRecord) → file.data_fork.logical_size ≡ 0 → bytes_of file ≡ [])
+module _ (folder : Bool) (path : List (List ℕ)) (at : Place) (old new : VolumeState) (bytes_of : FileRecord → List ℕ) (are : AreBytesOf bytes_of)
     (sound : IsSoundVolume old) (not_private : is_private_path path ≡ false) (named : is_empty (last_name path) ≡ false) (makes : MakesEntry folder at old new) where
   pub facts : NewFacts folder old.head.next_catalog_id old.head.modify_date bytes_of makes.value
-  facts = new_facts folder old.head.next_catalog_id old.head.modify_date bytes_of makes.value no_bytes makes.is_new
+  facts = new_facts folder old.head.next_catalog_id old.head.modify_date bytes_of makes.value are.none makes.is_new
 
   abbrev was : List Placed
   was = records_of old
@@ -170,10 +171,10 @@ module _ (folder : Bool) (path : List (List ℕ)) (at : Place) (old new : Volume
   ids_before = more_ids old.head.next_catalog_id (old.head.next_catalog_id + 1) (omega arith) (entries_of was) sound.entries.ids
 
   attributes_new : attributes_of new ≡ attributes_of old
-  attributes_new = ap attributes_of makes.counts.rest ∙ ap attributes_of makes.adds.rest
+  attributes_new = ap attributes_of makes.counts.changes.rest ∙ ap attributes_of makes.adds.rest
 
-  pub above_id : id_of makes.above ≡ at.folder
-  above_id = ap id_in makes.is_above.0 ∙ makes.is_above.1
+  pub above_id : id_of makes.counts.entry ≡ at.folder
+  above_id = id_of_fields makes.counts.entry.value makes.counts.before makes.counts.has ∙ makes.counts.is_entry
 
   module _ (joins : Joins entry was) where
     rooted_mid : AreRooted (entries_of mid)
@@ -228,24 +229,21 @@ module _ (folder : Bool) (path : List (List ℕ)) (at : Place) (old new : Volume
         (attributes_of old) bytes_of (new_node folder old.head.next_catalog_id moment) node_is_new makes.sorted
 
     abbrev value : CatRecord
-    value = Folder (record { fields = one_more_in old.head.modify_date makes.above_fields })
+    value = with_fields (λ _. makes.counts.after) makes.counts.entry.value
 
-    abbrev parts : Splits makes.above (record makes.above { value = value }) mid (records_of new)
-    parts = placed_splits makes.above value makes.added.catalog_pairs new.catalog_pairs makes.counts.changes
+    abbrev parts : Splits makes.counts.entry (record makes.counts.entry { value = value }) mid (records_of new)
+    parts = placed_splits makes.counts.entry value makes.added.catalog_pairs new.catalog_pairs makes.counts.changes.changes
 
-    above_there : Contains mid makes.above
-    above_there = subst (λ l. Contains l makes.above) (sym parts.was) (Contains-append_right parts.front (makes.above ∷ parts.back) makes.above (at_front makes.above parts.back))
+    above_there : Contains mid makes.counts.entry
+    above_there = subst (λ l. Contains l makes.counts.entry) (sym parts.was) (Contains-append_right parts.front (makes.counts.entry ∷ parts.back) makes.counts.entry (at_front makes.counts.entry parts.back))
 
-    above_named : is_empty makes.above.name ≡ false
-    above_named = sym (each_of (λ (p : Placed). is_thread p.value ≡ is_empty p.name) mid threads_mid.kinds makes.above above_there) ∙ ap is_thread makes.is_above.0
+    above_named : is_empty makes.counts.entry.name ≡ false
+    above_named = sym (each_of (λ (p : Placed). is_thread p.value ≡ is_empty p.name) mid threads_mid.kinds makes.counts.entry above_there) ∙ not_thread makes.counts.entry.value makes.counts.before makes.counts.has
 
-    touch : PlainNode → PlainNode
-    touch node = record node { changed = old.head.modify_date; attribute = old.head.modify_date }
-
-    is_alone : (p : Placed) → Contains (entries_of parts.front ++ entries_of parts.back) p → (id_of p == id_of makes.above) ≡ false
+    is_alone : (p : Placed) → Contains (entries_of parts.front ++ entries_of parts.back) p → (id_of p == id_of makes.counts.entry) ≡ false
     is_alone p stands =
-        alone_in (λ (q : Placed). id_of q == id_of makes.above) makes.above (entries_of parts.front) (entries_of parts.back) (same_number (id_of makes.above))
-        (subst (λ l. count_by (λ (q : Placed). id_of q == id_of makes.above) l ≤ 1) (ap entries_of parts.was ∙ entries_split makes.above value parts.front parts.back above_named makes.counts.changes.alike makes.above above_named) (ids_mid.distinct (id_of makes.above)))
+        alone_in (λ (q : Placed). id_of q == id_of makes.counts.entry) makes.counts.entry (entries_of parts.front) (entries_of parts.back) (same_number (id_of makes.counts.entry))
+        (subst (λ l. count_by (λ (q : Placed). id_of q == id_of makes.counts.entry) l ≤ 1) (ap entries_of parts.was ∙ entries_split makes.counts.entry value parts.front parts.back above_named makes.counts.changes.changes.alike makes.counts.entry above_named) (ids_mid.distinct (id_of makes.counts.entry)))
         p stands
 
     abbrev entries_ : List Placed → List PlainEntry
@@ -256,28 +254,27 @@ module _ (folder : Bool) (path : List (List ℕ)) (at : Place) (old new : Volume
 
     entries_new : entries_ (records_of new) ≡ put_before entry_before new_entry (entries_ was)
     entries_new =
-        ap entries_ parts.is ∙ entries_seen_same makes.above value parts.front parts.back above_named makes.counts.changes.alike ∙ sym (ap entries_ parts.was) ∙ entries_mid
+        ap entries_ parts.is ∙ entries_seen_same makes.counts.entry value parts.front parts.back above_named makes.counts.changes.changes.alike ∙ sym (ap entries_ parts.was) ∙ entries_mid
 
     nodes_new : nodes_ (records_of new)
-        ≡ map (λ node. if is_node at.folder node then touch node else node) (put_before node_before (new_node folder old.head.next_catalog_id moment) (nodes_ was))
-    unfolding touch
+        ≡ map (λ node. if is_node at.folder node then (dated moment) node else node) (put_before node_before (new_node folder old.head.next_catalog_id moment) (nodes_ was))
     nodes_new =
         ap nodes_ parts.is
-        ∙ nodes_seen_changed makes.above value parts.front parts.back above_named makes.counts.changes.alike (attributes_of old) bytes_of touch is_alone
-        (subst (λ v. Makes (attributes_of old) bytes_of touch v value) (sym makes.is_above.0) refl)
-        ∙ (λ i. map (λ node. if is_node (above_id i) node then touch node else node) (sym (ap nodes_ parts.was) i))
-        ∙ ap (map (λ node. if is_node at.folder node then touch node else node)) nodes_mid
+        ∙ nodes_seen_changed makes.counts.entry value parts.front parts.back above_named makes.counts.changes.changes.alike (attributes_of old) bytes_of (dated moment) is_alone
+        (makes_of (attributes_of old) bytes_of are.by_fork (dated moment) makes.counts.before makes.counts.after (touched_views moment 1 0 makes.counts.before makes.counts.after makes.counts.fields) makes.counts.fields.id makes.counts.entry.value makes.counts.has)
+        ∙ (λ i. map (λ node. if is_node (above_id i) node then (dated moment) node else node) (sym (ap nodes_ parts.was) i))
+        ∙ ap (map (λ node. if is_node at.folder node then (dated moment) node else node)) nodes_mid
 
     private_new : private_id (records_of new) ≡ private_id was
     private_new =
-        ap private_id parts.is ∙ private_same makes.above value parts.front parts.back above_named makes.counts.changes.alike ∙ sym (ap private_id parts.was)
+        ap private_id parts.is ∙ private_same makes.counts.entry value parts.front parts.back above_named makes.counts.changes.changes.alike ∙ sym (ap private_id parts.was)
         ∙ private_mid
 
     pub head_new : new.head ≡ with_made folder old.head
-    head_new = ap (λ (v : VolumeState). v.head) makes.counts.rest ∙ ap (λ (v : VolumeState). v.head) makes.adds.rest
+    head_new = ap (λ (v : VolumeState). v.head) makes.counts.changes.rest ∙ ap (λ (v : VolumeState). v.head) makes.adds.rest
 
     pub tree_made : tree_in new bytes_of ≡ made folder at (tree_in old bytes_of)
-    unfolding tree_in touch new_entry
+    unfolding tree_in new_entry
     tree_made = λ i. record {
       entries = entries_new i;
       nodes = ((λ j. flat_map (threaded_node (attributes_new j) (records_of new) bytes_of) (records_of new)) ∙ nodes_new) i;

@@ -1,25 +1,19 @@
 -- Other fields of a folder or file: a sound volume stays sound, and the tree has them in its node.
-use Rattle.std.proofs.Common.{◌≡◌, ℕ, ◌+◌, ◌*◌, ◌/◌, ◌%◌, ◌<◌, ◌≤◌, Bool, true, false, List, [], ◌∷◌, ◌++◌, map, inl, inr, refl, sym, ◌∙◌, ap, subst, arith}
-use Rattle.std.specs.Prelude.{Contains, ◌==◌, count_by, slice_index_or, Ok, is_some, if◌then◌else◌}
+use Rattle.std.proofs.Common.{◌≡◌, ℕ, ◌+◌, ◌<◌, ◌≤◌, Bool, true, false, List, [], ◌∷◌, ◌++◌, map, inl, inr, refl, sym, ◌∙◌, ap, subst}
+use Rattle.std.specs.Prelude.{Contains, ◌==◌, count_by, slice_index_or, is_some, if◌then◌else◌}
 use Rattle.std.specs.List.{flat_map}
 use Rattle.volume_header.specs.declared.header.VolumeHeader.{VolumeHeader}
-use Rattle.cat_records.specs.declared.record.EntryFields.{EntryFields}
 use Rattle.cat_records.specs.declared.record.FileRecord.{FileRecord}
 use Rattle.cat_records.specs.declared.record.CatRecord.{CatRecord}
-use Rattle.cat_records.specs.declared.record.CatRecord.TheVariants.{Folder, File, Thread}
-use Rattle.hfs_language.specs.declared.command.Command.TheVariants as command
-use Rattle.hfs_language.specs.declared.reply.Reply.TheVariants as reply
-use Rattle.hfs_model.specs.Step.{step, on, to_node, marked}
 use Rattle.hfs_model.specs.Plain.{is_node, with_changed}
-use Rattle.hfs_volume.specs.Records.{Placed, Attribute, entries_of, id_of, is_folder, is_file, is_thread, valence_in, special_of}
+use Rattle.hfs_volume.specs.Records.{Placed, entries_of, id_of, is_folder, is_file, is_thread, valence_in, special_of}
 use Rattle.hfs_volume.specs.Entries.{AreCounted, count_in}
 use Rattle.hfs_volume.specs.Links.{private_id, is_shared, is_shared_file, HaveLinkCounts}
 use Rattle.hfs_volume.specs.Content.{VolumeState, records_of, attributes_of}
 use Rattle.hfs_volume.specs.Blocks.{is_among, count_used, HasBits}
 use Rattle.hfs_volume.specs.Sound.{IsSoundVolume}
-use Rattle.hfs_volume.specs.TreeOf.{tree_in, seen_entry, plain_node, threaded_node}
+use Rattle.hfs_volume.specs.TreeOf.{tree_in, seen_entry, threaded_node}
 use Rattle.hfs_volume.specs.Changes.{ChangesValue, InCatalog}
-use Rattle.hfs_volume.specs.Commands.{ChangesMode, with_fields, with_mode}
 use Rattle.hfs_volume.specs.Laws.{IsShaped}
 use Rattle.hfs_model.specs.declared.plain.PlainNode.{PlainNode}
 use Rattle.hfs_volume.proofs.Members.{all_of, each_of}
@@ -114,8 +108,6 @@ module _ (entry : Placed) (value : CatRecord) (old new : VolumeState) (changes :
         moment = (ap (λ (v : VolumeState). v.head) changes.rest i).modify_date;
       }
 
--- ---- chmod
-
 -- two changes of one node are one
 pub twice : (id : ℕ) (first second : PlainNode → PlainNode) → ((node : PlainNode) → (first node).id ≡ node.id) → (nodes : List PlainNode)
     → map (λ node. if is_node id node then second node else node) (map (λ node. if is_node id node then first node else node) nodes) ≡ map (λ node. if is_node id node then second (first node) else node) nodes
@@ -125,50 +117,3 @@ twice id first second same (node ∷ nodes) = λ i. by_test (is_node id node) re
     by_test : (b : Bool) → is_node id node ≡ b → (if is_node id (if b then first node else node) then second (if b then first node else node) else (if b then first node else node)) ≡ (if b then second (first node) else node)
     by_test true is = ap (λ c. if c then second (first node) else first node) (ap (λ n. n == id) (same node) ∙ is)
     by_test false is = ap (λ c. if c then second node else node) is
-
-new_mode : (old mode : ℕ) → mode < 4096 → (old / 4096 * 4096 + mode) % 4096 ≡ mode
-new_mode old mode low = omega (arith, low)
-
-valence_kept : (change : EntryFields → EntryFields) → ((fields : EntryFields) → (change fields).count ≡ fields.count) → (v : CatRecord) → valence_in (with_fields change v) ≡ valence_in v
-valence_kept change same (Folder f) = same f.fields
-valence_kept change same (File f) = refl
-valence_kept change same (Thread f) = refl
-
-special_kept : (change : EntryFields → EntryFields) → ((fields : EntryFields) → (change fields).special ≡ fields.special) → (parent : ℕ) (name : List ℕ) (v : CatRecord)
-    → special_of (record { parent = parent; name = name; value = with_fields change v }) ≡ special_of (record { parent = parent; name = name; value = v })
-special_kept change same parent name (Folder f) = same f.fields
-special_kept change same parent name (File f) = same f.fields
-special_kept change same parent name (Thread f) = refl
-
--- the bytes of a file are told by its CNID and its data fork
-abbrev pub BytesBy : (FileRecord → List ℕ) → Type 0
-BytesBy bytes_of = (file : FileRecord) (fields : EntryFields) → fields.id ≡ file.fields.id → bytes_of (record file { fields = fields }) ≡ bytes_of file
-
-abbrev moded : ℕ → ℕ → PlainNode → PlainNode
-moded mode moment node = record node { mode = mode; attribute = moment }
-
-mode_makes : (attributes : List Attribute) (bytes_of : FileRecord → List ℕ) (mode moment : ℕ) → BytesBy bytes_of → mode < 4096 → (v : CatRecord) → Makes attributes bytes_of (moded mode moment) v (with_fields (with_mode mode moment) v)
-mode_makes attributes bytes_of mode moment same low (Folder f) = λ i. record (plain_node attributes f.fields true [] false) { mode = sym (new_mode f.fields.mode mode low) i; attribute = moment }
-mode_makes attributes bytes_of mode moment same low (File f) =
-    λ linked. λ i. record (plain_node attributes f.fields false (sym (same f (with_mode mode moment f.fields) refl) i) linked) { mode = sym (new_mode f.fields.mode mode low) i; attribute = moment }
-mode_makes attributes bytes_of mode moment same low (Thread f) = tt
-
-chmod_tree : (volume : VolumeState) (bytes_of : FileRecord → List ℕ) (id mode : ℕ)
-    → with_changed id (moded mode volume.head.modify_date) (tree_in volume bytes_of) ≡ marked id (with_changed id (λ before. record before { mode = mode }) (tree_in volume bytes_of))
-unfolding tree_in
-chmod_tree volume bytes_of id mode = λ i. record (tree_in volume bytes_of) {
-  nodes = sym (twice id (λ one. record one { mode = mode }) (λ one. record one { attribute = volume.head.modify_date }) (λ one. refl) (tree_in volume bytes_of).nodes) i;
-}
-
--- `chmod`
-pub chmod_does : (path : List (List ℕ)) (mode : ℕ) (node : PlainNode) (old new : VolumeState) (bytes_of : FileRecord → List ℕ) → BytesBy bytes_of
-    → mode < 4096 → IsSoundVolume old → to_node (tree_in old bytes_of) path ≡ Ok node → ChangesMode node.id mode old new
-    → IsSoundVolume new × (tree_in new bytes_of ≡ (step (tree_in old bytes_of) (command.Chmod path mode)).1)
-chmod_does path mode node old new bytes_of same_bytes low sound allowed does =
-    let change = with_mode mode old.head.modify_date in (
-      value_sound does.entry (with_fields change does.entry.value) old new does.changes does.is_entry.0 sound (valence_kept change (λ fields. refl) does.entry.value) (special_kept change (λ fields. refl) does.entry.parent does.entry.name does.entry.value),
-      value_tree does.entry (with_fields change does.entry.value) old new does.changes does.is_entry.0 ((sound_is_both old).0 sound).0 bytes_of (moded mode old.head.modify_date) (mode_makes (attributes_of old) bytes_of mode old.head.modify_date same_bytes low does.entry.value)
-          ∙ ap (λ id. with_changed id (moded mode old.head.modify_date) (tree_in old bytes_of)) does.is_entry.1
-          ∙ chmod_tree old bytes_of node.id mode
-          ∙ sym (ap (λ r. (on (tree_in old bytes_of) r (λ one. (reply.Ok, marked one.id (with_changed one.id (λ before. record before { mode = mode }) (tree_in old bytes_of))))).1) allowed),
-    )

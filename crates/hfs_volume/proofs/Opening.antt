@@ -12,6 +12,7 @@ use Rattle.hfs_volume.specs.TreeOf.{tree_in, is_hidden, is_seen, plain_attribute
 use Rattle.hfs_volume.specs.Laws.{IsShaped, MayAdd, IsFirstPrivate, IsFolderId, one_if}
 use Rattle.hfs_volume.specs.Commands.{IsRecountedAlone, ChangesFields, with_fields}
 use Rattle.hfs_volume.specs.Naming.{HasPrivate, MakesPrivate, private_ids}
+use Rattle.hfs_volume.proofs.Fields.{Views, BytesBy}
 use Rattle.hfs_volume.proofs.Flat.{none_or_some}
 use Rattle.hfs_volume.proofs.Ranks.{true_or_false}
 use Rattle.hfs_volume.proofs.Reaching.{seen_shows, shows_seen}
@@ -19,14 +20,13 @@ use Rattle.hfs_volume.proofs.Making.{NewFacts, new_facts}
 use Rattle.hfs_volume.proofs.Finishing.{new_forks, no_overflow, shared_is_file}
 use Rattle.hfs_volume.proofs.Keeping.{parts, entry_named, entry_still, value_private, value_cases, value_was}
 use Rattle.hfs_volume.proofs.Swapping.{hidden_same}
-use Rattle.hfs_volume.proofs.Marking.{BytesBy}
 use Rattle.hfs_volume.proofs.Sides.{still_entry, entry_cases}
 use Rattle.hfs_volume.proofs.NodesOf.{changed_none}
 use Rattle.hfs_volume.proofs.Adding.{added_side, added_shaped, added_hidden, first_private}
 use Rattle.hfs_volume.proofs.AddingSeen.{tree_private}
 use Rattle.hfs_volume.proofs.Folders.{folder_still}
 use Rattle.hfs_volume.proofs.Accounts.{Debts, Account, resettled, adds}
-use Rattle.hfs_volume.proofs.Refielding.{Views, recount_account, fields_tree, kind_of, id_is}
+use Rattle.hfs_volume.proofs.Refielding.{recount_account, fields_tree, kind_of, id_is}
 use Rattle.hfs_volume.specs.Changes.{ChangesValue, InCatalog}
 
 -- fields of which users see nothing else

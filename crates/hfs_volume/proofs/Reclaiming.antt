@@ -1,18 +1,15 @@
 -- The last steps of an orphan's removal on the lists of a sound volume.
-use Rattle.std.proofs.Common.{◌≡◌, ◌⊎◌, ℕ, ◌+◌, ◌-◌, ◌*◌, ◌≤◌, Bool, true, false, List, [], inl, inr, refl, sym, ◌∙◌, ap, subst, arith}
+use Rattle.std.proofs.Common.{◌≡◌, ◌⊎◌, ℕ, ◌+◌, ◌-◌, ◌≤◌, Bool, true, false, List, [], inl, inr, refl, sym, ◌∙◌, ap, subst, arith}
 use Rattle.std.specs.Prelude.{Contains, ◌==◌, ◌&&◌, not, Option, None, Some, codes, drop}
-use Rattle.std.specs.Str.{bytes_eq}
 use Rattle.std.specs.Str.Parse.{digits_value}
 use Rattle.std.proofs.lemmas.Bool.{eqb-true}
 use Rattle.std.proofs.lemmas.Slice.Eq.{bytes_eq-Decides}
-use Rattle.btree_node.specs.Levels.{Pair}
 use Rattle.volume_header.specs.declared.header.VolumeHeader.{VolumeHeader}
 use Rattle.cat_records.specs.declared.record.FileRecord.{FileRecord}
 use Rattle.cat_records.specs.declared.record.CatRecord.{CatRecord}
 use Rattle.cat_records.specs.declared.record.CatRecord.TheVariants.{Folder, File, Thread}
 use Rattle.hfs_model.specs.Step.{is_private_name}
 use Rattle.hfs_model.specs.declared.plain.PlainNode.{PlainNode}
-use Rattle.hfs_model.specs.declared.plain.PlainTree.{PlainTree}
 use Rattle.hfs_model.specs.Plain.{without_attribute}
 use Rattle.hfs_volume.specs.Records.{Placed, Attribute, entries_of, id_of, is_folder, is_file, is_link, is_numbered, special_of, valence_in, is_empty, is_thread}
 use Rattle.hfs_volume.specs.Entries.{IsUserId, IsRoot, LiesIn, count_in}
@@ -21,18 +18,18 @@ use Rattle.hfs_volume.specs.Blocks.{HasSizes, GoesOn}
 use Rattle.hfs_volume.specs.Links.{private_id, is_in, is_in_private, is_shared_file, is_orphan, orphans_of}
 use Rattle.hfs_volume.specs.Content.{VolumeState, records_of, overflow_in_volume, attributes_of}
 use Rattle.hfs_volume.specs.Sound.{IsSoundVolume}
-use Rattle.hfs_volume.specs.TreeOf.{tree_in, is_hidden, is_seen, is_linked, node_in}
+use Rattle.hfs_volume.specs.TreeOf.{tree_in, is_seen, node_in}
 use Rattle.hfs_volume.specs.Laws.{IsShaped, MayAdd, MayDrop, IsFolderId, AreEmptyForks, is_own, one_if}
-use Rattle.hfs_volume.specs.Changes.{AreSorted, AddsEntry, DropsEntry, InCatalog}
+use Rattle.hfs_volume.specs.Changes.{AddsEntry, InCatalog}
 use Rattle.hfs_volume.specs.Commands.{with_counts}
 use Rattle.hfs_volume.specs.Naming.{one_file_less, orphan_name}
 use Rattle.hfs_volume.specs.Reclaiming.{DropsOrphanEntry, OrphanDropped, OrphanBared}
+use Rattle.hfs_volume.proofs.Fields.{valence_now, BytesBy}
 use Rattle.hfs_volume.proofs.Members.{kept_cases, each_of, all_of}
 use Rattle.hfs_volume.proofs.Ranks.{true_or_false}
 use Rattle.hfs_volume.proofs.Hiding.{same_entry, one_there}
 use Rattle.hfs_volume.proofs.Seeing.{same_number}
 use Rattle.hfs_volume.proofs.Fitting.{differs}
-use Rattle.hfs_volume.proofs.Marking.{BytesBy}
 use Rattle.hfs_volume.proofs.Finishing.{sound_is_both}
 use Rattle.hfs_volume.proofs.Sharing.{four, shared_is}
 use Rattle.hfs_volume.proofs.Folders.{parent_folder, lies_in_folder}
@@ -45,7 +42,7 @@ use Rattle.hfs_volume.proofs.AddingSeen.{tree_unseen}
 use Rattle.hfs_volume.proofs.Trees.{nodes_over}
 use Rattle.hfs_volume.proofs.NodesOf.{nodes_from, changed_none}
 use Rattle.hfs_volume.proofs.Accounts.{Account, Debts, no_debts, opened, closed, heads, drops}
-use Rattle.hfs_volume.proofs.Refielding.{recount_account, id_is, there_was, folder_is, valence_now}
+use Rattle.hfs_volume.proofs.Refielding.{recount_account, id_is, there_was, folder_is}
 use Rattle.hfs_volume.proofs.Telling.{counted_tree, next_is, private_counts_tree}
 use Rattle.hfs_volume.proofs.Attributing.{bared_tree, each_without, attributes_account}
 

@@ -1,5 +1,5 @@
 -- Other fields of a folder or file: what they do to the tree and to the accounts of a command.
-use Rattle.std.proofs.Common.{◌≡◌, ℕ, ◌+◌, ◌-◌, ◌*◌, ◌≤◌, Bool, true, false, List, [], ◌∷◌, ◌++◌, refl, sym, ◌∙◌, ap, subst, arith}
+use Rattle.std.proofs.Common.{◌≡◌, ℕ, ◌+◌, ◌-◌, ◌*◌, ◌≤◌, true, false, List, [], ◌∷◌, ◌++◌, refl, sym, ◌∙◌, ap, subst, arith}
 use Rattle.std.specs.Prelude.{Contains, ◌==◌}
 use Rattle.std.specs.List.{AllByRecursion}
 use Rattle.std.specs.Ordering.{is_lt, nat_cmp, ordering_then}
@@ -7,27 +7,25 @@ use Rattle.std.specs.Cmp.Lexicographic.{slice_cmp}
 use Rattle.cat_records.specs.declared.record.EntryFields.{EntryFields}
 use Rattle.cat_records.specs.declared.record.FileRecord.{FileRecord}
 use Rattle.cat_records.specs.declared.record.CatRecord.{CatRecord}
-use Rattle.cat_records.specs.declared.record.CatRecord.TheVariants.{Folder, File, Thread}
 use Rattle.hfs_model.specs.Sorted.{IsInOrder}
 use Rattle.hfs_model.specs.Plain.{with_changed}
-use Rattle.hfs_volume.specs.Records.{Placed, Attribute, placed_before, entries_of, id_of, id_in, is_folder, is_file, is_thread, valence_in, special_of}
+use Rattle.hfs_volume.specs.Records.{Placed, placed_before, entries_of, id_of, is_folder, is_thread}
 use Rattle.hfs_volume.specs.Links.{is_shared_file, private_id}
 use Rattle.hfs_volume.specs.Content.{VolumeState, records_of, attributes_of}
-use Rattle.hfs_volume.specs.TreeOf.{tree_in, plain_node, plain_attributes}
+use Rattle.hfs_volume.specs.TreeOf.{tree_in}
 use Rattle.hfs_volume.specs.Changes.{AreSorted, ChangesValue, InCatalog}
-use Rattle.hfs_volume.specs.Commands.{HasFields, ChangesFields, IsTouched, IsMarked, with_fields}
+use Rattle.hfs_volume.specs.Commands.{ChangesFields, with_fields}
 use Rattle.hfs_volume.specs.Laws.{IsShaped, one_if, IsFolderId}
 use Rattle.hfs_model.specs.declared.plain.PlainNode.{PlainNode}
 use Rattle.hfs_model.specs.declared.plain.PlainTree.{PlainTree}
-use Rattle.hfs_volume.proofs.Ranks.{true_or_false}
+use Rattle.hfs_volume.proofs.Fields.{BytesBy, Views, dated, redated, makes_of, not_thread, id_of_fields, valence_now, file_no_folder, special_now, valence_same}
 use Rattle.hfs_volume.proofs.Hiding.{same_entry}
 use Rattle.hfs_volume.proofs.Finishing.{shared_is_file}
 use Rattle.hfs_volume.proofs.Keeping.{value_was}
-use Rattle.hfs_volume.proofs.Marking.{BytesBy, value_tree}
+use Rattle.hfs_volume.proofs.Marking.{value_tree}
 use Rattle.hfs_volume.proofs.Making.{placed_splits}
-use Rattle.hfs_volume.proofs.Swapping.{Makes}
 use Rattle.hfs_volume.proofs.Accounts.{Debts, Account, changes_value}
-use Rattle.hfs_model.specs.Step.{front, linked, marked, touched}
+use Rattle.hfs_model.specs.Step.{front, marked, touched}
 
 -- ---- order
 
@@ -55,54 +53,6 @@ sorted_still entry value old new changes sorted =
     subst (IsInOrder placed_before) (sym parts.is) (order_swap entry (record entry { value = value }) parts.front parts.back refl refl (subst (IsInOrder placed_before) parts.was sorted))
 
 -- ---- the tree
-
--- a change of nodes makes of the node with the first fields that with the second ones
-abbrev pub Views : (PlainNode → PlainNode) → EntryFields → EntryFields → Type 0
-Views change before after = (attributes : List Attribute) (folder : Bool) (bytes : List ℕ) (linked : Bool) → change (plain_node attributes before folder bytes linked) ≡ plain_node attributes after folder bytes linked
-
-abbrev pub dated : ℕ → PlainNode → PlainNode
-dated moment node = record node { changed = moment; attribute = moment }
-
-abbrev pub redated : ℕ → PlainNode → PlainNode
-redated moment node = record node { attribute = moment }
-
-pub touched_views : (moment up down : ℕ) (before after : EntryFields) → IsTouched moment up down before after → Views (dated moment) before after
-touched_views moment up down before after is attributes folder bytes linked = λ i. record (plain_node attributes before folder bytes linked) {
-  id = sym is.id i;
-  mode = sym is.mode i;
-  created = sym is.created i;
-  changed = sym is.changed i;
-  attribute = sym is.attribute i;
-  attributes = plain_attributes attributes (sym is.id i);
-}
-
-pub marked_views : (moment : ℕ) (before after : EntryFields) → IsMarked moment before after → Views (redated moment) before after
-marked_views moment before after is attributes folder bytes linked = λ i. record (plain_node attributes before folder bytes linked) {
-  id = sym is.id i;
-  mode = sym is.mode i;
-  created = sym is.created i;
-  changed = sym is.changed i;
-  attribute = sym is.attribute i;
-  attributes = plain_attributes attributes (sym is.id i);
-}
-
-makes_of : (attributes : List Attribute) (bytes_of : FileRecord → List ℕ) → BytesBy bytes_of → (change : PlainNode → PlainNode) (before after : EntryFields) → Views change before after → after.id ≡ before.id
-    → (value : CatRecord) → HasFields value before → Makes attributes bytes_of change value (with_fields (λ _. after) value)
-makes_of attributes bytes_of same change before after views id (Folder f) has = ap (λ (e : EntryFields). change (plain_node attributes e true [] false)) has ∙ views attributes true [] false
-makes_of attributes bytes_of same change before after views id (File f) has =
-    λ linked. ap (λ (e : EntryFields). change (plain_node attributes e false (bytes_of f) linked)) has ∙ views attributes false (bytes_of f) linked
-    ∙ ap (λ bytes. plain_node attributes after false bytes linked) (sym (same f after (id ∙ ap (λ (e : EntryFields). e.id) (sym has))))
-makes_of attributes bytes_of same change before after views id (Thread f) has = absurd has
-
-pub not_thread : (value : CatRecord) (fields : EntryFields) → HasFields value fields → is_thread value ≡ false
-not_thread (Folder f) fields has = refl
-not_thread (File f) fields has = refl
-not_thread (Thread f) fields has = absurd has
-
-pub id_of_fields : (value : CatRecord) (fields : EntryFields) → HasFields value fields → id_in value ≡ fields.id
-id_of_fields (Folder f) fields has = ap (λ (e : EntryFields). e.id) has
-id_of_fields (File f) fields has = ap (λ (e : EntryFields). e.id) has
-id_of_fields (Thread f) fields has = absurd has
 
 module _ {Changes : EntryFields → EntryFields → Type 0} (id : ℕ) (old new : VolumeState) (does : ChangesFields id Changes old new) where
   pub kind_of : is_thread does.entry.value ≡ false
@@ -138,16 +88,6 @@ moment_is volume bytes_of = refl
 
 -- ---- the accounts
 
-pub valence_now : (value : CatRecord) (before after : EntryFields) → HasFields value before → is_folder value ≡ true → (valence_in value ≡ before.count) × (valence_in (with_fields (λ _. after) value) ≡ after.count)
-valence_now (Folder f) before after has is = (ap (λ (e : EntryFields). e.count) has, refl)
-valence_now (File f) before after has is = absurd (true_or_false (sym is))
-valence_now (Thread f) before after has is = absurd has
-
-pub file_no_folder : (value : CatRecord) → is_folder value ≡ true → is_file value ≡ true → ⊥
-file_no_folder (Folder f) folder file = true_or_false (sym file)
-file_no_folder (File f) folder file = true_or_false (sym folder)
-file_no_folder (Thread f) folder file = true_or_false (sym folder)
-
 -- a folder counts more or fewer entries
 pub recount_account : {Changes : EntryFields → EntryFields → Type 0} (start old new : VolumeState) (debts : Debts) (id up down : ℕ) → Account start old debts → (does : ChangesFields id Changes old new) → IsFolderId (entries_of (records_of old)) id
     → does.after.count ≡ does.before.count + up - down → down ≤ does.before.count + up
@@ -164,18 +104,6 @@ recount_account start old new debts id up down account does folder count enough 
     changes_value start old new debts account does.entry value does.changes (kind_of id old new does) (sorted_still does.entry value old new does.changes account.sorted) up down 0 0
     (omega (arith, counts.0, counts.1, count, enough))
     (λ reference shared. absurd (file_no_folder does.entry.value is_a (shared_is_file (private_id (records_of old)) reference does.entry shared)))
-
--- the special word of a folder or file
-pub special_now : (parent : ℕ) (name : List ℕ) (value : CatRecord) (before after : EntryFields) → HasFields value before
-    → (special_of (record { parent = parent; name = name; value = value }) ≡ before.special) × (special_of (record { parent = parent; name = name; value = with_fields (λ _. after) value }) ≡ after.special)
-special_now parent name (Folder f) before after has = (ap (λ (e : EntryFields). e.special) has, refl)
-special_now parent name (File f) before after has = (ap (λ (e : EntryFields). e.special) has, refl)
-special_now parent name (Thread f) before after has = absurd has
-
-valence_same : (value : CatRecord) (before after : EntryFields) → HasFields value before → after.count ≡ before.count → valence_in (with_fields (λ _. after) value) ≡ valence_in value
-valence_same (Folder f) before after has same = same ∙ ap (λ (e : EntryFields). e.count) (sym has)
-valence_same (File f) before after has same = refl
-valence_same (Thread f) before after has same = absurd has
 
 -- a folder or file is marked, and its special word counts more or fewer links
 pub mark_account : (start old new : VolumeState) (debts : Debts) {Changes : EntryFields → EntryFields → Type 0} (id up down : ℕ) → Account start old debts → (does : ChangesFields id Changes old new)

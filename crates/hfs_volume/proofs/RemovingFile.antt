@@ -18,18 +18,18 @@ use Rattle.hfs_volume.specs.TreeOf.{tree_in, plain_entry, plain_node}
 use Rattle.hfs_volume.specs.Laws.{IsShaped, IsFolderId, one_if}
 use Rattle.hfs_volume.specs.Commands.{with_counts}
 use Rattle.hfs_volume.specs.Naming.{RemovesFile, private_ids, orphan_name}
+use Rattle.hfs_volume.proofs.Fields.{touched_views, dated, valence_now, BytesBy}
 use Rattle.hfs_volume.proofs.Members.{kept_cases}
 use Rattle.hfs_volume.proofs.Ranks.{true_or_false}
 use Rattle.hfs_volume.proofs.Seeing.{same_number}
 use Rattle.hfs_volume.proofs.Fitting.{differs, none_counted}
-use Rattle.hfs_volume.proofs.Marking.{BytesBy}
 use Rattle.hfs_volume.proofs.Sharing.{shared_is}
 use Rattle.hfs_volume.proofs.Named.{IsSeenName}
 use Rattle.hfs_volume.proofs.Folders.{folder_still}
 use Rattle.hfs_volume.proofs.MovingHidden.{tree_hidden}
 use Rattle.hfs_volume.proofs.Accounts.{Account, no_debts, opened, closed, heads, moves}
 use Rattle.hfs_volume.proofs.Opening.{opened_tree}
-use Rattle.hfs_volume.proofs.Refielding.{recount_account, fields_tree, touched_views, dated, id_is, there_was, folder_is, valence_now, moment_is}
+use Rattle.hfs_volume.proofs.Refielding.{recount_account, fields_tree, id_is, there_was, folder_is, moment_is}
 use Rattle.hfs_volume.proofs.Marks.{private_folder, private_hidden, orphan_no_node}
 use Rattle.hfs_volume.proofs.Telling.{counted_tree, next_is, has_private_is, entries_are, private_counts_tree, other_names}
 use Rattle.hfs_volume.proofs.Sides.{is_entry_of}

@@ -16,6 +16,7 @@ use Rattle.hfs_volume.specs.TreeOf.{tree_in, is_hidden, is_seen, plain_entry, id
 use Rattle.hfs_volume.specs.Laws.{IsShaped, MayMove, IsFolderId, one_if}
 use Rattle.hfs_volume.specs.Commands.{with_fields}
 use Rattle.hfs_volume.specs.Naming.{orphan_name, RemovesLastLink}
+use Rattle.hfs_volume.proofs.Fields.{touched_views, dated, valence_now, file_no_folder, BytesBy}
 use Rattle.hfs_volume.proofs.Members.{each_of}
 use Rattle.hfs_volume.proofs.Flat.{some_same}
 use Rattle.hfs_volume.proofs.Ranks.{true_or_false}
@@ -23,14 +24,13 @@ use Rattle.hfs_volume.proofs.Hiding.{same_entry}
 use Rattle.hfs_volume.proofs.Seeing.{same_number}
 use Rattle.hfs_volume.proofs.Fitting.{differs, none_counted}
 use Rattle.hfs_volume.proofs.Finishing.{shared_is_file}
-use Rattle.hfs_volume.proofs.Marking.{BytesBy}
 use Rattle.hfs_volume.proofs.Sharing.{shared_is, IsShared, links_it, shared_found}
 use Rattle.hfs_volume.proofs.Named.{IsSeenName}
 use Rattle.hfs_volume.proofs.Folders.{top_is_folder, folder_after_move}
 use Rattle.hfs_volume.proofs.Moving.{moved_shaped, moved_private, new_side, old_side}
 use Rattle.hfs_volume.proofs.MovingHidden.{tree_as_hidden}
 use Rattle.hfs_volume.proofs.Accounts.{Account, closed, moves}
-use Rattle.hfs_volume.proofs.Refielding.{recount_account, fields_tree, touched_views, dated, id_is, there_was, folder_is, valence_now, moment_is, file_no_folder, kind_of}
+use Rattle.hfs_volume.proofs.Refielding.{recount_account, fields_tree, id_is, there_was, folder_is, moment_is, kind_of}
 use Rattle.hfs_volume.proofs.Marks.{private_not_root, private_folder, orphan_no_node, hidden_unseen, none_counted_linked, shared_hidden, shared_no_link}
 use Rattle.hfs_volume.proofs.Telling.{has_private_is, entries_are, private_after_fields}
 use Rattle.hfs_volume.proofs.Sides.{entry_is_record, is_entry_of, entry_cases, no_other_at}

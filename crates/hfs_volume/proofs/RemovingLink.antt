@@ -16,15 +16,15 @@ use Rattle.hfs_volume.specs.TreeOf.{tree_in, plain_entry, id_or_0, shared_file, 
 use Rattle.hfs_volume.specs.Laws.{IsShaped, IsFolderId, one_if}
 use Rattle.hfs_volume.specs.Commands.{with_fields}
 use Rattle.hfs_volume.specs.Naming.{RemovesLink, one_file_less}
+use Rattle.hfs_volume.proofs.Fields.{touched_views, dated, valence_now, marked_views, redated, special_now, BytesBy}
 use Rattle.hfs_volume.proofs.Hiding.{one_there}
 use Rattle.hfs_volume.proofs.Seeing.{same_number}
 use Rattle.hfs_volume.proofs.Fitting.{differs, not_same}
-use Rattle.hfs_volume.proofs.Marking.{BytesBy}
 use Rattle.hfs_volume.proofs.Sharing.{Links, shared_is, links_it, shared_found}
 use Rattle.hfs_volume.proofs.Named.{IsSeenName}
 use Rattle.hfs_volume.proofs.Folders.{folder_still}
 use Rattle.hfs_volume.proofs.Accounts.{Account, closed}
-use Rattle.hfs_volume.proofs.Refielding.{recount_account, fields_tree, touched_views, dated, id_is, there_was, folder_is, valence_now, moment_is, kind_of, mark_account, marked_views, redated, special_now}
+use Rattle.hfs_volume.proofs.Refielding.{recount_account, fields_tree, id_is, there_was, folder_is, moment_is, kind_of, mark_account}
 use Rattle.hfs_volume.proofs.Marks.{link_is_seen, number_is, some_counted_link}
 use Rattle.hfs_volume.proofs.Telling.{entries_are}
 use Rattle.hfs_volume.proofs.Sides.{entry_is_record}

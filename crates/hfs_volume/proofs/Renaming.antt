@@ -14,20 +14,20 @@ use Rattle.hfs_volume.specs.TreeOf.{tree_in, id_or_0, shared_file}
 use Rattle.hfs_volume.specs.Laws.{IsShaped, MayMove, IsFolderId, one_if}
 use Rattle.hfs_volume.specs.Naming.{MovesName, MvDoes}
 use Rattle.hfs_model.specs.declared.plain.PlainEntry.{PlainEntry}
+use Rattle.hfs_volume.proofs.Fields.{touched_views, marked_views, dated, redated, valence_now, BytesBy}
 use Rattle.hfs_volume.proofs.Ranks.{true_or_false}
 use Rattle.hfs_volume.proofs.Hiding.{hidden_is_computed, same_entry, one_there}
 use Rattle.hfs_volume.proofs.Seeing.{same_number}
 use Rattle.hfs_volume.proofs.Reaching.{folder_no_link}
 use Rattle.hfs_volume.proofs.Making.{tree_entries}
 use Rattle.hfs_volume.proofs.Finishing.{sound_is_both}
-use Rattle.hfs_volume.proofs.Marking.{BytesBy}
 use Rattle.hfs_volume.proofs.Sides.{entry_cases, still_entry, the_entry}
 use Rattle.hfs_volume.proofs.Pathways.{lies_below}
 use Rattle.hfs_volume.proofs.Moving.{old_side, new_side, moved_shaped}
 use Rattle.hfs_volume.proofs.MovingSeen.{is_unshared, tree_moved}
 use Rattle.hfs_volume.proofs.MovingOver.{seen_is_outside}
 use Rattle.hfs_volume.proofs.Accounts.{no_debts, opened, closed, moves}
-use Rattle.hfs_volume.proofs.Refielding.{mark_account, fields_tree, touched_views, marked_views, dated, redated, id_is, there_was, folder_is, valence_now, moment_is, recount_account}
+use Rattle.hfs_volume.proofs.Refielding.{mark_account, fields_tree, id_is, there_was, folder_is, moment_is, recount_account}
 use Rattle.hfs_volume.proofs.Named.{IsSeenName, IsPair, named_entry, to_mv_is}
 use Rattle.hfs_volume.proofs.Folders.{folder_still, parent_folder, top_is_folder}
 use Rattle.hfs_volume.proofs.Fitting.{not_private}

@@ -1,5 +1,5 @@
 -- What users see after an entry was added with its thread: one entry more, and one folder or file more.
-use Rattle.std.proofs.Common.{◌≡◌, ℕ, Bool, true, false, List, [], ◌∷◌, refl, sym, ◌∙◌, ap, subst, arith}
+use Rattle.std.proofs.Common.{◌≡◌, ℕ, ℤ, Bool, true, false, List, [], ◌∷◌, refl, sym, ◌∙◌, ap, subst, arith}
 use Rattle.std.specs.Prelude.{Contains, ◌==◌, ◌&&◌, ◌||◌, ◌^◌, nat_lt, not, Option, None, Some, find, if◌then◌else◌}
 use Rattle.std.specs.Str.{bytes_eq}
 use Rattle.std.specs.List.{flat_map, list_any}
@@ -10,7 +10,7 @@ use Rattle.hfs_model.specs.Step.{private_name, is_private_name}
 use Rattle.hfs_volume.specs.Records.{Placed, Attribute, entries_of, entry_of, is_placed_at, id_of, is_empty, is_folder, is_file, is_link, special_of}
 use Rattle.hfs_volume.specs.Links.{private_id, folder_id, node_name, is_in, is_shared}
 use Rattle.hfs_volume.specs.TreeOf.{is_hidden, is_seen, seen_entry, plain_entry, id_or_0, shared_file, is_linked, plain_node, node_in, node_found, threaded_node}
-use Rattle.hfs_volume.specs.Changes.{Adds, thread_of}
+use Rattle.hfs_volume.specs.Changes.{Adds, thread_with}
 use Rattle.hfs_model.specs.declared.plain.PlainNode.{PlainNode}
 use Rattle.hfs_volume.proofs.Flat.{flat_none, flat_one, flat_agree, find_none, find_only, found_some, any_none}
 use Rattle.hfs_volume.proofs.Members.{kept_cases, kept_stands}
@@ -35,22 +35,22 @@ pub record FitsIn (entry : Placed) (old new : List Placed) : Type 0 where
   pub no_thread : (placed : Placed) → Contains old placed → is_empty placed.name ≡ true → (placed.parent == id_of entry) ≡ false
   pub hidden : (placed : Placed) → Contains (entries_of old) placed → is_hidden new placed.parent ≡ is_hidden old placed.parent
 
-pub entries_added : (entry : Placed) (old mid new : List Placed) → Adds entry old mid → Adds (thread_of entry) mid new → is_empty entry.name ≡ false → Adds entry (entries_of old) (entries_of new)
-entries_added entry old mid new first second named =
+pub entries_added : {spare : ℤ} (entry : Placed) (old mid new : List Placed) → Adds entry old mid → Adds (thread_with spare entry) mid new → is_empty entry.name ≡ false → Adds entry (entries_of old) (entries_of new)
+entries_added {spare} entry old mid new first second named =
     let piece = λ (placed : Placed). if not (is_empty placed.name) then placed ∷ [] else [] in
-    subst (λ l. Adds entry (entries_of old) l) (sym (flat_none piece (thread_of entry) mid new second refl)) (flat_one piece entry entry old mid first (ap (λ b. if not b then entry ∷ [] else []) named))
+    subst (λ l. Adds entry (entries_of old) l) (sym (flat_none piece (thread_with spare entry) mid new second refl)) (flat_one piece entry entry old mid first (ap (λ b. if not b then entry ∷ [] else []) named))
 
 -- what neither the entry nor its thread is, is found as before
-pub found_as_before : (entry : Placed) (old mid new : List Placed) → Adds entry old mid → Adds (thread_of entry) mid new
-    → (test : Placed → Bool) → test entry ≡ false → test (thread_of entry) ≡ false → find test new ≡ find test old
-found_as_before entry old mid new first second test one other =
-    ap (find test) second.is ∙ find_none test mid second.place (thread_of entry) other ∙ ap (find test) first.is ∙ find_none test old first.place entry one
+pub found_as_before : {spare : ℤ} (entry : Placed) (old mid new : List Placed) → Adds entry old mid → Adds (thread_with spare entry) mid new
+    → (test : Placed → Bool) → test entry ≡ false → test (thread_with spare entry) ≡ false → find test new ≡ find test old
+found_as_before {spare} entry old mid new first second test one other =
+    ap (find test) second.is ∙ find_none test mid second.place (thread_with spare entry) other ∙ ap (find test) first.is ∙ find_none test old first.place entry one
 
-pub private_kept : (entry : Placed) (old mid new : List Placed) → Adds entry old mid → Adds (thread_of entry) mid new → is_placed_at 2 private_name entry ≡ false → private_id new ≡ private_id old
+pub private_kept : {spare : ℤ} (entry : Placed) (old mid new : List Placed) → Adds entry old mid → Adds (thread_with spare entry) mid new → is_placed_at 2 private_name entry ≡ false → private_id new ≡ private_id old
 private_kept entry old mid new first second not_private =
     ap folder_id (found_as_before entry old mid new first second (is_placed_at 2 private_name) not_private (and_false (id_of entry == 2)))
 
-module _ (entry : Placed) (old mid new : List Placed) (first : Adds entry old mid) (second : Adds (thread_of entry) mid new) (fits : FitsIn entry old new) where
+module _ {spare : ℤ} (entry : Placed) (old mid new : List Placed) (first : Adds entry old mid) (second : Adds (thread_with spare entry) mid new) (fits : FitsIn entry old new) where
   pub entry_added : Adds entry (entries_of old) (entries_of new)
   entry_added = entries_added entry old mid new first second fits.named
 
@@ -104,7 +104,7 @@ module _ (entry : Placed) (old mid new : List Placed) (first : Adds entry old mi
   seen_added is =
       let one = flat_one (seen_entry new) entry (plain_entry new entry) old mid first (ap (λ b. if b then plain_entry new entry ∷ [] else []) is) in
       let no_more : flat_map (seen_entry new) new ≡ flat_map (seen_entry new) mid =
-      flat_none (seen_entry new) (thread_of entry) mid new second (ap (λ b. if b then plain_entry new (thread_of entry) ∷ [] else []) (no_name_unseen (thread_of entry) refl new)) in
+      flat_none (seen_entry new) (thread_with spare entry) mid new second (ap (λ b. if b then plain_entry new (thread_with spare entry) ∷ [] else []) (no_name_unseen (thread_with spare entry) refl new)) in
       subst (λ l. Adds (plain_entry new entry) l (flat_map (seen_entry new) new)) (flat_agree (seen_entry new) (seen_entry old) old seen_entry_same)
       (subst (λ l. Adds (plain_entry new entry) (flat_map (seen_entry new) old) l) (sym no_more) one)
 
@@ -139,5 +139,5 @@ module _ (entry : Placed) (old mid new : List Placed) (first : Adds entry old mi
         flat_none (threaded_node attributes new bytes_of) entry old mid first (ap (λ b. if b then node_found attributes new bytes_of (entry_of new entry.parent) else []) fits.named) in
         let found : entry_of new (id_of entry) ≡ Some entry =
         ap (find (λ (p : Placed). id_of p == id_of entry)) entry_added.is ∙ find_only (λ (p : Placed). id_of p == id_of entry) (entries_of old) entry_added.place entry (same_number (id_of entry)) fits.unused in
-        let one = flat_one (threaded_node attributes new bytes_of) (thread_of entry) node mid new second (ap (node_found attributes new bytes_of) found ∙ is) in
+        let one = flat_one (threaded_node attributes new bytes_of) (thread_with spare entry) node mid new second (ap (node_found attributes new bytes_of) found ∙ is) in
         subst (λ l. Adds node l (flat_map (threaded_node attributes new bytes_of) new)) (none ∙ flat_agree (threaded_node attributes new bytes_of) (threaded_node attributes old bytes_of) old threaded_same) one

@@ -1,5 +1,5 @@
 -- Records of a catalog, and the same with one entry more and its thread: what stands there, what is found, and what is counted.
-use Rattle.std.proofs.Common.{◌≡◌, ◌⊎◌, ℕ, ◌+◌, ◌≤◌, Bool, true, false, List, [], ◌∷◌, inl, inr, refl, sym, ◌∙◌, ap, subst, arith}
+use Rattle.std.proofs.Common.{◌≡◌, ◌⊎◌, ℕ, ℤ, ◌+◌, ◌≤◌, Bool, true, false, List, [], ◌∷◌, inl, inr, refl, sym, ◌∙◌, ap, subst, arith}
 use Rattle.std.specs.Prelude.{Contains, IsTrue, ◌==◌, ◌&&◌, not, count_by, Some, find}
 use Rattle.std.specs.Str.{bytes_eq}
 use Rattle.std.specs.Ordering.{is_lt, nat_cmp, ordering_then}
@@ -11,7 +11,7 @@ use Rattle.cat_records.specs.Records.{is_catalog}
 use Rattle.hfs_model.specs.Sorted.{IsInOrder}
 use Rattle.hfs_volume.specs.Records.{Placed, placed_in, placed_before, entries_of, entry_of, id_of, is_empty, is_thread}
 use Rattle.hfs_volume.specs.Entries.{AreThreaded, HaveIds, IsUserId, HasThread}
-use Rattle.hfs_volume.specs.Changes.{Adds, AddsEntry, thread_of}
+use Rattle.hfs_volume.specs.Changes.{Adds, AddsEntry, thread_with}
 use Rattle.hfs_volume.specs.Laws.{one_if}
 use Rattle.hfs_volume.proofs.Counting.{count_insert}
 use Rattle.hfs_volume.proofs.Members.{first_or_later, each_of, all_of, inserted_cases, inserted_stands, still_stands, kept_cases, kept_stands}
@@ -27,14 +27,16 @@ use Rattle.hfs_volume.proofs.Dropping.{order_less, not_twice}
 pub record OneMore (entry : Placed) (less more : List Placed) : Type 0 where
   pub mid : List Placed
   pub first : Adds entry less mid
-  pub second : Adds (thread_of entry) mid more
+  pub spare : ℤ
+  pub second : Adds (thread_with spare entry) mid more
   pub named : is_empty entry.name ≡ false
 
 pub one_more : {entry : Placed} {small big : List Pair} → AddsEntry entry small big → is_empty entry.name ≡ false → OneMore entry (placed_in small) (placed_in big)
 one_more {entry} {small} {big} added named = record {
   mid = placed_in added.between;
   first = placed_added entry added.pair small added.between added.entry_added added.is_entry.stands;
-  second = placed_added (thread_of entry) added.thread added.between big added.thread_added added.is_thread.stands;
+  spare = added.spare;
+  second = placed_added (thread_with added.spare entry) added.thread added.between big added.thread_added added.is_thread.stands;
   named = named;
 }
 
@@ -95,16 +97,16 @@ module _ {entry : Placed} {less more : List Placed} (side : OneMore entry less m
   in_mid p stands = subst (λ l. Contains l p) (sym side.first.is) (still_stands less side.first.place entry p stands)
 
   pub still_record : (p : Placed) → Contains less p → Contains more p
-  still_record p stands = subst (λ l. Contains l p) (sym side.second.is) (still_stands side.mid side.second.place (thread_of entry) p (in_mid p stands))
+  still_record p stands = subst (λ l. Contains l p) (sym side.second.is) (still_stands side.mid side.second.place (thread_with side.spare entry) p (in_mid p stands))
 
-  pub record_cases : (p : Placed) → Contains more p → (p ≡ thread_of entry) ⊎ ((p ≡ entry) ⊎ Contains less p)
-  record_cases p stands = elim (inserted_cases side.mid side.second.place (thread_of entry) p (subst (λ l. Contains l p) side.second.is stands)) [
+  pub record_cases : (p : Placed) → Contains more p → (p ≡ thread_with side.spare entry) ⊎ ((p ≡ entry) ⊎ Contains less p)
+  record_cases p stands = elim (inserted_cases side.mid side.second.place (thread_with side.spare entry) p (subst (λ l. Contains l p) side.second.is stands)) [
     | inl is ↦ inl is
     | inr there ↦ inr (inserted_cases less side.first.place entry p (subst (λ l. Contains l p) side.first.is there))
   ]
 
   -- what neither the entry nor its thread is, is found as without them
-  pub found_same : (test : Placed → Bool) → test entry ≡ false → test (thread_of entry) ≡ false → find test more ≡ find test less
+  pub found_same : (test : Placed → Bool) → test entry ≡ false → test (thread_with side.spare entry) ≡ false → find test more ≡ find test less
   found_same test one other = found_as_before entry less side.mid more side.first side.second test one other
 
   pub entry_found_same : (test : Placed → Bool) → test entry ≡ false → find test (entries_of more) ≡ find test (entries_of less)
@@ -114,7 +116,7 @@ module _ {entry : Placed} {less more : List Placed} (side : OneMore entry less m
 
   module _ (order : IsInOrder placed_before more) where
     pub order_mid : IsInOrder placed_before side.mid
-    order_mid = order_less placed_before side.mid side.second.place (thread_of entry) (subst (IsInOrder placed_before) side.second.is order)
+    order_mid = order_less placed_before side.mid side.second.place (thread_with side.spare entry) (subst (IsInOrder placed_before) side.second.is order)
 
     pub order_in_less : IsInOrder placed_before less
     order_in_less = order_less placed_before less side.first.place entry (subst (IsInOrder placed_before) side.first.is order_mid)
@@ -130,7 +132,7 @@ module _ {entry : Placed} {less more : List Placed} (side : OneMore entry less m
 
     -- no other thread stands under its CNID
     pub no_other_thread : (p : Placed) → Contains less p → is_empty p.name ≡ true → (p.parent == id_of entry) ≡ false
-    no_other_thread p stands empty = differs p.parent (id_of entry) (λ same. not_twice (thread_of entry) side.mid more side.second order p (in_mid p stands) same (empty_is p.name empty))
+    no_other_thread p stands empty = differs p.parent (id_of entry) (λ same. not_twice (thread_with side.spare entry) side.mid more side.second order p (in_mid p stands) same (empty_is p.name empty))
 
   -- ---- CNIDs
 

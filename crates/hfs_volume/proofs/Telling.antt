@@ -12,13 +12,13 @@ use Rattle.hfs_volume.specs.Content.{VolumeState, records_of, attributes_of}
 use Rattle.hfs_volume.specs.TreeOf.{tree_in, is_hidden, is_seen, plain_entry, id_or_0, shared_file, is_linked, plain_node, node_in, plain_attributes}
 use Rattle.hfs_volume.specs.Laws.{IsShaped}
 use Rattle.hfs_volume.specs.Commands.{ChangesFields, with_counts, with_fields}
+use Rattle.hfs_volume.proofs.Fields.{Views, BytesBy}
 use Rattle.hfs_volume.proofs.Flat.{found_none, found_some}
 use Rattle.hfs_volume.proofs.Ranks.{true_or_false}
 use Rattle.hfs_volume.proofs.Hiding.{same_entry}
-use Rattle.hfs_volume.proofs.Marking.{BytesBy}
 use Rattle.hfs_volume.proofs.NodesOf.{changed_none}
 use Rattle.hfs_volume.proofs.MovingOver.{seen_is_outside}
-use Rattle.hfs_volume.proofs.Refielding.{Views, fields_tree, kind_of}
+use Rattle.hfs_volume.proofs.Refielding.{fields_tree, kind_of}
 use Rattle.hfs_volume.proofs.Marks.{private_no_node}
 use Rattle.hfs_volume.proofs.Trees.{entries_over, nodes_over}
 use Rattle.hfs_volume.proofs.Keeping.{value_private}

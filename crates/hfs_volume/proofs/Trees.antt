@@ -11,7 +11,7 @@ use Rattle.hfs_model.specs.Step.{is_private_name, linked}
 use Rattle.hfs_model.specs.Plain.{entry_before, node_before, is_at, is_node}
 use Rattle.hfs_volume.specs.Records.{Placed, Attribute, placed_before, entries_of, entry_of, id_of, is_empty, is_folder, is_link, special_of}
 use Rattle.hfs_volume.specs.TreeOf.{is_hidden, is_seen, seen_entry, plain_entry, id_or_0, shared_file, is_linked, plain_node, node_in, node_found, threaded_node}
-use Rattle.hfs_volume.specs.Changes.{Adds, thread_of}
+use Rattle.hfs_volume.specs.Changes.{Adds, thread_with}
 use Rattle.hfs_model.specs.declared.plain.PlainEntry.{PlainEntry}
 use Rattle.hfs_model.specs.declared.plain.PlainNode.{PlainNode}
 use Rattle.hfs_volume.proofs.Members.{first_or_later, at_front, behind, in_one}
@@ -43,7 +43,7 @@ unnamed_unseen records p empty = ap (λ b. not b && not (p.parent == 1) && not (
 
 module _ {entry : Placed} {less more : List Placed} (side : OneMore entry less more) (records : List Placed) where
   no_thread_piece : entries_over records more ≡ entries_over records side.mid
-  no_thread_piece = flat_none (seen_entry records) (thread_of entry) side.mid more side.second (ap (λ b. if b then plain_entry records (thread_of entry) ∷ [] else []) (unnamed_unseen records (thread_of entry) refl))
+  no_thread_piece = flat_none (seen_entry records) (thread_with side.spare entry) side.mid more side.second (ap (λ b. if b then plain_entry records (thread_with side.spare entry) ∷ [] else []) (unnamed_unseen records (thread_with side.spare entry) refl))
 
   pub one_entry_more : is_seen records entry ≡ true → Adds (plain_entry records entry) (entries_over records less) (entries_over records more)
   one_entry_more seen =
@@ -60,10 +60,10 @@ module _ {entry : Placed} {less more : List Placed} (side : OneMore entry less m
     pub one_node_more : (node : PlainNode) → node_in attributes records bytes_of entry entry.value ≡ node ∷ [] → Adds node (nodes_over attributes bytes_of records less) (nodes_over attributes bytes_of records more)
     one_node_more node is =
         subst (λ l. Adds node l (nodes_over attributes bytes_of records more)) no_named_piece
-        (flat_one (threaded_node attributes records bytes_of) (thread_of entry) node side.mid more side.second (ap (node_found attributes records bytes_of) found ∙ is))
+        (flat_one (threaded_node attributes records bytes_of) (thread_with side.spare entry) node side.mid more side.second (ap (node_found attributes records bytes_of) found ∙ is))
 
     pub no_node_more : node_in attributes records bytes_of entry entry.value ≡ [] → nodes_over attributes bytes_of records more ≡ nodes_over attributes bytes_of records less
-    no_node_more is = flat_none (threaded_node attributes records bytes_of) (thread_of entry) side.mid more side.second (ap (node_found attributes records bytes_of) found ∙ is) ∙ no_named_piece
+    no_node_more is = flat_none (threaded_node attributes records bytes_of) (thread_with side.spare entry) side.mid more side.second (ap (node_found attributes records bytes_of) found ∙ is) ∙ no_named_piece
 
 -- ---- where two catalogs agree
 

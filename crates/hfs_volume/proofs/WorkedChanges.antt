@@ -1,6 +1,6 @@
 -- The record of changes of a `mkdir`, met by a catalog that another program wrote, before and after it.
 use Rattle.std.proofs.Common.{true, [], ◌∷◌, refl, arith}
-use Rattle.std.specs.Prelude.{None}
+use Rattle.std.specs.Prelude.{None, pos}
 use Rattle.std.specs.Fmt.{digits}
 use Rattle.hx_bytes.specs.Field.{number_at, number_bytes}
 use Rattle.hx_bytes.specs.Fork.{extents_at}
@@ -70,6 +70,7 @@ a_folder_is_made = record {
       is_entry = record { stands = refl; spelled = refl };
       entry_added = record { place = 4; within = omega arith; is = refl };
       thread = pair_8;
+      spare = pos 0;
       is_thread = record { stands = refl; spelled = refl };
       thread_added = record { place = 7; within = omega arith; is = refl };
     };
@@ -77,19 +78,24 @@ a_folder_is_made = record {
     rest = refl;
   };
   sorted = ((refl, (refl, (refl, (refl, (refl, (refl, (refl, tt))))))), ((refl, (refl, (refl, (refl, (refl, (refl, tt)))))), ((refl, (refl, (refl, (refl, (refl, tt))))), ((refl, (refl, (refl, (refl, tt)))), ((refl, (refl, (refl, tt))), ((refl, (refl, tt)), ((refl, tt), (tt, tt))))))));
-  above = placed_of pair_0;
-  above_fields = entry_of (pair_0).1;
-  is_above = (refl, refl);
   counts = record {
+    entry = placed_of pair_0;
+    before = entry_of (pair_0).1;
+    after = entry_of (pair_6).1;
+    has = refl;
+    is_entry = refl;
+    fields = record { id = refl; count = refl; mode = refl; created = refl; changed = refl; attribute = refl };
     changes = record {
-      pair = pair_0;
-      is_entry = refl;
-      other = pair_6;
-      is_other = record { stands = refl; spelled = refl };
-      swapped = record { place = 0; at = refl; is = refl };
-      alike = record { place = (refl, refl); kind = (refl, refl); id = refl; forks = refl; link = refl; reference = λ link. refl };
+      changes = record {
+        pair = pair_0;
+        is_entry = refl;
+        other = pair_6;
+        is_other = record { stands = refl; spelled = refl };
+        swapped = record { place = 0; at = refl; is = refl };
+        alike = record { place = (refl, refl); kind = (refl, refl); id = refl; forks = refl; link = refl; reference = λ link. refl };
+      };
+      nodes = record { total = refl; size = refl };
+      rest = refl;
     };
-    nodes = record { total = refl; size = refl };
-    rest = refl;
   };
 }

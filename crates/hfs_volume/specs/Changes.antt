@@ -1,5 +1,5 @@
 -- The changes that commands are made of, over the lists of a volume.
-use Rattle.std.specs.Prelude.{Bool, ◌&&◌, map, ◌==◌, if◌then◌else◌, not, ◌≡◌, ◌≤◌, ℕ, ◌+◌, ◌*◌, pos, true, false, List, [], ◌++◌, length, take, drop, insert, remove, slice_get, slice_set, All, Contains, Some, IsTrue}
+use Rattle.std.specs.Prelude.{Bool, ◌&&◌, map, ◌==◌, if◌then◌else◌, not, ◌≡◌, ◌≤◌, ℕ, ℤ, ◌+◌, ◌*◌, pos, true, false, List, [], ◌++◌, length, take, drop, insert, remove, slice_get, slice_set, All, Contains, Some, IsTrue}
 use Rattle.std.specs.Str.{bytes_eq}
 use Rattle.std.specs.Ordering.{is_lt, nat_cmp, ordering_then}
 use Rattle.std.specs.Cmp.Lexicographic.{slice_cmp}
@@ -49,9 +49,13 @@ AreSorted pairs = IsInOrder placed_before (placed_in pairs)
 abbrev pub pair_of : Placed → Pair
 pair_of placed = (catalog_key_bytes placed.parent placed.name, catalog_bytes placed.value)
 
--- the thread of an entry
+-- the thread of an entry, with this in its reserved word
+abbrev pub thread_with : ℤ → Placed → Placed
+thread_with spare entry = record { parent = id_of entry; name = []; value = Thread (record { of_file = is_file entry.value; spare = spare; parent = entry.parent; name = entry.name }) }
+
+-- the thread of an entry as it is made: nothing is reserved yet
 abbrev pub thread_of : Placed → Placed
-thread_of entry = record { parent = id_of entry; name = []; value = Thread (record { of_file = is_file entry.value; spare = pos 0; parent = entry.parent; name = entry.name }) }
+thread_of entry = thread_with (pos 0) entry
 
 -- a record of the tree is this one, whatever its reserved bytes say
 abbrev pub Stands : Placed → Pair → Type 0
@@ -62,15 +66,20 @@ pub record Spells (placed : Placed) (pair : Pair) : Type 0 where
   pub stands : Stands placed pair
   pub spelled : IsTrue (is_catalog pair.1)
 
--- an entry and its thread were added
+-- an entry and its thread were added, whatever the thread has in its reserved word
 pub record AddsEntry (entry : Placed) (old new : List Pair) : Type 0 where
   pub between : List Pair
   pub pair : Pair
   pub is_entry : Spells entry pair
   pub entry_added : Adds pair old between
   pub thread : Pair
-  pub is_thread : Spells (thread_of entry) thread
+  pub spare : ℤ
+  pub is_thread : Spells (thread_with spare entry) thread
   pub thread_added : Adds thread between new
+
+-- an entry was added, and a thread of it that has this in its reserved word
+abbrev pub AddsWith : ℤ → Placed → List Pair → List Pair → Type 0
+AddsWith spare entry old new = (added : AddsEntry entry old new) × (added.spare ≡ spare)
 
 -- an entry and its thread were removed: put back, they give the old list
 abbrev pub DropsEntry : Placed → List Pair → List Pair → Type 0

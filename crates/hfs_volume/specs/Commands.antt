@@ -1,5 +1,5 @@
 -- What each command does to the lists of a volume: the changes that its code hands in.
-use Rattle.std.specs.Prelude.{◌≡◌, ◌<◌, ℕ, Ok, ◌+◌, ◌-◌, ◌*◌, ◌==◌, not, Contains, ◌/◌, ◌%◌, Bool, true, false, List, [], if◌then◌else◌}
+use Rattle.std.specs.Prelude.{◌≡◌, ℕ, Ok, ◌+◌, ◌-◌, ◌==◌, not, Contains, ◌%◌, Bool, true, false, List, [], if◌then◌else◌}
 use Rattle.hx_bytes.specs.declared.extents.ForkRecord.{ForkRecord}
 use Rattle.volume_header.specs.declared.header.VolumeHeader.{VolumeHeader}
 use Rattle.btree_node.specs.Levels.{Pair}
@@ -14,14 +14,10 @@ use Rattle.hfs_model.specs.declared.plain.PlainEntry.{PlainEntry}
 use Rattle.hfs_model.specs.Step.{Place, step, to_make, to_node, to_rmdir, is_private_path, last_name}
 use Rattle.hfs_volume.specs.Sound.{IsSoundVolume}
 use Rattle.hfs_volume.specs.TreeOf.{tree_in}
-use Rattle.hfs_volume.specs.Records.{entries_of, attribute_of, Placed, is_link_type, is_thread, id_of, is_empty}
+use Rattle.hfs_volume.specs.Records.{entries_of, attribute_of, Placed, is_link_type, id_of, is_empty}
 use Rattle.hfs_volume.specs.Forks.{in_use}
 use Rattle.hfs_volume.specs.Content.{VolumeState, records_of}
 use Rattle.hfs_volume.specs.Changes.{AreSorted, DropsEntry, InAttributes, AddsEntry, ChangesValue, InCatalog}
-
--- a folder in which an entry was added at this moment
-abbrev pub one_more_in : ℕ → EntryFields → EntryFields
-one_more_in moment fields = record fields { count = fields.count + 1; changed = moment; attribute = moment }
 
 -- an entry's fields as it is made
 pub record AreNewFields (drawn rights moment : ℕ) (fields : EntryFields) : Type 0 where
@@ -44,76 +40,13 @@ IsNewValue true drawn moment (Folder folder) = AreNewFields drawn 493 moment fol
 IsNewValue false drawn moment (File file) = AreNewFields drawn 420 moment file.fields × (is_link_type file.fields ≡ false) × IsEmptyFork file.data_fork × IsEmptyFork file.resource_fork
 IsNewValue folder drawn moment value = ⊥
 
--- the header after a folder or file got the next id
-abbrev pub with_made : Bool → VolumeHeader → VolumeHeader
-with_made folder head = record head {
-  next_catalog_id = head.next_catalog_id + 1;
-  folder_count = if folder then head.folder_count + 1 else head.folder_count;
-  file_count = if folder then head.file_count else head.file_count + 1;
-}
-
--- an entry with this value, at its place
-abbrev pub entry_in : Place → CatRecord → Placed
-entry_in at value = record { parent = at.folder; name = at.name; value = value }
-
--- `mkdir` and `create`: the header counts the folder or file and draws its id, the entry is there with its thread, and the folder above
--- has one entry more
-pub record MakesEntry (folder : Bool) (at : Place) (old new : VolumeState) : Type 0 where
-  pub value : CatRecord
-  pub is_new : IsNewValue folder old.head.next_catalog_id old.head.modify_date value
-  pub added : VolumeState
-  pub adds : InCatalog (AddsEntry (entry_in at value)) (record old { head = with_made folder old.head }) added
-  pub sorted : AreSorted added.catalog_pairs
-  pub above : Placed
-  pub above_fields : EntryFields
-  pub is_above : (above.value ≡ Folder (record { fields = above_fields })) × (above_fields.id ≡ at.folder)
-  pub counts : InCatalog (ChangesValue above (Folder (record { fields = one_more_in old.head.modify_date above_fields }))) added new
+-- ---- other fields of a folder or file
 
 -- a folder's or file's value with other fields
 abbrev pub with_fields : (EntryFields → EntryFields) → CatRecord → CatRecord
 with_fields change (Folder folder) = Folder (record { fields = change folder.fields })
 with_fields change (File file) = File (record file { fields = change file.fields })
 with_fields change (Thread thread) = Thread thread
-
--- the fields after the twelve bits of the mode were set at this moment; the kind's four bits stay
-abbrev pub with_mode : ℕ → ℕ → EntryFields → EntryFields
-with_mode mode moment fields = record fields { mode = fields.mode / 4096 * 4096 + mode; attribute = moment }
-
--- `chmod`: the folder or file of this CNID has another mode
-pub record ChangesMode (id mode : ℕ) (old new : VolumeState) : Type 0 where
-  pub entry : Placed
-  pub is_entry : (is_thread entry.value ≡ false) × (id_of entry ≡ id)
-  pub changes : InCatalog (ChangesValue entry (with_fields (with_mode mode old.head.modify_date) entry.value)) old new
-
--- all attributes of this CNID were removed
-abbrev pub DropsAttributes : ℕ → List Pair → List Pair → Type 0
-DropsAttributes id old new = new ≡ kept (λ pair. not ((attribute_of pair).id == id)) old
-
-abbrev pub one_less_in : ℕ → EntryFields → EntryFields
-one_less_in moment fields = record fields { count = fields.count - 1; changed = moment; attribute = moment }
-
-abbrev pub with_folder_removed : VolumeHeader → VolumeHeader
-with_folder_removed head = record head { folder_count = head.folder_count - 1 }
-
--- the volume with the new header and the new attributes, and all else as it was
-abbrev pub without_attributes : VolumeState → VolumeState → VolumeState
-without_attributes old new = record old { head = with_folder_removed old.head; attribute_pairs = new.attribute_pairs; attributes_tree = new.attributes_tree }
-
--- `rmdir`: the folder of this CNID has no attributes any more and isn't there, and the folder above has one entry less
-pub record RemovesFolder (id : ℕ) (old new : VolumeState) : Type 0 where
-  pub entry : Placed
-  pub stands : Contains (entries_of (records_of old)) entry
-  pub is_entry : id_of entry ≡ id
-  pub bares : InAttributes (DropsAttributes id) (record old { head = with_folder_removed old.head }) (without_attributes old new)
-  pub dropped : VolumeState
-  pub drops : InCatalog (DropsEntry entry) (without_attributes old new) dropped
-  pub sorted : AreSorted old.catalog_pairs
-  pub above : Placed
-  pub above_fields : EntryFields
-  pub is_above : (above.value ≡ Folder (record { fields = above_fields })) × (above_fields.id ≡ entry.parent)
-  pub counts : InCatalog (ChangesValue above (Folder (record { fields = one_less_in old.head.modify_date above_fields }))) dropped new
-
--- ---- other fields of a folder or file
 
 -- a folder or file has these fields
 abbrev pub HasFields : CatRecord → EntryFields → Type 0
@@ -149,6 +82,16 @@ pub record IsMarked (moment : ℕ) (before after : EntryFields) : Type 0 where
   pub changed : after.changed ≡ before.changed
   pub attribute : after.attribute ≡ moment
 
+-- A folder or file whose mode was set at this moment, and of which nothing else has changed.
+pub record HasNewMode (rights moment : ℕ) (before after : EntryFields) : Type 0 where
+  pub id : after.id ≡ before.id
+  pub count : after.count ≡ before.count
+  pub mode : after.mode % 4096 ≡ rights
+  pub created : after.created ≡ before.created
+  pub changed : after.changed ≡ before.changed
+  pub attribute : after.attribute ≡ moment
+  pub special : after.special ≡ before.special
+
 -- A folder that counts so many entries more, and so many less; of what it says beside, its dates may have changed.
 pub record IsRecounted (up down : ℕ) (before after : EntryFields) : Type 0 where
   pub id : after.id ≡ before.id
@@ -171,6 +114,57 @@ pub record IsMarkedAlone (moment : ℕ) (before after : EntryFields) : Type 0 wh
 pub record IsMarkedLinked (moment links : ℕ) (before after : EntryFields) : Type 0 where
   pub marked : IsMarked moment before after
   pub special : after.special ≡ links
+
+-- ---- `mkdir`, `create`, `chmod` and `rmdir`
+
+-- the header after a folder or file got the next id
+abbrev pub with_made : Bool → VolumeHeader → VolumeHeader
+with_made folder head = record head {
+  next_catalog_id = head.next_catalog_id + 1;
+  folder_count = if folder then head.folder_count + 1 else head.folder_count;
+  file_count = if folder then head.file_count else head.file_count + 1;
+}
+
+-- an entry with this value, at its place
+abbrev pub entry_in : Place → CatRecord → Placed
+entry_in at value = record { parent = at.folder; name = at.name; value = value }
+
+-- `mkdir` and `create`: the header counts the folder or file and draws its id, the entry is there with its thread, and the folder above
+-- has one entry more
+pub record MakesEntry (folder : Bool) (at : Place) (old new : VolumeState) : Type 0 where
+  pub value : CatRecord
+  pub is_new : IsNewValue folder old.head.next_catalog_id old.head.modify_date value
+  pub added : VolumeState
+  pub adds : InCatalog (AddsEntry (entry_in at value)) (record old { head = with_made folder old.head }) added
+  pub sorted : AreSorted added.catalog_pairs
+  pub counts : ChangesFields at.folder (IsTouched old.head.modify_date 1 0) added new
+
+-- `chmod`: the folder or file of this CNID has this mode, set at this moment
+abbrev pub ChangesMode : ℕ → ℕ → VolumeState → VolumeState → Type 0
+ChangesMode id mode old new = ChangesFields id (HasNewMode mode old.head.modify_date) old new
+
+-- all attributes of this CNID were removed
+abbrev pub DropsAttributes : ℕ → List Pair → List Pair → Type 0
+DropsAttributes id old new = new ≡ kept (λ pair. not ((attribute_of pair).id == id)) old
+
+-- the header after a folder was removed
+abbrev pub with_folder_removed : VolumeHeader → VolumeHeader
+with_folder_removed head = record head { folder_count = head.folder_count - 1 }
+
+-- the volume with the new header and the new attributes, and all else as it was
+abbrev pub without_attributes : VolumeState → VolumeState → VolumeState
+without_attributes old new = record old { head = with_folder_removed old.head; attribute_pairs = new.attribute_pairs; attributes_tree = new.attributes_tree }
+
+-- `rmdir`: the folder of this CNID has no attributes any more and isn't there, and the folder above has one entry less
+pub record RemovesFolder (id : ℕ) (old new : VolumeState) : Type 0 where
+  pub entry : Placed
+  pub stands : Contains (entries_of (records_of old)) entry
+  pub is_entry : id_of entry ≡ id
+  pub bares : InAttributes (DropsAttributes id) (record old { head = with_folder_removed old.head }) (without_attributes old new)
+  pub dropped : VolumeState
+  pub drops : InCatalog (DropsEntry entry) (without_attributes old new) dropped
+  pub sorted : AreSorted old.catalog_pairs
+  pub counts : ChangesFields entry.parent (IsTouched old.head.modify_date 0 1) dropped new
 
 -- a header with another next id, and other numbers of files and of folders
 abbrev pub with_counts : ℕ → ℕ → ℕ → VolumeHeader → VolumeHeader
@@ -198,11 +192,11 @@ CreateDoes =
 -- Where the step of `chmod` refuses nothing, the lists that its change leads to are those of a sound volume, and tell the step's tree.
 abbrev pub ChmodDoes : Type 0
 ChmodDoes =
-    (path : List (List ℕ)) (mode : ℕ) (node : PlainNode) (old new : VolumeState) (bytes_of : FileRecord → List ℕ) → AreBytesOf bytes_of → mode < 4096 → IsSoundVolume old
+    (path : List (List ℕ)) (mode : ℕ) (node : PlainNode) (old new : VolumeState) (bytes_of : FileRecord → List ℕ) → AreBytesOf bytes_of → IsSoundVolume old
     → to_node (tree_in old bytes_of) path ≡ Ok node → ChangesMode node.id mode old new → IsSoundVolume new × (tree_in new bytes_of ≡ (step (tree_in old bytes_of) (command.Chmod path mode)).1)
 
 -- Where the step of `rmdir` refuses nothing, the lists that its change leads to are those of a sound volume, and tell the step's tree.
 abbrev pub RmdirDoes : Type 0
 RmdirDoes =
-    (path : List (List ℕ)) (at : PlainEntry) (old new : VolumeState) (bytes_of : FileRecord → List ℕ) → IsSoundVolume old
+    (path : List (List ℕ)) (at : PlainEntry) (old new : VolumeState) (bytes_of : FileRecord → List ℕ) → AreBytesOf bytes_of → IsSoundVolume old
     → to_rmdir (tree_in old bytes_of) path ≡ Ok at → RemovesFolder at.id old new → IsSoundVolume new × (tree_in new bytes_of ≡ (step (tree_in old bytes_of) (command.Rmdir path)).1)

@@ -6,14 +6,14 @@ use Rattle.sector_disk.specs.Clock.{TimePasses}
 use Rattle.sector_disk.specs.Disk.{State, IsImage, CrashesLeave, SameDisk, SameSink}
 use Rattle.sector_disk.specs.Source.{Stream}
 use Rattle.sector_disk.proofs.Passing.{both_pass}
-use Rattle.hfs_language.specs.Lines.{lines}
+use Rattle.hfs_language.specs.Lines.{lines, HasNoNewline}
 use Rattle.hfs_language.proofs.Lines.{lines-nil}
-use Rattle.hfsx_server.specs.Headline.{AreTaken, Entry, IsFinished, IsPrefix, lines_of, replies_of, tree_after}
+use Rattle.hfsx_server.specs.Headline.{AreAllTaken, AreTaken, Entry, IsFinished, IsPrefix, lines_of, replies_of, tree_after}
 use Rattle.hfsx_server.specs.Input.{ahead, SplitsIntoLines, SameSource, TakesLines}
 use Rattle.hfsx_server.specs.Serving.{RunSoFar, IsServing, Serves, Stops, SurvivesFrom}
 use Rattle.hfsx_server.specs.Volume.{IsUnmounted, MountsTo, Tree}
 use Rattle.hfsx_server.specs.declared.server.Server.{Server}
-use Rattle.hfsx_server.proofs.Cuts.{all_taken, are_taken, takes_both, takes_none}
+use Rattle.hfsx_server.proofs.Cuts.{all_taken, are_taken, front_cut, takes_both, takes_none}
 use Rattle.hfsx_server.proofs.Runs.{crashes_both, lines_of-append, serves_both, serves_none, tree_after-append, tree_after-none}
 
 -- the lines that were served since the start
@@ -100,6 +100,25 @@ stops_taken source source_now source_new input run more takes stops = record {
   left = takes.bytes ∙ ap (λ (l : List ℕ). takes.used ++ l) stops.bytes ∙ sym (append_assoc takes.used stops.used source_new.left);
   first = subst (λ (l : List (List ℕ)). IsPrefix l (lines (takes.used ++ stops.used))) (sym (lines_of-append run more))
       (front_stops takes.used stops.used source_new.left (ahead input source_now) (lines_of run) (lines_of more) takes.cut stops.bytes stops.first);
+}
+
+-- a source that failed gave no whole line more
+pub all_whole : (source source_now source_new : Stream) (input : List ℕ) (run : List Entry) → TakesLines [] source (lines_of run) input source_now → (begun : List ℕ) × HasNoNewline begun × (ahead input source_now ≡ begun ++ source_new.left)
+    → AreAllTaken source run source_new
+all_whole source source_now source_new input run takes came = record {
+  used = takes.used;
+  begun = came.0;
+  left = takes.bytes ∙ ap (λ (l : List ℕ). takes.used ++ l) came.2 ∙ sym (append_assoc takes.used came.0 source_new.left);
+  whole = subst (λ (l : List ℕ). SplitsIntoLines takes.used (lines_of run) l) came.2 takes.cut;
+  no_newline = came.1;
+}
+
+-- what was taken begins with the lines that were served, where one more came
+pub taken_before : (source source_now source_new : Stream) (input : List ℕ) (run more : List Entry) → TakesLines [] source (lines_of run) input source_now → Stops input source_now more source_new → AreTaken source run source_new
+taken_before source source_now source_new input run more takes stops = record {
+  taken = takes.used ++ stops.used;
+  left = takes.bytes ∙ ap (λ (l : List ℕ). takes.used ++ l) stops.bytes ∙ sym (append_assoc takes.used stops.used source_new.left);
+  first = front_cut takes.used stops.used source_new.left (lines_of run) (subst (λ (l : List ℕ). SplitsIntoLines takes.used (lines_of run) l) stops.bytes takes.cut);
 }
 
 one_more : (some rest whole : List (List ℕ)) → rest ≢ [] → whole ≡ some ++ rest → length some < length whole

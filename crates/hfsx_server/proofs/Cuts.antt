@@ -7,12 +7,12 @@ use Rattle.hfs_language.proofs.Lines.{lines-nil}
 use Rattle.hfsx_server.specs.Headline.{Entry, IsPrefix, AreTaken, lines_of}
 use Rattle.hfsx_server.specs.Input.{ahead, SplitsIntoLines, TakesLines}
 
-none_left : (a b : List ℕ) → a ++ b ≡ [] → (a ≡ []) × (b ≡ [])
+pub none_left : (a b : List ℕ) → a ++ b ≡ [] → (a ≡ []) × (b ≡ [])
 none_left [] b none = (refl, none)
 none_left (x ∷ a) b none = absurd (cc none)
 
 -- no byte is cut into no line
-none_cut : (used : List ℕ) (some : List (List ℕ)) (rest : List ℕ) → SplitsIntoLines used some rest → used ≡ [] → some ≡ []
+pub none_cut : (used : List ℕ) (some : List (List ℕ)) (rest : List ℕ) → SplitsIntoLines used some rest → used ≡ [] → some ≡ []
 none_cut used some rest (inl cut) none = sym (append-nil some) ∙ ap (λ (l : List (List ℕ)). some ++ l) (sym lines-nil) ∙ sym (cut []) ∙ ap lines (append-nil used ∙ none) ∙ lines-nil
 none_cut used some rest (inr cut) none = sym cut.1 ∙ ap lines none ∙ lines-nil
 

@@ -35,3 +35,9 @@ unmounted_told old new tree same is =
       empty = subst (λ c. IsEmptyJournal (parts_of c).journal) (sym there) is.empty;
       settled = same ∙ is.settled ∙ ap only (sym there);
     }
+
+pub fresh_held : (disk : State) (parts : Parts) → HoldsAll disk parts → AreFresh parts → AreFresh (parts_of (content disk))
+fresh_held disk parts holds fresh = subst AreFresh (sym holds.parts_are) fresh
+
+pub fresh_told : (old new : State) → new.candidates ≡ old.candidates → AreFresh (parts_of (content old)) → AreFresh (parts_of (content new))
+fresh_told old new same is = subst (λ c. AreFresh (parts_of c)) (sym (ap content_of same)) is

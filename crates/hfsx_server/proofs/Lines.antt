@@ -14,12 +14,16 @@ use Rattle.hfsx_server.specs.Session.{step}
 use Rattle.hfsx_server.specs.Serving.{RunSoFar, IsIdle, IsServing, Rests, Serves, Stands, Stops, entry_of}
 use Rattle.hfsx_server.specs.Volume.{Holds, MountsTo, Tree}
 use Rattle.hfsx_server.specs.declared.server.Server.{Server}
-use Rattle.hfsx_server.proofs.Cuts.{front_cut, takes_none}
+use Rattle.hfsx_server.proofs.Cuts.{front_cut, none_cut, none_left, takes_none}
 use Rattle.hfsx_server.proofs.Runs.{serves_crashes, serves_none}
 
 -- no line was answered
 pub stops_none : (taken : List ℕ) (source source_new : Stream) → (gone : List ℕ) × (ahead taken source ≡ gone ++ source_new.left) → Stops taken source [] source_new
 stops_none taken source source_new gone = record { used = gone.0; bytes = gone.1; first = (lines gone.0, refl) }
+
+-- where a line was taken, bytes were ahead
+pub takes_some : (taken taken_new : List ℕ) (source source_new : Stream) (text : List ℕ) → TakesLines taken source (text ∷ []) taken_new source_new → ahead taken source ≡ [] → ⊥
+takes_some taken taken_new source source_new text takes none = absurd (cc (none_cut takes.used (text ∷ []) (ahead taken_new source_new) takes.cut (none_left takes.used (ahead taken_new source_new) (sym takes.bytes ∙ none)).0))
 
 -- a line was taken, and isn't answered whole
 pub stops_takes : (taken taken_new : List ℕ) (source source_new : Stream) (run : List Entry) → TakesLines taken source (lines_of run) taken_new source_new → Stops taken source run source_new

@@ -9,7 +9,7 @@ use Rattle.sector_disk.proofs.Passing.{both_pass, passes_with}
 use Rattle.hfs_language.specs.Lines.{lines}
 use Rattle.hfsx_server.specs.declared.faults.MountFault.{MountFault}
 use Rattle.hfsx_server.specs.declared.faults.MountFault.TheVariants as fault
-use Rattle.hfsx_server.specs.Headline.{AreTaken, Entry, Headline, IsFinished, lines_of, replies_of, tree_after}
+use Rattle.hfsx_server.specs.Headline.{AreTaken, Entry, Headline, IsAnswered, IsAnsweredToTheLast, IsFinished, lines_of, replies_of, tree_after}
 use Rattle.hfsx_server.specs.Serving.{RunSoFar, Rests, SurvivesFrom}
 use Rattle.hfsx_server.specs.Volume.{IsFault, IsRefusal, MountsTo, Refuses, Tree}
 use Rattle.hfsx_server.proofs.Runs.{headline_crash, replies_of-none, survives_early, tree_after-none}
@@ -70,3 +70,19 @@ refusal_of image why (inr (inr refuses)) is = refuses
 
 pub is_refusal : (why : MountFault) → (why ≡ fault.Disk → ⊥) → (why ≡ fault.Memory → ⊥) → IsRefusal why
 is_refusal why disk memory = (disk, memory)
+
+pub answered_before : (start : Tree) (old mid : State) (source : Stream) (run : List Entry) (new : State) (source_new : Stream) → mid.told ≡ old.told → IsAnswered start mid source run new source_new → IsAnswered start old source run new source_new
+answered_before start old mid source run new source_new told answered = record {
+  run_is = answered.run_is;
+  told = answered.told ∙ ap (λ (l : List ℕ). l ++ replies_of run) told;
+  lines = answered.lines;
+}
+
+pub last_before : (start : Tree) (old mid : State) (source : Stream) (run : List Entry) (new : State) (source_new : Stream) → mid.told ≡ old.told → IsAnsweredToTheLast start mid source run new source_new
+    → IsAnsweredToTheLast start old source run new source_new
+last_before start old mid source run new source_new told answered = record {
+  run_is = answered.run_is;
+  told = answered.told ∙ ap (λ (l : List ℕ). l ++ replies_of run) told;
+  count = answered.count;
+  lines = answered.lines;
+}

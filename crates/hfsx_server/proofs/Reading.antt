@@ -78,6 +78,10 @@ module _ (limit : ℕ) (taken : List ℕ) (old : Stream) (taken_now : List ℕ) 
     reads.bytes tells ∙ ap (λ (l : List ℕ). reads.text ++ l) (none (still tells) ∙ sym (at_end (still tells))) ∙ sym (append_assoc reads.text taken_new new.left),
   )
 
+  -- nothing was held, and nothing more came: what is gone is the text
+  pub reads_begun : (new : Stream) → taken_now ≡ [] → new.left ≡ now.left → IsTrue old.tells → (begun : List ℕ) × HasNoNewline begun × (ahead taken old ≡ begun ++ new.left)
+  reads_begun new none kept tells = (reads.text, reads.no_newline, reads.bytes tells ∙ ap (λ (l : List ℕ). reads.text ++ (l ++ now.left)) none ∙ ap (λ (l : List ℕ). reads.text ++ l) (sym kept))
+
   -- no more was taken than the line needs, where one byte more was read, and where none was
   pub reads_few_byte : (taken_new : List ℕ) (new : Stream) (byte : ℕ) → ((taken_now ≡ [] → ⊥) → new ≡ now) → length taken_new ≤ 512 → (IsTrue now.tells → ahead taken_now now ≡ byte ∷ ahead taken_new new) → IsTrue old.tells → TakesNoMore taken old new
   reads_few_byte taken_new new byte still_there few came tells =

@@ -15,8 +15,10 @@ use Rattle.jnl_format.specs.Recovery.{header_of_volume, info_sector_of, journali
 use Rattle.jnl_format.specs.Keeping.{KeepsHeader}
 use Rattle.jnl_format.specs.Keeping.{IsSame}
 use Rattle.hfs_model.specs.Names.{are_thin_names}
-use Rattle.hfs_model.specs.Thin.{AreThin, IsHeader, thin_header, one_run, special_fork}
+use Rattle.hfs_model.specs.Thin.{AreThin, IsHeader, is_clean_in, thin_header, one_run, special_fork, writes_in}
 use Rattle.hfs_model.specs.declared.parts.Parts.{Parts}
+use Rattle.hfs_model.proofs.HeaderChecks.{is_clean_at, writes_at}
+use Rattle.hfsx_server.specs.Serving.{KeepsMark}
 use Rattle.hfsx_server.specs.Volume.{Holds, Tree}
 
 fits_extent : (s c : ℕ) → s < 2 ^ 32 → c < 2 ^ 32 → FitsExtent (record { start = s; count = c })
@@ -142,3 +144,17 @@ thin_keeps old new size was is = record {
   same = subst (λ (h : VolumeHeader). IsSame h (header_of_volume new)) (sym was.is) (subst (λ (h : VolumeHeader). IsSame (thin_header was.folders was.is_clean was.writes) h) (sym is.is) (thin_same was.folders is.folders was.is_clean is.is_clean was.writes is.writes));
   accepted = ap (λ n. header_refusal (header_of_volume new) n) size ∙ thin_accepted new is;
 }
+
+-- ---- the mark
+
+pub keeps_mark : (old new : Parts) (tree : Tree) (folders : ℕ) → AreThin old tree → new.header ≡ header_bytes (thin_header folders (is_clean_in old.header) (writes_in old.header)) → KeepsMark old new
+keeps_mark old new tree folders thin is =
+    let head = thin.header in
+    let count : writes_in old.header ≡ head.writes = ap writes_in head.is ∙ writes_at (length tree) head.is_clean head.writes head.fits in
+    record {
+      clean = ap is_clean_in is ∙ is_clean_at folders (is_clean_in old.header) (writes_in old.header);
+      writes = ap writes_in is ∙ writes_at folders (is_clean_in old.header) (writes_in old.header) (omega (arith, count, head.fits));
+    }
+
+pub same_mark : (parts : Parts) → KeepsMark parts parts
+same_mark parts = record { clean = refl; writes = refl }

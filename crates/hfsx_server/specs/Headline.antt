@@ -5,9 +5,10 @@ use Rattle.sector_disk.specs.Clock.{TimePasses}
 use Rattle.sector_disk.specs.Lists.{Content}
 use Rattle.sector_disk.specs.Source.{Stream}
 use Rattle.hfs_language.specs.Language.{command_of}
-use Rattle.hfs_language.specs.Lines.{lines}
+use Rattle.hfs_language.specs.Lines.{lines, HasNoNewline}
 use Rattle.hfs_language.specs.Text.{reply_text}
 use Rattle.hfs_language.specs.declared.reply.Reply.{Reply}
+use Rattle.hfsx_server.specs.Input.{SplitsIntoLines}
 use Rattle.hfsx_server.specs.Session.{step}
 use Rattle.hfsx_server.specs.Volume.{Tree, MountsTo, IsUnmounted}
 
@@ -80,3 +81,24 @@ pub record IsFinished (start : Tree) (old : State) (source : Stream) (run : List
   pub end : IsTrue source.tells → source_new.left ≡ []
   pub told : new.told ≡ old.told ++ replies_of run
   pub unmounted : IsUnmounted new (tree_after start run)
+
+-- What was taken of a source that failed: the lines of the run, and behind them the begin of a line without its newline.
+pub record AreAllTaken (source : Stream) (run : List Entry) (source_new : Stream) : Type 0 where
+  pub used : List ℕ
+  pub begun : List ℕ
+  pub left : source.left ≡ used ++ begun ++ source_new.left
+  pub whole : SplitsIntoLines used (lines_of run) (begun ++ source_new.left)
+  pub no_newline : HasNoNewline begun
+
+-- A run that the source ended by a fault: each whole line that was taken has its reply told.
+pub record IsAnswered (start : Tree) (old : State) (source : Stream) (run : List Entry) (new : State) (source_new : Stream) : Type 0 where
+  pub run_is : IsRun start run
+  pub told : new.told ≡ old.told ++ replies_of run
+  pub lines : IsTrue source.tells → AreAllTaken source run source_new
+
+-- A run that ended at line number 4,294,967,295: each line before that one has its reply told.
+pub record IsAnsweredToTheLast (start : Tree) (old : State) (source : Stream) (run : List Entry) (new : State) (source_new : Stream) : Type 0 where
+  pub run_is : IsRun start run
+  pub told : new.told ≡ old.told ++ replies_of run
+  pub count : length run ≡ 4294967295
+  pub lines : IsTrue source.tells → AreTaken source run source_new

@@ -13,7 +13,7 @@ use Rattle.jnl_store.specs.declared.store.Store.{Store}
 use Rattle.hfs_language.specs.Language.{command_of}
 use Rattle.hfs_language.specs.Lines.{lines}
 use Rattle.hfs_model.specs.Parts.{OnlyHeader}
-use Rattle.hfs_model.specs.Thin.{AreThin, IsJournal, info_text, thin_header, writes_in}
+use Rattle.hfs_model.specs.Thin.{AreThin, IsJournal, info_text, is_clean_in, thin_header, writes_in}
 use Rattle.hfs_model.specs.declared.parts.Parts.{Parts}
 use Rattle.hfsx_server.specs.Finding.{IsLargePlan}
 use Rattle.hfsx_server.specs.Headline.{Entry, IsPrefix, IsRun, Survives, lines_of, replies_of, tree_after}
@@ -84,6 +84,11 @@ pub record IsMarked (folders : ℕ) (old new : Parts) : Type 0 where
 pub record IsMarkedClean (folders : ℕ) (old new : Parts) : Type 0 where
   pub header : new.header ≡ header_bytes (thin_header folders true (writes_in old.header))
   pub others : OnlyHeader old new
+
+-- the header's mark and its write count are as they were
+pub record KeepsMark (old new : Parts) : Type 0 where
+  pub clean : is_clean_in new.header ≡ is_clean_in old.header
+  pub writes : writes_in new.header ≡ writes_in old.header
 
 -- The server may serve its volume on this rig. There is room for the one sector that its end needs.
 pub record IsServing (server : Server) (rig : State) : Type 0 where

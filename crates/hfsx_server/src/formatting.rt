@@ -2,6 +2,8 @@
 ghost use Rattle.std.specs.Prelude.{◌≡◌, ◌≢◌, ◌↔◌, ◌++◌, [], IsTrue, OnOk};
 ghost use Rattle.sector_disk.specs.Cause.{Rose};
 ghost use Rattle.sector_disk.specs.Disk.{SameDisk, SameSink, content};
+ghost use Rattle.hfs_model.specs.Parts.{parts_of};
+ghost use Rattle.hfs_model.specs.Thin.{AreFresh};
 ghost use Rattle.hfsx_server.specs.Cause.{IsCause};
 ghost use Rattle.hfsx_server.specs.Telling.{Tells, refusal_text, size_refusal, formatted_text};
 ghost use Rattle.hfsx_server.specs.Volume.{IsUnmounted, MountsTo};
@@ -19,6 +21,9 @@ pub fn format<R: Rig>(alloc: Global, rig: &mut R) -> Status
     ensures refused { (result ≡ Status.Refused) ↔ ((R.state rig.old).sectors ≢ VOLUME_SECTORS) }
     ensures refusal { result ≡ Status.Refused → Tells (R.state rig.old) (R.state rig.new) (refusal_text (size_refusal (R.state rig.old).sectors)) }
     ensures unmounted { IsTrue (R.state rig.old).tells → result ≡ Status.Done → IsUnmounted (R.state rig.new) [] }
+    // Also where a volume leaves it open its parts are as they are formatted: write count 0, and a journal that begins at its
+    // second sector and is empty.
+    ensures fresh { IsTrue (R.state rig.old).tells → result ≡ Status.Done → AreFresh (parts_of (content (R.state rig.new))) }
     ensures mounts { IsTrue (R.state rig.old).tells → result ≡ Status.Done → MountsTo (content (R.state rig.new)) [] }
     ensures told { IsTrue (R.state rig.old).tells → result ≡ Status.Done → (R.state rig.new).told ≡ (R.state rig.old).told ++ formatted_text }
     ensures no_usage { result ≢ Status.Usage }
@@ -52,6 +57,7 @@ pub fn format<R: Rig>(alloc: Global, rig: &mut R) -> Status
 fn make_volume<D: SectorDisk>(alloc: Global, disk: &mut D) -> Result<(), Trouble>
     requires { (D.state disk.old).sectors ≡ VOLUME_SECTORS }
     ensures unmounted { IsTrue (D.state disk.old).tells → OnOk result (IsUnmounted (D.state disk.new) []) }
+    ensures fresh { IsTrue (D.state disk.old).tells → OnOk result (AreFresh (parts_of (content (D.state disk.new)))) }
     ensures same { SameDisk (D.state disk.old) (D.state disk.new) }
     ensures sink { SameSink (D.state disk.old) (D.state disk.new) }
     ensures cause { IsCause Trouble.Disk (D.state disk.old).faults (D.state disk.new).faults result }

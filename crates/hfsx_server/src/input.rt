@@ -1,6 +1,7 @@
 // Lines of a source, one by one, of which no more than a limit is held.
-ghost use Rattle.std.specs.Prelude.{◌≡◌, ◌≢◌, ◌<◌, ◌≤◌, ◌++◌, ◌∷◌, ◌-◌, ◌↔◌, [], ℕ, List, IsTrue, length, MatchOption, IfOk, IfSome, IfNone, OnSome, OnOk, OnErr};
+ghost use Rattle.std.specs.Prelude.{◌≡◌, ◌≢◌, ◌<◌, ◌≤◌, ◌++◌, ◌∷◌, ◌-◌, ◌↔◌, [], ℕ, List, IsErrOf, IsTrue, length, MatchOption, IfOk, IfSome, IfNone, OnSome, OnOk, OnErr};
 ghost use Rattle.sector_disk.specs.Cause.{HasCause};
+ghost use Rattle.hfs_language.specs.Lines.{HasNoNewline};
 ghost use Rattle.hfsx_server.specs.Cause.{IsCause};
 ghost use Rattle.hfsx_server.specs.Input.{ahead, weight, IsLine, SameSource, TakesLines, TakesNoMore};
 
@@ -92,6 +93,8 @@ impl Input {
         // Whatever it answers, the bytes that were taken stood first.
         ensures gone { IsTrue (S.stream source.old).tells → (gone : List ℕ) × (ahead self.old (S.stream source.old) ≡ gone ++ (S.stream source.new).left) }
         ensures no_more { IsTrue (S.stream source.old).tells → TakesNoMore self.old (S.stream source.old) (S.stream source.new) }
+        // Where the source failed, what is gone ends no line.
+        ensures begun { IsTrue (S.stream source.old).tells → IsErrOf result InputFault.Source → (begun : List ℕ) × HasNoNewline begun × (ahead self.old (S.stream source.old) ≡ begun ++ (S.stream source.new).left) }
         // Each line brings the end nearer.
         ensures nearer { IfOk result (λ next. OnSome next (weight self.new (S.stream source.new) < weight self.old (S.stream source.old))) }
         ensures same { SameSource (S.stream source.old) (S.stream source.new) }
@@ -116,7 +119,7 @@ impl Input {
     fn next_byte<S: Source>(&mut self, source: &mut S) -> Result<Option<u8>, Failed>
         ensures byte { IsTrue (S.stream source.old).tells → IfOk result (λ next. IfSome next (λ byte. ahead self.old (S.stream source.old) ≡ byte ∷ ahead self.new (S.stream source.new))) }
         ensures end { IsTrue (S.stream source.old).tells → IfOk result (λ next. IfNone next ((ahead self.old (S.stream source.old) ≡ []) × (ahead self.new (S.stream source.new) ≡ []))) }
-        ensures kept { OnErr result ((S.stream source.new).left ≡ (S.stream source.old).left) }
+        ensures kept { OnErr result (((S.stream source.new).left ≡ (S.stream source.old).left) × (self.old ≡ [])) }
         ensures still { self.old ≢ [] → S.stream source.new ≡ S.stream source.old }
         ensures few { length self.new ≤ 512 }
         ensures nearer { IfOk result (λ next. OnSome next (weight self.new (S.stream source.new) < weight self.old (S.stream source.old))) }

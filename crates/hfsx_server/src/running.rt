@@ -3,7 +3,7 @@ ghost use Rattle.std.specs.Prelude.{◌≡◌, ◌≢◌, ◌⊎◌, ◌≤◌, 
 ghost use Rattle.sector_disk.specs.Disk.{CrashesLeave, SameDisk, SameSink, HasNothingPending, content};
 ghost use Rattle.hfs_language.specs.Lines.{lines};
 ghost use Rattle.hfsx_server.specs.Cause.{IsCauseOf};
-ghost use Rattle.hfsx_server.specs.Headline.{AreTaken, Entry, Headline, IsFinished};
+ghost use Rattle.hfsx_server.specs.Headline.{AreTaken, Entry, Headline, IsAnswered, IsAnsweredToTheLast, IsFinished};
 ghost use Rattle.hfsx_server.specs.Input.{SameSource};
 ghost use Rattle.hfsx_server.specs.Serving.{RunSoFar, IsServing};
 ghost use Rattle.hfsx_server.specs.Telling.{ToldRefusal};
@@ -21,6 +21,10 @@ pub fn run<R: Rig, S: Source>(alloc: Global, rig: &mut R, source: &mut S) -> Sta
     ensures headline { IsTrue (R.state rig.old).tells → HasNothingPending (R.state rig.old) → (start : Tree) → MountsTo (content (R.state rig.old)) start → (run : List Entry)
         × Headline start (R.state rig.old) (S.stream source.old) run (R.state rig.new) (S.stream source.new)
         × (result ≡ Status.Done → IsFinished start (R.state rig.old) (S.stream source.old) run (R.state rig.new) (S.stream source.new)) }
+    ensures source_stopped { IsTrue (R.state rig.old).tells → (start : Tree) → MountsTo (content (R.state rig.old)) start → result ≡ Status.Source
+        → (run : List Entry) × IsAnswered start (R.state rig.old) (S.stream source.old) run (R.state rig.new) (S.stream source.new) }
+    ensures many_stopped { IsTrue (R.state rig.old).tells → (start : Tree) → MountsTo (content (R.state rig.old)) start → result ≡ Status.TooMany
+        → (run : List Entry) × IsAnsweredToTheLast start (R.state rig.old) (S.stream source.old) run (R.state rig.new) (S.stream source.new) }
     ensures end { IsTrue (S.stream source.old).tells → result ≡ Status.Done → (S.stream source.new).left ≡ [] }
     ensures many { IsTrue (S.stream source.old).tells → IsTrue (R.state rig.old).tells → result ≡ Status.TooMany → 4294967295 < length (lines (S.stream source.old).left) }
     ensures few { IsTrue (S.stream source.old).tells → IsTrue (R.state rig.old).tells → HasNothingPending (R.state rig.old) → IsMountable (content (R.state rig.old)) → result ≡ Status.Done → length (lines (S.stream source.old).left) ≤ 4294967295 }
@@ -55,6 +59,8 @@ fn serve<R: Rig, S: Source>(
     ensures served { IsTrue (R.state rig.old).tells → (run : List Entry) × RunSoFar server.old.names (R.state rig.old) run (R.state rig.new)
         × (IsTrue (S.stream source.old).tells → AreTaken (S.stream source.old) run (S.stream source.new))
         × (result ≡ Status.Done → IsFinished server.old.names (R.state rig.old) (S.stream source.old) run (R.state rig.new) (S.stream source.new) × (length run ≤ 4294967295)) }
+    ensures source_stopped { IsTrue (R.state rig.old).tells → result ≡ Status.Source → (run : List Entry) × IsAnswered server.old.names (R.state rig.old) (S.stream source.old) run (R.state rig.new) (S.stream source.new) }
+    ensures many_stopped { IsTrue (R.state rig.old).tells → result ≡ Status.TooMany → (run : List Entry) × IsAnsweredToTheLast server.old.names (R.state rig.old) (S.stream source.old) run (R.state rig.new) (S.stream source.new) }
     ensures end { IsTrue (S.stream source.old).tells → result ≡ Status.Done → (S.stream source.new).left ≡ [] }
     ensures many { IsTrue (R.state rig.old).tells → IsTrue (S.stream source.old).tells → result ≡ Status.TooMany → 4294967295 < length (lines (S.stream source.old).left) }
     ensures no_refused { result ≢ Status.Refused }

@@ -1,10 +1,10 @@
 // A volume that is served: line after line is answered, each as a transaction of its own.
-ghost use Rattle.std.specs.Prelude.{◌≡◌, ◌≢◌, ◌⊎◌, ◌<◌, ◌≤◌, ◌+◌, ◌++◌, ◌∷◌, [], ℕ, List, IsTrue, IsErrOf, IfOk, IfErr, OnOk, OnErr, length};
+ghost use Rattle.std.specs.Prelude.{◌≡◌, ◌≢◌, ◌⊎◌, ◌↔◌, ◌<◌, ◌≤◌, ◌+◌, ◌++◌, ◌∷◌, [], ℕ, List, IsTrue, IsErrOf, IfOk, IfErr, OnOk, OnErr, length};
 ghost use Rattle.sector_disk.specs.Cause.{HasCause};
 ghost use Rattle.sector_disk.specs.Disk.{CrashesLeave, SameDisk, SameSink, ToldPrefix, content};
 ghost use Rattle.jnl_store.specs.Store.{spare_of};
 ghost use Rattle.hfs_language.specs.Language.{command_of};
-ghost use Rattle.hfs_language.specs.Lines.{lines};
+ghost use Rattle.hfs_language.specs.Lines.{lines, HasNoNewline};
 ghost use Rattle.hfs_model.specs.Names.{are_thin_names};
 ghost use Rattle.hfs_model.specs.Parts.{OnlyFolders, OnlyHeader};
 ghost use Rattle.hfs_language.specs.Text.{reply_text};
@@ -13,7 +13,7 @@ ghost use Rattle.hfsx_server.specs.Cause.{IsCause};
 ghost use Rattle.hfsx_server.specs.Headline.{Entry, lines_of, tree_after};
 ghost use Rattle.hfsx_server.specs.Input.{ahead, weight, IsLine, SameSource, TakesLines, TakesNoMore};
 ghost use Rattle.hfsx_server.specs.Session.{step, with_folder, answer, after};
-ghost use Rattle.hfsx_server.specs.Serving.{SameButLines, entry_of, RunSoFar, IsIdle, IsMarkedClean, IsServing, Rests, Serves, Stops};
+ghost use Rattle.hfsx_server.specs.Serving.{SameButLines, entry_of, RunSoFar, IsIdle, IsMarkedClean, IsServing, KeepsMark, Rests, Serves, Stops};
 ghost use Rattle.hfsx_server.specs.Volume.{Tree, Holds, IsUnmounted, MountsTo};
 
 use crate::changing::{change_folders, change_header};
@@ -64,11 +64,20 @@ impl Server {
         ensures served { IsTrue (R.state rig.old).tells → OnOk result ((run : List Entry) × Serves self.old.names (R.state rig.old) run (R.state rig.new) × (self.new.names ≡ tree_after self.old.names run)
             × (self.new.lines ≡ self.old.lines + length run) × (IsTrue (S.stream source.old).tells → TakesLines self.old.input (S.stream source.old) (lines_of run) self.new.input (S.stream source.new))) }
         ensures fits { OnOk result (self.old.lines ≤ 4294967295 → self.new.lines ≤ 4294967295) }
+        // No line changes bit 8 of the header, nor the write count.
+        ensures mark { OnOk result (KeepsMark self.old.parts self.new.parts) }
         ensures end { IsTrue (S.stream source.old).tells → IfOk result (λ served. served ≡ Served.End → ahead self.new.input (S.stream source.new) ≡ []) }
+        // It answers More exactly where it answered a line, and End exactly where no byte was ahead.
+        ensures counts { IfOk result (λ served. (served ≡ Served.More → self.new.lines ≡ self.old.lines + 1) × (served ≡ Served.End → self.new.lines ≡ self.old.lines)) }
+        ensures ends { IsTrue (S.stream source.old).tells → IfOk result (λ served. served ≡ Served.End ↔ (ahead self.old.input (S.stream source.old) ≡ [])) }
         ensures nearer { IfOk result (λ served. served ≡ Served.More → weight self.new.input (S.stream source.new) < weight self.old.input (S.stream source.old)) }
         // Whatever stops it, a crash leaves the tree before the line or after it, and of its reply a front was told.
         ensures stopped { IsTrue (R.state rig.old).tells → OnErr result ((run : List Entry) × RunSoFar self.old.names (R.state rig.old) run (R.state rig.new)
             × (IsTrue (S.stream source.old).tells → Stops self.old.input (S.stream source.old) run (S.stream source.new))) }
+        // Where the source failed or there are too many lines, nothing was done on the rig; a source that failed gave no whole
+        // line more.
+        ensures quiet { IsErrOf result ServeFault.Source ⊎ IsErrOf result ServeFault.TooMany → R.state rig.new ≡ R.state rig.old }
+        ensures begun { IsTrue (S.stream source.old).tells → IsErrOf result ServeFault.Source → (begun : List ℕ) × HasNoNewline begun × (ahead self.old.input (S.stream source.old) ≡ begun ++ (S.stream source.new).left) }
 
         ensures same { SameDisk (R.state rig.old) (R.state rig.new) }
         ensures same_source { SameSource (S.stream source.old) (S.stream source.new) }
@@ -112,6 +121,7 @@ impl Server {
         ensures served { IsTrue (R.state rig.old).tells → (text : List ℕ) → IsLine MOST_BYTES text line.now → OnOk result (Serves self.old.names (R.state rig.old) (entry_of self.old.names text ∷ []) (R.state rig.new)) }
         ensures stopped { IsTrue (R.state rig.old).tells → (text : List ℕ) → IsLine MOST_BYTES text line.now → OnErr result (RunSoFar self.old.names (R.state rig.old) (entry_of self.old.names text ∷ []) (R.state rig.new)) }
         ensures names { (text : List ℕ) → IsLine MOST_BYTES text line.now → OnOk result (self.new.names ≡ after self.old.names text) }
+        ensures mark { OnOk result (KeepsMark self.old.parts self.new.parts) }
         ensures input { (self.new.input ≡ self.old.input) × (self.new.lines ≡ self.old.lines) }
         ensures same { SameDisk (R.state rig.old) (R.state rig.new) }
         ensures no_source { IsErrOf result ServeFault.Source → ⊥ }
@@ -138,6 +148,7 @@ impl Server {
         ensures serving { OnOk result (IsServing self.new (D.state disk.new)) }
         ensures text { IfOk result (λ text. text ≡ reply_text (step self.old.names read).0) }
         ensures names { OnOk result (self.new.names ≡ (step self.old.names read).1) }
+        ensures mark { OnOk result (KeepsMark self.old.parts self.new.parts) }
         ensures crash { IsTrue (D.state disk.old).tells → CrashesLeave (D.state disk.old) (D.state disk.new) (λ image. MountsTo image self.old.names ⊎ MountsTo image (step self.old.names read).1) }
         ensures input { (self.new.input ≡ self.old.input) × (self.new.lines ≡ self.old.lines) }
         ensures same { SameDisk (D.state disk.old) (D.state disk.new) }
@@ -161,6 +172,7 @@ impl Server {
         requires room { IsTrue (are_thin_names (with_folder self.old.names folder)) }
         ensures serving { OnOk result (IsServing self.new (D.state disk.new)) }
         ensures names { OnOk result (self.new.names ≡ with_folder self.old.names folder) }
+        ensures mark { OnOk result (KeepsMark self.old.parts self.new.parts) }
         ensures crash { IsTrue (D.state disk.old).tells → CrashesLeave (D.state disk.old) (D.state disk.new) (λ image. MountsTo image self.old.names ⊎ MountsTo image (with_folder self.old.names folder)) }
         ensures input { (self.new.input ≡ self.old.input) × (self.new.lines ≡ self.old.lines) }
         ensures same { SameDisk (D.state disk.old) (D.state disk.new) }
@@ -183,6 +195,7 @@ impl Server {
         requires room { IsTrue (are_thin_names (self.old.names ++ name ∷ [])) }
         ensures serving { OnOk result (IsServing self.new (D.state disk.new)) }
         ensures names { OnOk result (self.new.names ≡ self.old.names ++ name ∷ []) }
+        ensures mark { OnOk result (KeepsMark self.old.parts self.new.parts) }
         ensures crash { IsTrue (D.state disk.old).tells → CrashesLeave (D.state disk.old) (D.state disk.new) (λ image. MountsTo image self.old.names ⊎ MountsTo image (self.old.names ++ name ∷ [])) }
         ensures input { (self.new.input ≡ self.old.input) × (self.new.lines ≡ self.old.lines) }
         ensures same { SameDisk (D.state disk.old) (D.state disk.new) }

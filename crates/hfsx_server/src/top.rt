@@ -3,7 +3,9 @@ ghost use Rattle.std.specs.Prelude.{◌≡◌, ◌≢◌, ◌⊎◌, ◌↔◌, 
 ghost use Rattle.sector_disk.specs.Cause.{Rose};
 ghost use Rattle.sector_disk.specs.Disk.{SameDisk, HasNothingPending, content};
 ghost use Rattle.hfs_language.specs.Lines.{lines};
-ghost use Rattle.hfsx_server.specs.Headline.{Entry, Headline, IsFinished};
+ghost use Rattle.hfs_model.specs.Parts.{parts_of};
+ghost use Rattle.hfs_model.specs.Thin.{AreFresh};
+ghost use Rattle.hfsx_server.specs.Headline.{Entry, Headline, IsAnswered, IsAnsweredToTheLast, IsFinished};
 ghost use Rattle.hfsx_server.specs.Telling.{ToldRefusal, ToldUnlessFailed, refusal_text, size_refusal, usage_text, formatted_text};
 ghost use Rattle.hfsx_server.specs.Volume.{Tree, IsMountable, IsUnmounted, MountsTo};
 ghost use Rattle.hfsx_server.specs.Words.{texts, AreRun, AreFormat, AreInUse};
@@ -34,6 +36,9 @@ pub fn hfsx<R: Rig, S: Source>(
     // tree without folders, and that its line was told.
     ensures formatted { AreFormat (texts words.now) (R.state rig.old).sectors → IsTrue (R.state rig.old).tells → result ≡ Status.Done
         → IsUnmounted (R.state rig.new) [] × MountsTo (content (R.state rig.new)) [] × ((R.state rig.new).told ≡ (R.state rig.old).told ++ formatted_text) }
+    // Its parts are as they are formatted, also where a volume leaves it open: write count 0, and a journal that begins at its
+    // second sector and is empty.
+    ensures format_fresh { AreFormat (texts words.now) (R.state rig.old).sectors → IsTrue (R.state rig.old).tells → result ≡ Status.Done → AreFresh (parts_of (content (R.state rig.new))) }
 
     // `run`: status 1 stands exactly where the image isn't mountable, unless it couldn't be read, and then the first refusal
     // that stands is told.
@@ -46,6 +51,11 @@ pub fn hfsx<R: Rig, S: Source>(
     ensures headline { AreRun (texts words.now) → IsTrue (R.state rig.old).tells → HasNothingPending (R.state rig.old) → (start : Tree) → MountsTo (content (R.state rig.old)) start → (run : List Entry)
         × Headline start (R.state rig.old) (S.stream source.old) run (R.state rig.new) (S.stream source.new)
         × (result ≡ Status.Done → IsFinished start (R.state rig.old) (S.stream source.old) run (R.state rig.new) (S.stream source.new)) }
+    // Status 4: each whole line that was taken has its reply told. Status 7: each line before the one too many.
+    ensures source_stopped { AreRun (texts words.now) → IsTrue (R.state rig.old).tells → (start : Tree) → MountsTo (content (R.state rig.old)) start → result ≡ Status.Source
+        → (run : List Entry) × IsAnswered start (R.state rig.old) (S.stream source.old) run (R.state rig.new) (S.stream source.new) }
+    ensures many_stopped { AreRun (texts words.now) → IsTrue (R.state rig.old).tells → (start : Tree) → MountsTo (content (R.state rig.old)) start → result ≡ Status.TooMany
+        → (run : List Entry) × IsAnsweredToTheLast start (R.state rig.old) (S.stream source.old) run (R.state rig.new) (S.stream source.new) }
     ensures end { AreRun (texts words.now) → IsTrue (S.stream source.old).tells → result ≡ Status.Done → (S.stream source.new).left ≡ [] }
     // Status 7 stands exactly where line number 4,294,967,295 is read.
     ensures many { IsTrue (S.stream source.old).tells → IsTrue (R.state rig.old).tells → result ≡ Status.TooMany → 4294967295 < length (lines (S.stream source.old).left) }

@@ -1,9 +1,9 @@
 // How many barriers a run calls.
 use crate::counting::Counting;
-use crate::{fresh, words};
 use hfsx_server::{Status, hfsx};
 use mem_disk::MemSource;
 use std::test::Fail;
+use test_kit::{fresh_rig, words};
 
 const LINES: &[u8] =
     b"mkdir /d0\nsync\nmkdir /d1\nsync\nmkdir /d2\nsync\nmkdir /d3\nsync\nmkdir /d4\nsync\nmkdir /d5\nsync\nmkdir /d6\nsync\nmkdir /d7\nsync\nmkdir /d8\nsync\nmkdir /d9\nsync\n";
@@ -13,7 +13,7 @@ const LINES: &[u8] =
 #[test]
 fn a_run_calls_two_barriers_a_commit(rt: HostRuntime) -> Result<(), Fail> {
     let alloc = rt.alloc();
-    let mut rig = Counting::over(fresh(alloc)?);
+    let mut rig = Counting::over(fresh_rig(alloc)?);
     let mut source = MemSource::new(alloc, LINES, 64, None)?;
     let words = words(alloc, "run v.img")?;
     assert_eq!(rt;

@@ -1,10 +1,10 @@
 // Words and sizes.
-use crate::run_on;
 use hfsx_server::Status;
 use hx_bytes::OutOfMemory;
 use mem_disk::MemRig;
 use std::alloc::Global;
 use std::test::Fail;
+use test_kit::run_on;
 
 const USAGE: &str = "usage: hfsx format IMAGE SECTORS | run IMAGE | check IMAGE | gen SEED COUNT\n";
 

@@ -1,9 +1,9 @@
 // Lines and their replies.
-use crate::{fresh, run_on};
 use hfsx_server::Status;
 use mem_disk::MemRig;
 use std::alloc::{AllocError, Global};
 use std::test::Fail;
+use test_kit::{fresh_rig, run_on};
 
 #[test]
 fn lines_are_answered(rt: HostRuntime) -> Result<(), Fail> {
@@ -49,7 +49,7 @@ fn lines_are_answered(rt: HostRuntime) -> Result<(), Fail> {
             "no Private\nno Private\nno Private\nno Private\nno Private\nno NotBuilt\nno NotBuilt\n",
         ),
     ] {
-        let mut rig = fresh(alloc)?;
+        let mut rig = fresh_rig(alloc)?;
         let ended = run_on(alloc, "run v.img", &mut rig, input.as_bytes())?;
         assert_eq!(rt; ended, Status::Done);
         assert_eq!(rt; rig.told(), told.as_bytes());
@@ -60,14 +60,14 @@ fn lines_are_answered(rt: HostRuntime) -> Result<(), Fail> {
 #[test]
 fn folders_are_there_in_a_second_run(rt: HostRuntime) -> Result<(), Fail> {
     let alloc = rt.alloc();
-    let mut rig = fresh(alloc)?;
+    let mut rig = fresh_rig(alloc)?;
     run_on(alloc, "run v.img", &mut rig, b"mkdir /x\nmkdir /y\n")?;
     // The newest values and the oldest: nothing is pending.
     for choice in [0, 1] {
         let image = rig.image(alloc, choice)?;
         let mut again = MemRig::from_image(alloc, &image)?;
-        run_on(alloc, "run v.img", &mut again, b"ls /\n")?;
-        assert_eq!(rt; again.told(), b"ok 2 x/ y/\n".as_slice());
+        run_on(alloc, "run v.img", &mut again, b"mkdir /a\nls /\n")?;
+        assert_eq!(rt; again.told(), b"ok\nok 3 a/ x/ y/\n".as_slice());
     }
     Ok(())
 }
@@ -92,7 +92,7 @@ fn a_long_line_is_refused_and_the_next_one_served(rt: HostRuntime) -> Result<(),
         // 140,001 bytes.
         (139_994, "no TooLong\nok 0\n"),
     ] {
-        let mut rig = fresh(alloc)?;
+        let mut rig = fresh_rig(alloc)?;
         let mut input = long_line(alloc, letters)?;
         input.extend_from_slice(b"ls /\n")?;
         let ended = run_on(alloc, "run v.img", &mut rig, &input)?;

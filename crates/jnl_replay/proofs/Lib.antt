@@ -1,3 +1,4 @@
+pub mod Copies
 pub mod Checks
 pub mod Common
 pub mod Filling

@@ -1,3 +1,4 @@
+pub mod Buffered
 pub mod Homing
 pub mod Peeking
 pub mod Pending

@@ -8,14 +8,35 @@ ghost use Rattle.jnl_format.specs.declared.blocks.Volume.{Volume};
 ghost use Rattle.jnl_replay.specs.Homing.{AreHomesOf, GrowsHomes, IsHomeMix};
 ghost use Rattle.jnl_replay.specs.Text.{words, IsText};
 
+use crate::buffered::BufferedDisk;
 use crate::homes::Homes;
 use crate::text::{Text, read_text};
 use hx_bytes::Failed;
 use jnl_format::Home;
 use sector_disk::SectorDisk;
 
-/// Writes each block of each list to its sectors, in order.
+/// Writes each block of each list to its sectors, in order. Each sector of a list's header is read once.
 pub fn write_homes<D: SectorDisk>(disk: &mut D, text: &Text) -> Result<(), Failed>
+    requires text { IsText (D.state disk.old).sectors text.now }
+    ensures written { IsTrue (D.state disk.old).tells → (volume : Volume) (homes : List Home) → AreHomesOf (D.state disk.old).sectors text.now (words text.now (content (D.state disk.old))) volume homes
+        → OnOk result (content (D.state disk.new) ≡ with_homes (words text.now (content (D.state disk.old))) homes (content (D.state disk.old))) }
+    ensures crash { IsTrue (D.state disk.old).tells → (volume : Volume) (homes : List Home) → AreHomesOf (D.state disk.old).sectors text.now (words text.now (content (D.state disk.old))) volume homes
+        → CrashesLeave (D.state disk.old) (D.state disk.new) (IsHomeMix (words text.now (content (D.state disk.old))) homes (D.state disk.old).candidates) }
+    ensures barriers { (D.state disk.new).barriers ≡ (D.state disk.old).barriers }
+    ensures same { SameDisk (D.state disk.old) (D.state disk.new) }
+    ensures sink { SameSink (D.state disk.old) (D.state disk.new) }
+    ensures cause { HasCause (D.state disk.old).faults (D.state disk.new).faults result }
+{
+    let mut buffered = BufferedDisk {
+        disk,
+        last: None,
+        before: None,
+    };
+    write_each(&mut buffered, text)
+}
+
+// The same over a disk whose last sectors are at hand.
+fn write_each<D: SectorDisk>(disk: &mut D, text: &Text) -> Result<(), Failed>
     requires text { IsText (D.state disk.old).sectors text.now }
     ensures written { IsTrue (D.state disk.old).tells → (volume : Volume) (homes : List Home) → AreHomesOf (D.state disk.old).sectors text.now (words text.now (content (D.state disk.old))) volume homes
         → OnOk result (content (D.state disk.new) ≡ with_homes (words text.now (content (D.state disk.old))) homes (content (D.state disk.old))) }

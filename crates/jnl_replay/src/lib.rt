@@ -2,6 +2,8 @@
 #![tactic(auto)]
 
 mod blocks;
+mod buffered;
+mod buffering;
 mod checking;
 mod emptying;
 mod homes;

@@ -7,6 +7,7 @@ ghost use Rattle.sector_disk.specs.Disk.{OnlyReads};
 ghost use Rattle.jnl_replay.specs.Text.{words, IsText};
 
 use crate::blocks::blocks_are_valid;
+use crate::buffered::BufferedDisk;
 use crate::text::{Text, read_text};
 use hx_bytes::Failed;
 use jnl_format::{ListHead, Volume, read_list};
@@ -14,6 +15,28 @@ use sector_disk::SectorDisk;
 
 /// The place of the first list that isn't as it must be, if there is one.
 pub fn first_bad_list<D: SectorDisk>(
+    disk: &mut D,
+    text: &Text,
+    volume: &Volume,
+) -> Result<Option<u64>, Failed>
+    requires text { IsText (D.state disk.old).sectors text.now }
+    ensures value { IsTrue (D.state disk.old).tells → IfOk result (λ place.
+        let bytes = words text.now (content (D.state disk.old)) in
+        place ≡ bad_list volume.now text.now.order text.now.blhdr bytes (length bytes) 0) }
+    ensures inside { IfOk result (λ place. IfSome place (λ at. at < text.now.length)) }
+    ensures reads { OnlyReads (D.state disk.old) (D.state disk.new) }
+    ensures cause { HasCause (D.state disk.old).faults (D.state disk.new).faults result }
+{
+    let mut buffered = BufferedDisk {
+        disk,
+        last: None,
+        before: None,
+    };
+    walk_lists(&mut buffered, text, volume)
+}
+
+// The same over a disk whose last sectors are at hand.
+fn walk_lists<D: SectorDisk>(
     disk: &mut D,
     text: &Text,
     volume: &Volume,

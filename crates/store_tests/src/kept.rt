@@ -1,8 +1,8 @@
 //! What of a disk's writes is stable, as a system keeps it that loses pages.
-use crate::volumes::put;
 use hx_bytes::{OutOfMemory, Sector};
 use mem_disk::{MemImage, MemRig};
 use std::alloc::Global;
+use test_kit::put;
 
 /// What was written, and what of it is stable. A barrier that answers `Ok` makes stable what was written since the last
 /// barrier, whether that one answered `Ok` or not. So what was written before a barrier that failed is lost, though

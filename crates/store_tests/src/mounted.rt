@@ -6,9 +6,9 @@ use crate::Quiet;
 use hx_bytes::OutOfMemory;
 use jnl_replay::replay;
 use jnl_store::{Space, Store, StoreFault};
-use replay_tests::find_plan;
 use sector_disk::{SectorDisk, SectorSpace, SectorView};
 use std::alloc::Global;
+use test_kit::find_plan;
 
 /// The sectors of the volumes that are mounted.
 pub const SECTORS: u64 = 2048;

@@ -2,11 +2,10 @@
 use crate::Quiet;
 use crate::kept::Kept;
 use crate::mounted::SECTORS;
-use hx_bytes::{Order, OutOfMemory, Sector};
+use hx_bytes::{Order, OutOfMemory};
 use mem_disk::{MemImage, MemRig};
-use replay_tests::{BASE, INFO, header_block, info_block, volume_header};
-use sector_disk::SectorDisk;
 use std::alloc::Global;
+use test_kit::{BASE, INFO, header_block, info_block, put, volume_header};
 
 // The version `HFSJ`.
 const JOURNALING: u32 = 0x4846_534A;
@@ -20,13 +19,6 @@ pub fn volume(alloc: Global) -> Result<MemImage, OutOfMemory> {
     put(&mut rig, INFO, &info_block(1, SIZE));
     put(&mut rig, BASE, &header_block(Order::Little, 512, 512, SIZE));
     rig.image(alloc, 1)
-}
-
-/// Writes a sector that lies on the disk.
-pub fn put(rig: &mut MemRig, at: u64, sector: &Sector) {
-    if at < rig.sectors() {
-        let _wrote = rig.write(at, sector);
-    }
 }
 
 /// A disk that a barrier left so.

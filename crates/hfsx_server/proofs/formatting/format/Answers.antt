@@ -1,6 +1,6 @@
 use Rattle.std.proofs.Common.{◌≡◌, ◌<◌, ◌∙◌, ◌++◌, [], ℕ, List, IsTrue, sym, ap, subst, arith}
 use Rattle.hfsx_server.specs.Telling.{Tells, refusal_text, size_refusal, formatted_text}
-use Rattle.hfsx_server.proofs.Formatted.{unmounted_told}
+use Rattle.hfsx_server.proofs.Formatted.{fresh_told, unmounted_told}
 use Rattle.hfsx_server.proofs.Telling.{too_small, too_large}
 use Rattle.hfsx_server.proofs.ThinMounts.{unmounted_mounts}
 use Rattle.hfsx_server.proofs.formatting.format.Goals as goal
@@ -36,3 +36,6 @@ pub returns-in-Ok-tell_whole-clause-mounts : goal.returns-in-Ok-tell_whole-claus
 returns-in-Ok-tell_whole-clause-mounts g c tells _ =
     let new = g.R.SectorDisk.state c.tell_whole.new.rig in
     unmounted_mounts new [] (unmounted_told (g.R.SectorDisk.state c.make_volume.new.disk) new [] c.tell_whole.ensures.candidates (c.in-Ok.ensures.unmounted tells))
+
+pub returns-in-Ok-tell_whole-clause-fresh : goal.returns-in-Ok-tell_whole-clause-fresh
+returns-in-Ok-tell_whole-clause-fresh g c tells _ = fresh_told (g.R.SectorDisk.state c.make_volume.new.disk) (g.R.SectorDisk.state c.tell_whole.new.rig) c.tell_whole.ensures.candidates (c.in-Ok.ensures.fresh tells)

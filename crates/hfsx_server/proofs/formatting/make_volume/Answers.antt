@@ -1,7 +1,7 @@
 use Rattle.std.proofs.Common.{refl}
 use Rattle.hx_bytes.specs.declared.faults.Trouble.TheVariants.{Disk}
 use Rattle.hfsx_server.proofs.Causes.{cause_ok}
-use Rattle.hfsx_server.proofs.Formatted.{fresh_unmounted}
+use Rattle.hfsx_server.proofs.Formatted.{fresh_held, fresh_unmounted}
 use Rattle.hfsx_server.proofs.formatting.make_volume.Goals as goal
 
 pub returns-clause-unmounted : goal.returns-clause-unmounted
@@ -11,3 +11,6 @@ returns-clause-unmounted g c tells =
 
 pub returns-clause-cause : goal.returns-clause-cause
 returns-clause-cause g c = cause_ok Disk _ _ _ _ refl c.write_parts.ensures.cause.later
+
+pub returns-clause-fresh : goal.returns-clause-fresh
+returns-clause-fresh g c tells = fresh_held (g.D.SectorDisk.state c.write_parts.new.disk) c.in_ok-parts.parts (c.in_ok-write_parts.ensures.written tells) c.in_ok-parts.ensures.fresh

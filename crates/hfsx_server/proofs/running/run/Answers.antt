@@ -3,13 +3,13 @@ use Rattle.sector_disk.specs.Disk.{content}
 use Rattle.sector_disk.proofs.Writing.{same_after}
 use Rattle.hfsx_server.specs.declared.faults.MountFault.{MountFault}
 use Rattle.hfsx_server.specs.declared.status.Status.TheVariants as status
-use Rattle.hfsx_server.specs.Headline.{Entry, IsFinished}
+use Rattle.hfsx_server.specs.Headline.{Entry, IsAnswered, IsAnsweredToTheLast, IsFinished}
 use Rattle.hfsx_server.specs.Serving.{RunSoFar}
 use Rattle.hfsx_server.specs.Telling.{ToldUnlessFailed, fault_text}
 use Rattle.hfsx_server.specs.Volume.{IsFault, IsRefusal, MountsTo, Refuses, Tree}
 use Rattle.hfsx_server.proofs.Finding.{refused_image}
 use Rattle.hfsx_server.proofs.Mounted.{one_tree}
-use Rattle.hfsx_server.proofs.Ran.{few_lines, finished_before, headline_of, mounted_crashes, none_crashes, none_taken, refusal_of, rests_start}
+use Rattle.hfsx_server.proofs.Ran.{answered_before, few_lines, finished_before, headline_of, last_before, mounted_crashes, none_crashes, none_taken, refusal_of, rests_start}
 use Rattle.hfsx_server.proofs.Statuses.{rose_later, stopped_status}
 use Rattle.hfsx_server.proofs.Telling.{told_from}
 use Rattle.hfsx_server.proofs.running.run.Goals as goal
@@ -94,3 +94,35 @@ returns-else-is_refusal-clause-headline g c tells settled start mounts =
           (none_crashes start s0 s1 (c.mount.ensures.crash tells settled start mounts) c.mount.ensures.sink) (λ told. none_taken c0),
       λ is. ⊎_elim (λ d. absurd (cc (d.1, c.status.ensures, is))) (λ m. absurd (cc (m.1, c.status.ensures, is))) stop,
     )
+
+pub returns-in-Ok-clause-source_stopped : goal.returns-in-Ok-clause-source_stopped
+returns-in-Ok-clause-source_stopped g c tells start mounts is =
+    let s0 = g.R.SectorDisk.state c.args.rig.now in
+    let s1 = g.R.SectorDisk.state c.mount.new.rig in
+    let s2 = g.R.SectorDisk.state c.serve.new.rig in
+    let c0 = g.S.Source.stream c.args.source.now in
+    let c2 = g.S.Source.stream c.serve.new.source in
+    let same : c.in-Ok.server.names ≡ start = one_tree (content s0) c.in-Ok.server.names start (c.in-Ok.ensures.found tells) mounts in
+    let answered = c.serve.ensures.source_stopped (c.mount.ensures.same.tells ∙ tells) is in
+    (answered.0, answered_before start s0 s1 c0 answered.0 s2 c2 c.mount.ensures.sink.told (subst (λ (t : Tree). IsAnswered t s1 c0 answered.0 s2 c2) same answered.1))
+
+pub returns-else-is_refusal-clause-source_stopped : goal.returns-else-is_refusal-clause-source_stopped
+returns-else-is_refusal-clause-source_stopped g c tells start mounts is =
+    let stop = stopped_status c.in-Err.fault (λ is_refusal. absurd (cc (c.is_refusal.ensures.1 is_refusal, c.if-is_refusal.false))) in
+    ⊎_elim (λ d. absurd (cc (d.1, c.status.ensures, is))) (λ m. absurd (cc (m.1, c.status.ensures, is))) stop
+
+pub returns-in-Ok-clause-many_stopped : goal.returns-in-Ok-clause-many_stopped
+returns-in-Ok-clause-many_stopped g c tells start mounts is =
+    let s0 = g.R.SectorDisk.state c.args.rig.now in
+    let s1 = g.R.SectorDisk.state c.mount.new.rig in
+    let s2 = g.R.SectorDisk.state c.serve.new.rig in
+    let c0 = g.S.Source.stream c.args.source.now in
+    let c2 = g.S.Source.stream c.serve.new.source in
+    let same : c.in-Ok.server.names ≡ start = one_tree (content s0) c.in-Ok.server.names start (c.in-Ok.ensures.found tells) mounts in
+    let answered = c.serve.ensures.many_stopped (c.mount.ensures.same.tells ∙ tells) is in
+    (answered.0, last_before start s0 s1 c0 answered.0 s2 c2 c.mount.ensures.sink.told (subst (λ (t : Tree). IsAnsweredToTheLast t s1 c0 answered.0 s2 c2) same answered.1))
+
+pub returns-else-is_refusal-clause-many_stopped : goal.returns-else-is_refusal-clause-many_stopped
+returns-else-is_refusal-clause-many_stopped g c tells start mounts is =
+    let stop = stopped_status c.in-Err.fault (λ is_refusal. absurd (cc (c.is_refusal.ensures.1 is_refusal, c.if-is_refusal.false))) in
+    ⊎_elim (λ d. absurd (cc (d.1, c.status.ensures, is))) (λ m. absurd (cc (m.1, c.status.ensures, is))) stop

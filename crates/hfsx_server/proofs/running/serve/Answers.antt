@@ -1,11 +1,12 @@
-use Rattle.std.proofs.Common.{◌≡◌, ◌≢◌, ◌⊎◌, ◌<◌, ◌≤◌, ◌∙◌, ◌++◌, ℕ, List, IsTrue, Result, Err, ⊎_elim, length, refl, sym, ap, subst, arith}
+use Rattle.std.proofs.Common.{◌≡◌, ◌≢◌, ◌⊎◌, inl, inr, ◌<◌, ◌≤◌, ◌∙◌, ◌++◌, ℕ, List, IsTrue, Result, Err, ⊎_elim, length, refl, sym, ap, subst, arith}
 use Rattle.std.proofs.lemmas.List.{length-map}
+use Rattle.sector_disk.specs.Disk.{State}
 use Rattle.sector_disk.proofs.Writing.{same_after}
 use Rattle.hfsx_server.specs.declared.status.Status.TheVariants as status
-use Rattle.hfsx_server.specs.Headline.{Entry, lines_of}
+use Rattle.hfsx_server.specs.Headline.{Entry, lines_of, replies_of}
 use Rattle.hfsx_server.specs.Input.{ahead}
 use Rattle.hfsx_server.proofs.Cuts.{are_taken}
-use Rattle.hfsx_server.proofs.Answering.{Going, end_crashes, end_finished, goes_on, left_none, serving_start, stops_so, stops_taken, too_many}
+use Rattle.hfsx_server.proofs.Answering.{Going, all_whole, end_crashes, end_finished, goes_on, left_none, serving_start, stops_so, stops_taken, taken_before, too_many}
 use Rattle.hfsx_server.proofs.Statuses.{no_done, no_refused, no_usage, is_many, is_disk, is_source, is_sink, rose_later}
 use Rattle.hfsx_server.proofs.running.serve.Goals as goal
 
@@ -227,3 +228,47 @@ returns-in-Err-clause-same_source g c =
     let so = c.loop-server.invariant in
     let step = c.serve_step.ensures in
     record { tells = step.same_source.tells ∙ so.same_source.tells; names = step.same_source.names ∙ so.same_source.names }
+
+pub returns-in-Ok-End-clause-source_stopped : goal.returns-in-Ok-End-clause-source_stopped
+returns-in-Ok-End-clause-source_stopped g c tells is = ⊎_elim (λ done. absurd (cc (done, is))) (λ disk. absurd (cc (disk, is))) c.end.ensures.status
+
+pub returns-in-Ok-End-clause-many_stopped : goal.returns-in-Ok-End-clause-many_stopped
+returns-in-Ok-End-clause-many_stopped g c tells is = ⊎_elim (λ done. absurd (cc (done, is))) (λ disk. absurd (cc (disk, is))) c.end.ensures.status
+
+pub returns-in-Err-clause-source_stopped : goal.returns-in-Err-clause-source_stopped
+returns-in-Err-clause-source_stopped g c tells is =
+    let s0 = g.R.SectorDisk.state c.args.rig.now in
+    let s1 = g.R.SectorDisk.state c.loop-server.rig in
+    let c0 = g.S.Source.stream c.args.source.now in
+    let c1 = g.S.Source.stream c.loop-server.source in
+    let c2 = g.S.Source.stream c.serve_step.new.source in
+    let so = c.loop-server.invariant in
+    let going : Going c.args.server.now.names s0 c0 c.loop-server.server s1 c1 = so.going tells in
+    let failed = ap (λ fault. Err fault) (is_source c.in-Err.fault (sym c.status.ensures ∙ is)) in (
+      going.run,
+      record {
+        run_is = going.serves.run_is;
+        told = ap (λ (s : State). s.told) (c.in-Err.ensures.quiet (inl failed)) ∙ going.serves.told;
+        lines = λ told. all_whole c0 c1 c2 c.loop-server.server.input going.run (going.takes told) (c.in-Err.ensures.begun (so.same_source.tells ∙ told) failed);
+      },
+    )
+
+pub returns-in-Err-clause-many_stopped : goal.returns-in-Err-clause-many_stopped
+returns-in-Err-clause-many_stopped g c tells is =
+    let s0 = g.R.SectorDisk.state c.args.rig.now in
+    let s1 = g.R.SectorDisk.state c.loop-server.rig in
+    let c0 = g.S.Source.stream c.args.source.now in
+    let c1 = g.S.Source.stream c.loop-server.source in
+    let c2 = g.S.Source.stream c.serve_step.new.source in
+    let so = c.loop-server.invariant in
+    let going : Going c.args.server.now.names s0 c0 c.loop-server.server s1 c1 = so.going tells in
+    let failed = ap (λ fault. Err fault) (is_many c.in-Err.fault (sym c.status.ensures ∙ is)) in
+    let stop = c.in-Err.ensures.stopped (so.same.tells ∙ tells) in (
+      going.run,
+      record {
+        run_is = going.serves.run_is;
+        told = ap (λ (s : State). s.told) (c.in-Err.ensures.quiet (inr failed)) ∙ going.serves.told;
+        count = sym going.count ∙ (c.in-Err.ensures.many failed).0;
+        lines = λ told. taken_before c0 c1 c2 c.loop-server.server.input going.run stop.0 (going.takes told) (stop.2 (so.same_source.tells ∙ told));
+      },
+    )

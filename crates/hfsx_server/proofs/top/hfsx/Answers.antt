@@ -59,3 +59,9 @@ returns-in-Wrong-clause-headline g c run tells settled start mounts = absurd (c.
 pub returns-in-Run-clause-run_refused : goal.returns-in-Run-clause-run_refused
 returns-in-Run-clause-run_refused g c run tells is =
     let told = c.run.ensures.refused tells is in (told, refused_image (content (g.R.SectorDisk.state c.args.rig.now)) told.0 told.1)
+
+pub returns-then-sectors-clause-source_stopped : goal.returns-then-sectors-clause-source_stopped
+returns-then-sectors-clause-source_stopped g c run tells start mounts is = absurd (not_both (texts c.args.words.now) c.in-Format.sectors run c.in-Format.ensures)
+
+pub returns-then-sectors-clause-many_stopped : goal.returns-then-sectors-clause-many_stopped
+returns-then-sectors-clause-many_stopped g c run tells start mounts is = absurd (not_both (texts c.args.words.now) c.in-Format.sectors run c.in-Format.ensures)

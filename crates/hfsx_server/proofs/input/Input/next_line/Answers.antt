@@ -1,6 +1,6 @@
 use Rattle.std.proofs.Common.{◌≡◌, ◌<◌, ◌∷◌, [], ℕ, IsTrue, IfSome, IfNone, OnSome, false, sym, ◌∙◌, subst, arith, List}
 use Rattle.hfsx_server.specs.Input.{ahead, weight}
-use Rattle.hfsx_server.proofs.Reading.{reads_more, reads_ended, reads_last, reads_none, reads_gone, reads_gone_byte, reads_gone_end, reads_few, reads_few_byte, reads_few_end, some_text, nearer_last}
+use Rattle.hfsx_server.proofs.Reading.{reads_more, reads_ended, reads_last, reads_none, reads_gone, reads_gone_byte, reads_gone_end, reads_begun, reads_few, reads_few_byte, reads_few_end, some_text, nearer_last}
 use Rattle.hfsx_server.proofs.input.Input.next_line.Goals as goal
 
 pub loop-line-preserved : goal.loop-line-preserved
@@ -88,7 +88,7 @@ returns-in_err-next_byte-clause-gone g c =
     let now = g.S.Source.stream c.loop-line.source in
     let new = g.S.Source.stream c.next_byte.new.source in
     let reads = c.loop-line.invariant in
-    reads_gone c.args.limit c.args.self.now (g.S.Source.stream c.args.source.now) c.loop-line.self now c.loop-line.line reads new.left c.in_err-next_byte.ensures.kept
+    reads_gone c.args.limit c.args.self.now (g.S.Source.stream c.args.source.now) c.loop-line.self now c.loop-line.line reads new.left c.in_err-next_byte.ensures.kept.0
 
 pub returns-in_err-line-in-Some-clause-gone : goal.returns-in_err-line-in-Some-clause-gone
 returns-in_err-line-in-Some-clause-gone g c =
@@ -128,7 +128,7 @@ returns-in_err-next_byte-clause-no_more g c =
     let now = g.S.Source.stream c.loop-line.source in
     let new = g.S.Source.stream c.next_byte.new.source in
     reads_few c.args.limit c.args.self.now (g.S.Source.stream c.args.source.now) c.loop-line.self now c.loop-line.line c.loop-line.invariant
-    new c.next_byte.ensures.still (λ tells. c.in_err-next_byte.ensures.kept)
+    new c.next_byte.ensures.still (λ tells. c.in_err-next_byte.ensures.kept.0)
 
 pub returns-in_err-line-in-Some-clause-no_more : goal.returns-in_err-line-in-Some-clause-no_more
 returns-in_err-line-in-Some-clause-no_more g c =
@@ -137,3 +137,9 @@ returns-in_err-line-in-Some-clause-no_more g c =
     reads_few_byte c.args.limit c.args.self.now (g.S.Source.stream c.args.source.now) c.loop-line.self now c.loop-line.line c.loop-line.invariant
     c.next_byte.new.self new c.in-Some.byte c.next_byte.ensures.still c.next_byte.ensures.few
     (λ tells. subst (λ next. IfSome next (λ byte. ahead c.loop-line.self now ≡ byte ∷ ahead c.next_byte.new.self new)) c.in-Some.is (c.in_ok-next_byte.ensures.byte tells))
+
+pub returns-in_err-next_byte-clause-begun : goal.returns-in_err-next_byte-clause-begun
+returns-in_err-next_byte-clause-begun g c tells is =
+    let now = g.S.Source.stream c.loop-line.source in
+    let new = g.S.Source.stream c.next_byte.new.source in
+    reads_begun c.args.limit c.args.self.now (g.S.Source.stream c.args.source.now) c.loop-line.self now c.loop-line.line c.loop-line.invariant new c.in_err-next_byte.ensures.kept.1 c.in_err-next_byte.ensures.kept.0 tells

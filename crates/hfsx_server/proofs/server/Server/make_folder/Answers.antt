@@ -4,6 +4,7 @@ use Rattle.hfs_model.specs.Thin.{AreThin}
 use Rattle.hfsx_server.proofs.Causes.{cause_ok}
 use Rattle.hfsx_server.proofs.Changed.{idle_begun}
 use Rattle.hfsx_server.proofs.Steps.{leaves_none}
+use Rattle.hfsx_server.proofs.ThinHeaders.{keeps_mark}
 use Rattle.hfsx_server.proofs.server.Server.make_folder.Goals as goal
 
 pub change_folders-requires-clause-idle : goal.change_folders-requires-clause-idle
@@ -54,3 +55,6 @@ returns-clause-serving g c =
       spare = c.change_folders.ensures.spare;
       rests = λ tells. c.in_ok-change_folders.ensures.rests (sym c.change_folders.ensures.same.tells ∙ tells) _ thin;
     }
+
+pub returns-clause-mark : goal.returns-clause-mark
+returns-clause-mark g c = keeps_mark c.args.self.now.parts c.in_ok-parts.parts c.args.self.now.names _ c.requires.serving.thin c.in_ok-parts.ensures.kept

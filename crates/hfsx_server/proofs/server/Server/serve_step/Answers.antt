@@ -4,10 +4,11 @@ use Rattle.hfsx_server.specs.declared.faults.ServeFault.TheVariants.{Disk, Sourc
 use Rattle.hfsx_server.specs.Headline.{lines_of, tree_after}
 use Rattle.hfsx_server.specs.Input.{ahead, IsLine, TakesLines}
 use Rattle.hfsx_server.specs.Session.{step}
-use Rattle.hfsx_server.specs.Serving.{RunSoFar, Serves, entry_of}
+use Rattle.hfsx_server.specs.Serving.{KeepsMark, RunSoFar, Serves, entry_of}
 use Rattle.hfsx_server.proofs.Causes.{cause_ok}
-use Rattle.hfsx_server.proofs.Lines.{serving_same, stops_none, stops_takes, takes_end}
+use Rattle.hfsx_server.proofs.Lines.{serving_same, stops_none, stops_takes, takes_end, takes_some}
 use Rattle.hfsx_server.proofs.Results.{on_err_of}
+use Rattle.hfsx_server.proofs.ThinHeaders.{same_mark}
 use Rattle.hfsx_server.proofs.Runs.{serves_none, serves_crashes, tree_after-none, tree_after-one}
 use Rattle.hfsx_server.proofs.server.Server.serve_step.Goals as goal
 
@@ -94,3 +95,26 @@ returns-in-None-clause-end g c tells _ =
 
 pub returns-in-None-clause-serving : goal.returns-in-None-clause-serving
 returns-in-None-clause-serving g c = serving_same c.args.self.now _ (g.R.SectorDisk.state c.args.rig.now) refl refl refl c.requires.serving
+
+pub returns-in_ok-answer-in-Some-clause-counts : goal.returns-in_ok-answer-in-Some-clause-counts
+returns-in_ok-answer-in-Some-clause-counts g c = (λ _. c.answer.ensures.input.1 ∙ c.in_ok-count_line-in-Some.ensures.counted, λ is. absurd (cc is))
+
+pub returns-in_ok-answer-in-Some-clause-ends : goal.returns-in_ok-answer-in-Some-clause-ends
+returns-in_ok-answer-in-Some-clause-ends g c tells =
+    let before = g.S.Source.stream c.args.source.now in
+    let after = g.S.Source.stream c.next_line.new.source in
+    let read = subst (λ next. IfSome next (λ line. (text : List ℕ) × IsLine 140000 text line × (IsTrue before.tells → TakesLines c.args.self.now.input before (text ∷ []) c.next_line.new.self after))) c.in-Some.is c.in_ok-line.ensures.line in
+    (λ is. absurd (cc is), λ none. absurd (takes_some c.args.self.now.input c.next_line.new.self before after read.0 (read.2 tells) none))
+
+pub returns-in-None-clause-ends : goal.returns-in-None-clause-ends
+returns-in-None-clause-ends g c tells =
+    let before = g.S.Source.stream c.args.source.now in
+    let after = g.S.Source.stream c.next_line.new.source in
+    let end = subst (λ next. IfNone next ((ahead c.args.self.now.input before ≡ []) × (ahead c.next_line.new.self after ≡ []))) c.in-None.is (c.in_ok-line.ensures.end tells) in
+    (λ _. end.0, λ _. refl)
+
+pub returns-in_ok-answer-in-Some-clause-mark : goal.returns-in_ok-answer-in-Some-clause-mark
+returns-in_ok-answer-in-Some-clause-mark g c = subst (λ p. KeepsMark p c.answer.new.self.parts) c.count_line.ensures.others.parts c.in_ok-answer-in-Some.ensures.mark
+
+pub returns-in-None-clause-mark : goal.returns-in-None-clause-mark
+returns-in-None-clause-mark g c = same_mark c.args.self.now.parts

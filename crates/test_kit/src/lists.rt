@@ -1,4 +1,4 @@
-// Lists of a journal, made by hand.
+//! Lists of a journal, made by hand.
 use hx_bytes::{Order, Sector, write_o32};
 use jnl_format::{Entry, ListHead, checksum, write_entry, write_list};
 

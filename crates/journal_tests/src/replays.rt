@@ -1,7 +1,4 @@
 // Journals replayed, refused, and cut off in the middle.
-use crate::find_plan;
-use crate::journals::{list_block, list_of, sealed_header, sealed_list, with_number};
-use crate::volumes::{BASE, INFO, header_block, info_block, volume_header};
 use hx_bytes::{Order, Sector};
 use jnl_format::{Entry, JnlRefusal, checksum};
 use jnl_replay::{Peek, PeekView, ReplayFault, replay};
@@ -9,6 +6,10 @@ use mem_disk::MemRig;
 use sector_disk::{SectorDisk, SectorView};
 use std::alloc::Global;
 use std::test::Fail;
+use test_kit::{
+    BASE, INFO, find_plan, header_block, info_block, list_block, list_of, put, sealed_header,
+    sealed_list, sector_of, volume_header, with_number,
+};
 
 const HFSJ: u32 = 0x4846_534A;
 
@@ -19,20 +20,6 @@ const LARGE: (u64, u32, u64) = (6144, 768, 5000);
 const SMALL: (u64, u32, u64) = (2048, 256, 2000);
 
 const HOME: u64 = 2000;
-
-fn put(rig: &mut MemRig, at: u64, sector: &Sector) {
-    if at < rig.sectors() {
-        let _wrote = rig.write(at, sector);
-    }
-}
-
-fn sector_of(rig: &mut MemRig, at: u64) -> Sector {
-    let mut sector = [0; 512];
-    if at < rig.sectors() {
-        let _read = rig.read(at, &mut sector);
-    }
-    sector
-}
 
 fn settle(rig: &mut MemRig) {
     let _settled = rig.barrier();

@@ -7,7 +7,7 @@ use Rattle.jnl_replay.specs.Text.{words}
 use Rattle.jnl_replay.proofs.Listing.{if_some}
 use Rattle.jnl_replay.proofs.ReadOn.{reads_none, reads_both, same_words, tells_then}
 use Rattle.jnl_replay.proofs.Texts.{length-words}
-use Rattle.jnl_replay.proofs.lists.first_bad_list.Goals as goal
+use Rattle.jnl_replay.proofs.lists.walk_lists.Goals as goal
 
 pub loop-at-init : goal.loop-at-init
 loop-at-init g c =

@@ -3,7 +3,7 @@ use Rattle.sector_disk.specs.Disk.{content}
 use Rattle.jnl_format.specs.Text.{bad_list}
 use Rattle.sector_disk.specs.Disk.{OnlyReads}
 use Rattle.jnl_replay.specs.Text.{words}
-use Rattle.jnl_replay.proofs.lists.first_bad_list.Given as goal
+use Rattle.jnl_replay.proofs.lists.walk_lists.Given as goal
 
 abbrev pub invariant-loop-at : goal.invariant-loop-at
 invariant-loop-at g l = record {

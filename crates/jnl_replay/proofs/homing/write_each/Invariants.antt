@@ -6,7 +6,7 @@ use Rattle.jnl_replay.specs.Homing.{AreHomesOf}
 use Rattle.jnl_replay.specs.Pending.{IsCursor}
 use Rattle.jnl_replay.specs.Text.{words}
 use Rattle.jnl_replay.proofs.Homed.{Homed}
-use Rattle.jnl_replay.proofs.homing.write_homes.Given as goal
+use Rattle.jnl_replay.proofs.homing.write_each.Given as goal
 
 abbrev pub invariant-loop-home : goal.invariant-loop-home
 invariant-loop-home g l = record {

@@ -1,4 +1,4 @@
-// A small volume with a journal, made by hand.
+//! A small volume with a journal, made by hand.
 use hx_bytes::{Order, Sector, write_be16, write_be32};
 use jnl_format::{Header, Info, write_header, write_info};
 

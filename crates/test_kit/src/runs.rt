@@ -1,0 +1,42 @@
+//! Whole runs of the program over a disk in memory.
+use hfsx_server::{Status, hfsx};
+use hx_bytes::OutOfMemory;
+use mem_disk::{MemImage, MemRig, MemSource};
+use std::alloc::{AllocError, Global};
+
+// How many bytes a take of the source gives at most: few, so that lines come in pieces.
+const PIECE: u64 = 7;
+
+/// The words of a command line, which a space separates.
+pub fn words(alloc: Global, line: &str) -> Result<Vec<String>, AllocError> {
+    let mut words = Vec::new(alloc);
+    for word in line.split(' ') {
+        words.push(word.to_string(alloc)?)?;
+    }
+    Ok(words)
+}
+
+/// Runs the program with these words on an image, with these lines.
+pub fn run_on(
+    alloc: Global,
+    line: &str,
+    rig: &mut MemRig,
+    input: &[u8],
+) -> Result<Status, OutOfMemory> {
+    let words = words(alloc, line)?;
+    let mut source = MemSource::new(alloc, input, PIECE, None)?;
+    Ok(hfsx(alloc, words.as_slice(), rig, &mut source))
+}
+
+/// The volume of 16,384 sectors that `format` makes.
+pub fn fresh(alloc: Global) -> Result<MemImage, OutOfMemory> {
+    let mut rig = MemRig::new(alloc, 16_384)?;
+    run_on(alloc, "format v.img 16384", &mut rig, b"")?;
+    rig.image(alloc, 1)
+}
+
+/// A disk with that volume, on which nothing is pending and no call was counted.
+pub fn fresh_rig(alloc: Global) -> Result<MemRig, OutOfMemory> {
+    let image = fresh(alloc)?;
+    MemRig::from_image(alloc, &image)
+}
