@@ -4,6 +4,7 @@ pub mod Reading
 pub mod Editing
 pub mod Answers
 pub mod Following
+pub mod Walking
 pub mod LevelEdit
 pub mod Climb
 pub mod Way

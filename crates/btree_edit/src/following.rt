@@ -1,5 +1,5 @@
 //! The pair behind a key.
-ghost use Rattle.std.specs.Prelude.{◌≡◌, ◌≤◌, ◌+◌, ◌-◌, ◌<◌, IsTrue, IsSome, false, length, IfOk, IfSome, IfNone, slice_index_or, []};
+ghost use Rattle.std.specs.Prelude.{◌≡◌, ◌≤◌, ◌+◌, ◌-◌, ◌<◌, ◌^◌, IsTrue, IsSome, false, length, IfOk, IfSome, IfNone, slice_index_or, []};
 ghost use Rattle.btree_node.specs.Node.{IsNode, items};
 ghost use Rattle.btree_node.specs.Levels.{key_of, value_of};
 ghost use Rattle.btree_node.specs.Store.{HasCause};
@@ -15,11 +15,12 @@ use btree_node::{KeyOrder, NodeStore};
 use hx_bytes::Failed;
 
 /// Keeps the pair of a record of the leaf on the desk, where it has so many.
-fn keep_record(desk: &mut Desk, at: u16) -> bool
+pub(crate) fn keep_record(desk: &mut Desk, at: u16) -> bool
     requires well_formed { IsNode desk.old.node }
     requires size { length desk.old.node ≤ desk.old.held.room }
     ensures some { IsTrue result → at < length (items desk.old.node) }
     ensures all { at < length (items desk.old.node) → IsTrue result }
+    ensures room_behind { IsTrue result → at + 1 < 2 ^ 16 }
     ensures key { IsTrue result → desk.new.held.key ≡ key_of (slice_index_or (items desk.old.node) at []) }
     ensures value { IsTrue result → desk.new.held.value ≡ value_of (slice_index_or (items desk.old.node) at []) }
     ensures kept { result ≡ false → desk.new.held ≡ desk.old.held }
@@ -39,7 +40,7 @@ fn keep_record(desk: &mut Desk, at: u16) -> bool
 }
 
 /// Goes to the leaf of a key, and finds its place there; none where the tree has no pair.
-fn locate<N: NodeStore, K: KeyOrder>(
+pub(crate) fn locate<N: NodeStore, K: KeyOrder>(
     store: &mut N,
     desk: &mut Desk,
     key: &[u8],

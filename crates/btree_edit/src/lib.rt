@@ -12,9 +12,11 @@ mod roots;
 mod search;
 mod splitting;
 mod tracing;
+mod walking;
 
 pub use desk::Desk;
 pub use edits::{Inserted, Removed, insert, remove};
 pub use finding::{Found, find};
 pub use following::next;
 pub use replacing::replace;
+pub use walking::{seek, step};

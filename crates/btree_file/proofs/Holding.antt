@@ -27,7 +27,7 @@ use Rattle.btree_file.proofs.RoomLaws.{count_same}
 use Rattle.btree_file.proofs.Sizes.{size_least}
 
 -- the stretches lie in their nodes
-are_in : (nodes : Nodes) (size : ℕ) (xs : List Stretch) → 512 ≤ size → length (nodes 0) ≡ size → AreStretches nodes size xs → AreIn nodes xs
+pub are_in : (nodes : Nodes) (size : ℕ) (xs : List Stretch) → 512 ≤ size → length (nodes 0) ≡ size → AreStretches nodes size xs → AreIn nodes xs
 are_in nodes size xs large long are k d low = elim (cases_eq k 0) [
   | inl front ↦
       let first : get_or xs k d ≡ (record { node = 0; at = 248; len = size - 256 }) = ap (λ i. get_or xs i d) front ∙ are.first d in

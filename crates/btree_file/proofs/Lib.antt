@@ -16,3 +16,7 @@ pub mod Walking
 pub mod Joined
 pub mod Sectors
 pub mod Holding
+pub mod Chains
+pub mod Likeness
+pub mod StandingLaws
+pub mod Edited

@@ -59,7 +59,7 @@ module _ (tree : TreeFile) (old mid : Space) (reads : ReadsSpace old mid) (spot 
       pub mark_within : SameSpace mid new → (IsTrue mid.tells → TimePasses mid.clock new.clock (LeavesDurable new)) → new.faults ≡ mid.faults → PutsWithin (sectors_of_tree tree) old new
       mark_within same time faults =
           within_both (sectors_of_tree tree) old mid new (reads_within (sectors_of_tree tree) old mid reads)
-          (put_within (sectors_of_tree tree) (tree.shape.node_size / 512) spot.stretch.node last mid new puts room same time faults)
+          (put_within (sectors_of_tree tree) (tree.shape.node_size / 512) spot.stretch.node last mid new (sets.size ∙ long ∙ sym (tree_size tree).1) puts room same time faults)
 
       module _ (tells : IsTrue old.tells) (was : Agrees tree old.content) where
         told : IsTrue mid.tells

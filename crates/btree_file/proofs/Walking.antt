@@ -132,7 +132,7 @@ chain_none nodes (suc m) n other some =
     let no : (n == 0) ≡ false = ⊎_elim (λ is. absurd (other is.1)) (λ f. f.0) (eqb_tells n 0) in
     rw no (ap (λ k. n ∷ map_chain nodes k (next_of (nodes n))) {x = m} {y = suc m - 1} (omega arith))
 
-chain_zero : (nodes : Nodes) (fuel n : ℕ) → n ≡ 0 → map_chain nodes fuel n ≡ []
+pub chain_zero : (nodes : Nodes) (fuel n : ℕ) → n ≡ 0 → map_chain nodes fuel n ≡ []
 unfolding map_chain
 chain_zero nodes zero n none = refl
 chain_zero nodes (suc m) n none = let yes : (n == 0) ≡ true = eq-eqb n 0 none in rw yes refl

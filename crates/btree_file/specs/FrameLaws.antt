@@ -44,6 +44,7 @@ pub within_none : (these : List ℕ) (s : Space) → PutsWithin these s s
 within_none these s = record {
   same = space_none s;
   content = λ tells. record { size = refl; each = λ at. inl refl };
+  sizes = λ tells s. inl refl;
   durable = λ tells. refl;
   spilled = λ tells k. iff_none (s.spilled k);
   live = λ tells k l. inl l;
@@ -65,6 +66,7 @@ within_both these a b c p q =
         size = (q.content (told tells)).size ∙ (p.content tells).size;
         each = λ at. ⊎_elim (λ e. ⊎_elim (λ f. inl (e ∙ f)) (λ here. inr here) ((p.content tells).each at)) (λ here. inr here) ((q.content (told tells)).each at);
       };
+      sizes = λ tells k. ⊎_elim (λ e. ⊎_elim (λ f. inl (e ∙ f)) (λ full. inr (e ∙ full)) (p.sizes tells k)) (λ full. inr full) (q.sizes (told tells) k);
       durable = λ tells. q.durable (told tells) ∙ p.durable tells;
       spilled = λ tells k. iff_both (a.spilled k) (b.spilled k) (c.spilled k) (p.spilled tells k) (q.spilled (told tells) k);
       live = λ tells k l. ⊎_elim (λ m. p.live tells k m) (λ here. inr here) (q.live (told tells) k l);
@@ -111,6 +113,7 @@ pub reads_within : (these : List ℕ) (a b : Space) → ReadsSpace a b → PutsW
 reads_within these a b r = record {
   same = r.same;
   content = λ tells. record { size = ap (λ (content : Content). length content) (r.sectors tells).content; each = λ at. inl (ap (λ (content : Content). sector content at) (r.sectors tells).content) };
+  sizes = λ tells s. inl (ap (λ (content : Content). length (sector content s)) (r.sectors tells).content);
   durable = λ tells. (r.sectors tells).durable;
   spilled = λ tells. (r.sectors tells).spilled;
   live = λ tells k l. inl (((r.sectors tells).live k).0 l);
@@ -137,14 +140,14 @@ state_well_formed names tree space = record {
 }
 
 pub follows_none : (tree : TreeFile) (space : Space) → FollowsOn tree tree space space
-follows_none tree space = record { file = record { fork = refl; per_block = refl; map = refl }; form = λ tells. form_none (tree_head tree.header); space = within_none (sectors_of_tree tree) space }
+follows_none tree space = record { file = record { fork = refl; per_block = refl; map = refl; node_size = refl; total = refl }; form = λ tells. form_none (tree_head tree.header); space = within_none (sectors_of_tree tree) space }
 
-same_sectors : (a b : TreeFile) → SameFile a b → sectors_of_tree b ≡ sectors_of_tree a
+pub same_sectors : (a b : TreeFile) → SameFile a b → sectors_of_tree b ≡ sectors_of_tree a
 same_sectors a b same = ap (λ f. fork_sectors f b.per_block) same.fork ∙ ap (λ n. fork_sectors a.fork n) same.per_block
 
 pub follows_both : (a b c : TreeFile) (p q r : Space) → FollowsOn a b p q → FollowsOn b c q r → FollowsOn a c p r
 follows_both a b c p q r first second = record {
-  file = record { fork = second.file.fork ∙ first.file.fork; per_block = second.file.per_block ∙ first.file.per_block; map = second.file.map ∙ first.file.map };
+  file = record { fork = second.file.fork ∙ first.file.fork; per_block = second.file.per_block ∙ first.file.per_block; map = second.file.map ∙ first.file.map; node_size = second.file.node_size ∙ first.file.node_size; total = second.file.total ∙ first.file.total };
   form = λ tells. let f = first.form tells in let s = second.form (first.space.same.tells ∙ tells) in record { max_key = s.max_key ∙ f.max_key; compare = s.compare ∙ f.compare; attributes = s.attributes ∙ f.attributes };
   space = within_both (sectors_of_tree a) p q r first.space (subst (λ these. PutsWithin these q r) (same_sectors a b first.file) second.space);
 }

@@ -8,3 +8,4 @@ pub mod Spots
 pub mod Walks
 pub mod Held
 pub mod Apart
+pub mod Standing

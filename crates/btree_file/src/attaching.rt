@@ -8,6 +8,7 @@ ghost use Rattle.sector_disk.specs.Cause.{Rose};
 ghost use Rattle.btree_file.specs.Frame.{ReadsSpace};
 ghost use Rattle.btree_file.specs.Held.{HoldsNodes, file_in};
 ghost use Rattle.btree_file.specs.Place.{IsInside, AreApart, fork_sectors};
+ghost use Rattle.btree_file.specs.Standing.{Stands};
 ghost use Rattle.btree_file.specs.State.{Agrees};
 
 use crate::apart::sectors_differ;
@@ -157,6 +158,42 @@ fn read_tree<V: SectorView>(
     })
 }
 
+/// The tree in a fork; one without a node where no tree's nodes are there.
+fn read_fork<V: SectorView>(
+    alloc: Global,
+    view: &mut V,
+    fork: &ExtentList,
+    block: u32,
+) -> Result<TreeFile, Trouble>
+    requires small { 512 ≤ block }
+    requires large { block ≤ 65536 }
+    requires inside { IsInside fork.now (block / 512) (V.space view.old) }
+    ensures agrees { IsTrue (V.space view.old).tells → AreApart (fork_sectors fork.now (block / 512)) → HoldsNodes (fork_sectors fork.now (block / 512)) (file_in (fork_sectors fork.now (block / 512)) (V.space view.old).content)
+        → IfOk result (λ tree. Agrees tree (V.space view.old).content) }
+    ensures settled { IsTrue (V.space view.old).tells → AreApart (fork_sectors fork.now (block / 512)) → HoldsNodes (fork_sectors fork.now (block / 512)) (file_in (fork_sectors fork.now (block / 512)) (V.space view.old).content)
+        → IfOk result (λ tree. shape_of (tree_head tree.header) ≡ tree.shape) }
+    ensures file { IsTrue (V.space view.old).tells → AreApart (fork_sectors fork.now (block / 512)) → HoldsNodes (fork_sectors fork.now (block / 512)) (file_in (fork_sectors fork.now (block / 512)) (V.space view.old).content)
+        → IfOk result (λ tree. (tree.shape ≡ shape_of (file_in (fork_sectors fork.now (block / 512)) (V.space view.old).content).head) × (tree.fork ≡ fork.now) × (tree.per_block ≡ block / 512)) }
+    ensures first { IsTrue (V.space view.old).tells → AreApart (fork_sectors fork.now (block / 512)) → HoldsNodes (fork_sectors fork.now (block / 512)) (file_in (fork_sectors fork.now (block / 512)) (V.space view.old).content)
+        → IfOk result (λ tree. length (node_of (V.space view.old).content (fork_sectors fork.now (block / 512)) 1 0) ≡ 512) }
+    ensures inside { IfOk result (λ tree. IsInside tree.fork tree.per_block (V.space view.old)) }
+    ensures reads { ReadsSpace (V.space view.old) (V.space view.new) }
+    ensures disk { IsErrOf result Disk → Rose (V.space view.old).faults (V.space view.new).faults }
+{
+    let per_block = block / 512;
+    if !sectors_differ(fork.as_slice(), per_block) {
+        return Ok(empty(alloc)?);
+    }
+    if !has_sectors(fork, per_block, 1) {
+        return Ok(empty(alloc)?);
+    }
+    let shape = read_shape(alloc, view, fork, per_block)?;
+    if !has_nodes(fork, per_block, &shape) {
+        return Ok(empty(alloc)?);
+    }
+    Ok(read_tree(alloc, view, fork, per_block, &shape)?)
+}
+
 impl TreeFile {
     /// The tree in a fork, in blocks of so many bytes; one without a node where no tree's nodes are there.
     pub fn attach<V: SectorView>(
@@ -168,27 +205,16 @@ impl TreeFile {
         requires small { 512 ≤ block }
         requires large { block ≤ 65536 }
         requires inside { IsInside fork.now (block / 512) (V.space view.old) }
-        ensures agrees { IsTrue (V.space view.old).tells → AreApart (fork_sectors fork.now (block / 512)) → HoldsNodes (fork_sectors fork.now (block / 512)) (file_in (fork_sectors fork.now (block / 512)) (V.space view.old).content)
-            → IfOk result (λ tree. Agrees tree (V.space view.old).content) }
-        ensures settled { IsTrue (V.space view.old).tells → AreApart (fork_sectors fork.now (block / 512)) → HoldsNodes (fork_sectors fork.now (block / 512)) (file_in (fork_sectors fork.now (block / 512)) (V.space view.old).content)
-            → IfOk result (λ tree. shape_of (tree_head tree.header) ≡ tree.shape) }
+        // Where the fork's sectors differ and hold the nodes of a tree, its file stands over the content.
+        ensures stands { IsTrue (V.space view.old).tells → AreApart (fork_sectors fork.now (block / 512)) → HoldsNodes (fork_sectors fork.now (block / 512)) (file_in (fork_sectors fork.now (block / 512)) (V.space view.old).content)
+            → IfOk result (λ tree. Stands tree (V.space view.old).content) }
+        // Its numbers are those of the header record, in this fork.
         ensures file { IsTrue (V.space view.old).tells → AreApart (fork_sectors fork.now (block / 512)) → HoldsNodes (fork_sectors fork.now (block / 512)) (file_in (fork_sectors fork.now (block / 512)) (V.space view.old).content)
             → IfOk result (λ tree. (tree.shape ≡ shape_of (file_in (fork_sectors fork.now (block / 512)) (V.space view.old).content).head) × (tree.fork ≡ fork.now) × (tree.per_block ≡ block / 512)) }
         ensures inside { IfOk result (λ tree. IsInside tree.fork tree.per_block (V.space view.old)) }
         ensures reads { ReadsSpace (V.space view.old) (V.space view.new) }
         ensures disk { IsErrOf result Disk → Rose (V.space view.old).faults (V.space view.new).faults }
     {
-        let per_block = block / 512;
-        if !sectors_differ(fork.as_slice(), per_block) {
-            return Ok(empty(alloc)?);
-        }
-        if !has_sectors(fork, per_block, 1) {
-            return Ok(empty(alloc)?);
-        }
-        let shape = read_shape(alloc, view, fork, per_block)?;
-        if !has_nodes(fork, per_block, &shape) {
-            return Ok(empty(alloc)?);
-        }
-        Ok(read_tree(alloc, view, fork, per_block, &shape)?)
+        read_fork(alloc, view, fork, block)
     }
 }

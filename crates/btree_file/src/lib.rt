@@ -4,6 +4,7 @@
 mod apart;
 mod attaching;
 mod marking;
+mod numbers;
 mod on;
 mod putting;
 mod reading;

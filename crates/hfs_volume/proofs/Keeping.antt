@@ -100,19 +100,18 @@ back_alike entry other alike = record {
   place = (sym alike.place.0, sym alike.place.1);
   kind = (sym alike.kind.0, sym alike.kind.1);
   id = sym alike.id;
-  forks = sym alike.forks;
   link = sym alike.link;
   reference = λ link. sym (alike.reference (sym alike.link ∙ link));
 }
 
 -- an extent that a file is, it is with another value of any record
-one_extent_still : (entry other : Placed) (front back : List Placed) → SameKind entry other → (name : List ℕ) (overflow : List Overflow) (extent : Extent)
+one_extent_still : (entry other : Placed) (front back : List Placed) → SameKind entry other → forks_in other.value ≡ forks_in entry.value → (name : List ℕ) (overflow : List Overflow) (extent : Extent)
     → IsOneExtent (front ++ entry ∷ back) overflow name extent → IsOneExtent (front ++ other ∷ back) overflow name extent
-one_extent_still entry other front back alike name overflow extent was = by_case (record_at (front ++ other ∷ back) 2 name) refl (sym forks)
+one_extent_still entry other front back alike same_forks name overflow extent was = by_case (record_at (front ++ other ∷ back) 2 name) refl (sym forks)
   where
     forks : forks_found (record_at (front ++ other ∷ back) 2 name) ≡ forks_in (File was.1)
     forks =
-        found_swap forks_found (is_placed_at 2 name) entry other front back (λ i. (alike.place.0 i == 2) && bytes_eq (alike.place.1 i) name) alike.forks
+        found_swap forks_found (is_placed_at 2 name) entry other front back (λ i. (alike.place.0 i == 2) && bytes_eq (alike.place.1 i) name) same_forks
         ∙ ap forks_found was.2 ∙ ap forks_in was.3
 
     of_value : (p : Placed) (value : CatRecord) → record_at (front ++ other ∷ back) 2 name ≡ Some p → p.value ≡ value → forks_in (File was.1) ≡ forks_in value → IsOneExtent (front ++ other ∷ back) overflow name extent
@@ -205,7 +204,7 @@ module _ (entry : Placed) (value : CatRecord) (front back : List Placed) (named 
   private_still : private_id is ≡ private_id was
   private_still = private_same entry value front back named alike
 
-  good_still : (overflow : List Overflow) → (p : Placed) → IsGoodLink was overflow p → IsGoodLink is overflow p
+  pub good_still : (overflow : List Overflow) → (p : Placed) → IsGoodLink was overflow p → IsGoodLink is overflow p
   good_still overflow p good = record {
     outside = λ hidden. good.outside (hidden.0, sym private_still ∙ hidden.1, lay_before hidden.0 p.parent hidden.2);
     empty = good.empty;
@@ -217,47 +216,51 @@ module _ (entry : Placed) (value : CatRecord) (front back : List Placed) (named 
         ];
   }
 
-  pub links_still : (overflow : List Overflow) → AreGoodLinks was overflow → AreGoodLinks is overflow
-  links_still overflow good = record {
-    private_folder = λ placed found.
-        ap folder_or_none (sym found) ∙ found_swap folder_or_none (is_placed_at 2 private_name) entry it front back refl alike.kind.0 ∙ was_folder (record_at was 2 private_name) refl;
+  -- what has the private folder's name is a folder
+  pub private_folder_still : (overflow : List Overflow) → AreGoodLinks was overflow → (placed : Placed) → record_at is 2 private_name ≡ Some placed → is_folder placed.value ≡ true
+  private_folder_still overflow good placed found =
+      ap folder_or_none (sym found) ∙ found_swap folder_or_none (is_placed_at 2 private_name) entry it front back refl alike.kind.0 ∙ was_folder (record_at was 2 private_name) refl
+    where
+      was_folder : (o : Option Placed) → record_at was 2 private_name ≡ o → folder_or_none o ≡ true
+      was_folder None found = refl
+      was_folder (Some p) found = good.private_folder p found
+
+  pub links_still : (same_forks : forks_in value ≡ forks_in entry.value) (overflow : List Overflow) → AreGoodLinks was overflow → AreGoodLinks is overflow
+  links_still same_forks overflow good = record {
+    private_folder = private_folder_still overflow good;
     links = λ placed stands link. elim (entry_before placed stands) [
       | inl same ↦ subst (IsGoodLink is overflow) (sym same) (it_good (sym alike.link ∙ sym (ap is_link same) ∙ link))
       | inr there ↦ good_still overflow placed (good.links placed there link)
     ];
   }
     where
-      was_folder : (o : Option Placed) → record_at was 2 private_name ≡ o → folder_or_none o ≡ true
-      was_folder None found = refl
-      was_folder (Some p) found = good.private_folder p found
-
       it_good : is_link entry ≡ true → IsGoodLink is overflow it
       it_good link =
           let one = good_still overflow entry (good.links entry entry_there link) in
           record {
             outside = one.outside;
-            empty = ap (flat_map (blocks_owned overflow)) alike.forks ∙ one.empty;
+            empty = ap (flat_map (blocks_owned overflow)) same_forks ∙ one.empty;
             node = (one.node.0, one.node.1, ap (λ n. is_shared_file is n one.node.0) (alike.reference link) ∙ one.node.2);
           }
 
-  owner_still : (id : ℕ) → HasOwner was id → HasOwner is id
+  pub owner_still : (id : ℕ) → HasOwner was id → HasOwner is id
   owner_still id owner = elim (entry_still owner.0 owner.1) [
     | inl same ↦ (it, it_there, alike.id ∙ sym (ap id_of same) ∙ owner.2, alike.link ∙ sym (ap is_link same) ∙ owner.3)
     | inr there ↦ (owner.0, there, owner.2, owner.3)
   ]
 
-  pub attributes_still : (head : VolumeHeader) (place : JournalPlace) (overflow : List Overflow) (pairs : List Pair) → AreAttributes head place was overflow pairs → AreAttributes head place is overflow pairs
-  attributes_still head place overflow pairs attributes = record {
+  pub attributes_still : (same_forks : forks_in value ≡ forks_in entry.value) (head : VolumeHeader) (place : JournalPlace) (overflow : List Overflow) (pairs : List Pair) → AreAttributes head place was overflow pairs → AreAttributes head place is overflow pairs
+  attributes_still same_forks head place overflow pairs attributes = record {
     each = all_of (IsAttribute is) pairs (λ pair stands.
         let one = each_of (IsAttribute was) pairs attributes.each pair stands in
         record { spelled = one.spelled; inline = one.inline; start = one.start; named = one.named; owner = owner_still (attribute_of pair).id one.owner });
-    journal = one_extent_still entry it front back alike journal_name overflow (journal_extent head place) attributes.journal;
-    info_block = one_extent_still entry it front back alike journal_info_name overflow (info_extent head) attributes.info_block;
+    journal = one_extent_still entry it front back alike same_forks journal_name overflow (journal_extent head place) attributes.journal;
+    info_block = one_extent_still entry it front back alike same_forks journal_info_name overflow (info_extent head) attributes.info_block;
   }
 
-  pub forks_still : file_forks is ≡ file_forks was
-  forks_still =
-      ap (flat_map (λ (p : Placed). forks_in p.value)) is_entries ∙ flat_swap (λ (p : Placed). forks_in p.value) entry it (entries_of front) (entries_of back) alike.forks
+  pub forks_still : forks_in value ≡ forks_in entry.value → file_forks is ≡ file_forks was
+  forks_still same_forks =
+      ap (flat_map (λ (p : Placed). forks_in p.value)) is_entries ∙ flat_swap (λ (p : Placed). forks_in p.value) entry it (entries_of front) (entries_of back) same_forks
       ∙ sym (ap (flat_map (λ (p : Placed). forks_in p.value)) was_entries)
 
   link_to_same : (reference : ℕ) → is_link_to reference it ≡ is_link_to reference entry
@@ -361,14 +364,14 @@ module _ (entry : Placed) (value : CatRecord) (old new : VolumeState) (changes :
     ids = subst (λ l. HaveIds old.head.next_catalog_id (entries_of l)) (sym parts.is)
         (ids_still entry value parts.front parts.back entry_named change.alike old.head.next_catalog_id (subst (λ l. HaveIds old.head.next_catalog_id (entries_of l)) parts.was shaped.ids));
     links = subst (λ l. AreGoodLinks l (overflow_in_volume old)) (sym parts.is)
-        (links_still entry value parts.front parts.back entry_named change.alike (overflow_in_volume old) (subst (λ l. AreGoodLinks l (overflow_in_volume old)) parts.was shaped.links));
+        (links_still entry value parts.front parts.back entry_named change.alike change.forks (overflow_in_volume old) (subst (λ l. AreGoodLinks l (overflow_in_volume old)) parts.was shaped.links));
     attributes = subst (λ l. AreAttributes old.head old.journal l (overflow_in_volume old) old.attribute_pairs) (sym parts.is)
-        (attributes_still entry value parts.front parts.back entry_named change.alike old.head old.journal (overflow_in_volume old) old.attribute_pairs
+        (attributes_still entry value parts.front parts.back entry_named change.alike change.forks old.head old.journal (overflow_in_volume old) old.attribute_pairs
         (subst (λ l. AreAttributes old.head old.journal l (overflow_in_volume old) old.attribute_pairs) parts.was shaped.attributes));
     header = shaped.header;
     alternate = shaped.alternate;
     files = has_files_still old new changes.nodes shaped.files;
-    forks = has_forks_still old new (ap file_forks parts.is ∙ forks_still entry value parts.front parts.back entry_named change.alike ∙ sym (ap file_forks parts.was)) shaped.forks;
+    forks = has_forks_still old new (ap file_forks parts.is ∙ forks_still entry value parts.front parts.back entry_named change.alike change.forks ∙ sym (ap file_forks parts.was)) shaped.forks;
   })
 
   -- nothing that is counted among the entries has changed, for tests that say the same of both values
@@ -383,7 +386,7 @@ module _ (entry : Placed) (value : CatRecord) (old new : VolumeState) (changes :
   pub value_used : used_in new ≡ used_in old
   value_used =
       ap used_in changes.rest
-      ∙ used_same old.sectors old.head (records_of old) (records_of new) (overflow_in_volume old) (ap file_forks parts.is ∙ forks_still entry value parts.front parts.back entry_named change.alike ∙ sym (ap file_forks parts.was))
+      ∙ used_same old.sectors old.head (records_of old) (records_of new) (overflow_in_volume old) (ap file_forks parts.is ∙ forks_still entry value parts.front parts.back entry_named change.alike change.forks ∙ sym (ap file_forks parts.was))
 
   pub value_private : private_id (records_of new) ≡ private_id (records_of old)
   value_private = ap private_id parts.is ∙ private_same entry value parts.front parts.back entry_named change.alike ∙ sym (ap private_id parts.was)

@@ -88,3 +88,14 @@ mod WorkedCosts
 mod WorkedSound
 mod WorkedTrees
 mod WorkedVolumes
+mod BlockCounts
+mod BlockForks
+mod BlockLaw
+mod BlockRecords
+mod BlockSound
+mod BlockTree
+mod GrowKeep
+mod GrowLaw
+mod TruncCut
+mod WritLaw
+mod WritRows

@@ -20,7 +20,7 @@ use Rattle.hfs_volume.specs.Attributes.{IsAttribute}
 use Rattle.hfs_volume.specs.Content.{VolumeState, records_of, attributes_of}
 use Rattle.hfs_volume.specs.Sound.{IsSoundVolume}
 use Rattle.hfs_volume.specs.TreeOf.{tree_in, seen_entry, plain_node, plain_attributes, plain_attribute, node_in, threaded_node, is_seen, is_linked, id_or_0, shared_file}
-use Rattle.hfs_volume.specs.Changes.{AddsEntry, ChangesValue}
+use Rattle.hfs_volume.specs.Changes.{AddsEntry, ChangesValue, Swaps, Stands}
 use Rattle.hfs_volume.specs.Commands.{AreBytesOf, MakesEntry, IsNewValue, AreNewFields, entry_in, with_fields, with_made}
 use Rattle.hfs_volume.specs.Laws.{Joins, one_if}
 use Rattle.hfs_model.specs.declared.plain.PlainEntry.{PlainEntry}
@@ -40,16 +40,20 @@ pub kept_none : {X : Type 0} (test : X → Bool) (xs : List X) → ((x : X) → 
 kept_none test [] none = refl
 kept_none test (x ∷ xs) none = (λ i. (if none x (at_front x xs) i then x ∷ [] else []) ++ kept_none test xs (λ y stands. none y (behind x y xs stands)) i)
 
--- what is changed in the pairs is changed in the records
-pub placed_splits : (entry : Placed) (value : CatRecord) (old new : List Pair) → ChangesValue entry value old new → Splits entry (record entry { value = value }) (placed_in old) (placed_in new)
-placed_splits entry value old new changes =
-    let parts = splits changes.pair changes.other old new changes.swapped in
+-- what is swapped in the pairs is swapped in the records
+pub pairs_split : (x y : Placed) (pair other : Pair) (old new : List Pair) → Swaps pair other old new → Stands x pair → Stands y other → Splits x y (placed_in old) (placed_in new)
+pairs_split x y pair other old new swapped is_x is_y =
+    let parts = splits pair other old new swapped in
     record {
       front = placed_in parts.front;
       back = placed_in parts.back;
-      was = ap placed_in parts.was ∙ map-append placed_of parts.front (changes.pair ∷ parts.back) ∙ ap (λ x. placed_in parts.front ++ x ∷ placed_in parts.back) changes.is_entry;
-      is = ap placed_in parts.is ∙ map-append placed_of parts.front (changes.other ∷ parts.back) ∙ ap (λ x. placed_in parts.front ++ x ∷ placed_in parts.back) changes.is_other.stands;
+      was = ap placed_in parts.was ∙ map-append placed_of parts.front (pair ∷ parts.back) ∙ ap (λ z. placed_in parts.front ++ z ∷ placed_in parts.back) is_x;
+      is = ap placed_in parts.is ∙ map-append placed_of parts.front (other ∷ parts.back) ∙ ap (λ z. placed_in parts.front ++ z ∷ placed_in parts.back) is_y;
     }
+
+-- what is changed in the pairs is changed in the records
+pub placed_splits : (entry : Placed) (value : CatRecord) (old new : List Pair) → ChangesValue entry value old new → Splits entry (record entry { value = value }) (placed_in old) (placed_in new)
+placed_splits entry value old new changes = pairs_split entry (record entry { value = value }) changes.pair changes.other old new changes.swapped changes.is_entry changes.is_other.stands
 
 -- an item whose like is counted at most once has no like in front of it or behind it
 pub alone_in : {X : Type 0} (test : X → Bool) (x : X) (front back : List X) → test x ≡ true → count_by test (front ++ x ∷ back) ≤ 1 → (y : X) → Contains (front ++ back) y → test y ≡ false

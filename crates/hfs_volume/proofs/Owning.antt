@@ -58,13 +58,13 @@ owns overflow forks = flat_map (blocks_owned overflow) forks
 times_append : (block : ℕ) (xs ys : List ℕ) → times block (xs ++ ys) ≡ times block xs + times block ys
 times_append block xs ys = count_append (λ other. other == block) xs ys
 
-owns_append : (overflow : List Overflow) (block : ℕ) (xs ys : List Owned) → times block (owns overflow (xs ++ ys)) ≡ times block (owns overflow xs) + times block (owns overflow ys)
+pub owns_append : (overflow : List Overflow) (block : ℕ) (xs ys : List Owned) → times block (owns overflow (xs ++ ys)) ≡ times block (owns overflow xs) + times block (owns overflow ys)
 owns_append overflow block xs ys = ap (times block) (flat_map-append (blocks_owned overflow) xs ys) ∙ times_append block (owns overflow xs) (owns overflow ys)
 
-abbrev used_with : ℕ → VolumeHeader → List Overflow → List Owned → List ℕ
+abbrev pub used_with : ℕ → VolumeHeader → List Overflow → List Owned → List ℕ
 used_with sectors head overflow forks = reserved_blocks sectors head ++ owns overflow forks ++ blocks_of (bad_extents overflow)
 
-used_times : (sectors : ℕ) (head : VolumeHeader) (overflow : List Overflow) (forks : List Owned) (block : ℕ)
+pub used_times : (sectors : ℕ) (head : VolumeHeader) (overflow : List Overflow) (forks : List Owned) (block : ℕ)
     → times block (used_with sectors head overflow forks) ≡ times block (reserved_blocks sectors head) + times block (owns overflow forks) + times block (blocks_of (bad_extents overflow))
 used_times sectors head overflow forks block =
     times_append block (reserved_blocks sectors head ++ owns overflow forks) (blocks_of (bad_extents overflow))

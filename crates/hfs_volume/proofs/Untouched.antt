@@ -89,7 +89,7 @@ overflow_there overflow id kind more stands = by (id == extents_id) stands
     by false some = (kept_cases (is_of id kind) overflow more some).0
 
 -- the blocks of a fork lie in the volume
-blocks_inside : (volume : VolumeState) (owned : Owned) (block : ℕ) → HasForks volume → Contains (forks_of volume) owned → Contains (blocks_owned (overflow_in_volume volume) owned) block → block < volume.head.total_blocks
+pub blocks_inside : (volume : VolumeState) (owned : Owned) (block : ℕ) → HasForks volume → Contains (forks_of volume) owned → Contains (blocks_owned (overflow_in_volume volume) owned) block → block < volume.head.total_blocks
 unfolding extents_of
 blocks_inside volume owned block forks stands has =
     let overflow = overflow_in_volume volume in

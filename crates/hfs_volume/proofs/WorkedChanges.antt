@@ -92,7 +92,8 @@ a_folder_is_made = record {
         other = pair_6;
         is_other = record { stands = refl; spelled = refl };
         swapped = record { place = 0; at = refl; is = refl };
-        alike = record { place = (refl, refl); kind = (refl, refl); id = refl; forks = refl; link = refl; reference = λ link. refl };
+        forks = refl;
+        alike = record { place = (refl, refl); kind = (refl, refl); id = refl; link = refl; reference = λ link. refl };
       };
       nodes = record { total = refl; size = refl };
       rest = refl;

@@ -296,39 +296,39 @@ volume_41 = record (state [] (pair_0 ∷ pair_1 ∷ pair_2 ∷ pair_3 ∷ pair_5
 -- a folder of the root gets another name
 a_name_is_moved : MovesName (record { parent = 2; name = (120 ∷ []); folder = true; id = 18 }) (record { folder = 2; name = (121 ∷ []); found = None }) volume_0 volume_4
 unfolding digits number_at number_bytes extents_at entry_of placed_of attribute_of
-a_name_is_moved = record { sorted = ((refl, (refl, (refl, (refl, (refl, (refl, (refl, tt))))))), ((refl, (refl, (refl, (refl, (refl, (refl, tt)))))), ((refl, (refl, (refl, (refl, (refl, tt))))), ((refl, (refl, (refl, (refl, tt)))), ((refl, (refl, (refl, tt))), ((refl, (refl, tt)), ((refl, tt), (tt, tt)))))))); entry = placed_of pair_4; stands = (3, omega arith, refl); is_entry = (refl, refl); moved = volume_1; moves = record { changes = record { between = (pair_0 ∷ pair_1 ∷ pair_2 ∷ pair_3 ∷ pair_5 ∷ pair_6 ∷ []); out = record { between = (pair_0 ∷ pair_1 ∷ pair_2 ∷ pair_3 ∷ pair_4 ∷ pair_5 ∷ pair_6 ∷ []); pair = pair_4; is_entry = record { stands = refl; spelled = refl }; entry_added = record { place = 4; within = omega arith; is = refl }; thread = pair_7; spare = pos 0; is_thread = record { stands = refl; spelled = refl }; thread_added = record { place = 7; within = omega arith; is = refl } }; back = record { between = (pair_0 ∷ pair_1 ∷ pair_2 ∷ pair_3 ∷ pair_8 ∷ pair_5 ∷ pair_6 ∷ []); pair = pair_8; is_entry = record { stands = refl; spelled = refl }; entry_added = record { place = 4; within = omega arith; is = refl }; thread = pair_9; spare = pos 0; is_thread = record { stands = refl; spelled = refl }; thread_added = record { place = 7; within = omega arith; is = refl } } }; nodes = record { total = refl; size = refl }; rest = refl }; sorted_again = ((refl, (refl, (refl, (refl, (refl, (refl, (refl, tt))))))), ((refl, (refl, (refl, (refl, (refl, (refl, tt)))))), ((refl, (refl, (refl, (refl, (refl, tt))))), ((refl, (refl, (refl, (refl, tt)))), ((refl, (refl, (refl, tt))), ((refl, (refl, tt)), ((refl, tt), (tt, tt)))))))); lost = volume_2; loses = record { entry = placed_of pair_0; before = entry_of (pair_0).1; after = entry_of (pair_10).1; has = refl; is_entry = refl; fields = record { id = refl; count = refl; mode = refl; created = refl; changed = refl; attribute = refl }; changes = record { changes = record { pair = pair_0; is_entry = refl; other = pair_10; is_other = record { stands = refl; spelled = refl }; swapped = record { place = 0; at = refl; is = refl }; alike = record { place = (refl, refl); kind = (refl, refl); id = refl; forks = refl; link = refl; reference = λ link. refl } }; nodes = record { total = refl; size = refl }; rest = refl } }; gained = volume_3; gains = record { entry = placed_of pair_10; before = entry_of (pair_10).1; after = entry_of (pair_11).1; has = refl; is_entry = refl; fields = record { id = refl; count = refl; mode = refl; created = refl; changed = refl; attribute = refl }; changes = record { changes = record { pair = pair_10; is_entry = refl; other = pair_11; is_other = record { stands = refl; spelled = refl }; swapped = record { place = 0; at = refl; is = refl }; alike = record { place = (refl, refl); kind = (refl, refl); id = refl; forks = refl; link = refl; reference = λ link. refl } }; nodes = record { total = refl; size = refl }; rest = refl } }; marks = record { entry = placed_of pair_8; before = entry_of (pair_8).1; after = entry_of (pair_12).1; has = refl; is_entry = refl; fields = record { marked = record { id = refl; count = refl; mode = refl; created = refl; changed = refl; attribute = refl }; special = refl }; changes = record { changes = record { pair = pair_8; is_entry = refl; other = pair_12; is_other = record { stands = refl; spelled = refl }; swapped = record { place = 4; at = refl; is = refl }; alike = record { place = (refl, refl); kind = (refl, refl); id = refl; forks = refl; link = refl; reference = λ link. refl } }; nodes = record { total = refl; size = refl }; rest = refl } } }
+a_name_is_moved = record { sorted = ((refl, (refl, (refl, (refl, (refl, (refl, (refl, tt))))))), ((refl, (refl, (refl, (refl, (refl, (refl, tt)))))), ((refl, (refl, (refl, (refl, (refl, tt))))), ((refl, (refl, (refl, (refl, tt)))), ((refl, (refl, (refl, tt))), ((refl, (refl, tt)), ((refl, tt), (tt, tt)))))))); entry = placed_of pair_4; stands = (3, omega arith, refl); is_entry = (refl, refl); moved = volume_1; moves = record { changes = record { between = (pair_0 ∷ pair_1 ∷ pair_2 ∷ pair_3 ∷ pair_5 ∷ pair_6 ∷ []); out = record { between = (pair_0 ∷ pair_1 ∷ pair_2 ∷ pair_3 ∷ pair_4 ∷ pair_5 ∷ pair_6 ∷ []); pair = pair_4; is_entry = record { stands = refl; spelled = refl }; entry_added = record { place = 4; within = omega arith; is = refl }; thread = pair_7; spare = pos 0; is_thread = record { stands = refl; spelled = refl }; thread_added = record { place = 7; within = omega arith; is = refl } }; back = record { between = (pair_0 ∷ pair_1 ∷ pair_2 ∷ pair_3 ∷ pair_8 ∷ pair_5 ∷ pair_6 ∷ []); pair = pair_8; is_entry = record { stands = refl; spelled = refl }; entry_added = record { place = 4; within = omega arith; is = refl }; thread = pair_9; spare = pos 0; is_thread = record { stands = refl; spelled = refl }; thread_added = record { place = 7; within = omega arith; is = refl } } }; nodes = record { total = refl; size = refl }; rest = refl }; sorted_again = ((refl, (refl, (refl, (refl, (refl, (refl, (refl, tt))))))), ((refl, (refl, (refl, (refl, (refl, (refl, tt)))))), ((refl, (refl, (refl, (refl, (refl, tt))))), ((refl, (refl, (refl, (refl, tt)))), ((refl, (refl, (refl, tt))), ((refl, (refl, tt)), ((refl, tt), (tt, tt)))))))); lost = volume_2; loses = record { entry = placed_of pair_0; before = entry_of (pair_0).1; after = entry_of (pair_10).1; has = refl; is_entry = refl; fields = record { id = refl; count = refl; mode = refl; created = refl; changed = refl; attribute = refl }; changes = record { changes = record { pair = pair_0; is_entry = refl; other = pair_10; is_other = record { stands = refl; spelled = refl }; swapped = record { place = 0; at = refl; is = refl }; forks = refl; alike = record { place = (refl, refl); kind = (refl, refl); id = refl; link = refl; reference = λ link. refl } }; nodes = record { total = refl; size = refl }; rest = refl } }; gained = volume_3; gains = record { entry = placed_of pair_10; before = entry_of (pair_10).1; after = entry_of (pair_11).1; has = refl; is_entry = refl; fields = record { id = refl; count = refl; mode = refl; created = refl; changed = refl; attribute = refl }; changes = record { changes = record { pair = pair_10; is_entry = refl; other = pair_11; is_other = record { stands = refl; spelled = refl }; swapped = record { place = 0; at = refl; is = refl }; forks = refl; alike = record { place = (refl, refl); kind = (refl, refl); id = refl; link = refl; reference = λ link. refl } }; nodes = record { total = refl; size = refl }; rest = refl } }; marks = record { entry = placed_of pair_8; before = entry_of (pair_8).1; after = entry_of (pair_12).1; has = refl; is_entry = refl; fields = record { marked = record { id = refl; count = refl; mode = refl; created = refl; changed = refl; attribute = refl }; special = refl }; changes = record { changes = record { pair = pair_8; is_entry = refl; other = pair_12; is_other = record { stands = refl; spelled = refl }; swapped = record { place = 4; at = refl; is = refl }; forks = refl; alike = record { place = (refl, refl); kind = (refl, refl); id = refl; link = refl; reference = λ link. refl } }; nodes = record { total = refl; size = refl }; rest = refl } } }
 
 -- the only name of a file is removed, where there was no private folder
 an_only_name_is_removed : RemovesFile (record { parent = 2; name = (120 ∷ []); folder = false; id = 18 }) volume_5 volume_11
 unfolding digits number_at number_bytes extents_at entry_of placed_of attribute_of
-an_only_name_is_removed = record { sorted = ((refl, (refl, (refl, (refl, (refl, (refl, (refl, tt))))))), ((refl, (refl, (refl, (refl, (refl, (refl, tt)))))), ((refl, (refl, (refl, (refl, (refl, tt))))), ((refl, (refl, (refl, (refl, tt)))), ((refl, (refl, (refl, tt))), ((refl, (refl, tt)), ((refl, tt), (tt, tt)))))))); entry = placed_of pair_13; is_entry = record { stands = (3, omega arith, refl); place = (refl, refl) }; not_link = refl; private = 19; opened = volume_8; opens = inr (refl, record { absent = refl; value = catalog_of (pair_15).1; is_new = record { id = refl; count = refl; mode = refl; created = refl; changed = refl; attribute = refl }; added = volume_7; adds = record { changes = record { between = (pair_0 ∷ pair_1 ∷ pair_15 ∷ pair_2 ∷ pair_3 ∷ pair_13 ∷ pair_5 ∷ pair_6 ∷ pair_14 ∷ []); pair = pair_15; is_entry = record { stands = refl; spelled = refl }; entry_added = record { place = 2; within = omega arith; is = refl }; thread = pair_16; spare = pos 0; is_thread = record { stands = refl; spelled = refl }; thread_added = record { place = 9; within = omega arith; is = refl } }; nodes = record { total = refl; size = refl }; rest = refl }; sorted = ((refl, (refl, (refl, (refl, (refl, (refl, (refl, (refl, (refl, tt))))))))), ((refl, (refl, (refl, (refl, (refl, (refl, (refl, (refl, tt)))))))), ((refl, (refl, (refl, (refl, (refl, (refl, (refl, tt))))))), ((refl, (refl, (refl, (refl, (refl, (refl, tt)))))), ((refl, (refl, (refl, (refl, (refl, tt))))), ((refl, (refl, (refl, (refl, tt)))), ((refl, (refl, (refl, tt))), ((refl, (refl, tt)), ((refl, tt), (tt, tt)))))))))); counts = record { entry = placed_of pair_0; before = entry_of (pair_0).1; after = entry_of (pair_17).1; has = refl; is_entry = refl; fields = record { recounted = record { id = refl; count = refl }; mode = refl; created = refl; changed = refl; attribute = refl }; changes = record { changes = record { pair = pair_0; is_entry = refl; other = pair_17; is_other = record { stands = refl; spelled = refl }; swapped = record { place = 0; at = refl; is = refl }; alike = record { place = (refl, refl); kind = (refl, refl); id = refl; forks = refl; link = refl; reference = λ link. refl } }; nodes = record { total = refl; size = refl }; rest = refl } } }); number = 18; moved = volume_9; moves = record { changes = record { between = (pair_17 ∷ pair_1 ∷ pair_15 ∷ pair_2 ∷ pair_3 ∷ pair_5 ∷ pair_6 ∷ pair_16 ∷ []); out = record { between = (pair_17 ∷ pair_1 ∷ pair_15 ∷ pair_2 ∷ pair_3 ∷ pair_13 ∷ pair_5 ∷ pair_6 ∷ pair_16 ∷ []); pair = pair_13; is_entry = record { stands = refl; spelled = refl }; entry_added = record { place = 5; within = omega arith; is = refl }; thread = pair_14; spare = pos 0; is_thread = record { stands = refl; spelled = refl }; thread_added = record { place = 8; within = omega arith; is = refl } }; back = record { between = (pair_17 ∷ pair_1 ∷ pair_15 ∷ pair_2 ∷ pair_3 ∷ pair_5 ∷ pair_6 ∷ pair_16 ∷ pair_18 ∷ []); pair = pair_18; is_entry = record { stands = refl; spelled = refl }; entry_added = record { place = 8; within = omega arith; is = refl }; thread = pair_19; spare = pos 0; is_thread = record { stands = refl; spelled = refl }; thread_added = record { place = 7; within = omega arith; is = refl } } }; nodes = record { total = refl; size = refl }; rest = refl }; sorted_again = ((refl, (refl, (refl, (refl, (refl, (refl, (refl, (refl, (refl, tt))))))))), ((refl, (refl, (refl, (refl, (refl, (refl, (refl, (refl, tt)))))))), ((refl, (refl, (refl, (refl, (refl, (refl, (refl, tt))))))), ((refl, (refl, (refl, (refl, (refl, (refl, tt)))))), ((refl, (refl, (refl, (refl, (refl, tt))))), ((refl, (refl, (refl, (refl, tt)))), ((refl, (refl, (refl, tt))), ((refl, (refl, tt)), ((refl, tt), (tt, tt)))))))))); filled = volume_10; fills = record { entry = placed_of pair_15; before = entry_of (pair_15).1; after = entry_of (pair_20).1; has = refl; is_entry = refl; fields = record { id = refl; count = refl }; changes = record { changes = record { pair = pair_15; is_entry = refl; other = pair_20; is_other = record { stands = refl; spelled = refl }; swapped = record { place = 2; at = refl; is = refl }; alike = record { place = (refl, refl); kind = (refl, refl); id = refl; forks = refl; link = refl; reference = λ link. refl } }; nodes = record { total = refl; size = refl }; rest = refl } }; loses = record { entry = placed_of pair_17; before = entry_of (pair_17).1; after = entry_of (pair_11).1; has = refl; is_entry = refl; fields = record { id = refl; count = refl; mode = refl; created = refl; changed = refl; attribute = refl }; changes = record { changes = record { pair = pair_17; is_entry = refl; other = pair_11; is_other = record { stands = refl; spelled = refl }; swapped = record { place = 0; at = refl; is = refl }; alike = record { place = (refl, refl); kind = (refl, refl); id = refl; forks = refl; link = refl; reference = λ link. refl } }; nodes = record { total = refl; size = refl }; rest = refl } } }
+an_only_name_is_removed = record { sorted = ((refl, (refl, (refl, (refl, (refl, (refl, (refl, tt))))))), ((refl, (refl, (refl, (refl, (refl, (refl, tt)))))), ((refl, (refl, (refl, (refl, (refl, tt))))), ((refl, (refl, (refl, (refl, tt)))), ((refl, (refl, (refl, tt))), ((refl, (refl, tt)), ((refl, tt), (tt, tt)))))))); entry = placed_of pair_13; is_entry = record { stands = (3, omega arith, refl); place = (refl, refl) }; not_link = refl; private = 19; opened = volume_8; opens = inr (refl, record { absent = refl; value = catalog_of (pair_15).1; is_new = record { id = refl; count = refl; mode = refl; created = refl; changed = refl; attribute = refl }; added = volume_7; adds = record { changes = record { between = (pair_0 ∷ pair_1 ∷ pair_15 ∷ pair_2 ∷ pair_3 ∷ pair_13 ∷ pair_5 ∷ pair_6 ∷ pair_14 ∷ []); pair = pair_15; is_entry = record { stands = refl; spelled = refl }; entry_added = record { place = 2; within = omega arith; is = refl }; thread = pair_16; spare = pos 0; is_thread = record { stands = refl; spelled = refl }; thread_added = record { place = 9; within = omega arith; is = refl } }; nodes = record { total = refl; size = refl }; rest = refl }; sorted = ((refl, (refl, (refl, (refl, (refl, (refl, (refl, (refl, (refl, tt))))))))), ((refl, (refl, (refl, (refl, (refl, (refl, (refl, (refl, tt)))))))), ((refl, (refl, (refl, (refl, (refl, (refl, (refl, tt))))))), ((refl, (refl, (refl, (refl, (refl, (refl, tt)))))), ((refl, (refl, (refl, (refl, (refl, tt))))), ((refl, (refl, (refl, (refl, tt)))), ((refl, (refl, (refl, tt))), ((refl, (refl, tt)), ((refl, tt), (tt, tt)))))))))); counts = record { entry = placed_of pair_0; before = entry_of (pair_0).1; after = entry_of (pair_17).1; has = refl; is_entry = refl; fields = record { recounted = record { id = refl; count = refl }; mode = refl; created = refl; changed = refl; attribute = refl }; changes = record { changes = record { pair = pair_0; is_entry = refl; other = pair_17; is_other = record { stands = refl; spelled = refl }; swapped = record { place = 0; at = refl; is = refl }; forks = refl; alike = record { place = (refl, refl); kind = (refl, refl); id = refl; link = refl; reference = λ link. refl } }; nodes = record { total = refl; size = refl }; rest = refl } } }); number = 18; moved = volume_9; moves = record { changes = record { between = (pair_17 ∷ pair_1 ∷ pair_15 ∷ pair_2 ∷ pair_3 ∷ pair_5 ∷ pair_6 ∷ pair_16 ∷ []); out = record { between = (pair_17 ∷ pair_1 ∷ pair_15 ∷ pair_2 ∷ pair_3 ∷ pair_13 ∷ pair_5 ∷ pair_6 ∷ pair_16 ∷ []); pair = pair_13; is_entry = record { stands = refl; spelled = refl }; entry_added = record { place = 5; within = omega arith; is = refl }; thread = pair_14; spare = pos 0; is_thread = record { stands = refl; spelled = refl }; thread_added = record { place = 8; within = omega arith; is = refl } }; back = record { between = (pair_17 ∷ pair_1 ∷ pair_15 ∷ pair_2 ∷ pair_3 ∷ pair_5 ∷ pair_6 ∷ pair_16 ∷ pair_18 ∷ []); pair = pair_18; is_entry = record { stands = refl; spelled = refl }; entry_added = record { place = 8; within = omega arith; is = refl }; thread = pair_19; spare = pos 0; is_thread = record { stands = refl; spelled = refl }; thread_added = record { place = 7; within = omega arith; is = refl } } }; nodes = record { total = refl; size = refl }; rest = refl }; sorted_again = ((refl, (refl, (refl, (refl, (refl, (refl, (refl, (refl, (refl, tt))))))))), ((refl, (refl, (refl, (refl, (refl, (refl, (refl, (refl, tt)))))))), ((refl, (refl, (refl, (refl, (refl, (refl, (refl, tt))))))), ((refl, (refl, (refl, (refl, (refl, (refl, tt)))))), ((refl, (refl, (refl, (refl, (refl, tt))))), ((refl, (refl, (refl, (refl, tt)))), ((refl, (refl, (refl, tt))), ((refl, (refl, tt)), ((refl, tt), (tt, tt)))))))))); filled = volume_10; fills = record { entry = placed_of pair_15; before = entry_of (pair_15).1; after = entry_of (pair_20).1; has = refl; is_entry = refl; fields = record { id = refl; count = refl }; changes = record { changes = record { pair = pair_15; is_entry = refl; other = pair_20; is_other = record { stands = refl; spelled = refl }; swapped = record { place = 2; at = refl; is = refl }; forks = refl; alike = record { place = (refl, refl); kind = (refl, refl); id = refl; link = refl; reference = λ link. refl } }; nodes = record { total = refl; size = refl }; rest = refl } }; loses = record { entry = placed_of pair_17; before = entry_of (pair_17).1; after = entry_of (pair_11).1; has = refl; is_entry = refl; fields = record { id = refl; count = refl; mode = refl; created = refl; changed = refl; attribute = refl }; changes = record { changes = record { pair = pair_17; is_entry = refl; other = pair_11; is_other = record { stands = refl; spelled = refl }; swapped = record { place = 0; at = refl; is = refl }; forks = refl; alike = record { place = (refl, refl); kind = (refl, refl); id = refl; link = refl; reference = λ link. refl } }; nodes = record { total = refl; size = refl }; rest = refl } } }
 
 -- one of two names of a file is removed
 a_link_is_removed : RemovesLink (record { parent = 2; name = (97 ∷ []); folder = false; id = 19 }) volume_12 volume_16
 unfolding digits number_at number_bytes extents_at entry_of placed_of attribute_of
-a_link_is_removed = record { sorted = ((refl, (refl, (refl, (refl, (refl, (refl, (refl, (refl, (refl, (refl, (refl, (refl, (refl, tt))))))))))))), ((refl, (refl, (refl, (refl, (refl, (refl, (refl, (refl, (refl, (refl, (refl, (refl, tt)))))))))))), ((refl, (refl, (refl, (refl, (refl, (refl, (refl, (refl, (refl, (refl, (refl, tt))))))))))), ((refl, (refl, (refl, (refl, (refl, (refl, (refl, (refl, (refl, (refl, tt)))))))))), ((refl, (refl, (refl, (refl, (refl, (refl, (refl, (refl, (refl, tt))))))))), ((refl, (refl, (refl, (refl, (refl, (refl, (refl, (refl, tt)))))))), ((refl, (refl, (refl, (refl, (refl, (refl, (refl, tt))))))), ((refl, (refl, (refl, (refl, (refl, (refl, tt)))))), ((refl, (refl, (refl, (refl, (refl, tt))))), ((refl, (refl, (refl, (refl, tt)))), ((refl, (refl, (refl, tt))), ((refl, (refl, tt)), ((refl, tt), (tt, tt)))))))))))))); entry = placed_of pair_23; is_entry = record { stands = (4, omega arith, refl); place = (refl, refl) }; is_one = refl; dropped = volume_14; drops = record { changes = record { between = (pair_21 ∷ pair_1 ∷ pair_22 ∷ pair_2 ∷ pair_3 ∷ pair_23 ∷ pair_24 ∷ pair_5 ∷ pair_6 ∷ pair_25 ∷ pair_26 ∷ pair_27 ∷ pair_29 ∷ []); pair = pair_23; is_entry = record { stands = refl; spelled = refl }; entry_added = record { place = 5; within = omega arith; is = refl }; thread = pair_28; spare = pos 0; is_thread = record { stands = refl; spelled = refl }; thread_added = record { place = 12; within = omega arith; is = refl } }; nodes = record { total = refl; size = refl }; rest = refl }; links = 1; marked = volume_15; marks = record { entry = placed_of pair_26; before = entry_of (pair_26).1; after = entry_of (pair_30).1; has = refl; is_entry = refl; fields = record { marked = record { id = refl; count = refl; mode = refl; created = refl; changed = refl; attribute = refl }; special = refl }; changes = record { changes = record { pair = pair_26; is_entry = refl; other = pair_30; is_other = record { stands = refl; spelled = refl }; swapped = record { place = 9; at = refl; is = refl }; alike = record { place = (refl, refl); kind = (refl, refl); id = refl; forks = refl; link = refl; reference = λ link. absurd (true_or_false (sym link)) } }; nodes = record { total = refl; size = refl }; rest = refl } }; others = (refl, omega arith); loses = record { entry = placed_of pair_21; before = entry_of (pair_21).1; after = entry_of (pair_31).1; has = refl; is_entry = refl; fields = record { id = refl; count = refl; mode = refl; created = refl; changed = refl; attribute = refl }; changes = record { changes = record { pair = pair_21; is_entry = refl; other = pair_31; is_other = record { stands = refl; spelled = refl }; swapped = record { place = 0; at = refl; is = refl }; alike = record { place = (refl, refl); kind = (refl, refl); id = refl; forks = refl; link = refl; reference = λ link. refl } }; nodes = record { total = refl; size = refl }; rest = refl } } }
+a_link_is_removed = record { sorted = ((refl, (refl, (refl, (refl, (refl, (refl, (refl, (refl, (refl, (refl, (refl, (refl, (refl, tt))))))))))))), ((refl, (refl, (refl, (refl, (refl, (refl, (refl, (refl, (refl, (refl, (refl, (refl, tt)))))))))))), ((refl, (refl, (refl, (refl, (refl, (refl, (refl, (refl, (refl, (refl, (refl, tt))))))))))), ((refl, (refl, (refl, (refl, (refl, (refl, (refl, (refl, (refl, (refl, tt)))))))))), ((refl, (refl, (refl, (refl, (refl, (refl, (refl, (refl, (refl, tt))))))))), ((refl, (refl, (refl, (refl, (refl, (refl, (refl, (refl, tt)))))))), ((refl, (refl, (refl, (refl, (refl, (refl, (refl, tt))))))), ((refl, (refl, (refl, (refl, (refl, (refl, tt)))))), ((refl, (refl, (refl, (refl, (refl, tt))))), ((refl, (refl, (refl, (refl, tt)))), ((refl, (refl, (refl, tt))), ((refl, (refl, tt)), ((refl, tt), (tt, tt)))))))))))))); entry = placed_of pair_23; is_entry = record { stands = (4, omega arith, refl); place = (refl, refl) }; is_one = refl; dropped = volume_14; drops = record { changes = record { between = (pair_21 ∷ pair_1 ∷ pair_22 ∷ pair_2 ∷ pair_3 ∷ pair_23 ∷ pair_24 ∷ pair_5 ∷ pair_6 ∷ pair_25 ∷ pair_26 ∷ pair_27 ∷ pair_29 ∷ []); pair = pair_23; is_entry = record { stands = refl; spelled = refl }; entry_added = record { place = 5; within = omega arith; is = refl }; thread = pair_28; spare = pos 0; is_thread = record { stands = refl; spelled = refl }; thread_added = record { place = 12; within = omega arith; is = refl } }; nodes = record { total = refl; size = refl }; rest = refl }; links = 1; marked = volume_15; marks = record { entry = placed_of pair_26; before = entry_of (pair_26).1; after = entry_of (pair_30).1; has = refl; is_entry = refl; fields = record { marked = record { id = refl; count = refl; mode = refl; created = refl; changed = refl; attribute = refl }; special = refl }; changes = record { changes = record { pair = pair_26; is_entry = refl; other = pair_30; is_other = record { stands = refl; spelled = refl }; swapped = record { place = 9; at = refl; is = refl }; forks = refl; alike = record { place = (refl, refl); kind = (refl, refl); id = refl; link = refl; reference = λ link. absurd (true_or_false (sym link)) } }; nodes = record { total = refl; size = refl }; rest = refl } }; others = (refl, omega arith); loses = record { entry = placed_of pair_21; before = entry_of (pair_21).1; after = entry_of (pair_31).1; has = refl; is_entry = refl; fields = record { id = refl; count = refl; mode = refl; created = refl; changed = refl; attribute = refl }; changes = record { changes = record { pair = pair_21; is_entry = refl; other = pair_31; is_other = record { stands = refl; spelled = refl }; swapped = record { place = 0; at = refl; is = refl }; forks = refl; alike = record { place = (refl, refl); kind = (refl, refl); id = refl; link = refl; reference = λ link. refl } }; nodes = record { total = refl; size = refl }; rest = refl } } }
 
 -- the last link to a file is removed
 a_last_link_is_removed : RemovesLastLink (record { parent = 2; name = (97 ∷ []); folder = false; id = 19 }) volume_17 volume_21
 unfolding digits number_at number_bytes extents_at entry_of placed_of attribute_of
-a_last_link_is_removed = record { sorted = ((refl, (refl, (refl, (refl, (refl, (refl, (refl, (refl, (refl, (refl, (refl, tt))))))))))), ((refl, (refl, (refl, (refl, (refl, (refl, (refl, (refl, (refl, (refl, tt)))))))))), ((refl, (refl, (refl, (refl, (refl, (refl, (refl, (refl, (refl, tt))))))))), ((refl, (refl, (refl, (refl, (refl, (refl, (refl, (refl, tt)))))))), ((refl, (refl, (refl, (refl, (refl, (refl, (refl, tt))))))), ((refl, (refl, (refl, (refl, (refl, (refl, tt)))))), ((refl, (refl, (refl, (refl, (refl, tt))))), ((refl, (refl, (refl, (refl, tt)))), ((refl, (refl, (refl, tt))), ((refl, (refl, tt)), ((refl, tt), (tt, tt)))))))))))); entry = placed_of pair_23; is_entry = record { stands = (4, omega arith, refl); place = (refl, refl) }; is_one = refl; dropped = volume_19; drops = record { changes = record { between = (pair_17 ∷ pair_1 ∷ pair_22 ∷ pair_2 ∷ pair_3 ∷ pair_23 ∷ pair_5 ∷ pair_6 ∷ pair_25 ∷ pair_32 ∷ pair_27 ∷ []); pair = pair_23; is_entry = record { stands = refl; spelled = refl }; entry_added = record { place = 5; within = omega arith; is = refl }; thread = pair_28; spare = pos 0; is_thread = record { stands = refl; spelled = refl }; thread_added = record { place = 11; within = omega arith; is = refl } }; nodes = record { total = refl; size = refl }; rest = refl }; file = placed_of pair_32; is_file = ((4, omega arith, refl), refl); last = refl; number = 19; moved = volume_20; moves = record { changes = record { between = (pair_17 ∷ pair_1 ∷ pair_22 ∷ pair_2 ∷ pair_3 ∷ pair_5 ∷ pair_6 ∷ pair_25 ∷ []); out = record { between = (pair_17 ∷ pair_1 ∷ pair_22 ∷ pair_2 ∷ pair_3 ∷ pair_5 ∷ pair_6 ∷ pair_25 ∷ pair_32 ∷ []); pair = pair_32; is_entry = record { stands = refl; spelled = refl }; entry_added = record { place = 8; within = omega arith; is = refl }; thread = pair_27; spare = pos 0; is_thread = record { stands = refl; spelled = refl }; thread_added = record { place = 9; within = omega arith; is = refl } }; back = record { between = (pair_17 ∷ pair_1 ∷ pair_22 ∷ pair_2 ∷ pair_3 ∷ pair_5 ∷ pair_6 ∷ pair_25 ∷ pair_33 ∷ []); pair = pair_33; is_entry = record { stands = refl; spelled = refl }; entry_added = record { place = 8; within = omega arith; is = refl }; thread = pair_34; spare = pos 0; is_thread = record { stands = refl; spelled = refl }; thread_added = record { place = 9; within = omega arith; is = refl } } }; nodes = record { total = refl; size = refl }; rest = refl }; sorted_again = ((refl, (refl, (refl, (refl, (refl, (refl, (refl, (refl, (refl, tt))))))))), ((refl, (refl, (refl, (refl, (refl, (refl, (refl, (refl, tt)))))))), ((refl, (refl, (refl, (refl, (refl, (refl, (refl, tt))))))), ((refl, (refl, (refl, (refl, (refl, (refl, tt)))))), ((refl, (refl, (refl, (refl, (refl, tt))))), ((refl, (refl, (refl, (refl, tt)))), ((refl, (refl, (refl, tt))), ((refl, (refl, tt)), ((refl, tt), (tt, tt)))))))))); loses = record { entry = placed_of pair_17; before = entry_of (pair_17).1; after = entry_of (pair_11).1; has = refl; is_entry = refl; fields = record { id = refl; count = refl; mode = refl; created = refl; changed = refl; attribute = refl }; changes = record { changes = record { pair = pair_17; is_entry = refl; other = pair_11; is_other = record { stands = refl; spelled = refl }; swapped = record { place = 0; at = refl; is = refl }; alike = record { place = (refl, refl); kind = (refl, refl); id = refl; forks = refl; link = refl; reference = λ link. refl } }; nodes = record { total = refl; size = refl }; rest = refl } } }
+a_last_link_is_removed = record { sorted = ((refl, (refl, (refl, (refl, (refl, (refl, (refl, (refl, (refl, (refl, (refl, tt))))))))))), ((refl, (refl, (refl, (refl, (refl, (refl, (refl, (refl, (refl, (refl, tt)))))))))), ((refl, (refl, (refl, (refl, (refl, (refl, (refl, (refl, (refl, tt))))))))), ((refl, (refl, (refl, (refl, (refl, (refl, (refl, (refl, tt)))))))), ((refl, (refl, (refl, (refl, (refl, (refl, (refl, tt))))))), ((refl, (refl, (refl, (refl, (refl, (refl, tt)))))), ((refl, (refl, (refl, (refl, (refl, tt))))), ((refl, (refl, (refl, (refl, tt)))), ((refl, (refl, (refl, tt))), ((refl, (refl, tt)), ((refl, tt), (tt, tt)))))))))))); entry = placed_of pair_23; is_entry = record { stands = (4, omega arith, refl); place = (refl, refl) }; is_one = refl; dropped = volume_19; drops = record { changes = record { between = (pair_17 ∷ pair_1 ∷ pair_22 ∷ pair_2 ∷ pair_3 ∷ pair_23 ∷ pair_5 ∷ pair_6 ∷ pair_25 ∷ pair_32 ∷ pair_27 ∷ []); pair = pair_23; is_entry = record { stands = refl; spelled = refl }; entry_added = record { place = 5; within = omega arith; is = refl }; thread = pair_28; spare = pos 0; is_thread = record { stands = refl; spelled = refl }; thread_added = record { place = 11; within = omega arith; is = refl } }; nodes = record { total = refl; size = refl }; rest = refl }; file = placed_of pair_32; is_file = ((4, omega arith, refl), refl); last = refl; number = 19; moved = volume_20; moves = record { changes = record { between = (pair_17 ∷ pair_1 ∷ pair_22 ∷ pair_2 ∷ pair_3 ∷ pair_5 ∷ pair_6 ∷ pair_25 ∷ []); out = record { between = (pair_17 ∷ pair_1 ∷ pair_22 ∷ pair_2 ∷ pair_3 ∷ pair_5 ∷ pair_6 ∷ pair_25 ∷ pair_32 ∷ []); pair = pair_32; is_entry = record { stands = refl; spelled = refl }; entry_added = record { place = 8; within = omega arith; is = refl }; thread = pair_27; spare = pos 0; is_thread = record { stands = refl; spelled = refl }; thread_added = record { place = 9; within = omega arith; is = refl } }; back = record { between = (pair_17 ∷ pair_1 ∷ pair_22 ∷ pair_2 ∷ pair_3 ∷ pair_5 ∷ pair_6 ∷ pair_25 ∷ pair_33 ∷ []); pair = pair_33; is_entry = record { stands = refl; spelled = refl }; entry_added = record { place = 8; within = omega arith; is = refl }; thread = pair_34; spare = pos 0; is_thread = record { stands = refl; spelled = refl }; thread_added = record { place = 9; within = omega arith; is = refl } } }; nodes = record { total = refl; size = refl }; rest = refl }; sorted_again = ((refl, (refl, (refl, (refl, (refl, (refl, (refl, (refl, (refl, tt))))))))), ((refl, (refl, (refl, (refl, (refl, (refl, (refl, (refl, tt)))))))), ((refl, (refl, (refl, (refl, (refl, (refl, (refl, tt))))))), ((refl, (refl, (refl, (refl, (refl, (refl, tt)))))), ((refl, (refl, (refl, (refl, (refl, tt))))), ((refl, (refl, (refl, (refl, tt)))), ((refl, (refl, (refl, tt))), ((refl, (refl, tt)), ((refl, tt), (tt, tt)))))))))); loses = record { entry = placed_of pair_17; before = entry_of (pair_17).1; after = entry_of (pair_11).1; has = refl; is_entry = refl; fields = record { id = refl; count = refl; mode = refl; created = refl; changed = refl; attribute = refl }; changes = record { changes = record { pair = pair_17; is_entry = refl; other = pair_11; is_other = record { stands = refl; spelled = refl }; swapped = record { place = 0; at = refl; is = refl }; forks = refl; alike = record { place = (refl, refl); kind = (refl, refl); id = refl; link = refl; reference = λ link. refl } }; nodes = record { total = refl; size = refl }; rest = refl } } }
 
 -- a file gets its second name, where there was no private folder
 a_first_link_is_made : LinksFirst (record { parent = 2; name = (120 ∷ []); folder = false; id = 18 }) (record { folder = 2; name = (121 ∷ []); found = None }) volume_22 volume_31
 unfolding digits number_at number_bytes extents_at entry_of placed_of attribute_of
-a_first_link_is_made = record { sorted = ((refl, (refl, (refl, (refl, (refl, (refl, (refl, tt))))))), ((refl, (refl, (refl, (refl, (refl, (refl, tt)))))), ((refl, (refl, (refl, (refl, (refl, tt))))), ((refl, (refl, (refl, (refl, tt)))), ((refl, (refl, (refl, tt))), ((refl, (refl, tt)), ((refl, tt), (tt, tt)))))))); entry = placed_of pair_13; is_entry = record { stands = (3, omega arith, refl); place = (refl, refl) }; not_link = refl; private = 19; opened = volume_25; opens = inr (refl, record { absent = refl; value = catalog_of (pair_15).1; is_new = record { id = refl; count = refl; mode = refl; created = refl; changed = refl; attribute = refl }; added = volume_24; adds = record { changes = record { between = (pair_0 ∷ pair_1 ∷ pair_15 ∷ pair_2 ∷ pair_3 ∷ pair_13 ∷ pair_5 ∷ pair_6 ∷ pair_14 ∷ []); pair = pair_15; is_entry = record { stands = refl; spelled = refl }; entry_added = record { place = 2; within = omega arith; is = refl }; thread = pair_16; spare = pos 0; is_thread = record { stands = refl; spelled = refl }; thread_added = record { place = 9; within = omega arith; is = refl } }; nodes = record { total = refl; size = refl }; rest = refl }; sorted = ((refl, (refl, (refl, (refl, (refl, (refl, (refl, (refl, (refl, tt))))))))), ((refl, (refl, (refl, (refl, (refl, (refl, (refl, (refl, tt)))))))), ((refl, (refl, (refl, (refl, (refl, (refl, (refl, tt))))))), ((refl, (refl, (refl, (refl, (refl, (refl, tt)))))), ((refl, (refl, (refl, (refl, (refl, tt))))), ((refl, (refl, (refl, (refl, tt)))), ((refl, (refl, (refl, tt))), ((refl, (refl, tt)), ((refl, tt), (tt, tt)))))))))); counts = record { entry = placed_of pair_0; before = entry_of (pair_0).1; after = entry_of (pair_17).1; has = refl; is_entry = refl; fields = record { recounted = record { id = refl; count = refl }; mode = refl; created = refl; changed = refl; attribute = refl }; changes = record { changes = record { pair = pair_0; is_entry = refl; other = pair_17; is_other = record { stands = refl; spelled = refl }; swapped = record { place = 0; at = refl; is = refl }; alike = record { place = (refl, refl); kind = (refl, refl); id = refl; forks = refl; link = refl; reference = λ link. refl } }; nodes = record { total = refl; size = refl }; rest = refl } } }); reference = 18; low = refl; moved = volume_26; moves = record { changes = record { between = (pair_17 ∷ pair_1 ∷ pair_15 ∷ pair_2 ∷ pair_3 ∷ pair_5 ∷ pair_6 ∷ pair_16 ∷ []); out = record { between = (pair_17 ∷ pair_1 ∷ pair_15 ∷ pair_2 ∷ pair_3 ∷ pair_13 ∷ pair_5 ∷ pair_6 ∷ pair_16 ∷ []); pair = pair_13; is_entry = record { stands = refl; spelled = refl }; entry_added = record { place = 5; within = omega arith; is = refl }; thread = pair_14; spare = pos 0; is_thread = record { stands = refl; spelled = refl }; thread_added = record { place = 8; within = omega arith; is = refl } }; back = record { between = (pair_17 ∷ pair_1 ∷ pair_15 ∷ pair_2 ∷ pair_3 ∷ pair_5 ∷ pair_6 ∷ pair_16 ∷ pair_35 ∷ []); pair = pair_35; is_entry = record { stands = refl; spelled = refl }; entry_added = record { place = 8; within = omega arith; is = refl }; thread = pair_36; spare = pos 0; is_thread = record { stands = refl; spelled = refl }; thread_added = record { place = 7; within = omega arith; is = refl } } }; nodes = record { total = refl; size = refl }; rest = refl }; sorted_again = ((refl, (refl, (refl, (refl, (refl, (refl, (refl, (refl, (refl, tt))))))))), ((refl, (refl, (refl, (refl, (refl, (refl, (refl, (refl, tt)))))))), ((refl, (refl, (refl, (refl, (refl, (refl, (refl, tt))))))), ((refl, (refl, (refl, (refl, (refl, (refl, tt)))))), ((refl, (refl, (refl, (refl, (refl, tt))))), ((refl, (refl, (refl, (refl, tt)))), ((refl, (refl, (refl, tt))), ((refl, (refl, tt)), ((refl, tt), (tt, tt)))))))))); old_link = catalog_of (pair_37).1; is_old_link = (refl, refl, refl, record { size = refl; blocks = refl; extents = refl }, record { size = refl; blocks = refl; extents = refl }); replaced = volume_27; replaces = record { changes = record { between = (pair_17 ∷ pair_1 ∷ pair_15 ∷ pair_2 ∷ pair_3 ∷ pair_37 ∷ pair_5 ∷ pair_6 ∷ pair_36 ∷ pair_16 ∷ pair_35 ∷ []); pair = pair_37; is_entry = record { stands = refl; spelled = refl }; entry_added = record { place = 5; within = omega arith; is = refl }; thread = pair_38; spare = pos 0; is_thread = record { stands = refl; spelled = refl }; thread_added = record { place = 11; within = omega arith; is = refl } }; nodes = record { total = refl; size = refl }; rest = refl }; sorted_replaced = ((refl, (refl, (refl, (refl, (refl, (refl, (refl, (refl, (refl, (refl, (refl, tt))))))))))), ((refl, (refl, (refl, (refl, (refl, (refl, (refl, (refl, (refl, (refl, tt)))))))))), ((refl, (refl, (refl, (refl, (refl, (refl, (refl, (refl, (refl, tt))))))))), ((refl, (refl, (refl, (refl, (refl, (refl, (refl, (refl, tt)))))))), ((refl, (refl, (refl, (refl, (refl, (refl, (refl, tt))))))), ((refl, (refl, (refl, (refl, (refl, (refl, tt)))))), ((refl, (refl, (refl, (refl, (refl, tt))))), ((refl, (refl, (refl, (refl, tt)))), ((refl, (refl, (refl, tt))), ((refl, (refl, tt)), ((refl, tt), (tt, tt)))))))))))); new_link = catalog_of (pair_39).1; is_new_link = (refl, refl, refl, record { size = refl; blocks = refl; extents = refl }, record { size = refl; blocks = refl; extents = refl }); linked = volume_28; links = record { changes = record { between = (pair_17 ∷ pair_1 ∷ pair_15 ∷ pair_2 ∷ pair_3 ∷ pair_37 ∷ pair_39 ∷ pair_5 ∷ pair_6 ∷ pair_36 ∷ pair_16 ∷ pair_35 ∷ pair_38 ∷ []); pair = pair_39; is_entry = record { stands = refl; spelled = refl }; entry_added = record { place = 6; within = omega arith; is = refl }; thread = pair_40; spare = pos 0; is_thread = record { stands = refl; spelled = refl }; thread_added = record { place = 13; within = omega arith; is = refl } }; nodes = record { total = refl; size = refl }; rest = refl }; sorted_linked = ((refl, (refl, (refl, (refl, (refl, (refl, (refl, (refl, (refl, (refl, (refl, (refl, (refl, tt))))))))))))), ((refl, (refl, (refl, (refl, (refl, (refl, (refl, (refl, (refl, (refl, (refl, (refl, tt)))))))))))), ((refl, (refl, (refl, (refl, (refl, (refl, (refl, (refl, (refl, (refl, (refl, tt))))))))))), ((refl, (refl, (refl, (refl, (refl, (refl, (refl, (refl, (refl, (refl, tt)))))))))), ((refl, (refl, (refl, (refl, (refl, (refl, (refl, (refl, (refl, tt))))))))), ((refl, (refl, (refl, (refl, (refl, (refl, (refl, (refl, tt)))))))), ((refl, (refl, (refl, (refl, (refl, (refl, (refl, tt))))))), ((refl, (refl, (refl, (refl, (refl, (refl, tt)))))), ((refl, (refl, (refl, (refl, (refl, tt))))), ((refl, (refl, (refl, (refl, tt)))), ((refl, (refl, (refl, tt))), ((refl, (refl, tt)), ((refl, tt), (tt, tt)))))))))))))); filled = volume_29; fills = record { entry = placed_of pair_15; before = entry_of (pair_15).1; after = entry_of (pair_20).1; has = refl; is_entry = refl; fields = record { id = refl; count = refl }; changes = record { changes = record { pair = pair_15; is_entry = refl; other = pair_20; is_other = record { stands = refl; spelled = refl }; swapped = record { place = 2; at = refl; is = refl }; alike = record { place = (refl, refl); kind = (refl, refl); id = refl; forks = refl; link = refl; reference = λ link. refl } }; nodes = record { total = refl; size = refl }; rest = refl } }; marked = volume_30; marks = record { entry = placed_of pair_35; before = entry_of (pair_35).1; after = entry_of (pair_41).1; has = refl; is_entry = refl; fields = record { marked = record { id = refl; count = refl; mode = refl; created = refl; changed = refl; attribute = refl }; special = refl }; changes = record { changes = record { pair = pair_35; is_entry = refl; other = pair_41; is_other = record { stands = refl; spelled = refl }; swapped = record { place = 11; at = refl; is = refl }; alike = record { place = (refl, refl); kind = (refl, refl); id = refl; forks = refl; link = refl; reference = λ link. absurd (true_or_false (sym link)) } }; nodes = record { total = refl; size = refl }; rest = refl } }; gains = record { entry = placed_of pair_17; before = entry_of (pair_17).1; after = entry_of (pair_42).1; has = refl; is_entry = refl; fields = record { id = refl; count = refl; mode = refl; created = refl; changed = refl; attribute = refl }; changes = record { changes = record { pair = pair_17; is_entry = refl; other = pair_42; is_other = record { stands = refl; spelled = refl }; swapped = record { place = 0; at = refl; is = refl }; alike = record { place = (refl, refl); kind = (refl, refl); id = refl; forks = refl; link = refl; reference = λ link. refl } }; nodes = record { total = refl; size = refl }; rest = refl } } }
+a_first_link_is_made = record { sorted = ((refl, (refl, (refl, (refl, (refl, (refl, (refl, tt))))))), ((refl, (refl, (refl, (refl, (refl, (refl, tt)))))), ((refl, (refl, (refl, (refl, (refl, tt))))), ((refl, (refl, (refl, (refl, tt)))), ((refl, (refl, (refl, tt))), ((refl, (refl, tt)), ((refl, tt), (tt, tt)))))))); entry = placed_of pair_13; is_entry = record { stands = (3, omega arith, refl); place = (refl, refl) }; not_link = refl; private = 19; opened = volume_25; opens = inr (refl, record { absent = refl; value = catalog_of (pair_15).1; is_new = record { id = refl; count = refl; mode = refl; created = refl; changed = refl; attribute = refl }; added = volume_24; adds = record { changes = record { between = (pair_0 ∷ pair_1 ∷ pair_15 ∷ pair_2 ∷ pair_3 ∷ pair_13 ∷ pair_5 ∷ pair_6 ∷ pair_14 ∷ []); pair = pair_15; is_entry = record { stands = refl; spelled = refl }; entry_added = record { place = 2; within = omega arith; is = refl }; thread = pair_16; spare = pos 0; is_thread = record { stands = refl; spelled = refl }; thread_added = record { place = 9; within = omega arith; is = refl } }; nodes = record { total = refl; size = refl }; rest = refl }; sorted = ((refl, (refl, (refl, (refl, (refl, (refl, (refl, (refl, (refl, tt))))))))), ((refl, (refl, (refl, (refl, (refl, (refl, (refl, (refl, tt)))))))), ((refl, (refl, (refl, (refl, (refl, (refl, (refl, tt))))))), ((refl, (refl, (refl, (refl, (refl, (refl, tt)))))), ((refl, (refl, (refl, (refl, (refl, tt))))), ((refl, (refl, (refl, (refl, tt)))), ((refl, (refl, (refl, tt))), ((refl, (refl, tt)), ((refl, tt), (tt, tt)))))))))); counts = record { entry = placed_of pair_0; before = entry_of (pair_0).1; after = entry_of (pair_17).1; has = refl; is_entry = refl; fields = record { recounted = record { id = refl; count = refl }; mode = refl; created = refl; changed = refl; attribute = refl }; changes = record { changes = record { pair = pair_0; is_entry = refl; other = pair_17; is_other = record { stands = refl; spelled = refl }; swapped = record { place = 0; at = refl; is = refl }; forks = refl; alike = record { place = (refl, refl); kind = (refl, refl); id = refl; link = refl; reference = λ link. refl } }; nodes = record { total = refl; size = refl }; rest = refl } } }); reference = 18; low = refl; moved = volume_26; moves = record { changes = record { between = (pair_17 ∷ pair_1 ∷ pair_15 ∷ pair_2 ∷ pair_3 ∷ pair_5 ∷ pair_6 ∷ pair_16 ∷ []); out = record { between = (pair_17 ∷ pair_1 ∷ pair_15 ∷ pair_2 ∷ pair_3 ∷ pair_13 ∷ pair_5 ∷ pair_6 ∷ pair_16 ∷ []); pair = pair_13; is_entry = record { stands = refl; spelled = refl }; entry_added = record { place = 5; within = omega arith; is = refl }; thread = pair_14; spare = pos 0; is_thread = record { stands = refl; spelled = refl }; thread_added = record { place = 8; within = omega arith; is = refl } }; back = record { between = (pair_17 ∷ pair_1 ∷ pair_15 ∷ pair_2 ∷ pair_3 ∷ pair_5 ∷ pair_6 ∷ pair_16 ∷ pair_35 ∷ []); pair = pair_35; is_entry = record { stands = refl; spelled = refl }; entry_added = record { place = 8; within = omega arith; is = refl }; thread = pair_36; spare = pos 0; is_thread = record { stands = refl; spelled = refl }; thread_added = record { place = 7; within = omega arith; is = refl } } }; nodes = record { total = refl; size = refl }; rest = refl }; sorted_again = ((refl, (refl, (refl, (refl, (refl, (refl, (refl, (refl, (refl, tt))))))))), ((refl, (refl, (refl, (refl, (refl, (refl, (refl, (refl, tt)))))))), ((refl, (refl, (refl, (refl, (refl, (refl, (refl, tt))))))), ((refl, (refl, (refl, (refl, (refl, (refl, tt)))))), ((refl, (refl, (refl, (refl, (refl, tt))))), ((refl, (refl, (refl, (refl, tt)))), ((refl, (refl, (refl, tt))), ((refl, (refl, tt)), ((refl, tt), (tt, tt)))))))))); old_link = catalog_of (pair_37).1; is_old_link = (refl, refl, refl, record { size = refl; blocks = refl; extents = refl }, record { size = refl; blocks = refl; extents = refl }); replaced = volume_27; replaces = record { changes = record { between = (pair_17 ∷ pair_1 ∷ pair_15 ∷ pair_2 ∷ pair_3 ∷ pair_37 ∷ pair_5 ∷ pair_6 ∷ pair_36 ∷ pair_16 ∷ pair_35 ∷ []); pair = pair_37; is_entry = record { stands = refl; spelled = refl }; entry_added = record { place = 5; within = omega arith; is = refl }; thread = pair_38; spare = pos 0; is_thread = record { stands = refl; spelled = refl }; thread_added = record { place = 11; within = omega arith; is = refl } }; nodes = record { total = refl; size = refl }; rest = refl }; sorted_replaced = ((refl, (refl, (refl, (refl, (refl, (refl, (refl, (refl, (refl, (refl, (refl, tt))))))))))), ((refl, (refl, (refl, (refl, (refl, (refl, (refl, (refl, (refl, (refl, tt)))))))))), ((refl, (refl, (refl, (refl, (refl, (refl, (refl, (refl, (refl, tt))))))))), ((refl, (refl, (refl, (refl, (refl, (refl, (refl, (refl, tt)))))))), ((refl, (refl, (refl, (refl, (refl, (refl, (refl, tt))))))), ((refl, (refl, (refl, (refl, (refl, (refl, tt)))))), ((refl, (refl, (refl, (refl, (refl, tt))))), ((refl, (refl, (refl, (refl, tt)))), ((refl, (refl, (refl, tt))), ((refl, (refl, tt)), ((refl, tt), (tt, tt)))))))))))); new_link = catalog_of (pair_39).1; is_new_link = (refl, refl, refl, record { size = refl; blocks = refl; extents = refl }, record { size = refl; blocks = refl; extents = refl }); linked = volume_28; links = record { changes = record { between = (pair_17 ∷ pair_1 ∷ pair_15 ∷ pair_2 ∷ pair_3 ∷ pair_37 ∷ pair_39 ∷ pair_5 ∷ pair_6 ∷ pair_36 ∷ pair_16 ∷ pair_35 ∷ pair_38 ∷ []); pair = pair_39; is_entry = record { stands = refl; spelled = refl }; entry_added = record { place = 6; within = omega arith; is = refl }; thread = pair_40; spare = pos 0; is_thread = record { stands = refl; spelled = refl }; thread_added = record { place = 13; within = omega arith; is = refl } }; nodes = record { total = refl; size = refl }; rest = refl }; sorted_linked = ((refl, (refl, (refl, (refl, (refl, (refl, (refl, (refl, (refl, (refl, (refl, (refl, (refl, tt))))))))))))), ((refl, (refl, (refl, (refl, (refl, (refl, (refl, (refl, (refl, (refl, (refl, (refl, tt)))))))))))), ((refl, (refl, (refl, (refl, (refl, (refl, (refl, (refl, (refl, (refl, (refl, tt))))))))))), ((refl, (refl, (refl, (refl, (refl, (refl, (refl, (refl, (refl, (refl, tt)))))))))), ((refl, (refl, (refl, (refl, (refl, (refl, (refl, (refl, (refl, tt))))))))), ((refl, (refl, (refl, (refl, (refl, (refl, (refl, (refl, tt)))))))), ((refl, (refl, (refl, (refl, (refl, (refl, (refl, tt))))))), ((refl, (refl, (refl, (refl, (refl, (refl, tt)))))), ((refl, (refl, (refl, (refl, (refl, tt))))), ((refl, (refl, (refl, (refl, tt)))), ((refl, (refl, (refl, tt))), ((refl, (refl, tt)), ((refl, tt), (tt, tt)))))))))))))); filled = volume_29; fills = record { entry = placed_of pair_15; before = entry_of (pair_15).1; after = entry_of (pair_20).1; has = refl; is_entry = refl; fields = record { id = refl; count = refl }; changes = record { changes = record { pair = pair_15; is_entry = refl; other = pair_20; is_other = record { stands = refl; spelled = refl }; swapped = record { place = 2; at = refl; is = refl }; forks = refl; alike = record { place = (refl, refl); kind = (refl, refl); id = refl; link = refl; reference = λ link. refl } }; nodes = record { total = refl; size = refl }; rest = refl } }; marked = volume_30; marks = record { entry = placed_of pair_35; before = entry_of (pair_35).1; after = entry_of (pair_41).1; has = refl; is_entry = refl; fields = record { marked = record { id = refl; count = refl; mode = refl; created = refl; changed = refl; attribute = refl }; special = refl }; changes = record { changes = record { pair = pair_35; is_entry = refl; other = pair_41; is_other = record { stands = refl; spelled = refl }; swapped = record { place = 11; at = refl; is = refl }; forks = refl; alike = record { place = (refl, refl); kind = (refl, refl); id = refl; link = refl; reference = λ link. absurd (true_or_false (sym link)) } }; nodes = record { total = refl; size = refl }; rest = refl } }; gains = record { entry = placed_of pair_17; before = entry_of (pair_17).1; after = entry_of (pair_42).1; has = refl; is_entry = refl; fields = record { id = refl; count = refl; mode = refl; created = refl; changed = refl; attribute = refl }; changes = record { changes = record { pair = pair_17; is_entry = refl; other = pair_42; is_other = record { stands = refl; spelled = refl }; swapped = record { place = 0; at = refl; is = refl }; forks = refl; alike = record { place = (refl, refl); kind = (refl, refl); id = refl; link = refl; reference = λ link. refl } }; nodes = record { total = refl; size = refl }; rest = refl } } }
 
 -- a file of two names gets a third one
 a_later_link_is_made : LinksMore (record { parent = 2; name = (97 ∷ []); folder = false; id = 19 }) (record { folder = 2; name = (99 ∷ []); found = None }) volume_32 volume_36
 unfolding digits number_at number_bytes extents_at entry_of placed_of attribute_of
-a_later_link_is_made = record { sorted = ((refl, (refl, (refl, (refl, (refl, (refl, (refl, (refl, (refl, (refl, (refl, (refl, (refl, tt))))))))))))), ((refl, (refl, (refl, (refl, (refl, (refl, (refl, (refl, (refl, (refl, (refl, (refl, tt)))))))))))), ((refl, (refl, (refl, (refl, (refl, (refl, (refl, (refl, (refl, (refl, (refl, tt))))))))))), ((refl, (refl, (refl, (refl, (refl, (refl, (refl, (refl, (refl, (refl, tt)))))))))), ((refl, (refl, (refl, (refl, (refl, (refl, (refl, (refl, (refl, tt))))))))), ((refl, (refl, (refl, (refl, (refl, (refl, (refl, (refl, tt)))))))), ((refl, (refl, (refl, (refl, (refl, (refl, (refl, tt))))))), ((refl, (refl, (refl, (refl, (refl, (refl, tt)))))), ((refl, (refl, (refl, (refl, (refl, tt))))), ((refl, (refl, (refl, (refl, tt)))), ((refl, (refl, (refl, tt))), ((refl, (refl, tt)), ((refl, tt), (tt, tt)))))))))))))); entry = placed_of pair_23; is_entry = record { stands = (4, omega arith, refl); place = (refl, refl) }; is_one = refl; new_link = catalog_of (pair_43).1; is_new_link = (refl, refl, refl, record { size = refl; blocks = refl; extents = refl }, record { size = refl; blocks = refl; extents = refl }); linked = volume_34; links = record { changes = record { between = (pair_21 ∷ pair_1 ∷ pair_22 ∷ pair_2 ∷ pair_3 ∷ pair_23 ∷ pair_24 ∷ pair_43 ∷ pair_5 ∷ pair_6 ∷ pair_25 ∷ pair_26 ∷ pair_27 ∷ pair_28 ∷ pair_29 ∷ []); pair = pair_43; is_entry = record { stands = refl; spelled = refl }; entry_added = record { place = 7; within = omega arith; is = refl }; thread = pair_44; spare = pos 0; is_thread = record { stands = refl; spelled = refl }; thread_added = record { place = 15; within = omega arith; is = refl } }; nodes = record { total = refl; size = refl }; rest = refl }; sorted_linked = ((refl, (refl, (refl, (refl, (refl, (refl, (refl, (refl, (refl, (refl, (refl, (refl, (refl, (refl, (refl, tt))))))))))))))), ((refl, (refl, (refl, (refl, (refl, (refl, (refl, (refl, (refl, (refl, (refl, (refl, (refl, (refl, tt)))))))))))))), ((refl, (refl, (refl, (refl, (refl, (refl, (refl, (refl, (refl, (refl, (refl, (refl, (refl, tt))))))))))))), ((refl, (refl, (refl, (refl, (refl, (refl, (refl, (refl, (refl, (refl, (refl, (refl, tt)))))))))))), ((refl, (refl, (refl, (refl, (refl, (refl, (refl, (refl, (refl, (refl, (refl, tt))))))))))), ((refl, (refl, (refl, (refl, (refl, (refl, (refl, (refl, (refl, (refl, tt)))))))))), ((refl, (refl, (refl, (refl, (refl, (refl, (refl, (refl, (refl, tt))))))))), ((refl, (refl, (refl, (refl, (refl, (refl, (refl, (refl, tt)))))))), ((refl, (refl, (refl, (refl, (refl, (refl, (refl, tt))))))), ((refl, (refl, (refl, (refl, (refl, (refl, tt)))))), ((refl, (refl, (refl, (refl, (refl, tt))))), ((refl, (refl, (refl, (refl, tt)))), ((refl, (refl, (refl, tt))), ((refl, (refl, tt)), ((refl, tt), (tt, tt)))))))))))))))); count = 3; marked = volume_35; marks = record { entry = placed_of pair_26; before = entry_of (pair_26).1; after = entry_of (pair_45).1; has = refl; is_entry = refl; fields = record { marked = record { id = refl; count = refl; mode = refl; created = refl; changed = refl; attribute = refl }; special = refl }; changes = record { changes = record { pair = pair_26; is_entry = refl; other = pair_45; is_other = record { stands = refl; spelled = refl }; swapped = record { place = 11; at = refl; is = refl }; alike = record { place = (refl, refl); kind = (refl, refl); id = refl; forks = refl; link = refl; reference = λ link. absurd (true_or_false (sym link)) } }; nodes = record { total = refl; size = refl }; rest = refl } }; one_more = refl; gains = record { entry = placed_of pair_21; before = entry_of (pair_21).1; after = entry_of (pair_46).1; has = refl; is_entry = refl; fields = record { id = refl; count = refl; mode = refl; created = refl; changed = refl; attribute = refl }; changes = record { changes = record { pair = pair_21; is_entry = refl; other = pair_46; is_other = record { stands = refl; spelled = refl }; swapped = record { place = 0; at = refl; is = refl }; alike = record { place = (refl, refl); kind = (refl, refl); id = refl; forks = refl; link = refl; reference = λ link. refl } }; nodes = record { total = refl; size = refl }; rest = refl } } }
+a_later_link_is_made = record { sorted = ((refl, (refl, (refl, (refl, (refl, (refl, (refl, (refl, (refl, (refl, (refl, (refl, (refl, tt))))))))))))), ((refl, (refl, (refl, (refl, (refl, (refl, (refl, (refl, (refl, (refl, (refl, (refl, tt)))))))))))), ((refl, (refl, (refl, (refl, (refl, (refl, (refl, (refl, (refl, (refl, (refl, tt))))))))))), ((refl, (refl, (refl, (refl, (refl, (refl, (refl, (refl, (refl, (refl, tt)))))))))), ((refl, (refl, (refl, (refl, (refl, (refl, (refl, (refl, (refl, tt))))))))), ((refl, (refl, (refl, (refl, (refl, (refl, (refl, (refl, tt)))))))), ((refl, (refl, (refl, (refl, (refl, (refl, (refl, tt))))))), ((refl, (refl, (refl, (refl, (refl, (refl, tt)))))), ((refl, (refl, (refl, (refl, (refl, tt))))), ((refl, (refl, (refl, (refl, tt)))), ((refl, (refl, (refl, tt))), ((refl, (refl, tt)), ((refl, tt), (tt, tt)))))))))))))); entry = placed_of pair_23; is_entry = record { stands = (4, omega arith, refl); place = (refl, refl) }; is_one = refl; new_link = catalog_of (pair_43).1; is_new_link = (refl, refl, refl, record { size = refl; blocks = refl; extents = refl }, record { size = refl; blocks = refl; extents = refl }); linked = volume_34; links = record { changes = record { between = (pair_21 ∷ pair_1 ∷ pair_22 ∷ pair_2 ∷ pair_3 ∷ pair_23 ∷ pair_24 ∷ pair_43 ∷ pair_5 ∷ pair_6 ∷ pair_25 ∷ pair_26 ∷ pair_27 ∷ pair_28 ∷ pair_29 ∷ []); pair = pair_43; is_entry = record { stands = refl; spelled = refl }; entry_added = record { place = 7; within = omega arith; is = refl }; thread = pair_44; spare = pos 0; is_thread = record { stands = refl; spelled = refl }; thread_added = record { place = 15; within = omega arith; is = refl } }; nodes = record { total = refl; size = refl }; rest = refl }; sorted_linked = ((refl, (refl, (refl, (refl, (refl, (refl, (refl, (refl, (refl, (refl, (refl, (refl, (refl, (refl, (refl, tt))))))))))))))), ((refl, (refl, (refl, (refl, (refl, (refl, (refl, (refl, (refl, (refl, (refl, (refl, (refl, (refl, tt)))))))))))))), ((refl, (refl, (refl, (refl, (refl, (refl, (refl, (refl, (refl, (refl, (refl, (refl, (refl, tt))))))))))))), ((refl, (refl, (refl, (refl, (refl, (refl, (refl, (refl, (refl, (refl, (refl, (refl, tt)))))))))))), ((refl, (refl, (refl, (refl, (refl, (refl, (refl, (refl, (refl, (refl, (refl, tt))))))))))), ((refl, (refl, (refl, (refl, (refl, (refl, (refl, (refl, (refl, (refl, tt)))))))))), ((refl, (refl, (refl, (refl, (refl, (refl, (refl, (refl, (refl, tt))))))))), ((refl, (refl, (refl, (refl, (refl, (refl, (refl, (refl, tt)))))))), ((refl, (refl, (refl, (refl, (refl, (refl, (refl, tt))))))), ((refl, (refl, (refl, (refl, (refl, (refl, tt)))))), ((refl, (refl, (refl, (refl, (refl, tt))))), ((refl, (refl, (refl, (refl, tt)))), ((refl, (refl, (refl, tt))), ((refl, (refl, tt)), ((refl, tt), (tt, tt)))))))))))))))); count = 3; marked = volume_35; marks = record { entry = placed_of pair_26; before = entry_of (pair_26).1; after = entry_of (pair_45).1; has = refl; is_entry = refl; fields = record { marked = record { id = refl; count = refl; mode = refl; created = refl; changed = refl; attribute = refl }; special = refl }; changes = record { changes = record { pair = pair_26; is_entry = refl; other = pair_45; is_other = record { stands = refl; spelled = refl }; swapped = record { place = 11; at = refl; is = refl }; forks = refl; alike = record { place = (refl, refl); kind = (refl, refl); id = refl; link = refl; reference = λ link. absurd (true_or_false (sym link)) } }; nodes = record { total = refl; size = refl }; rest = refl } }; one_more = refl; gains = record { entry = placed_of pair_21; before = entry_of (pair_21).1; after = entry_of (pair_46).1; has = refl; is_entry = refl; fields = record { id = refl; count = refl; mode = refl; created = refl; changed = refl; attribute = refl }; changes = record { changes = record { pair = pair_21; is_entry = refl; other = pair_46; is_other = record { stands = refl; spelled = refl }; swapped = record { place = 0; at = refl; is = refl }; forks = refl; alike = record { place = (refl, refl); kind = (refl, refl); id = refl; link = refl; reference = λ link. refl } }; nodes = record { total = refl; size = refl }; rest = refl } } }
 
 -- an attribute of a folder gets another value
 an_attribute_is_set : SetsAttribute 18 (107 ∷ []) (117 ∷ 119 ∷ []) volume_37 volume_40
 unfolding digits number_at number_bytes extents_at entry_of placed_of attribute_of
-an_attribute_is_set = record { sorted = ((refl, (refl, (refl, (refl, (refl, (refl, (refl, tt))))))), ((refl, (refl, (refl, (refl, (refl, (refl, tt)))))), ((refl, (refl, (refl, (refl, (refl, tt))))), ((refl, (refl, (refl, (refl, tt)))), ((refl, (refl, (refl, tt))), ((refl, (refl, tt)), ((refl, tt), (tt, tt)))))))); bared = volume_38; bares = record { changes = refl; nodes = record { total = refl; size = refl }; rest = refl }; added = volume_39; adds = record { changes = record { pair = pair_49; stands = refl; spelled = refl; added = record { place = 0; within = omega arith; is = refl } }; nodes = record { total = refl; size = refl }; rest = refl }; sorted_again = ((refl, tt), (tt, tt)); marks = record { entry = placed_of pair_4; before = entry_of (pair_4).1; after = entry_of (pair_50).1; has = refl; is_entry = refl; fields = record { marked = record { id = refl; count = refl; mode = refl; created = refl; changed = refl; attribute = refl }; special = refl }; changes = record { changes = record { pair = pair_4; is_entry = refl; other = pair_50; is_other = record { stands = refl; spelled = refl }; swapped = record { place = 4; at = refl; is = refl }; alike = record { place = (refl, refl); kind = (refl, refl); id = refl; forks = refl; link = refl; reference = λ link. refl } }; nodes = record { total = refl; size = refl }; rest = refl } } }
+an_attribute_is_set = record { sorted = ((refl, (refl, (refl, (refl, (refl, (refl, (refl, tt))))))), ((refl, (refl, (refl, (refl, (refl, (refl, tt)))))), ((refl, (refl, (refl, (refl, (refl, tt))))), ((refl, (refl, (refl, (refl, tt)))), ((refl, (refl, (refl, tt))), ((refl, (refl, tt)), ((refl, tt), (tt, tt)))))))); bared = volume_38; bares = record { changes = refl; nodes = record { total = refl; size = refl }; rest = refl }; added = volume_39; adds = record { changes = record { pair = pair_49; stands = refl; spelled = refl; added = record { place = 0; within = omega arith; is = refl } }; nodes = record { total = refl; size = refl }; rest = refl }; sorted_again = ((refl, tt), (tt, tt)); marks = record { entry = placed_of pair_4; before = entry_of (pair_4).1; after = entry_of (pair_50).1; has = refl; is_entry = refl; fields = record { marked = record { id = refl; count = refl; mode = refl; created = refl; changed = refl; attribute = refl }; special = refl }; changes = record { changes = record { pair = pair_4; is_entry = refl; other = pair_50; is_other = record { stands = refl; spelled = refl }; swapped = record { place = 4; at = refl; is = refl }; forks = refl; alike = record { place = (refl, refl); kind = (refl, refl); id = refl; link = refl; reference = λ link. refl } }; nodes = record { total = refl; size = refl }; rest = refl } } }
 
 -- an attribute of a folder is deleted
 an_attribute_is_deleted : DeletesAttribute 18 (107 ∷ []) volume_37 volume_41
 unfolding digits number_at number_bytes extents_at entry_of placed_of attribute_of
-an_attribute_is_deleted = record { sorted = ((refl, (refl, (refl, (refl, (refl, (refl, (refl, tt))))))), ((refl, (refl, (refl, (refl, (refl, (refl, tt)))))), ((refl, (refl, (refl, (refl, (refl, tt))))), ((refl, (refl, (refl, (refl, tt)))), ((refl, (refl, (refl, tt))), ((refl, (refl, tt)), ((refl, tt), (tt, tt)))))))); bared = volume_38; bares = record { changes = refl; nodes = record { total = refl; size = refl }; rest = refl }; marks = record { entry = placed_of pair_4; before = entry_of (pair_4).1; after = entry_of (pair_50).1; has = refl; is_entry = refl; fields = record { marked = record { id = refl; count = refl; mode = refl; created = refl; changed = refl; attribute = refl }; special = refl }; changes = record { changes = record { pair = pair_4; is_entry = refl; other = pair_50; is_other = record { stands = refl; spelled = refl }; swapped = record { place = 4; at = refl; is = refl }; alike = record { place = (refl, refl); kind = (refl, refl); id = refl; forks = refl; link = refl; reference = λ link. refl } }; nodes = record { total = refl; size = refl }; rest = refl } } }
+an_attribute_is_deleted = record { sorted = ((refl, (refl, (refl, (refl, (refl, (refl, (refl, tt))))))), ((refl, (refl, (refl, (refl, (refl, (refl, tt)))))), ((refl, (refl, (refl, (refl, (refl, tt))))), ((refl, (refl, (refl, (refl, tt)))), ((refl, (refl, (refl, tt))), ((refl, (refl, tt)), ((refl, tt), (tt, tt)))))))); bared = volume_38; bares = record { changes = refl; nodes = record { total = refl; size = refl }; rest = refl }; marks = record { entry = placed_of pair_4; before = entry_of (pair_4).1; after = entry_of (pair_50).1; has = refl; is_entry = refl; fields = record { marked = record { id = refl; count = refl; mode = refl; created = refl; changed = refl; attribute = refl }; special = refl }; changes = record { changes = record { pair = pair_4; is_entry = refl; other = pair_50; is_other = record { stands = refl; spelled = refl }; swapped = record { place = 4; at = refl; is = refl }; forks = refl; alike = record { place = (refl, refl); kind = (refl, refl); id = refl; link = refl; reference = λ link. refl } }; nodes = record { total = refl; size = refl }; rest = refl } } }

@@ -1,5 +1,5 @@
 -- The changes that commands are made of, over the lists of a volume.
-use Rattle.std.specs.Prelude.{Bool, ◌&&◌, map, ◌==◌, if◌then◌else◌, not, ◌≡◌, ◌≤◌, ℕ, ℤ, ◌+◌, ◌*◌, pos, true, false, List, [], ◌++◌, length, take, drop, insert, remove, slice_get, slice_set, All, Contains, Some, IsTrue}
+use Rattle.std.specs.Prelude.{Bool, ◌&&◌, map, ◌==◌, if◌then◌else◌, not, ◌≡◌, ◌≢◌, ◌⊎◌, ◌≤◌, ℕ, ℤ, ◌+◌, ◌*◌, pos, true, false, List, [], ◌++◌, length, take, drop, insert, remove, slice_get, slice_set, All, Contains, Some, IsTrue}
 use Rattle.std.specs.Str.{bytes_eq}
 use Rattle.std.specs.Ordering.{is_lt, nat_cmp, ordering_then}
 use Rattle.std.specs.Cmp.Lexicographic.{slice_cmp}
@@ -9,14 +9,16 @@ use Rattle.btree_node.specs.Levels.{Pair}
 use Rattle.cat_records.specs.Keys.{catalog_key_bytes}
 use Rattle.cat_records.specs.Records.{catalog_bytes, is_catalog}
 use Rattle.cat_records.specs.Attributes.{is_attr}
+use Rattle.cat_records.specs.declared.record.FileRecord.{FileRecord}
 use Rattle.cat_records.specs.declared.record.CatRecord.{CatRecord}
-use Rattle.cat_records.specs.declared.record.CatRecord.TheVariants.{Folder, File, Thread}
+use Rattle.cat_records.specs.declared.record.CatRecord.TheVariants.{File, Thread}
 use Rattle.cat_records.specs.declared.attribute.AttrRecord.TheVariants.{Inline}
 use Rattle.hfs_model.specs.Sorted.{kept, IsInOrder}
-use Rattle.hfs_volume.specs.Records.{Placed, Attribute, placed_of, placed_in, placed_before, attribute_of, is_folder, is_file, is_link, id_of, special_of}
-use Rattle.hfs_volume.specs.Forks.{is_of, data_kind, extents_id, catalog_id, forks_in}
-use Rattle.hfs_volume.specs.Content.{overflow_in_volume, facts_at, VolumeState, TreeFacts, is_set}
-use Rattle.hfs_volume.specs.Reclaim.{blocks_at}
+use Rattle.hfs_volume.specs.Records.{Placed, Attribute, placed_of, placed_in, placed_before, attribute_of, is_folder, is_file, is_link, is_link_type, id_of, special_of}
+use Rattle.hfs_volume.specs.Forks.{is_of, data_kind, resource_kind, extents_id, catalog_id, attributes_id, forks_in}
+use Rattle.hfs_volume.specs.Content.{overflow_in_volume, facts_at, VolumeState, TreeFacts, is_set, has_attributes}
+use Rattle.hfs_volume.specs.Blocks.{HasSizes, GoesOn}
+use Rattle.hfs_volume.specs.Reclaim.{IsTreeFork, blocks_at}
 use Rattle.hfs_volume.specs.Run.{AreFresh}
 
 -- ---- lists
@@ -91,16 +93,15 @@ pub record MovesEntry (entry : Placed) (parent : ℕ) (name : List ℕ) (old new
   pub out : DropsEntry entry old between
   pub back : AddsEntry (record entry { parent = parent; name = name }) between new
 
--- another record at the same place, of the same kind, CNID and forks; a link stays one and names what it named
+-- another record at the same place, of the same kind and CNID; a link stays one and names what it named
 pub record SameKind (entry other : Placed) : Type 0 where
   pub place : (other.parent ≡ entry.parent) × (other.name ≡ entry.name)
   pub kind : (is_folder other.value ≡ is_folder entry.value) × (is_file other.value ≡ is_file entry.value)
   pub id : id_of other ≡ id_of entry
-  pub forks : forks_in other.value ≡ forks_in entry.value
   pub link : is_link other ≡ is_link entry
   pub reference : is_link entry ≡ true → special_of other ≡ special_of entry
 
--- an entry has another value, of its kind
+-- an entry has another value, of its kind and with its forks
 pub record ChangesValue (entry : Placed) (value : CatRecord) (old new : List Pair) : Type 0 where
   pub pair : Pair
   pub is_entry : Stands entry pair
@@ -108,10 +109,16 @@ pub record ChangesValue (entry : Placed) (value : CatRecord) (old new : List Pai
   pub is_other : Spells (record entry { value = value }) other
   pub swapped : Swaps pair other old new
   pub alike : SameKind entry (record entry { value = value })
+  pub forks : forks_in value ≡ forks_in entry.value
 
 -- as many nodes, of the same size
 pub record HasSameNodes (old new : TreeFacts) : Type 0 where
   pub total : new.shape.total ≡ old.shape.total
+  pub size : new.shape.node_size ≡ old.shape.node_size
+
+-- so many nodes more, of the same size
+pub record HasMoreNodes (more : ℕ) (old new : TreeFacts) : Type 0 where
+  pub total : new.shape.total ≡ old.shape.total + more
   pub size : new.shape.node_size ≡ old.shape.node_size
 
 -- the same on a volume: the catalog alone has changed, and the numbers of its tree, but not those of its nodes
@@ -159,30 +166,41 @@ pub record FlipsBits (fresh freed : List ℕ) (old new : VolumeState) : Type 0 w
   pub given : All (λ block. is_set new block ≡ false) freed
   pub others : (block : ℕ) → (Contains fresh block → ⊥) → (Contains freed block → ⊥) → is_set new block ≡ is_set old block
 
--- the record with another fork of this kind
-abbrev pub with_fork : ℕ → ForkRecord → CatRecord → CatRecord
-with_fork kind fork (Folder folder) = Folder folder
-with_fork kind fork (File file) = if kind == data_kind then File (record file { data_fork = fork }) else File (record file { resource_fork = fork })
-with_fork kind fork (Thread thread) = Thread thread
+-- the file with another fork of this kind
+abbrev pub with_fork : ℕ → ForkRecord → FileRecord → FileRecord
+with_fork kind fork file = if kind == data_kind then record file { data_fork = fork } else record file { resource_fork = fork }
 
--- the record of this file has another fork of this kind; the file isn't a link
+-- The record of this file, which isn't a link, has another fork of this kind.
 pub record SwapsFork (id kind : ℕ) (old new : List Pair) : Type 0 where
   pub entry : Placed
   pub pair : Pair
   pub is_entry : Stands entry pair
-  pub is_file : (is_file entry.value ≡ true) × (is_link entry ≡ false) × (id_of entry ≡ id)
+  pub file : FileRecord
+  pub is_file : (entry.value ≡ File file) × (file.fields.id ≡ id) × (is_link_type file.fields ≡ false)
   pub fork : ForkRecord
-  pub swapped : Swaps pair (pair.0, catalog_bytes (with_fork kind fork entry.value)) old new
+  pub other : Pair
+  pub is_other : Spells (record entry { value = File (with_fork kind fork file) }) other
+  pub swapped : Swaps pair other old new
+
+-- the fork has as many blocks as it says, which hold its bytes, and goes on behind its record
+abbrev pub IsStored : ℕ → ℕ → ForkRecord → VolumeState → Type 0
+IsStored id kind fork volume =
+    HasSizes volume.head (overflow_in_volume volume) (record { id = id; kind = kind; fork = fork }) × GoesOn (overflow_in_volume volume) (record { id = id; kind = kind; fork = fork })
 
 -- Some blocks of a file's fork, from a place on, have fresh ones in their place: none for a cut, and in place of none where blocks are added.
--- The file's record and the fork's overflow records say so, and so do the bits; every other fork has the blocks that it had.
+-- The file's record and the fork's overflow records say so, and so do the bits; every other fork has the blocks that it had, and no tree
+-- has another number of nodes.
 pub record PutsBlocks (id kind from count : ℕ) (fresh : List ℕ) (old new : VolumeState) : Type 0 where
+  pub is_kind : (kind ≡ data_kind) ⊎ (kind ≡ resource_kind)
   pub are_fresh : AreFresh old fresh
   pub within : from + count ≤ length (blocks_at old id kind)
   pub is : blocks_at new id kind ≡ take from (blocks_at old id kind) ++ (fresh ++ drop (from + count) (blocks_at old id kind))
   pub file : SwapsFork id kind old.catalog_pairs new.catalog_pairs
+  pub stored : IsStored id kind file.fork new
   pub others : kept (λ more. not (is_of id kind more)) (overflow_in_volume new) ≡ kept (λ more. not (is_of id kind more)) (overflow_in_volume old)
   pub flips : FlipsBits fresh (take count (drop from (blocks_at old id kind))) old new
+  pub catalog_nodes : HasSameNodes old.catalog_tree new.catalog_tree
+  pub extents_nodes : HasSameNodes old.extents_tree new.extents_tree
   pub rest : new ≡ record old { catalog_pairs = new.catalog_pairs; catalog_tree = new.catalog_tree; overflow_pairs = new.overflow_pairs; extents_tree = new.extents_tree; bits = new.bits }
 
 -- the header with another fork of this special file
@@ -190,17 +208,29 @@ abbrev pub with_tree_fork : ℕ → ForkRecord → VolumeHeader → VolumeHeader
 with_tree_fork id fork head =
     if id == extents_id then record head { extents_fork = fork } else if id == catalog_id then record head { catalog_fork = fork } else record head { attributes_fork = fork }
 
--- A tree's file has more blocks behind those that it had, and as many more nodes, which are free but for new map nodes.
+-- A tree's file has more blocks behind those that it had, and as many more nodes as fill them. The extents overflow file is as it was where
+-- it is the one that grows, and else says where the blocks are; the nodes of the other trees are as many as before.
 pub record GrowsFile (id more : ℕ) (fresh : List ℕ) (old new : VolumeState) : Type 0 where
   pub are_fresh : AreFresh old fresh
   pub is : blocks_at new id data_kind ≡ blocks_at old id data_kind ++ fresh
-  pub nodes : (facts_at new id).shape ≡ record (facts_at old id).shape { total = (facts_at old id).shape.total + more; free = (facts_at new id).shape.free }
+  pub there : id ≡ attributes_id → IsTrue (has_attributes old.head)
+  pub nodes : HasMoreNodes more (facts_at old id) (facts_at new id)
   pub whole : length fresh * old.head.block_size ≡ more * (facts_at old id).shape.node_size
-  pub others : kept (λ more_record. not (is_of id data_kind more_record)) (overflow_in_volume new) ≡ kept (λ more_record. not (is_of id data_kind more_record)) (overflow_in_volume old)
-  pub flips : FlipsBits fresh [] old new
   pub fork : ForkRecord
-  pub header : new.head ≡ with_tree_fork id fork old.head
-  pub records : (new.catalog_pairs ≡ old.catalog_pairs) × (new.attribute_pairs ≡ old.attribute_pairs)
+  pub size : fork.logical_size ≡ fork.total_blocks * old.head.block_size
+  pub stored : IsStored id data_kind fork new
+  pub others : kept (λ more_record. not (is_of id data_kind more_record)) (overflow_in_volume new) ≡ kept (λ more_record. not (is_of id data_kind more_record)) (overflow_in_volume old)
+  pub own : id ≡ extents_id → new.overflow_pairs ≡ old.overflow_pairs
+  pub flips : FlipsBits fresh [] old new
+  pub other_trees : (other : ℕ) → IsTreeFork other → other ≢ id → HasSameNodes (facts_at old other) (facts_at new other)
+  pub rest : new ≡ record old {
+    head = with_tree_fork id fork old.head;
+    overflow_pairs = new.overflow_pairs;
+    extents_tree = new.extents_tree;
+    catalog_tree = new.catalog_tree;
+    attributes_tree = new.attributes_tree;
+    bits = new.bits;
+  }
 
 -- ---- the header
 

@@ -8,13 +8,13 @@ use Rattle.volume_header.specs.declared.header.VolumeHeader.{VolumeHeader}
 use Rattle.hfs_model.specs.Plain.{IsPlainTree}
 use Rattle.hfs_model.specs.Step.{private_name, is_private_name}
 use Rattle.hfs_volume.specs.Records.{Placed, Overflow, entries_of, record_at, is_folder, is_file, is_thread, is_link, id_of, special_of, attribute_of, is_empty}
-use Rattle.hfs_volume.specs.Forks.{Owned, data_kind, forks_in, blocks_owned}
+use Rattle.hfs_volume.specs.Forks.{Owned, forks_in, blocks_owned}
 use Rattle.hfs_volume.specs.Content.{VolumeState, is_set, records_of, overflow_in_volume}
 use Rattle.hfs_volume.specs.Entries.{AreThreaded, AreRooted, HaveIds, AreCounted, LiesIn, IsUserId, count_in}
 use Rattle.hfs_volume.specs.Links.{is_shared_file, AreGoodLinks, HaveLinkCounts, IsGoodLink, IsHidden, links_to}
 use Rattle.hfs_volume.specs.Attributes.{AreAttributes, HasOwner}
-use Rattle.hfs_volume.specs.Blocks.{forks_of, HasSizes, GoesOn, IsGoodHeader, AgreesWith, HasFiles, HasForks, HasBits, used_in, is_among}
-use Rattle.hfs_volume.specs.Reclaim.{IsTreeFork, is_fork}
+use Rattle.hfs_volume.specs.Blocks.{HasSizes, GoesOn, IsGoodHeader, AgreesWith, HasFiles, HasForks, HasBits, used_in, is_among, count_used}
+use Rattle.hfs_volume.specs.Reclaim.{IsTreeFork}
 use Rattle.hfs_volume.specs.Sound.{IsSound, IsSoundVolume}
 use Rattle.hfs_volume.specs.TreeOf.{is_hidden, tree_of}
 use Rattle.hfs_volume.specs.Changes.{AreSorted, AddsEntry, DropsEntry, MovesEntry, ChangesValue, InCatalog, AddsAttribute, DropsAttribute, InAttributes, PutsBlocks, GrowsFile, InHeader}
@@ -187,19 +187,26 @@ IsUserFile id volume = (entry : Placed) → Contains (entries_in volume) entry �
 abbrev pub HasRightBits : VolumeState → Type 0
 HasRightBits volume = (block : ℕ) → block < volume.head.total_blocks → is_set volume block ≡ is_among (used_in volume) block
 
--- the fork at hand has the size that it says, and goes on behind its record
-abbrev pub IsStored : ℕ → ℕ → VolumeState → Type 0
-IsStored id kind volume = (owned : Owned) → Contains (forks_of volume) owned → is_fork id kind owned ≡ true → HasSizes volume.head (overflow_in_volume volume) owned × GoesOn (overflow_in_volume volume) owned
+-- the counts after some blocks are used that weren't, and some aren't that were: these alone have moved
+pub record CountsBlocks (up down : ℕ) (old new : VolumeState) : Type 0 where
+  pub in_folder : (id : ℕ) → count_in (entries_in new) id ≡ count_in (entries_in old) id
+  pub files : count_by (λ placed. is_file placed.value) (entries_in new) ≡ count_by (λ placed. is_file placed.value) (entries_in old)
+  pub folders : count_by (λ placed. is_folder placed.value) (entries_in new) ≡ count_by (λ placed. is_folder placed.value) (entries_in old)
+  pub links : (reference : ℕ) → length (links_to (records_of new) reference) ≡ length (links_to (records_of old) reference)
+  pub used : count_used new.head.total_blocks (used_in new) + down ≡ count_used old.head.total_blocks (used_in old) + up
 
--- Of a file that isn't a link and isn't one of the journal's: replaced, added and cut are this one change with some of its numbers 0.
+-- Blocks of a file that isn't a link and isn't one of the journal's: replaced, added and cut are this one change with some of its numbers
+-- 0. It keeps the rules, each bit is right again, and so many more blocks are used as are fresh, and so many fewer as are given back.
 abbrev pub BlocksPut : Type 0
 BlocksPut =
-    (id kind from count : ℕ) (fresh : List ℕ) (old new : VolumeState) → PutsBlocks id kind from count fresh old new → IsStored id kind new → IsUserFile id old → HasRightBits old → IsShaped old → IsShaped new × HasRightBits new
+    (id kind from count : ℕ) (fresh : List ℕ) (old new : VolumeState) → PutsBlocks id kind from count fresh old new → IsUserFile id old → HasRightBits old → IsShaped old
+    → IsShaped new × HasRightBits new × CountsBlocks (length fresh) count old new
 
--- A tree that grows by free blocks keeps the rules, and each bit is right again.
+-- A tree that grows by free blocks keeps the rules, each bit is right again, and so many more blocks are used.
 abbrev pub TreeGrown : Type 0
 TreeGrown =
-    (id more : ℕ) (fresh : List ℕ) (old new : VolumeState) → IsTreeFork id → GrowsFile id more fresh old new → IsStored id data_kind new → HasFiles new → HasRightBits old → IsShaped old → IsShaped new × HasRightBits new
+    (id more : ℕ) (fresh : List ℕ) (old new : VolumeState) → IsTreeFork id → GrowsFile id more fresh old new → HasRightBits old → IsShaped old
+    → IsShaped new × HasRightBits new × CountsBlocks (length fresh) 0 old new
 
 -- Other dates, counts and ids in the header keep the rules, and nothing that is counted changes.
 abbrev pub HeaderChanged : Type 0

@@ -24,3 +24,4 @@ pub mod Sound
 pub mod Told
 pub mod TreeOf
 pub mod Weight
+pub mod Writing

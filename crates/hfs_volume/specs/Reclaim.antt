@@ -8,7 +8,7 @@ use Rattle.hfs_language.specs.declared.refusal.Refusal.{Refusal}
 use Rattle.hfs_volume.specs.declared.cost.Cost.{Cost}
 use Rattle.hfs_volume.specs.declared.cost.Cost.TheVariants as cost
 use Rattle.hfs_model.specs.Sorted.{kept}
-use Rattle.hfs_volume.specs.Records.{Placed, Attribute, entry_of, id_of}
+use Rattle.hfs_volume.specs.Records.{Placed, Overflow, Attribute, entry_of, id_of}
 use Rattle.hfs_volume.specs.Forks.{Owned, blocks_owned, parts_for, data_kind, resource_kind, extents_id, catalog_id, attributes_id}
 use Rattle.hfs_volume.specs.Content.{facts_at, VolumeState, volume_of, records_of, overflow_in_volume, attributes_of}
 use Rattle.hfs_volume.specs.Links.{orphans_of}
@@ -23,13 +23,14 @@ use Rattle.hfs_volume.specs.Weight.{free_blocks, room_with, needs_for, edits, cu
 abbrev pub is_fork : ℕ → ℕ → Owned → Bool
 is_fork id kind owned = (owned.id == id) && (owned.kind == kind)
 
+-- the blocks of a fork, if there is one
+abbrev pub blocks_found : List Overflow → Option Owned → List ℕ
+blocks_found overflow None = []
+blocks_found overflow (Some owned) = blocks_owned overflow owned
+
 -- the blocks of the fork of this kind of the file with this CNID, or none where there is no such fork
 abbrev pub blocks_at : VolumeState → ℕ → ℕ → List ℕ
-blocks_at volume id kind = blocks_in (find (is_fork id kind) (forks_of volume))
-  where
-    blocks_in : Option Owned → List ℕ
-    blocks_in None = []
-    blocks_in (Some owned) = blocks_owned (overflow_in_volume volume) owned
+blocks_at volume id kind = blocks_found (overflow_in_volume volume) (find (is_fork id kind) (forks_of volume))
 
 -- how many blocks the bytes of a fork take
 abbrev pub blocks_wanted : VolumeState → ℕ → ℕ → ℕ

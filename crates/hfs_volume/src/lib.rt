@@ -5,11 +5,13 @@ mod cost;
 mod laws;
 mod laws_aside;
 mod laws_attributes;
+mod laws_blocks;
 mod laws_changes;
 mod laws_findings;
 mod laws_names;
 mod laws_reclaiming;
 mod laws_steps;
+mod laws_writing;
 mod summary;
 
 pub use cost::{Cost, Needs, Room, TreeCost};
@@ -22,6 +24,7 @@ pub use laws_aside::aside_is_free;
 pub use laws_attributes::{
     at_does_its_step, delattr_does_its_step, mount_keeps_the_tree, setattr_does_its_step,
 };
+pub use laws_blocks::{blocks_may_be_put, tree_may_grow};
 pub use laws_changes::{
     attribute_may_be_added, attribute_may_be_removed, entry_may_be_added, entry_may_be_moved,
     entry_may_be_removed,
@@ -30,4 +33,8 @@ pub use laws_findings::{no_finding_is_sound, sound_has_no_finding};
 pub use laws_names::{ln_does_its_step, mv_does_its_step, rm_does_its_step};
 pub use laws_reclaiming::{reclaim_drops_an_attribute, reclaim_drops_an_entry};
 pub use laws_steps::{sound_has_plain_tree, step_keeps_trees};
+pub use laws_writing::{
+    cut_of_a_shrunk_file_keeps_the_tree, cut_of_an_orphan_keeps_the_tree, growth_keeps_the_tree,
+    trunc_does_its_step, write_does_its_step, write_of_nothing_does_its_step,
+};
 pub use summary::Summary;

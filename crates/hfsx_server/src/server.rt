@@ -74,9 +74,8 @@ impl Server {
         // Whatever stops it, a crash leaves the tree before the line or after it, and of its reply a front was told.
         ensures stopped { IsTrue (R.state rig.old).tells → OnErr result ((run : List Entry) × RunSoFar self.old.names (R.state rig.old) run (R.state rig.new)
             × (IsTrue (S.stream source.old).tells → Stops self.old.input (S.stream source.old) run (S.stream source.new))) }
-        // Where the source failed or there are too many lines, nothing was done on the rig; a source that failed gave no whole
-        // line more.
-        ensures quiet { IsErrOf result ServeFault.Source ⊎ IsErrOf result ServeFault.TooMany → R.state rig.new ≡ R.state rig.old }
+        // Where the source failed or there are too many lines, nothing was told; a source that failed gave no whole line more.
+        ensures quiet { IsErrOf result ServeFault.Source ⊎ IsErrOf result ServeFault.TooMany → (R.state rig.new).told ≡ (R.state rig.old).told }
         ensures begun { IsTrue (S.stream source.old).tells → IsErrOf result ServeFault.Source → (begun : List ℕ) × HasNoNewline begun × (ahead self.old.input (S.stream source.old) ≡ begun ++ (S.stream source.new).left) }
 
         ensures same { SameDisk (R.state rig.old) (R.state rig.new) }

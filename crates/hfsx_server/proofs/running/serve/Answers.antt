@@ -1,6 +1,5 @@
 use Rattle.std.proofs.Common.{◌≡◌, ◌≢◌, ◌⊎◌, inl, inr, ◌<◌, ◌≤◌, ◌∙◌, ◌++◌, ℕ, List, IsTrue, Result, Err, ⊎_elim, length, refl, sym, ap, subst, arith}
 use Rattle.std.proofs.lemmas.List.{length-map}
-use Rattle.sector_disk.specs.Disk.{State}
 use Rattle.sector_disk.proofs.Writing.{same_after}
 use Rattle.hfsx_server.specs.declared.status.Status.TheVariants as status
 use Rattle.hfsx_server.specs.Headline.{Entry, lines_of, replies_of}
@@ -248,7 +247,7 @@ returns-in-Err-clause-source_stopped g c tells is =
       going.run,
       record {
         run_is = going.serves.run_is;
-        told = ap (λ (s : State). s.told) (c.in-Err.ensures.quiet (inl failed)) ∙ going.serves.told;
+        told = c.in-Err.ensures.quiet (inl failed) ∙ going.serves.told;
         lines = λ told. all_whole c0 c1 c2 c.loop-server.server.input going.run (going.takes told) (c.in-Err.ensures.begun (so.same_source.tells ∙ told) failed);
       },
     )
@@ -267,7 +266,7 @@ returns-in-Err-clause-many_stopped g c tells is =
       going.run,
       record {
         run_is = going.serves.run_is;
-        told = ap (λ (s : State). s.told) (c.in-Err.ensures.quiet (inr failed)) ∙ going.serves.told;
+        told = c.in-Err.ensures.quiet (inr failed) ∙ going.serves.told;
         count = sym going.count ∙ (c.in-Err.ensures.many failed).0;
         lines = λ told. taken_before c0 c1 c2 c.loop-server.server.input going.run stop.0 (going.takes told) (stop.2 (so.same_source.tells ∙ told));
       },

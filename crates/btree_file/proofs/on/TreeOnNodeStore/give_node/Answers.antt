@@ -75,7 +75,7 @@ returns-in_err-get_node-clause-below g c =
     let tree = c.args.self.now.tree.now in
     let old : Space = g.P.SectorView.space c.args.self.now.space.now in
     let mid : Space = g.P.SectorView.space c.get_node.new.space in
-    record { file = record { fork = refl; per_block = refl; map = refl }; form = λ tells. form_none (tree_head tree.header); space = reads_within (sectors_of_tree tree) old mid c.get_node.ensures.reads }
+    record { file = record { fork = refl; per_block = refl; map = refl; node_size = refl; total = refl }; form = λ tells. form_none (tree_head tree.header); space = reads_within (sectors_of_tree tree) old mid c.get_node.ensures.reads }
 
 pub returns-then-first_clear-place-clause-writes : goal.returns-then-first_clear-place-clause-writes
 unfolding unwritten_sectors
@@ -92,7 +92,7 @@ returns-then-first_clear-place-clause-below g c =
     let tree = c.args.self.now.tree.now in
     let old : Space = g.P.SectorView.space c.args.self.now.space.now in
     let mid : Space = g.P.SectorView.space c.get_node.new.space in
-    record { file = record { fork = refl; per_block = refl; map = refl }; form = λ tells. form_none (tree_head tree.header); space = reads_within (sectors_of_tree tree) old mid c.get_node.ensures.reads }
+    record { file = record { fork = refl; per_block = refl; map = refl; node_size = refl; total = refl }; form = λ tells. form_none (tree_head tree.header); space = reads_within (sectors_of_tree tree) old mid c.get_node.ensures.reads }
 
 pub overflow_mul-place : goal.overflow_mul-place
 overflow_mul-place g c =
@@ -240,7 +240,7 @@ returns-clause-below g c =
     let puts = λ (t : IsTrue mid.tells). subst (λ n. PutsNode (sectors_at (sectors_of_tree tree) (n / 512) c.in-Some.spot.stretch.node) c.mark.new.page mid new) long (c.mark.ensures.puts t) in
     let room = subst (λ n. TakesRoomFor (sectors_at (sectors_of_tree tree) (n / 512) c.in-Some.spot.stretch.node) mid new) long c.mark.ensures.room in
     record {
-      file = record { fork = refl; per_block = refl; map = refl };
+      file = record { fork = refl; per_block = refl; map = refl; node_size = refl; total = refl };
       form = λ tells.
           let was = c.args.self.now.agrees tells in
           let bit = spot_bit (nodes_on (sectors_of_tree tree) tree.shape.node_size old.content) tree.map.items tree.shape.total c.in-Some.spot is ∙ ap (λ (l : List ℕ). bit_of l (8 * c.in-Some.spot.stretch.at + c.in-Some.spot.bit)) (sym (page tells))

@@ -175,7 +175,7 @@ returns-clause-below g c =
     let puts = λ (t : IsTrue mid.tells). subst (λ n. PutsNode (sectors_at (sectors_of_tree tree) (n / 512) c.in-Some.spot.stretch.node) c.mark.new.page mid new) long (c.mark.ensures.puts t) in
     let room = subst (λ n. TakesRoomFor (sectors_at (sectors_of_tree tree) (n / 512) c.in-Some.spot.stretch.node) mid new) long c.mark.ensures.room in
     record {
-      file = record { fork = refl; per_block = refl; map = refl };
+      file = record { fork = refl; per_block = refl; map = refl; node_size = refl; total = refl };
       form = λ tells.
           let was = c.args.self.now.agrees tells in
           let here = mark_here tree old mid c.find_clear.ensures.reads c.in-Some.spot is c.find_clear.new.page c.mark.new.header c.mark.new.page true new long page c.mark.ensures.page puts room tells was in

@@ -1,41 +1,10 @@
-use Rattle.std.proofs.Common.{◌/◌, sym}
-use Rattle.std.proofs.lemmas.Bool.{true≢false}
+use Rattle.std.proofs.Common.{◌≡◌, ◌/◌}
 use Rattle.sector_disk.specs.Space.{Space}
-use Rattle.btree_file.specs.FrameLaws.{reads_both}
-use Rattle.btree_file.specs.Place.{fork_sectors}
-use Rattle.btree_file.proofs.Holding.{shape_holds, some_held}
+use Rattle.btree_file.proofs.Edited.{stands_read}
 use Rattle.btree_file.proofs.tree.TreeFile.attach.Goals as goal
 
-pub returns-then-not-has_sectors-clause-agrees : goal.returns-then-not-has_sectors-clause-agrees
-returns-then-not-has_sectors-clause-agrees g c = λ tells apart holds.
+pub returns-clause-stands : goal.returns-clause-stands
+returns-clause-stands g c = λ tells apart holds.
     let old : Space = g.V.SectorView.space c.args.view.now in
-    absurd (true≢false (sym (c.if-not-has_sectors.ensures.1 (some_held (fork_sectors c.args.fork.now (c.args.block / 512)) old.content holds))))
-
-pub returns-then-not-has_sectors-clause-settled : goal.returns-then-not-has_sectors-clause-settled
-returns-then-not-has_sectors-clause-settled g c = λ tells apart holds.
-    let old : Space = g.V.SectorView.space c.args.view.now in
-    absurd (true≢false (sym (c.if-not-has_sectors.ensures.1 (some_held (fork_sectors c.args.fork.now (c.args.block / 512)) old.content holds))))
-
-pub returns-then-not-has_sectors-clause-file : goal.returns-then-not-has_sectors-clause-file
-returns-then-not-has_sectors-clause-file g c = λ tells apart holds.
-    let old : Space = g.V.SectorView.space c.args.view.now in
-    absurd (true≢false (sym (c.if-not-has_sectors.ensures.1 (some_held (fork_sectors c.args.fork.now (c.args.block / 512)) old.content holds))))
-
-pub returns-then-not-has_nodes-clause-agrees : goal.returns-then-not-has_nodes-clause-agrees
-returns-then-not-has_nodes-clause-agrees g c = λ tells apart holds.
-    let old : Space = g.V.SectorView.space c.args.view.now in
-    absurd (true≢false (sym (c.if-not-has_nodes.ensures.1 (shape_holds (fork_sectors c.args.fork.now (c.args.block / 512)) old.content c.in_ok-shape.shape (c.in_ok-shape.ensures.value tells) holds))))
-
-pub returns-then-not-has_nodes-clause-settled : goal.returns-then-not-has_nodes-clause-settled
-returns-then-not-has_nodes-clause-settled g c = λ tells apart holds.
-    let old : Space = g.V.SectorView.space c.args.view.now in
-    absurd (true≢false (sym (c.if-not-has_nodes.ensures.1 (shape_holds (fork_sectors c.args.fork.now (c.args.block / 512)) old.content c.in_ok-shape.shape (c.in_ok-shape.ensures.value tells) holds))))
-
-pub returns-then-not-has_nodes-clause-file : goal.returns-then-not-has_nodes-clause-file
-returns-then-not-has_nodes-clause-file g c = λ tells apart holds.
-    let old : Space = g.V.SectorView.space c.args.view.now in
-    absurd (true≢false (sym (c.if-not-has_nodes.ensures.1 (shape_holds (fork_sectors c.args.fork.now (c.args.block / 512)) old.content c.in_ok-shape.shape (c.in_ok-shape.ensures.value tells) holds))))
-
-pub returns-clause-reads : goal.returns-clause-reads
-returns-clause-reads g c =
-    reads_both (g.V.SectorView.space c.args.view.now) (g.V.SectorView.space c.read_shape.new.view) (g.V.SectorView.space c.read_tree.new.view) c.read_shape.ensures.reads c.read_tree.ensures.reads
+    stands_read c.args.fork.now (c.args.block / 512) old.content holds c.read_fork.result (c.read_fork.ensures.agrees tells apart holds) (c.read_fork.ensures.settled tells apart holds) (c.read_fork.ensures.file tells apart holds)
+    (c.read_fork.ensures.first tells apart holds)

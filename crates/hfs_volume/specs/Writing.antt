@@ -1,0 +1,122 @@
+-- What `write`, `trunc` and the steps that cut a file do to the lists of a volume, and what the growth of a tree does: the changes that their
+-- code hands in, and what they lead to.
+use Rattle.std.specs.Prelude.{◌≡◌, ◌≢◌, ◌<◌, ◌≤◌, ℕ, ◌+◌, List, [], length, take, Contains, Ok}
+use Rattle.hx_bytes.specs.Field.{put_at}
+use Rattle.volume_header.specs.declared.header.VolumeHeader.{VolumeHeader}
+use Rattle.cat_records.specs.declared.record.EntryFields.{EntryFields}
+use Rattle.cat_records.specs.declared.record.FileRecord.{FileRecord}
+use Rattle.cat_records.specs.declared.record.CatRecord.TheVariants.{File}
+use Rattle.hfs_language.specs.declared.command.Command.TheVariants as command
+use Rattle.hfs_model.specs.declared.plain.PlainNode.{PlainNode}
+use Rattle.hfs_model.specs.Step.{step, to_write, to_trunc, padded}
+use Rattle.hfs_volume.specs.Records.{Placed, entries_of, id_of}
+use Rattle.hfs_volume.specs.Forks.{data_kind}
+use Rattle.hfs_volume.specs.Links.{orphans_of}
+use Rattle.hfs_volume.specs.Content.{VolumeState, records_of}
+use Rattle.hfs_volume.specs.Reclaim.{IsTreeFork, GrowsTree, Does, CutShrunk, CutOrphan, blocks_at, blocks_wanted}
+use Rattle.hfs_volume.specs.Sound.{IsSoundVolume}
+use Rattle.hfs_volume.specs.TreeOf.{tree_in}
+use Rattle.hfs_volume.specs.Changes.{PutsBlocks, GrowsFile, with_fork}
+use Rattle.hfs_volume.specs.Commands.{AreBytesOf, ChangesFields, IsTouched}
+use Rattle.hfs_volume.specs.Laws.{IsUserFile}
+
+-- ---- the changes
+
+-- a header with another number of free blocks, and another block at which the search for free ones begins
+abbrev pub with_free : ℕ → ℕ → VolumeHeader → VolumeHeader
+with_free free next head = record head { free_blocks = free; next_allocation = next }
+
+-- Some blocks of a file's fork have fresh ones in their place, and the header counts the free blocks anew.
+pub record PutsAndCounts (id kind from count : ℕ) (fresh : List ℕ) (old new : VolumeState) : Type 0 where
+  pub free : ℕ
+  pub next : ℕ
+  pub counts : free + length fresh ≡ old.head.free_blocks + count
+  pub puts : PutsBlocks id kind from count fresh (record old { head = with_free free next old.head }) new
+
+-- A file after its bytes changed at this moment. Its special word is as it was.
+pub record IsRewritten (moment : ℕ) (before after : EntryFields) : Type 0 where
+  pub touched : IsTouched moment 0 0 before after
+  pub special : after.special ≡ before.special
+
+-- `write` and `trunc`: some blocks of the file's data fork have fresh ones in their place, the header counts the free blocks anew, and the
+-- file has new content and attribute dates
+pub record RewritesFile (id from count : ℕ) (fresh : List ℕ) (old new : VolumeState) : Type 0 where
+  pub put : VolumeState
+  pub puts : PutsAndCounts id data_kind from count fresh old put
+  pub dates : ChangesFields id (IsRewritten old.head.modify_date) put new
+
+-- the record of the file before its fork is another one, and after it
+abbrev pub file_before : {id kind from count : ℕ} {fresh : List ℕ} {old new : VolumeState} → PutsAndCounts id kind from count fresh old new → FileRecord
+file_before puts = puts.puts.file.file
+
+abbrev pub file_after : {id kind from count : ℕ} {fresh : List ℕ} {old new : VolumeState} → PutsAndCounts id kind from count fresh old new → FileRecord
+file_after {id} {kind} puts = with_fork kind puts.puts.file.fork puts.puts.file.file
+
+-- all files but this one have the bytes that they had
+abbrev pub KeepsOthers : ℕ → VolumeState → (FileRecord → List ℕ) → (FileRecord → List ℕ) → Type 0
+KeepsOthers id volume bytes_of bytes_after = (p : Placed) (file : FileRecord) → Contains (entries_of (records_of volume)) p → p.value ≡ File file → id_of p ≢ id → bytes_after file ≡ bytes_of file
+
+-- The file has the bytes that are made of those that it had, and all others have theirs.
+pub record MakesBytes (make : List ℕ → List ℕ) {id from count : ℕ} {fresh : List ℕ} {old new : VolumeState} (does : RewritesFile id from count fresh old new) (bytes_of bytes_after : FileRecord → List ℕ) : Type 0 where
+  pub made : bytes_after (file_after does.puts) ≡ make (bytes_of (file_before does.puts))
+  pub others : KeepsOthers id old bytes_of bytes_after
+
+-- Blocks at the end of a fork are cut, and the header counts the free blocks anew: so many are left.
+pub record CutsBlocks (id kind left count : ℕ) (old new : VolumeState) : Type 0 where
+  pub puts : PutsAndCounts id kind left count [] old new
+  pub some : 0 < count
+  pub whole : length (blocks_at old id kind) ≡ left + count
+
+-- The file of a tree grows, and the header counts the free blocks anew.
+pub record GrowsAndCounts (id more : ℕ) (fresh : List ℕ) (old new : VolumeState) : Type 0 where
+  pub free : ℕ
+  pub next : ℕ
+  pub counts : free + length fresh ≡ old.head.free_blocks
+  pub grows : GrowsFile id more fresh (record old { head = with_free free next old.head }) new
+
+-- ---- what they lead to
+
+-- what is written at this place of these bytes: zeros in a gap before it, and then the value
+abbrev pub written_bytes : ℕ → List ℕ → List ℕ → List ℕ
+written_bytes from value bytes = put_at (padded from bytes) from value
+
+-- so many of these bytes, with zeros where they are fewer
+abbrev pub resized_bytes : ℕ → List ℕ → List ℕ
+resized_bytes size bytes = take size (padded size bytes)
+
+-- `write` of a byte or more: where the step refuses nothing, the lists that the changes lead to are those of a sound volume, and tell the
+-- step's tree.
+abbrev pub WriteDoes : Type 0
+WriteDoes =
+    (path : List (List ℕ)) (at : ℕ) (value : List ℕ) (file : PlainNode) (from count : ℕ) (fresh : List ℕ) (old new : VolumeState) (bytes_of bytes_after : FileRecord → List ℕ) → AreBytesOf bytes_after → IsSoundVolume old → 0 < length value
+    → to_write (tree_in old bytes_of) path at value ≡ Ok file → (does : RewritesFile file.id from count fresh old new) → MakesBytes (written_bytes at value) does bytes_of bytes_after
+    → IsSoundVolume new × (tree_in new bytes_after ≡ (step (tree_in old bytes_of) (command.Write path at value)).1)
+
+-- `write` of no byte: the step's tree is the one that was told.
+abbrev pub WriteNothingDoes : Type 0
+WriteNothingDoes = (path : List (List ℕ)) (at : ℕ) (file : PlainNode) (old : VolumeState) (bytes_of : FileRecord → List ℕ) → to_write (tree_in old bytes_of) path at [] ≡ Ok file → tree_in old bytes_of ≡ (step (tree_in old bytes_of) (command.Write path at [])).1
+
+-- The same for `trunc`, to a larger size, to a smaller one and to the one that the file has.
+abbrev pub TruncDoes : Type 0
+TruncDoes =
+    (path : List (List ℕ)) (size : ℕ) (file : PlainNode) (from count : ℕ) (fresh : List ℕ) (old new : VolumeState) (bytes_of bytes_after : FileRecord → List ℕ) → AreBytesOf bytes_after → IsSoundVolume old
+    → to_trunc (tree_in old bytes_of) path size ≡ Ok file → (does : RewritesFile file.id from count fresh old new) → MakesBytes (resized_bytes size) does bytes_of bytes_after
+    → IsSoundVolume new × (tree_in new bytes_after ≡ (step (tree_in old bytes_of) (command.Trunc path size)).1)
+
+-- A step that cuts blocks past a file's size: the volume is sound, its tree is as it was, and of all forks this one alone is cut.
+abbrev pub ShrunkCut : Type 0
+ShrunkCut =
+    (id left count : ℕ) (old new : VolumeState) (bytes_of bytes_after : FileRecord → List ℕ) → IsSoundVolume old → IsUserFile id old → (does : CutsBlocks id data_kind left count old new) → blocks_wanted old id data_kind ≤ left
+    → bytes_after (file_after does.puts) ≡ bytes_of (file_before does.puts) → KeepsOthers id old bytes_of bytes_after → IsSoundVolume new × (tree_in new bytes_after ≡ tree_in old bytes_of) × Does (CutShrunk id) old new
+
+-- A step that cuts blocks of a file that lost its last name: the same, whatever its bytes are.
+abbrev pub OrphanCut : Type 0
+OrphanCut =
+    (entry : Placed) (kind left count : ℕ) (old new : VolumeState) (bytes_of bytes_after : FileRecord → List ℕ) → IsSoundVolume old → Contains (orphans_of (records_of old)) entry → CutsBlocks (id_of entry) kind left count old new
+    → KeepsOthers (id_of entry) old bytes_of bytes_after → IsSoundVolume new × (tree_in new bytes_after ≡ tree_in old bytes_of) × Does (CutOrphan (id_of entry) kind) old new
+
+-- The growth of a tree: the volume is sound, its tree is as it was, and the file has so many nodes more.
+abbrev pub GrowthKeeps : Type 0
+GrowthKeeps =
+    (id more : ℕ) (fresh : List ℕ) (old new : VolumeState) (bytes_of : FileRecord → List ℕ) → IsTreeFork id → IsSoundVolume old → GrowsAndCounts id more fresh old new
+    → IsSoundVolume new × (tree_in new bytes_of ≡ tree_in old bytes_of) × GrowsTree id more old new
