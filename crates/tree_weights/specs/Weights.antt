@@ -76,6 +76,7 @@ pub record IsAfforded (needs : Needs) (room : Room) (load : ℕ) (grow : List �
   pub within : load ≤ room.capacity
   pub grows : grow ≡ (plan_of needs room).grow
 
+-- Where the cost is a load, no resource is missing: the trees aren't too deep, and blocks, the longest run and the sectors of a transaction suffice.
 abbrev pub LoadSaysEnough : Type 0
 LoadSaysEnough = (needs : Needs) (room : Room) (load : ℕ) (grow : List ℕ) → cost_of needs room ≡ cost.Load load grow → IsAfforded needs room load grow
 
