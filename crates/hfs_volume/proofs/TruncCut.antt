@@ -1,12 +1,12 @@
 -- The steps that cut blocks of a file: a sound volume stays sound, with the tree that it had, and no other fork is cut.
-use Rattle.std.proofs.Common.{◌≡◌, ◌≤◌, ℕ, ◌+◌, List, [], ◌++◌, take, drop, refl, sym, ◌∙◌, ap, subst, arith, append-nil}
+use Rattle.std.proofs.Common.{◌≡◌, ◌≤◌, ℕ, ◌+◌, List, [], ◌++◌, take, drop, sym, ◌∙◌, ap, subst, arith, append-nil}
 use Rattle.std.specs.Prelude.{Contains}
 use Rattle.std.proofs.Math.ListN.{drop_of_length-le}
 use Rattle.cat_records.specs.declared.record.FileRecord.{FileRecord}
 use Rattle.hfs_model.specs.declared.plain.PlainNode.{PlainNode}
 use Rattle.hfs_model.specs.Plain.{with_changed}
 use Rattle.hfs_volume.specs.Records.{Placed, entries_of, id_of}
-use Rattle.hfs_volume.specs.Forks.{data_kind, all_forks}
+use Rattle.hfs_volume.specs.Forks.{data_kind}
 use Rattle.hfs_volume.specs.Content.{VolumeState, records_of, attributes_of}
 use Rattle.hfs_volume.specs.Reclaim.{CutsAlone, blocks_at, blocks_wanted}
 use Rattle.hfs_volume.specs.Sound.{IsSoundVolume}

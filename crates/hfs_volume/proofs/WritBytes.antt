@@ -1,5 +1,5 @@
 -- The bytes of files whose blocks no change touches: contents that differ in free blocks and in special files alone tell the same.
-use Rattle.std.proofs.Common.{◌≡◌, ◌≢◌, ◌⊎◌, ◌<◌, ℕ, ◌*◌, ◌/◌, ◌==◌, false, true, List, [], ◌∷◌, length, inl, inr, sym, ◌∙◌, ap, subst, arith, refl, ⊎_elim}
+use Rattle.std.proofs.Common.{◌≡◌, ◌<◌, ℕ, ◌*◌, ◌/◌, ◌==◌, false, List, [], ◌∷◌, length, inl, inr, sym, ◌∙◌, ap, subst, arith, refl}
 use Rattle.std.specs.Prelude.{Contains, ◌&&◌, map, take}
 use Rattle.hx_bytes.specs.declared.extents.Extent.{Extent}
 use Rattle.hx_bytes.specs.declared.extents.ForkRecord.{ForkRecord}
@@ -13,11 +13,11 @@ use Rattle.hfs_volume.specs.Records.{Placed, overflow_of, entries_of, id_of, id_
 use Rattle.hfs_volume.specs.Forks.{Owned, special_forks, blocks_owned, extents_of, per_block_of, data_kind}
 use Rattle.hfs_volume.specs.Entries.{IsUserId}
 use Rattle.hfs_volume.specs.Content.{VolumeState, volume_of, records_of, overflow_in_volume, block_bytes}
-use Rattle.hfs_volume.specs.Blocks.{is_among, used_in, HasForks}
+use Rattle.hfs_volume.specs.Blocks.{used_in, HasForks}
 use Rattle.hfs_volume.specs.Reclaim.{is_fork}
 use Rattle.hfs_volume.specs.Sound.{IsSound}
 use Rattle.hfs_volume.specs.TreeOf.{file_bytes}
-use Rattle.hfs_volume.specs.Writing.{PutsAndCounts, IsPutSector, OthersKeepBytes}
+use Rattle.hfs_volume.specs.Writing.{IsPutSector, OthersKeepBytes}
 use Rattle.hfs_volume.proofs.Members.{first_or_later, in_one, each_of}
 use Rattle.hfs_volume.proofs.Ranks.{true_or_false}
 use Rattle.hfs_volume.proofs.Fitting.{differs}
