@@ -7,6 +7,8 @@ use Rattle.hfs_volume.specs.Entries.{AreCounted, count_in}
 use Rattle.hfs_volume.specs.Links.{private_id, is_shared, is_shared_file, HaveLinkCounts}
 use Rattle.hfs_volume.specs.Content.{VolumeState, records_of}
 use Rattle.hfs_volume.specs.Blocks.{HasBits, is_among, count_used, used_in}
+use Rattle.hfs_volume.specs.Forks.{all_forks}
+use Rattle.hfs_volume.specs.Reclaim.{blocks_at}
 use Rattle.hfs_volume.specs.Sound.{IsSoundVolume}
 use Rattle.hfs_volume.specs.TreeOf.{tree_in}
 use Rattle.hfs_volume.specs.Changes.{PutsBlocks}
@@ -35,6 +37,11 @@ module _ (free next : ℕ) (old : VolumeState) (sound : IsSoundVolume old) where
 
   pub recounted_right : HasRightBits (recounted free next old)
   recounted_right block inside = sound.blocks.bits.bits block inside ∙ sym (ap (λ l. is_among l block) recounted_used)
+
+-- every fork has the blocks that it has
+pub recounted_at : (free next : ℕ) (old : VolumeState) (id kind : ℕ) → blocks_at (recounted free next old) id kind ≡ blocks_at old id kind
+unfolding all_forks
+recounted_at free next old id kind = refl
 
 pub recounted_tree : (free next : ℕ) (old : VolumeState) (bytes_of : FileRecord → List ℕ) → tree_in (recounted free next old) bytes_of ≡ tree_in old bytes_of
 unfolding tree_in

@@ -1,12 +1,12 @@
 -- The growth of a tree, and the free blocks counted anew: a sound volume stays sound, with the tree that it had.
-use Rattle.std.proofs.Common.{◌≡◌, ◌<◌, ℕ, ◌+◌, ◌*◌, ◌/◌, List, [], ◌∷◌, ◌++◌, length, take, refl, sym, ◌∙◌, ap, subst, arith, length-append}
+use Rattle.std.proofs.Common.{◌≡◌, ◌≢◌, ◌⊎◌, ◌<◌, ℕ, ◌+◌, ◌*◌, ◌/◌, List, [], ◌∷◌, ◌++◌, length, take, refl, sym, ◌∙◌, ap, subst, arith, length-append}
 use Rattle.std.proofs.Math.Nat.{mul-div_cancel}
 use Rattle.volume_header.specs.declared.header.VolumeHeader.{VolumeHeader}
 use Rattle.cat_records.specs.declared.record.FileRecord.{FileRecord}
 use Rattle.hfs_volume.specs.Records.{Placed, entries_of}
 use Rattle.hfs_volume.specs.Entries.{AreCounted}
 use Rattle.hfs_volume.specs.Links.{HaveLinkCounts}
-use Rattle.hfs_volume.specs.Forks.{all_forks, data_kind}
+use Rattle.hfs_volume.specs.Forks.{data_kind}
 use Rattle.hfs_volume.specs.Content.{VolumeState, facts_at, records_of}
 use Rattle.hfs_volume.specs.Reclaim.{IsTreeFork, GrowsTree, blocks_at}
 use Rattle.hfs_volume.specs.Sound.{IsSoundVolume}
@@ -16,8 +16,9 @@ use Rattle.hfs_volume.specs.Laws.{IsShaped, HasRightBits, CountsBlocks}
 use Rattle.hfs_volume.specs.Writing.{GrowsAndCounts, GrowthKeeps}
 use Rattle.hfs_volume.proofs.Finishing.{sound_is_both}
 use Rattle.hfs_volume.proofs.Untouched.{whole_blocks}
-use Rattle.hfs_volume.proofs.BlockSound.{recounted, recounted_shaped, recounted_right, bits_counted}
-use Rattle.hfs_volume.proofs.GrowLaw.{SameButForks, same_but_forks, tree_grown_law}
+use Rattle.hfs_volume.proofs.BlockForks.{blocks_elsewhere}
+use Rattle.hfs_volume.proofs.BlockSound.{recounted, recounted_shaped, recounted_right, bits_counted, recounted_at}
+use Rattle.hfs_volume.proofs.GrowLaw.{SameButForks, same_but_forks, tree_grown_law, tree_owned, fork_at, grown_exchange}
 
 front_taken : (xs ys : List ℕ) → take (length xs) (xs ++ ys) ≡ xs
 front_taken [] ys = refl
@@ -61,10 +62,6 @@ module _ (id more : ℕ) (fresh : List ℕ) (old new : VolumeState) (tree : IsTr
   unfolding tree_in
   grown_tree bytes_of = ap (λ v. tree_in v bytes_of) grows.rest ∙ (λ i. record (tree_in old bytes_of) { next_id = same_head.next_catalog_id i; moment = same_head.modify_date i })
 
-  same_at : blocks_at begun id data_kind ≡ blocks_at old id data_kind
-  unfolding all_forks
-  same_at = refl
-
   fresh_many : length fresh ≡ more * (facts_at old id).shape.node_size / old.head.block_size
   fresh_many =
       let whole = whole_blocks old.sectors old.head sound.blocks.header.accepted in
@@ -75,12 +72,19 @@ module _ (id more : ℕ) (fresh : List ℕ) (old new : VolumeState) (tree : IsTr
   grown_as = record {
     nodes = grows.nodes.total;
     blocks =
-        let is : blocks_at new id data_kind ≡ blocks_at old id data_kind ++ fresh = grows.is ∙ ap (λ l. l ++ fresh) same_at in
+        let is : blocks_at new id data_kind ≡ blocks_at old id data_kind ++ fresh = grows.is ∙ ap (λ l. l ++ fresh) (recounted_at does.free does.next old id data_kind) in
         record {
           front = ap (take (length (blocks_at old id data_kind))) is ∙ front_taken (blocks_at old id data_kind) fresh;
           longer = ap length is ∙ length-append (blocks_at old id data_kind) fresh ∙ ap (λ n. length (blocks_at old id data_kind) + n) fresh_many;
         };
   }
 
+  pub grown_alone : (other kind : ℕ) → (other ≢ id) ⊎ (kind ≢ data_kind) → blocks_at new other kind ≡ blocks_at old other kind
+  grown_alone other kind differ =
+      let right = recounted_right does.free does.next old sound in
+      let shaped = recounted_shaped does.free does.next old sound in
+      blocks_elsewhere id data_kind (length (blocks_at begun id data_kind)) 0 fresh (tree_owned id (fork_at id begun.head)) (tree_owned id grows.fork) begun new (grown_exchange id more fresh begun new tree grows right shaped) right shaped.forks other kind differ
+      ∙ recounted_at does.free does.next old other kind
+
 pub growth_keeps_law : GrowthKeeps
-growth_keeps_law id more fresh old new bytes_of tree sound does = (grown_sound id more fresh old new tree sound does, grown_tree id more fresh old new tree sound does bytes_of, grown_as id more fresh old new tree sound does)
+growth_keeps_law id more fresh old new bytes_of tree sound does = (grown_sound id more fresh old new tree sound does, grown_tree id more fresh old new tree sound does bytes_of, grown_as id more fresh old new tree sound does, grown_alone id more fresh old new tree sound does)

@@ -80,7 +80,7 @@ tree_low id tree = elim tree [
 
 -- ---- of all forks the tree's is another
 
-abbrev tree_owned : ℕ → ForkRecord → Owned
+abbrev pub tree_owned : ℕ → ForkRecord → Owned
 tree_owned id fork = record { id = id; kind = data_kind; fork = fork }
 
 -- a file's fork isn't a tree's

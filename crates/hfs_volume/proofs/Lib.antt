@@ -98,5 +98,7 @@ mod BlockTree
 mod GrowKeep
 mod GrowLaw
 mod TruncCut
+mod WritBytes
+mod WritForks
 mod WritLaw
 mod WritRows

@@ -1,12 +1,12 @@
 -- The steps that cut blocks of a file: a sound volume stays sound, with the tree that it had, and no other fork is cut.
-use Rattle.std.proofs.Common.{◌≡◌, ◌≤◌, ℕ, ◌+◌, List, [], ◌++◌, take, drop, refl, sym, ◌∙◌, ap, subst, arith, append-nil}
+use Rattle.std.proofs.Common.{◌≡◌, ◌≤◌, ℕ, ◌+◌, List, [], ◌++◌, take, drop, sym, ◌∙◌, ap, subst, arith, append-nil}
 use Rattle.std.specs.Prelude.{Contains}
 use Rattle.std.proofs.Math.ListN.{drop_of_length-le}
 use Rattle.cat_records.specs.declared.record.FileRecord.{FileRecord}
 use Rattle.hfs_model.specs.declared.plain.PlainNode.{PlainNode}
 use Rattle.hfs_model.specs.Plain.{with_changed}
 use Rattle.hfs_volume.specs.Records.{Placed, entries_of, id_of}
-use Rattle.hfs_volume.specs.Forks.{data_kind, all_forks}
+use Rattle.hfs_volume.specs.Forks.{data_kind}
 use Rattle.hfs_volume.specs.Content.{VolumeState, records_of, attributes_of}
 use Rattle.hfs_volume.specs.Reclaim.{CutsAlone, blocks_at, blocks_wanted}
 use Rattle.hfs_volume.specs.Sound.{IsSoundVolume}
@@ -24,7 +24,7 @@ use Rattle.hfs_volume.proofs.BlockRecords.{entry_id, stood}
 use Rattle.hfs_volume.proofs.BlockForks.{blocks_elsewhere}
 use Rattle.hfs_volume.proofs.BlockLaw.{exchanges}
 use Rattle.hfs_volume.proofs.BlockTree.{with_new_bytes, put_tree, set_bytes_same}
-use Rattle.hfs_volume.proofs.BlockSound.{recounted, recounted_shaped, recounted_tree, recounted_right, put_sound}
+use Rattle.hfs_volume.proofs.BlockSound.{recounted, recounted_shaped, recounted_tree, recounted_at, recounted_right, put_sound}
 use Rattle.hfs_volume.proofs.WritLaw.{bytes_at_node}
 
 module _ (id kind left count : ℕ) (old new : VolumeState) (sound : IsSoundVolume old) (user : IsUserFile id old) (does : CutsBlocks id kind left count old new) where
@@ -43,11 +43,6 @@ module _ (id kind left count : ℕ) (old new : VolumeState) (sound : IsSoundVolu
   pub cut_sound : IsSoundVolume new
   cut_sound = put_sound id kind left count [] old new does.puts sound user
 
-  -- of a volume with another header, the blocks are the same
-  same_at : (other other_kind : ℕ) → blocks_at begun other other_kind ≡ blocks_at old other other_kind
-  unfolding all_forks
-  same_at other other_kind = refl
-
   nothing_behind : drop (left + count) (blocks_at old id kind) ≡ []
   nothing_behind = drop_of_length-le (blocks_at old id kind) (omega (arith, does.whole))
 
@@ -57,9 +52,9 @@ module _ (id kind left count : ℕ) (old new : VolumeState) (sound : IsSoundVolu
       left = left;
       least_left = least;
       fewer = omega (arith, does.whole, does.some);
-      is = puts.is ∙ (λ i. take left (same_at id kind i) ++ drop (left + count) (same_at id kind i)) ∙ ap (λ l. take left (blocks_at old id kind) ++ l) nothing_behind ∙ append-nil (take left (blocks_at old id kind));
+      is = puts.is ∙ (λ i. take left (recounted_at does.puts.free does.puts.next old id kind i) ++ drop (left + count) (recounted_at does.puts.free does.puts.next old id kind i)) ∙ ap (λ l. take left (blocks_at old id kind) ++ l) nothing_behind ∙ append-nil (take left (blocks_at old id kind));
     };
-    others = λ other other_kind differ. blocks_elsewhere id kind left count [] _ _ begun new (exchanges id kind left count [] begun new puts was_right begun_shaped) was_right begun_shaped.forks other other_kind differ ∙ same_at other other_kind;
+    others = λ other other_kind differ. blocks_elsewhere id kind left count [] _ _ begun new (exchanges id kind left count [] begun new puts was_right begun_shaped) was_right begun_shaped.forks other other_kind differ ∙ recounted_at does.puts.free does.puts.next old other other_kind;
   }
 
   -- the tree is as it was, with the file's bytes set

@@ -1,7 +1,9 @@
 -- What `write`, `trunc` and the steps that cut a file do to the lists of a volume, and what the growth of a tree does: the changes that their
 -- code hands in, and what they lead to.
-use Rattle.std.specs.Prelude.{◌≡◌, ◌≢◌, ◌<◌, ◌≤◌, ℕ, ◌+◌, List, [], length, take, Contains, Ok}
+use Rattle.std.specs.Prelude.{◌≡◌, ◌≢◌, ◌⊎◌, ◌<◌, ◌≤◌, ℕ, ◌+◌, ◌/◌, List, [], length, take, Contains, Some, None, Ok}
+use Rattle.sector_disk.specs.Space.{AgreesOutside}
 use Rattle.hx_bytes.specs.Field.{put_at}
+use Rattle.jnl_format.specs.Recovery.{Content, header_of_volume}
 use Rattle.volume_header.specs.declared.header.VolumeHeader.{VolumeHeader}
 use Rattle.cat_records.specs.declared.record.EntryFields.{EntryFields}
 use Rattle.cat_records.specs.declared.record.FileRecord.{FileRecord}
@@ -10,12 +12,15 @@ use Rattle.hfs_language.specs.declared.command.Command.TheVariants as command
 use Rattle.hfs_model.specs.declared.plain.PlainNode.{PlainNode}
 use Rattle.hfs_model.specs.Step.{step, to_write, to_trunc, padded}
 use Rattle.hfs_volume.specs.Records.{Placed, entries_of, id_of}
-use Rattle.hfs_volume.specs.Forks.{data_kind}
+use Rattle.hfs_volume.specs.Forks.{Owned, data_kind, blocks_owned, per_block_of, reserved_blocks, special_forks}
 use Rattle.hfs_volume.specs.Links.{orphans_of}
-use Rattle.hfs_volume.specs.Content.{VolumeState, records_of}
+use Rattle.hfs_volume.specs.Content.{VolumeState, volume_of, records_of, overflow_in_volume}
 use Rattle.hfs_volume.specs.Reclaim.{IsTreeFork, GrowsTree, Does, CutShrunk, CutOrphan, blocks_at, blocks_wanted}
-use Rattle.hfs_volume.specs.Sound.{IsSoundVolume}
-use Rattle.hfs_volume.specs.TreeOf.{tree_in}
+use Rattle.hfs_volume.specs.Run.{PutsInFork}
+use Rattle.hfs_volume.specs.Weight.{Data, first_block, new_blocks_of, old_blocks_of}
+use Rattle.hfs_volume.specs.Aside.{IsFreeSector}
+use Rattle.hfs_volume.specs.Sound.{IsSound, IsSoundVolume}
+use Rattle.hfs_volume.specs.TreeOf.{tree_in, file_bytes}
 use Rattle.hfs_volume.specs.Changes.{PutsBlocks, GrowsFile, with_fork}
 use Rattle.hfs_volume.specs.Commands.{AreBytesOf, ChangesFields, IsTouched}
 use Rattle.hfs_volume.specs.Laws.{IsUserFile}
@@ -115,8 +120,36 @@ OrphanCut =
     (entry : Placed) (kind left count : ℕ) (old new : VolumeState) (bytes_of bytes_after : FileRecord → List ℕ) → IsSoundVolume old → Contains (orphans_of (records_of old)) entry → CutsBlocks (id_of entry) kind left count old new
     → KeepsOthers (id_of entry) old bytes_of bytes_after → IsSoundVolume new × (tree_in new bytes_after ≡ tree_in old bytes_of) × Does (CutOrphan (id_of entry) kind) old new
 
--- The growth of a tree: the volume is sound, its tree is as it was, and the file has so many nodes more.
+-- `write` and `trunc` that put data: the file's data fork has the new blocks in place of the old ones from the first that is written on, and
+-- every other fork of a file has the blocks that it had.
+abbrev pub RewritePuts : Type 0
+RewritePuts =
+    (put : Data) (fresh : List ℕ) (old new : VolumeState) → IsSoundVolume old → IsUserFile put.id old
+    → RewritesFile put.id (first_block old.head.block_size put) (old_blocks_of old.head.block_size put) fresh old new → length fresh ≡ new_blocks_of old.head.block_size put → PutsInFork (Some put) old new
+
+-- Where they put none, every fork of a file has the blocks that it had.
+abbrev pub RewriteKeepsBlocks : Type 0
+RewriteKeepsBlocks = (id from : ℕ) (old new : VolumeState) → IsSoundVolume old → IsUserFile id old → RewritesFile id from 0 [] old new → PutsInFork None old new
+
+-- The growth of a tree: the volume is sound, its tree is as it was, the file has so many nodes more, and every other fork has the blocks
+-- that it had.
 abbrev pub GrowthKeeps : Type 0
 GrowthKeeps =
     (id more : ℕ) (fresh : List ℕ) (old new : VolumeState) (bytes_of : FileRecord → List ℕ) → IsTreeFork id → IsSoundVolume old → GrowsAndCounts id more fresh old new
     → IsSoundVolume new × (tree_in new bytes_of ≡ tree_in old bytes_of) × GrowsTree id more old new
+    × ((other kind : ℕ) → (other ≢ id) ⊎ (kind ≢ data_kind) → blocks_at new other kind ≡ blocks_at old other kind)
+
+-- ---- the bytes of other files
+
+-- a sector that such changes may write: of a block that was free, of the blocks at both ends of the volume, or of a special file
+abbrev pub IsPutSector : Content → ℕ → Type 0
+IsPutSector content at =
+    IsFreeSector content at ⊎ (Contains (reserved_blocks (volume_of content).sectors (volume_of content).head) (at / per_block_of (header_of_volume content))
+    ⊎ ((owned : Owned) × Contains (special_forks (volume_of content).head) owned × Contains (blocks_owned (overflow_in_volume (volume_of content)) owned) (at / per_block_of (header_of_volume content))))
+
+-- Contents before and after blocks of a file's fork are others, which differ in such sectors alone: every other file has the bytes that it
+-- had.
+abbrev pub OthersKeepBytes : Type 0
+OthersKeepBytes =
+    (id kind from count : ℕ) (fresh : List ℕ) (content other : Content) (put : VolumeState) → IsSound content → PutsAndCounts id kind from count fresh (volume_of content) put → (volume_of other).head ≡ put.head
+    → (volume_of other).overflow_pairs ≡ put.overflow_pairs → AgreesOutside (IsPutSector content) content other → KeepsOthers id (volume_of content) (file_bytes content) (file_bytes other)

@@ -35,6 +35,7 @@ pub use laws_reclaiming::{reclaim_drops_an_attribute, reclaim_drops_an_entry};
 pub use laws_steps::{sound_content_has_tree, sound_has_plain_tree, step_keeps_trees};
 pub use laws_writing::{
     cut_of_a_shrunk_file_keeps_the_tree, cut_of_an_orphan_keeps_the_tree, growth_keeps_the_tree,
+    other_files_keep_their_bytes, rewrite_puts_its_blocks_alone, rewrite_without_data_keeps_blocks,
     trunc_does_its_step, write_does_its_step, write_of_nothing_does_its_step,
 };
 pub use summary::Summary;
