@@ -44,6 +44,7 @@ mod MovingHidden
 mod MovingOver
 mod MovingSeen
 mod Named
+mod NextReclaim
 mod NodesOf
 mod Opening
 mod Ordering

@@ -1,4 +1,4 @@
--- The record of changes of a `mkdir`, met by a catalog that another program wrote, before and after it.
+-- The records of changes of `mkdir`, `rmdir` and `chmod`, met by a catalog that another program wrote, before and after a `mkdir`.
 use Rattle.std.proofs.Common.{true, [], ◌∷◌, refl, arith}
 use Rattle.std.specs.Prelude.{None, pos}
 use Rattle.std.specs.Fmt.{digits}
@@ -11,7 +11,7 @@ use Rattle.volume_header.specs.declared.header.VolumeHeader.{VolumeHeader}
 use Rattle.hfs_model.specs.Step.{Place}
 use Rattle.hfs_volume.specs.Records.{placed_of}
 use Rattle.hfs_volume.specs.Content.{VolumeState}
-use Rattle.hfs_volume.specs.Commands.{MakesEntry}
+use Rattle.hfs_volume.specs.Commands.{MakesEntry, RemovesFolder, ChangesMode}
 use Rattle.hfs_volume.proofs.WorkedTrees.{state}
 
 abbrev pair_0 : Pair
@@ -98,5 +98,90 @@ a_folder_is_made = record {
       nodes = record { total = refl; size = refl };
       rest = refl;
     };
+  };
+}
+
+-- ---- `rmdir` and `chmod` of the folder that was made
+
+abbrev removed_0 : VolumeState
+removed_0 = record new_0 { head = record new_0.head { folder_count = 0 }; catalog_pairs = pair_0 ∷ pair_1 ∷ pair_2 ∷ pair_3 ∷ pair_4 ∷ pair_5 ∷ [] }
+
+abbrev dropped_0 : VolumeState
+dropped_0 = record removed_0 { catalog_pairs = pair_6 ∷ pair_1 ∷ pair_2 ∷ pair_3 ∷ pair_4 ∷ pair_5 ∷ [] }
+
+a_folder_is_removed : RemovesFolder 18 new_0 removed_0
+unfolding digits number_at number_bytes extents_at entry_of placed_of
+a_folder_is_removed = record {
+  entry = placed_of pair_7;
+  stands = (3, omega arith, refl);
+  is_entry = refl;
+  bares = record { changes = refl; nodes = record { total = refl; size = refl }; rest = refl };
+  dropped = dropped_0;
+  drops = record {
+    changes = record {
+      between = (pair_6 ∷ pair_1 ∷ pair_2 ∷ pair_3 ∷ pair_7 ∷ pair_4 ∷ pair_5 ∷ []);
+      pair = pair_7;
+      is_entry = record { stands = refl; spelled = refl };
+      entry_added = record { place = 4; within = omega arith; is = refl };
+      thread = pair_8;
+      spare = pos 0;
+      is_thread = record { stands = refl; spelled = refl };
+      thread_added = record { place = 7; within = omega arith; is = refl };
+    };
+    nodes = record { total = refl; size = refl };
+    rest = refl;
+  };
+  sorted = ((refl, (refl, (refl, (refl, (refl, (refl, (refl, tt))))))), ((refl, (refl, (refl, (refl, (refl, (refl, tt)))))), ((refl, (refl, (refl, (refl, (refl, tt))))), ((refl, (refl, (refl, (refl, tt)))), ((refl, (refl, (refl, tt))), ((refl, (refl, tt)), ((refl, tt), (tt, tt))))))));
+  counts = record {
+    entry = placed_of pair_6;
+    before = entry_of (pair_6).1;
+    after = entry_of (pair_0).1;
+    has = refl;
+    is_entry = refl;
+    fields = record { id = refl; count = refl; mode = refl; created = refl; changed = refl; attribute = refl };
+    changes = record {
+      changes = record {
+        pair = pair_6;
+        is_entry = refl;
+        other = pair_0;
+        is_other = record { stands = refl; spelled = refl };
+        swapped = record { place = 0; at = refl; is = refl };
+        forks = refl;
+        alike = record { place = (refl, refl); kind = (refl, refl); id = refl; link = refl; reference = λ link. refl };
+      };
+      nodes = record { total = refl; size = refl };
+      rest = refl;
+    };
+  };
+}
+
+-- the folder with the mode 0700
+abbrev pair_9 : Pair
+pair_9 = ((0 ∷ 8 ∷ 0 ∷ 0 ∷ 0 ∷ 2 ∷ 0 ∷ 1 ∷ 0 ∷ 120 ∷ []), (0 ∷ 1 ∷ 0 ∷ 0 ∷ 0 ∷ 0 ∷ 0 ∷ 0 ∷ 0 ∷ 0 ∷ 0 ∷ 18 ∷ 0 ∷ 0 ∷ 0 ∷ 0 ∷ 0 ∷ 0 ∷ 0 ∷ 0 ∷ 0 ∷ 0 ∷ 0 ∷ 0 ∷ 0 ∷ 0 ∷ 0 ∷ 0 ∷ 0 ∷ 0 ∷ 0 ∷ 0 ∷ 0 ∷ 0 ∷ 0 ∷ 0 ∷ 0 ∷ 0 ∷ 0 ∷ 0 ∷ 0 ∷ 0 ∷ 65 ∷ 192 ∷ 0 ∷ 0 ∷ 0 ∷ 0 ∷ 0 ∷ 0 ∷ 0 ∷ 0 ∷ 0 ∷ 0 ∷ 0 ∷ 0 ∷ 0 ∷ 0 ∷ 0 ∷ 0 ∷ 0 ∷ 0 ∷ 0 ∷ 0 ∷ 0 ∷ 0 ∷ 0 ∷ 0 ∷ 0 ∷ 0 ∷ 0 ∷ 0 ∷ 0 ∷ 0 ∷ 0 ∷ 0 ∷ 0 ∷ 0 ∷ 0 ∷ 0 ∷ 0 ∷ 0 ∷ 0 ∷ 0 ∷ 0 ∷ 0 ∷ 0 ∷ 0 ∷ []))
+
+abbrev closed_0 : VolumeState
+closed_0 = record new_0 { catalog_pairs = pair_6 ∷ pair_1 ∷ pair_2 ∷ pair_3 ∷ pair_9 ∷ pair_4 ∷ pair_5 ∷ pair_8 ∷ [] }
+
+a_mode_is_set : ChangesMode 18 448 new_0 closed_0
+unfolding digits number_at number_bytes extents_at entry_of placed_of
+a_mode_is_set = record {
+  entry = placed_of pair_7;
+  before = entry_of (pair_7).1;
+  after = entry_of (pair_9).1;
+  has = refl;
+  is_entry = refl;
+  fields = record { id = refl; count = refl; mode = refl; created = refl; changed = refl; attribute = refl; special = refl };
+  changes = record {
+    changes = record {
+      pair = pair_7;
+      is_entry = refl;
+      other = pair_9;
+      is_other = record { stands = refl; spelled = refl };
+      swapped = record { place = 4; at = refl; is = refl };
+      forks = refl;
+      alike = record { place = (refl, refl); kind = (refl, refl); id = refl; link = refl; reference = λ link. refl };
+    };
+    nodes = record { total = refl; size = refl };
+    rest = refl;
   };
 }

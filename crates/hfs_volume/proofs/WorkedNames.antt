@@ -1,4 +1,4 @@
--- The records of changes of `mv`, `rm`, `ln`, `setattr` and `delattr`, each met by small catalogs before and after it.
+-- The records of changes of `mv`, `rm`, `ln`, `setattr` and `delattr`, and of the removal of an orphan's entry, each met by small catalogs before and after it.
 use Rattle.std.proofs.Common.{true, false, [], ◌∷◌, refl, sym, inr, arith}
 use Rattle.std.specs.Prelude.{None, pos}
 use Rattle.std.specs.Fmt.{digits}
@@ -11,6 +11,8 @@ use Rattle.hfs_volume.specs.Records.{placed_of, attribute_of}
 use Rattle.hfs_volume.specs.Content.{VolumeState}
 use Rattle.hfs_volume.specs.Naming.{MovesName, RemovesFile, RemovesLink, RemovesLastLink, LinksFirst, LinksMore}
 use Rattle.hfs_volume.specs.Attributing.{SetsAttribute, DeletesAttribute}
+use Rattle.hfs_volume.specs.Forks.{extents_of}
+use Rattle.hfs_volume.specs.Reclaiming.{DropsOrphanEntry}
 use Rattle.hfs_volume.proofs.Ranks.{true_or_false}
 use Rattle.hfs_volume.proofs.WorkedTrees.{state}
 
@@ -332,3 +334,58 @@ an_attribute_is_set = record { sorted = ((refl, (refl, (refl, (refl, (refl, (ref
 an_attribute_is_deleted : DeletesAttribute 18 (107 ∷ []) volume_37 volume_41
 unfolding digits number_at number_bytes extents_at entry_of placed_of attribute_of
 an_attribute_is_deleted = record { sorted = ((refl, (refl, (refl, (refl, (refl, (refl, (refl, tt))))))), ((refl, (refl, (refl, (refl, (refl, (refl, tt)))))), ((refl, (refl, (refl, (refl, (refl, tt))))), ((refl, (refl, (refl, (refl, tt)))), ((refl, (refl, (refl, tt))), ((refl, (refl, tt)), ((refl, tt), (tt, tt)))))))); bared = volume_38; bares = record { changes = refl; nodes = record { total = refl; size = refl }; rest = refl }; marks = record { entry = placed_of pair_4; before = entry_of (pair_4).1; after = entry_of (pair_50).1; has = refl; is_entry = refl; fields = record { marked = record { id = refl; count = refl; mode = refl; created = refl; changed = refl; attribute = refl }; special = refl }; changes = record { changes = record { pair = pair_4; is_entry = refl; other = pair_50; is_other = record { stands = refl; spelled = refl }; swapped = record { place = 4; at = refl; is = refl }; forks = refl; alike = record { place = (refl, refl); kind = (refl, refl); id = refl; link = refl; reference = λ link. refl } }; nodes = record { total = refl; size = refl }; rest = refl } } }
+
+-- ---- the entry of a file that lost its only name
+
+abbrev volume_42 : VolumeState
+volume_42 = record volume_11 { head = record volume_11.head { file_count = 2 }; catalog_pairs = pair_11 ∷ pair_1 ∷ pair_20 ∷ pair_2 ∷ pair_3 ∷ pair_5 ∷ pair_6 ∷ pair_16 ∷ [] }
+
+abbrev volume_43 : VolumeState
+volume_43 = record volume_42 { catalog_pairs = pair_11 ∷ pair_1 ∷ pair_15 ∷ pair_2 ∷ pair_3 ∷ pair_5 ∷ pair_6 ∷ pair_16 ∷ [] }
+
+an_orphan_entry_is_dropped : DropsOrphanEntry 18 volume_11 volume_43
+unfolding digits number_at number_bytes extents_at entry_of placed_of extents_of
+an_orphan_entry_is_dropped = record {
+  sorted = ((refl, (refl, (refl, (refl, (refl, (refl, (refl, (refl, (refl, tt))))))))), ((refl, (refl, (refl, (refl, (refl, (refl, (refl, (refl, tt)))))))), ((refl, (refl, (refl, (refl, (refl, (refl, (refl, tt))))))), ((refl, (refl, (refl, (refl, (refl, (refl, tt)))))), ((refl, (refl, (refl, (refl, (refl, tt))))), ((refl, (refl, (refl, (refl, tt)))), ((refl, (refl, (refl, tt))), ((refl, (refl, tt)), ((refl, tt), (tt, tt))))))))));
+  entry = placed_of pair_18;
+  is_orphan = (0, omega arith, refl);
+  is_entry = refl;
+  no_blocks = refl;
+  no_attributes = λ pair stands owner. omega (arith, stands.1);
+  dropped = volume_42;
+  drops = record {
+    changes = record {
+      between = (pair_11 ∷ pair_1 ∷ pair_20 ∷ pair_2 ∷ pair_3 ∷ pair_5 ∷ pair_6 ∷ pair_16 ∷ pair_18 ∷ []);
+      pair = pair_18;
+      is_entry = record { stands = refl; spelled = refl };
+      entry_added = record { place = 8; within = omega arith; is = refl };
+      thread = pair_19;
+      spare = pos 0;
+      is_thread = record { stands = refl; spelled = refl };
+      thread_added = record { place = 7; within = omega arith; is = refl };
+    };
+    nodes = record { total = refl; size = refl };
+    rest = refl;
+  };
+  loses = record {
+    entry = placed_of pair_20;
+    before = entry_of (pair_20).1;
+    after = entry_of (pair_15).1;
+    has = refl;
+    is_entry = refl;
+    fields = record { id = refl; count = refl };
+    changes = record {
+      changes = record {
+        pair = pair_20;
+        is_entry = refl;
+        other = pair_15;
+        is_other = record { stands = refl; spelled = refl };
+        swapped = record { place = 2; at = refl; is = refl };
+        forks = refl;
+        alike = record { place = (refl, refl); kind = (refl, refl); id = refl; link = refl; reference = λ link. refl };
+      };
+      nodes = record { total = refl; size = refl };
+      rest = refl;
+    };
+  };
+}

@@ -49,14 +49,15 @@ pub data Reclaim : Type 0 where
   DropAttribute : (id : ℕ) → (name : List ℕ) → Reclaim
   DropOrphan : (id : ℕ) → Reclaim
 
+-- the least of a CNID and those of these records
+abbrev pub least_from : ℕ → List Placed → ℕ
+least_from id [] = id
+least_from id (next ∷ others) = least_from (if nat_lt (id_of next) id then id_of next else id) others
+
 -- the orphan with the least CNID
 abbrev pub least : List Placed → Option ℕ
 least [] = None
 least (placed ∷ rest) = Some (least_from (id_of placed) rest)
-  where
-    least_from : ℕ → List Placed → ℕ
-    least_from id [] = id
-    least_from id (next ∷ others) = least_from (if nat_lt (id_of next) id then id_of next else id) others
 
 abbrev pub first_attribute : List Attribute → ℕ → Option Attribute
 first_attribute attributes id = find (λ attribute. attribute.id == id) attributes
@@ -64,36 +65,40 @@ first_attribute attributes id = find (λ attribute. attribute.id == id) attribut
 abbrev pub has_blocks : List ℕ → Bool
 has_blocks blocks = not (length blocks == 0)
 
+-- of an orphan without blocks: its first attribute, or its entry
+abbrev pub bare_step : ℕ → Option Attribute → Reclaim
+bare_step id None = DropOrphan id
+bare_step id (Some attribute) = DropAttribute id attribute.name
+
 -- of an orphan: its data fork, its resource fork, its attributes in the order of their names, its entry
 abbrev pub orphan_step : VolumeState → ℕ → Reclaim
 orphan_step volume id =
     if has_blocks (file_blocks volume id data_kind) then CutOrphan id data_kind
     else if has_blocks (file_blocks volume id resource_kind) then CutOrphan id resource_kind
-    else step_for (first_attribute (attributes_of volume) id)
-  where
-    step_for : Option Attribute → Reclaim
-    step_for None = DropOrphan id
-    step_for (Some attribute) = DropAttribute id attribute.name
+    else bare_step id (first_attribute (attributes_of volume) id)
 
 -- the file that was shrunk last has blocks past its size
 abbrev pub is_surplus : VolumeState → ℕ → Bool
 is_surplus volume id = nat_lt (blocks_wanted volume id data_kind) (length (file_blocks volume id data_kind))
 
+-- so has the file that was shrunk last, if one was
+abbrev pub has_surplus_left : VolumeState → Option ℕ → Bool
+has_surplus_left volume None = false
+has_surplus_left volume (Some id) = is_surplus volume id
+
+-- that file's blocks past its size
+abbrev pub shrunk_step : Option ℕ → Option Reclaim
+shrunk_step None = None
+shrunk_step (Some id) = Some (CutShrunk id)
+
+-- the next step for this orphan
+abbrev pub orphan_steps : VolumeState → Option ℕ → Option Reclaim
+orphan_steps volume None = None
+orphan_steps volume (Some id) = Some (orphan_step volume id)
+
 -- the next step of reclaiming, if anything is left to reclaim
 unfoldable pub next_reclaim : VolumeState → Option ℕ → Option Reclaim
-next_reclaim volume shrunk = if surplus_of shrunk then shrunk_step shrunk else orphan_steps (least (orphans_of (records_of volume)))
-  where
-    surplus_of : Option ℕ → Bool
-    surplus_of None = false
-    surplus_of (Some id) = is_surplus volume id
-
-    shrunk_step : Option ℕ → Option Reclaim
-    shrunk_step None = None
-    shrunk_step (Some id) = Some (CutShrunk id)
-
-    orphan_steps : Option ℕ → Option Reclaim
-    orphan_steps None = None
-    orphan_steps (Some id) = Some (orphan_step volume id)
+next_reclaim volume shrunk = if has_surplus_left volume shrunk then shrunk_step shrunk else orphan_steps volume (least (orphans_of (records_of volume)))
 
 -- what a step takes where the blocks that are free are these
 unfoldable pub reclaim_cost_with : ℕ → List Bool → VolumeState → Reclaim → Cost

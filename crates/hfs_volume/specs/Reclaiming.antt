@@ -1,5 +1,5 @@
 -- What the last steps of an orphan's removal do to the lists of a volume: an attribute that goes, and the entry that goes.
-use Rattle.std.specs.Prelude.{◌≡◌, ℕ, List, [], Contains}
+use Rattle.std.specs.Prelude.{◌≡◌, ℕ, List, [], Contains, Option, Some}
 use Rattle.std.specs.List.{flat_map}
 use Rattle.btree_node.specs.Levels.{Pair}
 use Rattle.cat_records.specs.declared.record.FileRecord.{FileRecord}
@@ -7,6 +7,7 @@ use Rattle.hfs_volume.specs.Records.{Placed, id_of, attribute_of}
 use Rattle.hfs_volume.specs.Forks.{forks_in, blocks_owned}
 use Rattle.hfs_volume.specs.Links.{orphans_of}
 use Rattle.hfs_volume.specs.Content.{VolumeState, records_of, overflow_in_volume}
+use Rattle.hfs_volume.specs.Reclaim.{DropAttribute, DropOrphan, next_reclaim}
 use Rattle.hfs_volume.specs.Sound.{IsSoundVolume}
 use Rattle.hfs_volume.specs.TreeOf.{tree_in}
 use Rattle.hfs_volume.specs.Changes.{AreSorted, DropsEntry, DropsAttribute, InCatalog, InAttributes}
@@ -35,3 +36,32 @@ abbrev pub OrphanBared : Type 0
 OrphanBared =
     (entry : Placed) (name : List ℕ) (old new : VolumeState) (bytes_of : FileRecord → List ℕ) → AreSorted old.catalog_pairs → IsSoundVolume old → Contains (orphans_of (records_of old)) entry
     → InAttributes (DropsAttribute (id_of entry) name) old new → IsSoundVolume new × (tree_in new bytes_of ≡ tree_in old bytes_of)
+
+-- ---- the next step is one of these
+
+-- A file that lost its last name, and has neither blocks nor attributes any more.
+pub record IsBareOrphan (id : ℕ) (volume : VolumeState) : Type 0 where
+  pub entry : Placed
+  pub is_orphan : Contains (orphans_of (records_of volume)) entry
+  pub is_entry : id_of entry ≡ id
+  pub no_blocks : flat_map (blocks_owned (overflow_in_volume volume)) (forks_in entry.value) ≡ []
+  pub no_attributes : (pair : Pair) → Contains volume.attribute_pairs pair → (attribute_of pair).id ≡ id → ⊥
+
+-- A file that lost its last name and has no blocks any more, but an attribute of this name.
+pub record HasLastAttribute (id : ℕ) (name : List ℕ) (volume : VolumeState) : Type 0 where
+  pub entry : Placed
+  pub is_orphan : Contains (orphans_of (records_of volume)) entry
+  pub is_entry : id_of entry ≡ id
+  pub no_blocks : flat_map (blocks_owned (overflow_in_volume volume)) (forks_in entry.value) ≡ []
+  pub pair : Pair
+  pub stands : Contains volume.attribute_pairs pair
+  pub owner : (attribute_of pair).id ≡ id
+  pub named : (attribute_of pair).name ≡ name
+
+-- Where the next step of reclaiming drops an entry, there is such an orphan for it.
+abbrev pub DropIsOfBareOrphan : Type 0
+DropIsOfBareOrphan = (volume : VolumeState) (shrunk : Option ℕ) (id : ℕ) → IsSoundVolume volume → next_reclaim volume shrunk ≡ Some (DropOrphan id) → IsBareOrphan id volume
+
+-- Where it drops an attribute, there is such an attribute of an orphan.
+abbrev pub DropIsOfAttribute : Type 0
+DropIsOfAttribute = (volume : VolumeState) (shrunk : Option ℕ) (id : ℕ) (name : List ℕ) → IsSoundVolume volume → next_reclaim volume shrunk ≡ Some (DropAttribute id name) → HasLastAttribute id name volume

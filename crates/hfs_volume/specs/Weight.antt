@@ -24,7 +24,7 @@ use Rattle.hfs_model.specs.declared.plain.PlainNode.{PlainNode}
 use Rattle.hfs_model.specs.declared.plain.PlainTree.{PlainTree}
 use Rattle.hfs_model.specs.Plain.{names_of, node_at}
 use Rattle.hfs_model.specs.Step.{to_rm, to_rmdir, to_link, to_file, only_reads, size_written}
-use Rattle.hfs_volume.specs.Records.{Placed, entry_of}
+use Rattle.hfs_volume.specs.Records.{Placed, Overflow, entry_of}
 use Rattle.hfs_volume.specs.Forks.{extents_of, parts_for, data_kind, extents_id, catalog_id, attributes_id}
 use Rattle.hfs_volume.specs.Content.{VolumeState, TreeFacts, is_set, records_of, overflow_in_volume, has_attributes}
 use Rattle.hfs_volume.specs.Cost.{cost_of, cost_or, load_refusal, overflow_records, no_tree, tree_at, node_sectors}
@@ -136,13 +136,14 @@ file_fork kind (Some placed) = fork_in placed.value
     fork_in (File file) = if kind == data_kind then Some file.data_fork else Some file.resource_fork
     fork_in (Thread thread) = None
 
+-- the extents in use of a fork, if there is one
+abbrev pub extents_found : List Overflow → ℕ → ℕ → Option ForkRecord → List Extent
+extents_found overflow id kind None = []
+extents_found overflow id kind (Some fork) = extents_of overflow id kind fork
+
 -- the extents in use of a fork of the file with this CNID
 abbrev pub file_extents : VolumeState → ℕ → ℕ → List Extent
-file_extents volume id kind = extents_in (file_fork kind (entry_of (records_of volume) id))
-  where
-    extents_in : Option ForkRecord → List Extent
-    extents_in None = []
-    extents_in (Some fork) = extents_of (overflow_in_volume volume) id kind fork
+file_extents volume id kind = extents_found (overflow_in_volume volume) id kind (file_fork kind (entry_of (records_of volume) id))
 
 abbrev pub file_blocks : VolumeState → ℕ → ℕ → List ℕ
 file_blocks volume id kind = blocks_of (file_extents volume id kind)
@@ -163,8 +164,8 @@ pub record Edits : Type 0 where
 abbrev pub edits : ℕ → ℕ → ℕ → ℕ → Edits
 edits ids catalog attributes updates = record { ids = ids; catalog = catalog; attributes = attributes; updates = updates }
 
-abbrev pub private_ids : PlainTree → ℕ
-private_ids tree = if tree.has_private then 0 else 1
+abbrev pub folders_made : PlainTree → ℕ
+folders_made tree = if tree.has_private then 0 else 1
 
 -- a file loses a name: one of several, its only one ever, or the last of several
 abbrev pub rm_edits : PlainTree → Option PlainNode → Edits
@@ -172,7 +173,7 @@ rm_edits tree None = edits 0 0 0 0
 rm_edits tree (Some file) =
     if nat_lt 1 (names_of tree file.id) then edits 0 2 0 4
     else if file.linked then edits 0 5 0 4
-    else edits (private_ids tree) (3 + 2 * private_ids tree) 0 4
+    else edits (folders_made tree) (3 + 2 * folders_made tree) 0 4
 
 abbrev pub rm_edits_at : PlainTree → Result PlainEntry Refusal → Edits
 rm_edits_at tree (Ok entry) = rm_edits tree (node_at tree entry.id)
@@ -187,7 +188,7 @@ rmdir_edits tree (Ok entry) = edits 0 2 (attribute_count (node_at tree entry.id)
 rmdir_edits tree (Err why) = edits 0 0 0 0
 
 abbrev pub ln_edits : {X : Type 0} → PlainTree → Result (PlainNode × X) Refusal → Edits
-ln_edits tree (Ok pair) = if pair.0.linked then edits 1 2 0 4 else edits (2 + private_ids tree) (7 + 2 * private_ids tree) 0 4
+ln_edits tree (Ok pair) = if pair.0.linked then edits 1 2 0 4 else edits (2 + folders_made tree) (7 + 2 * folders_made tree) 0 4
 ln_edits tree (Err why) = edits 0 0 0 0
 
 -- the edits of a command that its step doesn't refuse

@@ -31,7 +31,10 @@ pub use laws_changes::{
 };
 pub use laws_findings::{no_finding_is_sound, sound_has_no_finding};
 pub use laws_names::{ln_does_its_step, mv_does_its_step, rm_does_its_step};
-pub use laws_reclaiming::{reclaim_drops_an_attribute, reclaim_drops_an_entry};
+pub use laws_reclaiming::{
+    reclaim_drops_an_attribute, reclaim_drops_an_entry, reclaim_drops_attributes_of_orphans,
+    reclaim_drops_entries_of_bare_orphans,
+};
 pub use laws_steps::{sound_content_has_tree, sound_has_plain_tree, step_keeps_trees};
 pub use laws_writing::{
     cut_of_a_shrunk_file_keeps_the_tree, cut_of_an_orphan_keeps_the_tree, growth_keeps_the_tree,
