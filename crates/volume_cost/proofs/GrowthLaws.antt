@@ -1,7 +1,7 @@
 -- The first number of nodes that suffices.
 use Rattle.std.proofs.Common.{◌≡◌, ℕ, zero, suc, ◌+◌, ◌-◌, ◌*◌, ◌/◌, ◌≤◌, ◌<◌, Bool, true, false, max, List, [], ◌∷◌, map, length, get_or, refl, sym, ◌∙◌, ap, arith, ⊎_elim}
 use Rattle.std.specs.List.{range_with_len}
-use Rattle.std.proofs.Math.Nat.{div-mul-le_self, lt-div-mul-add, mul-le-mul, mul-le-mul_right}
+use Rattle.std.proofs.Math.Nat.{div-mul-le_self, mul-le-mul, mul-le-mul_right}
 use Rattle.std.proofs.lemmas.Nat.{le-div}
 use Rattle.std.proofs.lemmas.Bool.{lt-leb, le-leb, cases_lt}
 use Rattle.std.proofs.lemmas.List.FromFn.{get_or-map-range_with_len, length-map-range_with_len}
@@ -27,9 +27,6 @@ pub parts_below : (w u j : ℕ) → 0 < u → j < parts_for w u → j * u < w
 parts_below w u j some lt =
     let product : (j + 1) * u ≡ j * u + u = omega arith in
     omega (arith, mul-le-mul_right {m = j + 1} {n = parts_for w u} u (omega (arith, lt)), product, div-mul-le_self (w + u - 1) u, some)
-
-pub parts_least : (w u : ℕ) → 0 < u → w ≤ parts_for w u * u
-parts_least w u some = omega (arith, lt-div-mul-add {a = w + u - 1} {b = u} some, some)
 
 -- ---- the first that suffices
 

@@ -1,9 +1,8 @@
 -- The first refusal, and the cost of a plan.
-use Rattle.std.proofs.Common.{◌≡◌, ℕ, ◌+◌, Bool, true, false, List, [], ◌∷◌, length, get_or, refl, sym, ◌∙◌, ap, arith}
+use Rattle.std.proofs.Common.{◌≡◌, ℕ, ◌+◌, Bool, false, List, [], ◌∷◌, length, get_or, refl, sym, ◌∙◌, ap, arith}
 use Rattle.std.specs.Prelude.{Option}
 use Rattle.hfs_language.specs.declared.refusal.Refusal.{Refusal}
 use Rattle.hfs_volume.specs.declared.cost.Cost.{Cost}
-use Rattle.hfs_volume.specs.declared.cost.Cost.TheVariants as cost
 use Rattle.hfs_volume.specs.declared.cost.Needs.{Needs}
 use Rattle.hfs_volume.specs.declared.cost.Room.{Room}
 use Rattle.hfs_volume.specs.Cost.{cost_of, cost_or, first_refusal, where_, resource_refusal, load_of, growth, takes_extent, tree_at}
@@ -11,9 +10,6 @@ use Rattle.volume_cost.specs.Sizes.{plan}
 
 pub pass : (b : Bool) (why : Refusal) (rest : List (Option Refusal)) (load : ℕ) (grow : List ℕ) (r : Cost) → b ≡ false → r ≡ cost_or (first_refusal rest) load grow → r ≡ cost_or (first_refusal (where_ b why ∷ rest)) load grow
 pass b why rest load grow r is e = e ∙ ap (λ (t : Bool). cost_or (first_refusal (where_ t why ∷ rest)) load grow) (sym is)
-
-pub stop : (b : Bool) (why : Refusal) (rest : List (Option Refusal)) (load : ℕ) (grow : List ℕ) → b ≡ true → cost.Refused why ≡ cost_or (first_refusal (where_ b why ∷ rest)) load grow
-stop b why rest load grow is = ap (λ (t : Bool). cost_or (first_refusal (where_ t why ∷ rest)) load grow) (sym is)
 
 pub cost_is : (needs : Needs) (room : Room) (catalog attributes edits extents : ℕ) → catalog ≡ growth room.block 516 (tree_at room 1) (get_or needs.edits 1 0) → attributes ≡ growth room.block 266 (tree_at room 2) (get_or needs.edits 2 0)
     → edits ≡ get_or needs.edits 0 0 + takes_extent (tree_at room 1) catalog + takes_extent (tree_at room 2) attributes → extents ≡ growth room.block 10 (tree_at room 0) edits

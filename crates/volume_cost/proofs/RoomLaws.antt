@@ -1,19 +1,10 @@
--- Bounds of what edits need, and sizes of nodes.
+-- Bounds of what edits need.
 use Rattle.std.proofs.Common.{◌≡◌, ℕ, ◌+◌, ◌*◌, ◌/◌, ◌^◌, ◌≤◌, ◌<◌, ◌∙◌, ap, arith, ⊎_elim}
 use Rattle.std.proofs.Math.Nat.{mul-le-mul, mul-le-mul_right, div-le_of_le-mul, lt-div-mul-add, zero-mul}
 use Rattle.std.proofs.lemmas.Bool.{cases_lt}
 use Rattle.hfs_volume.specs.declared.cost.TreeCost.{TreeCost}
 use Rattle.hfs_volume.specs.Cost.{depth_of, rises, need}
-use Rattle.volume_cost.specs.Sizes.{IsNodeSize, IsWide, IsGrown, IsLoaded}
-
-pub wide_extents : (tree : TreeCost) → IsNodeSize 512 tree → IsWide 10 tree
-wide_extents tree size = record { least = size.least; most = size.most; records = omega (arith, size.least) }
-
-pub wide_catalog : (tree : TreeCost) → IsNodeSize 4096 tree → IsWide 516 tree
-wide_catalog tree size = record { least = omega (arith, size.least); most = size.most; records = omega (arith, size.least) }
-
-pub wide_attributes : (tree : TreeCost) → IsNodeSize 4096 tree → IsWide 266 tree
-wide_attributes tree size = record { least = omega (arith, size.least); most = size.most; records = omega (arith, size.least) }
+use Rattle.volume_cost.specs.Sizes.{IsWide, IsGrown, IsLoaded}
 
 -- the nodes that edits need of a tree that isn't too deep
 pub need_few : (key : ℕ) (tree : TreeCost) (edits : ℕ) → depth_of tree + 1 + rises key tree edits ≤ 11 → need key tree edits ≤ 12 * edits

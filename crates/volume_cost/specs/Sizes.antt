@@ -4,6 +4,7 @@ use Rattle.hfs_volume.specs.declared.cost.Needs.{Needs}
 use Rattle.hfs_volume.specs.declared.cost.Room.{Room}
 use Rattle.hfs_volume.specs.declared.cost.TreeCost.{TreeCost}
 use Rattle.hfs_volume.specs.Cost.{Plan, need}
+use Rattle.hfs_volume.specs.Weight.{Data}
 
 -- a tree's nodes have so many bytes at least, and 32,768 at most
 pub record IsNodeSize (bytes : ℕ) (tree : TreeCost) : Type 0 where
@@ -51,3 +52,7 @@ pub record IsLoaded (key : ℕ) (tree : TreeCost) (edits more : ℕ) : Type 0 wh
 -- the edits of the three trees, and the nodes by which each grows
 abbrev pub plan : List ℕ → List ℕ → Plan
 plan edits grow = record { edits = edits; grow = grow }
+
+-- data of a file of so many bytes, which has so many after it, where those from one place up to another are new
+abbrev pub data_put : ℕ → ℕ → ℕ → ℕ → Data
+data_put old_size new_size from end = record { id = 0; old_size = old_size; new_size = new_size; from = from; end = end }

@@ -3,11 +3,15 @@
 #![tactic(auto)]
 
 mod costing;
+mod cutting;
+mod data;
 mod growth;
 mod load;
 mod room;
 
 pub use costing::cost;
+pub use cutting::cut_cost;
+pub use data::{count_blocks, count_extents_edits};
 pub use hfs_volume::{Cost, Needs, Room, TreeCost};
 
 /// The places of the three trees.

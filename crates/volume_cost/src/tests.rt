@@ -3,7 +3,7 @@ ghost use Rattle.std.specs.Prelude.{◌≡◌, ◌<◌, IsTrue, slice_index};
 ghost use Rattle.hfs_volume.specs.Cost.{tree_at};
 ghost use Rattle.volume_cost.specs.Sizes.{IsNodeSize, IsVolume, AreSmall};
 
-use crate::{Cost, Needs, Room, TreeCost, cost};
+use crate::{Cost, Needs, Room, TreeCost, cost, count_blocks, count_extents_edits, cut_cost};
 use hfs_language::Refusal;
 use std::process::Abort;
 use std::test::Fail;
@@ -188,5 +188,42 @@ fn blocks_are_missing(rt: HostRuntime) -> Result<(), Fail> {
     };
     let want = Cost::Refused(Refusal::NoSpace(156, 256));
     costs(&rt, &needs, &fresh_room(156, 1982, 19), want);
+    Ok(())
+}
+
+// The header, a catalog record in place (8 sectors), the one sector of the bitmap, and eight nodes of 8 sectors.
+#[test]
+fn a_cut_step_has_a_load(rt: HostRuntime) -> Result<(), Fail> {
+    let want = Cost::Load {
+        sectors: 74,
+        grow: [0, 0, 0],
+    };
+    assert_eq!(rt; cut_cost(&fresh_room(0, 74, 18)), want);
+    let want = Cost::Refused(Refusal::TooBig(74, 73));
+    assert_eq!(rt; cut_cost(&fresh_room(0, 73, 18)), want);
+    Ok(())
+}
+
+// With blocks of 4,096 bytes.
+#[test]
+fn data_takes_blocks(rt: HostRuntime) -> Result<(), Fail> {
+    // A new file, one that is overwritten from its first byte on, and one with a gap behind its second block.
+    assert_eq!(rt; count_blocks(4096, 0, 10000, 0, 10000), (3, 0));
+    assert_eq!(rt; count_blocks(4096, 5000, 10000, 0, 10000), (3, 2));
+    assert_eq!(rt; count_blocks(4096, 5000, 20001, 20000, 20001), (4, 1));
+    // Inside a file, the blocks behind the last byte stay.
+    assert_eq!(rt; count_blocks(4096, 20000, 20000, 4096, 4097), (1, 1));
+    // A size that ends with a block.
+    assert_eq!(rt; count_blocks(4096, 4096, 8192, 4096, 8192), (1, 0));
+    Ok(())
+}
+
+// Forks have eight extents in their record, and eight more in each overflow record.
+#[test]
+fn data_edits_the_extents_file(rt: HostRuntime) -> Result<(), Fail> {
+    assert_eq!(rt; count_extents_edits(8, 7, 1), 1);
+    assert_eq!(rt; count_extents_edits(6, 1, 1), 0);
+    assert_eq!(rt; count_extents_edits(40, 1, 1), 9);
+    assert_eq!(rt; count_extents_edits(40, 1, 0), 0);
     Ok(())
 }
