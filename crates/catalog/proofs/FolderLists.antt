@@ -1,5 +1,5 @@
 -- The entries of a folder stand together behind the key of its thread.
-use Rattle.std.proofs.Common.{◌≡◌, ◌≢◌, ◌⊎◌, inl, inr, ℕ, zero, suc, ◌+◌, ◌<◌, ◌≤◌, Bool, true, false, List, [], ◌∷◌, ◌++◌, length, map, take, drop, refl, sym, ◌∙◌, ap, subst, arith, append_assoc}
+use Rattle.std.proofs.Common.{◌≡◌, ◌≢◌, ◌⊎◌, inl, inr, ℕ, zero, suc, ◌+◌, ◌-◌, ◌<◌, ◌≤◌, Bool, true, false, List, [], ◌∷◌, ◌++◌, length, map, take, drop, refl, sym, ◌∙◌, ap, subst, arith, append_assoc}
 use Rattle.std.specs.Prelude.{slice_index_or, IsTrue, T, not, ◌==◌, Option, None, Some, if◌then◌else◌}
 use Rattle.std.specs.Ordering.{nat_cmp, ordering_then}
 use Rattle.std.specs.Cmp.{nat_cmp_is}
@@ -12,17 +12,31 @@ use Rattle.std.proofs.lemmas.List.{map-append, append-nil, take_all, take_more, 
 use Rattle.btree_node.specs.Keys.{IsCatalogKey, catalog_cmp, catalog_parent, catalog_units}
 use Rattle.btree_node.specs.Levels.{Pair}
 use Rattle.btree_node.specs.Store.{Store}
-use Rattle.btree_node.specs.Tree.{IsTree, pairs_of}
+use Rattle.btree_node.specs.KeyLaws.{catalog_total}
+use Rattle.btree_node.specs.Tree.{IsTree, pairs_of, entries_of as tree_entries}
 use Rattle.btree_edit.specs.Desk.{IsAbove, HoldsPair}
-use Rattle.btree_edit.specs.Walking.{StandsAt, StepsOn}
+use Rattle.btree_edit.specs.Walking.{Seeks, StandsAt, StepsOn}
+use Rattle.btree_edit.proofs.Descent.{pair_at, pairs_long}
 use Rattle.btree_edit.specs.declared.desk.Desk.{Desk}
-use Rattle.cat_records.specs.Records.{catalog_of}
+use Rattle.cat_records.specs.Records.{catalog_of, is_catalog}
+use Rattle.hfs_volume.specs.Entries.{AreSpelled}
 use Rattle.hfs_model.specs.Sorted.{kept}
 use Rattle.hfs_volume.specs.Records.{Placed, placed_of, placed_in, entries_of, is_empty}
 use Rattle.catalog.specs.Children.{as_child, children_in, child_under}
 use Rattle.catalog.specs.Pairs.{IsKeyOf}
 use Rattle.catalog.specs.declared.folder.Child.{Child}
-use Rattle.catalog.proofs.Places.{AscendByKey}
+use Rattle.catalog.proofs.Places.{AscendByKey, tree_ascends}
+
+abbrev is_there : {X : Type 0} → Option X → Type 0
+is_there None = ⊥
+is_there (Some x) = Unit {0}
+
+none_or_some : {X : Type 0} (a : X) → None ≡ Some a → ⊥
+none_or_some a same = subst is_there (sym same) tt
+
+abbrev child_or : Child → Option Child → Child
+child_or child None = child
+child_or child (Some other) = other
 
 true_or_false : true ≡ false → ⊥
 true_or_false same = subst T same tt
@@ -129,8 +143,8 @@ module _ (parent : ℕ) (key : List ℕ) (pairs : List Pair) (is_key : IsKeyOf p
       by_parent true is = by_name is (is_empty (placed_of (at k)).name) refl
 
   -- before the walk's place nothing was passed
-  pub none_passed : start ≤ length pairs → children_in parent (take start pairs) ≡ []
-  none_passed within = no_children parent (take start pairs) (λ k inside.
+  pub none_passed : children_in parent (take start pairs) ≡ []
+  none_passed = no_children parent (take start pairs) (λ k inside.
       let low : k < start = omega (arith, inside, length-take start pairs) in
       subst (λ pair. IsNone parent pair) (sym (get_or-take start pairs k ([], []) low)) (none_before k low))
 
@@ -140,10 +154,11 @@ module _ (parent : ℕ) (key : List ℕ) (pairs : List Pair) (is_key : IsKeyOf p
       ap (children_in parent) (take_more pairs place ([], []) inside)
       ∙ children_append parent (take place pairs) (at place ∷ [])
       ∙ ap (λ l. children_in parent (take place pairs) ++ l)
-        (one_child parent (at place) here (above_named (placed_of (at place)).parent parent (placed_of (at place)).name (eqb-true (placed_of (at place)).parent parent here) (sym (order_is place) ∙ above.behind place from inside)))
+      (one_child parent (at place) here (above_named (placed_of (at place)).parent parent (placed_of (at place)).name (eqb-true (placed_of (at place)).parent parent here) (sym (order_is place) ∙ above.behind place from inside)))
 
   -- a pair of another folder: from there on no pair is an entry of this one
   pub all_passed : (place : ℕ) → start ≤ place → place < length pairs → ((placed_of (at place)).parent == parent) ≡ false → children_in parent (take place pairs) ≡ children_in parent pairs
+  unfolding placed_of
   all_passed place from inside other =
       sym (ap (children_in parent) (sym (take-append-drop place pairs)) ∙ children_append parent (take place pairs) (drop place pairs)
       ∙ ap (λ l. children_in parent (take place pairs) ++ l) (no_children parent (drop place pairs) (λ k low. subst (λ pair. IsNone parent pair) (sym (get_or-drop place pairs k ([], []))) (none_behind (place + k) (omega arith) (omega (arith, low, length-drop place pairs, inside)))))
@@ -153,7 +168,6 @@ module _ (parent : ℕ) (key : List ℕ) (pairs : List Pair) (is_key : IsKeyOf p
       behind = above_is_behind (placed_of (at place)).parent parent (slice_cmp nat_cmp (placed_of (at place)).name []) (λ same. true_or_false (sym (eq-eqb (placed_of (at place)).parent parent same) ∙ other)) (sym (order_is place) ∙ above.behind place from inside)
 
       later : (k : ℕ) → place < k → k < length pairs → (placed_of (at place)).parent ≤ (placed_of (at k)).parent
-      unfolding placed_of
       later k after fits = before_is_most (catalog_parent (at place).0) (catalog_parent (at k).0) (slice_cmp nat_cmp (catalog_units (at place).0) (catalog_units (at k).0)) (rises place k after fits)
 
       at_least : (k : ℕ) → place ≤ k → k < length pairs → (placed_of (at place)).parent ≤ (placed_of (at k)).parent
@@ -171,11 +185,124 @@ module _ (parent : ℕ) (key : List ℕ) (pairs : List Pair) (is_key : IsKeyOf p
 
 -- ---- the walk
 
--- What a walk knows that has gathered these entries: it stands behind so many pairs that are all above the thread's key, and they are all entries that those before its place are.
-pub record Gathers (parent : ℕ) (key : List ℕ) (pairs : List Pair) (store : Store) (desk : Desk) (at passed : ℕ) (list : List Child) : Type 0 where
+-- What a walk knows that has gathered these entries: it stands behind so many pairs above the key of the folder's thread, and has the entries of the folder among those that it passed.
+pub record Gathers (parent : ℕ) (pairs : List Pair) (store : Store) (desk : Desk) (at passed : ℕ) (list : List Child) : Type 0 where
+  pub key : List ℕ
+  pub is_key : IsKeyOf parent [] key
   pub same : pairs_of store ≡ pairs
   pub tree : IsTree IsCatalogKey catalog_cmp store
   pub start : ℕ
   pub above : IsAbove catalog_cmp key pairs start
   pub stands : StandsAt store desk at (start + passed)
   pub got : list ≡ children_in parent (take (start + passed) pairs)
+
+pub begins : (parent : ℕ) (key : List ℕ) (pairs : List Pair) (store : Store) (desk : Desk) (at : ℕ) → IsKeyOf parent [] key → pairs_of store ≡ pairs → IsTree IsCatalogKey catalog_cmp store
+    → Seeks catalog_cmp key store desk (Some at) → Gathers parent pairs store desk at 0 []
+begins parent key pairs store desk at is_key same tree seeks = record {
+  key = key;
+  is_key = is_key;
+  same = same;
+  tree = tree;
+  start = start;
+  above = above;
+  stands = subst (λ n. StandsAt store desk at n) none_more seeks.1;
+  got = sym (ap (λ n. children_in parent (take n pairs)) (sym none_more) ∙ none_passed parent key pairs is_key rises start above);
+}
+  where
+    start : ℕ
+    start = seeks.0
+
+    none_more : start ≡ start + 0
+    none_more = omega arith
+
+    rises : AscendByKey pairs
+    rises = subst AscendByKey same (tree_ascends store tree)
+
+    above : IsAbove catalog_cmp key pairs start
+    above = subst (λ l. IsAbove catalog_cmp key l start) same seeks.2
+
+-- no pair, no entry
+pub lists_none : (parent : ℕ) (pairs : List Pair) → length pairs ≡ 0 → [] ≡ children_in parent pairs
+lists_none parent [] none = refl
+lists_none parent (pair ∷ rest) none = absurd (omega (arith, none))
+
+if_some : (b : Bool) (x child : Child) → (if b then Some x else None) ≡ Some child → (b ≡ true) × (x ≡ child)
+if_some true x child is = (refl, ap (child_or x) is)
+if_some false x child is = absurd (none_or_some child is)
+
+if_none : (b : Bool) (x : Child) → (if b then Some x else None) ≡ None → b ≡ false
+if_none true x is = absurd (none_or_some x (sym is))
+if_none false x is = refl
+
+module _ (parent : ℕ) (pairs : List Pair) (store : Store) (desk : Desk) (at passed : ℕ) (list : List Child) (gathers : Gathers parent pairs store desk at passed list) where
+  rises : AscendByKey pairs
+  rises = subst AscendByKey gathers.same (tree_ascends store gathers.tree)
+
+  abbrev place : ℕ
+  place = gathers.start + passed
+
+  -- all pairs are passed
+  pub gathered_all : length pairs ≤ place → list ≡ children_in parent pairs
+  gathered_all past = gathers.got ∙ ap (children_in parent) (take_all place pairs past)
+
+  pub ends : (next : Store) (to : Desk) → pairs_of next ≡ pairs_of store → StepsOn next to place None → list ≡ children_in parent pairs
+  ends next to kept steps = gathered_all (omega (arith, steps, ap (λ (l : List Pair). length l) (kept ∙ gathers.same)))
+
+  module _ (next : Store) (to : Desk) (on : ℕ) (kept : pairs_of next ≡ pairs_of store) (tree : IsTree IsCatalogKey catalog_cmp next) (steps : StepsOn next to place (Some on)) where
+    now_same : pairs_of next ≡ pairs
+    now_same = kept ∙ gathers.same
+
+    abbrev pair : Pair
+    pair = slice_index_or pairs place ([], [])
+
+    inside : place < length pairs
+    inside = subst (λ (l : List Pair). place < length l) now_same steps.0.inside
+
+    held_key : to.held.key ≡ pair.0
+    held_key = steps.0.key ∙ ap (λ (l : List Pair). (slice_index_or l place ([], [])).0) now_same
+
+    held_value : to.held.value ≡ pair.1
+    held_value = steps.0.value ∙ ap (λ (l : List Pair). (slice_index_or l place ([], [])).1) now_same
+
+    -- the pair that the desk holds has a key of the catalog, and spells a record
+    pub held_is_key : IsCatalogKey to.held.key
+    held_is_key =
+        let some : 0 < next.shape.depth = steps.1.some in
+        let many = pairs_long IsCatalogKey catalog_cmp catalog_total (λ _ key. key.size) next tree.levels tree.ordered some in
+        let within : place < length (tree_entries next (next.shape.depth - 1)) = omega (arith, many, steps.0.inside) in
+        let is = pair_at IsCatalogKey catalog_cmp catalog_total (λ _ key. key.size) next tree.levels tree.ordered some place within in
+        subst IsCatalogKey (sym (steps.0.key ∙ ap (λ (p : Pair). p.0) is)) (tree.levels.keys (next.shape.depth - 1) place (omega (arith, some)) within)
+
+    pub held_is_spelled : AreSpelled pairs → IsTrue (is_catalog to.held.value)
+    held_is_spelled spelled = subst (λ v. IsTrue (is_catalog v)) (sym held_value) (spelled place ([], []) inside)
+
+    own_parent : (catalog_parent to.held.key == parent) ≡ ((placed_of pair).parent == parent)
+    unfolding placed_of
+    own_parent = ap (λ k. catalog_parent k == parent) held_key
+
+    own_child : as_child (placed_of pair) ≡ record { name = catalog_units to.held.key; rec = catalog_of to.held.value }
+    unfolding placed_of
+    own_child = λ i. record { name = catalog_units (sym held_key i); rec = catalog_of (sym held_value i) }
+
+    pub stops : child_under parent to.held.key to.held.value ≡ None → list ≡ children_in parent pairs
+    stops none =
+        gathers.got ∙ all_passed parent gathers.key pairs gathers.is_key rises gathers.start gathers.above place (omega arith) inside
+        (sym own_parent ∙ if_none (catalog_parent to.held.key == parent) (record { name = catalog_units to.held.key; rec = catalog_of to.held.value }) none)
+
+    pub goes_on : (child : Child) → child_under parent to.held.key to.held.value ≡ Some child → Gathers parent pairs next to on (passed + 1) (list ++ child ∷ [])
+    goes_on child is =
+        let found = if_some (catalog_parent to.held.key == parent) (record { name = catalog_units to.held.key; rec = catalog_of to.held.value }) child is in
+        let on_is : place + 1 ≡ gathers.start + (passed + 1) = omega arith in
+        record {
+          key = gathers.key;
+          is_key = gathers.is_key;
+          same = now_same;
+          tree = tree;
+          start = gathers.start;
+          above = gathers.above;
+          stands = subst (λ n. StandsAt next to on n) on_is steps.1;
+          got = ap (λ l. l ++ child ∷ []) gathers.got
+              ∙ ap (λ c. children_in parent (take place pairs) ++ c ∷ []) (sym (own_child ∙ found.1))
+              ∙ sym (one_more parent gathers.key pairs gathers.is_key rises gathers.start gathers.above place (omega arith) inside (sym own_parent ∙ found.0))
+              ∙ ap (λ n. children_in parent (take n pairs)) on_is;
+        }

@@ -53,7 +53,7 @@ returns-clause-moved g c tells =
     let vacant = no_record_no_key c.args.to c.args.new.now entry.key old c.in_ok-entry.ensures.key (c.requires.vacant tells) in
     let shifts = c.in_ok-shift.ensures.pairs tells_read (subst (λ l. HasKey catalog_cmp thread.key l) (sym same) thread_there) (subst (λ l. HasKey catalog_cmp key l) (sym same) entry_there) (λ has. vacant (subst (λ l. HasKey catalog_cmp entry.key l) same has)) in
     let own_spare = c.spare_of-spare.ensures ∙ ap spare_in (c.in_ok-found.ensures.found tells) ∙ ap (λ n. spare_in (thread_at old n)) c.id_of.ensures
-        ∙ spare_is c.args.from c.args.old.now old rec key thread.key rises threads c.in_ok-key.ensures c.in_ok-thread.ensures.key c.requires.some value_is in
+    ∙ spare_is c.args.from c.args.old.now old rec key thread.key rises threads c.in_ok-key.ensures c.in_ok-thread.ensures.key c.requires.some value_is in
     relocates c.args.from c.args.old.now old rec key thread.key rises threads c.in_ok-key.ensures c.in_ok-thread.ensures.key c.requires.some value_is
     c.args.to c.args.new.now entry.key entry.value thread.value (pairs_of new) (to_z w16 (of_z w16 c.spare_of-spare.result)) (to_z-of_z w16 c.spare_of-spare.result (record { sfits = c.spare_of-spare.type_inv }) ∙ own_spare)
     (subst (λ l. ShiftsPair thread.key thread.value key entry.key entry.value l (pairs_of new)) same shifts) c.in_ok-entry.ensures.spells c.in_ok-thread.ensures.spells
