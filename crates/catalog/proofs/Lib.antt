@@ -2,11 +2,15 @@ pub mod Answers
 pub mod BeforeEdits
 pub mod EntryEdits
 pub mod Faults
+pub mod FittingBytes
 pub mod Keys
+pub mod FolderLists
+pub mod Moves
 pub mod Pairs
 pub mod Places
 pub mod RecordLengths
 pub mod Removals
 pub mod SingleEdits
 pub mod Standing
+pub mod TwoInserts
 pub mod Updates

@@ -25,11 +25,11 @@ use Rattle.catalog.proofs.Updates.{tied_found}
 true_or_false : true ≡ false → ⊥
 true_or_false same = subst T same tt
 
-abbrev long_of : Bool → ℕ
+abbrev pub long_of : Bool → ℕ
 long_of true = 88
 long_of false = 248
 
-abbrev picked : Bool → Bool → FolderRecord → FileRecord → ThreadRecord → CatRecord
+abbrev pub picked : Bool → Bool → FolderRecord → FileRecord → ThreadRecord → CatRecord
 picked one two folder file thread = if one then Folder folder else if two then File file else Thread thread
 
 by_kind : (bytes : List ℕ) (one two rest : Bool) (folder : FolderRecord) (file : FileRecord) (thread : ThreadRecord) → (if one then length bytes == 88 else if two then length bytes == 248 else rest) ≡ true
@@ -45,7 +45,7 @@ wanted bytes kind =
     else if (kind == 3) || (kind == 4) then has_thread_length bytes
     else false
 
-record_long : (bytes : List ℕ) → is_catalog bytes ≡ true → is_thread (catalog_of bytes) ≡ false → length bytes ≡ long_of (is_folder (catalog_of bytes))
+pub record_long : (bytes : List ℕ) → is_catalog bytes ≡ true → is_thread (catalog_of bytes) ≡ false → length bytes ≡ long_of (is_folder (catalog_of bytes))
 record_long bytes spelled named = by_size (nat_lt (length bytes) 2) refl
   where
     by_size : (small : Bool) → nat_lt (length bytes) 2 ≡ small → length bytes ≡ long_of (is_folder (catalog_of bytes))
@@ -55,7 +55,7 @@ record_long bytes spelled named = by_size (nat_lt (length bytes) 2) refl
         (record { fields = entry_of bytes }) (record { fields = entry_of bytes; data_fork = fork_at bytes 88; resource_fork = fork_at bytes 168 }) (thread_of bytes)
         (sym (ap (λ (s : Bool). wanted bytes (if s then 0 else big_at 2 bytes 0)) is) ∙ spelled) named
 
-value_in : (placed : Placed) (pair : Pair) → placed_of pair ≡ placed → catalog_of pair.1 ≡ placed.value
+pub value_in : (placed : Placed) (pair : Pair) → placed_of pair ≡ placed → catalog_of pair.1 ≡ placed.value
 unfolding placed_of
 value_in placed pair is = ap (λ (other : Placed). other.value) is
 

@@ -1,16 +1,17 @@
--- An entry and its thread removed.
-use Rattle.std.proofs.Common.{◌≡◌, ◌≢◌, inl, inr, ℕ, zero, suc, ◌+◌, ◌<◌, ◌≤◌, Bool, true, false, List, [], ◌∷◌, length, refl, sym, ◌∙◌, ap, subst, arith}
+-- An entry and its thread removed, or moved.
+use Rattle.std.proofs.Common.{◌≡◌, ◌≢◌, inl, inr, ℕ, zero, suc, ◌+◌, ◌<◌, ◌≤◌, Bool, true, false, List, [], ◌∷◌, length, set, refl, sym, ◌∙◌, ap, subst, arith}
 use Rattle.std.specs.Prelude.{slice_index_or, Contains, Option, None, Some, not, ◌==◌, ℤ, cond, if◌then◌else◌}
 use Rattle.std.specs.Str.{bytes_eq}
 use Rattle.std.specs.Ordering.{ordering_reverse}
 use Rattle.std.proofs.lemmas.Bool.{cases_lt, eq-eqb, eqb-true}
-use Rattle.std.proofs.lemmas.List.{get_or-map, length-map}
+use Rattle.std.proofs.lemmas.List.{get_or-map, length-map, length-set}
 use Rattle.std.proofs.lemmas.List.Edits.{length-insert, get_or-insert_below, get_or-insert_above}
+use Rattle.std.proofs.lemmas.List.{get_or-set_same, get_or-set_other}
 use Rattle.std.proofs.lemmas.List.Elements.{All-contains, Contains-append_left, Contains-append_right, Contains-append_cases}
 use Rattle.std.proofs.lemmas.Slice.Eq.{bytes_eq-Decides}
 use Rattle.btree_node.specs.KeyLaws.{catalog_total}
 use Rattle.std.specs.declared.cmp.Ordering.TheVariants.{Equal}
-use Rattle.std.specs.List.{find}
+use Rattle.std.specs.List.{find, remove}
 use Rattle.std.specs.Option.{option_map}
 use Rattle.btree_node.specs.Keys.{catalog_cmp, catalog_parent, catalog_units}
 use Rattle.btree_node.specs.Levels.{Pair}
@@ -19,12 +20,17 @@ use Rattle.cat_records.specs.declared.record.CatRecord.{CatRecord}
 use Rattle.cat_records.specs.declared.record.CatRecord.TheVariants.{Thread}
 use Rattle.hfs_volume.specs.Changes.{Adds, Spells, thread_with}
 use Rattle.hfs_volume.specs.Entries.{AreThreaded, HasThread}
-use Rattle.hfs_volume.specs.Records.{Placed, placed_of, placed_in, record_at, entries_of, id_of, id_in, is_file, is_empty, is_placed_at}
-use Rattle.catalog.specs.Pairs.{IsKeyOf, DropsBoth, value_at}
-use Rattle.catalog.specs.Entries.{RemovesEntry}
+use Rattle.cat_records.specs.declared.record.ThreadRecord.{ThreadRecord}
+use Rattle.hfs_volume.specs.Records.{Placed, placed_of, placed_in, record_at, entries_of, id_of, id_in, is_file, is_thread, is_empty, is_placed_at}
+use Rattle.catalog.specs.Pairs.{IsKeyOf, DropsBoth, ShiftsPair, value_at, thread_at as thread_under, thread_in, spare_in}
+use Rattle.catalog.specs.Entries.{RemovesEntry, RelocatesEntry}
+use Rattle.catalog.proofs.EntryEdits.{adds_of}
+use Rattle.catalog.proofs.RecordLengths.{value_in}
+use Rattle.catalog.proofs.TwoInserts.{AddsEither, HaveLess, insert_remove, length_remove, set_insert, less_than_both, swap_adds}
+use Rattle.catalog.proofs.Updates.{own_key}
 use Rattle.catalog.proofs.Keys.{keys_apart}
 use Rattle.catalog.proofs.Places.{AscendByKey, tied_is_found, under_is_tied, both_true, first_true, second_true}
-use Rattle.catalog.proofs.Standing.{record_at-key, tied_stands, dropped_back}
+use Rattle.catalog.proofs.Standing.{record_at-key, tied_stands, dropped_back, dropped_place, changed_is}
 
 abbrev is_there : {X : Type 0} → Option X → Type 0
 is_there None = ⊥
@@ -38,6 +44,11 @@ value_or x (Some y) = y
 pub value_found : (found : Option Placed) (rec : CatRecord) → option_map (λ (placed : Placed). placed.value) found ≡ Some rec → (entry : Placed) × (found ≡ Some entry) × (entry.value ≡ rec)
 value_found None rec is = absurd (subst is_there (sym is) tt)
 value_found (Some entry) rec is = (entry, refl, ap (value_or rec) is)
+
+-- the thread in a value that was found, where it is one
+abbrev thread_or_none : Option CatRecord → Option ThreadRecord
+thread_or_none None = None
+thread_or_none (Some rec) = thread_in rec
 
 pub no_value_no_record : (found : Option Placed) → None ≡ option_map (λ (placed : Placed). placed.value) found → found ≡ None
 no_value_no_record None is = refl
@@ -83,6 +94,14 @@ standing_key parent name key pairs placed is stands same_parent same_name =
     let names : (placed_of pair).name ≡ catalog_units key = ap (λ (p : Placed). p.name) at ∙ same_name ∙ sym is.name_is in
     (k, inside, at, under_is_tied pair key (both_true _ _ (eq-eqb (placed_of pair).parent (catalog_parent key) parents) ((bytes_eq-Decides (placed_of pair).name (catalog_units key)).1 names)))
 
+-- a name has a folder or a file
+pub found_is_no_thread : (parent : ℕ) (name : List ℕ) (old : List Pair) (rec : CatRecord) → AreThreaded old → 1 ≤ length name → value_at old parent name ≡ Some rec → is_thread rec ≡ false
+found_is_no_thread parent name old rec threads some value_is =
+    let found = value_found (record_at (placed_in old) parent name) rec value_is in
+    let stands = found_stands (is_placed_at parent name) (placed_in old) found.0 found.1 in
+    let name_is : found.0.name ≡ name = (bytes_eq-Decides found.0.name name).0 (second_true (found.0.parent == parent) (bytes_eq found.0.name name) stands.1) in
+    ap is_thread (sym found.2) ∙ All-contains (λ placed. is_thread placed.value ≡ is_empty placed.name) (placed_in old) found.0 threads.kinds stands.0 ∙ ap is_empty name_is ∙ empty_name name some
+
 -- ---- what removing an entry and its thread needs, and does
 
 module _ (parent : ℕ) (name : List ℕ) (old : List Pair) (rec : CatRecord) (entry_key thread_key : List ℕ) (rises : AscendByKey old) (threads : AreThreaded old)
@@ -105,7 +124,7 @@ module _ (parent : ℕ) (name : List ℕ) (old : List Pair) (rec : CatRecord) (e
   parent_is : entry.parent ≡ parent
   parent_is = eqb-true entry.parent parent (first_true (entry.parent == parent) (bytes_eq entry.name name) stands.1)
 
-  thread : HasThread (placed_in old) entry
+  pub thread : HasThread (placed_in old) entry
   thread = All-contains (HasThread (placed_in old)) (entries_of (placed_in old)) entry threads.threaded (named_stands (placed_in old) entry stands.0 (ap is_empty name_is ∙ empty_name name some))
 
   entry_at : (k : ℕ) × (k < length old) × (placed_of (slice_index_or old k ([], [])) ≡ entry) × (catalog_cmp (slice_index_or old k ([], [])).0 entry_key ≡ Equal)
@@ -170,4 +189,110 @@ module _ (parent : ℕ) (name : List ℕ) (old : List Pair) (rec : CatRecord) (e
         is_thread = subst (λ placed. Spells placed first_pair) thread_is (tied_stands (id_in rec) [] thread_key old thread.0 drops.one.place rises threads.spelled is_thread_key thread_found drops.one.inside drops.one.equal);
         thread_added = back;
       };
+    }
+
+  -- the thread tells its reserved word
+  pub spare_is : spare_in (thread_under old (id_in rec)) ≡ spare
+  spare_is = ap (λ o. spare_in (thread_or_none (option_map (λ (placed : Placed). placed.value) o))) thread_found ∙ ap (λ v. spare_in (thread_or_none (Some v))) thread.5
+
+  module _ (to : ℕ) (new_name new_key new_value thread_value : List ℕ) (new : List Pair) (told_spare : ℤ) (same_spare : told_spare ≡ spare)
+      (shifts : ShiftsPair thread_key thread_value entry_key new_key new_value old new)
+      (spells_entry : Spells (record { parent = to; name = new_name; value = rec }) (new_key, new_value))
+      (spells_thread : Spells (thread_with told_spare (record { parent = to; name = new_name; value = rec })) (thread_key, thread_value)) where
+    abbrev moved : Placed
+    moved = record entry { parent = to; name = new_name }
+
+    rec_is : entry.value ≡ rec
+    rec_is = (value_found (record_at (placed_in old) parent name) rec value_is).2
+
+    -- the thread's place, and the thread before and after
+    abbrev p : ℕ
+    p = shifts.tells.place
+
+    abbrev old_thread : Pair
+    old_thread = slice_index_or old p ([], [])
+
+    abbrev new_thread : Pair
+    new_thread = (old_thread.0, thread_value)
+
+    told_is : shifts.told ≡ set old p new_thread
+    told_is = changed_is thread_key thread_value old shifts.told shifts.tells
+
+    told_long : length shifts.told ≡ length old
+    told_long = ap (λ (l : List Pair). length l) told_is ∙ length-set old p new_thread
+
+    was : Adds old_thread (remove old p) old
+    was = record { place = p; within = omega (arith, length_remove old p shifts.tells.inside, shifts.tells.inside); is = sym (insert_remove old p ([], []) shifts.tells.inside) }
+
+    is : Adds new_thread (remove old p) shifts.told
+    is = record { place = p; within = omega (arith, length_remove old p shifts.tells.inside, shifts.tells.inside); is = told_is ∙ set_insert old p new_thread shifts.tells.inside }
+
+    -- the entry's place, and its pair before
+    abbrev q : ℕ
+    q = shifts.out.place
+
+    abbrev old_entry : Pair
+    old_entry = slice_index_or shifts.told q ([], [])
+
+    apart_places : p ≡ q → ⊥
+    apart_places same =
+        let here : (slice_index_or shifts.told p ([], [])).0 ≡ old_thread.0 = ap (λ (l : List Pair). (slice_index_or l p ([], [])).0) told_is ∙ ap (λ (pair : Pair). pair.0) (get_or-set_same old p new_thread ([], []) shifts.tells.inside) in
+        let ties : catalog_cmp old_thread.0 entry_key ≡ Equal = ap (λ l. catalog_cmp l entry_key) (sym here) ∙ ap (λ n. catalog_cmp (slice_index_or shifts.told n ([], [])).0 entry_key) same ∙ shifts.out.equal in
+        apart (sym (catalog_total.congr old_thread.0 thread_key entry_key shifts.tells.equal) ∙ ties)
+
+    entry_stood : slice_index_or old q ([], []) ≡ old_entry
+    entry_stood = sym (ap (λ (l : List Pair). slice_index_or l q ([], [])) told_is ∙ get_or-set_other old p q new_thread ([], []) (λ e. apart_places (sym e)))
+
+    left : Adds old_entry shifts.between shifts.told
+    left = dropped_back entry_key shifts.told shifts.between shifts.out
+
+    less : HaveLess new_thread old_entry (remove old p) shifts.between
+    unfolding left is
+    less = less_than_both new_thread old_entry (remove old p) shifts.between shifts.told is left (λ same. apart_places (same ∙ dropped_place entry_key shifts.told shifts.between shifts.out))
+
+    put_back : Adds (new_key, new_value) shifts.between new
+    put_back = adds_of new_key new_value shifts.between new shifts.back
+
+    turned : AddsEither new_thread (new_key, new_value) less.less new
+    turned = swap_adds new_thread (new_key, new_value) less.less shifts.between new less.one put_back
+
+    thread_stands : Spells (thread_with spare entry) old_thread
+    thread_stands = subst (λ placed. Spells placed old_thread) thread_is (tied_stands (id_in rec) [] thread_key old thread.0 p rises threads.spelled is_thread_key thread_found shifts.tells.inside shifts.tells.equal)
+
+    thread_tells : Spells (thread_with spare moved) new_thread
+    thread_tells = record {
+      stands = own_key old_thread thread_value (thread_with told_spare (record { parent = to; name = new_name; value = rec })).value (value_in (thread_with told_spare (record { parent = to; name = new_name; value = rec })) (thread_key, thread_value) spells_thread.stands)
+          ∙ (λ i. record (thread_stands.stands i) { value = Thread (record { of_file = is_file (sym rec_is i); spare = same_spare i; parent = to; name = new_name }) });
+      spelled = spells_thread.spelled;
+    }
+
+    pub relocates : RelocatesEntry parent name to new_name old new
+    relocates = record {
+      entry = entry;
+      found = found;
+      moves = record {
+        between = less.less;
+        out = record {
+          between = remove old p;
+          pair = old_entry;
+          is_entry = subst (λ pair. Spells entry pair) entry_stood (tied_stands parent name entry_key old entry q rises threads.spelled is_entry_key found (omega (arith, shifts.out.inside, told_long))
+              (ap (λ (pair : Pair). catalog_cmp pair.0 entry_key) entry_stood ∙ shifts.out.equal));
+          entry_added = less.other;
+          thread = old_thread;
+          spare = spare;
+          is_thread = thread_stands;
+          thread_added = was;
+        };
+        back = record {
+          between = turned.between;
+          pair = (new_key, new_value);
+          is_entry = subst (λ v. Spells (record { parent = to; name = new_name; value = v }) (new_key, new_value)) (sym rec_is) spells_entry;
+          entry_added = turned.first;
+          thread = new_thread;
+          spare = spare;
+          is_thread = thread_tells;
+          thread_added = turned.second;
+        };
+      };
+      same_spare = refl;
     }

@@ -1,5 +1,5 @@
 -- The pair that a key ties with is that of the record at its place.
-use Rattle.std.proofs.Common.{◌≡◌, inl, inr, ℕ, suc, ◌+◌, ◌-◌, ◌<◌, List, [], ◌∷◌, ◌++◌, length, take, drop, set, sym, ◌∙◌, ap, arith}
+use Rattle.std.proofs.Common.{◌≡◌, inl, inr, ℕ, suc, ◌+◌, ◌-◌, ◌<◌, List, [], ◌∷◌, ◌++◌, length, take, drop, set, refl, sym, ◌∙◌, ap, arith}
 use Rattle.std.specs.Prelude.{slice_index_or, Option, None, Some}
 use Rattle.std.specs.List.{remove, find}
 use Rattle.std.specs.Option.{option_map}
@@ -93,6 +93,16 @@ changed_swaps key value old new changes = record {
 
     front_long : length (take changes.place old) ≡ changes.place
     front_long = omega (arith, length-take changes.place old, changes.inside)
+
+-- the same as one equation
+pub changed_is : (key value : List ℕ) (old new : List Pair) (changes : ChangesPair catalog_cmp key value old new) → new ≡ set old changes.place ((slice_index_or old changes.place ([], [])).0, value)
+unfolding changed_swaps
+changed_is key value old new changes = (changed_swaps key value old new changes).is
+
+-- the pair is put back at its place
+pub dropped_place : (key : List ℕ) (old new : List Pair) (drops : DropsPair catalog_cmp key old new) → (dropped_back key old new drops).place ≡ drops.place
+unfolding dropped_back
+dropped_place key old new drops = refl
 
 -- a key that tied with another pair than the one dropped still does
 pub still_there : (key other : List ℕ) (old new : List Pair) → DropsPair catalog_cmp key old new → (catalog_cmp key other ≡ Equal → ⊥) → HasKey catalog_cmp other old → HasKey catalog_cmp other new

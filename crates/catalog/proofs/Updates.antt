@@ -45,7 +45,7 @@ value_is : (placed : Placed) (key value : List ℕ) → placed_of (key, value) �
 unfolding placed_of
 value_is placed key value stands = ap (λ (other : Placed). other.value) stands
 
-own_key : (pair : Pair) (value : List ℕ) (rec : CatRecord) → catalog_of value ≡ rec → placed_of (pair.0, value) ≡ record (placed_of pair) { value = rec }
+pub own_key : (pair : Pair) (value : List ℕ) (rec : CatRecord) → catalog_of value ≡ rec → placed_of (pair.0, value) ≡ record (placed_of pair) { value = rec }
 unfolding placed_of
 own_key pair value rec is = ap (λ v. record (placed_of pair) { value = v }) is
 

@@ -5,9 +5,11 @@ use Rattle.btree_edit.specs.declared.edits.Inserted.{Inserted}
 use Rattle.btree_edit.specs.declared.edits.Inserted.TheVariants as inserted
 use Rattle.btree_edit.specs.declared.edits.Removed.{Removed}
 use Rattle.btree_edit.specs.declared.edits.Removed.TheVariants as removed
+use Rattle.catalog.specs.declared.moving.Moved.{Moved}
+use Rattle.catalog.specs.declared.moving.Moved.TheVariants as moved
 use Rattle.cat_records.specs.declared.record.CatRecord.{CatRecord}
 use Rattle.hfs_volume.specs.Records.{Placed, placed_in, record_at, id_in, is_file, is_folder}
-use Rattle.hfs_volume.specs.Changes.{Swaps, Spells, AddsWith, DropsEntry}
+use Rattle.hfs_volume.specs.Changes.{Swaps, Spells, AddsWith, DropsEntry, MovesEntry}
 
 -- Exists exactly where there is a record at the place
 abbrev pub AnswersAdd : Option Placed → Inserted → Type 0
@@ -55,3 +57,22 @@ pub record IsOfKind (rec value : CatRecord) : Type 0 where
   pub folder : is_folder rec ≡ is_folder value
   pub file : is_file rec ≡ is_file value
   pub id : id_in rec ≡ id_in value
+
+-- Absent exactly where there is no record at the old place, Exists exactly where there is one, and one at the new place
+abbrev pub AnswersMove : Option Placed → Option Placed → Moved → Type 0
+AnswersMove from to moved.Absent = from ≡ None
+AnswersMove from to moved.Exists = (from ≡ None → ⊥) × (to ≡ None → ⊥)
+AnswersMove from to moved.Done = (from ≡ None → ⊥) × (to ≡ None)
+
+-- The entry that stood at one place stands at another, with the record that it had, and its thread tells the new place; the thread's reserved word is as it was.
+pub record RelocatesEntry (from : ℕ) (old_name : List ℕ) (to : ℕ) (name : List ℕ) (old new : List Pair) : Type 0 where
+  pub entry : Placed
+  pub found : record_at (placed_in old) from old_name ≡ Some entry
+  pub moves : MovesEntry entry to name old new
+  pub same_spare : moves.back.spare ≡ moves.out.spare
+
+-- what a move does to the pairs, by its answer
+abbrev pub Moving : ℕ → List ℕ → ℕ → List ℕ → List Pair → List Pair → Moved → Type 0
+Moving from old_name to name old new moved.Absent = new ≡ old
+Moving from old_name to name old new moved.Exists = new ≡ old
+Moving from old_name to name old new moved.Done = RelocatesEntry from old_name to name old new

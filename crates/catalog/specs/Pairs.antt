@@ -1,11 +1,11 @@
 -- What the calls do to the pairs of the catalog's tree.
 use Rattle.btree_node.specs.Store.{Store, HasRoom}
 use Rattle.btree_edit.specs.Edits.{EditRoom}
-use Rattle.std.specs.Prelude.{◌⊎◌, IsTrue, ◌≡◌, ◌≤◌, ℕ, ◌+◌, ◌*◌, List, length, Option, None, Some, []}
+use Rattle.std.specs.Prelude.{◌⊎◌, IsTrue, ◌≡◌, ◌≤◌, ℕ, ℤ, pos, ◌+◌, ◌*◌, List, length, Option, None, Some, []}
 use Rattle.std.specs.Option.{option_map}
 use Rattle.btree_node.specs.Levels.{Pair}
 use Rattle.btree_node.specs.Keys.{IsCatalogKey, catalog_cmp, catalog_parent, catalog_units}
-use Rattle.btree_edit.specs.Sorted.{AddsPair, DropsPair}
+use Rattle.btree_edit.specs.Sorted.{AddsPair, DropsPair, ChangesPair}
 use Rattle.btree_edit.specs.declared.edits.Inserted.{Inserted}
 use Rattle.btree_edit.specs.declared.edits.Inserted.TheVariants as inserted
 use Rattle.cat_records.specs.declared.record.CatRecord.{CatRecord}
@@ -55,6 +55,11 @@ thread_at pairs id = in_found (value_at pairs id [])
     in_found None = None
     in_found (Some rec) = thread_in rec
 
+-- the reserved word of a thread, 0 where there is none
+abbrev pub spare_in : Option ThreadRecord → ℤ
+spare_in None = pos 0
+spare_in (Some thread) = thread.spare
+
 -- the pair with one key is gone, and then that with another
 pub record DropsBoth (first second : List ℕ) (old new : List Pair) : Type 0 where
   pub between : List Pair
@@ -64,3 +69,11 @@ pub record DropsBoth (first second : List ℕ) (old new : List Pair) : Type 0 wh
 -- Room for an update in place: for one write, where the store tells its nodes; else for an edit.
 abbrev pub HasUpdateRoom : Store → Type 0
 HasUpdateRoom store = (IsTrue store.tells × HasRoom 1 store) ⊎ EditRoom 1 516 store
+
+-- the pair with one key has another value, the pair with a second key is gone, and a pair with a third key is there
+pub record ShiftsPair (thread_key thread_value key new_key new_value : List ℕ) (old new : List Pair) : Type 0 where
+  pub told : List Pair
+  pub tells : ChangesPair catalog_cmp thread_key thread_value old told
+  pub between : List Pair
+  pub out : DropsPair catalog_cmp key told between
+  pub back : AddsPair catalog_cmp new_key new_value between new

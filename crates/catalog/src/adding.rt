@@ -54,7 +54,7 @@ pub fn add<N: NodeStore>(
     ensures below { N.follows store.old store.new }
 {
     let entry = record_pair(alloc, parent, name, rec)?;
-    let thread = thread_pair(alloc, parent, name, rec)?;
+    let thread = thread_pair(alloc, parent, name, rec, 0)?;
     let answer = insert_both(store, desk, &entry, &thread)?;
     Ok(answer)
 }

@@ -3,7 +3,7 @@ ghost use Rattle.std.specs.Prelude.{◌≡◌, ◌≤◌, ◌<◌, ◌^◌, IfOk
 ghost use Rattle.std.specs.List.{AllByRecursion};
 ghost use Rattle.cat_records.specs.Fits.{FitsRecord};
 ghost use Rattle.cat_records.specs.Records.{catalog_bytes};
-ghost use Rattle.hfs_volume.specs.Changes.{Spells, thread_of};
+ghost use Rattle.hfs_volume.specs.Changes.{Spells, thread_with};
 ghost use Rattle.hfs_volume.specs.Records.{Placed, id_in, is_file, is_thread};
 ghost use Rattle.catalog.specs.Pairs.{IsKeyOf};
 
@@ -75,6 +75,16 @@ fn is_file_record(rec: &CatRecord) -> bool
     }
 }
 
+/// Whether a record is a thread.
+pub(crate) fn is_thread_record(rec: &CatRecord) -> bool
+    ensures { result ≡ is_thread rec.now }
+{
+    match rec {
+        CatRecord::Thread(_) => true,
+        CatRecord::Folder(_) | CatRecord::File(_) => false,
+    }
+}
+
 fn copy_units(alloc: Global, units: &Units) -> Result<Units, OutOfMemory>
     ensures { IfOk result (λ copy. copy ≡ units.now) }
 {
@@ -82,24 +92,25 @@ fn copy_units(alloc: Global, units: &Units) -> Result<Units, OutOfMemory>
     Ok(Units::from_vec(copy))
 }
 
-/// The pair of the thread of an entry under a name in a folder.
+/// The pair of the thread of an entry under a name in a folder, with this in its reserved word.
 pub(crate) fn thread_pair(
     alloc: Global,
     parent: u32,
     name: &Units,
     rec: &CatRecord,
+    spare: i16,
 ) -> Result<Pair, OutOfMemory>
     requires { length name.now ≤ 255 }
     ensures key { IfOk result (λ pair. IsKeyOf (id_in rec.now) [] pair.key) }
     ensures long { IfOk result (λ pair. length pair.value ≤ 520) }
-    ensures spells { IfOk result (λ pair. Spells (thread_of (record { parent = parent; name = name.now; value = rec.now })) (pair.key, pair.value)) }
+    ensures spells { IfOk result (λ pair. Spells (thread_with spare (record { parent = parent; name = name.now; value = rec.now })) (pair.key, pair.value)) }
 {
     units_fit(name.as_slice());
     let units = copy_units(alloc, name)?;
     let of_file = is_file_record(rec);
     let thread = CatRecord::Thread(ThreadRecord {
         of_file,
-        spare: 0,
+        spare,
         parent,
         name: units,
     });

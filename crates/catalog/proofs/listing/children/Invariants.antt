@@ -1,0 +1,20 @@
+use Rattle.std.proofs.Common.{◌≡◌, ◌≤◌, ◌+◌, length}
+use Rattle.std.specs.Prelude.{IsTrue}
+use Rattle.btree_node.specs.Node.{IsNode}
+use Rattle.btree_node.specs.Tree.{pairs_of}
+use Rattle.btree_edit.specs.Desk.{IsDeskOf}
+use Rattle.btree_edit.specs.Reading.{ReadsNodes}
+use Rattle.catalog.proofs.FolderLists.{Gathers}
+use Rattle.catalog.proofs.listing.children.Given as goal
+
+abbrev pub invariant-loop-passed : goal.invariant-loop-passed
+invariant-loop-passed g l = let before = g.N.NodeStore.state l.fn.store in let now = g.N.NodeStore.state l.store in record {
+  gathers : IsTrue before.tells → Gathers l.parent (pairs_of before) now l.desk l.at l._passed l.children;
+  many : l.many ≡ before.shape.leaf_records;
+  listed : length l.children ≡ l._passed;
+  desk : IsDeskOf before.shape.node_size l.desk;
+  well_formed : IsNode l.desk.node;
+  reads : ReadsNodes (before.shape.depth + l._passed) before now;
+  later : before.faults ≤ now.faults;
+  below : g.N.NodeStore.follows l.fn.store l.store;
+}
