@@ -1,0 +1,14 @@
+//! The attributes of folders and files as a map of values: each has a name and a value that stands in its record.
+#![tactic(auto)]
+
+mod answer;
+mod dropping;
+mod edits;
+mod finding;
+mod pair;
+mod setting;
+
+pub use answer::SetAnswer;
+pub use dropping::drop_all;
+pub use finding::get;
+pub use setting::{delete, set};
