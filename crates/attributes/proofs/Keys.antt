@@ -12,7 +12,7 @@ use Rattle.cat_records.specs.Records.{units_bytes}
 use Rattle.attributes.specs.Values.{IsKeyOf}
 
 -- two bytes as a number
-two_bytes : (high low : ℕ) (rest : List ℕ) → big_at 2 (high ∷ low ∷ rest) 0 ≡ high * 256 + low
+pub two_bytes : (high low : ℕ) (rest : List ℕ) → big_at 2 (high ∷ low ∷ rest) 0 ≡ high * 256 + low
 unfolding number_at
 two_bytes high low rest = omega arith
 

@@ -24,38 +24,13 @@ use Rattle.btree_edit.specs.Sorted.{DropsPair, RemovesPair}
 use Rattle.btree_edit.specs.declared.edits.Removed.{Removed}
 use Rattle.btree_edit.specs.declared.edits.Removed.TheVariants as removed
 use Rattle.hfs_model.specs.Sorted.{kept}
-use Rattle.hfs_volume.specs.Laws.{one_if}
 use Rattle.hfs_volume.specs.Records.{attribute_of}
-use Rattle.hfs_volume.proofs.Counting.{count_cons, count_insert}
-use Rattle.hfs_volume.proofs.Members.{at_front, behind}
 use Rattle.attributes.specs.Owned.{is_of, count_of, DropsSome, DropsFirst, IsFirst}
 use Rattle.attributes.specs.Values.{AreInline}
+use Rattle.attributes.proofs.Lists.{count_insert, kept_uncounted, kept_without, none_counted, one_if}
 use Rattle.attributes.proofs.Places.{AscendByKey, cmp_same, dropped_back}
 
 -- ---- one less
-
-pub none_counted : {X : Type 0} (test : X → Bool) (xs : List X) → ((x : X) → Contains xs x → test x ≡ false) → count_by test xs ≡ 0
-none_counted test [] none = refl
-none_counted test (x ∷ xs) none = omega (arith, count_cons test x xs, ap one_if (none x (at_front x xs)), none_counted test xs (λ y stands. none y (behind x y xs stands)))
-
--- those that don't pass are all, where none is counted
-kept_uncounted : {X : Type 0} (test : X → Bool) (xs : List X) → count_by test xs ≡ 0 → kept (λ x. not (test x)) xs ≡ xs
-kept_uncounted test [] none = refl
-kept_uncounted {X} test (x ∷ xs) none = by_test (test x) refl (kept_uncounted test xs)
-  where
-    by_test : (b : Bool) → test x ≡ b → (count_by test xs ≡ 0 → kept (λ y. not (test y)) xs ≡ xs) → kept (λ y. not (test y)) (x ∷ xs) ≡ x ∷ xs
-    by_test true is rest = absurd (omega (arith, none, count_cons test x xs, ap one_if is))
-    by_test false is rest = λ i. (if not (is i) then x ∷ [] else []) ++ rest (omega (arith, none, count_cons test x xs)) i
-
--- an item that fails a test isn't kept
-kept_without : {X : Type 0} (test : X → Bool) (xs : List X) (k : ℕ) (x : X) → test x ≡ false → kept test (insert xs k x) ≡ kept test xs
-kept_without {X} test xs k x fails =
-    flat_map-append piece (take k xs) (x ∷ drop k xs)
-    ∙ ap (λ (b : Bool). kept test (take k xs) ++ ((if b then x ∷ [] else []) ++ kept test (drop k xs))) fails
-    ∙ sym (flat_map-append piece (take k xs) (drop k xs)) ∙ ap (kept test) (take-append-drop k xs)
-  where
-    piece : X → List X
-    piece y = if test y then y ∷ [] else []
 
 then_equal : (o p : Ordering) → ordering_then o p ≡ Equal → o ≡ Equal
 then_equal Less p e = cc
@@ -102,7 +77,7 @@ above_empty [] some = absurd (omega (arith, some))
 above_empty (unit ∷ units) some = refl
 
 -- an attribute of a folder or file stands behind the key of the empty name
-owned_above : (id : ℕ) (pair : Pair) (start : List ℕ) → attr_file start ≡ id → attr_units start ≡ [] → 0 < length (attribute_of pair).name → is_of id pair ≡ true → attr_cmp pair.0 start ≡ Greater
+pub owned_above : (id : ℕ) (pair : Pair) (start : List ℕ) → attr_file start ≡ id → attr_units start ≡ [] → 0 < length (attribute_of pair).name → is_of id pair ≡ true → attr_cmp pair.0 start ≡ Greater
 unfolding attribute_of
 owned_above id pair start file units named is =
     let starts = nat_cmp (attr_start pair.0) (attr_start start) in
@@ -130,26 +105,31 @@ clash Less p q e f = cc
 clash Equal p q e f = refl
 clash Greater p q e f = cc
 
--- where the least pair above is of another folder or file, there is none of this one
-pub other_above : (id : ℕ) (start : List ℕ) (pairs : List Pair) (k : ℕ) → AscendByKey pairs → AreInline pairs → attr_file start ≡ id → attr_units start ≡ [] → k < length pairs → IsAbove attr_cmp start pairs k
-    → (attr_file (slice_index_or pairs k ([], [])).0 ≡ id → ⊥) → count_of id pairs ≡ 0
+-- where a pair above the key is of another folder or file, there is none of this one from it on
+pub later_files : (id : ℕ) (start : List ℕ) (pairs : List Pair) (k : ℕ) → AscendByKey pairs → AreInline pairs → attr_file start ≡ id → k < length pairs → attr_cmp (slice_index_or pairs k ([], [])).0 start ≡ Greater
+    → (attr_file (slice_index_or pairs k ([], [])).0 ≡ id → ⊥) → (j : ℕ) → k ≤ j → j < length pairs → is_of id (slice_index_or pairs j ([], [])) ≡ true → ⊥
 unfolding attribute_of
-other_above id start pairs k rises inline file units inside above other = each_place (is_of id) pairs (λ j fits is.
+later_files id start pairs k rises inline file inside above other j from fits is =
     let key = (slice_index_or pairs k ([], [])).0 in
     let later = (slice_index_or pairs j ([], [])).0 in
     let later_file : attr_file later ≡ id = eqb-true (attr_file later) id is in
-    elim (cases_lt j k) [
-      | inl before ↦ above.before j before (owned_above id (slice_index_or pairs j ([], [])) start file units (inline j ([], []) fits).named is)
-      | inr from ↦ elim (cases_lt k j) [
-        | inl behind_it ↦
-            let up : ordering_then (nat_cmp (attr_file key) id) (ordering_then (slice_cmp nat_cmp (attr_units key) (attr_units start)) (nat_cmp (attr_start key) (attr_start start))) ≡ Greater =
-                ap (λ n. ordering_then (nat_cmp (attr_file key) n) (ordering_then (slice_cmp nat_cmp (attr_units key) (attr_units start)) (nat_cmp (attr_start key) (attr_start start)))) (sym file) ∙ above.behind k (omega arith) inside in
-            let down : ordering_then (nat_cmp (attr_file key) id) (ordering_then (slice_cmp nat_cmp (attr_units key) (attr_units later)) (nat_cmp (attr_start key) (attr_start later))) ≡ Less =
-                ap (λ n. ordering_then (nat_cmp (attr_file key) n) (ordering_then (slice_cmp nat_cmp (attr_units key) (attr_units later)) (nat_cmp (attr_start key) (attr_start later)))) (sym later_file) ∙ rises k j behind_it fits in
-            other (nat_cmp-IsAntisymmetric (attr_file key) id (clash (nat_cmp (attr_file key) id) _ _ up down))
-        | inr most ↦ other (ap (λ n. attr_file (slice_index_or pairs n ([], [])).0) (omega (arith, from, most)) ∙ later_file)
-      ]
-    ])
+    elim (cases_lt k j) [
+      | inl behind_it ↦
+          let up : ordering_then (nat_cmp (attr_file key) id) (ordering_then (slice_cmp nat_cmp (attr_units key) (attr_units start)) (nat_cmp (attr_start key) (attr_start start))) ≡ Greater =
+          ap (λ n. ordering_then (nat_cmp (attr_file key) n) (ordering_then (slice_cmp nat_cmp (attr_units key) (attr_units start)) (nat_cmp (attr_start key) (attr_start start)))) (sym file) ∙ above in
+          let down : ordering_then (nat_cmp (attr_file key) id) (ordering_then (slice_cmp nat_cmp (attr_units key) (attr_units later)) (nat_cmp (attr_start key) (attr_start later))) ≡ Less =
+          ap (λ n. ordering_then (nat_cmp (attr_file key) n) (ordering_then (slice_cmp nat_cmp (attr_units key) (attr_units later)) (nat_cmp (attr_start key) (attr_start later)))) (sym later_file) ∙ rises k j behind_it fits in
+          other (nat_cmp-IsAntisymmetric (attr_file key) id (clash (nat_cmp (attr_file key) id) _ _ up down))
+      | inr most ↦ other (ap (λ n. attr_file (slice_index_or pairs n ([], [])).0) (omega (arith, from, most)) ∙ later_file)
+    ]
+
+-- where the least pair above is of another folder or file, there is none of this one
+pub other_above : (id : ℕ) (start : List ℕ) (pairs : List Pair) (k : ℕ) → AscendByKey pairs → AreInline pairs → attr_file start ≡ id → attr_units start ≡ [] → k < length pairs → IsAbove attr_cmp start pairs k
+    → (attr_file (slice_index_or pairs k ([], [])).0 ≡ id → ⊥) → count_of id pairs ≡ 0
+other_above id start pairs k rises inline file units inside above other = each_place (is_of id) pairs (λ j fits is. elim (cases_lt j k) [
+  | inl before ↦ above.before j before (owned_above id (slice_index_or pairs j ([], [])) start file units (inline j ([], []) fits).named is)
+  | inr from ↦ later_files id start pairs k rises inline file inside (above.behind k (omega arith) inside) other j from fits is
+])
 
 -- each key of a tree is one
 pub tree_keys : (store : Store) → IsTree IsAttrKey attr_cmp store → (k : ℕ) → k < length (pairs_of store) → IsAttrKey (slice_index_or (pairs_of store) k ([], [])).0

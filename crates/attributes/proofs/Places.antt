@@ -26,9 +26,8 @@ use Rattle.btree_edit.specs.Sorted.{AddsPair, DropsPair}
 use Rattle.hfs_model.specs.Sorted.{kept, IsInOrder}
 use Rattle.hfs_volume.specs.Changes.{Adds, DropsAttribute, AreSortedAttributes, attribute_before, is_attribute_of}
 use Rattle.hfs_volume.specs.Records.{Attribute, attribute_of}
-use Rattle.hfs_volume.proofs.Dropping.{kept_back}
-use Rattle.hfs_volume.proofs.Members.{at_front, behind, inserted_cases, kept_cases}
 use Rattle.attributes.specs.Values.{IsInline, AreInline}
+use Rattle.attributes.proofs.Lists.{inserted_cases, kept_all, kept_back, kept_cases}
 
 -- the keys of the pairs rise strictly
 abbrev pub AscendByKey : List Pair → Type 0
@@ -106,11 +105,6 @@ none_under key pairs inline start absent pair stands = by_test (is_under key pai
         let at : slice_index_or pairs stands.0 ([], []) ≡ pair = get_or_default pairs stands.0 ([], []) pair stands.1 ∙ stands.2 in
         let begins : (attribute_of pair).start ≡ attr_start key = (All-contains IsInline pairs pair inline stands).start ∙ sym start in
         absurd (absent (stands.0, stands.1, ap (λ (p : Pair). attr_cmp p.0 key) at ∙ under_is_tied pair key begins is))
-
--- those that don't pass are all, where none does
-pub kept_all : {X : Type 0} (test : X → Bool) (xs : List X) → ((x : X) → Contains xs x → test x ≡ false) → kept (λ x. not (test x)) xs ≡ xs
-kept_all test [] none = refl
-kept_all test (x ∷ xs) none = λ i. (if not (none x (at_front x xs) i) then x ∷ [] else []) ++ kept_all test xs (λ y stands. none y (behind x y xs stands)) i
 
 -- ---- in ascending order
 
@@ -259,8 +253,8 @@ no_attribute key pairs inline start absent =
     let none = attribute_of ([], []) in
     let test = is_attribute_of (attr_file key) (attr_units key) in
     none_found test (map attribute_of pairs) none (λ i less.
-        let inside : i < length pairs = omega (arith, less, length-map pairs attribute_of) in
-        ap test (get_or-map attribute_of pairs i ([], []) none inside) ∙ none_under key pairs inline start absent (slice_index_or pairs i ([], [])) (Contains-get_or pairs i ([], []) inside))
+    let inside : i < length pairs = omega (arith, less, length-map pairs attribute_of) in
+    ap test (get_or-map attribute_of pairs i ([], []) none inside) ∙ none_under key pairs inline start absent (slice_index_or pairs i ([], [])) (Contains-get_or pairs i ([], []) inside))
 
 -- ---- the pairs of a tree
 

@@ -5,10 +5,12 @@ mod answer;
 mod dropping;
 mod edits;
 mod finding;
+mod listing;
 mod pair;
 mod setting;
 
 pub use answer::SetAnswer;
 pub use dropping::drop_all;
 pub use finding::get;
+pub use listing::list;
 pub use setting::{delete, set};

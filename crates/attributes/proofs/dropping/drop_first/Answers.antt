@@ -14,8 +14,7 @@ use Rattle.attributes.proofs.dropping.drop_first.Goals as goal
 pub returns-in-None-clause-dropped : goal.returns-in-None-clause-dropped
 returns-in-None-clause-dropped g c tells =
     let s = g.N.NodeStore.state c.args.store.now in
-    let total = (g.met.N.NodeStore.well_formed c.args.store.now).total in
-    (
+    let total = (g.met.N.NodeStore.well_formed c.args.store.now).total in (
       pairs_read _ s (g.N.NodeStore.state c.first_of.new.store) c.first_of.ensures.reads tells total (c.requires.tree tells),
       subst (IsFirst c.args.id (pairs_of s)) c.in-None.is (c.in_ok-first_of.ensures.first tells),
     )

@@ -28,8 +28,7 @@ returns-clause-first g c tells =
     let next = some_next c.args.start.now s c.next.new.desk c.in_ok-next.field-0 c.if-not-branch.false (c.in_ok-next.ensures.next tells) in
     let key_is = c.key-key.ensures ∙ next.1.key in
     let is_key = c.is_key_of.ensures.0 c.if-not-is_key_of.false in
-    let copy_is = c.in_ok-copy.ensures in
-    (
+    let copy_is = c.in_ok-copy.ensures in (
       ap attr_file copy_is ∙ is_key.1,
       (
         next.0,

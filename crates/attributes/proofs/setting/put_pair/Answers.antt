@@ -30,8 +30,8 @@ returns-clause-pairs g c tells =
     let tells_bared : IsTrue bared.tells = c.remove_key.ensures.same.tells ∙ tells in
     let key = c.args.pair.now.key in
     let drops : DropsAttribute (attr_file key) (attr_units key) (pairs_of s) (pairs_of bared) =
-        subst (λ (l : List ℕ). DropsAttribute (attr_file l) (attr_units l) (pairs_of s) (pairs_of bared)) c.as_slice.ensures
-        (c.in_ok-remove_key.ensures.dropped tells (c.requires.form tells) (ap attr_start c.as_slice.ensures ∙ c.requires.spells.start)) in
+    subst (λ (l : List ℕ). DropsAttribute (attr_file l) (attr_units l) (pairs_of s) (pairs_of bared)) c.as_slice.ensures
+    (c.in_ok-remove_key.ensures.dropped tells (c.requires.form tells) (ap attr_start c.as_slice.ensures ∙ c.requires.spells.start)) in
     puts key c.args.pair.now.value (pairs_of s) bared (pairs_of new) c.in_ok-insert_pair.field-0 drops (c.in_ok-insert_pair.ensures.answer tells_bared) (c.in_ok-insert_pair.ensures.pairs tells_bared)
 
 pub returns-clause-form : goal.returns-clause-form
