@@ -1,0 +1,13 @@
+pub mod Answers
+pub mod BeforeEdits
+pub mod Faults
+pub mod Keys
+pub mod Lists
+pub mod Owned
+pub mod Places
+pub mod Records
+pub mod Rounds
+pub mod SingleEdits
+pub mod Units
+pub mod Values
+pub mod Walks

@@ -1,0 +1,14 @@
+use Rattle.std.proofs.Common.{◌≡◌, ◌≤◌, ◌+◌, arith}
+use Rattle.btree_edit.proofs.EditLaws.{takes_one}
+use Rattle.attributes.proofs.SingleEdits.{one_edit}
+use Rattle.attributes.proofs.edits.insert_pair.Goals as goal
+
+pub returns-clause-takes : goal.returns-clause-takes
+returns-clause-takes g c = takes_one 266 (g.N.NodeStore.state c.args.store.now) (g.N.NodeStore.state c.insert.new.store) c.insert.ensures.does
+
+pub returns-clause-edits : goal.returns-clause-edits
+returns-clause-edits g c =
+    let old = (g.N.NodeStore.state c.args.store.now).shape in
+    let new = (g.N.NodeStore.state c.insert.new.store).shape in
+    one_edit c.insert.result (new.leaf_records ≤ old.leaf_records + 1) (g.N.NodeStore.state c.args.store.now) (g.N.NodeStore.state c.insert.new.store) (λ few. few)
+    c.insert.ensures.does c.insert.ensures.depth c.insert.ensures.records c.insert.ensures.roots

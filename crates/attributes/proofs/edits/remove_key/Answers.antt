@@ -1,0 +1,23 @@
+use Rattle.std.proofs.Common.{◌≤◌, arith}
+use Rattle.btree_node.specs.Tree.{pairs_of}
+use Rattle.btree_edit.proofs.EditLaws.{takes_one}
+use Rattle.attributes.proofs.SingleEdits.{one_edit, removal_drops, removal_inline}
+use Rattle.attributes.proofs.edits.remove_key.Goals as goal
+
+pub returns-clause-dropped : goal.returns-clause-dropped
+returns-clause-dropped g c tells inline start =
+    removal_drops c.remove.result c.args.key.now (g.N.NodeStore.state c.args.store.now) (pairs_of (g.N.NodeStore.state c.remove.new.store)) (c.requires.tree tells) inline start (c.remove.ensures.answer tells) (c.remove.ensures.pairs tells)
+
+pub returns-clause-form : goal.returns-clause-form
+returns-clause-form g c tells inline =
+    removal_inline c.remove.result c.args.key.now (g.N.NodeStore.state c.args.store.now) (pairs_of (g.N.NodeStore.state c.remove.new.store)) inline (c.remove.ensures.pairs tells)
+
+pub returns-clause-takes : goal.returns-clause-takes
+returns-clause-takes g c = takes_one 266 (g.N.NodeStore.state c.args.store.now) (g.N.NodeStore.state c.remove.new.store) c.remove.ensures.does
+
+pub returns-clause-edits : goal.returns-clause-edits
+returns-clause-edits g c =
+    let old = (g.N.NodeStore.state c.args.store.now).shape in
+    let new = (g.N.NodeStore.state c.remove.new.store).shape in
+    one_edit c.remove.result (new.leaf_records ≤ old.leaf_records) (g.N.NodeStore.state c.args.store.now) (g.N.NodeStore.state c.remove.new.store) (λ few. omega (arith, few))
+    c.remove.ensures.does c.remove.ensures.depth c.remove.ensures.records c.remove.ensures.roots

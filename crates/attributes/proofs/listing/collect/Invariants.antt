@@ -1,0 +1,23 @@
+use Rattle.std.proofs.Common.{◌≡◌, ◌≤◌, ◌+◌, length}
+use Rattle.std.specs.Prelude.{IsTrue}
+use Rattle.btree_node.specs.Keys.{IsAttrKey, attr_cmp}
+use Rattle.btree_node.specs.Node.{IsNode}
+use Rattle.btree_node.specs.Tree.{IsTree, pairs_of}
+use Rattle.btree_edit.specs.Desk.{IsDeskOf}
+use Rattle.btree_edit.specs.Reading.{ReadsNodes}
+use Rattle.attributes.proofs.Walks.{Gathers}
+use Rattle.attributes.proofs.listing.collect.Given as goal
+
+abbrev pub invariant-loop-passed : goal.invariant-loop-passed
+invariant-loop-passed g l = let before = g.N.NodeStore.state l.fn.store in let now = g.N.NodeStore.state l.store in record {
+  within : l._passed ≤ l.many;
+  count : length l.names ≡ l._passed;
+  desk : IsDeskOf before.shape.node_size l.desk;
+  well_formed : IsNode l.desk.node;
+  pairs : IsTrue before.tells → pairs_of now ≡ pairs_of before;
+  tree : IsTrue before.tells → IsTree IsAttrKey attr_cmp now;
+  gathers : IsTrue before.tells → Gathers l.id l.start (pairs_of before) now l.desk l.at l._passed l.names;
+  reads : ReadsNodes (before.shape.depth + l._passed) before now;
+  later : before.faults ≤ now.faults;
+  below : g.N.NodeStore.follows l.fn.store l.store;
+}
