@@ -1,5 +1,5 @@
 -- A walk that writes home after home.
-use Rattle.std.proofs.Common.{◌≡◌, ◌⊎◌, ◌<◌, ◌≤◌, ◌+◌, ℕ, List, [], ◌∷◌, ◌++◌, Contains, inl, inr, length, take, refl, sym, ◌∙◌, ap, subst, arith, append_assoc}
+use Rattle.std.proofs.Common.{◌≡◌, ◌⊎◌, ℕ, List, [], ◌∷◌, ◌++◌, Contains, inl, inr, length, take, refl, sym, ◌∙◌, ap, subst, arith, append_assoc}
 use Rattle.std.specs.Prelude.{Option, None, Some, MatchOption}
 use Rattle.std.proofs.lemmas.List.{append-nil}
 use Rattle.std.proofs.lemmas.List.Sums.{fold_push}
@@ -13,8 +13,9 @@ use Rattle.jnl_format.specs.Recovery.{with_home, with_homes}
 use Rattle.jnl_format.specs.declared.blocks.Home.{Home}
 use Rattle.jnl_format.specs.declared.blocks.Volume.{Volume}
 use Rattle.jnl_format.specs.Named.{IsGoodHome, Each}
+use Rattle.jnl_format.proofs.Alike.{never_own, not_home}
 use Rattle.jnl_format.proofs.Lists.{good_text}
-use Rattle.jnl_format.proofs.Mixing.{mixes_with_homes, named_home, not_named, same_journal}
+use Rattle.jnl_format.proofs.Mixing.{mixes_with_homes, same_journal}
 use Rattle.jnl_format.specs.Named.{IsHomeOf}
 use Rattle.jnl_replay.specs.Homing.{AreHomesOf, GrowsHomes, IsHomeMix}
 use Rattle.jnl_replay.specs.Pending.{Pending, Gives}
@@ -91,11 +92,6 @@ homed_start total text bytes volume homes c s a is size z =
       time = none_passes s.clock (WithTold s.told (IsHomeMix bytes homes s.candidates));
     }
 
-not_own : (volume : Volume) (bytes : List ℕ) (homes : List Home) (old new : Content) (at : ℕ) → Each (IsGoodHome volume bytes) homes → volume.first ≤ at → at < volume.first + volume.count → (sector new at ≡ sector old at) ⊎ IsHomeOf bytes homes at (sector new at) → sector new at ≡ sector old at
-not_own volume bytes homes old new at all low high (inl e) = e
-not_own volume bytes homes old new at all low high (inr h) =
-    absurd (not_named (IsGoodHome volume bytes) homes at all (λ home good same. elim good.apart [ inl a ↦ omega arith | inr b ↦ omega arith ]) (named_home bytes homes at (sector new at) h))
-
 -- the journal's text stays readable
 pub words_stay : (total : ℕ) (text : Text) (bytes : List ℕ) (volume : Volume) (homes : List Home) (c : Homes) (old now : State) → AreHomesOf total text bytes volume homes → Homed volume bytes c homes old now → words text (content now) ≡ words text (content old)
 unfolding words
@@ -105,7 +101,7 @@ words_stay total text bytes volume homes c old now a h =
     ap (λ (d : Content). take text.length (bytes_from (journal_bytes d text.span.base text.span.size) text.start)) h.content
     ∙ ap (λ (j : List ℕ). take text.length (bytes_from j text.start))
     (same_journal text.span.base text.span.size (content old) (with_homes bytes h.done (content old)) m.size
-    (λ at low high. not_own volume bytes h.done (content old) (with_homes bytes h.done (content old)) at all (omega (arith, a.first)) (omega (arith, a.first, a.count)) (m.each at)))
+    (λ at low high. not_home volume bytes h.done (content old) (with_homes bytes h.done (content old)) at all (λ home good. never_own volume bytes at home (omega (arith, a.first)) (omega (arith, a.first, a.count)) good) (m.each at)))
 
 -- reads change nothing
 pub homed_read : (volume : Volume) (bytes : List ℕ) (c : Homes) (homes : List Home) (old now new : State) → Homed volume bytes c homes old now → SameSink old now → OnlyReads now new → Homed volume bytes c homes old new

@@ -1,11 +1,11 @@
 -- The sectors of a list are written into the ring one after another.
-use Rattle.std.proofs.Common.{◌≡◌, ◌≢◌, ◌⊎◌, ◌<◌, ◌≤◌, ◌+◌, ◌-◌, ◌*◌, ◌%◌, ℕ, List, [], ◌∷◌, ◌++◌, IsTrue, Contains, inl, inr, ⊎_elim, length, set, refl, sym, ◌∙◌, ap, subst, arith, get_or-set_same, get_or-set_other, length-set}
+use Rattle.std.proofs.Common.{◌≡◌, ◌≢◌, ◌<◌, ◌≤◌, ◌+◌, ◌-◌, ◌*◌, ◌%◌, ℕ, List, [], IsTrue, inl, inr, length, set, refl, sym, ◌∙◌, ap, subst, arith, get_or-set_same, get_or-set_other, length-set}
 use Rattle.std.proofs.lemmas.Bool.{cases_lt}
 use Rattle.std.proofs.lemmas.List.{length-map}
 use Rattle.sector_disk.specs.Lists.{Content, sector, last}
 use Rattle.sector_disk.specs.Clock.{TimePasses, WithTold}
-use Rattle.sector_disk.specs.Disk.{State, Candidates, IsDisk, IsImage, CrashesLeave, LeftNow, MayHaveWritten, SameDisk, SameSink, candidates_of, content, content_of, with_candidate}
-use Rattle.sector_disk.proofs.Passing.{none_passes, both_pass}
+use Rattle.sector_disk.specs.Disk.{State, Candidates, IsDisk, CrashesLeave, LeftNow, MayHaveWritten, SameDisk, SameSink, content, content_of, with_candidate}
+use Rattle.sector_disk.proofs.Passing.{none_passes}
 use Rattle.sector_disk.proofs.Candidates.{content_of-with_candidate, grows_none, grows_maybe, image_mixes}
 use Rattle.sector_disk.proofs.Writing.{same_after, sink_after, time_after, leaves_after}
 use Rattle.jnl_ring.specs.Span.{InBuffer, IsOnDisk, IsSpan, sector_after}
@@ -96,3 +96,19 @@ puts_all span at list k old new all so_far = record {
   there = λ j below. so_far.there j (omega (arith, below, all));
   elsewhere = λ s other. so_far.elsewhere s (λ j below. other j (omega (arith, below, all)));
 }
+
+-- a value that stands in the list was written
+pub written_value : (now new : Candidates) (place k : ℕ) (value : List ℕ) (list : Content) → value ≡ sector list k → new ≡ with_candidate now place value → new ≡ with_candidate now place (sector list k)
+written_value now new place k value list is written = written ∙ ap (with_candidate now place) is
+
+-- or may have been
+pub unsure_value : (now new : Candidates) (place there k : ℕ) (value : List ℕ) (list : Content) → value ≡ sector list k → place ≡ there → MayHaveWritten now place value new → MayHaveWritten now there (sector list k) new
+unsure_value now new place there k value list is here unsure =
+    subst (λ n. MayHaveWritten now n (sector list k) new) here (subst (λ (v : List ℕ). MayHaveWritten now place v new) is unsure)
+
+-- one sector more of a list is whole
+pub whole_more : (list : Content) (k : ℕ) (value : List ℕ) → value ≡ sector list k → length value ≡ 512 → ((j : ℕ) → j < k → length (sector list j) ≡ 512) → (j : ℕ) → j < k + 1 → length (sector list j) ≡ 512
+whole_more list k value is long before j below = elim (cases_lt j k) [
+  | inl earlier ↦ before j earlier
+  | inr last_one ↦ let here : j ≡ k = omega (arith, below, last_one) in ap (λ n. length (sector list n)) here ∙ ap (λ (v : List ℕ). length v) (sym is) ∙ long
+]

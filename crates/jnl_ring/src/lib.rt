@@ -1,10 +1,12 @@
 //! The ring of a journal: its offsets, and reads and writes that step over the wrap.
 #![tactic(auto)]
 
+mod list;
 mod reading;
 mod span;
 mod writing;
 
+pub use list::SectorList;
 pub use reading::read_at;
 pub use span::{Span, advance, used_bytes};
 pub use writing::write_at;

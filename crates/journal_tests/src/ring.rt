@@ -24,7 +24,7 @@ fn fresh(alloc: Global) -> Result<MemRig, OutOfMemory>
 fn a_list_is_written_and_read_over_the_wrap(rt: HostRuntime) -> Result<(), Fail> {
     let alloc = rt.alloc();
     let mut rig = fresh(alloc)?;
-    let sectors: [Sector; 2] = [[1; 512], [2; 512]];
+    let sectors: &[Sector] = &[[1; 512], [2; 512]];
     assert!(rt; write_at(&mut rig, &SPAN, 1_536, &sectors).is_ok());
     let mut bytes = [9; 1_024];
     assert!(rt; read_at(&mut rig, &SPAN, 1_536, &mut bytes).is_ok());
@@ -54,7 +54,8 @@ fn a_fault_of_the_disk_is_handed_on(rt: HostRuntime) -> Result<(), Fail> {
     for call in 0..3u64 {
         let mut rig = fresh(alloc)?;
         rig.fail_on(alloc, call)?;
-        let wrote = write_at(&mut rig, &SPAN, 1_536, &[[1; 512], [2; 512]]).is_ok();
+        let sectors: &[Sector] = &[[1; 512], [2; 512]];
+        let wrote = write_at(&mut rig, &SPAN, 1_536, &sectors).is_ok();
         assert_eq!(rt; wrote, call == 2, "write {call}");
         assert_eq!(rt; rig.calls(), if call == 0 { 1 } else { 2 });
         let mut bytes = [0; 600];
