@@ -1,0 +1,6 @@
+pub mod Changes
+pub mod Keys
+pub mod Making
+pub mod Reading
+pub mod Records
+pub mod Room

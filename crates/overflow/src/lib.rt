@@ -1,0 +1,13 @@
+//! Whole forks: the extents behind the eight of a fork's own record stand in the extents overflow file (TN1150, "Extents Overflow File").
+#![tactic(auto)]
+
+mod changes;
+mod loading;
+mod making;
+mod record;
+mod splitting;
+mod storing;
+
+pub use loading::load_fork;
+pub use record::OverflowRecord;
+pub use storing::store_fork;
