@@ -1,5 +1,6 @@
 pub mod Changes
 pub mod Keys
+pub mod Laws
 pub mod Making
 pub mod Reading
 pub mod Records

@@ -2,12 +2,14 @@
 #![tactic(auto)]
 
 mod changes;
+mod laws;
 mod loading;
 mod making;
 mod record;
 mod splitting;
 mod storing;
 
+pub use laws::stored_forks_are_loaded;
 pub use loading::load_fork;
 pub use record::OverflowRecord;
 pub use storing::store_fork;
