@@ -1,6 +1,7 @@
 -- A fork stored: what its changes are, and what they need and take.
 use Rattle.std.proofs.Common.{◌≡◌, ◌⊎◌, ℕ, ◌+◌, ◌*◌, ◌/◌, ◌≤◌, Bool, true, false, List, [], ◌∷◌, ◌++◌, length, map, inl, inr, refl, sym, ◌∙◌, ap, subst, arith}
 use Rattle.std.specs.Prelude.{IsTrue, ◌==◌, not, if◌then◌else◌}
+use Rattle.std.specs.List.{range_with_len}
 use Rattle.std.proofs.lemmas.Bool.{eqb-true}
 use Rattle.hx_bytes.specs.declared.extents.Extent.{Extent}
 use Rattle.btree_node.specs.Keys.{IsExtentKey, extent_cmp}
@@ -19,17 +20,20 @@ use Rattle.overflow.specs.declared.changes.Change.{Change}
 use Rattle.overflow.specs.declared.record.OverflowRecord.{OverflowRecord}
 use Rattle.overflow.proofs.Changing.{Makes, changes_few}
 use Rattle.overflow.proofs.Costs.{room_after, takes_after, edits_after, costs_after, light_room_after}
-use Rattle.overflow.proofs.Cutting.{in_use_used, blocks_cons}
+use Rattle.overflow.proofs.Cutting.{in_use_used}
 use Rattle.overflow.proofs.Gathering.{tree_rises}
 use Rattle.overflow.proofs.Whole.{back_under, changes_make}
 
-pub blocks_used : (xs : List Extent) → length (blocks_of (in_use xs)) ≡ length (blocks_of xs)
-blocks_used [] = refl
-blocks_used (x ∷ xs) = by_test (x.count == 0) refl (blocks_used xs)
+pub blocks_stay : (xs : List Extent) → blocks_of (in_use xs) ≡ blocks_of xs
+blocks_stay [] = refl
+blocks_stay (x ∷ xs) = by_test (x.count == 0) refl (blocks_stay xs)
   where
-    by_test : (b : Bool) → (x.count == 0) ≡ b → length (blocks_of (in_use xs)) ≡ length (blocks_of xs) → length (blocks_of ((if not b then x ∷ [] else []) ++ in_use xs)) ≡ length (blocks_of (x ∷ xs))
-    by_test true is others = omega (arith, others, blocks_cons x xs, eqb-true x.count 0 is)
-    by_test false is others = omega (arith, others, blocks_cons x xs, blocks_cons x (in_use xs))
+    by_test : (b : Bool) → (x.count == 0) ≡ b → blocks_of (in_use xs) ≡ blocks_of xs → blocks_of ((if not b then x ∷ [] else []) ++ in_use xs) ≡ blocks_of (x ∷ xs)
+    by_test true is others = others ∙ sym (ap (λ n. range_with_len x.start n ++ blocks_of xs) (eqb-true x.count 0 is))
+    by_test false is others = ap (λ l. range_with_len x.start x.count ++ l) others
+
+pub blocks_used : (xs : List Extent) → length (blocks_of (in_use xs)) ≡ length (blocks_of xs)
+blocks_used xs = ap length (blocks_stay xs)
 
 module _ (s now : Store) (id kind : ℕ) (old new : List Extent) (have : List OverflowRecord) (changes : List Change)
     (made : changes ≡ changes_to have (records_for (in_use new))) (few : length have ≤ length old / 8) (read : IsTrue s.tells → map (under id kind) have ≡ fork_records id kind s)

@@ -2,6 +2,7 @@
 use Rattle.std.specs.Prelude.{◌≡◌, ◌≢◌, ℕ, ◌*◌, List, [], ◌∷◌, map, take, drop}
 use Rattle.std.specs.List.{range_with_len}
 use Rattle.hx_bytes.specs.declared.extents.Extent.{Extent}
+use Rattle.fork_map.specs.Blocks.{blocks_of}
 use Rattle.hfs_model.specs.Sorted.{kept}
 use Rattle.hfs_volume.specs.Blocks.{GoesOn}
 use Rattle.hfs_volume.specs.Forks.{extents_id, extents_of, in_use, is_of}
@@ -14,6 +15,10 @@ abbrev pub StoredIsLoaded : Type 0
 StoredIsLoaded =
     (overflow : List Overflow) (id kind : ℕ) (extents : List Extent) → id ≢ extents_id → in_use extents ≡ extents → kept (is_of id kind) overflow ≡ map (under id kind) (records_for extents)
     → (extents_of overflow id kind (front_record extents) ≡ extents) × GoesOn overflow (record { id = id; kind = kind; fork = front_record extents })
+
+-- Extents without blocks may be left out: the blocks are the same.
+abbrev pub UnusedHaveNoBlocks : Type 0
+UnusedHaveNoBlocks = (extents : List Extent) → blocks_of (in_use extents) ≡ blocks_of extents
 
 -- seventeen extents of a block each, none of which touches another
 abbrev pub seventeen : List Extent
