@@ -1,0 +1,13 @@
+pub mod Changing
+pub mod Costs
+pub mod Cutting
+pub mod Editing
+pub mod Finding
+pub mod Gathering
+pub mod Keys
+pub mod Lists
+pub mod Pairs
+pub mod Steps
+pub mod Stored
+pub mod Values
+pub mod Whole

@@ -1,0 +1,15 @@
+//! Whole forks: the extents behind the eight of a fork's own record stand in the extents overflow file (TN1150, "Extents Overflow File").
+#![tactic(auto)]
+
+mod changes;
+mod laws;
+mod loading;
+mod making;
+mod record;
+mod splitting;
+mod storing;
+
+pub use laws::stored_forks_are_loaded;
+pub use loading::load_fork;
+pub use record::OverflowRecord;
+pub use storing::store_fork;
