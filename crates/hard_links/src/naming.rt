@@ -1,0 +1,40 @@
+//! Names of the private folder: a word with a number behind it.
+ghost use Rattle.std.specs.Prelude.{◌≡◌, ◌≤◌, ◌+◌, ◌++◌, length, decimal, IfOk, OnOk};
+ghost use Rattle.hfs_volume.specs.Links.{node_name};
+ghost use Rattle.hfs_volume.specs.Records.{numbered};
+
+use hx_bytes::{OutOfMemory, Units};
+use itoa::Buffer;
+use std::alloc::Global;
+
+/// `iNode`
+const NODE: [u16; 5] = [105, 78, 111, 100, 101];
+
+/// The name of a file with several names, under this number.
+pub(crate) fn node_name(alloc: Global, reference: u32) -> Result<Units, OutOfMemory>
+    ensures name { IfOk result (λ name. name ≡ node_name reference) }
+    ensures short { IfOk result (λ name. length name ≤ 45) }
+{
+    let name = numbered(alloc, NODE.as_slice(), reference)?;
+    Ok(name)
+}
+
+/// A word with the decimal digits of a number behind it.
+fn numbered(alloc: Global, word: &[u16], number: u32) -> Result<Units, OutOfMemory>
+    ensures name { IfOk result (λ name. name ≡ numbered word.now number) }
+    ensures short { IfOk result (λ name. length name ≤ length word.now + 40) }
+{
+    let mut digits = Buffer::new();
+    let mut name = Units::from_vec(Vec::from_slice(alloc, word)?);
+    append_digits(&mut name, digits.format(number).as_bytes())?;
+    Ok(name)
+}
+
+fn append_digits(name: &mut Units, digits: &[u8]) -> Result<(), OutOfMemory>
+    ensures { OnOk result (name.new ≡ name.old ++ digits.now) }
+{
+    for digit in digits {
+        name.push(u16::from(*digit))?;
+    }
+    Ok(())
+}
