@@ -2,7 +2,7 @@
 use Rattle.std.proofs.Common.{◌≡◌, ℕ, suc, zero, ◌+◌, ◌-◌, ◌*◌, ◌/◌, ◌^◌, ◌≤◌, ◌<◌, Bool, true, false, ◌||◌, nat_le, List, [], ◌∷◌, ◌++◌, length, get_or, take, drop, replicate, refl, sym, ◌∙◌, ap, subst, arith, ⊎_elim}
 use Rattle.std.specs.List.{All}
 use Rattle.std.proofs.lemmas.List.{get_or_past}
-use Rattle.std.proofs.lemmas.Bool.{cases_lt}
+use Rattle.std.proofs.lemmas.Bool.{cases_lt, or_right}
 use Rattle.std.proofs.lemmas.Bool.Decides.{leb_tells, eqb_tells}
 use Rattle.hx_bytes.specs.declared.extents.Extent.{Extent}
 use Rattle.fork_map.specs.Blocks.{blocks_of}
@@ -79,15 +79,11 @@ free_fits xs e some free = ⊎_elim
     (λ (past : length xs ≤ e.start + e.count - 1). absurd (let no : false ≡ true = sym (get_or_past xs (e.start + e.count - 1) false past) ∙ free (e.start + e.count - 1) (has_in e (e.start + e.count - 1) (omega (arith, some)) (omega (arith, some))) in cc no))
     (cases_lt (e.start + e.count - 1) (length xs))
 
-or_later : (a b : Bool) → b ≡ true → (a || b) ≡ true
-or_later true b h = refl
-or_later false b h = h
-
 few_extents : (long : ℕ) (es : List Extent) (xs : List Bool) → AreApart (blocks_of es) → ((k : ℕ) → is_held es k ≡ true → get_or xs k false ≡ true) → length (blocks_of es) ≤ length es * long + beyond long 0 xs
 few_extents long [] xs apart free = omega arith
 few_extents long (e ∷ es) xs apart free =
     let blocks = length_blocks e es in
-    let later : (k : ℕ) → is_held es k ≡ true → get_or xs k false ≡ true = λ k h. free k (or_later (has e k) (is_held es k) h) in
+    let later : (k : ℕ) → is_held es k ≡ true → get_or xs k false ≡ true = λ k h. free k (or_right (has e k) (is_held es k) h) in
     let here : (k : ℕ) → has e k ≡ true → get_or xs k false ≡ true = λ k h. free k (rw h refl) in
     ⊎_elim
     (λ (some : 0 < e.count).

@@ -10,7 +10,7 @@ use Rattle.std.specs.Ordering.{is_lt, nat_cmp, ordering_then, ordering_reverse}
 use Rattle.std.specs.Cmp.{IsTotalOrder}
 use Rattle.std.specs.Cmp.Lexicographic.{slice_cmp}
 use Rattle.std.specs.FinMap.{nat_cmp-IsAntisymmetric, slice_cmp-IsAntisymmetric}
-use Rattle.std.proofs.lemmas.Bool.{cases_lt, eq-eqb, eqb-true}
+use Rattle.std.proofs.lemmas.Bool.{cases_lt, eq-eqb, eqb-true, true≢false, and_from}
 use Rattle.std.proofs.lemmas.Slice.Eq.{bytes_eq-Decides}
 use Rattle.std.proofs.lemmas.List.{get_or_default, get_or-map, length-map, length-take, length-append, take-append-drop}
 use Rattle.std.proofs.lemmas.List.Edits.{length-insert, length-remove, get_or-insert_below, get_or-insert_at, get_or-insert_above, get_or-remove_below, get_or-remove_above}
@@ -37,9 +37,6 @@ AscendByKey pairs = (i j : ℕ) → i < j → j < length pairs → attr_cmp (sli
 abbrev pub is_under : List ℕ → Pair → Bool
 is_under key pair = is_attribute_of (attr_file key) (attr_units key) (attribute_of pair)
 
-true_or_false : true ≡ false → ⊥
-true_or_false same = subst T same tt
-
 less_or_equal : Less ≡ Equal → ⊥
 less_or_equal same = cc
 
@@ -53,16 +50,13 @@ then_second Less p e = cc
 then_second Equal p e = e
 then_second Greater p e = cc
 
-both_true : (a b : Bool) → a ≡ true → b ≡ true → (a && b) ≡ true
-both_true a b is also = ap (λ (x : Bool). x && b) is ∙ also
-
 first_true : (a b : Bool) → (a && b) ≡ true → a ≡ true
 first_true true b is = refl
 first_true false b is = is
 
 second_true : (a b : Bool) → (a && b) ≡ true → b ≡ true
 second_true true b is = is
-second_true false b is = absurd (true_or_false (sym is))
+second_true false b is = absurd (true≢false (sym is))
 
 pub cmp_same : {K : Type 0} {R : K → K → Ordering} → IsTotalOrder R → (x : K) → R x x ≡ Equal
 cmp_same {K} {R} total x = of_reverse (R x x) (total.antisymm x x)
@@ -79,7 +73,7 @@ tied_is_under pair key ties =
     let files = nat_cmp (attr_file pair.0) (attr_file key) in
     let names = slice_cmp nat_cmp (attr_units pair.0) (attr_units key) in
     let starts = nat_cmp (attr_start pair.0) (attr_start key) in
-    both_true _ _ (eq-eqb (attr_file pair.0) (attr_file key) (nat_cmp-IsAntisymmetric (attr_file pair.0) (attr_file key) (then_first files (ordering_then names starts) ties)))
+    and_from _ _ (eq-eqb (attr_file pair.0) (attr_file key) (nat_cmp-IsAntisymmetric (attr_file pair.0) (attr_file key) (then_first files (ordering_then names starts) ties)))
     ((bytes_eq-Decides (attr_units pair.0) (attr_units key)).1 (slice_cmp-IsAntisymmetric nat_cmp-IsAntisymmetric (attr_units pair.0) (attr_units key) (then_first names starts (then_second files (ordering_then names starts) ties))))
 
 -- keys of one attribute tie, where they name one place of its value
@@ -214,7 +208,7 @@ none_kept key old new drops (k, inside, ties) =
     let pair = slice_index_or new k ([], []) in
     let stands = subst (λ l. Contains l pair) drops (Contains-get_or new k ([], []) inside) in
     let passes = kept_cases (λ p. not (is_under key p)) old pair stands in
-    true_or_false (sym (passes.1) ∙ ap not (tied_is_under pair key ties))
+    true≢false (sym (passes.1) ∙ ap not (tied_is_under pair key ties))
 
 -- ---- the search for a name
 

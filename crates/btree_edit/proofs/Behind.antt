@@ -1,7 +1,7 @@
 -- The least pair above a key.
 use Rattle.std.proofs.Common.{◌≡◌, ◌≢◌, ℕ, zero, suc, ◌+◌, ◌-◌, ◌<◌, ◌≤◌, List, [], ◌∷◌, ◌++◌, length, get_or, inl, inr, refl, sym, ◌∙◌, ap, subst, arith, true, false}
 use Rattle.std.specs.Prelude.{Bool, Option, Some, None, IfSome, IfNone, IsTrue}
-use Rattle.std.proofs.lemmas.Bool.{cases_lt}
+use Rattle.std.proofs.lemmas.Bool.{cases_lt, true≢false}
 use Rattle.std.proofs.lemmas.List.{length-append, get_or-append_right, get_or_append_left}
 use Rattle.std.specs.Cmp.{IsTotalOrder}
 use Rattle.std.specs.declared.cmp.Ordering.{Ordering}
@@ -16,9 +16,6 @@ use Rattle.btree_edit.specs.Following.{IsInLeaf, IsLocated, StepsOver}
 use Rattle.btree_edit.specs.Reading.{LeadsTo, IsPlace, HasNoKey, ReadsNodes}
 use Rattle.btree_edit.specs.declared.desk.Desk.{Desk}
 use Rattle.btree_edit.proofs.Descent.{leads_keys, of_level, in_level, node_place, node_in_level, pair_at, pairs_long}
-
-pub clashing : true ≡ false → ⊥
-clashing e = cc
 
 -- the step over is the same after calls that only read
 pub steps_same : (m : ℕ) (a b : Store) → ReadsNodes m a b → IsTrue a.tells → (old new : Desk) (found : Bool) → StepsOver b old new found → StepsOver a old new found
@@ -44,7 +41,7 @@ leaf_same cmp key store a b at same found =
 
 pub not_inside : (at many : ℕ) (kept : Bool) → (at < many → kept ≡ true) → kept ≡ false → many ≤ at
 not_inside at many kept all lost = elim (cases_lt at many) [
-  | inl less ↦ absurd (clashing (sym (all less) ∙ lost))
+  | inl less ↦ absurd (true≢false (sym (all less) ∙ lost))
   | inr past ↦ past
 ]
 

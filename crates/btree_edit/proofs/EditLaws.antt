@@ -1,7 +1,7 @@
 -- How edits of one tree add up.
 use Rattle.std.proofs.Common.{◌≡◌, ◌⊎◌, ◌<◌, ◌≤◌, ℕ, zero, suc, ◌+◌, ◌-◌, ◌*◌, ◌^◌, Bool, true, false, List, length, min, max, refl, sym, ◌∙◌, ap, subst, inl, inr, arith, zero-add}
 use Rattle.std.specs.Prelude.{IsTrue, T, nat_lt, if◌then◌else◌}
-use Rattle.std.proofs.lemmas.Bool.{cases_lt, ltb-true, lt-ltb}
+use Rattle.std.proofs.lemmas.Bool.{cases_lt, ltb-true, lt-ltb, true≢false}
 use Rattle.std.proofs.Math.Nat.{mul-le-mul_left}
 use Rattle.btree_node.specs.Node.{items}
 use Rattle.btree_node.specs.Store.{Store, SameStore, HasRoom}
@@ -11,9 +11,6 @@ use Rattle.btree_edit.specs.Rising.{BoundsRoot}
 use Rattle.btree_edit.specs.Edits.{TreeTop, top_of, top_after, tops, IsNoHigher, GoesNoDeeper, EditRoom, TakesAtMost, TakesEdits}
 use Rattle.btree_edit.proofs.Repeated.{same_store_both}
 use Rattle.btree_edit.proofs.Doing.{does_both}
-
-true_or_false : true ≡ false → ⊥
-true_or_false same = subst T same tt
 
 -- ---- tops
 
@@ -62,7 +59,7 @@ module _ (room wide : ℕ) where
       by_tests true is false also = absurd (not_less (ltb-true room (wide * (few + 1)) is))
         where
           not_less : room < wide * (few + 1) → ⊥
-          not_less less = true_or_false (sym (lt-ltb room (wide * (many + 1)) (omega (arith, less, wider))) ∙ also)
+          not_less less = true≢false (sym (lt-ltb room (wide * (many + 1)) (omega (arith, less, wider))) ∙ also)
       by_tests false is true also = record { depth = omega arith; records = λ same _. omega (arith, same) }
       by_tests false is false also = record { depth = omega arith; records = λ _ _. omega (arith, more) }
 
@@ -160,7 +157,7 @@ top_of_one longest old new depth bounds = by_depth old.shape.depth refl
           records = λ same deep. omega (arith, bounds.two (omega (arith, is)) (omega (arith, is, same)));
         }
         by_test false full = elim (cases_lt old.shape.depth new.shape.depth) [
-          | inl deeper ↦ absurd (true_or_false (sym (lt-ltb (node_room old.shape.node_size) ((longest + 8) * ((top_of old).records + 1)) (over deeper)) ∙ full))
+          | inl deeper ↦ absurd (true≢false (sym (lt-ltb (node_room old.shape.node_size) ((longest + 8) * ((top_of old).records + 1)) (over deeper)) ∙ full))
           | inr most ↦ record {
             depth = omega (arith, is, most);
             records = λ same deep. omega (arith, bounds.grown (omega (arith, is)) (omega (arith, is, same)));

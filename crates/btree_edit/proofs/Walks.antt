@@ -1,5 +1,6 @@
 -- The pairs that a walk over the leaves passes.
 use Rattle.std.proofs.Common.{◌≡◌, ◌≢◌, ℕ, zero, suc, ◌+◌, ◌-◌, ◌^◌, ◌<◌, ◌≤◌, List, [], ◌∷◌, ◌++◌, length, get_or, refl, sym, ◌∙◌, ap, subst, arith, append_assoc, true, false}
+use Rattle.std.proofs.lemmas.Bool.{true≢false}
 use Rattle.std.specs.Prelude.{Bool, Option, Some, None, IsTrue, Result, Ok, Err, IfOk}
 use Rattle.std.proofs.lemmas.List.{length-append, append-nil, get_or-append_right, get_or_append_left}
 use Rattle.std.specs.Cmp.{IsTotalOrder}
@@ -65,9 +66,6 @@ stands_same store a b at place same stands = record {
   within = stands.within;
   passed = stands.passed;
 }
-
-clashing : true ≡ false → ⊥
-clashing e = cc
 
 module _ (is_key : List ℕ → Type 0) (cmp : List ℕ → List ℕ → Ordering) (total : IsTotalOrder cmp)
     (key_length : (a : List ℕ) → is_key a → length a ≡ big_at 2 a 0 + 2)
@@ -187,7 +185,7 @@ module _ (is_key : List ℕ → Type 0) (cmp : List ℕ → List ℕ → Orderin
           let up : store.shape.depth - 1 ≡ store.shape.depth - 2 + 1 = omega (arith, deep) in
           record {
             next = next_n;
-            not_zero = λ e. clashing (sym tree.mapped.header ∙ ap (λ m. store.reserved m) (sym e ∙ next_n) ∙ tree.mapped.of_tree n reached);
+            not_zero = λ e. true≢false (sym tree.mapped.header ∙ ap (λ m. store.reserved m) (sym e ∙ next_n) ∙ tree.mapped.of_tree n reached);
             node = subst (λ h. IsTreeNode store h n) {x = store.shape.depth - (store.shape.depth - 1)} (omega (arith, stands.some))
                 (subst (λ m. IsTreeNode store (store.shape.depth - (store.shape.depth - 1)) m) at_n (tree.levels.nodes (store.shape.depth - 1) (length stands.front + 1) (omega (arith, stands.some)) inside));
             some = subst (λ m. 0 < length (items (store.nodes m))) (ap (λ i. get_or (level_of store i) (length stands.front + 1) 0) (sym up) ∙ at_n)
@@ -207,12 +205,12 @@ module _ (is_key : List ℕ → Type 0) (cmp : List ℕ → List ℕ → Orderin
           by_back [] is = all_passed is
           by_back (n ∷ ns) is =
               let behind = is_behind n ns is in
-              absurd (clashing (sym (turns.some behind.not_zero (subst (λ m. IsTreeNode store 1 m) (sym behind.next) behind.node))))
+              absurd (true≢false (sym (turns.some behind.not_zero (subst (λ m. IsTreeNode store 1 m) (sym behind.next) behind.node))))
 
       -- where it did, the leaf has a record, which is the pair at the place
       module _ (mid : Desk) (turns : Turns store old mid true) where
         mid_not_zero : next_of old.node ≡ 0 → ⊥
-        mid_not_zero e = clashing (turns.none e)
+        mid_not_zero e = true≢false (turns.none e)
 
         pub first_there : 0 < length (items mid.node)
         first_there = by_back stands.back refl

@@ -1,7 +1,8 @@
 -- The chain of map nodes that stretches name, and how many stretches a file has at most.
 use Rattle.std.proofs.Common.{◌≡◌, ◌≢◌, ℕ, zero, suc, ◌+◌, ◌-◌, ◌≤◌, ◌<◌, Bool, true, false, ◌==◌, ◌||◌, List, [], ◌∷◌, map, length, drop, get_or, refl, sym, ◌∙◌, ap, arith, ⊎_elim}
+use Rattle.std.specs.Cmp.{both_ways}
 use Rattle.std.specs.List.{All, list_any}
-use Rattle.std.proofs.lemmas.Bool.{cases_eq, or_cases, eqb-true, true≢false}
+use Rattle.std.proofs.lemmas.Bool.{cases_eq, or_cases, eqb-true, true≢false, or_right}
 use Rattle.std.proofs.lemmas.Bool.Decides.{eqb_tells}
 use Rattle.std.proofs.Math.ListN.{get_or-map}
 use Rattle.std.proofs.lemmas.List.{length-map}
@@ -71,29 +72,19 @@ few_stretches xs total all apart =
 
 -- ---- the header node and the map nodes
 
-or_second : (a b : Bool) → b ≡ true → (a || b) ≡ true
-or_second true b e = refl
-or_second false b e = e
-
 any_stretch : (xs : List Stretch) (n : ℕ) → list_any (λ other. other == n) (map (λ (s : Stretch). s.node) xs) ≡ true → list_any (λ stretch. stretch.node == n) xs ≡ true
 any_stretch [] n any = any
 any_stretch (x ∷ xs) n any = ⊎_elim
     (λ (is : (x.node == n) ≡ true). ap (λ t. t || list_any (λ stretch. stretch.node == n) xs) is)
-    (λ (rest : list_any (λ other. other == n) (map (λ (s : Stretch). s.node) xs) ≡ true). or_second (x.node == n) (list_any (λ stretch. stretch.node == n) xs) (any_stretch xs n rest))
+    (λ (rest : list_any (λ other. other == n) (map (λ (s : Stretch). s.node) xs) ≡ true). or_right (x.node == n) (list_any (λ stretch. stretch.node == n) xs) (any_stretch xs n rest))
     (or_cases (x.node == n) (list_any (λ other. other == n) (map (λ (s : Stretch). s.node) xs)) any)
 
 pub reserved_back : (nodes : Nodes) (size : ℕ) (xs : List Stretch) (n : ℕ) → AreStretches nodes size xs → is_reserved_in (names_of xs) n ≡ true → is_reserved xs n ≡ true
 reserved_back nodes size [] n are is = absurd (omega (arith, are.some))
 reserved_back nodes size (x ∷ xs) n are is = ⊎_elim
     (λ (front : (n == 0) ≡ true). ap (λ t. t || list_any (λ stretch. stretch.node == n) (x ∷ xs)) front)
-    (λ (later : list_any (λ other. other == n) (names_of (x ∷ xs)) ≡ true). or_second (n == 0) (list_any (λ stretch. stretch.node == n) (x ∷ xs)) (or_second (x.node == n) (list_any (λ stretch. stretch.node == n) xs) (any_stretch xs n later)))
+    (λ (later : list_any (λ other. other == n) (names_of (x ∷ xs)) ≡ true). or_right (n == 0) (list_any (λ stretch. stretch.node == n) (x ∷ xs)) (or_right (x.node == n) (list_any (λ stretch. stretch.node == n) xs) (any_stretch xs n later)))
     (or_cases (n == 0) (list_any (λ other. other == n) (names_of (x ∷ xs))) is)
 
-same_truth : (a b : Bool) → (a ≡ true → b ≡ true) → (b ≡ true → a ≡ true) → a ≡ b
-same_truth true true there back = refl
-same_truth false false there back = refl
-same_truth true false there back = absurd (true≢false (sym (there refl)))
-same_truth false true there back = absurd (true≢false (sym (back refl)))
-
 pub reserved_same : (nodes : Nodes) (size : ℕ) (xs : List Stretch) (n : ℕ) → AreStretches nodes size xs → is_reserved xs n ≡ is_reserved_in (names_of xs) n
-reserved_same nodes size xs n are = same_truth (is_reserved xs n) (is_reserved_in (names_of xs) n) (reserved_joined nodes size xs n are) (reserved_back nodes size xs n are)
+reserved_same nodes size xs n are = both_ways (is_reserved xs n) (is_reserved_in (names_of xs) n) (reserved_joined nodes size xs n are) (reserved_back nodes size xs n are)

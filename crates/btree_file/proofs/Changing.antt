@@ -2,7 +2,7 @@
 use Rattle.std.proofs.Common.{◌≡◌, ◌≢◌, ℕ, zero, suc, ◌+◌, ◌-◌, ◌*◌, ◌/◌, ◌≤◌, ◌<◌, Bool, true, false, cond, ◌==◌, ◌||◌, List, [], ◌∷◌, length, get_or, inl, inr, refl, sym, ◌∙◌, ap, subst, arith, ⊎_elim}
 use Rattle.std.specs.List.{list_any, count_by, range_with_len}
 use Rattle.std.proofs.Math.Path.{fun_ext}
-use Rattle.std.proofs.lemmas.Bool.{cases_eq, eq-eqb, true≢false}
+use Rattle.std.proofs.lemmas.Bool.{cases_eq, eq-eqb, true≢false, or_parts, or_right}
 use Rattle.std.proofs.lemmas.Option.{slice_get_within, get_or_from_slice_get}
 use Rattle.flag_rows.specs.Bits.{bit_of}
 use Rattle.flag_rows.proofs.ByteLaws.{bit_alike}
@@ -26,14 +26,6 @@ use Rattle.btree_file.proofs.MapLaws.{ChangesBit, used_at, set_used}
 use Rattle.btree_file.proofs.NodeLaws.{node_put, node_kept, used_same}
 use Rattle.btree_file.proofs.RoomLaws.{count_less}
 
-or_false : (x y : Bool) → (x || y) ≡ false → (x ≡ false) × (y ≡ false)
-or_false true y e = absurd (true≢false e)
-or_false false y e = (refl, e)
-
-or_right : (x y : Bool) → y ≡ true → (x || y) ≡ true
-or_right true y t = refl
-or_right false y t = t
-
 -- a stretch of the map stands in a node of the map
 any_at : (map : List Stretch) (k : ℕ) (d : Stretch) → k < length map → list_any (λ stretch. stretch.node == (get_or map k d).node) map ≡ true
 any_at [] k d low = absurd (omega (arith, low))
@@ -42,7 +34,7 @@ any_at (stretch ∷ map) (suc k) d low = or_right (stretch.node == (get_or map k
 
 -- which is none of the tree
 pub map_node : (map : List Stretch) (n m : ℕ) → is_reserved map n ≡ false → list_any (λ stretch. stretch.node == m) map ≡ true → m ≢ n
-map_node map n m free any = λ e. true≢false (sym any ∙ ap (λ k. list_any (λ stretch. stretch.node == k) map) e ∙ (or_false (n == 0) (list_any (λ stretch. stretch.node == n) map) free).1)
+map_node map n m free any = λ e. true≢false (sym any ∙ ap (λ k. list_any (λ stretch. stretch.node == k) map) e ∙ (or_parts (n == 0) (list_any (λ stretch. stretch.node == n) map) free).1)
 
 pub not_header : (map : List Stretch) (n : ℕ) → is_reserved map n ≡ false → 0 ≢ n
 not_header map n free = λ e. true≢false (sym (subst (λ k. is_reserved map k ≡ true) e refl) ∙ free)

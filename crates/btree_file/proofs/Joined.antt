@@ -1,7 +1,7 @@
 -- The stretches of a map, joined, are the map that the nodes say.
 use Rattle.std.proofs.Common.{◌≡◌, ℕ, suc, ◌+◌, ◌-◌, ◌*◌, ◌/◌, ◌≤◌, ◌<◌, Bool, true, false, ◌==◌, ◌||◌, List, [], ◌∷◌, ◌++◌, map, length, get_or, slice_range, refl, sym, ◌∙◌, ap, arith, ⊎_elim, length-append}
 use Rattle.std.specs.List.{All, flat_map, list_any}
-use Rattle.std.proofs.lemmas.Bool.{cases_lt, or_cases, eqb-true, eq-eqb}
+use Rattle.std.proofs.lemmas.Bool.{cases_lt, or_cases, eqb-true, eq-eqb, or_left, or_right}
 use Rattle.std.proofs.lemmas.List.Edits.{length-between, get_or-between}
 use Rattle.std.proofs.lemmas.List.Elements.{All-head, All-tail}
 use Rattle.std.proofs.lemmas.List.Sums.{sum_by-cons}
@@ -82,21 +82,14 @@ any_names : (xs : List Stretch) (n : ℕ) → list_any (λ stretch. stretch.node
 any_names [] n = refl
 any_names (x ∷ xs) n = ap (λ t. (x.node == n) || t) (any_names xs n)
 
-or_true : (a b : Bool) → a ≡ true → (a || b) ≡ true
-or_true a b e = ap (λ t. t || b) e
-
-or_last : (a b : Bool) → b ≡ true → (a || b) ≡ true
-or_last true b e = refl
-or_last false b e = e
-
 pub reserved_joined : (nodes : Nodes) (size : ℕ) (xs : List Stretch) (n : ℕ) → AreStretches nodes size xs → is_reserved xs n ≡ true → is_reserved_in (names_of xs) n ≡ true
 reserved_joined nodes size [] n are is = absurd (omega (arith, are.some))
 reserved_joined nodes size (x ∷ xs) n are is = ⊎_elim
-    (λ (front : (n == 0) ≡ true). or_true (n == 0) (list_any (λ other. other == n) (names_of (x ∷ xs))) front)
+    (λ (front : (n == 0) ≡ true). or_left (n == 0) (list_any (λ other. other == n) (names_of (x ∷ xs))) front)
     (λ (later : list_any (λ stretch. stretch.node == n) (x ∷ xs) ≡ true). ⊎_elim
     (λ (head : (x.node == n) ≡ true).
     let zero_is : n ≡ 0 = sym (eqb-true x.node n head) ∙ ap (λ (s : Stretch). s.node) (are.first x) in
-    or_true (n == 0) (list_any (λ other. other == n) (names_of (x ∷ xs))) (eq-eqb n 0 zero_is))
-    (λ (rest : list_any (λ stretch. stretch.node == n) xs ≡ true). or_last (n == 0) (list_any (λ other. other == n) (names_of (x ∷ xs))) (sym (any_names xs n) ∙ rest))
+    or_left (n == 0) (list_any (λ other. other == n) (names_of (x ∷ xs))) (eq-eqb n 0 zero_is))
+    (λ (rest : list_any (λ stretch. stretch.node == n) xs ≡ true). or_right (n == 0) (list_any (λ other. other == n) (names_of (x ∷ xs))) (sym (any_names xs n) ∙ rest))
     (or_cases (x.node == n) (list_any (λ stretch. stretch.node == n) xs) later))
     (or_cases (n == 0) (list_any (λ stretch. stretch.node == n) (x ∷ xs)) is)

@@ -1,7 +1,7 @@
 -- One map node more on the walk along a file's map.
 use Rattle.std.proofs.Common.{◌≡◌, ◌≢◌, ℕ, zero, suc, ◌+◌, ◌-◌, ◌≤◌, ◌<◌, Bool, true, false, ◌==◌, ◌||◌, List, [], ◌∷◌, ◌++◌, map, length, drop, get_or, inl, inr, refl, sym, ◌∙◌, ap, subst, arith, ⊎_elim, length-append, append_assoc}
 use Rattle.std.specs.List.{list_any}
-use Rattle.std.proofs.lemmas.Bool.{cases_eq, cases_lt, cases_Bool, or_cases, eqb-true, eq-eqb, true≢false}
+use Rattle.std.proofs.lemmas.Bool.{cases_eq, cases_lt, cases_Bool, or_cases, eqb-true, eq-eqb, true≢false, or_parts}
 use Rattle.std.proofs.lemmas.Bool.Decides.{eqb_tells}
 use Rattle.std.proofs.Math.ListN.{get_or-map}
 use Rattle.std.proofs.lemmas.List.{get_or_append_left, append-nil, length-map, map-append, drop-append-le, length-drop, get_or-drop}
@@ -44,12 +44,8 @@ stands_any (x ∷ xs) (suc k) d n low is = or_right (x.node == n) (list_any (λ 
     or_right true b t = refl
     or_right false b t = t
 
-or_none : (a b : Bool) → (a || b) ≡ false → (a ≡ false) × (b ≡ false)
-or_none true b e = absurd (true≢false e)
-or_none false b e = (refl, e)
-
 not_there : (xs : List Stretch) (k : ℕ) (d : Stretch) (n : ℕ) → k < length xs → is_reserved xs n ≡ false → (get_or xs k d).node ≢ n
-not_there xs k d n low free is = true≢false (sym (stands_any xs k d n low is) ∙ (or_none (n == 0) (list_any (λ stretch. stretch.node == n) xs) free).1)
+not_there xs k d n low free is = true≢false (sym (stands_any xs k d n low is) ∙ (or_parts (n == 0) (list_any (λ stretch. stretch.node == n) xs) free).1)
 
 not_zero : (xs : List Stretch) (n : ℕ) → is_reserved xs n ≡ false → n ≢ 0
 not_zero xs n free is = true≢false (sym (ap (λ k. is_reserved xs k) is) ∙ free)

@@ -39,6 +39,7 @@ extent_file key = big_at 4 key 4
 abbrev pub extent_start : List ℕ → ℕ
 extent_start key = big_at 4 key 8
 
+-- A key of the extents overflow file: 12 bytes, of which its first field counts ten, and the kind of the fork is 0, for the data, or 255, for the resources.
 pub record IsExtentKey (key : List ℕ) : Type 0 where
   pub long : length key ≡ 12
   pub size : big_at 2 key 0 ≡ 10

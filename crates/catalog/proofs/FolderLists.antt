@@ -6,7 +6,7 @@ use Rattle.std.specs.Cmp.{nat_cmp_is}
 use Rattle.std.specs.Cmp.Lexicographic.{slice_cmp}
 use Rattle.std.specs.declared.cmp.Ordering.{Ordering}
 use Rattle.std.specs.declared.cmp.Ordering.TheVariants.{Less, Equal, Greater}
-use Rattle.std.proofs.lemmas.Bool.{cases_lt, eq-eqb, eqb-true}
+use Rattle.std.proofs.lemmas.Bool.{cases_lt, eq-eqb, eqb-true, true≢false}
 use Rattle.std.proofs.lemmas.Grind.{flat_map-append}
 use Rattle.std.proofs.lemmas.List.{map-append, append-nil, take_all, take_more, take-append-drop, length-take, length-drop, get_or-take, get_or-drop}
 use Rattle.btree_node.specs.Keys.{IsCatalogKey, catalog_cmp, catalog_parent, catalog_units}
@@ -37,9 +37,6 @@ none_or_some a same = subst is_there (sym same) tt
 abbrev child_or : Child → Option Child → Child
 child_or child None = child
 child_or child (Some other) = other
-
-true_or_false : true ≡ false → ⊥
-true_or_false same = subst T same tt
 
 -- ---- lists
 
@@ -97,7 +94,7 @@ greater_or_less same = cc
 
 -- a name in the folder is above the key of the thread
 named_above : (m n : ℕ) (name : List ℕ) → m ≡ n → is_empty name ≡ false → ordering_then (nat_cmp m n) (slice_cmp nat_cmp name []) ≡ Greater
-named_above m n [] same named = absurd (true_or_false named)
+named_above m n [] same named = absurd (true≢false named)
 named_above m n (unit ∷ units) same named = ap (λ o. ordering_then o Greater) (sym (nat_cmp_is m n Equal same))
 
 -- what is above the key of the thread is a name in the folder, or in a folder behind it
@@ -165,7 +162,7 @@ module _ (parent : ℕ) (key : List ℕ) (pairs : List Pair) (is_key : IsKeyOf p
       ∙ append-nil (children_in parent (take place pairs)))
     where
       behind : parent < (placed_of (at place)).parent
-      behind = above_is_behind (placed_of (at place)).parent parent (slice_cmp nat_cmp (placed_of (at place)).name []) (λ same. true_or_false (sym (eq-eqb (placed_of (at place)).parent parent same) ∙ other)) (sym (order_is place) ∙ above.behind place from inside)
+      behind = above_is_behind (placed_of (at place)).parent parent (slice_cmp nat_cmp (placed_of (at place)).name []) (λ same. true≢false (sym (eq-eqb (placed_of (at place)).parent parent same) ∙ other)) (sym (order_is place) ∙ above.behind place from inside)
 
       later : (k : ℕ) → place < k → k < length pairs → (placed_of (at place)).parent ≤ (placed_of (at k)).parent
       later k after fits = before_is_most (catalog_parent (at place).0) (catalog_parent (at k).0) (slice_cmp nat_cmp (catalog_units (at place).0) (catalog_units (at k).0)) (rises place k after fits)

@@ -4,7 +4,7 @@ use Rattle.std.specs.Prelude.{slice_index_or, T, IsTrue, cond, ◌&&◌, ◌==�
 use Rattle.std.specs.List.{find}
 use Rattle.std.specs.Option.{option_map}
 use Rattle.std.specs.Cmp.{IsTotalOrder}
-use Rattle.std.proofs.lemmas.Bool.{eq-eqb, eqb-true}
+use Rattle.std.proofs.lemmas.Bool.{eq-eqb, eqb-true, true≢false, and_from}
 use Rattle.std.proofs.lemmas.Slice.Eq.{bytes_eq-Decides}
 use Rattle.std.specs.Str.{bytes_eq}
 use Rattle.std.specs.declared.cmp.Ordering.{Ordering}
@@ -40,9 +40,6 @@ is_there (Some x) = Unit {0}
 none_or_some : {X : Type 0} (a : X) → None ≡ Some a → ⊥
 none_or_some a same = subst is_there (sym same) tt
 
-true_or_false : true ≡ false → ⊥
-true_or_false same = subst T same tt
-
 then_first : (o p : Ordering) → ordering_then o p ≡ Equal → o ≡ Equal
 then_first Less p e = cc
 then_first Equal p e = refl
@@ -53,16 +50,13 @@ then_second Less p e = cc
 then_second Equal p e = e
 then_second Greater p e = cc
 
-pub both_true : (a b : Bool) → a ≡ true → b ≡ true → (a && b) ≡ true
-both_true a b is also = ap (λ (x : Bool). x && b) is ∙ also
-
 pub first_true : (a b : Bool) → (a && b) ≡ true → a ≡ true
 first_true true b is = refl
 first_true false b is = is
 
 pub second_true : (a b : Bool) → (a && b) ≡ true → b ≡ true
 second_true true b is = is
-second_true false b is = absurd (true_or_false (sym is))
+second_true false b is = absurd (true≢false (sym is))
 
 -- two keys that tie name one place
 pub tied_is_under : (pair : Pair) (key : List ℕ) → catalog_cmp pair.0 key ≡ Equal → is_under key pair ≡ true
@@ -70,7 +64,7 @@ unfolding placed_of
 tied_is_under pair key ties =
     let parents = nat_cmp (catalog_parent pair.0) (catalog_parent key) in
     let names = slice_cmp nat_cmp (catalog_units pair.0) (catalog_units key) in
-    both_true _ _ (eq-eqb (catalog_parent pair.0) (catalog_parent key) (nat_cmp-IsAntisymmetric (catalog_parent pair.0) (catalog_parent key) (then_first parents names ties)))
+    and_from _ _ (eq-eqb (catalog_parent pair.0) (catalog_parent key) (nat_cmp-IsAntisymmetric (catalog_parent pair.0) (catalog_parent key) (then_first parents names ties)))
     ((bytes_eq-Decides (catalog_units pair.0) (catalog_units key)).1 (slice_cmp-IsAntisymmetric nat_cmp-IsAntisymmetric (catalog_units pair.0) (catalog_units key) (then_second parents names ties)))
 
 -- keys that name one place tie

@@ -2,7 +2,7 @@
 use Rattle.std.proofs.Common.{◌≡◌, ℕ, ◌<◌, Bool, true, false, List, [], length, refl, sym, ◌∙◌, ap, subst}
 use Rattle.std.specs.Prelude.{slice_index_or, IsTrue, T, nat_lt, ◌==◌, ◌||◌, if◌then◌else◌, Some, Option}
 use Rattle.std.specs.declared.cmp.Ordering.TheVariants.{Equal}
-use Rattle.std.proofs.lemmas.Bool.{eqb-true}
+use Rattle.std.proofs.lemmas.Bool.{eqb-true, true≢false}
 use Rattle.hx_bytes.specs.Field.{big_at}
 use Rattle.hx_bytes.specs.Fork.{fork_at}
 use Rattle.btree_node.specs.Keys.{IsCatalogKey, catalog_cmp}
@@ -22,9 +22,6 @@ use Rattle.catalog.specs.Pairs.{IsKeyOf}
 use Rattle.catalog.specs.Entries.{IsOfKind}
 use Rattle.catalog.proofs.Updates.{tied_found}
 
-true_or_false : true ≡ false → ⊥
-true_or_false same = subst T same tt
-
 abbrev pub long_of : Bool → ℕ
 long_of true = 88
 long_of false = 248
@@ -36,7 +33,7 @@ by_kind : (bytes : List ℕ) (one two rest : Bool) (folder : FolderRecord) (file
     → is_thread (picked one two folder file thread) ≡ false → length bytes ≡ long_of (is_folder (picked one two folder file thread))
 by_kind bytes true two rest folder file thread wanted named = eqb-true (length bytes) 88 wanted
 by_kind bytes false true rest folder file thread wanted named = eqb-true (length bytes) 248 wanted
-by_kind bytes false false rest folder file thread wanted named = absurd (true_or_false named)
+by_kind bytes false false rest folder file thread wanted named = absurd (true≢false named)
 
 abbrev wanted : List ℕ → ℕ → Bool
 wanted bytes kind =
@@ -49,7 +46,7 @@ pub record_long : (bytes : List ℕ) → is_catalog bytes ≡ true → is_thread
 record_long bytes spelled named = by_size (nat_lt (length bytes) 2) refl
   where
     by_size : (small : Bool) → nat_lt (length bytes) 2 ≡ small → length bytes ≡ long_of (is_folder (catalog_of bytes))
-    by_size true is = absurd (true_or_false (sym spelled ∙ ap (λ (s : Bool). wanted bytes (if s then 0 else big_at 2 bytes 0)) is))
+    by_size true is = absurd (true≢false (sym spelled ∙ ap (λ (s : Bool). wanted bytes (if s then 0 else big_at 2 bytes 0)) is))
     by_size false is =
         by_kind bytes (big_at 2 bytes 0 == 1) (big_at 2 bytes 0 == 2) (if (big_at 2 bytes 0 == 3) || (big_at 2 bytes 0 == 4) then has_thread_length bytes else false)
         (record { fields = entry_of bytes }) (record { fields = entry_of bytes; data_fork = fork_at bytes 88; resource_fork = fork_at bytes 168 }) (thread_of bytes)
@@ -63,11 +60,11 @@ value_in placed pair is = ap (λ (other : Placed). other.value) is
 not_thread : (rec value : CatRecord) → is_thread rec ≡ false → IsOfKind rec value → is_thread value ≡ false
 not_thread (Folder folder) (Folder other) named kind = refl
 not_thread (Folder folder) (File other) named kind = refl
-not_thread (Folder folder) (Thread other) named kind = absurd (true_or_false kind.folder)
+not_thread (Folder folder) (Thread other) named kind = absurd (true≢false kind.folder)
 not_thread (File file) (Folder other) named kind = refl
 not_thread (File file) (File other) named kind = refl
-not_thread (File file) (Thread other) named kind = absurd (true_or_false kind.file)
-not_thread (Thread thread) value named kind = absurd (true_or_false named)
+not_thread (File file) (Thread other) named kind = absurd (true≢false kind.file)
+not_thread (Thread thread) value named kind = absurd (true≢false named)
 
 -- the record of an entry's kind has the length of that which stands there
 pub same_length : (parent : ℕ) (name key value : List ℕ) (rec : CatRecord) (store : Store) → IsTree IsCatalogKey catalog_cmp store → AreSpelled (pairs_of store) → IsKeyOf parent name key

@@ -3,7 +3,7 @@ use Rattle.std.proofs.Common.{◌≡◌, ◌≢◌, inl, inr, ℕ, zero, suc, �
 use Rattle.std.specs.Prelude.{slice_index_or, Contains, Option, None, Some, not, ◌==◌, ℤ, cond, if◌then◌else◌}
 use Rattle.std.specs.Str.{bytes_eq}
 use Rattle.std.specs.Ordering.{ordering_reverse}
-use Rattle.std.proofs.lemmas.Bool.{cases_lt, eq-eqb, eqb-true}
+use Rattle.std.proofs.lemmas.Bool.{cases_lt, eq-eqb, eqb-true, and_from}
 use Rattle.std.proofs.lemmas.List.{get_or-map, length-map, length-set}
 use Rattle.std.proofs.lemmas.List.Edits.{length-insert, get_or-insert_below, get_or-insert_above}
 use Rattle.std.proofs.lemmas.List.{get_or-set_same, get_or-set_other}
@@ -29,7 +29,7 @@ use Rattle.catalog.proofs.RecordLengths.{value_in}
 use Rattle.catalog.proofs.TwoInserts.{AddsEither, HaveLess, insert_remove, length_remove, set_insert, less_than_both, swap_adds}
 use Rattle.catalog.proofs.Updates.{own_key}
 use Rattle.catalog.proofs.Keys.{keys_apart}
-use Rattle.catalog.proofs.Places.{AscendByKey, tied_is_found, under_is_tied, both_true, first_true, second_true}
+use Rattle.catalog.proofs.Places.{AscendByKey, tied_is_found, under_is_tied, first_true, second_true}
 use Rattle.catalog.proofs.Standing.{record_at-key, tied_stands, dropped_back, dropped_place, changed_is}
 
 abbrev is_there : {X : Type 0} → Option X → Type 0
@@ -92,7 +92,7 @@ standing_key parent name key pairs placed is stands same_parent same_name =
     let at : placed_of pair ≡ placed = sym (get_or-map placed_of pairs k ([], []) placed inside) ∙ stands.2 in
     let parents : (placed_of pair).parent ≡ catalog_parent key = ap (λ (p : Placed). p.parent) at ∙ same_parent ∙ sym is.parent_is in
     let names : (placed_of pair).name ≡ catalog_units key = ap (λ (p : Placed). p.name) at ∙ same_name ∙ sym is.name_is in
-    (k, inside, at, under_is_tied pair key (both_true _ _ (eq-eqb (placed_of pair).parent (catalog_parent key) parents) ((bytes_eq-Decides (placed_of pair).name (catalog_units key)).1 names)))
+    (k, inside, at, under_is_tied pair key (and_from _ _ (eq-eqb (placed_of pair).parent (catalog_parent key) parents) ((bytes_eq-Decides (placed_of pair).name (catalog_units key)).1 names)))
 
 -- a name has a folder or a file
 pub found_is_no_thread : (parent : ℕ) (name : List ℕ) (old : List Pair) (rec : CatRecord) → AreThreaded old → 1 ≤ length name → value_at old parent name ≡ Some rec → is_thread rec ≡ false

@@ -1,18 +1,16 @@
 -- Paths below others, and the last names of paths.
 use Rattle.std.proofs.Common.{◌≡◌, ◌≤◌, ◌<◌, ℕ, Bool, true, false, List, [], ◌∷◌, ◌++◌, length, suc, refl, ap, arith, ◌∙◌}
+use Rattle.std.proofs.Math.Bool.{and-false}
 use Rattle.std.specs.Prelude.{◌&&◌}
 use Rattle.std.specs.Str.{bytes_eq}
 use Rattle.hfs_model.specs.declared.plain.PlainTree.{PlainTree}
 use Rattle.hfs_model.specs.Step.{is_below, front, last_name, place, place_in, then_, walk, root_entry}
 
-and_false : (b : Bool) → (b && false) ≡ false
-and_false b = elim b as (λ v. (v && false) ≡ false) [ true ↦ refl | false ↦ refl ]
-
 -- a path that isn't longer isn't below
 pub not_longer : (path top : List (List ℕ)) → length path ≤ length top → is_below path top ≡ false
 not_longer [] top short = refl
 not_longer (name ∷ path) [] short = absurd (omega arith)
-not_longer (name ∷ path) (other ∷ top) short = ap (λ b. bytes_eq name other && b) (not_longer path top (omega arith)) ∙ and_false (bytes_eq name other)
+not_longer (name ∷ path) (other ∷ top) short = ap (λ b. bytes_eq name other && b) (not_longer path top (omega arith)) ∙ and-false (bytes_eq name other)
 
 pub front-last : (above : List (List ℕ)) (name : List ℕ) → front (above ++ name ∷ []) ≡ above
 front-last [] name = refl

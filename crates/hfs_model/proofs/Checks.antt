@@ -1,5 +1,6 @@
 -- The parts are those of a thin volume exactly where each of them is.
 use Rattle.std.proofs.Common.{◌≡◌, ℕ, Bool, true, ◌&&◌, List, length, IsTrue, None, sym, ◌∙◌, ap, subst}
+use Rattle.std.proofs.lemmas.Bool.{and_parts}
 use Rattle.std.specs.Prelude.{◌↔◌}
 use Rattle.std.specs.List.{concat}
 use Rattle.hfs_model.specs.declared.parts.Parts.{Parts}
@@ -9,7 +10,6 @@ use Rattle.hfs_model.specs.Names.{are_thin_names}
 use Rattle.hfs_model.specs.Node.{IsNode, header_head, leaf_head, header_items}
 use Rattle.hfs_model.specs.Reading.{names_in}
 use Rattle.hfs_model.specs.Thin.{IsHeader, IsJournal, HasFixedParts, AreThin, bitmap_text, info_text, extents_tree, attributes_tree, catalog_tree, leaf_items}
-use Rattle.hfs_model.proofs.NameLists.{both}
 use Rattle.hfs_model.proofs.Threads.{names_in_leaf}
 
 -- five answers
@@ -22,10 +22,10 @@ record Five (a b c d e : Bool) : Type 0 where
 
 five_hold : (a b c d e r : Bool) → r ≡ (a && b && c && d && e) → r ≡ true → Five a b c d e
 five_hold a b c d e r is holds =
-    let abcd = both (a && b && c && d) e (sym is ∙ holds) in
-    let abc = both (a && b && c) d abcd.0 in
-    let ab = both (a && b) c abc.0 in
-    let a' = both a b ab.0 in
+    let abcd = and_parts (a && b && c && d) e (sym is ∙ holds) in
+    let abc = and_parts (a && b && c) d abcd.0 in
+    let ab = and_parts (a && b) c abc.0 in
+    let a' = and_parts a b ab.0 in
     record { first = a'.0; second = a'.1; third = ab.1; fourth = abc.1; fifth = abcd.1 }
 
 five_joined : (a b c d e r : Bool) → r ≡ (a && b && c && d && e) → a ≡ true → b ≡ true → c ≡ true → d ≡ true → e ≡ true → r ≡ true

@@ -1,5 +1,6 @@
 -- What is read from a thin volume's headers is what they were made of.
 use Rattle.std.proofs.Common.{◌≡◌, ℕ, ◌^◌, ◌<◌, Bool, true, false, ◌&&◌, List, ◌++◌, length, replicate, IsTrue, refl, sym, ◌∙◌, ap, arith}
+use Rattle.std.proofs.lemmas.Bool.{and_parts}
 use Rattle.std.specs.Prelude.{◌↔◌, ◌==◌, ◌%◌, nat_le}
 use Rattle.std.proofs.lemmas.Bool.Decides.{nat_tests}
 use Rattle.std.proofs.lemmas.List.{length-append, append_assoc}
@@ -11,7 +12,6 @@ use Rattle.volume_header.specs.Header.{header_bytes, identity_bytes, history_byt
 use Rattle.jnl_format.specs.declared.structures.Header.{Header}
 use Rattle.jnl_format.specs.Header.{header_spelled, is_offset}
 use Rattle.hfs_model.specs.Thin.{IsHeader, IsJournal, thin_header, is_clean_in, writes_in, journal_text}
-use Rattle.hfs_model.proofs.NameLists.{both}
 
 -- the attributes of a header
 attributes_at : (head : VolumeHeader) → head.attributes < 4294967296 → big_at 4 (header_bytes head) 4 ≡ head.attributes
@@ -89,7 +89,7 @@ le_then at h = grind (arith, nat_tests)
 
 offset_small : (at : ℕ) → IsTrue (is_offset 1048576 at) → at < 18446744073709551616
 offset_small at h =
-    let parts = both (at % 512 == 0 && nat_le 512 at) (nat_le at 1048576) h in
+    let parts = and_parts (at % 512 == 0 && nat_le 512 at) (nat_le at 1048576) h in
     le_then (at) parts.1
 
 -- the header of a journal has its offsets where they are read
@@ -119,7 +119,7 @@ pub journal_told : (start end : ℕ) (range r : Bool) (sector text : List ℕ) �
     → text ≡ journal_text start end → IsTrue r ↔ (text ≡ sector) → IsTrue r ↔ IsJournal sector
 journal_told start end range r sector text start_is end_is range_is stands made told =
     let all : is_range start end ≡ true = sym range_is ∙ stands in
-    let inner = both (is_offset 1048576 start) (is_offset 1048576 end) all in (
+    let inner = and_parts (is_offset 1048576 start) (is_offset 1048576 end) all in (
       (λ holds. record {
         start = start;
         end = end;

@@ -1,5 +1,6 @@
 -- Lists of names: what a list that a thin volume may have is, and what sorting keeps.
 use Rattle.std.proofs.Common.{◌≡◌, ℕ, ◌+◌, ◌<◌, ◌≤◌, Bool, true, false, ◌&&◌, cond, List, [], ◌∷◌, ◌++◌, length, take, get_or, IsTrue, refl, sym, ◌∙◌, ap, subst, arith}
+use Rattle.std.proofs.lemmas.Bool.{and_parts}
 use Rattle.std.specs.List.{All, list_all, insert}
 use Rattle.std.specs.List.Sorted.{IsPermutation}
 use Rattle.std.proofs.lemmas.Bool.Decides.{nat_tests}
@@ -7,14 +8,10 @@ use Rattle.std.proofs.lemmas.List.Elements.{All-nil, All-cons, All-weaker}
 use Rattle.std.proofs.lemmas.List.Sorted.{IsPermutation-refl, IsPermutation-cons, IsPermutation-trans, IsPermutation-middle, IsPermutation-append_left, length_permutation, IsPermutation-sym}
 use Rattle.hfs_model.specs.Names.{is_thin_unit, is_thin_name, are_distinct, are_thin_names, is_above, with_name, with_all, in_order}
 
-pub both : (a b : Bool) → (a && b) ≡ true → (a ≡ true) × (b ≡ true)
-both true b h = (refl, h)
-both false b h = absurd (cc h)
-
 pub All-from_list_all : {X : Type 0} (test : X → Bool) (xs : List X) → list_all test xs ≡ true → All (λ x. test x ≡ true) xs
 All-from_list_all test [] h = All-nil (λ x. test x ≡ true)
 All-from_list_all test (x ∷ xs) h =
-    let parts = both (test x) (list_all test xs) h in
+    let parts = and_parts (test x) (list_all test xs) h in
     All-cons (λ x. test x ≡ true) x xs parts.0 (All-from_list_all test xs parts.1)
 
 le_from_test : (a b : ℕ) → Rattle.std.specs.Prelude.nat_le a b ≡ true → a ≤ b
@@ -28,8 +25,8 @@ pub record ThinName (name : List ℕ) : Type 0 where
 
 pub thin_name : (name : List ℕ) → is_thin_name name ≡ true → ThinName name
 thin_name name h =
-    let outer = both _ (list_all is_thin_unit name) h in
-    let inner = both _ _ outer.0 in
+    let outer = and_parts _ (list_all is_thin_unit name) h in
+    let inner = and_parts _ _ outer.0 in
     record { some = le_from_test 1 (length name) inner.0; short = le_from_test (length name) 31 inner.1; units = outer.1 }
 
 -- a list that a volume may have
@@ -40,8 +37,8 @@ pub record ThinList (names : List (List ℕ)) : Type 0 where
 
 pub thin_list : (names : List (List ℕ)) → IsTrue (are_thin_names names) → ThinList names
 thin_list names h =
-    let outer = both _ (are_distinct names) h in
-    let inner = both _ (list_all is_thin_name names) outer.0 in
+    let outer = and_parts _ (are_distinct names) h in
+    let inner = and_parts _ (list_all is_thin_name names) outer.0 in
     record {
       few = le_from_test (length names) 12 inner.0;
       each = All-weaker (λ n. is_thin_name n ≡ true) ThinName thin_name names (All-from_list_all is_thin_name names inner.1);

@@ -1,5 +1,6 @@
 -- One name more: the list stays one that a volume may have, and the sorted list stays sorted.
 use Rattle.std.proofs.Common.{◌≡◌, ℕ, zero, suc, ◌+◌, ◌<◌, ◌≤◌, Bool, true, false, ◌&&◌, ◌||◌, not, cond, List, [], ◌∷◌, ◌++◌, length, get_or, IsTrue, Ordering, Less, Equal, Greater, refl, sym, ◌∙◌, ap, arith}
+use Rattle.std.proofs.lemmas.Bool.{false_from_ne_true, or_parts, and_parts}
 use Rattle.std.specs.Prelude.{nat_le}
 use Rattle.std.specs.List.{list_all}
 use Rattle.std.specs.List.Sorted.{IsSorted}
@@ -12,20 +13,11 @@ use Rattle.std.proofs.lemmas.List.{length-append}
 use Rattle.std.proofs.lemmas.List.Folds.{list_all-append, list_any-append}
 use Rattle.std.proofs.lemmas.Slice.Eq.{bytes_eq-Decides}
 use Rattle.hfs_model.specs.Names.{is_thin_name, has_name, are_distinct, are_thin_names, is_above, with_name, with_all, in_order}
-use Rattle.hfs_model.proofs.NameLists.{both}
-
-not_true : (r : Bool) → (r ≡ true → ⊥) → r ≡ false
-not_true true h = absurd (h refl)
-not_true false h = refl
-
-neither : (a b : Bool) → (a || b) ≡ false → (a ≡ false) × (b ≡ false)
-neither true b h = absurd (cc h)
-neither false b h = (refl, h)
 
 -- names that differ, the other way round
 differ_back : (a b : List ℕ) → bytes_eq a b ≡ false → bytes_eq b a ≡ false
 differ_back a b h =
-    not_true (bytes_eq b a) (λ same.
+    false_from_ne_true (bytes_eq b a) (λ same.
     let equal : b ≡ a = (bytes_eq-Decides b a).0 same in
     let back : bytes_eq a b ≡ true = (bytes_eq-Decides a b).1 (sym equal) in
     absurd (cc (h, back)))
@@ -41,8 +33,8 @@ distinct-push : (names : List (List ℕ)) (name : List ℕ) → are_distinct nam
 unfolding are_distinct
 distinct-push [] name distinct new = refl
 distinct-push (first ∷ names) name distinct new =
-    let parts = both (not (has_name names first)) (are_distinct names) distinct in
-    let others = neither (bytes_eq first name) (has_name names name) new in
+    let parts = and_parts (not (has_name names first)) (are_distinct names) distinct in
+    let others = or_parts (bytes_eq first name) (has_name names name) new in
     let apart : bytes_eq name first ≡ false = differ_back first name others.0 in
     let none : has_name (names ++ name ∷ []) first ≡ (has_name names first || (bytes_eq name first || false)) = list_any-append (λ other. bytes_eq other first) names (name ∷ []) in
     let rest : are_distinct (names ++ name ∷ []) ≡ true = distinct-push names name parts.1 others.1 in
@@ -60,8 +52,8 @@ le_test a b h = grind (arith, nat_tests)
 pub are_thin_names-push : (names : List (List ℕ)) (name : List ℕ) → IsTrue (are_thin_names names) → length names < 12 → IsTrue (is_thin_name name) → has_name names name ≡ false
     → IsTrue (are_thin_names (names ++ name ∷ []))
 are_thin_names-push names name thin few good new =
-    let outer = both _ (are_distinct names) thin in
-    let inner = both _ (list_all is_thin_name names) outer.0 in
+    let outer = and_parts _ (are_distinct names) thin in
+    let inner = and_parts _ (list_all is_thin_name names) outer.0 in
     let count : length (names ++ name ∷ []) ≤ 12 = omega (arith, length-append names (name ∷ [])) in
     let each : list_all is_thin_name (names ++ name ∷ []) ≡ true =
     list_all-append is_thin_name names (name ∷ []) ∙ ap (λ (b : Bool). b && (is_thin_name name && true)) inner.1 ∙ ap (λ (b : Bool). b && true) good in

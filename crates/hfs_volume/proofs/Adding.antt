@@ -1,5 +1,8 @@
 -- An entry added with its thread keeps all rules of a sound volume but the counts: any entry, a link and the first private folder too.
 use Rattle.std.proofs.Common.{◌≡◌, ◌⊎◌, ℕ, ◌+◌, Bool, true, false, List, [], length, inl, inr, refl, sym, ◌∙◌, ap, subst, arith}
+use Rattle.std.proofs.Math.Bool.{and-false}
+use Rattle.std.specs.Cmp.{both_ways}
+use Rattle.std.proofs.lemmas.Bool.{true≢false}
 use Rattle.std.specs.Prelude.{Contains, ◌==◌, ◌&&◌, count_by, None, Some, find, if◌then◌else◌}
 use Rattle.std.specs.Str.{bytes_eq}
 use Rattle.alloc_bitmap.specs.Apart.{times}
@@ -18,9 +21,8 @@ use Rattle.hfs_volume.proofs.Counting.{length_kept}
 use Rattle.hfs_volume.proofs.Lying.{lies_still}
 use Rattle.hfs_volume.proofs.Members.{all_of, each_of}
 use Rattle.hfs_volume.proofs.Flat.{find_none, find_only, found_none, some_same, none_or_some}
-use Rattle.hfs_volume.proofs.Ranks.{true_or_false}
-use Rattle.hfs_volume.proofs.Hiding.{hidden_is_computed, same_bools}
-use Rattle.hfs_volume.proofs.Seeing.{and_false, same_number}
+use Rattle.hfs_volume.proofs.Hiding.{hidden_is_computed}
+use Rattle.hfs_volume.proofs.Seeing.{same_number}
 use Rattle.hfs_volume.proofs.Fitting.{differs, not_same, own_not_at}
 use Rattle.hfs_volume.proofs.Threading.{threads_kept, rooted_kept}
 use Rattle.hfs_volume.proofs.Shaping.{with_catalog, has_files_still}
@@ -66,7 +68,7 @@ module _ (entry : Placed) (old new : VolumeState) (changes : InCatalog (AddsEntr
   lies_now top x lies = lies_still (entries_of was) (entries_of is) top (still_entry added_side) x lies
 
   empty_in_it : (x : ℕ) → (x == id_of entry) ≡ false → LiesIn (entries_of is) (id_of entry) x → ⊥
-  empty_in_it _ other is_it = true_or_false (sym (same_number (id_of entry)) ∙ other)
+  empty_in_it _ other is_it = true≢false (sym (same_number (id_of entry)) ∙ other)
   empty_in_it _ other (below x f stands is_a same lies) = elim (entry_cases added_side f stands) [
     | inl it ↦ not_same x (id_of entry) other (sym same ∙ ap id_of it)
     | inr there ↦ empty_in_it f.parent (no_child_yet f there) lies
@@ -76,7 +78,7 @@ module _ (entry : Placed) (old new : VolumeState) (changes : InCatalog (AddsEntr
 
   module _ (not_own : ((entry.parent == 2) && is_private_name entry.name) ≡ false) where
     ordinary_found : (name : List ℕ) → is_private_name name ≡ true → bytes_eq [] name ≡ false → record_at is 2 name ≡ record_at was 2 name
-    ordinary_found name own some = found_same added_side (is_placed_at 2 name) (own_not_at entry not_own name own) (ap (λ b. (id_of entry == 2) && b) some ∙ and_false (id_of entry == 2))
+    ordinary_found name own some = found_same added_side (is_placed_at 2 name) (own_not_at entry not_own name own) (ap (λ b. (id_of entry == 2) && b) some ∙ and-false (id_of entry == 2))
 
     pub ordinary_private : private_id is ≡ private_id was
     ordinary_private = ap folder_id (ordinary_found private_name refl refl)
@@ -88,7 +90,7 @@ module _ (entry : Placed) (old new : VolumeState) (changes : InCatalog (AddsEntr
     found_first =
         let test : is_placed_at 2 private_name entry ≡ true = (λ i. (first.place.0 i == 2) && bytes_eq (first.place.1 i) private_name) in
         ap (find (is_placed_at 2 private_name)) added_side.second.is
-        ∙ find_none (is_placed_at 2 private_name) added_side.mid added_side.second.place (thread_with added_side.spare entry) (and_false (id_of entry == 2))
+        ∙ find_none (is_placed_at 2 private_name) added_side.mid added_side.second.place (thread_with added_side.spare entry) (and-false (id_of entry == 2))
         ∙ ap (find (is_placed_at 2 private_name)) added_side.first.is
         ∙ find_only (is_placed_at 2 private_name) was added_side.first.place entry test (λ p stands. found_none (is_placed_at 2 private_name) was first.is_new p stands)
 
@@ -100,8 +102,8 @@ module _ (entry : Placed) (old new : VolumeState) (changes : InCatalog (AddsEntr
 
     first_found : (name : List ℕ) → bytes_eq private_name name ≡ false → bytes_eq [] name ≡ false → record_at is 2 name ≡ record_at was 2 name
     first_found name other some =
-        found_same added_side (is_placed_at 2 name) ((λ i. (entry.parent == 2) && bytes_eq (first.place.1 i) name) ∙ ap (λ b. (entry.parent == 2) && b) other ∙ and_false (entry.parent == 2))
-        (ap (λ b. (id_of entry == 2) && b) some ∙ and_false (id_of entry == 2))
+        found_same added_side (is_placed_at 2 name) ((λ i. (entry.parent == 2) && bytes_eq (first.place.1 i) name) ∙ ap (λ b. (entry.parent == 2) && b) other ∙ and-false (entry.parent == 2))
+        (ap (λ b. (id_of entry == 2) && b) some ∙ and-false (id_of entry == 2))
 
   journal_found : (name : List ℕ) → is_private_name name ≡ true → bytes_eq private_name name ≡ false → bytes_eq [] name ≡ false → record_at is 2 name ≡ record_at was 2 name
   journal_found name own other some = elim may.own [ inl not_own ↦ ordinary_found not_own name own some | inr first ↦ first_found first name other some ]
@@ -123,7 +125,7 @@ module _ (entry : Placed) (old new : VolumeState) (changes : InCatalog (AddsEntr
   pub shared_after : (reference : ℕ) (f : Placed) → is_shared_file was reference f ≡ true → is_shared_file is reference f ≡ true
   shared_after reference f shared = elim may.own [
     | inl not_own ↦ ap (λ private. is_shared private reference f) (ordinary_private not_own) ∙ shared
-    | inr first ↦ absurd (true_or_false (sym shared ∙ ap (λ private. is_shared private reference f) (no_private first)))
+    | inr first ↦ absurd (true≢false (sym shared ∙ ap (λ private. is_shared private reference f) (no_private first)))
   ]
 
   -- and what is one was one, or is the entry
@@ -206,7 +208,7 @@ module _ (entry : Placed) (old new : VolumeState) (changes : InCatalog (AddsEntr
   added_hidden x other =
       let before = hidden_is_computed was old.head.next_catalog_id x shaped.ids shaped.rooted in
       let after = hidden_is_computed is new.head.next_catalog_id x added_shaped.ids added_shaped.rooted in
-      same_bools (is_hidden is x) (is_hidden was x) (λ hidden. before.0 (hidden_before x other (after.1 hidden))) (λ hidden. after.0 (hidden_after x (before.1 hidden)))
+      both_ways (is_hidden is x) (is_hidden was x) (λ hidden. before.0 (hidden_before x other (after.1 hidden))) (λ hidden. after.0 (hidden_after x (before.1 hidden)))
 
 -- the law
 pub entry_added_law : EntryAdded

@@ -1,5 +1,7 @@
 -- What users see after an entry was added: the first private folder changes nothing that they see, and a link is one name more.
 use Rattle.std.proofs.Common.{◌≡◌, ℕ, Bool, true, false, List, [], ◌∷◌, inl, inr, refl, sym, ◌∙◌, ap, subst, arith}
+use Rattle.std.proofs.Math.Bool.{and-false}
+use Rattle.std.specs.Cmp.{both_ways}
 use Rattle.std.specs.Prelude.{Contains, ◌==◌, ◌&&◌, ◌||◌, not, Some, is_some, if◌then◌else◌}
 use Rattle.cat_records.specs.declared.record.FileRecord.{FileRecord}
 use Rattle.cat_records.specs.declared.record.CatRecord.{CatRecord}
@@ -17,9 +19,9 @@ use Rattle.hfs_volume.specs.TreeOf.{tree_in, is_hidden, is_seen, plain_entry, id
 use Rattle.hfs_volume.specs.Changes.{AreSorted, Adds, AddsEntry, InCatalog}
 use Rattle.hfs_volume.specs.Laws.{IsShaped, MayAdd, IsFirstPrivate, is_own}
 use Rattle.hfs_volume.proofs.Members.{each_of}
-use Rattle.hfs_volume.proofs.Ranks.{true_or_false, empty_is}
-use Rattle.hfs_volume.proofs.Hiding.{same_bools, same_entry, or_true}
-use Rattle.hfs_volume.proofs.Seeing.{other_way, and_false}
+use Rattle.hfs_volume.proofs.Ranks.{empty_is}
+use Rattle.hfs_volume.proofs.Hiding.{same_entry, or_true}
+use Rattle.hfs_volume.proofs.Seeing.{other_way}
 use Rattle.hfs_volume.proofs.Fitting.{differs, not_same}
 use Rattle.hfs_volume.proofs.Reaching.{shows_seen, folder_no_link}
 use Rattle.hfs_volume.proofs.Sharing.{shared_found, one_shared, linked_is, links_it}
@@ -28,7 +30,7 @@ use Rattle.hfs_volume.proofs.Trees.{Agrees, entries_over, nodes_over, one_entry_
 use Rattle.hfs_volume.proofs.NodesOf.{entry_of_is}
 use Rattle.hfs_volume.proofs.Adding.{added_side, added_shaped, added_hidden, no_child_yet, parent_differs, shared_after, shared_before, first_private, ordinary_private}
 use Rattle.hfs_volume.proofs.MovingOver.{seen_is_outside, not_shared_unlinked}
-use Rattle.std.proofs.lemmas.Bool.{eqb-true}
+use Rattle.std.proofs.lemmas.Bool.{eqb-true, true≢false}
 
 module _ (entry : Placed) (old new : VolumeState) (changes : InCatalog (AddsEntry entry) old new) (may : MayAdd entry old) (shaped : IsShaped old) (sorted : AreSorted new.catalog_pairs) where
   abbrev was : List Placed
@@ -62,7 +64,7 @@ module _ (entry : Placed) (old new : VolumeState) (changes : InCatalog (AddsEntr
 
   -- files are linked as they were, but for one that the entry names
   linked_alike : (p : Placed) → Contains (entries_of was) p → (is_link entry ≡ true → is_shared_file was (special_of entry) p ≡ true → ⊥) → is_linked is p ≡ is_linked was p
-  linked_alike p stands other = same_bools (is_linked is p) (is_linked was p) there back
+  linked_alike p stands other = both_ways (is_linked is p) (is_linked was p) there back
     where
       there : is_linked is p ≡ true → is_linked was p ≡ true
       there linked =
@@ -122,7 +124,7 @@ module _ (entry : Placed) (old new : VolumeState) (changes : InCatalog (AddsEntr
         ∙ none (not (is_empty entry.name)) (not (entry.parent == 1)) (not (is_hidden is entry.parent))
       where
         none : (a b c : Bool) → (a && b && c && false) ≡ false
-        none true true c = and_false c
+        none true true c = and-false c
         none true false c = refl
         none false b c = refl
 
@@ -131,8 +133,8 @@ module _ (entry : Placed) (old new : VolumeState) (changes : InCatalog (AddsEntr
 
     folder_no_node : (value : CatRecord) → is_folder value ≡ true → is_seen is entry ≡ false → node_in attributes is bytes_of entry value ≡ []
     folder_no_node (Folder f) is_a unseen = λ i. if not_2 i || unseen i then plain_node attributes f.fields true [] false ∷ [] else []
-    folder_no_node (File f) is_a unseen = absurd (true_or_false (sym is_a))
-    folder_no_node (Thread f) is_a unseen = absurd (true_or_false (sym is_a))
+    folder_no_node (File f) is_a unseen = absurd (true≢false (sym is_a))
+    folder_no_node (Thread f) is_a unseen = absurd (true≢false (sym is_a))
 
     pub tree_private : IsFirstPrivate entry was → tree_in new bytes_of ≡ record (tree_in old bytes_of) { has_private = true }
     unfolding tree_in
@@ -141,7 +143,7 @@ module _ (entry : Placed) (old new : VolumeState) (changes : InCatalog (AddsEntr
         let no_link = folder_no_link entry first.folder in
         λ i. record {
           entries = entries_unseen unseen i;
-          nodes = ((λ j. nodes_over (ap attributes_of changes.rest j) bytes_of is is) ∙ nodes_alike (folder_no_node entry.value first.folder unseen) (λ e stands. linked_alike e stands (λ link. absurd (true_or_false (sym link ∙ no_link))))) i;
+          nodes = ((λ j. nodes_over (ap attributes_of changes.rest j) bytes_of is is) ∙ nodes_alike (folder_no_node entry.value first.folder unseen) (λ e stands. linked_alike e stands (λ link. absurd (true≢false (sym link ∙ no_link))))) i;
           next_id = (ap (λ (v : VolumeState). v.head) changes.rest i).next_catalog_id;
           has_private = ap is_some (first_private entry old new changes may shaped first) i;
           moment = (ap (λ (v : VolumeState). v.head) changes.rest i).modify_date;
@@ -154,7 +156,7 @@ module _ (entry : Placed) (old new : VolumeState) (changes : InCatalog (AddsEntr
     tree_unseen not_own no_link unseen none =
         λ i. record {
           entries = entries_unseen unseen i;
-          nodes = ((λ j. nodes_over (ap attributes_of changes.rest j) bytes_of is is) ∙ nodes_alike none (λ e stands. linked_alike e stands (λ link. absurd (true_or_false (sym link ∙ no_link))))) i;
+          nodes = ((λ j. nodes_over (ap attributes_of changes.rest j) bytes_of is is) ∙ nodes_alike none (λ e stands. linked_alike e stands (λ link. absurd (true≢false (sym link ∙ no_link))))) i;
           next_id = (ap (λ (v : VolumeState). v.head) changes.rest i).next_catalog_id;
           has_private = is_some (ordinary_private entry old new changes may shaped not_own i);
           moment = (ap (λ (v : VolumeState). v.head) changes.rest i).modify_date;
@@ -187,7 +189,7 @@ module _ (entry : Placed) (old new : VolumeState) (changes : InCatalog (AddsEntr
         where
           by_test : (b : Bool) → is_folder p.value ≡ b → b ≡ false
           by_test false isnt = refl
-          by_test true is_a = absurd (true_or_false (sym is_one ∙ folder_no_link p is_a))
+          by_test true is_a = absurd (true≢false (sym is_one ∙ folder_no_link p is_a))
 
       plain_is : plain_entry is entry ≡ its_entry
       plain_is = λ i. record {
@@ -204,7 +206,7 @@ module _ (entry : Placed) (old new : VolumeState) (changes : InCatalog (AddsEntr
       unlinked = not_shared_unlinked is entry (seen_is_outside new shaped_new entry visible_now)
 
       link_no_node : (value : CatRecord) → is_folder value ≡ false → node_in attributes is bytes_of entry value ≡ []
-      link_no_node (Folder f) isnt = absurd (true_or_false isnt)
+      link_no_node (Folder f) isnt = absurd (true≢false isnt)
       link_no_node (File f) isnt = λ i. if (link_seen i && not (link i)) || unlinked i then plain_node attributes f.fields false (bytes_of f) (is_linked is entry) ∷ [] else []
       link_no_node (Thread f) isnt = refl
 

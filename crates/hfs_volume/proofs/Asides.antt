@@ -1,5 +1,6 @@
 -- What lies aside is free: the lists, the trees and the plain tree of the other content are those of the sound one.
 use Rattle.std.proofs.Common.{◌≡◌, ◌≢◌, ◌⊎◌, ◌<◌, ◌≤◌, ℕ, zero, suc, ◌+◌, ◌-◌, ◌*◌, ◌/◌, ◌%◌, ◌==◌, ◌&&◌, Bool, true, false, not, List, [], ◌∷◌, ◌++◌, length, map, take, drop, refl, sym, ◌∙◌, ap, subst, arith, inl, inr, ⊎_elim}
+use Rattle.std.proofs.lemmas.Bool.{true≢false}
 use Rattle.std.specs.Prelude.{Contains, All, IsTrue, Option, Some, None, slice_get, if◌then◌else◌}
 use Rattle.std.specs.List.{flat_map, range_with_len}
 use Rattle.std.proofs.lemmas.Option.{slice_get_within, get_or_from_slice_get}
@@ -32,7 +33,6 @@ use Rattle.hfs_volume.proofs.BlockWants.{in_range}
 use Rattle.hfs_volume.proofs.Sectors.{from_first, in_front}
 use Rattle.hfs_volume.proofs.Apart.{reserved_is_used}
 use Rattle.hfs_volume.proofs.Hiding.{same_entry}
-use Rattle.hfs_volume.proofs.Ranks.{true_or_false}
 use Rattle.hfs_volume.proofs.PlainBytes.{same_plain_bytes, journal_not_plain, info_not_plain}
 use Rattle.hfs_volume.proofs.Rereading.{same_bytes, same_tree, same_block_sector}
 use Rattle.hfs_volume.proofs.Untouched.{IsOwnFile, data_fork_of, file_fork_stands, special_stands, blocks, journal_file, info_file, IsForeign, reserved_apart, sector_stays, fork_stays}
@@ -195,7 +195,7 @@ module _ (content other : Content) (sound : IsSound content) (agrees : AgreesOut
         not_own : (own : Placed) → Contains (entries_of (records_of was)) own → is_plain_file (records_of was) own ≡ false → id_of p ≡ id_of own → ⊥
         not_own own there hidden same_id =
             let one : p ≡ own = same_entry was.head.next_catalog_id (entries_of (records_of was)) sound.volume.entries.ids p own stands there same_id in
-            true_or_false (sym plain ∙ ap (is_plain_file (records_of was)) one ∙ hidden)
+            true≢false (sym plain ∙ ap (is_plain_file (records_of was)) one ∙ hidden)
 
     plain_bytes : (p : Placed) (file : FileRecord) → Contains (entries_of (records_of was)) p → p.value ≡ File file → is_plain_file (records_of was) p ≡ true → file_bytes other file ≡ file_bytes content file
     unfolding file_bytes

@@ -6,7 +6,7 @@ use Rattle.std.specs.Option.{ok_or}
 use Rattle.std.specs.List.{flat_map}
 use Rattle.std.specs.Ordering.{is_lt, nat_cmp, ordering_then}
 use Rattle.std.specs.Cmp.Lexicographic.{slice_cmp}
-use Rattle.std.proofs.lemmas.Bool.{eqb-true}
+use Rattle.std.proofs.lemmas.Bool.{eqb-true, true≢false, and_parts}
 use Rattle.btree_node.specs.Levels.{Pair}
 use Rattle.cat_records.specs.declared.record.EntryFields.{EntryFields}
 use Rattle.cat_records.specs.declared.record.FileRecord.{FileRecord}
@@ -47,8 +47,7 @@ use Rattle.hfs_volume.proofs.Counting.{map_insert}
 use Rattle.hfs_volume.proofs.Members.{all_of, each_of, kept_cases, inserted_cases, map_cases}
 use Rattle.hfs_volume.proofs.Flat.{flat_none, flat_one, flat_agree, flat_changed, found_some, AllBefore, flat_in_order}
 use Rattle.hfs_volume.proofs.Ordering.{added_is_put}
-use Rattle.hfs_volume.proofs.Hiding.{both}
-use Rattle.hfs_volume.proofs.Ranks.{true_or_false, one_way}
+use Rattle.hfs_volume.proofs.Ranks.{one_way}
 use Rattle.hfs_volume.proofs.Seeing.{same_number, other_way}
 use Rattle.hfs_volume.proofs.Heading.{numbered_shaped, used_numbered}
 use Rattle.hfs_volume.proofs.Finishing.{sound_is_both}
@@ -302,8 +301,8 @@ wholes_in_order id attributes order = flat_in_order attribute_before plain_befor
       where
         by_bools : (b c : Bool) → ((x.id == id) && (x.start == 0)) ≡ b → ((y.id == id) && (y.start == 0)) ≡ c → AllBefore plain_before (if b then plain_attribute x ∷ [] else []) (if c then plain_attribute y ∷ [] else [])
         by_bools true true one other =
-            let first = both (x.id == id) (x.start == 0) one in
-            let second = both (y.id == id) (y.start == 0) other in
+            let first = and_parts (x.id == id) (x.start == 0) one in
+            let second = and_parts (y.id == id) (y.start == 0) other in
             ((names_before x y before (eqb-true x.id id first.0 ∙ sym (eqb-true y.id id second.0)) (eqb-true x.start 0 first.1 ∙ sym (eqb-true y.start 0 second.1)), tt), tt)
         by_bools true false one other = (tt, tt)
         by_bools false c one other = tt
@@ -364,7 +363,7 @@ owner_of volume bytes_of shaped node stands =
   where
     not_linked : (e : Placed) → Contains (entries_of (records_of volume)) e → is_link e ≡ true → (b : Bool) → is_linked (records_of volume) e ≡ b → b ≡ false
     not_linked e there link false isnt = refl
-    not_linked e there link true linked = let links = linked_is (records_of volume) e linked in absurd (true_or_false (sym link ∙ shared_no_link volume shaped (special_of links.link) e there links.names))
+    not_linked e there link true linked = let links = linked_is (records_of volume) e linked in absurd (true≢false (sym link ∙ shared_no_link volume shaped (special_of links.link) e there links.names))
 
     and_none : (b : Bool) → (b && false) ≡ false
     and_none true = refl
@@ -372,7 +371,7 @@ owner_of volume bytes_of shaped node stands =
 
     by_link : (e : Placed) → Contains (entries_of (records_of volume)) e → (value : CatRecord) → e.value ≡ value → Contains (node_in (attributes_of volume) (records_of volume) bytes_of e value) node → (b : Bool) → is_link e ≡ b → b ≡ false
     by_link e there value is has false isnt = refl
-    by_link e there (Folder f) is has true link = absurd (true_or_false (sym link ∙ folder_no_link e (ap is_folder is)))
+    by_link e there (Folder f) is has true link = absurd (true≢false (sym link ∙ folder_no_link e (ap is_folder is)))
     by_link e there (File f) is has true link =
         let none : is_plain_file (records_of volume) e ≡ false = (λ i. (is_seen (records_of volume) e && not (link i)) || not_linked e there link (is_linked (records_of volume) e) refl i) ∙ (λ i. and_none (is_seen (records_of volume) e) i || false) in
         let empty : Contains [] node = subst (λ b. Contains (if b then plain_node (attributes_of volume) f.fields false (bytes_of f) (is_linked (records_of volume) e) ∷ [] else []) node) none has in

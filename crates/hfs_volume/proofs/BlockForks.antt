@@ -1,10 +1,11 @@
 -- The forks of a volume, after some blocks of one of them have others in their place that were free.
 use Rattle.std.proofs.Common.{◌≡◌, ◌≢◌, ◌⊎◌, ◌<◌, ◌≤◌, ℕ, zero, suc, ◌+◌, ◌-◌, ◌*◌, ◌/◌, ◌==◌, Bool, true, false, List, [], ◌∷◌, ◌++◌, length, take, drop, inl, inr, refl, sym, ◌∙◌, ap, subst, arith}
+use Rattle.std.proofs.Math.Bool.{and-false}
 use Rattle.std.specs.Prelude.{Contains, ◌&&◌, not, find, cond, Some, if◌then◌else◌}
 use Rattle.std.specs.List.{flat_map, range_with_len}
 use Rattle.std.proofs.lemmas.List.{take-append-drop}
 use Rattle.std.proofs.lemmas.List.Elements.{Contains-append_left, Contains-append_right, Contains-append_cases}
-use Rattle.std.proofs.lemmas.Bool.{eqb-true}
+use Rattle.std.proofs.lemmas.Bool.{eqb-true, true≢false, and_parts}
 use Rattle.hx_bytes.specs.declared.extents.Extent.{Extent}
 use Rattle.fork_map.specs.Blocks.{blocks_of}
 use Rattle.alloc_bitmap.specs.Apart.{times, AreApart}
@@ -19,8 +20,6 @@ use Rattle.hfs_volume.specs.Run.{AreFresh}
 use Rattle.hfs_volume.specs.Changes.{FlipsBits}
 use Rattle.hfs_volume.specs.Laws.{HasRightBits}
 use Rattle.hfs_volume.proofs.Members.{at_front, behind, all_of, each_of, kept_stands, kept_cases}
-use Rattle.hfs_volume.proofs.Ranks.{true_or_false}
-use Rattle.hfs_volume.proofs.Hiding.{both}
 use Rattle.hfs_volume.proofs.Fitting.{differs, not_same}
 use Rattle.hfs_volume.proofs.Seeing.{same_number}
 use Rattle.hfs_volume.proofs.Reaching.{flat_stands, flat_cases}
@@ -47,7 +46,7 @@ kept_within {X} test wide (x ∷ xs) implies = by_tests (test x) (wide x) refl r
   where
     by_tests : (b c : Bool) → test x ≡ b → wide x ≡ c → kept test (kept wide xs) ≡ kept test xs → kept test ((if c then x ∷ [] else []) ++ kept wide xs) ≡ (if b then x ∷ [] else []) ++ kept test xs
     by_tests true true one other rest = ap (λ d. (if d then x ∷ [] else []) ++ kept test (kept wide xs)) one ∙ ap (λ l. x ∷ l) rest
-    by_tests true false one other rest = absurd (true_or_false (sym (implies x one) ∙ other))
+    by_tests true false one other rest = absurd (true≢false (sym (implies x one) ∙ other))
     by_tests false true one other rest = ap (λ d. (if d then x ∷ [] else []) ++ kept test (kept wide xs)) one ∙ rest
     by_tests false false one other rest = rest
 
@@ -58,12 +57,8 @@ in_drop : (n : ℕ) (xs : List ℕ) (x : ℕ) → Contains (drop n xs) x → Con
 in_drop n xs x stands = subst (λ l. Contains l x) (take-append-drop n xs) (Contains-append_right (take n xs) (drop n xs) x stands)
 
 above_none : (n : ℕ) → (n == 0) ≡ false → 1 ≤ n
-above_none zero is = absurd (true_or_false is)
+above_none zero is = absurd (true≢false is)
 above_none (suc n) is = omega arith
-
-and_none : (b : Bool) → (b && false) ≡ false
-and_none true = refl
-and_none false = refl
 
 -- extents whose blocks all lie below a number end there
 below_inside : (total : ℕ) (extents : List Extent) → ((block : ℕ) → Contains (blocks_of (in_use extents)) block → block < total) → LieInside total extents
@@ -77,7 +72,7 @@ below_inside total extents inside = all_of (λ (e : Extent). e.start + e.count �
         omega (arith, count, last)
       where
         by_count : (b : Bool) → (e.count == 0) ≡ b → 1 ≤ e.count
-        by_count true is = absurd (true_or_false (sym some ∙ ap not is))
+        by_count true is = absurd (true≢false (sym some ∙ ap not is))
         by_count false is = above_none e.count is
 
 -- ---- of all forks one is another, of the same file and kind
@@ -104,7 +99,7 @@ module _ (id kind : ℕ) (old new : List Overflow) (others : kept (λ more. not 
     where
       apart : (more : Overflow) → is_of owned.id owned.kind more ≡ true → is_of id kind more ≡ false
       apart more is =
-          let parts = both (more.id == owned.id) (more.fork == owned.kind) is in
+          let parts = and_parts (more.id == owned.id) (more.fork == owned.kind) is in
           (λ i. (eqb-true more.id owned.id parts.0 i == id) && (eqb-true more.fork owned.kind parts.1 i == kind)) ∙ apart_from
 
   -- and so are its extents
@@ -199,13 +194,13 @@ module _ (id kind from count : ℕ) (fresh : List ℕ) (one other : Owned) (old 
   pub blocks_elsewhere : (other_id other_kind : ℕ) → (other_id ≢ id) ⊎ (other_kind ≢ kind) → blocks_at new other_id other_kind ≡ blocks_at old other_id other_kind
   blocks_elsewhere other_id other_kind differ =
       ap (λ l. blocks_found is_more (find (is_fork other_id other_kind) l)) places.is
-      ∙ find_swap (blocks_found is_more) (blocks_found was_more) (is_fork other_id other_kind) one other places.front places.back (other_not ∙ sym one_not) refl (λ is. absurd (true_or_false (sym is ∙ one_not))) (λ z stands is. other_blocks z stands)
+      ∙ find_swap (blocks_found is_more) (blocks_found was_more) (is_fork other_id other_kind) one other places.front places.back (other_not ∙ sym one_not) refl (λ is. absurd (true≢false (sym is ∙ one_not))) (λ z stands is. other_blocks z stands)
       ∙ ap (λ l. blocks_found was_more (find (is_fork other_id other_kind) l)) (sym places.was)
     where
       not_it : ((id == other_id) && (kind == other_kind)) ≡ false
       not_it = elim differ [
         | inl ids ↦ ap (λ b. b && (kind == other_kind)) (differs id other_id (λ same. ids (sym same)))
-        | inr kinds ↦ ap (λ b. (id == other_id) && b) (differs kind other_kind (λ same. kinds (sym same))) ∙ and_none (id == other_id)
+        | inr kinds ↦ ap (λ b. (id == other_id) && b) (differs kind other_kind (λ same. kinds (sym same))) ∙ and-false (id == other_id)
       ]
 
       one_not : is_fork other_id other_kind one ≡ false
@@ -291,7 +286,7 @@ module _ (id kind from count : ℕ) (fresh : List ℕ) (one other : Owned) (old 
       was_inside = subst (λ n. block < n) does.total inside
 
       not_there : (blocks : List ℕ) → is_among blocks block ≡ false → Contains blocks block → ⊥
-      not_there blocks isnt stands = true_or_false (sym (among blocks block stands) ∙ isnt)
+      not_there blocks isnt stands = true≢false (sym (among blocks block stands) ∙ isnt)
 
       by_tests : (b c : Bool) → is_among fresh block ≡ b → is_among freed block ≡ c → is_set new block ≡ is_among (used_in new) block
       by_tests true c is_fresh freed_or_not =
@@ -328,7 +323,7 @@ module _ (id kind from count : ℕ) (fresh : List ℕ) (one other : Owned) (old 
         where
           not_extents : (b : Bool) → (id == extents_id) ≡ b → b ≡ false
           not_extents false same = refl
-          not_extents true same = absurd (true_or_false (sym is ∙ does.no_own same more stands))
+          not_extents true same = absurd (true≢false (sym is ∙ does.no_own same more stands))
 
           own_overflow : overflow_in is_more other.id other.kind ≡ kept (is_of id kind) is_more
           own_overflow = (λ i. overflow_in is_more (does.swap.is_other.0 i) (does.swap.is_other.1 i)) ∙ ap (λ b. if b then [] else kept (is_of id kind) is_more) (not_extents (id == extents_id) refl)
@@ -366,7 +361,7 @@ module _ (id kind from count : ℕ) (fresh : List ℕ) (one other : Owned) (old 
   }
     where
       bad_overflow : (k : ℕ) → overflow_in is_more bad_blocks_id k ≡ overflow_in was_more bad_blocks_id k
-      bad_overflow k = kept_others id kind was_more is_more does.others (is_of bad_blocks_id k) (λ more is. apart more (both (more.id == bad_blocks_id) (more.fork == k) is).0 (more.id == id) refl)
+      bad_overflow k = kept_others id kind was_more is_more does.others (is_of bad_blocks_id k) (λ more is. apart more (and_parts (more.id == bad_blocks_id) (more.fork == k) is).0 (more.id == id) refl)
         where
           apart : (more : Overflow) → (more.id == bad_blocks_id) ≡ true → (b : Bool) → (more.id == id) ≡ b → is_of id kind more ≡ false
           apart more is true same = absurd (not_same id bad_blocks_id does.not_bad (sym (eqb-true more.id id same) ∙ eqb-true more.id bad_blocks_id is))
@@ -382,11 +377,11 @@ module _ (id kind from count : ℕ) (fresh : List ℕ) (one other : Owned) (old 
         where
           not_extents : (b : Bool) → (id == extents_id) ≡ b → b ≡ false
           not_extents false same = refl
-          not_extents true same = absurd (true_or_false (sym is ∙ does.no_own same more stands))
+          not_extents true same = absurd (true≢false (sym is ∙ does.no_own same more stands))
       fork_again more stands false isnt = elim (each_of (HasFork (forks_of old)) was_more has.owned more (more_was id kind was_more is_more does.others more stands isnt)) [
         | inl bad ↦ inl bad
         | inr found ↦ elim (split_cases other one places.front places.back found.0 (subst (λ l. Contains l found.0) places.was found.1)) [
-          | inl same ↦ absurd (true_or_false (sym found.2 ∙ (λ i. is_of (one_id same i) (one_kind same i) more) ∙ isnt))
+          | inl same ↦ absurd (true≢false (sym found.2 ∙ (λ i. is_of (one_id same i) (one_kind same i) more) ∙ isnt))
           | inr there ↦ inr (found.0, still_there found.0 there, found.2, found.3)
         ]
       ]

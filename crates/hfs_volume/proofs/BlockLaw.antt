@@ -1,7 +1,7 @@
 -- Blocks of a file replaced, added or cut: the rules are kept, each bit is right again, and so many more blocks are used, and so many fewer.
 use Rattle.std.proofs.Common.{◌≡◌, ◌<◌, ◌≤◌, ℕ, ◌+◌, ◌==◌, Bool, true, false, List, length, take, drop, refl, sym, ◌∙◌, ap, subst, arith}
 use Rattle.std.specs.Prelude.{Contains, ◌*◌, count_by}
-use Rattle.std.proofs.lemmas.Bool.{eqb-true}
+use Rattle.std.proofs.lemmas.Bool.{eqb-true, true≢false}
 use Rattle.std.proofs.lemmas.List.{length-take-le, length-drop}
 use Rattle.volume_header.specs.declared.header.VolumeHeader.{VolumeHeader}
 use Rattle.hfs_volume.specs.Records.{Placed, entries_of, is_file, is_folder}
@@ -16,7 +16,6 @@ use Rattle.hfs_volume.proofs.Members.{each_of}
 use Rattle.hfs_volume.proofs.Fitting.{differs}
 use Rattle.hfs_volume.proofs.Apart.{among}
 use Rattle.hfs_volume.proofs.Keeping.{counts_same, links_counted}
-use Rattle.hfs_volume.proofs.Ranks.{true_or_false}
 use Rattle.hfs_volume.proofs.BlockCounts.{stands_among}
 use Rattle.hfs_volume.proofs.BlockForks.{Exchanges, forks_again, right_again, used_count}
 use Rattle.hfs_volume.proofs.BlockRecords.{value, alike, places, named, high, forks_swap, threads_again, rooted_again, ids_again, links_again, attributes_again}
@@ -28,7 +27,7 @@ none_behind fresh freed old new flips inside none k far = by_test (is_among free
   where
     by_test : (b : Bool) → is_among freed k ≡ b → is_set new k ≡ false
     by_test true is = each_of (λ (b : ℕ). is_set new b ≡ false) freed flips.given k (stands_among k freed is)
-    by_test false isnt = flips.others k (λ stands. omega (arith, far, inside k stands)) (λ stands. true_or_false (sym (among freed k stands) ∙ isnt)) ∙ none k far
+    by_test false isnt = flips.others k (λ stands. omega (arith, far, inside k stands)) (λ stands. true≢false (sym (among freed k stands) ∙ isnt)) ∙ none k far
 
 -- the length of a stretch
 pub stretch_length : (from count : ℕ) (blocks : List ℕ) → from + count ≤ length blocks → length (take count (drop from blocks)) ≡ count

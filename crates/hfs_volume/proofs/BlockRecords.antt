@@ -4,7 +4,7 @@ use Rattle.std.specs.Prelude.{Contains, IsTrue, ◌&&◌, not, count_by, Some, i
 use Rattle.std.specs.Str.{bytes_eq}
 use Rattle.std.specs.List.{flat_map}
 use Rattle.std.proofs.lemmas.Slice.Eq.{bytes_eq-Decides}
-use Rattle.std.proofs.lemmas.Bool.{eqb-true}
+use Rattle.std.proofs.lemmas.Bool.{eqb-true, true≢false, and_parts}
 use Rattle.std.proofs.lemmas.Grind.{flat_map-append}
 use Rattle.std.proofs.lemmas.List.Elements.{Contains-append_left, Contains-append_right, Contains-append_cases}
 use Rattle.hx_bytes.specs.declared.extents.Extent.{Extent}
@@ -28,8 +28,7 @@ use Rattle.hfs_volume.specs.Reclaim.{is_fork}
 use Rattle.hfs_volume.specs.Changes.{SameKind, SwapsFork, with_fork}
 use Rattle.hfs_volume.specs.Laws.{IsShaped, IsUserFile}
 use Rattle.hfs_volume.proofs.Members.{first_or_later, in_one, all_of, each_of}
-use Rattle.hfs_volume.proofs.Ranks.{true_or_false}
-use Rattle.hfs_volume.proofs.Hiding.{both, same_entry}
+use Rattle.hfs_volume.proofs.Hiding.{same_entry}
 use Rattle.hfs_volume.proofs.Fitting.{differs}
 use Rattle.hfs_volume.proofs.Seeing.{same_number}
 use Rattle.hfs_volume.proofs.Flat.{found_some, flat_agree}
@@ -98,7 +97,7 @@ module _ (id kind : ℕ) (old new : VolumeState) (swap : SwapsFork id kind old.c
     kind = (sym (ap is_folder swap.is_file.0), sym (ap is_file swap.is_file.0));
     id = ap (λ fields. fields.id) same_fields ∙ sym (ap (λ (v : CatRecord). id_of (record entry { value = v })) swap.is_file.0);
     link = ap is_link_type same_fields ∙ sym (ap (λ (v : CatRecord). is_link (record entry { value = v })) swap.is_file.0);
-    reference = λ link. absurd (true_or_false (sym link ∙ entry_not_link));
+    reference = λ link. absurd (true≢false (sym link ∙ entry_not_link));
   }
 
   pub places : Splits entry it was is
@@ -146,7 +145,7 @@ module _ (id kind : ℕ) (old new : VolumeState) (swap : SwapsFork id kind old.c
     | inl two ↦
         let root = shaped.rooted.root in
         let same = same_entry old.head.next_catalog_id (entries_of was) shaped.ids entry root.0 stood root.1 (two ∙ sym root.2.id) in
-        absurd (true_or_false (sym root.2.folder ∙ ap (λ (p : Placed). is_folder p.value) (sym same) ∙ ap is_folder swap.is_file.0))
+        absurd (true≢false (sym root.2.folder ∙ ap (λ (p : Placed). is_folder p.value) (sym same) ∙ ap is_folder swap.is_file.0))
     | inr given ↦ subst (λ n. 16 ≤ n) entry_id given.0
   ]
 
@@ -321,7 +320,7 @@ module _ (id kind : ℕ) (old new : VolumeState) (swap : SwapsFork id kind old.c
     links_again = record {
       private_folder = subst (λ l. (placed : Placed) → record_at l 2 private_name ≡ Some placed → is_folder placed.value ≡ true) (sym places.is) (private_folder_still entry value places.front places.back named alike (overflow_in_volume old) was_good);
       links = λ placed stands link. elim (split_cases entry it before after placed (subst (λ l. Contains l placed) is_entries stands)) [
-        | inl same ↦ absurd (true_or_false (sym link ∙ ap is_link same ∙ alike.link ∙ entry_not_link))
+        | inl same ↦ absurd (true≢false (sym link ∙ ap is_link same ∙ alike.link ∙ entry_not_link))
         | inr there ↦
             let old_one = shaped.links.links placed (subst (λ l. Contains l placed) (sym was_entries) (split_more entry before after placed there)) link in
             let good = good_still entry value places.front places.back named alike (overflow_in_volume old) placed (subst (λ l. IsGoodLink l (overflow_in_volume old) placed) places.was old_one) in
@@ -336,7 +335,7 @@ module _ (id kind : ℕ) (old new : VolumeState) (swap : SwapsFork id kind old.c
     one_extent_again : IsUserFile id old → (name : List ℕ) → is_private_name name ≡ true → is_empty name ≡ false → (extent : Extent) → IsOneExtent was (overflow_in_volume old) name extent → IsOneExtent is (overflow_in_volume new) name extent
     one_extent_again user name own some extent one =
         let found = found_some (is_placed_at 2 name) was one.0 one.2 in
-        let place = both (one.0.parent == 2) (bytes_eq one.0.name name) found.1 in
+        let place = and_parts (one.0.parent == 2) (bytes_eq one.0.name name) found.1 in
         let same_name : one.0.name ≡ name = (bytes_eq-Decides one.0.name name).0 place.1 in
         let stands = is_entry_of was one.0 found.0 (ap is_empty same_name ∙ some) in
         let there = elsewhere one.0 stands (λ same. not_here (ap (is_placed_at 2 name) (sym same) ∙ found.1)) in
@@ -350,7 +349,7 @@ module _ (id kind : ℕ) (old new : VolumeState) (swap : SwapsFork id kind old.c
       where
         not_here : is_placed_at 2 name entry ≡ true → ⊥
         not_here is_at =
-            let parts = both (entry.parent == 2) (bytes_eq entry.name name) is_at in
+            let parts = and_parts (entry.parent == 2) (bytes_eq entry.name name) is_at in
             user entry stood entry_id (eqb-true entry.parent 2 parts.0, ap is_private_name ((bytes_eq-Decides entry.name name).0 parts.1) ∙ own)
 
         elsewhere : (p : Placed) → Contains (entries_of was) p → (p ≡ entry → ⊥) → Contains (before ++ after) p

@@ -1,5 +1,6 @@
 -- Blocks of a file replaced, added or cut, and the free ones counted anew: a sound volume stays sound.
 use Rattle.std.proofs.Common.{◌≡◌, ℕ, ◌+◌, true, List, length, inl, inr, refl, sym, ◌∙◌, ap, arith}
+use Rattle.std.proofs.lemmas.Bool.{true≢false}
 use Rattle.volume_header.specs.declared.header.VolumeHeader.{VolumeHeader}
 use Rattle.cat_records.specs.declared.record.FileRecord.{FileRecord}
 use Rattle.hfs_volume.specs.Records.{Placed, entries_of, id_of, is_folder, special_of, valence_in}
@@ -15,7 +16,6 @@ use Rattle.hfs_volume.specs.Changes.{PutsBlocks}
 use Rattle.hfs_volume.specs.Laws.{IsShaped, IsUserFile, HasRightBits, CountsBlocks}
 use Rattle.hfs_volume.specs.Writing.{PutsAndCounts, with_free}
 use Rattle.hfs_volume.proofs.Members.{all_of, each_of}
-use Rattle.hfs_volume.proofs.Ranks.{true_or_false}
 use Rattle.hfs_volume.proofs.Heading.{numbered_shaped, used_numbered}
 use Rattle.hfs_volume.proofs.Finishing.{sound_is_both}
 use Rattle.hfs_volume.proofs.Swapping.{shared_either}
@@ -89,7 +89,7 @@ module _ (id kind from count : ℕ) (fresh : List ℕ) (old new : VolumeState) (
   entries_counted = record {
     valences = all_of (λ (p : Placed). is_folder p.value ≡ true → valence_in p.value ≡ count_in (entries_of (records_of new)) (id_of p)) (entries_of (records_of new)) (λ p stands is_a.
         elim (entry_cases id kind begun new puts.file puts.is_kind was_shaped p stands) [
-          | inl same ↦ absurd (true_or_false (sym is_a ∙ ap (λ (q : Placed). is_folder q.value) same))
+          | inl same ↦ absurd (true≢false (sym is_a ∙ ap (λ (q : Placed). is_folder q.value) same))
           | inr there ↦
               each_of (λ (q : Placed). is_folder q.value ≡ true → valence_in q.value ≡ count_in (entries_of (records_of old)) (id_of q)) (entries_of (records_of old)) sound.entries.counts.valences p there is_a
               ∙ sym (counts.in_folder (id_of p))

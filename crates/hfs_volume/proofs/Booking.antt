@@ -11,7 +11,7 @@ use Rattle.std.proofs.lemmas.Map.Text.{is_eq-slice_cmp}
 use Rattle.std.proofs.lemmas.Slice.Eq.{bytes_eq-Decides}
 use Rattle.std.specs.Cmp.{IsTotalOrder, ranks}
 use Rattle.std.specs.Cmp.Lexicographic.{slice_cmp}
-use Rattle.std.proofs.lemmas.Bool.{eqb-true}
+use Rattle.std.proofs.lemmas.Bool.{eqb-true, true≢false}
 use Rattle.hfs_model.specs.declared.plain.PlainAttribute.{PlainAttribute}
 use Rattle.hfs_model.specs.declared.plain.PlainEntry.{PlainEntry}
 use Rattle.hfs_model.specs.declared.plain.PlainNode.{PlainNode}
@@ -24,7 +24,7 @@ use Rattle.hfs_volume.proofs.Counting.{count_cons}
 use Rattle.hfs_volume.proofs.Members.{at_front, behind, first_or_later, kept_stands, kept_cases, map_cases}
 use Rattle.hfs_volume.proofs.Flat.{found_some, found_none, some_same, none_or_some}
 use Rattle.hfs_volume.proofs.InOrder.{each_by, put_cases, put_still, put_in_order, kept_in_order, map_in_order, lt_trans, lt_other, total_trans, total_other}
-use Rattle.hfs_volume.proofs.Ranks.{true_or_false, entry_one_way}
+use Rattle.hfs_volume.proofs.Ranks.{entry_one_way}
 
 -- what holds of a plain tree beside the number of names of each folder and file
 pub record IsBook (tree : PlainTree) : Type 0 where
@@ -247,7 +247,7 @@ same_key x y equal = by (nat_cmp x.parent y.parent) refl equal
         λ i. (eq-eqb y.parent x.parent (sym parents) i) && ((bytes_eq-Decides y.name x.name).1 (sym names) i)
 
 entry_other : (x y : PlainEntry) → entry_before x y ≡ false → is_at x.parent x.name y ≡ false → entry_before y x ≡ true
-entry_other x y not_first differ = total_other (then_cmp (on (λ (e : PlainEntry). e.parent) nat_cmp) (on (λ (e : PlainEntry). e.name) (slice_cmp nat_cmp))) entry_total x y not_first (λ equal. true_or_false (sym (same_key x y equal) ∙ differ))
+entry_other x y not_first differ = total_other (then_cmp (on (λ (e : PlainEntry). e.parent) nat_cmp) (on (λ (e : PlainEntry). e.name) (slice_cmp nat_cmp))) entry_total x y not_first (λ equal. true≢false (sym (same_key x y equal) ∙ differ))
 
 module _ (tree : PlainTree) (item : PlainEntry) (free : entry_at tree item.parent item.name ≡ None) (named : IsNamed tree item) (not_root : item.id ≢ 2) where
   pub names_with_entry : (id : ℕ) → names_of (with_entry item tree) id ≡ names_of tree id + one_if (item.id == id)
@@ -307,7 +307,7 @@ one_at_a_place parent name x y at_x at_y first =
     let ny : y.name ≡ name = (bytes_eq-Decides y.name name).0 ky.1 in
     let forth : entry_before x y ≡ is_lt (ordering_then (nat_cmp parent parent) (slice_cmp nat_cmp name name)) = λ i. is_lt (ordering_then (nat_cmp (px i) (py i)) (slice_cmp nat_cmp (nx i) (ny i))) in
     let back : entry_before y x ≡ is_lt (ordering_then (nat_cmp parent parent) (slice_cmp nat_cmp name name)) = λ i. is_lt (ordering_then (nat_cmp (py i) (px i)) (slice_cmp nat_cmp (ny i) (nx i))) in
-    true_or_false (sym (back ∙ sym forth ∙ first) ∙ entry_one_way x y first)
+    true≢false (sym (back ∙ sym forth ∙ first) ∙ entry_one_way x y first)
   where
     both : (a b : Bool) → (a && b) ≡ true → (a ≡ true) × (b ≡ true)
     both true b is = (refl, is)
@@ -339,7 +339,7 @@ find_kept {X} test keep keeps (x ∷ xs) = by (find_kept test keep keeps xs) (ke
     by : find test (kept keep xs) ≡ find test xs → (k t : Bool) → keep x ≡ k → test x ≡ t → find test ((if k then x ∷ [] else []) ++ kept keep xs) ≡ (if t then Some x else find test xs)
     by rest true true kept_it passes = λ i. if passes i then Some x else find test (kept keep xs)
     by rest true false kept_it fails = (λ i. if fails i then Some x else find test (kept keep xs)) ∙ rest
-    by rest false true dropped passes = absurd (true_or_false (sym (keeps x passes) ∙ dropped))
+    by rest false true dropped passes = absurd (true≢false (sym (keeps x passes) ∙ dropped))
     by rest false false dropped fails = rest
 
 module _ (tree : PlainTree) (id : ℕ) (not_root : id ≢ 2) (unnamed : (entry : PlainEntry) → Contains tree.entries entry → (entry.id ≢ id) × (entry.parent ≢ id)) where

@@ -1,5 +1,6 @@
 -- What users see after a link was removed: one name less, and where it was the last one, one file less.
 use Rattle.std.proofs.Common.{◌≡◌, ◌⊎◌, ℕ, ◌≤◌, Bool, true, false, List, [], inl, inr, refl, sym, ◌∙◌, ap, subst, arith}
+use Rattle.std.proofs.lemmas.Bool.{true≢false}
 use Rattle.std.specs.Prelude.{Contains, not, is_some}
 use Rattle.cat_records.specs.declared.record.FileRecord.{FileRecord}
 use Rattle.cat_records.specs.declared.record.CatRecord.{CatRecord}
@@ -18,7 +19,6 @@ use Rattle.hfs_volume.specs.TreeOf.{tree_in, is_hidden, is_seen, is_linked, plai
 use Rattle.hfs_volume.specs.Changes.{AreSorted, AddsEntry, DropsEntry, InCatalog}
 use Rattle.hfs_volume.specs.Laws.{IsShaped, MayAdd, MayDrop, AreEmptyForks, IsFolderId, is_own}
 use Rattle.hfs_volume.proofs.Members.{all_of, each_of}
-use Rattle.hfs_volume.proofs.Ranks.{true_or_false}
 use Rattle.hfs_volume.proofs.Hiding.{hidden_is_computed, same_entry}
 use Rattle.hfs_volume.proofs.Fitting.{differs}
 use Rattle.hfs_volume.proofs.Reaching.{folder_no_link}
@@ -49,15 +49,15 @@ link_no_folder p link = by_test (is_folder p.value) refl
   where
     by_test : (b : Bool) → is_folder p.value ≡ b → b ≡ false
     by_test false isnt = refl
-    by_test true is_a = absurd (true_or_false (sym link ∙ folder_no_link p is_a))
+    by_test true is_a = absurd (true≢false (sym link ∙ folder_no_link p is_a))
 
 pub link_a_file : (p : Placed) → is_link p ≡ true → is_file p.value ≡ true
 link_a_file p link = of_value p.parent p.name p.value link
   where
     of_value : (parent : ℕ) (name : List ℕ) (value : CatRecord) → is_link (record { parent = parent; name = name; value = value }) ≡ true → is_file value ≡ true
-    of_value parent name (Folder f) is = absurd (true_or_false (sym is))
+    of_value parent name (Folder f) is = absurd (true≢false (sym is))
     of_value parent name (File f) is = refl
-    of_value parent name (Thread f) is = absurd (true_or_false (sym is))
+    of_value parent name (Thread f) is = absurd (true≢false (sym is))
 
 pub link_facts : (volume : VolumeState) → IsShaped volume → AreSorted volume.catalog_pairs → (link : Placed) → Contains (entries_of (records_of volume)) link → is_link link ≡ true → LinkFacts volume link
 link_facts volume shaped sorted link stands is =
@@ -72,7 +72,7 @@ link_facts volume shaped sorted link stands is =
         | inl two ↦
             let root = shaped.rooted.root in
             let same : link ≡ root.0 = same_entry volume.head.next_catalog_id (entries_of (records_of volume)) shaped.ids link root.0 stands root.1 (two ∙ sym root.2.id) in
-            absurd (true_or_false (sym root.2.folder ∙ ap (λ (p : Placed). is_folder p.value) (sym same) ∙ link_no_folder link is))
+            absurd (true≢false (sym root.2.folder ∙ ap (λ (p : Placed). is_folder p.value) (sym same) ∙ link_no_folder link is))
         | inr user ↦ user.0
       ];
       no_folder = link_no_folder link is;
@@ -95,9 +95,9 @@ may_drop_link volume shaped sorted link stands is =
       no_attributes = λ pair there same.
           let owner = (each_of (IsAttribute (records_of volume)) volume.attribute_pairs shaped.attributes.each pair there).owner in
           let one : owner.0 ≡ link = same_entry volume.head.next_catalog_id (entries_of (records_of volume)) shaped.ids owner.0 link owner.1 stands (owner.2 ∙ same) in
-          true_or_false (sym is ∙ ap is_link (sym one) ∙ owner.3);
+          true≢false (sym is ∙ ap is_link (sym one) ∙ owner.3);
       empty = (shaped.links.links link stands is).empty;
-      no_links = λ other there other_is shared. true_or_false (sym shared ∙ seen_is_outside volume shaped link facts.visible (special_of other));
+      no_links = λ other there other_is shared. true≢false (sym shared ∙ seen_is_outside volume shaped link facts.visible (special_of other));
     }
   where
     no_child : (p : Placed) → Contains (entries_of (records_of volume)) p → p.parent ≡ id_of link → ⊥
@@ -106,7 +106,7 @@ may_drop_link volume shaped sorted link stands is =
       | inr lies ↦
           let folder = lies_in_folder (entries_of (records_of volume)) shaped.rooted p.parent lies in
           let one : folder.0 ≡ link = same_entry volume.head.next_catalog_id (entries_of (records_of volume)) shaped.ids folder.0 link folder.1 stands (folder.3 ∙ same) in
-          true_or_false (sym folder.2 ∙ ap (λ (q : Placed). is_folder q.value) one ∙ link_no_folder link is)
+          true≢false (sym folder.2 ∙ ap (λ (q : Placed). is_folder q.value) one ∙ link_no_folder link is)
     ]
 
 module _ (entry : Placed) (old new : VolumeState) (changes : InCatalog (DropsEntry entry) old new) (sorted : AreSorted old.catalog_pairs) (shaped : IsShaped old) (stands : Contains (entries_of (records_of old)) entry) (link : is_link entry ≡ true) where
@@ -130,7 +130,7 @@ module _ (entry : Placed) (old new : VolumeState) (changes : InCatalog (DropsEnt
 
   pub file_left : Contains (entries_of is) facts.file
   file_left = elim (entry_cases side facts.file facts.stands) [
-    | inl same ↦ absurd (true_or_false (sym facts.shared ∙ ap (is_shared_file was (special_of entry)) same ∙ seen_is_outside old shaped entry facts.visible (special_of entry)))
+    | inl same ↦ absurd (true≢false (sym facts.shared ∙ ap (is_shared_file was (special_of entry)) same ∙ seen_is_outside old shaped entry facts.visible (special_of entry)))
     | inr left ↦ left
   ]
 
@@ -151,7 +151,7 @@ module _ (entry : Placed) (old new : VolumeState) (changes : InCatalog (DropsEnt
   parent_left =
       let folder = parent_folder old shaped entry stands facts.high in
       elim (entry_cases side folder.0 folder.1) [
-        | inl same ↦ absurd (true_or_false (sym folder.2 ∙ ap (λ (p : Placed). is_folder p.value) same ∙ facts.no_folder))
+        | inl same ↦ absurd (true≢false (sym folder.2 ∙ ap (λ (p : Placed). is_folder p.value) same ∙ facts.no_folder))
         | inr left ↦ (folder.0, left, folder.2, folder.3)
       ]
 
@@ -207,9 +207,9 @@ module _ (entry : Placed) (old new : VolumeState) (changes : InCatalog (DropsEnt
     file_value = of_value facts.file.value refl (shared_is_file (private_id is) (special_of entry) facts.file file_shared)
       where
         of_value : (value : CatRecord) → facts.file.value ≡ value → is_file value ≡ true → (f : FileRecord) × (facts.file.value ≡ File f)
-        of_value (Folder f) same is_a = absurd (true_or_false (sym is_a))
+        of_value (Folder f) same is_a = absurd (true≢false (sym is_a))
         of_value (File f) same is_a = (f, same)
-        of_value (Thread f) same is_a = absurd (true_or_false (sym is_a))
+        of_value (Thread f) same is_a = absurd (true≢false (sym is_a))
 
     nodes_left : is_linked is facts.file ≡ false → nodes_over (attributes_of new) bytes_of is is ≡ kept (λ x. not (is_node (id_of facts.file) x)) (nodes_over (attributes_of new) bytes_of was was)
     nodes_left unlinked =

@@ -1,11 +1,12 @@
 -- A folder removed with its thread: what users see has one entry less, and one node less.
 use Rattle.std.proofs.Common.{◌≡◌, ◌⊎◌, ℕ, zero, suc, ◌+◌, ◌<◌, ◌≤◌, Bool, true, false, List, [], ◌∷◌, ◌++◌, inl, inr, refl, sym, ◌∙◌, ap, subst, arith}
+use Rattle.std.proofs.Math.Bool.{and-false}
 use Rattle.std.specs.Prelude.{Contains, IsTrue, ◌==◌, ◌&&◌, not, count_by, Option, None, Some, if◌then◌else◌}
 use Rattle.std.specs.Str.{bytes_eq}
 use Rattle.std.specs.Ordering.{is_lt, nat_cmp, ordering_then}
 use Rattle.std.specs.Cmp.Lexicographic.{slice_cmp}
 use Rattle.std.specs.List.{insert, flat_map, AllByRecursion}
-use Rattle.std.proofs.lemmas.Bool.{eqb-true}
+use Rattle.std.proofs.lemmas.Bool.{eqb-true, true≢false, and_parts}
 use Rattle.std.proofs.lemmas.Slice.Eq.{bytes_eq-Decides}
 use Rattle.btree_node.specs.Levels.{Pair}
 use Rattle.cat_records.specs.Records.{is_catalog}
@@ -27,9 +28,9 @@ use Rattle.hfs_volume.proofs.Counting.{count_insert}
 use Rattle.hfs_volume.proofs.Lying.{lies_still}
 use Rattle.hfs_volume.proofs.Members.{at_front, behind, first_or_later, in_one, each_of, all_of, inserted_cases, inserted_stands, still_stands}
 use Rattle.hfs_volume.proofs.Flat.{found_some, flat_none}
-use Rattle.hfs_volume.proofs.Ranks.{true_or_false, empty_is, placed_one_way, IsOne, threaded_is_one}
-use Rattle.hfs_volume.proofs.Hiding.{hidden_is_computed, both, one_there}
-use Rattle.hfs_volume.proofs.Seeing.{FitsIn, and_false, found_as_before, entries_added, seen_added, node_added, private_kept, same_number}
+use Rattle.hfs_volume.proofs.Ranks.{empty_is, placed_one_way, IsOne, threaded_is_one}
+use Rattle.hfs_volume.proofs.Hiding.{hidden_is_computed, one_there}
+use Rattle.hfs_volume.proofs.Seeing.{FitsIn, found_as_before, entries_added, seen_added, node_added, private_kept, same_number}
 use Rattle.hfs_volume.proofs.Fitting.{placed_added, not_same, own_not_at, fits_in, is_seen_new}
 use Rattle.hfs_volume.proofs.Reaching.{flat_cases, is_seen_entry}
 use Rattle.hfs_volume.proofs.Finishing.{by_each, shared_in}
@@ -66,7 +67,7 @@ not_twice x old new added order y stands parent name = elim (either_before place
 ]
   where
     no_self : (z : Placed) → placed_before z z ≡ true → ⊥
-    no_self z is = true_or_false (sym is ∙ placed_one_way z z is)
+    no_self z is = true≢false (sym is ∙ placed_one_way z z is)
 
 -- without the one that was added, the list is as it was
 pub kept_back : {X : Type 0} (test : X → Bool) (xs : List X) (k : ℕ) (x : X) → test x ≡ true → ((y : X) → Contains xs y → test y ≡ false) → kept (λ y. not (test y)) (insert xs k x) ≡ xs
@@ -194,7 +195,7 @@ module _ (entry : Placed) (small big : List Pair) (added : AddsEntry entry small
       by_test false is = refl
       by_test true is =
           let hidden = (hidden_is_computed less next entry.parent ids_less rooted_less).1 is in
-          absurd (true_or_false (sym ((hidden_is_computed more next entry.parent ids rooted).0 (hidden.0, private_less ∙ hidden.1, lies_still (entries_of less) (entries_of more) hidden.0 still entry.parent hidden.2)) ∙ leaves.visible))
+          absurd (true≢false (sym ((hidden_is_computed more next entry.parent ids rooted).0 (hidden.0, private_less ∙ hidden.1, lies_still (entries_of less) (entries_of more) hidden.0 still entry.parent hidden.2)) ∙ leaves.visible))
 
   sorted_mid : IsInOrder placed_before mid
   sorted_mid = order_less placed_before mid second.place (thread_with added.spare entry) (subst (IsInOrder placed_before) second.is sorted)
@@ -223,7 +224,7 @@ module _ (entry : Placed) (small big : List Pair) (added : AddsEntry entry small
         elim (all_cases has.0 has.1) [
           | inl is ↦ absurd (not_same (id_of p) (id_of entry) (fresh p stands) (sym has.2 ∙ ap (λ (q : Placed). q.parent) is))
           | inr rest ↦ elim rest [
-            | inl is ↦ absurd (true_or_false (sym (ap is_empty (sym (ap (λ (q : Placed). q.name) is) ∙ has.3)) ∙ leaves.named))
+            | inl is ↦ absurd (true≢false (sym (ap is_empty (sym (ap (λ (q : Placed). q.name) is) ∙ has.3)) ∙ leaves.named))
             | inr there ↦ (has.0, there, has.2, has.3, has.4, has.5, has.6)
           ]
         ]);
@@ -246,7 +247,7 @@ module _ (entry : Placed) (small big : List Pair) (added : AddsEntry entry small
       by_test : (b : Bool) → ((p.parent == entry.parent) && bytes_eq p.name entry.name) ≡ b → b ≡ false
       by_test false is = refl
       by_test true is =
-          let tests = both (p.parent == entry.parent) (bytes_eq p.name entry.name) is in
+          let tests = and_parts (p.parent == entry.parent) (bytes_eq p.name entry.name) is in
           absurd (not_twice entry less mid first sorted_mid p stands (eqb-true p.parent entry.parent tests.0) ((bytes_eq-Decides p.name entry.name).0 tests.1))
 
   pub joins_less : Joins entry less
@@ -264,7 +265,7 @@ module _ (entry : Placed) (small big : List Pair) (added : AddsEntry entry small
     where
       by_case : (o : Option Placed) → record_at less entry.parent entry.name ≡ o → o ≡ None
       by_case None found = refl
-      by_case (Some p) found = let stands = found_some (is_placed_at entry.parent entry.name) less p found in absurd (true_or_false (sym stands.1 ∙ no_other_at p stands.0))
+      by_case (Some p) found = let stands = found_some (is_placed_at entry.parent entry.name) less p found in absurd (true≢false (sym stands.1 ∙ no_other_at p stands.0))
 
   pub fits_less : FitsIn entry less more
   fits_less = fits_in entry small big added joins_less next given threads_less rooted_less ids_less rooted
@@ -329,7 +330,7 @@ module _ (entry : Placed) (old new : VolumeState) (changes : InCatalog (DropsEnt
 
   found_still : (name : List ℕ) → is_private_name name ≡ true → bytes_eq [] name ≡ false → record_at is 2 name ≡ record_at was 2 name
   found_still name own some =
-      sym (found_as_before entry is (placed_in changes.changes.between) was to_mid from_mid (is_placed_at 2 name) (own_not_at entry leaves.not_own name own) (ap (λ b. (id_of entry == 2) && b) some ∙ and_false (id_of entry == 2)))
+      sym (found_as_before entry is (placed_in changes.changes.between) was to_mid from_mid (is_placed_at 2 name) (own_not_at entry leaves.not_own name own) (ap (λ b. (id_of entry == 2) && b) some ∙ and-false (id_of entry == 2)))
 
   private_still : private_id is ≡ private_id was
   private_still = sym (private_kept entry is (placed_in changes.changes.between) was to_mid from_mid (own_not_at entry leaves.not_own private_name refl))
@@ -341,7 +342,7 @@ module _ (entry : Placed) (old new : VolumeState) (changes : InCatalog (DropsEnt
     node =
         let shared : is_shared_file is (special_of p) good.node.0 ≡ true = ap (λ private. is_shared private (special_of p) good.node.0) private_still ∙ good.node.2 in
         elim (was_or good.node.0 good.node.1) [
-          | inl same ↦ absurd (true_or_false (sym (shared_in (private_id is) (special_of p) good.node.0 shared) ∙ ap (is_in (private_id is)) same ∙ fits.outside))
+          | inl same ↦ absurd (true≢false (sym (shared_in (private_id is) (special_of p) good.node.0 shared) ∙ ap (is_in (private_id is)) same ∙ fits.outside))
           | inr still_there ↦ (good.node.0, still_there, shared)
         ];
   }

@@ -2,7 +2,7 @@
 use Rattle.std.proofs.Common.{◌≡◌, ◌⊎◌, ℕ, ◌+◌, ◌*◌, ◌<◌, ◌≤◌, Bool, true, false, List, [], ◌∷◌, ◌++◌, length, map, inl, inr, refl, sym, ◌∙◌, ap, subst, arith}
 use Rattle.std.specs.Prelude.{Contains, ◌==◌, ◌&&◌, ◌||◌, not, count_by, slice_index_or, Option, None, Some, Ok, is_some, if◌then◌else◌}
 use Rattle.std.specs.List.{flat_map}
-use Rattle.std.proofs.lemmas.Bool.{eqb-true}
+use Rattle.std.proofs.lemmas.Bool.{eqb-true, not-true, not-false, true≢false}
 use Rattle.volume_header.specs.declared.header.VolumeHeader.{VolumeHeader}
 use Rattle.btree_node.specs.Levels.{Pair}
 use Rattle.cat_records.specs.declared.record.FileRecord.{FileRecord}
@@ -31,7 +31,6 @@ use Rattle.hfs_model.specs.declared.plain.PlainTree.{PlainTree}
 use Rattle.hfs_volume.proofs.Fields.{dated, touched_views, makes_of, not_thread, id_of_fields, valence_now, folder_is_no_file}
 use Rattle.hfs_volume.proofs.Members.{all_of, each_of, kept_stands, kept_cases}
 use Rattle.hfs_volume.proofs.Flat.{flat_agree, found_some}
-use Rattle.hfs_volume.proofs.Ranks.{true_or_false}
 use Rattle.hfs_volume.proofs.Hiding.{same_entry, or_true, one_there}
 use Rattle.hfs_volume.proofs.Counting.{length_kept}
 use Rattle.hfs_volume.proofs.Seeing.{same_number}
@@ -109,18 +108,10 @@ same_attributes one other records bytes_of same = flat_agree (threaded_node one 
     at : (p : Placed) → threaded_node one records bytes_of p ≡ threaded_node other records bytes_of p
     at p = ap (λ l. if is_empty p.name then l else []) (of_found p.parent (entry_of records p.parent) refl)
 
-not_not : (b : Bool) → not b ≡ true → b ≡ false
-not_not true is = sym is
-not_not false is = refl
-
 folder_kind : (value : CatRecord) → is_folder value ≡ true → is_thread value ≡ false
 folder_kind (Folder f) is = refl
 folder_kind (File f) is = refl
-folder_kind (Thread f) is = absurd (true_or_false (sym is))
-
-not_true : (b : Bool) → not b ≡ false → b ≡ true
-not_true true is = refl
-not_true false is = absurd (true_or_false is)
+folder_kind (Thread f) is = absurd (true≢false (sym is))
 
 -- the node of a folder that users see
 folder_node : (attributes : List Attribute) (records : List Placed) (bytes_of : FileRecord → List ℕ) (e : Placed) (value : CatRecord) → is_folder value ≡ true → is_seen records e ≡ true
@@ -130,13 +121,13 @@ folder_node attributes records bytes_of e (Folder f) is seen = (
   (λ i. if (id_of e == 2) || seen i then plain_node attributes f.fields true [] false ∷ [] else []) ∙ ap (λ b. if b then plain_node attributes f.fields true [] false ∷ [] else []) (or_true (id_of e == 2)),
   refl,
 )
-folder_node attributes records bytes_of e (File f) is seen = absurd (true_or_false (sym is))
-folder_node attributes records bytes_of e (Thread f) is seen = absurd (true_or_false (sym is))
+folder_node attributes records bytes_of e (File f) is seen = absurd (true≢false (sym is))
+folder_node attributes records bytes_of e (Thread f) is seen = absurd (true≢false (sym is))
 
 folder_forks : (value : CatRecord) → is_folder value ≡ true → forks_in value ≡ []
 folder_forks (Folder f) is = refl
-folder_forks (File f) is = absurd (true_or_false (sym is))
-folder_forks (Thread f) is = absurd (true_or_false (sym is))
+folder_forks (File f) is = absurd (true≢false (sym is))
+folder_forks (Thread f) is = absurd (true≢false (sym is))
 
 -- ---- what `rmdir` names
 
@@ -151,7 +142,7 @@ module _ (old : VolumeState) (bytes_of : FileRecord → List ℕ) (sound : IsSou
   next = old.head.next_catalog_id
 
   pub reach_seen : (path : List (List ℕ)) (at : PlainEntry) → is_root path ≡ false → reached tree path ≡ Ok at → IsSeen before at
-  reach_seen [] at not_root is = absurd (true_or_false not_root)
+  reach_seen [] at not_root is = absurd (true≢false not_root)
   reach_seen (name ∷ path) at not_root is = walked before next sound.entries.ids sound.entries.rooted tree (tree_entries old bytes_of) path name root_entry at is
 
   -- an empty folder that users see
@@ -172,8 +163,8 @@ module _ (old : VolumeState) (bytes_of : FileRecord → List ℕ) (sound : IsSou
       let same : second.0 ≡ at = kind.1 ∙ empty.1 in
       record {
         seen = subst (IsSeen before) same (reach_seen path second.0 root.0 (ap (reached tree) root.1 ∙ second.1));
-        folder = ap (λ (x : PlainEntry). x.folder) (sym same) ∙ not_true second.0.folder kind.0;
-        empty = ap (λ (x : PlainEntry). length (entries_in tree x.id) == 0) (sym empty.1) ∙ not_true (length (entries_in tree third.0.id) == 0) empty.0;
+        folder = ap (λ (x : PlainEntry). x.folder) (sym same) ∙ not-false second.0.folder kind.0;
+        empty = ap (λ (x : PlainEntry). length (entries_in tree x.id) == 0) (sym empty.1) ∙ not-false (length (entries_in tree third.0.id) == 0) empty.0;
       }
 
   module _ (at : PlainEntry) (is : IsEmptyFolder at) (entry : Placed) (stands : Contains (entries_of before) entry) (same_id : id_of entry ≡ at.id) where
@@ -217,7 +208,7 @@ module _ (old : VolumeState) (bytes_of : FileRecord → List ℕ) (sound : IsSou
             let parent : p.parent ≡ id_of entry = eqb-true p.parent (id_of entry) is_in in
             let parts = kept_cases (λ (q : Placed). not (is_empty q.name)) before p there in
             let shows : Shows before p = record {
-              named = not_not (is_empty p.name) parts.1;
+              named = not-true (is_empty p.name) parts.1;
               parent = differs p.parent 1 (λ one. omega (arith, parent, one, high));
               visible = ap (is_hidden before) parent ∙ seen_visible before next sound.entries.ids sound.entries.rooted entry stands entry_shows;
               not_own = ap (λ b. b && is_private_name p.name) (differs p.parent 2 (λ two. omega (arith, parent, two, high)));
@@ -240,7 +231,7 @@ module _ (old : VolumeState) (bytes_of : FileRecord → List ℕ) (sound : IsSou
 
 folder_file : (value : CatRecord) → is_folder value ≡ true → is_file value ≡ false
 folder_file (Folder f) is = refl
-folder_file (File f) is = absurd (true_or_false (sym is))
+folder_file (File f) is = absurd (true≢false (sym is))
 folder_file (Thread f) is = refl
 
 module _ (at : PlainEntry) (old new : VolumeState) (bytes_of : FileRecord → List ℕ) (are : AreBytesOf bytes_of) (sound : IsSoundVolume old) (is_empty_one : IsEmptyFolder old bytes_of sound at) (does : RemovesFolder at.id old new) where
@@ -286,7 +277,7 @@ module _ (at : PlainEntry) (old new : VolumeState) (bytes_of : FileRecord → Li
   no_attributes : (pair : Pair) → Contains new.attribute_pairs pair → (attribute_of pair).id ≡ id_of entry → ⊥
   no_attributes pair stands same =
       let parts = kept_cases (λ (p : Pair). not ((attribute_of p).id == at.id)) old.attribute_pairs pair (subst (λ l. Contains l pair) does.bares.changes stands) in
-      true_or_false (sym parts.1 ∙ ap not (ap (λ n. n == at.id) (same ∙ does.is_entry) ∙ same_number at.id))
+      true≢false (sym parts.1 ∙ ap not (ap (λ n. n == at.id) (same ∙ does.is_entry) ∙ same_number at.id))
 
   shaped_dropped : IsShaped does.dropped
   shaped_dropped = folder_dropped entry bare does.dropped does.drops leav (folder_forks entry.value is_a) does.sorted no_attributes shaped_bare
@@ -424,7 +415,7 @@ module _ (at : PlainEntry) (old new : VolumeState) (bytes_of : FileRecord → Li
 
   link_counts_new : HaveLinkCounts is
   link_counts_new reference file stands shared = elim (value_cases does.counts.entry value does.dropped new does.counts.changes above_kind shaped_dropped file stands) [
-    | inl same ↦ absurd (true_or_false (sym (shared_is_file (private_id is) reference file shared) ∙ ap (λ (q : Placed). is_file q.value) same ∙ does.counts.changes.changes.alike.kind.1 ∙ folder_is_no_file does.counts.entry.value counting_folder))
+    | inl same ↦ absurd (true≢false (sym (shared_is_file (private_id is) reference file shared) ∙ ap (λ (q : Placed). is_file q.value) same ∙ does.counts.changes.changes.alike.kind.1 ∙ folder_is_no_file does.counts.entry.value counting_folder))
     | inr left ↦ sound.links.counts reference file (there file left) (ap (λ private. is_shared private reference file) (sym private_is_same) ∙ shared) ∙ links_same reference
   ]
 

@@ -1,5 +1,6 @@
 -- Folders and files with other fields: what a record of them, its node and its numbers become.
 use Rattle.std.proofs.Common.{◌≡◌, ℕ, Bool, true, false, List, [], refl, sym, ◌∙◌, ap}
+use Rattle.std.proofs.lemmas.Bool.{true≢false}
 use Rattle.cat_records.specs.declared.record.EntryFields.{EntryFields}
 use Rattle.cat_records.specs.declared.record.FileRecord.{FileRecord}
 use Rattle.cat_records.specs.declared.record.CatRecord.{CatRecord}
@@ -8,7 +9,6 @@ use Rattle.hfs_volume.specs.Records.{Attribute, id_in, is_folder, is_file, is_th
 use Rattle.hfs_volume.specs.TreeOf.{plain_node, plain_attributes}
 use Rattle.hfs_volume.specs.Commands.{HasFields, IsTouched, IsMarked, with_fields}
 use Rattle.hfs_model.specs.declared.plain.PlainNode.{PlainNode}
-use Rattle.hfs_volume.proofs.Ranks.{true_or_false}
 use Rattle.hfs_volume.proofs.Swapping.{Makes}
 
 -- the bytes of a file are told by its CNID and its data fork
@@ -65,18 +65,18 @@ id_of_fields (Thread f) fields has = absurd has
 
 pub valence_now : (value : CatRecord) (before after : EntryFields) → HasFields value before → is_folder value ≡ true → (valence_in value ≡ before.count) × (valence_in (with_fields (λ _. after) value) ≡ after.count)
 valence_now (Folder f) before after has is = (ap (λ (e : EntryFields). e.count) has, refl)
-valence_now (File f) before after has is = absurd (true_or_false (sym is))
+valence_now (File f) before after has is = absurd (true≢false (sym is))
 valence_now (Thread f) before after has is = absurd has
 
 pub file_no_folder : (value : CatRecord) → is_folder value ≡ true → is_file value ≡ true → ⊥
-file_no_folder (Folder f) folder file = true_or_false (sym file)
-file_no_folder (File f) folder file = true_or_false (sym folder)
-file_no_folder (Thread f) folder file = true_or_false (sym folder)
+file_no_folder (Folder f) folder file = true≢false (sym file)
+file_no_folder (File f) folder file = true≢false (sym folder)
+file_no_folder (Thread f) folder file = true≢false (sym folder)
 
 pub folder_is_no_file : (value : CatRecord) → is_folder value ≡ true → is_file value ≡ false
 folder_is_no_file (Folder f) folder = refl
-folder_is_no_file (File f) folder = absurd (true_or_false (sym folder))
-folder_is_no_file (Thread f) folder = absurd (true_or_false (sym folder))
+folder_is_no_file (File f) folder = absurd (true≢false (sym folder))
+folder_is_no_file (Thread f) folder = absurd (true≢false (sym folder))
 
 -- the special word of a folder or file
 pub special_now : (parent : ℕ) (name : List ℕ) (value : CatRecord) (before after : EntryFields) → HasFields value before

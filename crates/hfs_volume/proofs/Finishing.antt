@@ -1,7 +1,7 @@
 -- `mkdir` on the lists of a sound volume: they are sound again, and their tree is that of the step.
 use Rattle.std.proofs.Common.{◌≡◌, ◌⊎◌, ℕ, ◌+◌, ◌*◌, ◌<◌, ◌≤◌, Bool, true, false, List, [], ◌∷◌, ◌++◌, length, inl, inr, refl, sym, ◌∙◌, ap, subst, arith}
 use Rattle.std.specs.Prelude.{Contains, All, slice_index_or, ◌==◌, ◌&&◌, not, count_by, if◌then◌else◌, Option, Some, None, Ok}
-use Rattle.std.proofs.lemmas.Bool.{eqb-true}
+use Rattle.std.proofs.lemmas.Bool.{eqb-true, true≢false, and_parts}
 use Rattle.std.specs.List.{flat_map, AllByRecursion}
 use Rattle.std.proofs.lemmas.List.Elements.{Contains-append_cases}
 use Rattle.hx_bytes.specs.declared.extents.Extent.{Extent}
@@ -26,8 +26,7 @@ use Rattle.hfs_volume.specs.Commands.{AreBytesOf, MakesEntry, IsNewValue, IsEmpt
 use Rattle.hfs_volume.specs.Laws.{AreEmptyForks, IsShaped, IsCounted, SoundIsBoth, Joins, one_if}
 use Rattle.hfs_volume.proofs.Members.{all_of, each_of, first_or_later, in_one}
 use Rattle.hfs_volume.proofs.Reaching.{flat_cases}
-use Rattle.hfs_volume.proofs.Ranks.{true_or_false}
-use Rattle.hfs_volume.proofs.Hiding.{same_entry, both}
+use Rattle.hfs_volume.proofs.Hiding.{same_entry}
 use Rattle.hfs_volume.proofs.Seeing.{same_number}
 use Rattle.hfs_volume.proofs.Fitting.{differs, entry_or_old, parent_not_new, none_counted, not_same}
 use Rattle.hfs_volume.proofs.Fields.{not_thread, valence_now, folder_is_no_file}
@@ -68,10 +67,10 @@ sound_is_both volume = (apart, together)
 second : (a b c d : Bool) → (a && b && c && d) ≡ true → b ≡ true
 second true true c d is = refl
 second true false c d is = is
-second false b c d is = absurd (true_or_false (sym is))
+second false b c d is = absurd (true≢false (sym is))
 
 pub shared_is_file : (private : Option ℕ) (reference : ℕ) (p : Placed) → is_shared private reference p ≡ true → is_file p.value ≡ true
-shared_is_file None reference p is = absurd (true_or_false (sym is))
+shared_is_file None reference p is = absurd (true≢false (sym is))
 shared_is_file (Some top) reference p is = second (p.parent == top) (is_file p.value) _ _ is
 
 pub shared_in : (private : Option ℕ) (reference : ℕ) (p : Placed) → is_shared private reference p ≡ true → is_in private p ≡ true
@@ -130,7 +129,7 @@ no_overflow volume id kind has high fresh = by_test (id == extents_id)
     none more stands = ap (λ b. b && (more.fork == kind)) (differs more.id id (λ same. elim (each_of (HasFork (forks_of volume)) (overflow_in_volume volume) has.owned more stands) [
       | inl bad ↦ omega (arith, bad, same, high)
       | inr owned ↦
-          let it : more.id ≡ owned.0.id = eqb-true more.id owned.0.id (both (more.id == owned.0.id) (more.fork == owned.0.kind) owned.2).0 in
+          let it : more.id ≡ owned.0.id = eqb-true more.id owned.0.id (and_parts (more.id == owned.0.id) (more.fork == owned.0.kind) owned.2).0 in
           elim (owned_id volume.head (records_of volume) owned.0 owned.1) [
             | inl low ↦ omega (arith, low, it, same, high)
             | inr entry ↦ not_same (id_of entry.0) id (fresh entry.0 entry.1) (entry.2 ∙ sym it ∙ same)
@@ -308,9 +307,9 @@ module _ (folder : Bool) (path : List (List ℕ)) (at : Place) (old new : Volume
 
   link_counts_new : HaveLinkCounts is
   link_counts_new reference file stands shared = elim (value_cases makes.counts.entry value makes.added new makes.counts.changes above_kind shaped_added file stands) [
-    | inl same ↦ absurd (true_or_false (sym (shared_is_file (private_id is) reference file shared) ∙ ap (λ (q : Placed). is_file q.value) same ∙ makes.counts.changes.changes.alike.kind.1 ∙ folder_is_no_file makes.counts.entry.value above_folder))
+    | inl same ↦ absurd (true≢false (sym (shared_is_file (private_id is) reference file shared) ∙ ap (λ (q : Placed). is_file q.value) same ∙ makes.counts.changes.changes.alike.kind.1 ∙ folder_is_no_file makes.counts.entry.value above_folder))
     | inr there ↦ elim (old_cases file there) [
-      | inl same ↦ absurd (true_or_false (sym (shared_in (private_id is) reference file shared)
+      | inl same ↦ absurd (true≢false (sym (shared_in (private_id is) reference file shared)
           ∙ (λ i. is_in (private_is_same i) (same i)) ∙ stands_outside folder path at old new bytes_of are sound not_private named makes joins))
       | inr first ↦ sound.links.counts reference file first (ap (λ private. is_shared private reference file) (sym private_is_same) ∙ shared) ∙ sym (links_new reference)
     ]

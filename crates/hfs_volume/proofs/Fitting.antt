@@ -1,10 +1,11 @@
 -- A new entry in a folder that users see: what it takes for all others to be seen as before.
 use Rattle.std.proofs.Common.{◌≡◌, ◌⊎◌, ℕ, zero, suc, ◌+◌, ◌<◌, ◌≤◌, Bool, true, false, List, [], ◌∷◌, length, map, inl, inr, refl, sym, ◌∙◌, ap, subst, arith}
+use Rattle.std.specs.Cmp.{both_ways}
 use Rattle.std.proofs.lemmas.Slice.Eq.{bytes_eq-Decides}
 use Rattle.std.specs.Prelude.{Contains, ◌==◌, ◌&&◌, ◌||◌, not, Option, None, Some, count_by}
 use Rattle.std.specs.Str.{bytes_eq}
 use Rattle.std.specs.List.{insert, flat_map}
-use Rattle.std.proofs.lemmas.Bool.{eqb-true}
+use Rattle.std.proofs.lemmas.Bool.{eqb-true, true≢false}
 use Rattle.btree_node.specs.Levels.{Pair}
 use Rattle.cat_records.specs.declared.record.FileRecord.{FileRecord}
 use Rattle.cat_records.specs.declared.record.CatRecord.{CatRecord}
@@ -23,8 +24,8 @@ use Rattle.hfs_volume.proofs.Counting.{map_insert, count_insert, count_cons}
 use Rattle.hfs_volume.proofs.Lying.{lies_still}
 use Rattle.hfs_volume.proofs.Members.{at_front, behind, each_of, all_of, inserted_cases, still_stands}
 use Rattle.hfs_volume.proofs.Ordering.{added_is_put}
-use Rattle.hfs_volume.proofs.Ranks.{true_or_false, entries_in_order, nodes_in_order, entry_one_way, node_one_way}
-use Rattle.hfs_volume.proofs.Hiding.{hidden_is_computed, same_bools}
+use Rattle.hfs_volume.proofs.Ranks.{entries_in_order, nodes_in_order, entry_one_way, node_one_way}
+use Rattle.hfs_volume.proofs.Hiding.{hidden_is_computed}
 use Rattle.hfs_volume.proofs.Seeing.{FitsIn, entries_added, seen_added, node_added, private_kept, same_number}
 
 pub map_long : {X Y : Type 0} (f : X → Y) (xs : List X) → length (map f xs) ≡ length xs
@@ -50,7 +51,7 @@ differs m n no_same = by_test (m == n) refl
     by_test false is = refl
 
 pub not_same : (m n : ℕ) → (m == n) ≡ false → m ≡ n → ⊥
-not_same m n differ same = true_or_false (sym (ap (λ k. k == n) same ∙ same_number n) ∙ differ)
+not_same m n differ same = true≢false (sym (ap (λ k. k == n) same ∙ same_number n) ∙ differ)
 
 pub own_not_at : (entry : Placed) → ((entry.parent == 2) && is_private_name entry.name) ≡ false → (name : List ℕ) → is_private_name name ≡ true → is_placed_at 2 name entry ≡ false
 own_not_at entry not_own name own = by_tests (entry.parent == 2) (bytes_eq entry.name name) refl refl
@@ -58,7 +59,7 @@ own_not_at entry not_own name own = by_tests (entry.parent == 2) (bytes_eq entry
     by_tests : (b c : Bool) → (entry.parent == 2) ≡ b → bytes_eq entry.name name ≡ c → (b && c) ≡ false
     by_tests false c is other = refl
     by_tests true false is other = refl
-    by_tests true true is other = absurd (true_or_false (sym ((λ i. is i && is_private_name ((bytes_eq-Decides entry.name name).0 other i)) ∙ own) ∙ not_own))
+    by_tests true true is other = absurd (true≢false (sym ((λ i. is i && is_private_name ((bytes_eq-Decides entry.name name).0 other i)) ∙ own) ∙ not_own))
 
 module _ (entry : Placed) (old new : List Pair) (added : AddsEntry entry old new) (joins : Joins entry (placed_in old)) where
   pub first_added : Adds entry (placed_in old) (placed_in added.between)
@@ -125,7 +126,7 @@ module _ (entry : Placed) (old new : List Pair) (added : AddsEntry entry old new
     hidden_as_before folder other =
         let was = hidden_is_computed (placed_in old) next folder ids rooted in
         let is = hidden_is_computed (placed_in new) next folder (ids_kept next given ids) rooted_new in
-        same_bools (is_hidden (placed_in new) folder) (is_hidden (placed_in old) folder) (λ hidden. was.0 (back (is.1 hidden))) (λ hidden. is.0 (there (was.1 hidden)))
+        both_ways (is_hidden (placed_in new) folder) (is_hidden (placed_in old) folder) (λ hidden. was.0 (back (is.1 hidden))) (λ hidden. is.0 (there (was.1 hidden)))
       where
         back : IsHidden (placed_in new) folder → IsHidden (placed_in old) folder
         back hidden = (hidden.0, sym same_private_ ∙ hidden.1, back_lies (parent_not_new rooted) hidden.0 folder other hidden.2)
@@ -147,8 +148,8 @@ module _ (entry : Placed) (old new : List Pair) (added : AddsEntry entry old new
     no_thread p stands empty = of_value p.value refl (each_of (λ (q : Placed). is_thread q.value ≡ is_empty q.name) (placed_in old) threads.kinds p stands ∙ empty)
       where
         of_value : (value : CatRecord) → p.value ≡ value → is_thread value ≡ true → (p.parent == id_of entry) ≡ false
-        of_value (Folder folder) is kind = absurd (true_or_false (sym kind))
-        of_value (File file) is kind = absurd (true_or_false (sym kind))
+        of_value (Folder folder) is kind = absurd (true≢false (sym kind))
+        of_value (File file) is kind = absurd (true≢false (sym kind))
         of_value (Thread thread) is kind =
             let found = threads.named p thread stands is in
             ap (λ n. n == id_of entry) (sym found.2) ∙ joins.fresh found.0 found.1

@@ -4,7 +4,7 @@ use Rattle.std.specs.Prelude.{Contains, IsTrue, ◌&&◌, count_by, if◌then◌
 use Rattle.std.specs.Str.{bytes_eq}
 use Rattle.std.proofs.Math.ListN.{drop_of_length-le}
 use Rattle.std.proofs.Math.Seq.{take-length}
-use Rattle.std.proofs.lemmas.Bool.{eqb-true}
+use Rattle.std.proofs.lemmas.Bool.{eqb-true, true≢false, and_parts}
 use Rattle.std.proofs.lemmas.Slice.Eq.{bytes_eq-Decides}
 use Rattle.hx_bytes.specs.declared.extents.Extent.{Extent}
 use Rattle.hx_bytes.specs.declared.extents.ForkRecord.{ForkRecord}
@@ -22,8 +22,6 @@ use Rattle.hfs_volume.specs.Reclaim.{IsTreeFork, is_fork, blocks_at}
 use Rattle.hfs_volume.specs.Changes.{GrowsFile, HasSameNodes, with_tree_fork}
 use Rattle.hfs_volume.specs.Laws.{IsShaped, HasRightBits, CountsBlocks, TreeGrown}
 use Rattle.hfs_volume.proofs.Members.{at_front, first_or_later, each_of}
-use Rattle.hfs_volume.proofs.Ranks.{true_or_false}
-use Rattle.hfs_volume.proofs.Hiding.{both}
 use Rattle.hfs_volume.proofs.Fitting.{differs, not_same}
 use Rattle.hfs_volume.proofs.Flat.{flat_agree, found_some}
 use Rattle.hfs_volume.proofs.Reaching.{flat_cases}
@@ -236,9 +234,9 @@ module _ (id more : ℕ) (fresh : List ℕ) (old new : VolumeState) (tree : IsTr
     where
       by_test : (b : Bool) → is_of id data_kind m ≡ b → id ≡ extents_id → HasFork (forks_of old) m → b ≡ false
       by_test false it three fork_or_bad = refl
-      by_test true it three (inl bad) = absurd (let wrong : 5 ≡ 3 = sym bad ∙ eqb-true m.id id (both (m.id == id) (m.fork == data_kind) it).0 ∙ three in omega (arith, wrong))
+      by_test true it three (inl bad) = absurd (let wrong : 5 ≡ 3 = sym bad ∙ eqb-true m.id id (and_parts (m.id == id) (m.fork == data_kind) it).0 ∙ three in omega (arith, wrong))
       by_test true it three (inr has) =
-          absurd (true_or_false (sym (ap (λ n. n == extents_id) (sym (eqb-true m.id has.0.id (both (m.id == has.0.id) (m.fork == has.0.kind) has.2).0) ∙ eqb-true m.id id (both (m.id == id) (m.fork == data_kind) it).0 ∙ three)) ∙ has.3))
+          absurd (true≢false (sym (ap (λ n. n == extents_id) (sym (eqb-true m.id has.0.id (and_parts (m.id == has.0.id) (m.fork == has.0.kind) has.2).0) ∙ eqb-true m.id id (and_parts (m.id == id) (m.fork == data_kind) it).0 ∙ three)) ∙ has.3))
 
   pub grown_exchange : Exchanges id data_kind (length (blocks_at old id data_kind)) 0 fresh (tree_owned id (fork_at id old.head)) (tree_owned id grows.fork) old new
   grown_exchange = record {
@@ -327,7 +325,7 @@ module _ (id more : ℕ) (fresh : List ℕ) (old new : VolumeState) (tree : IsTr
   one_extent_new : (name : List ℕ) → is_empty name ≡ false → (was is_now : Extent) → was ≡ is_now → IsOneExtent is (overflow_in_volume old) name was → IsOneExtent is (overflow_in_volume new) name is_now
   one_extent_new name some was is_now same file =
       let found = found_some (is_placed_at 2 name) is file.0 file.2 in
-      let place = both (file.0.parent == 2) (bytes_eq file.0.name name) found.1 in
+      let place = and_parts (file.0.parent == 2) (bytes_eq file.0.name name) found.1 in
       let stands = is_entry_of is file.0 found.0 (ap is_empty ((bytes_eq-Decides file.0.name name).0 place.1) ∙ some) in
       let owned : Owned = record { id = file.1.fields.id; kind = data_kind; fork = file.1.data_fork } in
       let apart = other_owned file.0 stands owned (subst (λ v. Contains (forks_in v) owned) (sym file.3) (at_front owned (record { id = file.1.fields.id; kind = resource_kind; fork = file.1.resource_fork } ∷ []))) in

@@ -1,8 +1,9 @@
 -- Whether a folder is hidden is computed rightly: no way up is longer than the list of entries.
 use Rattle.std.proofs.Common.{◌≡◌, ◌⊎◌, ℕ, zero, suc, ◌<◌, ◌≤◌, Bool, true, false, List, [], ◌∷◌, ◌++◌, length, inl, inr, refl, sym, ◌∙◌, ap, subst, arith}
+use Rattle.std.specs.Cmp.{both_ways}
 use Rattle.std.specs.Prelude.{Contains, ◌==◌, ◌&&◌, ◌||◌, not, Option, None, Some, find, count_by, if◌then◌else◌}
 use Rattle.std.specs.Str.{bytes_eq}
-use Rattle.std.proofs.lemmas.Bool.{eqb-true}
+use Rattle.std.proofs.lemmas.Bool.{eqb-true, and_parts, true≢false}
 use Rattle.hfs_model.specs.Sorted.{kept}
 use Rattle.hfs_model.specs.Step.{private_name}
 use Rattle.hfs_volume.specs.Records.{Placed, entries_of, record_at, is_placed_at, id_of, is_empty, is_folder}
@@ -13,18 +14,7 @@ use Rattle.hfs_volume.specs.Laws.{one_if, HiddenIsComputed}
 use Rattle.hfs_volume.proofs.Counting.{count_cons}
 use Rattle.hfs_volume.proofs.Members.{first_or_later, each_of, kept_stands, kept_cases}
 use Rattle.hfs_volume.proofs.Flat.{found_none, found_some, some_same, none_or_some}
-use Rattle.hfs_volume.proofs.Ranks.{true_or_false}
 use Rattle.hfs_volume.proofs.Seeing.{same_number}
-
-pub same_bools : (a b : Bool) → (a ≡ true → b ≡ true) → (b ≡ true → a ≡ true) → a ≡ b
-same_bools true b there back = sym (there refl)
-same_bools false true there back = back refl
-same_bools false false there back = refl
-
-pub both : (a b : Bool) → (a && b) ≡ true → (a ≡ true) × (b ≡ true)
-both true true is = (refl, refl)
-both true false is = absurd (true_or_false (sym is))
-both false b is = absurd (true_or_false (sym is))
 
 pub or_true : (b : Bool) → (b || true) ≡ true
 or_true true = refl
@@ -100,7 +90,7 @@ avoids entries top id _ (below x f stands is_a same lies) = elim (avoids entries
   where
     by_test : (b : Bool) → is_folder_of id f ≡ b → LiesIn (without id entries) top f.parent
         → LiesIn (without id entries) top x ⊎ ((g : Placed) × Contains entries g × (is_folder g.value ≡ true) × (id_of g ≡ id) × LiesIn (without id entries) top g.parent)
-    by_test true is rest = inr (f, stands, is_a, eqb-true (id_of f) id (both (is_folder f.value) (id_of f == id) is).1, rest)
+    by_test true is rest = inr (f, stands, is_a, eqb-true (id_of f) id (and_parts (is_folder f.value) (id_of f == id) is).1, rest)
     by_test false isnt rest = inl (below x f (kept_stands (λ (p : Placed). not (is_folder_of id p)) entries f stands (ap not isnt)) is_a same rest)
 
 still_there : (id : ℕ) (entries : List Placed) (p : Placed) → Contains (without id entries) p → Contains entries p
@@ -136,10 +126,10 @@ module _ (next : ℕ) (entries : List Placed) (ids : HaveIds next entries) where
   parent_is id f stands is_a same = by_case (find (is_folder_of id) entries) refl
     where
       by_case : (o : Option Placed) → find (is_folder_of id) entries ≡ o → parent_in o ≡ f.parent
-      by_case None none = absurd (true_or_false (sym (is_that id f is_a same) ∙ found_none (is_folder_of id) entries none f stands))
+      by_case None none = absurd (true≢false (sym (is_that id f is_a same) ∙ found_none (is_folder_of id) entries none f stands))
       by_case (Some g) is =
           let found = found_some (is_folder_of id) entries g is in
-          ap (λ (p : Placed). p.parent) (same_entry g f found.0 stands (eqb-true (id_of g) id (both (is_folder g.value) (id_of g == id) found.1).1 ∙ sym same))
+          ap (λ (p : Placed). p.parent) (same_entry g f found.0 stands (eqb-true (id_of g) id (and_parts (is_folder g.value) (id_of g == id) found.1).1 ∙ sym same))
 
   way_is_above : (top id n : ℕ) → Way entries top id n → (k : ℕ) → n ≤ k → is_above entries top k id ≡ true
   way_is_above top _ _ arrived zero short = same_number top
@@ -162,11 +152,11 @@ module _ (next : ℕ) (entries : List Placed) (ids : HaveIds next entries) where
           absurd (lies_not_zero top 0 top_not (more 0 (sym (λ i. differ i || is_above entries top k (parent_in (none i))) ∙ is)) refl)
       by_case false differ (Some f) found more =
           let is_one = found_some (is_folder_of id) entries f found in
-          let tests = both (is_folder f.value) (id_of f == id) is_one.1 in
+          let tests = and_parts (is_folder f.value) (id_of f == id) is_one.1 in
           below id f is_one.0 tests.0 (eqb-true (id_of f) id tests.1) (more f.parent (sym (λ i. differ i || is_above entries top k (parent_in (found i))) ∙ is))
 
 is_named : (name : List ℕ) → bytes_eq name private_name ≡ true → not (is_empty name) ≡ true
-is_named [] is = absurd (true_or_false (sym is))
+is_named [] is = absurd (true≢false (sym is))
 is_named (unit ∷ units) is = refl
 
 -- the private folder's entry
@@ -179,7 +169,7 @@ private_is records id is = by_case (record_at records 2 private_name) refl is
     by_kind p false kind found same = absurd (none_or_some id same)
     by_kind p true kind found same =
         let stands = found_some (is_placed_at 2 private_name) records p found in
-        (p, kept_stands (λ (q : Placed). not (is_empty q.name)) records p stands.0 (is_named p.name (both (p.parent == 2) (bytes_eq p.name private_name) stands.1).1), kind, some_same (id_of p) id same, stands.1)
+        (p, kept_stands (λ (q : Placed). not (is_empty q.name)) records p stands.0 (is_named p.name (and_parts (p.parent == 2) (bytes_eq p.name private_name) stands.1).1), kind, some_same (id_of p) id same, stands.1)
 
     by_case : (o : Option Placed) → record_at records 2 private_name ≡ o → folder_id o ≡ Some id
         → (q : Placed) × Contains (entries_of records) q × (is_folder q.value ≡ true) × (id_of q ≡ id) × (is_placed_at 2 private_name q ≡ true)
@@ -195,7 +185,7 @@ hidden_is_computed records next folder ids rooted = (there, back)
         ap (λ o. is_under o (entries_of records) folder) hidden.1 ∙ way_is_above next (entries_of records) ids hidden.0 folder way.0 way.2 (length (entries_of records)) way.1
 
     by_case : (o : Option ℕ) → private_id records ≡ o → is_under o (entries_of records) folder ≡ true → IsHidden records folder
-    by_case None is hidden = absurd (true_or_false (sym hidden))
+    by_case None is hidden = absurd (true≢false (sym hidden))
     by_case (Some id) is hidden =
         let p = private_is records id is in
         (id, is, above_lies next (entries_of records) ids id (λ none. not_zero next (entries_of records) ids p.0 p.1 (p.3 ∙ none)) (length (entries_of records)) folder hidden)

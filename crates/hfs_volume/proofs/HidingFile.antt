@@ -1,5 +1,6 @@
 -- A file that users see under one name, moved into the private folder, which is made where it wasn't there.
 use Rattle.std.proofs.Common.{◌≡◌, ℕ, ◌+◌, ◌≤◌, true, false, List, [], ◌∷◌, inl, inr, sym, ◌∙◌, ap, arith}
+use Rattle.std.proofs.lemmas.Bool.{true≢false}
 use Rattle.std.specs.Prelude.{Contains, ◌==◌, ◌&&◌, Some, if◌then◌else◌}
 use Rattle.volume_header.specs.declared.header.VolumeHeader.{VolumeHeader}
 use Rattle.cat_records.specs.declared.record.FileRecord.{FileRecord}
@@ -16,7 +17,6 @@ use Rattle.hfs_volume.specs.Laws.{IsShaped, MayMove, IsFolderId}
 use Rattle.hfs_volume.specs.Naming.{private_ids, HasPrivate, IsNameOf}
 use Rattle.hfs_volume.proofs.Fields.{BytesBy}
 use Rattle.hfs_volume.proofs.Members.{each_of}
-use Rattle.hfs_volume.proofs.Ranks.{true_or_false}
 use Rattle.hfs_volume.proofs.Hiding.{same_entry}
 use Rattle.hfs_volume.proofs.Fitting.{differs}
 use Rattle.hfs_volume.proofs.Finishing.{sound_is_both}
@@ -98,12 +98,12 @@ module _ (at : PlainEntry) (old : VolumeState) (bytes_of : FileRecord → List �
 
   pub private_apart : (private == at.parent) ≡ false
   private_apart = differs private at.parent (λ same.
-      true_or_false (sym (private_hidden opened_ shaped_opened private private_is_it) ∙ ap (is_hidden (records_of opened_)) (same ∙ sym is_entry.place.0) ∙ visible_opened))
+      true≢false (sym (private_hidden opened_ shaped_opened private private_is_it) ∙ ap (is_hidden (records_of opened_)) (same ∙ sym is_entry.place.0) ∙ visible_opened))
 
   pub not_inside : LiesIn (entries_of (records_of opened_)) (id_of entry) private → ⊥
   not_inside lies =
       let folder = top_is_folder opened_ shaped_opened (id_of entry) private facts.high lies (private_folder opened_ shaped_opened private private_is_it) in
-      true_or_false (sym folder.2 ∙ ap (λ (p : Placed). is_folder p.value) (same_entry opened_.head.next_catalog_id (entries_of (records_of opened_)) shaped_opened.ids folder.0 entry folder.1 stands_opened folder.3) ∙ no_folder)
+      true≢false (sym folder.2 ∙ ap (λ (p : Placed). is_folder p.value) (same_entry opened_.head.next_catalog_id (entries_of (records_of opened_)) shaped_opened.ids folder.0 entry folder.1 stands_opened folder.3) ∙ no_folder)
 
   pub may : MayMove entry private name_ opened_
   may = record {
@@ -114,8 +114,8 @@ module _ (at : PlainEntry) (old : VolumeState) (bytes_of : FileRecord → List �
     goes_not_own = ap (λ b. b && is_private_name name_) not_two;
     folder = private_folder opened_ shaped_opened private private_is_it;
     not_inside = not_inside;
-    no_links = λ link stands link_is shared. true_or_false (sym shared ∙ seen_is_outside opened_ shaped_opened entry visible_opened (special_of link));
-    outside = λ kind hidden. elim kind [ inl link ↦ true_or_false (sym link ∙ not_link) | inr folder ↦ true_or_false (sym folder ∙ no_folder) ];
+    no_links = λ link stands link_is shared. true≢false (sym shared ∙ seen_is_outside opened_ shaped_opened entry visible_opened (special_of link));
+    outside = λ kind hidden. elim kind [ inl link ↦ true≢false (sym link ∙ not_link) | inr folder ↦ true≢false (sym folder ∙ no_folder) ];
   }
 
   pub shaped_moved : IsShaped moved_

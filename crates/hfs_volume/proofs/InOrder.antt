@@ -7,11 +7,10 @@ use Rattle.std.specs.declared.cmp.Ordering.TheVariants.{Less, Equal, Greater}
 use Rattle.std.specs.Ordering.{is_lt, is_eq, nat_cmp, ordering_reverse}
 use Rattle.std.specs.Cmp.{IsTotalOrder}
 use Rattle.std.specs.Cmp.Lexicographic.{slice_cmp}
-use Rattle.std.proofs.lemmas.Bool.{ltb-true, ltb-false, lt-ltb}
+use Rattle.std.proofs.lemmas.Bool.{ltb-true, ltb-false, lt-ltb, true≢false}
 use Rattle.std.proofs.lemmas.Bool.Decides.{leb_tells}
 use Rattle.hfs_model.specs.Sorted.{kept, put_before, IsInOrder}
 use Rattle.hfs_volume.proofs.Members.{at_front, behind, first_or_later, kept_cases}
-use Rattle.hfs_volume.proofs.Ranks.{true_or_false}
 
 -- each item, as a tuple, and by membership
 pub each_by : {X : Type 0} (P : X → Type 0) (xs : List X) → AllByRecursion P xs → (x : X) → Contains xs x → P x
@@ -98,11 +97,11 @@ module _ {X : Type 0} (before : X → X → Bool) where
 
 less_is : (o : Ordering) → is_lt o ≡ true → o ≡ Less
 less_is Less is = refl
-less_is Equal is = absurd (true_or_false (sym is))
-less_is Greater is = absurd (true_or_false (sym is))
+less_is Equal is = absurd (true≢false (sym is))
+less_is Greater is = absurd (true≢false (sym is))
 
 other_way : (o : Ordering) → is_lt o ≡ false → o ≢ Equal → is_lt (ordering_reverse o) ≡ true
-other_way Less is differ = absurd (true_or_false is)
+other_way Less is differ = absurd (true≢false is)
 other_way Equal is differ = absurd (differ refl)
 other_way Greater is differ = refl
 

@@ -1,5 +1,6 @@
 -- Another value of a record, of its kind, keeps all rules of a sound volume but the counts, and moves no count.
 use Rattle.std.proofs.Common.{◌≡◌, ◌⊎◌, ℕ, ◌≤◌, Bool, true, false, List, [], ◌∷◌, ◌++◌, length, inl, inr, refl, sym, ◌∙◌, ap, subst, arith}
+use Rattle.std.proofs.lemmas.Bool.{true≢false}
 use Rattle.std.specs.Prelude.{Contains, All, IsTrue, ◌==◌, ◌&&◌, not, count_by, Option, Some, None}
 use Rattle.std.specs.Str.{bytes_eq}
 use Rattle.std.specs.List.{flat_map}
@@ -24,7 +25,6 @@ use Rattle.hfs_volume.specs.Changes.{SameKind, ChangesValue, InCatalog}
 use Rattle.hfs_volume.specs.Laws.{IsShaped, one_if}
 use Rattle.hfs_volume.proofs.Counting.{count_append, count_cons, length_kept}
 use Rattle.hfs_volume.proofs.Members.{at_front, behind, first_or_later, all_of, each_of}
-use Rattle.hfs_volume.proofs.Ranks.{true_or_false}
 use Rattle.hfs_volume.proofs.Shaping.{used_same, has_forks_still, has_files_still}
 use Rattle.hfs_volume.proofs.Swapping.{Splits, splits, flat_swap, found_swap, entries_split, private_same, shared_either}
 use Rattle.hfs_volume.proofs.Making.{placed_splits}
@@ -283,7 +283,7 @@ module _ (entry : Placed) (value : CatRecord) (front back : List Placed) (named 
 
   still_unnamed : (p : Placed) → Contains was p → p.name ≡ [] → Contains is p
   still_unnamed p stands none = elim (swapped entry it front back p stands) [
-    | inl same ↦ absurd (true_or_false (sym (ap is_empty (sym (ap (λ (q : Placed). q.name) same) ∙ none)) ∙ named))
+    | inl same ↦ absurd (true≢false (sym (ap is_empty (sym (ap (λ (q : Placed). q.name) same) ∙ none)) ∙ named))
     | inr there ↦ there
   ]
 
@@ -318,7 +318,7 @@ module _ (entry : Placed) (value : CatRecord) (front back : List Placed) (named 
 
     named_is : (p : Placed) (thread : ThreadRecord) → Contains is p → p.value ≡ Thread thread → (e : Placed) × Contains (entries_of is) e × (id_of e ≡ p.parent) × IsThreadOf e thread
     named_is p thread stands kind = elim (swapped it entry front back p stands) [
-      | inl same ↦ absurd (true_or_false (sym (ap is_thread kind) ∙ kinds_is p stands ∙ ap (λ (q : Placed). is_empty q.name) same ∙ named))
+      | inl same ↦ absurd (true≢false (sym (ap is_thread kind) ∙ kinds_is p stands ∙ ap (λ (q : Placed). is_empty q.name) same ∙ named))
       | inr there ↦
           let found = named_was p thread there kind in
           elim (entry_still found.0 found.1) [

@@ -2,7 +2,7 @@ mod Accounts
 mod Adding
 mod AddingSeen
 mod Apart
-mod Ascending
+pub mod Ascending
 mod Asides
 mod Attributing
 mod BlockWants
@@ -10,7 +10,7 @@ mod Booking
 mod Bytes
 mod Counting
 mod Dropped
-mod Dropping
+pub mod Dropping
 mod DroppingLink
 mod Emptying
 mod EntryWants
@@ -36,7 +36,7 @@ mod Lying
 mod Making
 mod Marking
 mod Marks
-mod Members
+pub mod Members
 mod Moding
 mod Moments
 mod Moving
@@ -69,13 +69,13 @@ mod Sectors
 mod Seeing
 mod Shaping
 mod Sharing
-mod Sides
+pub mod Sides
 mod Sounding
 mod Steadying
 mod Swapping
 mod Telling
 mod TheLaws
-mod Threading
+pub mod Threading
 mod TreeSounding
 mod TreeUnbroken
 mod TreeWants

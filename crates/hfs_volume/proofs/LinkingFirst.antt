@@ -1,7 +1,7 @@
 -- `ln` on the lists of a sound volume: the first link of a file.
 use Rattle.std.proofs.Common.{bytes_eq, map, nat_lt, ◌^◌, ◌≡◌, ℕ, ◌+◌, ◌*◌, ◌<◌, Bool, true, false, List, [], ◌∷◌, inl, inr, refl, sym, ◌∙◌, ap, subst, arith}
 use Rattle.std.specs.Prelude.{Contains, ◌==◌, ◌&&◌, not, Some, if◌then◌else◌}
-use Rattle.std.proofs.lemmas.Bool.{eqb-true}
+use Rattle.std.proofs.lemmas.Bool.{eqb-true, true≢false}
 use Rattle.std.proofs.lemmas.Slice.Eq.{bytes_eq-Decides}
 use Rattle.volume_header.specs.declared.header.VolumeHeader.{VolumeHeader}
 use Rattle.cat_records.specs.declared.record.FileRecord.{FileRecord}
@@ -22,7 +22,6 @@ use Rattle.hfs_volume.specs.Commands.{with_counts, with_fields}
 use Rattle.hfs_volume.specs.Naming.{private_ids, LinksFirst}
 use Rattle.hfs_volume.proofs.Fields.{touched_views, marked_views, dated, redated, special_now, BytesBy}
 use Rattle.hfs_volume.proofs.Members.{at_front, each_of, behind}
-use Rattle.hfs_volume.proofs.Ranks.{true_or_false}
 use Rattle.hfs_volume.proofs.Hiding.{same_entry}
 use Rattle.hfs_volume.proofs.Seeing.{same_number}
 use Rattle.hfs_volume.proofs.Fitting.{not_same}
@@ -122,7 +121,7 @@ module _ (at : PlainEntry) (goal : Place) (old new : VolumeState) (bytes_of : Fi
       heads old old no_debts head 2 0 more 0 (omega arith) refl (omega arith) (omega arith) (opened old sound does.sorted) (record { accepted = sound.blocks.header.accepted; next_id = omega (arith, sound.blocks.header.next_id) })
 
   open_place : is_folder entry.value ≡ true → IsHidden (records_of does.opened) entry.parent → ⊥
-  open_place is_a hidden = true_or_false (sym is_a ∙ no_folder at old bytes_of by_fork sound a_file does.entry does.is_entry does.not_link facts head debts_begun (λ id. refl) account_begun (omega arith) does.private does.opened does.opens (node_name does.reference) refl does.moved does.moves)
+  open_place is_a hidden = true≢false (sym is_a ∙ no_folder at old bytes_of by_fork sound a_file does.entry does.is_entry does.not_link facts head debts_begun (λ id. refl) account_begun (omega arith) does.private does.opened does.opens (node_name does.reference) refl does.moved does.moves)
 
   shaped_mid : IsShaped does.moved
   shaped_mid = shaped_moved at old bytes_of by_fork sound a_file does.entry does.is_entry does.not_link facts head debts_begun (λ id. refl) account_begun (omega arith) does.private does.opened does.opens (node_name does.reference) refl does.moved does.moves
@@ -259,7 +258,7 @@ module _ (at : PlainEntry) (goal : Place) (old new : VolumeState) (bytes_of : Fi
   not_private : id_of it ≡ does.private → ⊥
   not_private same =
       let one : private_folder_linked.0 ≡ it = same_entry does.linked.head.next_catalog_id (entries_of (records_of does.linked)) shaped_linked.ids private_folder_linked.0 it private_folder_linked.1 stands_linked (private_folder_linked.3 ∙ sym same) in
-      true_or_false (sym private_folder_linked.2 ∙ ap (λ (p : Placed). is_folder p.value) one ∙ no_folder at old bytes_of by_fork sound a_file does.entry does.is_entry does.not_link facts head debts_begun (λ id. refl) account_begun (omega arith) does.private does.opened does.opens (node_name does.reference) refl does.moved does.moves)
+      true≢false (sym private_folder_linked.2 ∙ ap (λ (p : Placed). is_folder p.value) one ∙ no_folder at old bytes_of by_fork sound a_file does.entry does.is_entry does.not_link facts head debts_begun (λ id. refl) account_begun (omega arith) does.private does.opened does.opens (node_name does.reference) refl does.moved does.moves)
 
   shaped_filled : IsShaped does.filled
   shaped_filled = value_changed does.fills.entry (with_fields (λ _. does.fills.after) does.fills.entry.value) does.linked does.filled does.fills.changes (kind_of does.private does.linked does.filled does.fills) shaped_linked
@@ -292,7 +291,7 @@ module _ (at : PlainEntry) (goal : Place) (old new : VolumeState) (bytes_of : Fi
       by_tests true true one other = refl
       by_tests false false one other = refl
       by_tests true false one other = absurd (not_same does.reference reference other (number_is (Some does.private) does.reference reference it (shared_is (Some does.private) does.reference it has) (shared_is (Some does.private) reference it one)))
-      by_tests false true one other = absurd (true_or_false (sym has ∙ ap (λ n. is_shared (Some does.private) n it) (eqb-true does.reference reference other) ∙ one))
+      by_tests false true one other = absurd (true≢false (sym has ∙ ap (λ n. is_shared (Some does.private) n it) (eqb-true does.reference reference other) ∙ one))
 
   special_was : does.marks.before.special ≡ special_of entry
   special_was = sym (special_now does.marks.entry.parent does.marks.entry.name does.marks.entry.value does.marks.before does.marks.after does.marks.has).0 ∙ ap special_of marked_is_it
@@ -302,9 +301,9 @@ module _ (at : PlainEntry) (goal : Place) (old new : VolumeState) (bytes_of : Fi
       let one = moves old does.opened does.moved debts_begun (account_opened at old bytes_of by_fork sound a_file does.entry does.is_entry does.not_link facts head debts_begun (λ id. refl) account_begun (omega arith) does.private does.opened does.opens (node_name does.reference) refl does.moved does.moves) entry does.private (node_name does.reference) does.moves (may at old bytes_of by_fork sound a_file does.entry does.is_entry does.not_link facts head debts_begun (λ id. refl) account_begun (omega arith) does.private does.opened does.opens (node_name does.reference) refl does.moved does.moves) does.sorted_again (λ reference shared.
       let none = unlinked_counted does.moved shaped_mid reference it shared unlinked in
       omega (arith, none)) in
-      let two = adds old does.moved does.replaced _ one first_link does.replaces may_first does.sorted_replaced (λ is_a. absurd (true_or_false (sym is_a ∙ first_value.no_folder))) (λ is_a. absurd (true_or_false (sym is_a ∙ first_value.no_folder)))
+      let two = adds old does.moved does.replaced _ one first_link does.replaces may_first does.sorted_replaced (λ is_a. absurd (true≢false (sym is_a ∙ first_value.no_folder))) (λ is_a. absurd (true≢false (sym is_a ∙ first_value.no_folder)))
       (λ reference. seen_is_outside does.replaced shaped_replaced first_link (added_hidden first_link does.moved does.replaced does.replaces may_first shaped_mid entry.parent (parent_differs first_link does.moved does.replaced does.replaces may_first shaped_mid) ∙ hidden_moved entry.parent ∙ visible_opened at old bytes_of by_fork sound a_file does.entry does.is_entry does.not_link facts head debts_begun (λ id. refl) account_begun (omega arith) does.private does.opened does.opens (node_name does.reference) refl does.moved does.moves) reference) in
-      let three = adds old does.replaced does.linked _ two second_link does.links may_second does.sorted_linked (λ is_a. absurd (true_or_false (sym is_a ∙ second_value.no_folder))) (λ is_a. absurd (true_or_false (sym is_a ∙ second_value.no_folder)))
+      let three = adds old does.replaced does.linked _ two second_link does.links may_second does.sorted_linked (λ is_a. absurd (true≢false (sym is_a ∙ second_value.no_folder))) (λ is_a. absurd (true≢false (sym is_a ∙ second_value.no_folder)))
       (λ reference. seen_is_outside does.linked shaped_linked second_link (added_hidden second_link does.replaced does.linked does.links may_second shaped_replaced goal.folder (parent_differs second_link does.replaced does.linked does.links may_second shaped_replaced) ∙ goal_visible) reference) in
       let four = recount_account old does.linked does.filled _ does.private 1 0 three does.fills private_folder_linked does.fills.fields.count (omega arith) in
       let five = mark_account old does.filled does.marked _ at.id 2 does.marks.before.special four does.marks does.marks.fields.marked.count (omega (arith, does.marks.fields.special)) in

@@ -1,7 +1,7 @@
 -- `ln` on the lists of a sound volume: a later link of a file.
 use Rattle.std.proofs.Common.{◌≡◌, ℕ, ◌+◌, ◌<◌, Bool, true, false, List, [], ◌∷◌, inl, inr, refl, sym, ◌∙◌, ap, subst, arith}
 use Rattle.std.specs.Prelude.{Contains, ◌==◌, ◌&&◌, ◌||◌, not, find, is_some, Option, None, Some, if◌then◌else◌}
-use Rattle.std.proofs.lemmas.Bool.{eqb-true}
+use Rattle.std.proofs.lemmas.Bool.{eqb-true, true≢false}
 use Rattle.volume_header.specs.declared.header.VolumeHeader.{VolumeHeader}
 use Rattle.cat_records.specs.declared.record.FileRecord.{FileRecord}
 use Rattle.cat_records.specs.declared.record.CatRecord.{CatRecord}
@@ -23,7 +23,7 @@ use Rattle.hfs_volume.specs.Naming.{LinksMore}
 use Rattle.hfs_volume.proofs.Fields.{touched_views, marked_views, dated, redated, BytesBy}
 use Rattle.hfs_volume.proofs.Members.{at_front, each_of, in_one}
 use Rattle.hfs_volume.proofs.Flat.{found_none, found_some}
-use Rattle.hfs_volume.proofs.Ranks.{true_or_false, node_is_one}
+use Rattle.hfs_volume.proofs.Ranks.{node_is_one}
 use Rattle.hfs_volume.proofs.Hiding.{same_entry, or_true}
 use Rattle.hfs_volume.proofs.Seeing.{same_number}
 use Rattle.hfs_volume.proofs.Fitting.{not_same}
@@ -72,7 +72,7 @@ node_found_at volume bytes_of shaped e stands f linked_ piece = by_case (find (i
 
     by_case : (o : Option PlainNode) → find (is_node (id_of e)) (tree_in volume bytes_of).nodes ≡ o → HasNodeAt (tree_in volume bytes_of) (id_of e) linked_
     by_case None none =
-        absurd (true_or_false (sym (ap (λ n. n == id_of e) id_there ∙ same_number (id_of e)) ∙ found_none (is_node (id_of e)) (tree_in volume bytes_of).nodes none (plain_node (attributes_of volume) f.fields false (bytes_of f) linked_) there))
+        absurd (true≢false (sym (ap (λ n. n == id_of e) id_there ∙ same_number (id_of e)) ∙ found_none (is_node (id_of e)) (tree_in volume bytes_of).nodes none (plain_node (attributes_of volume) f.fields false (bytes_of f) linked_) there))
     by_case (Some n) found =
         let it = found_some (is_node (id_of e)) (tree_in volume bytes_of).nodes n found in
         let id = eqb-true n.id (id_of e) it.1 in
@@ -88,14 +88,14 @@ pub linked_node : (attributes : List Attribute) (bytes_of : FileRecord → List 
 linked_node attributes bytes_of records file a_file is = of_value file.value refl a_file
   where
     of_value : (value : CatRecord) → file.value ≡ value → is_file value ≡ true → (f : FileRecord) × (file.value ≡ File f) × (node_in attributes records bytes_of file value ≡ plain_node attributes f.fields false (bytes_of f) true ∷ [])
-    of_value (Folder f) same is_a = absurd (true_or_false (sym is_a))
+    of_value (Folder f) same is_a = absurd (true≢false (sym is_a))
     of_value (File f) same is_a = (
       f,
       same,
       (λ i. if (is_seen records file && not (is_link file)) || is i then plain_node attributes f.fields false (bytes_of f) (is i) ∷ [] else [])
           ∙ ap (λ b. if b then plain_node attributes f.fields false (bytes_of f) true ∷ [] else []) (or_true (is_seen records file && not (is_link file))),
     )
-    of_value (Thread f) same is_a = absurd (true_or_false (sym is_a))
+    of_value (Thread f) same is_a = absurd (true≢false (sym is_a))
 
 module _ (at : PlainEntry) (goal : Place) (old new : VolumeState) (bytes_of : FileRecord → List ℕ) (by_fork : BytesBy bytes_of) (sound : IsSoundVolume old) (does : LinksMore at goal old new) (facts : IsSeenName old bytes_of sound at does.entry)
     (folder : IsFolder (records_of old) old.head.next_catalog_id sound.entries.ids sound.entries.rooted goal.folder) (not_own : ((goal.folder == 2) && is_private_name goal.name) ≡ false) (named : is_empty goal.name ≡ false) where
@@ -198,7 +198,7 @@ module _ (at : PlainEntry) (goal : Place) (old new : VolumeState) (bytes_of : Fi
 
   pub sound_more : IsSoundVolume new
   sound_more =
-      let first = adds old begun does.linked debts_begun account_begun link does.links may does.sorted_linked (λ is_a. absurd (true_or_false (sym is_a ∙ value.no_folder))) (λ is_a. absurd (true_or_false (sym is_a ∙ value.no_folder)))
+      let first = adds old begun does.linked debts_begun account_begun link does.links may does.sorted_linked (λ is_a. absurd (true≢false (sym is_a ∙ value.no_folder))) (λ is_a. absurd (true≢false (sym is_a ∙ value.no_folder)))
       (λ reference. seen_is_outside does.linked shaped_linked link visible_linked reference) in
       let second = mark_account old does.linked does.marked _ at.id 1 0 first does.marks does.marks.fields.marked.count (omega (arith, does.marks.fields.special, does.one_more)) in
       let third = recount_account old does.marked new _ goal.folder 1 0 second does.gains (folder_still at.id does.linked does.marked does.marks shaped_linked goal.folder folder_linked) does.gains.fields.count (omega arith) in

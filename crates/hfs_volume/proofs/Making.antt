@@ -1,5 +1,6 @@
 -- `mkdir` on the lists of a sound volume: the tree after it is that of the step.
 use Rattle.std.proofs.Common.{◌≡◌, ℕ, ◌+◌, ◌<◌, ◌≤◌, Bool, true, false, List, [], ◌∷◌, ◌++◌, map, inl, inr, refl, sym, ◌∙◌, ap, subst, arith}
+use Rattle.std.proofs.Math.Bool.{and-false}
 use Rattle.std.specs.Prelude.{Contains, ◌==◌, ◌||◌, ◌&&◌, ◌^◌, nat_lt, not, count_by, is_some, Ok, if◌then◌else◌}
 use Rattle.std.specs.List.{flat_map, list_any}
 use Rattle.std.specs.Str.{bytes_eq}
@@ -28,7 +29,7 @@ use Rattle.hfs_model.specs.declared.plain.PlainNode.{PlainNode}
 use Rattle.hfs_volume.proofs.Members.{at_front, behind, each_of, map_cases}
 use Rattle.hfs_volume.proofs.Counting.{count_cons, count_append}
 use Rattle.hfs_volume.proofs.Hiding.{one_there, or_true}
-use Rattle.hfs_volume.proofs.Seeing.{same_number, same_private, and_false}
+use Rattle.hfs_volume.proofs.Seeing.{same_number, same_private}
 use Rattle.hfs_volume.proofs.Heading.{more_ids}
 use Rattle.hfs_volume.proofs.Threading.{rooted_kept, threads_kept}
 use Rattle.hfs_volume.proofs.Fitting.{differs, first_added, then_added, fits_in, outside, ids_kept, entries_after, nodes_after, is_seen_new}
@@ -219,7 +220,7 @@ module _ (folder : Bool) (path : List (List ℕ)) (at : Place) (old new : Volume
     not_linked : is_linked mid entry ≡ false
     not_linked =
         any_false (λ link. is_link link && is_shared_file mid (special_of link) entry) (entries_of mid) (λ link.
-        (λ i. is_link link && ((ap (λ private. is_in private entry) private_mid ∙ stands_outside) i && is_file entry.value && bytes_eq entry.name (node_name (special_of link)) && nat_lt (special_of link) (2 ^ 32))) ∙ and_false (is_link link))
+        (λ i. is_link link && ((ap (λ private. is_in private entry) private_mid ∙ stands_outside) i && is_file entry.value && bytes_eq entry.name (node_name (special_of link)) && nat_lt (special_of link) (2 ^ 32))) ∙ and-false (is_link link))
 
     node_is_new : node_in (attributes_of old) mid bytes_of entry entry.value ≡ new_node folder old.head.next_catalog_id moment ∷ []
     node_is_new =

@@ -1,9 +1,10 @@
 -- What the private folder and what is in it are: which users don't see.
 use Rattle.std.proofs.Common.{◌≡◌, ◌⊎◌, ℕ, ◌<◌, ◌^◌, Bool, true, false, List, [], ◌∷◌, length, drop, inl, inr, refl, sym, ◌∙◌, ap, subst, arith, length-append}
+use Rattle.std.proofs.Math.Bool.{and-false}
 use Rattle.std.specs.Prelude.{Contains, ◌==◌, ◌&&◌, ◌||◌, not, nat_lt, decimal, slice_index, Option, None, Some, if◌then◌else◌}
 use Rattle.std.specs.Str.{bytes_eq}
 use Rattle.std.specs.List.{flat_map, range_with_len}
-use Rattle.std.proofs.lemmas.Bool.{eqb-true, ltb-true}
+use Rattle.std.proofs.lemmas.Bool.{eqb-true, ltb-true, true≢false, and_parts}
 use Rattle.std.proofs.lemmas.Fmt.{decimal_is_IsNumeral}
 use Rattle.std.proofs.lemmas.Slice.Eq.{bytes_eq-Decides}
 use Rattle.std.proofs.lemmas.List.Elements.{Contains-append_cases}
@@ -29,9 +30,8 @@ use Rattle.hfs_volume.specs.Naming.{orphan_name}
 use Rattle.hfs_volume.proofs.Counting.{length_kept}
 use Rattle.hfs_volume.proofs.Members.{at_front, each_of, kept_cases}
 use Rattle.hfs_volume.proofs.Flat.{found_some, found_none}
-use Rattle.hfs_volume.proofs.Ranks.{true_or_false}
-use Rattle.hfs_volume.proofs.Hiding.{hidden_is_computed, private_is, same_entry, both, one_there}
-use Rattle.hfs_volume.proofs.Seeing.{same_number, and_false}
+use Rattle.hfs_volume.proofs.Hiding.{hidden_is_computed, private_is, same_entry, one_there}
+use Rattle.hfs_volume.proofs.Seeing.{same_number}
 use Rattle.hfs_volume.proofs.Fitting.{differs, none_counted, not_same}
 use Rattle.hfs_volume.proofs.Reaching.{flat_cases, shows_seen, folder_no_link}
 use Rattle.hfs_volume.proofs.Owning.{none_owned}
@@ -73,7 +73,7 @@ module _ (volume : VolumeState) (shaped : IsShaped volume) where
   private_not_root private is two =
       let p = private_is records private is in
       let same : p.0 ≡ shaped.rooted.root.0 = same_entry next (entries_of records) shaped.ids p.0 shaped.rooted.root.0 p.1 shaped.rooted.root.1 (p.3 ∙ two ∙ sym shaped.rooted.root.2.id) in
-      omega (arith, eqb-true p.0.parent 2 (both (p.0.parent == 2) (bytes_eq p.0.name private_name) p.4).0, ap (λ (q : Placed). q.parent) same, shaped.rooted.root.2.parent)
+      omega (arith, eqb-true p.0.parent 2 (and_parts (p.0.parent == 2) (bytes_eq p.0.name private_name) p.4).0, ap (λ (q : Placed). q.parent) same, shaped.rooted.root.2.parent)
 
   pub private_folder : (private : ℕ) → private_id records ≡ Some private → IsFolderId (entries_of records) private
   private_folder private is = let p = private_is records private is in (p.0, p.1, p.2, p.3)
@@ -107,12 +107,12 @@ module _ (volume : VolumeState) (shaped : IsShaped volume) where
   own_unseen p own = ap (λ b. not (is_empty p.name) && not (p.parent == 1) && not (is_hidden records p.parent) && not b) own ∙ none (not (is_empty p.name)) (not (p.parent == 1)) (not (is_hidden records p.parent))
     where
       none : (a b c : Bool) → (a && b && c && false) ≡ false
-      none true true c = and_false c
+      none true true c = and-false c
       none true false c = refl
       none false b c = refl
 
   own_place : (p : Placed) → is_placed_at 2 private_name p ≡ true → is_own p ≡ true
-  own_place p at = let tests = both (p.parent == 2) (bytes_eq p.name private_name) at in λ i. tests.0 i && is_private_name ((bytes_eq-Decides p.name private_name).0 tests.1 i)
+  own_place p at = let tests = and_parts (p.parent == 2) (bytes_eq p.name private_name) at in λ i. tests.0 i && is_private_name ((bytes_eq-Decides p.name private_name).0 tests.1 i)
 
   -- no node is that of the private folder
   pub private_no_node : (attributes : List Attribute) (bytes_of : FileRecord → List ℕ) (private : ℕ) → private_id records ≡ Some private → (n : PlainNode) → Contains (nodes_over attributes bytes_of records records) n → n.id ≡ private → ⊥
@@ -125,17 +125,17 @@ module _ (volume : VolumeState) (shaped : IsShaped volume) where
     where
       of_value : (e : Placed) (value : CatRecord) → is_folder value ≡ true → is_seen records e ≡ false → (id_of e == 2) ≡ false → Contains (node_in attributes records bytes_of e value) n → ⊥
       of_value e (Folder f) is_a not_seen other has = omega (arith, (subst (λ b. Contains (if b then plain_node attributes f.fields true [] false ∷ [] else []) n) (λ i. other i || not_seen i) has).1)
-      of_value e (File f) is_a not_seen other has = true_or_false (sym is_a)
-      of_value e (Thread f) is_a not_seen other has = true_or_false (sym is_a)
+      of_value e (File f) is_a not_seen other has = true≢false (sym is_a)
+      of_value e (Thread f) is_a not_seen other has = true≢false (sym is_a)
 
   -- a file that is neither seen nor linked has no node
   pub unseen_no_node : (attributes : List Attribute) (bytes_of : FileRecord → List ℕ) (file : Placed) → is_file file.value ≡ true → is_seen records file ≡ false → is_linked records file ≡ false → node_in attributes records bytes_of file file.value ≡ []
   unseen_no_node attributes bytes_of file is_a not_seen not_linked = of_value file.value is_a
     where
       of_value : (value : CatRecord) → is_file value ≡ true → node_in attributes records bytes_of file value ≡ []
-      of_value (Folder f) is = absurd (true_or_false (sym is))
+      of_value (Folder f) is = absurd (true≢false (sym is))
       of_value (File f) is = λ i. if (not_seen i && not (is_link file)) || not_linked i then plain_node attributes f.fields false (bytes_of f) (is_linked records file) ∷ [] else []
-      of_value (Thread f) is = absurd (true_or_false (sym is))
+      of_value (Thread f) is = absurd (true≢false (sym is))
 
   -- ---- links and their number
 
@@ -156,8 +156,8 @@ module _ (volume : VolumeState) (shaped : IsShaped volume) where
       by_test : (q : Placed) → Contains (entries_of records) q → (b : Bool) → is_link_to reference q ≡ b → b ≡ false
       by_test q stands false isnt = refl
       by_test q stands true is =
-          let tests = both (is_link q) (special_of q == reference) is in
-          absurd (true_or_false (sym (links_it records file (record { link = q; stands = stands; is_one = tests.0; names = ap (λ n. is_shared_file records n file) (eqb-true (special_of q) reference tests.1) ∙ shared })) ∙ unlinked))
+          let tests = and_parts (is_link q) (special_of q == reference) is in
+          absurd (true≢false (sym (links_it records file (record { link = q; stands = stands; is_one = tests.0; names = ap (λ n. is_shared_file records n file) (eqb-true (special_of q) reference tests.1) ∙ shared })) ∙ unlinked))
 
   pub some_counted_link : (reference : ℕ) (file : Placed) → is_shared_file records reference file ≡ true → 0 < length (links_to records reference) → Links records file
   some_counted_link reference file shared some = by_list (links_to records reference) refl some
@@ -166,7 +166,7 @@ module _ (volume : VolumeState) (shaped : IsShaped volume) where
       by_list [] is long = absurd (omega (arith, long))
       by_list (q ∷ rest) is long =
           let it = kept_cases (is_link_to reference) (entries_of records) q (subst (λ l. Contains l q) (sym is) (at_front q rest)) in
-          let tests = both (is_link q) (special_of q == reference) it.1 in
+          let tests = and_parts (is_link q) (special_of q == reference) it.1 in
           record { link = q; stands = it.0; is_one = tests.0; names = ap (λ n. is_shared_file records n file) (eqb-true (special_of q) reference tests.1) ∙ shared }
 
   -- ---- links are seen
@@ -190,7 +190,7 @@ module _ (volume : VolumeState) (shaped : IsShaped volume) where
     pub stands_at : (name : List ℕ) (p q : Placed) → record_at records 2 name ≡ Some p → Contains (entries_of records) q → q.parent ≡ 2 → q.name ≡ name → p ≡ q
     stands_at name p q found stands parent same =
         let it = found_some (is_placed_at 2 name) records p found in
-        let tests = both (p.parent == 2) (bytes_eq p.name name) it.1 in
+        let tests = and_parts (p.parent == 2) (bytes_eq p.name name) it.1 in
         one_key records sorted p q it.0 (entry_is_record records q stands) (eqb-true p.parent 2 tests.0 ∙ sym parent) ((bytes_eq-Decides p.name name).0 tests.1 ∙ sym same)
 
     one_extent_blocks : (name : List ℕ) (extent : Extent) (q : Placed) → IsOneExtent records (overflow_in_volume volume) name extent → Contains (entries_of records) q → q.parent ≡ 2 → q.name ≡ name → flat_map (blocks_owned (overflow_in_volume volume)) (forks_in q.value) ≡ [] → ⊥
@@ -212,14 +212,14 @@ module _ (volume : VolumeState) (shaped : IsShaped volume) where
     link_not_own q stands link = by_test (is_own q) refl
       where
         private_found : q.parent ≡ 2 → q.name ≡ private_name → (o : Option Placed) → record_at records 2 private_name ≡ o → ⊥
-        private_found parent name None none = true_or_false (sym ((λ i. (parent i == 2) && bytes_eq (name i) private_name)) ∙ found_none (is_placed_at 2 private_name) records none q (entry_is_record records q stands))
+        private_found parent name None none = true≢false (sym ((λ i. (parent i == 2) && bytes_eq (name i) private_name)) ∙ found_none (is_placed_at 2 private_name) records none q (entry_is_record records q stands))
         private_found parent name (Some p) found =
-            true_or_false (sym link ∙ folder_no_link q (ap (λ (x : Placed). is_folder x.value) (sym (stands_at private_name p q found stands parent name)) ∙ shaped.links.private_folder p found))
+            true≢false (sym link ∙ folder_no_link q (ap (λ (x : Placed). is_folder x.value) (sym (stands_at private_name p q found stands parent name)) ∙ shaped.links.private_folder p found))
 
         by_test : (b : Bool) → is_own q ≡ b → b ≡ false
         by_test false isnt = refl
         by_test true own =
-            let tests = both (q.parent == 2) (is_private_name q.name) own in
+            let tests = and_parts (q.parent == 2) (is_private_name q.name) own in
             let parent = eqb-true q.parent 2 tests.0 in
             absurd (elim (three (bytes_eq q.name journal_name) (bytes_eq q.name journal_info_name) (bytes_eq q.name private_name) tests.1) [
               | inl journal ↦ one_extent_blocks journal_name _ q shaped.attributes.journal stands parent ((bytes_eq-Decides q.name journal_name).0 journal) (shaped.links.links q stands link).empty
@@ -244,7 +244,7 @@ module _ (volume : VolumeState) (shaped : IsShaped volume) where
 
         by_root : q.parent ≡ 1 → ⊥
         by_root one = elim (each_of (λ (p : Placed). IsRoot p ⊎ LiesIn (entries_of records) 2 p.parent) (entries_of records) shaped.rooted.each q stands) [
-          | inl root ↦ true_or_false (sym link ∙ folder_no_link q root.folder)
+          | inl root ↦ true≢false (sym link ∙ folder_no_link q root.folder)
           | inr lies ↦
               let above = lies_in_folder (entries_of records) shaped.rooted q.parent lies in
               elim (each_of (λ (p : Placed). IsUserId next (id_of p)) (entries_of records) shaped.ids.each above.0 above.1) [

@@ -1,5 +1,8 @@
 -- An entry moved to another place keeps all rules of a sound volume but the counts: a folder takes along what lies in it.
 use Rattle.std.proofs.Common.{◌≡◌, ◌⊎◌, ℕ, ◌+◌, Bool, true, false, List, [], length, inl, inr, refl, sym, ◌∙◌, ap, subst, arith}
+use Rattle.std.proofs.Math.Bool.{and-false}
+use Rattle.std.specs.Cmp.{both_ways}
+use Rattle.std.proofs.lemmas.Bool.{true≢false}
 use Rattle.std.specs.Prelude.{Contains, ◌==◌, ◌&&◌, count_by}
 use Rattle.std.specs.Str.{bytes_eq}
 use Rattle.alloc_bitmap.specs.Apart.{times}
@@ -16,9 +19,7 @@ use Rattle.hfs_volume.specs.Changes.{AreSorted, MovesEntry, InCatalog}
 use Rattle.hfs_volume.specs.Laws.{IsShaped, one_if, MayMove, EntryMoved}
 use Rattle.hfs_volume.proofs.Counting.{length_kept}
 use Rattle.hfs_volume.proofs.Members.{all_of, each_of}
-use Rattle.hfs_volume.proofs.Ranks.{true_or_false}
-use Rattle.hfs_volume.proofs.Hiding.{hidden_is_computed, same_bools}
-use Rattle.hfs_volume.proofs.Seeing.{and_false}
+use Rattle.hfs_volume.proofs.Hiding.{hidden_is_computed}
 use Rattle.hfs_volume.proofs.Fitting.{own_not_at}
 use Rattle.hfs_volume.proofs.Threading.{threads_kept}
 use Rattle.hfs_volume.proofs.Shaping.{with_catalog, has_files_still}
@@ -108,7 +109,7 @@ module _ (entry : Placed) (parent : ℕ) (name : List ℕ) (old new : VolumeStat
 
   found_still : (own : List ℕ) → is_private_name own ≡ true → bytes_eq [] own ≡ false → record_at is 2 own ≡ record_at was 2 own
   found_still own is_own_name some =
-      let thread : ((id_of entry == 2) && bytes_eq [] own) ≡ false = ap (λ b. (id_of entry == 2) && b) some ∙ and_false (id_of entry == 2) in
+      let thread : ((id_of entry == 2) && bytes_eq [] own) ≡ false = ap (λ b. (id_of entry == 2) && b) some ∙ and-false (id_of entry == 2) in
       found_same new_side (is_placed_at 2 own) (own_not_at moved may.goes_not_own own is_own_name) thread
       ∙ sym (found_same old_side (is_placed_at 2 own) (own_not_at entry may.not_own own is_own_name) thread)
 
@@ -122,7 +123,7 @@ module _ (entry : Placed) (parent : ℕ) (name : List ℕ) (old new : VolumeStat
       by_kind : (b : Bool) → is_folder entry.value ≡ b → LiesIn (entries_of was) hidden.0 x
       by_kind true is_a = apart_still moved entry (entries_of is) (entries_of was) back hidden.0
           (λ lies. may.outside (inr is_a) (hidden.0, sym moved_private ∙ hidden.1, outside_still moved entry (entries_of is) (entries_of was) back hidden.0 parent not_inside_now lies)) x hidden.2
-      by_kind false isnt = no_folder_still moved (entries_of is) (entries_of was) back.cases (λ is_a. true_or_false (sym is_a ∙ isnt)) hidden.0 x hidden.2
+      by_kind false isnt = no_folder_still moved (entries_of is) (entries_of was) back.cases (λ is_a. true≢false (sym is_a ∙ isnt)) hidden.0 x hidden.2
 
   -- and what was is, where the old place isn't hidden, or it is no folder
   pub hidden_is_still : (is_folder entry.value ≡ true → IsHidden was entry.parent → ⊥) → (x : ℕ) → IsHidden was x → IsHidden is x
@@ -130,7 +131,7 @@ module _ (entry : Placed) (parent : ℕ) (name : List ℕ) (old new : VolumeStat
     where
       by_kind : (b : Bool) → is_folder entry.value ≡ b → LiesIn (entries_of is) hidden.0 x
       by_kind true is_a = apart_still entry moved (entries_of was) (entries_of is) forth hidden.0 (λ lies. seen is_a (hidden.0, hidden.1, lies)) x hidden.2
-      by_kind false isnt = no_folder_still entry (entries_of was) (entries_of is) forth.cases (λ is_a. true_or_false (sym is_a ∙ isnt)) hidden.0 x hidden.2
+      by_kind false isnt = no_folder_still entry (entries_of was) (entries_of is) forth.cases (λ is_a. true≢false (sym is_a ∙ isnt)) hidden.0 x hidden.2
 
   -- ---- the rules
 
@@ -225,7 +226,7 @@ module _ (entry : Placed) (parent : ℕ) (name : List ℕ) (old new : VolumeStat
   moved_hidden seen x =
       let before = hidden_is_computed was old.head.next_catalog_id x shaped.ids shaped.rooted in
       let after = hidden_is_computed is old.head.next_catalog_id x moved_ids moved_rooted in
-      same_bools (is_hidden is x) (is_hidden was x) (λ hidden. before.0 (hidden_was x (after.1 hidden))) (λ hidden. after.0 (hidden_is_still seen x (before.1 hidden)))
+      both_ways (is_hidden is x) (is_hidden was x) (λ hidden. before.0 (hidden_was x (after.1 hidden))) (λ hidden. after.0 (hidden_is_still seen x (before.1 hidden)))
 
 -- the law
 pub entry_moved_law : EntryMoved

@@ -1,5 +1,6 @@
 -- What users see after a file went into the private folder, or took another name there: its own name and its node are gone.
 use Rattle.std.proofs.Common.{◌≡◌, ℕ, Bool, true, false, List, [], ◌∷◌, refl, sym, ◌∙◌, ap}
+use Rattle.std.proofs.lemmas.Bool.{true≢false}
 use Rattle.std.specs.Prelude.{◌==◌, ◌&&◌, ◌||◌, not, is_some, if◌then◌else◌}
 use Rattle.cat_records.specs.declared.record.FileRecord.{FileRecord}
 use Rattle.cat_records.specs.declared.record.CatRecord.{CatRecord}
@@ -14,7 +15,6 @@ use Rattle.hfs_volume.specs.Changes.{AreSorted, MovesEntry, InCatalog}
 use Rattle.hfs_volume.specs.Laws.{IsShaped, MayMove}
 use Rattle.hfs_model.specs.declared.plain.PlainNode.{PlainNode}
 use Rattle.hfs_model.specs.declared.plain.PlainTree.{PlainTree}
-use Rattle.hfs_volume.proofs.Ranks.{true_or_false}
 use Rattle.hfs_volume.proofs.Trees.{no_entry_more, entries_over, nodes_over, one_node_more, no_node_more, entries_agree, taken_node_of}
 use Rattle.hfs_volume.proofs.MovingOver.{same_private, from, to, agrees, base_alike, base_is, found_is, found_was, same_hidden, unlinked_is, unlinked_was}
 
@@ -34,7 +34,7 @@ module _ (entry : Placed) (parent : ℕ) (name : List ℕ) (old new : VolumeStat
   is = records_of new
 
   open_place : is_folder entry.value ≡ true → IsHidden was entry.parent → ⊥
-  open_place is_a there = true_or_false (sym is_a ∙ is_a_file)
+  open_place is_a there = true≢false (sym is_a ∙ is_a_file)
 
   pub moved_unseen : is_seen is moved ≡ false
   unfolding is_seen
@@ -48,7 +48,7 @@ module _ (entry : Placed) (parent : ℕ) (name : List ℕ) (old new : VolumeStat
       none false b c = refl
 
   no_node : (attributes : List Attribute) (bytes_of : FileRecord → List ℕ) (value : CatRecord) → is_folder value ≡ false → node_in attributes is bytes_of moved value ≡ []
-  no_node attributes bytes_of (Folder f) is_file = absurd (true_or_false is_file)
+  no_node attributes bytes_of (Folder f) is_file = absurd (true≢false is_file)
   no_node attributes bytes_of (File f) is_file = λ i. if (moved_unseen i && not (is_link entry)) || unlinked_is entry parent name old new changes sorted may shaped sorted_again open_place i then plain_node attributes f.fields false (bytes_of f) (is_linked is moved) ∷ [] else []
   no_node attributes bytes_of (Thread f) is_file = refl
 
@@ -84,6 +84,6 @@ module _ (entry : Placed) (parent : ℕ) (name : List ℕ) (old new : VolumeStat
       rest_is bytes_of (tree_in old bytes_of) (sym (no_entry_more (from entry parent name old new changes sorted may shaped sorted_again open_place) was unseen)) (sym (no_node_more (from entry parent name old new changes sorted may shaped sorted_again open_place) was (attributes_of old) bytes_of (found_was entry parent name old new changes sorted may shaped sorted_again open_place) (no_node_was entry.value is_a_file))) refl refl refl
     where
       no_node_was : (value : CatRecord) → is_folder value ≡ false → node_in (attributes_of old) was bytes_of entry value ≡ []
-      no_node_was (Folder f) is_file = absurd (true_or_false is_file)
+      no_node_was (Folder f) is_file = absurd (true≢false is_file)
       no_node_was (File f) is_file = λ i. if (unseen i && not (is_link entry)) || unlinked_was entry parent name old new changes sorted may shaped sorted_again open_place i then plain_node (attributes_of old) f.fields false (bytes_of f) (is_linked was entry) ∷ [] else []
       no_node_was (Thread f) is_file = refl

@@ -1,5 +1,7 @@
 -- What users see after an entry was moved: all other entries and nodes are as they were.
 use Rattle.std.proofs.Common.{◌≡◌, ℕ, Bool, true, false, List, inl, inr, refl, sym, ◌∙◌, ap}
+use Rattle.std.specs.Cmp.{both_ways}
+use Rattle.std.proofs.lemmas.Bool.{true≢false}
 use Rattle.std.specs.Prelude.{Contains, ◌==◌, ◌&&◌, not, Some}
 use Rattle.cat_records.specs.declared.record.FileRecord.{FileRecord}
 use Rattle.hfs_model.specs.Sorted.{kept}
@@ -12,8 +14,7 @@ use Rattle.hfs_volume.specs.Content.{VolumeState, records_of, attributes_of}
 use Rattle.hfs_volume.specs.TreeOf.{is_hidden, is_seen, plain_entry, id_or_0, shared_file, is_linked}
 use Rattle.hfs_volume.specs.Changes.{AreSorted, MovesEntry, InCatalog}
 use Rattle.hfs_volume.specs.Laws.{IsShaped, MayMove}
-use Rattle.hfs_volume.proofs.Ranks.{true_or_false}
-use Rattle.hfs_volume.proofs.Hiding.{hidden_is_computed, same_bools}
+use Rattle.hfs_volume.proofs.Hiding.{hidden_is_computed}
 use Rattle.hfs_volume.proofs.Seeing.{other_way, same_number}
 use Rattle.hfs_volume.proofs.Sharing.{shared_is, shared_found, linked_is, links_it, one_shared}
 use Rattle.hfs_volume.proofs.Sides.{OneMore, still_entry, the_entry, entry_cases, entry_found_same, entry_is_found, no_other_thread}
@@ -29,7 +30,7 @@ seen_is_outside volume shaped p visible reference = by_test (is_shared_file (rec
     by_test true is =
         let it = shared_is (private_id (records_of volume)) reference p is in
         let hidden : is_hidden (records_of volume) it.folder ≡ true = (hidden_is_computed (records_of volume) volume.head.next_catalog_id it.folder shaped.ids shaped.rooted).0 (it.folder, it.private_is, is_it) in
-        absurd (true_or_false (sym hidden ∙ ap (is_hidden (records_of volume)) (sym it.parent) ∙ visible))
+        absurd (true≢false (sym hidden ∙ ap (is_hidden (records_of volume)) (sym it.parent) ∙ visible))
 
 -- no link names what is outside the private folder
 pub not_shared_unlinked : (records : List Placed) (p : Placed) → ((reference : ℕ) → is_shared_file records reference p ≡ false) → is_linked records p ≡ false
@@ -37,7 +38,7 @@ not_shared_unlinked records p not_shared = by_test (is_linked records p) refl
   where
     by_test : (b : Bool) → is_linked records p ≡ b → b ≡ false
     by_test false is = refl
-    by_test true is = let links = linked_is records p is in absurd (true_or_false (sym links.names ∙ not_shared (special_of links.link)))
+    by_test true is = let links = linked_is records p is in absurd (true≢false (sym links.names ∙ not_shared (special_of links.link)))
 
 module _ (entry : Placed) (parent : ℕ) (name : List ℕ) (old new : VolumeState) (changes : InCatalog (MovesEntry entry parent name) old new) (sorted : AreSorted old.catalog_pairs)
     (may : MayMove entry parent name old) (shaped : IsShaped old) (sorted_again : AreSorted new.catalog_pairs) (open_place : is_folder entry.value ≡ true → IsHidden (records_of old) entry.parent → ⊥) where
@@ -108,7 +109,7 @@ module _ (entry : Placed) (parent : ℕ) (name : List ℕ) (old new : VolumeStat
   ]
 
   pub linked_alike : (p : Placed) → is_linked is p ≡ is_linked was p
-  linked_alike p = same_bools (is_linked is p) (is_linked was p) there back
+  linked_alike p = both_ways (is_linked is p) (is_linked was p) there back
     where
       there : is_linked is p ≡ true → is_linked was p ≡ true
       there linked =
@@ -140,7 +141,7 @@ module _ (entry : Placed) (parent : ℕ) (name : List ℕ) (old new : VolumeStat
           let q = link_is links.link links.stands links.is_one in
           let f = file_stays q.0 q.1 q.2 in
           let same : f.0 ≡ moved = one_shared is sorted_again (special_of links.link) f.0 moved (still_entry to f.0 f.1) (the_entry to) (ap (λ n. is_shared_file is n f.0) (sym q.3) ∙ f.3) links.names in
-          absurd (true_or_false (sym (same_number (id_of entry)) ∙ ap (λ (p : Placed). id_of p == id_of entry) (sym same) ∙ fresh f.0 f.1))
+          absurd (true≢false (sym (same_number (id_of entry)) ∙ ap (λ (p : Placed). id_of p == id_of entry) (sym same) ∙ fresh f.0 f.1))
 
   pub found_was : entry_of was (id_of entry) ≡ Some entry
   found_was = entry_is_found from fresh

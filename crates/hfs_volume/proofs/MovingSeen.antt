@@ -1,5 +1,6 @@
 -- What users see after an entry that they see was moved to a place that they see: the entry stands there, and all folders and files are as they were.
 use Rattle.std.proofs.Common.{◌≡◌, ℕ, Bool, true, false, List, [], ◌∷◌, inl, inr, refl, sym, ◌∙◌, ap, subst, arith}
+use Rattle.std.proofs.lemmas.Bool.{true≢false}
 use Rattle.std.specs.Prelude.{◌==◌, ◌&&◌, ◌||◌, not, is_some, if◌then◌else◌}
 use Rattle.cat_records.specs.declared.record.FileRecord.{FileRecord}
 use Rattle.cat_records.specs.declared.record.CatRecord.{CatRecord}
@@ -14,7 +15,7 @@ use Rattle.hfs_volume.specs.TreeOf.{tree_in, is_hidden, is_seen, plain_entry, id
 use Rattle.hfs_volume.specs.Changes.{AreSorted, MovesEntry, InCatalog}
 use Rattle.hfs_volume.specs.Laws.{IsShaped, MayMove}
 use Rattle.hfs_model.specs.declared.plain.PlainNode.{PlainNode}
-use Rattle.hfs_volume.proofs.Ranks.{true_or_false, IsOne, node_is_one}
+use Rattle.hfs_volume.proofs.Ranks.{IsOne, node_is_one}
 use Rattle.hfs_volume.proofs.Hiding.{hidden_is_computed}
 use Rattle.hfs_volume.proofs.Fitting.{differs}
 use Rattle.hfs_volume.proofs.Reaching.{Shows, seen_shows, shows_seen}
@@ -41,7 +42,7 @@ module _ (entry : Placed) (parent : ℕ) (name : List ℕ) (old new : VolumeStat
   shows = seen_shows was entry seen
 
   open_place : is_folder entry.value ≡ true → IsHidden was entry.parent → ⊥
-  open_place is_a hidden = true_or_false (sym ((hidden_is_computed was old.head.next_catalog_id entry.parent shaped.ids shaped.rooted).0 hidden) ∙ shows.visible)
+  open_place is_a hidden = true≢false (sym ((hidden_is_computed was old.head.next_catalog_id entry.parent shaped.ids shaped.rooted).0 hidden) ∙ shows.visible)
 
   hidden_alike : (x : ℕ) → is_hidden is x ≡ is_hidden was x
   hidden_alike = same_hidden entry parent name old new changes sorted may shaped sorted_again open_place

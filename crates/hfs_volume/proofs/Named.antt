@@ -1,5 +1,6 @@
 -- What the commands on names are about, where the step doesn't refuse them: entries and places that users see.
 use Rattle.std.proofs.Common.{nat_le, ◌≡◌, ℕ, ◌≤◌, Bool, true, false, List, inl, inr, refl, sym, ◌∙◌, ap, subst}
+use Rattle.std.proofs.lemmas.Bool.{true≢false}
 use Rattle.std.specs.Prelude.{Contains, ◌==◌, ◌&&◌, ◌||◌, is_some, Ok}
 use Rattle.cat_records.specs.declared.record.FileRecord.{FileRecord}
 use Rattle.hfs_language.specs.declared.refusal.Refusal.TheVariants as refusal
@@ -13,7 +14,6 @@ use Rattle.hfs_volume.specs.TreeOf.{tree_in, is_seen, plain_entry}
 use Rattle.hfs_model.specs.declared.plain.PlainEntry.{PlainEntry}
 use Rattle.hfs_model.specs.declared.plain.PlainTree.{PlainTree}
 use Rattle.hfs_volume.proofs.Members.{each_of}
-use Rattle.hfs_volume.proofs.Ranks.{true_or_false}
 use Rattle.hfs_volume.proofs.Reaching.{then_ok, unless_ok, if_ok, ok_same, IsSeen, Shows, seen_shows, seen_not_root, IsFolder, front_is}
 use Rattle.hfs_volume.proofs.Making.{tree_entries}
 use Rattle.hfs_volume.proofs.Emptying.{reach_seen}
@@ -44,7 +44,7 @@ module _ (old : VolumeState) (bytes_of : FileRecord → List ℕ) (sound : IsSou
     pub not_root : is_root to ≡ false
 
   either_false : (a b : Bool) → (a || b) ≡ false → (a ≡ false) × (b ≡ false)
-  either_false true b is = absurd (true_or_false is)
+  either_false true b is = absurd (true≢false is)
   either_false false b is = (refl, is)
 
   to_pair_is : (from to : List (List ℕ)) (pair : PlainEntry × Place) → to_pair tree from to ≡ Ok pair → is_private_path to ≡ false → IsPair from to pair.0 pair.1

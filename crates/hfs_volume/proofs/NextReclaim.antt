@@ -2,7 +2,7 @@
 use Rattle.std.proofs.Common.{◌≡◌, ◌⊎◌, ℕ, ◌+◌, ◌≤◌, Bool, true, false, List, [], ◌∷◌, ◌++◌, length, map, inl, inr, refl, sym, ◌∙◌, ap, subst, arith}
 use Rattle.std.specs.Prelude.{Contains, ◌==◌, ◌&&◌, not, nat_lt, codes, Option, None, Some, if◌then◌else◌}
 use Rattle.std.specs.List.{flat_map}
-use Rattle.std.proofs.lemmas.Bool.{eqb-true}
+use Rattle.std.proofs.lemmas.Bool.{eqb-true, true≢false}
 use Rattle.btree_node.specs.Levels.{Pair}
 use Rattle.cat_records.specs.declared.record.FileRecord.{FileRecord}
 use Rattle.cat_records.specs.declared.record.CatRecord.{CatRecord}
@@ -18,7 +18,6 @@ use Rattle.hfs_volume.specs.Reclaiming.{IsBareOrphan, HasLastAttribute, DropIsOf
 use Rattle.fork_map.specs.Blocks.{blocks_of}
 use Rattle.hfs_volume.proofs.Members.{at_front, behind, kept_cases, map_cases, map_stands}
 use Rattle.hfs_volume.proofs.Flat.{found_none, found_some}
-use Rattle.hfs_volume.proofs.Ranks.{true_or_false}
 use Rattle.hfs_volume.proofs.Seeing.{same_number}
 use Rattle.hfs_volume.proofs.NodesOf.{entry_of_is}
 
@@ -48,7 +47,7 @@ is_none None = true
 is_none (Some id) = false
 
 least_is : (orphans : List Placed) (id : ℕ) → least orphans ≡ Some id → (e : Placed) × Contains orphans e × (id_of e ≡ id)
-least_is [] id is = absurd (true_or_false (ap is_none is))
+least_is [] id is = absurd (true≢false (ap is_none is))
 least_is (first ∷ rest) id is = elim (least_from_is (id_of first) rest) [
   | inl same ↦ (first, at_front first rest, sym same ∙ ap or_zero is)
   | inr found ↦ (found.0, behind first found.0 rest found.1, found.2 ∙ ap or_zero is)
@@ -62,12 +61,12 @@ no_blocks_is (block ∷ rest) is = absurd (omega (arith, eqb-true (length (block
   where
     of_not : (b : Bool) → not b ≡ false → b ≡ true
     of_not true same = refl
-    of_not false same = absurd (true_or_false same)
+    of_not false same = absurd (true≢false same)
 
 second : (a b c d : Bool) → (a && b && c && d) ≡ true → b ≡ true
 second true true c d is = refl
 second true false c d is = is
-second false b c d is = absurd (true_or_false (sym is))
+second false b c d is = absurd (true≢false (sym is))
 
 -- the blocks of a file's forks, told by its CNID and by its entry
 data_same : (volume : VolumeState) (parent : ℕ) (name : List ℕ) (file : FileRecord) → entry_of (records_of volume) file.fields.id ≡ Some (record { parent = parent; name = name; value = File file })
@@ -81,8 +80,8 @@ resource_same volume parent name file found = ap (λ o. blocks_of (extents_found
 none_left : (volume : VolumeState) (parent : ℕ) (name : List ℕ) (value : CatRecord) → is_file value ≡ true → (id : ℕ) → id_of (record { parent = parent; name = name; value = value }) ≡ id
     → entry_of (records_of volume) id ≡ Some (record { parent = parent; name = name; value = value })
     → has_blocks (file_blocks volume id data_kind) ≡ false → has_blocks (file_blocks volume id resource_kind) ≡ false → flat_map (blocks_owned (overflow_in_volume volume)) (forks_in value) ≡ []
-none_left volume parent name (Folder f) kind id is found no_data no_resource = absurd (true_or_false (sym kind))
-none_left volume parent name (Thread f) kind id is found no_data no_resource = absurd (true_or_false (sym kind))
+none_left volume parent name (Folder f) kind id is found no_data no_resource = absurd (true≢false (sym kind))
+none_left volume parent name (Thread f) kind id is found no_data no_resource = absurd (true≢false (sym kind))
 none_left volume parent name (File f) kind id is found no_data no_resource =
     let own = subst (λ n. entry_of (records_of volume) n ≡ Some (record { parent = parent; name = name; value = File f })) (sym is) found in
     let one = sym (data_same volume parent name f own) ∙ no_blocks_is (file_blocks volume f.fields.id data_kind) (subst (λ n. has_blocks (file_blocks volume n data_kind) ≡ false) (sym is) no_data) in
@@ -124,8 +123,8 @@ module _ (volume : VolumeState) (sound : IsSoundVolume volume) (step : Reclaim) 
   of_blocks : (id : ℕ) (a b : Bool) → has_blocks (file_blocks volume id data_kind) ≡ a → has_blocks (file_blocks volume id resource_kind) ≡ b
       → (if a then CutOrphan id data_kind else if b then CutOrphan id resource_kind else bare_step id (first_attribute (attributes_of volume) id)) ≡ step
       → (a ≡ false) × (b ≡ false) × (bare_step id (first_attribute (attributes_of volume) id) ≡ step)
-  of_blocks id true b one other is = absurd (true_or_false (ap (λ s. kind_of_step s == 0) is ∙ cuts_nothing))
-  of_blocks id false true one other is = absurd (true_or_false (ap (λ s. kind_of_step s == 0) is ∙ cuts_nothing))
+  of_blocks id true b one other is = absurd (true≢false (ap (λ s. kind_of_step s == 0) is ∙ cuts_nothing))
+  of_blocks id false true one other is = absurd (true≢false (ap (λ s. kind_of_step s == 0) is ∙ cuts_nothing))
   of_blocks id false false one other is = (refl, refl, is)
 
   of_orphan : (id : ℕ) → least (orphans_of (records_of volume)) ≡ Some id → orphan_step volume id ≡ step → IsForBare id volume step
@@ -145,9 +144,9 @@ module _ (volume : VolumeState) (sound : IsSoundVolume volume) (step : Reclaim) 
 
   of_step : (shrunk : Option ℕ) → (surplus : Bool) → has_surplus_left volume shrunk ≡ surplus → (lowest : Option ℕ) → least (orphans_of (records_of volume)) ≡ lowest
       → (if surplus then shrunk_step shrunk else orphan_steps volume lowest) ≡ Some step → IsForBare (id_of_step step) volume step
-  of_step None true some lowest is next = absurd (true_or_false (sym some))
-  of_step (Some id) true some lowest is next = absurd (true_or_false (ap (λ o. kind_of_step (step_or o) == 0) next ∙ cuts_nothing))
-  of_step shrunk false some None is next = absurd (true_or_false (ap (λ o. kind_of_step (step_or o) == 0) next ∙ cuts_nothing))
+  of_step None true some lowest is next = absurd (true≢false (sym some))
+  of_step (Some id) true some lowest is next = absurd (true≢false (ap (λ o. kind_of_step (step_or o) == 0) next ∙ cuts_nothing))
+  of_step shrunk false some None is next = absurd (true≢false (ap (λ o. kind_of_step (step_or o) == 0) next ∙ cuts_nothing))
   of_step shrunk false some (Some id) is next =
       let step_is : orphan_step volume id ≡ step = ap step_or next in
       let bare = of_orphan id is step_is in
@@ -176,8 +175,8 @@ drop_is_of_bare volume shrunk id sound next =
   where
     of_found : (o : Option Attribute) → first_attribute (attributes_of volume) id ≡ o → bare_step id o ≡ DropOrphan id → (pair : Pair) → Contains volume.attribute_pairs pair → (attribute_of pair).id ≡ id → ⊥
     of_found None found is pair stands owner =
-        true_or_false (sym (ap (λ n. n == id) owner ∙ same_number id) ∙ found_none (λ (a : Attribute). a.id == id) (attributes_of volume) found (attribute_of pair) (map_stands attribute_of volume.attribute_pairs pair stands))
-    of_found (Some attribute) found is pair stands owner = true_or_false (ap (λ s. kind_of_step s == 1) is)
+        true≢false (sym (ap (λ n. n == id) owner ∙ same_number id) ∙ found_none (λ (a : Attribute). a.id == id) (attributes_of volume) found (attribute_of pair) (map_stands attribute_of volume.attribute_pairs pair stands))
+    of_found (Some attribute) found is pair stands owner = true≢false (ap (λ s. kind_of_step s == 1) is)
 
 pub drop_is_of_attribute : DropIsOfAttribute
 drop_is_of_attribute volume shrunk id name sound next =
@@ -185,7 +184,7 @@ drop_is_of_attribute volume shrunk id name sound next =
     of_found bare (first_attribute (attributes_of volume) id) refl bare.is
   where
     of_found : IsForBare id volume (DropAttribute id name) → (o : Option Attribute) → first_attribute (attributes_of volume) id ≡ o → bare_step id o ≡ DropAttribute id name → HasLastAttribute id name volume
-    of_found bare None found is = absurd (true_or_false (sym (ap (λ s. kind_of_step s == 1) is)))
+    of_found bare None found is = absurd (true≢false (sym (ap (λ s. kind_of_step s == 1) is)))
     of_found bare (Some attribute) found is =
         let first = found_some (λ (a : Attribute). a.id == id) (attributes_of volume) attribute found in
         let pair = map_cases attribute_of volume.attribute_pairs attribute first.0 in

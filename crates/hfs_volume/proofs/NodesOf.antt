@@ -1,7 +1,7 @@
 -- The folders and files of a tree, and the entries whose they are.
 use Rattle.std.proofs.Common.{◌≡◌, ℕ, Bool, true, false, List, [], ◌∷◌, map, refl, sym, ◌∙◌, ap, subst, arith}
 use Rattle.std.specs.Prelude.{Contains, ◌==◌, Option, None, Some, if◌then◌else◌}
-use Rattle.std.proofs.lemmas.Bool.{eqb-true}
+use Rattle.std.proofs.lemmas.Bool.{eqb-true, true≢false}
 use Rattle.cat_records.specs.declared.record.FileRecord.{FileRecord}
 use Rattle.hfs_model.specs.Plain.{is_node, with_changed}
 use Rattle.hfs_model.specs.declared.plain.PlainNode.{PlainNode}
@@ -11,7 +11,7 @@ use Rattle.hfs_volume.specs.Entries.{HaveIds, HasThread}
 use Rattle.hfs_volume.specs.TreeOf.{node_in, node_found, threaded_node}
 use Rattle.hfs_volume.proofs.Members.{at_front, behind}
 use Rattle.hfs_volume.proofs.Flat.{found_none, found_some}
-use Rattle.hfs_volume.proofs.Ranks.{true_or_false, node_is_one}
+use Rattle.hfs_volume.proofs.Ranks.{node_is_one}
 use Rattle.hfs_volume.proofs.Hiding.{same_entry}
 use Rattle.hfs_volume.proofs.Seeing.{same_number}
 use Rattle.hfs_volume.proofs.Dropping.{one_id}
@@ -23,7 +23,7 @@ pub entry_of_is : (records : List Placed) (next : ℕ) → HaveIds next (entries
 entry_of_is records next ids e stands = by_case (entry_of records (id_of e)) refl
   where
     by_case : (o : Option Placed) → entry_of records (id_of e) ≡ o → o ≡ Some e
-    by_case None none = absurd (true_or_false (sym (same_number (id_of e)) ∙ found_none (λ (p : Placed). id_of p == id_of e) (entries_of records) none e stands))
+    by_case None none = absurd (true≢false (sym (same_number (id_of e)) ∙ found_none (λ (p : Placed). id_of p == id_of e) (entries_of records) none e stands))
     by_case (Some f) found =
         let it = found_some (λ (p : Placed). id_of p == id_of e) (entries_of records) f found in
         ap Some (same_entry next (entries_of records) ids f e it.0 stands (eqb-true (id_of f) (id_of e) it.1))

@@ -1,5 +1,6 @@
 -- The private folder, made where it wasn't there: the rules hold, all numbers are right again, and users see nothing of it.
 use Rattle.std.proofs.Common.{◌≡◌, ℕ, ◌+◌, ◌<◌, ◌≤◌, Bool, true, false, List, [], inl, inr, refl, sym, ◌∙◌, ap, subst, arith}
+use Rattle.std.proofs.lemmas.Bool.{true≢false}
 use Rattle.std.specs.Prelude.{Contains, ◌==◌, ◌&&◌, Option, None, Some, is_some, if◌then◌else◌}
 use Rattle.cat_records.specs.declared.record.EntryFields.{EntryFields}
 use Rattle.cat_records.specs.declared.record.FileRecord.{FileRecord}
@@ -14,7 +15,6 @@ use Rattle.hfs_volume.specs.Commands.{IsRecountedAlone, ChangesFields, with_fiel
 use Rattle.hfs_volume.specs.Naming.{HasPrivate, MakesPrivate, private_ids}
 use Rattle.hfs_volume.proofs.Fields.{Views, BytesBy}
 use Rattle.hfs_volume.proofs.Flat.{none_or_some}
-use Rattle.hfs_volume.proofs.Ranks.{true_or_false}
 use Rattle.hfs_volume.proofs.Reaching.{seen_shows, shows_seen}
 use Rattle.hfs_volume.proofs.Making.{NewFacts, new_facts}
 use Rattle.hfs_volume.proofs.Finishing.{new_forks, no_overflow, shared_is_file}
@@ -103,7 +103,7 @@ module _ (next moment private : ℕ) (start begun opened : VolumeState) (debts :
       fresh = fresh_private;
       empty = new_forks true private moment begun.head (overflow_in_volume begun) made.value made.is_new
           (λ kind. no_overflow begun (id_of folder) kind account.shaped.forks (subst (λ n. 16 ≤ n) (sym (facts.id ∙ private_is)) low) fresh_private);
-      link = λ link. absurd (true_or_false (sym link ∙ facts.no_link 2 private_name));
+      link = λ link. absurd (true≢false (sym link ∙ facts.no_link 2 private_name));
       own = inr (record { place = (refl, refl); folder = facts.is_a; is_new = not_there });
     }
 
@@ -129,7 +129,7 @@ module _ (next moment private : ℕ) (start begun opened : VolumeState) (debts :
       where
         no_shared : (reference : ℕ) (b : Bool) → is_shared_file mid reference folder ≡ b → b ≡ false
         no_shared reference false isnt = refl
-        no_shared reference true shared = absurd (true_or_false (sym (shared_is_file (private_id mid) reference folder shared) ∙ facts.is_file_))
+        no_shared reference true shared = absurd (true≢false (sym (shared_is_file (private_id mid) reference folder shared) ∙ facts.is_file_))
 
     made_private : private_id is ≡ Some private
     made_private =

@@ -1,5 +1,6 @@
 -- Forks and their blocks where an entry is there or isn't: who owns a block, and how many times a block is used.
 use Rattle.std.proofs.Common.{◌≡◌, ◌⊎◌, ℕ, ◌+◌, ◌≤◌, Bool, true, false, List, [], ◌∷◌, ◌++◌, length, inl, inr, refl, sym, ◌∙◌, ap, subst, arith, length-append}
+use Rattle.std.proofs.lemmas.Bool.{true≢false}
 use Rattle.std.specs.Prelude.{Contains, ◌==◌, ◌&&◌, not, if◌then◌else◌}
 use Rattle.std.specs.List.{flat_map, list_all, range_with_len}
 use Rattle.std.proofs.lemmas.Grind.{flat_map-append}
@@ -22,7 +23,6 @@ use Rattle.hfs_volume.specs.Blocks.{HasForks, HasFork, HasSizes, GoesOn, GoOn, i
 use Rattle.hfs_volume.proofs.Counting.{count_append}
 use Rattle.hfs_volume.proofs.Members.{all_of, each_of, first_or_later, in_one, map_cases, kept_stands}
 use Rattle.hfs_volume.proofs.Flat.{Pieces, flat_pieces}
-use Rattle.hfs_volume.proofs.Ranks.{true_or_false}
 use Rattle.hfs_volume.proofs.Hiding.{one_there}
 use Rattle.hfs_volume.proofs.Fitting.{none_counted, not_same}
 use Rattle.hfs_volume.proofs.Shaping.{with_catalog}
@@ -39,7 +39,7 @@ among_same block xs ys same = by_tests (is_among xs block) (is_among ys block) r
       where
         at : (z : ℕ) → Contains zs z → (b : Bool) → (z == block) ≡ b → b ≡ false
         at z stands false is = refl
-        at z stands true is = absurd (true_or_false (sym (any_there (λ other. other == block) zs z stands is) ∙ isnt))
+        at z stands true is = absurd (true≢false (sym (any_there (λ other. other == block) zs z stands is) ∙ isnt))
 
     some : (zs : List ℕ) → is_among zs block ≡ true → 1 ≤ times block zs
     some zs is = let found = any_is (λ other. other == block) zs is in one_there (λ other. other == block) zs found.0 found.1 found.2
@@ -159,7 +159,7 @@ some_blocks : (first : Extent) (rest : List Extent) → is_full (first ∷ rest)
 some_blocks first rest full none = by_count (first.count == 0) refl full
   where
     by_count : (b : Bool) → (first.count == 0) ≡ b → (not b && list_all (λ (extent : Extent). not (extent.count == 0)) rest) ≡ true → ⊥
-    by_count true is all = true_or_false (sym all)
+    by_count true is all = true≢false (sym all)
     by_count false is all =
         let here : blocks_of (in_use (first ∷ rest)) ≡ range_with_len first.start first.count ++ blocks_of (in_use rest) =
         ap (λ b. blocks_of ((if not b then first ∷ [] else []) ++ in_use rest)) is in

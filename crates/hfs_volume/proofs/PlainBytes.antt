@@ -1,5 +1,6 @@
 -- The plain tree rests on the bytes of the files that users see, which the journal's two files aren't.
 use Rattle.std.proofs.Common.{◌≡◌, ℕ, ◌==◌, Bool, true, false, not, List, [], ◌∷◌, ◌++◌, refl, sym, ◌∙◌, ap, subst, eq-eqb}
+use Rattle.std.proofs.Math.Bool.{and-false}
 use Rattle.std.specs.Prelude.{Contains, ◌&&◌, ◌||◌, nat_lt, Option, Some, None, if◌then◌else◌, decimal}
 use Rattle.std.specs.List.{list_any}
 use Rattle.std.specs.Str.{bytes_eq}
@@ -38,10 +39,6 @@ same_plain_bytes volume one other same = λ i. record (tree_in volume one) { nod
     at : (p : Placed) → threaded_node (attributes_of volume) (records_of volume) one p ≡ threaded_node (attributes_of volume) (records_of volume) other p
     at p = ap (λ l. if is_empty p.name then l else []) (of_found p.parent (entry_of (records_of volume) p.parent) refl)
 
-and_false : (b : Bool) → (b && false) ≡ false
-and_false true = refl
-and_false false = refl
-
 none_passes : {X : Type 0} (test : X → Bool) (xs : List X) → ((x : X) → test x ≡ false) → list_any test xs ≡ false
 none_passes test [] fails = refl
 none_passes test (x ∷ xs) fails = (λ i. fails x i || none_passes test xs fails i)
@@ -66,16 +63,16 @@ own_not_plain records entry name private_name other_name parent named =
     own = (λ i. (eq-eqb entry.parent 2 parent i) && is_private_name (named i)) ∙ private_name
 
     not_seen : (not (is_empty entry.name) && not (entry.parent == 1) && not (is_hidden records entry.parent) && not ((entry.parent == 2) && is_private_name entry.name)) ≡ false
-    not_seen = (λ i. not (is_empty entry.name) && not (entry.parent == 1) && not (is_hidden records entry.parent) && not (own i)) ∙ and_false (not (is_empty entry.name) && not (entry.parent == 1) && not (is_hidden records entry.parent))
+    not_seen = (λ i. not (is_empty entry.name) && not (entry.parent == 1) && not (is_hidden records entry.parent) && not (own i)) ∙ and-false (not (is_empty entry.name) && not (entry.parent == 1) && not (is_hidden records entry.parent))
 
     not_shared : (reference : ℕ) → is_shared_file records reference entry ≡ false
     not_shared reference =
         (λ i. is_in (private_id records) entry && is_file entry.value && bytes_eq (named i) (node_name reference) && nat_lt reference 4294967296)
         ∙ (λ i. is_in (private_id records) entry && is_file entry.value && other_name reference i && nat_lt reference 4294967296)
-        ∙ (λ i. and_false (is_in (private_id records) entry && is_file entry.value) i && nat_lt reference 4294967296)
+        ∙ (λ i. and-false (is_in (private_id records) entry && is_file entry.value) i && nat_lt reference 4294967296)
 
     not_linked : is_linked records entry ≡ false
-    not_linked = none_passes (λ (link : Placed). is_link link && is_shared_file records (special_of link) entry) (entries_of records) (λ link. ap (λ b. is_link link && b) (not_shared (special_of link)) ∙ and_false (is_link link))
+    not_linked = none_passes (λ (link : Placed). is_link link && is_shared_file records (special_of link) entry) (entries_of records) (λ link. ap (λ b. is_link link && b) (not_shared (special_of link)) ∙ and-false (is_link link))
 
 pub journal_not_plain : (records : List Placed) (entry : Placed) → entry.parent ≡ 2 → entry.name ≡ journal_name → is_plain_file records entry ≡ false
 journal_not_plain records entry parent named = own_not_plain records entry journal_name refl journal_is_other parent named

@@ -3,7 +3,7 @@ use Rattle.std.proofs.Common.{◌≡◌, ◌⊎◌, ℕ, ◌<◌, ◌≤◌, Boo
 use Rattle.std.specs.Prelude.{Contains, ◌==◌, ◌&&◌, ◌||◌, not, is_some, count_by, nat_lt, Option, None, Some, if◌then◌else◌}
 use Rattle.std.specs.Str.{bytes_eq}
 use Rattle.std.specs.List.{flat_map}
-use Rattle.std.proofs.lemmas.Bool.{eqb-true}
+use Rattle.std.proofs.lemmas.Bool.{eqb-true, true≢false, and_parts}
 use Rattle.std.proofs.lemmas.Slice.Eq.{bytes_eq-Decides}
 use Rattle.btree_node.specs.Levels.{Pair}
 use Rattle.cat_records.specs.declared.record.FileRecord.{FileRecord}
@@ -29,8 +29,8 @@ use Rattle.hfs_volume.specs.Books.{IsGivenTree, SoundHasPlainTree}
 use Rattle.hfs_volume.proofs.Counting.{count_cons}
 use Rattle.hfs_volume.proofs.Members.{at_front, behind, in_one, each_of, map_cases}
 use Rattle.hfs_volume.proofs.Flat.{found_some, found_none}
-use Rattle.hfs_volume.proofs.Ranks.{true_or_false, IsOne, node_is_one, entries_in_order, nodes_in_order, entry_one_way}
-use Rattle.hfs_volume.proofs.Hiding.{hidden_is_computed, same_entry, both, one_there, or_true}
+use Rattle.hfs_volume.proofs.Ranks.{IsOne, node_is_one, entries_in_order, nodes_in_order, entry_one_way}
+use Rattle.hfs_volume.proofs.Hiding.{hidden_is_computed, same_entry, one_there, or_true}
 use Rattle.hfs_volume.proofs.Seeing.{same_number}
 use Rattle.hfs_volume.proofs.Fitting.{differs, none_counted, not_same}
 use Rattle.hfs_volume.proofs.Finishing.{sound_is_both}
@@ -65,7 +65,7 @@ at_most_one {X} before one_way test (x ∷ xs) order same = by_test (at_most_one
     none_again is y stands true also =
         let one : x ≡ y = same x y (at_front x xs) (behind x y xs stands) is also in
         let itself : before x x ≡ true = ap (before x) one ∙ each_by (λ z. before x z ≡ true) xs order.0 y stands in
-        absurd (true_or_false (sym itself ∙ one_way x x itself))
+        absurd (true≢false (sym itself ∙ one_way x x itself))
 
     by_test : count_by test xs ≤ 1 → (b : Bool) → test x ≡ b → count_by test (x ∷ xs) ≤ 1
     by_test few false isnt = omega (arith, count_cons test x xs, ap one_if isnt, few)
@@ -132,15 +132,15 @@ module _ (volume : VolumeState) (bytes_of : FileRecord → List ℕ) (sorted : A
   folder_in p (Folder f) is plain =
       let n : PlainNode = plain_node attributes f.fields true [] false in
       (n, subst (λ b. Contains (if b then n ∷ [] else []) n) (sym plain) (at_front n []), refl)
-  folder_in p (File f) is plain = absurd (true_or_false (sym is))
-  folder_in p (Thread f) is plain = absurd (true_or_false (sym is))
+  folder_in p (File f) is plain = absurd (true≢false (sym is))
+  folder_in p (Thread f) is plain = absurd (true≢false (sym is))
 
   file_in : (p : Placed) (value : CatRecord) → is_file value ≡ true → is_plain_file records p ≡ true → (n : PlainNode) × Contains (node_in attributes records bytes_of p value) n × (n.folder ≡ false)
-  file_in p (Folder f) is plain = absurd (true_or_false (sym is))
+  file_in p (Folder f) is plain = absurd (true≢false (sym is))
   file_in p (File f) is plain =
       let n : PlainNode = plain_node attributes f.fields false (bytes_of f) (is_linked records p) in
       (n, subst (λ b. Contains (if b then n ∷ [] else []) n) (sym plain) (at_front n []), refl)
-  file_in p (Thread f) is plain = absurd (true_or_false (sym is))
+  file_in p (Thread f) is plain = absurd (true≢false (sym is))
 
   -- what a folder or file of the tree is that of
   abbrev Tells : Placed → CatRecord → PlainNode → Type 0
@@ -153,7 +153,7 @@ module _ (volume : VolumeState) (bytes_of : FileRecord → List ℕ) (sorted : A
       by_test : (b : Bool) → is_plain_folder records p ≡ b → Contains (if b then plain_node attributes f.fields true [] false ∷ [] else []) n → Tells p (Folder f) n
       by_test false isnt none = absurd (omega (arith, none.1))
       by_test true is one = let it = in_one (plain_node attributes f.fields true [] false) n one in
-          (λ folder. (refl, is), λ file. absurd (true_or_false (sym (ap (λ (m : PlainNode). m.folder) it) ∙ file)), ap (λ (m : PlainNode). m.attributes) it)
+          (λ folder. (refl, is), λ file. absurd (true≢false (sym (ap (λ (m : PlainNode). m.folder) it) ∙ file)), ap (λ (m : PlainNode). m.attributes) it)
   node_tells p (File f) n has = by_test (is_plain_file records p) refl has
     where
       node : PlainNode
@@ -162,7 +162,7 @@ module _ (volume : VolumeState) (bytes_of : FileRecord → List ℕ) (sorted : A
       by_test : (b : Bool) → is_plain_file records p ≡ b → Contains (if b then node ∷ [] else []) n → Tells p (File f) n
       by_test false isnt none = absurd (omega (arith, none.1))
       by_test true is one = let it = in_one node n one in
-          (λ folder. absurd (true_or_false (sym folder ∙ ap (λ (m : PlainNode). m.folder) it)), λ file. (refl, is), ap (λ (m : PlainNode). m.attributes) it)
+          (λ folder. absurd (true≢false (sym folder ∙ ap (λ (m : PlainNode). m.folder) it)), λ file. (refl, is), ap (λ (m : PlainNode). m.attributes) it)
   node_tells p (Thread f) n has = absurd (omega (arith, has.1))
 
   -- ---- folders that users see
@@ -181,16 +181,16 @@ module _ (volume : VolumeState) (bytes_of : FileRecord → List ℕ) (sorted : A
   -- the private folder is hidden, and the journal's two names are those of files
   own_folder : (q : Placed) → Contains entries q → is_folder q.value ≡ true → is_own q ≡ true → is_hidden records (id_of q) ≡ true
   own_folder q stands folder own =
-      let tests = both (q.parent == 2) (is_private_name q.name) own in
+      let tests = and_parts (q.parent == 2) (is_private_name q.name) own in
       by_name (eqb-true q.parent 2 tests.0) (bytes_eq q.name journal_name) (bytes_eq q.name journal_info_name) (bytes_eq q.name private_name) refl refl refl tests.1
     where
       one_file : (name : List ℕ) (extent : Extent) → IsOneExtent records (overflow_in_volume volume) name extent → q.parent ≡ 2 → q.name ≡ name → ⊥
       one_file name extent one parent named =
           let it = stands_at volume shaped sorted name one.0 q one.2 stands parent named in
-          true_or_false (sym folder ∙ ap (λ (p : Placed). is_folder p.value) (sym it) ∙ ap is_folder one.3)
+          true≢false (sym folder ∙ ap (λ (p : Placed). is_folder p.value) (sym it) ∙ ap is_folder one.3)
 
       private_found : q.parent ≡ 2 → q.name ≡ private_name → (o : Option Placed) → record_at records 2 private_name ≡ o → private_id records ≡ Some (id_of q)
-      private_found parent name None none = absurd (true_or_false (sym ((λ i. (parent i == 2) && bytes_eq (name i) private_name)) ∙ found_none (is_placed_at 2 private_name) records none q (entry_is_record records q stands)))
+      private_found parent name None none = absurd (true≢false (sym ((λ i. (parent i == 2) && bytes_eq (name i) private_name)) ∙ found_none (is_placed_at 2 private_name) records none q (entry_is_record records q stands)))
       private_found parent name (Some r) found =
           let it = stands_at volume shaped sorted private_name r q found stands parent name in
           ap folder_id found ∙ ap (λ (p : Placed). folder_id (Some p)) it ∙ ap (λ b. if b then Some (id_of q) else None) folder
@@ -199,7 +199,7 @@ module _ (volume : VolumeState) (bytes_of : FileRecord → List ℕ) (sorted : A
       by_name parent true b c one two three is = absurd (one_file journal_name _ shaped.attributes.journal parent ((bytes_eq-Decides q.name journal_name).0 one))
       by_name parent false true c one two three is = absurd (one_file journal_info_name _ shaped.attributes.info_block parent ((bytes_eq-Decides q.name journal_info_name).0 two))
       by_name parent false false true one two three is = private_hidden volume shaped (id_of q) (private_found parent ((bytes_eq-Decides q.name private_name).0 three) (record_at records 2 private_name) refl)
-      by_name parent false false false one two three is = absurd (true_or_false (sym is))
+      by_name parent false false false one two three is = absurd (true≢false (sym is))
 
   visible_folder : (q : Placed) → Contains entries q → is_folder q.value ≡ true → is_hidden records (id_of q) ≡ false → is_plain_folder records q ≡ true
   visible_folder q stands folder visible = by_root (id_of q == 2) refl
@@ -208,11 +208,11 @@ module _ (volume : VolumeState) (bytes_of : FileRecord → List ℕ) (sorted : A
       by_hidden false isnt = refl
       by_hidden true hidden =
           let is = (hidden_is_computed records next q.parent shaped.ids shaped.rooted).1 hidden in
-          absurd (true_or_false (sym ((hidden_is_computed records next (id_of q) shaped.ids shaped.rooted).0 (is.0, is.1, below (id_of q) q stands folder refl is.2)) ∙ visible))
+          absurd (true≢false (sym ((hidden_is_computed records next (id_of q) shaped.ids shaped.rooted).0 (is.0, is.1, below (id_of q) q stands folder refl is.2)) ∙ visible))
 
       by_own : (b : Bool) → is_own q ≡ b → b ≡ false
       by_own false isnt = refl
-      by_own true own = absurd (true_or_false (sym (own_folder q stands folder own) ∙ visible))
+      by_own true own = absurd (true≢false (sym (own_folder q stands folder own) ∙ visible))
 
       by_root : (b : Bool) → (id_of q == 2) ≡ b → (b || is_seen records q) ≡ true
       by_root true is = refl
@@ -238,7 +238,7 @@ module _ (volume : VolumeState) (bytes_of : FileRecord → List ℕ) (sorted : A
       by_found : (o : Option Placed) → shared_file records (special_of p) ≡ o → Goes p
       by_found None none =
           let good = (shaped.links.links p there link).node in
-          absurd (true_or_false (sym good.2 ∙ found_none (is_shared_file records (special_of p)) entries none good.0 good.1))
+          absurd (true≢false (sym good.2 ∙ found_none (is_shared_file records (special_of p)) entries none good.0 good.1))
       by_found (Some f) some =
           let it = found_some (is_shared_file records (special_of p)) entries f some in
           record { file = f; stands = it.0; shared = it.1; id = ap (λ b. if b then id_or_0 (shared_file records (special_of p)) else id_of p) link ∙ ap id_or_0 some }
@@ -247,9 +247,9 @@ module _ (volume : VolumeState) (bytes_of : FileRecord → List ℕ) (sorted : A
   own_id p isnt = ap (λ b. if b then id_or_0 (shared_file records (special_of p)) else id_of p) isnt
 
   folder_or_file : (value : CatRecord) → is_folder value ≡ true → is_file value ≡ true → ⊥
-  folder_or_file (Folder f) folder file = true_or_false (sym file)
-  folder_or_file (File f) folder file = true_or_false (sym folder)
-  folder_or_file (Thread f) folder file = true_or_false (sym file)
+  folder_or_file (Folder f) folder file = true≢false (sym file)
+  folder_or_file (File f) folder file = true≢false (sym folder)
+  folder_or_file (Thread f) folder file = true≢false (sym file)
 
   -- what names a folder is its own entry
   folder_name : (r p : Placed) → Contains entries r → Contains entries p → is_folder r.value ≡ true → (plain_entry records p).id ≡ id_of r → p ≡ r
@@ -286,7 +286,7 @@ module _ (volume : VolumeState) (bytes_of : FileRecord → List ℕ) (sorted : A
       own : (value : CatRecord) → p.value ≡ value → is_thread value ≡ false → is_link p ≡ false → (n : PlainNode) × Contains (node_in attributes records bytes_of p value) n × (n.folder ≡ is_folder value)
       own (Folder f) is kind isnt = folder_in p (Folder f) refl (ap (λ b. (id_of p == 2) || b) seen ∙ or_true (id_of p == 2))
       own (File f) is kind isnt = file_in p (File f) refl (λ i. (seen i && not (isnt i)) || is_linked records p)
-      own (Thread f) is kind isnt = absurd (true_or_false kind)
+      own (Thread f) is kind isnt = absurd (true≢false kind)
 
       by_link : (b : Bool) → is_link p ≡ b → (n : PlainNode) × (node_at shown (plain_entry records p).id ≡ Some n) × (n.folder ≡ is_folder p.value)
       by_link false isnt = let n = own p.value refl (no_thread p stands) isnt in (n.0, ap (node_at shown) (own_id p isnt) ∙ node_of p stands n.0 n.1, n.2)

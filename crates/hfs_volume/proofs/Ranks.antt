@@ -6,7 +6,7 @@ use Rattle.std.specs.declared.cmp.Ordering.{Ordering}
 use Rattle.std.specs.declared.cmp.Ordering.TheVariants.{Less, Equal, Greater}
 use Rattle.std.specs.Cmp.Lexicographic.{slice_cmp}
 use Rattle.std.specs.List.{flat_map}
-use Rattle.std.proofs.lemmas.Bool.{eqb-true, ltb-true}
+use Rattle.std.proofs.lemmas.Bool.{eqb-true, ltb-true, true≢false}
 use Rattle.std.specs.Cmp.{IsTotalOrder}
 use Rattle.std.proofs.lemmas.Cmp.{then_total, on_total, nat_cmp_total, nat_list_cmp_total}
 use Rattle.cat_records.specs.declared.record.FileRecord.{FileRecord}
@@ -20,12 +20,9 @@ use Rattle.hfs_model.specs.declared.plain.PlainNode.{PlainNode}
 use Rattle.hfs_model.specs.declared.plain.PlainEntry.{PlainEntry}
 use Rattle.hfs_volume.proofs.Flat.{AllBefore, flat_in_order, found_some}
 
-pub true_or_false : true ≡ false → ⊥
-true_or_false same = subst T same tt
-
 pub empty_is : (name : List ℕ) → is_empty name ≡ true → name ≡ []
 empty_is [] empty = refl
-empty_is (unit ∷ units) empty = absurd (true_or_false (sym empty))
+empty_is (unit ∷ units) empty = absurd (true≢false (sym empty))
 
 seen_order : (records : List Placed) (x : Placed) → IsInOrder entry_before (seen_entry records x)
 seen_order records x = by_test (is_seen records x)
@@ -87,7 +84,7 @@ pub one_way : {K : Type 0} {R : K → K → Ordering} → IsTotalOrder R → (x 
 one_way {K} {R} total x y before = by_case (R y x) (sym (ap is_lt (total.antisymm x y)) ∙ before)
   where
     by_case : (o : Ordering) → is_lt (ordering_reverse o) ≡ true → is_lt o ≡ false
-    by_case Less is = absurd (true_or_false (sym is))
+    by_case Less is = absurd (true≢false (sym is))
     by_case Equal is = refl
     by_case Greater is = refl
 

@@ -1,10 +1,11 @@
 -- What a path reaches on the tree of a sound volume, and the place of a new name.
 use Rattle.std.proofs.Common.{◌≡◌, ℕ, Bool, true, false, List, [], ◌∷◌, inl, inr, refl, sym, ◌∙◌, ap, subst, arith}
+use Rattle.std.proofs.Math.Bool.{and-false}
 use Rattle.std.specs.Prelude.{⊤, Contains, ◌==◌, ◌&&◌, not, Option, None, Some, is_some, Result, Ok, Err, if◌then◌else◌}
 use Rattle.std.specs.Option.{ok_or}
 use Rattle.std.specs.Str.{bytes_eq}
 use Rattle.std.specs.List.{flat_map}
-use Rattle.std.proofs.lemmas.Bool.{eqb-true}
+use Rattle.std.proofs.lemmas.Bool.{eqb-true, not-true, true≢false, and_parts}
 use Rattle.std.proofs.lemmas.Slice.Eq.{bytes_eq-Decides}
 use Rattle.std.proofs.lemmas.List.Elements.{Contains-append_left, Contains-append_right, Contains-append_cases}
 use Rattle.cat_records.specs.declared.record.CatRecord.{CatRecord}
@@ -21,9 +22,7 @@ use Rattle.hfs_model.specs.declared.plain.PlainEntry.{PlainEntry}
 use Rattle.hfs_model.specs.declared.plain.PlainTree.{PlainTree}
 use Rattle.hfs_volume.proofs.Members.{at_front, behind, first_or_later, in_one, each_of, kept_stands}
 use Rattle.hfs_volume.proofs.Flat.{found_none, found_some}
-use Rattle.hfs_volume.proofs.Ranks.{true_or_false}
-use Rattle.hfs_volume.proofs.Hiding.{hidden_is_computed, same_entry, private_is, both}
-use Rattle.hfs_volume.proofs.Seeing.{and_false}
+use Rattle.hfs_volume.proofs.Hiding.{hidden_is_computed, same_entry, private_is}
 use Rattle.hfs_volume.proofs.Fitting.{differs, not_same}
 
 -- ---- results
@@ -66,7 +65,7 @@ found_ok (Some x) why y is = ap Some (ok_same x y is)
 
 pub is_none : {X : Type 0} (o : Option X) → is_some o ≡ false → o ≡ None
 is_none None is = refl
-is_none (Some x) is = absurd (true_or_false is)
+is_none (Some x) is = absurd (true≢false is)
 
 -- ---- pieces
 
@@ -111,10 +110,6 @@ pub record Shows (records : List Placed) (p : Placed) : Type 0 where
   pub visible : is_hidden records p.parent ≡ false
   pub not_own : ((p.parent == 2) && is_private_name p.name) ≡ false
 
-is_not : (b : Bool) → not b ≡ true → b ≡ false
-is_not true is = sym is
-is_not false is = refl
-
 pub seen_shows : (records : List Placed) (p : Placed) → is_seen records p ≡ true → Shows records p
 unfolding is_seen
 seen_shows records p is = of_tests (is_empty p.name) (p.parent == 1) (is_hidden records p.parent) ((p.parent == 2) && is_private_name p.name) refl refl refl refl is
@@ -122,10 +117,10 @@ seen_shows records p is = of_tests (is_empty p.name) (p.parent == 1) (is_hidden 
     of_tests : (a b c d : Bool) → is_empty p.name ≡ a → (p.parent == 1) ≡ b → is_hidden records p.parent ≡ c → ((p.parent == 2) && is_private_name p.name) ≡ d
         → (not a && not b && not c && not d) ≡ true → Shows records p
     of_tests false false false false one two three four all = record { named = one; parent = two; visible = three; not_own = four }
-    of_tests true b c d one two three four all = absurd (true_or_false (sym all))
-    of_tests false true c d one two three four all = absurd (true_or_false (sym all))
-    of_tests false false true d one two three four all = absurd (true_or_false (sym all))
-    of_tests false false false true one two three four all = absurd (true_or_false (sym all))
+    of_tests true b c d one two three four all = absurd (true≢false (sym all))
+    of_tests false true c d one two three four all = absurd (true≢false (sym all))
+    of_tests false false true d one two three four all = absurd (true≢false (sym all))
+    of_tests false false false true one two three four all = absurd (true≢false (sym all))
 
 pub shows_seen : (records : List Placed) (p : Placed) → Shows records p → is_seen records p ≡ true
 unfolding is_seen
@@ -136,8 +131,8 @@ folder_no_link p is_a = of_value p.parent p.name p.value is_a
   where
     of_value : (parent : ℕ) (name : List ℕ) (value : CatRecord) → is_folder value ≡ true → is_link (record { parent = parent; name = name; value = value }) ≡ false
     of_value parent name (Folder folder) is = refl
-    of_value parent name (File file) is = absurd (true_or_false (sym is))
-    of_value parent name (Thread thread) is = absurd (true_or_false (sym is))
+    of_value parent name (File file) is = absurd (true≢false (sym is))
+    of_value parent name (Thread thread) is = absurd (true≢false (sym is))
 
 -- ---- the folders that users see
 
@@ -172,7 +167,7 @@ module _ (records : List Placed) (next : ℕ) (ids : HaveIds next (entries_of re
           let p = private_is records top is in
           let root = rooted.root in
           let same : p.0 ≡ root.0 = same_entry next entries ids p.0 root.0 p.1 root.1 (p.3 ∙ two ∙ sym root.2.id) in
-          omega (arith, eqb-true p.0.parent 2 (both (p.0.parent == 2) (bytes_eq p.0.name private_name) p.4).0, ap (λ (q : Placed). q.parent) same, root.2.parent)
+          omega (arith, eqb-true p.0.parent 2 (and_parts (p.0.parent == 2) (bytes_eq p.0.name private_name) p.4).0, ap (λ (q : Placed). q.parent) same, root.2.parent)
       not_root top is _ (below x f stands is_a same lies) two =
           let root = rooted.root in
           let it : f ≡ root.0 = same_entry next entries ids f root.0 stands root.1 (same ∙ two ∙ sym root.2.id) in
@@ -190,12 +185,12 @@ module _ (records : List Placed) (next : ℕ) (ids : HaveIds next (entries_of re
       lies top is _ is_it it =
           let q = private_is records top is in
           let same : q.0 ≡ p = same_entry next entries ids q.0 p q.1 there (q.3 ∙ it) in
-          let tests = both (q.0.parent == 2) (bytes_eq q.0.name private_name) q.4 in
+          let tests = and_parts (q.0.parent == 2) (bytes_eq q.0.name private_name) q.4 in
           let name : q.0.name ≡ private_name = (bytes_eq-Decides q.0.name private_name).0 tests.1 in
-          true_or_false (sym ((λ i. tests.0 i && is_private_name (name i))) ∙ ap (λ (e : Placed). (e.parent == 2) && is_private_name e.name) same ∙ shows.not_own)
+          true≢false (sym ((λ i. tests.0 i && is_private_name (name i))) ∙ ap (λ (e : Placed). (e.parent == 2) && is_private_name e.name) same ∙ shows.not_own)
       lies top is _ (below x f stands is_a same above) it =
           let it_is : f ≡ p = same_entry next entries ids f p stands there (same ∙ it) in
-          true_or_false (sym (is_hidden_ p.parent (top, is, subst (λ (e : Placed). LiesIn entries top e.parent) it_is above)) ∙ shows.visible)
+          true≢false (sym (is_hidden_ p.parent (top, is, subst (λ (e : Placed). LiesIn entries top e.parent) it_is above)) ∙ shows.visible)
 
       by_test : (b : Bool) → is_hidden records (id_of p) ≡ b → b ≡ false
       by_test false is = refl
@@ -246,10 +241,10 @@ module _ (records : List Placed) (next : ℕ) (ids : HaveIds next (entries_of re
     -- the folder that all of a path but its last name reaches; the last name isn't one of the volume's own there
     pub front_is : (path : List (List ℕ)) (e : PlainEntry) → is_root path ≡ false → is_private_path path ≡ false → reached tree (front path) ≡ Ok e → e.folder ≡ true
         → IsFolder e.id × (((e.id == 2) && is_private_name (last_name path)) ≡ false)
-    front_is [] e not_root not_private is folder = absurd (true_or_false not_root)
+    front_is [] e not_root not_private is folder = absurd (true≢false not_root)
     front_is (name ∷ []) e not_root not_private is folder =
         let same = ok_same root_entry e is in
-        (subst (λ (x : PlainEntry). IsFolder x.id) same root_folder, ap (λ b. (e.id == 2) && b) not_private ∙ and_false (e.id == 2))
+        (subst (λ (x : PlainEntry). IsFolder x.id) same root_folder, ap (λ b. (e.id == 2) && b) not_private ∙ and-false (e.id == 2))
     front_is (name ∷ following ∷ path) e not_root not_private is folder =
         let seen = walked (front (following ∷ path)) name root_entry e is in
         let it = folder_id_is e seen folder in
@@ -266,7 +261,7 @@ module _ (records : List Placed) (next : ℕ) (ids : HaveIds next (entries_of re
         by_case None found = refl
         by_case (Some p) found =
             let stands = found_some (is_placed_at id name) records p found in
-            let tests = both (p.parent == id) (bytes_eq p.name name) stands.1 in
+            let tests = and_parts (p.parent == id) (bytes_eq p.name name) stands.1 in
             let parent : p.parent ≡ id = eqb-true p.parent id tests.0 in
             let same : p.name ≡ name = (bytes_eq-Decides p.name name).0 tests.1 in
             let shows : Shows records p = record {
@@ -276,7 +271,7 @@ module _ (records : List Placed) (next : ℕ) (ids : HaveIds next (entries_of re
               not_own = (λ i. (parent i == 2) && is_private_name (same i)) ∙ not_own;
             } in
             let there = subst (λ l. Contains l (plain_entry records p)) (sym same_entries) (seen_stands records p stands.0 (shows_seen records p shows)) in
-            absurd (true_or_false (sym stands.1 ∙ found_none (is_at id name) tree.entries none (plain_entry records p) there))
+            absurd (true≢false (sym stands.1 ∙ found_none (is_at id name) tree.entries none (plain_entry records p) there))
 
     -- the place of a new name
     pub record IsNewPlace (at : Place) : Type 0 where

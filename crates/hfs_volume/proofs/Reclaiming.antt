@@ -2,7 +2,7 @@
 use Rattle.std.proofs.Common.{◌≡◌, ◌⊎◌, ℕ, ◌+◌, ◌-◌, ◌≤◌, Bool, true, false, List, [], inl, inr, refl, sym, ◌∙◌, ap, subst, arith}
 use Rattle.std.specs.Prelude.{Contains, ◌==◌, ◌&&◌, not, Option, None, Some, codes, drop}
 use Rattle.std.specs.Str.Parse.{digits_value}
-use Rattle.std.proofs.lemmas.Bool.{eqb-true}
+use Rattle.std.proofs.lemmas.Bool.{eqb-true, not-true, true≢false}
 use Rattle.std.proofs.lemmas.Slice.Eq.{bytes_eq-Decides}
 use Rattle.volume_header.specs.declared.header.VolumeHeader.{VolumeHeader}
 use Rattle.cat_records.specs.declared.record.FileRecord.{FileRecord}
@@ -26,7 +26,6 @@ use Rattle.hfs_volume.specs.Naming.{one_file_less, orphan_name}
 use Rattle.hfs_volume.specs.Reclaiming.{DropsOrphanEntry, OrphanDropped, OrphanBared}
 use Rattle.hfs_volume.proofs.Fields.{valence_now, BytesBy}
 use Rattle.hfs_volume.proofs.Members.{kept_cases, each_of, all_of}
-use Rattle.hfs_volume.proofs.Ranks.{true_or_false}
 use Rattle.hfs_volume.proofs.Hiding.{same_entry, one_there}
 use Rattle.hfs_volume.proofs.Seeing.{same_number}
 use Rattle.hfs_volume.proofs.Fitting.{differs}
@@ -46,16 +45,12 @@ use Rattle.hfs_volume.proofs.Refielding.{recount_account, id_is, there_was, fold
 use Rattle.hfs_volume.proofs.Telling.{counted_tree, next_is, private_counts_tree}
 use Rattle.hfs_volume.proofs.Attributing.{bared_tree, each_without, attributes_account}
 
-not_true : (b : Bool) → not b ≡ true → b ≡ false
-not_true false is = refl
-not_true true is = absurd (true_or_false (sym is))
-
 in_folder : (o : Option ℕ) (p : Placed) → is_in o p ≡ true → (id : ℕ) × (o ≡ Some id) × (p.parent ≡ id)
-in_folder None p is = absurd (true_or_false (sym is))
+in_folder None p is = absurd (true≢false (sym is))
 in_folder (Some id) p is = (id, refl, eqb-true p.parent id is)
 
 file_no_folder : (value : CatRecord) → is_file value ≡ true → is_folder value ≡ false
-file_no_folder (Folder f) is = absurd (true_or_false (sym is))
+file_no_folder (Folder f) is = absurd (true≢false (sym is))
 file_no_folder (File f) is = refl
 file_no_folder (Thread f) is = refl
 
@@ -75,7 +70,7 @@ module _ (volume : VolumeState) (shaped : IsShaped volume) (entry : Placed) (orp
   a_file = tests.1
 
   pub no_link : is_link entry ≡ false
-  no_link = not_true (is_link entry) tests.2
+  no_link = not-true (is_link entry) tests.2
 
   pub private_is : private_id records ≡ Some entry.parent
   private_is = let it = in_folder (private_id records) entry tests.0 in it.1 ∙ ap Some (sym it.2)
@@ -107,7 +102,7 @@ module _ (volume : VolumeState) (shaped : IsShaped volume) (entry : Placed) (orp
     | inl two ↦
         let root = shaped.rooted.root in
         let same : entry ≡ root.0 = same_entry volume.head.next_catalog_id (entries_of records) shaped.ids entry root.0 stands root.1 (two ∙ sym root.2.id) in
-        absurd (true_or_false (sym root.2.folder ∙ ap (λ (p : Placed). is_folder p.value) (sym same) ∙ no_folder))
+        absurd (true≢false (sym root.2.folder ∙ ap (λ (p : Placed). is_folder p.value) (sym same) ∙ no_folder))
     | inr user ↦ user.0
   ]
 
@@ -117,7 +112,7 @@ module _ (volume : VolumeState) (shaped : IsShaped volume) (entry : Placed) (orp
     | inr lies ↦
         let folder = lies_in_folder (entries_of records) shaped.rooted p.parent lies in
         let one : folder.0 ≡ entry = same_entry volume.head.next_catalog_id (entries_of records) shaped.ids folder.0 entry folder.1 stands (folder.3 ∙ same) in
-        true_or_false (sym folder.2 ∙ ap (λ (q : Placed). is_folder q.value) one ∙ no_folder)
+        true≢false (sym folder.2 ∙ ap (λ (q : Placed). is_folder q.value) one ∙ no_folder)
   ]
 
   pub no_entries : (p : Placed) → Contains (entries_of records) p → (p.parent == id_of entry) ≡ false
@@ -164,7 +159,7 @@ module _ (id : ℕ) (old new : VolumeState) (bytes_of : FileRecord → List ℕ)
     no_entries = no_entries old shaped_old entry does.is_orphan;
     no_attributes = λ pair there same. does.no_attributes pair there (same ∙ does.is_entry);
     empty = does.no_blocks;
-    no_links = λ link there is_one shared. true_or_false (sym shared ∙ not_shared old shaped_old entry does.is_orphan (special_of link));
+    no_links = λ link there is_one shared. true≢false (sym shared ∙ not_shared old shaped_old entry does.is_orphan (special_of link));
   }
 
   side : OneMore entry less was
@@ -177,7 +172,7 @@ module _ (id : ℕ) (old new : VolumeState) (bytes_of : FileRecord → List ℕ)
   above =
       let folder = parent_folder begun shaped entry may.stands may.high in
       elim (entry_cases side folder.0 folder.1) [
-        | inl same ↦ absurd (true_or_false (sym folder.2 ∙ ap (λ (p : Placed). is_folder p.value) same ∙ no_folder old shaped_old entry does.is_orphan))
+        | inl same ↦ absurd (true≢false (sym folder.2 ∙ ap (λ (p : Placed). is_folder p.value) same ∙ no_folder old shaped_old entry does.is_orphan))
         | inr left ↦ (folder.0, left, folder.2, folder.3)
       ]
 
@@ -225,7 +220,7 @@ module _ (id : ℕ) (old new : VolumeState) (bytes_of : FileRecord → List ℕ)
     id = subst (λ (v : VolumeState). IsUserId v.head.next_catalog_id (id_of entry)) (sym does.drops.rest) (each_of (λ (p : Placed). IsUserId begun.head.next_catalog_id (id_of p)) (entries_of was) shaped.ids.each entry may.stands);
     fresh = removed_fresh entry begun does.dropped does.drops does.sorted may shaped;
     empty = subst (λ (v : VolumeState). AreEmptyForks v.head (overflow_in_volume v) (forks_in entry.value)) (sym does.drops.rest) empty_forks;
-    link = λ link. absurd (true_or_false (sym link ∙ no_link old shaped_old entry does.is_orphan));
+    link = λ link. absurd (true≢false (sym link ∙ no_link old shaped_old entry does.is_orphan));
     own = inl may.not_own;
   }
 

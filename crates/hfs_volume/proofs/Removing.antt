@@ -1,5 +1,7 @@
 -- An entry removed with its thread keeps all rules of a sound volume but the counts.
 use Rattle.std.proofs.Common.{◌≡◌, ◌⊎◌, ℕ, ◌+◌, Bool, true, false, List, [], length, inl, inr, refl, sym, ◌∙◌, ap, subst, arith}
+use Rattle.std.proofs.Math.Bool.{and-false}
+use Rattle.std.specs.Cmp.{both_ways}
 use Rattle.std.specs.Prelude.{Contains, ◌==◌, ◌&&◌, count_by}
 use Rattle.std.specs.Str.{bytes_eq}
 use Rattle.alloc_bitmap.specs.Apart.{times}
@@ -17,8 +19,7 @@ use Rattle.hfs_volume.specs.Laws.{IsShaped, one_if, MayDrop, EntryRemoved}
 use Rattle.hfs_volume.proofs.Counting.{length_kept}
 use Rattle.hfs_volume.proofs.Lying.{lies_still}
 use Rattle.hfs_volume.proofs.Members.{all_of, each_of}
-use Rattle.hfs_volume.proofs.Hiding.{hidden_is_computed, same_bools}
-use Rattle.hfs_volume.proofs.Seeing.{and_false}
+use Rattle.hfs_volume.proofs.Hiding.{hidden_is_computed}
 use Rattle.hfs_volume.proofs.Fitting.{not_same, own_not_at}
 use Rattle.hfs_volume.proofs.Shaping.{with_catalog, has_files_still}
 use Rattle.hfs_volume.proofs.Sides.{OneMore, one_more, still_entry, entry_cases, count_more, ids_less, found_same, entry_is_record, entry_is_named, no_other_id, threads_without}
@@ -65,7 +66,7 @@ module _ (entry : Placed) (old new : VolumeState) (changes : InCatalog (DropsEnt
       leads p stands (inr lies) = inr (lay 2 p.parent (may.no_entries p (there p stands)) lies)
 
   found_still : (name : List ℕ) → is_private_name name ≡ true → bytes_eq [] name ≡ false → record_at is 2 name ≡ record_at was 2 name
-  found_still name own some = sym (found_same removed_side (is_placed_at 2 name) (own_not_at entry may.not_own name own) (ap (λ b. (id_of entry == 2) && b) some ∙ and_false (id_of entry == 2)))
+  found_still name own some = sym (found_same removed_side (is_placed_at 2 name) (own_not_at entry may.not_own name own) (ap (λ b. (id_of entry == 2) && b) some ∙ and-false (id_of entry == 2)))
 
   pub removed_private : private_id is ≡ private_id was
   removed_private = ap folder_id (found_still private_name refl refl)
@@ -144,7 +145,7 @@ module _ (entry : Placed) (old new : VolumeState) (changes : InCatalog (DropsEnt
   removed_hidden x other =
       let before = hidden_is_computed was old.head.next_catalog_id x shaped.ids shaped.rooted in
       let after = hidden_is_computed is old.head.next_catalog_id x (ids_less removed_side old.head.next_catalog_id shaped.ids) rooted_after in
-      same_bools (is_hidden is x) (is_hidden was x) (λ hidden. before.0 (hidden_before_removal x (after.1 hidden))) (λ hidden. after.0 (hidden_after_removal x other (before.1 hidden)))
+      both_ways (is_hidden is x) (is_hidden was x) (λ hidden. before.0 (hidden_before_removal x (after.1 hidden))) (λ hidden. after.0 (hidden_after_removal x other (before.1 hidden)))
 
 -- the law
 pub entry_removed_law : EntryRemoved

@@ -1,5 +1,6 @@
 -- `rm` on the lists of a sound volume: of the only name of a file that never had another.
 use Rattle.std.proofs.Common.{◌≡◌, ℕ, ◌+◌, ◌*◌, ◌≤◌, Bool, true, false, List, refl, sym, ◌∙◌, ap, subst, arith}
+use Rattle.std.proofs.lemmas.Bool.{true≢false}
 use Rattle.std.specs.Prelude.{Contains, ◌==◌, ◌&&◌, not, if◌then◌else◌}
 use Rattle.std.proofs.lemmas.Slice.Eq.{bytes_eq-Decides}
 use Rattle.volume_header.specs.declared.header.VolumeHeader.{VolumeHeader}
@@ -20,7 +21,6 @@ use Rattle.hfs_volume.specs.Commands.{with_counts}
 use Rattle.hfs_volume.specs.Naming.{RemovesFile, private_ids, orphan_name}
 use Rattle.hfs_volume.proofs.Fields.{touched_views, dated, valence_now, BytesBy}
 use Rattle.hfs_volume.proofs.Members.{kept_cases}
-use Rattle.hfs_volume.proofs.Ranks.{true_or_false}
 use Rattle.hfs_volume.proofs.Seeing.{same_number}
 use Rattle.hfs_volume.proofs.Fitting.{differs, none_counted}
 use Rattle.hfs_volume.proofs.Sharing.{shared_is}
@@ -96,7 +96,7 @@ module _ (at : PlainEntry) (old new : VolumeState) (bytes_of : FileRecord → Li
   -- the volumes between, and the last one
   settled : IsShaped does.filled × IsSoundVolume new
   settled =
-      let first = moves old does.opened does.moved no_debts (account_opened at old bytes_of by_fork sound a_file does.entry does.is_entry does.not_link facts head no_debts (λ id. refl) account_begun (omega arith) does.private does.opened does.opens (orphan_name does.number) refl does.moved does.moves) entry does.private (orphan_name does.number) does.moves (may at old bytes_of by_fork sound a_file does.entry does.is_entry does.not_link facts head no_debts (λ id. refl) account_begun (omega arith) does.private does.opened does.opens (orphan_name does.number) refl does.moved does.moves) does.sorted_again (λ reference shared. absurd (true_or_false (sym shared ∙ unshared reference))) in
+      let first = moves old does.opened does.moved no_debts (account_opened at old bytes_of by_fork sound a_file does.entry does.is_entry does.not_link facts head no_debts (λ id. refl) account_begun (omega arith) does.private does.opened does.opens (orphan_name does.number) refl does.moved does.moves) entry does.private (orphan_name does.number) does.moves (may at old bytes_of by_fork sound a_file does.entry does.is_entry does.not_link facts head no_debts (λ id. refl) account_begun (omega arith) does.private does.opened does.opens (orphan_name does.number) refl does.moved does.moves) does.sorted_again (λ reference shared. absurd (true≢false (sym shared ∙ unshared reference))) in
       let second = recount_account old does.moved does.filled _ does.private 1 0 first does.fills ((folder_moved at old bytes_of by_fork sound a_file does.entry does.is_entry does.not_link facts head no_debts (λ id. refl) account_begun (omega arith) does.private does.opened does.opens (orphan_name does.number) refl does.moved does.moves) does.private (private_folder does.opened (shaped_opened at old bytes_of by_fork sound a_file does.entry does.is_entry does.not_link facts head no_debts (λ id. refl) account_begun (omega arith) does.private does.opened does.opens (orphan_name does.number) refl does.moved does.moves) does.private (private_is_it at old bytes_of by_fork sound a_file does.entry does.is_entry does.not_link facts head no_debts (λ id. refl) account_begun (omega arith) does.private does.opened does.opens (orphan_name does.number) refl does.moved does.moves))) does.fills.fields.count (omega arith) in
       let third = recount_account old does.filled new _ at.parent 0 1 second does.loses (above_filled (shaped_moved at old bytes_of by_fork sound a_file does.entry does.is_entry does.not_link facts head no_debts (λ id. refl) account_begun (omega arith) does.private does.opened does.opens (orphan_name does.number) refl does.moved does.moves)) does.loses.fields.count (enough second.shaped second.valences) in (
         second.shaped,
@@ -128,7 +128,7 @@ module _ (at : PlainEntry) (old new : VolumeState) (bytes_of : FileRecord → Li
           let there = is_entry_of was seen.placed seen.stands (seen_shows was seen.placed seen.seen).named in
           let it_is : seen.placed ≡ entry = other_names old (shaped at old bytes_of by_fork sound a_file does.entry does.is_entry does.not_link facts head no_debts (λ id. refl) account_begun (omega arith) does.private does.opened does.opens (orphan_name does.number) refl does.moved does.moves) entry does.is_entry.stands facts.shows.visible seen.placed there (ap (λ (x : PlainEntry). x.id) seen.is ∙ same ∙ sym (same_id at old bytes_of by_fork sound a_file does.entry does.is_entry does.not_link facts head no_debts (λ id. refl) account_begun (omega arith) does.private does.opened does.opens (orphan_name does.number) refl does.moved does.moves)) in
           let e_is : e ≡ at = sym seen.is ∙ ap (plain_entry was) it_is ∙ facts.plain in
-          true_or_false (sym stands.1 ∙ ap (λ (x : PlainEntry). not (is_at at.parent at.name x)) e_is ∙ (λ i. not (same_number at.parent i && (bytes_eq-Decides at.name at.name).1 refl i)))
+          true≢false (sym stands.1 ∙ ap (λ (x : PlainEntry). not (is_at at.parent at.name x)) e_is ∙ (λ i. not (same_number at.parent i && (bytes_eq-Decides at.name at.name).1 refl i)))
 
   tree_opened : tree_in does.opened bytes_of ≡ record before { next_id = next + more; has_private = true }
   tree_opened =

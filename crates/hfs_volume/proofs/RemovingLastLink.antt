@@ -1,5 +1,6 @@
 -- `rm` on the lists of a sound volume: of the last link to a file.
 use Rattle.std.proofs.Common.{bytes_eq, ◌≡◌, ℕ, ◌+◌, ◌≤◌, Bool, true, false, List, length, inl, inr, refl, sym, ◌∙◌, ap, subst, arith}
+use Rattle.std.proofs.lemmas.Bool.{true≢false}
 use Rattle.std.specs.Prelude.{Contains, ◌==◌, ◌&&◌, count_by, is_some, if◌then◌else◌}
 use Rattle.std.proofs.lemmas.Slice.Eq.{bytes_eq-Decides}
 use Rattle.cat_records.specs.declared.record.FileRecord.{FileRecord}
@@ -19,7 +20,6 @@ use Rattle.hfs_volume.specs.Naming.{orphan_name, RemovesLastLink}
 use Rattle.hfs_volume.proofs.Fields.{touched_views, dated, valence_now, file_no_folder, BytesBy}
 use Rattle.hfs_volume.proofs.Members.{each_of}
 use Rattle.hfs_volume.proofs.Flat.{some_same}
-use Rattle.hfs_volume.proofs.Ranks.{true_or_false}
 use Rattle.hfs_volume.proofs.Hiding.{same_entry}
 use Rattle.hfs_volume.proofs.Seeing.{same_number}
 use Rattle.hfs_volume.proofs.Fitting.{differs, none_counted}
@@ -102,7 +102,7 @@ module _ (at : PlainEntry) (old new : VolumeState) (bytes_of : FileRecord → Li
     | inl two ↦
         let root = shaped_dropped.rooted.root in
         let same : file ≡ root.0 = same_entry does.dropped.head.next_catalog_id (entries_of less) shaped_dropped.ids file root.0 does.is_file.0 root.1 (two ∙ sym root.2.id) in
-        absurd (true_or_false (sym root.2.folder ∙ ap (λ (p : Placed). is_folder p.value) (sym same) ∙ no_folder))
+        absurd (true≢false (sym root.2.folder ∙ ap (λ (p : Placed). is_folder p.value) (sym same) ∙ no_folder))
     | inr user ↦ user.0
   ]
 
@@ -115,7 +115,7 @@ module _ (at : PlainEntry) (old new : VolumeState) (bytes_of : FileRecord → Li
   not_inside : LiesIn (entries_of less) (id_of file) file.parent → ⊥
   not_inside lies =
       let folder = top_is_folder does.dropped shaped_dropped (id_of file) file.parent high lies private_there in
-      true_or_false (sym folder.2 ∙ ap (λ (p : Placed). is_folder p.value) (same_entry does.dropped.head.next_catalog_id (entries_of less) shaped_dropped.ids folder.0 file folder.1 does.is_file.0 folder.3) ∙ no_folder)
+      true≢false (sym folder.2 ∙ ap (λ (p : Placed). is_folder p.value) (same_entry does.dropped.head.next_catalog_id (entries_of less) shaped_dropped.ids folder.0 file folder.1 does.is_file.0 folder.3) ∙ no_folder)
 
   may_move : MayMove file file.parent (orphan_name does.number) does.dropped
   may_move = record {
@@ -126,10 +126,10 @@ module _ (at : PlainEntry) (old new : VolumeState) (bytes_of : FileRecord → Li
     goes_not_own = ap (λ b. b && is_private_name (orphan_name does.number)) parent_not_two;
     folder = private_there;
     not_inside = not_inside;
-    no_links = λ link stands link_is names. true_or_false (sym (links_it less file (record { link = link; stands = stands; is_one = link_is; names = names })) ∙ unlinked);
+    no_links = λ link stands link_is names. true≢false (sym (links_it less file (record { link = link; stands = stands; is_one = link_is; names = names })) ∙ unlinked);
     outside = λ kind hides. elim kind [
-      | inl link ↦ true_or_false (sym link ∙ shared_no_link does.dropped shaped_dropped number file does.is_file.0 shared)
-      | inr folder ↦ true_or_false (sym folder ∙ no_folder)
+      | inl link ↦ true≢false (sym link ∙ shared_no_link does.dropped shaped_dropped number file does.is_file.0 shared)
+      | inr folder ↦ true≢false (sym folder ∙ no_folder)
     ];
   }
 
@@ -159,20 +159,20 @@ module _ (at : PlainEntry) (old new : VolumeState) (bytes_of : FileRecord → Li
             | inl same ↦
                 file_no_folder g.value (ap (λ (p : Placed). is_folder p.value) same ∙ does.loses.changes.changes.alike.kind.0 ∙ folder_is at.parent does.moved new does.loses shaped_moved above_moved) (shared_is_file (private_id (records_of new)) number g shared_g)
             | inr there ↦ elim (entry_cases (new_side file file.parent (orphan_name does.number) does.dropped does.moved does.moves first.sorted may_move shaped_dropped) g there) [
-              | inl same ↦ true_or_false (sym still ∙ ap (is_shared_file (records_of does.moved) number) same ∙ unshared number)
+              | inl same ↦ true≢false (sym still ∙ ap (is_shared_file (records_of does.moved) number) same ∙ unshared number)
               | inr other ↦
                   let at_g = shared_is (private_id less) number g (ap (λ private. is_shared private number g) (sym (moved_private file file.parent (orphan_name does.number) does.dropped does.moved does.moves first.sorted may_move shaped_dropped)) ∙ still) in
                   let folder : at_g.folder ≡ place.folder = some_same at_g.folder place.folder (sym at_g.private_is ∙ place.private_is) in
                   let parent : g.parent ≡ file.parent = at_g.parent ∙ folder ∙ sym place.parent in
                   let name : g.name ≡ file.name = at_g.name ∙ sym place.name in
-                  true_or_false (sym ((λ i. (parent i == file.parent) && bytes_eq (name i) file.name) ∙ (λ i. same_number file.parent i && (bytes_eq-Decides file.name file.name).1 refl i))
+                  true≢false (sym ((λ i. (parent i == file.parent) && bytes_eq (name i) file.name) ∙ (λ i. same_number file.parent i && (bytes_eq-Decides file.name file.name).1 refl i))
                   ∙ no_other_at (old_side file file.parent (orphan_name does.number) does.dropped does.moved does.moves first.sorted may_move shaped_dropped) first.sorted g (entry_is_record _ g other))
             ]
           ]
 
   pub sound_last : IsSoundVolume new
   sound_last =
-      let second = moves old does.dropped does.moved _ first file file.parent (orphan_name does.number) does.moves may_move does.sorted_again (λ reference names. absurd (true_or_false (sym names ∙ unshared reference))) in
+      let second = moves old does.dropped does.moved _ first file file.parent (orphan_name does.number) does.moves may_move does.sorted_again (λ reference names. absurd (true≢false (sym names ∙ unshared reference))) in
       let third = recount_account old does.moved new _ at.parent 0 1 second does.loses above_moved does.loses.fields.count (enough second.valences) in
       closed old new _ sound third (record {
         valences = λ id.
@@ -209,12 +209,12 @@ module _ (at : PlainEntry) (old new : VolumeState) (bytes_of : FileRecord → Li
           by_link : (p : Placed) → Contains (entries_of less) p → is_seen less p ≡ true → (plain_entry less p).id ≡ at.id → (b : Bool) → is_link p ≡ b → ⊥
           by_link p there seen id false isnt =
               let same_one : p ≡ file = same_entry does.dropped.head.next_catalog_id (entries_of less) shaped_dropped.ids p file there does.is_file.0 (sym (ap (λ b. if b then id_or_0 (shared_file less (special_of p)) else id_of p) isnt) ∙ id ∙ sym does.is_file.1) in
-              true_or_false (sym seen ∙ ap (is_seen less) same_one ∙ hidden_unseen does.dropped shaped_dropped file hidden)
+              true≢false (sym seen ∙ ap (is_seen less) same_one ∙ hidden_unseen does.dropped shaped_dropped file hidden)
           by_link p there seen id true link =
               let good = (shaped_dropped.links.links p there link).node in
               let found : id_of good.0 ≡ at.id = sym (ap id_or_0 (shared_found less first.sorted (special_of p) good.0 good.1 good.2)) ∙ sym (ap (λ b. if b then id_or_0 (shared_file less (special_of p)) else id_of p) link) ∙ id in
               let same_one : good.0 ≡ file = same_entry does.dropped.head.next_catalog_id (entries_of less) shaped_dropped.ids good.0 file good.1 does.is_file.0 (found ∙ sym does.is_file.1) in
-              true_or_false (sym (links_it less file (record { link = p; stands = there; is_one = link; names = ap (is_shared_file less (special_of p)) (sym same_one) ∙ good.2 })) ∙ unlinked)
+              true≢false (sym (links_it less file (record { link = p; stands = there; is_one = link; names = ap (is_shared_file less (special_of p)) (sym same_one) ∙ good.2 })) ∙ unlinked)
 
       tree_dropped : tree_in does.dropped bytes_of ≡ without_node at.id (without_entry at.parent at.name before)
       tree_dropped = tree_last_here at old bytes_of by_fork sound does.entry does.is_entry does.is_one does.sorted facts does.dropped does.drops (ap (is_linked less) (sym file_is) ∙ unlinked)

@@ -1,5 +1,6 @@
 -- `mv` on the lists of a sound volume.
 use Rattle.std.proofs.Common.{◌≡◌, ℕ, ◌+◌, ◌≤◌, Bool, true, false, List, inl, inr, refl, sym, ◌∙◌, ap, subst, arith}
+use Rattle.std.proofs.lemmas.Bool.{true≢false}
 use Rattle.std.specs.Prelude.{Contains, ◌==◌, if◌then◌else◌}
 use Rattle.cat_records.specs.declared.record.FileRecord.{FileRecord}
 use Rattle.hfs_language.specs.declared.reply.Reply.TheVariants as reply
@@ -15,7 +16,6 @@ use Rattle.hfs_volume.specs.Laws.{IsShaped, MayMove, IsFolderId, one_if}
 use Rattle.hfs_volume.specs.Naming.{MovesName, MvDoes}
 use Rattle.hfs_model.specs.declared.plain.PlainEntry.{PlainEntry}
 use Rattle.hfs_volume.proofs.Fields.{touched_views, marked_views, dated, redated, valence_now, BytesBy}
-use Rattle.hfs_volume.proofs.Ranks.{true_or_false}
 use Rattle.hfs_volume.proofs.Hiding.{hidden_is_computed, same_entry, one_there}
 use Rattle.hfs_volume.proofs.Seeing.{same_number}
 use Rattle.hfs_volume.proofs.Reaching.{folder_no_link}
@@ -62,11 +62,11 @@ module _ (from to : List (List ℕ)) (at : PlainEntry) (goal : Place) (old new :
       by_kind true is_a =
           let at_folder : at.folder ≡ true = ap (λ (e : PlainEntry). e.folder) (sym facts.plain) ∙ is_a in
           let same : id_of entry ≡ at.id = sym (ap (λ b. if b then id_or_0 (shared_file was (special_of entry)) else id_of entry) (folder_no_link entry is_a)) ∙ ap (λ (e : PlainEntry). e.id) facts.plain in
-          true_or_false (sym (lies_below was next_id sound.entries.ids sound.entries.rooted (tree_in old bytes_of) (tree_entries old bytes_of) to from at is.above is.not_root is.reached_at at_folder (subst (λ n. 16 ≤ n) same facts.high) is.reached_above is.above_is.0
+          true≢false (sym (lies_below was next_id sound.entries.ids sound.entries.rooted (tree_in old bytes_of) (tree_entries old bytes_of) to from at is.above is.not_root is.reached_at at_folder (subst (λ n. 16 ≤ n) same facts.high) is.reached_above is.above_is.0
           (subst (LiesIn (entries_of was) at.id) (sym is.above_is.1) (subst (λ n. LiesIn (entries_of was) n goal.folder) same lies))) ∙ not_below)
       by_kind false isnt =
           let folder = top_is_folder old shaped (id_of entry) goal.folder facts.high lies is.folder.folder in
-          true_or_false (sym folder.2 ∙ ap (λ (p : Placed). is_folder p.value) (same_entry next_id (entries_of was) sound.entries.ids folder.0 entry folder.1 does.stands folder.3) ∙ isnt)
+          true≢false (sym folder.2 ∙ ap (λ (p : Placed). is_folder p.value) (same_entry next_id (entries_of was) sound.entries.ids folder.0 entry folder.1 does.stands folder.3) ∙ isnt)
 
   may : MayMove entry goal.folder goal.name old
   may = record {
@@ -77,8 +77,8 @@ module _ (from to : List (List ℕ)) (at : PlainEntry) (goal : Place) (old new :
     goes_not_own = is.not_own;
     folder = is.folder.folder;
     not_inside = not_inside;
-    no_links = λ link stands link_is shared. true_or_false (sym shared ∙ seen_is_outside old shaped entry facts.shows.visible (special_of link));
-    outside = λ kind hidden. true_or_false (sym ((hidden_is_computed was next_id goal.folder sound.entries.ids sound.entries.rooted).0 hidden) ∙ is.folder.visible);
+    no_links = λ link stands link_is shared. true≢false (sym shared ∙ seen_is_outside old shaped entry facts.shows.visible (special_of link));
+    outside = λ kind hidden. true≢false (sym ((hidden_is_computed was next_id goal.folder sound.entries.ids sound.entries.rooted).0 hidden) ∙ is.folder.visible);
   }
 
   shaped_moved : IsShaped does.moved
@@ -126,7 +126,7 @@ module _ (from to : List (List ℕ)) (at : PlainEntry) (goal : Place) (old new :
   -- the volumes between, and the last one
   settled : IsShaped does.lost × IsShaped does.gained × IsSoundVolume new
   settled =
-      let first = moves old old does.moved no_debts (opened old sound does.sorted) entry goal.folder goal.name does.moves may does.sorted_again (λ reference shared. absurd (true_or_false (sym shared ∙ unshared reference))) in
+      let first = moves old old does.moved no_debts (opened old sound does.sorted) entry goal.folder goal.name does.moves may does.sorted_again (λ reference shared. absurd (true≢false (sym shared ∙ unshared reference))) in
       let second = recount_account old does.moved does.lost _ at.parent 0 1 first does.loses (folder_moved at.parent folder_above) does.loses.fields.count (enough first.valences) in
       let third = recount_account old does.lost does.gained _ goal.folder 1 0 second does.gains
       (folder_still at.parent does.moved does.lost does.loses shaped_moved goal.folder (folder_moved goal.folder is.folder.folder)) does.gains.fields.count (omega arith) in

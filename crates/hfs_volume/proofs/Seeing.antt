@@ -1,5 +1,6 @@
 -- What users see after an entry was added with its thread: one entry more, and one folder or file more.
 use Rattle.std.proofs.Common.{◌≡◌, ℕ, ℤ, Bool, true, false, List, [], ◌∷◌, refl, sym, ◌∙◌, ap, subst, arith}
+use Rattle.std.proofs.Math.Bool.{and-false}
 use Rattle.std.specs.Prelude.{Contains, ◌==◌, ◌&&◌, ◌||◌, ◌^◌, nat_lt, not, Option, None, Some, find, if◌then◌else◌}
 use Rattle.std.specs.Str.{bytes_eq}
 use Rattle.std.specs.List.{flat_map, list_any}
@@ -20,10 +21,6 @@ same_number n = grind arith
 
 pub other_way : (m n : ℕ) → (m == n) ≡ false → (n == m) ≡ false
 other_way m n differ = grind (arith, differ)
-
-pub and_false : (b : Bool) → (b && false) ≡ false
-and_false true = refl
-and_false false = refl
 
 -- what an entry has to be so that no other is seen otherwise once it is there
 pub record FitsIn (entry : Placed) (old new : List Placed) : Type 0 where
@@ -48,7 +45,7 @@ found_as_before {spare} entry old mid new first second test one other =
 
 pub private_kept : {spare : ℤ} (entry : Placed) (old mid new : List Placed) → Adds entry old mid → Adds (thread_with spare entry) mid new → is_placed_at 2 private_name entry ≡ false → private_id new ≡ private_id old
 private_kept entry old mid new first second not_private =
-    ap folder_id (found_as_before entry old mid new first second (is_placed_at 2 private_name) not_private (and_false (id_of entry == 2)))
+    ap folder_id (found_as_before entry old mid new first second (is_placed_at 2 private_name) not_private (and-false (id_of entry == 2)))
 
 module _ {spare : ℤ} (entry : Placed) (old mid new : List Placed) (first : Adds entry old mid) (second : Adds (thread_with spare entry) mid new) (fits : FitsIn entry old new) where
   pub entry_added : Adds entry (entries_of old) (entries_of new)

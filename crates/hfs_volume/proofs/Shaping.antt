@@ -1,5 +1,7 @@
 -- A folder added under a new CNID keeps the rules of a sound volume but the counts, and says by how much these have moved.
 use Rattle.std.proofs.Common.{◌≡◌, ◌⊎◌, ℕ, ◌+◌, ◌*◌, ◌<◌, Bool, true, false, List, [], ◌∷◌, ◌++◌, inl, inr, refl, sym, ◌∙◌, ap, subst}
+use Rattle.std.proofs.Math.Bool.{and-false}
+use Rattle.std.proofs.lemmas.Bool.{true≢false}
 use Rattle.std.specs.Prelude.{Contains, All, ◌==◌, ◌&&◌, count_by, if◌then◌else◌}
 use Rattle.std.specs.Str.{bytes_eq}
 use Rattle.std.specs.List.{flat_map}
@@ -20,8 +22,7 @@ use Rattle.hfs_volume.specs.Laws.{AreEmptyForks, IsShaped, Joins, one_if}
 use Rattle.hfs_volume.proofs.Counting.{count_insert}
 use Rattle.hfs_volume.proofs.Members.{all_of, each_of}
 use Rattle.hfs_volume.proofs.Flat.{flat_none, Pieces, flat_pieces}
-use Rattle.hfs_volume.proofs.Ranks.{true_or_false}
-use Rattle.hfs_volume.proofs.Seeing.{found_as_before, private_kept, and_false}
+use Rattle.hfs_volume.proofs.Seeing.{found_as_before, private_kept}
 use Rattle.hfs_volume.proofs.Threading.{threads_kept, rooted_kept}
 use Rattle.hfs_volume.proofs.Fitting.{first_added, then_added, one_entry, entry_or_old, old_still, ids_kept, parent_not_new, back_lies, own_not_at}
 
@@ -159,7 +160,7 @@ module _ (entry : Placed) (old new : VolumeState) (changes : InCatalog (AddsEntr
   own_found : (name : List ℕ) → is_private_name name ≡ true → bytes_eq [] name ≡ false → record_at is 2 name ≡ record_at was 2 name
   own_found name own some =
       found_as_before entry was (placed_in adds.between) is (first_added entry old.catalog_pairs new.catalog_pairs adds joins) (then_added entry old.catalog_pairs new.catalog_pairs adds joins)
-      (is_placed_at 2 name) (own_not_at entry joins.not_own name own) (ap (λ b. (id_of entry == 2) && b) some ∙ and_false (id_of entry == 2))
+      (is_placed_at 2 name) (own_not_at entry joins.not_own name own) (ap (λ b. (id_of entry == 2) && b) some ∙ and-false (id_of entry == 2))
 
   pub private_as_before : private_id is ≡ private_id was
   private_as_before =
@@ -177,7 +178,7 @@ module _ (entry : Placed) (old new : VolumeState) (changes : InCatalog (AddsEntr
   links_good = record {
     private_folder = λ placed found. shaped.links.private_folder placed (sym (own_found private_name refl refl) ∙ found);
     links = λ placed stands link. elim (cases placed stands) [
-      | inl same ↦ absurd (true_or_false (sym link ∙ ap is_link same ∙ joins.not_link))
+      | inl same ↦ absurd (true≢false (sym link ∙ ap is_link same ∙ joins.not_link))
       | inr there ↦ still_good placed there (shaped.links.links placed there link)
     ];
   }

@@ -2,7 +2,7 @@
 use Rattle.std.proofs.Common.{◌≡◌, ◌≢◌, ◌⊎◌, ◌<◌, ◌≤◌, ℕ, zero, suc, ◌+◌, ◌-◌, ◌==◌, Bool, true, false, not, List, [], ◌∷◌, ◌++◌, length, map, take, drop, refl, sym, ◌∙◌, ap, subst, arith, inl, inr, ⊎_elim, eq-eqb, add-zero}
 use Rattle.std.specs.Prelude.{Contains, ◌&&◌, ◌||◌, nat_lt, nat_le, count_by, find, is_some, Option, Some, None, ok_or, Result, Ok, Err, if◌then◌else◌}
 use Rattle.std.specs.Str.{bytes_eq}
-use Rattle.std.proofs.lemmas.Bool.{eqb-true, ltb-true}
+use Rattle.std.proofs.lemmas.Bool.{eqb-true, ltb-true, true≢false}
 use Rattle.std.proofs.lemmas.Slice.Eq.{bytes_eq-Decides}
 use Rattle.hfs_language.specs.declared.command.Command.{Command}
 use Rattle.hfs_language.specs.declared.command.Command.TheVariants as command
@@ -31,7 +31,6 @@ use Rattle.hfs_volume.proofs.Flat.{found_some, found_none, some_same}
 use Rattle.hfs_volume.proofs.Reaching.{ok_same, then_ok, unless_ok, if_ok, found_ok}
 use Rattle.hfs_volume.proofs.InOrder.{each_by, put_cases, put_in_order, kept_in_order, total_trans, total_other}
 use Rattle.hfs_volume.proofs.Booking.{IsBook, HasNames, IsRightlyNamed, given_is, book_of, names_in, changed_in, book_changed, names_changed, book_renumbered, names_renumbered, book_with_node, node_still, node_there, book_with_entry, names_with_entry, book_without, names_without, book_without_node, node_remains, differs}
-use Rattle.hfs_volume.proofs.Ranks.{true_or_false}
 
 -- ---- what paths reach
 
@@ -89,7 +88,7 @@ module _ (tree : PlainTree) where
 
     none_found : (o : Option PlainEntry) → is_some o ≡ false → o ≡ None
     none_found None is = refl
-    none_found (Some e) is = absurd (true_or_false is)
+    none_found (Some e) is = absurd (true≢false is)
 
     new_place_is : (path : List (List ℕ)) (at : Place) → new_place tree path ≡ Ok at
         → (entry_at tree at.folder at.name ≡ None) × ((node : PlainNode) × (node_at tree at.folder ≡ Some node) × (node.folder ≡ true))
@@ -100,7 +99,7 @@ module _ (tree : PlainTree) where
         subst (λ (p : Place). (entry_at tree p.folder p.name ≡ None) × ((n : PlainNode) × (node_at tree p.folder ≡ Some n) × (n.folder ≡ true))) free.1 (sym facts.0 ∙ none_found first.0.found free.0, facts.1)
 
     reached_there : (path : List (List ℕ)) (at : PlainEntry) → is_root path ≡ false → reached tree path ≡ Ok at → IsThere tree at
-    reached_there [] at not_root is = absurd (true_or_false not_root)
+    reached_there [] at not_root is = absurd (true≢false not_root)
     reached_there (name ∷ path) at not_root is =
         let first = then_ok (child tree root_entry name) (λ next. walk tree next path) at is in
         elim (walk_is path first.0 at first.2) [
@@ -282,11 +281,11 @@ module _ (tree : PlainTree) (steady : IsSteady tree) (at : PlainEntry) (there : 
     book_without_node without_it at.id not_the_root_ (λ entry stands. (no_name without_it book_less at.id none entry stands, empty entry stands)) book_less,
     λ node stands.
         let old = kept_cases (λ (n : PlainNode). not (is_node at.id n)) tree.nodes node stands in
-        named_as_before node old.0 (λ same. true_or_false (sym (eq-eqb node.id at.id (sym same)) ∙ not_true (is_node at.id node) old.1)),
+        named_as_before node old.0 (λ same. true≢false (sym (eq-eqb node.id at.id (sym same)) ∙ not_true (is_node at.id node) old.1)),
   )
     where
       not_true : (b : Bool) → not b ≡ true → b ≡ false
-      not_true true is = absurd (true_or_false (sym is))
+      not_true true is = absurd (true≢false (sym is))
       not_true false is = refl
 
   -- no entry stands in a file
@@ -295,18 +294,18 @@ module _ (tree : PlainTree) (steady : IsSteady tree) (at : PlainEntry) (there : 
     no_parent entry stands same =
         let above = (book_less.named entry stands).parent in
         let one : above.0 ≡ its_node.0 = some_same above.0 its_node.0 (sym above.1 ∙ (λ i. node_at tree (same i)) ∙ its_node.1) in
-        true_or_false (sym above.2 ∙ ap (λ (n : PlainNode). n.folder) one ∙ its_node.2 ∙ file)
+        true≢false (sym above.2 ∙ ap (λ (n : PlainNode). n.folder) one ∙ its_node.2 ∙ file)
 
     still_named : (names_of without_it at.id == 0) ≡ false → (node : PlainNode) → Contains tree.nodes node → (b : Bool) → (at.id == node.id) ≡ b → IsRightlyNamed without_it node
-    still_named some node stands false differ = named_as_before node stands (λ same. true_or_false (sym (eq-eqb at.id node.id same) ∙ differ))
+    still_named some node stands false differ = named_as_before node stands (λ same. true≢false (sym (eq-eqb at.id node.id same) ∙ differ))
     still_named some node stands true is =
         let same : at.id ≡ node.id = eqb-true at.id node.id is in
         let one : node ≡ its_node.0 = some_same node its_node.0 (sym (node_is_at tree steady.0 node stands) ∙ (λ i. node_at tree (sym same i)) ∙ its_node.1) in
         let is_file : node.folder ≡ false = ap (λ (n : PlainNode). n.folder) one ∙ its_node.2 ∙ file in
-        ((λ folder_is. absurd (true_or_false (sym folder_is ∙ is_file))), (λ file_is. subst (λ k. 0 < names_of without_it k) same (not_zero (names_of without_it at.id) some)))
+        ((λ folder_is. absurd (true≢false (sym folder_is ∙ is_file))), (λ file_is. subst (λ k. 0 < names_of without_it k) same (not_zero (names_of without_it at.id) some)))
       where
         not_zero : (n : ℕ) → (n == 0) ≡ false → 0 < n
-        not_zero zero no_ = absurd (true_or_false no_)
+        not_zero zero no_ = absurd (true≢false no_)
         not_zero (suc n) no_ = omega arith
 
     unnamed_keeps : IsSteady (unnamed at.id without_it)
@@ -396,7 +395,7 @@ module _ (tree : PlainTree) (steady : IsSteady tree) (file : PlainNode) (there :
   file_not_root : further.id ≢ 2
   file_not_root same =
       let one : file ≡ steady.0.root.0 = some_same file steady.0.root.0 (sym there ∙ (λ i. node_at tree (same i)) ∙ steady.0.root.1) in
-      true_or_false (sym steady.0.root.2 ∙ sym (ap (λ (n : PlainNode). n.folder) one) ∙ kind)
+      true≢false (sym steady.0.root.2 ∙ sym (ap (λ (n : PlainNode). n.folder) one) ∙ kind)
 
   abbrev with_further : PlainTree
   with_further = with_entry further drawn_ids
@@ -411,7 +410,7 @@ module _ (tree : PlainTree) (steady : IsSteady tree) (file : PlainNode) (there :
       by node stands true is =
           let same : file.id ≡ node.id = eqb-true file.id node.id is in
           let one : node ≡ file = some_same node file (sym (node_is_at tree steady.0 node stands) ∙ (λ i. node_at tree (sym same i)) ∙ there) in
-          ((λ folder_is. absurd (true_or_false (sym folder_is ∙ ap (λ (n : PlainNode). n.folder) one ∙ kind))), (λ file_is. omega (arith, names_further node.id, ap one_if is)))
+          ((λ folder_is. absurd (true≢false (sym folder_is ∙ ap (λ (n : PlainNode). n.folder) one ∙ kind))), (λ file_is. omega (arith, names_further node.id, ap one_if is)))
       by node stands false is =
           let same : names_of with_further node.id ≡ names_of tree node.id = names_further node.id ∙ (λ i. names_of tree node.id + one_if (is i)) ∙ add-zero (names_of tree node.id) in
           ((λ folder_is. subst (λ n. (node.id ≡ 2) ⊎ (n ≡ 1)) (sym same) ((steady.1 node stands).0 folder_is)), (λ file_is. subst (λ n. 0 < n) (sym same) ((steady.1 node stands).1 file_is)))
@@ -429,7 +428,7 @@ attribute_total = on_total (λ (a : PlainAttribute). a.name) nat_list_cmp_total
 attribute_other : (x y : PlainAttribute) → attribute_before x y ≡ false → is_named x.name y ≡ false → attribute_before y x ≡ true
 attribute_other x y not_first differ = total_other (λ (x y : PlainAttribute). slice_cmp nat_cmp x.name y.name) attribute_total x y not_first (λ equal.
     let names : x.name ≡ y.name = (bytes_eq-Decides x.name y.name).0 (sym (is_eq-slice_cmp x.name y.name) ∙ ap is_eq equal) in
-    true_or_false (sym ((bytes_eq-Decides y.name x.name).1 (sym names)) ∙ differ))
+    true≢false (sym ((bytes_eq-Decides y.name x.name).1 (sym names)) ∙ differ))
 
 set_sorted : (name value : List ℕ) (node : PlainNode) → IsInOrder attribute_before node.attributes → IsInOrder attribute_before (with_attribute name value node).attributes
 set_sorted name value node sorted =
@@ -438,7 +437,7 @@ set_sorted name value node sorted =
     (λ y stands not_first. attribute_other (record { name = name; value = value }) y not_first (not_true_ (is_named name y) (kept_cases (λ x. not (is_named name x)) node.attributes y stands).1))
   where
     not_true_ : (b : Bool) → not b ≡ true → b ≡ false
-    not_true_ true is = absurd (true_or_false (sym is))
+    not_true_ true is = absurd (true≢false (sym is))
     not_true_ false is = refl
 
 -- ---- the step
@@ -482,7 +481,7 @@ module _ (tree : PlainTree) (steady : IsSteady tree) where
     where
       is_true : (b : Bool) → not b ≡ false → b ≡ true
       is_true true is = refl
-      is_true false is = absurd (true_or_false is)
+      is_true false is = absurd (true≢false is)
 
   -- what both paths of `mv` and `ln` reach
   pair_is : (from to : List (List ℕ)) (pair : PlainEntry × Place) → to_pair tree from to ≡ Ok pair
@@ -498,7 +497,7 @@ module _ (tree : PlainTree) (steady : IsSteady tree) where
       (reached_there tree steady.0 from second.0 (left_false (is_root from) (is_root to) root.0) (ap (reached tree) root.1 ∙ second.1), facts.0, facts.1)
     where
       left_false : (a b : Bool) → (a || b) ≡ false → a ≡ false
-      left_false true b is = absurd (true_or_false is)
+      left_false true b is = absurd (true≢false is)
       left_false false b is = refl
 
   mv_keeps : (from to : List (List ℕ)) (pair : PlainEntry × Place) → to_mv tree from to ≡ Ok pair → IsSteady (moved pair.0 pair.1 tree)

@@ -1,5 +1,6 @@
 -- What users see after a folder's or file's record has another value: other fields of its node, and nothing else.
 use Rattle.std.proofs.Common.{◌≡◌, ℕ, zero, suc, Bool, true, false, List, [], ◌∷◌, ◌++◌, length, map, refl, sym, ◌∙◌, ap, subst, length-append}
+use Rattle.std.proofs.lemmas.Bool.{true≢false}
 use Rattle.std.specs.Prelude.{Contains, ◌==◌, ◌&&◌, ◌||◌, ◌^◌, nat_lt, not, cond, Option, None, Some, find, slice_get, slice_set, if◌then◌else◌}
 use Rattle.std.specs.Str.{bytes_eq}
 use Rattle.std.specs.List.{flat_map, list_any}
@@ -16,7 +17,6 @@ use Rattle.hfs_volume.specs.Changes.{Swaps, SameKind}
 use Rattle.hfs_model.specs.declared.plain.PlainNode.{PlainNode}
 use Rattle.hfs_volume.proofs.Flat.{flat_agree, flat_changed, some_same, none_or_some}
 use Rattle.hfs_volume.proofs.Members.{at_front, behind}
-use Rattle.hfs_volume.proofs.Ranks.{true_or_false}
 use Rattle.hfs_volume.proofs.Seeing.{same_number}
 
 -- ---- a list, and the same with another item in the place of one
@@ -210,12 +210,12 @@ module _ (entry : Placed) (value : CatRecord) (front back : List Placed) (named 
         (λ i. if (seen_pair i && not (alike.link i)) || linked_pair i then plain_node attributes g.fields false (bytes_of g) (linked_pair i) ∷ [] else [])
         ∙ one_changed (is_plain_file old entry) (plain_node attributes f.fields false (bytes_of f) (is_linked old entry)) (plain_node attributes g.fields false (bytes_of g) (is_linked old entry)) id (makes_it (is_linked old entry))
     node_changed (Thread f) (Thread g) folder file id makes_it = refl
-    node_changed (Folder f) (File g) folder file id makes_it = absurd (true_or_false (sym folder))
-    node_changed (Folder f) (Thread g) folder file id makes_it = absurd (true_or_false (sym folder))
-    node_changed (File f) (Folder g) folder file id makes_it = absurd (true_or_false folder)
-    node_changed (File f) (Thread g) folder file id makes_it = absurd (true_or_false (sym file))
-    node_changed (Thread f) (Folder g) folder file id makes_it = absurd (true_or_false folder)
-    node_changed (Thread f) (File g) folder file id makes_it = absurd (true_or_false file)
+    node_changed (Folder f) (File g) folder file id makes_it = absurd (true≢false (sym folder))
+    node_changed (Folder f) (Thread g) folder file id makes_it = absurd (true≢false (sym folder))
+    node_changed (File f) (Folder g) folder file id makes_it = absurd (true≢false folder)
+    node_changed (File f) (Thread g) folder file id makes_it = absurd (true≢false (sym file))
+    node_changed (Thread f) (Folder g) folder file id makes_it = absurd (true≢false folder)
+    node_changed (Thread f) (File g) folder file id makes_it = absurd (true≢false file)
 
     node_kept : (placed : Placed) (v : CatRecord) → (id_in v == id_of entry) ≡ false → node_in attributes new bytes_of placed v ≡ map changed (node_in attributes old bytes_of placed v)
     node_kept placed (Folder f) differs =

@@ -1,5 +1,6 @@
 -- What trees tell of headers, of the private folder and of a file's names.
 use Rattle.std.proofs.Common.{◌≡◌, ℕ, ◌%◌, Bool, true, false, List, [], ◌∷◌, refl, sym, ◌∙◌, ap, subst}
+use Rattle.std.proofs.lemmas.Bool.{true≢false}
 use Rattle.std.specs.Prelude.{Contains, ◌&&◌, ◌||◌, not, is_some, Option, None, Some, if◌then◌else◌}
 use Rattle.cat_records.specs.declared.record.EntryFields.{EntryFields}
 use Rattle.cat_records.specs.declared.record.FileRecord.{FileRecord}
@@ -14,7 +15,6 @@ use Rattle.hfs_volume.specs.Laws.{IsShaped}
 use Rattle.hfs_volume.specs.Commands.{ChangesFields, with_counts, with_fields}
 use Rattle.hfs_volume.proofs.Fields.{Views, BytesBy}
 use Rattle.hfs_volume.proofs.Flat.{found_none, found_some}
-use Rattle.hfs_volume.proofs.Ranks.{true_or_false}
 use Rattle.hfs_volume.proofs.Hiding.{same_entry}
 use Rattle.hfs_volume.proofs.NodesOf.{changed_none}
 use Rattle.hfs_volume.proofs.MovingOver.{seen_is_outside}
@@ -73,9 +73,9 @@ file_node attributes bytes_of records file no_folder no_thread seen no_link unli
   where
     of_value : (value : CatRecord) → file.value ≡ value → is_folder value ≡ false → is_thread value ≡ false
         → (f : FileRecord) × (file.value ≡ File f) × (node_in attributes records bytes_of file value ≡ plain_node attributes f.fields false (bytes_of f) false ∷ [])
-    of_value (Folder f) is folder thread = absurd (true_or_false folder)
+    of_value (Folder f) is folder thread = absurd (true≢false folder)
     of_value (File f) is folder thread = (f, is, λ i. if (seen i && not (no_link i)) || unlinked i then plain_node attributes f.fields false (bytes_of f) (unlinked i) ∷ [] else [])
-    of_value (Thread f) is folder thread = absurd (true_or_false thread)
+    of_value (Thread f) is folder thread = absurd (true≢false thread)
 
 -- no two names of a tree that users see are those of a file that isn't a link
 pub other_names : (volume : VolumeState) → IsShaped volume → (entry : Placed) → Contains (entries_of (records_of volume)) entry → is_hidden (records_of volume) entry.parent ≡ false
@@ -91,8 +91,8 @@ other_names volume shaped entry stands visible p there same = by_link (is_link p
         by_found : (o : Option Placed) → shared_file (records_of volume) (special_of p) ≡ o → id_or_0 o ≡ id_of entry → p ≡ entry
         by_found None none is =
             let good = (shaped.links.links p there link).node in
-            absurd (true_or_false (sym good.2 ∙ found_none (is_shared_file (records_of volume) (special_of p)) (entries_of (records_of volume)) none good.0 good.1))
+            absurd (true≢false (sym good.2 ∙ found_none (is_shared_file (records_of volume) (special_of p)) (entries_of (records_of volume)) none good.0 good.1))
         by_found (Some f) some is =
             let it = found_some (is_shared_file (records_of volume) (special_of p)) (entries_of (records_of volume)) f some in
             let one : f ≡ entry = same_entry volume.head.next_catalog_id (entries_of (records_of volume)) shaped.ids f entry it.0 stands is in
-            absurd (true_or_false (sym it.1 ∙ ap (is_shared_file (records_of volume) (special_of p)) one ∙ seen_is_outside volume shaped entry visible (special_of p)))
+            absurd (true≢false (sym it.1 ∙ ap (is_shared_file (records_of volume) (special_of p)) one ∙ seen_is_outside volume shaped entry visible (special_of p)))

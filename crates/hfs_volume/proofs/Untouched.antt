@@ -1,12 +1,11 @@
 -- What lies aside is free: a sound content with other bytes in free blocks and in the journal reads as the same volume.
 use Rattle.std.proofs.Common.{◌≡◌, ◌≢◌, ◌⊎◌, ◌<◌, ◌≤◌, ℕ, zero, suc, ◌+◌, ◌-◌, ◌*◌, ◌/◌, ◌%◌, ◌==◌, Bool, true, false, List, [], ◌∷◌, ◌++◌, length, map, take, drop, refl, sym, ◌∙◌, ap, subst, arith, inl, inr, ⊎_elim}
-use Rattle.hfs_volume.proofs.Ranks.{true_or_false}
 use Rattle.std.specs.Prelude.{Contains, All, IsTrue, Option, Some, None, slice_get, ◌&&◌, not, nat_lt, nat_le, if◌then◌else◌}
 use Rattle.std.specs.Int.{is_power_of_two}
 use Rattle.std.specs.List.{flat_map, range_with_len}
 use Rattle.std.specs.Str.{bytes_eq}
 use Rattle.std.proofs.lemmas.Slice.Eq.{bytes_eq-Decides}
-use Rattle.std.proofs.lemmas.Bool.{leb-true, eqb-true}
+use Rattle.std.proofs.lemmas.Bool.{leb-true, eqb-true, and_parts, true≢false}
 use Rattle.std.proofs.lemmas.List.Elements.{Contains-append_left, Contains-append_right, Contains-append_cases}
 use Rattle.sector_disk.specs.Space.{AgreesOutside}
 use Rattle.jnl_format.specs.Recovery.{Content, sector, header_of_volume, info_sector_of}
@@ -40,10 +39,6 @@ passed : (b : Bool) (why : HeaderRefusal) (rest : Option HeaderRefusal) → (if 
 passed true why rest is = (refl, is)
 passed false why rest is = absurd (cc)
 
-both : (a b : Bool) → (a && b) ≡ true → (a ≡ true) × (b ≡ true)
-both true b is = (refl, is)
-both false b is = absurd (cc)
-
 -- the blocks of an accepted header are whole sectors
 pub record HasWholeBlocks (sectors : ℕ) (head : VolumeHeader) : Type 0 where
   pub whole : head.block_size ≡ 512 * per_block_of head
@@ -54,8 +49,8 @@ whole_blocks sectors head accepted =
     let p1 = passed (is_volume_size sectors) (LimitSectors sectors) _ accepted in
     let p2 = passed (is_hfsx head) (NotHfsx head.signature head.version) _ p1.1 in
     let p3 = passed (is_block_size head.block_size) (BadGeometry 40) _ p2.1 in
-    let most = both (is_power_of_two head.block_size && nat_le 512 head.block_size) (nat_le head.block_size 65536) p3.0 in
-    let least = both (is_power_of_two head.block_size) (nat_le 512 head.block_size) most.0 in
+    let most = and_parts (is_power_of_two head.block_size && nat_le 512 head.block_size) (nat_le head.block_size 65536) p3.0 in
+    let least = and_parts (is_power_of_two head.block_size) (nat_le 512 head.block_size) most.0 in
     let large : 512 ≤ head.block_size = leb-true 512 head.block_size least.1 in
     let whole = whole_sectors head.block_size least.0 large in
     record { whole = whole; some = omega (arith, whole, large) }
@@ -120,7 +115,7 @@ pub record IsOwnFile (volume : VolumeState) (name : List ℕ) (extent : Extent) 
 own_file : (volume : VolumeState) (name : List ℕ) (extent : Extent) → is_empty name ≡ false → IsOneExtent (records_of volume) (overflow_in_volume volume) name extent → IsOwnFile volume name extent
 own_file volume name extent named one =
     let found = found_some (is_placed_at 2 name) (records_of volume) one.0 one.2 in
-    let parts = both (one.0.parent == 2) (bytes_eq one.0.name name) found.1 in
+    let parts = and_parts (one.0.parent == 2) (bytes_eq one.0.name name) found.1 in
     let same : one.0.name ≡ name = (bytes_eq-Decides one.0.name name).0 parts.1 in
     record {
       entry = one.0;
@@ -208,7 +203,7 @@ module _ (content other : Content) (sound : IsSound content) (agrees : AgreesOut
       not_aside (inl free) =
           let used : is_among (used_in volume) (at / per) ≡ true = among (used_in volume) (at / per) (own free.0).0 in
           let bit = sound.volume.blocks.bits.bits (at / per) free.0 in
-          true_or_false (sym used ∙ sym bit ∙ free.1)
+          true≢false (sym used ∙ sym bit ∙ free.1)
       not_aside (inr journal) =
           let block = journal_block at journal in
           (own (journal_inside (at / per) block)).1 block

@@ -1,5 +1,6 @@
 -- The records of changes of `mv`, `rm`, `ln`, `setattr` and `delattr`, and of the removal of an orphan's entry, each met by small catalogs before and after it.
 use Rattle.std.proofs.Common.{true, false, [], ◌∷◌, refl, sym, inr, arith}
+use Rattle.std.proofs.lemmas.Bool.{true≢false}
 use Rattle.std.specs.Prelude.{None, pos}
 use Rattle.std.specs.Fmt.{digits}
 use Rattle.hx_bytes.specs.Field.{number_at, number_bytes}
@@ -13,7 +14,6 @@ use Rattle.hfs_volume.specs.Naming.{MovesName, RemovesFile, RemovesLink, Removes
 use Rattle.hfs_volume.specs.Attributing.{SetsAttribute, DeletesAttribute}
 use Rattle.hfs_volume.specs.Forks.{extents_of}
 use Rattle.hfs_volume.specs.Reclaiming.{DropsOrphanEntry}
-use Rattle.hfs_volume.proofs.Ranks.{true_or_false}
 use Rattle.hfs_volume.proofs.WorkedTrees.{state}
 
 abbrev pair_0 : Pair
@@ -308,7 +308,7 @@ an_only_name_is_removed = record { sorted = ((refl, (refl, (refl, (refl, (refl, 
 -- one of two names of a file is removed
 a_link_is_removed : RemovesLink (record { parent = 2; name = (97 ∷ []); folder = false; id = 19 }) volume_12 volume_16
 unfolding digits number_at number_bytes extents_at entry_of placed_of attribute_of
-a_link_is_removed = record { sorted = ((refl, (refl, (refl, (refl, (refl, (refl, (refl, (refl, (refl, (refl, (refl, (refl, (refl, tt))))))))))))), ((refl, (refl, (refl, (refl, (refl, (refl, (refl, (refl, (refl, (refl, (refl, (refl, tt)))))))))))), ((refl, (refl, (refl, (refl, (refl, (refl, (refl, (refl, (refl, (refl, (refl, tt))))))))))), ((refl, (refl, (refl, (refl, (refl, (refl, (refl, (refl, (refl, (refl, tt)))))))))), ((refl, (refl, (refl, (refl, (refl, (refl, (refl, (refl, (refl, tt))))))))), ((refl, (refl, (refl, (refl, (refl, (refl, (refl, (refl, tt)))))))), ((refl, (refl, (refl, (refl, (refl, (refl, (refl, tt))))))), ((refl, (refl, (refl, (refl, (refl, (refl, tt)))))), ((refl, (refl, (refl, (refl, (refl, tt))))), ((refl, (refl, (refl, (refl, tt)))), ((refl, (refl, (refl, tt))), ((refl, (refl, tt)), ((refl, tt), (tt, tt)))))))))))))); entry = placed_of pair_23; is_entry = record { stands = (4, omega arith, refl); place = (refl, refl) }; is_one = refl; dropped = volume_14; drops = record { changes = record { between = (pair_21 ∷ pair_1 ∷ pair_22 ∷ pair_2 ∷ pair_3 ∷ pair_23 ∷ pair_24 ∷ pair_5 ∷ pair_6 ∷ pair_25 ∷ pair_26 ∷ pair_27 ∷ pair_29 ∷ []); pair = pair_23; is_entry = record { stands = refl; spelled = refl }; entry_added = record { place = 5; within = omega arith; is = refl }; thread = pair_28; spare = pos 0; is_thread = record { stands = refl; spelled = refl }; thread_added = record { place = 12; within = omega arith; is = refl } }; nodes = record { total = refl; size = refl }; rest = refl }; links = 1; marked = volume_15; marks = record { entry = placed_of pair_26; before = entry_of (pair_26).1; after = entry_of (pair_30).1; has = refl; is_entry = refl; fields = record { marked = record { id = refl; count = refl; mode = refl; created = refl; changed = refl; attribute = refl }; special = refl }; changes = record { changes = record { pair = pair_26; is_entry = refl; other = pair_30; is_other = record { stands = refl; spelled = refl }; swapped = record { place = 9; at = refl; is = refl }; forks = refl; alike = record { place = (refl, refl); kind = (refl, refl); id = refl; link = refl; reference = λ link. absurd (true_or_false (sym link)) } }; nodes = record { total = refl; size = refl }; rest = refl } }; others = (refl, omega arith); loses = record { entry = placed_of pair_21; before = entry_of (pair_21).1; after = entry_of (pair_31).1; has = refl; is_entry = refl; fields = record { id = refl; count = refl; mode = refl; created = refl; changed = refl; attribute = refl }; changes = record { changes = record { pair = pair_21; is_entry = refl; other = pair_31; is_other = record { stands = refl; spelled = refl }; swapped = record { place = 0; at = refl; is = refl }; forks = refl; alike = record { place = (refl, refl); kind = (refl, refl); id = refl; link = refl; reference = λ link. refl } }; nodes = record { total = refl; size = refl }; rest = refl } } }
+a_link_is_removed = record { sorted = ((refl, (refl, (refl, (refl, (refl, (refl, (refl, (refl, (refl, (refl, (refl, (refl, (refl, tt))))))))))))), ((refl, (refl, (refl, (refl, (refl, (refl, (refl, (refl, (refl, (refl, (refl, (refl, tt)))))))))))), ((refl, (refl, (refl, (refl, (refl, (refl, (refl, (refl, (refl, (refl, (refl, tt))))))))))), ((refl, (refl, (refl, (refl, (refl, (refl, (refl, (refl, (refl, (refl, tt)))))))))), ((refl, (refl, (refl, (refl, (refl, (refl, (refl, (refl, (refl, tt))))))))), ((refl, (refl, (refl, (refl, (refl, (refl, (refl, (refl, tt)))))))), ((refl, (refl, (refl, (refl, (refl, (refl, (refl, tt))))))), ((refl, (refl, (refl, (refl, (refl, (refl, tt)))))), ((refl, (refl, (refl, (refl, (refl, tt))))), ((refl, (refl, (refl, (refl, tt)))), ((refl, (refl, (refl, tt))), ((refl, (refl, tt)), ((refl, tt), (tt, tt)))))))))))))); entry = placed_of pair_23; is_entry = record { stands = (4, omega arith, refl); place = (refl, refl) }; is_one = refl; dropped = volume_14; drops = record { changes = record { between = (pair_21 ∷ pair_1 ∷ pair_22 ∷ pair_2 ∷ pair_3 ∷ pair_23 ∷ pair_24 ∷ pair_5 ∷ pair_6 ∷ pair_25 ∷ pair_26 ∷ pair_27 ∷ pair_29 ∷ []); pair = pair_23; is_entry = record { stands = refl; spelled = refl }; entry_added = record { place = 5; within = omega arith; is = refl }; thread = pair_28; spare = pos 0; is_thread = record { stands = refl; spelled = refl }; thread_added = record { place = 12; within = omega arith; is = refl } }; nodes = record { total = refl; size = refl }; rest = refl }; links = 1; marked = volume_15; marks = record { entry = placed_of pair_26; before = entry_of (pair_26).1; after = entry_of (pair_30).1; has = refl; is_entry = refl; fields = record { marked = record { id = refl; count = refl; mode = refl; created = refl; changed = refl; attribute = refl }; special = refl }; changes = record { changes = record { pair = pair_26; is_entry = refl; other = pair_30; is_other = record { stands = refl; spelled = refl }; swapped = record { place = 9; at = refl; is = refl }; forks = refl; alike = record { place = (refl, refl); kind = (refl, refl); id = refl; link = refl; reference = λ link. absurd (true≢false (sym link)) } }; nodes = record { total = refl; size = refl }; rest = refl } }; others = (refl, omega arith); loses = record { entry = placed_of pair_21; before = entry_of (pair_21).1; after = entry_of (pair_31).1; has = refl; is_entry = refl; fields = record { id = refl; count = refl; mode = refl; created = refl; changed = refl; attribute = refl }; changes = record { changes = record { pair = pair_21; is_entry = refl; other = pair_31; is_other = record { stands = refl; spelled = refl }; swapped = record { place = 0; at = refl; is = refl }; forks = refl; alike = record { place = (refl, refl); kind = (refl, refl); id = refl; link = refl; reference = λ link. refl } }; nodes = record { total = refl; size = refl }; rest = refl } } }
 
 -- the last link to a file is removed
 a_last_link_is_removed : RemovesLastLink (record { parent = 2; name = (97 ∷ []); folder = false; id = 19 }) volume_17 volume_21
@@ -318,12 +318,12 @@ a_last_link_is_removed = record { sorted = ((refl, (refl, (refl, (refl, (refl, (
 -- a file gets its second name, where there was no private folder
 a_first_link_is_made : LinksFirst (record { parent = 2; name = (120 ∷ []); folder = false; id = 18 }) (record { folder = 2; name = (121 ∷ []); found = None }) volume_22 volume_31
 unfolding digits number_at number_bytes extents_at entry_of placed_of attribute_of
-a_first_link_is_made = record { sorted = ((refl, (refl, (refl, (refl, (refl, (refl, (refl, tt))))))), ((refl, (refl, (refl, (refl, (refl, (refl, tt)))))), ((refl, (refl, (refl, (refl, (refl, tt))))), ((refl, (refl, (refl, (refl, tt)))), ((refl, (refl, (refl, tt))), ((refl, (refl, tt)), ((refl, tt), (tt, tt)))))))); entry = placed_of pair_13; is_entry = record { stands = (3, omega arith, refl); place = (refl, refl) }; not_link = refl; private = 19; opened = volume_25; opens = inr (refl, record { absent = refl; value = catalog_of (pair_15).1; is_new = record { id = refl; count = refl; mode = refl; created = refl; changed = refl; attribute = refl }; added = volume_24; adds = record { changes = record { between = (pair_0 ∷ pair_1 ∷ pair_15 ∷ pair_2 ∷ pair_3 ∷ pair_13 ∷ pair_5 ∷ pair_6 ∷ pair_14 ∷ []); pair = pair_15; is_entry = record { stands = refl; spelled = refl }; entry_added = record { place = 2; within = omega arith; is = refl }; thread = pair_16; spare = pos 0; is_thread = record { stands = refl; spelled = refl }; thread_added = record { place = 9; within = omega arith; is = refl } }; nodes = record { total = refl; size = refl }; rest = refl }; sorted = ((refl, (refl, (refl, (refl, (refl, (refl, (refl, (refl, (refl, tt))))))))), ((refl, (refl, (refl, (refl, (refl, (refl, (refl, (refl, tt)))))))), ((refl, (refl, (refl, (refl, (refl, (refl, (refl, tt))))))), ((refl, (refl, (refl, (refl, (refl, (refl, tt)))))), ((refl, (refl, (refl, (refl, (refl, tt))))), ((refl, (refl, (refl, (refl, tt)))), ((refl, (refl, (refl, tt))), ((refl, (refl, tt)), ((refl, tt), (tt, tt)))))))))); counts = record { entry = placed_of pair_0; before = entry_of (pair_0).1; after = entry_of (pair_17).1; has = refl; is_entry = refl; fields = record { recounted = record { id = refl; count = refl }; mode = refl; created = refl; changed = refl; attribute = refl }; changes = record { changes = record { pair = pair_0; is_entry = refl; other = pair_17; is_other = record { stands = refl; spelled = refl }; swapped = record { place = 0; at = refl; is = refl }; forks = refl; alike = record { place = (refl, refl); kind = (refl, refl); id = refl; link = refl; reference = λ link. refl } }; nodes = record { total = refl; size = refl }; rest = refl } } }); reference = 18; low = refl; moved = volume_26; moves = record { changes = record { between = (pair_17 ∷ pair_1 ∷ pair_15 ∷ pair_2 ∷ pair_3 ∷ pair_5 ∷ pair_6 ∷ pair_16 ∷ []); out = record { between = (pair_17 ∷ pair_1 ∷ pair_15 ∷ pair_2 ∷ pair_3 ∷ pair_13 ∷ pair_5 ∷ pair_6 ∷ pair_16 ∷ []); pair = pair_13; is_entry = record { stands = refl; spelled = refl }; entry_added = record { place = 5; within = omega arith; is = refl }; thread = pair_14; spare = pos 0; is_thread = record { stands = refl; spelled = refl }; thread_added = record { place = 8; within = omega arith; is = refl } }; back = record { between = (pair_17 ∷ pair_1 ∷ pair_15 ∷ pair_2 ∷ pair_3 ∷ pair_5 ∷ pair_6 ∷ pair_16 ∷ pair_35 ∷ []); pair = pair_35; is_entry = record { stands = refl; spelled = refl }; entry_added = record { place = 8; within = omega arith; is = refl }; thread = pair_36; spare = pos 0; is_thread = record { stands = refl; spelled = refl }; thread_added = record { place = 7; within = omega arith; is = refl } } }; nodes = record { total = refl; size = refl }; rest = refl }; sorted_again = ((refl, (refl, (refl, (refl, (refl, (refl, (refl, (refl, (refl, tt))))))))), ((refl, (refl, (refl, (refl, (refl, (refl, (refl, (refl, tt)))))))), ((refl, (refl, (refl, (refl, (refl, (refl, (refl, tt))))))), ((refl, (refl, (refl, (refl, (refl, (refl, tt)))))), ((refl, (refl, (refl, (refl, (refl, tt))))), ((refl, (refl, (refl, (refl, tt)))), ((refl, (refl, (refl, tt))), ((refl, (refl, tt)), ((refl, tt), (tt, tt)))))))))); old_link = catalog_of (pair_37).1; is_old_link = (refl, refl, refl, record { size = refl; blocks = refl; extents = refl }, record { size = refl; blocks = refl; extents = refl }); replaced = volume_27; replaces = record { changes = record { between = (pair_17 ∷ pair_1 ∷ pair_15 ∷ pair_2 ∷ pair_3 ∷ pair_37 ∷ pair_5 ∷ pair_6 ∷ pair_36 ∷ pair_16 ∷ pair_35 ∷ []); pair = pair_37; is_entry = record { stands = refl; spelled = refl }; entry_added = record { place = 5; within = omega arith; is = refl }; thread = pair_38; spare = pos 0; is_thread = record { stands = refl; spelled = refl }; thread_added = record { place = 11; within = omega arith; is = refl } }; nodes = record { total = refl; size = refl }; rest = refl }; sorted_replaced = ((refl, (refl, (refl, (refl, (refl, (refl, (refl, (refl, (refl, (refl, (refl, tt))))))))))), ((refl, (refl, (refl, (refl, (refl, (refl, (refl, (refl, (refl, (refl, tt)))))))))), ((refl, (refl, (refl, (refl, (refl, (refl, (refl, (refl, (refl, tt))))))))), ((refl, (refl, (refl, (refl, (refl, (refl, (refl, (refl, tt)))))))), ((refl, (refl, (refl, (refl, (refl, (refl, (refl, tt))))))), ((refl, (refl, (refl, (refl, (refl, (refl, tt)))))), ((refl, (refl, (refl, (refl, (refl, tt))))), ((refl, (refl, (refl, (refl, tt)))), ((refl, (refl, (refl, tt))), ((refl, (refl, tt)), ((refl, tt), (tt, tt)))))))))))); new_link = catalog_of (pair_39).1; is_new_link = (refl, refl, refl, record { size = refl; blocks = refl; extents = refl }, record { size = refl; blocks = refl; extents = refl }); linked = volume_28; links = record { changes = record { between = (pair_17 ∷ pair_1 ∷ pair_15 ∷ pair_2 ∷ pair_3 ∷ pair_37 ∷ pair_39 ∷ pair_5 ∷ pair_6 ∷ pair_36 ∷ pair_16 ∷ pair_35 ∷ pair_38 ∷ []); pair = pair_39; is_entry = record { stands = refl; spelled = refl }; entry_added = record { place = 6; within = omega arith; is = refl }; thread = pair_40; spare = pos 0; is_thread = record { stands = refl; spelled = refl }; thread_added = record { place = 13; within = omega arith; is = refl } }; nodes = record { total = refl; size = refl }; rest = refl }; sorted_linked = ((refl, (refl, (refl, (refl, (refl, (refl, (refl, (refl, (refl, (refl, (refl, (refl, (refl, tt))))))))))))), ((refl, (refl, (refl, (refl, (refl, (refl, (refl, (refl, (refl, (refl, (refl, (refl, tt)))))))))))), ((refl, (refl, (refl, (refl, (refl, (refl, (refl, (refl, (refl, (refl, (refl, tt))))))))))), ((refl, (refl, (refl, (refl, (refl, (refl, (refl, (refl, (refl, (refl, tt)))))))))), ((refl, (refl, (refl, (refl, (refl, (refl, (refl, (refl, (refl, tt))))))))), ((refl, (refl, (refl, (refl, (refl, (refl, (refl, (refl, tt)))))))), ((refl, (refl, (refl, (refl, (refl, (refl, (refl, tt))))))), ((refl, (refl, (refl, (refl, (refl, (refl, tt)))))), ((refl, (refl, (refl, (refl, (refl, tt))))), ((refl, (refl, (refl, (refl, tt)))), ((refl, (refl, (refl, tt))), ((refl, (refl, tt)), ((refl, tt), (tt, tt)))))))))))))); filled = volume_29; fills = record { entry = placed_of pair_15; before = entry_of (pair_15).1; after = entry_of (pair_20).1; has = refl; is_entry = refl; fields = record { id = refl; count = refl }; changes = record { changes = record { pair = pair_15; is_entry = refl; other = pair_20; is_other = record { stands = refl; spelled = refl }; swapped = record { place = 2; at = refl; is = refl }; forks = refl; alike = record { place = (refl, refl); kind = (refl, refl); id = refl; link = refl; reference = λ link. refl } }; nodes = record { total = refl; size = refl }; rest = refl } }; marked = volume_30; marks = record { entry = placed_of pair_35; before = entry_of (pair_35).1; after = entry_of (pair_41).1; has = refl; is_entry = refl; fields = record { marked = record { id = refl; count = refl; mode = refl; created = refl; changed = refl; attribute = refl }; special = refl }; changes = record { changes = record { pair = pair_35; is_entry = refl; other = pair_41; is_other = record { stands = refl; spelled = refl }; swapped = record { place = 11; at = refl; is = refl }; forks = refl; alike = record { place = (refl, refl); kind = (refl, refl); id = refl; link = refl; reference = λ link. absurd (true_or_false (sym link)) } }; nodes = record { total = refl; size = refl }; rest = refl } }; gains = record { entry = placed_of pair_17; before = entry_of (pair_17).1; after = entry_of (pair_42).1; has = refl; is_entry = refl; fields = record { id = refl; count = refl; mode = refl; created = refl; changed = refl; attribute = refl }; changes = record { changes = record { pair = pair_17; is_entry = refl; other = pair_42; is_other = record { stands = refl; spelled = refl }; swapped = record { place = 0; at = refl; is = refl }; forks = refl; alike = record { place = (refl, refl); kind = (refl, refl); id = refl; link = refl; reference = λ link. refl } }; nodes = record { total = refl; size = refl }; rest = refl } } }
+a_first_link_is_made = record { sorted = ((refl, (refl, (refl, (refl, (refl, (refl, (refl, tt))))))), ((refl, (refl, (refl, (refl, (refl, (refl, tt)))))), ((refl, (refl, (refl, (refl, (refl, tt))))), ((refl, (refl, (refl, (refl, tt)))), ((refl, (refl, (refl, tt))), ((refl, (refl, tt)), ((refl, tt), (tt, tt)))))))); entry = placed_of pair_13; is_entry = record { stands = (3, omega arith, refl); place = (refl, refl) }; not_link = refl; private = 19; opened = volume_25; opens = inr (refl, record { absent = refl; value = catalog_of (pair_15).1; is_new = record { id = refl; count = refl; mode = refl; created = refl; changed = refl; attribute = refl }; added = volume_24; adds = record { changes = record { between = (pair_0 ∷ pair_1 ∷ pair_15 ∷ pair_2 ∷ pair_3 ∷ pair_13 ∷ pair_5 ∷ pair_6 ∷ pair_14 ∷ []); pair = pair_15; is_entry = record { stands = refl; spelled = refl }; entry_added = record { place = 2; within = omega arith; is = refl }; thread = pair_16; spare = pos 0; is_thread = record { stands = refl; spelled = refl }; thread_added = record { place = 9; within = omega arith; is = refl } }; nodes = record { total = refl; size = refl }; rest = refl }; sorted = ((refl, (refl, (refl, (refl, (refl, (refl, (refl, (refl, (refl, tt))))))))), ((refl, (refl, (refl, (refl, (refl, (refl, (refl, (refl, tt)))))))), ((refl, (refl, (refl, (refl, (refl, (refl, (refl, tt))))))), ((refl, (refl, (refl, (refl, (refl, (refl, tt)))))), ((refl, (refl, (refl, (refl, (refl, tt))))), ((refl, (refl, (refl, (refl, tt)))), ((refl, (refl, (refl, tt))), ((refl, (refl, tt)), ((refl, tt), (tt, tt)))))))))); counts = record { entry = placed_of pair_0; before = entry_of (pair_0).1; after = entry_of (pair_17).1; has = refl; is_entry = refl; fields = record { recounted = record { id = refl; count = refl }; mode = refl; created = refl; changed = refl; attribute = refl }; changes = record { changes = record { pair = pair_0; is_entry = refl; other = pair_17; is_other = record { stands = refl; spelled = refl }; swapped = record { place = 0; at = refl; is = refl }; forks = refl; alike = record { place = (refl, refl); kind = (refl, refl); id = refl; link = refl; reference = λ link. refl } }; nodes = record { total = refl; size = refl }; rest = refl } } }); reference = 18; low = refl; moved = volume_26; moves = record { changes = record { between = (pair_17 ∷ pair_1 ∷ pair_15 ∷ pair_2 ∷ pair_3 ∷ pair_5 ∷ pair_6 ∷ pair_16 ∷ []); out = record { between = (pair_17 ∷ pair_1 ∷ pair_15 ∷ pair_2 ∷ pair_3 ∷ pair_13 ∷ pair_5 ∷ pair_6 ∷ pair_16 ∷ []); pair = pair_13; is_entry = record { stands = refl; spelled = refl }; entry_added = record { place = 5; within = omega arith; is = refl }; thread = pair_14; spare = pos 0; is_thread = record { stands = refl; spelled = refl }; thread_added = record { place = 8; within = omega arith; is = refl } }; back = record { between = (pair_17 ∷ pair_1 ∷ pair_15 ∷ pair_2 ∷ pair_3 ∷ pair_5 ∷ pair_6 ∷ pair_16 ∷ pair_35 ∷ []); pair = pair_35; is_entry = record { stands = refl; spelled = refl }; entry_added = record { place = 8; within = omega arith; is = refl }; thread = pair_36; spare = pos 0; is_thread = record { stands = refl; spelled = refl }; thread_added = record { place = 7; within = omega arith; is = refl } } }; nodes = record { total = refl; size = refl }; rest = refl }; sorted_again = ((refl, (refl, (refl, (refl, (refl, (refl, (refl, (refl, (refl, tt))))))))), ((refl, (refl, (refl, (refl, (refl, (refl, (refl, (refl, tt)))))))), ((refl, (refl, (refl, (refl, (refl, (refl, (refl, tt))))))), ((refl, (refl, (refl, (refl, (refl, (refl, tt)))))), ((refl, (refl, (refl, (refl, (refl, tt))))), ((refl, (refl, (refl, (refl, tt)))), ((refl, (refl, (refl, tt))), ((refl, (refl, tt)), ((refl, tt), (tt, tt)))))))))); old_link = catalog_of (pair_37).1; is_old_link = (refl, refl, refl, record { size = refl; blocks = refl; extents = refl }, record { size = refl; blocks = refl; extents = refl }); replaced = volume_27; replaces = record { changes = record { between = (pair_17 ∷ pair_1 ∷ pair_15 ∷ pair_2 ∷ pair_3 ∷ pair_37 ∷ pair_5 ∷ pair_6 ∷ pair_36 ∷ pair_16 ∷ pair_35 ∷ []); pair = pair_37; is_entry = record { stands = refl; spelled = refl }; entry_added = record { place = 5; within = omega arith; is = refl }; thread = pair_38; spare = pos 0; is_thread = record { stands = refl; spelled = refl }; thread_added = record { place = 11; within = omega arith; is = refl } }; nodes = record { total = refl; size = refl }; rest = refl }; sorted_replaced = ((refl, (refl, (refl, (refl, (refl, (refl, (refl, (refl, (refl, (refl, (refl, tt))))))))))), ((refl, (refl, (refl, (refl, (refl, (refl, (refl, (refl, (refl, (refl, tt)))))))))), ((refl, (refl, (refl, (refl, (refl, (refl, (refl, (refl, (refl, tt))))))))), ((refl, (refl, (refl, (refl, (refl, (refl, (refl, (refl, tt)))))))), ((refl, (refl, (refl, (refl, (refl, (refl, (refl, tt))))))), ((refl, (refl, (refl, (refl, (refl, (refl, tt)))))), ((refl, (refl, (refl, (refl, (refl, tt))))), ((refl, (refl, (refl, (refl, tt)))), ((refl, (refl, (refl, tt))), ((refl, (refl, tt)), ((refl, tt), (tt, tt)))))))))))); new_link = catalog_of (pair_39).1; is_new_link = (refl, refl, refl, record { size = refl; blocks = refl; extents = refl }, record { size = refl; blocks = refl; extents = refl }); linked = volume_28; links = record { changes = record { between = (pair_17 ∷ pair_1 ∷ pair_15 ∷ pair_2 ∷ pair_3 ∷ pair_37 ∷ pair_39 ∷ pair_5 ∷ pair_6 ∷ pair_36 ∷ pair_16 ∷ pair_35 ∷ pair_38 ∷ []); pair = pair_39; is_entry = record { stands = refl; spelled = refl }; entry_added = record { place = 6; within = omega arith; is = refl }; thread = pair_40; spare = pos 0; is_thread = record { stands = refl; spelled = refl }; thread_added = record { place = 13; within = omega arith; is = refl } }; nodes = record { total = refl; size = refl }; rest = refl }; sorted_linked = ((refl, (refl, (refl, (refl, (refl, (refl, (refl, (refl, (refl, (refl, (refl, (refl, (refl, tt))))))))))))), ((refl, (refl, (refl, (refl, (refl, (refl, (refl, (refl, (refl, (refl, (refl, (refl, tt)))))))))))), ((refl, (refl, (refl, (refl, (refl, (refl, (refl, (refl, (refl, (refl, (refl, tt))))))))))), ((refl, (refl, (refl, (refl, (refl, (refl, (refl, (refl, (refl, (refl, tt)))))))))), ((refl, (refl, (refl, (refl, (refl, (refl, (refl, (refl, (refl, tt))))))))), ((refl, (refl, (refl, (refl, (refl, (refl, (refl, (refl, tt)))))))), ((refl, (refl, (refl, (refl, (refl, (refl, (refl, tt))))))), ((refl, (refl, (refl, (refl, (refl, (refl, tt)))))), ((refl, (refl, (refl, (refl, (refl, tt))))), ((refl, (refl, (refl, (refl, tt)))), ((refl, (refl, (refl, tt))), ((refl, (refl, tt)), ((refl, tt), (tt, tt)))))))))))))); filled = volume_29; fills = record { entry = placed_of pair_15; before = entry_of (pair_15).1; after = entry_of (pair_20).1; has = refl; is_entry = refl; fields = record { id = refl; count = refl }; changes = record { changes = record { pair = pair_15; is_entry = refl; other = pair_20; is_other = record { stands = refl; spelled = refl }; swapped = record { place = 2; at = refl; is = refl }; forks = refl; alike = record { place = (refl, refl); kind = (refl, refl); id = refl; link = refl; reference = λ link. refl } }; nodes = record { total = refl; size = refl }; rest = refl } }; marked = volume_30; marks = record { entry = placed_of pair_35; before = entry_of (pair_35).1; after = entry_of (pair_41).1; has = refl; is_entry = refl; fields = record { marked = record { id = refl; count = refl; mode = refl; created = refl; changed = refl; attribute = refl }; special = refl }; changes = record { changes = record { pair = pair_35; is_entry = refl; other = pair_41; is_other = record { stands = refl; spelled = refl }; swapped = record { place = 11; at = refl; is = refl }; forks = refl; alike = record { place = (refl, refl); kind = (refl, refl); id = refl; link = refl; reference = λ link. absurd (true≢false (sym link)) } }; nodes = record { total = refl; size = refl }; rest = refl } }; gains = record { entry = placed_of pair_17; before = entry_of (pair_17).1; after = entry_of (pair_42).1; has = refl; is_entry = refl; fields = record { id = refl; count = refl; mode = refl; created = refl; changed = refl; attribute = refl }; changes = record { changes = record { pair = pair_17; is_entry = refl; other = pair_42; is_other = record { stands = refl; spelled = refl }; swapped = record { place = 0; at = refl; is = refl }; forks = refl; alike = record { place = (refl, refl); kind = (refl, refl); id = refl; link = refl; reference = λ link. refl } }; nodes = record { total = refl; size = refl }; rest = refl } } }
 
 -- a file of two names gets a third one
 a_later_link_is_made : LinksMore (record { parent = 2; name = (97 ∷ []); folder = false; id = 19 }) (record { folder = 2; name = (99 ∷ []); found = None }) volume_32 volume_36
 unfolding digits number_at number_bytes extents_at entry_of placed_of attribute_of
-a_later_link_is_made = record { sorted = ((refl, (refl, (refl, (refl, (refl, (refl, (refl, (refl, (refl, (refl, (refl, (refl, (refl, tt))))))))))))), ((refl, (refl, (refl, (refl, (refl, (refl, (refl, (refl, (refl, (refl, (refl, (refl, tt)))))))))))), ((refl, (refl, (refl, (refl, (refl, (refl, (refl, (refl, (refl, (refl, (refl, tt))))))))))), ((refl, (refl, (refl, (refl, (refl, (refl, (refl, (refl, (refl, (refl, tt)))))))))), ((refl, (refl, (refl, (refl, (refl, (refl, (refl, (refl, (refl, tt))))))))), ((refl, (refl, (refl, (refl, (refl, (refl, (refl, (refl, tt)))))))), ((refl, (refl, (refl, (refl, (refl, (refl, (refl, tt))))))), ((refl, (refl, (refl, (refl, (refl, (refl, tt)))))), ((refl, (refl, (refl, (refl, (refl, tt))))), ((refl, (refl, (refl, (refl, tt)))), ((refl, (refl, (refl, tt))), ((refl, (refl, tt)), ((refl, tt), (tt, tt)))))))))))))); entry = placed_of pair_23; is_entry = record { stands = (4, omega arith, refl); place = (refl, refl) }; is_one = refl; new_link = catalog_of (pair_43).1; is_new_link = (refl, refl, refl, record { size = refl; blocks = refl; extents = refl }, record { size = refl; blocks = refl; extents = refl }); linked = volume_34; links = record { changes = record { between = (pair_21 ∷ pair_1 ∷ pair_22 ∷ pair_2 ∷ pair_3 ∷ pair_23 ∷ pair_24 ∷ pair_43 ∷ pair_5 ∷ pair_6 ∷ pair_25 ∷ pair_26 ∷ pair_27 ∷ pair_28 ∷ pair_29 ∷ []); pair = pair_43; is_entry = record { stands = refl; spelled = refl }; entry_added = record { place = 7; within = omega arith; is = refl }; thread = pair_44; spare = pos 0; is_thread = record { stands = refl; spelled = refl }; thread_added = record { place = 15; within = omega arith; is = refl } }; nodes = record { total = refl; size = refl }; rest = refl }; sorted_linked = ((refl, (refl, (refl, (refl, (refl, (refl, (refl, (refl, (refl, (refl, (refl, (refl, (refl, (refl, (refl, tt))))))))))))))), ((refl, (refl, (refl, (refl, (refl, (refl, (refl, (refl, (refl, (refl, (refl, (refl, (refl, (refl, tt)))))))))))))), ((refl, (refl, (refl, (refl, (refl, (refl, (refl, (refl, (refl, (refl, (refl, (refl, (refl, tt))))))))))))), ((refl, (refl, (refl, (refl, (refl, (refl, (refl, (refl, (refl, (refl, (refl, (refl, tt)))))))))))), ((refl, (refl, (refl, (refl, (refl, (refl, (refl, (refl, (refl, (refl, (refl, tt))))))))))), ((refl, (refl, (refl, (refl, (refl, (refl, (refl, (refl, (refl, (refl, tt)))))))))), ((refl, (refl, (refl, (refl, (refl, (refl, (refl, (refl, (refl, tt))))))))), ((refl, (refl, (refl, (refl, (refl, (refl, (refl, (refl, tt)))))))), ((refl, (refl, (refl, (refl, (refl, (refl, (refl, tt))))))), ((refl, (refl, (refl, (refl, (refl, (refl, tt)))))), ((refl, (refl, (refl, (refl, (refl, tt))))), ((refl, (refl, (refl, (refl, tt)))), ((refl, (refl, (refl, tt))), ((refl, (refl, tt)), ((refl, tt), (tt, tt)))))))))))))))); count = 3; marked = volume_35; marks = record { entry = placed_of pair_26; before = entry_of (pair_26).1; after = entry_of (pair_45).1; has = refl; is_entry = refl; fields = record { marked = record { id = refl; count = refl; mode = refl; created = refl; changed = refl; attribute = refl }; special = refl }; changes = record { changes = record { pair = pair_26; is_entry = refl; other = pair_45; is_other = record { stands = refl; spelled = refl }; swapped = record { place = 11; at = refl; is = refl }; forks = refl; alike = record { place = (refl, refl); kind = (refl, refl); id = refl; link = refl; reference = λ link. absurd (true_or_false (sym link)) } }; nodes = record { total = refl; size = refl }; rest = refl } }; one_more = refl; gains = record { entry = placed_of pair_21; before = entry_of (pair_21).1; after = entry_of (pair_46).1; has = refl; is_entry = refl; fields = record { id = refl; count = refl; mode = refl; created = refl; changed = refl; attribute = refl }; changes = record { changes = record { pair = pair_21; is_entry = refl; other = pair_46; is_other = record { stands = refl; spelled = refl }; swapped = record { place = 0; at = refl; is = refl }; forks = refl; alike = record { place = (refl, refl); kind = (refl, refl); id = refl; link = refl; reference = λ link. refl } }; nodes = record { total = refl; size = refl }; rest = refl } } }
+a_later_link_is_made = record { sorted = ((refl, (refl, (refl, (refl, (refl, (refl, (refl, (refl, (refl, (refl, (refl, (refl, (refl, tt))))))))))))), ((refl, (refl, (refl, (refl, (refl, (refl, (refl, (refl, (refl, (refl, (refl, (refl, tt)))))))))))), ((refl, (refl, (refl, (refl, (refl, (refl, (refl, (refl, (refl, (refl, (refl, tt))))))))))), ((refl, (refl, (refl, (refl, (refl, (refl, (refl, (refl, (refl, (refl, tt)))))))))), ((refl, (refl, (refl, (refl, (refl, (refl, (refl, (refl, (refl, tt))))))))), ((refl, (refl, (refl, (refl, (refl, (refl, (refl, (refl, tt)))))))), ((refl, (refl, (refl, (refl, (refl, (refl, (refl, tt))))))), ((refl, (refl, (refl, (refl, (refl, (refl, tt)))))), ((refl, (refl, (refl, (refl, (refl, tt))))), ((refl, (refl, (refl, (refl, tt)))), ((refl, (refl, (refl, tt))), ((refl, (refl, tt)), ((refl, tt), (tt, tt)))))))))))))); entry = placed_of pair_23; is_entry = record { stands = (4, omega arith, refl); place = (refl, refl) }; is_one = refl; new_link = catalog_of (pair_43).1; is_new_link = (refl, refl, refl, record { size = refl; blocks = refl; extents = refl }, record { size = refl; blocks = refl; extents = refl }); linked = volume_34; links = record { changes = record { between = (pair_21 ∷ pair_1 ∷ pair_22 ∷ pair_2 ∷ pair_3 ∷ pair_23 ∷ pair_24 ∷ pair_43 ∷ pair_5 ∷ pair_6 ∷ pair_25 ∷ pair_26 ∷ pair_27 ∷ pair_28 ∷ pair_29 ∷ []); pair = pair_43; is_entry = record { stands = refl; spelled = refl }; entry_added = record { place = 7; within = omega arith; is = refl }; thread = pair_44; spare = pos 0; is_thread = record { stands = refl; spelled = refl }; thread_added = record { place = 15; within = omega arith; is = refl } }; nodes = record { total = refl; size = refl }; rest = refl }; sorted_linked = ((refl, (refl, (refl, (refl, (refl, (refl, (refl, (refl, (refl, (refl, (refl, (refl, (refl, (refl, (refl, tt))))))))))))))), ((refl, (refl, (refl, (refl, (refl, (refl, (refl, (refl, (refl, (refl, (refl, (refl, (refl, (refl, tt)))))))))))))), ((refl, (refl, (refl, (refl, (refl, (refl, (refl, (refl, (refl, (refl, (refl, (refl, (refl, tt))))))))))))), ((refl, (refl, (refl, (refl, (refl, (refl, (refl, (refl, (refl, (refl, (refl, (refl, tt)))))))))))), ((refl, (refl, (refl, (refl, (refl, (refl, (refl, (refl, (refl, (refl, (refl, tt))))))))))), ((refl, (refl, (refl, (refl, (refl, (refl, (refl, (refl, (refl, (refl, tt)))))))))), ((refl, (refl, (refl, (refl, (refl, (refl, (refl, (refl, (refl, tt))))))))), ((refl, (refl, (refl, (refl, (refl, (refl, (refl, (refl, tt)))))))), ((refl, (refl, (refl, (refl, (refl, (refl, (refl, tt))))))), ((refl, (refl, (refl, (refl, (refl, (refl, tt)))))), ((refl, (refl, (refl, (refl, (refl, tt))))), ((refl, (refl, (refl, (refl, tt)))), ((refl, (refl, (refl, tt))), ((refl, (refl, tt)), ((refl, tt), (tt, tt)))))))))))))))); count = 3; marked = volume_35; marks = record { entry = placed_of pair_26; before = entry_of (pair_26).1; after = entry_of (pair_45).1; has = refl; is_entry = refl; fields = record { marked = record { id = refl; count = refl; mode = refl; created = refl; changed = refl; attribute = refl }; special = refl }; changes = record { changes = record { pair = pair_26; is_entry = refl; other = pair_45; is_other = record { stands = refl; spelled = refl }; swapped = record { place = 11; at = refl; is = refl }; forks = refl; alike = record { place = (refl, refl); kind = (refl, refl); id = refl; link = refl; reference = λ link. absurd (true≢false (sym link)) } }; nodes = record { total = refl; size = refl }; rest = refl } }; one_more = refl; gains = record { entry = placed_of pair_21; before = entry_of (pair_21).1; after = entry_of (pair_46).1; has = refl; is_entry = refl; fields = record { id = refl; count = refl; mode = refl; created = refl; changed = refl; attribute = refl }; changes = record { changes = record { pair = pair_21; is_entry = refl; other = pair_46; is_other = record { stands = refl; spelled = refl }; swapped = record { place = 0; at = refl; is = refl }; forks = refl; alike = record { place = (refl, refl); kind = (refl, refl); id = refl; link = refl; reference = λ link. refl } }; nodes = record { total = refl; size = refl }; rest = refl } } }
 
 -- an attribute of a folder gets another value
 an_attribute_is_set : SetsAttribute 18 (107 ∷ []) (117 ∷ 119 ∷ []) volume_37 volume_40

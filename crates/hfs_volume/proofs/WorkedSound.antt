@@ -2,7 +2,7 @@
 use Rattle.std.proofs.Common.{◌≡◌, ◌⊎◌, ◌<◌, ◌≤◌, ℕ, ◌+◌, ◌-◌, Bool, true, false, List, [], ◌∷◌, ◌++◌, length, refl, sym, subst, ap, arith, inl, inr}
 use Rattle.std.specs.Prelude.{Contains, All, ◌==◌, ◌&&◌, IsTrue, replicate, codes, Some, None, pos, slice_index_or}
 use Rattle.std.specs.List.{AllByRecursion, list_all, flat_map}
-use Rattle.std.proofs.lemmas.Bool.{eqb-true}
+use Rattle.std.proofs.lemmas.Bool.{eqb-true, and_parts}
 use Rattle.std.proofs.lemmas.List.{get_or_past}
 use lib.Count.{ones}
 use Rattle.hx_bytes.specs.Field.{number_at}
@@ -167,14 +167,10 @@ small_entries = entries_of (placed_in small_catalog)
 
 -- ---- from tests and tuples to lists
 
-both : (a b : Bool) → (a && b) ≡ true → (a ≡ true) × (b ≡ true)
-both true b is = (refl, is)
-both false b is = absurd (cc)
-
 met_by_test : (ws : List Want) → list_all (λ w. w.found == w.wanted) ws ≡ true → MetEach ws
 met_by_test [] is = tt
 met_by_test (w ∷ ws) is =
-    let parts = both (w.found == w.wanted) (list_all (λ x. x.found == x.wanted) ws) is in
+    let parts = and_parts (w.found == w.wanted) (list_all (λ x. x.found == x.wanted) ws) is in
     (eqb-true w.found w.wanted parts.0, met_by_test ws parts.1)
 
 -- each number is the one wanted, by computing

@@ -1,5 +1,6 @@
 -- The bytes of files whose blocks no change touches: contents that differ in free blocks and in special files alone tell the same.
 use Rattle.std.proofs.Common.{◌≡◌, ◌<◌, ℕ, ◌*◌, ◌/◌, ◌==◌, false, List, [], ◌∷◌, length, inl, inr, sym, ◌∙◌, ap, subst, arith, refl}
+use Rattle.std.proofs.lemmas.Bool.{true≢false}
 use Rattle.std.specs.Prelude.{Contains, ◌&&◌, map, take}
 use Rattle.hx_bytes.specs.declared.extents.Extent.{Extent}
 use Rattle.hx_bytes.specs.declared.extents.ForkRecord.{ForkRecord}
@@ -19,7 +20,6 @@ use Rattle.hfs_volume.specs.Sound.{IsSound}
 use Rattle.hfs_volume.specs.TreeOf.{file_bytes}
 use Rattle.hfs_volume.specs.Writing.{IsPutSector, OthersKeepBytes}
 use Rattle.hfs_volume.proofs.Members.{first_or_later, in_one, each_of}
-use Rattle.hfs_volume.proofs.Ranks.{true_or_false}
 use Rattle.hfs_volume.proofs.Fitting.{differs}
 use Rattle.hfs_volume.proofs.Sectors.{in_block}
 use Rattle.hfs_volume.proofs.Apart.{among, fork_is_used, not_reserved, not_in_both}
@@ -85,7 +85,7 @@ module _ (content other : Content) (sound : IsSound content) (agrees : AgreesOut
   not_put at has (inl free) =
       let used = among (used_in volume) (at / per) (fork_is_used volume (data_fork_of file) (at / per) (file_fork_stands volume p file stands is) has) in
       let bit = sound.volume.blocks.bits.bits (at / per) (subst (λ (h : VolumeHeader). at / per < h.total_blocks) (sym (head_is content)) free.0) in
-      true_or_false (sym used ∙ sym bit ∙ free.1)
+      true≢false (sym used ∙ sym bit ∙ free.1)
   not_put at has (inr (inl reserved)) = not_reserved volume forks (data_fork_of file) (at / per) reserved (file_fork_stands volume p file stands is) has
   not_put at has (inr (inr special)) =
       let number = special_number volume.head special.0 special.1 in

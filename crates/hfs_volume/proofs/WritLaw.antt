@@ -1,7 +1,7 @@
 -- `write` and `trunc`: a sound volume stays sound, and its tree is the step's.
 use Rattle.std.proofs.Common.{◌≡◌, ◌<◌, ℕ, ◌+◌, ◌==◌, Bool, true, false, List, [], ◌∷◌, length, refl, sym, ◌∙◌, ap, subst, arith}
 use Rattle.std.specs.Prelude.{Contains, ◌&&◌, ◌||◌, not, nat_lt, ok_or, Option, Some, None, Result, Ok, if◌then◌else◌}
-use Rattle.std.proofs.lemmas.Bool.{eqb-true}
+use Rattle.std.proofs.lemmas.Bool.{eqb-true, true≢false}
 use Rattle.cat_records.specs.declared.record.FileRecord.{FileRecord}
 use Rattle.cat_records.specs.declared.record.CatRecord.{CatRecord}
 use Rattle.cat_records.specs.declared.record.CatRecord.TheVariants.{Folder, File, Thread}
@@ -23,7 +23,6 @@ use Rattle.hfs_volume.specs.Commands.{AreBytesOf, with_fields}
 use Rattle.hfs_volume.specs.Laws.{IsShaped, IsUserFile}
 use Rattle.hfs_volume.specs.Writing.{RewritesFile, MakesBytes, file_after, written_bytes, resized_bytes, WriteDoes, WriteNothingDoes, TruncDoes}
 use Rattle.hfs_volume.proofs.Members.{in_one}
-use Rattle.hfs_volume.proofs.Ranks.{true_or_false}
 use Rattle.hfs_volume.proofs.Hiding.{same_entry}
 use Rattle.hfs_volume.proofs.Reaching.{then_ok, unless_ok, found_ok, seen_shows}
 use Rattle.hfs_volume.proofs.Flat.{found_some}
@@ -60,7 +59,7 @@ file_node volume bytes_of node stands no_folder =
     of_value e there id (Folder f) is has = by_test (is_plain_folder (records_of volume) e) has
       where
         by_test : (b : Bool) → Contains (if b then plain_node (attributes_of volume) f.fields true [] false ∷ [] else []) node → IsFileNode volume bytes_of node
-        by_test true one = absurd (true_or_false (sym (ap (λ (n : PlainNode). n.folder) (in_one (plain_node (attributes_of volume) f.fields true [] false) node one)) ∙ no_folder))
+        by_test true one = absurd (true≢false (sym (ap (λ (n : PlainNode). n.folder) (in_one (plain_node (attributes_of volume) f.fields true [] false) node one)) ∙ no_folder))
         by_test false none = absurd (omega (arith, none.1))
     of_value e there id (File f) is has = by_test (is_plain_file (records_of volume) e) refl has
       where
@@ -95,7 +94,7 @@ pub private_apart : (volume : VolumeState) → IsShaped volume → (p : Placed) 
 private_apart volume shaped p is two = by_case (private_id (records_of volume)) refl is
   where
     by_case : (o : Option ℕ) → private_id (records_of volume) ≡ o → is_in o p ≡ true → ⊥
-    by_case None found here = true_or_false (sym here)
+    by_case None found here = true≢false (sym here)
     by_case (Some id) found here = private_not_root volume shaped id found (sym (eqb-true p.parent id here) ∙ two)
 
 -- it isn't one of the journal's
@@ -106,9 +105,9 @@ file_is_users volume bytes_of shaped node it e stands same own =
   where
     by_tests : (b c : Bool) → is_seen (records_of volume) it.entry ≡ b → is_linked (records_of volume) it.entry ≡ c → (it.entry.parent ≡ 2) × (is_private_name it.entry.name ≡ true) → ⊥
     by_tests true c seen linked place =
-        true_or_false (sym ((λ i. (place.0 i == 2) && place.1 i)) ∙ (seen_shows (records_of volume) it.entry seen).not_own)
+        true≢false (sym ((λ i. (place.0 i == 2) && place.1 i)) ∙ (seen_shows (records_of volume) it.entry seen).not_own)
     by_tests false true seen linked place = let links = linked_is (records_of volume) it.entry linked in private_apart volume shaped it.entry (shared_in (private_id (records_of volume)) (special_of links.link) it.entry links.names) place.0
-    by_tests false false seen linked place = true_or_false (sym it.plain ∙ (λ i. (seen i && not (is_link it.entry)) || linked i))
+    by_tests false false seen linked place = true≢false (sym it.plain ∙ (λ i. (seen i && not (is_link it.entry)) || linked i))
 
 -- what a path reaches that is a file
 pub reaches_file : (volume : VolumeState) (bytes_of : FileRecord → List ℕ) (path : List (List ℕ)) (file : PlainNode) → to_file (tree_in volume bytes_of) path ≡ Ok file → IsFileNode volume bytes_of file

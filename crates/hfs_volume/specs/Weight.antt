@@ -118,10 +118,11 @@ first_block block put = min put.from put.old_size / block
 abbrev pub end_block : ℕ → Data → ℕ
 end_block block put = if grows put then parts_for put.new_size block else parts_for put.end block
 
--- how many new blocks it takes, and how many old ones they replace
+-- how many new blocks it takes
 abbrev pub new_blocks_of : ℕ → Data → ℕ
 new_blocks_of block put = end_block block put - first_block block put
 
+-- how many blocks the file has there already, each of which a new one replaces
 abbrev pub old_blocks_of : ℕ → Data → ℕ
 old_blocks_of block put = min (end_block block put) (parts_for put.old_size block) - first_block block put
 
@@ -234,6 +235,7 @@ cut_load room =
     1 + node_sectors (tree_at room 1) + min (parts_for room.total 4096) 24
     + node_sectors (tree_at room 0) * min (4 * ((tree_at room 0).depth + 1) + 4) (tree_at room 0).nodes
 
+-- The load of a cut step, which adds to no tree, or the refusal of one that the journal has no room for.
 abbrev pub cut_cost : Room → Cost
 cut_cost room = cost_or (load_refusal (cut_load room) room.capacity) (cut_load room) (0 ∷ 0 ∷ 0 ∷ [])
 

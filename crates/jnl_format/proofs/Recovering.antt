@@ -3,7 +3,7 @@ use Rattle.hx_bytes.specs.declared.fields.Order.{Order}
 use Rattle.hx_bytes.specs.Field.{number_at}
 use Rattle.std.proofs.Common.{◌≡◌, ℕ, ◌+◌, ◌*◌, ◌/◌, ◌%◌, ◌<◌, ◌≤◌, ◌⊎◌, Bool, true, false, not, ◌&&◌, ◌||◌, List, length, refl, sym, ◌∙◌, ap, subst, inl, inr, arith, ltb, leb, eqb, cond, ◌≢◌}
 use Rattle.std.specs.Prelude.{Option, None, Some, Result, Ok, Err}
-use Rattle.std.proofs.lemmas.Bool.{and_parts, leb-true, eqb-true, not-false, and_cases, ltb-false, eqb-false}
+use Rattle.std.proofs.lemmas.Bool.{and_parts, leb-true, eqb-true, not-false, and_cases, ltb-false, eqb-false, or_parts}
 use Rattle.jnl_format.specs.Info.{info_of, info_fault, is_elsewhere, is_here, is_sized, is_fresh, holds, unless_fault, IsInfo}
 use Rattle.jnl_format.specs.Header.{header_read, header_in, order_of, header_of, header_fault, is_offset, is_blhdr, wrapped, IsHeader}
 use Rattle.jnl_format.specs.Recovery.{Content, sector, Journal, and_then, info_in, journal_at, journal_in, fresh_header, replayed, text_fault, recovery_at}
@@ -28,18 +28,14 @@ first_none : (b : Bool) (x : JnlRefusal) (rest : Option JnlRefusal) → cond b (
 first_none true x rest h = absurd (cc h)
 first_none false x rest h = (refl, h)
 
-pub both_false : (a b : Bool) → (a || b) ≡ false → (a ≡ false) × (b ≡ false)
-both_false true b h = absurd (cc h)
-both_false false b h = (refl, h)
-
 pub info_parts : (volume at : ℕ) (info : Info) → info_fault volume (holds info 2 || holds info at) info ≡ None → IsInfo volume at info
 info_parts volume at info h =
     let p1 = first_none (is_elsewhere info) OtherDevice _ h in
     let p2 = first_none (not (is_here info)) (BadInfo 0) _ p1.1 in
     let p3 = first_none (not (eqb (info.offset % 512) 0) || (holds info 2 || holds info at)) (BadInfo 36) _ p2.1 in
     let p4 = first_none (not (is_sized volume info)) (BadInfo 44) None p3.1 in
-    let q = both_false (not (eqb (info.offset % 512) 0)) (holds info 2 || holds info at) p3.0 in
-    let r = both_false (holds info 2) (holds info at) q.1 in
+    let q = or_parts (not (eqb (info.offset % 512) 0)) (holds info 2 || holds info at) p3.0 in
+    let r = or_parts (holds info 2) (holds info at) q.1 in
     let s = and_parts (eqb (info.size % 512) 0 && leb 1536 info.size) (leb (info.offset + info.size) volume) (not-false (is_sized volume info) p4.0) in
     let t = and_parts (eqb (info.size % 512) 0) (leb 1536 info.size) s.0 in
     record {

@@ -1,11 +1,10 @@
 -- Puts found, added and changed, and what they make of a content.
 use Rattle.std.proofs.Common.{◌≡◌, ◌⊎◌, ◌<◌, ◌+◌, ℕ, zero, suc, Bool, true, false, ◌||◌, List, [], ◌∷◌, ◌++◌, length, get_or, set, refl, sym, ◌∙◌, ap, inl, inr, arith, eqb, length-set, length-append, get_or-set_same, get_or-set_other}
-use Rattle.std.proofs.lemmas.Bool.{eqb-false, eq-eqb, ne_eqb, true≢false, cases_eq}
+use Rattle.std.proofs.lemmas.Bool.{eqb-false, eq-eqb, ne_eqb, true≢false, cases_eq, or_right, or_parts}
 use Rattle.std.proofs.lemmas.List.{set_comm, set-set}
 use Rattle.std.proofs.lemmas.List.Sums.{fold_push}
 use Rattle.std.specs.Prelude.{Result, Ok, Err, IsOk, is_ok, IsTrue, if◌then◌else◌, None, Some}
 use Rattle.sector_disk.specs.Lists.{Content, sector}
-use Rattle.jnl_format.proofs.Recovering.{both_false}
 use Rattle.jnl_store.specs.Batch.{bytes_of, AreOnce, has, names}
 use Rattle.jnl_store.specs.Overlay.{overlay}
 use Rattle.jnl_store.specs.declared.puts.Put.{Put}
@@ -30,19 +29,15 @@ has-inside [] k at h = absurd h
 has-inside (p ∷ ps) zero at h = omega arith
 has-inside (p ∷ ps) (suc k) at h = let below = has-inside ps k at h in omega arith
 
-or_true : (a b : Bool) → b ≡ true → (a || b) ≡ true
-or_true true b h = refl
-or_true false b h = h
-
 pub has-names : (puts : List Put) (k at : ℕ) → has puts k at → names puts at ≡ true
 has-names [] k at h = absurd h
 has-names (p ∷ ps) zero at h = ap (λ b. b || names ps at) (eq-eqb at p.at (sym h))
-has-names (p ∷ ps) (suc k) at h = or_true (eqb at p.at) (names ps at) (has-names ps k at h)
+has-names (p ∷ ps) (suc k) at h = or_right (eqb at p.at) (names ps at) (has-names ps k at h)
 
 pub once-push : (puts : List Put) (put : Put) → AreOnce puts → names puts put.at ≡ false → AreOnce (puts ++ put ∷ [])
 once-push [] put once other = (refl, tt)
 once-push (p ∷ ps) put once other =
-    let o = both_false (eqb put.at p.at) (names ps put.at) other in
+    let o = or_parts (eqb put.at p.at) (names ps put.at) other in
     let apart : eqb p.at put.at ≡ false = ne_eqb p.at put.at (λ e. eqb-false put.at p.at o.0 (sym e)) in
     (names-push ps put p.at ∙ ap (λ b. b || names ps p.at) apart ∙ once.0, once-push ps put once.1 o.1)
 
@@ -55,7 +50,7 @@ once-set (p ∷ ps) (suc k) put once h = (names-set ps k put p.at h ∙ once.0, 
 pub overlay-apart : (puts : List Put) (c : Content) (at : ℕ) (value : List ℕ) → names puts at ≡ false → overlay puts (set c at value) ≡ set (overlay puts c) at value
 overlay-apart [] c at value other = refl
 overlay-apart (p ∷ ps) c at value other =
-    let o = both_false (eqb at p.at) (names ps at) other in
+    let o = or_parts (eqb at p.at) (names ps at) other in
     ap (overlay ps) (sym (set_comm c p.at at p.bytes value (λ e. eqb-false at p.at o.0 (sym e)))) ∙ overlay-apart ps (set c p.at p.bytes) at value o.1
 
 pub overlay-set : (puts : List Put) (k : ℕ) (put : Put) (c : Content) → AreOnce puts → has puts k put.at → overlay (set puts k put) c ≡ set (overlay puts c) put.at put.bytes
@@ -75,7 +70,7 @@ overlay-push puts put c = fold_push (λ (under : Content) (p : Put). set under p
 pub overlay-other : (puts : List Put) (c : Content) (at : ℕ) → names puts at ≡ false → sector (overlay puts c) at ≡ sector c at
 overlay-other [] c at other = refl
 overlay-other (p ∷ ps) c at other =
-    let o = both_false (eqb at p.at) (names ps at) other in
+    let o = or_parts (eqb at p.at) (names ps at) other in
     overlay-other ps (set c p.at p.bytes) at o.1 ∙ get_or-set_other c p.at at p.bytes [] (eqb-false at p.at o.0)
 
 -- and one that is named has the put's bytes
@@ -91,7 +86,7 @@ pub same_names : (puts : List Put) (k at s : ℕ) → has puts k at → names pu
 same_names puts k at s h = elim (cases_eq s at) [
   | inl same ↦
       let named : names puts s ≡ true = ap (names puts) same ∙ has-names puts k at h in
-      named ∙ sym (or_true (eqb s at) (names puts s) named)
+      named ∙ sym (or_right (eqb s at) (names puts s) named)
   | inr other ↦ ap (λ b. b || names puts s) (sym (ne_eqb s at other))
 ]
 
@@ -116,7 +111,7 @@ counted_push puts all new at put e other is =
 pub bytes_none : (puts : List Put) (at : ℕ) → names puts at ≡ false → None ≡ bytes_of puts at
 bytes_none [] at none = refl
 bytes_none (p ∷ ps) at none =
-    let o = both_false (eqb at p.at) (names ps at) none in
+    let o = or_parts (eqb at p.at) (names ps at) none in
     bytes_none ps at o.1 ∙ sym (ap (λ b. if b then Some p.bytes else bytes_of ps at) o.0)
 
 pub bytes_at : (puts : List Put) (k at : ℕ) (put : Put) → AreOnce puts → has puts k at → Some (get_or puts k put).bytes ≡ bytes_of puts at

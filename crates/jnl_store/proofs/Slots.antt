@@ -1,7 +1,7 @@
 -- What a store keeps in its slots, as its calls leave it.
 use Rattle.std.proofs.Common.{◌≡◌, ◌≢◌, ◌⊎◌, ◌<◌, ◌%◌, ℕ, Bool, true, false, not, List, [], ◌∷◌, inl, inr, ⊎_elim, length, get_or, set, refl, sym, ◌∙◌, ap, subst, arith, eqb, length-set, get_or-set_same, get_or-set_other, replicate}
 use Rattle.std.specs.Prelude.{Result, Ok, Err, OnOk, Option, None, Some, IsTrue, MatchOption, nat_le, nat_lt, ◌&&◌, ◌||◌, ◌==◌, ◌/◌, ◌+◌, if◌then◌else◌}
-use Rattle.std.proofs.lemmas.Bool.{and_parts, cases_Bool, cases_lt, eqb-true, eqb-false, true≢false}
+use Rattle.std.proofs.lemmas.Bool.{and_parts, cases_Bool, cases_lt, eqb-true, eqb-false, true≢false, not-false}
 use Rattle.std.proofs.lemmas.List.{get_or_past, length-map}
 use Rattle.std.proofs.lemmas.Slice.Eq.{bytes_eq-Decides}
 use Rattle.jnl_format.specs.declared.structures.Info.{Info}
@@ -65,10 +65,6 @@ same_option None (Some b) h = absurd (cc h)
 same_option (Some a) None h = absurd (cc h)
 same_option (Some a) (Some b) h = ap (λ (l : List ℕ). Some l) ((bytes_eq-Decides a b).0 h)
 
-not_true : (b : Bool) → not b ≡ false → b ≡ true
-not_true true h = refl
-not_true false h = absurd (cc h)
-
 both_values : (o : Option (List ℕ)) (x y z : List ℕ) → MatchOption o (x ≡ z) (λ b. x ≡ b) → MatchOption o (y ≡ z) (λ b. y ≡ b) → y ≡ x
 both_values None x y z h g = g ∙ sym h
 both_values (Some b) x y z h g = g ∙ sym h
@@ -76,7 +72,7 @@ both_values (Some b) x y z h g = g ∙ sym h
 -- an undo leaves a sector as it was where it doesn't drop its put
 undone_same : (all kept : List Put) (s : ℕ) (c : Content) → AreOnce all → AreOnce kept → s < length c → is_dropped all kept s ≡ false → sector (overlay kept c) s ≡ sector (overlay all c) s
 undone_same all kept s c once kept_once inside same =
-    let e : bytes_of all s ≡ bytes_of kept s = same_option (bytes_of all s) (bytes_of kept s) (not_true (is_same (bytes_of all s) (bytes_of kept s)) same) in
+    let e : bytes_of all s ≡ bytes_of kept s = same_option (bytes_of all s) (bytes_of kept s) (not-false (is_same (bytes_of all s) (bytes_of kept s)) same) in
     both_values (bytes_of kept s) (sector (overlay all c) s) (sector (overlay kept c) s) (sector c s) (overlay_bytes all s c (bytes_of kept s) once inside e) (overlay_bytes kept s c (bytes_of kept s) kept_once inside refl)
 
 undone_some : (all kept : List Put) (slot : Option Put) (put : Put) → undone_slot all kept slot ≡ Some put → (slot ≡ Some put) × (is_dropped all kept put.at ≡ false)

@@ -1,5 +1,6 @@
 -- What a spill makes of a space.
 use Rattle.std.proofs.Common.{◌≡◌, ◌≢◌, ◌⊎◌, ℕ, ◌/◌, ◌<◌, Bool, true, false, ◌&&◌, List, [], ◌∷◌, ◌++◌, inl, inr, ⊎_elim, length, set, refl, sym, ◌∙◌, ap, subst, arith, length-append, length-set, get_or-set_same, get_or-set_other}
+use Rattle.std.specs.Cmp.{both_ways}
 use Rattle.std.specs.Prelude.{IsTrue, ◌↔◌}
 use Rattle.std.proofs.lemmas.Bool.{and_from, and_parts, cases_eq, cases_lt, true≢false}
 use Rattle.std.proofs.lemmas.List.{get_or-map, set_comm, set-get_or, set-set, set_past}
@@ -63,11 +64,6 @@ changes_maybe old new at value inside some (inr (inr back)) =
           (arith, some, ap length (here_is mid at again within_mid), length-append (candidates_of mid at) (again ∷ []), ap length (here_is old at value inside), length-append (candidates_of old at) (value ∷ [])));
     })
 
-same_bool : (a b : Bool) → (a ≡ true → b ≡ true) → (b ≡ true → a ≡ true) → a ≡ b
-same_bool true b goes comes = sym (goes refl)
-same_bool false true goes comes = absurd (true≢false (sym (comes refl)))
-same_bool false false goes comes = refl
-
 -- a sector that isn't named may be set before or behind
 with_homes_apart : (text : List ℕ) (homes : List Home) (c : Content) (at : ℕ) (value : List ℕ) → (IsNamed homes at → ⊥) → with_homes text homes (set c at value) ≡ set (with_homes text homes c) at value
 with_homes_apart text [] c at value other = refl
@@ -109,7 +105,7 @@ pub kept_both : (plan : Plan) (rest : IsInUse plan) (live : List Put) (all kept 
 kept_both plan rest live all kept old new at had is changes free =
     let L = keeps_lists plan old.candidates live in
     let M = keeps_lists plan new.candidates live in
-    same_bool (M && all && kept) (L && all && kept)
+    both_ways (M && all && kept) (L && all && kept)
     (λ now.
     let p = and_parts (M && all) kept now in
     let q = and_parts M all p.0 in

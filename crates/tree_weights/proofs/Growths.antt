@@ -2,16 +2,13 @@
 use Rattle.std.proofs.Common.{◌≡◌, ◌<◌, ◌≤◌, ℕ, zero, suc, ◌+◌, ◌-◌, ◌*◌, ◌/◌, Bool, true, false, List, [], ◌∷◌, map, length, refl, sym, ◌∙◌, ap, subst, arith}
 use Rattle.std.specs.Prelude.{T, max, get_or, if◌then◌else◌}
 use Rattle.std.specs.List.{range_with_len}
-use Rattle.std.proofs.lemmas.Bool.{leb-true, le-leb}
+use Rattle.std.proofs.lemmas.Bool.{leb-true, le-leb, true≢false}
 use Rattle.std.proofs.lemmas.Nat.{div_below}
 use Rattle.std.proofs.Math.Nat.{lt-div-mul-add, mul-le-mul_left}
 use Rattle.std.proofs.lemmas.List.FromFn.{get_or-map-range_with_len, length-map-range_with_len}
 use Rattle.hfs_volume.specs.Forks.{parts_for}
 use Rattle.hfs_volume.specs.Cost.{new_maps, suffices, first_of, whole_nodes, growth_for}
 use Rattle.hfs_volume.specs.declared.cost.TreeCost.{TreeCost}
-
-pub true_or_false : true ≡ false → ⊥
-true_or_false same = subst T same tt
 
 -- where one of a list passes, the first that passes does
 first_passes : (test : ℕ → Bool) (ns : List ℕ) (i : ℕ) → i < length ns → test (get_or ns i 0) ≡ true → test (first_of test ns) ≡ true
@@ -20,7 +17,7 @@ first_passes test (n ∷ rest) zero within passes = by_test (test n) refl
   where
     by_test : (b : Bool) → test n ≡ b → test (if b then n else first_of test rest) ≡ true
     by_test true is = passes
-    by_test false is = absurd (true_or_false (sym passes ∙ is))
+    by_test false is = absurd (true≢false (sym passes ∙ is))
 first_passes test (n ∷ rest) (suc i) within passes = by_test (first_passes test rest i (omega (arith, within)) passes) (test n) refl
   where
     by_test : test (first_of test rest) ≡ true → (b : Bool) → test n ≡ b → test (if b then n else first_of test rest) ≡ true

@@ -2,7 +2,7 @@
 use Rattle.std.proofs.Common.{◌≡◌, ◌⊎◌, ◌<◌, ◌≤◌, ℕ, zero, suc, ◌+◌, ◌-◌, ◌*◌, ◌/◌, ◌^◌, Bool, true, false, List, [], ◌∷◌, length, inl, inr, refl, sym, ◌∙◌, ap, subst, arith}
 use Rattle.std.specs.Prelude.{◌==◌, ◌&&◌, ◌||◌, not, nat_lt, nat_le, min, max, slice_index, Option, Some, None, is_some, if◌then◌else◌}
 use Rattle.std.specs.List.{AllByRecursion}
-use Rattle.std.proofs.lemmas.Bool.{eqb-true, ltb-false}
+use Rattle.std.proofs.lemmas.Bool.{eqb-true, ltb-false, true≢false}
 use Rattle.std.proofs.lemmas.Nat.{le-div}
 use Rattle.std.proofs.Math.Nat.{mul-le-mul_left}
 use Rattle.btree_node.specs.MemLaws.{whole_sectors}
@@ -21,17 +21,17 @@ use Rattle.hfs_volume.specs.declared.cost.Cost.TheVariants as cost
 use Rattle.hfs_volume.specs.declared.cost.TreeCost.{TreeCost}
 use Rattle.tree_weights.specs.Weights.{deepest_of, HasGrown, IsWrittenByGrowth, GoAsDeepAsCounted, GrowsByEnough, EditsHaveRoom, EditsTakeTheirLoad, LoadSaysEnough, WeightSaysEnough, CommandsHaveRoom, LoadIsOfParts, key_at}
 use Rattle.tree_weights.proofs.Heights.{low}
-use Rattle.tree_weights.proofs.Growths.{grown_enough, true_or_false}
+use Rattle.tree_weights.proofs.Growths.{grown_enough}
 
 -- ---- tests
 
 -- where edits aren't too many, the last two tests of it fail
 last_two : (a b c d : Bool) → (not a && (b || c || d)) ≡ false → a ≡ false → (c ≡ false) × (d ≡ false)
 last_two false false false false is none = (refl, refl)
-last_two false false false true is none = absurd (true_or_false is)
-last_two false false true d is none = absurd (true_or_false is)
-last_two false true c d is none = absurd (true_or_false is)
-last_two true b c d is none = absurd (true_or_false none)
+last_two false false false true is none = absurd (true≢false is)
+last_two false false true d is none = absurd (true≢false is)
+last_two false true c d is none = absurd (true≢false is)
+last_two true b c d is none = absurd (true≢false none)
 
 either_false : (a b : Bool) → (not a && b) ≡ false → (a ≡ true) ⊎ (b ≡ false)
 either_false true b is = inl refl
@@ -44,7 +44,7 @@ as_deep_law key edits more tree store tells holds grown = record {
   told = λ _. subst (λ n. (tops (node_room store.shape.node_size) (key + 8) edits (top_of store)).depth ≤ max n 1 + 1 + edits / ((tree.node_size - 16) / (key + 8) - 2)) grown.depth
       (subst (λ n. (tops (node_room store.shape.node_size) (key + 8) edits (top_of store)).depth ≤ max store.shape.depth 1 + 1 + edits / ((n - 16) / (key + 8) - 2)) grown.node_size
       (low (node_room store.shape.node_size) (key + 8) (omega arith) (subst (λ n. 3 * (key + 8) ≤ n - 16) (sym grown.node_size) holds) edits store.shape.depth (max 1 (length (items (store.nodes store.shape.root))))));
-  untold = λ silent. absurd (true_or_false (sym tells ∙ silent));
+  untold = λ silent. absurd (true≢false (sym tells ∙ silent));
 }
 
 pub grows_law : GrowsByEnough
@@ -146,10 +146,10 @@ is_load (cost.Refused why) = false
 
 of_cost : (refused : Option Refusal) (counted_ load : ℕ) (grown grow : List ℕ) → cost_or refused counted_ grown ≡ cost.Load load grow → (refused ≡ None) × (counted_ ≡ load) × (grown ≡ grow)
 of_cost None counted_ load grown grow is = (refl, ap load_in is, ap grow_in is)
-of_cost (Some why) counted_ load grown grow is = absurd (true_or_false (sym (ap is_load is)))
+of_cost (Some why) counted_ load grown grow is = absurd (true≢false (sym (ap is_load is)))
 
 not_some : {X : Type 0} (x : X) → Some x ≡ None → ⊥
-not_some x is = true_or_false (ap is_some is)
+not_some x is = true≢false (ap is_some is)
 
 -- each refusal with whether it stands
 abbrev refusals : List (Bool × Refusal) → List (Option Refusal)
@@ -189,7 +189,7 @@ says_law needs room load grow is =
       attributes = none.1.1.1.0;
       extents_fit = elim (either_false (slice_index plan.grow 0 == 0) ((tree_at room 0).extents == 8) none.1.1.1.1.0) [
         | inl no_growth ↦ inl (eqb-true (slice_index plan.grow 0) 0 no_growth)
-        | inr fits ↦ inr (λ eight. true_or_false (ap (λ n. n == 8) (sym eight) ∙ fits))
+        | inr fits ↦ inr (λ eight. true≢false (ap (λ n. n == 8) (sym eight) ∙ fits))
       ];
       blocks = ltb-false room.free wanted none.1.1.1.1.1.0;
       in_one_run = elim (either_false (blocks == 0) (nat_lt room.longest wanted) none.1.1.1.1.1.1.0) [
@@ -202,9 +202,9 @@ says_law needs room load grow is =
     }
 
 unless_refused : (a b c : Bool) (x y z : Cost) (why : Refusal) (load : ℕ) (grow : List ℕ) → a ≡ false → b ≡ false → (if a then x else if b then y else if c then cost.Refused why else z) ≡ cost.Load load grow → z ≡ cost.Load load grow
-unless_refused true b c x y z why load grow no_a no_b is = absurd (true_or_false no_a)
-unless_refused false true c x y z why load grow no_a no_b is = absurd (true_or_false no_b)
-unless_refused false false true x y z why load grow no_a no_b is = absurd (true_or_false (sym (ap is_load is)))
+unless_refused true b c x y z why load grow no_a no_b is = absurd (true≢false no_a)
+unless_refused false true c x y z why load grow no_a no_b is = absurd (true≢false no_b)
+unless_refused false false true x y z why load grow no_a no_b is = absurd (true≢false (sym (ap is_load is)))
 unless_refused false false false x y z why load grow no_a no_b is = is
 
 pub weight_law : WeightSaysEnough

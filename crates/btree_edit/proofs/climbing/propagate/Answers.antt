@@ -1,4 +1,5 @@
 use Rattle.std.proofs.Common.{◌≡◌, ◌≤◌, ◌<◌, ◌+◌, ◌-◌, ◌*◌, ℕ, zero, suc, ℤ, List, true, refl, sym, ◌∙◌, ap, subst, arith}
+use Rattle.std.proofs.lemmas.Bool.{true≢false}
 use mir.Syntax.{w8}
 use mir.Val.{to_z, of_z}
 use Rattle.std.specs.Prelude.{IsTrue}
@@ -7,7 +8,6 @@ use Rattle.btree_edit.specs.Desk.{IsDeskOf}
 use Rattle.btree_edit.specs.LevelEdit.{records_on, CanEdit, LevelEdit}
 use Rattle.btree_edit.specs.Way.{stop_at}
 use Rattle.btree_edit.specs.declared.desk.PathStep.{PathStep}
-use Rattle.btree_edit.proofs.Behind.{clashing}
 use Rattle.btree_edit.proofs.Repeated.{same_store_both}
 use Rattle.btree_edit.proofs.Ascent.{IsAscent, ascent_start, ascent_read, ascent_step, ascent_stop, ascent_end, can_edit, way_node}
 use Rattle.btree_edit.proofs.climbing.propagate.Goals as goal
@@ -137,7 +137,7 @@ returns-then-not-branch-clause-climbs g c = λ tells shape_is can.
     s c.loop-done.shape c.loop-done.desk c.loop-done.done c.loop-done.next c.loop-done.gone c.loop-done.left c.loop-done.budget asc (c.args.shape.now.depth - (c.loop-done.done + 1)) j_is in
     let there : IsTreeNode s (c.loop-done.done + 1) (stop_at c.loop-done.desk.path (c.args.shape.now.depth - (c.loop-done.done + 1))).node = subst (λ (x : PathStep). IsTreeNode s (c.loop-done.done + 1) x.node) (sym stop) node in
     let yes : c.in_ok-read_node.field-0 ≡ true = c.in_ok-read_node.ensures.sound (inv.does.same.tells ∙ tells) there.inside there.kind (omega (arith, c.requires.depth)) in
-    absurd (clashing (sym yes ∙ c.if-not-branch.true))
+    absurd (true≢false (sym yes ∙ c.if-not-branch.true))
 
 pub returns-then-not-handed-clause-climbs : goal.returns-then-not-handed-clause-climbs
 returns-then-not-handed-clause-climbs g c = λ tells shape_is can.

@@ -1,11 +1,11 @@
 use Rattle.std.proofs.Common.{◌≡◌, ◌≤◌, ◌<◌, ◌-◌, ◌/◌, ◌^◌, ◌∷◌, [], length, true, false, sym, ◌∙◌, ap, subst, arith}
+use Rattle.std.proofs.lemmas.Bool.{true≢false}
 use Rattle.std.specs.Prelude.{IsTrue}
 use Rattle.btree_node.specs.Node.{items}
 use Rattle.btree_node.specs.Tree.{IsTreeNode}
 use Rattle.btree_node.specs.Store.{MapsOnly}
 use Rattle.btree_edit.specs.Halves.{record_of}
 use Rattle.btree_edit.specs.Rising.{IsLeafRecord}
-use Rattle.btree_edit.proofs.Behind.{clashing}
 use Rattle.btree_edit.proofs.Outcomes.{on_ok_then, read_tree, root_in_use, root_not_reserved, bare_then, makes_from_bare, makes_read}
 use Rattle.btree_edit.proofs.edits.restart_empty.Goals as goal
 
@@ -17,7 +17,7 @@ returns-then-not-branch-clause-tree g c = λ tells tree some none is_record.
     let here : IsTreeNode s c.shape-shape.result.depth c.shape-shape.result.root =
     subst (λ h. IsTreeNode s h.depth h.root) (sym shape) node in
     let yes : c.in_ok-read_node.field-0 ≡ true = c.in_ok-read_node.ensures.sound tells here.inside here.kind (omega (arith, tree.header.depth, ap (λ h. h.depth) shape)) in
-    absurd (clashing (sym yes ∙ c.if-not-branch.true))
+    absurd (true≢false (sym yes ∙ c.if-not-branch.true))
 
 pub returns-clause-tree : goal.returns-clause-tree
 returns-clause-tree g c = λ tells tree some none is_record.
@@ -60,4 +60,4 @@ returns-then-not-branch-clause-one g c = λ tells tree some none.
     let here : IsTreeNode s c.shape-shape.result.depth c.shape-shape.result.root =
     subst (λ h. IsTreeNode s h.depth h.root) (sym shape) node in
     let yes : c.in_ok-read_node.field-0 ≡ true = c.in_ok-read_node.ensures.sound tells here.inside here.kind (omega (arith, tree.header.depth, ap (λ h. h.depth) shape)) in
-    absurd (clashing (sym yes ∙ c.if-not-branch.true))
+    absurd (true≢false (sym yes ∙ c.if-not-branch.true))

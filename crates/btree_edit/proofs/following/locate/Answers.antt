@@ -1,10 +1,11 @@
 use Rattle.std.proofs.Common.{◌≡◌, ◌<◌, ◌-◌, sym, subst, ◌∙◌, arith, rules, true, false}
+use Rattle.std.proofs.lemmas.Bool.{true≢false}
 use Rattle.std.specs.Prelude.{IsSome}
 use Rattle.btree_node.specs.Tree.{IsTreeNode}
 use Rattle.btree_edit.specs.Reading.{LeadsTo, LeadsToLeaf}
 use Rattle.btree_edit.proofs.Descent.{leads_node}
 use Rattle.btree_edit.proofs.Repeated.{still_node}
-use Rattle.btree_edit.proofs.Behind.{located, clashing}
+use Rattle.btree_edit.proofs.Behind.{located}
 use Rattle.btree_edit.proofs.following.locate.Goals as goal
 
 pub returns-then-not-branch-clause-at : goal.returns-then-not-branch-clause-at
@@ -19,7 +20,7 @@ returns-then-not-branch-clause-at g c = λ tells.
     let still = still_node (s.shape.depth - 1) 1 c.in-Some.node c.descend.ensures.reads tells node in
     let yes : c.in_ok-read_node.field-0 ≡ true = c.in_ok-read_node.ensures.sound still.0 still.1 still.2 (omega arith) in
     let clash : true ≡ false = sym yes ∙ c.if-not-branch.true in
-    absurd (clashing clash)
+    absurd (true≢false clash)
 
 pub returns-clause-at : goal.returns-clause-at
 returns-clause-at g c = λ tells.

@@ -1,8 +1,8 @@
 use Rattle.std.proofs.Common.{◌≡◌, ◌≤◌, ◌<◌, ◌+◌, ◌-◌, ◌^◌, length, get_or, [], true, refl, sym, ◌∙◌, ap, subst, arith}
+use Rattle.std.proofs.lemmas.Bool.{true≢false}
 use Rattle.btree_node.specs.Node.{items}
 use Rattle.btree_node.specs.Levels.{child_of, value_of}
 use Rattle.btree_edit.specs.Rising.{IsLowering}
-use Rattle.btree_edit.proofs.Behind.{clashing}
 use Rattle.btree_edit.proofs.Doing.{does_both, does_read, does_write}
 use Rattle.btree_edit.proofs.Settling.{rises_read, lowering_read, rises_lowered, lowering_end, lowering_root, root_used, root_free, root_record}
 use Rattle.btree_edit.proofs.roots.drop_single_child_roots.Goals as goal
@@ -96,7 +96,7 @@ returns-then-not-branch-clause-thick g c = λ tells start records small low lowe
     let here = inv.lowers tells start records small low lowering in
     let root = lowering_root g.K.KeyOrder.MAX g.met.K.KeyOrder.key_length g.met.K.KeyOrder.key_most start s records c.loop-done.shape (c.args.most - c.loop-done._done) here in
     let yes : c.in_ok-read_node.field-0 ≡ true = c.in_ok-read_node.ensures.sound (inv.does.same.tells ∙ tells) root.0.inside root.0.kind (omega (arith, low, inv.depth)) in
-    absurd (clashing (sym yes ∙ c.if-not-branch.true))
+    absurd (true≢false (sym yes ∙ c.if-not-branch.true))
 
 pub returns-then-count-ne1-clause-thick : goal.returns-then-count-ne1-clause-thick
 returns-then-count-ne1-clause-thick g c = λ tells start records small low lowering deep.

@@ -1,10 +1,10 @@
 use Rattle.std.proofs.Common.{◌≡◌, ◌<◌, ◌-◌, ◌+◌, length, set, ap, sym, subst, ◌∙◌, arith, refl, inl, inr, true}
+use Rattle.std.proofs.lemmas.Bool.{true≢false}
 use Rattle.std.proofs.lemmas.List.{length-set}
 use Rattle.btree_node.specs.Node.{items}
 use Rattle.btree_node.specs.Tree.{IsTreeNode}
 use Rattle.btree_edit.specs.Reading.{HasNoKey, IsLead, IsPlace}
 use Rattle.btree_edit.specs.Way.{LeadsWay}
-use Rattle.btree_edit.proofs.Behind.{clashing}
 use Rattle.btree_edit.proofs.Descent.{leads_root, leads_root_front, leads_node, leads_keys}
 use Rattle.btree_edit.proofs.Repeated.{reads_none, reads_both, still_node}
 use Rattle.btree_edit.proofs.Ways.{IsOnWay, on_root, on_step, on_leaf, bare_root}
@@ -43,7 +43,7 @@ returns-then-not-branch-clause-none g c = λ tells not some.
     (leads_node g.K.KeyOrder.is_key g.K.KeyOrder.cmp g.met.K.KeyOrder.total g.met.K.KeyOrder.key_length s t.levels t.ordered c.args.key.now c.loop-level.level c.loop-level.node (before.way tells).leads (omega (arith, c.loop-level-test.true))) in
     let still = still_node c.loop-level.level (c.shape-shape.result.depth - c.loop-level.level) c.loop-level.node before.reads tells node in
     let yes : c.in_ok-read_node.field-0 ≡ true = c.in_ok-read_node.ensures.sound still.0 still.1 still.2 (omega (arith, before.most)) in
-    absurd (clashing (sym yes ∙ c.if-not-branch.true))
+    absurd (true≢false (sym yes ∙ c.if-not-branch.true))
 
 pub returns-in_default-clause-none : goal.returns-in_default-clause-none
 returns-in_default-clause-none g c = λ tells not some.
@@ -104,7 +104,7 @@ returns-then-not-branch-2-clause-none g c = λ tells not some.
     (leads_node g.K.KeyOrder.is_key g.K.KeyOrder.cmp g.met.K.KeyOrder.total g.met.K.KeyOrder.key_length s t.levels t.ordered c.args.key.now c.loop-level.level c.loop-level.node (before.way tells).leads (omega arith)) in
     let still = still_node c.loop-level.level 1 c.loop-level.node before.reads tells node in
     let yes : c.in_ok-read_node-2.field-0 ≡ true = c.in_ok-read_node-2.ensures.sound still.0 still.1 still.2 (omega arith) in
-    absurd (clashing (sym yes ∙ c.if-not-branch-2.true))
+    absurd (true≢false (sym yes ∙ c.if-not-branch-2.true))
 
 pub returns-in_default-place-clause-none : goal.returns-in_default-place-clause-none
 returns-in_default-place-clause-none g c = λ tells not some.

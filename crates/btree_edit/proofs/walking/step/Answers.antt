@@ -1,8 +1,9 @@
 use Rattle.std.proofs.Common.{◌≡◌, ◌≤◌, ◌<◌, ◌^◌, ◌∙◌, sym, ap, subst, length, arith, true, false}
+use Rattle.std.proofs.lemmas.Bool.{true≢false}
 use Rattle.std.specs.Prelude.{Some, None}
 use Rattle.btree_node.specs.Node.{items}
 use Rattle.btree_edit.specs.Walking.{Turns}
-use Rattle.btree_edit.proofs.Behind.{clashing, not_inside}
+use Rattle.btree_edit.proofs.Behind.{not_inside}
 use Rattle.btree_edit.proofs.Outcomes.{read_tree, read_pairs}
 use Rattle.btree_edit.proofs.Walks.{stands_same, step_here, no_turn, first_there, step_over, steps_read}
 use Rattle.btree_edit.proofs.walking.step.Goals as goal
@@ -53,7 +54,7 @@ returns-else-keep_record-2-clause-steps g c tells place stands =
     let past = subst (λ l. length (items l) ≤ c.args.at) (sym c.keep_record.ensures.node) (not_inside c.args.at (length (items c.args.desk.now.node)) c.keep_record.result c.keep_record.ensures.all c.if-keep_record.false) in
     let here = stands_same s c.args.desk.now mid c.args.at place c.keep_record.ensures.node stands in
     let turns = subst (λ b. Turns s mid turned b) c.if-not-branch.false (c.in_ok-turn.ensures.turns tells) in
-    absurd (clashing (sym (c.keep_record-2.ensures.all (first_there g.K.KeyOrder.is_key g.K.KeyOrder.cmp g.met.K.KeyOrder.total g.met.K.KeyOrder.key_length s t mid c.args.at place here past turned turns)) ∙ c.if-keep_record-2.false))
+    absurd (true≢false (sym (c.keep_record-2.ensures.all (first_there g.K.KeyOrder.is_key g.K.KeyOrder.cmp g.met.K.KeyOrder.total g.met.K.KeyOrder.key_length s t mid c.args.at place here past turned turns)) ∙ c.if-keep_record-2.false))
 
 pub returns-in_err-turn-clause-pairs : goal.returns-in_err-turn-clause-pairs
 returns-in_err-turn-clause-pairs g c tells =
