@@ -30,6 +30,7 @@ fn read_sector<V: SectorView>(
     ensures time { IsTrue (V.space view.old).tells → TimePasses (V.space view.old).clock (V.space view.new).clock (LeavesDurable (V.space view.new)) }
     ensures room { SameRoom (V.space view.old) (V.space view.new) }
     ensures same { SameSpace (V.space view.old) (V.space view.new) }
+    ensures below { V.follows view.old view.new }
     ensures cause { HasCause (V.space view.old).faults (V.space view.new).faults result }
 {
     let sectors = view.sectors();
@@ -83,6 +84,7 @@ fn read_bytes<V: SectorView>(
     ensures time { IsTrue (V.space view.old).tells → TimePasses (V.space view.old).clock (V.space view.new).clock (LeavesDurable (V.space view.new)) }
     ensures room { SameRoom (V.space view.old) (V.space view.new) }
     ensures same { SameSpace (V.space view.old) (V.space view.new) }
+    ensures below { V.follows view.old view.new }
     ensures later { (V.space view.old).faults ≤ (V.space view.new).faults }
     ensures disk { IsErrOf result Disk → Rose (V.space view.old).faults (V.space view.new).faults }
 {
@@ -112,6 +114,7 @@ impl Bitmap {
         ensures time { IsTrue (V.space view.old).tells → TimePasses (V.space view.old).clock (V.space view.new).clock (LeavesDurable (V.space view.new)) }
         ensures room { SameRoom (V.space view.old) (V.space view.new) }
         ensures same { SameSpace (V.space view.old) (V.space view.new) }
+        ensures below { V.follows view.old view.new }
         ensures later { (V.space view.old).faults ≤ (V.space view.new).faults }
         ensures disk { IsErrOf result Disk → Rose (V.space view.old).faults (V.space view.new).faults }
     {

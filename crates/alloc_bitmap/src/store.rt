@@ -31,6 +31,7 @@ impl Bitmap {
         ensures time { IsTrue (P.SectorView.space space.old).tells → TimePasses (P.SectorView.space space.old).clock (P.SectorView.space space.new).clock (LeavesDurable (P.SectorView.space space.new)) }
         ensures room { TakesRoomFor (P.SectorView.space space.old) (fork_sectors self.now.fork self.now.per_block) self.now.changed (P.SectorView.space space.new) }
         ensures same { SameSpace (P.SectorView.space space.old) (P.SectorView.space space.new) }
+        ensures below { P.SectorView.follows space.old space.new }
         ensures faults { (P.SectorView.space space.new).faults ≡ (P.SectorView.space space.old).faults }
     {
         store_changed(
@@ -68,6 +69,7 @@ fn store_changed<P: SectorSpace>(
     ensures time { IsTrue (P.SectorView.space space.old).tells → TimePasses (P.SectorView.space space.old).clock (P.SectorView.space space.new).clock (LeavesDurable (P.SectorView.space space.new)) }
     ensures room { TakesRoomFor (P.SectorView.space space.old) (fork_sectors fork.now per_block) changed.now (P.SectorView.space space.new) }
     ensures same { SameSpace (P.SectorView.space space.old) (P.SectorView.space space.new) }
+    ensures below { P.SectorView.follows space.old space.new }
     ensures faults { (P.SectorView.space space.new).faults ≡ (P.SectorView.space space.old).faults }
 {
     let count = changed.len();
@@ -92,6 +94,7 @@ fn put_place<P: SectorSpace>(space: &mut P, used: &Bits, at: u64, place: usize)
     ensures time { IsTrue (P.SectorView.space space.old).tells → TimePasses (P.SectorView.space space.old).clock (P.SectorView.space space.new).clock (LeavesDurable (P.SectorView.space space.new)) }
     ensures room { TakesRoom (P.SectorView.space space.old) at (P.SectorView.space space.new) }
     ensures same { SameSpace (P.SectorView.space space.old) (P.SectorView.space space.new) }
+    ensures below { P.SectorView.follows space.old space.new }
     ensures faults { (P.SectorView.space space.new).faults ≡ (P.SectorView.space space.old).faults }
 {
     let mut sector = [0; 512];

@@ -22,6 +22,12 @@ impl SectorView for Pattern {
 
     ghost space = { λ _. told_none (2 ^ 32) };
 
+    ghost follows = { λ _ _. Unit {0} };
+
+    ghost follows_refl = { λ _. tt };
+
+    ghost follows_trans = { λ _ _ _ _ _. tt };
+
     fn sectors(&self) -> u64 {
         0x1_0000_0000
     }

@@ -80,6 +80,7 @@ fn read_shape<V: SectorView>(
     ensures long { IsTrue (V.space view.old).tells → IfOk result (λ shape. length (node_of (V.space view.old).content (fork_sectors fork.now per_block) 1 0) ≡ 512) }
     ensures value { IsTrue (V.space view.old).tells → IfOk result (λ shape. shape ≡ shape_of (file_in (fork_sectors fork.now per_block) (V.space view.old).content).head) }
     ensures reads { ReadsSpace (V.space view.old) (V.space view.new) }
+    ensures below { V.follows view.old view.new }
     ensures disk { IsErrOf result Disk → Rose (V.space view.old).faults (V.space view.new).faults }
 {
     let mut page = Node::new(alloc, 512)?;
@@ -123,6 +124,7 @@ fn read_tree<V: SectorView>(
         → HoldsNodes (fork_sectors fork.now per_block) (file_in (fork_sectors fork.now per_block) (V.space view.old).content) → IfOk result (λ tree. (tree.shape ≡ shape.now) × (tree.fork ≡ fork.now) × (tree.per_block ≡ per_block)) }
     ensures inside { IfOk result (λ tree. IsInside tree.fork tree.per_block (V.space view.old)) }
     ensures reads { ReadsSpace (V.space view.old) (V.space view.new) }
+    ensures below { V.follows view.old view.new }
     ensures disk { IsErrOf result Disk → Rose (V.space view.old).faults (V.space view.new).faults }
 {
     let mut header = Node::new(alloc, shape.node_size)?;
@@ -178,6 +180,7 @@ fn read_fork<V: SectorView>(
         → IfOk result (λ tree. length (node_of (V.space view.old).content (fork_sectors fork.now (block / 512)) 1 0) ≡ 512) }
     ensures inside { IfOk result (λ tree. IsInside tree.fork tree.per_block (V.space view.old)) }
     ensures reads { ReadsSpace (V.space view.old) (V.space view.new) }
+    ensures below { V.follows view.old view.new }
     ensures disk { IsErrOf result Disk → Rose (V.space view.old).faults (V.space view.new).faults }
 {
     let per_block = block / 512;
@@ -213,6 +216,7 @@ impl TreeFile {
             → IfOk result (λ tree. (tree.shape ≡ shape_of (file_in (fork_sectors fork.now (block / 512)) (V.space view.old).content).head) × (tree.fork ≡ fork.now) × (tree.per_block ≡ block / 512)) }
         ensures inside { IfOk result (λ tree. IsInside tree.fork tree.per_block (V.space view.old)) }
         ensures reads { ReadsSpace (V.space view.old) (V.space view.new) }
+        ensures below { V.follows view.old view.new }
         ensures disk { IsErrOf result Disk → Rose (V.space view.old).faults (V.space view.new).faults }
     {
         read_fork(alloc, view, fork, block)

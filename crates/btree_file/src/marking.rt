@@ -64,6 +64,7 @@ pub(crate) fn find_clear<V: SectorView>(
         → used_in (λ node. node_of (V.space space.old).content (fork_sectors fork.now per_block) (length page.old / 512) node) map.now n ≡ true) }
     ensures length { length page.new ≡ length page.old }
     ensures reads { ReadsSpace (V.space space.old) (V.space space.new) }
+    ensures below { V.follows space.old space.new }
     ensures cause { HasCause (V.space space.old).faults (V.space space.new).faults result }
 {
     // A node's bits have small numbers.
@@ -140,6 +141,7 @@ pub(crate) fn mark<P: SectorSpace>(
     ensures time { IsTrue (P.SectorView.space space.old).tells → TimePasses (P.SectorView.space space.old).clock (P.SectorView.space space.new).clock (LeavesDurable (P.SectorView.space space.new)) }
     ensures room { TakesRoomFor (sectors_at (fork_sectors fork.now per_block) (length page.old / 512) stretch.node) (P.SectorView.space space.old) (P.SectorView.space space.new) }
     ensures same { SameSpace (P.SectorView.space space.old) (P.SectorView.space space.new) }
+    ensures below { P.SectorView.follows space.old space.new }
     ensures faults { (P.SectorView.space space.new).faults ≡ (P.SectorView.space space.old).faults }
 {
     // A node's bits have small numbers.

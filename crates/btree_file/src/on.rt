@@ -31,13 +31,13 @@ impl<P: SectorSpace> NodeStore for TreeOn<'_, '_, P> {
 
     ghost state = { λ s. state_of (s.tree.ghost_name ∷ s.space.ghost_name ∷ (P.SectorView.space s.space.now).names) s.tree.now (P.SectorView.space s.space.now) };
 
-    ghost follows = { λ a b. FollowsOn a.tree.now b.tree.now (P.SectorView.space a.space.now) (P.SectorView.space b.space.now) };
+    ghost follows = { λ a b. FollowsOn a.tree.now b.tree.now (P.SectorView.space a.space.now) (P.SectorView.space b.space.now) × P.SectorView.follows a.space.now b.space.now };
 
     ghost well_formed = { λ s. state_well_formed (s.tree.ghost_name ∷ s.space.ghost_name ∷ (P.SectorView.space s.space.now).names) s.tree.now (P.SectorView.space s.space.now) };
 
-    ghost follows_refl = { λ s. follows_none s.tree.now (P.SectorView.space s.space.now) };
+    ghost follows_refl = { λ s. (follows_none s.tree.now (P.SectorView.space s.space.now), P.SectorView.follows_refl s.space.now) };
 
-    ghost follows_trans = { λ a b c p q. follows_both a.tree.now b.tree.now c.tree.now (P.SectorView.space a.space.now) (P.SectorView.space b.space.now) (P.SectorView.space c.space.now) p q };
+    ghost follows_trans = { λ a b c p q. (follows_both a.tree.now b.tree.now c.tree.now (P.SectorView.space a.space.now) (P.SectorView.space b.space.now) (P.SectorView.space c.space.now) p.0 q.0, P.SectorView.follows_trans a.space.now b.space.now c.space.now p.1 q.1) };
 
     fn shape(&self) -> TreeShape {
         self.tree.shape

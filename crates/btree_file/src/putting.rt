@@ -27,6 +27,7 @@ pub(crate) fn get_node<V: SectorView>(
     ensures value { IsTrue (V.space space.old).tells → OnOk result (into.new ≡ node_of (V.space space.old).content (fork_sectors fork.now per_block) (length into.old / 512) node) }
     ensures length { length into.new ≡ length into.old }
     ensures reads { ReadsSpace (V.space space.old) (V.space space.new) }
+    ensures below { V.follows space.old space.new }
     ensures cause { HasCause (V.space space.old).faults (V.space space.new).faults result }
 {
     let per = into.bytes().len() as u32 / 512;
@@ -67,6 +68,7 @@ pub(crate) fn put_node<P: SectorSpace>(
     ensures time { IsTrue (P.SectorView.space space.old).tells → TimePasses (P.SectorView.space space.old).clock (P.SectorView.space space.new).clock (LeavesDurable (P.SectorView.space space.new)) }
     ensures room { TakesRoomFor (sectors_at (fork_sectors fork.now per_block) (length from.now / 512) node) (P.SectorView.space space.old) (P.SectorView.space space.new) }
     ensures same { SameSpace (P.SectorView.space space.old) (P.SectorView.space space.new) }
+    ensures below { P.SectorView.follows space.old space.new }
     ensures faults { (P.SectorView.space space.new).faults ≡ (P.SectorView.space space.old).faults }
 {
     let per = from.bytes().len() as u32 / 512;

@@ -81,6 +81,7 @@ pub(crate) fn read_map_node<V: SectorView>(
         → 0 < record_count (node_of (V.space view.old).content (fork_sectors fork.now per_block) (length page.old / 512) node) → IfOk result (λ found. IsSome found) }
     ensures length { length page.new ≡ length page.old }
     ensures reads { ReadsSpace (V.space view.old) (V.space view.new) }
+    ensures below { V.follows view.old view.new }
     ensures cause { HasCause (V.space view.old).faults (V.space view.new).faults result }
 {
     get_node(view, fork, per_block, node, page)?;
@@ -117,6 +118,7 @@ pub(crate) fn read_map<V: SectorView>(
     ensures found { IsTrue (V.space view.old).tells → HasChain total (node_of (V.space view.old).content (fork_sectors fork.now per_block) (length page.old / 512)) → IfOk result (λ found. IsSome found) }
     ensures length { length page.new ≡ length page.old }
     ensures reads { ReadsSpace (V.space view.old) (V.space view.new) }
+    ensures below { V.follows view.old view.new }
     ensures disk { IsErrOf result Disk → Rose (V.space view.old).faults (V.space view.new).faults }
 {
     let size = header.bytes().len() as u32;

@@ -34,6 +34,7 @@ fn old_bytes<P: SectorSpace>(
     ensures bytes { IsTrue (P.SectorView.space space.old).tells → OnOk result ((k : ℕ) → k < 512 → slice_index into.new k ≡ old_byte (P.SectorView.space space.old).content (sectors_of per_block (blocks_of fork.now)) size (start + k)) }
     ensures walk { OnOk result (start < size → StandsAt fork.now per_block walk.new (start / 512 + 1)) }
     ensures space { IsOnlyRead (P.SectorView.space space.old) (P.SectorView.space space.new) }
+    ensures below { P.SectorView.follows space.old space.new }
     ensures cause { HasCause (P.SectorView.space space.old).faults (P.SectorView.space space.new).faults result }
 {
     if size <= start {
@@ -80,6 +81,7 @@ pub fn spill_sectors<P: SectorSpace>(
     ensures time { IsTrue (P.SectorView.space space.old).tells → TimePasses (P.SectorView.space space.old).clock (P.SectorView.space space.new).clock (LeavesDurable (P.SectorView.space space.new)) }
     ensures room { SameRoom (P.SectorView.space space.old) (P.SectorView.space space.new) }
     ensures same { SameSpace (P.SectorView.space space.old) (P.SectorView.space space.new) }
+    ensures below { P.SectorView.follows space.old space.new }
     ensures cause { HasCause (P.SectorView.space space.old).faults (P.SectorView.space space.new).faults result }
 {
     let mut old = Walk::before(fork, per_block, first);

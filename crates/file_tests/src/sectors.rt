@@ -18,6 +18,12 @@ impl SectorView for Sectors {
 
     ghost space = { λ s. told_faults (length s.list.items) s.faults };
 
+    ghost follows = { λ _ _. Unit {0} };
+
+    ghost follows_refl = { λ _. tt };
+
+    ghost follows_trans = { λ _ _ _ _ _. tt };
+
     fn sectors(&self) -> u64 {
         self.list.len() as u64
     }

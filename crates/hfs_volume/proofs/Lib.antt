@@ -5,7 +5,7 @@ mod Apart
 pub mod Ascending
 mod Asides
 mod Attributing
-mod BlockWants
+pub mod BlockWants
 mod Booking
 mod Bytes
 mod Counting
@@ -13,14 +13,14 @@ mod Dropped
 pub mod Dropping
 mod DroppingLink
 mod Emptying
-mod EntryWants
+pub mod EntryWants
 mod Fields
-mod Files
+pub mod Files
 mod Finishing
 mod Fitting
 mod Flat
 mod Folders
-mod HeaderWants
+pub mod HeaderWants
 mod Heading
 mod Hiding
 mod HidingFile
@@ -28,7 +28,7 @@ mod InOrder
 mod Keeping
 mod Keyed
 mod LinkValues
-mod LinkWants
+pub mod LinkWants
 mod LinkingFirst
 mod LinkingMore
 mod LinkingNames
@@ -62,7 +62,7 @@ mod RemovingLink
 mod RemovingNames
 mod Renaming
 mod Reparenting
-mod Repeats
+pub mod Repeats
 mod Rereading
 mod Running
 mod Sectors
@@ -70,19 +70,19 @@ mod Seeing
 mod Shaping
 mod Sharing
 pub mod Sides
-mod Sounding
+pub mod Sounding
 mod Steadying
 mod Swapping
 mod Telling
 mod TheLaws
 pub mod Threading
-mod TreeSounding
-mod TreeUnbroken
-mod TreeWants
+pub mod TreeSounding
+pub mod TreeUnbroken
+pub mod TreeWants
 mod Trees
 mod Untouched
-mod Wants
-mod Whole
+pub mod Wants
+pub mod Whole
 mod Reclaiming
 mod WorkedChanges
 mod WorkedNames

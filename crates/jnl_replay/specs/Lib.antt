@@ -1,5 +1,6 @@
 pub mod Buffered
 pub mod Homing
+pub mod Peeked
 pub mod Peeking
 pub mod Pending
 pub mod Placed

@@ -55,8 +55,15 @@ impl Peek {
 impl<D: SectorDisk> SectorView for PeekView<'_, '_, D> {
     ghost use Rattle.std.specs.Prelude.{◌∷◌, []};
     ghost use Rattle.jnl_replay.specs.Viewing.{view_of, view_size};
+    ghost use Rattle.jnl_replay.specs.Peeked.{PeeksOn, peeks_none, peeks_both};
 
     ghost space = { λ s. view_of (s.disk.ghost_name ∷ []) s.peek.now (D.state s.disk.now) };
+
+    ghost follows = { λ a b. PeeksOn a.peek.now b.peek.now (D.state a.disk.now) (D.state b.disk.now) };
+
+    ghost follows_refl = { λ view. peeks_none view.peek.now (D.state view.disk.now) };
+
+    ghost follows_trans = { λ a b c first second. peeks_both a.peek.now b.peek.now c.peek.now (D.state a.disk.now) (D.state b.disk.now) (D.state c.disk.now) first second };
 
     ghost well_formed = { λ view tells. view_size (view.disk.ghost_name ∷ []) view.peek.now (D.state view.disk.now) (D.well_formed view.disk.now) tells };
 

@@ -1,6 +1,8 @@
 pub mod Batch
 pub mod Table
 pub mod Cache
+pub mod FollowLaws
+pub mod Following
 pub mod Journal
 pub mod Lists
 pub mod Overlay

@@ -28,6 +28,14 @@ puts_of store = store.batch.all
 abbrev pub kept_of : Store → List Put
 kept_of store = store.batch.kept
 
+-- the sectors that the journal's live lists name, with their newest bytes
+abbrev pub live_of : Store → List Put
+live_of store = store.batch.live
+
+-- how many sectors there is room for between two commits
+abbrev pub room_of : Store → ℕ
+room_of store = store.batch.room
+
 -- something was spilled since the last barrier
 abbrev pub has_spilled : Store → Bool
 has_spilled store = store.unsettled

@@ -9,6 +9,7 @@ ghost use Rattle.sector_disk.specs.Disk.{OnlyReads};
 ghost use Rattle.jnl_store.specs.Journal.{IsClosed};
 ghost use Rattle.jnl_store.specs.Cache.{OthersStand, holds};
 ghost use Rattle.jnl_store.specs.Store.{KeepsOn, KeepsRingOn, SameButBatch, SameButFaults, faults_of, has_spilled, kept_of, plan_of, puts_of, slot_count, slots_of};
+ghost use Rattle.jnl_store.specs.Following.{SpaceFollows};
 ghost use Rattle.jnl_store.specs.Seen.{seen};
 
 use crate::puts::Put;
@@ -20,8 +21,15 @@ impl<D: SectorDisk> SectorView for Space<'_, '_, D> {
     ghost use Rattle.std.specs.Prelude.{◌∷◌, []};
     ghost use Rattle.jnl_store.specs.Spaces.{over};
     ghost use Rattle.jnl_store.specs.SpaceLaws.{space_size};
+    ghost use Rattle.jnl_store.specs.FollowLaws.{follows_none, follows_both};
 
     ghost space = { λ s. over s.store.ghost_name s.disk.ghost_name s.store.now (D.state s.disk.now) };
+
+    ghost follows = { λ a b. SpaceFollows a.store.now (D.state a.disk.now) b.store.now (D.state b.disk.now) };
+
+    ghost follows_refl = { λ view. follows_none view.store.now (D.state view.disk.now) };
+
+    ghost follows_trans = { λ a b c first second. follows_both a.store.now (D.state a.disk.now) b.store.now (D.state b.disk.now) c.store.now (D.state c.disk.now) first second };
 
     ghost well_formed = { λ view tells. space_size view.store.ghost_name view.disk.ghost_name view.store.now (D.state view.disk.now) (D.well_formed view.disk.now) tells };
 
@@ -38,6 +46,7 @@ impl<D: SectorDisk> SectorView for Space<'_, '_, D> {
         ensures time { IsTrue (seen D.state self.old).tells → TimePasses (seen D.state self.old).clock (seen D.state self.new).clock (LeavesDurable (seen D.state self.new)) }
         ensures room { SameRoom (seen D.state self.old) (seen D.state self.new) }
         ensures same { SameSpace (seen D.state self.old) (seen D.state self.new) }
+        ensures below { SpaceFollows self.old.store.now (D.state self.old.disk.now) self.new.store.now (D.state self.new.disk.now) }
         ensures cause { HasCause (seen D.state self.old).faults (seen D.state self.new).faults result }
         // The disk is only read, and the store counts a fault.
         ensures reads { OnlyReads (D.state self.old.disk.now) (D.state self.new.disk.now) }
@@ -77,6 +86,7 @@ impl<D: SectorDisk> SectorSpace for Space<'_, '_, D> {
         ensures time { IsTrue (seen D.state self.old).tells → TimePasses (seen D.state self.old).clock (seen D.state self.new).clock (LeavesDurable (seen D.state self.new)) }
         ensures room { TakesRoom (seen D.state self.old) at (seen D.state self.new) }
         ensures same { SameSpace (seen D.state self.old) (seen D.state self.new) }
+        ensures below { SpaceFollows self.old.store.now (D.state self.old.disk.now) self.new.store.now (D.state self.new.disk.now) }
         ensures faults { (seen D.state self.new).faults ≡ (seen D.state self.old).faults }
         ensures disk { Untouched (D.state self.old.disk.now) (D.state self.new.disk.now) }
         ensures store { SameButBatch self.old.store.now self.new.store.now }
@@ -102,6 +112,7 @@ impl<D: SectorDisk> SectorSpace for Space<'_, '_, D> {
         ensures time { IsTrue (seen D.state self.old).tells → TimePasses (seen D.state self.old).clock (seen D.state self.new).clock (LeavesDurable (seen D.state self.new)) }
         ensures room { SameRoom (seen D.state self.old) (seen D.state self.new) }
         ensures same { SameSpace (seen D.state self.old) (seen D.state self.new) }
+        ensures below { SpaceFollows self.old.store.now (D.state self.old.disk.now) self.new.store.now (D.state self.new.disk.now) }
         ensures cause { HasCause (seen D.state self.old).faults (seen D.state self.new).faults result }
         ensures disk { SameDisk (D.state self.old.disk.now) (D.state self.new.disk.now) }
         ensures sink { SameSink (D.state self.old.disk.now) (D.state self.new.disk.now) }

@@ -45,6 +45,7 @@ pub fn insert_pair<P: SectorSpace, K: KeyOrder>(
         (pairs_in (sectors_of_tree tree.old) (P.SectorView.space space.old).content) (pairs_in (sectors_of_tree tree.old) (P.SectorView.space space.new).content) answer) }
     // Sectors of the fork alone were put, on a fault too.
     ensures frame { FollowsOn tree.old tree.new (P.SectorView.space space.old) (P.SectorView.space space.new) }
+    ensures below { P.SectorView.follows space.old space.new }
     // They took at most this room.
     ensures room { (P.SectorView.space space.old).spare ≤ (P.SectorView.space space.new).spare + edit_writes (numbers_of tree.old).depth * per_node (numbers_of tree.old) }
     ensures cause { HasCause (P.SectorView.space space.old).faults (P.SectorView.space space.new).faults result }

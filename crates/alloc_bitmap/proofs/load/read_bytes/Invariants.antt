@@ -13,5 +13,6 @@ invariant-loop-at g l = record {
   time : IsTrue (g.V.SectorView.space l.fn.view).tells → TimePasses (g.V.SectorView.space l.fn.view).clock (g.V.SectorView.space l.view).clock (LeavesDurable (g.V.SectorView.space l.view));
   room : SameRoom (g.V.SectorView.space l.fn.view) (g.V.SectorView.space l.view);
   same : SameSpace (g.V.SectorView.space l.fn.view) (g.V.SectorView.space l.view);
+  below : g.V.SectorView.follows l.fn.view l.view;
   later : (g.V.SectorView.space l.fn.view).faults ≤ (g.V.SectorView.space l.view).faults;
 }

@@ -36,6 +36,9 @@ returns-then-not-has_nodes-clause-file g c = λ tells apart holds.
     let old : Space = g.V.SectorView.space c.args.view.now in
     absurd (true≢false (sym (c.if-not-has_nodes.ensures.1 (shape_holds (fork_sectors c.args.fork.now (c.args.block / 512)) old.content c.in_ok-shape.shape (c.in_ok-shape.ensures.value tells) holds))))
 
+pub returns-clause-below : goal.returns-clause-below
+returns-clause-below g c = g.met.V.SectorView.follows_trans c.args.view.now c.read_shape.new.view c.read_tree.new.view c.read_shape.ensures.below c.read_tree.ensures.below
+
 pub returns-clause-reads : goal.returns-clause-reads
 returns-clause-reads g c =
     reads_both (g.V.SectorView.space c.args.view.now) (g.V.SectorView.space c.read_shape.new.view) (g.V.SectorView.space c.read_tree.new.view) c.read_shape.ensures.reads c.read_tree.ensures.reads

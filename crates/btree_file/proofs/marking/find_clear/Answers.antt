@@ -72,6 +72,7 @@ loop-place-preserved g c =
           let size = ap (λ n. node_of old.content sectors (n / 512) (get_or c.args.map.now c.loop-place.place (record { node = 0; at = 0; len = 0 })).node) inv.long in
           set_here (λ n. node_of old.content sectors (length c.args.page.now / 512) n) c.args.map.now c.loop-place.place (record { node = 0; at = 0; len = 0 }) c.get_node.new.into c.loop-place.before c.min-count.result c.args.total c.first_clear-found.result low
           (c.in_ok-get_node.ensures.value (inv.reads.same.tells ∙ tells) ∙ content ∙ size) inv.before c.min-count.ensures c.if-found-start.false c.first_clear-found.ensures.before (inv.set tells);
+      below = g.met.V.SectorView.follows_trans c.args.space.now c.loop-place.space c.get_node.new.space inv.below c.get_node.ensures.below;
       reads = reads_both old mid (g.V.SectorView.space c.get_node.new.space) inv.reads c.in_ok-get_node.ensures.reads;
     }
 

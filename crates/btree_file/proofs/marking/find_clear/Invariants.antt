@@ -11,5 +11,6 @@ invariant-loop-place g l = record {
   long : length l.page ≡ length l.fn.page;
   before : l.before ≡ min (bits_of (take l.place l.map)) l.total;
   set : IsTrue (g.V.SectorView.space l.fn.space).tells → (n : ℕ) → n < l.before → used_in (λ node. node_of (g.V.SectorView.space l.fn.space).content (fork_sectors l.fork l.per_block) (length l.fn.page / 512) node) l.map n ≡ true;
+  below : g.V.SectorView.follows l.fn.space l.space;
   reads : ReadsSpace (g.V.SectorView.space l.fn.space) (g.V.SectorView.space l.space);
 }

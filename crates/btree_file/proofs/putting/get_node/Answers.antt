@@ -16,6 +16,7 @@ pub loop-k-init : goal.loop-k-init
 loop-k-init g c = record {
   per = ap (λ (b : List ℕ). length b / 512) c.bytes.ensures.value;
   read = fetched_none (g.V.SectorView.space c.args.space.now) (fork_sectors c.args.fork.now c.args.per_block) (length c.args.into.now / 512) c.args.node c.args.into.now;
+  below = g.met.V.SectorView.follows_refl c.args.space.now;
 }
 
 pub loop-k-preserved : goal.loop-k-preserved
@@ -37,6 +38,10 @@ loop-k-preserved g c =
             (subst (λ (b : List ℕ). Fetched old (g.V.SectorView.space w.get.new.self) fork per c.args.node (length c.args.into.now) b (k + 1)) (sym (w.into-is ∙ w.fill.ensures))
             (fetched_more old now (g.V.SectorView.space w.get.new.self) fork per c.args.node (length c.args.into.now) c.loop-k.into w.get.new.into k w.in-Some.at c.loop-k.invariant.read c.requires.whole low place (omega (arith, low)) w.get.array_long
             got.value (record { sectors = got.sectors; time = got.time; room = got.room; same = got.same; faults = got.cause.later })))
+        | in_default w ↦ absurd (has_place fork per c.args.node k c.requires.whole low (same_none fork c.args.node k (length c.bytes.result.now / 512) per e w.in_default.ensures))
+      ];
+      below = elim c.match-sector_at.branch [
+        | in-Some+in_ok-get w ↦ subst (λ s. g.V.SectorView.follows c.args.space.now s) (sym w.space-is) (g.met.V.SectorView.follows_trans c.args.space.now c.loop-k.space w.get.new.self c.loop-k.invariant.below w.get.ensures.below)
         | in_default w ↦ absurd (has_place fork per c.args.node k c.requires.whole low (same_none fork c.args.node k (length c.bytes.result.now / 512) per e w.in_default.ensures))
       ];
     }

@@ -7,4 +7,5 @@ abbrev pub invariant-loop-k : goal.invariant-loop-k
 invariant-loop-k g l = record {
   per : l.per ≡ length l.fn.into / 512;
   read : Fetched (g.V.SectorView.space l.fn.space) (g.V.SectorView.space l.space) (fork_sectors l.fork l.per_block) (length l.fn.into / 512) l.node (length l.fn.into) l.into l.k;
+  below : g.V.SectorView.follows l.fn.space l.space;
 }

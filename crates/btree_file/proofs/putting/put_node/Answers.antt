@@ -19,6 +19,7 @@ pub loop-k-init : goal.loop-k-init
 loop-k-init g c = record {
   per = ap (λ (b : List ℕ). length b / 512) c.bytes.ensures.value;
   stored = stored_none (g.P.SectorView.space c.args.space.now) (fork_sectors c.args.fork.now c.args.per_block) (length c.args.from.now / 512) c.args.node c.args.from.now c.requires.room;
+  below = g.met.P.SectorView.follows_refl c.args.space.now;
 }
 
 pub put-requires-clause-room : goal.put-requires-clause-room
@@ -51,6 +52,10 @@ loop-k-preserved g c =
             subst (λ s. Stored old (g.P.SectorView.space s) fork per c.args.node c.args.from.now (k + 1)) (sym w.space-is)
             (stored_more old now (g.P.SectorView.space w.put.new.self) fork per c.args.node c.args.from.now w.copy_sector.new.sector k w.in-Some.at c.loop-k.invariant.stored c.requires.apart c.requires.whole low place
             w.copy_sector.ensures (λ tells. omega (arith, inside, g.met.P.SectorView.well_formed c.loop-k.space tells)) w.put.ensures.puts w.put.ensures.time w.put.ensures.room w.put.ensures.same w.put.ensures.faults)
+        | in_default w ↦ absurd (has_place fork per c.args.node k c.requires.whole low (same_none fork c.args.node k (length c.bytes.result.now / 512) per e w.in_default.ensures))
+      ];
+      below = elim c.match-sector_at.branch [
+        | in-Some w ↦ subst (λ s. g.P.SectorView.follows c.args.space.now s) (sym w.space-is) (g.met.P.SectorView.follows_trans c.args.space.now c.loop-k.space w.put.new.self c.loop-k.invariant.below w.put.ensures.below)
         | in_default w ↦ absurd (has_place fork per c.args.node k c.requires.whole low (same_none fork c.args.node k (length c.bytes.result.now / 512) per e w.in_default.ensures))
       ];
     }

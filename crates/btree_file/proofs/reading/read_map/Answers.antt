@@ -58,6 +58,7 @@ loop-read-init g c =
           ap (λ n. map_chain (node_of old.content (fork_sectors c.args.fork.now c.args.per_block) (length c.args.page.now / 512)) c.args.total n) (sym (c.links-next.ensures.next ∙ ap next_of (c.requires.header tells)))
           ∙ ap (λ f. map_chain (node_of old.content (fork_sectors c.args.fork.now c.args.per_block) (length c.args.page.now / 512)) f c.links-next.result.0) {x = c.args.total} {y = c.args.total - 0} (omega arith)
           ∙ ap (λ (l : List ℕ). l ++ map_chain (node_of old.content (fork_sectors c.args.fork.now c.args.per_block) (length c.args.page.now / 512)) (c.args.total - 0) c.links-next.result.0) (sym (ap names_of items_is));
+      below = g.met.V.SectorView.follows_refl c.args.view.now;
       reads = reads_none old;
     }
 
@@ -92,6 +93,7 @@ loop-read-preserved g c =
           ∙ ap (λ f. names_of (c.loop-read.map.items ++ c.in-Some.step.stretch ∷ []) ++ map_chain (node_of old.content (fork_sectors c.args.fork.now c.args.per_block) (length c.args.page.now / 512)) f (next_of ((node_of old.content (fork_sectors c.args.fork.now c.args.per_block) (length c.args.page.now / 512)) c.loop-read.next))) {x = c.args.total - (c.loop-read._read - 1) - 1} {y = c.args.total - (c.loop-read._read + 1 - 1)} (omega (arith, some, inv.many))
           ∙ ap (λ n. names_of (c.loop-read.map.items ++ c.in-Some.step.stretch ∷ []) ++ map_chain (node_of old.content (fork_sectors c.args.fork.now c.args.per_block) (length c.args.page.now / 512)) (c.args.total - (c.loop-read._read + 1 - 1)) n) (sym next)
           ∙ ap (λ (l : List Stretch). names_of l ++ map_chain (node_of old.content (fork_sectors c.args.fork.now c.args.per_block) (length c.args.page.now / 512)) (c.args.total - (c.loop-read._read + 1 - 1)) c.in-Some.step.next) (sym items);
+      below = g.met.V.SectorView.follows_trans c.args.view.now c.loop-read.view c.read_map_node.new.view inv.below c.read_map_node.ensures.below;
       reads = reads_both old mid (g.V.SectorView.space c.read_map_node.new.view) inv.reads c.in_ok-step.ensures.reads;
     }
 
@@ -146,17 +148,26 @@ returns-else-next-eq0-2-clause-found g c = λ tells has.
     let inv = c.loop-read.invariant in
     absurd (omega (arith, chain_fewer (node_of old.content (fork_sectors c.args.fork.now c.args.per_block) (length c.args.page.now / 512)) c.args.total has c.loop-read.map.items c.loop-read.next (c.args.total - (c.loop-read._read - 1)) (inv.leads tells).some (λ e. c.if-next-eq0-2.false e) (omega (arith, (inv.leads tells).some, inv.many)) (inv.chain tells), inv.many))
 
+pub returns-in_err-step-clause-below : goal.returns-in_err-step-clause-below
+returns-in_err-step-clause-below g c = g.met.V.SectorView.follows_trans c.args.view.now c.loop-read.view c.read_map_node.new.view c.loop-read.invariant.below c.read_map_node.ensures.below
+
 pub returns-in_err-step-clause-reads : goal.returns-in_err-step-clause-reads
 returns-in_err-step-clause-reads g c =
     let old : Space = g.V.SectorView.space c.args.view.now in
     let mid : Space = g.V.SectorView.space c.loop-read.view in
     reads_both old mid (g.V.SectorView.space c.read_map_node.new.view) c.loop-read.invariant.reads c.read_map_node.ensures.reads
 
+pub returns-in_default-clause-below : goal.returns-in_default-clause-below
+returns-in_default-clause-below g c = g.met.V.SectorView.follows_trans c.args.view.now c.loop-read.view c.read_map_node.new.view c.loop-read.invariant.below c.read_map_node.ensures.below
+
 pub returns-in_default-clause-reads : goal.returns-in_default-clause-reads
 returns-in_default-clause-reads g c =
     let old : Space = g.V.SectorView.space c.args.view.now in
     let mid : Space = g.V.SectorView.space c.loop-read.view in
     reads_both old mid (g.V.SectorView.space c.read_map_node.new.view) c.loop-read.invariant.reads c.read_map_node.ensures.reads
+
+pub returns-in_err-push_stretch-2-clause-below : goal.returns-in_err-push_stretch-2-clause-below
+returns-in_err-push_stretch-2-clause-below g c = g.met.V.SectorView.follows_trans c.args.view.now c.loop-read.view c.read_map_node.new.view c.loop-read.invariant.below c.read_map_node.ensures.below
 
 pub returns-in_err-push_stretch-2-clause-reads : goal.returns-in_err-push_stretch-2-clause-reads
 returns-in_err-push_stretch-2-clause-reads g c =

@@ -17,5 +17,6 @@ invariant-loop-read g l = record {
   chain : IsTrue (g.V.SectorView.space l.fn.view).tells → map_chain (node_of (g.V.SectorView.space l.fn.view).content (fork_sectors l.fork l.per_block) (length l.fn.page / 512)) l.total
       (next_of (node_of (g.V.SectorView.space l.fn.view).content (fork_sectors l.fork l.per_block) (length l.fn.page / 512) 0))
       ≡ names_of l.map.items ++ map_chain (node_of (g.V.SectorView.space l.fn.view).content (fork_sectors l.fork l.per_block) (length l.fn.page / 512)) (l.total - (l._read - 1)) l.next;
+  below : g.V.SectorView.follows l.fn.view l.view;
   reads : ReadsSpace (g.V.SectorView.space l.fn.view) (g.V.SectorView.space l.view);
 }

@@ -13,6 +13,7 @@ loop-n-init g c = record {
   size = omega (arith, ap (λ (l : List ℕ). length l) c.new-bytes.ensures.items, c.requires.order);
   each = λ tells j lt. absurd (omega (arith, lt, ap (λ (l : List ℕ). length l) c.new-bytes.ensures.items));
   space = read_none (g.P.SectorView.space c.args.space.now);
+  below = g.met.P.SectorView.follows_refl c.args.space.now;
 }
 
 pub get-requires : goal.get-requires
@@ -45,6 +46,7 @@ loop-n-preserved g c =
           (sector_bytes_is old.content at c.get.new.into (sym (c.in_ok-get-in-Some.ensures.value (inv.space.same.tells ∙ tells) ∙ ap (λ (k : Content). sector k at) (inv.space.sectors tells).content)) c.get.array_long)
           (get_or_from_slice_get sectors n at 0 place) (inv.each tells);
       space = read_on old now new inv.space got.sectors got.time got.room got.same got.cause.later;
+      below = g.met.P.SectorView.follows_trans c.args.space.now c.loop-n.space c.get.new.self inv.below got.below;
     }
 
 pub returns-in_err-get-in-Some-clause-time : goal.returns-in_err-get-in-Some-clause-time
@@ -58,6 +60,12 @@ returns-in_err-push_part-clause-time g c = (read_on (g.P.SectorView.space c.args
 
 pub returns-in_err-push_part-clause-room : goal.returns-in_err-push_part-clause-room
 returns-in_err-push_part-clause-room g c = (read_on (g.P.SectorView.space c.args.space.now) (g.P.SectorView.space c.loop-n.space) (g.P.SectorView.space c.get.new.self) c.loop-n.invariant.space c.get.ensures.sectors c.get.ensures.time c.get.ensures.room c.get.ensures.same c.get.ensures.cause.later).room
+
+pub returns-in_err-get-in-Some-clause-below : goal.returns-in_err-get-in-Some-clause-below
+returns-in_err-get-in-Some-clause-below g c = g.met.P.SectorView.follows_trans c.args.space.now c.loop-n.space c.get.new.self c.loop-n.invariant.below c.get.ensures.below
+
+pub returns-in_err-push_part-clause-below : goal.returns-in_err-push_part-clause-below
+returns-in_err-push_part-clause-below g c = g.met.P.SectorView.follows_trans c.args.space.now c.loop-n.space c.get.new.self c.loop-n.invariant.below c.get.ensures.below
 
 pub returns-in-None-clause-bytes : goal.returns-in-None-clause-bytes
 returns-in-None-clause-bytes g c =

@@ -11,4 +11,5 @@ invariant-loop-n g l = let old = g.P.SectorView.space l.fn.space in record {
   size : length l.bytes.items ≡ max l.from (min l.end (l.n * 512)) - l.from;
   each : IsTrue old.tells → (j : ℕ) → j < length l.bytes.items → get_or l.bytes.items j 0 ≡ byte_in old.content (sectors_of l.per_block (blocks_of l.fork)) (l.from + j);
   space : IsOnlyRead old (g.P.SectorView.space l.space);
+  below : g.P.SectorView.follows l.fn.space l.space;
 }

@@ -45,6 +45,9 @@ returns-in_err-spill-in-Some-clause-time g c =
     (made_read old now mid had fresh c.args.first c.args.size c.args.from c.args.value.now n c.loop-n.invariant.made c.old_bytes.ensures.space)
     c.in_err-spill-in-Some.ensures.unsure c.spill.ensures.time c.spill.ensures.same
 
+pub returns-in_err-spill-in-Some-clause-below : goal.returns-in_err-spill-in-Some-clause-below
+returns-in_err-spill-in-Some-clause-below g c = g.met.P.SectorView.follows_trans c.args.space.now c.old_bytes.new.space c.spill.new.self (g.met.P.SectorView.follows_trans c.args.space.now c.loop-n.space c.old_bytes.new.space c.loop-n.invariant.below c.old_bytes.ensures.below) c.spill.ensures.below
+
 pub returns-in-None-clause-bytes : goal.returns-in-None-clause-bytes
 returns-in-None-clause-bytes g c =
     let fresh : List ℕ = sectors_of c.args.per_block (blocks_of c.args.fresh.now) in
@@ -77,4 +80,5 @@ loop-n-preserved g c =
       made = made_more old mid new had fresh c.args.first c.args.size c.args.from c.args.value.now n at c.put_part.new.sector made place c.requires.apart c.put_part.array_long
           (λ tells. omega (arith, g.met.P.SectorView.well_formed c.old_bytes.new.space tells, (c.requires.may_spill at (n, place)).inside, made.same.sectors))
           right c.in_ok-spill-in-Some.ensures.spills c.spill.ensures.time c.spill.ensures.room c.spill.ensures.same c.spill.ensures.cause.later;
+      below = g.met.P.SectorView.follows_trans c.args.space.now c.old_bytes.new.space c.spill.new.self (g.met.P.SectorView.follows_trans c.args.space.now c.loop-n.space c.old_bytes.new.space c.loop-n.invariant.below c.old_bytes.ensures.below) c.spill.ensures.below;
     }

@@ -9,4 +9,5 @@ invariant-loop-n g l = record {
   old_walk : (l.first + l.n) * 512 < l.size → StandsAt l.fork l.per_block l.old (l.first + l.n);
   new_walk : l.n < l.count → StandsAt l.fresh l.per_block l.new l.n;
   made : Made (g.P.SectorView.space l.fn.space) (g.P.SectorView.space l.space) (sectors_of l.per_block (blocks_of l.fork)) (sectors_of l.per_block (blocks_of l.fresh)) l.first l.size l.from l.value l.n;
+  below : g.P.SectorView.follows l.fn.space l.space;
 }

@@ -6,7 +6,8 @@ use Rattle.jnl_format.specs.Recovery.{replayed}
 use Rattle.jnl_replay.specs.Plan.{journal_of}
 use Rattle.jnl_replay.specs.Peeking.{peeked}
 use Rattle.jnl_replay.proofs.Checks.{length-content}
-use Rattle.jnl_replay.proofs.ReadOn.{reads_both, same_content}
+use Rattle.sector_disk.proofs.Writing.{reads_both}
+use Rattle.jnl_replay.proofs.ReadOn.{same_content}
 use Rattle.hfs_model.specs.Parts.{parts_of}
 use Rattle.hfs_model.specs.Thin.{AreThin, IsThin}
 use Rattle.hfs_model.specs.declared.parts.Parts.{Parts}

@@ -5,7 +5,8 @@ use Rattle.jnl_format.specs.Recovery.{recovery, replayed}
 use Rattle.jnl_replay.specs.Plan.{IsPlan, journal_of}
 use Rattle.jnl_replay.specs.declared.plan.Plan.{Plan}
 use Rattle.jnl_replay.proofs.Checks.{length-content}
-use Rattle.jnl_replay.proofs.ReadOn.{reads_both, same_content}
+use Rattle.sector_disk.proofs.Writing.{reads_both}
+use Rattle.jnl_replay.proofs.ReadOn.{same_content}
 use Rattle.hfsx_server.specs.Finding.{IsLargePlan}
 use Rattle.hfsx_server.proofs.Finding.{open_of, too_small}
 use Rattle.hfsx_server.proofs.Results.{if_ok}

@@ -2,7 +2,7 @@ use Rattle.std.proofs.Common.{◌≡◌, ◌∙◌, ℕ, IsTrue, sym, ap, subst,
 use Rattle.std.specs.Prelude.{slice_range}
 use Rattle.sector_disk.specs.Lists.{Content, sector}
 use Rattle.sector_disk.specs.Disk.{State, Candidates, content, content_of}
-use Rattle.jnl_replay.proofs.ReadOn.{reads_both}
+use Rattle.sector_disk.proofs.Writing.{reads_both}
 use Rattle.jnl_replay.specs.Viewing.{shown}
 use Rattle.hfsx_server.proofs.FoldersPlaced.{same_parts}
 use Rattle.hfsx_server.proofs.Volumes.{shown_same}

@@ -2,7 +2,8 @@ use Rattle.std.proofs.Common.{sym, ◌∙◌, arith, ◌+◌, ◌-◌}
 use Rattle.sector_disk.specs.Disk.{content}
 use Rattle.jnl_replay.specs.Text.{words}
 use Rattle.jnl_replay.proofs.Filling.{fill_on, fill_off, fill_over}
-use Rattle.jnl_replay.proofs.ReadOn.{reads_both, same_words, tells_then}
+use Rattle.sector_disk.proofs.Writing.{reads_both}
+use Rattle.jnl_replay.proofs.ReadOn.{same_words, tells_then}
 use Rattle.jnl_replay.proofs.blocks.blocks_are_valid.Goals as goal
 
 pub loop-entry-preserved : goal.loop-entry-preserved

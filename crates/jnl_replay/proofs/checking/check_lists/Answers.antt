@@ -5,7 +5,8 @@ use Rattle.jnl_format.specs.Ring.{offset_after}
 use Rattle.jnl_format.specs.declared.structures.JnlRefusal.TheVariants.{BadList}
 use Rattle.jnl_replay.specs.declared.text.Text.{Text}
 use Rattle.jnl_replay.proofs.Checks.{lists_checked, length-content}
-use Rattle.jnl_replay.proofs.ReadOn.{reads_both, same_content, tells_then}
+use Rattle.sector_disk.proofs.Writing.{reads_both}
+use Rattle.jnl_replay.proofs.ReadOn.{same_content, tells_then}
 use Rattle.jnl_replay.proofs.checking.check_lists.Goals as goal
 
 pub returns-in-None-clause-reads : goal.returns-in-None-clause-reads

@@ -5,7 +5,8 @@ use Rattle.jnl_format.specs.Text.{is_list, head_at}
 use Rattle.jnl_format.proofs.Lists.{next_bad, here_bad, none_bad}
 use Rattle.jnl_replay.specs.Text.{words}
 use Rattle.jnl_replay.proofs.Listing.{if_some}
-use Rattle.jnl_replay.proofs.ReadOn.{reads_none, reads_both, same_words, tells_then}
+use Rattle.sector_disk.proofs.Writing.{reads_none, reads_both}
+use Rattle.jnl_replay.proofs.ReadOn.{same_words, tells_then}
 use Rattle.jnl_replay.proofs.Texts.{length-words}
 use Rattle.jnl_replay.proofs.lists.walk_lists.Goals as goal
 

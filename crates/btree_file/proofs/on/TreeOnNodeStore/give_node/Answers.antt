@@ -75,7 +75,7 @@ returns-in_err-get_node-clause-below g c =
     let tree = c.args.self.now.tree.now in
     let old : Space = g.P.SectorView.space c.args.self.now.space.now in
     let mid : Space = g.P.SectorView.space c.get_node.new.space in
-    record { file = record { fork = refl; per_block = refl; map = refl; node_size = refl; total = refl }; form = λ tells. form_none (tree_head tree.header); space = reads_within (sectors_of_tree tree) old mid c.get_node.ensures.reads }
+    (record { file = record { fork = refl; per_block = refl; map = refl; node_size = refl; total = refl }; form = λ tells. form_none (tree_head tree.header); space = reads_within (sectors_of_tree tree) old mid c.get_node.ensures.reads }, c.get_node.ensures.below)
 
 pub returns-then-first_clear-place-clause-writes : goal.returns-then-first_clear-place-clause-writes
 unfolding unwritten_sectors
@@ -92,7 +92,7 @@ returns-then-first_clear-place-clause-below g c =
     let tree = c.args.self.now.tree.now in
     let old : Space = g.P.SectorView.space c.args.self.now.space.now in
     let mid : Space = g.P.SectorView.space c.get_node.new.space in
-    record { file = record { fork = refl; per_block = refl; map = refl; node_size = refl; total = refl }; form = λ tells. form_none (tree_head tree.header); space = reads_within (sectors_of_tree tree) old mid c.get_node.ensures.reads }
+    (record { file = record { fork = refl; per_block = refl; map = refl; node_size = refl; total = refl }; form = λ tells. form_none (tree_head tree.header); space = reads_within (sectors_of_tree tree) old mid c.get_node.ensures.reads }, c.get_node.ensures.below)
 
 pub overflow_mul-place : goal.overflow_mul-place
 overflow_mul-place g c =
@@ -239,7 +239,7 @@ returns-clause-below g c =
     let page = λ (t : IsTrue old.tells). subst (λ n. c.get_node.new.into ≡ node_of old.content (sectors_of_tree tree) (n / 512) c.in-Some.spot.stretch.node) tree.page_long (c.in_ok-get_node.ensures.value t) in
     let puts = λ (t : IsTrue mid.tells). subst (λ n. PutsNode (sectors_at (sectors_of_tree tree) (n / 512) c.in-Some.spot.stretch.node) c.mark.new.page mid new) long (c.mark.ensures.puts t) in
     let room = subst (λ n. TakesRoomFor (sectors_at (sectors_of_tree tree) (n / 512) c.in-Some.spot.stretch.node) mid new) long c.mark.ensures.room in
-    record {
+    (record {
       file = record { fork = refl; per_block = refl; map = refl; node_size = refl; total = refl };
       form = λ tells.
           let was = c.args.self.now.agrees tells in
@@ -252,7 +252,7 @@ returns-clause-below g c =
           let cleared = count_cleared (used_in (nodes_on (sectors_of_tree tree) tree.shape.node_size old.content) tree.map.items) (used_in (nodes_on (sectors_of_tree tree) tree.shape.node_size new.content) tree.map.items) tree.shape.total c.in-Some.spot.node is.inside bit here others in
           mark_form tree old mid reads c.in-Some.spot is c.get_node.new.into c.mark.new.header c.mark.new.page false new long page c.mark.ensures.page puts room tells was (tree.shape.free + 1) unreserved c.mark.ensures.header c.mark.ensures.header_kept (counted tree.shape.total tree.shape.free _ _ was.counted cleared);
       space = mark_within tree old mid reads c.in-Some.spot is c.get_node.new.into c.mark.new.header c.mark.new.page false new long page c.mark.ensures.page puts room c.mark.ensures.same c.mark.ensures.time c.mark.ensures.faults;
-    }
+    }, g.met.P.SectorView.follows_trans c.args.self.now.space.now c.get_node.new.space c.mark.new.space c.get_node.ensures.below c.mark.ensures.below)
 
 pub invariant_of-self-2 : goal.invariant_of-self-2
 invariant_of-self-2 g c =

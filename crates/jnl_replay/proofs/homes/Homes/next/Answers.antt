@@ -3,7 +3,8 @@ use Rattle.sector_disk.specs.Disk.{content}
 use Rattle.jnl_replay.specs.Text.{words}
 use Rattle.jnl_replay.specs.declared.text.Text.{Text}
 use Rattle.jnl_replay.proofs.Pendings.{goes_true, goes_false}
-use Rattle.jnl_replay.proofs.ReadOn.{reads_both, same_words, tells_then}
+use Rattle.sector_disk.proofs.Writing.{reads_both}
+use Rattle.jnl_replay.proofs.ReadOn.{same_words, tells_then}
 use Rattle.jnl_replay.proofs.homes.Homes.next.Goals as goal
 
 pub loop-self-preserved : goal.loop-self-preserved

@@ -12,7 +12,8 @@ use Rattle.jnl_replay.proofs.Checks.{length-content}
 use Rattle.jnl_replay.proofs.Common.{at_some}
 use Rattle.jnl_replay.proofs.Homed.{given_next, given_none}
 use Rattle.jnl_replay.proofs.Peeks.{indexed_start, indexed_step, indexed_end, no_place, none_placed, put_later, still_placed, shown_is}
-use Rattle.jnl_replay.proofs.ReadOn.{reads_none, reads_both, same_words, tells_then}
+use Rattle.sector_disk.proofs.Writing.{reads_none, reads_both}
+use Rattle.jnl_replay.proofs.ReadOn.{same_words, tells_then}
 use Rattle.jnl_replay.proofs.Stages.{homes_of_plan, words_of_plan}
 use Rattle.jnl_replay.proofs.index.Peek.new.Goals as goal
 

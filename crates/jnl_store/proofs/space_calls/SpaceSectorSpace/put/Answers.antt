@@ -1,13 +1,16 @@
-use Rattle.std.proofs.Common.{List, ◌&&◌, ◌∙◌, ◌<◌, ap, arith, inl, refl, length}
+use Rattle.std.proofs.Common.{List, ◌&&◌, ◌∙◌, ◌<◌, ap, arith, inl, refl, length, length-set}
+use Rattle.std.specs.Prelude.{IsTrue}
 use Rattle.std.proofs.lemmas.Bool.{and_from}
 use Rattle.jnl_store.specs.Journal.{are_open}
 use Rattle.jnl_store.specs.declared.puts.Put.{Put}
-use Rattle.sector_disk.specs.Disk.{content}
+use Rattle.sector_disk.specs.Disk.{State, content}
 use Rattle.jnl_format.specs.Recovery.{homes_of, replayed}
 use Rattle.jnl_format.specs.Named.{IsNamed}
 use Rattle.jnl_replay.specs.Plan.{journal_of}
 use Rattle.jnl_store.specs.Batch.{names}
-use Rattle.jnl_store.specs.Store.{content_over, durable_of, is_kept}
+use Rattle.jnl_store.specs.Cache.{Slots}
+use Rattle.jnl_store.specs.Store.{KeepsOn, content_over, durable_of, is_kept}
+use Rattle.jnl_store.specs.declared.store.Store.{Store}
 use Rattle.jnl_store.proofs.Slots.{keeps_some, length-over, put_elsewhere, put_here}
 use Rattle.jnl_store.specs.InUse.{keeps_lists}
 use Rattle.jnl_store.proofs.SpacedPuts.{iff_same, kept_put, live_put, room_put, tells_put}
@@ -91,3 +94,25 @@ returns-clause-keeps g c keeps open_at =
           })
           c.set.ensures refl keeps.1.cached (put_here old _ c.args.at c.args.from.now after inside) (λ s apart. put_elsewhere old _ c.args.at s c.args.from.now (inl after) apart),
     )
+
+-- what tells a space
+tells_of : (store : Store) (disk : State) → KeepsOn store disk → IsTrue (disk.tells && is_kept store disk.sectors disk.candidates)
+tells_of store disk keeps = and_from disk.tells (is_kept store disk.sectors disk.candidates) keeps.0 keeps.1.ring.kept
+
+pub returns-clause-below : goal.returns-clause-below
+returns-clause-below g c =
+    let store = c.args.self.now.store.now in
+    let disk = g.D.SectorDisk.state c.args.self.now.disk.now in
+    record {
+      plan = refl;
+      live = c.put.ensures.live;
+      kept = c.put.ensures.kept;
+      room = c.put.ensures.room;
+      slots = ap (λ (l : Slots). length l) c.set.ensures ∙ length-set _ _ _;
+      same = record { tells = refl; tells_left = refl; names = refl; sectors = refl };
+      sink = record { told = refl; faults = refl };
+      barriers = refl;
+      keeps = λ keeps. returns-clause-keeps g c keeps (c.requires.open (tells_of store disk keeps));
+      later = omega arith;
+      faults = inl refl;
+    }

@@ -1,4 +1,4 @@
-use Rattle.std.proofs.Common.{◌≡◌, ◌≢◌, ◌⊎◌, ◌<◌, ℕ, true, false, ◌&&◌, List, ◌∷◌, [], ◌++◌, inl, inr, length, refl, sym, ◌∙◌, ap, subst, arith}
+use Rattle.std.proofs.Common.{◌≡◌, ◌≢◌, ◌⊎◌, ◌<◌, ℕ, true, false, ◌&&◌, List, ◌∷◌, [], ◌++◌, inl, inr, length, length-set, refl, sym, ◌∙◌, ap, subst, arith}
 use Rattle.std.specs.Prelude.{IsTrue, None}
 use Rattle.std.proofs.lemmas.Bool.{and_from, and_parts, cases_Bool, true≢false}
 use Rattle.sector_disk.specs.Clock.{TimePasses}
@@ -11,7 +11,7 @@ use Rattle.jnl_store.specs.Batch.{names}
 use Rattle.jnl_store.specs.InUse.{keeps_lists}
 use Rattle.jnl_store.specs.Journal.{IsClosed, IsSpilled, are_open}
 use Rattle.jnl_store.specs.Cache.{Slots, with_slot}
-use Rattle.jnl_store.specs.Store.{IsLive, content_over, durable_of, is_kept}
+use Rattle.jnl_store.specs.Store.{IsLive, KeepsOn, content_over, durable_of, is_kept}
 use Rattle.jnl_store.proofs.Slots.{keeps_none, keeps_some, length-over, put_elsewhere, put_here}
 use Rattle.jnl_store.specs.declared.store.Store.{Store}
 use Rattle.jnl_store.proofs.RingKept.{IsFree}
@@ -235,3 +235,43 @@ returns-in-Err-clause-keeps g c keeps open_at =
           (c.set-in-Err.ensures ∙ ap (λ (l : Slots). with_slot l c.args.at None) c.count_fault.ensures.slots)
           keeps.1.cached (λ q apart. put_elsewhere old _ c.args.at q c.args.from.now made.content apart),
     )
+
+-- what tells a space
+tells_of : (store : Store) (disk : State) → KeepsOn store disk → IsTrue (disk.tells && is_kept store disk.sectors disk.candidates)
+tells_of store disk keeps = and_from disk.tells (is_kept store disk.sectors disk.candidates) keeps.0 keeps.1.ring.kept
+
+pub returns-in-Ok-clause-below : goal.returns-in-Ok-clause-below
+returns-in-Ok-clause-below g c =
+    let store = c.args.self.now.store.now in
+    let disk = g.D.SectorDisk.state c.args.self.now.disk.now in
+    record {
+      plan = refl;
+      live = refl;
+      kept = refl;
+      room = refl;
+      slots = ap (λ (l : Slots). length l) c.set.ensures ∙ length-set _ _ _;
+      same = c.write.ensures.same;
+      sink = c.write.ensures.sink;
+      barriers = c.write.ensures.barriers;
+      keeps = λ keeps. returns-in-Ok-clause-keeps g c keeps (c.requires.open (tells_of store disk keeps));
+      later = c.write.ensures.cause.later;
+      faults = inl refl;
+    }
+
+pub returns-in-Err-clause-below : goal.returns-in-Err-clause-below
+returns-in-Err-clause-below g c =
+    let store = c.args.self.now.store.now in
+    let disk = g.D.SectorDisk.state c.args.self.now.disk.now in
+    record {
+      plan = c.count_fault.ensures.plan;
+      live = ap (λ b. b.live) c.count_fault.ensures.batch;
+      kept = ap (λ b. b.kept) c.count_fault.ensures.batch;
+      room = ap (λ b. b.room) c.count_fault.ensures.batch;
+      slots = (ap (λ (l : Slots). length l) c.set-in-Err.ensures ∙ length-set _ _ _) ∙ ap (λ (l : Slots). length l) c.count_fault.ensures.slots;
+      same = c.write.ensures.same;
+      sink = c.write.ensures.sink;
+      barriers = c.write.ensures.barriers;
+      keeps = λ keeps. returns-in-Err-clause-keeps g c keeps (c.requires.open (tells_of store disk keeps));
+      later = c.write.ensures.cause.later;
+      faults = inr c.in-Err.ensures.cause.failed;
+    }

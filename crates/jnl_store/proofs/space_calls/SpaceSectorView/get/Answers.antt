@@ -1,6 +1,8 @@
-use Rattle.std.proofs.Common.{refl, sym, ◌∙◌, ap}
+use Rattle.std.proofs.Common.{refl, sym, ◌∙◌, ap, inl, length, length-set}
 use Rattle.std.proofs.lemmas.Bool.{and_from}
 use Rattle.sector_disk.specs.Lists.{Content, sector}
+use Rattle.jnl_store.specs.Batch.{Staged}
+use Rattle.jnl_store.specs.Cache.{Slots}
 use Rattle.jnl_store.specs.Store.{durable_of, is_kept}
 use Rattle.jnl_store.proofs.Slots.{cached_still, keeps_some}
 use Rattle.jnl_store.proofs.space_calls.SpaceSectorView.get.Goals as goal
@@ -46,3 +48,21 @@ returns-clause-keeps g c keeps =
       keeps_some mid _ s1.sectors s1.candidates s1.candidates c.args.at _ (record { kept = k.1.kept; settled = k.1.settled }) c.set.ensures refl
           (cached_still store mid s0.candidates s1.candidates c.fetch.ensures.slots same keeps.1.cached) (ap (λ (d : Content). sector d c.args.at) same ∙ sym (c.in_ok-fetch.ensures.value told)) (λ s apart. refl),
     )
+
+pub returns-clause-below : goal.returns-clause-below
+returns-clause-below g c =
+    let fetched = c.fetch.ensures.store in
+    let reads = c.fetch.ensures.reads in
+    record {
+      plan = fetched.plan;
+      live = ap (λ (b : Staged). b.live) fetched.batch;
+      kept = ap (λ (b : Staged). b.kept) fetched.batch;
+      room = ap (λ (b : Staged). b.room) fetched.batch;
+      slots = (ap (λ (l : Slots). length l) c.set.ensures ∙ length-set _ _ _) ∙ fetched.slots;
+      same = reads.same;
+      sink = reads.sink;
+      barriers = reads.barriers;
+      keeps = λ keeps. returns-clause-keeps g c keeps;
+      later = reads.faults;
+      faults = inl c.in_ok-fetch.ensures.uncounted;
+    }
