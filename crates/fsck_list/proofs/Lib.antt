@@ -1,0 +1,5 @@
+pub mod OrderLaws
+pub mod KeptLaws
+pub mod FlatLaws
+pub mod MarkLaws
+pub mod Ranges
