@@ -102,28 +102,28 @@ returns-in_default-clause-file g c = λ tells long same holds.
     absurd (true≢false (sym (is_none c.in_ok-found.found c.in_default.is (c.in_ok-found.ensures.found told (has_chain_as old.content mid.content (fork_sectors c.args.fork.now c.args.per_block) (length c.in_ok-page.page) c.args.shape.now.node_size c.args.shape.now.total content page_is has)))))
 
 pub returns-in_err-found-clause-below : goal.returns-in_err-found-clause-below
-returns-in_err-found-clause-below g c = g.met.V.SectorView.follows_trans c.args.view.now c.get_node.new.view c.read_map.new.view c.get_node.ensures.below c.read_map.ensures.below
+returns-in_err-found-clause-below g c = g.met.V.SectorView.follows_trans c.args.view.now c.get_node.new.space c.read_map.new.view c.get_node.ensures.below c.read_map.ensures.below
 
 pub returns-in_err-found-clause-reads : goal.returns-in_err-found-clause-reads
 returns-in_err-found-clause-reads g c =
     reads_both (g.V.SectorView.space c.args.view.now) (g.V.SectorView.space c.get_node.new.space) (g.V.SectorView.space c.read_map.new.view) c.get_node.ensures.reads c.read_map.ensures.reads
 
 pub returns-in_err-empty-3-clause-below : goal.returns-in_err-empty-3-clause-below
-returns-in_err-empty-3-clause-below g c = g.met.V.SectorView.follows_trans c.args.view.now c.get_node.new.view c.read_map.new.view c.get_node.ensures.below c.read_map.ensures.below
+returns-in_err-empty-3-clause-below g c = g.met.V.SectorView.follows_trans c.args.view.now c.get_node.new.space c.read_map.new.view c.get_node.ensures.below c.read_map.ensures.below
 
 pub returns-in_err-empty-3-clause-reads : goal.returns-in_err-empty-3-clause-reads
 returns-in_err-empty-3-clause-reads g c =
     reads_both (g.V.SectorView.space c.args.view.now) (g.V.SectorView.space c.get_node.new.space) (g.V.SectorView.space c.read_map.new.view) c.get_node.ensures.reads c.read_map.ensures.reads
 
 pub returns-in_default-clause-below : goal.returns-in_default-clause-below
-returns-in_default-clause-below g c = g.met.V.SectorView.follows_trans c.args.view.now c.get_node.new.view c.read_map.new.view c.get_node.ensures.below c.read_map.ensures.below
+returns-in_default-clause-below g c = g.met.V.SectorView.follows_trans c.args.view.now c.get_node.new.space c.read_map.new.view c.get_node.ensures.below c.read_map.ensures.below
 
 pub returns-in_default-clause-reads : goal.returns-in_default-clause-reads
 returns-in_default-clause-reads g c =
     reads_both (g.V.SectorView.space c.args.view.now) (g.V.SectorView.space c.get_node.new.space) (g.V.SectorView.space c.read_map.new.view) c.get_node.ensures.reads c.read_map.ensures.reads
 
 pub returns-clause-below : goal.returns-clause-below
-returns-clause-below g c = g.met.V.SectorView.follows_trans c.args.view.now c.get_node.new.view c.read_map.new.view c.get_node.ensures.below c.read_map.ensures.below
+returns-clause-below g c = g.met.V.SectorView.follows_trans c.args.view.now c.get_node.new.space c.read_map.new.view c.get_node.ensures.below c.read_map.ensures.below
 
 pub returns-clause-reads : goal.returns-clause-reads
 returns-clause-reads g c =
