@@ -238,21 +238,23 @@ returns-clause-below g c =
     let long = c.get_node.ensures.length ∙ tree.page_long in
     let page = λ (t : IsTrue old.tells). subst (λ n. c.get_node.new.into ≡ node_of old.content (sectors_of_tree tree) (n / 512) c.in-Some.spot.stretch.node) tree.page_long (c.in_ok-get_node.ensures.value t) in
     let puts = λ (t : IsTrue mid.tells). subst (λ n. PutsNode (sectors_at (sectors_of_tree tree) (n / 512) c.in-Some.spot.stretch.node) c.mark.new.page mid new) long (c.mark.ensures.puts t) in
-    let room = subst (λ n. TakesRoomFor (sectors_at (sectors_of_tree tree) (n / 512) c.in-Some.spot.stretch.node) mid new) long c.mark.ensures.room in
-    (record {
-      file = record { fork = refl; per_block = refl; map = refl; node_size = refl; total = refl };
-      form = λ tells.
-          let was = c.args.self.now.agrees tells in
-          let bit = spot_bit (nodes_on (sectors_of_tree tree) tree.shape.node_size old.content) tree.map.items tree.shape.total c.in-Some.spot is ∙ ap (λ (l : List ℕ). bit_of l (8 * c.in-Some.spot.stretch.at + c.in-Some.spot.bit)) (sym (page tells))
-          ∙ c.first_clear.ensures.before (8 * c.in-Some.spot.stretch.at + c.in-Some.spot.bit) (omega arith) (omega (arith, c.first_clear.ensures.from, c.if-first_clear-place.false)) in
-          let unreserved : is_reserved tree.map.items c.in-Some.spot.node ≡ false =
-          ap (is_reserved tree.map.items) c.in-Some.ensures.node ∙ ap (λ (m : List Stretch). is_reserved m c.args.node) (sym c.deref.ensures.value) ∙ sym c.is_reserved.ensures ∙ c.if-is_reserved.false in
-          let here = mark_here tree old mid reads c.in-Some.spot is c.get_node.new.into c.mark.new.header c.mark.new.page false new long page c.mark.ensures.page puts room tells was in
-          let others = mark_others tree old mid reads c.in-Some.spot is c.get_node.new.into c.mark.new.header c.mark.new.page false new long page c.mark.ensures.page puts room tells was in
-          let cleared = count_cleared (used_in (nodes_on (sectors_of_tree tree) tree.shape.node_size old.content) tree.map.items) (used_in (nodes_on (sectors_of_tree tree) tree.shape.node_size new.content) tree.map.items) tree.shape.total c.in-Some.spot.node is.inside bit here others in
-          mark_form tree old mid reads c.in-Some.spot is c.get_node.new.into c.mark.new.header c.mark.new.page false new long page c.mark.ensures.page puts room tells was (tree.shape.free + 1) unreserved c.mark.ensures.header c.mark.ensures.header_kept (counted tree.shape.total tree.shape.free _ _ was.counted cleared);
-      space = mark_within tree old mid reads c.in-Some.spot is c.get_node.new.into c.mark.new.header c.mark.new.page false new long page c.mark.ensures.page puts room c.mark.ensures.same c.mark.ensures.time c.mark.ensures.faults;
-    }, g.met.P.SectorView.follows_trans c.args.self.now.space.now c.get_node.new.space c.mark.new.space c.get_node.ensures.below c.mark.ensures.below)
+    let room = subst (λ n. TakesRoomFor (sectors_at (sectors_of_tree tree) (n / 512) c.in-Some.spot.stretch.node) mid new) long c.mark.ensures.room in (
+      record {
+        file = record { fork = refl; per_block = refl; map = refl; node_size = refl; total = refl };
+        form = λ tells.
+            let was = c.args.self.now.agrees tells in
+            let bit = spot_bit (nodes_on (sectors_of_tree tree) tree.shape.node_size old.content) tree.map.items tree.shape.total c.in-Some.spot is ∙ ap (λ (l : List ℕ). bit_of l (8 * c.in-Some.spot.stretch.at + c.in-Some.spot.bit)) (sym (page tells))
+            ∙ c.first_clear.ensures.before (8 * c.in-Some.spot.stretch.at + c.in-Some.spot.bit) (omega arith) (omega (arith, c.first_clear.ensures.from, c.if-first_clear-place.false)) in
+            let unreserved : is_reserved tree.map.items c.in-Some.spot.node ≡ false =
+            ap (is_reserved tree.map.items) c.in-Some.ensures.node ∙ ap (λ (m : List Stretch). is_reserved m c.args.node) (sym c.deref.ensures.value) ∙ sym c.is_reserved.ensures ∙ c.if-is_reserved.false in
+            let here = mark_here tree old mid reads c.in-Some.spot is c.get_node.new.into c.mark.new.header c.mark.new.page false new long page c.mark.ensures.page puts room tells was in
+            let others = mark_others tree old mid reads c.in-Some.spot is c.get_node.new.into c.mark.new.header c.mark.new.page false new long page c.mark.ensures.page puts room tells was in
+            let cleared = count_cleared (used_in (nodes_on (sectors_of_tree tree) tree.shape.node_size old.content) tree.map.items) (used_in (nodes_on (sectors_of_tree tree) tree.shape.node_size new.content) tree.map.items) tree.shape.total c.in-Some.spot.node is.inside bit here others in
+            mark_form tree old mid reads c.in-Some.spot is c.get_node.new.into c.mark.new.header c.mark.new.page false new long page c.mark.ensures.page puts room tells was (tree.shape.free + 1) unreserved c.mark.ensures.header c.mark.ensures.header_kept (counted tree.shape.total tree.shape.free _ _ was.counted cleared);
+        space = mark_within tree old mid reads c.in-Some.spot is c.get_node.new.into c.mark.new.header c.mark.new.page false new long page c.mark.ensures.page puts room c.mark.ensures.same c.mark.ensures.time c.mark.ensures.faults;
+      },
+      g.met.P.SectorView.follows_trans c.args.self.now.space.now c.get_node.new.space c.mark.new.space c.get_node.ensures.below c.mark.ensures.below,
+    )
 
 pub invariant_of-self-2 : goal.invariant_of-self-2
 invariant_of-self-2 g c =

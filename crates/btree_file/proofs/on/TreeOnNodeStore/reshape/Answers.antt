@@ -43,15 +43,17 @@ pub returns-clause-below : goal.returns-clause-below
 returns-clause-below g c =
     let tree = c.args.self.now.tree.now in
     let old : Space = g.P.SectorView.space c.args.self.now.space.now in
-    let new : Space = g.P.SectorView.space c.put_node.new.space in
-    (record {
-      file = record { fork = refl; per_block = refl; map = refl; node_size = c.requires.size; total = c.requires.total };
-      form = λ tells. form_kept c.args.shape.now tree.header c.set_shape.new.self c.set_shape.ensures;
-      space = put_within (sectors_of_tree tree) (tree.shape.node_size / 512) 0 c.set_shape.new.self old new (c.set_shape.ensures.size ∙ tree.long ∙ sym (tree_size tree).1)
-          (λ tells. subst (λ long. PutsNode (sectors_at (sectors_of_tree tree) (long / 512) 0) c.set_shape.new.self old new) (c.set_shape.ensures.size ∙ tree.long) (c.put_node.ensures.puts tells))
-          (subst (λ long. TakesRoomFor (sectors_at (sectors_of_tree tree) (long / 512) 0) old new) (c.set_shape.ensures.size ∙ tree.long) c.put_node.ensures.room)
-          c.put_node.ensures.same c.put_node.ensures.time c.put_node.ensures.faults;
-    }, c.put_node.ensures.below)
+    let new : Space = g.P.SectorView.space c.put_node.new.space in (
+      record {
+        file = record { fork = refl; per_block = refl; map = refl; node_size = c.requires.size; total = c.requires.total };
+        form = λ tells. form_kept c.args.shape.now tree.header c.set_shape.new.self c.set_shape.ensures;
+        space = put_within (sectors_of_tree tree) (tree.shape.node_size / 512) 0 c.set_shape.new.self old new (c.set_shape.ensures.size ∙ tree.long ∙ sym (tree_size tree).1)
+            (λ tells. subst (λ long. PutsNode (sectors_at (sectors_of_tree tree) (long / 512) 0) c.set_shape.new.self old new) (c.set_shape.ensures.size ∙ tree.long) (c.put_node.ensures.puts tells))
+            (subst (λ long. TakesRoomFor (sectors_at (sectors_of_tree tree) (long / 512) 0) old new) (c.set_shape.ensures.size ∙ tree.long) c.put_node.ensures.room)
+            c.put_node.ensures.same c.put_node.ensures.time c.put_node.ensures.faults;
+      },
+      c.put_node.ensures.below,
+    )
 
 pub returns-clause-tree : goal.returns-clause-tree
 returns-clause-tree g c tells =

@@ -83,14 +83,16 @@ pub returns-clause-below : goal.returns-clause-below
 returns-clause-below g c =
     let tree = c.args.self.now.tree.now in
     let old : Space = g.P.SectorView.space c.args.self.now.space.now in
-    let new : Space = g.P.SectorView.space c.put_node.new.space in
-    (record {
-      file = record { fork = refl; per_block = refl; map = refl; node_size = refl; total = refl };
-      form = λ tells. form_none (tree_head tree.header);
-      space = put_within (sectors_of_tree tree) (tree.shape.node_size / 512) c.args.node c.args.from.now old new (c.requires.size ∙ sym (whole_size tree).1)
-          (λ tells. puts_of tree c.args.node (length c.args.from.now) c.args.from.now old new c.requires.size (c.put_node.ensures.puts tells))
-          (room_of tree c.args.node (length c.args.from.now) old new c.requires.size c.put_node.ensures.room) c.put_node.ensures.same c.put_node.ensures.time c.put_node.ensures.faults;
-    }, c.put_node.ensures.below)
+    let new : Space = g.P.SectorView.space c.put_node.new.space in (
+      record {
+        file = record { fork = refl; per_block = refl; map = refl; node_size = refl; total = refl };
+        form = λ tells. form_none (tree_head tree.header);
+        space = put_within (sectors_of_tree tree) (tree.shape.node_size / 512) c.args.node c.args.from.now old new (c.requires.size ∙ sym (whole_size tree).1)
+            (λ tells. puts_of tree c.args.node (length c.args.from.now) c.args.from.now old new c.requires.size (c.put_node.ensures.puts tells))
+            (room_of tree c.args.node (length c.args.from.now) old new c.requires.size c.put_node.ensures.room) c.put_node.ensures.same c.put_node.ensures.time c.put_node.ensures.faults;
+      },
+      c.put_node.ensures.below,
+    )
 
 pub invariant_of-self-2 : goal.invariant_of-self-2
 invariant_of-self-2 g c =

@@ -173,18 +173,20 @@ returns-clause-below g c =
     let long = c.find_clear.ensures.length ∙ tree.page_long in
     let page = λ (t : IsTrue old.tells). page_is old.content (sectors_of_tree tree) c.find_clear.new.page (length tree.page) tree.shape.node_size c.in_ok-found.found c.in-Some.spot tree.page_long c.in-Some.is (c.in_ok-found.ensures.page t) in
     let puts = λ (t : IsTrue mid.tells). subst (λ n. PutsNode (sectors_at (sectors_of_tree tree) (n / 512) c.in-Some.spot.stretch.node) c.mark.new.page mid new) long (c.mark.ensures.puts t) in
-    let room = subst (λ n. TakesRoomFor (sectors_at (sectors_of_tree tree) (n / 512) c.in-Some.spot.stretch.node) mid new) long c.mark.ensures.room in
-    (record {
-      file = record { fork = refl; per_block = refl; map = refl; node_size = refl; total = refl };
-      form = λ tells.
-          let was = c.args.self.now.agrees tells in
-          let here = mark_here tree old mid c.find_clear.ensures.reads c.in-Some.spot is c.find_clear.new.page c.mark.new.header c.mark.new.page true new long page c.mark.ensures.page puts room tells was in
-          let others = mark_others tree old mid c.find_clear.ensures.reads c.in-Some.spot is c.find_clear.new.page c.mark.new.header c.mark.new.page true new long page c.mark.ensures.page puts room tells was in
-          let set = count_set (used_in (nodes_on (sectors_of_tree tree) tree.shape.node_size old.content) tree.map.items) (used_in (nodes_on (sectors_of_tree tree) tree.shape.node_size new.content) tree.map.items) tree.shape.total c.in-Some.spot.node is.inside (returns-clause-was_free g c tells) here others in
-          mark_form tree old mid c.find_clear.ensures.reads c.in-Some.spot is c.find_clear.new.page c.mark.new.header c.mark.new.page true new long page c.mark.ensures.page puts room tells was (tree.shape.free - 1)
-          (returns-clause-of_tree g c tells) c.mark.ensures.header c.mark.ensures.header_kept (counted tree.shape.total tree.shape.free _ _ was.counted c.requires.free set);
-      space = mark_within tree old mid c.find_clear.ensures.reads c.in-Some.spot is c.find_clear.new.page c.mark.new.header c.mark.new.page true new long page c.mark.ensures.page puts room c.mark.ensures.same c.mark.ensures.time c.mark.ensures.faults;
-    }, g.met.P.SectorView.follows_trans c.args.self.now.space.now c.find_clear.new.space c.mark.new.space c.find_clear.ensures.below c.mark.ensures.below)
+    let room = subst (λ n. TakesRoomFor (sectors_at (sectors_of_tree tree) (n / 512) c.in-Some.spot.stretch.node) mid new) long c.mark.ensures.room in (
+      record {
+        file = record { fork = refl; per_block = refl; map = refl; node_size = refl; total = refl };
+        form = λ tells.
+            let was = c.args.self.now.agrees tells in
+            let here = mark_here tree old mid c.find_clear.ensures.reads c.in-Some.spot is c.find_clear.new.page c.mark.new.header c.mark.new.page true new long page c.mark.ensures.page puts room tells was in
+            let others = mark_others tree old mid c.find_clear.ensures.reads c.in-Some.spot is c.find_clear.new.page c.mark.new.header c.mark.new.page true new long page c.mark.ensures.page puts room tells was in
+            let set = count_set (used_in (nodes_on (sectors_of_tree tree) tree.shape.node_size old.content) tree.map.items) (used_in (nodes_on (sectors_of_tree tree) tree.shape.node_size new.content) tree.map.items) tree.shape.total c.in-Some.spot.node is.inside (returns-clause-was_free g c tells) here others in
+            mark_form tree old mid c.find_clear.ensures.reads c.in-Some.spot is c.find_clear.new.page c.mark.new.header c.mark.new.page true new long page c.mark.ensures.page puts room tells was (tree.shape.free - 1)
+            (returns-clause-of_tree g c tells) c.mark.ensures.header c.mark.ensures.header_kept (counted tree.shape.total tree.shape.free _ _ was.counted c.requires.free set);
+        space = mark_within tree old mid c.find_clear.ensures.reads c.in-Some.spot is c.find_clear.new.page c.mark.new.header c.mark.new.page true new long page c.mark.ensures.page puts room c.mark.ensures.same c.mark.ensures.time c.mark.ensures.faults;
+      },
+      g.met.P.SectorView.follows_trans c.args.self.now.space.now c.find_clear.new.space c.mark.new.space c.find_clear.ensures.below c.mark.ensures.below,
+    )
 
 pub invariant_of-self-2 : goal.invariant_of-self-2
 invariant_of-self-2 g c =
