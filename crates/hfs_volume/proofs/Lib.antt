@@ -45,6 +45,7 @@ mod MovingOver
 mod MovingSeen
 mod Named
 mod NextReclaim
+mod DropSteps
 mod NodesOf
 mod Opening
 mod Ordering
@@ -89,7 +90,7 @@ mod WorkedNames
 mod WorkedCosts
 mod WorkedSound
 mod WorkedTrees
-mod WorkedVolumes
+pub mod WorkedVolumes
 mod BlockCounts
 mod BlockForks
 mod BlockLaw

@@ -18,6 +18,7 @@ use Rattle.hfs_volume.specs.Blocks.{HasSizes, GoesOn}
 use Rattle.hfs_volume.specs.Links.{private_id, is_in, is_in_private, is_shared_file, is_orphan, orphans_of}
 use Rattle.hfs_volume.specs.Content.{VolumeState, records_of, overflow_in_volume, attributes_of}
 use Rattle.hfs_volume.specs.Sound.{IsSoundVolume}
+use Rattle.hfs_volume.specs.Reclaim.{Does, DropOrphan, blocks_at}
 use Rattle.hfs_volume.specs.TreeOf.{tree_in, is_seen, node_in}
 use Rattle.hfs_volume.specs.Laws.{IsShaped, MayAdd, MayDrop, IsFolderId, AreEmptyForks, is_own, one_if}
 use Rattle.hfs_volume.specs.Changes.{AddsEntry, InCatalog}
@@ -44,6 +45,7 @@ use Rattle.hfs_volume.proofs.Accounts.{Account, Debts, no_debts, opened, closed,
 use Rattle.hfs_volume.proofs.Refielding.{recount_account, id_is, there_was, folder_is}
 use Rattle.hfs_volume.proofs.Telling.{counted_tree, next_is, private_counts_tree}
 use Rattle.hfs_volume.proofs.Attributing.{bared_tree, each_without, attributes_account}
+use Rattle.hfs_volume.proofs.DropSteps.{orphan_drop_does, attribute_drop_does}
 
 in_folder : (o : Option ℕ) (p : Placed) → is_in o p ≡ true → (id : ℕ) × (o ≡ Some id) × (p.parent ≡ id)
 in_folder None p is = absurd (true≢false (sym is))
@@ -234,8 +236,19 @@ module _ (id : ℕ) (old new : VolumeState) (bytes_of : FileRecord → List ℕ)
       ∙ sym (tree_unseen entry does.dropped begun flipped may_back shaped_dropped does.sorted bytes_of may.not_own (no_link old shaped_old entry does.is_orphan) (unseen old shaped_old entry does.is_orphan) (no_node old shaped_old entry does.is_orphan (attributes_of does.dropped) bytes_of))
       ∙ tree_begun
 
+  same_blocks : (other kind : ℕ) → blocks_at begun other kind ≡ blocks_at old other kind
+  unfolding all_forks
+  same_blocks other kind = refl
+
+  pub dropped_does : Does (DropOrphan id) old new
+  dropped_does = orphan_drop_does id old begun new does does.drops does.sorted may shaped shaped_dropped same_blocks
+
 pub orphan_dropped_law : OrphanDropped
-orphan_dropped_law id old new bytes_of are sound does = (sound_dropped id old new bytes_of are.by_fork sound does, tree_dropped id old new bytes_of are.by_fork sound does)
+orphan_dropped_law id old new bytes_of are sound does = (
+  sound_dropped id old new bytes_of are.by_fork sound does,
+  tree_dropped id old new bytes_of are.by_fork sound does,
+  dropped_does id old new bytes_of are.by_fork sound does,
+)
 
 -- ---- an attribute goes
 
@@ -249,6 +262,7 @@ orphan_bared_law entry name old new bytes_of sorted sound orphan changes =
     let account = attributes_account old new changes (each_without (id_of entry) name old new changes shaped) old no_debts (opened old sound sorted) in (
       closed old new no_debts sound account (record { valences = λ n. refl; specials = λ reference file there shared. refl; files = refl; folders = refl }),
       bared_tree (id_of entry) name old new bytes_of changes ∙ changed_none (id_of entry) (without_attribute name) (tree_in old bytes_of) (λ n there same. absurd (no_such n (subst (λ l. Contains l n) (nodes_are old bytes_of) there) same)),
+      attribute_drop_does (id_of entry) name old new changes,
     )
   where
     no_such : (n : PlainNode) → Contains (nodes_over (attributes_of old) bytes_of (records_of old) (records_of old)) n → n.id ≡ id_of entry → ⊥

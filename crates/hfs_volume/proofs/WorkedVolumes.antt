@@ -32,10 +32,10 @@ no_extents = replicate 7 (record { start = 0; count = 0 })
 abbrev one_run : ℕ → ℕ → ℕ → ForkRecord
 one_run size start count = record { logical_size = size; clump_size = 4096; total_blocks = count; extents = record { extents = record { start = start; count = count } ∷ no_extents } }
 
-abbrev no_fork : ForkRecord
+abbrev pub no_fork : ForkRecord
 no_fork = record { logical_size = 0; clump_size = 4096; total_blocks = 0; extents = record { extents = replicate 8 (record { start = 0; count = 0 }) } }
 
-abbrev fresh_head : VolumeHeader
+abbrev pub fresh_head : VolumeHeader
 fresh_head = record {
   signature = 0x4858;
   version = 5;
@@ -68,7 +68,7 @@ fresh_head = record {
 -- ---- its catalog
 
 -- root, its thread, the journal's two files, and their threads
-abbrev fresh_catalog : List Pair
+abbrev pub fresh_catalog : List Pair
 fresh_catalog =
     ((0 ∷ 22 ∷ 0 ∷ 0 ∷ 0 ∷ 1 ∷ 0 ∷ 8 ∷ 0 ∷ 117 ∷ 0 ∷ 110 ∷ 0 ∷ 116 ∷ 0 ∷ 105 ∷ 0 ∷ 116 ∷ 0 ∷ 108 ∷ 0 ∷ 101 ∷ 0 ∷ 100 ∷ []), (0 ∷ 1 ∷ 0 ∷ 0 ∷ 0 ∷ 0 ∷ 0 ∷ 2 ∷ 0 ∷ 0 ∷ 0 ∷ 2 ∷ 0 ∷ 0 ∷ 0 ∷ 0 ∷ 0 ∷ 0 ∷ 0 ∷ 0 ∷ 0 ∷ 0 ∷ 0 ∷ 0 ∷ 0 ∷ 0 ∷ 0 ∷ 0 ∷ 0 ∷ 0 ∷ 0 ∷ 0 ∷ 0 ∷ 0 ∷ 0 ∷ 0 ∷ 0 ∷ 0 ∷ 0 ∷ 0 ∷ 0 ∷ 0 ∷ 65 ∷ 237 ∷ 0 ∷ 0 ∷ 0 ∷ 0 ∷ 0 ∷ 0 ∷ 0 ∷ 0 ∷ 0 ∷ 0 ∷ 0 ∷ 0 ∷ 0 ∷ 0 ∷ 0 ∷ 0 ∷ 0 ∷ 0 ∷ 0 ∷ 0 ∷ 0 ∷ 0 ∷ 0 ∷ 0 ∷ 0 ∷ 0 ∷ 0 ∷ 0 ∷ 0 ∷ 0 ∷ 0 ∷ 0 ∷ 0 ∷ 0 ∷ 0 ∷ 0 ∷ 0 ∷ 0 ∷ 0 ∷ 0 ∷ 0 ∷ 0 ∷ 0 ∷ 0 ∷ []))
     ∷ ((0 ∷ 6 ∷ 0 ∷ 0 ∷ 0 ∷ 2 ∷ 0 ∷ 0 ∷ []), (0 ∷ 3 ∷ 0 ∷ 0 ∷ 0 ∷ 0 ∷ 0 ∷ 1 ∷ 0 ∷ 8 ∷ 0 ∷ 117 ∷ 0 ∷ 110 ∷ 0 ∷ 116 ∷ 0 ∷ 105 ∷ 0 ∷ 116 ∷ 0 ∷ 108 ∷ 0 ∷ 101 ∷ 0 ∷ 100 ∷ []))
@@ -80,11 +80,11 @@ fresh_catalog =
 
 -- ---- the volume
 
-abbrev facts : ℕ → ℕ → ℕ → ℕ → ℕ → TreeFacts
+abbrev pub facts : ℕ → ℕ → ℕ → ℕ → ℕ → TreeFacts
 facts depth root records nodes free =
     record { shape = record { node_size = 4096; depth = depth; root = root; first = root; last = root; leaf_records = records; total = nodes; free = free }; map_bits = 30720 }
 
-abbrev fresh_volume : VolumeState
+abbrev pub fresh_volume : VolumeState
 fresh_volume = record {
   sectors = 16384;
   head = fresh_head;

@@ -7,7 +7,7 @@ use Rattle.hfs_volume.specs.Records.{Placed, id_of, attribute_of}
 use Rattle.hfs_volume.specs.Forks.{forks_in, blocks_owned}
 use Rattle.hfs_volume.specs.Links.{orphans_of}
 use Rattle.hfs_volume.specs.Content.{VolumeState, records_of, overflow_in_volume}
-use Rattle.hfs_volume.specs.Reclaim.{DropAttribute, DropOrphan, next_reclaim}
+use Rattle.hfs_volume.specs.Reclaim.{Does, DropAttribute, DropOrphan, next_reclaim}
 use Rattle.hfs_volume.specs.Sound.{IsSoundVolume}
 use Rattle.hfs_volume.specs.TreeOf.{tree_in}
 use Rattle.hfs_volume.specs.Changes.{AreSorted, DropsEntry, DropsAttribute, InCatalog, InAttributes}
@@ -26,16 +26,17 @@ pub record DropsOrphanEntry (id : ℕ) (old new : VolumeState) : Type 0 where
   pub drops : InCatalog (DropsEntry entry) (one_file_less old) dropped
   pub loses : ChangesFields entry.parent (IsRecounted 0 1) dropped new
 
--- The lists that this leads to are those of a sound volume, and tell the tree that was told.
+-- The lists that this leads to are those of a sound volume, and tell the tree that was told; the entry is gone, and every fork has its blocks.
 abbrev pub OrphanDropped : Type 0
 OrphanDropped =
-    (id : ℕ) (old new : VolumeState) (bytes_of : FileRecord → List ℕ) → AreBytesOf bytes_of → IsSoundVolume old → DropsOrphanEntry id old new → IsSoundVolume new × (tree_in new bytes_of ≡ tree_in old bytes_of)
+    (id : ℕ) (old new : VolumeState) (bytes_of : FileRecord → List ℕ) → AreBytesOf bytes_of → IsSoundVolume old → DropsOrphanEntry id old new
+    → IsSoundVolume new × (tree_in new bytes_of ≡ tree_in old bytes_of) × Does (DropOrphan id) old new
 
--- An attribute of a file that lost its last name goes: the same.
+-- An attribute of a file that lost its last name goes: the same, and it is that attribute alone.
 abbrev pub OrphanBared : Type 0
 OrphanBared =
     (entry : Placed) (name : List ℕ) (old new : VolumeState) (bytes_of : FileRecord → List ℕ) → AreSorted old.catalog_pairs → IsSoundVolume old → Contains (orphans_of (records_of old)) entry
-    → InAttributes (DropsAttribute (id_of entry) name) old new → IsSoundVolume new × (tree_in new bytes_of ≡ tree_in old bytes_of)
+    → InAttributes (DropsAttribute (id_of entry) name) old new → IsSoundVolume new × (tree_in new bytes_of ≡ tree_in old bytes_of) × Does (DropAttribute (id_of entry) name) old new
 
 -- ---- the next step is one of these
 

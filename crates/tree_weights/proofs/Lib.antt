@@ -1,3 +1,4 @@
+mod CutLaws
 mod Growths
 mod Heights
 mod Weighing

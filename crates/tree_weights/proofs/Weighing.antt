@@ -144,11 +144,11 @@ abbrev is_load : Cost → Bool
 is_load (cost.Load load grow) = true
 is_load (cost.Refused why) = false
 
-of_cost : (refused : Option Refusal) (counted_ load : ℕ) (grown grow : List ℕ) → cost_or refused counted_ grown ≡ cost.Load load grow → (refused ≡ None) × (counted_ ≡ load) × (grown ≡ grow)
+pub of_cost : (refused : Option Refusal) (counted_ load : ℕ) (grown grow : List ℕ) → cost_or refused counted_ grown ≡ cost.Load load grow → (refused ≡ None) × (counted_ ≡ load) × (grown ≡ grow)
 of_cost None counted_ load grown grow is = (refl, ap load_in is, ap grow_in is)
 of_cost (Some why) counted_ load grown grow is = absurd (true≢false (sym (ap is_load is)))
 
-not_some : {X : Type 0} (x : X) → Some x ≡ None → ⊥
+pub not_some : {X : Type 0} (x : X) → Some x ≡ None → ⊥
 not_some x is = true≢false (ap is_some is)
 
 -- each refusal with whether it stands

@@ -1,6 +1,8 @@
-//! That what the weight of a command counts suffices for its edits, in each of the three trees: laws, each as a function without a body.
+//! That what the weight of a command counts suffices for its edits, in each of the three trees, and what a cut step counts for its own: laws,
+//! each as a function without a body.
 #![tactic(auto)]
 
+ghost use Rattle.tree_weights.specs.Cutting.{CutSaysEnough, CutsHaveRoom, CutsTakeTheirLoad, TreesHoldThree};
 ghost use Rattle.tree_weights.specs.Weights.{CommandsHaveRoom, EditsHaveRoom, EditsTakeTheirLoad, GoAsDeepAsCounted, GrowsByEnough, LoadIsOfParts, LoadSaysEnough, WeightSaysEnough};
 
 /// So many edits make a tree no deeper than the load counts.
@@ -41,4 +43,24 @@ pub fn commands_have_room()
 /// What the load counts for each tree is a part of it.
 pub fn a_load_is_of_parts()
     ensures { LoadIsOfParts }
+{}
+
+/// A node of each tree of a sound volume holds three index records with the longest keys.
+pub fn trees_hold_three()
+    ensures { TreesHoldThree }
+{}
+
+/// The load of a cut step says that nothing is missing.
+pub fn a_cut_load_says_enough()
+    ensures { CutSaysEnough }
+{}
+
+/// The extents tree has room for the one edit of a cut step, which needs no free node.
+pub fn cuts_have_room()
+    ensures { CutsHaveRoom }
+{}
+
+/// That edit puts no more sectors than the load of a cut step counts.
+pub fn cuts_take_their_load()
+    ensures { CutsTakeTheirLoad }
 {}

@@ -1,0 +1,6 @@
+mod Rows
+mod Replies
+mod Grown
+mod Gauges
+mod Weights
+mod Readings

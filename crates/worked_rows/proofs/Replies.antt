@@ -1,0 +1,98 @@
+-- Replies on the tree of a volume as it is formatted, computed.
+use Rattle.std.specs.Prelude.{◌≡◌, refl, ℕ, List, [], ◌∷◌, ◌++◌, codes, true, false, replicate, map, Result, Ok, Err}
+use Rattle.hfs_language.specs.declared.command.Command.{Command}
+use Rattle.hfs_language.specs.declared.command.Command.TheVariants as command
+use Rattle.hfs_language.specs.declared.refusal.Refusal.{Refusal}
+use Rattle.hfs_language.specs.declared.refusal.Refusal.TheVariants as refusal
+use Rattle.hfs_language.specs.declared.reply.Reply.TheVariants as reply
+use Rattle.hfs_model.specs.Plain.{fresh_tree}
+use Rattle.hfs_model.specs.Step.{journal_name}
+use Rattle.worked_rows.proofs.Rows.{replies, oks, refused, folder_facts, file_facts, named, grown_in_turn}
+
+abbrev Line : Type 0
+Line = Result Command Refusal
+
+abbrev a : List ℕ
+a = codes "a"
+
+abbrev b : List ℕ
+b = codes "b"
+
+abbrev c : List ℕ
+c = codes "c"
+
+abbrev f : List ℕ
+f = codes "f"
+
+abbrev g : List ℕ
+g = codes "g"
+
+-- a line that spells no command is refused, and the next one is answered
+a_line_without_a_command : replies fresh_tree (Ok (command.Mkdir (a ∷ [])) ∷ Err refusal.BadCommand ∷ Ok (command.Ls []) ∷ [])
+    ≡ reply.Ok ∷ refused refusal.BadCommand ∷ reply.Listing (named true a ∷ []) ∷ []
+a_line_without_a_command = refl
+
+-- a name of 255 units is one
+a_long_name_is_listed : replies fresh_tree (Ok (command.Mkdir (replicate 255 97 ∷ [])) ∷ Ok (command.Ls []) ∷ []) ≡ reply.Ok ∷ reply.Listing (named true (replicate 255 97) ∷ []) ∷ []
+a_long_name_is_listed = refl
+
+-- names are told apart by case, and listed unit by unit: `e` with an accent behind it comes last
+names_in_order : replies fresh_tree (Ok (command.Create ((101 ∷ 769 ∷ []) ∷ [])) ∷ Ok (command.Create ((101 ∷ 769 ∷ []) ∷ [])) ∷ Ok (command.Create (codes "A" ∷ [])) ∷ Ok (command.Create (a ∷ [])) ∷ Ok (command.Ls []) ∷ [])
+    ≡ reply.Ok ∷ refused refusal.Exists ∷ reply.Ok ∷ reply.Ok ∷ reply.Listing (named false (codes "A") ∷ named false a ∷ named false (101 ∷ 769 ∷ []) ∷ []) ∷ []
+names_in_order = refl
+
+-- a name has any units, 0 among them
+units_of_names : replies fresh_tree (Ok (command.Create ((0 ∷ 97 ∷ 32 ∷ 98 ∷ []) ∷ [])) ∷ Ok (command.Ls []) ∷ Ok (command.Create (codes "50%" ∷ [])) ∷ Ok (command.Stat (codes "50%" ∷ [])) ∷ [])
+    ≡ reply.Ok ∷ reply.Listing (named false (0 ∷ 97 ∷ 32 ∷ 98 ∷ []) ∷ []) ∷ reply.Ok ∷ file_facts 19 0 1 420 ∷ []
+units_of_names = refl
+
+-- the volume's own names in the root are refused, and no others
+own_names_are_private : replies fresh_tree (Ok (command.Mkdir (journal_name ∷ [])) ∷ Ok (command.Mkdir (a ∷ [])) ∷ Ok (command.Mkdir (a ∷ journal_name ∷ [])) ∷ Ok (command.Ls (a ∷ [])) ∷ [])
+    ≡ refused refusal.Private ∷ reply.Ok ∷ reply.Ok ∷ reply.Listing (named true journal_name ∷ []) ∷ []
+own_names_are_private = refl
+
+-- four bytes over the end of a block of 4,096: what lies before them reads as zeros
+a_gap_over_a_block : replies fresh_tree (Ok (command.Create (f ∷ [])) ∷ Ok (command.Write (f ∷ []) 5 (codes "hello")) ∷ Ok (command.Write (f ∷ []) 4094 (codes "wxyz")) ∷ Ok (command.Read (f ∷ []) 4092 10) ∷ Ok (command.Read (f ∷ []) 0 11) ∷ Ok (command.Stat (f ∷ [])) ∷ [])
+    ≡ reply.Ok ∷ reply.Ok ∷ reply.Ok ∷ reply.Content (0 ∷ 0 ∷ codes "wxyz") ∷ reply.Content (0 ∷ 0 ∷ 0 ∷ 0 ∷ 0 ∷ codes "hello" ++ 0 ∷ []) ∷ file_facts 18 4098 1 420 ∷ []
+a_gap_over_a_block = refl
+
+-- a byte that was cut off is gone, and no byte may lie past 2 ^ 40
+bytes_come_and_go : replies fresh_tree (Ok (command.Create (f ∷ [])) ∷ Ok (command.Write (f ∷ []) 0 []) ∷ Ok (command.Stat (f ∷ [])) ∷ Ok (command.Write (f ∷ []) 0 a) ∷ Ok (command.Trunc (f ∷ []) 0) ∷ Ok (command.Trunc (f ∷ []) 3) ∷ Ok (command.Read (f ∷ []) 0 5)
+    ∷ Ok (command.Write (f ∷ []) 1099511627776 (codes "x")) ∷ [])
+    ≡ reply.Ok ∷ reply.Ok ∷ file_facts 18 0 1 420 ∷ reply.Ok ∷ reply.Ok ∷ reply.Ok ∷ reply.Content (0 ∷ 0 ∷ 0 ∷ []) ∷ refused refusal.TooLarge ∷ []
+bytes_come_and_go = refl
+
+-- a folder that moves takes what is in it along
+a_folder_moves : replies fresh_tree (Ok (command.Mkdir (a ∷ [])) ∷ Ok (command.Mkdir (a ∷ b ∷ [])) ∷ Ok (command.Create (a ∷ b ∷ f ∷ [])) ∷ Ok (command.Mv (a ∷ b ∷ []) (c ∷ [])) ∷ Ok (command.Ls (c ∷ [])) ∷ Ok (command.Stat (c ∷ [])) ∷ Ok (command.Ls (a ∷ []))
+    ∷ Ok (command.Chmod (c ∷ f ∷ []) 7) ∷ Ok (command.Stat (c ∷ f ∷ [])) ∷ [])
+    ≡ oks 4 ++ reply.Listing (named false f ∷ []) ∷ folder_facts 19 1 493 ∷ reply.Listing [] ∷ reply.Ok ∷ file_facts 20 0 1 7 ∷ []
+a_folder_moves = refl
+
+-- an attribute has 1,700 bytes at most, and is one of the file under each of its names
+attributes_of_a_file : replies fresh_tree (Ok (command.Create (a ∷ [])) ∷ Ok (command.SetAttr (a ∷ []) (codes "k") (replicate 1700 120)) ∷ Ok (command.SetAttr (a ∷ []) (codes "k") (replicate 1701 120)) ∷ Ok (command.SetAttr (a ∷ []) (codes "e") [])
+    ∷ Ok (command.GetAttr (a ∷ []) (codes "e")) ∷ Ok (command.Ln (a ∷ []) (b ∷ [])) ∷ Ok (command.LsAttr (b ∷ [])) ∷ Ok (command.DelAttr (b ∷ []) (codes "k")) ∷ Ok (command.GetAttr (a ∷ []) (codes "k")) ∷ [])
+    ≡ reply.Ok ∷ reply.Ok ∷ refused refusal.AttributeTooLarge ∷ reply.Ok ∷ reply.Content [] ∷ reply.Ok ∷ reply.Listing (named false (codes "e") ∷ named false (codes "k") ∷ []) ∷ reply.Ok ∷ refused refusal.NoAttribute ∷ []
+attributes_of_a_file = refl
+
+-- ---- long names come and go
+
+abbrev letters : List ℕ
+letters = codes "abcdefghijklmnopqrst"
+
+abbrev long_name : ℕ → List ℕ
+long_name letter = replicate 255 letter
+
+long_names_come : replies fresh_tree (map (λ letter. Ok (command.Create (long_name letter ∷ []))) letters ++ Ok (command.Ls []) ∷ []) ≡ oks 20 ++ reply.Listing (map (λ letter. named false (long_name letter)) letters) ∷ []
+long_names_come = refl
+
+long_names_go : replies fresh_tree (map (λ letter. Ok (command.Create (long_name letter ∷ []))) letters ++ (map (λ letter. Ok (command.Rm (long_name letter ∷ []))) letters ++ Ok (command.Ls []) ∷ Ok (command.Stat []) ∷ []))
+    ≡ oks 40 ++ reply.Listing [] ∷ folder_facts 2 0 493 ∷ []
+long_names_go = refl
+
+-- ---- two files grow in turn
+
+abbrev two_files : List Line
+two_files = Ok (command.Create (f ∷ [])) ∷ Ok (command.Create (g ∷ [])) ∷ []
+
+files_grow_in_turn : replies fresh_tree (two_files ++ (grown_in_turn f g 0 9 ++ Ok (command.Trunc (f ∷ []) 32768) ∷ Ok (command.Trunc (g ∷ []) 32768) ∷ Ok (command.Stat (g ∷ [])) ∷ [])) ≡ oks 22 ++ file_facts 19 32768 1 420 ∷ []
+files_grow_in_turn = refl
