@@ -1,0 +1,4 @@
+mod Asides
+mod BeforeMoves
+mod Dense
+mod Finders

@@ -2,6 +2,11 @@
 #![tactic(auto)]
 
 mod naming;
+mod numbers;
+mod orphans;
+mod place;
 mod resolving;
 
+pub use orphans::orphan;
+pub use place::EntryAt;
 pub use resolving::resolve;

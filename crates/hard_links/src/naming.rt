@@ -1,6 +1,7 @@
 //! Names of the private folder: a word with a number behind it.
 ghost use Rattle.std.specs.Prelude.{◌≡◌, ◌≤◌, ◌+◌, ◌++◌, length, decimal, IfOk, OnOk};
 ghost use Rattle.hfs_volume.specs.Links.{node_name};
+ghost use Rattle.hfs_volume.specs.Naming.{orphan_name};
 ghost use Rattle.hfs_volume.specs.Records.{numbered};
 
 use hx_bytes::{OutOfMemory, Units};
@@ -9,6 +10,9 @@ use std::alloc::Global;
 
 /// `iNode`
 const NODE: [u16; 5] = [105, 78, 111, 100, 101];
+
+/// `temp`
+pub(crate) const TEMP: [u16; 4] = [116, 101, 109, 112];
 
 /// The name of a file with several names, under this number.
 pub(crate) fn node_name(alloc: Global, reference: u32) -> Result<Units, OutOfMemory>
@@ -19,9 +23,20 @@ pub(crate) fn node_name(alloc: Global, reference: u32) -> Result<Units, OutOfMem
     Ok(name)
 }
 
+/// The name of a file that waits to be removed, under this number.
+pub(crate) fn orphan_name(alloc: Global, number: u32) -> Result<Units, OutOfMemory>
+    ensures name { IfOk result (λ name. name ≡ orphan_name number) }
+    ensures some { IfOk result (λ name. 1 ≤ length name) }
+    ensures short { IfOk result (λ name. length name ≤ 44) }
+{
+    let name = numbered(alloc, TEMP.as_slice(), number)?;
+    Ok(name)
+}
+
 /// A word with the decimal digits of a number behind it.
-fn numbered(alloc: Global, word: &[u16], number: u32) -> Result<Units, OutOfMemory>
+pub(crate) fn numbered(alloc: Global, word: &[u16], number: u32) -> Result<Units, OutOfMemory>
     ensures name { IfOk result (λ name. name ≡ numbered word.now number) }
+    ensures some { IfOk result (λ name. length word.now ≤ length name) }
     ensures short { IfOk result (λ name. length name ≤ length word.now + 40) }
 {
     let mut digits = Buffer::new();
