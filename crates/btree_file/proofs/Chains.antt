@@ -1,8 +1,8 @@
 -- The chain of map nodes that stretches name, and how many stretches a file has at most.
-use Rattle.std.proofs.Common.{◌≡◌, ◌≢◌, ℕ, zero, suc, ◌+◌, ◌-◌, ◌≤◌, ◌<◌, Bool, true, false, ◌==◌, ◌||◌, List, [], ◌∷◌, map, length, drop, get_or, refl, sym, ◌∙◌, ap, arith, ⊎_elim}
+use Rattle.std.proofs.Common.{◌≡◌, ◌≢◌, ℕ, suc, ◌+◌, ◌-◌, ◌≤◌, ◌<◌, true, ◌==◌, ◌||◌, List, [], ◌∷◌, map, length, get_or, sym, ◌∙◌, ap, arith, ⊎_elim}
 use Rattle.std.specs.Cmp.{both_ways}
 use Rattle.std.specs.List.{All, list_any}
-use Rattle.std.proofs.lemmas.Bool.{cases_eq, or_cases, eqb-true, true≢false, or_right}
+use Rattle.std.proofs.lemmas.Bool.{or_cases, eqb-true, true≢false, or_right}
 use Rattle.std.proofs.lemmas.Bool.Decides.{eqb_tells}
 use Rattle.std.proofs.Math.ListN.{get_or-map}
 use Rattle.std.proofs.lemmas.List.{length-map}

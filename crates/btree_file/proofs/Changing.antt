@@ -27,7 +27,7 @@ use Rattle.btree_file.proofs.NodeLaws.{node_put, node_kept, used_same}
 use Rattle.btree_file.proofs.RoomLaws.{count_less}
 
 -- a stretch of the map stands in a node of the map
-any_at : (map : List Stretch) (k : ℕ) (d : Stretch) → k < length map → list_any (λ stretch. stretch.node == (get_or map k d).node) map ≡ true
+pub any_at : (map : List Stretch) (k : ℕ) (d : Stretch) → k < length map → list_any (λ stretch. stretch.node == (get_or map k d).node) map ≡ true
 any_at [] k d low = absurd (omega (arith, low))
 any_at (stretch ∷ map) zero d low = ap (λ t. t || list_any (λ other. other.node == stretch.node) map) (eq-eqb stretch.node stretch.node refl)
 any_at (stretch ∷ map) (suc k) d low = or_right (stretch.node == (get_or map k d).node) (list_any (λ other. other.node == (get_or map k d).node) map) (any_at map k d (omega (arith, low)))
@@ -76,14 +76,14 @@ form_kept shape a b sets = record {
 }
 
 module _ (sectors : List ℕ) (size total free : ℕ) (map : List Stretch) (header after : List ℕ) (shape : TreeShape) (old new : Space) (apart : AreApart sectors) (large : 512 ≤ size) (long : length header ≡ size)
-    (size_is : shape.node_size ≡ size) (total_is : shape.total ≡ total) (sets : SetsShape shape header after)
+    (size_is : shape.node_size ≡ size) (sets : SetsShape shape header after)
     (puts : PutsNode (sectors_at sectors (size / 512) 0) after old new) (whole : 1 * (size / 512) ≤ length sectors) (whole_size : size / 512 * 512 ≡ size)
     (low : (k : ℕ) (d : Stretch) → k < length map → (get_or map k d).node ≡ 0 → 248 ≤ (get_or map k d).at)
   where
     pub shaped_node : (m : ℕ) → m ≢ 0 → nodes_on sectors size new.content m ≡ nodes_on sectors size old.content m
     shaped_node m other = node_kept sectors (size / 512) 0 m after old new puts apart other
 
-    node_zero : nodes_on sectors size new.content 0 ≡ after
+    pub node_zero : nodes_on sectors size new.content 0 ≡ after
     node_zero = node_put sectors (size / 512) 0 after old new puts whole (sets.size ∙ long ∙ sym whole_size)
 
     module _ (was : HasMap sectors size total free map header old.content) where
@@ -91,7 +91,7 @@ module _ (sectors : List ℕ) (size total free : ℕ) (map : List Stretch) (head
       grammar_zero = grammar_kept header after 14 44 sets.size (omega arith) (omega (arith, was.header_node.1, long, large)) (omega arith)
           (λ k where_. sets.others k (⊎_elim (λ before. inl before) (λ behind. inr (inr behind)) where_))
 
-      shaped_bytes : (m k : ℕ) → (m ≡ 0 → 44 ≤ k) → get_or (nodes_on sectors size new.content m) k 0 ≡ get_or (nodes_on sectors size old.content m) k 0
+      pub shaped_bytes : (m k : ℕ) → (m ≡ 0 → 44 ≤ k) → get_or (nodes_on sectors size new.content m) k 0 ≡ get_or (nodes_on sectors size old.content m) k 0
       shaped_bytes m k high = ⊎_elim
           (λ (e : m ≡ 0).
           ap (λ (i : ℕ). get_or (nodes_on sectors size new.content i) k 0) e ∙ ap (λ (l : List ℕ). get_or l k 0) node_zero ∙ sets.others k (inr (inr (high e)))
@@ -111,8 +111,14 @@ module _ (sectors : List ℕ) (size total free : ℕ) (map : List Stretch) (head
       pub shaped_used : (n : ℕ) → used_in (nodes_on sectors size new.content) map n ≡ used_in (nodes_on sectors size old.content) map n
       shaped_used n = shaped_bits map n low
 
-      pub shaped_map : HasMap sectors size total free map after new.content
-      shaped_map = record {
+      pub shaped_grammar : (m : ℕ) → SameGrammar (nodes_on sectors size old.content m) (nodes_on sectors size new.content m)
+      shaped_grammar m = ⊎_elim
+          (λ (e : m ≡ 0). subst (λ i. SameGrammar (nodes_on sectors size old.content i) (nodes_on sectors size new.content i)) (sym e) (subst (λ (l : List ℕ). SameGrammar l (nodes_on sectors size new.content 0)) (sym was.header_is) (subst (λ (l : List ℕ). SameGrammar header l) (sym node_zero) grammar_zero)))
+          (λ (other : m ≢ 0). grammar_equal (nodes_on sectors size old.content m) (nodes_on sectors size new.content m) (shaped_node m other))
+          (cases_eq m 0)
+
+      pub shaped_map : shape.total ≡ total → HasMap sectors size total free map after new.content
+      shaped_map total_is = record {
         some = was.some;
         header_is = node_zero;
         header_node = header_kept header after grammar_zero was.header_node;
@@ -124,12 +130,6 @@ module _ (sectors : List ℕ) (size total free : ℕ) (map : List Stretch) (head
         reserved = λ m low is. shaped_used m ∙ was.reserved m low is;
         behind = λ m high low. shaped_used m ∙ was.behind m high low;
       }
-        where
-          shaped_grammar : (m : ℕ) → SameGrammar (nodes_on sectors size old.content m) (nodes_on sectors size new.content m)
-          shaped_grammar m = ⊎_elim
-              (λ (e : m ≡ 0). subst (λ i. SameGrammar (nodes_on sectors size old.content i) (nodes_on sectors size new.content i)) (sym e) (subst (λ (l : List ℕ). SameGrammar l (nodes_on sectors size new.content 0)) (sym was.header_is) (subst (λ (l : List ℕ). SameGrammar header l) (sym node_zero) grammar_zero)))
-              (λ (other : m ≢ 0). grammar_equal (nodes_on sectors size old.content m) (nodes_on sectors size new.content m) (shaped_node m other))
-              (cases_eq m 0)
 
 -- ---- a bit of the map
 

@@ -1,5 +1,5 @@
 -- A tree file after an edit over a space, and after another writer's changes elsewhere.
-use Rattle.std.proofs.Common.{◌≡◌, ◌⊎◌, ℕ, ◌+◌, ◌*◌, ◌/◌, ◌≤◌, ◌<◌, IsTrue, List, [], ◌∷◌, ◌++◌, take, drop, length, inl, inr, refl, sym, ◌∙◌, ap, subst, arith, ⊎_elim}
+use Rattle.std.proofs.Common.{◌≡◌, ◌⊎◌, ℕ, ◌+◌, ◌*◌, ◌/◌, ◌<◌, IsTrue, List, [], ◌∷◌, take, drop, length, refl, sym, ◌∙◌, ap, subst, arith, ⊎_elim}
 use Rattle.std.specs.Prelude.{Result, Ok, Err, IfOk}
 use Rattle.std.specs.List.{All, Contains, count_by, range_with_len}
 use Rattle.std.specs.declared.cmp.Ordering.{Ordering}
@@ -10,7 +10,7 @@ use Rattle.btree_node.specs.Tree.{IsTree, HasValues}
 use Rattle.hx_bytes.specs.declared.extents.Extent.{Extent}
 use Rattle.hx_bytes.specs.declared.faults.Trouble.{Trouble}
 use Rattle.btree_node.specs.declared.store.TreeShape.{TreeShape}
-use Rattle.btree_node.specs.TreeFile.{TreeHead, TreeForm, IsTreeFile, HasForm, tree_head, shape_of, file_of}
+use Rattle.btree_node.specs.TreeFile.{TreeHead, TreeForm, IsTreeFile, tree_head, shape_of, file_of}
 use Rattle.fork_map.specs.Nodes.{bytes_of, node_of}
 use Rattle.sector_disk.specs.Lists.{Content, sector}
 use Rattle.sector_disk.specs.Space.{Space}
@@ -19,8 +19,8 @@ use Rattle.btree_file.specs.FrameLaws.{same_sectors}
 use Rattle.btree_file.specs.Held.{HoldsNodes, file_in}
 use Rattle.btree_file.specs.Map.{used_in, AreStretches}
 use Rattle.btree_file.specs.Place.{fork_sectors, sectors_at}
-use Rattle.btree_file.specs.Standing.{Stands, HoldsTree, pairs_in}
-use Rattle.btree_file.specs.State.{sectors_of_tree, nodes_on, per_node, state_of, Agrees, HasMap}
+use Rattle.btree_file.specs.Standing.{Stands, HoldsTree}
+use Rattle.btree_file.specs.State.{sectors_of_tree, nodes_on, state_of, Agrees, HasMap}
 use Rattle.btree_file.specs.declared.tree.Stretch.{Stretch}
 use Rattle.btree_file.specs.declared.tree.TreeFile.{TreeFile}
 use Rattle.btree_file.proofs.NodeLaws.{same_bytes}

@@ -20,3 +20,12 @@ pub mod Chains
 pub mod Likeness
 pub mod StandingLaws
 pub mod Edited
+pub mod MoreNodes
+pub mod MapNodes
+pub mod NewNodes
+pub mod Adding
+pub mod Spending
+pub mod Stages
+pub mod LongerFork
+pub mod Widened
+pub mod KeptTrees

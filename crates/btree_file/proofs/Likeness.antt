@@ -1,9 +1,7 @@
 -- Stores with the same shape, nodes, reserved nodes and map below the total number of nodes have the same tree.
-use Rattle.std.proofs.Common.{◌≡◌, ℕ, ◌+◌, ◌-◌, ◌<◌, Bool, true, List, length, inl, inr, sym, ◌∙◌, ap, subst, arith, ⊎_elim}
-use Rattle.std.specs.Prelude.{IsTrue}
-use Rattle.std.specs.List.{count_by, range_with_len}
+use Rattle.std.proofs.Common.{◌≡◌, ℕ, ◌<◌, Bool, List, inl, inr, sym, ◌∙◌, ap, subst, arith, ⊎_elim}
 use Rattle.std.specs.declared.cmp.Ordering.{Ordering}
-use Rattle.btree_node.specs.Levels.{Nodes, Pair, leaves}
+use Rattle.btree_node.specs.Levels.{Nodes, leaves}
 use Rattle.btree_node.specs.Store.{Store}
 use Rattle.btree_node.specs.Tree.{IsTree, IsTreeNode, IsReached, pairs_of}
 use Rattle.btree_node.specs.declared.store.TreeShape.{TreeShape}

@@ -69,7 +69,7 @@ sectors_range per a (suc n) =
     ap (λ (l : List ℕ). range_with_len (a * per) per ++ l) (sectors_range per (a + 1) n ∙ ap (λ k. range_with_len k (n * per)) {x = (a + 1) * per} {y = a * per + per} (omega arith))
     ∙ sym (range-append (a * per) per (n * per)) ∙ ap (λ k. range_with_len (a * per) k) {x = per + n * per} {y = suc n * per} (omega arith)
 
-one_range : (per : ℕ) (e : Extent) (es : List Extent) → sectors_of per (blocks_of (e ∷ es)) ≡ range_with_len (e.start * per) (e.count * per) ++ sectors_of per (blocks_of es)
+pub one_range : (per : ℕ) (e : Extent) (es : List Extent) → sectors_of per (blocks_of (e ∷ es)) ≡ range_with_len (e.start * per) (e.count * per) ++ sectors_of per (blocks_of es)
 one_range per e es = flat_map-append (λ block. range_with_len (block * per) per) (range_with_len e.start e.count) (blocks_of es) ∙ ap (λ (l : List ℕ). l ++ sectors_of per (blocks_of es)) (sectors_range per e.start e.count)
 
 range_apart : (a n : ℕ) → AreApart (range_with_len a n)

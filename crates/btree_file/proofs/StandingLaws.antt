@@ -1,5 +1,5 @@
 -- A tree file that stands over a content: the content has the tree that the file keeps.
-use Rattle.std.proofs.Common.{◌≡◌, ℕ, suc, ◌+◌, ◌-◌, ◌*◌, ◌/◌, ◌≤◌, ◌<◌, IsTrue, true, false, List, drop, length, get_or, refl, sym, ◌∙◌, ap, subst, arith, ⊎_elim}
+use Rattle.std.proofs.Common.{◌≡◌, ℕ, ◌+◌, ◌*◌, ◌/◌, ◌≤◌, ◌<◌, true, List, drop, length, get_or, refl, sym, ◌∙◌, ap, subst, arith, ⊎_elim}
 use Rattle.std.specs.Prelude.{pos}
 use Rattle.std.specs.List.{All, flat_map, count_by, range_with_len}
 use Rattle.std.specs.declared.cmp.Ordering.{Ordering}
@@ -13,17 +13,14 @@ use Rattle.flag_rows.proofs.ByteLaws.{bit_past}
 use Rattle.btree_node.specs.Levels.{Nodes, Pair}
 use Rattle.btree_node.specs.MemLaws.{legal_size}
 use Rattle.btree_node.specs.Node.{IsNodeSize, IsNodeOf, next_of, record_count}
-use Rattle.btree_node.specs.Store.{Store}
 use Rattle.btree_node.specs.Tree.{IsTree, HasValues, pairs_of}
 use Rattle.btree_node.specs.TreeFile.{TreeHead, TreeForm, IsTreeFile, IsHeaderNode, tree_head, shape_of, map_chain, map_bytes, is_reserved_in, store_of}
 use Rattle.btree_node.specs.declared.store.TreeShape.{TreeShape}
-use Rattle.sector_disk.specs.Lists.{sector}
 use Rattle.sector_disk.specs.Space.{Space}
-use Rattle.btree_file.specs.Frame.{FollowsOn}
 use Rattle.btree_file.specs.Held.{HoldsNodes, file_in}
-use Rattle.btree_file.specs.Map.{used_in, bits_of, is_reserved, IsMapRecord, AreStretches}
+use Rattle.btree_file.specs.Map.{used_in, bits_of, is_reserved}
 use Rattle.btree_file.specs.Standing.{Stands, HoldsTree, pairs_in}
-use Rattle.btree_file.specs.State.{sectors_of_tree, nodes_on, per_node, state_of}
+use Rattle.btree_file.specs.State.{sectors_of_tree, nodes_on, state_of}
 use Rattle.btree_file.specs.Walks.{names_of}
 use Rattle.btree_file.specs.declared.tree.Stretch.{Stretch}
 use Rattle.btree_file.specs.declared.tree.TreeFile.{TreeFile}
@@ -32,7 +29,7 @@ use Rattle.btree_file.proofs.Holding.{are_in, head_same}
 use Rattle.btree_file.proofs.Joined.{AreIn, bytes_in, length_joined, used_joined, map_joined}
 use Rattle.btree_file.proofs.Likeness.{tree_alike, pairs_alike}
 use Rattle.btree_file.proofs.RoomLaws.{count_same}
-use Rattle.btree_file.proofs.Sizes.{size_least, tree_size, tree_large}
+use Rattle.btree_file.proofs.Sizes.{tree_size, tree_large}
 use Rattle.btree_file.proofs.Walking.{length-names}
 
 module _ (tree : TreeFile) (content : List (List ℕ)) (stands : Stands tree content) where
@@ -84,7 +81,7 @@ module _ (tree : TreeFile) (content : List (List ℕ)) (stands : Stands tree con
   bits_are : bits_of tree.map.items ≡ 8 * length (file_in (sectors_of_tree tree) content).map
   bits_are = sym (length_joined (nodes_on (sectors_of_tree tree) tree.shape.node_size content) tree.map.items inside) ∙ ap (λ (l : List ℕ). 8 * length l) (sym map_is)
 
-  used_are : (n : ℕ) → n < bits_of tree.map.items → used_in (nodes_on (sectors_of_tree tree) tree.shape.node_size content) tree.map.items n ≡ bit_of (file_in (sectors_of_tree tree) content).map n
+  pub used_are : (n : ℕ) → n < bits_of tree.map.items → used_in (nodes_on (sectors_of_tree tree) tree.shape.node_size content) tree.map.items n ≡ bit_of (file_in (sectors_of_tree tree) content).map n
   used_are n low = used_joined (nodes_on (sectors_of_tree tree) tree.shape.node_size content) tree.map.items inside n low ∙ ap (λ (l : List ℕ). bit_of l n) (sym map_is)
 
   in_map : (n : ℕ) → n < tree.shape.total → n < bits_of tree.map.items

@@ -15,13 +15,13 @@ use Rattle.btree_file.specs.Map.{is_reserved, IsMapRecord, AreStretches}
 use Rattle.btree_file.specs.Walks.{FitsFile, LeadTo, HasChain, names_of}
 use Rattle.btree_file.specs.declared.tree.Stretch.{Stretch}
 
-last_at : (xs : List Stretch) (s d : Stretch) → get_or (xs ++ s ∷ []) (length xs) d ≡ s
+pub last_at : (xs : List Stretch) (s d : Stretch) → get_or (xs ++ s ∷ []) (length xs) d ≡ s
 last_at xs s d = get_or-append_seam xs s [] d
 
-early_at : (xs : List Stretch) (s d : Stretch) (k : ℕ) → k < length xs → get_or (xs ++ s ∷ []) k d ≡ get_or xs k d
+pub early_at : (xs : List Stretch) (s d : Stretch) (k : ℕ) → k < length xs → get_or (xs ++ s ∷ []) k d ≡ get_or xs k d
 early_at xs s d k low = get_or_append_left xs (s ∷ []) d k low
 
-longer : (xs : List Stretch) (s : Stretch) → length (xs ++ s ∷ []) ≡ length xs + 1
+pub longer : (xs : List Stretch) (s : Stretch) → length (xs ++ s ∷ []) ≡ length xs + 1
 longer xs s = length-append xs (s ∷ [])
 
 -- ---- what fits

@@ -9,3 +9,4 @@ pub mod Walks
 pub mod Held
 pub mod Apart
 pub mod Standing
+pub mod Growth

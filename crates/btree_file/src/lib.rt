@@ -1,8 +1,11 @@
 //! The nodes of a tree file: a fork over sectors, with a header record and map nodes.
 #![tactic(auto)]
 
+mod added_run;
 mod apart;
 mod attaching;
+mod growing;
+mod map_node;
 mod marking;
 mod numbers;
 mod on;

@@ -28,7 +28,7 @@ pub(crate) struct MapNode {
 
 /// Where the first record of a node begins and ends.
 #[tactic(auto, unfolding(btree_node::specs::Node::offset))]
-fn first_record(node: &[u8]) -> (u32, u32)
+pub(crate) fn first_record(node: &[u8]) -> (u32, u32)
     requires { 512 ≤ length node.now }
     ensures from { result.0 ≡ offset node.now 0 }
     ensures to { result.1 ≡ offset node.now 1 }

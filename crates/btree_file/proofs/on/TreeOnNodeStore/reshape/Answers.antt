@@ -65,9 +65,9 @@ returns-clause-tree g c tells =
     let whole = whole_node tree.shape.total (tree.shape.node_size / 512) 0 (length (sectors_of_tree tree)) tree.kept.whole (omega (arith, c.requires.total)) in
     record {
       nodes = λ n unreserved. ap (λ s. nodes_on (sectors_of_tree tree) s new.content n) c.requires.size
-          ∙ shaped_node (sectors_of_tree tree) tree.shape.node_size tree.shape.total tree.shape.free tree.map.items tree.header c.set_shape.new.self c.args.shape.now old new tree.kept.apart (tree_large tree) tree.long c.requires.size c.requires.total c.set_shape.ensures puts whole (tree_size tree).1 tree.kept.map_header n (λ e. not_header tree.map.items n unreserved (sym e));
+          ∙ shaped_node (sectors_of_tree tree) tree.shape.node_size tree.shape.total tree.shape.free tree.map.items tree.header c.set_shape.new.self c.args.shape.now old new tree.kept.apart (tree_large tree) tree.long c.requires.size c.set_shape.ensures puts whole (tree_size tree).1 tree.kept.map_header n (λ e. not_header tree.map.items n unreserved (sym e));
       used = λ n. ap (λ s. used_in (nodes_on (sectors_of_tree tree) s new.content) tree.map.items n) c.requires.size
-          ∙ shaped_used (sectors_of_tree tree) tree.shape.node_size tree.shape.total tree.shape.free tree.map.items tree.header c.set_shape.new.self c.args.shape.now old new tree.kept.apart (tree_large tree) tree.long c.requires.size c.requires.total c.set_shape.ensures puts whole (tree_size tree).1 tree.kept.map_header (c.args.self.now.agrees tells) n;
+          ∙ shaped_used (sectors_of_tree tree) tree.shape.node_size tree.shape.total tree.shape.free tree.map.items tree.header c.set_shape.new.self c.args.shape.now old new tree.kept.apart (tree_large tree) tree.long c.requires.size c.set_shape.ensures puts whole (tree_size tree).1 tree.kept.map_header (c.args.self.now.agrees tells) n;
       header = c.set_shape.ensures.numbers;
     }
 
@@ -86,5 +86,5 @@ invariant_of-self-2 g c =
           subst (λ s. HasMap (sectors_of_tree tree) s c.args.shape.now.total c.args.shape.now.free tree.map.items c.set_shape.new.self new.content) (sym c.requires.size)
           (subst (λ t. HasMap (sectors_of_tree tree) tree.shape.node_size t c.args.shape.now.free tree.map.items c.set_shape.new.self new.content) (sym c.requires.total)
           (subst (λ f. HasMap (sectors_of_tree tree) tree.shape.node_size tree.shape.total f tree.map.items c.set_shape.new.self new.content) (sym c.requires.free)
-          (shaped_map (sectors_of_tree tree) tree.shape.node_size tree.shape.total tree.shape.free tree.map.items tree.header c.set_shape.new.self c.args.shape.now old new tree.kept.apart (tree_large tree) tree.long c.requires.size c.requires.total c.set_shape.ensures puts whole (tree_size tree).1 tree.kept.map_header (c.args.self.now.agrees (told tells)))));
+          (shaped_map (sectors_of_tree tree) tree.shape.node_size tree.shape.total tree.shape.free tree.map.items tree.header c.set_shape.new.self c.args.shape.now old new tree.kept.apart (tree_large tree) tree.long c.requires.size c.set_shape.ensures puts whole (tree_size tree).1 tree.kept.map_header (c.args.self.now.agrees (told tells)) c.requires.total)));
     }

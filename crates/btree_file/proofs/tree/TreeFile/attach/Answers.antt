@@ -1,4 +1,4 @@
-use Rattle.std.proofs.Common.{◌≡◌, ◌/◌}
+use Rattle.std.proofs.Common.{◌/◌}
 use Rattle.sector_disk.specs.Space.{Space}
 use Rattle.btree_file.proofs.Edited.{stands_read}
 use Rattle.btree_file.proofs.tree.TreeFile.attach.Goals as goal
