@@ -6,8 +6,8 @@ use hx_bytes::OutOfMemory;
 use mem_disk::{MemImage, MemRig};
 use std::alloc::Global;
 
-// The first sector that the transactions put.
-const FIRST: u64 = 200;
+/// The first sector that the transactions put, behind the journal.
+pub const FIRST: u64 = 600;
 
 /// A transaction that puts this byte into so many sectors, and how many calls were made before its commit and
 /// after it.

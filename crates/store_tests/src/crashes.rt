@@ -2,6 +2,7 @@
 use crate::commits::{Tried, try_all, try_committed, try_put};
 use crate::losses::try_lost;
 use crate::rounds::{Rounds, calls_of_reads, many_batches, try_rounds};
+use crate::volumes::{new_volume, volume};
 use std::test::Fail;
 
 // Some images have the old sectors and some the new ones, and none has others.
@@ -82,10 +83,11 @@ fn lists_that_wrap_are_whole(rt: HostRuntime) -> Result<(), Fail> {
 
 #[test]
 fn a_ring_is_gone_round_many_times(rt: HostRuntime) -> Result<(), Fail> {
-    let (done, long) = many_batches(rt.alloc(), 400, 1)?;
-    assert_eq!(rt; done, 400);
-    // A list of two sectors: 31 of them fill the ring, so that 12 of 400 commits had no room.
-    assert_eq!(rt; long, 12);
+    let alloc = rt.alloc();
+    // A list of two sectors: 31 of them fill the 62 that it may have, so that 12 of 400 commits had no room.
+    assert_eq!(rt; many_batches(alloc, &volume(alloc)?, 1, 400)?, (400, 12));
+    // A list of nine sectors, of which 56 fill the 510: 3 of 200 commits had no room.
+    assert_eq!(rt; many_batches(alloc, &new_volume(alloc)?, 8, 200)?, (200, 3));
     Ok(())
 }
 

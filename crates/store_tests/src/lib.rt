@@ -21,4 +21,4 @@ pub use mounted::Mounted;
 pub use quiet::Quiet;
 pub use rounds::{Rounds, calls_of_reads, many_batches, try_rounds};
 pub use steps::{Answer, Step, answers_are, calls_of_last};
-pub use volumes::{disk_of, losing_disk_of, volume};
+pub use volumes::{disk_of, losing_disk_of, new_volume, volume};

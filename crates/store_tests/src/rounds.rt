@@ -1,14 +1,14 @@
 //! Transactions that go round the ring: many lists are live, and some wrap.
 use crate::Quiet;
-use crate::commits::{Tried, byte_of, put_all};
+use crate::commits::{FIRST, Tried, byte_of, put_all};
 use crate::mounted::Mounted;
 use crate::volumes::{disk_of, volume};
 use hx_bytes::OutOfMemory;
 use mem_disk::{MemImage, MemRig};
 use std::alloc::Global;
 
-// Which calls of a mount are tried: one of so many that wrote.
-const STEP: u64 = 7;
+// Which calls of a mount are tried: one of so many that wrote, from one of its first three on.
+const STEP: u64 = 17;
 
 /// Transactions in a row, over a ring on which some were made before it was mounted.
 #[derive(Clone, Copy)]
@@ -114,7 +114,7 @@ fn try_images(
         } else if byte != rounds.last().saturating_sub(1) {
             tried.wrong = true;
         }
-        if choice < 3 && !is_replayed_again(alloc, &image, choice, rounds.sectors, byte)? {
+        if !is_replayed_again(alloc, &image, choice, rounds.sectors, byte)? {
             tried.wrong = true;
         }
     }
@@ -131,11 +131,11 @@ fn is_replayed_again(
 ) -> Result<bool, OutOfMemory> {
     let mut whole = disk_of(alloc, image)?;
     let _mounted = Mounted::mount(alloc, &mut whole)?;
-    let mut nth = choice;
+    let mut nth = choice % 3;
     for call in 0..whole.rig.calls() {
         if whole.rig.wrote(call) {
             nth = nth.wrapping_add(1);
-            if nth % STEP == 0 && stopped(alloc, image, call, choice, sectors)? != byte {
+            if nth % STEP == 3 && stopped(alloc, image, call, choice, sectors)? != byte {
                 return Ok(false);
             }
         }
@@ -173,38 +173,43 @@ pub fn calls_of_reads(alloc: Global, slots: u32) -> Result<u64, OutOfMemory> {
     Ok(disk.rig.calls().saturating_sub(before))
 }
 
-/// Makes so many transactions of this many sectors, one after another, over one mount. Answers how many were committed
-/// and read back, and how many were checkpointed: their commit made more than one call for each sector and eight more.
-pub fn many_batches(alloc: Global, count: u64, sectors: u64) -> Result<(u64, u64), OutOfMemory> {
-    let mut disk = disk_of(alloc, &volume(alloc)?)?;
+/// Makes so many transactions of one sector, one after another, over one mount of a volume whose lists have headers of so
+/// many sectors. Answers how many were committed and read back, and how many were checkpointed: their commit made more
+/// calls than a write for each sector of the list, a read and a write of the journal header, and two barriers.
+pub fn many_batches(
+    alloc: Global,
+    image: &MemImage,
+    header: u64,
+    count: u64,
+) -> Result<(u64, u64), OutOfMemory> {
+    let mut disk = disk_of(alloc, image)?;
     let Some(mut store) = Mounted::mount(alloc, &mut disk)? else {
         return Ok((0, 0));
     };
     let mut done: u64 = 0;
     let mut long: u64 = 0;
     for k in 0..count {
-        let (calls, is_there) = make_one(alloc, &mut store, &mut disk, sectors, (k % 250) as u8)?;
+        let (calls, is_there) = make_one(alloc, &mut store, &mut disk, (k % 250) as u8)?;
         if is_there {
             done = done.saturating_add(1);
         }
-        if sectors.saturating_add(8) < calls {
+        if header.saturating_add(5) < calls {
             long = long.saturating_add(1);
         }
     }
     Ok((done, long))
 }
 
-// One transaction: how many calls its commit made, and whether its sectors are there.
+// One transaction: how many calls its commit made, and whether its sector is there.
 fn make_one(
     alloc: Global,
     store: &mut Mounted,
     disk: &mut Quiet,
-    sectors: u64,
     byte: u8,
 ) -> Result<(u64, bool), OutOfMemory> {
-    put_all(alloc, store, disk, sectors, byte)?;
+    put_all(alloc, store, disk, 1, byte)?;
     let before = disk.rig.calls();
     let committed = matches!(store.commit(disk), Some(Ok(())));
     let calls = disk.rig.calls().saturating_sub(before);
-    Ok((calls, committed && store.byte(disk, 200) == byte))
+    Ok((calls, committed && store.byte(disk, FIRST) == byte))
 }

@@ -1,4 +1,4 @@
-//! A small volume with an empty journal of 64 sectors, whose lists have headers of 512 bytes.
+//! Small volumes: with an empty journal of 64 sectors, whose lists have headers of 512 bytes, or with a new one of 512.
 use crate::Quiet;
 use crate::kept::Kept;
 use crate::mounted::SECTORS;
@@ -18,6 +18,14 @@ pub fn volume(alloc: Global) -> Result<MemImage, OutOfMemory> {
     put(&mut rig, 2, &volume_header(JOURNALING, 256));
     put(&mut rig, INFO, &info_block(1, SIZE));
     put(&mut rig, BASE, &header_block(Order::Little, 512, 512, SIZE));
+    rig.image(alloc, 1)
+}
+
+/// The same with a journal of 512 sectors that still has to be initialised: its lists get headers of 4,096 bytes.
+pub fn new_volume(alloc: Global) -> Result<MemImage, OutOfMemory> {
+    let mut rig = MemRig::new(alloc, SECTORS)?;
+    put(&mut rig, 2, &volume_header(JOURNALING, 256));
+    put(&mut rig, INFO, &info_block(5, 512 * 512));
     rig.image(alloc, 1)
 }
 
