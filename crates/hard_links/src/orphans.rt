@@ -43,6 +43,7 @@ pub fn orphan<N: NodeStore>(
     ensures moved { IsTrue (N.state store.old).tells → OnOk result (MakesOrphan private at.now (pairs_of (N.state store.old)) (pairs_of (N.state store.new))) }
     ensures tree { IsTrue (N.state store.old).tells → OnOk result (IsTree IsCatalogKey catalog_cmp (N.state store.new)) }
     ensures desk { IsDeskOf (N.state store.old).shape.node_size desk.new }
+    ensures header { IsTrue (N.state store.old).tells → (N.state store.old).header ≡ (N.state store.old).shape → OnOk result ((N.state store.new).header ≡ (N.state store.new).shape) }
     ensures edits { OnOk result (TakesEdits 3 516 (N.state store.old) (N.state store.new)) }
     ensures takes { TakesAtMost 3 516 (N.state store.old) (N.state store.new) }
     ensures same { SameStore (N.state store.old) (N.state store.new) }
@@ -117,6 +118,7 @@ fn put_aside<N: NodeStore>(
     ensures moved { IsTrue (N.state store.old).tells → OnOk result (RelocatesEntry at.now.parent at.now.name private name.now (pairs_of (N.state store.old)) (pairs_of (N.state store.new))) }
     ensures tree { IsTrue (N.state store.old).tells → OnOk result (IsTree IsCatalogKey catalog_cmp (N.state store.new)) }
     ensures desk { IsDeskOf (N.state store.old).shape.node_size desk.new }
+    ensures header { IsTrue (N.state store.old).tells → (N.state store.old).header ≡ (N.state store.old).shape → OnOk result ((N.state store.new).header ≡ (N.state store.new).shape) }
     ensures edits { OnOk result (TakesEdits 3 516 (N.state store.old) (N.state store.new)) }
     ensures takes { TakesAtMost 3 516 (N.state store.old) (N.state store.new) }
     ensures same { SameStore (N.state store.old) (N.state store.new) }

@@ -71,3 +71,8 @@ returns-clause-takes g c =
     let s = g.N.NodeStore.state c.args.store.now in
     let read = g.N.NodeStore.state c.orphan_number.new.store in
     takes_both 0 3 516 s read (g.N.NodeStore.state c.put_aside.new.store) c.orphan_number.ensures.reads.reads.same (edits_none s read c.orphan_number.ensures.reads) c.put_aside.ensures.takes
+
+pub returns-clause-header : goal.returns-clause-header
+returns-clause-header g c tells same =
+    let reads = c.orphan_number.ensures.reads.reads in
+    c.in_ok-put_aside.ensures.header (reads.same.tells ∙ tells) ((reads.tree tells).header ∙ same ∙ sym reads.shape)
