@@ -23,6 +23,12 @@ impl SectorView for Sectors {
 
     ghost space = { λ s. told_none (length s.list.items) };
 
+    ghost follows = { λ _ _. Unit {0} };
+
+    ghost follows_refl = { λ _. tt };
+
+    ghost follows_trans = { λ _ _ _ _ _. tt };
+
     fn sectors(&self) -> u64 {
         self.list.len() as u64
     }
