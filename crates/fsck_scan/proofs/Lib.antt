@@ -1,0 +1,5 @@
+pub mod RecordLaws
+pub mod Pieces
+pub mod LevelLaws
+pub mod MarkLaws
+pub mod Failing

@@ -1,0 +1,55 @@
+use Rattle.std.proofs.Common.{◌≡◌, ◌<◌, ◌+◌, ◌*◌, ◌/◌, ℕ, IsTrue, List, length, drop, slice_get, Option, inl, inr, sym, ◌∙◌, ap, subst, arith}
+use Rattle.sector_disk.specs.Space.{Space}
+use Rattle.btree_node.specs.Node.{IsNodeSize}
+use Rattle.btree_file.specs.Place.{fork_sectors}
+use Rattle.fsck_scan.specs.Read.{sector_or_zeros}
+use Rattle.fsck_scan.proofs.Pieces.{Reads, reads_start, reads_more, reads_all, dropped_get}
+use Rattle.fsck_scan.proofs.fork.read_node.Goals as goal
+
+-- a node has whole sectors
+whole_sectors : (n : ℕ) → IsNodeSize n → n ≡ n / 512 * 512
+whole_sectors n (inl is) = omega (arith, is)
+whole_sectors n (inr (inl is)) = omega (arith, is)
+whole_sectors n (inr (inr (inl is))) = omega (arith, is)
+whole_sectors n (inr (inr (inr (inl is)))) = omega (arith, is)
+whole_sectors n (inr (inr (inr (inr (inl is))))) = omega (arith, is)
+whole_sectors n (inr (inr (inr (inr (inr (inl is)))))) = omega (arith, is)
+whole_sectors n (inr (inr (inr (inr (inr (inr is)))))) = omega (arith, is)
+
+pub loop-k-init : goal.loop-k-init
+loop-k-init g c = record {
+  per = ap (λ (b : List ℕ). length b / 512) c.bytes.ensures.value;
+  so_far = reads_start (g.V.SectorView.space c.args.view.now) c.args.fork.now.limit (drop (c.args.node * (length c.bytes.result.now / 512)) (fork_sectors c.args.fork.now.extents.now c.args.fork.now.per_block)) c.args.into.now;
+}
+
+pub loop-k-preserved : goal.loop-k-preserved
+loop-k-preserved g c =
+    let old : Space = g.V.SectorView.space c.args.view.now in
+    let now : Space = g.V.SectorView.space c.loop-k.view in
+    let new : Space = g.V.SectorView.space c.read_sector.new.view in
+    let fork : List ℕ = fork_sectors c.args.fork.now.extents.now c.args.fork.now.per_block in
+    let limit : ℕ = c.args.fork.now.limit in
+    let per : ℕ = length c.bytes.result.now / 512 in
+    let k : ℕ = c.loop-k.k in
+    let e : per ≡ length c.args.into.now / 512 = ap (λ (b : List ℕ). length b / 512) c.bytes.ensures.value in
+    let low : k < per = c.loop-k-test.true in
+    let value : IsTrue now.tells → c.read_sector.new.into ≡ sector_or_zeros now.content limit (slice_get (drop (c.args.node * per) fork) k) =
+    λ tells. c.in_ok-read_sector.ensures.value tells ∙ ap (λ (o : Option ℕ). sector_or_zeros now.content limit o) (sym (dropped_get (c.args.node * per) k fork)) in
+    record {
+      per = e;
+      so_far = subst (λ (b : List ℕ). Reads old new limit (drop (c.args.node * per) fork) c.args.into.now b (k + 1)) (sym c.fill.ensures)
+          (reads_more old now new limit (drop (c.args.node * per) fork) c.args.into.now c.loop-k.into c.read_sector.new.into k c.loop-k.invariant.so_far c.read_sector.ensures.reads c.read_sector.array_long
+          (omega (arith, low, e)) value);
+    }
+
+pub returns-clause-value : goal.returns-clause-value
+returns-clause-value g c tells =
+    let old : Space = g.V.SectorView.space c.args.view.now in
+    let now : Space = g.V.SectorView.space c.loop-k.view in
+    let fork : List ℕ = fork_sectors c.args.fork.now.extents.now c.args.fork.now.per_block in
+    let per : ℕ = length c.bytes.result.now / 512 in
+    let e : per ≡ length c.args.into.now / 512 = ap (λ (b : List ℕ). length b / 512) c.bytes.ensures.value in
+    let all : c.loop-k.k ≡ per = omega (arith, c.loop-k-test.false, c.loop-k.auto.k-end) in
+    let size : length c.args.into.now ≡ per * 512 = whole_sectors (length c.args.into.now) c.bytes.ensures.size ∙ ap (λ n. n * 512) (sym e) in
+    reads_all old now c.args.fork.now.limit fork c.args.into.now c.loop-k.into per c.args.node
+    (subst (λ n. Reads old now c.args.fork.now.limit (drop (c.args.node * per) fork) c.args.into.now c.loop-k.into n) all c.loop-k.invariant.so_far) size e tells

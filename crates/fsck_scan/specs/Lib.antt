@@ -1,0 +1,4 @@
+pub mod Good
+pub mod Read
+pub mod Level
+pub mod Marks

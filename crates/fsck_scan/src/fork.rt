@@ -1,0 +1,75 @@
+//! Sectors and nodes of a fork, read through a view.
+ghost use Rattle.std.specs.Prelude.{◌≡◌, ◌≤◌, ◌^◌, IsTrue, length, replicate, slice_get, OnOk};
+ghost use Rattle.sector_disk.specs.Cause.{HasCause};
+ghost use Rattle.btree_file.specs.Frame.{ReadsSpace};
+ghost use Rattle.btree_file.specs.Place.{fork_sectors};
+ghost use Rattle.hfs_volume.specs.Content.{node_of_fork};
+ghost use Rattle.fsck_scan.specs.Read.{sector_or_zeros};
+
+use btree_node::Node;
+use fork_map::ExtentList;
+use hx_bytes::{Failed, Sector};
+use sector_disk::SectorView;
+
+/// Where a fork lies: its extents in blocks of so many sectors, of which those below a limit belong to the volume.
+#[derive(Clone, Copy)]
+pub struct Fork<'a> {
+    pub extents: &'a ExtentList,
+    pub per_block: u32,
+    pub limit: u64,
+}
+
+fn clear(into: &mut Sector)
+    ensures { into.new ≡ replicate 512 0 }
+{
+    *into = [0; 512];
+}
+
+/// Reads the sector at a place of a fork: zeros where the fork has no such sector, or the volume.
+pub(crate) fn read_sector<V: SectorView>(
+    view: &mut V,
+    fork: &Fork,
+    place: u64,
+    into: &mut Sector,
+) -> Result<(), Failed>
+    requires { fork.now.per_block ≤ 2 ^ 23 }
+    ensures value { IsTrue (V.space view.old).tells → OnOk result (into.new ≡ sector_or_zeros (V.space view.old).content fork.now.limit (slice_get (fork_sectors fork.now.extents.now fork.now.per_block) place)) }
+    ensures reads { ReadsSpace (V.space view.old) (V.space view.new) }
+    ensures cause { HasCause (V.space view.old).faults (V.space view.new).faults result }
+{
+    let Some(at) = fork.extents.sector_at(fork.per_block, place) else {
+        clear(into);
+        return Ok(());
+    };
+    if at >= fork.limit {
+        clear(into);
+        return Ok(());
+    }
+    if at >= view.sectors() {
+        clear(into);
+        return Ok(());
+    }
+    view.get(at, into)
+}
+
+/// Reads a node of a fork, of the length of the buffer.
+pub(crate) fn read_node<V: SectorView>(
+    view: &mut V,
+    fork: &Fork,
+    node: u32,
+    into: &mut Node,
+) -> Result<(), Failed>
+    requires { fork.now.per_block ≤ 2 ^ 23 }
+    ensures value { IsTrue (V.space view.old).tells → OnOk result (into.new ≡ node_of_fork (V.space view.old).content fork.now.limit (fork_sectors fork.now.extents.now fork.now.per_block) (length into.old) node) }
+    ensures length { length into.new ≡ length into.old }
+    ensures reads { ReadsSpace (V.space view.old) (V.space view.new) }
+    ensures cause { HasCause (V.space view.old).faults (V.space view.new).faults result }
+{
+    let per = into.bytes().len() as u32 / 512;
+    let mut sector = [0; 512];
+    for k in 0..per {
+        read_sector(view, fork, node as u64 * per as u64 + k as u64, &mut sector)?;
+        into.fill(k, &sector);
+    }
+    Ok(())
+}
