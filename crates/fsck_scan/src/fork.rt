@@ -36,7 +36,6 @@ pub(crate) fn read_sector<V: SectorView>(
     ensures value { IsTrue (V.space view.old).tells → OnOk result (into.new ≡ sector_or_zeros (V.space view.old).content fork.now.limit (slice_get (fork_sectors fork.now.extents.now fork.now.per_block) place)) }
     ensures reads { ReadsSpace (V.space view.old) (V.space view.new) }
     ensures below { V.follows view.old view.new }
->>>>>>> origin/incoming/checker
     ensures cause { HasCause (V.space view.old).faults (V.space view.new).faults result }
 {
     let Some(at) = fork.extents.sector_at(fork.per_block, place) else {
@@ -65,8 +64,7 @@ pub(crate) fn read_node<V: SectorView>(
     ensures value { IsTrue (V.space view.old).tells → OnOk result (into.new ≡ node_of_fork (V.space view.old).content fork.now.limit (fork_sectors fork.now.extents.now fork.now.per_block) (length into.old) node) }
     ensures length { length into.new ≡ length into.old }
     ensures reads { ReadsSpace (V.space view.old) (V.space view.new) }
-<<<<<<< HEAD
-=======
+    ensures below { V.follows view.old view.new }
     ensures cause { HasCause (V.space view.old).faults (V.space view.new).faults result }
 {
     let per = into.bytes().len() as u32 / 512;

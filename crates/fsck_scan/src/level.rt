@@ -67,10 +67,7 @@ pub fn read_level<V: SectorView, K: KeyOrder>(
         most height nodes.now names.now one.at one.fault)) }
     ensures length { length node.new ≡ length node.old }
     ensures reads { ReadsSpace (V.space view.old) (V.space view.new) }
-<<<<<<< HEAD
     ensures below { V.follows view.old view.new }
-=======
->>>>>>> origin/incoming/checker
     ensures disk { IsErrOf result Disk → Rose (V.space view.old).faults (V.space view.new).faults }
 {
     for k in 0..nodes.len() {

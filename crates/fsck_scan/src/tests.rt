@@ -29,18 +29,21 @@ impl SectorView for Sectors {
 
     ghost follows_trans = { λ _ _ _ _ _. tt };
 
->>>>>>> origin/incoming/checker
     fn sectors(&self) -> u64 {
         self.list.len() as u64
     }
+
     fn get(&mut self, at: u64, into: &mut Sector) -> Result<(), Failed> {
         into.copy_from_slice(&self.list[at as usize]);
         self.reads = self.reads.wrapping_add(1);
         Ok(())
     }
+
     ghost well_formed = { λ s tells. Prim.cc };
 }
+
 type Patch = (usize, &'static [u8]);
+
 fn patch(sector: &mut Sector, patches: &[Patch]) {
     for (start, bytes) in patches {
         for (place, byte) in sector.iter_mut().skip(*start).zip(*bytes) {
@@ -48,6 +51,7 @@ fn patch(sector: &mut Sector, patches: &[Patch]) {
         }
     }
 }
+
 // Two leaves in sectors 1 and 2. Keys are of the extents file: file 20 and file 21 in the first, file 22 in the second.
 const FIRST: [Patch; 4] = [
     (0, &[0, 0, 0, 2, 0, 0, 0, 0, 0xFF, 1, 0, 2]),
@@ -55,16 +59,19 @@ const FIRST: [Patch; 4] = [
     (90, &[0, 10, 0, 0, 0, 0, 0, 21]),
     (506, &[0, 166, 0, 90, 0, 14]),
 ];
+
 const SECOND: [Patch; 3] = [
     (0, &[0, 0, 0, 0, 0, 0, 0, 1, 0xFF, 1, 0, 1]),
     (14, &[0, 10, 0, 0, 0, 0, 0, 22]),
     (508, &[0, 90, 0, 14]),
 ];
+
 // The records that name them, in an index node.
 const NAMES: [&[u8]; 2] = [
     &[0, 10, 0, 0, 0, 0, 0, 20, 0, 0, 0, 0, 0, 0, 0, 1],
     &[0, 10, 0, 0, 0, 0, 0, 22, 0, 0, 0, 0, 0, 0, 0, 2],
 ];
+
 fn leaves(alloc: Global, damage: &[(usize, Patch)]) -> Result<Sectors, Fail> {
     let mut list = vec![in alloc; [0; 512]; 4]?;
     for (sector, patches) in list
@@ -81,6 +88,7 @@ fn leaves(alloc: Global, damage: &[(usize, Patch)]) -> Result<Sectors, Fail> {
     }
     Ok(Sectors { list, reads: 0 })
 }
+
 fn names(alloc: Global, items: &[&[u8]]) -> Result<Records, Fail> {
     let mut records = Records::new(alloc);
     for item in items {
@@ -88,9 +96,7 @@ fn names(alloc: Global, items: &[&[u8]]) -> Result<Records, Fail> {
     }
     Ok(records)
 }
-<<<<<<< HEAD
-/// Reads the two leaves: how many records they have, where each one's end, how many sectors were read, and what is wrong.
-=======
+
 /// Reads the two leaves: how many records were read, and what is wrong.
 fn read(
     alloc: Global,
@@ -151,8 +157,6 @@ fn a_wrong_node_is_named(rt: HostRuntime) -> Result<(), Fail> {
         },
         Damage {
             shows: "a key of another length",
-            change: (2, (15, &[9])),
-            at: 1,
             change: (1, (91, &[9])),
             at: 0,
             fault: Fault::Node,

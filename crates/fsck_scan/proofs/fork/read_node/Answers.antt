@@ -21,7 +21,6 @@ loop-k-init g c = record {
   per = ap (λ (b : List ℕ). length b / 512) c.bytes.ensures.value;
   so_far = reads_start (g.V.SectorView.space c.args.view.now) c.args.fork.now.limit (drop (c.args.node * (length c.bytes.result.now / 512)) (fork_sectors c.args.fork.now.extents.now c.args.fork.now.per_block)) c.args.into.now;
   below = g.met.V.SectorView.follows_refl c.args.view.now;
->>>>>>> origin/incoming/checker
 }
 
 pub loop-k-preserved : goal.loop-k-preserved
@@ -42,15 +41,11 @@ loop-k-preserved g c =
       so_far = subst (λ (b : List ℕ). Reads old new limit (drop (c.args.node * per) fork) c.args.into.now b (k + 1)) (sym c.fill.ensures)
           (reads_more old now new limit (drop (c.args.node * per) fork) c.args.into.now c.loop-k.into c.read_sector.new.into k c.loop-k.invariant.so_far c.read_sector.ensures.reads c.read_sector.array_long
           (omega (arith, low, e)) value);
-<<<<<<< HEAD
       below = g.met.V.SectorView.follows_trans c.args.view.now c.loop-k.view c.read_sector.new.view c.loop-k.invariant.below c.read_sector.ensures.below;
     }
 
 pub returns-in_err-read_sector-clause-below : goal.returns-in_err-read_sector-clause-below
 returns-in_err-read_sector-clause-below g c = g.met.V.SectorView.follows_trans c.args.view.now c.loop-k.view c.read_sector.new.view c.loop-k.invariant.below c.read_sector.ensures.below
-
-=======
-    }
 
 pub returns-clause-value : goal.returns-clause-value
 returns-clause-value g c tells =

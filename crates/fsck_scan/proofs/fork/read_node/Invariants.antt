@@ -7,8 +7,5 @@ abbrev pub invariant-loop-k : goal.invariant-loop-k
 invariant-loop-k g l = record {
   per : l.per ≡ length l.fn.into / 512;
   so_far : Reads (g.V.SectorView.space l.fn.view) (g.V.SectorView.space l.view) l.fork.limit (drop (l.node * l.per) (fork_sectors l.fork.extents.now l.fork.per_block)) l.fn.into l.into l.k;
-<<<<<<< HEAD
   below : g.V.SectorView.follows l.fn.view l.view;
-=======
->>>>>>> origin/incoming/checker
 }

@@ -14,14 +14,13 @@ use Rattle.fsck_scan.proofs.level.read_level.Goals as goal
 pub returns-in_err-read_node-clause-below : goal.returns-in_err-read_node-clause-below
 returns-in_err-read_node-clause-below g c = g.met.V.SectorView.follows_trans c.args.view.now c.loop-k.view c.read_node.new.view c.loop-k.invariant.below c.read_node.ensures.below
 
->>>>>>> origin/incoming/checker
 pub returns-in_err-read_node-clause-reads : goal.returns-in_err-read_node-clause-reads
 returns-in_err-read_node-clause-reads g c =
     reads_both (g.V.SectorView.space c.args.view.now) (g.V.SectorView.space c.loop-k.view) (g.V.SectorView.space c.read_node.new.view) c.loop-k.invariant.reads c.read_node.ensures.reads
-<<<<<<< HEAD
+
 pub returns-in_err-fault-clause-below : goal.returns-in_err-fault-clause-below
 returns-in_err-fault-clause-below g c = g.met.V.SectorView.follows_trans c.args.view.now c.loop-k.view c.read_node.new.view c.loop-k.invariant.below c.read_node.ensures.below
-=======
+
 pub returns-in_err-fault-clause-reads : goal.returns-in_err-fault-clause-reads
 returns-in_err-fault-clause-reads g c =
     reads_both (g.V.SectorView.space c.args.view.now) (g.V.SectorView.space c.loop-k.view) (g.V.SectorView.space c.read_node.new.view) c.loop-k.invariant.reads c.read_node.ensures.reads
@@ -29,14 +28,13 @@ returns-in_err-fault-clause-reads g c =
 pub returns-in-Some-clause-below : goal.returns-in-Some-clause-below
 returns-in-Some-clause-below g c = g.met.V.SectorView.follows_trans c.args.view.now c.loop-k.view c.read_node.new.view c.loop-k.invariant.below c.read_node.ensures.below
 
->>>>>>> origin/incoming/checker
 pub returns-in-Some-clause-reads : goal.returns-in-Some-clause-reads
 returns-in-Some-clause-reads g c =
     reads_both (g.V.SectorView.space c.args.view.now) (g.V.SectorView.space c.loop-k.view) (g.V.SectorView.space c.read_node.new.view) c.loop-k.invariant.reads c.read_node.ensures.reads
-<<<<<<< HEAD
+
 pub returns-in_err-push_end-clause-below : goal.returns-in_err-push_end-clause-below
 returns-in_err-push_end-clause-below g c = g.met.V.SectorView.follows_trans c.args.view.now c.loop-k.view c.read_node.new.view c.loop-k.invariant.below c.read_node.ensures.below
-=======
+
 pub returns-in_err-push_end-clause-reads : goal.returns-in_err-push_end-clause-reads
 returns-in_err-push_end-clause-reads g c =
     reads_both (g.V.SectorView.space c.args.view.now) (g.V.SectorView.space c.loop-k.view) (g.V.SectorView.space c.read_node.new.view) c.loop-k.invariant.reads c.read_node.ensures.reads
@@ -77,10 +75,7 @@ loop-k-preserved g c =
       keys = right.takes.keys;
       rising = right.takes.rising;
       long = c.read_node.ensures.length ∙ c.loop-k.invariant.long;
-<<<<<<< HEAD
       below = g.met.V.SectorView.follows_trans c.args.view.now c.loop-k.view c.read_node.new.view c.loop-k.invariant.below c.read_node.ensures.below;
-=======
->>>>>>> origin/incoming/checker
       reads = reads_both old (g.V.SectorView.space c.loop-k.view) (g.V.SectorView.space c.read_node.new.view) c.loop-k.invariant.reads c.read_node.ensures.reads;
       read = λ tells.
           let is : c.read_node.new.into ≡ nodes (slice_index ns k) =

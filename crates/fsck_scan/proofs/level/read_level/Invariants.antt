@@ -12,10 +12,7 @@ invariant-loop-k g l = record {
   keys : All (λ item. g.K.KeyOrder.is_key (key_of item)) l.records;
   rising : Ascends g.K.KeyOrder.cmp l.records;
   long : length l.node ≡ length l.fn.node;
-<<<<<<< HEAD
   below : g.V.SectorView.follows l.fn.view l.view;
-=======
->>>>>>> origin/incoming/checker
   reads : ReadsSpace (g.V.SectorView.space l.fn.view) (g.V.SectorView.space l.view);
   read : IsTrue (g.V.SectorView.space l.fn.view).tells → HasRead g.K.KeyOrder.is_key g.K.KeyOrder.is_value g.K.KeyOrder.cmp
       (λ n. node_of_fork (g.V.SectorView.space l.fn.view).content l.fork.limit (fork_sectors l.fork.extents.now l.fork.per_block) (length l.fn.node) n) l.most l.height l.nodes l.names l.k l.records l.ends.items;
