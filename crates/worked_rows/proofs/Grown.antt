@@ -24,10 +24,10 @@ use Rattle.hfs_volume.specs.TreeOf.{tree_in, is_seen}
 use Rattle.hfs_volume.proofs.WorkedVolumes.{no_fork, fresh_head, fresh_catalog, facts, fresh_volume}
 use Rattle.worked_rows.proofs.Rows.{tree_after, grown_in_turn}
 
-abbrev f : List ℕ
+abbrev pub f : List ℕ
 f = codes "f"
 
-abbrev g : List ℕ
+abbrev pub g : List ℕ
 g = codes "g"
 
 -- ---- forks whose blocks stand apart
@@ -37,7 +37,7 @@ abbrev pub each_second : ℕ → ℕ → List Extent
 each_second first count = map (λ k. record { start = first + 2 * k; count = 1 }) (range_with_len 0 count)
 
 -- eight extents, the first of which are these
-abbrev eight : List Extent → ExtentRecord
+abbrev pub eight : List Extent → ExtentRecord
 eight extents = record { extents = take 8 (extents ++ replicate 8 (record { start = 0; count = 0 })) }
 
 -- a fork of so many whole blocks of 4,096 bytes; its record has the first eight of its extents
@@ -45,7 +45,7 @@ abbrev pub fork_of : ℕ → List Extent → ForkRecord
 fork_of blocks extents = record { logical_size = blocks * 4096; clump_size = 4096; total_blocks = blocks; extents = eight extents }
 
 -- the overflow record of the ninth extent and those behind it
-abbrev ninth : ℕ → List Extent → Pair
+abbrev pub ninth : ℕ → List Extent → Pair
 ninth id extents = (extent_key_bytes data_kind id 8, extents_bytes (eight (drop 8 extents)))
 
 -- ---- the catalog
@@ -72,7 +72,7 @@ file_fields id = record {
 }
 
 -- a file in the root with this data fork
-abbrev file_in_root : List ℕ → ℕ → ForkRecord → Placed
+abbrev pub file_in_root : List ℕ → ℕ → ForkRecord → Placed
 file_in_root name id fork = record { parent = 2; name = name; value = File (record { fields = file_fields id; data_fork = fork; resource_fork = no_fork }) }
 
 abbrev fresh_pair : ℕ → Pair
@@ -83,13 +83,13 @@ abbrev root_of_four : Pair
 root_of_four = ((fresh_pair 0).0, take 4 (fresh_pair 0).1 ++ (big 4 4 ++ drop 8 (fresh_pair 0).1))
 
 -- the catalog with two files in the root
-abbrev catalog_with : Placed → Placed → List Pair
+abbrev pub catalog_with : Placed → Placed → List Pair
 catalog_with one other =
     root_of_four ∷ fresh_pair 1 ∷ fresh_pair 2 ∷ fresh_pair 3 ∷ pair_of one ∷ pair_of other ∷ fresh_pair 4 ∷ fresh_pair 5 ∷ pair_of (thread_of one) ∷ pair_of (thread_of other) ∷ []
 
 -- ---- the volumes
 
-abbrev head_with : ℕ → VolumeHeader
+abbrev pub head_with : ℕ → VolumeHeader
 head_with free = record fresh_head { file_count = 4; next_catalog_id = 20; free_blocks = free }
 
 -- each file has nine blocks in nine extents: the ninth extent of each has an overflow record

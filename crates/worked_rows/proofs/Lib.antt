@@ -4,3 +4,4 @@ mod Grown
 mod Gauges
 mod Weights
 mod Readings
+mod Blocks
