@@ -5,6 +5,8 @@
 
 mod random;
 mod script;
+#[cfg(test)]
+mod streams;
 mod table;
 #[cfg(test)]
 mod tests;
