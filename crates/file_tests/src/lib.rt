@@ -10,4 +10,16 @@ pub use gates::{has_room, holds_file, is_block_size, may_spill, uses};
 pub use sectors::Sectors;
 
 #[cfg(test)]
-mod tests;
+mod borders;
+#[cfg(test)]
+mod calls;
+#[cfg(test)]
+mod making;
+#[cfg(test)]
+mod moves;
+#[cfg(test)]
+mod plain;
+#[cfg(test)]
+mod power;
+#[cfg(test)]
+mod rows;
