@@ -4,6 +4,7 @@ ghost use Rattle.btree_file.specs.Map.{bits_of};
 
 use crate::tree::{Stretch, TreeFile};
 use btree_node::TreeShape;
+use fork_map::ExtentList;
 
 /// How many bits the stretches of a map have, or the last value of the count.
 fn count_bits(map: &[Stretch]) -> u64
@@ -22,6 +23,13 @@ impl TreeFile {
         ensures { result ≡ self.now.shape }
     {
         self.shape
+    }
+
+    /// The blocks of the file.
+    pub fn fork(&self) -> &ExtentList
+        ensures { result.now ≡ self.now.fork }
+    {
+        &self.fork
     }
 
     /// How many bits the map has, or 4,294,967,295 where there are more.

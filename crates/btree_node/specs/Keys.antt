@@ -63,6 +63,7 @@ attr_start key = big_at 4 key 8
 abbrev pub attr_units : List ℕ → List ℕ
 attr_units key = units (drop 14 key)
 
+-- A key of the attributes file: 14 bytes and two for each unit of the name, of which its first field counts all but its own two, and the name has 127 units at most.
 pub record IsAttrKey (key : List ℕ) : Type 0 where
   pub long : 14 ≤ length key
   pub size : length key ≡ big_at 2 key 0 + 2
