@@ -5,3 +5,4 @@ mod Gauges
 mod Weights
 mod Readings
 mod Blocks
+mod Nodes

@@ -1,5 +1,7 @@
 -- Replies on the tree of a volume as it is formatted, computed.
-use Rattle.std.specs.Prelude.{◌≡◌, refl, ℕ, List, [], ◌∷◌, ◌++◌, codes, true, false, replicate, map, Result, Ok, Err}
+use Rattle.std.specs.Prelude.{◌≡◌, refl, ℕ, ◌%◌, List, [], ◌∷◌, ◌++◌, codes, decimal, true, false, replicate, map, Result, Ok, Err}
+use Rattle.std.specs.Fmt.{digits}
+use Rattle.std.specs.List.{range_with_len, flat_map}
 use Rattle.hfs_language.specs.declared.command.Command.{Command}
 use Rattle.hfs_language.specs.declared.command.Command.TheVariants as command
 use Rattle.hfs_language.specs.declared.refusal.Refusal.{Refusal}
@@ -96,3 +98,30 @@ two_files = Ok (command.Create (f ∷ [])) ∷ Ok (command.Create (g ∷ [])) �
 
 files_grow_in_turn : replies fresh_tree (two_files ++ (grown_in_turn f g 0 9 ++ Ok (command.Trunc (f ∷ []) 32768) ∷ Ok (command.Trunc (g ∷ []) 32768) ∷ Ok (command.Stat (g ∷ [])) ∷ [])) ≡ oks 22 ++ file_facts 19 32768 1 420 ∷ []
 files_grow_in_turn = refl
+
+-- ---- a volume as an ordinary user fills it
+
+abbrev folder_name : ℕ → List ℕ
+folder_name k = codes "d" ++ decimal k
+
+abbrev file_path : ℕ → List (List ℕ)
+file_path i = folder_name (i % 6) ∷ (codes "f" ++ decimal i) ∷ []
+
+abbrev link_path : ℕ → List (List ℕ)
+link_path i = (codes "l" ++ decimal i) ∷ []
+
+-- a file of 100,000 bytes
+abbrev file_made : ℕ → List Line
+file_made i = Ok (command.Create (file_path i)) ∷ Ok (command.Trunc (file_path i) 100000) ∷ []
+
+ordinary_volume : replies fresh_tree
+    (map (λ k. Ok (command.Mkdir (folder_name k ∷ []))) (range_with_len 0 6) ++ (flat_map file_made (range_with_len 1 3) ++ (map (λ i. Ok (command.Ln (file_path i) (link_path i))) (range_with_len 1 3)
+    ++ (flat_map file_made (range_with_len 4 37) ++ map (λ k. Ok (command.SetAttr (folder_name k ∷ []) (codes "color") (codes "red"))) (range_with_len 0 5)))))
+    ≡ oks 94
+unfolding digits
+ordinary_volume = refl
+
+-- ---- a file of a mebibyte comes, goes and comes again
+
+mebibyte_again : replies fresh_tree (Ok (command.Create (f ∷ [])) ∷ Ok (command.Trunc (f ∷ []) 1048576) ∷ Ok (command.Rm (f ∷ [])) ∷ Ok (command.Create (f ∷ [])) ∷ Ok (command.Trunc (f ∷ []) 1048576) ∷ []) ≡ oks 5
+mebibyte_again = refl
