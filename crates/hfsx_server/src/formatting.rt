@@ -1,6 +1,6 @@
 // A volume that is formatted.
 ghost use Rattle.std.specs.Prelude.{◌≡◌, ◌≢◌, ◌↔◌, ◌++◌, [], IsTrue, OnOk};
-ghost use Rattle.sector_disk.specs.Cause.{Rose};
+ghost use Rattle.sector_disk.specs.Cause.{HasCause, Rose};
 ghost use Rattle.sector_disk.specs.Disk.{SameDisk, SameSink, content};
 ghost use Rattle.hfs_model.specs.Parts.{parts_of};
 ghost use Rattle.hfs_model.specs.Thin.{AreFresh};
@@ -13,6 +13,11 @@ use hfs_model::fresh_parts;
 use hx_bytes::{Failed, Trouble};
 use sector_disk::{Rig, SectorDisk};
 use std::alloc::Global;
+
+/// The sectors behind the journal header, in which its lists go round.
+const RING: u64 = 25;
+
+const RING_END: u64 = 2_072;
 
 const FORMATTED: &[u8; 33] = b"formatted 2048 blocks, 1692 free\n";
 
@@ -63,6 +68,20 @@ fn make_volume<D: SectorDisk>(alloc: Global, disk: &mut D) -> Result<(), Trouble
     ensures cause { IsCause Trouble.Disk (D.state disk.old).faults (D.state disk.new).faults result }
 {
     let parts = fresh_parts(alloc)?;
+    clear_ring(disk)?;
     write_parts(disk, &parts)?;
+    Ok(())
+}
+
+// Writes zeros where the lists of the journal go: an image with holes has room for them from then on, and no commit waits for that.
+fn clear_ring<D: SectorDisk>(disk: &mut D) -> Result<(), Failed>
+    requires { (D.state disk.old).sectors ≡ VOLUME_SECTORS }
+    ensures same { SameDisk (D.state disk.old) (D.state disk.new) }
+    ensures sink { SameSink (D.state disk.old) (D.state disk.new) }
+    ensures cause { HasCause (D.state disk.old).faults (D.state disk.new).faults result }
+{
+    for at in RING..RING_END {
+        disk.write(at, &[0; 512])?;
+    }
     Ok(())
 }
