@@ -10,7 +10,7 @@ use Rattle.sector_disk.specs.Clock.{Clock, TimePasses}
 use Rattle.sector_disk.specs.Disk.{IsDisk, LeftNow, State, content}
 use Rattle.sector_disk.specs.Lists.{Content}
 use Rattle.sector_disk.specs.Space.{AgreesOutside}
-use Rattle.jnl_format.specs.Recovery.{header_of_volume, homes_of, journal_in, recovery, replayed, text_of, volume_of}
+use Rattle.jnl_format.specs.Recovery.{header_of_volume, homes_of, info_sector_of, journal_in, recovery, replayed, text_of, volume_of}
 use Rattle.jnl_format.specs.Text.{has_same_bits, is_same_kind, is_same_layout, is_same_volume}
 use Rattle.jnl_format.proofs.Alike.{good_homes, recovers, stands_for}
 use Rattle.jnl_format.specs.Keeping.{KeepsHeader}
@@ -31,7 +31,7 @@ use Rattle.jnl_store.proofs.RingStages.{KeepsText, header_stays}
 use Rattle.jnl_store.proofs.Settling.{kept_parts}
 
 -- a header is of its own volume
-same_volume_self : (h : VolumeHeader) → is_same_volume h h ≡ true
+pub same_volume_self : (h : VolumeHeader) → is_same_volume h h ≡ true
 unfolding is_same_volume
 same_volume_self h =
     let r : (n : ℕ) → eqb n n ≡ true = λ n. eq-eqb n n refl in
@@ -52,12 +52,20 @@ found_live plan image is =
     let keeps : KeepsHeader image r =
     header_stays (volume_of plan.place.info_sector (journal_of plan) image) text homes image r refl refl (good_homes plan.place.info_sector plan.place.last_mounted (journal_of plan) image is.text) is.place.accepted ((mixes_with_homes text homes image).each 2) in
     let same : is_same_volume (header_of_volume r) head ≡ true = same_as head (header_of_volume r) head keeps.same ∙ same_volume_self head in
+    let size = eqb plan.info.size plan.info.size in
+    let blhdr = eqb plan.header.blhdr plan.header.blhdr in
+    let offset = eqb plan.info.offset plan.info.offset in
     let form : is_in_form plan (journal_in plan.place.info_sector image) ≡ true =
-    ap (is_in_form plan) is.journal ∙ and_from (eqb plan.info.size plan.info.size) (eqb plan.header.blhdr plan.header.blhdr) (eq-eqb plan.info.size plan.info.size refl) (eq-eqb plan.header.blhdr plan.header.blhdr refl) in
+    ap (is_in_form plan) is.journal
+    ∙ and_from (size && blhdr) offset (and_from size blhdr (eq-eqb plan.info.size plan.info.size refl) (eq-eqb plan.header.blhdr plan.header.blhdr refl)) (eq-eqb plan.info.offset plan.info.offset refl) in
     let accepted : is_none (header_refusal head (length image)) ≡ true = ap (λ (o : Option HeaderRefusal). is_none o) is.place.accepted in
+    let volume = is_none (header_refusal head (length image)) && is_same_volume (header_of_volume r) head in
+    let found_form = is_in_form plan (journal_in plan.place.info_sector image) in
+    let at = eqb plan.place.info_sector (info_sector_of head) in
     let mounts : is_mountable plan image r ≡ true =
-    and_from (is_none (header_refusal head (length image)) && is_same_volume (header_of_volume r) head) (is_in_form plan (journal_in plan.place.info_sector image))
-    (and_from (is_none (header_refusal head (length image))) (is_same_volume (header_of_volume r) head) accepted same) form in
+    and_from (volume && found_form) at
+    (and_from volume found_form (and_from (is_none (header_refusal head (length image))) (is_same_volume (header_of_volume r) head) accepted same) form)
+    (eq-eqb plan.place.info_sector (info_sector_of head) is.place.info_sector) in
     let recovers_so : recovery image ≡ Ok r = recovers plan.place.info_sector plan.place.last_mounted image (place_of image plan.place is.place) ∙ stands_for plan.place.info_sector plan.place.last_mounted (journal_of plan) image is.journal is.text in
     ap (found_in plan image) recovers_so ∙ ap (λ b. cond b r []) mounts
 

@@ -7,7 +7,7 @@ ghost use Rattle.jnl_replay.specs.Homing.{after_replay};
 ghost use Rattle.jnl_replay.specs.Plan.{FitsPlan, IsPlan};
 ghost use Rattle.jnl_store.specs.Batch.{AreOnce};
 ghost use Rattle.sector_disk.specs.Cause.{next_count};
-ghost use Rattle.jnl_store.specs.Store.{HasNoList, IsRecalled, Keeps, SameButBatch, durable_of, faults_of, has_spilled, kept_of, plan_of, puts_of, slots_of, spare_of};
+ghost use Rattle.jnl_store.specs.Store.{HasNoList, IsRecalled, Keeps, SameButBatch, durable_of, faults_of, has_spilled, kept_of, plan_of, puts_of, room_of, slots_of, spare_of};
 ghost use Rattle.jnl_store.specs.Cache.{EachBecomes, holds, undone_slot};
 ghost use Rattle.jnl_store.specs.Plan.{IsCapacityOf, rested};
 
@@ -77,6 +77,7 @@ impl Store {
         ensures count { result ≡ length (puts_of self.now) }
         // Each of them is counted once.
         ensures once { AreOnce (puts_of self.now) }
+        ensures room { length (puts_of self.now) ≤ room_of self.now }
     {
         let _once = self.batch.as_slice();
         self.batch.len() as u64
