@@ -1,0 +1,41 @@
+-- What calls add to a stretch within a batch, without entries of their own.
+use Rattle.std.proofs.Common.{◌≡◌, ◌+◌, [], ℕ, List, length, subst, arith}
+use Rattle.std.specs.Prelude.{Option}
+use Rattle.std.proofs.lemmas.List.{append-nil}
+use Rattle.sector_disk.specs.Space.{Space}
+use Rattle.jnl_format.specs.Recovery.{Content}
+use Rattle.hfs_volume.specs.Run.{Entry, shrunk_in}
+use Rattle.hfs_serving.specs.Outside.{Outside}
+use Rattle.hfs_serving.specs.Runs.{Crashes, KeepsPlace, Serves, SetsUnmounted}
+use Rattle.hfs_serving.specs.Serving.{Commits, Goes, MayCommit, Stops, Touches}
+use Rattle.hfs_serving.specs.Stages.{MayTurn}
+use Rattle.hfs_serving.proofs.Batches.{commit_goes, commit_stops, goes_both, goes_stops, touch_stops}
+use Rattle.hfs_serving.proofs.Staging.{end_crashes}
+
+module _ (capacity : ℕ) (shrunk : Option ℕ) (committed from : Content) (old : Outside) (run : List Entry) (middle between : Content) (space : Space) (mid : Outside) (goes : Goes capacity shrunk committed from old run middle between space mid) where
+  abbrev here : Option ℕ
+  here = shrunk_in shrunk run
+
+  stops_here : (new : Outside) → Stops capacity here middle between mid [] new → Stops capacity shrunk committed from old run new
+  stops_here new stops = subst (λ (r : List Entry). Stops capacity shrunk committed from old r new) (append-nil run) (goes_stops capacity shrunk committed from old run [] middle between space mid goes new stops)
+
+  -- a fault while sectors were put and spilled
+  pub touch_stops_here : (new : Space) (after : Outside) → Touches middle space mid new after → Stops capacity shrunk committed from old run after
+  touch_stops_here new after touches = stops_here after (touch_stops capacity here middle between mid space goes.below goes.reads new after touches)
+
+  -- a commit, early or at the end
+  pub commit_goes_here : (new : Space) (after : Outside) → Commits space mid new after → Goes capacity shrunk committed from old run between between new after
+  commit_goes_here new after commits =
+      subst (λ (r : List Entry). Goes capacity shrunk committed from old r between between new after) (append-nil run)
+      (goes_both capacity shrunk committed from old run [] middle between space mid goes between between new after (commit_goes capacity here middle between mid space goes.below goes.reads new after commits))
+
+  pub commit_stops_here : (after : Outside) → MayCommit space mid after → Stops capacity shrunk committed from old run after
+  commit_stops_here after may = stops_here after (commit_stops capacity here middle between mid space goes.below goes.reads after may)
+
+-- the end of a run
+pub run_ends : (capacity : ℕ) (shrunk : Option ℕ) (start : Content) (run : List Entry) (now ended : Content) (old mid new : Outside) → Serves capacity shrunk start old run now mid → SetsUnmounted now ended → KeepsPlace now ended → MayTurn now ended mid new
+    → Crashes capacity shrunk start old run (length run) new
+run_ends capacity shrunk start run now ended old mid new serves ends place may =
+    let no_more : length run + 0 ≡ length run = omega arith in
+    subst (λ (n : ℕ). Crashes capacity shrunk start old run n new) no_more
+    (subst (λ (r : List Entry). Crashes capacity shrunk start old r (length run + 0) new) (append-nil run) (end_crashes capacity shrunk start run now ended old mid new serves ends place may))

@@ -1,0 +1,11 @@
+//! A volume in service: how a run goes on from batch to batch, and what a crash leaves of it.
+#![tactic(auto)]
+
+mod basis;
+mod laws;
+
+pub use basis::Ground;
+pub use laws::{
+    batches_end, commits_go_on, contents_tell_trees, entries_lead_on, mounts_serve, runs_end,
+    stretches_join, touches_go_on,
+};
