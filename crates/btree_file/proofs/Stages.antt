@@ -1,16 +1,18 @@
 -- Stages of a growth, one after another.
-use Rattle.std.proofs.Common.{◌≡◌, ℕ, ◌+◌, ◌-◌, ◌*◌, ◌/◌, ◌≤◌, ◌<◌, List, length, inl, inr, refl, sym, ◌∙◌, ap, subst, arith, ⊎_elim}
+use Rattle.std.proofs.Common.{◌≡◌, ℕ, ◌+◌, ◌-◌, ◌*◌, ◌/◌, ◌≤◌, ◌<◌, List, [], ◌∷◌, ◌++◌, length, get_or, inl, inr, refl, sym, ◌∙◌, ap, subst, arith, ⊎_elim, length-append}
 use Rattle.std.proofs.Math.Nat.{mul-le-mul_right}
 use Rattle.std.proofs.lemmas.Bool.{cases_lt}
 use Rattle.std.proofs.lemmas.Grind.{div_ceil_times}
+use Rattle.std.proofs.lemmas.List.{append-nil, append_assoc, get_or_append_left, get_or-append_right}
 use Rattle.btree_node.specs.declared.store.TreeShape.{TreeShape}
 use Rattle.sector_disk.specs.Space.{Space}
 use Rattle.btree_file.specs.Frame.{PutsWithin}
 use Rattle.btree_file.specs.FrameLaws.{within_both}
-use Rattle.btree_file.specs.Growth.{KeepsTree, CountsMore, SpendsRoom, HasRoomFor, bits_each, map_nodes_for, last_node, unwritten_in}
+use Rattle.btree_file.specs.Growth.{ExtendsMap, KeepsTree, CountsMore, SpendsRoom, HasRoomFor, bits_each, map_nodes_for, last_node, unwritten_in}
 use Rattle.btree_file.specs.Place.{fork_sectors, sectors_at}
 use Rattle.btree_file.specs.Putting.{unput}
 use Rattle.btree_file.specs.State.{sectors_of_tree, per_node}
+use Rattle.btree_file.specs.declared.tree.Stretch.{Stretch}
 use Rattle.btree_file.specs.declared.tree.TreeFile.{TreeFile}
 
 -- ---- the tree
@@ -60,6 +62,28 @@ sectors_same a b same = ap (λ f. fork_sectors f b.per_block) same.fork ∙ ap (
 
 pub frames_both : (a b : TreeFile) (p q r : Space) → CountsMore a b → PutsWithin (sectors_of_tree a) p q → PutsWithin (sectors_of_tree b) q r → PutsWithin (sectors_of_tree a) p r
 frames_both a b p q r same first second = within_both (sectors_of_tree a) p q r first (subst (λ these. PutsWithin these q r) (sectors_same a b same) second)
+
+-- ---- the map
+
+pub extends_none : (total : ℕ) (map : List Stretch) → ExtendsMap total map map
+extends_none total map = record { more = []; items = sym (append-nil map); later = λ k d low. absurd (omega (arith, low)) }
+
+pub extends_both : (first second : ℕ) (a b c : List Stretch) → first ≤ second → ExtendsMap first a b → ExtendsMap second b c → ExtendsMap first a c
+extends_both first second a b c order p q = record {
+  more = p.more ++ q.more;
+  items = q.items ∙ ap (λ l. l ++ q.more) p.items ∙ append_assoc a p.more q.more;
+  later = λ k d low. ⊎_elim
+      (λ (less : k < length p.more). omega (arith, p.later k d less, ap (λ (s : Stretch). s.node) (get_or_append_left p.more q.more d k less)))
+      (λ (high : length p.more ≤ k). omega (arith, order, q.later (k - length p.more) d (omega (arith, low, high, length-append p.more q.more)), ap (λ (s : Stretch). s.node) (get_or-append_right p.more q.more (length p.more) k d refl high)))
+      (cases_lt k (length p.more));
+}
+
+pub extends_pushed : (total : ℕ) (map new : List Stretch) (s : Stretch) → new ≡ map ++ s ∷ [] → s.node ≡ total → ExtendsMap total map new
+extends_pushed total map new s items is = record {
+  more = s ∷ [];
+  items = items;
+  later = λ k d low. let first : 0 ≡ k = omega (arith, low) in subst (λ (n : ℕ). total ≤ (get_or (s ∷ []) n d).node) first (omega (arith, is));
+}
 
 -- ---- the room
 

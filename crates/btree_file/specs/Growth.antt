@@ -1,6 +1,6 @@
 -- A tree file that grows: more nodes in more sectors, and the same tree in them.
 use Rattle.std.specs.Prelude.{◌≡◌, ◌≢◌, ◌⊎◌, ◌<◌, ◌≤◌, ◌%◌, ℕ, ◌+◌, ◌-◌, ◌*◌, ◌/◌, ◌^◌, not, false, IsTrue, Bool, List, [], ◌∷◌, ◌++◌, length, min, slice_index_or}
-use Rattle.std.specs.List.{count_by, list_all, range_with_len}
+use Rattle.std.specs.List.{All, count_by, list_all, range_with_len}
 use Rattle.hx_bytes.specs.declared.extents.Extent.{Extent}
 use Rattle.fork_map.specs.Blocks.{blocks_of}
 use Rattle.flag_rows.specs.Bits.{bit_of}
@@ -67,6 +67,12 @@ pub record CountsMore (before after : TreeFile) : Type 0 where
   pub total : before.shape.total ≤ after.shape.total
   pub free : after.shape.free + length after.map.items + before.shape.total ≡ before.shape.free + length before.map.items + after.shape.total
 
+-- A map has more stretches behind those that it had, in nodes behind so many.
+pub record ExtendsMap (total : ℕ) (old new : List Stretch) : Type 0 where
+  pub more : List Stretch
+  pub items : new ≡ old ++ more
+  pub later : All (λ stretch. total ≤ stretch.node) more
+
 -- The room that it took: of the header node, the last map node and the new map nodes each at most once, and of each of so many nodes at most once.
 pub record SpendsRoom (nodes : ℕ) (before after : TreeFile) (old new : Space) : Type 0 where
   pub written : old.spare + (unput new.put (sectors_at (sectors_of_tree after) (per_node after.shape) 0) + unput new.put (sectors_at (sectors_of_tree after) (per_node after.shape) (last_node after.map.items))) + length before.map.items * per_node before.shape
@@ -101,7 +107,7 @@ nodes_in run per_block size = run.count * per_block / (size / 512)
 abbrev pub nodes_with : TreeFile → Extent → ℕ
 nodes_with tree run = tree.shape.total + nodes_in run tree.per_block tree.shape.node_size
 
--- how many of them are new map nodes
+-- how many new map nodes the nodes of a run take
 abbrev pub map_nodes_with : TreeFile → Extent → ℕ
 map_nodes_with tree run = map_nodes_for tree.shape.node_size (bits_of tree.map.items) (nodes_with tree run)
 
@@ -113,17 +119,26 @@ sectors_with tree run = fork_sectors (tree.fork ++ run ∷ []) tree.per_block
 abbrev pub RunInside : TreeFile → Extent → Space → Type 0
 RunInside tree run space = IsInside (run ∷ []) tree.per_block space
 
--- none of them is closed
+-- no sector of a run is closed
 abbrev pub RunOpen : TreeFile → Extent → Space → Type 0
 RunOpen tree run space = IsOpen (run ∷ []) tree.per_block space
 
--- none of them is the fork's
+-- no sector stands in a tree's fork and a run behind it twice
 abbrev pub RunApart : TreeFile → Extent → Type 0
 RunApart tree run = AreApart (sectors_with tree run)
 
--- they are whole nodes
+-- a run is whole nodes of a tree
 abbrev pub HasWholeNodes : TreeFile → Extent → Type 0
 HasWholeNodes tree run = nodes_in run tree.per_block tree.shape.node_size * (tree.shape.node_size / 512) ≡ run.count * tree.per_block
+
+-- A file was lengthened: its fork begins with the blocks that it had, and its map with its stretches; the others lie in later nodes.
+pub record GrewFrom (before after : TreeFile) : Type 0 where
+  pub more_blocks : List ℕ
+  pub blocks : blocks_of after.fork ≡ blocks_of before.fork ++ more_blocks
+  pub per_block : after.per_block ≡ before.per_block
+  pub node_size : after.shape.node_size ≡ before.shape.node_size
+  pub total : before.shape.total ≤ after.shape.total
+  pub map : ExtendsMap before.shape.total before.map.items after.map.items
 
 -- What a run makes of a tree file: the file stands over the content, its tree is the same in more nodes, and the run's nodes are free but for the new map nodes.
 pub record HasGrown (run : Extent) (before after : TreeFile) (old new : List (List ℕ)) : Type 0 where
@@ -133,12 +148,13 @@ pub record HasGrown (run : Extent) (before after : TreeFile) (old new : List (Li
   pub free : after.shape.free + map_nodes_with before run ≡ before.shape.free + nodes_in run before.per_block before.shape.node_size
   pub blocks : blocks_of after.fork ≡ blocks_of before.fork ++ blocks_of (run ∷ [])
   pub per_block : after.per_block ≡ before.per_block
+  pub grew : GrewFrom before after
 
 -- there is room for two nodes and the new map nodes, or for all nodes that aren't written
 abbrev pub HasRoomToGrow : TreeFile → Extent → Space → Type 0
 HasRoomToGrow tree run space = ((2 + map_nodes_with tree run) * per_node tree.shape ≤ space.spare) ⊎ (unwritten_in (sectors_with tree run) (per_node tree.shape) (nodes_with tree run) space.put * per_node tree.shape ≤ space.spare)
 
--- as much room was taken at most
+-- at most the room of two nodes and the new map nodes was taken, and at most that of all nodes that weren't written
 pub record TakesRoomToGrow (tree : TreeFile) (run : Extent) (old new : Space) : Type 0 where
   pub written : old.spare ≤ new.spare + (2 + map_nodes_with tree run) * per_node tree.shape
   pub unwritten : old.spare ≤ new.spare + unwritten_in (sectors_with tree run) (per_node tree.shape) (nodes_with tree run) old.put * per_node tree.shape
@@ -147,6 +163,15 @@ pub record TakesRoomToGrow (tree : TreeFile) (run : Extent) (old new : Space) : 
 pub record SaysSame (before after : TreeFile) : Type 0 where
   pub shape : after.shape ≡ before.shape
   pub fork : after.fork ≡ before.fork
+  pub per_block : after.per_block ≡ before.per_block
+  pub map : after.map.items ≡ before.map.items
+  pub header : after.header ≡ before.header
+
+-- It is what it was: the same numbers and blocks, and it stands over a content.
+pub record IsBack (before after : TreeFile) (content : List (List ℕ)) : Type 0 where
+  pub stands : Stands after content
+  pub shape : after.shape ≡ before.shape
+  pub blocks : blocks_of after.fork ≡ blocks_of before.fork
   pub per_block : after.per_block ≡ before.per_block
   pub map : after.map.items ≡ before.map.items
   pub header : after.header ≡ before.header

@@ -10,3 +10,4 @@ pub mod Held
 pub mod Apart
 pub mod Standing
 pub mod Growth
+pub mod Sums

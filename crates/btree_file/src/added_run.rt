@@ -13,6 +13,7 @@ ghost use Rattle.btree_file.specs.Standing.{Stands, LiesInside, LiesOpen};
 use crate::apart::sectors_differ;
 use crate::growing::count_map_nodes;
 use crate::putting::get_node;
+use crate::summed::SummedFork;
 use crate::tree::{Stretch, TreeFile};
 use btree_node::Node;
 use fork_map::ExtentList;
@@ -23,7 +24,7 @@ use std::alloc::Global;
 /// What a growth is made with: the longer fork, a node of zeros, how many nodes there shall be, and how many map nodes that takes.
 #[derive(Drop)]
 struct Growth {
-    fork: ExtentList,
+    fork: SummedFork,
     zeros: Node,
     goal: u32,
     count: u32,
@@ -39,12 +40,13 @@ fn count_nodes(run: Extent, per_block: u32, node_size: u32) -> u64
 }
 
 /// A fork with a run behind it.
-fn longer_fork(alloc: Global, fork: &ExtentList, run: Extent) -> Result<ExtentList, OutOfMemory>
+fn longer_fork(alloc: Global, fork: &SummedFork, run: Extent) -> Result<SummedFork, OutOfMemory>
     ensures { IfOk result (λ list. blocks_of list ≡ blocks_of fork.now ++ blocks_of (run ∷ [])) }
 {
     let mut tail = ExtentList::new(alloc);
     tail.push(run)?;
-    fork.append(alloc, &tail)
+    let list = fork.list().append(alloc, &tail)?;
+    SummedFork::from_list(alloc, list)
 }
 
 /// Finds memory for so many stretches more.
@@ -59,7 +61,7 @@ fn reserve_stretches(map: &mut Vec<Stretch>, count: u32) -> Result<(), OutOfMemo
 /// Reads the last node of a map onto a page, where it isn't the header node.
 fn read_last<V: SectorView>(
     view: &mut V,
-    fork: &ExtentList,
+    fork: &SummedFork,
     per_block: u32,
     map: &[Stretch],
     page: &mut Node,

@@ -14,6 +14,7 @@ ghost use Rattle.btree_file.specs.State.{Agrees};
 use crate::apart::sectors_differ;
 use crate::putting::get_node;
 use crate::reading::read_map;
+use crate::summed::SummedFork;
 use crate::tree::TreeFile;
 use btree_node::{Node, TreeShape};
 use fork_map::ExtentList;
@@ -50,7 +51,7 @@ fn empty(alloc: Global) -> Result<TreeFile, OutOfMemory>
     };
     Ok(TreeFile {
         shape,
-        fork: ExtentList::new(alloc),
+        fork: SummedFork::new(alloc),
         per_block: 1,
         map: Vec::new(alloc),
         header: Node::new(alloc, 512)?,
@@ -60,7 +61,7 @@ fn empty(alloc: Global) -> Result<TreeFile, OutOfMemory>
 }
 
 /// Whether a fork has so many sectors.
-fn has_sectors(fork: &ExtentList, per_block: u32, count: u64) -> bool
+pub(crate) fn has_sectors(fork: &SummedFork, per_block: u32, count: u64) -> bool
     requires { per_block ≤ 128 }
     ensures { IsTrue result ↔ (count ≤ length (fork_sectors fork.now per_block)) }
 {
@@ -71,7 +72,7 @@ fn has_sectors(fork: &ExtentList, per_block: u32, count: u64) -> bool
 fn read_shape<V: SectorView>(
     alloc: Global,
     view: &mut V,
-    fork: &ExtentList,
+    fork: &SummedFork,
     per_block: u32,
 ) -> Result<TreeShape, Trouble>
     requires blocks { per_block ≤ 128 }
@@ -89,7 +90,7 @@ fn read_shape<V: SectorView>(
 }
 
 /// Whether a fork has room for the nodes of this shape, of which there is one at least.
-fn has_nodes(fork: &ExtentList, per_block: u32, shape: &TreeShape) -> bool
+fn has_nodes(fork: &SummedFork, per_block: u32, shape: &TreeShape) -> bool
     requires { per_block ≤ 128 }
     ensures { IsTrue result ↔ (IsTrue (is_node_size shape.now.node_size) × (0 < shape.now.total) × (shape.now.free ≤ shape.now.total) × (shape.now.total * (shape.now.node_size / 512) ≤ length (fork_sectors fork.now per_block))) }
 {
@@ -105,23 +106,23 @@ fn has_nodes(fork: &ExtentList, per_block: u32, shape: &TreeShape) -> bool
 fn read_tree<V: SectorView>(
     alloc: Global,
     view: &mut V,
-    fork: &ExtentList,
+    fork: SummedFork,
     per_block: u32,
     shape: &TreeShape,
 ) -> Result<TreeFile, Trouble>
     requires blocks { per_block ≤ 128 }
-    requires inside { IsInside fork.now per_block (V.space view.old) }
-    requires apart { AreApart (fork_sectors fork.now per_block) }
+    requires inside { IsInside fork per_block (V.space view.old) }
+    requires apart { AreApart (fork_sectors fork per_block) }
     requires size { IsTrue (is_node_size shape.now.node_size) }
-    requires whole { shape.now.total * (shape.now.node_size / 512) ≤ length (fork_sectors fork.now per_block) }
+    requires whole { shape.now.total * (shape.now.node_size / 512) ≤ length (fork_sectors fork per_block) }
     requires some { 0 < shape.now.total }
     requires free { shape.now.free ≤ shape.now.total }
-    ensures agrees { IsTrue (V.space view.old).tells → length (node_of (V.space view.old).content (fork_sectors fork.now per_block) 1 0) ≡ 512 → shape.now ≡ shape_of (file_in (fork_sectors fork.now per_block) (V.space view.old).content).head
-        → HoldsNodes (fork_sectors fork.now per_block) (file_in (fork_sectors fork.now per_block) (V.space view.old).content) → IfOk result (λ tree. Agrees tree (V.space view.old).content) }
-    ensures settled { IsTrue (V.space view.old).tells → length (node_of (V.space view.old).content (fork_sectors fork.now per_block) 1 0) ≡ 512 → shape.now ≡ shape_of (file_in (fork_sectors fork.now per_block) (V.space view.old).content).head
-        → HoldsNodes (fork_sectors fork.now per_block) (file_in (fork_sectors fork.now per_block) (V.space view.old).content) → IfOk result (λ tree. shape_of (tree_head tree.header) ≡ tree.shape) }
-    ensures file { IsTrue (V.space view.old).tells → length (node_of (V.space view.old).content (fork_sectors fork.now per_block) 1 0) ≡ 512 → shape.now ≡ shape_of (file_in (fork_sectors fork.now per_block) (V.space view.old).content).head
-        → HoldsNodes (fork_sectors fork.now per_block) (file_in (fork_sectors fork.now per_block) (V.space view.old).content) → IfOk result (λ tree. (tree.shape ≡ shape.now) × (tree.fork ≡ fork.now) × (tree.per_block ≡ per_block)) }
+    ensures agrees { IsTrue (V.space view.old).tells → length (node_of (V.space view.old).content (fork_sectors fork per_block) 1 0) ≡ 512 → shape.now ≡ shape_of (file_in (fork_sectors fork per_block) (V.space view.old).content).head
+        → HoldsNodes (fork_sectors fork per_block) (file_in (fork_sectors fork per_block) (V.space view.old).content) → IfOk result (λ tree. Agrees tree (V.space view.old).content) }
+    ensures settled { IsTrue (V.space view.old).tells → length (node_of (V.space view.old).content (fork_sectors fork per_block) 1 0) ≡ 512 → shape.now ≡ shape_of (file_in (fork_sectors fork per_block) (V.space view.old).content).head
+        → HoldsNodes (fork_sectors fork per_block) (file_in (fork_sectors fork per_block) (V.space view.old).content) → IfOk result (λ tree. shape_of (tree_head tree.header) ≡ tree.shape) }
+    ensures file { IsTrue (V.space view.old).tells → length (node_of (V.space view.old).content (fork_sectors fork per_block) 1 0) ≡ 512 → shape.now ≡ shape_of (file_in (fork_sectors fork per_block) (V.space view.old).content).head
+        → HoldsNodes (fork_sectors fork per_block) (file_in (fork_sectors fork per_block) (V.space view.old).content) → IfOk result (λ tree. (tree.shape ≡ shape.now) × (tree.fork ≡ fork) × (tree.per_block ≡ per_block)) }
     ensures inside { IfOk result (λ tree. IsInside tree.fork tree.per_block (V.space view.old)) }
     ensures reads { ReadsSpace (V.space view.old) (V.space view.new) }
     ensures below { V.follows view.old view.new }
@@ -129,8 +130,7 @@ fn read_tree<V: SectorView>(
 {
     let mut header = Node::new(alloc, shape.node_size)?;
     let mut page = Node::new(alloc, shape.node_size)?;
-    let fork_copy = fork.copy(alloc)?;
-    get_node(view, fork, per_block, 0, &mut header)?;
+    get_node(view, &fork, per_block, 0, &mut header)?;
     if !header.check(1, 0) {
         return Ok(empty(alloc)?);
     }
@@ -140,7 +140,7 @@ fn read_tree<V: SectorView>(
     let found = read_map(
         alloc,
         view,
-        fork,
+        &fork,
         per_block,
         shape.total,
         &header,
@@ -151,7 +151,7 @@ fn read_tree<V: SectorView>(
     };
     Ok(TreeFile {
         shape: *shape,
-        fork: fork_copy,
+        fork,
         per_block,
         map,
         header,
@@ -164,20 +164,20 @@ fn read_tree<V: SectorView>(
 fn read_fork<V: SectorView>(
     alloc: Global,
     view: &mut V,
-    fork: &ExtentList,
+    fork: SummedFork,
     block: u32,
 ) -> Result<TreeFile, Trouble>
     requires small { 512 ≤ block }
     requires large { block ≤ 65536 }
-    requires inside { IsInside fork.now (block / 512) (V.space view.old) }
-    ensures agrees { IsTrue (V.space view.old).tells → AreApart (fork_sectors fork.now (block / 512)) → HoldsNodes (fork_sectors fork.now (block / 512)) (file_in (fork_sectors fork.now (block / 512)) (V.space view.old).content)
+    requires inside { IsInside fork (block / 512) (V.space view.old) }
+    ensures agrees { IsTrue (V.space view.old).tells → AreApart (fork_sectors fork (block / 512)) → HoldsNodes (fork_sectors fork (block / 512)) (file_in (fork_sectors fork (block / 512)) (V.space view.old).content)
         → IfOk result (λ tree. Agrees tree (V.space view.old).content) }
-    ensures settled { IsTrue (V.space view.old).tells → AreApart (fork_sectors fork.now (block / 512)) → HoldsNodes (fork_sectors fork.now (block / 512)) (file_in (fork_sectors fork.now (block / 512)) (V.space view.old).content)
+    ensures settled { IsTrue (V.space view.old).tells → AreApart (fork_sectors fork (block / 512)) → HoldsNodes (fork_sectors fork (block / 512)) (file_in (fork_sectors fork (block / 512)) (V.space view.old).content)
         → IfOk result (λ tree. shape_of (tree_head tree.header) ≡ tree.shape) }
-    ensures file { IsTrue (V.space view.old).tells → AreApart (fork_sectors fork.now (block / 512)) → HoldsNodes (fork_sectors fork.now (block / 512)) (file_in (fork_sectors fork.now (block / 512)) (V.space view.old).content)
-        → IfOk result (λ tree. (tree.shape ≡ shape_of (file_in (fork_sectors fork.now (block / 512)) (V.space view.old).content).head) × (tree.fork ≡ fork.now) × (tree.per_block ≡ block / 512)) }
-    ensures first { IsTrue (V.space view.old).tells → AreApart (fork_sectors fork.now (block / 512)) → HoldsNodes (fork_sectors fork.now (block / 512)) (file_in (fork_sectors fork.now (block / 512)) (V.space view.old).content)
-        → IfOk result (λ tree. length (node_of (V.space view.old).content (fork_sectors fork.now (block / 512)) 1 0) ≡ 512) }
+    ensures file { IsTrue (V.space view.old).tells → AreApart (fork_sectors fork (block / 512)) → HoldsNodes (fork_sectors fork (block / 512)) (file_in (fork_sectors fork (block / 512)) (V.space view.old).content)
+        → IfOk result (λ tree. (tree.shape ≡ shape_of (file_in (fork_sectors fork (block / 512)) (V.space view.old).content).head) × (tree.fork ≡ fork) × (tree.per_block ≡ block / 512)) }
+    ensures first { IsTrue (V.space view.old).tells → AreApart (fork_sectors fork (block / 512)) → HoldsNodes (fork_sectors fork (block / 512)) (file_in (fork_sectors fork (block / 512)) (V.space view.old).content)
+        → IfOk result (λ tree. length (node_of (V.space view.old).content (fork_sectors fork (block / 512)) 1 0) ≡ 512) }
     ensures inside { IfOk result (λ tree. IsInside tree.fork tree.per_block (V.space view.old)) }
     ensures reads { ReadsSpace (V.space view.old) (V.space view.new) }
     ensures below { V.follows view.old view.new }
@@ -187,11 +187,11 @@ fn read_fork<V: SectorView>(
     if !sectors_differ(fork.as_slice(), per_block) {
         return Ok(empty(alloc)?);
     }
-    if !has_sectors(fork, per_block, 1) {
+    if !has_sectors(&fork, per_block, 1) {
         return Ok(empty(alloc)?);
     }
-    let shape = read_shape(alloc, view, fork, per_block)?;
-    if !has_nodes(fork, per_block, &shape) {
+    let shape = read_shape(alloc, view, &fork, per_block)?;
+    if !has_nodes(&fork, per_block, &shape) {
         return Ok(empty(alloc)?);
     }
     Ok(read_tree(alloc, view, fork, per_block, &shape)?)
@@ -219,6 +219,7 @@ impl TreeFile {
         ensures below { V.follows view.old view.new }
         ensures disk { IsErrOf result Disk → Rose (V.space view.old).faults (V.space view.new).faults }
     {
-        read_fork(alloc, view, fork, block)
+        let own = SummedFork::copy_of(alloc, fork)?;
+        read_fork(alloc, view, own, block)
     }
 }

@@ -1,7 +1,7 @@
 //! A tree file whose fork gets longer: the new blocks hold free nodes, and a map node where the map's bits don't suffice.
 ghost use Rattle.std.specs.Prelude.{◌≡◌, ◌≢◌, ◌⊎◌, ◌<◌, ◌≤◌, ◌+◌, ◌*◌, ◌/◌, ◌^◌, ℕ, IsTrue, length, min, slice_index, vec_len, vec_capacity};
 ghost use Rattle.btree_file.specs.Frame.{PutsWithin};
-ghost use Rattle.btree_file.specs.Growth.{HasRoomFor, IsGrowing, KeepsTree, CountsMore, SpendsRoom, bits_each, map_nodes_for};
+ghost use Rattle.btree_file.specs.Growth.{ExtendsMap, HasRoomFor, IsGrowing, KeepsTree, CountsMore, SpendsRoom, bits_each, map_nodes_for};
 ghost use Rattle.btree_file.specs.Map.{bits_of};
 ghost use Rattle.btree_file.specs.State.{sectors_of_tree};
 
@@ -64,6 +64,7 @@ impl TreeFile {
         ensures tree { IsTrue (P.SectorView.space space.old).tells → KeepsTree self.old self.new (P.SectorView.space space.old).content (P.SectorView.space space.new).content }
         ensures counts { CountsMore self.old self.new }
         ensures map { length self.new.map.items ≡ length self.old.map.items + 1 }
+        ensures extends { ExtendsMap self.old.shape.total self.old.map.items self.new.map.items }
         ensures bits { bits_of self.new.map.items ≡ bits_of self.old.map.items + bits_each self.old.shape.node_size }
         ensures memory { vec_capacity self.old.map ≤ vec_capacity self.new.map }
         ensures frame { PutsWithin (sectors_of_tree self.old) (P.SectorView.space space.old) (P.SectorView.space space.new) }
@@ -109,6 +110,7 @@ impl TreeFile {
         ensures counts { CountsMore self.old self.new }
         ensures full { IsTrue (P.SectorView.space space.old).tells → self.new.shape.total ≡ min goal (bits_of self.new.map.items) }
         ensures grown { self.old.shape.total < goal → (length self.new.map.items ≡ length self.old.map.items + 1) × (bits_of self.new.map.items ≡ bits_of self.old.map.items + bits_each self.old.shape.node_size) }
+        ensures extends { ExtendsMap self.old.shape.total self.old.map.items self.new.map.items }
         ensures most { vec_len self.new.map ≤ vec_len self.old.map + 1 }
         ensures memory { vec_capacity self.old.map ≤ vec_capacity self.new.map }
         ensures frame { PutsWithin (sectors_of_tree self.old) (P.SectorView.space space.old) (P.SectorView.space space.new) }
@@ -144,6 +146,7 @@ impl TreeFile {
         ensures counts { CountsMore self.old self.new }
         ensures total { IsTrue (P.SectorView.space space.old).tells → self.new.shape.total ≡ goal }
         ensures map { IsTrue (P.SectorView.space space.old).tells → length self.new.map.items ≡ length self.old.map.items + count }
+        ensures extends { ExtendsMap self.old.shape.total self.old.map.items self.new.map.items }
         ensures most { length self.new.map.items ≤ length self.old.map.items + count }
         ensures frame { PutsWithin (sectors_of_tree self.old) (P.SectorView.space space.old) (P.SectorView.space space.new) }
         ensures room { SpendsRoom goal self.old self.new (P.SectorView.space space.old) (P.SectorView.space space.new) }

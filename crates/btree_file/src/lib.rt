@@ -11,6 +11,8 @@ mod numbers;
 mod on;
 mod putting;
 mod reading;
+mod refreshing;
+mod summed;
 mod tree;
 
 pub use on::TreeOn;

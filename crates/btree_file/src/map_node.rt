@@ -10,9 +10,9 @@ ghost use Rattle.btree_file.specs.Putting.{unput, PutsNode, TakesRoomFor};
 
 use crate::putting::put_node;
 use crate::reading::first_record;
+use crate::summed::SummedFork;
 use crate::tree::Stretch;
 use btree_node::{Node, TreeShape};
-use fork_map::ExtentList;
 use sector_disk::SectorSpace;
 
 /// Makes a node a map node whose record is these zeros, but for the last 20, whose place the descriptor and the offsets take.
@@ -71,7 +71,7 @@ pub(crate) fn turn_to_last(page: &mut Node, header: &Node, last: u32)
 /// Makes the last node of a map, which stands on the page, name another one, and puts it.
 pub(crate) fn link<P: SectorSpace>(
     space: &mut P,
-    fork: &ExtentList,
+    fork: &SummedFork,
     per_block: u32,
     page: &mut Node,
     header: &mut Node,
@@ -107,7 +107,7 @@ pub(crate) fn link<P: SectorSpace>(
 /// Writes the numbers of a tree into its header node, and puts it.
 pub(crate) fn write_header<P: SectorSpace>(
     space: &mut P,
-    fork: &ExtentList,
+    fork: &SummedFork,
     per_block: u32,
     header: &mut Node,
     shape: &TreeShape,

@@ -14,9 +14,9 @@ ghost use Rattle.btree_file.specs.Spots.{IsSpot};
 ghost use Rattle.btree_file.specs.Putting.{unput, PutsNode, TakesRoomFor};
 
 use crate::putting::{get_node, put_node};
+use crate::summed::SummedFork;
 use crate::tree::Stretch;
 use btree_node::Node;
-use fork_map::ExtentList;
 use hx_bytes::Failed;
 use sector_disk::{SectorSpace, SectorView};
 
@@ -46,7 +46,7 @@ pub(crate) fn is_reserved(map: &[Stretch], node: u32) -> bool
 /// The first of so many nodes without its bit; the node of that stretch is then on the page.
 pub(crate) fn find_clear<V: SectorView>(
     space: &mut V,
-    fork: &ExtentList,
+    fork: &SummedFork,
     per_block: u32,
     map: &[Stretch],
     total: u32,
@@ -116,7 +116,7 @@ pub(crate) fn find_bit(map: &[Stretch], total: u32, node: u32) -> Option<Spot>
 /// Sets or clears a bit of the stretch whose node stands on the page, and puts that node.
 pub(crate) fn mark<P: SectorSpace>(
     space: &mut P,
-    fork: &ExtentList,
+    fork: &SummedFork,
     per_block: u32,
     page: &mut Node,
     header: &mut Node,

@@ -29,7 +29,7 @@ impl TreeFile {
     pub fn fork(&self) -> &ExtentList
         ensures { result.now ≡ self.now.fork }
     {
-        &self.fork
+        self.fork.list()
     }
 
     /// How many bits the map has, or 4,294,967,295 where there are more.

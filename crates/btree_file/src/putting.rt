@@ -8,15 +8,15 @@ ghost use Rattle.btree_file.specs.Place.{IsInside, IsOpen, AreApart, fork_sector
 ghost use Rattle.btree_file.specs.Frame.{ReadsSpace};
 ghost use Rattle.btree_file.specs.Putting.{unput, PutsNode, TakesRoomFor};
 
+use crate::summed::SummedFork;
 use btree_node::Node;
-use fork_map::ExtentList;
 use hx_bytes::{Failed, Sector};
 use sector_disk::{SectorSpace, SectorView};
 
 /// Reads a node.
 pub(crate) fn get_node<V: SectorView>(
     space: &mut V,
-    fork: &ExtentList,
+    fork: &SummedFork,
     per_block: u32,
     node: u32,
     into: &mut Node,
@@ -53,7 +53,7 @@ pub(crate) fn copy_sector(from: &Node, k: u32, sector: &mut Sector)
 /// Puts a node.
 pub(crate) fn put_node<P: SectorSpace>(
     space: &mut P,
-    fork: &ExtentList,
+    fork: &SummedFork,
     per_block: u32,
     node: u32,
     from: &Node,

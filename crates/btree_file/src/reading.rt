@@ -12,9 +12,9 @@ ghost use Rattle.btree_file.specs.Walks.{FitsFile, HasChain, names_of};
 
 use crate::marking::is_reserved;
 use crate::putting::get_node;
+use crate::summed::SummedFork;
 use crate::tree::Stretch;
 use btree_node::Node;
-use fork_map::ExtentList;
 use hx_bytes::{Failed, OutOfMemory, Trouble, read_be16};
 use sector_disk::SectorView;
 use std::alloc::Global;
@@ -65,7 +65,7 @@ fn stretch_of(page: &Node, node: u32) -> Option<MapNode>
 /// Reads a map node.
 pub(crate) fn read_map_node<V: SectorView>(
     view: &mut V,
-    fork: &ExtentList,
+    fork: &SummedFork,
     per_block: u32,
     node: u32,
     page: &mut Node,
@@ -99,7 +99,7 @@ fn push_stretch(map: &mut Vec<Stretch>, stretch: Stretch) -> Result<(), OutOfMem
 pub(crate) fn read_map<V: SectorView>(
     alloc: Global,
     view: &mut V,
-    fork: &ExtentList,
+    fork: &SummedFork,
     per_block: u32,
     total: u32,
     header: &Node,

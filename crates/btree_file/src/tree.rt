@@ -2,8 +2,8 @@
 ghost use Rattle.std.specs.Prelude.{◌≡◌, length};
 ghost use Rattle.btree_file.specs.Place.{IsFile};
 
+use crate::summed::SummedFork;
 use btree_node::{Node, TreeShape};
-use fork_map::ExtentList;
 
 /// A stretch of the map: a node, the place of the first of its bytes there, and how many there are.
 #[derive(Clone, Copy, Debug, PartialEq, Eq)]
@@ -17,7 +17,7 @@ pub struct Stretch {
 #[derive(Drop)]
 pub struct TreeFile {
     pub(crate) shape: TreeShape,
-    pub(crate) fork: ExtentList,
+    pub(crate) fork: SummedFork,
     /// Sectors of a block.
     pub(crate) per_block: u32,
     /// The map's stretches, the header node's first.

@@ -9,32 +9,32 @@ use Rattle.btree_file.proofs.attaching.read_fork.Goals as goal
 pub returns-then-not-has_sectors-clause-agrees : goal.returns-then-not-has_sectors-clause-agrees
 returns-then-not-has_sectors-clause-agrees g c = λ tells apart holds.
     let old : Space = g.V.SectorView.space c.args.view.now in
-    absurd (true≢false (sym (c.if-not-has_sectors.ensures.1 (some_held (fork_sectors c.args.fork.now (c.args.block / 512)) old.content holds))))
+    absurd (true≢false (sym (c.if-not-has_sectors.ensures.1 (some_held (fork_sectors c.args.fork (c.args.block / 512)) old.content holds))))
 
 pub returns-then-not-has_sectors-clause-settled : goal.returns-then-not-has_sectors-clause-settled
 returns-then-not-has_sectors-clause-settled g c = λ tells apart holds.
     let old : Space = g.V.SectorView.space c.args.view.now in
-    absurd (true≢false (sym (c.if-not-has_sectors.ensures.1 (some_held (fork_sectors c.args.fork.now (c.args.block / 512)) old.content holds))))
+    absurd (true≢false (sym (c.if-not-has_sectors.ensures.1 (some_held (fork_sectors c.args.fork (c.args.block / 512)) old.content holds))))
 
 pub returns-then-not-has_sectors-clause-file : goal.returns-then-not-has_sectors-clause-file
 returns-then-not-has_sectors-clause-file g c = λ tells apart holds.
     let old : Space = g.V.SectorView.space c.args.view.now in
-    absurd (true≢false (sym (c.if-not-has_sectors.ensures.1 (some_held (fork_sectors c.args.fork.now (c.args.block / 512)) old.content holds))))
+    absurd (true≢false (sym (c.if-not-has_sectors.ensures.1 (some_held (fork_sectors c.args.fork (c.args.block / 512)) old.content holds))))
 
 pub returns-then-not-has_nodes-clause-agrees : goal.returns-then-not-has_nodes-clause-agrees
 returns-then-not-has_nodes-clause-agrees g c = λ tells apart holds.
     let old : Space = g.V.SectorView.space c.args.view.now in
-    absurd (true≢false (sym (c.if-not-has_nodes.ensures.1 (shape_holds (fork_sectors c.args.fork.now (c.args.block / 512)) old.content c.in_ok-shape.shape (c.in_ok-shape.ensures.value tells) holds))))
+    absurd (true≢false (sym (c.if-not-has_nodes.ensures.1 (shape_holds (fork_sectors c.args.fork (c.args.block / 512)) old.content c.in_ok-shape.shape (c.in_ok-shape.ensures.value tells) holds))))
 
 pub returns-then-not-has_nodes-clause-settled : goal.returns-then-not-has_nodes-clause-settled
 returns-then-not-has_nodes-clause-settled g c = λ tells apart holds.
     let old : Space = g.V.SectorView.space c.args.view.now in
-    absurd (true≢false (sym (c.if-not-has_nodes.ensures.1 (shape_holds (fork_sectors c.args.fork.now (c.args.block / 512)) old.content c.in_ok-shape.shape (c.in_ok-shape.ensures.value tells) holds))))
+    absurd (true≢false (sym (c.if-not-has_nodes.ensures.1 (shape_holds (fork_sectors c.args.fork (c.args.block / 512)) old.content c.in_ok-shape.shape (c.in_ok-shape.ensures.value tells) holds))))
 
 pub returns-then-not-has_nodes-clause-file : goal.returns-then-not-has_nodes-clause-file
 returns-then-not-has_nodes-clause-file g c = λ tells apart holds.
     let old : Space = g.V.SectorView.space c.args.view.now in
-    absurd (true≢false (sym (c.if-not-has_nodes.ensures.1 (shape_holds (fork_sectors c.args.fork.now (c.args.block / 512)) old.content c.in_ok-shape.shape (c.in_ok-shape.ensures.value tells) holds))))
+    absurd (true≢false (sym (c.if-not-has_nodes.ensures.1 (shape_holds (fork_sectors c.args.fork (c.args.block / 512)) old.content c.in_ok-shape.shape (c.in_ok-shape.ensures.value tells) holds))))
 
 pub returns-clause-below : goal.returns-clause-below
 returns-clause-below g c = g.met.V.SectorView.follows_trans c.args.view.now c.read_shape.new.view c.read_tree.new.view c.read_shape.ensures.below c.read_tree.ensures.below
@@ -46,4 +46,7 @@ returns-clause-reads g c =
 pub returns-then-not-has_sectors-clause-first : goal.returns-then-not-has_sectors-clause-first
 returns-then-not-has_sectors-clause-first g c = λ tells apart holds.
     let old : Space = g.V.SectorView.space c.args.view.now in
-    absurd (true≢false (sym (c.if-not-has_sectors.ensures.1 (some_held (fork_sectors c.args.fork.now (c.args.block / 512)) old.content holds))))
+    absurd (true≢false (sym (c.if-not-has_sectors.ensures.1 (some_held (fork_sectors c.args.fork (c.args.block / 512)) old.content holds))))
+
+pub returns-then-not-sectors_differ-clause-below : goal.returns-then-not-sectors_differ-clause-below
+returns-then-not-sectors_differ-clause-below g c = g.met.V.SectorView.follows_refl c.args.view.now

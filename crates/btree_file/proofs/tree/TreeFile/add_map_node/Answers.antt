@@ -20,6 +20,7 @@ use Rattle.btree_file.proofs.Frames.{put_within}
 use Rattle.btree_file.proofs.MapNodes.{bits_more}
 use Rattle.btree_file.proofs.Sizes.{tree_size, tree_large}
 use Rattle.btree_file.proofs.Spending.{puts_as, room_as, unput_as, room_first, room_second, room_third, spends_three, written_three}
+use Rattle.btree_file.proofs.Stages.{extends_pushed}
 use Rattle.btree_file.proofs.Walking.{early_at, last_at, longer}
 use Rattle.btree_file.proofs.tree.TreeFile.add_map_node.Given.{Over}
 use Rattle.btree_file.proofs.tree.TreeFile.add_map_node.Goals as goal
@@ -279,3 +280,6 @@ pub returns-clause-below : goal.returns-clause-below
 returns-clause-below g c =
     g.met.P.SectorView.follows_trans c.args.space.now c.put_node.new.space c.write_header.new.space
     (g.met.P.SectorView.follows_trans c.args.space.now c.link.new.space c.put_node.new.space c.link.ensures.below c.put_node.ensures.below) c.write_header.ensures.below
+
+pub returns-clause-extends : goal.returns-clause-extends
+returns-clause-extends g c = extends_pushed c.args.self.now.shape.total c.args.self.now.map.items c.add_stretch.new.map.items c.make_map_node-stretch.result c.add_stretch.ensures.items c.make_map_node-stretch.ensures.node

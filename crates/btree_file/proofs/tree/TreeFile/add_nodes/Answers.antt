@@ -3,7 +3,7 @@ use Rattle.sector_disk.specs.Space.{Space}
 use Rattle.btree_file.specs.Growth.{HasRoomFor, bits_each}
 use Rattle.btree_file.specs.Map.{bits_of}
 use Rattle.btree_file.proofs.Sizes.{tree_large}
-use Rattle.btree_file.proofs.Stages.{keeps_none, keeps_both, counts_none, counts_both, spends_none, spends_both, frames_both, room_fewer, stages_few}
+use Rattle.btree_file.proofs.Stages.{extends_none, extends_both, keeps_none, keeps_both, counts_none, counts_both, spends_none, spends_both, frames_both, room_fewer, stages_few}
 use Rattle.btree_file.specs.FrameLaws.{within_none}
 use Rattle.btree_file.specs.State.{sectors_of_tree}
 use Rattle.btree_file.proofs.tree.TreeFile.add_nodes.Goals as goal
@@ -19,6 +19,7 @@ loop-stage-init g c =
       full = c.requires.full;
       map = λ tells. omega arith;
       bits = λ tells. omega arith;
+      extends = extends_none tree.shape.total tree.map.items;
       most = omega arith;
       memory = omega (arith, c.requires.memory);
       frame = within_none (sectors_of_tree tree) old;
@@ -49,6 +50,7 @@ loop-stage-preserved g c =
       full = λ tells. c.add_stage.ensures.full (told tells);
       map = λ tells. omega (arith, was.map tells, (c.add_stage.ensures.grown (below tells)).0);
       bits = λ tells. omega (arith, was.bits tells, (c.add_stage.ensures.grown (below tells)).1, each);
+      extends = extends_both before.shape.total c.loop-stage.self.shape.total before.map.items c.loop-stage.self.map.items c.add_stage.new.self.map.items was.counts.total was.extends c.add_stage.ensures.extends;
       most = omega (arith, was.most, c.add_stage.ensures.most);
       memory = omega (arith, was.memory, c.add_stage.ensures.most, c.add_stage.ensures.memory, c.loop-stage-test.true);
       frame = frames_both before c.loop-stage.self old mid new was.counts was.frame c.add_stage.ensures.frame;

@@ -1,6 +1,6 @@
 use Rattle.std.proofs.Common.{◌≡◌, ◌+◌, ◌-◌, ◌*◌, ◌≤◌, IsTrue, length, min, vec_len, vec_capacity}
 use Rattle.btree_file.specs.Frame.{PutsWithin}
-use Rattle.btree_file.specs.Growth.{IsGrowing, KeepsTree, CountsMore, SpendsRoom, HasRoomFor, bits_each}
+use Rattle.btree_file.specs.Growth.{ExtendsMap, IsGrowing, KeepsTree, CountsMore, SpendsRoom, HasRoomFor, bits_each}
 use Rattle.btree_file.specs.Map.{bits_of}
 use Rattle.btree_file.specs.State.{sectors_of_tree}
 use Rattle.btree_file.proofs.tree.TreeFile.add_nodes.Given as goal
@@ -14,6 +14,7 @@ invariant-loop-stage g l = record {
   full : IsTrue (g.P.SectorView.space l.fn.space).tells → l.self.shape.total ≡ min l.goal (bits_of l.self.map.items);
   map : IsTrue (g.P.SectorView.space l.fn.space).tells → length l.self.map.items ≡ length l.fn.self.map.items + l._stage;
   bits : IsTrue (g.P.SectorView.space l.fn.space).tells → bits_of l.self.map.items ≡ bits_of l.fn.self.map.items + l._stage * bits_each l.fn.self.shape.node_size;
+  extends : ExtendsMap l.fn.self.shape.total l.fn.self.map.items l.self.map.items;
   most : vec_len l.self.map ≤ vec_len l.fn.self.map + l._stage;
   memory : vec_len l.self.map + (l.count - l._stage) ≤ vec_capacity l.self.map;
   frame : PutsWithin (sectors_of_tree l.fn.self) (g.P.SectorView.space l.fn.space) (g.P.SectorView.space l.space);

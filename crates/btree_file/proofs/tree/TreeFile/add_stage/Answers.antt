@@ -1,6 +1,7 @@
-use Rattle.std.proofs.Common.{◌∙◌}
+use Rattle.std.proofs.Common.{sym, ◌∙◌, ap, subst}
 use Rattle.sector_disk.specs.Space.{Space}
-use Rattle.btree_file.proofs.Stages.{keeps_both, frames_both}
+use Rattle.btree_file.specs.Growth.{ExtendsMap}
+use Rattle.btree_file.proofs.Stages.{extends_none, keeps_both, frames_both}
 use Rattle.btree_file.proofs.tree.TreeFile.add_stage.Goals as goal
 
 pub returns-clause-tree : goal.returns-clause-tree
@@ -19,3 +20,10 @@ returns-clause-frame g c =
 
 pub returns-clause-below : goal.returns-clause-below
 returns-clause-below g c = g.met.P.SectorView.follows_trans c.args.space.now c.add_map_node.new.space c.lengthen.new.space c.add_map_node.ensures.below c.lengthen.ensures.below
+
+pub returns-clause-extends : goal.returns-clause-extends
+returns-clause-extends g c =
+    subst (λ m. ExtendsMap c.args.self.now.shape.total c.args.self.now.map.items m) (ap (λ m. m.items) (sym c.lengthen.ensures.map)) c.add_map_node.ensures.extends
+
+pub returns-then-self-goal-clause-extends : goal.returns-then-self-goal-clause-extends
+returns-then-self-goal-clause-extends g c = extends_none c.args.self.now.shape.total c.args.self.now.map.items

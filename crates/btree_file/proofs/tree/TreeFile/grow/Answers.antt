@@ -7,7 +7,7 @@ use Rattle.fork_map.proofs.Laws.{no_sectors}
 use Rattle.sector_disk.specs.Space.{Space}
 use Rattle.btree_file.specs.Frame.{PutsWithin}
 use Rattle.btree_file.specs.FrameLaws.{within_both, reads_within}
-use Rattle.btree_file.specs.Growth.{last_node, map_nodes_with, nodes_with, sectors_with}
+use Rattle.btree_file.specs.Growth.{ExtendsMap, last_node, map_nodes_with, nodes_with, sectors_with}
 use Rattle.btree_file.specs.Place.{AreApart, fork_sectors}
 use Rattle.btree_file.specs.State.{sectors_of_tree, nodes_on}
 use Rattle.btree_file.specs.declared.added_run.Growth.{Growth}
@@ -15,7 +15,7 @@ use Rattle.btree_file.specs.declared.tree.Stretch.{Stretch}
 use Rattle.btree_file.specs.declared.tree.TreeFile.{TreeFile}
 use Rattle.btree_file.proofs.LongerFork.{zeros_at, as_with, whole_now, room_now, inside_now, open_now, node_same, map_now, keeps_longer, has_room, has_none, room_taken, stands_grown}
 use Rattle.btree_file.proofs.Rooms.{whole_node}
-use Rattle.btree_file.proofs.Stages.{keeps_both, counts_both, frames_both, spends_both, room_kept}
+use Rattle.btree_file.proofs.Stages.{extends_none, extends_both, keeps_both, counts_both, frames_both, spends_both, room_kept}
 use Rattle.btree_file.proofs.StandingLaws.{some_sector}
 use Rattle.btree_file.proofs.tree.TreeFile.grow.Goals as goal
 
@@ -132,6 +132,11 @@ add_nodes-requires-clause-zeros g c = λ k.
     let zeros = planned (λ growth. growth.zeros ≡ replicate c.args.self.now.shape.node_size 0) c.in_ok-growth.field-0 c.in-Some.growth c.in-Some.is c.in_ok-growth.ensures.zeros in
     ap (λ (l : List ℕ). get_or l k 0) zeros ∙ zeros_at c.args.self.now.shape.node_size k
 
+-- the map of the file before, where nothing was added yet
+extends_as : (total : ℕ) (map reserved next after : List Stretch) → reserved ≡ map → next ≡ reserved → (later : ℕ) → total ≤ later → ExtendsMap later next after → ExtendsMap total map after
+extends_as total map reserved next after first second later order extends =
+    extends_both total later map next after order (subst (λ m. ExtendsMap total map m) (sym (second ∙ first)) (extends_none total map)) extends
+
 pub returns-clause-grown : goal.returns-clause-grown
 returns-clause-grown g c = λ tells.
     let tree = c.args.self.now in
@@ -159,6 +164,14 @@ returns-clause-grown g c = λ tells.
       free = omega (arith, counts.free, c.add_nodes.ensures.map told_next, map_same, items, c.add_nodes.ensures.total told_next, goal_is, count_is);
       blocks = ap blocks_of counts.fork ∙ blocks;
       per_block = counts.per_block;
+      grew = record {
+        more_blocks = blocks_of (c.args.run ∷ []);
+        blocks = ap blocks_of counts.fork ∙ blocks;
+        per_block = counts.per_block;
+        node_size = counts.node_size;
+        total = counts.total;
+        map = extends_as tree.shape.total tree.map.items c.reserve_stretches.new.map.items c.lengthen.new.self.map.items c.add_nodes.new.self.map.items c.reserve_stretches.ensures.items (ap (λ m. m.items) c.lengthen.ensures.map) c.lengthen.new.self.shape.total c.lengthen.ensures.counts.total c.add_nodes.ensures.extends;
+      };
     }
 
 pub returns-clause-frame : goal.returns-clause-frame
