@@ -1,5 +1,5 @@
 -- The steps of a scan from one level to the next.
-use Rattle.std.proofs.Common.{◌≡◌, ◌⊎◌, ◌<◌, ◌≤◌, ℕ, zero, suc, ◌+◌, ◌-◌, ◌/◌, Bool, true, false, List, [], ◌∷◌, ◌++◌, length, map, take, get_or, inl, inr, refl, sym, ◌∙◌, ap, subst, arith, ⊎_elim, if◌then◌else◌}
+use Rattle.std.proofs.Common.{◌≡◌, ◌⊎◌, ◌<◌, ◌≤◌, ℕ, zero, suc, ◌+◌, ◌-◌, ◌/◌, Bool, true, false, List, [], ◌∷◌, ◌++◌, length, map, take, get_or, set, inl, inr, refl, sym, ◌∙◌, ap, subst, arith, ⊎_elim, if◌then◌else◌}
 use Rattle.std.specs.Prelude.{Contains, slice_index}
 use Rattle.std.specs.List.{All, range_with_len}
 use Rattle.std.specs.declared.cmp.Ordering.{Ordering}
@@ -10,11 +10,13 @@ use Rattle.btree_node.specs.Levels.{Nodes, entries, child_of}
 use Rattle.btree_node.specs.TreeFile.{TreeFile, TreeForm}
 use Rattle.hfs_volume.specs.Broken.{Finding, node_place, levels_in, level_in, FailsNode, FailsOrder, IsBrokenTree}
 use Rattle.hfs_volume.proofs.TreeWants.{stands_at}
-use Rattle.fsck_scan.specs.Level.{HasRead, FailsAt, ends_of}
+use Rattle.fsck_scan.specs.Level.{IsRight, IsWrong, HasRead, FailsAt, place_in}
 use Rattle.fsck_scan.specs.Marks.{MarksAll, IsNoChild, children_of}
-use Rattle.fsck_scan.specs.Scan.{names_at, IsLevelRead, HasScanned, StandsAt, HasNodes, Descends, failure, IsWrongNode}
+use Rattle.fsck_scan.specs.Scan.{names_at, IsLevelRead, HasScanned, StandsAt, HasNodes, Descends, ComesToRoot, failure, IsWrongNode}
 use Rattle.fsck_scan.specs.declared.look.Fault.{Fault}
 use Rattle.fsck_scan.specs.declared.look.Fault.TheVariants as fault
+use Rattle.fsck_scan.proofs.LevelLaws.{read_none, read_more, fails_here}
+use Rattle.fsck_scan.proofs.MarkLaws.{marks_none, marks_more}
 use Rattle.fsck_scan.proofs.Failing.{node_fails, order_fails, name_fails}
 use Rattle.fsck_scan.proofs.ScanLaws.{scanned_more, node_taken, node_again}
 
@@ -143,3 +145,77 @@ module _ (form : TreeForm) (is_key is_value : List ℕ → Type 0) (cmp : List �
 
         high : k < length (entries tree.nodes (take (i + 1) (level_in tree j)))
         high = omega (arith, end_is i inside, here (omega (arith, inside, ends_long)))
+
+  -- ---- the root
+
+  module _ (size total height root : ℕ) (marks : List Bool) (node : List ℕ) (at : ComesToRoot is_key is_value cmp tree size total height root marks node) where
+    root_stands : root ∷ [] ≡ level_in tree 0
+    root_stands = ap (λ n. n ∷ []) (sym at.root_is)
+
+    some_level : 0 < levels_in tree
+    some_level = omega (arith, at.some, at.height_is)
+
+    -- the root was read
+    pub root_taken : (new : List Bool) (records : List (List ℕ)) → root < total → get_or marks root true ≡ false → new ≡ set marks root true
+        → IsRight is_key is_value cmp (place_in (size / 2 - 10) height (root ∷ []) 0) [] 0 node [] records → StandsAt is_key is_value cmp tree 0 new (root ∷ []) records (length records ∷ [])
+    root_taken new records low clear marked right = record {
+      scanned = scanned_more is_key is_value cmp tree 0 marks new records (length records ∷ []) at.scanned
+          (subst (λ (l : List ℕ). All (λ n. n < tree.head.total) l) root_stands (λ k d inside. one k d inside))
+          (subst (λ (l : List ℕ). MarksAll l marks new) root_stands (subst (λ (l : List Bool). MarksAll (root ∷ []) marks l) (sym marked) (marks_more marks marks [] root (marks_none marks) clear)))
+          read;
+      nodes_are = root_stands;
+      read = read;
+    }
+      where
+        one : (k d : ℕ) → k < length (root ∷ []) → get_or (root ∷ []) k d < tree.head.total
+        one zero d inside = omega (arith, low, at.total_is)
+        one (suc k) d inside = absurd (omega (arith, inside))
+
+        first : HasRead is_key is_value cmp tree.nodes (size / 2 - 10) height (root ∷ []) [] 1 records (length records ∷ [])
+        first = read_more is_key is_value cmp tree.nodes (size / 2 - 10) height (root ∷ []) [] 0 [] records [] (omega arith) (read_none is_key is_value cmp tree.nodes (size / 2 - 10) height (root ∷ []) [])
+            (subst (λ (b : List ℕ). IsRight is_key is_value cmp (place_in (size / 2 - 10) height (root ∷ []) 0) [] 0 b [] records) at.node_is right)
+
+        read : IsLevelRead is_key is_value cmp tree 0 records (length records ∷ [])
+        read =
+            subst (λ n. HasRead is_key is_value cmp tree.nodes (tree.head.node_size / 2 - 10) (levels_in tree - 0) (n ∷ []) [] 1 records (length records ∷ [])) (sym at.root_is)
+            (subst (λ s. HasRead is_key is_value cmp tree.nodes (s / 2 - 10) (levels_in tree - 0) (root ∷ []) [] 1 records (length records ∷ [])) (sym at.size_is)
+            (subst (λ h. HasRead is_key is_value cmp tree.nodes (size / 2 - 10) h (root ∷ []) [] 1 records (length records ∷ [])) (let is : height ≡ levels_in tree - 0 = omega (arith, at.height_is) in is) first))
+
+    -- the root isn't in the file, or is the header node or a map node
+    pub root_broken : (total ≤ root) ⊎ (get_or marks root true ≡ true) → Broken (failure 5 (node_place id root))
+    root_broken why = inr (inl (
+      refl,
+      refl,
+      refl,
+      node_taken is_key is_value cmp tree id 0 root marks at.scanned some_level
+          (subst (λ (l : List ℕ). Contains l root) root_stands (0, omega arith, refl)) at.blank (subst (λ t. (t ≤ root) ⊎ (get_or marks root true ≡ true)) (sym at.total_is) why),
+    ))
+
+    -- the root is wrong
+    pub root_wrong : (above ends : List ℕ) (wrong : Fault) (finding : Finding) → IsWrong is_key is_value cmp (place_in (size / 2 - 10) height (root ∷ []) 0) [] 0 node [] wrong → IsWrongNode id above ends (root ∷ []) 0 wrong finding → Broken finding
+    root_wrong above ends wrong finding is names = by wrong fails names
+      where
+        here : FailsAt is_key is_value cmp tree.nodes (size / 2 - 10) height (root ∷ []) [] 0 wrong
+        here = fails_here is_key is_value cmp tree.nodes (size / 2 - 10) height (root ∷ []) [] 0 [] [] wrong (omega arith) (read_none is_key is_value cmp tree.nodes (size / 2 - 10) height (root ∷ []) [])
+            (subst (λ (b : List ℕ). IsWrong is_key is_value cmp (place_in (size / 2 - 10) height (root ∷ []) 0) [] 0 b [] wrong) at.node_is is)
+
+        fails : FailsAt is_key is_value cmp tree.nodes (tree.head.node_size / 2 - 10) (levels_in tree - 0) (level_in tree 0) [] 0 wrong
+        fails =
+            subst (λ (l : List ℕ). FailsAt is_key is_value cmp tree.nodes (tree.head.node_size / 2 - 10) (levels_in tree - 0) l [] 0 wrong) root_stands
+            (subst (λ s. FailsAt is_key is_value cmp tree.nodes (s / 2 - 10) (levels_in tree - 0) (root ∷ []) [] 0 wrong) (sym at.size_is)
+            (subst (λ h. FailsAt is_key is_value cmp tree.nodes (size / 2 - 10) h (root ∷ []) [] 0 wrong) (let same : height ≡ levels_in tree - 0 = omega (arith, at.height_is) in same) here))
+
+        by : (w : Fault) → FailsAt is_key is_value cmp tree.nodes (tree.head.node_size / 2 - 10) (levels_in tree - 0) (level_in tree 0) [] 0 w → IsWrongNode id above ends (root ∷ []) 0 w finding → Broken finding
+        by fault.Node failing found = inr (inl (
+          ap rule_of found,
+          ap found_of found,
+          ap wanted_of found,
+          subst (λ p. FailsNode is_key is_value id tree p) (sym (ap place_of found ∙ ap (λ (l : List ℕ). node_place id (slice_index l 0)) root_stands)) (node_fails is_key is_value cmp id tree 0 some_level [] 0 failing),
+        ))
+        by fault.Order failing found = inr (inr (inl (
+          ap rule_of found,
+          ap found_of found,
+          ap wanted_of found,
+          subst (λ p. FailsOrder cmp id tree p) (sym (ap place_of found ∙ ap (λ (l : List ℕ). node_place id (slice_index l 0)) root_stands)) (order_fails is_key is_value cmp id tree 0 some_level [] 0 failing),
+        )))
+        by fault.Name failing found = absurd (omega (arith, (failing.before.3).0))

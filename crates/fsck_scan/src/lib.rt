@@ -10,6 +10,7 @@ mod map;
 mod records;
 #[cfg(test)]
 mod tests;
+mod tree;
 
 pub use children::{WrongChild, mark_children};
 pub use fork::Fork;
