@@ -16,8 +16,7 @@ pub record MarksAll (ns : List ℕ) (old new : List Bool) : Type 0 where
 abbrev pub children_of : List (List ℕ) → List ℕ
 children_of records = map child_of records
 
--- A child that no level can have, where all before it were marked: it isn't a node of the tree's file, was marked before the level or has no mark; or it stands
--- again in its own level.
+-- A child that no level can have, where all before it were marked: it isn't a node of the tree's file, was marked before the level or has no mark; or it stands again in its own level.
 pub record IsNoChild (total : ℕ) (records : List (List ℕ)) (marks : List Bool) (n : ℕ) (again : Bool) : Type 0 where
   pub at : ℕ
   pub inside : at < length records
