@@ -3,3 +3,8 @@ pub mod Pieces
 pub mod LevelLaws
 pub mod MarkLaws
 pub mod Failing
+pub mod MapLaws
+pub mod Counts
+pub mod ScanLaws
+pub mod TreeSteps
+pub mod Numbers

@@ -16,9 +16,12 @@ pub record MarksAll (ns : List ℕ) (old new : List Bool) : Type 0 where
 abbrev pub children_of : List (List ℕ) → List ℕ
 children_of records = map child_of records
 
--- A child that no level can have: it isn't a node of the tree's file, was marked before or has no mark, or stands before in its own level.
-pub record IsNoChild (total : ℕ) (records : List (List ℕ)) (marks : List Bool) (n : ℕ) : Type 0 where
+-- A child that no level can have, where all before it were marked: it isn't a node of the tree's file, was marked before the level or has no mark; or it stands again in its own level.
+pub record IsNoChild (total : ℕ) (records : List (List ℕ)) (marks : List Bool) (n : ℕ) (again : Bool) : Type 0 where
   pub at : ℕ
   pub inside : at < length records
   pub is : n ≡ slice_index (children_of records) at
-  pub why : (total ≤ n) ⊎ ((slice_index_or marks n true ≡ true) ⊎ Contains (take at (children_of records)) n)
+  pub now : List Bool
+  pub before : MarksAll (take at (children_of records)) marks now
+  pub taken : again ≡ false → (total ≤ n) ⊎ (slice_index_or marks n true ≡ true)
+  pub twice : again ≡ true → Contains (take at (children_of records)) n

@@ -1,10 +1,11 @@
 //! One level of a tree: its nodes in order, each read once, and all their records.
-ghost use Rattle.std.specs.Prelude.{◌≡◌, ◌<◌, ◌≤◌, ◌+◌, ◌∷◌, ◌++◌, ◌^◌, [], IsTrue, length, slice_index, IfOk, IfNone, IfSome, IsErrOf, OnOk};
+ghost use Rattle.std.specs.Prelude.{◌≡◌, ◌<◌, ◌≤◌, ◌+◌, ◌∷◌, ◌++◌, ◌^◌, [], All, IsTrue, length, slice_index, IfOk, IfNone, IfSome, IsErrOf, OnOk};
 ghost use Rattle.hx_bytes.specs.declared.faults.Trouble.TheVariants.{Disk};
 ghost use Rattle.sector_disk.specs.Cause.{Rose};
 ghost use Rattle.btree_file.specs.Frame.{ReadsSpace};
 ghost use Rattle.btree_file.specs.Place.{fork_sectors};
 ghost use Rattle.hfs_volume.specs.Content.{node_of_fork};
+ghost use Rattle.fsck_scan.specs.Good.{IsGoodRecord};
 ghost use Rattle.fsck_scan.specs.Level.{HasRead, FailsAt};
 
 use crate::fork::{Fork, read_node};
@@ -36,7 +37,7 @@ fn node_before(nodes: &[u32], k: usize) -> u32
     if k == 0 { 0 } else { nodes[k - 1] }
 }
 
-fn push_end(ends: &mut Vec<usize>, end: usize) -> Result<(), OutOfMemory>
+pub(crate) fn push_end(ends: &mut Vec<usize>, end: usize) -> Result<(), OutOfMemory>
     ensures { OnOk result (ends.new.items ≡ ends.old.items ++ end ∷ []) }
 {
     ends.push(end)?;
@@ -65,6 +66,7 @@ pub fn read_level<V: SectorView, K: KeyOrder>(
     ensures wrong { IsTrue (V.space view.old).tells → IfOk result (λ wrong. IfSome wrong (λ one. FailsAt K.is_key K.is_value K.cmp
         (λ n. node_of_fork (V.space view.old).content fork.now.limit (fork_sectors fork.now.extents.now fork.now.per_block) (length node.old) n)
         most height nodes.now names.now one.at one.fault)) }
+    ensures good { IfOk result (λ wrong. IfNone wrong (All (IsGoodRecord K.is_key K.is_value most height) records.new)) }
     ensures length { length node.new ≡ length node.old }
     ensures reads { ReadsSpace (V.space view.old) (V.space view.new) }
     ensures below { V.follows view.old view.new }

@@ -3,13 +3,17 @@
 
 mod children;
 mod fork;
+mod form;
 mod level;
 mod look;
+mod map;
 mod records;
 #[cfg(test)]
 mod tests;
+mod tree;
 
-pub use children::mark_children;
+pub use children::{WrongChild, mark_children};
 pub use fork::Fork;
+pub use form::{Form, TreeName};
 pub use level::{WrongNode, read_level};
 pub use look::Fault;

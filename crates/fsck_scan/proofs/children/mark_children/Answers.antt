@@ -11,6 +11,24 @@ use Rattle.fsck_scan.proofs.children.mark_children.Goals as goal
 child_at : (records : List (List ℕ)) (k n : ℕ) (item : List ℕ) → k < length records → n ≡ child_of item → item ≡ get_or records k [] → n ≡ slice_index (children_of records) k
 child_at records k n item inside is at = is ∙ ap child_of at ∙ sym (get_or-map child_of records k [] 0 inside)
 
+pub returns-then-n-total-clause-wrong : goal.returns-then-n-total-clause-wrong
+returns-then-n-total-clause-wrong c =
+    let records : List (List ℕ) = c.args.records.now in
+    let k : ℕ = c.loop-k.k in
+    let inside : k < length records = omega (arith, c.loop-k-test.true, c.len-k-end.ensures) in
+    record {
+      at = k;
+      inside = inside;
+      is = child_at records k c.child_in-n.result c.get.result.now inside c.child_in-n.ensures c.get.ensures;
+      now = c.loop-k.marks;
+      before = subst (λ (l : List ℕ). MarksAll l c.args.marks.now c.loop-k.marks) c.loop-k.invariant.nodes c.loop-k.invariant.marks;
+      taken = λ other. inl c.if-n-total.true;
+      twice = λ is. absurd (never is);
+    }
+  where
+    never : false ≡ true → ⊥
+    never is = cc
+
 pub returns-then-not-mark-clause-wrong : goal.returns-then-not-mark-clause-wrong
 returns-then-not-mark-clause-wrong c =
     let records : List (List ℕ) = c.args.records.now in
@@ -20,11 +38,17 @@ returns-then-not-mark-clause-wrong c =
       at = k;
       inside = inside;
       is = child_at records k c.child_in-n.result c.get.result.now inside c.child_in-n.ensures c.get.ensures;
-      why = ⊎_elim
-          (λ (was : get_or c.args.marks.now c.child_in-n.result true ≡ true). inr (inl was))
-          (λ (stands : Contains c.loop-k.nodes.items c.child_in-n.result). inr (inr (subst (λ (l : List ℕ). Contains l c.child_in-n.result) c.loop-k.invariant.nodes stands)))
+      now = c.loop-k.marks;
+      before = subst (λ (l : List ℕ). MarksAll l c.args.marks.now c.loop-k.marks) c.loop-k.invariant.nodes c.loop-k.invariant.marks;
+      taken = λ other. ⊎_elim
+          (λ (was : get_or c.args.marks.now c.child_in-n.result true ≡ true). inr was)
+          (λ (again : Contains c.loop-k.nodes.items c.child_in-n.result). absurd (never (sym other ∙ c.stands.ensures.1 (subst (λ (l : List ℕ). Contains l c.child_in-n.result) (sym c.as_slice.ensures.value) again))))
           (marked_cases c.args.marks.now c.loop-k.marks c.loop-k.nodes.items c.child_in-n.result c.loop-k.invariant.marks (not_false (get_or c.loop-k.marks c.child_in-n.result true) (sym c.if-not-mark.true ∙ c.mark.ensures.could)));
+      twice = λ is. subst (λ (l : List ℕ). Contains l c.child_in-n.result) (c.as_slice.ensures.value ∙ c.loop-k.invariant.nodes) (c.stands.ensures.0 is);
     }
+  where
+    never : false ≡ true → ⊥
+    never is = cc
 
 pub loop-k-preserved : goal.loop-k-preserved
 loop-k-preserved c =

@@ -1,5 +1,9 @@
 use Rattle.std.proofs.Common.{◌≡◌, ◌+◌, ◌∷◌, ◌++◌, [], ℕ, List, length, sym, ◌∙◌, ap, subst}
 use Rattle.std.specs.Prelude.{slice_index}
+use Rattle.std.specs.List.{All}
+use Rattle.std.proofs.lemmas.List.Elements.{All-append}
+use Rattle.btree_node.specs.Node.{items}
+use Rattle.fsck_scan.specs.Good.{IsGoodRecord}
 use Rattle.jnl_format.specs.Recovery.{Content}
 use Rattle.sector_disk.specs.Space.{Space}
 use Rattle.btree_node.specs.Levels.{Nodes}
@@ -73,6 +77,9 @@ loop-k-preserved g c =
     none_is c.in_ok-fault.field-0 (IsRight g.K.KeyOrder.is_key g.K.KeyOrder.is_value g.K.KeyOrder.cmp place c.args.names.now k c.read_node.new.into c.loop-k.records c.look_at.new.records) c.in_default.is c.in_ok-fault.ensures.right in
     record {
       keys = right.takes.keys;
+      good =
+          subst (λ (l : List (List ℕ)). All (IsGoodRecord g.K.KeyOrder.is_key g.K.KeyOrder.is_value c.args.most c.args.height) l) (sym right.takes.records)
+          (All-append (IsGoodRecord g.K.KeyOrder.is_key g.K.KeyOrder.is_value c.args.most c.args.height) c.loop-k.records (items c.read_node.new.into) c.loop-k.invariant.good right.takes.good);
       rising = right.takes.rising;
       long = c.read_node.ensures.length ∙ c.loop-k.invariant.long;
       below = g.met.V.SectorView.follows_trans c.args.view.now c.loop-k.view c.read_node.new.view c.loop-k.invariant.below c.read_node.ensures.below;

@@ -4,12 +4,14 @@ use Rattle.btree_node.specs.Levels.{key_of, Ascends}
 use Rattle.btree_file.specs.Frame.{ReadsSpace}
 use Rattle.btree_file.specs.Place.{fork_sectors}
 use Rattle.hfs_volume.specs.Content.{node_of_fork}
+use Rattle.fsck_scan.specs.Good.{IsGoodRecord}
 use Rattle.fsck_scan.specs.Level.{HasRead}
 use Rattle.fsck_scan.proofs.level.read_level.Given as goal
 
 abbrev pub invariant-loop-k : goal.invariant-loop-k
 invariant-loop-k g l = record {
   keys : All (λ item. g.K.KeyOrder.is_key (key_of item)) l.records;
+  good : All (IsGoodRecord g.K.KeyOrder.is_key g.K.KeyOrder.is_value l.most l.height) l.records;
   rising : Ascends g.K.KeyOrder.cmp l.records;
   long : length l.node ≡ length l.fn.node;
   below : g.V.SectorView.follows l.fn.view l.view;
