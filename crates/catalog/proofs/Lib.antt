@@ -1,8 +1,10 @@
+pub mod RoomLaws
 pub mod Answers
 pub mod BeforeEdits
 pub mod EntryEdits
 pub mod Faults
 pub mod FittingBytes
+pub mod InPlace
 pub mod Keys
 pub mod FolderLists
 pub mod Moves

@@ -13,6 +13,7 @@ ghost use Rattle.cat_records.specs.Fits.{FitsRecord};
 ghost use Rattle.hfs_volume.specs.Entries.{AreSpelled};
 ghost use Rattle.hfs_volume.specs.Records.{Placed, placed_in, record_at, is_thread};
 ghost use Rattle.catalog.specs.Pairs.{HasUpdateRoom};
+ghost use Rattle.catalog.specs.Rooms.{TakesUpdates, UpdatesAtMost};
 ghost use Rattle.catalog.specs.Entries.{AnswersRemoval, Updating, IsOfKind};
 
 use crate::pair::record_pair;
@@ -46,9 +47,12 @@ pub fn update<N: NodeStore>(
     // Done: the entry has the record, and nothing else is changed. Absent: nothing is.
     ensures updated { IsTrue (N.state store.old).tells → IfOk result (λ answer. Updating parent name.now rec.now (pairs_of (N.state store.old)) (pairs_of (N.state store.new)) answer) }
     ensures tree { IsTrue (N.state store.old).tells → OnOk result (IsTree IsCatalogKey catalog_cmp (N.state store.new)) }
-    // One write at most, and the tree keeps its shape.
+    // One write at most, and the tree keeps its shape, which the header node goes on saying.
     ensures takes { IsTrue (N.state store.old).tells → CostsAtMost 1 0 (N.state store.old) (N.state store.new) }
     ensures shape { IsTrue (N.state store.old).tells → (N.state store.new).shape ≡ (N.state store.old).shape }
+    ensures header { IsTrue (N.state store.old).tells → (N.state store.old).header ≡ (N.state store.old).shape → OnOk result ((N.state store.new).header ≡ (N.state store.new).shape) }
+    ensures edits { OnOk result (TakesUpdates 0 1 516 (N.state store.old) (N.state store.new)) }
+    ensures most { UpdatesAtMost 0 1 516 (N.state store.old) (N.state store.new) }
     ensures desk { IsDeskOf (N.state store.old).shape.node_size desk.new }
     ensures same { SameStore (N.state store.old) (N.state store.new) }
     ensures cause { HasTroubleCause (N.state store.old).faults (N.state store.new).faults result }
@@ -79,6 +83,9 @@ fn swap_value<N: NodeStore>(
     ensures tree { IsTrue (N.state store.old).tells → OnOk result (IsTree IsCatalogKey catalog_cmp (N.state store.new)) }
     ensures takes { IsTrue (N.state store.old).tells → CostsAtMost 1 0 (N.state store.old) (N.state store.new) }
     ensures shape { IsTrue (N.state store.old).tells → (N.state store.new).shape ≡ (N.state store.old).shape }
+    ensures header { IsTrue (N.state store.old).tells → (N.state store.old).header ≡ (N.state store.old).shape → OnOk result ((N.state store.new).header ≡ (N.state store.new).shape) }
+    ensures edits { OnOk result (TakesUpdates 0 1 516 (N.state store.old) (N.state store.new)) }
+    ensures most { UpdatesAtMost 0 1 516 (N.state store.old) (N.state store.new) }
     ensures desk { IsDeskOf (N.state store.old).shape.node_size desk.new }
     ensures same { SameStore (N.state store.old) (N.state store.new) }
     ensures cause { HasCause (N.state store.old).faults (N.state store.new).faults result }

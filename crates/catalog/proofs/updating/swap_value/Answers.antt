@@ -6,6 +6,8 @@ use Rattle.btree_edit.specs.Desk.{Finds}
 use Rattle.btree_edit.specs.Sorted.{ReplacesPair}
 use Rattle.btree_edit.specs.Swapping.{HasValueOf}
 use Rattle.catalog.proofs.BeforeEdits.{tree_read, pairs_read}
+use Rattle.catalog.proofs.InPlace.{absent_takes, absent_most, header_read, replaced_most, replaced_takes}
+use Rattle.catalog.proofs.RoomLaws.{top_stays}
 use Rattle.catalog.proofs.Updates.{has_value, answer_read, read_and_written, needs_read, room_read}
 use Rattle.catalog.proofs.updating.swap_value.Goals as goal
 
@@ -105,3 +107,57 @@ returns-in_ok-answer-in-At-clause-shape g c tells =
     let finds = subst (λ found. Finds catalog_cmp c.args.key.now s c.find.new.desk found) c.in-At.is (c.in_ok-find.ensures.found tells) in
     let has = has_value s read c.find.new.desk c.args.key.now c.args.value.now (c.find.ensures.reads.same.tells ∙ tells) (pairs_read s.shape.depth s read c.find.ensures.reads tells (g.met.N.NodeStore.well_formed c.args.store.now).total (c.requires.tree tells)) finds.0 finds.1.0 finds.1.1 (c.requires.long tells) in
     c.replace.ensures.kept has ∙ c.find.ensures.reads.shape
+
+pub returns-in_err-answer-in-At-clause-most : goal.returns-in_err-answer-in-At-clause-most
+returns-in_err-answer-in-At-clause-most g c =
+    let s = g.N.NodeStore.state c.args.store.now in
+    let read = g.N.NodeStore.state c.find.new.store in
+    let new = g.N.NodeStore.state c.replace.new.store in
+    let has = λ (tells : IsTrue s.tells).
+    let finds = subst (λ found. Finds catalog_cmp c.args.key.now s c.find.new.desk found) c.in-At.is (c.in_ok-find.ensures.found tells) in
+    has_value s read c.find.new.desk c.args.key.now c.args.value.now (c.find.ensures.reads.same.tells ∙ tells) (pairs_read s.shape.depth s read c.find.ensures.reads tells (g.met.N.NodeStore.well_formed c.args.store.now).total (c.requires.tree tells)) finds.0 finds.1.0 finds.1.1 (c.requires.long tells) in
+    replaced_most s.shape.depth s read c.find.ensures.reads c.find.ensures.cause.later new c.replace.ensures.does (λ tells. c.replace.ensures.once (has tells))
+
+pub returns-in-Absent-clause-edits : goal.returns-in-Absent-clause-edits
+returns-in-Absent-clause-edits g c =
+    let s = g.N.NodeStore.state c.args.store.now in
+    absent_takes s.shape.depth s (g.N.NodeStore.state c.find.new.store) c.find.ensures.reads c.find.ensures.cause.later
+
+pub returns-in-Absent-clause-most : goal.returns-in-Absent-clause-most
+returns-in-Absent-clause-most g c =
+    let s = g.N.NodeStore.state c.args.store.now in
+    absent_most s.shape.depth s (g.N.NodeStore.state c.find.new.store) c.find.ensures.reads c.find.ensures.cause.later
+
+pub returns-in-Absent-clause-header : goal.returns-in-Absent-clause-header
+returns-in-Absent-clause-header g c tells same =
+    let s = g.N.NodeStore.state c.args.store.now in
+    header_read s.shape.depth s (g.N.NodeStore.state c.find.new.store) c.find.ensures.reads c.find.ensures.cause.later tells same
+
+pub returns-in_ok-answer-in-At-clause-edits : goal.returns-in_ok-answer-in-At-clause-edits
+returns-in_ok-answer-in-At-clause-edits g c =
+    let s = g.N.NodeStore.state c.args.store.now in
+    let read = g.N.NodeStore.state c.find.new.store in
+    let new = g.N.NodeStore.state c.replace.new.store in
+    let has = λ (tells : IsTrue s.tells).
+    let finds = subst (λ found. Finds catalog_cmp c.args.key.now s c.find.new.desk found) c.in-At.is (c.in_ok-find.ensures.found tells) in
+    has_value s read c.find.new.desk c.args.key.now c.args.value.now (c.find.ensures.reads.same.tells ∙ tells) (pairs_read s.shape.depth s read c.find.ensures.reads tells (g.met.N.NodeStore.well_formed c.args.store.now).total (c.requires.tree tells)) finds.0 finds.1.0 finds.1.1 (c.requires.long tells) in
+    let tree_of = λ (tells : IsTrue s.tells). tree_read s.shape.depth s read c.find.ensures.reads tells (g.met.N.NodeStore.well_formed c.args.store.now).total (c.requires.tree tells) in
+    let answer = c.in_ok-answer-in-At.ensures in
+    replaced_takes s.shape.depth s read c.find.ensures.reads c.find.ensures.cause.later new c.replace.ensures.does (λ tells. c.replace.ensures.once (has tells))
+    answer.depth answer.records answer.roots (λ tells. c.replace.ensures.kept (has tells)) (λ tells. top_stays c.args.key.now read new (tree_of tells) (c.replace.ensures.kept (has tells)) (answer.alone (has tells)))
+
+pub returns-in_ok-answer-in-At-clause-most : goal.returns-in_ok-answer-in-At-clause-most
+returns-in_ok-answer-in-At-clause-most g c =
+    let s = g.N.NodeStore.state c.args.store.now in
+    let read = g.N.NodeStore.state c.find.new.store in
+    let new = g.N.NodeStore.state c.replace.new.store in
+    let has = λ (tells : IsTrue s.tells).
+    let finds = subst (λ found. Finds catalog_cmp c.args.key.now s c.find.new.desk found) c.in-At.is (c.in_ok-find.ensures.found tells) in
+    has_value s read c.find.new.desk c.args.key.now c.args.value.now (c.find.ensures.reads.same.tells ∙ tells) (pairs_read s.shape.depth s read c.find.ensures.reads tells (g.met.N.NodeStore.well_formed c.args.store.now).total (c.requires.tree tells)) finds.0 finds.1.0 finds.1.1 (c.requires.long tells) in
+    replaced_most s.shape.depth s read c.find.ensures.reads c.find.ensures.cause.later new c.replace.ensures.does (λ tells. c.replace.ensures.once (has tells))
+
+pub returns-in_ok-answer-in-At-clause-header : goal.returns-in_ok-answer-in-At-clause-header
+returns-in_ok-answer-in-At-clause-header g c tells same =
+    let s = g.N.NodeStore.state c.args.store.now in
+    let read = g.N.NodeStore.state c.find.new.store in
+    c.in_ok-answer-in-At.ensures.header (c.find.ensures.reads.same.tells ∙ tells) (header_read s.shape.depth s read c.find.ensures.reads c.find.ensures.cause.later tells same)
