@@ -1,6 +1,7 @@
 -- An entry moved into the private folder.
-use Rattle.std.proofs.Common.{◌≡◌, ℕ, true, List, inl, inr, refl, sym, ◌∙◌, ap, subst}
-use Rattle.std.specs.Prelude.{Option, None, Some, codes, Result, Ok, Err, IfOk}
+use Rattle.std.proofs.Common.{◌≡◌, ℕ, true, false, List, inl, inr, refl, sym, ◌∙◌, ap, subst}
+use Rattle.std.specs.Prelude.{Option, None, Some, codes, Result, Ok, Err, IfOk, IfSome, OnOk}
+use Rattle.cat_records.specs.Fits.{FitsFile, FitsRecord}
 use Rattle.btree_node.specs.Levels.{Pair}
 use Rattle.std.specs.Option.{option_map}
 use Rattle.cat_records.specs.declared.record.CatRecord.{CatRecord}
@@ -10,7 +11,7 @@ use Rattle.catalog.specs.Pairs.{value_at}
 use Rattle.catalog.specs.Entries.{AnswersMove, Moving, RelocatesEntry}
 use Rattle.catalog.specs.declared.moving.Moved.{Moved}
 use Rattle.catalog.specs.declared.moving.Moved.TheVariants as moved
-use Rattle.hfs_volume.specs.Records.{Placed, placed_in, record_at, is_file, id_in, id_of}
+use Rattle.hfs_volume.specs.Records.{Placed, placed_in, record_at, is_file, is_thread, id_in, id_of}
 use Rattle.hfs_volume.specs.Naming.{orphan_name}
 use Rattle.hard_links.specs.Orphans.{MakesOrphan, NamesFile, IsOrphanNumber, file_in}
 use Rattle.hard_links.specs.Numbers.{IsFree, IsFirstFree}
@@ -82,3 +83,29 @@ no_file_there at pairs names is = not_none names.entry.value names.file (is ∙ 
 pub ok_so : {T E : Type 0} (result : Result T E) (P Q : T → Type 0) → ((answer : T) → P answer → Q answer) → IfOk result P → IfOk result Q
 ok_so (Ok answer) P Q so holds = so answer holds
 ok_so (Err why) P Q so holds = tt
+
+-- a file that was read has a spelling
+pub file_fits : (found : Option CatRecord) (file : FileRecord) → Some file ≡ file_in found → IfSome found (λ rec. is_thread rec ≡ false → FitsRecord rec) → FitsFile file
+file_fits None file is fits = cc
+file_fits (Some (Folder folder)) file is fits = cc
+file_fits (Some (File other)) file is fits = subst FitsFile (sym (ap or is)) (fits refl)
+  where
+    or : Option FileRecord → FileRecord
+    or None = file
+    or (Some f) = f
+file_fits (Some (Thread thread)) file is fits = cc
+
+-- the value that was read
+pub file_value : (found : Option CatRecord) (file : FileRecord) → Some file ≡ file_in found → found ≡ Some (File file)
+file_value None file is = cc
+file_value (Some (Folder folder)) file is = cc
+file_value (Some (File other)) file is = ap (λ o. Some (File (or o))) (sym is)
+  where
+    or : Option FileRecord → FileRecord
+    or None = file
+    or (Some f) = f
+file_value (Some (Thread thread)) file is = cc
+
+pub on_ok_so : {T E : Type 0} (result : Result T E) (P Q : Type 0) → (P → Q) → OnOk result P → OnOk result Q
+on_ok_so (Ok answer) P Q so holds = so holds
+on_ok_so (Err why) P Q so holds = tt

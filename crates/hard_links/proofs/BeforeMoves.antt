@@ -1,5 +1,5 @@
 -- Reads before an edit: the tree stays as it was, and no edit is made.
-use Rattle.std.proofs.Common.{◌≡◌, ◌≤◌, ◌<◌, ◌+◌, ◌^◌, ℕ, ◌∙◌, sym, arith}
+use Rattle.std.proofs.Common.{◌≡◌, ◌≤◌, ◌<◌, ◌+◌, ◌^◌, ℕ, zero-add, ◌∙◌, sym, subst, arith}
 use Rattle.std.specs.Prelude.{IsTrue}
 use Rattle.btree_node.specs.Keys.{IsCatalogKey, catalog_cmp}
 use Rattle.btree_node.specs.Store.{Store, SameStore}
@@ -8,6 +8,8 @@ use Rattle.btree_edit.specs.Edits.{TakesEdits}
 use Rattle.btree_edit.specs.Reading.{ReadsNodes}
 use Rattle.btree_edit.proofs.Repeated.{reads_both, reads_none}
 use Rattle.catalog.proofs.BeforeEdits.{tree_read, pairs_read, reads_edit_nothing}
+use Rattle.catalog.specs.Rooms.{UpdateRoom, TakesUpdates, UpdatesAtMost}
+use Rattle.catalog.proofs.RoomLaws.{reads_update_nothing, room_left, updates_add, updates_fewer, most_both, most_made}
 use Rattle.hard_links.specs.Numbers.{OnlyReads}
 
 pub no_reads : (a : Store) → OnlyReads a a
@@ -28,3 +30,35 @@ module _ (a b : Store) (only : OnlyReads a b) where
 
   pub edits_none : TakesEdits 0 516 a b
   edits_none = reads_edit_nothing only.most 516 a b only.reads only.later
+
+  pub tells_as : IsTrue b.tells → IsTrue a.tells
+  tells_as tells = sym only.reads.same.tells ∙ tells
+
+  pub header_as : IsTrue a.tells → a.header ≡ a.shape → b.header ≡ b.shape
+  header_as tells same = (only.reads.tree tells).header ∙ same ∙ sym only.reads.shape
+
+  nothing : TakesUpdates 0 0 516 a b
+  nothing = reads_update_nothing only.most 516 a b only.reads only.later
+
+  -- the room, and what is taken, with updates
+  pub room_as : (edits updates : ℕ) → UpdateRoom edits updates 516 a → UpdateRoom edits updates 516 b
+  room_as edits updates room =
+      room_left 0 0 edits updates 516 a b only.reads.same nothing
+      (subst (λ n. UpdateRoom n (0 + updates) 516 a) (sym (zero-add edits)) (subst (λ n. UpdateRoom edits n 516 a) (sym (zero-add updates)) room))
+
+  pub takes_as : (edits updates : ℕ) (c : Store) → TakesUpdates edits updates 516 b c → TakesUpdates edits updates 516 a c
+  takes_as edits updates c takes =
+      subst (λ n. TakesUpdates n updates 516 a c) (zero-add edits)
+      (subst (λ n. TakesUpdates (0 + edits) n 516 a c) (zero-add updates) (updates_add 0 0 edits updates 516 a b c only.reads.same nothing takes))
+
+  pub most_as : (edits updates : ℕ) (c : Store) → UpdatesAtMost edits updates 516 b c → UpdatesAtMost edits updates 516 a c
+  most_as edits updates c most =
+      subst (λ n. UpdatesAtMost n updates 516 a c) (zero-add edits)
+      (subst (λ n. UpdatesAtMost (0 + edits) n 516 a c) (zero-add updates) (most_both 0 0 edits updates 516 a b c only.reads.same nothing most))
+
+  pub takes_nothing : (edits updates : ℕ) → TakesUpdates edits updates 516 a b
+  takes_nothing edits updates =
+      subst (λ n. TakesUpdates n updates 516 a b) (zero-add edits) (subst (λ n. TakesUpdates (0 + edits) n 516 a b) (zero-add updates) (updates_fewer 0 0 edits updates 516 a b nothing))
+
+  pub most_nothing : (edits updates : ℕ) → UpdatesAtMost edits updates 516 a b
+  most_nothing edits updates = most_made edits updates 516 a b (takes_nothing edits updates)

@@ -1,3 +1,4 @@
 pub mod Identity
+pub mod Linking
 pub mod Numbers
 pub mod Orphans

@@ -84,7 +84,7 @@ fn orphan_number<N: NodeStore>(
 }
 
 /// The file in a record that is a file's.
-fn file_in(found: Option<CatRecord>) -> Option<FileRecord>
+pub(crate) fn file_in(found: Option<CatRecord>) -> Option<FileRecord>
     ensures { result ≡ file_in found }
 {
     match found {

@@ -51,7 +51,7 @@ pub fn resolve<N: NodeStore>(
 }
 
 /// Whether the fields are those of a link.
-fn is_link_type(fields: &EntryFields) -> bool
+pub(crate) fn is_link_type(fields: &EntryFields) -> bool
     ensures { result ≡ is_link_type fields.now }
 {
     read_be32(fields.finder.as_slice(), 0) == LINK_TYPE
