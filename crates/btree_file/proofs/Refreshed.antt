@@ -14,8 +14,9 @@ use Rattle.fork_map.proofs.Laws.{no_sectors}
 use Rattle.btree_node.specs.TreeFile.{tree_head, shape_of}
 use Rattle.btree_node.specs.declared.store.TreeShape.{TreeShape}
 use Rattle.sector_disk.specs.Lists.{Content}
+use Rattle.sector_disk.specs.Space.{Space}
 use Rattle.btree_file.specs.Growth.{GrewFrom}
-use Rattle.btree_file.specs.Place.{AreApart, fork_sectors}
+use Rattle.btree_file.specs.Place.{AreApart, IsInside, fork_sectors}
 use Rattle.btree_file.specs.Standing.{Stands}
 use Rattle.btree_file.specs.State.{sectors_of_tree, nodes_on, HasMap}
 use Rattle.btree_file.specs.declared.tree.Stretch.{Stretch}
@@ -61,6 +62,21 @@ kept_apart fork list per blocks apart is =
     let whole : fork_sectors fork per ≡ sectors_of per (take blocks (blocks_of fork)) ++ sectors_of per (drop blocks (blocks_of fork)) =
     ap (λ l. sectors_of per l) (sym (take-append-drop blocks (blocks_of fork))) ∙ flat_map-append (λ block. range_with_len (block * per) per) (take blocks (blocks_of fork)) (drop blocks (blocks_of fork)) in
     subst (λ l. AreApart (sectors_of per l)) (sym is) (apart_front (sectors_of per (take blocks (blocks_of fork))) (sectors_of per (drop blocks (blocks_of fork))) (subst AreApart whole apart))
+
+-- and lie in a space as before
+pub kept_inside : (fork list : List Extent) (per blocks : ℕ) (old new : Space) → IsInside fork per old → new.sectors ≡ old.sectors → blocks_of list ≡ take blocks (blocks_of fork) → IsInside list per new
+kept_inside fork list per blocks old new inside same is k low =
+    let front : List ℕ = fork_sectors list per in
+    let behind : List ℕ = sectors_of per (drop blocks (blocks_of fork)) in
+    let whole : fork_sectors fork per ≡ front ++ behind =
+    ap (λ l. sectors_of per l) (sym (take-append-drop blocks (blocks_of fork))) ∙ flat_map-append (λ block. range_with_len (block * per) per) (take blocks (blocks_of fork)) (drop blocks (blocks_of fork))
+    ∙ ap (λ l. sectors_of per l ++ behind) (sym is) in
+    let here : get_or (fork_sectors fork per) k 0 ≡ get_or front k 0 = ap (λ l. get_or l k 0) whole ∙ get_or_append_left front behind 0 k low in
+    omega (arith, here, same, inside k (omega (arith, low, ap (λ (l : List ℕ). length l) whole, length-append front behind)))
+
+-- the sectors of a fork lie in a space after reads
+pub inside_after : (fork : List Extent) (per : ℕ) (old new : Space) → IsInside fork per old → new.sectors ≡ old.sectors → IsInside fork per new
+inside_after fork per old new inside same k low = omega (arith, inside k low, same)
 
 -- ---- the stretches that are kept
 

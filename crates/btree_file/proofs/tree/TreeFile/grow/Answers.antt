@@ -14,6 +14,7 @@ use Rattle.btree_file.specs.declared.added_run.Growth.{Growth}
 use Rattle.btree_file.specs.declared.tree.Stretch.{Stretch}
 use Rattle.btree_file.specs.declared.tree.TreeFile.{TreeFile}
 use Rattle.btree_file.proofs.LongerFork.{zeros_at, as_with, whole_now, room_now, inside_now, open_now, node_same, map_now, keeps_longer, has_room, has_none, room_taken, stands_grown}
+use Rattle.btree_file.proofs.Refreshed.{inside_after}
 use Rattle.btree_file.proofs.Rooms.{whole_node}
 use Rattle.btree_file.proofs.Stages.{extends_none, extends_both, keeps_both, counts_both, frames_both, spends_both, room_kept}
 use Rattle.btree_file.proofs.StandingLaws.{some_sector}
@@ -205,3 +206,11 @@ pub returns-clause-below : goal.returns-clause-below
 returns-clause-below g c =
     g.met.P.SectorView.follows_trans c.args.space.now c.lengthen.new.space c.add_nodes.new.space
     (g.met.P.SectorView.follows_trans c.args.space.now c.read_last.new.view c.lengthen.new.space c.read_last.ensures.below c.lengthen.ensures.below) c.add_nodes.ensures.below
+
+pub returns-in_err-read_last-clause-inside : goal.returns-in_err-read_last-clause-inside
+returns-in_err-read_last-clause-inside g c =
+    let tree : TreeFile = c.args.self.now in
+    inside_after tree.fork tree.per_block (g.P.SectorView.space c.args.space.now) (g.P.SectorView.space c.read_last.new.view) c.requires.inside c.read_last.ensures.reads.same.sectors
+
+pub returns-clause-inside : goal.returns-clause-inside
+returns-clause-inside g c = c.add_nodes.ensures.growing.inside

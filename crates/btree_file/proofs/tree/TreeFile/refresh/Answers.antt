@@ -12,7 +12,7 @@ use Rattle.btree_file.specs.Standing.{Stands}
 use Rattle.btree_file.specs.State.{sectors_of_tree, nodes_on}
 use Rattle.btree_file.specs.declared.tree.Stretch.{Stretch}
 use Rattle.btree_file.specs.declared.tree.TreeFile.{TreeFile}
-use Rattle.btree_file.proofs.Refreshed.{kept_whole, kept_apart, first_inside, all_front, apart_first, header_back, some_node, room_back, blocks_back, cut_is, stands_back}
+use Rattle.btree_file.proofs.Refreshed.{kept_whole, kept_apart, kept_inside, inside_after, first_inside, all_front, apart_first, header_back, some_node, room_back, blocks_back, cut_is, stands_back}
 use Rattle.btree_file.proofs.tree.TreeFile.refresh.Goals as goal
 
 -- the header node that was read is that of the earlier state
@@ -99,3 +99,18 @@ returns-clause-back g c = λ tells before grew was.
       map = items;
       header = header;
     }
+
+pub returns-in_err-get_node-clause-inside : goal.returns-in_err-get_node-clause-inside
+returns-in_err-get_node-clause-inside g c =
+    let tree : TreeFile = c.args.self.now in
+    inside_after tree.fork tree.per_block (g.V.SectorView.space c.args.view.now) (g.V.SectorView.space c.get_node.new.space) c.requires.inside c.get_node.ensures.reads.same.sectors
+
+pub returns-then-not-has_room_for-clause-inside : goal.returns-then-not-has_room_for-clause-inside
+returns-then-not-has_room_for-clause-inside g c =
+    let tree : TreeFile = c.args.self.now in
+    inside_after tree.fork tree.per_block (g.V.SectorView.space c.args.view.now) (g.V.SectorView.space c.get_node.new.space) c.requires.inside c.get_node.ensures.reads.same.sectors
+
+pub returns-clause-inside : goal.returns-clause-inside
+returns-clause-inside g c =
+    let tree : TreeFile = c.args.self.now in
+    kept_inside tree.fork c.shorten.new.self tree.per_block c.blocks_for.result (g.V.SectorView.space c.args.view.now) (g.V.SectorView.space c.get_node.new.space) c.requires.inside c.get_node.ensures.reads.same.sectors c.shorten.ensures
