@@ -1,20 +1,22 @@
 -- At the end of a scan: where all numbers fit and each bit of the map is as its node is marked, the tree keeps its rules.
-use Rattle.std.proofs.Common.{◌≡◌, ◌≢◌, ◌⊎◌, ◌<◌, ◌≤◌, ℕ, ◌-◌, ◌*◌, min, max, Bool, true, false, List, [], ◌∷◌, length, map, get_or, refl, sym, ◌∙◌, ap, subst, arith}
+use Rattle.std.proofs.Common.{◌≡◌, ◌≢◌, ◌⊎◌, ◌<◌, ◌≤◌, ℕ, ◌-◌, ◌*◌, min, max, Bool, true, false, List, [], ◌∷◌, length, map, get_or, replicate, inl, inr, refl, sym, ◌∙◌, ap, subst, arith}
 use Rattle.std.specs.Prelude.{Contains}
 use Rattle.std.specs.List.{count_by, range_with_len}
 use Rattle.std.specs.declared.cmp.Ordering.{Ordering}
 use Rattle.flag_rows.specs.Bits.{bit_of, count_set}
 use Rattle.btree_node.specs.Levels.{Nodes, leaves}
-use Rattle.btree_node.specs.TreeFile.{TreeFile, file_of}
-use Rattle.hfs_volume.specs.Broken.{Finding, Want, want, bit, node_place, levels_in, leaves_in, is_in_use, form_wants, map_wants, KeepsRules, IsUnmet}
+use Rattle.btree_node.specs.TreeFile.{TreeFile, TreeForm, file_of}
+use Rattle.hfs_volume.specs.Broken.{Finding, Want, want, bit, node_place, levels_in, leaves_in, is_in_use, form_wants, map_wants, FailsMap, IsBrokenTree, KeepsRules, IsUnmet}
 use Rattle.hfs_volume.proofs.Members.{map_stands}
 use Rattle.hfs_volume.proofs.Wants.{met_each}
 use Rattle.hfs_volume.proofs.BlockWants.{map_met_of, in_range, range_bounds, same_bits}
 use Rattle.fsck_scan.specs.Form.{form_in, head_in, FitsForm, FitsRoot, FitsLeaves, IsWrongBit}
-use Rattle.fsck_scan.specs.Scan.{HasScanned}
+use Rattle.fsck_scan.specs.Map.{HasMapRead, IsNoMap}
+use Rattle.fsck_scan.specs.Marks.{MarksAll}
+use Rattle.fsck_scan.specs.Scan.{failure, HasScanned}
 use Rattle.fsck_scan.specs.declared.form.Form.{Form}
 use Rattle.fsck_scan.specs.declared.form.Head.{Head}
-use Rattle.fsck_scan.proofs.ScanLaws.{all_good, all_ordered, maps_apart, used_is, used_count}
+use Rattle.fsck_scan.proofs.ScanLaws.{all_good, all_ordered, maps_apart, scanned_none, used_is, used_count}
 
 -- the tree with this header record in these nodes
 abbrev pub scanned_tree : Head → Nodes → TreeFile
@@ -56,3 +58,19 @@ module _ (form : Form) (is_key is_value : List ℕ → Type 0) (cmp : List ℕ �
             (map_stands (λ m. want (node_place form.id m) (bit (bit_of (scanned_tree head nodes).map m)) (bit (is_in_use (scanned_tree head nodes) m))) (range_with_len 0 (max head.shape.total (8 * length (scanned_tree head nodes).map))) n
             (in_range 0 (max head.shape.total (8 * length (scanned_tree head nodes).map)) n (omega arith) (omega (arith, inside)))),
       )
+
+module _ (form : TreeForm) (is_key is_value : List ℕ → Type 0) (cmp : List ℕ → List ℕ → Ordering) (id : ℕ) (head : Head) (nodes : Nodes) where
+  -- a header node that isn't one, or a map node that isn't one or comes twice
+  pub map_broken : (n : ℕ) → IsNoMap nodes head.shape.total n → IsBrokenTree form is_key is_value cmp id (scanned_tree head nodes) (failure 5 (node_place id n))
+  map_broken n no_map = inr (inl (refl, refl, refl, inl (fails no_map)))
+    where
+      fails : IsNoMap nodes head.shape.total n → FailsMap id (scanned_tree head nodes) (node_place id n)
+      fails (inl (is, bad)) = inl (ap (node_place id) is, bad)
+      fails (inr (inl (stands, bad))) = inr (inl (n, stands, refl, bad))
+      fails (inr (inr (i, j, less, inside, is, same))) = inr (inr (i, j, less, inside, ap (node_place id) is, same))
+
+  -- where the map was read, the scan begins at the root
+  pub begins : (old new : List Bool) (bits : List ℕ) → old ≡ replicate (length new) false → length new ≤ head.shape.total → HasMapRead nodes head.shape.node_size head.shape.total old new bits
+      → HasScanned is_key is_value cmp (scanned_tree head nodes) 0 new × (bits ≡ (scanned_tree head nodes).map)
+  begins old new bits none fits read =
+      (scanned_none is_key is_value cmp (scanned_tree head nodes) new fits read.header read.each (subst (λ l. MarksAll (0 ∷ (scanned_tree head nodes).chain) l new) none read.marks), read.bits_are)
