@@ -8,3 +8,4 @@ pub mod Counts
 pub mod ScanLaws
 pub mod TreeSteps
 pub mod Numbers
+pub mod EndLaws

@@ -1,10 +1,11 @@
 -- What the header record of each tree of a volume says, and a finding in the words of the rules.
-use Rattle.std.specs.Prelude.{◌≡◌, ◌<◌, ◌≤◌, ℕ, ◌-◌, ◌*◌, ◌==◌, min, max, List, length, slice_index, if◌then◌else◌}
+use Rattle.std.specs.Prelude.{◌≡◌, ◌<◌, ◌≤◌, ℕ, ◌-◌, ◌*◌, ◌==◌, min, max, Bool, false, List, length, slice_index, slice_index_or, if◌then◌else◌}
 use Rattle.jnl_format.specs.Recovery.{Content}
+use Rattle.flag_rows.specs.Bits.{bit_of}
 use Rattle.btree_node.specs.Levels.{Nodes}
 use Rattle.btree_node.specs.TreeFile.{TreeHead, TreeForm, TreeFile, file_of}
 use Rattle.hfs_volume.specs.Content.{node_of_fork}
-use Rattle.hfs_volume.specs.Broken.{Want, want, node_place, node_size_wanted}
+use Rattle.hfs_volume.specs.Broken.{Want, want, bit, node_place, node_size_wanted}
 use Rattle.hfs_volume.specs.Broken as broken
 use Rattle.fsck_list.specs.declared.finding.Finding as listed
 use Rattle.fsck_scan.specs.declared.form.Form.{Form}
@@ -71,3 +72,8 @@ pub record FitsLeaves (head : Head) (leaves : List ℕ) (records left : ℕ) : T
 -- the tree with this header record in a fork
 abbrev pub tree_at : Content → ℕ → List ℕ → ℕ → Head → TreeFile
 tree_at content limit sectors size head = file_of (head_in head) (λ n. node_of_fork content limit sectors size n)
+
+-- a bit of the map that isn't set where its node is marked, or is where it isn't
+abbrev pub IsWrongBit : ℕ → List ℕ → List Bool → broken.Finding → Type 0
+IsWrongBit id bits marks finding =
+    (n : ℕ) × (n < 8 * length bits) × (finding ≡ record { rule = 7; place = node_place id n; found = bit (bit_of bits n); wanted = bit (slice_index_or marks n false) }) × (bit_of bits n ≡ slice_index_or marks n false → ⊥)

@@ -8,6 +8,7 @@ mod level;
 mod look;
 mod map;
 mod records;
+mod scan;
 #[cfg(test)]
 mod tests;
 mod tree;

@@ -1,5 +1,5 @@
 //! The header node and the map nodes of a tree: the bytes of its map.
-ghost use Rattle.std.specs.Prelude.{◌≡◌, ◌<◌, ◌≤◌, ◌-◌, ◌↔◌, ◌⊎◌, ◌++◌, ◌^◌, ℕ, [], pos, IsTrue, length, slice_index_or, slice_range, false, true, IfOk, IfNone, IfSome, IsErrOf, OnOk};
+ghost use Rattle.std.specs.Prelude.{◌≡◌, ◌<◌, ◌≤◌, ◌-◌, ◌+◌, ◌*◌, ◌↔◌, ◌⊎◌, ◌++◌, ◌^◌, ℕ, [], pos, IsTrue, length, slice_index_or, slice_range, false, true, IfOk, IfNone, IfSome, IsErrOf, OnOk};
 ghost use Rattle.hx_bytes.specs.declared.faults.Trouble.TheVariants.{Disk};
 ghost use Rattle.sector_disk.specs.Cause.{Rose};
 ghost use Rattle.btree_node.specs.Node.{IsNodeOf, record_count};
@@ -27,6 +27,7 @@ fn push_bytes(bits: &mut Vec<u8>, bytes: &[u8]) -> Result<(), OutOfMemory>
 fn take_header(node: &Node, bits: &mut Vec<u8>) -> Result<bool, OutOfMemory>
     ensures is { IfOk result (λ is. IsTrue is ↔ IsHeaderNode node.now) }
     ensures bits { IfOk result (λ is. IsTrue is → bits.new.items ≡ bits.old.items ++ slice_range node.now 248 (length node.now - 8)) }
+    ensures few { IfOk result (λ _. length bits.new.items ≤ length bits.old.items + 32768) }
 {
     if !node.check(1, 0) {
         return Ok(false);
@@ -44,6 +45,7 @@ fn take_header(node: &Node, bits: &mut Vec<u8>) -> Result<bool, OutOfMemory>
 fn take_map(node: &Node, bits: &mut Vec<u8>) -> Result<bool, OutOfMemory>
     ensures is { IfOk result (λ is. IsTrue is ↔ (IsNodeOf (pos 2) 0 node.now × (0 < record_count node.now))) }
     ensures bits { IfOk result (λ is. IsTrue is → bits.new.items ≡ bits.old.items ++ map_record node.now) }
+    ensures few { IfOk result (λ _. length bits.new.items ≤ length bits.old.items + 32768) }
 {
     if !node.check(2, 0) {
         return Ok(false);
@@ -51,6 +53,7 @@ fn take_map(node: &Node, bits: &mut Vec<u8>) -> Result<bool, OutOfMemory>
     if node.count() == 0 {
         return Ok(false);
     }
+    let _bytes = node.bytes();
     push_bytes(bits, node.item(0))?;
     Ok(true)
 }
@@ -75,6 +78,7 @@ fn read_first<V: SectorView>(
     ensures reads { ReadsSpace (V.space view.old) (V.space view.new) }
     ensures below { V.follows view.old view.new }
     ensures disk { IsErrOf result Disk → Rose (V.space view.old).faults (V.space view.new).faults }
+    ensures few { IfOk result (λ _. length bits.new.items ≤ length bits.old.items + 32768) }
 {
     read_node(view, fork, 0, node)?;
     let is_header = take_header(node, bits)?;
@@ -107,6 +111,7 @@ fn read_next<V: SectorView>(
     ensures reads { ReadsSpace (V.space view.old) (V.space view.new) }
     ensures below { V.follows view.old view.new }
     ensures disk { IsErrOf result Disk → Rose (V.space view.old).faults (V.space view.new).faults }
+    ensures few { IfOk result (λ _. length bits.new.items ≤ length bits.old.items + 32768) }
 {
     if n >= total {
         return Ok(false);
@@ -144,6 +149,7 @@ pub(crate) fn read_map<V: SectorView>(
     ensures reads { ReadsSpace (V.space view.old) (V.space view.new) }
     ensures below { V.follows view.old view.new }
     ensures disk { IsErrOf result Disk → Rose (V.space view.old).faults (V.space view.new).faults }
+    ensures few { IfOk result (λ _. length bits.new.items ≤ 32768 * total + 32768) }
 {
     let first = read_first(view, fork, node, marks, bits)?;
     if !first {

@@ -191,3 +191,58 @@ fn descend<V: SectorView, K: KeyOrder>(
     }
     Ok(None)
 }
+
+/// Reads the levels of a tree from its root, whose bytes these are, down to its leaves, or gives the finding.
+pub(crate) fn read_levels<V: SectorView, K: KeyOrder>(
+    alloc: Global,
+    view: &mut V,
+    fork: &Fork,
+    form: &Form,
+    total: u32,
+    height: u8,
+    root: u32,
+    node: &mut Node,
+    marks: &mut Marks,
+    level: &mut Level,
+) -> Result<Option<Finding>, Trouble>
+    requires blocks { fork.now.per_block ≤ 2 ^ 23 }
+    requires id { form.now.id < 2 ^ 16 }
+    requires some { 0 < height }
+    requires no_node { level.old.nodes.items ≡ [] }
+    requires no_record { level.old.records ≡ [] }
+    requires no_end { level.old.ends.items ≡ [] }
+    ensures right { IsTrue (V.space view.old).tells → (tree : TreeFile) → HasNodes tree
+        (λ n. node_of_fork (V.space view.old).content fork.now.limit (fork_sectors fork.now.extents.now fork.now.per_block) (length node.old) n)
+        (length node.old) total → ComesToRoot K.is_key K.is_value K.cmp tree (length node.old) total height root marks.old node.old
+        → IfOk result (λ wrong. IfNone wrong (StandsAt K.is_key K.is_value K.cmp tree (height - 1) marks.new level.new.nodes.items level.new.records level.new.ends.items)) }
+    ensures wrong { IsTrue (V.space view.old).tells → (tree : TreeFile) → HasNodes tree
+        (λ n. node_of_fork (V.space view.old).content fork.now.limit (fork_sectors fork.now.extents.now fork.now.per_block) (length node.old) n)
+        (length node.old) total → ComesToRoot K.is_key K.is_value K.cmp tree (length node.old) total height root marks.old node.old
+        → IfOk result (λ wrong. IfSome wrong (λ finding. IsBrokenTree (form_in form.now) K.is_key K.is_value K.cmp form.now.id tree (as_found finding))) }
+    ensures length { length node.new ≡ length node.old }
+    ensures reads { ReadsSpace (V.space view.old) (V.space view.new) }
+    ensures below { V.follows view.old view.new }
+    ensures disk { IsErrOf result Disk → Rose (V.space view.old).faults (V.space view.new).faults }
+{
+    if let Some(finding) = take_root::<K>(alloc, form, total, height, root, node, marks, level)? {
+        return Ok(Some(finding));
+    }
+    for above in 0..height - 1 {
+        let mut next = Level::new(alloc);
+        if let Some(finding) = descend::<V, K>(
+            view,
+            fork,
+            form,
+            total,
+            height - 1 - above,
+            level,
+            node,
+            marks,
+            &mut next,
+        )? {
+            return Ok(Some(finding));
+        }
+        *level = next;
+    }
+    Ok(None)
+}

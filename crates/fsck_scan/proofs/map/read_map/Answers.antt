@@ -16,6 +16,7 @@ returns-then-not-first-clause-wrong g c tells =
 
 pub loop-read-init : goal.loop-read-init
 loop-read-init g c = record {
+  few = omega (arith, c.in_ok-first.ensures.few, ap (λ (l : List ℕ). length l) c.requires.no_bit);
   long = c.read_first.ensures.length;
   below = c.read_first.ensures.below;
   reads = c.read_first.ensures.reads;
@@ -67,6 +68,7 @@ returns-then-not-taken-clause-wrong g c tells =
 
 pub loop-read-preserved : goal.loop-read-preserved
 loop-read-preserved g c = record {
+  few = omega (arith, c.in_ok-taken.ensures.few, c.loop-read.invariant.few);
   long = c.read_next.ensures.length ∙ c.loop-read.invariant.long;
   below = g.met.V.SectorView.follows_trans c.args.view.now c.loop-read.view c.read_next.new.view c.loop-read.invariant.below c.read_next.ensures.below;
   reads = reads_both (g.V.SectorView.space c.args.view.now) (g.V.SectorView.space c.loop-read.view) (g.V.SectorView.space c.read_next.new.view) c.loop-read.invariant.reads c.read_next.ensures.reads;

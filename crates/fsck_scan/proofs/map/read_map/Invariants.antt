@@ -1,4 +1,4 @@
-use Rattle.std.proofs.Common.{◌≡◌, IsTrue, length}
+use Rattle.std.proofs.Common.{◌≡◌, ◌≤◌, ◌+◌, ◌*◌, IsTrue, length}
 use Rattle.btree_file.specs.Frame.{ReadsSpace}
 use Rattle.btree_file.specs.Place.{fork_sectors}
 use Rattle.hfs_volume.specs.Content.{node_of_fork}
@@ -7,6 +7,7 @@ use Rattle.fsck_scan.proofs.map.read_map.Given as goal
 
 abbrev pub invariant-loop-read : goal.invariant-loop-read
 invariant-loop-read g l = record {
+  few : length l.bits.items ≤ 32768 * l._read + 32768;
   long : length l.node ≡ length l.fn.node;
   below : g.V.SectorView.follows l.fn.view l.view;
   reads : ReadsSpace (g.V.SectorView.space l.fn.view) (g.V.SectorView.space l.view);
