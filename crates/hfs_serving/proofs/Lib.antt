@@ -15,3 +15,4 @@ pub mod Staging
 pub mod Mounting
 pub mod Joining
 pub mod Grounding
+pub mod Going

@@ -7,3 +7,4 @@ pub mod Top
 pub mod Stages
 pub mod Calls
 pub mod Grounds
+pub mod Going

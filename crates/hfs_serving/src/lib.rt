@@ -2,10 +2,14 @@
 #![tactic(auto)]
 
 mod basis;
+mod durable;
 mod laws;
+mod volume;
 
 pub use basis::Ground;
+pub use durable::make_durable;
 pub use laws::{
     batches_end, commits_go_on, contents_tell_trees, entries_lead_on, mounts_serve, runs_end,
     stretches_join, touches_go_on,
 };
+pub use volume::{Next, Step, Volume};

@@ -1,0 +1,183 @@
+-- A volume that goes on within a batch.
+use Rattle.std.proofs.Common.{◌≡◌, ◌⊎◌, ◌≤◌, ◌∷◌, [], ◌++◌, ℕ, List, inl, inr, ⊎_elim, refl, sym, ◌∙◌, ap, subst}
+use Rattle.std.specs.Prelude.{Option, Result, Ok, Err, OnOk, OnErr}
+use Rattle.std.proofs.lemmas.List.{append-nil}
+use Rattle.sector_disk.specs.Space.{Space, AgreesOutside}
+use Rattle.jnl_format.specs.Recovery.{Content}
+use Rattle.hfs_volume.specs.Content.{volume_of}
+use Rattle.hfs_volume.specs.Reclaim.{Tidies, IsTidied, IsAtRest, none, one_more}
+use Rattle.hfs_volume.specs.Run.{Entry, shrunk_in, shrunk_after, replies_of}
+use Rattle.hfs_serving.specs.Going.{Knowing, Stands, Stays, Tidied, Answered, GoesTidy, GoesRested, GoesOn, GoesWhole, StopsOn}
+use Rattle.hfs_serving.specs.Outside.{Outside}
+use Rattle.hfs_serving.specs.Runs.{Leads, LeadsToRest}
+use Rattle.hfs_serving.specs.Serving.{IsDurable, IsRead, IsAsDurable, Touches, MayCommit, Commits, Goes, Stops}
+use Rattle.hfs_serving.proofs.Agreeing.{committed_below, committed_reads}
+use Rattle.hfs_serving.proofs.Lists.{shrunk_in-none, shrunk_in-one, shrunk_in-append, replies_of-none, replies_of-append}
+use Rattle.hfs_serving.proofs.Leading.{leads_none, leads_on, leads_entry, leads_of_rest, leads_rest, place_none, rest_on}
+use Rattle.hfs_serving.proofs.Batches.{goes_none, goes_both, goes_stops, touched_on, stops_there}
+use Rattle.hfs_serving.proofs.Joining.{commit_goes_here, commit_stops_here, touch_stops_here}
+
+-- ---- whatever the answer
+
+pub on_err : {T E P : Type 0} (r : Result T E) → P → OnErr r P
+on_err (Ok x) p = tt
+on_err (Err e) p = p
+
+pub on_ok : {T E P Q : Type 0} (r : Result T E) → (P → Q) → OnOk r P → OnOk r Q
+on_ok (Ok x) goes p = goes p
+on_ok (Err e) goes p = tt
+
+-- ---- a stretch without an entry
+
+module _ (capacity : ℕ) (shrunk : Option ℕ) (committed now : Content) (old : Outside) where
+  pub begins : (knows : Knowing) (space : Space) → Stands knows committed now shrunk space old → GoesTidy capacity knows committed now shrunk old space old
+  begins knows space stands = record { last = committed; next = now; goes = goes_none capacity shrunk committed now old space stands.below stands.reads stands.leaves; heads = stands.heads; known = stands.known }
+
+  module _ (knows : Knowing) (space : Space) (mid : Outside) (goes : GoesTidy capacity knows committed now shrunk old space mid) where
+    -- where it stands now
+    pub stands_there : Stands knows goes.last goes.next shrunk space mid
+    stands_there = record { known = goes.known; below = goes.goes.below; reads = goes.goes.reads; heads = goes.heads; leaves = goes.goes.leaves }
+
+    -- it only looked
+    pub looks_tidy : (knows_new : Knowing) (new : Space) (after : Outside) → Touches goes.last space mid new after → Stays knows_new goes.last goes.next shrunk new → GoesTidy capacity knows_new committed now shrunk old new after
+    looks_tidy knows_new new after touches stays = record {
+      last = goes.last;
+      next = goes.next;
+      goes = touched_on capacity shrunk committed now old [] [] goes.last goes.next space mid goes.goes new after touches goes.goes.leads stays.reads;
+      heads = stays.heads;
+      known = stays.known;
+    }
+
+    -- a step of housekeeping
+    tidied_step : (next : Content) → IsTidied capacity shrunk goes.next next → Tidies capacity (shrunk_in shrunk []) goes.next next
+    tidied_step next step = one_more goes.next next next (subst (λ (s : Option ℕ). IsTidied capacity s goes.next next) (sym (shrunk_in-none shrunk)) step) (none next)
+
+    pub touches_tidy : (knows_new : Knowing) (new : Space) (after : Outside) → Touches goes.last space mid new after → (tidied : Tidied capacity knows_new goes.last goes.next shrunk new) → GoesTidy capacity knows_new committed now shrunk old new after
+    touches_tidy knows_new new after touches tidied = record {
+      last = goes.last;
+      next = tidied.next;
+      goes =
+          touched_on capacity shrunk committed now old [] [] goes.last goes.next space mid goes.goes new after touches
+          (leads_on capacity shrunk now [] goes.next tidied.next goes.goes.leads (tidied_step tidied.next tidied.tidied) tidied.place) tidied.reads;
+      heads = tidied.heads;
+      known = tidied.known;
+    }
+
+    -- a commit
+    pub commits_tidy : (knows_new : Knowing) (new : Space) (after : Outside) → Commits space mid new after → Stays knows_new goes.next goes.next shrunk new → GoesTidy capacity knows_new committed now shrunk old new after
+    commits_tidy knows_new new after commits stays = record {
+      last = goes.next;
+      next = goes.next;
+      goes = commit_goes_here capacity shrunk committed now old [] goes.last goes.next space mid goes.goes new after commits;
+      heads = stays.heads;
+      known = stays.known;
+    }
+
+    -- a fault in a call that put and spilled, or in a commit
+    pub touch_stops_tidy : (new : Space) (after : Outside) → Touches goes.last space mid new after → StopsOn capacity committed now shrunk old after
+    touch_stops_tidy new after touches = record { more = []; stops = touch_stops_here capacity shrunk committed now old [] goes.last goes.next space mid goes.goes new after touches }
+
+    pub commit_stops_tidy : (after : Outside) → MayCommit space mid after → StopsOn capacity committed now shrunk old after
+    commit_stops_tidy after may = record { more = []; stops = commit_stops_here capacity shrunk committed now old [] goes.last goes.next space mid goes.goes after may }
+
+    -- it came to rest
+    pub rests_tidy : IsAtRest capacity shrunk (volume_of goes.next) → GoesRested capacity knows committed now shrunk old space mid
+    rests_tidy at_rest = record {
+      tidy = goes;
+      rests = leads_rest capacity shrunk now [] goes.next goes.goes.leads (subst (λ (s : Option ℕ). IsAtRest capacity s (volume_of goes.next)) (sym (shrunk_in-none shrunk)) at_rest);
+    }
+
+    -- a stretch behind it
+    pub tidy_both : (knows_new : Knowing) (new : Space) (after : Outside) → GoesTidy capacity knows_new goes.last goes.next shrunk mid new after → GoesTidy capacity knows_new committed now shrunk old new after
+    tidy_both knows_new new after second =
+        let behind : Goes capacity (shrunk_in shrunk []) goes.last goes.next mid [] second.last second.next new after =
+        subst (λ (s : Option ℕ). Goes capacity s goes.last goes.next mid [] second.last second.next new after) (sym (shrunk_in-none shrunk)) second.goes in
+        record { last = second.last; next = second.next; goes = goes_both capacity shrunk committed now old [] [] goes.last goes.next space mid goes.goes second.last second.next new after behind; heads = second.heads; known = second.known }
+
+    pub tidy_stops : (after : Outside) → StopsOn capacity goes.last goes.next shrunk mid after → StopsOn capacity committed now shrunk old after
+    tidy_stops after second =
+        let behind : Stops capacity (shrunk_in shrunk []) goes.last goes.next mid second.more after =
+        subst (λ (s : Option ℕ). Stops capacity s goes.last goes.next mid second.more after) (sym (shrunk_in-none shrunk)) second.stops in
+        record { more = second.more; stops = goes_stops capacity shrunk committed now old [] second.more goes.last goes.next space mid goes.goes after behind }
+
+  -- ---- behind rest
+
+  module _ (knows : Knowing) (space : Space) (mid : Outside) (rested : GoesRested capacity knows committed now shrunk old space mid) where
+    pub rested_looks : (knows_new : Knowing) (new : Space) (after : Outside) → Touches rested.tidy.last space mid new after → Stays knows_new rested.tidy.last rested.tidy.next shrunk new → GoesRested capacity knows_new committed now shrunk old new after
+    unfolding looks_tidy
+    rested_looks knows_new new after touches stays = record { tidy = looks_tidy knows space mid rested.tidy knows_new new after touches stays; rests = rested.rests }
+
+    pub rested_tidy : (knows_new : Knowing) (new : Space) (after : Outside) → Touches rested.tidy.last space mid new after → (tidied : Tidied capacity knows_new rested.tidy.last rested.tidy.next shrunk new) → GoesRested capacity knows_new committed now shrunk old new after
+    unfolding touches_tidy
+    rested_tidy knows_new new after touches tidied = record {
+      tidy = touches_tidy knows space mid rested.tidy knows_new new after touches tidied;
+      rests = rest_on capacity shrunk now [] rested.tidy.next tidied.next rested.rests (tidied_step knows space mid rested.tidy tidied.next tidied.tidied) tidied.place;
+    }
+
+    pub rested_commits : (knows_new : Knowing) (new : Space) (after : Outside) → Commits space mid new after → Stays knows_new rested.tidy.next rested.tidy.next shrunk new → GoesRested capacity knows_new committed now shrunk old new after
+    unfolding commits_tidy
+    rested_commits knows_new new after commits stays = record { tidy = commits_tidy knows space mid rested.tidy knows_new new after commits stays; rests = rested.rests }
+
+    -- a line was answered
+    pub rested_answers : (knows_new : Knowing) (line text : List ℕ) (new : Space) (after : Outside) → Touches rested.tidy.last space mid new after → Answered capacity knows_new rested.tidy.last rested.tidy.next shrunk new line text
+        → GoesOn capacity knows_new committed now shrunk old text new after
+    rested_answers knows_new line text new after touches answered =
+        let first = rested.tidy in
+        let leads : Leads capacity shrunk now (answered.entry ∷ []) answered.entry.after = leads_entry capacity shrunk now [] first.next answered.entry rested.rests answered.before answered.served answered.place in
+        record {
+          more = answered.entry ∷ [];
+          last = first.last;
+          next = answered.entry.after;
+          goes = touched_on capacity shrunk committed now old [] (answered.entry ∷ []) first.last first.next space mid first.goes new after touches leads answered.reads;
+          heads = answered.heads;
+          known = subst (λ (s : Option ℕ). knows_new first.last answered.entry.after s) (sym (shrunk_in-one shrunk answered.entry)) answered.known;
+          told = answered.told;
+        }
+
+-- ---- with entries
+
+module _ (capacity : ℕ) (shrunk : Option ℕ) (committed now : Content) (old : Outside) where
+  pub on_none : (knows : Knowing) (space : Space) → Stands knows committed now shrunk space old → GoesOn capacity knows committed now shrunk old [] space old
+  on_none knows space stands = record {
+    more = [];
+    last = committed;
+    next = now;
+    goes = goes_none capacity shrunk committed now old space stands.below stands.reads stands.leaves;
+    heads = stands.heads;
+    known = subst (λ (s : Option ℕ). knows committed now s) (sym (shrunk_in-none shrunk)) stands.known;
+    told = replies_of-none;
+  }
+
+  module _ (knows : Knowing) (text : List ℕ) (space : Space) (mid : Outside) (goes : GoesOn capacity knows committed now shrunk old text space mid) where
+    pub stands_on_there : Stands knows goes.last goes.next (shrunk_in shrunk goes.more) space mid
+    stands_on_there = record { known = goes.known; below = goes.goes.below; reads = goes.goes.reads; heads = goes.heads; leaves = goes.goes.leaves }
+
+    pub on_both : (knows_new : Knowing) (then : List ℕ) (new : Space) (after : Outside) → GoesOn capacity knows_new goes.last goes.next (shrunk_in shrunk goes.more) mid then new after → GoesOn capacity knows_new committed now shrunk old (text ++ then) new after
+    on_both knows_new then new after second = record {
+      more = goes.more ++ second.more;
+      last = second.last;
+      next = second.next;
+      goes = goes_both capacity shrunk committed now old goes.more second.more goes.last goes.next space mid goes.goes second.last second.next new after second.goes;
+      heads = second.heads;
+      known = subst (λ (s : Option ℕ). knows_new second.last second.next s) (sym (shrunk_in-append shrunk goes.more second.more)) second.known;
+      told = replies_of-append goes.more second.more ∙ ap (λ (l : List ℕ). l ++ replies_of second.more) goes.told ∙ ap (λ (l : List ℕ). text ++ l) second.told;
+    }
+
+    pub on_stops : (after : Outside) → StopsOn capacity goes.last goes.next (shrunk_in shrunk goes.more) mid after → StopsOn capacity committed now shrunk old after
+    on_stops after second = record { more = goes.more ++ second.more; stops = goes_stops capacity shrunk committed now old goes.more second.more goes.last goes.next space mid goes.goes after second.stops }
+
+    pub commit_stops_on : (after : Outside) → MayCommit space mid after → StopsOn capacity committed now shrunk old after
+    commit_stops_on after may = record { more = goes.more; stops = commit_stops_here capacity shrunk committed now old goes.more goes.last goes.next space mid goes.goes after may }
+
+-- ---- the end of a batch
+
+pub whole_batch : (capacity : ℕ) (shrunk : Option ℕ) (start : Content) (old : Outside) (knows : Knowing) (text : List ℕ) (space : Space) (mid : Outside) (goes : GoesOn capacity knows start start shrunk old text space mid) (knows_new : Knowing) (new : Space) (after : Outside)
+    → Commits space mid new after → Stays knows_new goes.next goes.next (shrunk_in shrunk goes.more) new → GoesWhole capacity knows_new start shrunk old text new after
+whole_batch capacity shrunk start old knows text space mid goes knows_new new after commits stays = record {
+  run = goes.more;
+  now = goes.next;
+  goes = commit_goes_here capacity shrunk start start old goes.more goes.last goes.next space mid goes.goes new after commits;
+  heads = stays.heads;
+  known = stays.known;
+  told = goes.told;
+}

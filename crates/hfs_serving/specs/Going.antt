@@ -1,0 +1,111 @@
+-- A volume that goes on within a batch: what it stands for, and what its calls make of it.
+use Rattle.std.specs.Prelude.{◌≡◌, ℕ, List, [], ◌∷◌, ◌++◌, Option}
+use Rattle.sector_disk.specs.Space.{Space}
+use Rattle.jnl_format.specs.Recovery.{Content}
+use Rattle.hfs_volume.specs.Content.{volume_of}
+use Rattle.hfs_volume.specs.Reclaim.{IsTidied, IsAtRest}
+use Rattle.hfs_volume.specs.Run.{Entry, IsServed, shrunk_in, shrunk_after, replies_of}
+use Rattle.hfs_serving.specs.Grounds.{KeepsHeading}
+use Rattle.hfs_serving.specs.Outside.{Outside}
+use Rattle.hfs_serving.specs.Runs.{KeepsPlace, LeadsToRest}
+use Rattle.hfs_serving.specs.Serving.{IsDurable, IsRead, IsAsDurable, Goes, Stops}
+use Rattle.hfs_serving.specs.declared.volume.Next.{Next}
+use Rattle.hfs_serving.specs.declared.volume.Next.TheVariants as next
+use Rattle.hfs_serving.specs.declared.volume.Step.{Step}
+use Rattle.hfs_serving.specs.declared.volume.Step.TheVariants as step
+
+-- what a volume knows of itself: what was committed last, what it stands for, and the file that was shrunk last
+abbrev pub Knowing : Type 1
+Knowing = Content → Content → Option ℕ → Type 0
+
+-- The volume stands for this content over its space, on which that content was committed last.
+pub record Stands (knows : Knowing) (committed now : Content) (shrunk : Option ℕ) (space : Space) (outside : Outside) : Type 0 where
+  pub known : knows committed now shrunk
+  pub below : IsDurable committed space
+  pub reads : IsRead now space
+  pub heads : KeepsHeading space
+  pub leaves : (recovered : Content) → outside.leaves recovered → IsAsDurable space recovered
+
+-- for some capacity, contents and shrunk file it does
+abbrev pub SomeStands : (ℕ → Knowing) → Space → Outside → Type 0
+SomeStands knows space outside = (capacity : ℕ) × (committed : Content) × (now : Content) × (shrunk : Option ℕ) × Stands (knows capacity) committed now shrunk space outside
+
+-- ---- what one call makes
+
+-- it only looked
+pub record Stays (knows : Knowing) (committed now : Content) (shrunk : Option ℕ) (space : Space) : Type 0 where
+  pub reads : IsRead now space
+  pub heads : KeepsHeading space
+  pub known : knows committed now shrunk
+
+-- a step of housekeeping was made
+pub record Tidied (capacity : ℕ) (knows : Knowing) (committed now : Content) (shrunk : Option ℕ) (space : Space) : Type 0 where
+  pub next : Content
+  pub tidied : IsTidied capacity shrunk now next
+  pub place : KeepsPlace now next
+  pub reads : IsRead next space
+  pub heads : KeepsHeading space
+  pub known : knows committed next shrunk
+
+-- a line was answered, and its reply is this text
+pub record Answered (capacity : ℕ) (knows : Knowing) (committed now : Content) (shrunk : Option ℕ) (space : Space) (line text : List ℕ) : Type 0 where
+  pub entry : Entry
+  pub line_is : entry.line ≡ line
+  pub before : entry.before ≡ now
+  pub served : IsServed capacity entry
+  pub place : KeepsPlace now entry.after
+  pub reads : IsRead entry.after space
+  pub heads : KeepsHeading space
+  pub known : knows committed entry.after (shrunk_after shrunk entry)
+  pub told : replies_of (entry ∷ []) ≡ text
+
+-- what a step of housekeeping answers
+abbrev pub TidiesTo : Next → ℕ → Knowing → Content → Content → Option ℕ → Space → Type 0
+TidiesTo next.Rest capacity knows committed now shrunk space = Stays knows committed now shrunk space × IsAtRest capacity shrunk (volume_of now)
+TidiesTo next.Made capacity knows committed now shrunk space = Tidied capacity knows committed now shrunk space
+TidiesTo next.CommitFirst capacity knows committed now shrunk space = Stays knows committed now shrunk space
+
+-- what a step of a line answers: the line was answered, a step of housekeeping was made for it, or a commit is wanted first
+abbrev pub AnswersTo : Step → ℕ → Knowing → Content → Content → Option ℕ → Space → List ℕ → List ℕ → List ℕ → Type 0
+AnswersTo step.Answered capacity knows committed now shrunk space line before after = (text : List ℕ) × (after ≡ before ++ text) × Answered capacity knows committed now shrunk space line text
+AnswersTo step.Again capacity knows committed now shrunk space line before after = (after ≡ before) × Tidied capacity knows committed now shrunk space
+AnswersTo step.CommitFirst capacity knows committed now shrunk space line before after = (after ≡ before) × Stays knows committed now shrunk space
+
+-- ---- stretches within a batch
+
+-- Its entries' replies are these bytes.
+pub record GoesOn (capacity : ℕ) (knows : Knowing) (committed now : Content) (shrunk : Option ℕ) (old : Outside) (text : List ℕ) (space : Space) (new : Outside) : Type 0 where
+  pub more : List Entry
+  pub last : Content
+  pub next : Content
+  pub goes : Goes capacity shrunk committed now old more last next space new
+  pub heads : KeepsHeading space
+  pub known : knows last next (shrunk_in shrunk more)
+  pub told : replies_of more ≡ text
+
+-- without an entry
+pub record GoesTidy (capacity : ℕ) (knows : Knowing) (committed now : Content) (shrunk : Option ℕ) (old : Outside) (space : Space) (new : Outside) : Type 0 where
+  pub last : Content
+  pub next : Content
+  pub goes : Goes capacity shrunk committed now old [] last next space new
+  pub heads : KeepsHeading space
+  pub known : knows last next shrunk
+
+-- without an entry, and housekeeping came to rest on the way
+pub record GoesRested (capacity : ℕ) (knows : Knowing) (committed now : Content) (shrunk : Option ℕ) (old : Outside) (space : Space) (new : Outside) : Type 0 where
+  pub tidy : GoesTidy capacity knows committed now shrunk old space new
+  pub rests : LeadsToRest capacity shrunk now [] tidy.next
+
+-- a stretch that a fault ended, after some entries
+pub record StopsOn (capacity : ℕ) (committed now : Content) (shrunk : Option ℕ) (old : Outside) (new : Outside) : Type 0 where
+  pub more : List Entry
+  pub stops : Stops capacity shrunk committed now old more new
+
+-- All that the volume stands for is committed, and nothing of it is told: these are the replies.
+pub record GoesWhole (capacity : ℕ) (knows : Knowing) (start : Content) (shrunk : Option ℕ) (old : Outside) (text : List ℕ) (space : Space) (new : Outside) : Type 0 where
+  pub run : List Entry
+  pub now : Content
+  pub goes : Goes capacity shrunk start start old run now now space new
+  pub heads : KeepsHeading space
+  pub known : knows now now (shrunk_in shrunk run)
+  pub told : replies_of run ≡ text

@@ -1,0 +1,75 @@
+//! A volume that is served within batches, as its server sees it.
+ghost use Rattle.std.specs.Prelude.{◌≡◌, ◌≤◌, ℕ, Option, IsTrue, IfOk, OnOk};
+ghost use Rattle.sector_disk.specs.Space.{Space};
+ghost use Rattle.jnl_format.specs.Recovery.{Content};
+ghost use Rattle.hfs_serving.specs.Going.{SomeStands, Stands, Stays, TidiesTo, AnswersTo};
+ghost use Rattle.hfs_serving.specs.Serving.{Commits, MayCommit, Touches};
+
+use crate::basis::Ground;
+use hx_bytes::{Bytes, Trouble};
+
+/// What a step of housekeeping came to.
+#[derive(Clone, Copy, PartialEq, Eq)]
+pub enum Next {
+    /// Nothing is left to reclaim, or something is missing for the next step.
+    Rest,
+    Made,
+    /// The next step wants a commit before it.
+    CommitFirst,
+}
+
+/// What a step of a line came to.
+#[derive(Clone, Copy, PartialEq, Eq)]
+pub enum Step {
+    Answered,
+    /// A file lost blocks past its size; the line is to be tried again.
+    Again,
+    /// The line wants a commit before it.
+    CommitFirst,
+}
+
+/// A volume in service. Each call wants room for what it puts in the transaction, and answers `CommitFirst` where there is too little.
+pub trait Volume {
+    /// What it knows of itself over a space: how many sectors a transaction holds, what was committed last, what it stands for, and the file
+    /// that was shrunk last.
+    ghost knows: { Self → Space → ℕ → Content → Content → Option ℕ → Type 0 };
+
+    /// Makes the next step of housekeeping.
+    fn tidy_step<G: Ground>(&mut self, base: &mut G) -> Result<Next, Trouble>
+        requires serves { (capacity : ℕ) × G.serves base.old capacity × (G.taken base.old ≤ capacity) }
+        requires stands { IsTrue (G.space base.old).tells → SomeStands (knows self.old (G.space base.old)) (G.space base.old) (G.outside base.old) }
+        // On an answer and on a fault it has put sectors, and spilled into blocks that are free in what was committed last.
+        ensures touches { IsTrue (G.space base.old).tells → (capacity : ℕ) (committed now : Content) (shrunk : Option ℕ) → Stands (knows self.old (G.space base.old) capacity) committed now shrunk (G.space base.old) (G.outside base.old)
+            → Touches committed (G.space base.old) (G.outside base.old) (G.space base.new) (G.outside base.new) }
+        ensures tidied { IsTrue (G.space base.old).tells → (capacity : ℕ) (committed now : Content) (shrunk : Option ℕ) → Stands (knows self.old (G.space base.old) capacity) committed now shrunk (G.space base.old) (G.outside base.old)
+            → IfOk result (λ next. TidiesTo next capacity (knows self.new (G.space base.new) capacity) committed now shrunk (G.space base.new)) }
+        ensures still { (capacity : ℕ) → G.serves base.old capacity → G.taken base.old ≤ capacity → OnOk result (G.serves base.new capacity × (G.taken base.new ≤ capacity)) }
+        ensures tells { (G.space base.new).tells ≡ (G.space base.old).tells };
+
+    /// Answers a line, and adds the text of its reply. Where memory is missing, that is its reply.
+    fn answer<G: Ground>(
+        &mut self,
+        base: &mut G,
+        line: &[u8],
+        replies: &mut Bytes,
+    ) -> Result<Step, Trouble>
+        requires serves { (capacity : ℕ) × G.serves base.old capacity × (G.taken base.old ≤ capacity) }
+        requires stands { IsTrue (G.space base.old).tells → SomeStands (knows self.old (G.space base.old)) (G.space base.old) (G.outside base.old) }
+        ensures touches { IsTrue (G.space base.old).tells → (capacity : ℕ) (committed now : Content) (shrunk : Option ℕ) → Stands (knows self.old (G.space base.old) capacity) committed now shrunk (G.space base.old) (G.outside base.old)
+            → Touches committed (G.space base.old) (G.outside base.old) (G.space base.new) (G.outside base.new) }
+        ensures answered { IsTrue (G.space base.old).tells → (capacity : ℕ) (committed now : Content) (shrunk : Option ℕ) → Stands (knows self.old (G.space base.old) capacity) committed now shrunk (G.space base.old) (G.outside base.old)
+            → IfOk result (λ step. AnswersTo step capacity (knows self.new (G.space base.new) capacity) committed now shrunk (G.space base.new) line.now replies.old replies.new) }
+        ensures still { (capacity : ℕ) → G.serves base.old capacity → G.taken base.old ≤ capacity → OnOk result (G.serves base.new capacity × (G.taken base.new ≤ capacity)) }
+        ensures tells { (G.space base.new).tells ≡ (G.space base.old).tells };
+
+    /// Makes all durable, and nothing is held any more.
+    fn commit<G: Ground>(&mut self, base: &mut G) -> Result<(), Trouble>
+        requires serves { (capacity : ℕ) × G.serves base.old capacity × (G.taken base.old ≤ capacity) }
+        requires stands { IsTrue (G.space base.old).tells → SomeStands (knows self.old (G.space base.old)) (G.space base.old) (G.outside base.old) }
+        ensures crash { IsTrue (G.space base.old).tells → MayCommit (G.space base.old) (G.outside base.old) (G.outside base.new) }
+        ensures done { IsTrue (G.space base.old).tells → OnOk result (Commits (G.space base.old) (G.outside base.old) (G.space base.new) (G.outside base.new)) }
+        ensures knows { IsTrue (G.space base.old).tells → (capacity : ℕ) (committed now : Content) (shrunk : Option ℕ) → Stands (knows self.old (G.space base.old) capacity) committed now shrunk (G.space base.old) (G.outside base.old)
+            → OnOk result (Stays (knows self.new (G.space base.new) capacity) now now shrunk (G.space base.new)) }
+        ensures still { (capacity : ℕ) → G.serves base.old capacity → OnOk result (G.serves base.new capacity × (G.taken base.new ≡ 0)) }
+        ensures tells { OnOk result ((G.space base.new).tells ≡ (G.space base.old).tells) };
+}
