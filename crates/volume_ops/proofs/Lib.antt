@@ -1,0 +1,10 @@
+pub mod Alike
+pub mod Bridging
+pub mod Facts
+pub mod Gauging
+pub mod NodesRead
+pub mod Opened
+pub mod Placing
+pub mod Seeing
+pub mod SoundForks
+pub mod Stood

@@ -1,0 +1,12 @@
+//! A whole volume in service, over any space of sectors.
+#![tactic(auto)]
+
+mod attaching;
+mod extents;
+mod header;
+mod keeping;
+mod names;
+mod room;
+mod volume;
+
+pub use volume::Volume;
