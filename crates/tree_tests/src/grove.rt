@@ -4,12 +4,12 @@ ghost use Rattle.btree_node.specs.Node.{IsNodeSize};
 ghost use Rattle.btree_node.specs.Mem.{mem_state};
 ghost use Rattle.btree_node.specs.Store.{HasRoom};
 ghost use Rattle.btree_edit.specs.Desk.{IsDeskOf};
-ghost use Rattle.tree_tests.specs.Untold.{untold};
+ghost use Rattle.node_kit.specs.Untold.{untold};
 
-use crate::Untold;
 use btree_edit::{Desk, Found, Inserted, Removed, find, insert, next, remove, replace};
-use btree_node::{KeyOrder, MemNodes, Node, NodeStore, TreeShape};
+use btree_node::{KeyOrder, Node, NodeStore, TreeShape};
 use hx_bytes::OutOfMemory;
+use node_kit::Untold;
 use std::alloc::Global;
 
 /// A tree, and a desk for it.
@@ -27,14 +27,10 @@ impl Grove {
         requires size { IsNodeSize node_size }
         requires some { 0 < total }
     {
-        let nodes = MemNodes::new(alloc, node_size, total)?;
+        let store = Untold::new(alloc, node_size, total)?;
         let desk = Desk::new(alloc, node_size)?;
         let page = Node::new(alloc, node_size)?;
-        Ok(Grove {
-            store: Untold { nodes },
-            desk,
-            page,
-        })
+        Ok(Grove { store, desk, page })
     }
 
     /// The numbers of the tree's header.

@@ -8,11 +8,9 @@ mod looking;
 mod planting;
 #[cfg(test)]
 mod tests;
-mod untold;
 
 pub use edits::{add, change, step_through, take_out};
 pub use grove::Grove;
 pub use keys::{Kind, key_of, value_of};
 pub use looking::{Flaw, Wanted, look};
 pub use planting::plant;
-pub use untold::Untold;

@@ -5,6 +5,7 @@ use Rattle.btree_node.specs.MemLaws.{mem_well_formed}
 use Rattle.btree_node.specs.Store.{Store, IsWellFormed}
 use Rattle.btree_node.specs.declared.mem.MemNodes.{MemNodes}
 
+-- this store, where it doesn't tell the bytes of its nodes
 abbrev pub untold : Store → Store
 untold store = record store { tells = false }
 

@@ -1,0 +1,115 @@
+//! Attributes over nodes in memory, whose calls are made only where what they need holds.
+ghost use Rattle.std.specs.Prelude.{◌≡◌, ◌≤◌, ℕ, IsTrue, length};
+ghost use Rattle.btree_node.specs.Mem.{mem_state};
+ghost use Rattle.btree_edit.specs.Desk.{IsDeskOf};
+ghost use Rattle.btree_edit.specs.Edits.{EditRoom};
+ghost use Rattle.node_kit.specs.Untold.{untold};
+
+use crate::stop::Stop;
+use attributes::{SetAnswer, delete, drop_all, get, list, set};
+use btree_edit::Desk;
+use btree_node::{NodeStore, TreeShape};
+use hx_bytes::{Bytes, Names, Units};
+use node_kit::Untold;
+use std::alloc::Global;
+
+/// Attributes, and a desk for their tree.
+#[derive(Drop)]
+pub struct Drawer {
+    store: Untold,
+    desk: Desk,
+    ghost fits: { IsDeskOf (mem_state store.nodes).shape.node_size desk },
+}
+
+impl Drawer {
+    /// A tree without an attribute, of so many nodes of 4,096 bytes.
+    pub fn of_4096(alloc: Global, nodes: u16) -> Result<Drawer, Stop> {
+        let store = Untold::new(alloc, 4096, u32::from(nodes) + 1)?;
+        let desk = Desk::new(alloc, 4096)?;
+        Ok(Drawer { store, desk })
+    }
+
+    /// A tree without an attribute, of so many nodes of 8,192 bytes.
+    pub fn of_8192(alloc: Global, nodes: u16) -> Result<Drawer, Stop> {
+        let store = Untold::new(alloc, 8192, u32::from(nodes) + 1)?;
+        let desk = Desk::new(alloc, 8192)?;
+        Ok(Drawer { store, desk })
+    }
+
+    /// The numbers of the tree's header.
+    pub fn shape(&self) -> TreeShape {
+        self.store.shape()
+    }
+
+    /// How many nodes were read.
+    pub fn count_loads(&self) -> u64 {
+        self.store.count_loads()
+    }
+
+    /// Whether a call of so many edits may be made.
+    fn has_room(&self, edits: u32) -> bool
+        ensures size { IsTrue result → 4096 ≤ (mem_state self.now.store.nodes).shape.node_size }
+        ensures room { IsTrue result → (longest : ℕ) → EditRoom edits longest (untold (mem_state self.now.store.nodes)) }
+    {
+        if self.store.shape().node_size < 4096 {
+            return false;
+        }
+        self.store.has_room_for(edits)
+    }
+
+    /// Gives an attribute a value.
+    pub fn set(
+        &mut self,
+        alloc: Global,
+        id: u32,
+        name: &Units,
+        value: &[u8],
+    ) -> Result<SetAnswer, Stop> {
+        if !is_name(name) || !self.has_room(2) {
+            return Err(Stop::Room);
+        }
+        let answer = set(alloc, &mut self.store, &mut self.desk, id, name, value)?;
+        Ok(answer)
+    }
+
+    /// Removes an attribute.
+    pub fn delete(&mut self, alloc: Global, id: u32, name: &Units) -> Result<SetAnswer, Stop> {
+        if !is_name(name) || !self.has_room(1) {
+            return Err(Stop::Room);
+        }
+        let answer = delete(alloc, &mut self.store, &mut self.desk, id, name)?;
+        Ok(answer)
+    }
+
+    /// The value of an attribute.
+    pub fn get(&mut self, alloc: Global, id: u32, name: &Units) -> Result<Option<Bytes>, Stop> {
+        if !is_name(name) {
+            return Err(Stop::Room);
+        }
+        let found = get(alloc, &mut self.store, &mut self.desk, id, name)?;
+        Ok(found)
+    }
+
+    /// The names of the attributes of a folder or file.
+    pub fn names(&mut self, alloc: Global, id: u32) -> Result<Names, Stop> {
+        let names = list(alloc, &mut self.store, &mut self.desk, id)?;
+        Ok(names)
+    }
+
+    /// Removes the attributes of a folder or file, so many at most, and answers how many there were.
+    pub fn drop_all(&mut self, alloc: Global, id: u32, most: u32) -> Result<u32, Stop> {
+        if !self.has_room(most) {
+            return Err(Stop::Room);
+        }
+        let dropped = drop_all(alloc, &mut self.store, &mut self.desk, id, most)?;
+        Ok(dropped)
+    }
+}
+
+/// Whether a name has a length that attributes take.
+fn is_name(name: &Units) -> bool
+    ensures some { IsTrue result → 1 ≤ length name.now }
+    ensures most { IsTrue result → length name.now ≤ 127 }
+{
+    !name.is_empty() && name.len() <= 127
+}
