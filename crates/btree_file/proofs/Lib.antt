@@ -33,3 +33,4 @@ pub mod KeptBlocks
 pub mod SumLaws
 pub mod Refreshed
 pub mod Grown
+pub mod GrowthRows
