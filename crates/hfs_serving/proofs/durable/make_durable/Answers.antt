@@ -29,7 +29,7 @@ returns-in-Err-clause-crash g c tells =
     let store = c.args.store.now in
     let disk = g.D.SectorDisk.state c.args.disk.now in
     let serves = c.requires.serves.1 in
-    commit_leaves 0 1 store c.commit.new.self disk (g.D.SectorDisk.state c.commit.new.disk) c.requires.serves.0 (g.D.SectorDisk.well_formed c.args.disk.now) serves (keeps_tells 0 1 store disk (serves.keeps tells)) c.commit.ensures.crash
+    commit_leaves 0 1 store c.commit.new.self disk (g.D.SectorDisk.state c.commit.new.disk) c.requires.serves.0 (g.met.D.SectorDisk.well_formed c.args.disk.now) serves (keeps_tells 0 1 store disk (serves.keeps tells)) c.commit.ensures.crash
     (λ some. let failed = c.commit.ensures.failed some in (failed.1, failed.2)) c.commit.ensures.sink c.commit.ensures.journal
 
 pub returns-in-Ok-clause-crash : goal.returns-in-Ok-clause-crash
@@ -37,7 +37,7 @@ returns-in-Ok-clause-crash g c tells =
     let store = c.args.store.now in
     let disk = g.D.SectorDisk.state c.args.disk.now in
     let serves = c.requires.serves.1 in
-    commit_leaves 0 1 store c.commit.new.self disk (g.D.SectorDisk.state c.commit.new.disk) c.requires.serves.0 (g.D.SectorDisk.well_formed c.args.disk.now) serves (keeps_tells 0 1 store disk (serves.keeps tells)) c.commit.ensures.crash
+    commit_leaves 0 1 store c.commit.new.self disk (g.D.SectorDisk.state c.commit.new.disk) c.requires.serves.0 (g.met.D.SectorDisk.well_formed c.args.disk.now) serves (keeps_tells 0 1 store disk (serves.keeps tells)) c.commit.ensures.crash
     (λ some. let failed = c.commit.ensures.failed some in (failed.1, failed.2)) c.commit.ensures.sink c.commit.ensures.journal
 
 pub returns-in-Ok-clause-done : goal.returns-in-Ok-clause-done
@@ -46,7 +46,7 @@ returns-in-Ok-clause-done g c tells =
     let disk = g.D.SectorDisk.state c.args.disk.now in
     let serves = c.requires.serves.1 in
     let none : faults_of store ≡ 0 = zero_is (faults_of store) (λ some. let failed = (c.commit.ensures.failed some).0 in let is = c.in-Ok.is in absurd (cc (failed, is))) in
-    commit_makes 0 1 store c.commit.new.self disk (g.D.SectorDisk.state c.commit.new.disk) c.requires.serves.0 (g.D.SectorDisk.well_formed c.args.disk.now) serves (keeps_tells 0 1 store disk (serves.keeps tells)) (c.commit.ensures.crash none tells) c.commit.ensures.sink
+    commit_makes 0 1 store c.commit.new.self disk (g.D.SectorDisk.state c.commit.new.disk) c.requires.serves.0 (g.met.D.SectorDisk.well_formed c.args.disk.now) serves (keeps_tells 0 1 store disk (serves.keeps tells)) (c.commit.ensures.crash none tells) c.commit.ensures.sink
     (c.in-Ok.ensures.done none tells) c.in-Ok.ensures.nothing.0 c.commit.ensures.journal
 
 pub returns-in-Ok-clause-heads : goal.returns-in-Ok-clause-heads
