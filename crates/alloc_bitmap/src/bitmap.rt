@@ -10,7 +10,7 @@ ghost use Rattle.fork_map.specs.Cut.{front};
 use crate::holds::Holds;
 use crate::log::Used;
 use flag_rows::{Bits, Row};
-use fork_map::ExtentList;
+use fork_map::{ExtentList, SummedFork};
 use hx_bytes::{Extent, OutOfMemory};
 use std::alloc::Global;
 use std::marker::Model;
@@ -23,7 +23,7 @@ pub struct Bitmap {
     /// Which blocks are used or held.
     taken: Row,
     pub(crate) changed: Bits,
-    pub(crate) fork: ExtentList,
+    pub(crate) fork: SummedFork,
     pub(crate) block: u32,
 }
 
@@ -43,7 +43,7 @@ impl Bitmap {
     pub(crate) fn of_bits(
         alloc: Global,
         bits: Bits,
-        fork: ExtentList,
+        fork: SummedFork,
         block: u32,
     ) -> Result<Bitmap, OutOfMemory>
         ensures { IfOk result (λ map. map ≡ record { used = bits; held = none (length bits); changed = none (sectors_for (length bits)); kept_used = bits; kept_held = none (length bits); fork = fork; per_block = block / 512 }) }
@@ -73,7 +73,7 @@ impl Bitmap {
     pub fn fork(&self) -> &ExtentList
         ensures { result.now ≡ self.now.fork }
     {
-        &self.fork
+        self.fork.list()
     }
 
     /// How many sectors of 512 bytes a block has.

@@ -11,7 +11,7 @@ ghost use Rattle.alloc_bitmap.specs.Map.{BlockMap, none};
 
 use crate::Bitmap;
 use flag_rows::Bits;
-use fork_map::ExtentList;
+use fork_map::{ExtentList, SummedFork};
 use hx_bytes::{Failed, OutOfMemory, Sector, Trouble};
 use sector_disk::SectorView;
 use std::alloc::Global;
@@ -19,7 +19,7 @@ use std::alloc::Global;
 /// Reads the sector at a place of a fork: zeros where the fork has no such sector, or the view.
 fn read_sector<V: SectorView>(
     view: &mut V,
-    fork: &ExtentList,
+    fork: &SummedFork,
     per_block: u32,
     place: u64,
     into: &mut Sector,
@@ -72,7 +72,7 @@ fn push_sector(bytes: &mut Vec<u8>, sector: &Sector) -> Result<(), OutOfMemory>
 fn read_bytes<V: SectorView>(
     alloc: Global,
     view: &mut V,
-    fork: &ExtentList,
+    fork: &SummedFork,
     per_block: u32,
     count: usize,
 ) -> Result<Vec<u8>, Trouble>
@@ -118,10 +118,10 @@ impl Bitmap {
         ensures later { (V.space view.old).faults ≤ (V.space view.new).faults }
         ensures disk { IsErrOf result Disk → Rose (V.space view.old).faults (V.space view.new).faults }
     {
-        let fork_copy = fork.copy(alloc)?;
+        let fork = SummedFork::copy_of(alloc, fork)?;
         let sectors = (total as usize + 4095) / 4096;
-        let bytes = read_bytes(alloc, view, fork, block / 512, sectors)?;
+        let bytes = read_bytes(alloc, view, &fork, block / 512, sectors)?;
         let bits = Bits::of_bytes(bytes, total as usize);
-        Ok(Bitmap::of_bits(alloc, bits, fork_copy, block)?)
+        Ok(Bitmap::of_bits(alloc, bits, fork, block)?)
     }
 }

@@ -10,7 +10,7 @@ ghost use Rattle.alloc_bitmap.specs.Fork.{fork_sectors, fork_bit, HoldsBits, IsC
 
 use crate::Bitmap;
 use flag_rows::Bits;
-use fork_map::ExtentList;
+use fork_map::SummedFork;
 use sector_disk::SectorSpace;
 
 impl Bitmap {
@@ -49,7 +49,7 @@ fn store_changed<P: SectorSpace>(
     space: &mut P,
     used: &Bits,
     changed: &Bits,
-    fork: &ExtentList,
+    fork: &SummedFork,
     per_block: u32,
 )
     requires small { per_block ≤ 2 ^ 23 }

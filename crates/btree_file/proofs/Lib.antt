@@ -29,8 +29,6 @@ pub mod Stages
 pub mod LongerFork
 pub mod Widened
 pub mod KeptTrees
-pub mod KeptBlocks
-pub mod SumLaws
 pub mod Refreshed
 pub mod Grown
 pub mod GrowthRows

@@ -63,7 +63,7 @@ module _ (tree : TreeFile) (content : List (List ℕ)) (stands : Stands tree con
   few : length tree.map.items ≤ tree.shape.total
   few = few_stretches tree.map.items tree.shape.total tree.kept.map_inside tree.kept.map_apart
 
-  chain_is : (file_in (sectors_of_tree tree) content).chain ≡ names_of tree.map.items
+  pub chain_is : (file_in (sectors_of_tree tree) content).chain ≡ names_of tree.map.items
   chain_is =
       ap (λ n. map_chain (nodes_on (sectors_of_tree tree) n content) (file_in (sectors_of_tree tree) content).head.total (next_of (nodes_on (sectors_of_tree tree) n content 0))) size_is
       ∙ ap (λ t. map_chain (nodes_on (sectors_of_tree tree) tree.shape.node_size content) t (next_of (nodes_on (sectors_of_tree tree) tree.shape.node_size content 0))) total_is
@@ -72,13 +72,13 @@ module _ (tree : TreeFile) (content : List (List ℕ)) (stands : Stands tree con
   inside : AreIn (nodes_on (sectors_of_tree tree) tree.shape.node_size content) tree.map.items
   inside = are_in (nodes_on (sectors_of_tree tree) tree.shape.node_size content) tree.shape.node_size tree.map.items (tree_large tree) (ap (λ (l : List ℕ). length l) stands.agrees.header_is ∙ tree.long) stands.agrees.stretches
 
-  map_is : (file_in (sectors_of_tree tree) content).map ≡ flat_map (bytes_in (nodes_on (sectors_of_tree tree) tree.shape.node_size content)) tree.map.items
+  pub map_is : (file_in (sectors_of_tree tree) content).map ≡ flat_map (bytes_in (nodes_on (sectors_of_tree tree) tree.shape.node_size content)) tree.map.items
   map_is =
       ap (λ (c : List ℕ). map_bytes (nodes_on (sectors_of_tree tree) (file_in (sectors_of_tree tree) content).head.node_size content) (file_in (sectors_of_tree tree) content).head.node_size c) chain_is
       ∙ ap (λ n. map_bytes (nodes_on (sectors_of_tree tree) n content) n (names_of tree.map.items)) size_is
       ∙ map_joined (nodes_on (sectors_of_tree tree) tree.shape.node_size content) tree.shape.node_size tree.map.items (tree_large tree) stands.agrees.stretches
 
-  bits_are : bits_of tree.map.items ≡ 8 * length (file_in (sectors_of_tree tree) content).map
+  pub bits_are : bits_of tree.map.items ≡ 8 * length (file_in (sectors_of_tree tree) content).map
   bits_are = sym (length_joined (nodes_on (sectors_of_tree tree) tree.shape.node_size content) tree.map.items inside) ∙ ap (λ (l : List ℕ). 8 * length l) (sym map_is)
 
   pub used_are : (n : ℕ) → n < bits_of tree.map.items → used_in (nodes_on (sectors_of_tree tree) tree.shape.node_size content) tree.map.items n ≡ bit_of (file_in (sectors_of_tree tree) content).map n

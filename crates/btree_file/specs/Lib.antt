@@ -10,4 +10,3 @@ pub mod Held
 pub mod Apart
 pub mod Standing
 pub mod Growth
-pub mod Sums

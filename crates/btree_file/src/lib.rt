@@ -12,7 +12,6 @@ mod on;
 mod putting;
 mod reading;
 mod refreshing;
-mod summed;
 mod tree;
 
 pub use on::TreeOn;

@@ -10,7 +10,7 @@ ghost use Rattle.btree_file.specs.Putting.{unput, PutsNode, TakesRoomFor};
 
 use crate::putting::put_node;
 use crate::reading::first_record;
-use crate::summed::SummedFork;
+use fork_map::SummedFork;
 use crate::tree::Stretch;
 use btree_node::{Node, TreeShape};
 use sector_disk::SectorSpace;

@@ -14,7 +14,7 @@ ghost use Rattle.btree_file.specs.Spots.{IsSpot};
 ghost use Rattle.btree_file.specs.Putting.{unput, PutsNode, TakesRoomFor};
 
 use crate::putting::{get_node, put_node};
-use crate::summed::SummedFork;
+use fork_map::SummedFork;
 use crate::tree::Stretch;
 use btree_node::Node;
 use hx_bytes::Failed;

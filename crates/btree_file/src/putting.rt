@@ -8,7 +8,7 @@ ghost use Rattle.btree_file.specs.Place.{IsInside, IsOpen, AreApart, fork_sector
 ghost use Rattle.btree_file.specs.Frame.{ReadsSpace};
 ghost use Rattle.btree_file.specs.Putting.{unput, PutsNode, TakesRoomFor};
 
-use crate::summed::SummedFork;
+use fork_map::SummedFork;
 use btree_node::Node;
 use hx_bytes::{Failed, Sector};
 use sector_disk::{SectorSpace, SectorView};

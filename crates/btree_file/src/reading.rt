@@ -12,7 +12,7 @@ ghost use Rattle.btree_file.specs.Walks.{FitsFile, HasChain, names_of};
 
 use crate::marking::is_reserved;
 use crate::putting::get_node;
-use crate::summed::SummedFork;
+use fork_map::SummedFork;
 use crate::tree::Stretch;
 use btree_node::Node;
 use hx_bytes::{Failed, OutOfMemory, Trouble, read_be16};

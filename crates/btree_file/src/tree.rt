@@ -2,7 +2,7 @@
 ghost use Rattle.std.specs.Prelude.{◌≡◌, length};
 ghost use Rattle.btree_file.specs.Place.{IsFile};
 
-use crate::summed::SummedFork;
+use fork_map::SummedFork;
 use btree_node::{Node, TreeShape};
 
 /// A stretch of the map: a node, the place of the first of its bytes there, and how many there are.

@@ -1,3 +1,5 @@
 pub mod Ranges
 pub mod Laws
 pub mod CursorLaws
+pub mod KeptBlocks
+pub mod SumLaws

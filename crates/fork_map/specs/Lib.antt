@@ -2,3 +2,4 @@ pub mod Blocks
 pub mod Cut
 pub mod Nodes
 pub mod Cursors
+pub mod Sums

@@ -5,9 +5,11 @@ mod cursor;
 mod edits;
 mod list;
 mod place;
+mod summed;
 
 pub use cursor::Cursor;
 pub use list::ExtentList;
+pub use summed::SummedFork;
 
 #[cfg(test)]
 mod tests;

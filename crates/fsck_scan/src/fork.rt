@@ -7,14 +7,14 @@ ghost use Rattle.hfs_volume.specs.Content.{node_of_fork};
 ghost use Rattle.fsck_scan.specs.Read.{sector_or_zeros};
 
 use btree_node::Node;
-use fork_map::ExtentList;
+use fork_map::SummedFork;
 use hx_bytes::{Failed, Sector};
 use sector_disk::SectorView;
 
 /// Where a fork lies: its extents in blocks of so many sectors, of which those below a limit belong to the volume.
 #[derive(Clone, Copy)]
 pub struct Fork<'a> {
-    pub extents: &'a ExtentList,
+    pub extents: &'a SummedFork,
     pub per_block: u32,
     pub limit: u64,
 }

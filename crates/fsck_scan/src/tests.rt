@@ -3,7 +3,7 @@ ghost use Rattle.std.specs.Prelude.{length};
 
 use crate::{Fault, Fork, WrongNode, read_level};
 use btree_node::{ExtentOrder, Node};
-use fork_map::ExtentList;
+use fork_map::{ExtentList, SummedFork};
 use fsck_list::Records;
 use hx_bytes::{Extent, Failed, Sector};
 use sector_disk::SectorView;
@@ -105,6 +105,7 @@ fn read(
 ) -> Result<(usize, Option<WrongNode>), Fail> {
     let mut extents = ExtentList::new(alloc);
     extents.push(Extent { start: 0, count: 4 })?;
+    let extents = SummedFork::from_list(alloc, extents)?;
     let fork = Fork {
         extents: &extents,
         per_block: 1,

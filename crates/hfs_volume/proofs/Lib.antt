@@ -1,14 +1,14 @@
 mod Accounts
 mod Adding
 mod AddingSeen
-mod Apart
+pub mod Apart
 pub mod Ascending
 mod Asides
 mod Attributing
 pub mod BlockWants
 mod Booking
 mod Bytes
-mod Counting
+pub mod Counting
 mod Dropped
 pub mod Dropping
 mod DroppingLink
@@ -18,7 +18,7 @@ mod Fields
 pub mod Files
 mod Finishing
 mod Fitting
-mod Flat
+pub mod Flat
 mod Folders
 pub mod HeaderWants
 mod Heading
@@ -54,7 +54,7 @@ mod Pathways
 mod PlainBytes
 mod Plainly
 mod Ranks
-mod Reaching
+pub mod Reaching
 mod Refielding
 mod Removing
 mod RemovingFile
@@ -66,8 +66,8 @@ mod Reparenting
 pub mod Repeats
 mod Rereading
 mod Running
-mod Sectors
-mod Seeing
+pub mod Sectors
+pub mod Seeing
 mod Shaping
 mod Sharing
 pub mod Sides
@@ -81,7 +81,7 @@ pub mod TreeSounding
 pub mod TreeUnbroken
 pub mod TreeWants
 mod Trees
-mod Untouched
+pub mod Untouched
 pub mod Wants
 pub mod Whole
 mod Reclaiming

@@ -2,7 +2,7 @@ use Rattle.std.proofs.Common.{◌+◌, ◌*◌, ◌%◌, ap, sym, ◌∙◌, ari
 use Rattle.std.specs.Option.{option_map}
 use Rattle.fork_map.specs.Blocks.{blocks_of}
 use Rattle.fork_map.proofs.Laws.{no_sectors, sector_at_place}
-use Rattle.btree_file.proofs.summed.SummedFork.sector_at.Goals as goal
+use Rattle.fork_map.proofs.summed.SummedFork.sector_at.Goals as goal
 
 pub returns-then-per_block-eq0 : goal.returns-then-per_block-eq0
 returns-then-per_block-eq0 c = rw c.if-per_block-eq0.true (rw (no_sectors (blocks_of c.args.self.now)) refl)

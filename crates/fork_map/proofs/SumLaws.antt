@@ -8,8 +8,8 @@ use Rattle.std.proofs.lemmas.List.FromFn.{length-range_with_len, get_or-range_wi
 use Rattle.std.proofs.lemmas.Option.{slice_get_past, slice_get-get_or}
 use Rattle.hx_bytes.specs.declared.extents.Extent.{Extent}
 use Rattle.fork_map.specs.Blocks.{blocks_of}
-use Rattle.btree_file.specs.Sums.{AreSums}
-use Rattle.btree_file.proofs.KeptBlocks.{blocks_more}
+use Rattle.fork_map.specs.Sums.{AreSums}
+use Rattle.fork_map.proofs.KeptBlocks.{blocks_more}
 
 abbrev range : Extent → List ℕ
 range e = range_with_len e.start e.count

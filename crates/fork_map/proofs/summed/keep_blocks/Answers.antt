@@ -2,8 +2,8 @@ use Rattle.std.proofs.Common.{◌≡◌, ◌<◌, ◌+◌, ◌-◌, ℕ, List, m
 use Rattle.std.proofs.lemmas.List.{get_or-drop, get_or_default, drop-drop, drop-set-lt, length-set}
 use Rattle.fork_map.specs.Blocks.{blocks_of}
 use Rattle.hx_bytes.specs.declared.extents.Extent.{Extent}
-use Rattle.btree_file.proofs.KeptBlocks.{keep_step, blocks_more, keep_cut}
-use Rattle.btree_file.proofs.summed.keep_blocks.Goals as goal
+use Rattle.fork_map.proofs.KeptBlocks.{keep_step, blocks_more, keep_cut}
+use Rattle.fork_map.proofs.summed.keep_blocks.Goals as goal
 
 pub returns-then-left-eq0-clause-blocks : goal.returns-then-left-eq0-clause-blocks
 returns-then-left-eq0-clause-blocks c = ap blocks_of c.truncate.ensures.items ∙ keep_cut c.args.list.now.items c.loop-i.list.items c.loop-i.i c.args.blocks c.loop-i.invariant.done (omega (arith, c.if-left-eq0.true, c.loop-i.invariant.left))

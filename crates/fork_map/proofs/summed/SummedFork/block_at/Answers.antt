@@ -3,9 +3,9 @@ use Rattle.std.specs.Prelude.{slice_get}
 use Rattle.std.proofs.lemmas.Grind.{get_or_default_zero}
 use Rattle.hx_bytes.specs.declared.extents.Extent.{Extent}
 use Rattle.fork_map.specs.Blocks.{blocks_of}
-use Rattle.btree_file.specs.Sums.{AreSums}
-use Rattle.btree_file.proofs.SumLaws.{found_there, none_there}
-use Rattle.btree_file.proofs.summed.SummedFork.block_at.Goals as goal
+use Rattle.fork_map.specs.Sums.{AreSums}
+use Rattle.fork_map.proofs.SumLaws.{found_there, none_there}
+use Rattle.fork_map.proofs.summed.SummedFork.block_at.Goals as goal
 
 pub returns-then-offset-extent-clause-block : goal.returns-then-offset-extent-clause-block
 returns-then-offset-extent-clause-block c =

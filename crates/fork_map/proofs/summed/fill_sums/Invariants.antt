@@ -1,6 +1,6 @@
 use Rattle.std.proofs.Common.{◌≡◌, ◌≤◌, ◌<◌, ◌*◌, ◌^◌, ℕ, length, take, get_or}
 use Rattle.fork_map.specs.Blocks.{blocks_of}
-use Rattle.btree_file.proofs.summed.fill_sums.Given as goal
+use Rattle.fork_map.proofs.summed.fill_sums.Given as goal
 
 -- the sums of the first extents are written
 abbrev pub invariant-loop-at : goal.invariant-loop-at

@@ -1,8 +1,8 @@
 use Rattle.std.proofs.Common.{◌∙◌, arith}
 use Rattle.std.proofs.lemmas.List.{length-set}
-use Rattle.btree_file.proofs.KeptBlocks.{blocks_more}
-use Rattle.btree_file.proofs.SumLaws.{sums_more}
-use Rattle.btree_file.proofs.summed.fill_sums.Goals as goal
+use Rattle.fork_map.proofs.KeptBlocks.{blocks_more}
+use Rattle.fork_map.proofs.SumLaws.{sums_more}
+use Rattle.fork_map.proofs.summed.fill_sums.Goals as goal
 
 pub loop-at-preserved : goal.loop-at-preserved
 loop-at-preserved c =

@@ -1,6 +1,6 @@
 use Rattle.std.proofs.Common.{◌≡◌, ◌-◌, length, take, drop}
 use Rattle.fork_map.specs.Blocks.{blocks_of}
-use Rattle.btree_file.proofs.summed.keep_blocks.Given as goal
+use Rattle.fork_map.proofs.summed.keep_blocks.Given as goal
 
 -- the first extents hold the first blocks
 abbrev pub invariant-loop-i : goal.invariant-loop-i

@@ -1,5 +1,5 @@
 use Rattle.std.proofs.Common.{◌≤◌, ◌<◌, ◌-◌, length, get_or}
-use Rattle.btree_file.proofs.summed.count_at_most.Given as goal
+use Rattle.fork_map.proofs.summed.count_at_most.Given as goal
 
 -- the number before the low place is at most n, that at the high place greater
 abbrev pub invariant-loop-low : goal.invariant-loop-low

@@ -1,9 +1,9 @@
 //! A fork with the number of blocks before each of its extents, by which a block is found without a walk.
 ghost use Rattle.std.specs.Prelude.{◌≡◌, ◌<◌, ◌≤◌, ◌-◌, ◌^◌, ℕ, [], length, take, slice_get, slice_index, IfOk, IfSome};
 ghost use Rattle.fork_map.specs.Blocks.{blocks_of, sectors_of};
-ghost use Rattle.btree_file.specs.Sums.{AreSums};
+ghost use Rattle.fork_map.specs.Sums.{AreSums};
 
-use fork_map::ExtentList;
+use crate::list::ExtentList;
 use hx_bytes::{Extent, OutOfMemory};
 use std::alloc::Global;
 use std::marker::Model;
@@ -11,7 +11,7 @@ use std::mem::replace;
 
 /// The blocks of a fork, of which each is found by halves.
 #[derive(Drop)]
-pub(crate) struct SummedFork {
+pub struct SummedFork {
     list: ExtentList,
     /// How many blocks come before each extent.
     sums: Vec<u128>,
@@ -20,7 +20,7 @@ pub(crate) struct SummedFork {
 impl Model for SummedFork {
     ghost use Rattle.std.specs.Prelude.{List};
     ghost use Rattle.hx_bytes.specs.declared.extents.Extent.{Extent};
-    ghost use Rattle.btree_file.specs.Sums.{AreSums};
+    ghost use Rattle.fork_map.specs.Sums.{AreSums};
 
     ghost Value = { List Extent };
 
@@ -80,7 +80,7 @@ fn count_at_most(sums: &[u128], n: u64) -> usize
 
 impl SummedFork {
     /// A fork without a block.
-    pub(crate) fn new(alloc: Global) -> SummedFork
+    pub fn new(alloc: Global) -> SummedFork
         ensures { result ≡ [] }
     {
         SummedFork {
@@ -90,7 +90,7 @@ impl SummedFork {
     }
 
     /// Takes over a list.
-    pub(crate) fn from_list(alloc: Global, list: ExtentList) -> Result<SummedFork, OutOfMemory>
+    pub fn from_list(alloc: Global, list: ExtentList) -> Result<SummedFork, OutOfMemory>
         ensures { IfOk result (λ fork. fork ≡ list) }
     {
         let mut sums = Vec::from_elem(alloc, 0, list.len())?;
@@ -99,28 +99,28 @@ impl SummedFork {
     }
 
     /// The same fork once more.
-    pub(crate) fn copy_of(alloc: Global, list: &ExtentList) -> Result<SummedFork, OutOfMemory>
+    pub fn copy_of(alloc: Global, list: &ExtentList) -> Result<SummedFork, OutOfMemory>
         ensures { IfOk result (λ fork. fork ≡ list.now) }
     {
         SummedFork::from_list(alloc, list.copy(alloc)?)
     }
 
     /// The extents.
-    pub(crate) fn list(&self) -> &ExtentList
+    pub fn list(&self) -> &ExtentList
         ensures { result.now ≡ self.now }
     {
         &self.list
     }
 
     /// The extents, as a slice.
-    pub(crate) fn as_slice(&self) -> &[Extent]
+    pub fn as_slice(&self) -> &[Extent]
         ensures { result.now ≡ self.now }
     {
         self.list.as_slice()
     }
 
-    /// The block at a place of the fork.
-    fn block_at(&self, n: u64) -> Option<u64>
+    /// The block at a place of the fork, whatever its number.
+    pub fn block_at(&self, n: u64) -> Option<u64>
         ensures block { result ≡ slice_get (blocks_of self.now) n }
         ensures bound { IfSome result (λ block. block < 2 ^ 33) }
     {
@@ -139,7 +139,7 @@ impl SummedFork {
     }
 
     /// The sector at a place of the fork, where a block has so many sectors of 512 bytes.
-    pub(crate) fn sector_at(&self, per_block: u32, n: u64) -> Option<u64>
+    pub fn sector_at(&self, per_block: u32, n: u64) -> Option<u64>
         requires { per_block ≤ 2 ^ 23 }
         ensures { result ≡ slice_get (sectors_of per_block (blocks_of self.now)) n }
     {
@@ -153,7 +153,7 @@ impl SummedFork {
     }
 
     /// Keeps the first blocks.
-    pub(crate) fn shorten(&mut self, blocks: u64)
+    pub fn shorten(&mut self, blocks: u64)
         ensures { blocks_of self.new ≡ take blocks (blocks_of self.old) }
     {
         let alloc = *self.sums.allocator();
