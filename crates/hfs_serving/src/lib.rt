@@ -10,6 +10,6 @@ pub use basis::Ground;
 pub use durable::make_durable;
 pub use laws::{
     batches_end, commits_go_on, contents_tell_trees, entries_lead_on, mounts_serve, runs_end,
-    stretches_join, touches_go_on,
+    runs_keep_promises, stretches_join, touches_go_on,
 };
 pub use volume::{Next, Step, Volume};

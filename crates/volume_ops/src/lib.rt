@@ -5,6 +5,7 @@ mod attaching;
 mod extents;
 mod header;
 mod keeping;
+mod looking;
 mod names;
 mod room;
 mod volume;
