@@ -4,6 +4,7 @@ pub mod Facts
 pub mod Gauging
 pub mod NodesRead
 pub mod Opened
+pub mod OpenFiles
 pub mod Placing
 pub mod Seeing
 pub mod SoundForks

@@ -7,6 +7,7 @@ mod header;
 mod keeping;
 mod looking;
 mod names;
+mod opening;
 mod room;
 mod volume;
 
