@@ -5,6 +5,7 @@ mod basis;
 mod durable;
 mod laws;
 mod volume;
+mod housekeeping;
 
 pub use basis::Ground;
 pub use durable::make_durable;
@@ -13,3 +14,4 @@ pub use laws::{
     runs_keep_promises, stretches_join, touches_go_on,
 };
 pub use volume::{Next, Step, Volume};
+pub use housekeeping::{tidy, work};
