@@ -1,5 +1,5 @@
 -- A volume that goes on within a batch.
-use Rattle.std.proofs.Common.{◌≡◌, ◌⊎◌, ◌≤◌, ◌∷◌, [], ◌++◌, ℕ, List, inl, inr, ⊎_elim, refl, sym, ◌∙◌, ap, subst}
+use Rattle.std.proofs.Common.{◌≡◌, ◌⊎◌, ◌≤◌, ◌∷◌, [], ◌++◌, ℕ, List, true, false, inl, inr, ⊎_elim, refl, sym, ◌∙◌, ap, subst}
 use Rattle.std.specs.Prelude.{Option, Result, Ok, Err, OnOk, OnErr}
 use Rattle.std.proofs.lemmas.List.{append-nil}
 use Rattle.sector_disk.specs.Space.{Space, AgreesOutside}
@@ -7,7 +7,9 @@ use Rattle.jnl_format.specs.Recovery.{Content}
 use Rattle.hfs_volume.specs.Content.{volume_of}
 use Rattle.hfs_volume.specs.Reclaim.{Tidies, IsTidied, IsAtRest, none, one_more}
 use Rattle.hfs_volume.specs.Run.{Entry, shrunk_in, shrunk_after, lines_of, replies_of}
-use Rattle.hfs_serving.specs.Going.{Knowing, Stands, Stays, Tidied, Answered, GoesTidy, GoesRested, GoesOn, GoesWhole, StopsOn}
+use Rattle.hfs_serving.specs.Going.{Knowing, Stands, Stays, Tidied, Answered, AnswersTo, is_answered, GoesTidy, GoesRested, GoesOn, GoesWhole, StopsOn}
+use Rattle.hfs_serving.specs.declared.volume.Step.{Step}
+use Rattle.hfs_serving.specs.declared.volume.Step.TheVariants as step
 use Rattle.hfs_serving.specs.Outside.{Outside}
 use Rattle.hfs_serving.specs.Runs.{Leads, LeadsToRest}
 use Rattle.hfs_serving.specs.Serving.{IsDurable, IsRead, IsAsDurable, Touches, MayCommit, Commits, Goes, Stops}
@@ -26,6 +28,20 @@ on_err (Err e) p = p
 pub on_ok : {T E P Q : Type 0} (r : Result T E) → (P → Q) → OnOk r P → OnOk r Q
 on_ok (Ok x) goes p = goes p
 on_ok (Err e) goes p = tt
+
+-- ---- a step of a line
+
+-- a line that wasn't answered had no reply: a step of housekeeping was made for it, or it was only looked at
+module _ (capacity : ℕ) (knows : Knowing) (committed now : Content) (shrunk : Option ℕ) (space : Space) (line before after : List ℕ) where
+  pub left_line : (made : Step) → is_answered made ≡ false → AnswersTo made capacity knows committed now shrunk space line before after → (after ≡ before) × (Tidied capacity knows committed now shrunk space ⊎ Stays knows committed now shrunk space)
+  left_line step.Answered other answers = absurd (cc other)
+  left_line step.Again other answers = (answers.0, inl answers.1)
+  left_line step.CommitFirst other answers = (answers.0, inr answers.1)
+
+  pub answered_line : (made : Step) → is_answered made ≡ true → AnswersTo made capacity knows committed now shrunk space line before after → (text : List ℕ) × (after ≡ before ++ text) × Answered capacity knows committed now shrunk space line text
+  answered_line step.Answered is answers = answers
+  answered_line step.Again is answers = absurd (cc is)
+  answered_line step.CommitFirst is answers = absurd (cc is)
 
 -- ---- a stretch without an entry
 
@@ -139,6 +155,11 @@ module _ (capacity : ℕ) (shrunk : Option ℕ) (committed now : Content) (old :
     unfolding commits_tidy
     rested_commits knows_new new after commits stays = record { tidy = commits_tidy knows space mid rested.tidy knows_new new after commits stays; rests = rested.rests }
 
+    -- a line was left
+    pub rested_left : (knows_new : Knowing) (new : Space) (after : Outside) → Touches rested.tidy.last space mid new after → Tidied capacity knows_new rested.tidy.last rested.tidy.next shrunk new ⊎ Stays knows_new rested.tidy.last rested.tidy.next shrunk new
+        → GoesRested capacity knows_new committed now shrunk old new after
+    rested_left knows_new new after touches left = ⊎_elim (λ tidied. rested_tidy knows_new new after touches tidied) (λ stays. rested_looks knows_new new after touches stays) left
+
     -- housekeeping goes on
     pub rested_both : (knows_new : Knowing) (new : Space) (after : Outside) → GoesTidy capacity knows_new rested.tidy.last rested.tidy.next shrunk mid new after → GoesRested capacity knows_new committed now shrunk old new after
     unfolding tidy_both
@@ -172,6 +193,13 @@ module _ (capacity : ℕ) (shrunk : Option ℕ) (committed now : Content) (old :
   pub first_stops : (new : Space) (after : Outside) → Touches committed space old new after → StopsOn capacity committed now shrunk old after
   unfolding begins
   first_stops new after touches = touch_stops_tidy capacity shrunk committed now old knows space old (begins capacity shrunk committed now old knows space stands) new after touches
+
+  pub commits_first : (knows_new : Knowing) (new : Space) (after : Outside) → Commits space old new after → Stays knows_new now now shrunk new → GoesTidy capacity knows_new committed now shrunk old new after
+  unfolding begins
+  commits_first knows_new new after commits stays = commits_tidy capacity shrunk committed now old knows space old (begins capacity shrunk committed now old knows space stands) knows_new new after commits stays
+
+  pub commit_stops_first : (after : Outside) → MayCommit space old after → StopsOn capacity committed now shrunk old after
+  commit_stops_first after may = commit_stops_tidy capacity shrunk committed now old knows space old (begins capacity shrunk committed now old knows space stands) after may
 
   module _ (knows_new : Knowing) (new : Space) (after : Outside) (touches : Touches committed space old new after) where
     pub first_tidied : Tidied capacity knows_new committed now shrunk new → GoesTidy capacity knows_new committed now shrunk old new after

@@ -65,6 +65,12 @@ TidiesTo next.Rest capacity knows committed now shrunk space = Stays knows commi
 TidiesTo next.Made capacity knows committed now shrunk space = Tidied capacity knows committed now shrunk space
 TidiesTo next.CommitFirst capacity knows committed now shrunk space = Stays knows committed now shrunk space
 
+-- the line was answered
+abbrev pub is_answered : Step → Bool
+is_answered step.Answered = true
+is_answered step.Again = false
+is_answered step.CommitFirst = false
+
 -- what a step of a line answers: the line was answered, a step of housekeeping was made for it, or a commit is wanted first
 abbrev pub AnswersTo : Step → ℕ → Knowing → Content → Content → Option ℕ → Space → List ℕ → List ℕ → List ℕ → Type 0
 AnswersTo step.Answered capacity knows committed now shrunk space line before after = (text : List ℕ) × (after ≡ before ++ text) × Answered capacity knows committed now shrunk space line text

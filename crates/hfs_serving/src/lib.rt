@@ -2,12 +2,14 @@
 #![tactic(auto)]
 
 mod basis;
+mod batch;
 mod durable;
 mod laws;
 mod volume;
 mod housekeeping;
 
 pub use basis::Ground;
+pub use batch::{serve_batch, serve_line};
 pub use durable::make_durable;
 pub use laws::{
     batches_end, commits_go_on, contents_tell_trees, entries_lead_on, mounts_serve, runs_end,
