@@ -1,13 +1,13 @@
 -- A volume that goes on within a batch.
-use Rattle.std.proofs.Common.{◌≡◌, ◌⊎◌, ◌≤◌, ◌∷◌, [], ◌++◌, ℕ, List, true, false, inl, inr, ⊎_elim, refl, sym, ◌∙◌, ap, subst}
-use Rattle.std.specs.Prelude.{Option, Result, Ok, Err, OnOk, OnErr}
+use Rattle.std.proofs.Common.{◌≡◌, ◌⊎◌, ◌≤◌, ◌∷◌, [], ◌++◌, ℕ, List, true, false, inl, inr, ⊎_elim, refl, sym, ◌∙◌, ap, subst, take, append_assoc}
+use Rattle.std.specs.Prelude.{Bool, Option, Result, Ok, Err, OnOk, OnErr}
 use Rattle.std.proofs.lemmas.List.{append-nil}
 use Rattle.sector_disk.specs.Space.{Space, AgreesOutside}
 use Rattle.jnl_format.specs.Recovery.{Content}
 use Rattle.hfs_volume.specs.Content.{volume_of}
 use Rattle.hfs_volume.specs.Reclaim.{Tidies, IsTidied, IsAtRest, none, one_more}
 use Rattle.hfs_volume.specs.Run.{Entry, shrunk_in, shrunk_after, lines_of, replies_of}
-use Rattle.hfs_serving.specs.Going.{Knowing, Stands, Stays, Tidied, Answered, AnswersTo, is_answered, GoesTidy, GoesRested, GoesOn, GoesWhole, StopsOn}
+use Rattle.hfs_serving.specs.Going.{Knowing, Stands, Stays, Tidied, Answered, AnswersTo, is_answered, GoesTidy, GoesRested, GoesOn, GoesWhole, ServesBatch, ServesLine, ServesLines, StopsOn, line_if}
 use Rattle.hfs_serving.specs.declared.volume.Step.{Step}
 use Rattle.hfs_serving.specs.declared.volume.Step.TheVariants as step
 use Rattle.hfs_serving.specs.Outside.{Outside}
@@ -275,6 +275,33 @@ module _ (capacity : ℕ) (shrunk : Option ℕ) (committed now : Content) (old :
     pub commit_stops_on : (after : Outside) → MayCommit space mid after → StopsOn capacity committed now shrunk old after
     commit_stops_on after may = record { more = goes.more; stops = commit_stops_here capacity shrunk committed now old goes.more goes.last goes.next space mid goes.goes after may }
 
+-- ---- lines
+
+module _ (capacity : ℕ) (shrunk : Option ℕ) (committed now : Content) (old : Outside) (lines : List (List ℕ)) (before : List ℕ) where
+  pub lines_none : (knows : Knowing) (space : Space) → Stands knows committed now shrunk space old → ServesLines 0 capacity knows committed now shrunk old lines before before space old
+  lines_none knows space stands = record { text = []; replies = sym (append-nil before); goes = on_none capacity shrunk committed now old knows space stands }
+
+  module _ (count : ℕ) (knows : Knowing) (middle : List ℕ) (space : Space) (mid : Outside) (first : ServesLines count capacity knows committed now shrunk old lines before middle space mid) where
+    pub stands_in_lines : Stands knows first.goes.last first.goes.next (shrunk_in shrunk first.goes.more) space mid
+    stands_in_lines = stands_on_there capacity shrunk committed now old knows (take count lines) first.text space mid first.goes
+
+    pub lines_stop : (after : Outside) → StopsOn capacity first.goes.last first.goes.next (shrunk_in shrunk first.goes.more) mid after → StopsOn capacity committed now shrunk old after
+    lines_stop after second = on_stops capacity shrunk committed now old knows (take count lines) first.text space mid first.goes after second
+
+    pub commit_stops_lines : (after : Outside) → MayCommit space mid after → StopsOn capacity committed now shrunk old after
+    commit_stops_lines after may = commit_stops_on capacity shrunk committed now old knows (take count lines) first.text space mid first.goes after may
+
+    -- one more, or none
+    pub lines_on : (knows_new : Knowing) (answered : Bool) (line after : List ℕ) (new : Space) (end : Outside) (many : ℕ) → take count lines ++ line_if answered line ≡ take many lines
+        → ServesLine answered capacity knows_new first.goes.last first.goes.next (shrunk_in shrunk first.goes.more) mid line middle after new end → ServesLines many capacity knows_new committed now shrunk old lines before after new end
+    lines_on knows_new answered line after new end many are second = record {
+      text = first.text ++ second.text;
+      replies = second.replies ∙ ap (λ (l : List ℕ). l ++ second.text) first.replies ∙ append_assoc before first.text second.text;
+      goes =
+          subst (λ (l : List (List ℕ)). GoesOn capacity knows_new committed now shrunk old l (first.text ++ second.text) new end) are
+          (on_both capacity shrunk committed now old knows (take count lines) first.text space mid first.goes knows_new (line_if answered line) second.text new end second.goes);
+    }
+
 -- ---- the end of a batch
 
 pub whole_batch : (capacity : ℕ) (shrunk : Option ℕ) (start : Content) (old : Outside) (knows : Knowing) (lines : List (List ℕ)) (text : List ℕ) (space : Space) (mid : Outside) (goes : GoesOn capacity knows start start shrunk old lines text space mid) (knows_new : Knowing) (new : Space) (after : Outside)
@@ -287,4 +314,14 @@ whole_batch capacity shrunk start old knows lines text space mid goes knows_new 
   known = stays.known;
   asked = goes.asked;
   told = goes.told;
+}
+
+-- the commit at the end
+pub lines_commit : (count capacity : ℕ) (shrunk : Option ℕ) (start : Content) (old : Outside) (lines : List (List ℕ)) (before after : List ℕ) (knows : Knowing) (space : Space) (mid : Outside)
+    (first : ServesLines count capacity knows start start shrunk old lines before after space mid) (knows_new : Knowing) (new : Space) (end : Outside) → Commits space mid new end → Stays knows_new first.goes.next first.goes.next (shrunk_in shrunk first.goes.more) new
+    → ServesBatch count capacity knows_new start shrunk old lines before after new end
+lines_commit count capacity shrunk start old lines before after knows space mid first knows_new new end commits stays = record {
+  text = first.text;
+  replies = first.replies;
+  whole = whole_batch capacity shrunk start old knows (take count lines) first.text space mid first.goes knows_new new end commits stays;
 }

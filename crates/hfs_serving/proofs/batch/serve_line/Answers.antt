@@ -175,7 +175,7 @@ loop-preserved g c = record {
       let mid = g.G.Ground.outside c.loop.base in
       let knows = g.V.Volume.knows c.loop.volume space capacity in
       let both = c.loop.invariant.goes tells capacity committed now shrunk stands in
-    let goes = both.1 in
+      let goes = both.1 in
       let tells_there = c.loop.invariant.tells ∙ tells in
       let there = stands_there capacity shrunk committed now old knows space mid goes.tidy in
       let new = g.G.SectorView.space c.answer.new.base in
@@ -185,9 +185,11 @@ loop-preserved g c = record {
       let answered = c.in_ok-step.ensures.answered tells_there capacity goes.tidy.last goes.tidy.next shrunk there in
       let left = left_line capacity knows_new goes.tidy.last goes.tidy.next shrunk new c.args.line.now c.loop.replies c.answer.new.replies c.in_ok-step.step (sym c.is_answered.ensures ∙ c.if-is_answered.false) answered in
       let rested = rested_left capacity shrunk committed now old knows space mid goes knows_new new after touches left.1 in
-      let end = g.G.SectorView.space c.make_room.new.base in
-      (left.0 ∙ both.0, rested_both capacity shrunk committed now old knows_new new after rested (g.V.Volume.knows c.make_room.new.volume end capacity) end (g.G.Ground.outside c.make_room.new.base)
-      (c.in_ok-make_room.ensures.goes (c.answer.ensures.tells ∙ tells_there) capacity rested.tidy.last rested.tidy.next shrunk (stands_there capacity shrunk committed now old knows_new new after rested.tidy)));
+      let end = g.G.SectorView.space c.make_room.new.base in (
+        left.0 ∙ both.0,
+        rested_both capacity shrunk committed now old knows_new new after rested (g.V.Volume.knows c.make_room.new.volume end capacity) end (g.G.Ground.outside c.make_room.new.base)
+            (c.in_ok-make_room.ensures.goes (c.answer.ensures.tells ∙ tells_there) capacity rested.tidy.last rested.tidy.next shrunk (stands_there capacity shrunk committed now old knows_new new after rested.tidy)),
+      );
 }
 
 pub returns-clause-goes : goal.returns-clause-goes

@@ -10,6 +10,6 @@ invariant-loop g l =
       tells : (g.G.SectorView.space l.base).tells ≡ (g.G.SectorView.space l.initial.base).tells;
       serves : (capacity : ℕ) → g.G.Ground.serves l.initial.base capacity → g.G.Ground.taken l.initial.base ≤ capacity → g.G.Ground.serves l.base capacity × (g.G.Ground.taken l.base ≤ capacity);
       goes : IsTrue (g.G.SectorView.space l.initial.base).tells → (capacity : ℕ) (committed now : Content) (shrunk : Option ℕ)
-        → Stands (g.V.Volume.knows l.initial.volume (g.G.SectorView.space l.initial.base) capacity) committed now shrunk (g.G.SectorView.space l.initial.base) (g.G.Ground.outside l.initial.base)
-        → GoesTidy capacity (g.V.Volume.knows l.volume (g.G.SectorView.space l.base) capacity) committed now shrunk (g.G.Ground.outside l.initial.base) (g.G.SectorView.space l.base) (g.G.Ground.outside l.base);
+          → Stands (g.V.Volume.knows l.initial.volume (g.G.SectorView.space l.initial.base) capacity) committed now shrunk (g.G.SectorView.space l.initial.base) (g.G.Ground.outside l.initial.base)
+          → GoesTidy capacity (g.V.Volume.knows l.volume (g.G.SectorView.space l.base) capacity) committed now shrunk (g.G.Ground.outside l.initial.base) (g.G.SectorView.space l.base) (g.G.Ground.outside l.base);
     }
