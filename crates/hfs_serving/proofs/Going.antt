@@ -7,7 +7,7 @@ use Rattle.jnl_format.specs.Recovery.{Content}
 use Rattle.hfs_volume.specs.Content.{volume_of}
 use Rattle.hfs_volume.specs.Reclaim.{Tidies, IsTidied, IsAtRest, none, one_more}
 use Rattle.hfs_volume.specs.Run.{Entry, shrunk_in, shrunk_after, lines_of, replies_of}
-use Rattle.hfs_serving.specs.Going.{Knowing, Stands, Stays, Tidied, Answered, AnswersTo, is_answered, GoesTidy, GoesRested, GoesOn, GoesWhole, ServesBatch, ServesLine, ServesLines, StopsOn, line_if}
+use Rattle.hfs_serving.specs.Going.{Knowing, Stands, Stays, Tidied, Answered, AnswersTo, is_answered, GoesTidy, GoesRested, GoesOn, GoesWhole, ServesBatch, ServesLine, ServesLines, StopsLines, StopsOn, line_if}
 use Rattle.hfs_serving.specs.declared.volume.Step.{Step}
 use Rattle.hfs_serving.specs.declared.volume.Step.TheVariants as step
 use Rattle.hfs_serving.specs.Outside.{Outside}
@@ -90,11 +90,11 @@ module _ (capacity : ℕ) (shrunk : Option ℕ) (committed now : Content) (old :
     }
 
     -- a fault in a call that put and spilled, or in a commit
-    pub touch_stops_tidy : (new : Space) (after : Outside) → Touches goes.last space mid new after → StopsOn capacity committed now shrunk old after
-    touch_stops_tidy new after touches = record { more = []; stops = touch_stops_here capacity shrunk committed now old [] goes.last goes.next space mid goes.goes new after touches }
+    pub touch_stops_tidy : (new : Space) (after : Outside) → Touches goes.last space mid new after → StopsOn capacity committed now shrunk old [] after
+    touch_stops_tidy new after touches = record { more = []; asked = refl; stops = touch_stops_here capacity shrunk committed now old [] goes.last goes.next space mid goes.goes new after touches }
 
-    pub commit_stops_tidy : (after : Outside) → MayCommit space mid after → StopsOn capacity committed now shrunk old after
-    commit_stops_tidy after may = record { more = []; stops = commit_stops_here capacity shrunk committed now old [] goes.last goes.next space mid goes.goes after may }
+    pub commit_stops_tidy : (after : Outside) → MayCommit space mid after → StopsOn capacity committed now shrunk old [] after
+    commit_stops_tidy after may = record { more = []; asked = refl; stops = commit_stops_here capacity shrunk committed now old [] goes.last goes.next space mid goes.goes after may }
 
     -- it came to rest
     pub rests_tidy : IsAtRest capacity shrunk (volume_of goes.next) → GoesRested capacity knows committed now shrunk old space mid
@@ -131,11 +131,11 @@ module _ (capacity : ℕ) (shrunk : Option ℕ) (committed now : Content) (old :
       told = replies_of-none;
     }
 
-    pub tidy_stops : (after : Outside) → StopsOn capacity goes.last goes.next shrunk mid after → StopsOn capacity committed now shrunk old after
-    tidy_stops after second =
+    pub tidy_stops : (others : List (List ℕ)) (after : Outside) → StopsOn capacity goes.last goes.next shrunk mid others after → StopsOn capacity committed now shrunk old others after
+    tidy_stops others after second =
         let behind : Stops capacity (shrunk_in shrunk []) goes.last goes.next mid second.more after =
         subst (λ (s : Option ℕ). Stops capacity s goes.last goes.next mid second.more after) (sym (shrunk_in-none shrunk)) second.stops in
-        record { more = second.more; stops = goes_stops capacity shrunk committed now old [] second.more goes.last goes.next space mid goes.goes after behind }
+        record { more = second.more; asked = second.asked; stops = goes_stops capacity shrunk committed now old [] second.more goes.last goes.next space mid goes.goes after behind }
 
   -- ---- behind rest
 
@@ -190,7 +190,7 @@ module _ (capacity : ℕ) (shrunk : Option ℕ) (committed now : Content) (old :
 -- ---- one call from where the volume stands
 
 module _ (capacity : ℕ) (shrunk : Option ℕ) (committed now : Content) (old : Outside) (knows : Knowing) (space : Space) (stands : Stands knows committed now shrunk space old) where
-  pub first_stops : (new : Space) (after : Outside) → Touches committed space old new after → StopsOn capacity committed now shrunk old after
+  pub first_stops : (new : Space) (after : Outside) → Touches committed space old new after → StopsOn capacity committed now shrunk old [] after
   unfolding begins
   first_stops new after touches = touch_stops_tidy capacity shrunk committed now old knows space old (begins capacity shrunk committed now old knows space stands) new after touches
 
@@ -198,7 +198,7 @@ module _ (capacity : ℕ) (shrunk : Option ℕ) (committed now : Content) (old :
   unfolding begins
   commits_first knows_new new after commits stays = commits_tidy capacity shrunk committed now old knows space old (begins capacity shrunk committed now old knows space stands) knows_new new after commits stays
 
-  pub commit_stops_first : (after : Outside) → MayCommit space old after → StopsOn capacity committed now shrunk old after
+  pub commit_stops_first : (after : Outside) → MayCommit space old after → StopsOn capacity committed now shrunk old [] after
   commit_stops_first after may = commit_stops_tidy capacity shrunk committed now old knows space old (begins capacity shrunk committed now old knows space stands) after may
 
   module _ (knows_new : Knowing) (new : Space) (after : Outside) (touches : Touches committed space old new after) where
@@ -231,7 +231,7 @@ module _ (capacity : ℕ) (shrunk : Option ℕ) (committed now : Content) (old :
           commits_tidy capacity shrunk committed now old knows_new new after
           (looks_tidy capacity shrunk committed now old knows space old (begins capacity shrunk committed now old knows space stands) knows_new new after touches stays) knows_last last end commits whole
 
-      pub then_commit_stops : (end : Outside) → MayCommit new after end → StopsOn capacity committed now shrunk old end
+      pub then_commit_stops : (end : Outside) → MayCommit new after end → StopsOn capacity committed now shrunk old [] end
       unfolding begins looks_tidy
       then_commit_stops end may =
           commit_stops_tidy capacity shrunk committed now old knows_new new after
@@ -269,11 +269,11 @@ module _ (capacity : ℕ) (shrunk : Option ℕ) (committed now : Content) (old :
       told = replies_of-append goes.more second.more ∙ ap (λ (l : List ℕ). l ++ replies_of second.more) goes.told ∙ ap (λ (l : List ℕ). text ++ l) second.told;
     }
 
-    pub on_stops : (after : Outside) → StopsOn capacity goes.last goes.next (shrunk_in shrunk goes.more) mid after → StopsOn capacity committed now shrunk old after
-    on_stops after second = record { more = goes.more ++ second.more; stops = goes_stops capacity shrunk committed now old goes.more second.more goes.last goes.next space mid goes.goes after second.stops }
+    pub on_stops : (others : List (List ℕ)) (after : Outside) → StopsOn capacity goes.last goes.next (shrunk_in shrunk goes.more) mid others after → StopsOn capacity committed now shrunk old (lines ++ others) after
+    on_stops others after second = record { more = goes.more ++ second.more; asked = lines_of-append goes.more second.more ∙ ap (λ (l : List (List ℕ)). l ++ lines_of second.more) goes.asked ∙ ap (λ (l : List (List ℕ)). lines ++ l) second.asked; stops = goes_stops capacity shrunk committed now old goes.more second.more goes.last goes.next space mid goes.goes after second.stops }
 
-    pub commit_stops_on : (after : Outside) → MayCommit space mid after → StopsOn capacity committed now shrunk old after
-    commit_stops_on after may = record { more = goes.more; stops = commit_stops_here capacity shrunk committed now old goes.more goes.last goes.next space mid goes.goes after may }
+    pub commit_stops_on : (after : Outside) → MayCommit space mid after → StopsOn capacity committed now shrunk old lines after
+    commit_stops_on after may = record { more = goes.more; asked = goes.asked; stops = commit_stops_here capacity shrunk committed now old goes.more goes.last goes.next space mid goes.goes after may }
 
 -- ---- lines
 
@@ -285,11 +285,16 @@ module _ (capacity : ℕ) (shrunk : Option ℕ) (committed now : Content) (old :
     pub stands_in_lines : Stands knows first.goes.last first.goes.next (shrunk_in shrunk first.goes.more) space mid
     stands_in_lines = stands_on_there capacity shrunk committed now old knows (take count lines) first.text space mid first.goes
 
-    pub lines_stop : (after : Outside) → StopsOn capacity first.goes.last first.goes.next (shrunk_in shrunk first.goes.more) mid after → StopsOn capacity committed now shrunk old after
-    lines_stop after second = on_stops capacity shrunk committed now old knows (take count lines) first.text space mid first.goes after second
+    pub lines_stop : (after : Outside) → StopsOn capacity first.goes.last first.goes.next (shrunk_in shrunk first.goes.more) mid [] after → StopsLines capacity committed now shrunk old lines after
+    lines_stop after second = record {
+      count = count;
+      stops =
+          subst (λ (l : List (List ℕ)). StopsOn capacity committed now shrunk old l after) (append-nil (take count lines))
+          (on_stops capacity shrunk committed now old knows (take count lines) first.text space mid first.goes [] after second);
+    }
 
-    pub commit_stops_lines : (after : Outside) → MayCommit space mid after → StopsOn capacity committed now shrunk old after
-    commit_stops_lines after may = commit_stops_on capacity shrunk committed now old knows (take count lines) first.text space mid first.goes after may
+    pub commit_stops_lines : (after : Outside) → MayCommit space mid after → StopsLines capacity committed now shrunk old lines after
+    commit_stops_lines after may = record { count = count; stops = commit_stops_on capacity shrunk committed now old knows (take count lines) first.text space mid first.goes after may }
 
     -- one more, or none
     pub lines_on : (knows_new : Knowing) (answered : Bool) (line after : List ℕ) (new : Space) (end : Outside) (many : ℕ) → take count lines ++ line_if answered line ≡ take many lines

@@ -103,9 +103,10 @@ pub record GoesRested (capacity : ℕ) (knows : Knowing) (committed now : Conten
   pub tidy : GoesTidy capacity knows committed now shrunk old space new
   pub rests : LeadsToRest capacity shrunk now [] tidy.next
 
--- a stretch that a fault ended, after some entries
-pub record StopsOn (capacity : ℕ) (committed now : Content) (shrunk : Option ℕ) (old : Outside) (new : Outside) : Type 0 where
+-- a stretch that a fault ended, after entries of these lines
+pub record StopsOn (capacity : ℕ) (committed now : Content) (shrunk : Option ℕ) (old : Outside) (lines : List (List ℕ)) (new : Outside) : Type 0 where
   pub more : List Entry
+  pub asked : lines_of more ≡ lines
   pub stops : Stops capacity shrunk committed now old more new
 
 -- All that the volume stands for is committed, and nothing of it is told: these are the lines and their replies.
@@ -134,6 +135,11 @@ pub record ServesLines (count : ℕ) (capacity : ℕ) (knows : Knowing) (committ
   pub text : List ℕ
   pub replies : after ≡ before ++ text
   pub goes : GoesOn capacity knows committed now shrunk old (take count lines) text space new
+
+-- A fault ended it after some of these lines.
+pub record StopsLines (capacity : ℕ) (committed now : Content) (shrunk : Option ℕ) (old : Outside) (lines : List (List ℕ)) (new : Outside) : Type 0 where
+  pub count : ℕ
+  pub stops : StopsOn capacity committed now shrunk old (take count lines) new
 
 -- The first of these lines were served, and all of it is committed.
 pub record ServesBatch (count : ℕ) (capacity : ℕ) (knows : Knowing) (start : Content) (shrunk : Option ℕ) (old : Outside) (lines : List (List ℕ)) (before after : List ℕ) (space : Space) (new : Outside) : Type 0 where

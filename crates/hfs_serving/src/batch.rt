@@ -1,7 +1,7 @@
 //! A batch: lines are answered in memory, housekeeping rests before each, and one commit makes all durable.
-ghost use Rattle.std.specs.Prelude.{◌≡◌, ◌≤◌, ℕ, Bool, Option, IsTrue, IfOk, OnOk, OnErr, length};
+ghost use Rattle.std.specs.Prelude.{◌≡◌, ◌≤◌, [], ℕ, Bool, Option, IsTrue, IfOk, OnOk, OnErr, length};
 ghost use Rattle.jnl_format.specs.Recovery.{Content};
-ghost use Rattle.hfs_serving.specs.Going.{GoesTidy, ServesBatch, ServesLine, ServesLines, SomeStands, Stands, StopsOn, is_answered};
+ghost use Rattle.hfs_serving.specs.Going.{GoesTidy, ServesBatch, ServesLine, ServesLines, SomeStands, Stands, StopsLines, StopsOn, is_answered};
 
 use crate::basis::Ground;
 use crate::housekeeping::tidy;
@@ -22,7 +22,7 @@ pub fn serve_line<V: Volume, G: Ground>(
     ensures goes { IsTrue (G.space base.old).tells → (capacity : ℕ) (committed now : Content) (shrunk : Option ℕ) → Stands (V.knows volume.old (G.space base.old) capacity) committed now shrunk (G.space base.old) (G.outside base.old)
         → IfOk result (λ answered. ServesLine answered capacity (V.knows volume.new (G.space base.new) capacity) committed now shrunk (G.outside base.old) line.now replies.old replies.new (G.space base.new) (G.outside base.new)) }
     ensures stops { IsTrue (G.space base.old).tells → (capacity : ℕ) (committed now : Content) (shrunk : Option ℕ) → Stands (V.knows volume.old (G.space base.old) capacity) committed now shrunk (G.space base.old) (G.outside base.old)
-        → OnErr result (StopsOn capacity committed now shrunk (G.outside base.old) (G.outside base.new)) }
+        → OnErr result (StopsOn capacity committed now shrunk (G.outside base.old) [] (G.outside base.new)) }
     ensures still { (capacity : ℕ) → G.serves base.old capacity → G.taken base.old ≤ capacity → OnOk result (G.serves base.new capacity × (G.taken base.new ≤ capacity)) }
     ensures tells { OnOk result ((G.space base.new).tells ≡ (G.space base.old).tells) }
 {
@@ -68,7 +68,7 @@ fn make_room<V: Volume, G: Ground>(
     ensures goes { IsTrue (G.space base.old).tells → (capacity : ℕ) (committed now : Content) (shrunk : Option ℕ) → Stands (V.knows volume.old (G.space base.old) capacity) committed now shrunk (G.space base.old) (G.outside base.old)
         → OnOk result (GoesTidy capacity (V.knows volume.new (G.space base.new) capacity) committed now shrunk (G.outside base.old) (G.space base.new) (G.outside base.new)) }
     ensures stops { IsTrue (G.space base.old).tells → (capacity : ℕ) (committed now : Content) (shrunk : Option ℕ) → Stands (V.knows volume.old (G.space base.old) capacity) committed now shrunk (G.space base.old) (G.outside base.old)
-        → OnErr result (StopsOn capacity committed now shrunk (G.outside base.old) (G.outside base.new)) }
+        → OnErr result (StopsOn capacity committed now shrunk (G.outside base.old) [] (G.outside base.new)) }
     ensures still { (capacity : ℕ) → G.serves base.old capacity → G.taken base.old ≤ capacity → OnOk result (G.serves base.new capacity × (G.taken base.new ≤ capacity)) }
     ensures tells { OnOk result ((G.space base.new).tells ≡ (G.space base.old).tells) }
 {
@@ -91,7 +91,7 @@ fn serve_lines<V: Volume, G: Ground>(
     ensures goes { IsTrue (G.space base.old).tells → (capacity : ℕ) (committed now : Content) (shrunk : Option ℕ) → Stands (V.knows volume.old (G.space base.old) capacity) committed now shrunk (G.space base.old) (G.outside base.old)
         → IfOk result (λ count. ServesLines count capacity (V.knows volume.new (G.space base.new) capacity) committed now shrunk (G.outside base.old) lines.now replies.old replies.new (G.space base.new) (G.outside base.new)) }
     ensures stops { IsTrue (G.space base.old).tells → (capacity : ℕ) (committed now : Content) (shrunk : Option ℕ) → Stands (V.knows volume.old (G.space base.old) capacity) committed now shrunk (G.space base.old) (G.outside base.old)
-        → OnErr result (StopsOn capacity committed now shrunk (G.outside base.old) (G.outside base.new)) }
+        → OnErr result (StopsLines capacity committed now shrunk (G.outside base.old) lines.now (G.outside base.new)) }
     ensures few { IfOk result (λ count. count ≤ length lines.now) }
     ensures still { (capacity : ℕ) → G.serves base.old capacity → G.taken base.old ≤ capacity → OnOk result (G.serves base.new capacity × (G.taken base.new ≤ capacity)) }
     ensures tells { OnOk result ((G.space base.new).tells ≡ (G.space base.old).tells) }
@@ -119,7 +119,7 @@ pub fn serve_batch<V: Volume, G: Ground>(
         → IfOk result (λ count. ServesBatch count capacity (V.knows volume.new (G.space base.new) capacity) start shrunk (G.outside base.old) lines.now replies.old replies.new (G.space base.new) (G.outside base.new)) }
     // A fault leaves what was committed, or the content after some lines.
     ensures stops { IsTrue (G.space base.old).tells → (capacity : ℕ) (start : Content) (shrunk : Option ℕ) → Stands (V.knows volume.old (G.space base.old) capacity) start start shrunk (G.space base.old) (G.outside base.old)
-        → OnErr result (StopsOn capacity start start shrunk (G.outside base.old) (G.outside base.new)) }
+        → OnErr result (StopsLines capacity start start shrunk (G.outside base.old) lines.now (G.outside base.new)) }
     ensures few { IfOk result (λ count. count ≤ length lines.now) }
     ensures still { (capacity : ℕ) → G.serves base.old capacity → G.taken base.old ≤ capacity → OnOk result (G.serves base.new capacity × (G.taken base.new ≡ 0)) }
     ensures tells { OnOk result ((G.space base.new).tells ≡ (G.space base.old).tells) }

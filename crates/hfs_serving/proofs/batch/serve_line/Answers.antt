@@ -159,7 +159,7 @@ returns-in_err-make_room-clause-stops g c tells capacity committed now shrunk st
     let left = left_line capacity knows_new goes.tidy.last goes.tidy.next shrunk new c.args.line.now c.loop.replies c.answer.new.replies c.in_ok-step.step (sym c.is_answered.ensures ∙ c.if-is_answered.false) answered in
     let rested = rested_left capacity shrunk committed now old knows space mid goes knows_new new after touches left.1 in
     on_err c.from_residual-in_err-make_room.result
-    (tidy_stops capacity shrunk committed now old knows_new new after rested.tidy (g.G.Ground.outside c.make_room.new.base)
+    (tidy_stops capacity shrunk committed now old knows_new new after rested.tidy [] (g.G.Ground.outside c.make_room.new.base)
     (c.in_err-make_room.ensures.stops (c.answer.ensures.tells ∙ tells_there) capacity rested.tidy.last rested.tidy.next shrunk (stands_there capacity shrunk committed now old knows_new new after rested.tidy)))
 
 pub loop-preserved : goal.loop-preserved
