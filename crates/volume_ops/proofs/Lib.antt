@@ -2,9 +2,16 @@ pub mod Alike
 pub mod Bridging
 pub mod Facts
 pub mod Gauging
+pub mod Listed
 pub mod NodesRead
 pub mod Opened
+pub mod OpenFiles
+pub mod Over
+pub mod Paths
 pub mod Placing
+pub mod Rising
 pub mod Seeing
 pub mod SoundForks
+pub mod Still
 pub mod Stood
+pub mod Walked

@@ -5,8 +5,11 @@ mod attaching;
 mod extents;
 mod header;
 mod keeping;
+mod listing;
 mod looking;
 mod names;
+mod opening;
+mod reaching;
 mod room;
 mod volume;
 
