@@ -223,6 +223,48 @@ fn copy_of(alloc: Global, space: &Sectors) -> Result<Vec<Sector>, OutOfMemory> {
     Ok(Vec::from_slice(alloc, &space.list)?)
 }
 
+/// Fills a tree on, and looks through it.
+fn fill_on<K: KeyOrder>(
+    alloc: Global,
+    start: Plot,
+    kind: Kind,
+    from: u32,
+    to: u32,
+) -> Result<Plot, Flaw> {
+    let mut plot = start;
+    fill::<K>(alloc, &mut plot, kind, from, to)?;
+    look::<K>(alloc, &mut plot, kind, to, 1)?;
+    Ok(plot)
+}
+
+/// Puts back the sectors of before a growth: the tree says again what it said then.
+fn put_back(start: Plot, kept: &[Sector], before: &TreeShape, bits: u32) -> Result<Plot, Flaw> {
+    let mut plot = start;
+    if !plot.undo(kept) {
+        return Err(Flaw::Growth);
+    }
+    if plot.shape() == *before && plot.map_bits() == bits {
+        Ok(plot)
+    } else {
+        Err(Flaw::Numbers)
+    }
+}
+
+/// Looks through a tree, and once more behind an attach.
+fn look_twice<K: KeyOrder>(
+    alloc: Global,
+    start: Plot,
+    fork: &ExtentList,
+    block: u32,
+    kind: Kind,
+    many: u32,
+) -> Result<(), Flaw> {
+    let mut plot = start;
+    look::<K>(alloc, &mut plot, kind, many, 1)?;
+    plot = again(alloc, plot, fork, block)?;
+    look::<K>(alloc, &mut plot, kind, many, 1)
+}
+
 /// Lengthens the fork of a filled tree, fills the tree on, and puts back the sectors of before the growth.
 fn run_growing<K: KeyOrder>(
     alloc: Global,
@@ -234,23 +276,15 @@ fn run_growing<K: KeyOrder>(
     growth: &Growth,
 ) -> Result<(), Flaw> {
     let (few, many) = pairs;
-    let mut plot = attach(alloc, space, fork, block)?;
-    fill::<K>(alloc, &mut plot, kind, 0, few)?;
-    let before = plot.shape();
-    let bits = plot.map_bits();
-    let kept = copy_of(alloc, &plot.space)?;
-    plot = lengthen(alloc, plot, fork, block, growth)?;
-    fill::<K>(alloc, &mut plot, kind, few, many)?;
-    look::<K>(alloc, &mut plot, kind, many, 1)?;
-    if !plot.undo(&kept) {
-        return Err(Flaw::Growth);
-    }
-    if plot.shape() != before || plot.map_bits() != bits {
-        return Err(Flaw::Numbers);
-    }
-    look::<K>(alloc, &mut plot, kind, few, 1)?;
-    plot = again(alloc, plot, fork, block)?;
-    look::<K>(alloc, &mut plot, kind, few, 1)
+    let empty = attach(alloc, space, fork, block)?;
+    let filled = fill_on::<K>(alloc, empty, kind, 0, few)?;
+    let before = filled.shape();
+    let bits = filled.map_bits();
+    let kept = copy_of(alloc, &filled.space)?;
+    let longer = lengthen(alloc, filled, fork, block, growth)?;
+    let full = fill_on::<K>(alloc, longer, kind, few, many)?;
+    let back = put_back(full, &kept, &before, bits)?;
+    look_twice::<K>(alloc, back, fork, block, kind, few)
 }
 
 /// A fork of these extents.
