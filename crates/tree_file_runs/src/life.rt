@@ -56,11 +56,7 @@ fn attach(alloc: Global, space: Sectors, fork: &ExtentList, block: u32) -> Resul
 fn again(alloc: Global, plot: Plot, fork: &ExtentList, block: u32) -> Result<Plot, Flaw> {
     let shape = plot.shape();
     let next = attach(alloc, plot.into_sectors(), fork, block)?;
-    if next.shape() == shape {
-        Ok(next)
-    } else {
-        Err(Flaw::Numbers)
-    }
+    with_shape(next, &shape)
 }
 
 fn edit_pair<K: KeyOrder>(
@@ -130,6 +126,37 @@ fn look<K: KeyOrder>(
     Ok(())
 }
 
+/// Makes an edit of each pair, and looks through the tree.
+fn edit_and_look<K: KeyOrder>(
+    alloc: Global,
+    start: Plot,
+    fork: &ExtentList,
+    block: u32,
+    kind: Kind,
+    what: Edit,
+    many: u32,
+    version: u8,
+) -> Result<Plot, Flaw> {
+    let mut plot = edit_all::<K>(alloc, start, fork, block, kind, what, many, version)?;
+    look::<K>(alloc, &mut plot, kind, many, version)?;
+    Ok(plot)
+}
+
+/// Whether these are the numbers of the tree that was written.
+fn is_fresh(shape: &TreeShape, made: &Made) -> bool {
+    let taken = made.map_nodes.wrapping_add(1);
+    shape.total == made.total && shape.free == made.total.wrapping_sub(taken)
+}
+
+/// The tree, where its numbers are these.
+fn with_shape(plot: Plot, shape: &TreeShape) -> Result<Plot, Flaw> {
+    if plot.shape() == *shape {
+        Ok(plot)
+    } else {
+        Err(Flaw::Numbers)
+    }
+}
+
 fn run<K: KeyOrder>(
     alloc: Global,
     space: Sectors,
@@ -141,22 +168,15 @@ fn run<K: KeyOrder>(
     let block = made.block;
     let empty = attach(alloc, space, fork, block)?;
     let shape = empty.shape();
-    if shape.total != made.total
-        || shape.free != made.total.wrapping_sub(made.map_nodes).wrapping_sub(1)
-    {
+    if !is_fresh(&shape, made) {
         return Err(Flaw::Numbers);
     }
-    let mut plot = edit_all::<K>(alloc, empty, fork, block, kind, Edit::Add, many, 1)?;
-    look::<K>(alloc, &mut plot, kind, many, 1)?;
-    plot = edit_all::<K>(alloc, plot, fork, block, kind, Edit::Change, many, 2)?;
-    look::<K>(alloc, &mut plot, kind, many, 2)?;
-    plot = edit_all::<K>(alloc, plot, fork, block, kind, Edit::TakeOut, many, 2)?;
-    plot = again(alloc, plot, fork, block)?;
-    if plot.shape() == shape {
-        Ok(())
-    } else {
-        Err(Flaw::Numbers)
-    }
+    let full = edit_and_look::<K>(alloc, empty, fork, block, kind, Edit::Add, many, 1)?;
+    let other = edit_and_look::<K>(alloc, full, fork, block, kind, Edit::Change, many, 2)?;
+    let bare = edit_all::<K>(alloc, other, fork, block, kind, Edit::TakeOut, many, 2)?;
+    let last = again(alloc, bare, fork, block)?;
+    with_shape(last, &shape)?;
+    Ok(())
 }
 
 /// A run of blocks that a fork gets, and what its tree says behind that.
@@ -192,6 +212,28 @@ fn grew(before: &TreeShape, after: &TreeShape, growth: &Growth) -> bool {
     *after == wanted
 }
 
+/// Adds a run behind the fork of a tree: its numbers are then those of the growth.
+fn grow_by(alloc: Global, start: Plot, run: Extent, growth: &Growth) -> Result<Plot, Flaw> {
+    let mut plot = start;
+    let before = plot.shape();
+    let bits = growth.map_bits;
+    if !plot.grow(alloc, run)? {
+        return Err(Flaw::Growth);
+    }
+    if grew(&before, &plot.shape(), growth) && plot.map_bits() == bits {
+        Ok(plot)
+    } else {
+        Err(Flaw::Numbers)
+    }
+}
+
+/// A fork with a run behind it.
+fn longer_fork(alloc: Global, fork: &ExtentList, run: Extent) -> Result<ExtentList, OutOfMemory> {
+    let mut tail = ExtentList::new(alloc);
+    tail.push(run)?;
+    Ok(fork.append(alloc, &tail)?)
+}
+
 /// Lengthens the fork of a tree, and attaches it anew.
 fn lengthen(
     alloc: Global,
@@ -200,21 +242,12 @@ fn lengthen(
     block: u32,
     growth: &Growth,
 ) -> Result<Plot, Flaw> {
-    let mut plot = start;
-    let before = plot.shape();
     let run = Extent {
         start: growth.start,
         count: growth.count,
     };
-    if !plot.grow(alloc, run)? {
-        return Err(Flaw::Growth);
-    }
-    if !grew(&before, &plot.shape(), growth) || plot.map_bits() != growth.map_bits {
-        return Err(Flaw::Numbers);
-    }
-    let mut tail = ExtentList::new(alloc);
-    tail.push(run)?;
-    let longer = fork.append(alloc, &tail)?;
+    let plot = grow_by(alloc, start, run, growth)?;
+    let longer = longer_fork(alloc, fork, run)?;
     again(alloc, plot, &longer, block)
 }
 
