@@ -16,3 +16,4 @@ pub mod Mounting
 pub mod Joining
 pub mod Grounding
 pub mod Going
+pub mod Stepping

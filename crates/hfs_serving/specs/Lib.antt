@@ -8,3 +8,4 @@ pub mod Stages
 pub mod Calls
 pub mod Grounds
 pub mod Going
+pub mod Steps

@@ -7,6 +7,7 @@ mod durable;
 mod housekeeping;
 mod laws;
 mod space;
+mod telling;
 mod volume;
 
 pub use basis::Ground;
@@ -17,4 +18,5 @@ pub use laws::{
     batches_end, commits_go_on, contents_tell_trees, entries_lead_on, mounts_serve, runs_end,
     runs_keep_promises, stretches_join, touches_go_on,
 };
+pub use telling::{Stop, Teller, serve_step};
 pub use volume::{Next, Step, Volume};
