@@ -17,3 +17,4 @@ pub mod Joining
 pub mod Grounding
 pub mod Going
 pub mod Stepping
+pub mod Whole

@@ -30,6 +30,10 @@ pub record IsStill (old new : Space) : Type 0 where
   pub spare : new.spare ≡ old.spare
   pub faults : new.faults ≡ old.faults
 
+-- for some capacity and shrunk file the volume stands for what is committed
+abbrev pub SomeWhole : (ℕ → Knowing) → Space → Outside → Type 0
+SomeWhole knows space outside = (capacity : ℕ) × (start : Content) × (shrunk : Option ℕ) × Stands (knows capacity) start start shrunk space outside
+
 -- The first of these lines were served to their end: their replies were told, and the volume stands for what they left, which is committed.
 pub record ServesStep (count capacity : ℕ) (knows : Knowing) (start : Content) (shrunk : Option ℕ) (old : Outside) (lines : List (List ℕ)) (space : Space) (new : Outside) : Type 0 where
   pub run : List Entry

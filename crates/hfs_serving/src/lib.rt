@@ -6,6 +6,8 @@ mod batch;
 mod durable;
 mod housekeeping;
 mod laws;
+mod running;
+mod sink;
 mod space;
 mod telling;
 mod volume;
@@ -18,5 +20,7 @@ pub use laws::{
     batches_end, commits_go_on, contents_tell_trees, entries_lead_on, mounts_serve, runs_end,
     runs_keep_promises, stretches_join, touches_go_on,
 };
+pub use running::serve_all;
+pub use sink::tell_whole;
 pub use telling::{Stop, Teller, serve_step};
 pub use volume::{Next, Step, Volume};

@@ -5,6 +5,8 @@ ghost use Rattle.hfs_serving.specs.Grounds.{IsInService};
 ghost use Rattle.hfs_serving.specs.Outside.{outside_of};
 
 use crate::basis::Ground;
+use crate::sink::tell_whole;
+use crate::telling::Teller;
 use hx_bytes::Failed;
 use jnl_store::Space;
 use sector_disk::Rig;
@@ -30,4 +32,10 @@ impl<R: Rig> Ground for Space<'_, '_, R> {
     }
 
     fn look(&self) {}
+}
+
+impl<R: Rig> Teller for Space<'_, '_, R> {
+    fn tell_all(&mut self, bytes: &[u8]) -> Result<(), Failed> {
+        tell_whole(self.disk, bytes)
+    }
 }

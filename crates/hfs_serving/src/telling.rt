@@ -31,6 +31,8 @@ pub enum Stop {
     Memory,
     /// The sink failed.
     Sink,
+    /// More steps were made for one line than a volume has blocks and records.
+    Steps,
 }
 
 impl From<Trouble> for Stop {
