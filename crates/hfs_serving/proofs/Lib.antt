@@ -3,14 +3,12 @@ pub mod Leading
 pub mod Agreeing
 pub mod Stretches
 pub mod Batches
-pub mod Watching
 pub mod Recoveries
 pub mod Bridging
 pub mod Committing
 pub mod Touching
 pub mod Heading
 pub mod Capacities
-pub mod Calling
 pub mod Staging
 pub mod Mounting
 pub mod Joining

@@ -3,7 +3,6 @@
 
 mod basis;
 mod batch;
-mod durable;
 mod housekeeping;
 mod laws;
 mod running;
@@ -14,7 +13,6 @@ mod volume;
 
 pub use basis::Ground;
 pub use batch::{serve_batch, serve_line};
-pub use durable::make_durable;
 pub use housekeeping::{tidy, work};
 pub use laws::{
     batches_end, commits_go_on, contents_tell_trees, entries_lead_on, mounts_serve, runs_end,
