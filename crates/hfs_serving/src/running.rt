@@ -26,6 +26,7 @@ pub fn serve_all<V: Volume, G: Teller>(
         → OnErr result (CrashesStep capacity start shrunk (G.outside base.old) lines.now (G.outside base.new)) }
     ensures still { (capacity : ℕ) → G.serves base.old capacity → G.taken base.old ≤ capacity → OnOk result (G.serves base.new capacity × (G.taken base.new ≤ capacity)) }
     ensures tells { OnOk result ((G.space base.new).tells ≡ (G.space base.old).tells) }
+    ensures anchor { G.anchor base.new ≡ G.anchor base.old }
 {
     let mut at = 0;
     while at < lines.len() {

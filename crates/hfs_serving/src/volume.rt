@@ -45,7 +45,8 @@ pub trait Volume {
         ensures tidied { IsTrue (G.space base.old).tells → (capacity : ℕ) (committed now : Content) (shrunk : Option ℕ) → Stands (knows self.old (G.space base.old) capacity) committed now shrunk (G.space base.old) (G.outside base.old)
             → IfOk result (λ next. TidiesTo next capacity (knows self.new (G.space base.new) capacity) committed now shrunk (G.space base.new)) }
         ensures still { (capacity : ℕ) → G.serves base.old capacity → G.taken base.old ≤ capacity → OnOk result (G.serves base.new capacity × (G.taken base.new ≤ capacity)) }
-        ensures tells { (G.space base.new).tells ≡ (G.space base.old).tells };
+        ensures tells { (G.space base.new).tells ≡ (G.space base.old).tells }
+        ensures anchor { G.anchor base.new ≡ G.anchor base.old };
 
     /// Answers a line, and adds the text of its reply. Where memory is missing, that is its reply.
     fn answer<G: Ground>(
@@ -61,7 +62,8 @@ pub trait Volume {
         ensures answered { IsTrue (G.space base.old).tells → (capacity : ℕ) (committed now : Content) (shrunk : Option ℕ) → Stands (knows self.old (G.space base.old) capacity) committed now shrunk (G.space base.old) (G.outside base.old)
             → IfOk result (λ step. AnswersTo step capacity (knows self.new (G.space base.new) capacity) committed now shrunk (G.space base.new) line.now replies.old replies.new) }
         ensures still { (capacity : ℕ) → G.serves base.old capacity → G.taken base.old ≤ capacity → OnOk result (G.serves base.new capacity × (G.taken base.new ≤ capacity)) }
-        ensures tells { (G.space base.new).tells ≡ (G.space base.old).tells };
+        ensures tells { (G.space base.new).tells ≡ (G.space base.old).tells }
+        ensures anchor { G.anchor base.new ≡ G.anchor base.old };
 
     /// Makes all durable, and nothing is held any more.
     fn commit<G: Ground>(&mut self, base: &mut G) -> Result<(), Trouble>
@@ -72,7 +74,8 @@ pub trait Volume {
         ensures knows { IsTrue (G.space base.old).tells → (capacity : ℕ) (committed now : Content) (shrunk : Option ℕ) → Stands (knows self.old (G.space base.old) capacity) committed now shrunk (G.space base.old) (G.outside base.old)
             → OnOk result (Stays (knows self.new (G.space base.new) capacity) now now shrunk (G.space base.new)) }
         ensures still { (capacity : ℕ) → G.serves base.old capacity → OnOk result (G.serves base.new capacity × (G.taken base.new ≡ 0)) }
-        ensures tells { OnOk result ((G.space base.new).tells ≡ (G.space base.old).tells) };
+        ensures tells { OnOk result ((G.space base.new).tells ≡ (G.space base.old).tells) }
+        ensures anchor { G.anchor base.new ≡ G.anchor base.old };
 
     /// What it knows it knows still where only bytes were told. It calls nothing.
     fn look<G: Ground>(&self, base: &G)

@@ -10,6 +10,7 @@ use Rattle.hfs_serving.proofs.running.serve_all.Goals as goal
 pub loop-at-init : goal.loop-at-init
 loop-at-init g c = record {
   inside = omega arith;
+  anchor = refl;
   tells = refl;
   serves = λ capacity serves taken. (serves, taken);
   goes = λ tells capacity start shrunk stands. step_none capacity shrunk start (g.G.Ground.outside c.args.base.now) c.args.lines.now _ _ stands;
@@ -60,6 +61,7 @@ loop-at-preserved g c = record {
       let few = c.in_ok-count.ensures.few in
       let rest = subst (λ (l : List (List ℕ)). c.in_ok-count.count ≤ length l) (take_rest c.args.lines.now c.loop-at.at) few in
       omega (arith, rest, length-drop c.loop-at.at c.args.lines.now, c.loop-at.invariant.inside);
+  anchor = c.serve_step.ensures.anchor ∙ c.loop-at.invariant.anchor;
   tells = c.in_ok-count.ensures.tells ∙ c.loop-at.invariant.tells;
   serves = λ capacity serves taken.
       let was = c.loop-at.invariant.serves capacity serves taken in

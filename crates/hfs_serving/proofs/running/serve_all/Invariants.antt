@@ -9,6 +9,7 @@ abbrev pub invariant-loop-at : goal.invariant-loop-at
 invariant-loop-at g l =
     record {
       inside : l.at ≤ length l.lines;
+      anchor : g.G.Ground.anchor l.base ≡ g.G.Ground.anchor l.fn.base;
       tells : (g.G.SectorView.space l.base).tells ≡ (g.G.SectorView.space l.fn.base).tells;
       serves : (capacity : ℕ) → g.G.Ground.serves l.fn.base capacity → g.G.Ground.taken l.fn.base ≤ capacity → g.G.Ground.serves l.base capacity × (g.G.Ground.taken l.base ≤ capacity);
       goes : IsTrue (g.G.SectorView.space l.fn.base).tells → (capacity : ℕ) (start : Content) (shrunk : Option ℕ)
