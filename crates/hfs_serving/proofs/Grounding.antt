@@ -62,7 +62,7 @@ module _ (a b : ℕ) (store : Store) (disk : State) (is : IsDisk disk) (fits : F
 -- ---- a commit, seen from outside the store that it leaves
 
 -- a rig, of which a mount finds what this makes of an image
-abbrev outside_by : (Content → Content) → State → Outside
+abbrev pub outside_by : (Content → Content) → State → Outside
 outside_by finds rig = record {
   clock = record { moment = rig.clock.moment; left = λ t recovered told. (image : Content) × rig.clock.left t image told × (recovered ≡ finds image) };
   told = rig.told;

@@ -16,3 +16,4 @@ pub mod Grounding
 pub mod Going
 pub mod Stepping
 pub mod Whole
+pub mod Promising

@@ -5,6 +5,7 @@ mod basis;
 mod batch;
 mod housekeeping;
 mod laws;
+mod promises;
 mod running;
 mod sink;
 mod space;
@@ -18,6 +19,7 @@ pub use laws::{
     batches_end, commits_go_on, contents_tell_trees, entries_lead_on, mounts_serve, runs_end,
     runs_keep_promises, stretches_join, touches_go_on,
 };
+pub use promises::run;
 pub use running::serve_all;
 pub use sink::tell_whole;
 pub use telling::{Stop, Teller, serve_step};
