@@ -2,6 +2,7 @@ pub mod Alike
 pub mod Bridging
 pub mod Facts
 pub mod Gauging
+pub mod Identities
 pub mod Listed
 pub mod NodesRead
 pub mod Opened
