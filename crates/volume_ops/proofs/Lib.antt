@@ -1,5 +1,6 @@
 pub mod Alike
 pub mod Bridging
+pub mod EditsOn
 pub mod Facts
 pub mod Gauging
 pub mod Identities
