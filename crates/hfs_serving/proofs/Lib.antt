@@ -17,3 +17,4 @@ pub mod Going
 pub mod Stepping
 pub mod Whole
 pub mod Promising
+pub mod Closing

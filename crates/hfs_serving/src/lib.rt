@@ -3,6 +3,7 @@
 
 mod basis;
 mod batch;
+mod finishing;
 mod housekeeping;
 mod laws;
 mod promises;
@@ -14,6 +15,7 @@ mod volume;
 
 pub use basis::Ground;
 pub use batch::{serve_batch, serve_line};
+pub use finishing::finish;
 pub use housekeeping::{tidy, work};
 pub use laws::{
     batches_end, commits_go_on, contents_tell_trees, entries_lead_on, mounts_serve, runs_end,
