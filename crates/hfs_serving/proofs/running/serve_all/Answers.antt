@@ -13,6 +13,7 @@ loop-at-init g c = record {
   anchor = refl;
   tells = refl;
   serves = λ capacity serves taken. (serves, taken);
+  nothing = λ capacity serves none. none;
   goes = λ tells capacity start shrunk stands. step_none capacity shrunk start (g.G.Ground.outside c.args.base.now) c.args.lines.now _ _ stands;
 }
 
@@ -67,6 +68,9 @@ loop-at-preserved g c = record {
       let was = c.loop-at.invariant.serves capacity serves taken in
       let still = c.in_ok-count.ensures.still capacity was.0 was.1 in
       (still.0, omega (arith, still.1));
+  nothing = λ capacity serves none.
+      let was = c.loop-at.invariant.serves capacity serves (omega (arith, none)) in
+      (c.in_ok-count.ensures.still capacity was.0 was.1).1;
   goes = λ tells capacity start shrunk stands.
       let old = g.G.Ground.outside c.args.base.now in
       let space = g.G.SectorView.space c.loop-at.base in
@@ -91,3 +95,6 @@ returns-clause-serves g c tells capacity start shrunk stands =
     let all : c.loop-at.at ≡ length c.args.lines.now = omega (arith, c.loop-at-test.false, c.loop-at.invariant.inside) in
     subst (λ (n : ℕ). ServesStep n capacity (g.V.Volume.knows c.loop-at.volume space capacity) start shrunk (g.G.Ground.outside c.args.base.now) c.args.lines.now space (g.G.Ground.outside c.loop-at.base)) all
     (c.loop-at.invariant.goes tells capacity start shrunk stands)
+
+pub returns-clause-nothing : goal.returns-clause-nothing
+returns-clause-nothing g c capacity serves none = c.loop-at.invariant.nothing capacity serves none
