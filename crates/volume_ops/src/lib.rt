@@ -2,6 +2,7 @@
 #![tactic(auto)]
 
 mod attaching;
+mod editing;
 mod extents;
 mod header;
 mod keeping;
@@ -9,6 +10,7 @@ mod listing;
 mod looking;
 mod names;
 mod opening;
+mod owning;
 mod reaching;
 mod room;
 mod volume;
