@@ -14,7 +14,7 @@ struct Row {
     pairs: u32,
 }
 
-const ROWS: [Row; 8] = [
+const ROWS: [Row; 9] = [
     Row {
         shows: "nodes of one sector, which is a block",
         kind: Kind::Extents,
@@ -118,6 +118,19 @@ const ROWS: [Row; 8] = [
         extents: &[(1, 20)],
         sectors: 336,
         pairs: 71,
+    },
+    Row {
+        shows: "the largest nodes in the largest blocks, the last block first",
+        kind: Kind::Catalog,
+        made: Made {
+            node_size: 32768,
+            block: 65536,
+            total: 8,
+            map_nodes: 0,
+        },
+        extents: &[(3, 1), (0, 3)],
+        sectors: 512,
+        pairs: 181,
     },
 ];
 
