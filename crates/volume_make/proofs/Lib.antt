@@ -1,0 +1,4 @@
+pub mod Sizes
+pub mod Results
+pub mod Writes
+pub mod Leaves

@@ -1,0 +1,4 @@
+pub mod Refusal
+pub mod Layout
+pub mod Texts
+pub mod Written
