@@ -4,6 +4,7 @@ ghost use Rattle.sector_disk.specs.Space.{Space};
 ghost use Rattle.jnl_format.specs.Recovery.{Content};
 ghost use Rattle.hfs_serving.specs.Going.{SomeStands, Stands, Stays, TidiesTo, AnswersTo};
 ghost use Rattle.hfs_serving.specs.Serving.{Commits, MayCommit, Touches};
+ghost use Rattle.hfs_serving.specs.Steps.{IsStill};
 
 use crate::basis::Ground;
 use hx_bytes::{Bytes, Trouble};
@@ -72,4 +73,8 @@ pub trait Volume {
             → OnOk result (Stays (knows self.new (G.space base.new) capacity) now now shrunk (G.space base.new)) }
         ensures still { (capacity : ℕ) → G.serves base.old capacity → OnOk result (G.serves base.new capacity × (G.taken base.new ≡ 0)) }
         ensures tells { OnOk result ((G.space base.new).tells ≡ (G.space base.old).tells) };
+
+    /// What it knows it knows still where only bytes were told. It calls nothing.
+    fn look<G: Ground>(&self, base: &G)
+        ensures { (first : G) (capacity : ℕ) (committed now : Content) (shrunk : Option ℕ) → IsStill (G.space first) (G.space base.now) → knows self.now (G.space first) capacity committed now shrunk → knows self.now (G.space base.now) capacity committed now shrunk };
 }

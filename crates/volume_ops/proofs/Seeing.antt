@@ -5,7 +5,8 @@ use Rattle.hx_bytes.specs.declared.faults.Trouble.{Trouble}
 use Rattle.hx_bytes.specs.declared.faults.Trouble.TheVariants.{Disk, Memory}
 use Rattle.sector_disk.specs.Lists.{Content}
 use Rattle.sector_disk.specs.Cause.{Rose}
-use Rattle.sector_disk.specs.Space.{Space, LeavesDurable}
+use Rattle.sector_disk.specs.Clock.{TimePasses}
+use Rattle.sector_disk.specs.Space.{Space, SameSpace, SameSectors, SameRoom, LeavesDurable}
 use Rattle.sector_disk.proofs.Passing.{none_passes, both_pass}
 use Rattle.btree_edit.specs.Causes.{HasTroubleCause}
 use Rattle.btree_file.specs.Frame.{ReadsSpace, SameFile}
@@ -29,6 +30,10 @@ looks_reads these a b r = record {
   faults = r.faults;
   time = r.time;
 }
+
+-- the same of a read whose clauses stand by themselves
+pub looks_loads : (these : ℕ → Type 0) (a b : Space) → (IsTrue a.tells → SameSectors a b) → (IsTrue a.tells → TimePasses a.clock b.clock (LeavesDurable b)) → SameRoom a b → SameSpace a b → a.faults ≤ b.faults → Looks these a b
+looks_loads these a b sectors time room same faults = looks_reads these a b (record { sectors = sectors; time = time; room = room; same = same; faults = faults })
 
 pub looks_none : (these : ℕ → Type 0) (a : Space) → Looks these a a
 looks_none these a = record {

@@ -2,11 +2,15 @@
 #![tactic(auto)]
 
 mod attaching;
+mod editing;
 mod extents;
 mod header;
 mod keeping;
+mod listing;
 mod looking;
 mod names;
+mod opening;
+mod reaching;
 mod room;
 mod volume;
 

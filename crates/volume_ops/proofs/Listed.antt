@@ -1,0 +1,46 @@
+-- What `ls` answers over a settled volume is what the step answers on its tree.
+use Rattle.std.proofs.Common.{◌≡◌, ℕ, IsTrue, true, false, List, refl, sym, ◌∙◌, ap, subst, arith}
+use Rattle.std.specs.Prelude.{◌||◌, Result, Ok, Err, IfOk, All, if◌then◌else◌, ◌≤◌, ◌∷◌, [], length, zero, suc}
+use Rattle.std.specs.List.{flat_map}
+use Rattle.hx_bytes.specs.declared.faults.Trouble.{Trouble}
+use Rattle.sector_disk.specs.Lists.{Content}
+use Rattle.btree_node.specs.Levels.{Pair}
+use Rattle.btree_file.specs.Standing.{pairs_in}
+use Rattle.btree_file.specs.State.{sectors_of_tree}
+use Rattle.hfs_language.specs.Written.{FitsPath}
+use Rattle.hfs_language.specs.declared.command.Command.TheVariants as command
+use Rattle.hfs_language.specs.declared.refusal.Refusal.TheVariants as refusal
+use Rattle.hfs_language.specs.declared.reply.Reply.{Reply}
+use Rattle.hfs_language.specs.declared.reply.Reply.TheVariants as reply
+use Rattle.hfs_model.specs.Step.{is_private_path, step, step_line}
+use Rattle.hfs_model.specs.declared.plain.PlainTree.{PlainTree}
+use Rattle.hfs_volume.specs.Books.{SoundHasPlainTree}
+use Rattle.hfs_volume.specs.Content.{VolumeState, volume_of, records_of}
+use Rattle.hfs_volume.specs.TreeOf.{tree_in, tree_of, seen_entry}
+use Rattle.volume_ops.specs.Listing.{names_in}
+use Rattle.volume_ops.specs.Standing.{HoldsTrees, IsSettled}
+use Rattle.volume_ops.specs.declared.volume.Volume.{Volume}
+use Rattle.volume_ops.proofs.Rising.{settled_is_plain}
+use Rattle.volume_ops.proofs.Walked.{listing_same}
+
+-- the names of a path are short
+pub fits_short : (path : List (List ℕ)) → FitsPath path → All (λ (name : List ℕ). length name ≤ 255) path
+fits_short [] fits k d low = absurd (omega (arith, low))
+fits_short (name ∷ path) fits zero d low = fits.0.short
+fits_short (name ∷ path) fits (suc k) d low = fits_short path fits.1 k d (omega (arith, low))
+
+entries_are : (content : Content) → (tree_of content).entries ≡ flat_map (seen_entry (records_of (volume_of content))) (records_of (volume_of content))
+unfolding tree_of tree_in
+entries_are content = refl
+
+-- a path that begins with one of the volume's own names is refused
+pub refused_private : (tree : PlainTree) (path : List (List ℕ)) → is_private_path path ≡ true → reply.No refusal.Private ≡ (step_line tree (Ok (command.Ls path))).0
+refused_private tree path own = sym (ap (λ b. (if b || false then (reply.No refusal.Private, tree) else step tree (command.Ls path)).0) own)
+
+pub listing_is : SoundHasPlainTree → (v : Volume) (content : Content) → HoldsTrees v content → IsSettled v content → (path : List (List ℕ)) → is_private_path path ≡ false → FitsPath path
+    → names_in (pairs_in (sectors_of_tree v.catalog.file) content) path ≡ (step_line (tree_of content) (Ok (command.Ls path))).0
+listing_is law v content holds settled path not_own fits =
+    let sound = settled.sound.entries in
+    ap (λ (l : List Pair). names_in l path) (sym (ap (λ (l : VolumeState). l.catalog_pairs) settled.lists))
+    ∙ listing_same (volume_of content).catalog_pairs (volume_of content).head.next_catalog_id sound.ids sound.rooted sound.threads (tree_of content) (entries_are content) (settled_is_plain law v content holds settled) path not_own fits
+    ∙ sym (ap (λ b. (if b || false then (reply.No refusal.Private, tree_of content) else step (tree_of content) (command.Ls path)).0) not_own)
