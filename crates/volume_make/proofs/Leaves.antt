@@ -1,5 +1,5 @@
 -- How long the records of the catalog's leaf are.
-use Rattle.std.proofs.Common.{◌≡◌, ℕ, ◌+◌, ◌*◌, ◌≤◌, nat_le, true, false, List, [], ◌∷◌, ◌++◌, length, codes, IsTrue, refl, ◌∙◌, ap, arith, ⊎_elim, ◌<◌}
+use Rattle.std.proofs.Common.{◌≡◌, ℕ, ◌+◌, ◌*◌, ◌≤◌, nat_le, true, false, List, [], ◌++◌, length, codes, IsTrue, ap, arith, ⊎_elim, ◌<◌}
 use Rattle.std.specs.List.{concat}
 use Rattle.std.proofs.lemmas.Bool.{and_parts}
 use Rattle.std.proofs.lemmas.Bool.Decides.{leb_tells}

@@ -2,3 +2,4 @@ pub mod Sizes
 pub mod Results
 pub mod Writes
 pub mod Leaves
+pub mod Accepting

@@ -1,9 +1,8 @@
 -- Which sizes and names are accepted.
-use Rattle.std.proofs.Common.{◌≡◌, ℕ, Bool, true, false, IsTrue, List, Option, Some, None, Result, Ok, Err, refl, sym, ◌∙◌, ap, subst}
-use Rattle.std.specs.Prelude.{not, nat_lt, nat_le, if◌then◌else◌}
+use Rattle.std.proofs.Common.{◌≡◌, ℕ, Bool, true, false, IsTrue, List, Option, Some, None, refl, ap}
+use Rattle.std.specs.Prelude.{not, nat_lt, if◌then◌else◌}
 use Rattle.std.proofs.Common.{◌≤◌, ◌<◌, suc, arith, ⊎_elim}
 use Rattle.std.proofs.lemmas.Bool.Decides.{leb_tells}
-use Rattle.volume_make.specs.declared.fault.FormatFault.{FormatFault}
 use Rattle.volume_make.specs.declared.fault.FormatFault.TheVariants.{TooSmall, TooLarge, BadBlockSize, BadJournalSize, BadName}
 use Rattle.volume_make.specs.Refusal.{is_block_size, fits_blocks, fits_journal, is_name, format_refusal}
 use Rattle.volume_make.specs.Layout.{CanBe}

@@ -1,11 +1,10 @@
 -- The parts of a volume that can be made lie apart and on the volume.
-use Rattle.std.proofs.Common.{◌≡◌, ◌⊎◌, inl, inr, ⊎_elim, ◌<◌, ◌≤◌, ℕ, ◌+◌, ◌-◌, ◌*◌, ◌/◌, ◌%◌, Bool, true, false, nat_lt, nat_le, IsTrue, refl, sym, ◌∙◌, ap, subst, arith}
+use Rattle.std.proofs.Common.{◌≡◌, ◌⊎◌, inl, inr, ⊎_elim, ◌<◌, ◌≤◌, ℕ, ◌+◌, ◌-◌, ◌*◌, ◌/◌, ◌%◌, Bool, true, false, nat_lt, nat_le, refl, sym, subst, arith}
 use Rattle.std.specs.Prelude.{◌||◌, ◌&&◌, ◌==◌, if◌then◌else◌}
-use Rattle.std.proofs.lemmas.Bool.{and_parts, eqb-true, cases_lt}
+use Rattle.std.proofs.lemmas.Bool.{and_parts, eqb-true}
 use Rattle.std.proofs.lemmas.Bool.Decides.{leb_tells}
 use Rattle.std.proofs.Math.Nat.{add-mul}
-use Rattle.volume_make.specs.declared.layout.Layout.{Layout}
-use Rattle.volume_make.specs.Refusal.{is_block_size, fits_blocks, fits_journal}
+use Rattle.volume_make.specs.Refusal.{is_block_size}
 use Rattle.volume_make.specs.Layout.{CanBe, IsFitting, blocks_for, last_start, layout_of}
 
 le_true : (a b : ℕ) → nat_le a b ≡ true → a ≤ b
@@ -16,7 +15,7 @@ either true y is = inl refl
 either false y is = inr is
 
 -- what holds of each of the eight sizes holds of every block size
-each_size : (P : ℕ → Type 0) → P 512 → P 1024 → P 2048 → P 4096 → P 8192 → P 16384 → P 32768 → P 65536 → (b : ℕ) → is_block_size b ≡ true → P b
+pub each_size : (P : ℕ → Type 0) → P 512 → P 1024 → P 2048 → P 4096 → P 8192 → P 16384 → P 32768 → P 65536 → (b : ℕ) → is_block_size b ≡ true → P b
 each_size P p1 p2 p3 p4 p5 p6 p7 p8 b is =
     let at : (n : ℕ) → (b == n) ≡ true → P n → P b = λ n same p. subst P (sym (eqb-true b n same)) p in
     let s2 = b == 512 || b == 1024 in
@@ -40,12 +39,12 @@ each_size P p1 p2 p3 p4 p5 p6 p7 p8 b is =
     (λ (h : (b == 65536) ≡ true). at 65536 h p8) (either s7 (b == 65536) is)
 
 -- where the free blocks begin
-abbrev first_free : ℕ → ℕ → ℕ → ℕ
+abbrev pub first_free : ℕ → ℕ → ℕ → ℕ
 first_free s j b =
     blocks_for 1536 b + blocks_for (s * 512 / b) (8 * b) + 1 + j * 512 / b + blocks_for 65536 b + blocks_for 65536 b + blocks_for 262144 b
 
 -- what has to be known of the sizes for each block size
-record Keys (s j b : ℕ) : Type 0 where
+pub record Keys (s j b : ℕ) : Type 0 where
   pub front : 3 ≤ blocks_for 1536 b * (b / 512)
   pub room : first_free s j b * (b / 512) ≤ s - 2
   pub low : first_free s j b ≤ (s - 2) * 512 / b
@@ -161,7 +160,7 @@ module _ (s j : ℕ) (many : 16384 ≤ s) (least : 512 ≤ j) (quarter : j ≤ s
     large = omega arith;
   }
 
-keys : (s j b : ℕ) → CanBe s b j → Keys s j b
+pub keys : (s j b : ℕ) → CanBe s b j → Keys s j b
 keys s j b can =
     let a = and_parts (nat_le 512 j && nat_le j 65536 && nat_le j (s / 4)) (j % (b / 512) == 0) can.journal in
     let q = and_parts (nat_le 512 j && nat_le j 65536) (nat_le j (s / 4)) a.0 in

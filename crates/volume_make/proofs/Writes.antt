@@ -1,15 +1,15 @@
 -- Contents after writes: sector by sector, part by part, and the whole volume.
-use Rattle.std.proofs.Common.{◌≡◌, ◌≢◌, ◌⊎◌, inl, inr, ⊎_elim, ◌<◌, ◌≤◌, ◌+◌, ◌-◌, ◌*◌, ◌/◌, ◌∷◌, [], ℕ, List, IsTrue, length, set, refl, sym, ◌∙◌, ap, subst, arith, add-zero}
+use Rattle.std.proofs.Common.{◌≡◌, ◌≢◌, ⊎_elim, ◌<◌, ◌≤◌, ◌+◌, ◌∷◌, [], ℕ, List, IsTrue, length, set, refl, sym, ◌∙◌, ap, subst, arith, add-zero}
 use Rattle.std.proofs.lemmas.List.{length-map, length-set, get_or-set_same, get_or-set_other}
 use Rattle.std.proofs.lemmas.Bool.{cases_lt}
 use Rattle.sector_disk.specs.Lists.{Content, sector, put_sectors, last}
-use Rattle.sector_disk.specs.Disk.{State, IsDisk, Candidates, SameDisk, SameSink, HasNothingPending, content, content_of, only, with_candidate}
+use Rattle.sector_disk.specs.Disk.{State, IsDisk, HasNothingPending, content, content_of, only, with_candidate}
 use Rattle.sector_disk.proofs.Candidates.{content_of-only, content_of-with_candidate}
 use Rattle.sector_disk.proofs.Stages.{put_before, put_behind, put_inside, length-put}
 use Rattle.volume_make.specs.declared.layout.Layout.{Layout}
 use Rattle.volume_make.specs.Layout.{IsFitting, first_of, count_of, alternate_of}
 use Rattle.volume_make.specs.Texts.{header_text, bitmap_sector, info_text, journal_text, piece}
-use Rattle.volume_make.specs.Written.{Holds, Writes, WritesFront, WritesTrees, WritesHeaders, IsAside, HasParts}
+use Rattle.volume_make.specs.Written.{Writes, WritesFront, WritesTrees, WritesHeaders, HasParts}
 
 -- a disk that tells its content tells each sector
 pub size_of : (disk : State) → IsDisk disk → IsTrue disk.tells → length (content disk) ≡ disk.sectors

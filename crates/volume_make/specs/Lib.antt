@@ -2,3 +2,4 @@ pub mod Refusal
 pub mod Layout
 pub mod Texts
 pub mod Written
+pub mod Laws

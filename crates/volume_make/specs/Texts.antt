@@ -1,5 +1,5 @@
 -- What the parts of a volume hold when it is made.
-use Rattle.std.specs.Prelude.{ℕ, ◌+◌, ◌*◌, ◌/◌, nat_lt, List, [], ◌∷◌, ◌++◌, length, replicate, slice_range, codes, if◌then◌else◌, None, true, false}
+use Rattle.std.specs.Prelude.{ℕ, ◌+◌, ◌*◌, ◌/◌, nat_lt, List, [], ◌∷◌, ◌++◌, length, replicate, slice_range, codes, if◌then◌else◌, None, false}
 use Rattle.hx_bytes.specs.declared.fields.Order.TheVariants.{Little}
 use Rattle.hx_bytes.specs.declared.extents.Extent.{Extent}
 use Rattle.hx_bytes.specs.declared.extents.ForkRecord.{ForkRecord}

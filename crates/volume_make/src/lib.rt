@@ -3,11 +3,10 @@
 
 mod fault;
 mod formatting;
+mod laws;
 mod layout;
 mod leaf;
 mod refusing;
-#[cfg(test)]
-mod tests;
 mod texts;
 mod trees;
 mod writing;
@@ -15,5 +14,6 @@ mod writing;
 pub use fault::FormatFault;
 pub use formatting::format;
 pub use hfs_volume::Summary;
+pub use laws::{fresh_header_is_accepted, places_are_worked, usual_volume_is_thin};
 pub use layout::{Layout, layout_of};
 pub use refusing::format_refusal;

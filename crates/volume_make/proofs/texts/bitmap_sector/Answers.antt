@@ -1,6 +1,6 @@
-use Rattle.std.proofs.Common.{◌≡◌, ℕ, ◌+◌, ◌*◌, List, [], ◌∷◌, ◌++◌, length, take, refl, sym, ◌∙◌, ap, arith}
+use Rattle.std.proofs.Common.{◌≡◌, ℕ, ◌*◌, List, [], ◌∷◌, ◌++◌, refl, sym, ◌∙◌, ap, arith}
 use Rattle.std.proofs.lemmas.List.{take_more_set, take_all, length-set}
-use Rattle.hfs_model.specs.Bits.{bits_byte, bits_bytes}
+use Rattle.hfs_model.specs.Bits.{bits_bytes}
 use Rattle.hfs_model.proofs.Bitmaps.{bits_bytes_none, bits_bytes_more}
 use Rattle.volume_make.specs.Layout.{is_used}
 use Rattle.volume_make.proofs.texts.bitmap_sector.Goals as goal

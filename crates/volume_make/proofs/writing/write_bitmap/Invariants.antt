@@ -1,4 +1,4 @@
-use Rattle.std.proofs.Common.{◌≡◌, ◌≤◌, IsTrue}
+use Rattle.std.proofs.Common.{◌≤◌, IsTrue}
 use Rattle.sector_disk.specs.Disk.{SameDisk, SameSink, content}
 use Rattle.volume_make.specs.Layout.{first_of}
 use Rattle.volume_make.specs.Texts.{bitmap_sector}
