@@ -3,6 +3,7 @@ pub mod Bridging
 pub mod EditsOn
 pub mod Facts
 pub mod Gauging
+pub mod Identities
 pub mod Listed
 pub mod NodesRead
 pub mod Opened

@@ -7,8 +7,9 @@ use Rattle.hx_bytes.specs.declared.extents.Extent.{Extent}
 use Rattle.sector_disk.specs.Lists.{Content}
 use Rattle.sector_disk.specs.Space.{Space}
 use Rattle.alloc_bitmap.specs.Fork.{fork_sectors}
-use Rattle.btree_node.specs.Keys.{IsCatalogKey, catalog_cmp, anything}
-use Rattle.btree_node.specs.TreeFile.{TreeForm, IsTreeFile, tree_head, shape_of, catalog_form}
+use Rattle.attributes.specs.Values.{AreInline}
+use Rattle.btree_node.specs.Keys.{IsCatalogKey, IsAttrKey, catalog_cmp, attr_cmp, anything}
+use Rattle.btree_node.specs.TreeFile.{TreeForm, IsTreeFile, tree_head, shape_of, catalog_form, attributes_form}
 use Rattle.btree_node.specs.declared.store.TreeShape.{TreeShape}
 use Rattle.btree_edit.specs.Desk.{IsDeskOf}
 use Rattle.btree_edit.specs.declared.desk.Desk.{Desk}
@@ -19,7 +20,7 @@ use Rattle.btree_file.specs.State.{sectors_of_tree, per_node, nodes_on, HasMap}
 use Rattle.btree_file.specs.declared.tree.Stretch.{Stretch}
 use Rattle.btree_file.specs.declared.tree.TreeFile.{TreeFile}
 use Rattle.hfs_volume.specs.Entries.{AreSpelled}
-use Rattle.volume_ops.specs.Looking.{IsCatalogOver, ReadsTree}
+use Rattle.volume_ops.specs.Looking.{IsCatalogOver, IsAttributesOver, ReadsTree}
 use Rattle.volume_ops.specs.Service.{KeepsFile}
 use Rattle.volume_ops.specs.Standing.{AreWhole}
 use Rattle.volume_ops.specs.Touching.{Looks}
@@ -70,6 +71,23 @@ over_read a b desk later old new was reads fits = record {
   holds = λ told. subst (λ (c : Content). HoldsTree catalog_form IsCatalogKey anything catalog_cmp b c) (sym (reads.looks.content (back told))) (held_kept catalog_form IsCatalogKey anything catalog_cmp old.tells a b old.content (back told) reads.keeps (was.holds (back told)));
   whole = λ told. subst AreWhole (sym (reads.looks.content (back told))) (was.whole (back told));
   spelled = λ told. subst AreSpelled (sym (pairs_read a b old new (back told) reads)) (was.spelled (back told));
+}
+  where
+    back : IsTrue new.tells → IsTrue old.tells
+    back told = sym reads.looks.same.tells ∙ told
+
+    same : sectors_of_tree b ≡ sectors_of_tree a
+    same = sectors_kept old.tells a b reads.keeps
+
+-- what a read of the attributes file leaves of it
+pub attributes_over_read : (a b : TreeFile) (desk later : Desk) (old new : Space) → IsAttributesOver a desk old → ReadsTree a b old new → IsDeskOf (numbers_of b).node_size later → IsAttributesOver b later new
+attributes_over_read a b desk later old new was reads fits = record {
+  fits = fits;
+  inside = inside_kept old.tells a b old new reads.keeps reads.looks.same.sectors was.inside;
+  unclosed = λ told k low. λ shut. was.unclosed (back told) k (subst (λ (l : List ℕ). k < length l) same low) (subst (λ (l : List ℕ). old.closed (get_or l k 0)) same ((reads.looks.closed (back told) (get_or (sectors_of_tree b) k 0)).0 shut));
+  holds = λ told. subst (λ (c : Content). HoldsTree attributes_form IsAttrKey anything attr_cmp b c) (sym (reads.looks.content (back told))) (held_kept attributes_form IsAttrKey anything attr_cmp old.tells a b old.content (back told) reads.keeps (was.holds (back told)));
+  whole = λ told. subst AreWhole (sym (reads.looks.content (back told))) (was.whole (back told));
+  inline = λ told. subst AreInline (sym (pairs_read a b old new (back told) reads)) (was.inline (back told));
 }
   where
     back : IsTrue new.tells → IsTrue old.tells

@@ -57,12 +57,17 @@ attributes_in_order (pair ∷ rest) rise = (
     each [] all = tt
     each (next ∷ others) all = (ap is_lt (all 0 (omega arith)), each others (λ j within. all (suc j) (omega (arith, within))))
 
+-- the records of a settled volume stand in the order of their keys
+pub settled_sorted : (v : Volume) (content : Content) → HoldsTrees v content → IsSettled v content → AreSorted (volume_of content).catalog_pairs
+settled_sorted v content holds settled =
+    subst AreSorted (sym (ap (λ (l : VolumeState). l.catalog_pairs) settled.lists)) (tree_sorted IsCatalogKey (store_of (file_in (sectors_of_tree v.catalog.file) content)) holds.catalog.file.rules)
+
 -- the tree of a settled volume is a plain tree
 pub settled_is_plain : SoundHasPlainTree → (v : Volume) (content : Content) → HoldsTrees v content → IsSettled v content → IsPlainTree (tree_of content)
 unfolding tree_of
 settled_is_plain law v content holds settled =
     (law (volume_of content) (file_bytes content)
-    (subst AreSorted (sym (ap (λ (l : VolumeState). l.catalog_pairs) settled.lists)) (tree_sorted IsCatalogKey (store_of (file_in (sectors_of_tree v.catalog.file) content)) holds.catalog.file.rules))
+    (settled_sorted v content holds settled)
     (subst AreSortedAttributes (sym (ap (λ (l : VolumeState). l.attribute_pairs) settled.lists)) (by_test (has_attributes v.header) refl))
     settled.sound).plain
   where

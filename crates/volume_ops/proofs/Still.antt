@@ -1,6 +1,7 @@
 -- What reads leave of a volume in service, and that its catalog can be read.
 use Rattle.std.proofs.Common.{◌≡◌, ℕ, ◌<◌, ◌≤◌, ◌*◌, ◌-◌, IsTrue, List, [], ◌∷◌, ◌++◌, length, get_or, replicate, refl, sym, ◌∙◌, ap, subst, ⊎_elim}
-use Rattle.std.specs.Prelude.{Bool, false, All, Contains, if◌then◌else◌}
+use Rattle.std.specs.Prelude.{Bool, true, false, not, ◌==◌, All, Contains, if◌then◌else◌}
+use Rattle.std.proofs.lemmas.Bool.{eqb-true}
 use Rattle.std.proofs.lemmas.List.Elements.{Contains-append_left, Contains-append_right, All-contains_itself}
 use Rattle.std.specs.declared.cmp.Ordering.{Ordering}
 use Rattle.sector_disk.specs.Lists.{Content, sector}
@@ -20,19 +21,20 @@ use Rattle.btree_file.specs.Map.{bits_of}
 use Rattle.btree_file.specs.Standing.{HoldsTree, pairs_in}
 use Rattle.btree_file.specs.State.{sectors_of_tree}
 use Rattle.btree_file.specs.declared.tree.TreeFile.{TreeFile}
+use Rattle.attributes.specs.Values.{AreInline}
 use Rattle.hfs_volume.specs.Content.{VolumeState, volume_of, records_of, overflow_in_volume, has_attributes, journal_place}
 use Rattle.hfs_volume.specs.Entries.{AreSpelled}
 use Rattle.hfs_volume.specs.Forks.{per_block_of, extents_of, extents_id, catalog_id, allocation_id, attributes_id, data_kind}
 use Rattle.hfs_volume.specs.Links.{private_id}
 use Rattle.hfs_volume.specs.Sound.{IsSoundVolume}
 use Rattle.volume_ops.specs.Lists.{lists_of, facts_on}
-use Rattle.volume_ops.specs.Looking.{IsCatalogOver, ReadsTree, KeepsVolume, ReadsVolume}
+use Rattle.volume_ops.specs.Looking.{IsCatalogOver, IsAttributesOver, ReadsTree, KeepsVolume, ReadsVolume}
 use Rattle.volume_ops.specs.Service.{IsInService, IsTreeInService, KeepsFile, KeepsTree}
 use Rattle.volume_ops.specs.Standing.{AreWhole, HoldsTrees, HasItsForks, IsStanding, StandsOver, IsSettled, own_sectors, with_attributes_tree}
 use Rattle.volume_ops.specs.declared.volume.Tree.{Tree}
 use Rattle.volume_ops.specs.declared.volume.Volume.{Volume}
 use Rattle.volume_ops.proofs.Over.{sectors_kept, held_kept, inside_kept}
-use Rattle.volume_ops.proofs.Seeing.{keeps_none, looks_none, looks_wider}
+use Rattle.volume_ops.proofs.Seeing.{keeps_none, keeps_both, looks_none, looks_both, looks_wider}
 
 tree_still : (tells : Bool) (a b : Tree) (before after : Space) → KeepsTree tells a b → after.sectors ≡ before.sectors → IsTreeInService a before → IsTreeInService b after
 tree_still tells a b before after keeps same was = record {
@@ -193,3 +195,68 @@ nothing_read v space = record {
   };
   looks = looks_none (λ s. Contains (own_sectors v) s) space;
 }
+
+attributes_own : (v : Volume) → IsTrue (has_attributes v.header) → (at : ℕ) → Contains (sectors_of_tree v.attributes.file) at → Contains (own_sectors v) at
+attributes_own v has at here =
+    let is : sectors_of_tree v.attributes.file ≡ (if has_attributes v.header then sectors_of_tree v.attributes.file else []) = sym (ap (λ b. if b then sectors_of_tree v.attributes.file else []) has) in
+    Contains-append_right (2 ∷ sectors_of_tree v.extents.file) (sectors_of_tree v.catalog.file ++ ((if has_attributes v.header then sectors_of_tree v.attributes.file else []) ++ fork_sectors v.map.fork v.map.per_block)) at
+    (Contains-append_right (sectors_of_tree v.catalog.file) ((if has_attributes v.header then sectors_of_tree v.attributes.file else []) ++ fork_sectors v.map.fork v.map.per_block) at
+    (Contains-append_left (if has_attributes v.header then sectors_of_tree v.attributes.file else []) (fork_sectors v.map.fork v.map.per_block) at (subst (λ l. Contains l at) is here)))
+
+-- a volume whose attributes file isn't empty has one
+pub has_them : (h : VolumeHeader) → (h.attributes_fork.logical_size ≡ 0 → ⊥) → has_attributes h ≡ true
+has_them h some = by_test (h.attributes_fork.logical_size == 0) refl
+  where
+    by_test : (b : Bool) → (h.attributes_fork.logical_size == 0) ≡ b → not b ≡ true
+    by_test true is = absurd (some (eqb-true h.attributes_fork.logical_size 0 is))
+    by_test false is = refl
+
+-- the attributes file of a volume that has one can be read
+pub attributes_over : (v : Volume) (space : Space) → StandsOver v space → (IsTrue space.tells → IsSettled v space.content) → IsTrue (has_attributes v.header) → IsAttributesOver v.attributes.file v.attributes.desk space
+attributes_over v space stands settled has = record {
+  fits = stands.service.attributes.desk;
+  inside = stands.service.attributes.inside;
+  unclosed = λ told k low shut. (stands.stands told).closed (get_or (sectors_of_tree v.attributes.file) k 0) shut
+      (attributes_own v has (get_or (sectors_of_tree v.attributes.file) k 0) (All-contains_itself (sectors_of_tree v.attributes.file) k 0 low));
+  holds = λ told. (stands.stands told).trees.attributes has;
+  whole = λ told. (stands.stands told).whole;
+  inline = λ told. subst AreInline (ap (λ (l : VolumeState). l.attribute_pairs) (settled told).lists ∙ ap (λ b. if b then pairs_in (sectors_of_tree v.attributes.file) space.content else []) has)
+      (λ k d low. let it = (settled told).sound.attributes.each k d low in record { spelled = it.spelled; inline = it.inline; start = it.start; named = it.named });
+}
+
+-- where only its attributes file was read, a volume was
+pub attributes_read : (v : Volume) (file : TreeFile) (desk : Desk) (before after : Space) → IsTrue (has_attributes v.header) → ReadsTree v.attributes.file file before after → IsAttributesOver file desk after
+    → ReadsVolume v (record v { attributes = record { file = file; desk = desk } }) before after
+attributes_read v file desk before after has reads over = record {
+  keeps = record {
+    header = refl;
+    map = refl;
+    extents = keeps_none before.tells v.extents;
+    catalog = keeps_none before.tells v.catalog;
+    attributes = record { file = reads.keeps; desk = λ d. over.fits };
+    private = refl;
+    shrunk = refl;
+    capacity = refl;
+    kept = refl;
+  };
+  looks = looks_wider (λ s. Contains (sectors_of_tree v.attributes.file) s) (λ s. Contains (own_sectors v) s) before after (λ told s here. attributes_own v has s here) reads.looks;
+}
+
+-- reads one after another
+pub volume_both : (a b c : Volume) (old mid new : Space) → ReadsVolume a b old mid → ReadsVolume b c mid new → ReadsVolume a c old new
+volume_both a b c old mid new p q =
+    let r = subst (λ t. KeepsVolume t b c) p.looks.same.tells q.keeps in
+    record {
+      keeps = record {
+        header = r.header ∙ p.keeps.header;
+        map = r.map ∙ p.keeps.map;
+        extents = keeps_both old.tells a.extents b.extents c.extents p.keeps.extents r.extents;
+        catalog = keeps_both old.tells a.catalog b.catalog c.catalog p.keeps.catalog r.catalog;
+        attributes = keeps_both old.tells a.attributes b.attributes c.attributes p.keeps.attributes r.attributes;
+        private = r.private ∙ p.keeps.private;
+        shrunk = r.shrunk ∙ p.keeps.shrunk;
+        capacity = r.capacity ∙ p.keeps.capacity;
+        kept = r.kept ∙ p.keeps.kept;
+      };
+      looks = looks_both (λ s. Contains (own_sectors a) s) old mid new p.looks (looks_wider (λ s. Contains (own_sectors b) s) (λ s. Contains (own_sectors a) s) mid new (λ told s. subst (λ l. Contains l s) (own_still a b old mid p)) q.looks);
+    }

@@ -8,6 +8,7 @@ use Rattle.std.specs.List.{flat_map}
 use Rattle.std.proofs.lemmas.Bool.{eqb-true, true≢false, and_parts}
 use Rattle.std.proofs.lemmas.Slice.Eq.{bytes_eq-Decides}
 use Rattle.btree_node.specs.Levels.{Pair}
+use Rattle.cat_records.specs.declared.record.FileRecord.{FileRecord}
 use Rattle.cat_records.specs.declared.record.CatRecord.{CatRecord}
 use Rattle.cat_records.specs.declared.record.CatRecord.TheVariants.{Folder, File, Thread}
 use Rattle.catalog.specs.Children.{as_child, children_in}
@@ -21,20 +22,24 @@ use Rattle.hfs_language.specs.declared.reply.Reply.{Reply}
 use Rattle.hfs_language.specs.declared.reply.Reply.TheVariants as reply
 use Rattle.hfs_model.specs.Plain.{IsPlainTree, entry_at, entries_in, node_at, is_at, is_node}
 use Rattle.hfs_model.specs.Sorted.{kept}
-use Rattle.hfs_model.specs.Step.{is_private_name, is_private_path, then_, unless, root_entry, child, walk, on, step, listed}
+use Rattle.hfs_model.specs.Step.{is_private_name, is_private_path, then_, unless, root_entry, child, walk, on, step, listed, listed_attribute}
 use Rattle.hfs_model.specs.declared.plain.PlainEntry.{PlainEntry}
 use Rattle.hfs_model.specs.declared.plain.PlainNode.{PlainNode}
 use Rattle.hfs_model.specs.declared.plain.PlainTree.{PlainTree}
+use Rattle.hfs_volume.specs.Changes.{AreSorted}
+use Rattle.hfs_volume.specs.Links.{AreGoodLinks, private_id}
 use Rattle.hfs_volume.specs.Entries.{AreThreaded, AreRooted, HaveIds, IsUserId}
-use Rattle.hfs_volume.specs.Records.{Placed, placed_in, entries_of, record_at, is_placed_at, id_of, is_empty, is_thread}
-use Rattle.hfs_volume.specs.TreeOf.{is_hidden, is_seen, seen_entry, plain_entry}
+use Rattle.hfs_volume.specs.Records.{Placed, Overflow, Attribute, attribute_of, placed_in, entries_of, record_at, is_placed_at, id_of, is_empty, is_thread}
+use Rattle.hfs_volume.specs.TreeOf.{is_hidden, is_seen, seen_entry, plain_entry, plain_attribute, threaded_node}
 use Rattle.hfs_volume.proofs.Flat.{found_some}
 use Rattle.hfs_volume.proofs.Members.{each_of, kept_stands}
 use Rattle.hfs_volume.proofs.Reaching.{IsFolder, Shows, seen_shows, shows_seen, seen_stands, seen_visible, seen_not_root, front_is}
 use Rattle.volume_ops.specs.Listing.{is_shown, listed_child, shown_in, replied, names_in}
+use Rattle.volume_ops.specs.Owning.{id_reached, listed_name, attributes_in, names_owned}
 use Rattle.volume_ops.specs.Reaching.{named, folder_reached, child_in, walk_in}
 use Rattle.volume_ops.specs.declared.reaching.Reached.{Reached}
 use Rattle.volume_ops.specs.declared.reaching.Reached.TheVariants as reached
+use Rattle.volume_ops.proofs.Identities.{identity_is, node_attributes}
 
 differs : (m n : ℕ) → (m ≡ n → ⊥) → (m == n) ≡ false
 differs m n distinct = by_test (m == n) refl
@@ -72,8 +77,8 @@ Agree Same (Err why) (Err other) = why ≡ other
 Agree Same (Ok at) (Err other) = ⊥
 Agree Same (Err why) (Ok e) = ⊥
 
-module _ (pairs : List Pair) (next : ℕ) (ids : HaveIds next (entries_of (placed_in pairs))) (rooted : AreRooted (entries_of (placed_in pairs))) (threads : AreThreaded pairs) (tree : PlainTree)
-    (same_entries : tree.entries ≡ flat_map (seen_entry (placed_in pairs)) (placed_in pairs)) (plain : IsPlainTree tree)
+module _ (pairs : List Pair) (next : ℕ) (ids : HaveIds next (entries_of (placed_in pairs))) (rooted : AreRooted (entries_of (placed_in pairs))) (threads : AreThreaded pairs) (overflow : List Overflow) (links : AreGoodLinks (placed_in pairs) overflow) (order : AreSorted pairs)
+    (tree : PlainTree) (same_entries : tree.entries ≡ flat_map (seen_entry (placed_in pairs)) (placed_in pairs)) (plain : IsPlainTree tree)
   where
     abbrev records : List Placed
     records = placed_in pairs
@@ -82,6 +87,7 @@ module _ (pairs : List Pair) (next : ℕ) (ids : HaveIds next (entries_of (place
     pub record IsReached (at : Reached) (e : PlainEntry) : Type 0 where
       pub folder : folder_reached at ≡ (if e.folder then Ok e.id else Err refusal.NotFolder)
       pub is_folder : e.folder ≡ true → IsFolder records next ids rooted e.id
+      pub id : id_reached pairs (private_id records) at ≡ e.id
       pub node : (node : PlainNode) × (node_at tree e.id ≡ Some node) × (node.folder ≡ e.folder)
 
     -- and isn't the root
@@ -97,6 +103,7 @@ module _ (pairs : List Pair) (next : ℕ) (ids : HaveIds next (entries_of (place
           reached = record {
             folder = refl;
             is_folder = λ is. record { folder = (p, stands, refl, refl); visible = seen_visible records next ids rooted p stands shows };
+            id = refl;
             node = (plain.named (plain_entry records p) there).named;
           };
           not_root = λ is two. seen_not_root records next ids rooted p stands shows two;
@@ -107,6 +114,7 @@ module _ (pairs : List Pair) (next : ℕ) (ids : HaveIds next (entries_of (place
           reached = record {
             folder = refl;
             is_folder = λ is. absurd (true≢false (sym is));
+            id = identity_is pairs overflow links order parent name file stands;
             node = (plain.named (plain_entry records p) there).named;
           };
           not_root = λ is two. absurd (true≢false (sym is));
@@ -189,6 +197,7 @@ module _ (pairs : List Pair) (next : ℕ) (ids : HaveIds next (entries_of (place
     root_reached = record {
       folder = refl;
       is_folder = λ is. (front_is records next ids rooted tree same_entries ([] ∷ []) root_entry refl refl refl refl).0;
+      id = refl;
       node = (plain.root.0, plain.root.1, plain.root.2);
     }
 
@@ -267,3 +276,28 @@ module _ (pairs : List Pair) (next : ℕ) (ids : HaveIds next (entries_of (place
                 ≡ (on tree (unless (not b) refusal.NotFolder node) (λ folder. (reply.Listing (map listed (entries_in tree folder.id)), tree))).0
             by_kind node id_is false is = refl
             by_kind node id_is true is = ap reply.Listing (names_same e.id (it.is_folder is) ∙ ap (λ n. map listed (entries_in tree n)) (sym id_is))
+
+    -- ---- the attributes of what a path stands for
+
+    -- what `lsattr` answers
+    pub owned_same : (attributes : List Pair) (bytes_of : FileRecord → List ℕ) → tree.nodes ≡ flat_map (threaded_node (map attribute_of attributes) records bytes_of) records → (path : List (List ℕ)) → is_private_path path ≡ false → FitsPath path
+        → names_owned pairs (private_id records) attributes path ≡ (step tree (command.LsAttr path)).0
+    owned_same attributes bytes_of same_nodes path not_own fits = by_walk (walk_in pairs reached.Root path) (walk tree root_entry path) (path_same path not_own fits)
+      where
+        twice : (xs : List Attribute) → map listed_name (map (λ (a : Attribute). a.name) xs) ≡ map listed_attribute (map plain_attribute xs)
+        twice [] = refl
+        twice (x ∷ xs) = λ i. listed_name x.name ∷ twice xs i
+
+        by_walk : (r : Result Reached Refusal) (s : Result PlainEntry Refusal) → Agree IsReached r s
+            → replied (then_ r (λ at. Ok (id_reached pairs (private_id records) at))) (λ id. reply.Listing (attributes_in attributes id))
+            ≡ (on tree (then_ s (λ at. ok_or (node_at tree at.id) refusal.NotFound)) (λ node. (reply.Listing (map listed_attribute node.attributes), tree))).0
+        by_walk (Err why) (Err other) same = ap reply.No same
+        by_walk (Ok at) (Err other) never = absurd never
+        by_walk (Err why) (Ok e) never = absurd never
+        by_walk (Ok at) (Ok e) it =
+            let node = it.node.0 in
+            let found = found_some (is_node e.id) tree.nodes node it.node.1 in
+            let id_is : id_reached pairs (private_id records) at ≡ node.id = it.id ∙ sym (eqb-true node.id e.id found.1) in
+            ap (λ n. reply.Listing (attributes_in attributes n)) id_is
+            ∙ ap reply.Listing (twice (kept (λ (a : Attribute). a.id == node.id) (map attribute_of attributes)) ∙ ap (map listed_attribute) (sym (node_attributes (map attribute_of attributes) records bytes_of node (subst (λ l. Contains l node) same_nodes found.0))))
+            ∙ sym (ap (λ o. (on tree (ok_or o refusal.NotFound) (λ n. (reply.Listing (map listed_attribute n.attributes), tree))).0) it.node.1)

@@ -3,6 +3,7 @@ pub mod Listing
 pub mod Lists
 pub mod Looking
 pub mod Opening
+pub mod Owning
 pub mod Reaching
 pub mod Room
 pub mod Service

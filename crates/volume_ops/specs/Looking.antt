@@ -2,8 +2,9 @@
 use Rattle.std.specs.Prelude.{◌≡◌, Bool, IsTrue}
 use Rattle.std.specs.List.{Contains}
 use Rattle.sector_disk.specs.Space.{Space}
-use Rattle.btree_node.specs.Keys.{IsCatalogKey, catalog_cmp, anything}
-use Rattle.btree_node.specs.TreeFile.{catalog_form}
+use Rattle.attributes.specs.Values.{AreInline}
+use Rattle.btree_node.specs.Keys.{IsCatalogKey, IsAttrKey, catalog_cmp, attr_cmp, anything}
+use Rattle.btree_node.specs.TreeFile.{catalog_form, attributes_form}
 use Rattle.btree_edit.specs.Desk.{IsDeskOf}
 use Rattle.btree_edit.specs.declared.desk.Desk.{Desk}
 use Rattle.btree_file.specs.Standing.{HoldsTree, LiesInside, LiesOpen, numbers_of, pairs_in}
@@ -24,6 +25,15 @@ pub record IsCatalogOver (tree : TreeFile) (desk : Desk) (space : Space) : Type 
   pub holds : IsTrue space.tells → HoldsTree catalog_form IsCatalogKey anything catalog_cmp tree space.content
   pub whole : IsTrue space.tells → AreWhole space.content
   pub spelled : IsTrue space.tells → AreSpelled (pairs_in (sectors_of_tree tree) space.content)
+
+-- The attributes file can be read over a space, as the catalog can; its values each stand in their record.
+pub record IsAttributesOver (tree : TreeFile) (desk : Desk) (space : Space) : Type 0 where
+  pub fits : IsDeskOf (numbers_of tree).node_size desk
+  pub inside : LiesInside tree space
+  pub unclosed : LiesOpen tree space
+  pub holds : IsTrue space.tells → HoldsTree attributes_form IsAttrKey anything attr_cmp tree space.content
+  pub whole : IsTrue space.tells → AreWhole space.content
+  pub inline : IsTrue space.tells → AreInline (pairs_in (sectors_of_tree tree) space.content)
 
 -- A tree was read over a space: its file is as it was, and so is the content.
 pub record ReadsTree (old new : TreeFile) (before after : Space) : Type 0 where

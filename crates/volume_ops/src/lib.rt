@@ -10,6 +10,7 @@ mod listing;
 mod looking;
 mod names;
 mod opening;
+mod owning;
 mod reaching;
 mod room;
 mod volume;
