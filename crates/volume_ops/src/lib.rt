@@ -2,6 +2,7 @@
 #![tactic(auto)]
 
 mod attaching;
+mod beginning;
 mod editing;
 mod extents;
 mod header;
