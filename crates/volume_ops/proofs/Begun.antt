@@ -1,6 +1,11 @@
 -- A volume that is being read comes into service step by step: each step reads, and leaves what was read before it.
 use Rattle.std.proofs.Common.{◌≡◌, ◌<◌, ◌≤◌, ℕ, ◌*◌, ◌/◌, Bool, true, List, [], ◌∷◌, length, get_or, refl, sym, ◌∙◌, ap, subst, arith, ⊎_elim}
-use Rattle.std.specs.Prelude.{Contains, IsTrue, None, slice_index}
+use Rattle.std.specs.Prelude.{Contains, IsTrue, Option, None, slice_index}
+use Rattle.std.specs.List.{All}
+use Rattle.flag_rows.specs.Bits.{sectors_for}
+use Rattle.alloc_bitmap.specs.Fork.{HoldsBits, fork_sectors}
+use Rattle.alloc_bitmap.specs.Map.{BlockMap, none}
+use Rattle.btree_node.specs.Keys.{IsCatalogKey, catalog_cmp, anything}
 use Rattle.hx_bytes.specs.declared.extents.ForkRecord.{ForkRecord}
 use Rattle.sector_disk.specs.Lists.{Content}
 use Rattle.sector_disk.specs.Space.{Space}
@@ -8,24 +13,28 @@ use Rattle.jnl_format.specs.Recovery.{header_of_volume}
 use Rattle.volume_header.specs.Refusal.{header_refusal}
 use Rattle.volume_header.specs.declared.header.VolumeHeader.{VolumeHeader}
 use Rattle.btree_node.specs.declared.store.TreeShape.{TreeShape}
-use Rattle.btree_node.specs.TreeFile.{tree_head, shape_of}
+use Rattle.btree_node.specs.TreeFile.{tree_head, shape_of, catalog_form}
 use Rattle.btree_file.specs.Frame.{ReadsSpace}
 use Rattle.btree_file.specs.FrameLaws.{same_sectors}
 use Rattle.btree_file.specs.Held.{HoldsNodes, file_in}
-use Rattle.btree_file.specs.Standing.{Stands, LiesOpen}
+use Rattle.btree_file.specs.Standing.{Stands, HoldsTree, LiesOpen, pairs_in}
 use Rattle.btree_file.specs.State.{sectors_of_tree, nodes_on, per_node, HasMap}
 use Rattle.btree_file.specs.declared.tree.Stretch.{Stretch}
 use Rattle.btree_file.specs.declared.tree.TreeFile.{TreeFile}
 use Rattle.hfs_volume.specs.Aside.{IsJournalSector}
-use Rattle.hfs_volume.specs.Content.{volume_of, overflow_of_content, sectors_in}
-use Rattle.hfs_volume.specs.Forks.{extents_of, special_forks, data_kind, extents_id}
-use Rattle.volume_ops.specs.Opening.{IsServable, IsFileOf, IsOpened, HasBegun}
+use Rattle.hfs_volume.specs.Content.{volume_of, overflow_of_content, sectors_in, has_attributes}
+use Rattle.hfs_volume.specs.Entries.{AreSpelled}
+use Rattle.hfs_volume.specs.Links.{private_id}
+use Rattle.hfs_volume.specs.Records.{placed_in}
+use Rattle.hfs_volume.specs.Forks.{extents_of, special_forks, data_kind, extents_id, catalog_id, allocation_id, attributes_id}
+use Rattle.volume_ops.specs.Opening.{IsServable, IsFileOf, IsFresh, IsOpened, HasBegun}
 use Rattle.volume_ops.specs.Service.{IsTreeInService, IsInService, KeepsFile, KeepsTree}
 use Rattle.volume_ops.specs.Standing.{StandsOver, IsSettled, own_sectors_in}
 use Rattle.volume_ops.specs.Touching.{Looks}
 use Rattle.volume_ops.specs.declared.volume.Tree.{Tree}
 use Rattle.volume_ops.specs.declared.volume.Volume.{Volume}
-use Rattle.volume_ops.proofs.OpenFiles.{extents_own}
+use Rattle.volume_ops.proofs.OpenFiles.{catalog_own, extents_own}
+use Rattle.volume_ops.proofs.Opened.{catalog_holds, catalog_spelled}
 use Rattle.volume_ops.proofs.Placing.{default_is}
 use Rattle.volume_ops.proofs.Seeing.{looks_both, looks_none, looks_reads, looks_wider}
 use Rattle.volume_ops.proofs.SoundForks.{journal_apart}
@@ -205,3 +214,103 @@ module _ (a z : Space) (good : IsTrue a.tells → IsServable a.content) (closed 
 
     pub settled_then : IsTrue a.tells → IsSettled volume z.content
     settled_then tells = subst (λ (k : Content). IsSettled volume k) (sym (looks.content tells)) (settled volume a.content (good tells) (opened tells))
+
+-- ---- the files that were attached, over the content where the reading began
+
+pub file_back : (a b : Space) → Looks (λ at. Contains (own_sectors_in a.content) at) a b → (id : ℕ) (fork_in : VolumeHeader → ForkRecord) (tree : TreeFile) → (IsTrue b.tells → IsFileOf id (fork_in (header_of_volume b.content)) tree b.content)
+    → IsTrue a.tells → IsFileOf id (fork_in (header_of_volume a.content)) tree a.content
+file_back a b looks id fork_in tree is tells = subst (λ (k : Content). IsFileOf id (fork_in (header_of_volume k)) tree k) (looks.content tells) (is (looks.same.tells ∙ tells))
+
+pub attributes_back : (a b : Space) → Looks (λ at. Contains (own_sectors_in a.content) at) a b → (tree : TreeFile) → (IsTrue b.tells → IsTrue (has_attributes (header_of_volume b.content)) → IsFileOf attributes_id (header_of_volume b.content).attributes_fork tree b.content)
+    → IsTrue a.tells → IsTrue (has_attributes (header_of_volume a.content)) → IsFileOf attributes_id (header_of_volume a.content).attributes_fork tree a.content
+attributes_back a b looks tree is tells = subst (λ (k : Content). IsTrue (has_attributes (header_of_volume k)) → IsFileOf attributes_id (header_of_volume k).attributes_fork tree k) (looks.content tells) (is (looks.same.tells ∙ tells))
+
+-- the catalog over a later content, where it was read alone
+module _ (a b : Space) (good : IsTrue a.tells → IsServable a.content) (looks : Looks (λ at. Contains (own_sectors_in a.content) at) a b) (tree : TreeFile)
+    (file : IsTrue a.tells → IsFileOf catalog_id (header_of_volume a.content).catalog_fork tree a.content)
+  where
+    pub catalog_holds_there : IsTrue b.tells → HoldsTree catalog_form IsCatalogKey anything catalog_cmp tree b.content
+    catalog_holds_there tells =
+        let told : IsTrue a.tells = sym looks.same.tells ∙ tells in
+        subst (λ (k : Content). HoldsTree catalog_form IsCatalogKey anything catalog_cmp tree k) (sym (looks.content told)) (catalog_holds a.content (good told) tree (file told))
+
+    pub catalog_spelled_there : IsTrue b.tells → AreSpelled (pairs_in (sectors_of_tree tree) b.content)
+    catalog_spelled_there tells =
+        let told : IsTrue a.tells = sym looks.same.tells ∙ tells in
+        subst (λ (k : Content). AreSpelled (pairs_in (sectors_of_tree tree) k)) (sym (looks.content told)) (catalog_spelled a.content (good told) tree (file told))
+
+    -- and a read of it reads the volume's own sectors
+    pub looks_catalog : (c : Space) → Looks (λ at. Contains (sectors_of_tree tree) at) b c → Looks (λ at. Contains (own_sectors_in a.content) at) a c
+    looks_catalog c next = looks_both (λ at. Contains (own_sectors_in a.content) at) a b c looks
+        (looks_wider (λ at. Contains (sectors_of_tree tree) at) (λ at. Contains (own_sectors_in a.content) at) b c
+        (λ tells at has. let told : IsTrue a.tells = sym looks.same.tells ∙ tells in catalog_own a.content (good told) tree (file told) at has) next)
+
+-- the volume that comes into service
+abbrev pub served : VolumeHeader → BlockMap → Tree → Tree → Tree → Option ℕ → ℕ → Volume
+served header map extents catalog attributes private capacity = record {
+  header = header;
+  map = map;
+  extents = extents;
+  catalog = catalog;
+  attributes = attributes;
+  private = private;
+  shrunk = None;
+  capacity = capacity;
+  kept = record { header = header; private = private; shrunk = None };
+}
+
+module _ (a d e : Space) (header : VolumeHeader) (extents : Tree) (begun_so : HasBegun a e header extents) (from : Looks (λ at. Contains (own_sectors_in a.content) at) a d) (map : BlockMap) (first catalog attributes : Tree) (private : Option ℕ) (capacity : ℕ) where
+  pub opened_then : (catalog_file : IsTrue a.tells → IsFileOf catalog_id (header_of_volume a.content).catalog_fork first.file a.content) (keeps : KeepsTree e.tells first catalog)
+      (attributes_file : IsTrue a.tells → IsTrue (has_attributes (header_of_volume a.content)) → IsFileOf attributes_id (header_of_volume a.content).attributes_fork attributes.file a.content)
+      (map_is : IsTrue d.tells → (map.fork ≡ extents_of (overflow_of_content d.content) allocation_id data_kind header.allocation_fork) × (length map.used ≡ header.total_blocks) × HoldsBits d.content (fork_sectors map.fork map.per_block) map.used)
+      (per_block : map.per_block ≡ header.block_size / 512)
+      (private_is : IsTrue e.tells → private ≡ private_id (placed_in (pairs_in (sectors_of_tree first.file) e.content)))
+      → IsTrue a.tells → IsOpened (served header map extents catalog attributes private capacity) a.content
+  opened_then catalog_file keeps attributes_file map_is per_block private_is tells =
+      let head : header ≡ header_of_volume a.content = begun_so.head tells in
+      let later : IsTrue e.tells = begun_so.looks.same.tells ∙ tells in
+      let read = map_is (from.same.tells ∙ tells) in
+      let same : d.content ≡ a.content = from.content tells in
+      let sectors : sectors_of_tree catalog.file ≡ sectors_of_tree first.file = same_sectors first.file catalog.file keeps.file.file in
+      record {
+        header = head;
+        extents = begun_so.file tells;
+        catalog = file_kept e.tells catalog_id (header_of_volume a.content).catalog_fork first catalog a.content later keeps (catalog_file tells);
+        attributes = attributes_file tells;
+        map = read.0 ∙ (λ i. extents_of (overflow_of_content (same i)) allocation_id data_kind (head i).allocation_fork);
+        map_per = per_block ∙ ap (λ (h : VolumeHeader). h.block_size / 512) head;
+        blocks = read.1 ∙ ap (λ (h : VolumeHeader). h.total_blocks) head;
+        bits = subst (λ (k : Content). HoldsBits k (fork_sectors map.fork map.per_block) map.used) same read.2;
+        private = private_is later ∙ (λ i. private_id (placed_in (pairs_in (sym sectors i) (begun_so.looks.content tells i))));
+      }
+
+  pub in_service_then : (z : Space) → z.sectors ≡ e.sectors → e.sectors ≡ d.sectors → IsTreeInService first d → KeepsTree e.tells first catalog → IsTreeInService attributes d → 512 ≤ header.block_size → header.block_size ≤ 65536
+      → All (λ at. at < d.sectors) (fork_sectors map.fork map.per_block) → sectors_for (length map.used) ≤ length (fork_sectors map.fork map.per_block)
+      → IsInService (served header map extents catalog attributes private capacity) z
+  in_service_then z last middle one keeps other least most inside long = record {
+    extents = service_later extents e z last begun_so.service;
+    catalog = service_kept e.tells first catalog d z keeps (last ∙ middle) one;
+    attributes = service_later attributes d z (last ∙ middle) other;
+    least = least;
+    most = most;
+    map_inside = subst (λ n. All (λ at. at < n) (fork_sectors map.fork map.per_block)) (sym (last ∙ middle)) inside;
+    map_long = long;
+  }
+
+-- nothing is held, and nothing was changed
+pub fresh_then : (header : VolumeHeader) (map : BlockMap) (extents catalog attributes : Tree) (private : Option ℕ) (capacity per_block : ℕ)
+    → map ≡ record { used = map.used; held = none (length map.used); changed = none (sectors_for (length map.used)); kept_used = map.used; kept_held = none (length map.used); fork = map.fork; per_block = per_block }
+    → IsFresh capacity (served header map extents catalog attributes private capacity)
+fresh_then header map extents catalog attributes private capacity per_block rest = record {
+  held = ap (λ (m : BlockMap). m.held) rest;
+  changed = ap (λ (m : BlockMap). m.changed) rest;
+  kept = record {
+    used = ap (λ (m : BlockMap). m.kept_used) rest;
+    held = ap (λ (m : BlockMap). m.kept_held) rest ∙ sym (ap (λ (m : BlockMap). m.held) rest);
+    header = refl;
+    private = refl;
+    shrunk = refl;
+  };
+  shrunk = refl;
+  capacity_is = refl;
+}

@@ -1,6 +1,7 @@
 //! A whole volume in service, over any space of sectors.
 #![tactic(auto)]
 
+mod attach;
 mod attaching;
 mod beginning;
 mod editing;
