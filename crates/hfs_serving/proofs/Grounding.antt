@@ -25,7 +25,7 @@ use Rattle.jnl_ring.specs.declared.span.Span.{Span}
 use Rattle.jnl_store.specs.Lists.{IsCapacity}
 use Rattle.jnl_store.specs.Plan.{form_of, span_of, IsCapacityOf}
 use Rattle.jnl_store.specs.declared.form.ListForm.{ListForm}
-use Rattle.hfs_serving.specs.Grounds.{IsInService, KeepsHeading}
+use Rattle.hfs_serving.specs.Grounds.{IsInService, KeepsHeading, anchor_of}
 use Rattle.hfs_serving.specs.Outside.{Outside, outside_of}
 use Rattle.hfs_serving.specs.Serving.{Commits, IsAsDurable, MayCommit, Touches, TouchesSpace}
 use Rattle.hfs_serving.proofs.Bridging.{commit_seen, found_same}
@@ -62,7 +62,7 @@ module _ (a b : ℕ) (store : Store) (disk : State) (is : IsDisk disk) (fits : F
 -- ---- a commit, seen from outside the store that it leaves
 
 -- a rig, of which a mount finds what this makes of an image
-abbrev outside_by : (Content → Content) → State → Outside
+abbrev pub outside_by : (Content → Content) → State → Outside
 outside_by finds rig = record {
   clock = record { moment = rig.clock.moment; left = λ t recovered told. (image : Content) × rig.clock.left t image told × (recovered ≡ finds image) };
   told = rig.told;
@@ -203,3 +203,7 @@ seen_outside committed a b c d store after disk now capacity is follows serves t
     let still = serves_still store disk after now capacity follows serves in
     let keeps = follows.keeps (serves.keeps (and_parts disk.tells (is_kept store disk.sectors disk.candidates) tells).0) in
     touches_seen committed a b c d store after disk now touches (λ recovered left. kept_rests c d after now is still.fits keeps recovered left)
+
+-- the same of a journal is looked at by a mount
+pub same_anchor : (old new : Store) → SameJournal old new → anchor_of (plan_of new) ≡ anchor_of (plan_of old)
+same_anchor old new journal = λ i. record { place = journal.place i; info = journal.info i; blhdr = journal.blhdr i }

@@ -16,3 +16,5 @@ pub mod Grounding
 pub mod Going
 pub mod Stepping
 pub mod Whole
+pub mod Promising
+pub mod Closing

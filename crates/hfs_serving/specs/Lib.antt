@@ -7,3 +7,4 @@ pub mod Stages
 pub mod Grounds
 pub mod Going
 pub mod Steps
+pub mod Closing

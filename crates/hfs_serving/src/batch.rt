@@ -25,6 +25,7 @@ pub fn serve_line<V: Volume, G: Ground>(
         → OnErr result (StopsOn capacity committed now shrunk (G.outside base.old) [] (G.outside base.new)) }
     ensures still { (capacity : ℕ) → G.serves base.old capacity → G.taken base.old ≤ capacity → OnOk result (G.serves base.new capacity × (G.taken base.new ≤ capacity)) }
     ensures tells { OnOk result ((G.space base.new).tells ≡ (G.space base.old).tells) }
+    ensures anchor { G.anchor base.new ≡ G.anchor base.old }
 {
     if !tidy(volume, base)? {
         return Ok(false);
@@ -71,6 +72,7 @@ fn make_room<V: Volume, G: Ground>(
         → OnErr result (StopsOn capacity committed now shrunk (G.outside base.old) [] (G.outside base.new)) }
     ensures still { (capacity : ℕ) → G.serves base.old capacity → G.taken base.old ≤ capacity → OnOk result (G.serves base.new capacity × (G.taken base.new ≤ capacity)) }
     ensures tells { OnOk result ((G.space base.new).tells ≡ (G.space base.old).tells) }
+    ensures anchor { G.anchor base.new ≡ G.anchor base.old }
 {
     if !wanted {
         return Ok(());
@@ -95,6 +97,7 @@ fn serve_lines<V: Volume, G: Ground>(
     ensures few { IfOk result (λ count. count ≤ length lines.now) }
     ensures still { (capacity : ℕ) → G.serves base.old capacity → G.taken base.old ≤ capacity → OnOk result (G.serves base.new capacity × (G.taken base.new ≤ capacity)) }
     ensures tells { OnOk result ((G.space base.new).tells ≡ (G.space base.old).tells) }
+    ensures anchor { G.anchor base.new ≡ G.anchor base.old }
 {
     for at in 0..lines.len() {
         if !serve_line(volume, base, lines[at].as_slice(), at == 0, replies)? {
@@ -123,6 +126,7 @@ pub fn serve_batch<V: Volume, G: Ground>(
     ensures few { IfOk result (λ count. count ≤ length lines.now) }
     ensures still { (capacity : ℕ) → G.serves base.old capacity → G.taken base.old ≤ capacity → OnOk result (G.serves base.new capacity × (G.taken base.new ≡ 0)) }
     ensures tells { OnOk result ((G.space base.new).tells ≡ (G.space base.old).tells) }
+    ensures anchor { G.anchor base.new ≡ G.anchor base.old }
 {
     let count = serve_lines(volume, base, lines, replies)?;
     volume.commit(base)?;

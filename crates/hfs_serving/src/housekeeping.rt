@@ -19,6 +19,7 @@ pub fn work<V: Volume, G: Ground>(volume: &mut V, base: &mut G) -> Result<bool, 
         → OnErr result (StopsOn capacity committed now shrunk (G.outside base.old) [] (G.outside base.new)) }
     ensures still { (capacity : ℕ) → G.serves base.old capacity → G.taken base.old ≤ capacity → OnOk result (G.serves base.new capacity × (G.taken base.new ≤ capacity)) }
     ensures tells { OnOk result ((G.space base.new).tells ≡ (G.space base.old).tells) }
+    ensures anchor { G.anchor base.new ≡ G.anchor base.old }
 {
     match volume.tidy_step(base)? {
         Next::Rest => Ok(true),
@@ -42,6 +43,7 @@ pub fn tidy<V: Volume, G: Ground>(volume: &mut V, base: &mut G) -> Result<bool, 
         → OnErr result (StopsOn capacity committed now shrunk (G.outside base.old) [] (G.outside base.new)) }
     ensures still { (capacity : ℕ) → G.serves base.old capacity → G.taken base.old ≤ capacity → OnOk result (G.serves base.new capacity × (G.taken base.new ≤ capacity)) }
     ensures tells { OnOk result ((G.space base.new).tells ≡ (G.space base.old).tells) }
+    ensures anchor { G.anchor base.new ≡ G.anchor base.old }
 {
     for _ in 0..17_179_869_184u64 {
         if work(volume, base)? {

@@ -3,8 +3,10 @@
 
 mod basis;
 mod batch;
+mod finishing;
 mod housekeeping;
 mod laws;
+mod promises;
 mod running;
 mod sink;
 mod space;
@@ -13,11 +15,13 @@ mod volume;
 
 pub use basis::Ground;
 pub use batch::{serve_batch, serve_line};
+pub use finishing::finish;
 pub use housekeeping::{tidy, work};
 pub use laws::{
     batches_end, commits_go_on, contents_tell_trees, entries_lead_on, mounts_serve, runs_end,
     runs_keep_promises, stretches_join, touches_go_on,
 };
+pub use promises::run;
 pub use running::serve_all;
 pub use sink::tell_whole;
 pub use telling::{Stop, Teller, serve_step};

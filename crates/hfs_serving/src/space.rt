@@ -1,7 +1,7 @@
 //! A journal's store over a rig, as a ground to serve on.
 ghost use Rattle.std.specs.Prelude.{length};
 ghost use Rattle.jnl_store.specs.Store.{plan_of, puts_of, room_of};
-ghost use Rattle.hfs_serving.specs.Grounds.{IsInService};
+ghost use Rattle.hfs_serving.specs.Grounds.{IsInService, anchor_of};
 ghost use Rattle.hfs_serving.specs.Outside.{outside_of};
 
 use crate::basis::Ground;
@@ -15,6 +15,8 @@ impl<R: Rig> Ground for Space<'_, '_, R> {
     ghost outside = { λ s. outside_of (plan_of s.store.now) (R.state s.disk.now) };
 
     ghost serves = { λ s capacity. IsInService s.store.now (R.state s.disk.now) capacity };
+
+    ghost anchor = { λ s. anchor_of (plan_of s.store.now) };
 
     ghost taken = { λ s. length (puts_of s.store.now) };
 

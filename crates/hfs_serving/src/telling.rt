@@ -19,7 +19,8 @@ pub trait Teller: Ground {
         ensures whole { IsTrue (Self.space self.old).tells → OnOk result ((Self.outside self.new).told ≡ (Self.outside self.old).told ++ bytes.now) }
         ensures still { IsStill (Self.space self.old) (Self.space self.new) }
         ensures serves { (capacity : ℕ) → Self.serves self.old capacity → Self.serves self.new capacity }
-        ensures taken { Self.taken self.new ≡ Self.taken self.old };
+        ensures taken { Self.taken self.new ≡ Self.taken self.old }
+        ensures anchor { Self.anchor self.new ≡ Self.anchor self.old };
 }
 
 /// Why a run ended before its last line.
@@ -67,6 +68,7 @@ pub fn serve_step<V: Volume, G: Teller>(
     ensures few { IfOk result (λ count. count ≤ length lines.now) }
     ensures still { (capacity : ℕ) → G.serves base.old capacity → G.taken base.old ≤ capacity → OnOk result (G.serves base.new capacity × (G.taken base.new ≡ 0)) }
     ensures tells { OnOk result ((G.space base.new).tells ≡ (G.space base.old).tells) }
+    ensures anchor { G.anchor base.new ≡ G.anchor base.old }
 {
     let mut replies = Bytes::new(alloc);
     let count = serve_batch(volume, base, lines, &mut replies)?;

@@ -15,6 +15,7 @@ returns-then-not-branch-clause-goes g c tells capacity committed now shrunk stan
 
 pub loop-init : goal.loop-init
 loop-init g c = record {
+  anchor = c.tidy.ensures.anchor;
   tells = c.in_ok-tidy.ensures.tells;
   serves = λ capacity serves taken. c.in_ok-tidy.ensures.still capacity serves taken;
   goes = λ tells capacity committed now shrunk stands. (refl, c.in_ok-tidy.ensures.rests tells capacity committed now shrunk stands c.if-not-branch.false);
@@ -164,6 +165,7 @@ returns-in_err-make_room-clause-stops g c tells capacity committed now shrunk st
 
 pub loop-preserved : goal.loop-preserved
 loop-preserved g c = record {
+  anchor = c.make_room.ensures.anchor ∙ c.answer.ensures.anchor ∙ c.loop.invariant.anchor;
   tells = c.in_ok-make_room.ensures.tells ∙ c.answer.ensures.tells ∙ c.loop.invariant.tells;
   serves = λ capacity serves taken.
       let was = c.loop.invariant.serves capacity serves taken in

@@ -8,6 +8,7 @@ use Rattle.hfs_serving.proofs.batch.serve_lines.Goals as goal
 
 pub loop-at-init : goal.loop-at-init
 loop-at-init g c = record {
+  anchor = refl;
   tells = refl;
   serves = λ capacity serves taken. (serves, taken);
   goes = λ tells capacity committed now shrunk stands. lines_none capacity shrunk committed now (g.G.Ground.outside c.args.base.now) c.args.lines.now c.args.replies.now _ _ stands;
@@ -56,6 +57,7 @@ returns-then-not-branch-clause-goes g c tells capacity committed now shrunk stan
 
 pub loop-at-preserved : goal.loop-at-preserved
 loop-at-preserved g c = record {
+  anchor = c.serve_line.ensures.anchor ∙ c.loop-at.invariant.anchor;
   tells = c.in_ok-serve_line.ensures.tells ∙ c.loop-at.invariant.tells;
   serves = λ capacity serves taken. let was = c.loop-at.invariant.serves capacity serves taken in c.in_ok-serve_line.ensures.still capacity was.0 was.1;
   goes = λ tells capacity committed now shrunk stands.

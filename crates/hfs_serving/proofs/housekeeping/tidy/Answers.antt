@@ -5,6 +5,7 @@ use Rattle.hfs_serving.proofs.housekeeping.tidy.Goals as goal
 
 pub loop-init : goal.loop-init
 loop-init g c = record {
+  anchor = refl;
   tells = refl;
   serves = λ capacity serves taken. (serves, taken);
   goes = λ tells capacity committed now shrunk stands. begins capacity shrunk committed now _ _ _ stands;
@@ -58,6 +59,7 @@ returns-then-branch-clause-rests g c tells capacity committed now shrunk stands 
 
 pub loop-preserved : goal.loop-preserved
 loop-preserved g c = record {
+  anchor = c.work.ensures.anchor ∙ c.loop.invariant.anchor;
   tells = c.in_ok-work.ensures.tells ∙ c.loop.invariant.tells;
   serves = λ capacity serves taken. let was = c.loop.invariant.serves capacity serves taken in c.in_ok-work.ensures.still capacity was.0 was.1;
   goes = λ tells capacity committed now shrunk stands.

@@ -7,6 +7,7 @@ use Rattle.hfs_serving.proofs.housekeeping.tidy.Given as goal
 abbrev pub invariant-loop : goal.invariant-loop
 invariant-loop g l =
     record {
+      anchor : g.G.Ground.anchor l.base ≡ g.G.Ground.anchor l.initial.base;
       tells : (g.G.SectorView.space l.base).tells ≡ (g.G.SectorView.space l.initial.base).tells;
       serves : (capacity : ℕ) → g.G.Ground.serves l.initial.base capacity → g.G.Ground.taken l.initial.base ≤ capacity → g.G.Ground.serves l.base capacity × (g.G.Ground.taken l.base ≤ capacity);
       goes : IsTrue (g.G.SectorView.space l.initial.base).tells → (capacity : ℕ) (committed now : Content) (shrunk : Option ℕ)

@@ -10,8 +10,10 @@ use Rattle.hfs_serving.proofs.running.serve_all.Goals as goal
 pub loop-at-init : goal.loop-at-init
 loop-at-init g c = record {
   inside = omega arith;
+  anchor = refl;
   tells = refl;
   serves = λ capacity serves taken. (serves, taken);
+  nothing = λ capacity serves none. none;
   goes = λ tells capacity start shrunk stands. step_none capacity shrunk start (g.G.Ground.outside c.args.base.now) c.args.lines.now _ _ stands;
 }
 
@@ -60,11 +62,15 @@ loop-at-preserved g c = record {
       let few = c.in_ok-count.ensures.few in
       let rest = subst (λ (l : List (List ℕ)). c.in_ok-count.count ≤ length l) (take_rest c.args.lines.now c.loop-at.at) few in
       omega (arith, rest, length-drop c.loop-at.at c.args.lines.now, c.loop-at.invariant.inside);
+  anchor = c.serve_step.ensures.anchor ∙ c.loop-at.invariant.anchor;
   tells = c.in_ok-count.ensures.tells ∙ c.loop-at.invariant.tells;
   serves = λ capacity serves taken.
       let was = c.loop-at.invariant.serves capacity serves taken in
       let still = c.in_ok-count.ensures.still capacity was.0 was.1 in
       (still.0, omega (arith, still.1));
+  nothing = λ capacity serves none.
+      let was = c.loop-at.invariant.serves capacity serves (omega (arith, none)) in
+      (c.in_ok-count.ensures.still capacity was.0 was.1).1;
   goes = λ tells capacity start shrunk stands.
       let old = g.G.Ground.outside c.args.base.now in
       let space = g.G.SectorView.space c.loop-at.base in
@@ -89,3 +95,6 @@ returns-clause-serves g c tells capacity start shrunk stands =
     let all : c.loop-at.at ≡ length c.args.lines.now = omega (arith, c.loop-at-test.false, c.loop-at.invariant.inside) in
     subst (λ (n : ℕ). ServesStep n capacity (g.V.Volume.knows c.loop-at.volume space capacity) start shrunk (g.G.Ground.outside c.args.base.now) c.args.lines.now space (g.G.Ground.outside c.loop-at.base)) all
     (c.loop-at.invariant.goes tells capacity start shrunk stands)
+
+pub returns-clause-nothing : goal.returns-clause-nothing
+returns-clause-nothing g c capacity serves none = c.loop-at.invariant.nothing capacity serves none

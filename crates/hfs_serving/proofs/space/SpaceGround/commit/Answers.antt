@@ -2,7 +2,7 @@ use Rattle.std.proofs.Common.{◌≡◌, ◌≢◌, ℕ, ⊎_elim, ap, length, s
 use Rattle.std.specs.Prelude.{IsTrue}
 use Rattle.std.proofs.lemmas.Bool.{cases_eq}
 use Rattle.jnl_store.specs.Store.{faults_of}
-use Rattle.hfs_serving.proofs.Grounding.{commit_leaves, commit_makes, heads_on, kept_after, keeps_tells, serves_after, sizes_over, tells_still, told_disk}
+use Rattle.hfs_serving.proofs.Grounding.{commit_leaves, commit_makes, heads_on, kept_after, keeps_tells, same_anchor, serves_after, sizes_over, tells_still, told_disk}
 use Rattle.hfs_serving.proofs.space.SpaceGround.commit.Goals as goal
 
 pub commit-requires-clause-fits : goal.commit-requires-clause-fits
@@ -78,3 +78,9 @@ invariant_of-self g c =
       kept = λ none tells. kept_after c.commit.result self.store.now c.commit.new.self (g.R.SectorDisk.state self.disk.now) (g.R.SectorDisk.state c.commit.new.disk) c.commit.ensures.same.tells c.commit.ensures.done
           (λ some. (c.commit.ensures.failed some).1) c.commit.ensures.not_failed (λ is. (c.commit.ensures.disk is).1) none tells;
     }
+
+pub returns-in-Ok-clause-anchor : goal.returns-in-Ok-clause-anchor
+returns-in-Ok-clause-anchor g c = same_anchor c.args.self.now.store.now c.commit.new.self c.commit.ensures.journal
+
+pub returns-in-Err-clause-anchor : goal.returns-in-Err-clause-anchor
+returns-in-Err-clause-anchor g c = same_anchor c.args.self.now.store.now c.commit.new.self c.commit.ensures.journal

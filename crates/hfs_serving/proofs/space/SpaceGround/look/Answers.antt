@@ -1,3 +1,5 @@
+use Rattle.std.proofs.Common.{ap}
+use Rattle.hfs_serving.specs.Grounds.{anchor_of}
 use Rattle.hfs_serving.proofs.Grounding.{rests_on_disk, seen_outside, serves_still}
 use Rattle.hfs_serving.proofs.space.SpaceGround.look.Goals as goal
 
@@ -18,3 +20,6 @@ returns-clause-sees g c capacity committed first follows serves tells touches =
     let self = c.args.self.now in
     seen_outside committed first.store.ghost_name first.disk.ghost_name self.store.ghost_name self.disk.ghost_name first.store.now self.store.now (g.R.SectorDisk.state first.disk.now) (g.R.SectorDisk.state self.disk.now) capacity
     (g.met.R.SectorDisk.well_formed self.disk.now) follows serves tells touches
+
+pub returns-clause-anchor : goal.returns-clause-anchor
+returns-clause-anchor g c first follows = ap anchor_of follows.plan
