@@ -1,0 +1,12 @@
+use Rattle.std.proofs.Common.{◌≡◌, ℕ, List, ◌∷◌, [], get_or, sym, ap, arith}
+use Rattle.tree_store_tests.proofs.asking.find_in.Goals as goal
+
+pub returns-clause-same : goal.returns-clause-same
+returns-clause-same g c =
+    let space_is = c.space-1.given.1 (sym (ap (λ (l : List ℕ). get_or l 1 0) c.find.ensures.reads.same.names)) in
+    rw space_is c.find.ensures.below.0.space.same
+
+pub returns-clause-below : goal.returns-clause-below
+returns-clause-below g c =
+    let space_is = c.space-1.given.1 (sym (ap (λ (l : List ℕ). get_or l 1 0) c.find.ensures.reads.same.names)) in
+    rw space_is c.find.ensures.below.1

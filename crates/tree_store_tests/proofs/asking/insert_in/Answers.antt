@@ -1,0 +1,15 @@
+use Rattle.std.proofs.Common.{◌≡◌, ℕ, List, ◌∷◌, [], get_or, sym, ap, arith}
+use Rattle.tree_store_tests.proofs.asking.insert_in.Goals as goal
+
+pub insert-requires-clause-room : goal.insert-requires-clause-room
+insert-requires-clause-room g c = omega (arith, c.requires.room)
+
+pub returns-clause-same : goal.returns-clause-same
+returns-clause-same g c =
+    let space_is = c.space-1.given.1 (sym (ap (λ (l : List ℕ). get_or l 1 0) c.insert.ensures.does.same.names)) in
+    rw space_is c.insert.ensures.below.0.space.same
+
+pub returns-clause-below : goal.returns-clause-below
+returns-clause-below g c =
+    let space_is = c.space-1.given.1 (sym (ap (λ (l : List ℕ). get_or l 1 0) c.insert.ensures.does.same.names)) in
+    rw space_is c.insert.ensures.below.1
