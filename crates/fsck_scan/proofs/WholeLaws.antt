@@ -191,8 +191,7 @@ pub has_begun : (is_key is_value : List ℕ → Type 0) (cmp : List ℕ → List
 has_begun is_key is_value cmp head nodes old marks bits there size height node old_is few size_is blank read height_is node_is =
     let long : length marks ≡ there = read.marks.size ∙ ap (λ l. length l) old_is ∙ length-replicate {A = Bool} there false in
     let begun = begins (form_in (record { id = 0; attributes = 0; max_key = 0; least_node = 0 })) is_key is_value cmp 0 head nodes old marks bits (old_is ∙ ap (λ n. replicate n false) (sym long)) (omega (arith, long, few))
-        (subst (λ s. HasMapRead nodes s head.shape.total old marks bits) (sym size_is) read) in
-    (
+    (subst (λ s. HasMapRead nodes s head.shape.total old marks bits) (sym size_is) read) in (
       record {
         size_is = size_is;
         total_is = refl;

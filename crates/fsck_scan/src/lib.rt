@@ -10,7 +10,6 @@ mod map;
 mod pairs;
 mod records;
 mod scan;
-
 #[cfg(test)]
 mod tests;
 mod tree;

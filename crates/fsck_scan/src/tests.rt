@@ -250,23 +250,16 @@ fn scanned(alloc: Global, view: &mut Sectors) -> Result<(usize, Option<Finding>)
     let mut fork = ExtentList::new(alloc);
     fork.push(Extent { start: 0, count: 8 })?;
     let mut out = Findings::new(alloc);
-    match scan_tree::<Sectors, ExtentOrder>(
-        alloc,
-        view,
-        &fork,
-        512,
-        TreeName::Extents,
-        &mut out,
-    ) {
+    match scan_tree::<Sectors, ExtentOrder>(alloc, view, &fork, 512, TreeName::Extents, &mut out) {
         Ok(pairs) => Ok((pairs.len(), out.as_slice().first().copied())),
         Err(_) => Ok((99, None)),
     }
 }
 
 #[derive(Clone, Copy)]
-struct BadTree {
+struct BadTree<'a> {
     shows: &'static str,
-    changes: &'static [(usize, Patch)],
+    changes: &'a [(usize, Patch)],
     rule: u8,
     node: u64,
     found: u64,
@@ -371,7 +364,12 @@ fn a_damaged_tree_has_a_finding(rt: HostRuntime) -> Result<(), Fail> {
             found: case.found,
             wanted: case.wanted,
         };
-        assert_eq!(rt; scanned(rt.alloc(), &mut view)?, (0, Some(want)), "{}", case.shows);
+        assert_eq!(rt;
+            scanned(rt.alloc(), &mut view)?,
+            (0, Some(want)),
+            "{}",
+            case.shows
+        );
     }
     Ok(())
 }

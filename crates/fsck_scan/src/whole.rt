@@ -101,7 +101,9 @@ fn read_all<V: SectorView, K: KeyOrder>(
     if height == 0 {
         return Ok(None);
     }
-    read_levels::<V, K>(alloc, view, fork, form, total, height, root, node, marks, level)
+    read_levels::<V, K>(
+        alloc, view, fork, form, total, height, root, node, marks, level,
+    )
 }
 
 /// Judges what all nodes say: the last numbers of the header record, and the bits of the map.
@@ -210,7 +212,14 @@ fn scan_nodes<V: SectorView, K: KeyOrder>(
     let mut marks = Marks::new(alloc, there)?;
     let mut node = Node::new(alloc, head.shape.node_size)?;
     let mut bits = Vec::new(alloc);
-    if let Some(wrong) = read_map(view, fork, head.shape.total, &mut node, &mut marks, &mut bits)? {
+    if let Some(wrong) = read_map(
+        view,
+        fork,
+        head.shape.total,
+        &mut node,
+        &mut marks,
+        &mut bits,
+    )? {
         return Ok(Some(failed(5, form.id, wrong)));
     }
     let height = root_height(view, fork, head.shape.root, &mut node)?;

@@ -31,7 +31,7 @@ returns-in-Some-clause-clean g c tells bytes is =
     absurd (not_broken form g.K.KeyOrder.is_key g.K.KeyOrder.is_value g.K.KeyOrder.cmp id g.K.KeyOrder.MAX g.met.K.KeyOrder.key_length g.met.K.KeyOrder.key_most c.requires.order tree (as_found c.in-Some.finding) is broken)
 
 pub returns-in-Some-clause-found : goal.returns-in-Some-clause-found
-returns-in-Some-clause-found g c tells bytes = inr (c.new.ensures, some_listed c.push.new.self c.in-Some.finding c.in_ok-push.ensures.listed)
+returns-in-Some-clause-found g c tells bytes = inr (c.new.ensures, some_listed c.push.new.self c.in-Some.finding c.in_ok-push.ensures.kept.listed)
 
 pub returns-in-Some-clause-each : goal.returns-in-Some-clause-each
 returns-in-Some-clause-each g c tells finding stands =
@@ -46,7 +46,7 @@ returns-in-Some-clause-each g c tells finding stands =
     subst (λ (t : TreeFile). IsBrokenTree form g.K.KeyOrder.is_key g.K.KeyOrder.is_value g.K.KeyOrder.cmp id t (as_found c.in-Some.finding)) same
     (subst (λ (f : Form). IsBrokenTree (form_in f) g.K.KeyOrder.is_key g.K.KeyOrder.is_value g.K.KeyOrder.cmp f.id own (as_found c.in-Some.finding)) c.form-form.ensures
     (some_is c.in_ok-finding.field-0 c.in-Some.finding (λ (f : Finding). IsBrokenTree (form_in c.form-form.result) g.K.KeyOrder.is_key g.K.KeyOrder.is_value g.K.KeyOrder.cmp c.form-form.result.id own (as_found f)) c.in-Some.is (c.in_ok-finding.ensures.wrong tells))) in
-    one_more (λ (f : Broken). IsBrokenTree form g.K.KeyOrder.is_key g.K.KeyOrder.is_value g.K.KeyOrder.cmp id tree f) c.args.out.now c.push.new.self c.in-Some.finding finding c.in_ok-push.ensures broken stands
+    one_more (λ (f : Broken). IsBrokenTree form g.K.KeyOrder.is_key g.K.KeyOrder.is_value g.K.KeyOrder.cmp id tree f) c.args.out.now c.push.new.self c.in-Some.finding finding c.in_ok-push.ensures.kept broken stands
 
 pub returns-clause-clean : goal.returns-clause-clean
 returns-clause-clean g c tells bytes is =
