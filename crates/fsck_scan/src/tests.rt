@@ -257,9 +257,9 @@ fn scanned(alloc: Global, view: &mut Sectors) -> Result<(usize, Option<Finding>)
 }
 
 #[derive(Clone, Copy)]
-struct BadTree<'a> {
+struct BadTree {
     shows: &'static str,
-    changes: &'a [(usize, Patch)],
+    change: (usize, Patch),
     rule: u8,
     node: u64,
     found: u64,
@@ -280,7 +280,7 @@ fn a_damaged_tree_has_a_finding(rt: HostRuntime) -> Result<(), Fail> {
     let cases = [
         BadTree {
             shows: "a leaf that names itself",
-            changes: &[(1, (3, &[1]))],
+            change: (1, (3, &[1])),
             rule: 6,
             node: 1,
             found: 0,
@@ -288,7 +288,7 @@ fn a_damaged_tree_has_a_finding(rt: HostRuntime) -> Result<(), Fail> {
         },
         BadTree {
             shows: "an index node that names a leaf twice",
-            changes: &[(3, (45, &[1]))],
+            change: (3, (45, &[1])),
             rule: 6,
             node: 1,
             found: 0,
@@ -296,7 +296,7 @@ fn a_damaged_tree_has_a_finding(rt: HostRuntime) -> Result<(), Fail> {
         },
         BadTree {
             shows: "an index node that names itself",
-            changes: &[(3, (45, &[3]))],
+            change: (3, (45, &[3])),
             rule: 5,
             node: 3,
             found: 0,
@@ -304,7 +304,7 @@ fn a_damaged_tree_has_a_finding(rt: HostRuntime) -> Result<(), Fail> {
         },
         BadTree {
             shows: "an index key that isn't its child's",
-            changes: &[(3, (37, &[23]))],
+            change: (3, (37, &[23])),
             rule: 6,
             node: 3,
             found: 0,
@@ -312,7 +312,7 @@ fn a_damaged_tree_has_a_finding(rt: HostRuntime) -> Result<(), Fail> {
         },
         BadTree {
             shows: "a bit too many in the map",
-            changes: &[(0, (248, &[0xF8]))],
+            change: (0, (248, &[0xF8])),
             rule: 7,
             node: 4,
             found: 1,
@@ -320,28 +320,15 @@ fn a_damaged_tree_has_a_finding(rt: HostRuntime) -> Result<(), Fail> {
         },
         BadTree {
             shows: "a bit too few",
-            changes: &[(0, (248, &[0xE0]))],
+            change: (0, (248, &[0xE0])),
             rule: 7,
             node: 3,
             found: 0,
             wanted: 1,
         },
         BadTree {
-            shows: "a map node that names itself",
-            changes: &[
-                (0, (3, &[5])),
-                (5, (3, &[5])),
-                (5, (8, &[2, 0, 0, 1])),
-                (5, (508, &[0, 100, 0, 14])),
-            ],
-            rule: 5,
-            node: 5,
-            found: 0,
-            wanted: 1,
-        },
-        BadTree {
             shows: "a wrong depth",
-            changes: &[(0, (15, &[1]))],
+            change: (0, (15, &[1])),
             rule: 4,
             node: 0,
             found: 1,
@@ -349,7 +336,7 @@ fn a_damaged_tree_has_a_finding(rt: HostRuntime) -> Result<(), Fail> {
         },
         BadTree {
             shows: "no node at all",
-            changes: &[(0, (39, &[0]))],
+            change: (0, (39, &[0])),
             rule: 4,
             node: 0,
             found: 0,
@@ -357,7 +344,7 @@ fn a_damaged_tree_has_a_finding(rt: HostRuntime) -> Result<(), Fail> {
         },
     ];
     for case in cases.iter() {
-        let mut view = tree(rt.alloc(), case.changes)?;
+        let mut view = tree(rt.alloc(), &[case.change])?;
         let want = Finding {
             rule: case.rule,
             place: 3 * 4294967296 + case.node,
@@ -371,5 +358,26 @@ fn a_damaged_tree_has_a_finding(rt: HostRuntime) -> Result<(), Fail> {
             case.shows
         );
     }
+    Ok(())
+}
+
+#[test]
+fn a_map_node_that_names_itself_is_a_finding(rt: HostRuntime) -> Result<(), Fail> {
+    let mut view = tree(
+        rt.alloc(),
+        &[
+            (0, (3, &[5])),
+            (5, (3, &[5])),
+            (5, (8, &[2, 0, 0, 1])),
+            (5, (508, &[0, 100, 0, 14])),
+        ],
+    )?;
+    let want = Finding {
+        rule: 5,
+        place: 3 * 4294967296 + 5,
+        found: 0,
+        wanted: 1,
+    };
+    assert_eq!(rt; scanned(rt.alloc(), &mut view)?, (0, Some(want)));
     Ok(())
 }
