@@ -5,9 +5,8 @@ pub mod HoldLaws
 pub mod MapLaws
 pub mod TakeLaws
 pub mod TakenLaws
-pub mod SpaceLaws
 pub mod ForkLaws
-pub mod StoreLaws
+pub mod ChangedLaws
 pub mod PlaceLaws
 pub mod StoredLaws
 pub mod FewestLaws

@@ -1,6 +1,5 @@
 -- The bits of an allocation file in a content, which is a list of sectors.
-use Rattle.std.specs.Prelude.{◌≡◌, ◌⊎◌, ◌↔◌, ℕ, ◌+◌, ◌/◌, ◌%◌, ◌<◌, ◌≤◌, Bool, true, false, not, ◌&&◌, IsTrue, if◌then◌else◌, ◌∷◌, Option, Some, None, List, [], length, slice_get, slice_index_or}
-use Rattle.sector_disk.specs.Space.{Space, AgreesOutside}
+use Rattle.std.specs.Prelude.{◌≡◌, ℕ, ◌+◌, ◌*◌, ◌/◌, ◌%◌, ◌<◌, ◌≤◌, Bool, true, false, ◌∷◌, Option, Some, None, List, [], length, slice_get, slice_index_or}
 use Rattle.hx_bytes.specs.declared.extents.Extent.{Extent}
 use Rattle.fork_map.specs.Blocks.{blocks_of, sectors_of}
 use Rattle.flag_rows.specs.Bits.{bit_of}
@@ -30,22 +29,17 @@ IsChanged sectors changed at = (place : ℕ) × (slice_index_or changed place fa
 abbrev pub ClearsRest : List (List ℕ) → List ℕ → List Bool → List Bool → Type 0
 ClearsRest content sectors changed flags = (k : ℕ) → length flags ≤ k → slice_index_or changed (k / 4096) false ≡ true → fork_bit content sectors k ≡ false
 
--- how many of the changed sectors, from a place on, aren't put yet
-abbrev pub not_put : (ℕ → Bool) → List ℕ → List Bool → ℕ
-not_put put sectors [] = 0
-not_put put [] (changed ∷ rest) = 0
-not_put put (at ∷ sectors) (changed ∷ rest) = (if changed && not (put at) then 1 else 0) + not_put put sectors rest
+-- the changed ones of these sectors, in order
+abbrev pub changed_of : List ℕ → List Bool → List ℕ
+changed_of [] changed = []
+changed_of (at ∷ sectors) [] = []
+changed_of (at ∷ sectors) (true ∷ changed) = at ∷ changed_of sectors changed
+changed_of (at ∷ sectors) (false ∷ changed) = changed_of sectors changed
 
--- what a space is after the changed sectors of a fork were put
-pub record PutsChanged (old : Space) (sectors : List ℕ) (changed : List Bool) (new : Space) : Type 0 where
-  pub content : AgreesOutside (IsChanged sectors changed) old.content new.content
-  pub durable : new.durable ≡ old.durable
-  pub spilled : (s : ℕ) → new.spilled s ↔ old.spilled s
-  pub live : (s : ℕ) → new.live s ↔ (old.live s ⊎ IsChanged sectors changed s)
-  pub closed : (s : ℕ) → new.closed s ↔ old.closed s
-
--- the room that the changed sectors of a fork took
-pub record TakesRoomFor (old : Space) (sectors : List ℕ) (changed : List Bool) (new : Space) : Type 0 where
-  pub put : (s : ℕ) → IsTrue (new.put s) ↔ (IsTrue (old.put s) ⊎ IsChanged sectors changed s)
-  pub spare : old.spare ≤ new.spare + not_put old.put sectors changed
-  pub no_more : new.spare ≤ old.spare
+-- these bytes hold the flags of a changed sector of a fork, and past the last flag clear bits
+pub record HoldsPart (sectors : List ℕ) (changed used : List Bool) (at : ℕ) (bytes : List ℕ) : Type 0 where
+  pub place : ℕ
+  pub is : slice_index_or changed place false ≡ true
+  pub there : slice_get sectors place ≡ Some at
+  pub whole : length bytes ≡ 512
+  pub bits : (k : ℕ) → k < 4096 → bit_of bytes k ≡ slice_index_or used (place * 4096 + k) false

@@ -27,19 +27,19 @@ put_within sectors per n bytes old new long puts room same time faults =
     let up : (s : ℕ) → Contains (sectors_at sectors per n) s → Contains sectors s = of_fork sectors per n in
     record {
       same = same;
-      content = λ tells. record { size = (puts tells).content.size; each = λ s. ⊎_elim (λ e. inl e) (λ c. inr (up s c)) ((puts tells).content.each s) };
-      sizes = λ tells s. ⊎_elim (λ e. inl (ap (λ (l : List ℕ). length l) e)) (λ c. inr (put_size sectors per n bytes old new long (puts tells) s c)) ((puts tells).content.each s);
-      durable = λ tells. (puts tells).durable;
-      spilled = λ tells. (puts tells).spilled;
-      live = λ tells s l. ⊎_elim (λ o. inl o) (λ c. inr (up s c)) (((puts tells).live s).0 l);
-      still_live = λ tells s l. ((puts tells).live s).1 (inl l);
-      closed = λ tells. (puts tells).closed;
+      content = λ tells. record { size = (puts tells).these.content.size; each = λ s. ⊎_elim (λ e. inl e) (λ c. inr (up s c)) ((puts tells).these.content.each s) };
+      sizes = λ tells s. ⊎_elim (λ e. inl (ap (λ (l : List ℕ). length l) e)) (λ c. inr (put_size sectors per n bytes old new long (puts tells) s c)) ((puts tells).these.content.each s);
+      durable = λ tells. (puts tells).these.durable;
+      spilled = λ tells. (puts tells).these.spilled;
+      live = λ tells s l. ⊎_elim (λ o. inl o) (λ c. inr (up s c)) (((puts tells).these.live s).0 l);
+      still_live = λ tells s l. ((puts tells).these.live s).1 (inl l);
+      closed = λ tells. (puts tells).these.closed;
       put = λ s. elim (cases_Bool (new.put s)) [
         | inl t ↦ ⊎_elim (λ o. inl (t ∙ sym o)) (λ c. inr (up s c)) ((room.put s).0 t)
         | inr f ↦ elim (cases_Bool (old.put s)) [ inl t ↦ absurd (true≢false (sym ((room.put s).1 (inl t)) ∙ f)) | inr g ↦ inl (f ∙ sym g) ]
       ];
       still_put = λ s t. (room.put s).1 (inl t);
-      spare = omega (arith, room.spare);
+      spare = room.no_more;
       faults = omega (arith, faults);
       time = time;
     }

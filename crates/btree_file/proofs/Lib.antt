@@ -1,6 +1,4 @@
-pub mod PutLaws
 pub mod PlaceLaws
-pub mod Stored
 pub mod NodeLaws
 pub mod RoomLaws
 pub mod MapLaws

@@ -69,7 +69,7 @@ node_put fork per n bytes old new puts whole long = pieces new.content (sectors_
 
 pub node_kept : (fork : List ℕ) (per n m : ℕ) (bytes : List ℕ) (old new : Space) → PutsNode (sectors_at fork per n) bytes old new → AreApart fork → m ≢ n → node_of new.content fork per m ≡ node_of old.content fork per m
 node_kept fork per n m bytes old new puts apart other =
-    same_bytes old.content new.content (sectors_at fork per m) (λ s c. ⊎_elim (λ e. e) (λ also. absurd (other (apart_nodes fork per m n s apart c also))) (puts.content.each s))
+    same_bytes old.content new.content (sectors_at fork per m) (λ s c. ⊎_elim (λ e. e) (λ also. absurd (other (apart_nodes fork per m n s apart c also))) (puts.these.content.each s))
 
 -- ---- the map
 pub used_same : (a b : ℕ → List ℕ) (map : List Stretch) (n : ℕ) → ((m : ℕ) → list_any (λ part. part.node == m) map ≡ true → b m ≡ a m) → used_in b map n ≡ used_in a map n

@@ -72,7 +72,7 @@ module _ (sectors : List ℕ) (per total : ℕ) (apart : AreApart sectors) (whol
           written = λ m. same_flag (whole_put sectors per old.put m) (whole_put sectors per new.put m)
               (λ t. ⊎_elim (λ (e : m ≡ n). ap (whole_put sectors per old.put) e ∙ was) (λ (other : m ≢ n). sym (put_other m other) ∙ t) (cases_eq m n)) (still_put m);
           unwritten = omega (arith, counts, none_more);
-          spare = omega (arith, room.spare, none);
+          spare = omega (arith, room.spare, room.no_more, none);
         }
 
     pub puts_once : PutsOnce sectors per total old.put old.spare new.put new.spare

@@ -7,7 +7,7 @@ use Rattle.sector_disk.specs.Space.{Space}
 use Rattle.btree_file.specs.Growth.{unwritten_in}
 use Rattle.btree_file.specs.Place.{AreApart, sectors_at}
 use Rattle.btree_file.specs.Putting.{unput, PutsNode, TakesRoomFor}
-use Rattle.btree_file.proofs.PutLaws.{fewer_unput}
+use Rattle.sector_disk.proofs.PutLaws.{fewer_unput}
 use Rattle.btree_file.proofs.RoomLaws.{none_unput}
 use Rattle.btree_file.proofs.Rooms.{put_here, puts_once, may_put}
 

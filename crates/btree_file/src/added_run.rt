@@ -139,6 +139,7 @@ impl TreeFile {
         ensures room { TakesRoomToGrow self.old run (P.SectorView.space space.old) (P.SectorView.space space.new) }
         ensures failed { OnErr result (SaysSame self.old self.new) }
         ensures inside { LiesInside self.new (P.SectorView.space space.new) }
+        ensures node_size { self.new.shape.node_size ≡ self.old.shape.node_size }
         ensures reads { OnErr result (ReadsSpace (P.SectorView.space space.old) (P.SectorView.space space.new)) }
         ensures below { P.SectorView.follows space.old space.new }
         ensures disk { IsErrOf result Disk → Rose (P.SectorView.space space.old).faults (P.SectorView.space space.new).faults }

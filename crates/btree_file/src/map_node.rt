@@ -10,9 +10,9 @@ ghost use Rattle.btree_file.specs.Putting.{unput, PutsNode, TakesRoomFor};
 
 use crate::putting::put_node;
 use crate::reading::first_record;
-use fork_map::SummedFork;
 use crate::tree::Stretch;
 use btree_node::{Node, TreeShape};
+use fork_map::SummedFork;
 use sector_disk::SectorSpace;
 
 /// Makes a node a map node whose record is these zeros, but for the last 20, whose place the descriptor and the offsets take.

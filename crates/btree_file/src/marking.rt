@@ -14,9 +14,9 @@ ghost use Rattle.btree_file.specs.Spots.{IsSpot};
 ghost use Rattle.btree_file.specs.Putting.{unput, PutsNode, TakesRoomFor};
 
 use crate::putting::{get_node, put_node};
-use fork_map::SummedFork;
 use crate::tree::Stretch;
 use btree_node::Node;
+use fork_map::SummedFork;
 use hx_bytes::Failed;
 use sector_disk::{SectorSpace, SectorView};
 

@@ -32,6 +32,13 @@ impl TreeFile {
         self.fork.list()
     }
 
+    /// How many sectors of 512 bytes a block of the file has.
+    pub fn per_block(&self) -> u32
+        ensures { result ≡ self.now.per_block }
+    {
+        self.per_block
+    }
+
     /// How many bits the map has, or 4,294,967,295 where there are more.
     pub fn map_bits(&self) -> u32
         ensures { result ≡ min (bits_of self.now.map.items) (2 ^ 32 - 1) }

@@ -8,10 +8,10 @@ ghost use Rattle.btree_file.specs.Place.{IsInside, IsOpen, AreApart, fork_sector
 ghost use Rattle.btree_file.specs.Frame.{ReadsSpace};
 ghost use Rattle.btree_file.specs.Putting.{unput, PutsNode, TakesRoomFor};
 
-use fork_map::SummedFork;
 use btree_node::Node;
+use fork_map::SummedFork;
 use hx_bytes::{Failed, Sector};
-use sector_disk::{SectorSpace, SectorView};
+use sector_disk::{SectorSpace, SectorView, SectorsToPut, put_list};
 
 /// Reads a node.
 pub(crate) fn get_node<V: SectorView>(
@@ -50,6 +50,43 @@ pub(crate) fn copy_sector(from: &Node, k: u32, sector: &mut Sector)
     sector.copy_from_slice(&from.bytes()[start..start + 512]);
 }
 
+/// The sectors of a node from one of them on, each with its bytes.
+#[derive(Drop)]
+struct NodeSectors<'a> {
+    fork: &'a SummedFork,
+    per_block: u32,
+    node: u32,
+    from: &'a Node,
+    /// The sectors of the node before this one were told.
+    k: u32,
+    ghost small: { per_block ≤ 128 },
+}
+
+impl SectorsToPut for NodeSectors<'_> {
+    ghost use Rattle.std.specs.Prelude.{◌/◌, drop, length};
+    ghost use Rattle.btree_file.specs.Place.{fork_sectors, sectors_at};
+    ghost use Rattle.btree_file.specs.Putting.{IsPiece};
+
+    ghost places = { λ s. drop s.k (sectors_at (fork_sectors s.fork.now s.per_block) (length s.from.now / 512) s.node) };
+
+    ghost belongs = { λ s at piece. IsPiece (sectors_at (fork_sectors s.fork.now s.per_block) (length s.from.now / 512) s.node) s.from.now at piece };
+
+    fn next(&mut self, into: &mut Sector) -> Option<u64> {
+        let k = self.k;
+        let per = self.from.bytes().len() as u32 / 512;
+        if k >= per {
+            return None;
+        }
+        let place = self.node as u64 * per as u64 + k as u64;
+        let Some(at) = self.fork.sector_at(self.per_block, place) else {
+            return None;
+        };
+        copy_sector(self.from, k, into);
+        self.k = k + 1;
+        Some(at)
+    }
+}
+
 /// Puts a node.
 pub(crate) fn put_node<P: SectorSpace>(
     space: &mut P,
@@ -71,12 +108,12 @@ pub(crate) fn put_node<P: SectorSpace>(
     ensures below { P.SectorView.follows space.old space.new }
     ensures faults { (P.SectorView.space space.new).faults ≡ (P.SectorView.space space.old).faults }
 {
-    let per = from.bytes().len() as u32 / 512;
-    let mut sector = [0; 512];
-    for k in 0..per {
-        if let Some(at) = fork.sector_at(per_block, node as u64 * per as u64 + k as u64) {
-            copy_sector(from, k, &mut sector);
-            space.put(at, &sector);
-        }
-    }
+    let mut list = NodeSectors {
+        fork,
+        per_block,
+        node,
+        from,
+        k: 0,
+    };
+    put_list(space, &mut list);
 }

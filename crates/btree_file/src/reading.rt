@@ -12,9 +12,9 @@ ghost use Rattle.btree_file.specs.Walks.{FitsFile, HasChain, names_of};
 
 use crate::marking::is_reserved;
 use crate::putting::get_node;
-use fork_map::SummedFork;
 use crate::tree::Stretch;
 use btree_node::Node;
+use fork_map::SummedFork;
 use hx_bytes::{Failed, OutOfMemory, Trouble, read_be16};
 use sector_disk::SectorView;
 use std::alloc::Global;

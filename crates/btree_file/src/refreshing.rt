@@ -56,6 +56,7 @@ impl TreeFile {
         ensures back { IsTrue (V.space view.old).tells → (before : TreeFile) → GrewFrom before self.old → Stands before (V.space view.old).content → OnOk result (IsBack before self.new (V.space view.old).content) }
         ensures failed { OnErr result (SaysSame self.old self.new) }
         ensures inside { LiesInside self.new (V.space view.new) }
+        ensures node_size { self.new.shape.node_size ≡ self.old.shape.node_size }
         ensures reads { ReadsSpace (V.space view.old) (V.space view.new) }
         ensures below { V.follows view.old view.new }
         ensures cause { HasCause (V.space view.old).faults (V.space view.new).faults result }

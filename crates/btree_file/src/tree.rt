@@ -2,8 +2,8 @@
 ghost use Rattle.std.specs.Prelude.{◌≡◌, length};
 ghost use Rattle.btree_file.specs.Place.{IsFile};
 
-use fork_map::SummedFork;
 use btree_node::{Node, TreeShape};
+use fork_map::SummedFork;
 
 /// A stretch of the map: a node, the place of the first of its bytes there, and how many there are.
 #[derive(Clone, Copy, Debug, PartialEq, Eq)]

@@ -4,7 +4,7 @@ use Rattle.sector_disk.specs.Clock.{TimePasses}
 use Rattle.sector_disk.specs.Space.{Space, SameSpace, SameRoom, SameSectors, LeavesDurable}
 use Rattle.sector_disk.proofs.Passing.{none_passes}
 use Rattle.file_io.specs.Touching.{IsOnlyRead}
-use Rattle.alloc_bitmap.proofs.SpaceLaws.{space_none, space_both, room_both, iff_none, sectors_both, time_both}
+use Rattle.sector_disk.proofs.SpaceLaws.{space_none, space_both, room_both, iff_none, sectors_both, time_both}
 
 pub read_none : (space : Space) → IsOnlyRead space space
 read_none space = record {

@@ -9,7 +9,7 @@ use Rattle.sector_disk.specs.Lists.{Content, sector}
 use Rattle.sector_disk.specs.Clock.{TimePasses}
 use Rattle.sector_disk.specs.Space.{Space, SameSpace, SameRoom, SameSectors, Spills, MayHaveSpilled, AgreesOutside, LeavesDurable}
 use Rattle.sector_disk.proofs.Passing.{none_passes, both_pass}
-use Rattle.alloc_bitmap.proofs.SpaceLaws.{space_none, space_both, room_both, iff_none, iff_both, time_both}
+use Rattle.sector_disk.proofs.SpaceLaws.{space_none, space_both, room_both, iff_none, iff_both, time_both}
 use Rattle.file_io.specs.Bytes.{sector_bytes, padded, old_byte, new_byte}
 use Rattle.file_io.specs.Touching.{IsOneOf, IsOnlyRead, SpillsIn}
 use Rattle.file_io.proofs.ByteLaws.{sector_bytes_is}

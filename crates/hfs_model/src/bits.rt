@@ -6,7 +6,7 @@ use hx_bytes::OutOfMemory;
 
 /// Which numbers are marked: those below a bound, and maybe one more.
 #[derive(Clone, Copy, Debug, PartialEq, Eq)]
-pub(crate) struct Marks {
+pub struct Marks {
     pub below: u32,
     pub also: Option<u32>,
 }

@@ -30,7 +30,7 @@ const HAS_THREAD: u16 = 2;
 const BLOCK_SIZE: u64 = 4096;
 
 /// One run of blocks, and seven extents that aren't used.
-pub(crate) fn one_run(start: u32, count: u32) -> ExtentRecord
+pub fn one_run(start: u32, count: u32) -> ExtentRecord
     ensures { result ≡ one_run start count }
 {
     let mut extents = [Extent { start: 0, count: 0 }; 8];
@@ -51,7 +51,7 @@ fn file_fork(start: u32, count: u32) -> ForkRecord
 }
 
 /// A fork without a byte.
-pub(crate) fn no_fork() -> ForkRecord
+pub fn no_fork() -> ForkRecord
     ensures { result ≡ no_fork }
 {
     ForkRecord {
@@ -62,7 +62,8 @@ pub(crate) fn no_fork() -> ForkRecord
     }
 }
 
-fn new_entry(flags: u16, count: u32, id: u32, mode: u16) -> EntryFields
+/// The fields of a new file or folder, with its flags, its number of entries, its id and its mode. All else is 0.
+pub fn new_entry(flags: u16, count: u32, id: u32, mode: u16) -> EntryFields
     ensures { result ≡ new_entry flags count id mode }
 {
     EntryFields {
@@ -86,7 +87,8 @@ fn new_entry(flags: u16, count: u32, id: u32, mode: u16) -> EntryFields
     }
 }
 
-fn new_folder(id: u32, entries: u32) -> CatRecord
+/// A new folder with so many entries.
+pub fn new_folder(id: u32, entries: u32) -> CatRecord
     ensures { result ≡ new_folder id entries }
 {
     CatRecord::Folder(FolderRecord {
@@ -104,7 +106,8 @@ fn new_file(id: u32, start: u32, count: u32) -> CatRecord
     })
 }
 
-fn new_thread(
+/// The thread of a file or a folder.
+pub fn new_thread(
     alloc: Global,
     of_file: bool,
     parent: u32,
@@ -121,7 +124,7 @@ fn new_thread(
 }
 
 /// The units of an ASCII text.
-pub(crate) fn ascii(alloc: Global, text: &str) -> Result<Units, OutOfMemory>
+pub fn ascii(alloc: Global, text: &str) -> Result<Units, OutOfMemory>
     ensures { IfOk result (λ units. units ≡ text.now) }
 {
     let mut units: Vec<u16> = Vec::new(alloc);
@@ -145,7 +148,8 @@ fn catalog_item(
     Ok(Bytes::from_vec(item))
 }
 
-fn put_item(
+/// Adds a record of the catalog, its key and its value, to the records of a node.
+pub fn put_item(
     alloc: Global,
     items: &mut Vec<Bytes>,
     parent: u32,

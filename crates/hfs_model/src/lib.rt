@@ -25,12 +25,14 @@ mod tests;
 mod text;
 mod walking;
 
+pub use bits::Marks;
 pub use hfs_language::{
     Change, ChangeKind, Changes, Command, Facts, Gauge, ListedName, Listing, Path, Refusal, Reply,
     TreeGauge,
 };
 pub use laws::one_list;
+pub use leaf::{ascii, new_entry, new_folder, new_thread, no_fork, one_run, put_item};
 pub use names::{are_thin_names, contains, is_thin_name, place_of, sorted};
-pub use node::{NodeHead, TreeHeader};
+pub use node::{NodeHead, TreeHeader, header_items, node_over};
 pub use parts::{Parts, fresh_parts, thin_names, with_mark, with_names};
 pub use plain::{PlainAttribute, PlainEntry, PlainNode, PlainTree};

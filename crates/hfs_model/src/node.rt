@@ -112,7 +112,7 @@ fn node_text(
 }
 
 /// The bytes of a node, with what the old bytes have in its free space.
-pub(crate) fn node_over(
+pub fn node_over(
     alloc: Global,
     head: &NodeHead,
     items: &[Bytes],
@@ -170,7 +170,7 @@ fn tree_header(alloc: Global, tree: &TreeHeader) -> Result<Bytes, OutOfMemory>
 
 /// The records of a header node whose map marks these nodes as used.
 #[tactic(auto, unfolding(crate::specs::Node::header_items))]
-pub(crate) fn header_items(
+pub fn header_items(
     alloc: Global,
     tree: &TreeHeader,
     used: Marks,

@@ -33,14 +33,10 @@ use Rattle.hfs_serving.proofs.Recoveries.{recovery_parts}
 
 -- ---- what is found in an image
 
--- a journal in the same form has the same contents found
-pub found_same : (old new : Store) (image : Content) → SameJournal old new → found new.plan image ≡ found old.plan image
+-- what is found hangs on these parts of a plan alone
+pub found_by : (first second : Plan) (image : Content) → first.place ≡ second.place → first.info ≡ second.info → first.header.blhdr ≡ second.header.blhdr → found first image ≡ found second image
 unfolding found
-found_same old new image journal =
-    let e1 = journal.place in
-    let e2 = journal.info in
-    let e3 = journal.blhdr in
-    go new.plan old.plan (recovery image) e1 e2 e3
+found_by first second image place info blhdr = go first second (recovery image) place info blhdr
   where
     go : (a b : Plan) (r : Result Content JnlRefusal) → a.place ≡ b.place → a.info ≡ b.info → a.header.blhdr ≡ b.header.blhdr → found_in a image r ≡ found_in b image r
     go a b (Err e) p i h = refl
@@ -56,6 +52,10 @@ found_same old new image journal =
             let first = is_none (header_refusal (header_of_volume image) (length image)) && is_same_volume (header_of_volume x) (header_of_volume image) in
             ap (λ q. first && is_in_form a (journal_in q.info_sector image) && eqb q.info_sector (info_sector_of (header_of_volume image))) p
             ∙ ap (λ t. first && t && eqb b.place.info_sector (info_sector_of (header_of_volume image))) (go_form a b (journal_in b.place.info_sector image) i h)
+
+-- a journal in the same form has the same contents found
+pub found_same : (old new : Store) (image : Content) → SameJournal old new → found new.plan image ≡ found old.plan image
+found_same old new image journal = found_by new.plan old.plan image journal.place journal.info journal.blhdr
 
 -- what an image stands for is found in it
 module _ (plan : Plan) (old image recovered : Content) (most : plan.info.size ≤ 2 ^ 40) (h : HoldsJournal plan old) (size : length image ≡ length old) (stands : StandsFor plan old image recovered) where

@@ -1,19 +1,21 @@
 -- A volume that goes on within a batch.
-use Rattle.std.proofs.Common.{◌≡◌, ◌⊎◌, ◌≤◌, ◌∷◌, [], ◌++◌, ℕ, List, inl, inr, ⊎_elim, refl, sym, ◌∙◌, ap, subst}
-use Rattle.std.specs.Prelude.{Option, Result, Ok, Err, OnOk, OnErr}
+use Rattle.std.proofs.Common.{◌≡◌, ◌⊎◌, ◌≤◌, ◌∷◌, [], ◌++◌, ℕ, List, true, false, inl, inr, ⊎_elim, refl, sym, ◌∙◌, ap, subst, take, append_assoc}
+use Rattle.std.specs.Prelude.{Bool, Option, Result, Ok, Err, OnOk, OnErr}
 use Rattle.std.proofs.lemmas.List.{append-nil}
 use Rattle.sector_disk.specs.Space.{Space, AgreesOutside}
 use Rattle.jnl_format.specs.Recovery.{Content}
 use Rattle.hfs_volume.specs.Content.{volume_of}
 use Rattle.hfs_volume.specs.Reclaim.{Tidies, IsTidied, IsAtRest, none, one_more}
-use Rattle.hfs_volume.specs.Run.{Entry, shrunk_in, shrunk_after, replies_of}
-use Rattle.hfs_serving.specs.Going.{Knowing, Stands, Stays, Tidied, Answered, GoesTidy, GoesRested, GoesOn, GoesWhole, StopsOn}
+use Rattle.hfs_volume.specs.Run.{Entry, shrunk_in, shrunk_after, lines_of, replies_of}
+use Rattle.hfs_serving.specs.Going.{Knowing, Stands, Stays, Tidied, Answered, AnswersTo, is_answered, GoesTidy, GoesRested, GoesOn, GoesWhole, ServesBatch, ServesLine, ServesLines, StopsLines, StopsOn, line_if}
+use Rattle.hfs_serving.specs.declared.volume.Step.{Step}
+use Rattle.hfs_serving.specs.declared.volume.Step.TheVariants as step
 use Rattle.hfs_serving.specs.Outside.{Outside}
 use Rattle.hfs_serving.specs.Runs.{Leads, LeadsToRest}
 use Rattle.hfs_serving.specs.Serving.{IsDurable, IsRead, IsAsDurable, Touches, MayCommit, Commits, Goes, Stops}
 use Rattle.hfs_serving.proofs.Agreeing.{committed_below, committed_reads}
-use Rattle.hfs_serving.proofs.Lists.{shrunk_in-none, shrunk_in-one, shrunk_in-append, replies_of-none, replies_of-append}
-use Rattle.hfs_serving.proofs.Leading.{leads_none, leads_on, leads_entry, leads_of_rest, leads_rest, place_none, rest_on}
+use Rattle.hfs_serving.proofs.Lists.{shrunk_in-none, shrunk_in-one, shrunk_in-append, lines_of-append, replies_of-none, replies_of-append, content_after-none}
+use Rattle.hfs_serving.proofs.Leading.{leads_none, leads_on, leads_entry, leads_of_rest, leads_rest, leads_to_rest, place_none, rest_on}
 use Rattle.hfs_serving.proofs.Batches.{goes_none, goes_both, goes_stops, touched_on, stops_there}
 use Rattle.hfs_serving.proofs.Joining.{commit_goes_here, commit_stops_here, touch_stops_here}
 
@@ -26,6 +28,20 @@ on_err (Err e) p = p
 pub on_ok : {T E P Q : Type 0} (r : Result T E) → (P → Q) → OnOk r P → OnOk r Q
 on_ok (Ok x) goes p = goes p
 on_ok (Err e) goes p = tt
+
+-- ---- a step of a line
+
+-- a line that wasn't answered had no reply: a step of housekeeping was made for it, or it was only looked at
+module _ (capacity : ℕ) (knows : Knowing) (committed now : Content) (shrunk : Option ℕ) (space : Space) (line before after : List ℕ) where
+  pub left_line : (made : Step) → is_answered made ≡ false → AnswersTo made capacity knows committed now shrunk space line before after → (after ≡ before) × (Tidied capacity knows committed now shrunk space ⊎ Stays knows committed now shrunk space)
+  left_line step.Answered other answers = absurd (cc other)
+  left_line step.Again other answers = (answers.0, inl answers.1)
+  left_line step.CommitFirst other answers = (answers.0, inr answers.1)
+
+  pub answered_line : (made : Step) → is_answered made ≡ true → AnswersTo made capacity knows committed now shrunk space line before after → (text : List ℕ) × (after ≡ before ++ text) × Answered capacity knows committed now shrunk space line text
+  answered_line step.Answered is answers = answers
+  answered_line step.Again is answers = absurd (cc is)
+  answered_line step.CommitFirst is answers = absurd (cc is)
 
 -- ---- a stretch without an entry
 
@@ -74,11 +90,11 @@ module _ (capacity : ℕ) (shrunk : Option ℕ) (committed now : Content) (old :
     }
 
     -- a fault in a call that put and spilled, or in a commit
-    pub touch_stops_tidy : (new : Space) (after : Outside) → Touches goes.last space mid new after → StopsOn capacity committed now shrunk old after
-    touch_stops_tidy new after touches = record { more = []; stops = touch_stops_here capacity shrunk committed now old [] goes.last goes.next space mid goes.goes new after touches }
+    pub touch_stops_tidy : (new : Space) (after : Outside) → Touches goes.last space mid new after → StopsOn capacity committed now shrunk old [] after
+    touch_stops_tidy new after touches = record { more = []; asked = refl; stops = touch_stops_here capacity shrunk committed now old [] goes.last goes.next space mid goes.goes new after touches }
 
-    pub commit_stops_tidy : (after : Outside) → MayCommit space mid after → StopsOn capacity committed now shrunk old after
-    commit_stops_tidy after may = record { more = []; stops = commit_stops_here capacity shrunk committed now old [] goes.last goes.next space mid goes.goes after may }
+    pub commit_stops_tidy : (after : Outside) → MayCommit space mid after → StopsOn capacity committed now shrunk old [] after
+    commit_stops_tidy after may = record { more = []; asked = refl; stops = commit_stops_here capacity shrunk committed now old [] goes.last goes.next space mid goes.goes after may }
 
     -- it came to rest
     pub rests_tidy : IsAtRest capacity shrunk (volume_of goes.next) → GoesRested capacity knows committed now shrunk old space mid
@@ -94,11 +110,32 @@ module _ (capacity : ℕ) (shrunk : Option ℕ) (committed now : Content) (old :
         subst (λ (s : Option ℕ). Goes capacity s goes.last goes.next mid [] second.last second.next new after) (sym (shrunk_in-none shrunk)) second.goes in
         record { last = second.last; next = second.next; goes = goes_both capacity shrunk committed now old [] [] goes.last goes.next space mid goes.goes second.last second.next new after behind; heads = second.heads; known = second.known }
 
-    pub tidy_stops : (after : Outside) → StopsOn capacity goes.last goes.next shrunk mid after → StopsOn capacity committed now shrunk old after
-    tidy_stops after second =
+    -- one that came to rest
+    pub tidy_rested : (knows_new : Knowing) (new : Space) (after : Outside) → GoesRested capacity knows_new goes.last goes.next shrunk mid new after → GoesRested capacity knows_new committed now shrunk old new after
+    unfolding tidy_both
+    tidy_rested knows_new new after second = record {
+      tidy = tidy_both knows_new new after second.tidy;
+      rests = leads_to_rest capacity shrunk now [] [] goes.next goes.goes.leads second.tidy.next (subst (λ (s : Option ℕ). LeadsToRest capacity s goes.next [] second.tidy.next) (sym (shrunk_in-none shrunk)) second.rests);
+    }
+
+    -- it is one with entries, of which it has none
+    pub tidy_goes : GoesOn capacity knows committed now shrunk old [] [] space mid
+    tidy_goes = record {
+      more = [];
+      last = goes.last;
+      next = goes.next;
+      goes = goes.goes;
+      heads = goes.heads;
+      known = subst (λ (s : Option ℕ). knows goes.last goes.next s) (sym (shrunk_in-none shrunk)) goes.known;
+      asked = refl;
+      told = replies_of-none;
+    }
+
+    pub tidy_stops : (others : List (List ℕ)) (after : Outside) → StopsOn capacity goes.last goes.next shrunk mid others after → StopsOn capacity committed now shrunk old others after
+    tidy_stops others after second =
         let behind : Stops capacity (shrunk_in shrunk []) goes.last goes.next mid second.more after =
         subst (λ (s : Option ℕ). Stops capacity s goes.last goes.next mid second.more after) (sym (shrunk_in-none shrunk)) second.stops in
-        record { more = second.more; stops = goes_stops capacity shrunk committed now old [] second.more goes.last goes.next space mid goes.goes after behind }
+        record { more = second.more; asked = second.asked; stops = goes_stops capacity shrunk committed now old [] second.more goes.last goes.next space mid goes.goes after behind }
 
   -- ---- behind rest
 
@@ -118,9 +155,24 @@ module _ (capacity : ℕ) (shrunk : Option ℕ) (committed now : Content) (old :
     unfolding commits_tidy
     rested_commits knows_new new after commits stays = record { tidy = commits_tidy knows space mid rested.tidy knows_new new after commits stays; rests = rested.rests }
 
+    -- a line was left
+    pub rested_left : (knows_new : Knowing) (new : Space) (after : Outside) → Touches rested.tidy.last space mid new after → Tidied capacity knows_new rested.tidy.last rested.tidy.next shrunk new ⊎ Stays knows_new rested.tidy.last rested.tidy.next shrunk new
+        → GoesRested capacity knows_new committed now shrunk old new after
+    rested_left knows_new new after touches left = ⊎_elim (λ tidied. rested_tidy knows_new new after touches tidied) (λ stays. rested_looks knows_new new after touches stays) left
+
+    -- housekeeping goes on
+    pub rested_both : (knows_new : Knowing) (new : Space) (after : Outside) → GoesTidy capacity knows_new rested.tidy.last rested.tidy.next shrunk mid new after → GoesRested capacity knows_new committed now shrunk old new after
+    unfolding tidy_both
+    rested_both knows_new new after second = record {
+      tidy = tidy_both knows space mid rested.tidy knows_new new after second;
+      rests =
+          rest_on capacity shrunk now [] rested.tidy.next second.next rested.rests
+          (subst (λ (c : Content). Tidies capacity (shrunk_in shrunk []) c second.next) (content_after-none rested.tidy.next) second.goes.leads.tidied) second.goes.leads.place;
+    }
+
     -- a line was answered
     pub rested_answers : (knows_new : Knowing) (line text : List ℕ) (new : Space) (after : Outside) → Touches rested.tidy.last space mid new after → Answered capacity knows_new rested.tidy.last rested.tidy.next shrunk new line text
-        → GoesOn capacity knows_new committed now shrunk old text new after
+        → GoesOn capacity knows_new committed now shrunk old (line ∷ []) text new after
     rested_answers knows_new line text new after touches answered =
         let first = rested.tidy in
         let leads : Leads capacity shrunk now (answered.entry ∷ []) answered.entry.after = leads_entry capacity shrunk now [] first.next answered.entry rested.rests answered.before answered.served answered.place in
@@ -131,13 +183,64 @@ module _ (capacity : ℕ) (shrunk : Option ℕ) (committed now : Content) (old :
           goes = touched_on capacity shrunk committed now old [] (answered.entry ∷ []) first.last first.next space mid first.goes new after touches leads answered.reads;
           heads = answered.heads;
           known = subst (λ (s : Option ℕ). knows_new first.last answered.entry.after s) (sym (shrunk_in-one shrunk answered.entry)) answered.known;
+          asked = ap (λ (l : List ℕ). l ∷ []) answered.line_is;
           told = answered.told;
         }
+
+-- ---- one call from where the volume stands
+
+module _ (capacity : ℕ) (shrunk : Option ℕ) (committed now : Content) (old : Outside) (knows : Knowing) (space : Space) (stands : Stands knows committed now shrunk space old) where
+  pub first_stops : (new : Space) (after : Outside) → Touches committed space old new after → StopsOn capacity committed now shrunk old [] after
+  unfolding begins
+  first_stops new after touches = touch_stops_tidy capacity shrunk committed now old knows space old (begins capacity shrunk committed now old knows space stands) new after touches
+
+  pub commits_first : (knows_new : Knowing) (new : Space) (after : Outside) → Commits space old new after → Stays knows_new now now shrunk new → GoesTidy capacity knows_new committed now shrunk old new after
+  unfolding begins
+  commits_first knows_new new after commits stays = commits_tidy capacity shrunk committed now old knows space old (begins capacity shrunk committed now old knows space stands) knows_new new after commits stays
+
+  pub commit_stops_first : (after : Outside) → MayCommit space old after → StopsOn capacity committed now shrunk old [] after
+  commit_stops_first after may = commit_stops_tidy capacity shrunk committed now old knows space old (begins capacity shrunk committed now old knows space stands) after may
+
+  module _ (knows_new : Knowing) (new : Space) (after : Outside) (touches : Touches committed space old new after) where
+    pub first_tidied : Tidied capacity knows_new committed now shrunk new → GoesTidy capacity knows_new committed now shrunk old new after
+    unfolding begins
+    first_tidied tidied = touches_tidy capacity shrunk committed now old knows space old (begins capacity shrunk committed now old knows space stands) knows_new new after touches tidied
+
+    module _ (stays : Stays knows_new committed now shrunk new) where
+      pub first_looks : GoesTidy capacity knows_new committed now shrunk old new after
+      unfolding begins
+      first_looks = looks_tidy capacity shrunk committed now old knows space old (begins capacity shrunk committed now old knows space stands) knows_new new after touches stays
+
+      pub first_rests : IsAtRest capacity shrunk (volume_of now) → GoesRested capacity knows_new committed now shrunk old new after
+      unfolding begins looks_tidy
+      first_rests at_rest =
+          rests_tidy capacity shrunk committed now old knows_new new after
+          (looks_tidy capacity shrunk committed now old knows space old (begins capacity shrunk committed now old knows space stands) knows_new new after touches stays) at_rest
+
+      -- it stands there still
+      pub first_stands : Stands knows_new committed now shrunk new after
+      unfolding begins looks_tidy
+      first_stands =
+          stands_there capacity shrunk committed now old knows_new new after
+          (looks_tidy capacity shrunk committed now old knows space old (begins capacity shrunk committed now old knows space stands) knows_new new after touches stays)
+
+      -- a commit behind it
+      pub then_commits : (knows_last : Knowing) (last : Space) (end : Outside) → Commits new after last end → Stays knows_last now now shrunk last → GoesTidy capacity knows_last committed now shrunk old last end
+      unfolding begins looks_tidy
+      then_commits knows_last last end commits whole =
+          commits_tidy capacity shrunk committed now old knows_new new after
+          (looks_tidy capacity shrunk committed now old knows space old (begins capacity shrunk committed now old knows space stands) knows_new new after touches stays) knows_last last end commits whole
+
+      pub then_commit_stops : (end : Outside) → MayCommit new after end → StopsOn capacity committed now shrunk old [] end
+      unfolding begins looks_tidy
+      then_commit_stops end may =
+          commit_stops_tidy capacity shrunk committed now old knows_new new after
+          (looks_tidy capacity shrunk committed now old knows space old (begins capacity shrunk committed now old knows space stands) knows_new new after touches stays) end may
 
 -- ---- with entries
 
 module _ (capacity : ℕ) (shrunk : Option ℕ) (committed now : Content) (old : Outside) where
-  pub on_none : (knows : Knowing) (space : Space) → Stands knows committed now shrunk space old → GoesOn capacity knows committed now shrunk old [] space old
+  pub on_none : (knows : Knowing) (space : Space) → Stands knows committed now shrunk space old → GoesOn capacity knows committed now shrunk old [] [] space old
   on_none knows space stands = record {
     more = [];
     last = committed;
@@ -145,39 +248,85 @@ module _ (capacity : ℕ) (shrunk : Option ℕ) (committed now : Content) (old :
     goes = goes_none capacity shrunk committed now old space stands.below stands.reads stands.leaves;
     heads = stands.heads;
     known = subst (λ (s : Option ℕ). knows committed now s) (sym (shrunk_in-none shrunk)) stands.known;
+    asked = refl;
     told = replies_of-none;
   }
 
-  module _ (knows : Knowing) (text : List ℕ) (space : Space) (mid : Outside) (goes : GoesOn capacity knows committed now shrunk old text space mid) where
+  module _ (knows : Knowing) (lines : List (List ℕ)) (text : List ℕ) (space : Space) (mid : Outside) (goes : GoesOn capacity knows committed now shrunk old lines text space mid) where
     pub stands_on_there : Stands knows goes.last goes.next (shrunk_in shrunk goes.more) space mid
     stands_on_there = record { known = goes.known; below = goes.goes.below; reads = goes.goes.reads; heads = goes.heads; leaves = goes.goes.leaves }
 
-    pub on_both : (knows_new : Knowing) (then : List ℕ) (new : Space) (after : Outside) → GoesOn capacity knows_new goes.last goes.next (shrunk_in shrunk goes.more) mid then new after → GoesOn capacity knows_new committed now shrunk old (text ++ then) new after
-    on_both knows_new then new after second = record {
+    pub on_both : (knows_new : Knowing) (others : List (List ℕ)) (then : List ℕ) (new : Space) (after : Outside) → GoesOn capacity knows_new goes.last goes.next (shrunk_in shrunk goes.more) mid others then new after
+        → GoesOn capacity knows_new committed now shrunk old (lines ++ others) (text ++ then) new after
+    on_both knows_new others then new after second = record {
       more = goes.more ++ second.more;
       last = second.last;
       next = second.next;
       goes = goes_both capacity shrunk committed now old goes.more second.more goes.last goes.next space mid goes.goes second.last second.next new after second.goes;
       heads = second.heads;
       known = subst (λ (s : Option ℕ). knows_new second.last second.next s) (sym (shrunk_in-append shrunk goes.more second.more)) second.known;
+      asked = lines_of-append goes.more second.more ∙ ap (λ (l : List (List ℕ)). l ++ lines_of second.more) goes.asked ∙ ap (λ (l : List (List ℕ)). lines ++ l) second.asked;
       told = replies_of-append goes.more second.more ∙ ap (λ (l : List ℕ). l ++ replies_of second.more) goes.told ∙ ap (λ (l : List ℕ). text ++ l) second.told;
     }
 
-    pub on_stops : (after : Outside) → StopsOn capacity goes.last goes.next (shrunk_in shrunk goes.more) mid after → StopsOn capacity committed now shrunk old after
-    on_stops after second = record { more = goes.more ++ second.more; stops = goes_stops capacity shrunk committed now old goes.more second.more goes.last goes.next space mid goes.goes after second.stops }
+    pub on_stops : (others : List (List ℕ)) (after : Outside) → StopsOn capacity goes.last goes.next (shrunk_in shrunk goes.more) mid others after → StopsOn capacity committed now shrunk old (lines ++ others) after
+    on_stops others after second = record { more = goes.more ++ second.more; asked = lines_of-append goes.more second.more ∙ ap (λ (l : List (List ℕ)). l ++ lines_of second.more) goes.asked ∙ ap (λ (l : List (List ℕ)). lines ++ l) second.asked; stops = goes_stops capacity shrunk committed now old goes.more second.more goes.last goes.next space mid goes.goes after second.stops }
 
-    pub commit_stops_on : (after : Outside) → MayCommit space mid after → StopsOn capacity committed now shrunk old after
-    commit_stops_on after may = record { more = goes.more; stops = commit_stops_here capacity shrunk committed now old goes.more goes.last goes.next space mid goes.goes after may }
+    pub commit_stops_on : (after : Outside) → MayCommit space mid after → StopsOn capacity committed now shrunk old lines after
+    commit_stops_on after may = record { more = goes.more; asked = goes.asked; stops = commit_stops_here capacity shrunk committed now old goes.more goes.last goes.next space mid goes.goes after may }
+
+-- ---- lines
+
+module _ (capacity : ℕ) (shrunk : Option ℕ) (committed now : Content) (old : Outside) (lines : List (List ℕ)) (before : List ℕ) where
+  pub lines_none : (knows : Knowing) (space : Space) → Stands knows committed now shrunk space old → ServesLines 0 capacity knows committed now shrunk old lines before before space old
+  lines_none knows space stands = record { text = []; replies = sym (append-nil before); goes = on_none capacity shrunk committed now old knows space stands }
+
+  module _ (count : ℕ) (knows : Knowing) (middle : List ℕ) (space : Space) (mid : Outside) (first : ServesLines count capacity knows committed now shrunk old lines before middle space mid) where
+    pub stands_in_lines : Stands knows first.goes.last first.goes.next (shrunk_in shrunk first.goes.more) space mid
+    stands_in_lines = stands_on_there capacity shrunk committed now old knows (take count lines) first.text space mid first.goes
+
+    pub lines_stop : (after : Outside) → StopsOn capacity first.goes.last first.goes.next (shrunk_in shrunk first.goes.more) mid [] after → StopsLines capacity committed now shrunk old lines after
+    lines_stop after second = record {
+      count = count;
+      stops =
+          subst (λ (l : List (List ℕ)). StopsOn capacity committed now shrunk old l after) (append-nil (take count lines))
+          (on_stops capacity shrunk committed now old knows (take count lines) first.text space mid first.goes [] after second);
+    }
+
+    pub commit_stops_lines : (after : Outside) → MayCommit space mid after → StopsLines capacity committed now shrunk old lines after
+    commit_stops_lines after may = record { count = count; stops = commit_stops_on capacity shrunk committed now old knows (take count lines) first.text space mid first.goes after may }
+
+    -- one more, or none
+    pub lines_on : (knows_new : Knowing) (answered : Bool) (line after : List ℕ) (new : Space) (end : Outside) (many : ℕ) → take count lines ++ line_if answered line ≡ take many lines
+        → ServesLine answered capacity knows_new first.goes.last first.goes.next (shrunk_in shrunk first.goes.more) mid line middle after new end → ServesLines many capacity knows_new committed now shrunk old lines before after new end
+    lines_on knows_new answered line after new end many are second = record {
+      text = first.text ++ second.text;
+      replies = second.replies ∙ ap (λ (l : List ℕ). l ++ second.text) first.replies ∙ append_assoc before first.text second.text;
+      goes =
+          subst (λ (l : List (List ℕ)). GoesOn capacity knows_new committed now shrunk old l (first.text ++ second.text) new end) are
+          (on_both capacity shrunk committed now old knows (take count lines) first.text space mid first.goes knows_new (line_if answered line) second.text new end second.goes);
+    }
 
 -- ---- the end of a batch
 
-pub whole_batch : (capacity : ℕ) (shrunk : Option ℕ) (start : Content) (old : Outside) (knows : Knowing) (text : List ℕ) (space : Space) (mid : Outside) (goes : GoesOn capacity knows start start shrunk old text space mid) (knows_new : Knowing) (new : Space) (after : Outside)
-    → Commits space mid new after → Stays knows_new goes.next goes.next (shrunk_in shrunk goes.more) new → GoesWhole capacity knows_new start shrunk old text new after
-whole_batch capacity shrunk start old knows text space mid goes knows_new new after commits stays = record {
+pub whole_batch : (capacity : ℕ) (shrunk : Option ℕ) (start : Content) (old : Outside) (knows : Knowing) (lines : List (List ℕ)) (text : List ℕ) (space : Space) (mid : Outside) (goes : GoesOn capacity knows start start shrunk old lines text space mid) (knows_new : Knowing) (new : Space) (after : Outside)
+    → Commits space mid new after → Stays knows_new goes.next goes.next (shrunk_in shrunk goes.more) new → GoesWhole capacity knows_new start shrunk old lines text new after
+whole_batch capacity shrunk start old knows lines text space mid goes knows_new new after commits stays = record {
   run = goes.more;
   now = goes.next;
   goes = commit_goes_here capacity shrunk start start old goes.more goes.last goes.next space mid goes.goes new after commits;
   heads = stays.heads;
   known = stays.known;
+  asked = goes.asked;
   told = goes.told;
+}
+
+-- the commit at the end
+pub lines_commit : (count capacity : ℕ) (shrunk : Option ℕ) (start : Content) (old : Outside) (lines : List (List ℕ)) (before after : List ℕ) (knows : Knowing) (space : Space) (mid : Outside)
+    (first : ServesLines count capacity knows start start shrunk old lines before after space mid) (knows_new : Knowing) (new : Space) (end : Outside) → Commits space mid new end → Stays knows_new first.goes.next first.goes.next (shrunk_in shrunk first.goes.more) new
+    → ServesBatch count capacity knows_new start shrunk old lines before after new end
+lines_commit count capacity shrunk start old lines before after knows space mid first knows_new new end commits stays = record {
+  text = first.text;
+  replies = first.replies;
+  whole = whole_batch capacity shrunk start old knows (take count lines) first.text space mid first.goes knows_new new end commits stays;
 }

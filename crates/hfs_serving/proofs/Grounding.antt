@@ -1,6 +1,6 @@
 -- What a store that keeps what it has to keep leaves to a crash, and what a commit of it does.
 use Rattle.std.proofs.Common.{◌≡◌, ◌≢◌, ◌⊎◌, ◌≤◌, ◌/◌, ◌^◌, ℕ, [], inl, ⊎_elim, length, refl, sym, ◌∙◌, ap, subst, arith}
-use Rattle.std.specs.Prelude.{IsTrue}
+use Rattle.std.specs.Prelude.{IsTrue, IsErrOf, OnOk, Result, Ok, Err, Bool, true, false, ◌&&◌}
 use Rattle.std.proofs.lemmas.Bool.{and_from, and_parts, cases_eq}
 use Rattle.sector_disk.specs.Disk.{Candidates, CrashesLeave, IsDisk, IsImage, SameSink, State, Untouched, content}
 use Rattle.sector_disk.specs.Lists.{sector}
@@ -14,15 +14,18 @@ use Rattle.jnl_replay.specs.Plan.{FitsPlan}
 use Rattle.jnl_store.specs.Spaces.{found, over}
 use Rattle.jnl_store.specs.SpaceLaws.{length-durable, length-overlay}
 use Rattle.jnl_store.specs.Standing.{MakesDurable, StandsForEither}
-use Rattle.jnl_store.specs.Store.{KeepsOn, SameJournal, content_over, durable_of, faults_of, is_kept, plan_of, puts_of}
+use Rattle.jnl_store.specs.Store.{Keeps, KeepsOn, SameJournal, content_over, durable_of, faults_of, is_kept, plan_of, puts_of}
 use Rattle.jnl_store.specs.declared.store.Store.{Store}
+use Rattle.jnl_store.specs.declared.store.StoreFault.{StoreFault}
+use Rattle.jnl_store.specs.declared.store.StoreFault.TheVariants as fault
+use Rattle.sector_disk.specs.Cause.{next_count}
 use Rattle.jnl_store.proofs.Journals.{HoldsJournal}
 use Rattle.jnl_store.proofs.Settling.{image_between, lists_of}
 use Rattle.jnl_ring.specs.declared.span.Span.{Span}
 use Rattle.jnl_store.specs.Lists.{IsCapacity}
 use Rattle.jnl_store.specs.Plan.{form_of, span_of, IsCapacityOf}
 use Rattle.jnl_store.specs.declared.form.ListForm.{ListForm}
-use Rattle.hfs_serving.specs.Grounds.{IsInService, KeepsHeading}
+use Rattle.hfs_serving.specs.Grounds.{IsInService, KeepsHeading, anchor_of}
 use Rattle.hfs_serving.specs.Outside.{Outside, outside_of}
 use Rattle.hfs_serving.specs.Serving.{Commits, IsAsDurable, MayCommit, Touches, TouchesSpace}
 use Rattle.hfs_serving.proofs.Bridging.{commit_seen, found_same}
@@ -59,7 +62,7 @@ module _ (a b : ℕ) (store : Store) (disk : State) (is : IsDisk disk) (fits : F
 -- ---- a commit, seen from outside the store that it leaves
 
 -- a rig, of which a mount finds what this makes of an image
-abbrev outside_by : (Content → Content) → State → Outside
+abbrev pub outside_by : (Content → Content) → State → Outside
 outside_by finds rig = record {
   clock = record { moment = rig.clock.moment; left = λ t recovered told. (image : Content) × rig.clock.left t image told × (recovered ≡ finds image) };
   told = rig.told;
@@ -138,6 +141,27 @@ keeps_tells a b store disk keeps = and_from disk.tells (is_kept store disk.secto
 pub told_disk : (a b : ℕ) (store : Store) (disk : State) → IsTrue (over a b store disk).tells → IsTrue disk.tells
 told_disk a b store disk tells = (and_parts disk.tells (is_kept store disk.sectors disk.candidates) tells).0
 
+same_and : (x y p q : Bool) → x ≡ y → (IsTrue x → IsTrue (x && p)) → (IsTrue y → IsTrue (y && q)) → (x && p) ≡ (y && q)
+same_and true true p q same first second = first refl ∙ sym (second refl)
+same_and false false p q same first second = refl
+same_and true false p q same first second = absurd (cc same)
+same_and false true p q same first second = absurd (cc same)
+
+-- where both keep what they have to keep, both tell their space, or neither
+pub tells_still : (a b : ℕ) (store new : Store) (disk after : State) → after.tells ≡ disk.tells → (IsTrue disk.tells → KeepsOn store disk) → (IsTrue after.tells → KeepsOn new after) → (over a b new after).tells ≡ (over a b store disk).tells
+tells_still a b store new disk after same keeps keeps_new =
+    same_and after.tells disk.tells (is_kept new after.sectors after.candidates) (is_kept store disk.sectors disk.candidates) same (λ tells. keeps_tells a b new after (keeps_new tells)) (λ tells. keeps_tells a b store disk (keeps tells))
+
+-- what a commit leaves is kept, as long as no call answered a disk fault
+pub kept_after : {A : Type 0} (r : Result A StoreFault) (store new : Store) (disk after : State) → after.tells ≡ disk.tells → (faults_of store ≡ 0 → IsTrue disk.tells → OnOk r (MakesDurable store new disk after (content_over store (content disk))))
+    → (faults_of store ≢ 0 → new ≡ store) → (faults_of store ≡ 0 → (n : ℕ) → r ≢ Err (fault.Failed n)) → (IsErrOf r fault.Disk → faults_of new ≡ next_count (faults_of store)) → faults_of new ≡ 0 → IsTrue after.tells → Keeps new after.sectors after.candidates
+kept_after (Ok x) store new disk after same done failed not_failed counted none tells =
+    ⊎_elim (λ was. (done was (subst (λ t. IsTrue t) same tells)).keeps.1) (λ other. absurd (other (sym (ap faults_of (failed other)) ∙ none))) (cases_eq (faults_of store) 0)
+kept_after (Err fault.Disk) store new disk after same done failed not_failed counted none tells =
+    ⊎_elim (λ was. let one : faults_of new ≡ 1 = counted refl ∙ ap next_count was in absurd (cc (one, none))) (λ other. absurd (other (sym (ap faults_of (failed other)) ∙ none))) (cases_eq (faults_of store) 0)
+kept_after (Err (fault.Failed n)) store new disk after same done failed not_failed counted none tells =
+    ⊎_elim (λ was. absurd (not_failed was n refl)) (λ other. absurd (other (sym (ap faults_of (failed other)) ∙ none))) (cases_eq (faults_of store) 0)
+
 pub sizes_over : (a b : ℕ) (store : Store) (disk : State) → length (over a b store disk).content ≡ length (over a b store disk).durable
 sizes_over a b store disk = length-overlay (puts_of store) (durable_of store (content disk))
 
@@ -179,3 +203,7 @@ seen_outside committed a b c d store after disk now capacity is follows serves t
     let still = serves_still store disk after now capacity follows serves in
     let keeps = follows.keeps (serves.keeps (and_parts disk.tells (is_kept store disk.sectors disk.candidates) tells).0) in
     touches_seen committed a b c d store after disk now touches (λ recovered left. kept_rests c d after now is still.fits keeps recovered left)
+
+-- the same of a journal is looked at by a mount
+pub same_anchor : (old new : Store) → SameJournal old new → anchor_of (plan_of new) ≡ anchor_of (plan_of old)
+same_anchor old new journal = λ i. record { place = journal.place i; info = journal.info i; blhdr = journal.blhdr i }

@@ -6,7 +6,7 @@ use Rattle.std.proofs.lemmas.List.{append_cancel_left}
 use Rattle.jnl_format.specs.Recovery.{Content}
 use Rattle.hfs_language.specs.Text.{reply_text, body_text}
 use Rattle.hfs_language.specs.declared.reply.Reply.{Reply}
-use Rattle.hfs_volume.specs.Run.{Entry, content_after, shrunk_in, shrunk_after, replies_of}
+use Rattle.hfs_volume.specs.Run.{Entry, content_after, shrunk_in, shrunk_after, lines_of, replies_of}
 use Rattle.hfs_serving.specs.Runs.{IsPrefix}
 
 pub content_after-none : (start : Content) → content_after start [] ≡ start
@@ -40,6 +40,10 @@ pub shrunk_in-append : (shrunk : Option ℕ) (run more : List Entry) → shrunk_
 unfolding shrunk_in
 shrunk_in-append shrunk [] more = refl
 shrunk_in-append shrunk (entry ∷ run) more = shrunk_in-append (shrunk_after shrunk entry) run more
+
+pub lines_of-append : (run more : List Entry) → lines_of (run ++ more) ≡ lines_of run ++ lines_of more
+lines_of-append [] more = refl
+lines_of-append (entry ∷ run) more = ap (λ (l : List (List ℕ)). entry.line ∷ l) (lines_of-append run more)
 
 pub replies_of-none : replies_of [] ≡ []
 unfolding replies_of

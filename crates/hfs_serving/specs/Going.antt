@@ -1,10 +1,10 @@
 -- A volume that goes on within a batch: what it stands for, and what its calls make of it.
-use Rattle.std.specs.Prelude.{◌≡◌, ℕ, List, [], ◌∷◌, ◌++◌, Option}
+use Rattle.std.specs.Prelude.{◌≡◌, ℕ, Bool, true, false, List, [], ◌∷◌, ◌++◌, take, Option}
 use Rattle.sector_disk.specs.Space.{Space}
 use Rattle.jnl_format.specs.Recovery.{Content}
 use Rattle.hfs_volume.specs.Content.{volume_of}
 use Rattle.hfs_volume.specs.Reclaim.{IsTidied, IsAtRest}
-use Rattle.hfs_volume.specs.Run.{Entry, IsServed, shrunk_in, shrunk_after, replies_of}
+use Rattle.hfs_volume.specs.Run.{Entry, IsServed, shrunk_in, shrunk_after, lines_of, replies_of}
 use Rattle.hfs_serving.specs.Grounds.{KeepsHeading}
 use Rattle.hfs_serving.specs.Outside.{Outside}
 use Rattle.hfs_serving.specs.Runs.{KeepsPlace, LeadsToRest}
@@ -65,6 +65,12 @@ TidiesTo next.Rest capacity knows committed now shrunk space = Stays knows commi
 TidiesTo next.Made capacity knows committed now shrunk space = Tidied capacity knows committed now shrunk space
 TidiesTo next.CommitFirst capacity knows committed now shrunk space = Stays knows committed now shrunk space
 
+-- the line was answered
+abbrev pub is_answered : Step → Bool
+is_answered step.Answered = true
+is_answered step.Again = false
+is_answered step.CommitFirst = false
+
 -- what a step of a line answers: the line was answered, a step of housekeeping was made for it, or a commit is wanted first
 abbrev pub AnswersTo : Step → ℕ → Knowing → Content → Content → Option ℕ → Space → List ℕ → List ℕ → List ℕ → Type 0
 AnswersTo step.Answered capacity knows committed now shrunk space line before after = (text : List ℕ) × (after ≡ before ++ text) × Answered capacity knows committed now shrunk space line text
@@ -73,14 +79,15 @@ AnswersTo step.CommitFirst capacity knows committed now shrunk space line before
 
 -- ---- stretches within a batch
 
--- Its entries' replies are these bytes.
-pub record GoesOn (capacity : ℕ) (knows : Knowing) (committed now : Content) (shrunk : Option ℕ) (old : Outside) (text : List ℕ) (space : Space) (new : Outside) : Type 0 where
+-- Its entries are these lines, and their replies these bytes.
+pub record GoesOn (capacity : ℕ) (knows : Knowing) (committed now : Content) (shrunk : Option ℕ) (old : Outside) (lines : List (List ℕ)) (text : List ℕ) (space : Space) (new : Outside) : Type 0 where
   pub more : List Entry
   pub last : Content
   pub next : Content
   pub goes : Goes capacity shrunk committed now old more last next space new
   pub heads : KeepsHeading space
   pub known : knows last next (shrunk_in shrunk more)
+  pub asked : lines_of more ≡ lines
   pub told : replies_of more ≡ text
 
 -- without an entry
@@ -96,16 +103,46 @@ pub record GoesRested (capacity : ℕ) (knows : Knowing) (committed now : Conten
   pub tidy : GoesTidy capacity knows committed now shrunk old space new
   pub rests : LeadsToRest capacity shrunk now [] tidy.next
 
--- a stretch that a fault ended, after some entries
-pub record StopsOn (capacity : ℕ) (committed now : Content) (shrunk : Option ℕ) (old : Outside) (new : Outside) : Type 0 where
+-- a stretch that a fault ended, after entries of these lines
+pub record StopsOn (capacity : ℕ) (committed now : Content) (shrunk : Option ℕ) (old : Outside) (lines : List (List ℕ)) (new : Outside) : Type 0 where
   pub more : List Entry
+  pub asked : lines_of more ≡ lines
   pub stops : Stops capacity shrunk committed now old more new
 
--- All that the volume stands for is committed, and nothing of it is told: these are the replies.
-pub record GoesWhole (capacity : ℕ) (knows : Knowing) (start : Content) (shrunk : Option ℕ) (old : Outside) (text : List ℕ) (space : Space) (new : Outside) : Type 0 where
+-- All that the volume stands for is committed, and nothing of it is told: these are the lines and their replies.
+pub record GoesWhole (capacity : ℕ) (knows : Knowing) (start : Content) (shrunk : Option ℕ) (old : Outside) (lines : List (List ℕ)) (text : List ℕ) (space : Space) (new : Outside) : Type 0 where
   pub run : List Entry
   pub now : Content
   pub goes : Goes capacity shrunk start start old run now now space new
   pub heads : KeepsHeading space
   pub known : knows now now (shrunk_in shrunk run)
+  pub asked : lines_of run ≡ lines
   pub told : replies_of run ≡ text
+
+-- the line, where it was answered
+abbrev pub line_if : Bool → List ℕ → List (List ℕ)
+line_if true line = line ∷ []
+line_if false line = []
+
+-- A line was served, or was left because a commit is wanted before it; housekeeping went on before that. `before` and `after` are the replies.
+pub record ServesLine (answered : Bool) (capacity : ℕ) (knows : Knowing) (committed now : Content) (shrunk : Option ℕ) (old : Outside) (line before after : List ℕ) (space : Space) (new : Outside) : Type 0 where
+  pub text : List ℕ
+  pub replies : after ≡ before ++ text
+  pub goes : GoesOn capacity knows committed now shrunk old (line_if answered line) text space new
+
+-- The first of these lines were served.
+pub record ServesLines (count : ℕ) (capacity : ℕ) (knows : Knowing) (committed now : Content) (shrunk : Option ℕ) (old : Outside) (lines : List (List ℕ)) (before after : List ℕ) (space : Space) (new : Outside) : Type 0 where
+  pub text : List ℕ
+  pub replies : after ≡ before ++ text
+  pub goes : GoesOn capacity knows committed now shrunk old (take count lines) text space new
+
+-- A fault ended it after some of these lines.
+pub record StopsLines (capacity : ℕ) (committed now : Content) (shrunk : Option ℕ) (old : Outside) (lines : List (List ℕ)) (new : Outside) : Type 0 where
+  pub count : ℕ
+  pub stops : StopsOn capacity committed now shrunk old (take count lines) new
+
+-- The first of these lines were served, and all of it is committed.
+pub record ServesBatch (count : ℕ) (capacity : ℕ) (knows : Knowing) (start : Content) (shrunk : Option ℕ) (old : Outside) (lines : List (List ℕ)) (before after : List ℕ) (space : Space) (new : Outside) : Type 0 where
+  pub text : List ℕ
+  pub replies : after ≡ before ++ text
+  pub whole : GoesWhole capacity knows start shrunk old (take count lines) text space new

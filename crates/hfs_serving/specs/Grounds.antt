@@ -4,7 +4,10 @@ use Rattle.sector_disk.specs.Disk.{State}
 use Rattle.sector_disk.specs.Space.{Space}
 use Rattle.jnl_format.specs.Keeping.{KeepsHeader}
 use Rattle.jnl_format.specs.Recovery.{header_of_volume, journaling_version}
+use Rattle.jnl_format.specs.declared.structures.Info.{Info}
 use Rattle.jnl_replay.specs.Plan.{FitsPlan}
+use Rattle.jnl_replay.specs.declared.plan.Place.{Place}
+use Rattle.jnl_replay.specs.declared.plan.Plan.{Plan}
 use Rattle.jnl_store.specs.Plan.{IsCapacityOf}
 use Rattle.jnl_store.specs.Store.{KeepsOn, plan_of}
 use Rattle.jnl_store.specs.declared.store.Store.{Store}
@@ -21,3 +24,12 @@ pub record KeepsHeading (space : Space) : Type 0 where
   pub header : KeepsHeader space.durable space.content
   pub version : (header_of_volume space.durable).last_mounted_version ≡ journaling_version
   pub apart : space.closed 2 → ⊥
+
+-- what a mount looks at of a journal's plan: where it lies, and the bytes of a list's header
+pub record Anchor : Type 0 where
+  pub place : Place
+  pub info : Info
+  pub blhdr : ℕ
+
+abbrev pub anchor_of : Plan → Anchor
+anchor_of plan = record { place = plan.place; info = plan.info; blhdr = plan.header.blhdr }

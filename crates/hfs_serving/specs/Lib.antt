@@ -2,9 +2,9 @@ pub mod Outside
 pub mod Runs
 pub mod Serving
 pub mod Opening
-pub mod Watching
 pub mod Top
 pub mod Stages
-pub mod Calls
 pub mod Grounds
 pub mod Going
+pub mod Steps
+pub mod Closing

@@ -1,7 +1,7 @@
 //! What a server stands on: a space of sectors with a rig beneath it.
 ghost use Rattle.std.specs.Prelude.{◌≡◌, ◌≤◌, ◌+◌, ℕ, IsTrue, OnOk};
 ghost use Rattle.jnl_format.specs.Recovery.{Content};
-ghost use Rattle.hfs_serving.specs.Grounds.{KeepsHeading};
+ghost use Rattle.hfs_serving.specs.Grounds.{Anchor, KeepsHeading};
 ghost use Rattle.hfs_serving.specs.Outside.{Outside};
 ghost use Rattle.hfs_serving.specs.Serving.{Commits, IsAsDurable, MayCommit, Touches, TouchesSpace};
 
@@ -15,6 +15,9 @@ pub trait Ground: SectorSpace {
 
     /// It is in service, and a transaction holds at most so many sectors.
     ghost serves: { Self → ℕ → Type 0 };
+
+    /// What a mount looks at of its journal. No call changes it.
+    ghost anchor: { Self → Anchor };
 
     /// How many sectors were put since the last commit.
     ghost taken: { Self → ℕ };
@@ -38,12 +41,14 @@ pub trait Ground: SectorSpace {
         ensures nothing { OnOk result (taken self.new ≡ 0) }
         ensures heads { IsTrue (Self.space self.old).tells → OnOk result (KeepsHeading (Self.space self.new)) }
         ensures still { (capacity : ℕ) → serves self.old capacity → OnOk result (serves self.new capacity) }
-        ensures tells { OnOk result ((Self.space self.new).tells ≡ (Self.space self.old).tells) };
+        ensures tells { OnOk result ((Self.space self.new).tells ≡ (Self.space self.old).tells) }
+        ensures anchor { anchor self.new ≡ anchor self.old };
 
     /// What calls of the space alone did since an earlier moment, and what a crash leaves now. It calls nothing.
     fn look(&self)
         ensures still { (capacity : ℕ) (first : Self) → Self.follows first self.now → serves first capacity → serves self.now capacity }
         ensures room { (first : Self) → Self.follows first self.now → room self.now ≡ room first }
+        ensures anchor { (first : Self) → Self.follows first self.now → anchor self.now ≡ anchor first }
         // A crash leaves what is durable, but in what was spilled and in the journal itself.
         ensures rests { (capacity : ℕ) → serves self.now capacity → IsTrue (Self.space self.now).tells → (recovered : Content) → (outside self.now).leaves recovered → IsAsDurable (Self.space self.now) recovered }
         ensures sees { (capacity : ℕ) (committed : Content) (first : Self) → Self.follows first self.now → serves first capacity → IsTrue (Self.space first).tells → TouchesSpace committed (Self.space first) (Self.space self.now)

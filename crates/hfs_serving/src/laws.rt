@@ -1,16 +1,23 @@
 //! Laws of a run that crashes may cut short, each as a function without a body.
 ghost use Rattle.std.specs.Prelude.{◌≡◌, ◌⊎◌, ◌≤◌, ◌+◌, ◌∷◌, ◌++◌, [], ℕ, List, Option, None, IsTrue, length, take};
+ghost use Rattle.sector_disk.specs.Disk.{IsImage};
+ghost use Rattle.sector_disk.specs.Source.{Stream};
 ghost use Rattle.jnl_format.specs.Recovery.{Content};
+ghost use Rattle.jnl_replay.specs.declared.plan.Plan.{Plan};
+ghost use Rattle.jnl_store.specs.Spaces.{found};
 ghost use Rattle.hfs_volume.specs.Reclaim.{Tidies};
 ghost use Rattle.hfs_volume.specs.Run.{Entry, IsRun, IsServed, shrunk_in, replies_of};
 ghost use Rattle.hfs_volume.specs.Sound.{IsSound};
-ghost use Rattle.hfs_serving.specs.Runs.{Crashes, KeepsPlace, Leads, LeadsToRest, Serves, SetsUnmounted, SetsVersion};
+ghost use Rattle.hfs_serving.specs.Opening.{MayServe};
+ghost use Rattle.hfs_serving.specs.Outside.{outside_of};
+ghost use Rattle.hfs_serving.specs.Runs.{Crashes, KeepsPlace, Leads, LeadsToRest, Serves, SetsUnmounted, SetsVersion, StandsAs};
 ghost use Rattle.hfs_serving.specs.Serving.{Commits, Goes, IsDurable, IsRead, IsAsDurable, IsServing, MayCommit, Stops, TellsOut, Touches};
 ghost use Rattle.hfs_serving.specs.Stages.{MayTurn, Turns};
-ghost use Rattle.hfs_serving.specs.Top.{KnowsAs, KnowsTo, SurvivesAs, SurvivesTo};
+ghost use Rattle.hfs_serving.specs.Top.{AreTaken, KeepsPromises, KnowsAs, KnowsTo, SurvivesAs, SurvivesTo};
 
 use crate::basis::Ground;
 use hfs_volume::aside_is_free;
+use sector_disk::SectorDisk;
 
 /// What a crash leaves mounts to the tree of the content that it stands for.
 pub fn contents_tell_trees()
@@ -79,3 +86,12 @@ pub fn runs_end<G: Ground>()
     ensures { (capacity : ℕ) (shrunk : Option ℕ) (start now ended : Content) (run : List Entry) (a b c : G) → Serves capacity shrunk start (G.outside a) run now (G.outside b) → SetsUnmounted now ended → KeepsPlace now ended
         → MayTurn now ended (G.outside b) (G.outside c) → Crashes capacity shrunk start (G.outside a) run (length run) (G.outside c) }
 {}
+
+/// A run of a disk from which crashes leave what stands for its start: what a stretch of it says of contents, its users read of trees.
+pub fn runs_keep_promises<D: SectorDisk>()
+    ensures { (capacity : ℕ) (plan : Plan) (start : Content) (run : List Entry) (known : ℕ) (source source_new : Stream) (a b : D) → IsSound start → MayServe plan capacity start
+        → ((image : Content) → IsImage (D.state a).candidates image → StandsAs start (found plan image)) → Crashes capacity None start (outside_of plan (D.state a)) run known (outside_of plan (D.state b))
+        → (IsTrue source.tells → AreTaken source run source_new) → KeepsPromises capacity start (D.state a) source run known (D.state b) source_new }
+{
+    aside_is_free();
+}

@@ -2,8 +2,10 @@
 ghost use Rattle.std.specs.Prelude.{◌≡◌, ◌≤◌, ℕ, Option, IsTrue, IfOk, OnOk};
 ghost use Rattle.sector_disk.specs.Space.{Space};
 ghost use Rattle.jnl_format.specs.Recovery.{Content};
+ghost use Rattle.hfs_serving.specs.Closing.{IsClosed};
 ghost use Rattle.hfs_serving.specs.Going.{SomeStands, Stands, Stays, TidiesTo, AnswersTo};
 ghost use Rattle.hfs_serving.specs.Serving.{Commits, MayCommit, Touches};
+ghost use Rattle.hfs_serving.specs.Steps.{IsStill};
 
 use crate::basis::Ground;
 use hx_bytes::{Bytes, Trouble};
@@ -44,7 +46,8 @@ pub trait Volume {
         ensures tidied { IsTrue (G.space base.old).tells → (capacity : ℕ) (committed now : Content) (shrunk : Option ℕ) → Stands (knows self.old (G.space base.old) capacity) committed now shrunk (G.space base.old) (G.outside base.old)
             → IfOk result (λ next. TidiesTo next capacity (knows self.new (G.space base.new) capacity) committed now shrunk (G.space base.new)) }
         ensures still { (capacity : ℕ) → G.serves base.old capacity → G.taken base.old ≤ capacity → OnOk result (G.serves base.new capacity × (G.taken base.new ≤ capacity)) }
-        ensures tells { (G.space base.new).tells ≡ (G.space base.old).tells };
+        ensures tells { (G.space base.new).tells ≡ (G.space base.old).tells }
+        ensures anchor { G.anchor base.new ≡ G.anchor base.old };
 
     /// Answers a line, and adds the text of its reply. Where memory is missing, that is its reply.
     fn answer<G: Ground>(
@@ -60,7 +63,20 @@ pub trait Volume {
         ensures answered { IsTrue (G.space base.old).tells → (capacity : ℕ) (committed now : Content) (shrunk : Option ℕ) → Stands (knows self.old (G.space base.old) capacity) committed now shrunk (G.space base.old) (G.outside base.old)
             → IfOk result (λ step. AnswersTo step capacity (knows self.new (G.space base.new) capacity) committed now shrunk (G.space base.new) line.now replies.old replies.new) }
         ensures still { (capacity : ℕ) → G.serves base.old capacity → G.taken base.old ≤ capacity → OnOk result (G.serves base.new capacity × (G.taken base.new ≤ capacity)) }
-        ensures tells { (G.space base.new).tells ≡ (G.space base.old).tells };
+        ensures tells { (G.space base.new).tells ≡ (G.space base.old).tells }
+        ensures anchor { G.anchor base.new ≡ G.anchor base.old };
+
+    /// Puts bit 8 of the header's attributes, which says that the run was ended in good order.
+    fn close<G: Ground>(&mut self, base: &mut G) -> Result<(), Trouble>
+        requires serves { (capacity : ℕ) × G.serves base.old capacity × (G.taken base.old ≡ 0) }
+        requires stands { IsTrue (G.space base.old).tells → SomeStands (knows self.old (G.space base.old)) (G.space base.old) (G.outside base.old) }
+        ensures touches { IsTrue (G.space base.old).tells → (capacity : ℕ) (committed now : Content) (shrunk : Option ℕ) → Stands (knows self.old (G.space base.old) capacity) committed now shrunk (G.space base.old) (G.outside base.old)
+            → Touches committed (G.space base.old) (G.outside base.old) (G.space base.new) (G.outside base.new) }
+        ensures closed { IsTrue (G.space base.old).tells → (capacity : ℕ) (committed now : Content) (shrunk : Option ℕ) → Stands (knows self.old (G.space base.old) capacity) committed now shrunk (G.space base.old) (G.outside base.old)
+            → OnOk result (IsClosed (knows self.new (G.space base.new) capacity) committed now shrunk (G.space base.new)) }
+        ensures still { (capacity : ℕ) → G.serves base.old capacity → G.taken base.old ≤ capacity → OnOk result (G.serves base.new capacity × (G.taken base.new ≤ capacity)) }
+        ensures tells { (G.space base.new).tells ≡ (G.space base.old).tells }
+        ensures anchor { G.anchor base.new ≡ G.anchor base.old };
 
     /// Makes all durable, and nothing is held any more.
     fn commit<G: Ground>(&mut self, base: &mut G) -> Result<(), Trouble>
@@ -71,5 +87,10 @@ pub trait Volume {
         ensures knows { IsTrue (G.space base.old).tells → (capacity : ℕ) (committed now : Content) (shrunk : Option ℕ) → Stands (knows self.old (G.space base.old) capacity) committed now shrunk (G.space base.old) (G.outside base.old)
             → OnOk result (Stays (knows self.new (G.space base.new) capacity) now now shrunk (G.space base.new)) }
         ensures still { (capacity : ℕ) → G.serves base.old capacity → OnOk result (G.serves base.new capacity × (G.taken base.new ≡ 0)) }
-        ensures tells { OnOk result ((G.space base.new).tells ≡ (G.space base.old).tells) };
+        ensures tells { OnOk result ((G.space base.new).tells ≡ (G.space base.old).tells) }
+        ensures anchor { G.anchor base.new ≡ G.anchor base.old };
+
+    /// What it knows it knows still where only bytes were told. It calls nothing.
+    fn look<G: Ground>(&self, base: &G)
+        ensures { (first : G) (capacity : ℕ) (committed now : Content) (shrunk : Option ℕ) → IsStill (G.space first) (G.space base.now) → knows self.now (G.space first) capacity committed now shrunk → knows self.now (G.space base.now) capacity committed now shrunk };
 }

@@ -73,7 +73,7 @@ fn make_volume<D: SectorDisk>(alloc: Global, disk: &mut D) -> Result<(), Trouble
     Ok(())
 }
 
-// Writes zeros where the lists of the journal go: an image with holes has room for them from then on, and no commit waits for that.
+// Writes zeros where the lists of the journal go: a sparse image has room for them from then on, and no commit has to allocate it.
 fn clear_ring<D: SectorDisk>(disk: &mut D) -> Result<(), Failed>
     requires { (D.state disk.old).sectors ≡ VOLUME_SECTORS }
     ensures same { SameDisk (D.state disk.old) (D.state disk.new) }

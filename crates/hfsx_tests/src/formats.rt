@@ -4,7 +4,7 @@ use hx_bytes::OutOfMemory;
 use mem_disk::MemRig;
 use std::alloc::Global;
 use std::test::Fail;
-use test_kit::run_on;
+use test_kit::{put, run_on, sector_of};
 
 const USAGE: &str = "usage: hfsx format IMAGE SECTORS | run IMAGE | check IMAGE | gen SEED COUNT\n";
 
@@ -37,6 +37,24 @@ fn a_size_is_refused_or_formatted(rt: HostRuntime) -> Result<(), Fail> {
         assert_eq!(rt; ended, status);
         assert_eq!(rt; rig.told(), told.as_bytes());
     }
+    Ok(())
+}
+
+#[test]
+fn a_format_clears_the_lists_of_the_journal(rt: HostRuntime) -> Result<(), Fail> {
+    let alloc = rt.alloc();
+    let mut rig = MemRig::new(alloc, 16_384)?;
+    for at in 0..16_384 {
+        put(&mut rig, at, &[0xA5; 512]);
+    }
+    let ended = run_on(alloc, "format v.img 16384", &mut rig, b"")?;
+    assert_eq!(rt; ended, Status::Done);
+    // The lists lie behind the header of the journal, in sectors 25 to 2,071.
+    for at in 25..2_072 {
+        assert_eq!(rt; sector_of(&mut rig, at), [0; 512]);
+    }
+    // A sector that belongs to no structure stays as it was.
+    assert_eq!(rt; sector_of(&mut rig, 2_400), [0xA5; 512]);
     Ok(())
 }
 

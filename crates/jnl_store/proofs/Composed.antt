@@ -1,5 +1,5 @@
 -- A commit that may have checkpointed first.
-use Rattle.std.proofs.Common.{◌≡◌, ◌⊎◌, ℕ, ◌*◌, ◌<◌, List, [], inl, inr, ⊎_elim, length, sym, ◌∙◌, ap, subst, arith}
+use Rattle.std.proofs.Common.{◌≡◌, ◌⊎◌, ℕ, ◌*◌, ◌<◌, true, false, List, [], inl, inr, ⊎_elim, length, sym, ◌∙◌, ap, subst, arith}
 use Rattle.std.specs.Prelude.{Result, Ok, Err, OnOk}
 use Rattle.std.proofs.lemmas.Bool.{cases_lt}
 use Rattle.std.proofs.lemmas.List.{get_or_past}
@@ -10,7 +10,8 @@ use Rattle.sector_disk.specs.Disk.{State, Candidates, CrashesLeave, SameDisk, Sa
 use Rattle.sector_disk.specs.Space.{AgreesOutside}
 use Rattle.sector_disk.proofs.Stages.{leaves_both, leaves_with, length-only}
 use Rattle.jnl_format.specs.Info.{info_of, IsInfo}
-use Rattle.jnl_format.specs.Recovery.{header_of_volume, journaling_version, replayed}
+use Rattle.jnl_format.specs.Recovery.{header_of_volume, homes_of, journaling_version, replayed}
+use Rattle.jnl_format.specs.Named.{IsNamed}
 use Rattle.jnl_format.specs.declared.structures.Info.{Info}
 use Rattle.jnl_format.specs.Keeping.{KeepsHeader}
 use Rattle.jnl_format.proofs.InfoBack.{no_info_block}
@@ -24,7 +25,8 @@ use Rattle.jnl_store.specs.Journal.{IsAtRest, IsClosed, IsSpilled, are_open}
 use Rattle.jnl_store.specs.Overlay.{overlay}
 use Rattle.jnl_store.specs.SpaceLaws.{length-durable}
 use Rattle.jnl_store.specs.Standing.{RingCheckpoints, RingDurable, StandsFor, StandsForDurable, StandsForEither, StandsForOne}
-use Rattle.jnl_store.specs.Store.{KeepsRing, KeepsRingOn, SameJournal, content_over, durable_of}
+use Rattle.jnl_store.specs.Batch.{names}
+use Rattle.jnl_store.specs.Store.{IsLive, KeepsRing, KeepsRingOn, SameJournal, content_over, durable_of}
 use Rattle.jnl_store.specs.declared.puts.Put.{Put}
 use Rattle.jnl_store.specs.declared.store.Store.{Store}
 use Rattle.jnl_store.proofs.Attached.{only_length}
@@ -126,6 +128,11 @@ module _ (store mid : Store) (s0 s1 : State) (kept : KeepsRingOn store s0) (same
             q.2,
       ))
 
+  live_mid : (s : ℕ) → IsLive mid (content s1) s → IsLive store (content s0) s
+  live_mid s l = ⊎_elim
+      (λ u. subst (λ (d : Candidates). IsLive store (content_of d) s) u.0.candidates (subst (λ (x : Store). IsLive x (content s1) s) u.1 l))
+      (λ c. c.settles.live s l) made
+
   -- and what stands at the end
   pub settles_both : (new : Store) (s2 : State) → RingDurable mid new s1 s2 (content_over mid (content s1)) → RingDurable store new s0 s2 (content_over store (content s0))
   settles_both new s2 s = record {
@@ -133,6 +140,7 @@ module _ (store mid : Store) (s0 s1 : State) (kept : KeepsRingOn store s0) (same
     settled = s.settled;
     stands = stands_mid (content s2) (durable_of new (content s2)) s.stands;
     agrees = agrees_both (IsClosed store.plan) (content_over store (content s0)) (content_over mid (content s1)) (durable_of new (content s2)) target_mid (agrees_with (IsClosed mid.plan) (IsClosed store.plan) (content_over mid (content s1)) (durable_of new (content s2)) s.agrees closed_mid);
+    live = λ k l. live_mid k (s.live k l);
   }
 
 -- the same store with nothing put
@@ -146,17 +154,21 @@ keeps_cleared store cleared disk plan_is same live none none_kept k = (
   },
 )
 
-pub settles_cleared : {T E : Type 0} (result : Result T E) (store cleared new : Store) (s0 s1 : State) → cleared.plan ≡ store.plan → store.batch.all ≡ [] → OnOk result (RingDurable cleared new s0 s1 (durable_of cleared (content s0))) → OnOk result (RingDurable store new s0 s1 (content_over store (content s0)))
+pub settles_cleared : {T E : Type 0} (result : Result T E) (store cleared new : Store) (s0 s1 : State) → cleared.plan ≡ store.plan → store.batch.all ≡ [] → cleared.batch.all ≡ [] → OnOk result (RingDurable cleared new s0 s1 (durable_of cleared (content s0))) → OnOk result (RingDurable store new s0 s1 (content_over store (content s0)))
 unfolding durable_of
-settles_cleared (Ok x) store cleared new s0 s1 plan_is none s =
+settles_cleared (Ok x) store cleared new s0 s1 plan_is none clear s =
     let same : durable_of cleared (content s0) ≡ content_over store (content s0) = ap (λ (p : Plan). replayed (journal_of p) (content s0)) plan_is ∙ sym (ap (λ (l : List Put). overlay l (durable_of store (content s0))) none) in
     record {
       keeps = s.keeps;
       settled = s.settled;
       stands = subst (λ (p : Plan). StandsFor p (content s0) (content s1) (durable_of new (content s1))) plan_is s.stands;
       agrees = subst (λ (p : Plan). AgreesOutside (IsClosed p) (content_over store (content s0)) (durable_of new (content s1))) plan_is (subst (λ (d : Content). AgreesOutside (IsClosed cleared.plan) d (durable_of new (content s1))) same s.agrees);
+      live = λ k l. ⊎_elim
+          (λ (put : names cleared.batch.all k ≡ true). absurd (let no : false ≡ true = ap (λ (l : List Put). names l k) (sym clear) ∙ put in cc no))
+          (λ named. inr (subst (λ (p : Plan). IsNamed (homes_of (journal_of p) (content s0)) k) plan_is named))
+          (s.live k l);
     }
-settles_cleared (Err e) store cleared new s0 s1 plan_is none s = tt
+settles_cleared (Err e) store cleared new s0 s1 plan_is none clear s = tt
 
 pub crash_cleared : (store cleared : Store) (s0 s1 : State) → cleared.plan ≡ store.plan → CrashesLeave s0 s1 (StandsForDurable cleared s0) → CrashesLeave s0 s1 (StandsForEither store s0)
 unfolding durable_of

@@ -1,5 +1,5 @@
 -- A store after a transaction was written behind its live lists, and after a checkpoint and a transaction.
-use Rattle.std.proofs.Common.{◌≡◌, ℕ, ◌+◌, ◌-◌, ◌/◌, ◌≤◌, List, [], ◌++◌, length, drop, sym, ◌∙◌, ap, subst}
+use Rattle.std.proofs.Common.{◌≡◌, ℕ, ◌+◌, ◌-◌, ◌/◌, ◌≤◌, true, false, List, [], ◌++◌, length, drop, ⊎_elim, sym, ◌∙◌, ap, subst}
 use Rattle.sector_disk.specs.Lists.{Content, sector}
 use Rattle.sector_disk.specs.Disk.{State, Candidates, IsDisk, SameDisk, candidates_of, content, content_of, only}
 use Rattle.sector_disk.specs.Space.{AgreesOutside}
@@ -17,17 +17,19 @@ use Rattle.jnl_format.specs.declared.structures.Info.{Info}
 use Rattle.jnl_replay.specs.declared.plan.Place.{Place}
 use Rattle.jnl_replay.specs.declared.plan.Plan.{Plan}
 use Rattle.jnl_store.specs.Appending.{IsAppended, MayAppend, longer, opened}
-use Rattle.jnl_store.specs.Batch.{AreOnce}
+use Rattle.jnl_format.specs.Named.{IsNamed}
+use Rattle.jnl_store.specs.Batch.{AreOnce, names}
 use Rattle.jnl_store.specs.InUse.{blank, keeps_lists, used_of}
 use Rattle.jnl_store.specs.Journal.{IsClosed, are_open}
 use Rattle.jnl_store.specs.Lists.{text_sectors}
 use Rattle.jnl_store.specs.Overlay.{overlay}
 use Rattle.jnl_store.specs.Standing.{RingDurable, StandsFor}
 use Rattle.jnl_store.specs.Store.{KeepsRingOn, content_over, durable_of}
+use Rattle.jnl_store.specs.declared.puts.Put.{Put}
 use Rattle.jnl_store.specs.declared.store.Store.{Store}
 use Rattle.jnl_store.proofs.Attached.{only_length}
 use Rattle.jnl_store.proofs.Live.{same_from}
-use Rattle.jnl_store.proofs.RingCommits.{Begins, begins, opened_agrees, opened_keeps, opened_size, opened_stands, opened_table, longer_inside}
+use Rattle.jnl_store.proofs.RingCommits.{Begins, begins, opened_agrees, opened_keeps, opened_size, opened_stands, opened_table, longer_inside, longer_named}
 use Rattle.jnl_store.proofs.RingKept.{KeepsLists, lists_from}
 use Rattle.jnl_store.proofs.Settling.{kept_from, lists_of}
 
@@ -66,6 +68,10 @@ settles_grown store new s0 s1 kept disk same may once fits room a plan_is none n
       settled = a.settled ∙ ap only (sym is);
       stands = subst (λ (d : Content). StandsFor plan (content s0) d (replayed (journal_of new.plan) (content s1))) (sym is) (subst (λ (d : Content). StandsFor plan (content s0) e d) (sym now) (opened_stands plan puts s0 b a.listed a.whole a.puts_in));
       agrees = subst (λ (d : Content). AgreesOutside (IsClosed plan) (overlay puts (replayed (journal_of plan) (content s0))) d) (sym now) (opened_agrees plan puts s0 b a.listed a.whole a.puts_in);
+      live = λ s l. ⊎_elim
+          (λ (put : names new.batch.all s ≡ true). absurd (let no : false ≡ true = ap (λ (l : List Put). names l s) (sym none) ∙ put in cc no))
+          (λ named. longer_named plan puts s0 b a.listed a.whole a.puts_in s1 a.settled s (subst (λ (q : Plan). IsNamed (homes_of (journal_of q) (content s1)) s) plan_is named))
+          l;
     }
 
 same_trans : (a b c : Content) → IsSame (header_of_volume a) (header_of_volume b) → IsSame (header_of_volume b) (header_of_volume c) → IsSame (header_of_volume a) (header_of_volume c)

@@ -1,5 +1,5 @@
 -- A store after its live sectors were written home.
-use Rattle.std.proofs.Common.{◌≡◌, ℕ, ◌/◌, ◌<◌, true, false, List, [], ◌∷◌, Contains, inl, inr, length, sym, ◌∙◌, ap, subst, arith, cond}
+use Rattle.std.proofs.Common.{◌≡◌, ℕ, ◌/◌, ◌<◌, true, false, List, [], ◌∷◌, Contains, inl, inr, ⊎_elim, length, sym, ◌∙◌, ap, subst, arith, cond}
 use Rattle.std.specs.Prelude.{IsTrue}
 use Rattle.std.proofs.lemmas.Bool.{cases_eq}
 use Rattle.sector_disk.specs.Lists.{Content, put_sectors, sector}
@@ -18,7 +18,7 @@ use Rattle.jnl_replay.specs.Homing.{empty_header, initialised, with_empty_header
 use Rattle.jnl_replay.specs.Plan.{FitsPlan, journal_of}
 use Rattle.jnl_replay.specs.declared.plan.Plan.{Plan}
 use Rattle.jnl_replay.proofs.Stages.{empty_text}
-use Rattle.jnl_store.specs.Batch.{Staged}
+use Rattle.jnl_store.specs.Batch.{Staged, names}
 use Rattle.jnl_store.specs.InUse.{blank, keeps_lists, used_of}
 use Rattle.jnl_store.specs.Journal.{IsAtRest, IsClosed, are_open}
 use Rattle.jnl_store.specs.Plan.{rested}
@@ -36,11 +36,14 @@ use Rattle.jnl_store.proofs.RingKept.{KeepsLists, lists_from}
 use Rattle.jnl_store.proofs.RingStages.{length-c}
 use Rattle.jnl_store.proofs.Settling.{kept_from, kept_parts, lists_of}
 
+-- a journal at rest names no home
+rest_homes : (plan : Plan) → IsAtRest plan → (c : Content) → homes_of (journal_of plan) c ≡ []
+rest_homes plan rest c = ap (λ (t : List ℕ). text_homes plan.header.order plan.header.blhdr t (length t) 0) (empty_text plan.info plan.header plan.fresh c rest.empty)
+
 -- nothing is live in a journal at rest
 pub rest_lists : (plan : Plan) → IsAtRest plan → (disk : State) → KeepsJournal plan disk.candidates → KeepsLists plan [] disk
 rest_lists plan rest disk k =
-    let none : text_of (journal_of plan) (content disk) ≡ [] = empty_text plan.info plan.header plan.fresh (content disk) rest.empty in
-    let homes : homes_of (journal_of plan) (content disk) ≡ [] = ap (λ (t : List ℕ). text_homes plan.header.order plan.header.blhdr t (length t) 0) none in
+    let homes = rest_homes plan rest (content disk) in
     let used : used_of plan ≡ 0 = distance_ahead plan.info.size plan.header.start plan.header.end (omega (arith, rest.empty)) ∙ omega (arith, rest.empty) in
     record {
       text = record {
@@ -98,6 +101,10 @@ settles_home store new s0 s1 kept disk fits same settled plan_is batch_is =
         settled = settled ∙ ap only (sym is);
         stands = subst (λ (d : Content). StandsFor plan c0 d (replayed (journal_of new.plan) (content s1))) (sym is) (subst (λ (d : Content). StandsFor plan c0 e d) (sym durable) (end_stands plan store.rest s0 disk k fits kept.0 m));
         agrees = subst (λ (d : Content). AgreesOutside (IsClosed plan) r d) (sym durable) (end_agrees plan store.rest s0 disk k fits kept.0 m);
+        live = λ s l. ⊎_elim
+            (λ (put : names new.batch.all s ≡ true). inl (ap (λ (b : Staged). names b.all s) (sym batch_is) ∙ put))
+            (λ named. absurd (subst (λ (hs : List Home). IsNamed hs s) (rest_homes (rested plan) at_rest (content s1)) (subst (λ (q : Plan). IsNamed (homes_of (journal_of q) (content s1)) s) plan_is named)))
+            l;
       };
       empty = ap (λ (q : Plan). q.header.start) plan_is ∙ sym (ap (λ (q : Plan). q.header.end) plan_is);
       durable = durable ∙ sym is;

@@ -34,7 +34,7 @@ use Rattle.jnl_replay.specs.Plan.{FitsPlan, IsPlace, IsPlan, journal_of}
 use Rattle.jnl_replay.specs.declared.plan.Plan.{Plan}
 use Rattle.jnl_replay.proofs.Checks.{place_of}
 use Rattle.jnl_replay.proofs.Stages.{replayed_still}
-use Rattle.jnl_store.specs.Batch.{AreOnce}
+use Rattle.jnl_store.specs.Batch.{AreOnce, names}
 use Rattle.jnl_store.specs.Appending.{MayAppend, end_after, longer, opened}
 use Rattle.jnl_store.specs.InUse.{IsInUse, blank, used_of}
 use Rattle.jnl_store.specs.Journal.{IsClosed, IsSpilled, are_open}
@@ -51,7 +51,7 @@ use Rattle.jnl_store.proofs.Live.{fit_all, foreign_none, keeps_from, ring_same, 
 use Rattle.jnl_store.proofs.One.{length-one, mixed_else, mixed_here, one_else, one_here}
 use Rattle.jnl_store.proofs.Quiet.{found_still, header_found, info_whole, not_info, old_is, volume_still}
 use Rattle.jnl_store.proofs.RingAppended.{appended_good, appended_overlay}
-use Rattle.jnl_store.proofs.RingHomes.{homes_agree}
+use Rattle.jnl_store.proofs.RingHomes.{homes_agree, named_back}
 use Rattle.jnl_store.proofs.RingKept.{lists_parts}
 use Rattle.jnl_store.proofs.RingStages.{KeepsText, end_in, good, has_content, header_stays, image_agrees, image_stands, length-c, listed_agrees, listed_stands, span_in_use, start_in}
 
@@ -424,6 +424,14 @@ module _ (plan : Plan) (puts : List Put) (s0 : State) (b : Begins plan puts s0) 
           | inl inside ↦ inside
           | inr past ↦ absurd (not_named (IsGoodHome (volume_of plan.place.info_sector (journal_of (longer plan puts)) image) (text_of (journal_of (longer plan puts)) image)) (homes_of (journal_of (longer plan puts)) image) s all (λ home g same. omega (arith, g.inside, same, past)) there)
         ]
+
+    -- and each of them a put or an earlier list names
+    pub longer_named : (s2 : State) → s2.candidates ≡ only (opened plan puts c1) → (s : ℕ) → IsNamed (homes_of (journal_of (longer plan puts)) (content s2)) s → (names puts s ≡ true) ⊎ IsNamed (homes_of (journal_of plan) (content s0)) s
+    longer_named s2 settled s named =
+        let image = opened plan puts c1 in
+        let is : content s2 ≡ image = ap content_of settled ∙ content_of-only image in
+        named_back (text_of (journal_of (longer plan puts)) image) (text_of (journal_of plan) (content s0)) (homes_of (journal_of (longer plan puts)) image) (homes_of (journal_of plan) (content s0)) puts (length image) s
+        (longer_inside s2 settled s named) (new_homes image opened_size opened_else opened_whole opened_here) (subst (λ (d : Content). IsNamed (homes_of (journal_of (longer plan puts)) d) s) is named)
 
     pub new_in_use : IsInUse (longer plan puts)
     new_in_use = new_rest

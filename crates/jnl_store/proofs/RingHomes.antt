@@ -1,5 +1,5 @@
 -- Homes written over contents that differ, and a table of puts that does the same.
-use Rattle.std.proofs.Common.{◌≡◌, ◌≢◌, ◌⊎◌, ℕ, ◌<◌, true, ◌||◌, List, [], ◌∷◌, length, set, inl, inr, ⊎_elim, refl, sym, ◌∙◌, ap, subst, arith, eqb, length-set, get_or-set_same, get_or-set_other}
+use Rattle.std.proofs.Common.{◌≡◌, ◌≢◌, ◌⊎◌, ℕ, ◌<◌, true, ◌||◌, List, [], ◌∷◌, length, replicate, set, inl, inr, ⊎_elim, refl, sym, ◌∙◌, ap, subst, arith, eqb, length-set, get_or-set_same, get_or-set_other}
 use Rattle.std.proofs.lemmas.Bool.{cases_eq, cases_lt, cases_Bool, eqb-true, true≢false}
 use Rattle.std.proofs.lemmas.List.{ext_get_or, get_or-replicate, length-replicate, length-take-le, get_or_past}
 use Rattle.sector_disk.specs.Lists.{Content, sector}
@@ -73,6 +73,31 @@ put_long (p ∷ ps) c s inside h = elim (cases_Bool (names ps s)) [
       let here : s ≡ p.at = elim (cases_Bool (eqb s p.at)) [ inl t ↦ eqb-true s p.at t | inr f ↦ absurd (true≢false (sym h ∙ ap (λ b. b || names ps s) f ∙ alone)) ] in
       ap length (overlay-other ps (set c p.at p.bytes) s alone ∙ ap (sector (set c p.at p.bytes)) here ∙ get_or-set_same c p.at p.bytes [] (omega (arith, inside, here)))
       ∙ p.whole
+]
+
+-- a sector is as it was, or one of the homes is of it
+homes_else : (text : List ℕ) (homes : List Home) (c : Content) (s : ℕ) → (sector (with_homes text homes c) s ≡ sector c s) ⊎ IsNamed homes s
+homes_else text homes c s = ⊎_elim (λ e. inl e) (λ h. inr (named_home text homes s (sector (with_homes text homes c) s) h)) ((mixes_with_homes text homes c).each s)
+
+-- Where homes do what others do and then puts: what they name, a put or the others name.
+pub named_back : (more text : List ℕ) (named homes : List Home) (puts : List Put) (n s : ℕ) → s < n → ((c : Content) → with_homes more named c ≡ overlay puts (with_homes text homes c)) → IsNamed named s → (names puts s ≡ true) ⊎ IsNamed homes s
+named_back more text named homes puts n s inside does is = elim (cases_Bool (names puts s)) [
+  | inl put ↦ inl put
+  | inr alone ↦
+      let none : List ℕ = [] in
+      let zero : List ℕ = 0 ∷ [] in
+      let one : Content = replicate n none in
+      let other : Content = replicate n zero in
+      let size : length other ≡ length one = length-replicate n zero ∙ sym (length-replicate n none) in
+      let same : sector (with_homes text homes other) s ≡ sector (with_homes text homes one) s =
+      sym (overlay-other puts (with_homes text homes other) s alone) ∙ sym (ap (λ (c : Content). sector c s) (does other)) ∙ named_value more named one other s size is
+      ∙ ap (λ (c : Content). sector c s) (does one) ∙ overlay-other puts (with_homes text homes one) s alone in
+      inr (⊎_elim
+      (λ (a : sector (with_homes text homes other) s ≡ sector other s). ⊎_elim
+          (λ (b : sector (with_homes text homes one) s ≡ sector one s).
+          absurd (let no : zero ≡ none = sym (get_or-replicate n s zero none inside) ∙ sym a ∙ same ∙ b ∙ get_or-replicate n s none none inside in cc no))
+          (λ h. h) (homes_else text homes one s))
+      (λ h. h) (homes_else text homes other s))
 ]
 
 -- the bytes of a home are a sector's

@@ -17,7 +17,7 @@ use Rattle.jnl_replay.specs.Plan.{FitsPlan, journal_of}
 use Rattle.jnl_replay.specs.declared.plan.Place.{Place}
 use Rattle.jnl_replay.specs.declared.plan.Plan.{Plan}
 use Rattle.jnl_format.specs.declared.structures.Info.{Info}
-use Rattle.jnl_store.specs.Batch.{Staged}
+use Rattle.jnl_store.specs.Batch.{Staged, names}
 use Rattle.jnl_store.specs.InUse.{blank, keeps_lists}
 use Rattle.jnl_store.specs.Journal.{are_open}
 use Rattle.jnl_store.specs.Overlay.{overlay}
@@ -132,6 +132,10 @@ settles store new s0 s1 k disk same settled plan_is batch_is =
       settled = settled ∙ ap only (sym is);
       stands = subst (λ (d : Content). StandsFor store.plan c0 d (replayed (journal_of new.plan) (content s1))) (sym is) (subst (λ (d : Content). StandsFor store.plan c0 c0 d) (sym now) (own_stands store.plan store.rest s0 disk (lists_of store s0 k).text));
       agrees = record { size = ap length now; each = λ s. inl (ap (λ (d : Content). sector d s) now) };
+      live = λ s l. ⊎_elim
+          (λ (put : names new.batch.all s ≡ true). inl (ap (λ (b : Staged). names b.all s) (sym batch_is) ∙ put))
+          (λ named. inr (subst (λ (d : Content). IsNamed (homes_of (journal_of store.plan) d) s) is (subst (λ (q : Plan). IsNamed (homes_of (journal_of q) (content s1)) s) plan_is named)))
+          l;
     }
 
 pub either_of : (store : Store) (s0 s1 : State) → CrashesLeave s0 s1 (StandsForDurable store s0) → CrashesLeave s0 s1 (StandsForEither store s0)

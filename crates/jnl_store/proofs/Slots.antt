@@ -10,6 +10,9 @@ use Rattle.sector_disk.specs.Lists.{Content, last, sector}
 use Rattle.sector_disk.specs.Disk.{Candidates, CrashesLeave, IsDisk, IsImage, LeftNow, OnlyReads, SameSink, State, Untouched, content, content_of, only}
 use Rattle.sector_disk.proofs.Passing.{both_pass}
 use Rattle.sector_disk.specs.Space.{AgreesOutside}
+use Rattle.jnl_format.specs.Named.{IsNamed}
+use Rattle.jnl_format.specs.Recovery.{homes_of}
+use Rattle.jnl_replay.specs.Plan.{journal_of}
 use Rattle.jnl_replay.specs.declared.plan.Plan.{Plan}
 use Rattle.jnl_store.specs.Batch.{AreOnce, Staged, bytes_of, is_dropped, is_same, names}
 use Rattle.jnl_store.specs.Cache.{AreCached, AreRead, EachBecomes, EachReread, IsRead, IsReread, Slots, holds, slot_of, undone_slot, with_slot}
@@ -233,6 +236,10 @@ module _ (old mid new : Store) (s0 s1 s2 : State) (reads : OnlyReads s1 s2) (pla
         settled = subst (λ (d : Candidates). d ≡ only (content_of d)) (sym reads.candidates) r.settled;
         stands = subst (λ (c : Content). StandsFor old.plan (content s0) c (durable_of new (content s2))) (sym still) (subst (λ (d : Content). StandsFor old.plan (content s0) (content s1) d) durable_now r.stands);
         agrees = subst (λ (d : Content). AgreesOutside (IsClosed old.plan) target d) durable_now r.agrees;
+        live = λ s l. r.live s (⊎_elim
+            (λ (put : names new.batch.all s ≡ true). inl (ap (λ (b : Staged). names b.all s) (sym batch) ∙ put))
+            (λ named. inr (subst (λ (d : Content). IsNamed (homes_of (journal_of mid.plan) d) s) still (subst (λ (p : Plan). IsNamed (homes_of (journal_of p) (content s2)) s) plan named)))
+            l);
       }
 
   -- after a commit

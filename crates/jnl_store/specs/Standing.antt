@@ -9,7 +9,7 @@ use Rattle.jnl_format.specs.declared.structures.Header.{Header}
 use Rattle.jnl_format.specs.Keeping.{KeepsHeader}
 use Rattle.jnl_replay.specs.declared.plan.Plan.{Plan}
 use Rattle.jnl_store.specs.Journal.{IsClosed, IsSpilled}
-use Rattle.jnl_store.specs.Store.{KeepsOn, KeepsRingOn, content_over, durable_of}
+use Rattle.jnl_store.specs.Store.{IsLive, KeepsOn, KeepsRingOn, content_over, durable_of}
 use Rattle.jnl_store.specs.declared.store.Store.{Store}
 
 -- the header of a journal in the same form, whatever its offsets are
@@ -55,12 +55,13 @@ abbrev pub StandsForEither : Store → State → Content → Type 0
 StandsForEither store disk image = StandsForOne store.plan disk (durable_of store (content disk)) (content_over store (content disk)) image
 
 -- Nothing is pending, and the disk's content stands for the durable content of the store, which is this one but in the
--- journal itself.
+-- journal itself. What is live was put or live before.
 pub record MakesDurable (old new : Store) (before after : State) (target : Content) : Type 0 where
   pub keeps : KeepsOn new after
   pub settled : HasNothingPending after
   pub stands : StandsFor old.plan (content before) (content after) (durable_of new (content after))
   pub agrees : AgreesOutside (IsClosed old.plan) target (durable_of new (content after))
+  pub live : (s : ℕ) → IsLive new (content after) s → IsLive old (content before) s
 
 -- the same, and no list is live
 pub record Checkpoints (old new : Store) (before after : State) (target : Content) : Type 0 where
@@ -74,6 +75,7 @@ pub record RingDurable (old new : Store) (before after : State) (target : Conten
   pub settled : HasNothingPending after
   pub stands : StandsFor old.plan (content before) (content after) (durable_of new (content after))
   pub agrees : AgreesOutside (IsClosed old.plan) target (durable_of new (content after))
+  pub live : (s : ℕ) → IsLive new (content after) s → IsLive old (content before) s
 
 pub record RingCheckpoints (old new : Store) (before after : State) (target : Content) : Type 0 where
   pub settles : RingDurable old new before after target

@@ -45,7 +45,7 @@ use Rattle.volume_ops.proofs.Placing.{once_apart, times_sectors}
 use Rattle.volume_ops.proofs.SoundForks.{special_blocks, geometry_of, overflow_is, special_is_fork, special_ends, special_limit, sectors_inside, counted}
 
 -- how many sectors some blocks have
-length_sectors : (per : ℕ) (blocks : List ℕ) → length (sectors_of per blocks) ≡ length blocks * per
+pub length_sectors : (per : ℕ) (blocks : List ℕ) → length (sectors_of per blocks) ≡ length blocks * per
 length_sectors per [] = omega arith
 length_sectors per (block ∷ blocks) =
     let next : suc (length blocks) * per ≡ length blocks * per + per = omega arith in

@@ -1,6 +1,10 @@
 pub mod Keeping
+pub mod Listing
 pub mod Lists
+pub mod Looking
 pub mod Opening
+pub mod Owning
+pub mod Reaching
 pub mod Room
 pub mod Service
 pub mod Standing

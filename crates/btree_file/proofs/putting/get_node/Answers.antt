@@ -2,7 +2,7 @@ use Rattle.std.proofs.Common.{◌≡◌, ◌<◌, ◌+◌, ◌*◌, ◌/◌, ℕ
 use Rattle.sector_disk.specs.Space.{Space}
 use Rattle.btree_file.specs.Place.{fork_sectors}
 use Rattle.btree_file.proofs.Fetched.{Fetched, fetched_none, fetched_more}
-use Rattle.btree_file.proofs.Stored.{has_place}
+use Rattle.btree_file.proofs.PlaceLaws.{has_place}
 use Rattle.btree_file.proofs.putting.get_node.Goals as goal
 use Rattle.btree_file.proofs.putting.get_node.Goals.{in-Some+in_ok-get, in_default}
 

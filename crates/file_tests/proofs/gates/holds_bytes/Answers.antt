@@ -2,14 +2,11 @@ use Rattle.std.proofs.Common.{◌≡◌, ◌<◌, ◌≤◌, ℕ, List, Some, No
 use Rattle.std.proofs.lemmas.Bool.{cases_lt, leb-true}
 use Rattle.std.proofs.lemmas.Option.{slice_get_within, get_or_from_slice_get}
 use Rattle.fork_map.specs.Blocks.{blocks_of, sectors_of}
-use Rattle.alloc_bitmap.proofs.StoredLaws.{is_place}
+use Rattle.alloc_bitmap.proofs.ChangedLaws.{past_end}
 use Rattle.file_tests.proofs.gates.holds_bytes.Goals as goal
 
-ended : (sectors : List ℕ) (n : ℕ) → None ≡ slice_get sectors n → length sectors ≤ n
-ended sectors n none = ⊎_elim (λ (lt : n < length sectors). absurd (is_place sectors n lt none)) (λ (le : length sectors ≤ n). le) (cases_lt n (length sectors))
-
 pub returns-in-None-clause-inside : goal.returns-in-None-clause-inside
-returns-in-None-clause-inside c = λ enough k d lt. c.loop-n.invariant.each k d (omega (arith, ended (sectors_of c.args.per_block (blocks_of c.args.fork.now)) c.loop-n.n c.in-None.ensures))
+returns-in-None-clause-inside c = λ enough k d lt. c.loop-n.invariant.each k d (omega (arith, past_end (sectors_of c.args.per_block (blocks_of c.args.fork.now)) c.loop-n.n c.in-None.ensures))
 
 pub returns-in-None-clause-size : goal.returns-in-None-clause-size
 returns-in-None-clause-size c = λ enough. omega (arith, leb-true c.args.size c.saturating_mul.result enough, c.saturating_mul.ensures, c.loop-n.invariant.size)

@@ -272,7 +272,7 @@ invariant_of-self-2 g c =
     record {
       inside = λ k low. subst (λ n. get_or (sectors_of_tree tree) k 0 < n) (sym (c.mark.ensures.same.sectors ∙ reads.same.sectors)) (c.args.self.now.inside k low);
       open_sectors = λ tells k low shut. c.args.self.now.open_sectors (told tells) k low (((reads.sectors (told tells)).closed (get_or (sectors_of_tree tree) k 0)).0
-          (((c.mark.ensures.puts (reads.same.tells ∙ told tells)).closed (get_or (sectors_of_tree tree) k 0)).0 shut));
+          (((c.mark.ensures.puts (reads.same.tells ∙ told tells)).these.closed (get_or (sectors_of_tree tree) k 0)).0 shut));
       agrees = λ now_tells.
           let tells = told now_tells in
           let was = c.args.self.now.agrees tells in

@@ -80,7 +80,7 @@ invariant_of-self-2 g c =
     let whole = whole_node tree.shape.total (tree.shape.node_size / 512) 0 (length (sectors_of_tree tree)) tree.kept.whole (omega (arith, c.requires.total)) in
     record {
       inside = λ k low. subst (λ n. get_or (sectors_of_tree tree) k 0 < n) (sym c.put_node.ensures.same.sectors) (c.args.self.now.inside k low);
-      open_sectors = λ tells k low shut. c.args.self.now.open_sectors (told tells) k low (((c.put_node.ensures.puts (told tells)).closed (get_or (sectors_of_tree tree) k 0)).0 shut);
+      open_sectors = λ tells k low shut. c.args.self.now.open_sectors (told tells) k low (((c.put_node.ensures.puts (told tells)).these.closed (get_or (sectors_of_tree tree) k 0)).0 shut);
       agrees = λ tells.
           let puts = subst (λ long. PutsNode (sectors_at (sectors_of_tree tree) (long / 512) 0) c.set_shape.new.self old new) (c.set_shape.ensures.size ∙ tree.long) (c.put_node.ensures.puts (told tells)) in
           subst (λ s. HasMap (sectors_of_tree tree) s c.args.shape.now.total c.args.shape.now.free tree.map.items c.set_shape.new.self new.content) (sym c.requires.size)

@@ -102,7 +102,7 @@ invariant_of-self-2 g c =
     let told : IsTrue new.tells → IsTrue old.tells = λ tells. sym c.put_node.ensures.same.tells ∙ tells in
     record {
       inside = λ k low. subst (λ n. get_or (sectors_of_tree tree) k 0 < n) (sym c.put_node.ensures.same.sectors) (c.args.self.now.inside k low);
-      open_sectors = λ tells k low shut. c.args.self.now.open_sectors (told tells) k low (((c.put_node.ensures.puts (told tells)).closed (get_or (sectors_of_tree tree) k 0)).0 shut);
+      open_sectors = λ tells k low shut. c.args.self.now.open_sectors (told tells) k low (((c.put_node.ensures.puts (told tells)).these.closed (get_or (sectors_of_tree tree) k 0)).0 shut);
       agrees = λ tells. saved_map (sectors_of_tree tree) tree.shape.node_size tree.shape.total tree.shape.free tree.map.items tree.header old new c.args.node c.args.from.now tree.kept.apart
           (puts_of tree c.args.node (length c.args.from.now) c.args.from.now old new c.requires.size (c.put_node.ensures.puts (told tells)))
           (ap (λ map. is_reserved map c.args.node) (sym c.deref.ensures.value) ∙ sym c.is_reserved.ensures ∙ c.if-is_reserved.false) (c.args.self.now.agrees (told tells));

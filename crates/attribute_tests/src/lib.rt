@@ -1,0 +1,16 @@
+//! The calls of attributes over nodes in memory, held against a plain table: trees that split, shrink and empty.
+#![tactic(auto)]
+
+mod checks;
+mod flaw;
+mod names;
+mod steps;
+mod table;
+#[cfg(test)]
+mod tests;
+
+pub use checks::check_all;
+pub use flaw::{Flaw, wanted};
+pub use names::{Length, name_of};
+pub use steps::{delete, drop_all, set};
+pub use table::{Place, Table, value_of};

@@ -1,0 +1,61 @@
+-- The end of a run: the mark is put, and committed.
+use Rattle.std.proofs.Common.{◌≡◌, ◌⊎◌, ℕ, inl, inr, ⊎_elim, length, refl, sym, ◌∙◌}
+use Rattle.std.specs.Prelude.{Option}
+use Rattle.sector_disk.specs.Space.{Space}
+use Rattle.sector_disk.proofs.Passing.{both_pass, passes_with}
+use Rattle.jnl_format.specs.Recovery.{Content}
+use Rattle.hfs_serving.specs.Closing.{Finishes, IsClosed, MayFinish}
+use Rattle.hfs_serving.specs.Going.{Knowing, Stands}
+use Rattle.hfs_serving.specs.Outside.{Outside}
+use Rattle.hfs_serving.specs.Runs.{Crashes, Serves, StandsAs}
+use Rattle.hfs_serving.specs.Serving.{Commits, IsDurable, MayCommit, Touches}
+use Rattle.hfs_serving.specs.Stages.{MayTurn}
+use Rattle.hfs_serving.proofs.Agreeing.{committed_below, stands_durable, stands_either, touched_below}
+use Rattle.hfs_serving.proofs.Leading.{place_none}
+
+module _ (knows : Knowing) (now : Content) (shrunk : Option ℕ) (space : Space) (before : Outside) (stands : Stands knows now now shrunk space before) (new : Space) (mid : Outside) (touches : Touches now space before new mid) where
+  below_new : IsDurable now new
+  below_new = touched_below now space stands.below before new mid touches
+
+  -- a fault while it was put
+  pub put_stops : MayFinish now before mid
+  put_stops = record {
+    ended = now;
+    marked = inl refl;
+    place = place_none now;
+    may = record {
+      time = passes_with before.clock mid.clock _ _ touches.time (λ recovered told p. (inl (stands_durable now new below_new recovered p.0), p.1));
+      leaves = λ recovered left. inl (stands_durable now new below_new recovered (touches.leaves recovered left));
+      told = touches.told;
+    };
+  }
+
+  module _ (knows_new : Knowing) (closed : IsClosed knows_new now now shrunk new) where
+    -- it was put, and the volume stands for it
+    pub closed_stands : Stands knows_new now closed.ended shrunk new mid
+    closed_stands = record { known = closed.known; below = below_new; reads = closed.reads; heads = closed.heads; leaves = touches.leaves }
+
+    module _ (after : Outside) (commit : MayCommit new mid after) where
+      turn : MayTurn now closed.ended before after
+      turn = record {
+        time =
+            both_pass before.clock mid.clock after.clock _ _ _ touches.time commit.time (λ recovered told p. (inl (stands_durable now new below_new recovered p.0), p.1))
+            (λ recovered told p. (stands_either now closed.ended new below_new closed.reads recovered p.0, p.1 ∙ touches.told));
+        leaves = λ recovered left. stands_either now closed.ended new below_new closed.reads recovered (commit.leaves recovered left);
+        told = commit.told ∙ touches.told;
+      }
+
+      -- a commit of it, whatever ended it
+      pub commit_finishes : MayFinish now before after
+      commit_finishes = record { ended = closed.ended; marked = inr (inr closed.sets); place = closed.place; may = turn }
+
+    pub finishes : (last : Space) (after : Outside) → Commits new mid last after → Finishes now before after
+    finishes last after commits = record {
+      ended = closed.ended;
+      sets = closed.sets;
+      place = closed.place;
+      turns = record {
+        may = turn after commits.may;
+        leaves = λ recovered left. stands_durable closed.ended last (committed_below closed.ended new mid last after closed.reads commits) recovered (commits.leaves recovered left);
+      };
+    }

@@ -1,0 +1,125 @@
+-- A batch whose replies are told.
+use Rattle.std.proofs.Common.{◌≡◌, ◌⊎◌, ◌↔◌, ◌+◌, ◌++◌, [], ℕ, List, length, take, drop, take-add, inl, inr, ⊎_elim, refl, sym, ◌∙◌, ap, subst}
+use Rattle.std.specs.Prelude.{Option}
+use Rattle.sector_disk.specs.Space.{Space, AgreesOutside}
+use Rattle.jnl_format.specs.Keeping.{KeepsHeader}
+use Rattle.jnl_format.specs.Recovery.{Content, header_of_volume, journaling_version}
+use Rattle.hfs_volume.specs.Aside.{IsAside}
+use Rattle.hfs_volume.specs.Run.{Entry, lines_of, replies_of, shrunk_in}
+use Rattle.hfs_serving.specs.Going.{Knowing, ServesBatch, Stands, StopsLines}
+use Rattle.hfs_serving.specs.Outside.{Outside}
+use Rattle.hfs_serving.specs.Serving.{TellsOut}
+use Rattle.hfs_serving.specs.Steps.{CrashesStep, IsStill, ServesStep}
+use Rattle.hfs_serving.proofs.Agreeing.{agrees_more, stands_durable}
+use Rattle.hfs_serving.proofs.Lists.{lines_of-append, shrunk_in-append, shrunk_in-none}
+use Rattle.hfs_serving.proofs.Stretches.{crashes_both, serves_both, serves_crashes, serves_none}
+use Rattle.hfs_serving.proofs.Batches.{stops_crashes, batch_tells_partly, batch_ends}
+
+-- where only bytes were told, it stands there still
+pub still_stands : (knows knows_new : Knowing) (committed now : Content) (shrunk : Option ℕ) (space new : Space) (mid after : Outside) → Stands knows committed now shrunk space mid → IsStill space new → (knows committed now shrunk → knows_new committed now shrunk)
+    → ((recovered : Content) → after.leaves recovered → mid.leaves recovered) → Stands knows_new committed now shrunk new after
+still_stands knows knows_new committed now shrunk space new mid after stands still carries leaves = record {
+  known = carries stands.known;
+  below = record {
+    same = subst (λ (d : Content). AgreesOutside (IsAside committed) committed d) (sym still.durable) stands.below.same;
+    spilled = λ s is. stands.below.spilled s ((still.spilled s).0 is);
+    closed = λ s is. stands.below.closed s ((still.closed s).0 is);
+  };
+  reads = record {
+    same = subst (λ (c : Content). AgreesOutside new.closed now c) (sym still.content) (agrees_more space.closed new.closed now space.content (λ s is. (still.closed s).1 is) stands.reads.same);
+    closed = λ s is. stands.reads.closed s ((still.closed s).0 is);
+  };
+  heads = record {
+    header = subst (λ (c : Content). KeepsHeader new.durable c) (sym still.content) (subst (λ (d : Content). KeepsHeader d space.content) (sym still.durable) stands.heads.header);
+    version = subst (λ (d : Content). (header_of_volume d).last_mounted_version ≡ journaling_version) (sym still.durable) stands.heads.version;
+    apart = λ is. stands.heads.apart ((still.closed 2).0 is);
+  };
+  leaves = λ recovered left.
+      subst (λ (d : Content). AgreesOutside (λ s. new.spilled s ⊎ new.closed s) d recovered) (sym still.durable)
+      (agrees_more (λ s. space.spilled s ⊎ space.closed s) (λ s. new.spilled s ⊎ new.closed s) space.durable recovered (λ s out. ⊎_elim (λ is. inl ((still.spilled s).1 is)) (λ is. inr ((still.closed s).1 is)) out)
+      (stands.leaves recovered (leaves recovered left)));
+}
+
+module _ (count capacity : ℕ) (shrunk : Option ℕ) (start : Content) (old : Outside) (lines : List (List ℕ)) (knows : Knowing) (replies : List ℕ) (space : Space) (mid : Outside) (batch : ServesBatch count capacity knows start shrunk old lines [] replies space mid) (after : Outside) (tells : TellsOut mid replies after) where
+  text_is : replies ≡ replies_of batch.whole.run
+  text_is = batch.replies ∙ sym batch.whole.told
+
+  tells_text : TellsOut mid (replies_of batch.whole.run) after
+  tells_text = subst (λ (l : List ℕ). TellsOut mid l after) text_is tells
+
+  pub step_serves : (knows_new : Knowing) (new : Space) → after.told ≡ mid.told ++ replies → IsStill space new → ((committed now : Content) (s : Option ℕ) → knows committed now s → knows_new committed now s) → ServesStep count capacity knows_new start shrunk old lines new after
+  step_serves knows_new new told still carries =
+      let whole = batch.whole in
+      let last = shrunk_in shrunk whole.run in
+      record {
+        run = whole.run;
+        now = whole.now;
+        serves = batch_ends capacity shrunk start old whole.run whole.now space mid after whole.goes tells_text (told ∙ ap (λ (l : List ℕ). mid.told ++ l) text_is);
+        stands =
+            still_stands knows knows_new whole.now whole.now last space new mid after
+            (record { known = whole.known; below = whole.goes.below; reads = whole.goes.reads; heads = whole.heads; leaves = whole.goes.leaves }) still (carries whole.now whole.now last) tells.leaves;
+        asked = whole.asked;
+      }
+
+  pub step_tells_partly : CrashesStep capacity start shrunk old lines after
+  step_tells_partly = record {
+    run = batch.whole.run;
+    known = length batch.whole.run;
+    count = count;
+    crashes = batch_tells_partly capacity shrunk start old batch.whole.run batch.whole.now space mid after batch.whole.goes tells_text;
+    asked = batch.whole.asked;
+  }
+
+pub step_stops : (capacity : ℕ) (shrunk : Option ℕ) (start : Content) (old : Outside) (lines : List (List ℕ)) (after : Outside) → StopsLines capacity start start shrunk old lines after → CrashesStep capacity start shrunk old lines after
+step_stops capacity shrunk start old lines after stopped = record {
+  run = stopped.stops.more;
+  known = 0;
+  count = stopped.count;
+  crashes = stops_crashes capacity shrunk start old stopped.stops.more after stopped.stops.stops;
+  asked = stopped.stops.asked;
+}
+
+-- ---- batch after batch
+
+module _ (capacity : ℕ) (shrunk : Option ℕ) (start : Content) (old : Outside) (lines : List (List ℕ)) where
+  pub step_none : (knows : Knowing) (space : Space) → Stands knows start start shrunk space old → ServesStep 0 capacity knows start shrunk old lines space old
+  step_none knows space stands = record {
+    run = [];
+    now = start;
+    serves = serves_none capacity shrunk start old (λ recovered left. stands_durable start space stands.below recovered (stands.leaves recovered left));
+    stands = subst (λ (s : Option ℕ). Stands knows start start s space old) (sym (shrunk_in-none shrunk)) stands;
+    asked = refl;
+  }
+
+  -- served to the end, it is a run that nothing ended
+  pub step_ends : (count : ℕ) (knows : Knowing) (space : Space) (new : Outside) → ServesStep count capacity knows start shrunk old lines space new → CrashesStep capacity start shrunk old lines new
+  step_ends count knows space new step = record {
+    run = step.run;
+    known = length step.run;
+    count = count;
+    crashes = serves_crashes capacity shrunk start old new step.run step.now step.serves;
+    asked = step.asked;
+  }
+
+  module _ (at : ℕ) (knows : Knowing) (space : Space) (mid : Outside) (first : ServesStep at capacity knows start shrunk old lines space mid) where
+    asked_both : (run : List Entry) (count : ℕ) → lines_of run ≡ take count (drop at lines) → lines_of (first.run ++ run) ≡ take (at + count) lines
+    asked_both run count asked =
+        lines_of-append first.run run ∙ ap (λ (l : List (List ℕ)). l ++ lines_of run) first.asked ∙ ap (λ (l : List (List ℕ)). take at lines ++ l) asked ∙ sym (take-add at count lines)
+
+    pub step_both : (count : ℕ) (knows_new : Knowing) (new : Space) (after : Outside) → ServesStep count capacity knows_new first.now (shrunk_in shrunk first.run) mid (drop at lines) new after → ServesStep (at + count) capacity knows_new start shrunk old lines new after
+    step_both count knows_new new after second = record {
+      run = first.run ++ second.run;
+      now = second.now;
+      serves = serves_both capacity shrunk start old mid after first.run second.run first.now first.serves second.now second.serves;
+      stands = subst (λ (s : Option ℕ). Stands knows_new second.now second.now s new after) (sym (shrunk_in-append shrunk first.run second.run)) second.stands;
+      asked = asked_both second.run count second.asked;
+    }
+
+    pub step_crash : (after : Outside) → CrashesStep capacity first.now (shrunk_in shrunk first.run) mid (drop at lines) after → CrashesStep capacity start shrunk old lines after
+    step_crash after second = record {
+      run = first.run ++ second.run;
+      known = length first.run + second.known;
+      count = at + second.count;
+      crashes = crashes_both capacity shrunk start old mid after first.run second.run first.now first.serves second.known second.crashes;
+      asked = asked_both second.run second.count second.asked;
+    }

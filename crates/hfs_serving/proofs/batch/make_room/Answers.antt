@@ -1,0 +1,16 @@
+use Rattle.std.proofs.Common.{◌≡◌, ℕ}
+use Rattle.hfs_serving.proofs.Going.{begins, commits_first, commit_stops_first, on_err}
+use Rattle.hfs_serving.proofs.batch.make_room.Goals as goal
+
+pub returns-then-not-wanted-clause-goes : goal.returns-then-not-wanted-clause-goes
+returns-then-not-wanted-clause-goes g c tells capacity committed now shrunk stands = begins capacity shrunk committed now _ _ _ stands
+
+pub returns-in_err-commit-clause-stops : goal.returns-in_err-commit-clause-stops
+returns-in_err-commit-clause-stops g c tells capacity committed now shrunk stands =
+    on_err c.from_residual.result (commit_stops_first capacity shrunk committed now _ _ _ stands (g.G.Ground.outside c.commit.new.base) (c.commit.ensures.crash tells))
+
+pub returns-clause-goes : goal.returns-clause-goes
+returns-clause-goes g c tells capacity committed now shrunk stands =
+    let last = g.G.SectorView.space c.commit.new.base in
+    commits_first capacity shrunk committed now _ _ _ stands (g.V.Volume.knows c.commit.new.self last capacity) last (g.G.Ground.outside c.commit.new.base) (c.in_ok-commit.ensures.done tells)
+    (c.in_ok-commit.ensures.knows tells capacity committed now shrunk stands)

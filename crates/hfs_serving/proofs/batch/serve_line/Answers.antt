@@ -1,0 +1,212 @@
+use Rattle.std.proofs.Common.{◌≡◌, ◌++◌, ◌∷◌, [], ℕ, List, refl, sym, ◌∙◌, ap, subst}
+use Rattle.std.specs.Prelude.{IsTrue}
+use Rattle.std.proofs.lemmas.List.{append-nil}
+use Rattle.hfs_serving.proofs.Going.{answered_line, left_line, on_err, rested_answers, rested_both, rested_left, stands_there, tidy_goes, tidy_stops, touch_stops_tidy}
+use Rattle.hfs_serving.proofs.batch.serve_line.Goals as goal
+
+pub returns-then-not-branch-clause-goes : goal.returns-then-not-branch-clause-goes
+returns-then-not-branch-clause-goes g c tells capacity committed now shrunk stands =
+    let new = g.G.SectorView.space c.tidy.new.base in
+    record {
+      text = [];
+      replies = sym (append-nil c.args.replies.now);
+      goes = tidy_goes capacity shrunk committed now (g.G.Ground.outside c.args.base.now) (g.V.Volume.knows c.tidy.new.volume new capacity) new (g.G.Ground.outside c.tidy.new.base) (c.in_ok-tidy.ensures.goes tells capacity committed now shrunk stands);
+    }
+
+pub loop-init : goal.loop-init
+loop-init g c = record {
+  anchor = c.tidy.ensures.anchor;
+  tells = c.in_ok-tidy.ensures.tells;
+  serves = λ capacity serves taken. c.in_ok-tidy.ensures.still capacity serves taken;
+  goes = λ tells capacity committed now shrunk stands. (refl, c.in_ok-tidy.ensures.rests tells capacity committed now shrunk stands c.if-not-branch.false);
+}
+
+pub answer-requires-clause-serves : goal.answer-requires-clause-serves
+answer-requires-clause-serves g c =
+    let there = c.requires.serves in
+    let still = c.loop.invariant.serves there.0 there.1 there.2 in
+    (there.0, still.0, still.1)
+
+pub answer-requires-clause-stands : goal.answer-requires-clause-stands
+answer-requires-clause-stands g c tells_there =
+    let tells = subst (λ t. IsTrue t) c.loop.invariant.tells tells_there in
+    let there = c.requires.stands tells in
+    let goes = (c.loop.invariant.goes tells there.0 there.1 there.2 there.3 there.4).1 in
+    let space = g.G.SectorView.space c.loop.base in
+    (there.0, goes.tidy.last, goes.tidy.next, there.3, stands_there there.0 there.3 there.1 there.2 (g.G.Ground.outside c.args.base.now) (g.V.Volume.knows c.loop.volume space there.0) space (g.G.Ground.outside c.loop.base) goes.tidy)
+
+pub returns-in_err-step-clause-stops : goal.returns-in_err-step-clause-stops
+returns-in_err-step-clause-stops g c tells capacity committed now shrunk stands =
+    let old = g.G.Ground.outside c.args.base.now in
+    let space = g.G.SectorView.space c.loop.base in
+    let mid = g.G.Ground.outside c.loop.base in
+    let knows = g.V.Volume.knows c.loop.volume space capacity in
+    let both = c.loop.invariant.goes tells capacity committed now shrunk stands in
+    let goes = both.1 in
+    let tells_there = c.loop.invariant.tells ∙ tells in
+    let there = stands_there capacity shrunk committed now old knows space mid goes.tidy in
+    let touches = c.answer.ensures.touches tells_there capacity goes.tidy.last goes.tidy.next shrunk there in
+    on_err c.from_residual-in_err-step.result (touch_stops_tidy capacity shrunk committed now old knows space mid goes.tidy (g.G.SectorView.space c.answer.new.base) (g.G.Ground.outside c.answer.new.base) touches)
+
+pub returns-then-is_answered-clause-goes : goal.returns-then-is_answered-clause-goes
+returns-then-is_answered-clause-goes g c tells capacity committed now shrunk stands =
+    let old = g.G.Ground.outside c.args.base.now in
+    let space = g.G.SectorView.space c.loop.base in
+    let mid = g.G.Ground.outside c.loop.base in
+    let knows = g.V.Volume.knows c.loop.volume space capacity in
+    let both = c.loop.invariant.goes tells capacity committed now shrunk stands in
+    let goes = both.1 in
+    let tells_there = c.loop.invariant.tells ∙ tells in
+    let there = stands_there capacity shrunk committed now old knows space mid goes.tidy in
+    let new = g.G.SectorView.space c.answer.new.base in
+    let after = g.G.Ground.outside c.answer.new.base in
+    let knows_new = g.V.Volume.knows c.answer.new.self new capacity in
+    let touches = c.answer.ensures.touches tells_there capacity goes.tidy.last goes.tidy.next shrunk there in
+    let answered = c.in_ok-step.ensures.answered tells_there capacity goes.tidy.last goes.tidy.next shrunk there in
+    let line = answered_line capacity knows_new goes.tidy.last goes.tidy.next shrunk new c.args.line.now c.loop.replies c.answer.new.replies c.in_ok-step.step (sym c.is_answered.ensures ∙ c.if-is_answered.true) answered in
+    record {
+      text = line.0;
+      replies = line.1 ∙ ap (λ (l : List ℕ). l ++ line.0) both.0;
+      goes = rested_answers capacity shrunk committed now old knows space mid goes knows_new c.args.line.now line.0 new after touches line.2;
+    }
+
+pub returns-then-is_answered-clause-still : goal.returns-then-is_answered-clause-still
+returns-then-is_answered-clause-still g c capacity serves taken =
+    let was = c.loop.invariant.serves capacity serves taken in
+    c.in_ok-step.ensures.still capacity was.0 was.1
+
+pub returns-then-is_answered-clause-tells : goal.returns-then-is_answered-clause-tells
+returns-then-is_answered-clause-tells g c = c.answer.ensures.tells ∙ c.loop.invariant.tells
+
+pub returns-then-waits-clause-goes : goal.returns-then-waits-clause-goes
+returns-then-waits-clause-goes g c tells capacity committed now shrunk stands =
+    let old = g.G.Ground.outside c.args.base.now in
+    let space = g.G.SectorView.space c.loop.base in
+    let mid = g.G.Ground.outside c.loop.base in
+    let knows = g.V.Volume.knows c.loop.volume space capacity in
+    let both = c.loop.invariant.goes tells capacity committed now shrunk stands in
+    let goes = both.1 in
+    let tells_there = c.loop.invariant.tells ∙ tells in
+    let there = stands_there capacity shrunk committed now old knows space mid goes.tidy in
+    let new = g.G.SectorView.space c.answer.new.base in
+    let after = g.G.Ground.outside c.answer.new.base in
+    let knows_new = g.V.Volume.knows c.answer.new.self new capacity in
+    let touches = c.answer.ensures.touches tells_there capacity goes.tidy.last goes.tidy.next shrunk there in
+    let answered = c.in_ok-step.ensures.answered tells_there capacity goes.tidy.last goes.tidy.next shrunk there in
+    let left = left_line capacity knows_new goes.tidy.last goes.tidy.next shrunk new c.args.line.now c.loop.replies c.answer.new.replies c.in_ok-step.step (sym c.is_answered.ensures ∙ c.if-is_answered.false) answered in
+    let rested = rested_left capacity shrunk committed now old knows space mid goes knows_new new after touches left.1 in
+    record {
+      text = [];
+      replies = left.0 ∙ both.0 ∙ sym (append-nil c.args.replies.now);
+      goes = tidy_goes capacity shrunk committed now old knows_new new after rested.tidy;
+    }
+
+pub returns-then-waits-clause-still : goal.returns-then-waits-clause-still
+returns-then-waits-clause-still g c capacity serves taken =
+    let was = c.loop.invariant.serves capacity serves taken in
+    c.in_ok-step.ensures.still capacity was.0 was.1
+
+pub returns-then-waits-clause-tells : goal.returns-then-waits-clause-tells
+returns-then-waits-clause-tells g c = c.answer.ensures.tells ∙ c.loop.invariant.tells
+
+pub make_room-requires-clause-serves : goal.make_room-requires-clause-serves
+make_room-requires-clause-serves g c =
+    let there = c.requires.serves in
+    let was = c.loop.invariant.serves there.0 there.1 there.2 in
+    let still = c.in_ok-step.ensures.still there.0 was.0 was.1 in
+    (there.0, still.0, still.1)
+
+pub make_room-requires-clause-stands : goal.make_room-requires-clause-stands
+make_room-requires-clause-stands g c tells_new =
+    let tells = subst (λ t. IsTrue t) (c.answer.ensures.tells ∙ c.loop.invariant.tells) tells_new in
+    let first = c.requires.stands tells in
+    let capacity = first.0 in
+    let committed = first.1 in
+    let now = first.2 in
+    let shrunk = first.3 in
+    let stands = first.4 in
+    let old = g.G.Ground.outside c.args.base.now in
+    let space = g.G.SectorView.space c.loop.base in
+    let mid = g.G.Ground.outside c.loop.base in
+    let knows = g.V.Volume.knows c.loop.volume space capacity in
+    let both = c.loop.invariant.goes tells capacity committed now shrunk stands in
+    let goes = both.1 in
+    let tells_there = c.loop.invariant.tells ∙ tells in
+    let there = stands_there capacity shrunk committed now old knows space mid goes.tidy in
+    let new = g.G.SectorView.space c.answer.new.base in
+    let after = g.G.Ground.outside c.answer.new.base in
+    let knows_new = g.V.Volume.knows c.answer.new.self new capacity in
+    let touches = c.answer.ensures.touches tells_there capacity goes.tidy.last goes.tidy.next shrunk there in
+    let answered = c.in_ok-step.ensures.answered tells_there capacity goes.tidy.last goes.tidy.next shrunk there in
+    let left = left_line capacity knows_new goes.tidy.last goes.tidy.next shrunk new c.args.line.now c.loop.replies c.answer.new.replies c.in_ok-step.step (sym c.is_answered.ensures ∙ c.if-is_answered.false) answered in
+    let rested = rested_left capacity shrunk committed now old knows space mid goes knows_new new after touches left.1 in
+    (capacity, rested.tidy.last, rested.tidy.next, shrunk, stands_there capacity shrunk committed now old knows_new new after rested.tidy)
+
+pub returns-in_err-make_room-clause-stops : goal.returns-in_err-make_room-clause-stops
+returns-in_err-make_room-clause-stops g c tells capacity committed now shrunk stands =
+    let old = g.G.Ground.outside c.args.base.now in
+    let space = g.G.SectorView.space c.loop.base in
+    let mid = g.G.Ground.outside c.loop.base in
+    let knows = g.V.Volume.knows c.loop.volume space capacity in
+    let both = c.loop.invariant.goes tells capacity committed now shrunk stands in
+    let goes = both.1 in
+    let tells_there = c.loop.invariant.tells ∙ tells in
+    let there = stands_there capacity shrunk committed now old knows space mid goes.tidy in
+    let new = g.G.SectorView.space c.answer.new.base in
+    let after = g.G.Ground.outside c.answer.new.base in
+    let knows_new = g.V.Volume.knows c.answer.new.self new capacity in
+    let touches = c.answer.ensures.touches tells_there capacity goes.tidy.last goes.tidy.next shrunk there in
+    let answered = c.in_ok-step.ensures.answered tells_there capacity goes.tidy.last goes.tidy.next shrunk there in
+    let left = left_line capacity knows_new goes.tidy.last goes.tidy.next shrunk new c.args.line.now c.loop.replies c.answer.new.replies c.in_ok-step.step (sym c.is_answered.ensures ∙ c.if-is_answered.false) answered in
+    let rested = rested_left capacity shrunk committed now old knows space mid goes knows_new new after touches left.1 in
+    on_err c.from_residual-in_err-make_room.result
+    (tidy_stops capacity shrunk committed now old knows_new new after rested.tidy [] (g.G.Ground.outside c.make_room.new.base)
+    (c.in_err-make_room.ensures.stops (c.answer.ensures.tells ∙ tells_there) capacity rested.tidy.last rested.tidy.next shrunk (stands_there capacity shrunk committed now old knows_new new after rested.tidy)))
+
+pub loop-preserved : goal.loop-preserved
+loop-preserved g c = record {
+  anchor = c.make_room.ensures.anchor ∙ c.answer.ensures.anchor ∙ c.loop.invariant.anchor;
+  tells = c.in_ok-make_room.ensures.tells ∙ c.answer.ensures.tells ∙ c.loop.invariant.tells;
+  serves = λ capacity serves taken.
+      let was = c.loop.invariant.serves capacity serves taken in
+      let still = c.in_ok-step.ensures.still capacity was.0 was.1 in
+      c.in_ok-make_room.ensures.still capacity still.0 still.1;
+  goes = λ tells capacity committed now shrunk stands.
+      let old = g.G.Ground.outside c.args.base.now in
+      let space = g.G.SectorView.space c.loop.base in
+      let mid = g.G.Ground.outside c.loop.base in
+      let knows = g.V.Volume.knows c.loop.volume space capacity in
+      let both = c.loop.invariant.goes tells capacity committed now shrunk stands in
+      let goes = both.1 in
+      let tells_there = c.loop.invariant.tells ∙ tells in
+      let there = stands_there capacity shrunk committed now old knows space mid goes.tidy in
+      let new = g.G.SectorView.space c.answer.new.base in
+      let after = g.G.Ground.outside c.answer.new.base in
+      let knows_new = g.V.Volume.knows c.answer.new.self new capacity in
+      let touches = c.answer.ensures.touches tells_there capacity goes.tidy.last goes.tidy.next shrunk there in
+      let answered = c.in_ok-step.ensures.answered tells_there capacity goes.tidy.last goes.tidy.next shrunk there in
+      let left = left_line capacity knows_new goes.tidy.last goes.tidy.next shrunk new c.args.line.now c.loop.replies c.answer.new.replies c.in_ok-step.step (sym c.is_answered.ensures ∙ c.if-is_answered.false) answered in
+      let rested = rested_left capacity shrunk committed now old knows space mid goes knows_new new after touches left.1 in
+      let end = g.G.SectorView.space c.make_room.new.base in (
+        left.0 ∙ both.0,
+        rested_both capacity shrunk committed now old knows_new new after rested (g.V.Volume.knows c.make_room.new.volume end capacity) end (g.G.Ground.outside c.make_room.new.base)
+            (c.in_ok-make_room.ensures.goes (c.answer.ensures.tells ∙ tells_there) capacity rested.tidy.last rested.tidy.next shrunk (stands_there capacity shrunk committed now old knows_new new after rested.tidy)),
+      );
+}
+
+pub returns-clause-goes : goal.returns-clause-goes
+returns-clause-goes g c tells capacity committed now shrunk stands =
+    let space = g.G.SectorView.space c.loop.base in
+    let both = c.loop.invariant.goes tells capacity committed now shrunk stands in
+    let goes = both.1 in
+    record {
+      text = [];
+      replies = both.0 ∙ sym (append-nil c.args.replies.now);
+      goes = tidy_goes capacity shrunk committed now (g.G.Ground.outside c.args.base.now) (g.V.Volume.knows c.loop.volume space capacity) space (g.G.Ground.outside c.loop.base) goes.tidy;
+    }
+
+pub returns-clause-still : goal.returns-clause-still
+returns-clause-still g c capacity serves taken = c.loop.invariant.serves capacity serves taken
+
+pub returns-clause-tells : goal.returns-clause-tells
+returns-clause-tells g c = c.loop.invariant.tells

@@ -1,0 +1,93 @@
+use Rattle.std.proofs.Common.{◌≡◌, ◌++◌, ◌+◌, ◌∷◌, [], ℕ, List, refl, sym, ◌∙◌, ap, subst, take, length, arith}
+use Rattle.std.specs.Prelude.{IsTrue, Bool, true, false}
+use Rattle.std.proofs.lemmas.List.{append-nil, take_more}
+use Rattle.hfs_serving.specs.Going.{ServesLine, ServesLines}
+use Rattle.hfs_volume.specs.Run.{shrunk_in}
+use Rattle.hfs_serving.proofs.Going.{lines_none, lines_on, lines_stop, on_err, stands_in_lines}
+use Rattle.hfs_serving.proofs.batch.serve_lines.Goals as goal
+
+pub loop-at-init : goal.loop-at-init
+loop-at-init g c = record {
+  anchor = refl;
+  tells = refl;
+  serves = λ capacity serves taken. (serves, taken);
+  goes = λ tells capacity committed now shrunk stands. lines_none capacity shrunk committed now (g.G.Ground.outside c.args.base.now) c.args.lines.now c.args.replies.now _ _ stands;
+}
+
+pub serve_line-requires-clause-serves : goal.serve_line-requires-clause-serves
+serve_line-requires-clause-serves g c =
+    let there = c.requires.serves in
+    let still = c.loop-at.invariant.serves there.0 there.1 there.2 in
+    (there.0, still.0, still.1)
+
+pub serve_line-requires-clause-stands : goal.serve_line-requires-clause-stands
+serve_line-requires-clause-stands g c tells_there =
+    let tells = subst (λ t. IsTrue t) c.loop-at.invariant.tells tells_there in
+    let there = c.requires.stands tells in
+    let first = c.loop-at.invariant.goes tells there.0 there.1 there.2 there.3 there.4 in
+    let space = g.G.SectorView.space c.loop-at.base in
+    (there.0, first.goes.last, first.goes.next, _, stands_in_lines there.0 there.3 there.1 there.2 (g.G.Ground.outside c.args.base.now) c.args.lines.now c.args.replies.now c.loop-at.at (g.V.Volume.knows c.loop-at.volume space there.0) c.loop-at.replies space (g.G.Ground.outside c.loop-at.base) first)
+
+pub returns-in_err-serve_line-clause-stops : goal.returns-in_err-serve_line-clause-stops
+returns-in_err-serve_line-clause-stops g c tells capacity committed now shrunk stands =
+    let old = g.G.Ground.outside c.args.base.now in
+    let space = g.G.SectorView.space c.loop-at.base in
+    let mid = g.G.Ground.outside c.loop-at.base in
+    let knows = g.V.Volume.knows c.loop-at.volume space capacity in
+    let first = c.loop-at.invariant.goes tells capacity committed now shrunk stands in
+    let there = stands_in_lines capacity shrunk committed now old c.args.lines.now c.args.replies.now c.loop-at.at knows c.loop-at.replies space mid first in
+    on_err c.from_residual.result
+    (lines_stop capacity shrunk committed now old c.args.lines.now c.args.replies.now c.loop-at.at knows c.loop-at.replies space mid first (g.G.Ground.outside c.serve_line.new.base)
+    (c.in_err-serve_line.ensures.stops (c.loop-at.invariant.tells ∙ tells) capacity first.goes.last first.goes.next _ there))
+
+pub returns-then-not-branch-clause-goes : goal.returns-then-not-branch-clause-goes
+returns-then-not-branch-clause-goes g c tells capacity committed now shrunk stands =
+    let old = g.G.Ground.outside c.args.base.now in
+    let space = g.G.SectorView.space c.loop-at.base in
+    let mid = g.G.Ground.outside c.loop-at.base in
+    let knows = g.V.Volume.knows c.loop-at.volume space capacity in
+    let first = c.loop-at.invariant.goes tells capacity committed now shrunk stands in
+    let there = stands_in_lines capacity shrunk committed now old c.args.lines.now c.args.replies.now c.loop-at.at knows c.loop-at.replies space mid first in
+    let new = g.G.SectorView.space c.serve_line.new.base in
+    let end = g.G.Ground.outside c.serve_line.new.base in
+    let knows_new = g.V.Volume.knows c.serve_line.new.volume new capacity in
+    let second = c.in_ok-serve_line.ensures.goes (c.loop-at.invariant.tells ∙ tells) capacity first.goes.last first.goes.next _ there in
+    lines_on capacity shrunk committed now old c.args.lines.now c.args.replies.now c.loop-at.at knows c.loop-at.replies space mid first knows_new false c.as_slice.result.now c.serve_line.new.replies new end c.loop-at.at (append-nil (take c.loop-at.at c.args.lines.now))
+    (subst (λ (b : Bool). ServesLine b capacity knows_new first.goes.last first.goes.next (shrunk_in shrunk first.goes.more) mid c.as_slice.result.now c.loop-at.replies c.serve_line.new.replies new end) c.if-not-branch.true second)
+
+pub loop-at-preserved : goal.loop-at-preserved
+loop-at-preserved g c = record {
+  anchor = c.serve_line.ensures.anchor ∙ c.loop-at.invariant.anchor;
+  tells = c.in_ok-serve_line.ensures.tells ∙ c.loop-at.invariant.tells;
+  serves = λ capacity serves taken. let was = c.loop-at.invariant.serves capacity serves taken in c.in_ok-serve_line.ensures.still capacity was.0 was.1;
+  goes = λ tells capacity committed now shrunk stands.
+      let old = g.G.Ground.outside c.args.base.now in
+      let space = g.G.SectorView.space c.loop-at.base in
+      let mid = g.G.Ground.outside c.loop-at.base in
+      let knows = g.V.Volume.knows c.loop-at.volume space capacity in
+      let first = c.loop-at.invariant.goes tells capacity committed now shrunk stands in
+      let there = stands_in_lines capacity shrunk committed now old c.args.lines.now c.args.replies.now c.loop-at.at knows c.loop-at.replies space mid first in
+      let new = g.G.SectorView.space c.serve_line.new.base in
+      let end = g.G.Ground.outside c.serve_line.new.base in
+      let knows_new = g.V.Volume.knows c.serve_line.new.volume new capacity in
+      let second = c.in_ok-serve_line.ensures.goes (c.loop-at.invariant.tells ∙ tells) capacity first.goes.last first.goes.next _ there in
+      let line = c.as_slice.result.now in
+      let next : take c.loop-at.at c.args.lines.now ++ line ∷ [] ≡ take (c.loop-at.at + 1) c.args.lines.now =
+      ap (λ (l : List ℕ). take c.loop-at.at c.args.lines.now ++ l ∷ []) (c.as_slice.ensures ∙ c.index-lines-at.is) ∙ sym (take_more c.args.lines.now c.loop-at.at c.index-lines-at.result c.loop-at-test.true) in
+      lines_on capacity shrunk committed now old c.args.lines.now c.args.replies.now c.loop-at.at knows c.loop-at.replies space mid first knows_new true line c.serve_line.new.replies new end (c.loop-at.at + 1) next
+      (subst (λ (b : Bool). ServesLine b capacity knows_new first.goes.last first.goes.next (shrunk_in shrunk first.goes.more) mid line c.loop-at.replies c.serve_line.new.replies new end) c.if-not-branch.false second);
+}
+
+pub returns-clause-goes : goal.returns-clause-goes
+returns-clause-goes g c tells capacity committed now shrunk stands =
+    let old = g.G.Ground.outside c.args.base.now in
+    let space = g.G.SectorView.space c.loop-at.base in
+    let all : c.loop-at.at ≡ length c.args.lines.now = omega (arith, c.loop-at-test.false, c.loop-at.auto.at-end) in
+    subst (λ (n : ℕ). ServesLines n capacity (g.V.Volume.knows c.loop-at.volume space capacity) committed now shrunk old c.args.lines.now c.args.replies.now c.loop-at.replies space (g.G.Ground.outside c.loop-at.base)) all
+    (c.loop-at.invariant.goes tells capacity committed now shrunk stands)
+
+pub returns-clause-still : goal.returns-clause-still
+returns-clause-still g c capacity serves taken = c.loop-at.invariant.serves capacity serves taken
+
+pub returns-clause-tells : goal.returns-clause-tells
+returns-clause-tells g c = c.loop-at.invariant.tells

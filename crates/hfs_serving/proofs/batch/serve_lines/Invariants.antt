@@ -1,0 +1,16 @@
+use Rattle.std.proofs.Common.{◌≡◌, ◌≤◌, ℕ}
+use Rattle.std.specs.Prelude.{Option, IsTrue}
+use Rattle.jnl_format.specs.Recovery.{Content}
+use Rattle.hfs_serving.specs.Going.{Stands, ServesLines}
+use Rattle.hfs_serving.proofs.batch.serve_lines.Given as goal
+
+abbrev pub invariant-loop-at : goal.invariant-loop-at
+invariant-loop-at g l =
+    record {
+      anchor : g.G.Ground.anchor l.base ≡ g.G.Ground.anchor l.fn.base;
+      tells : (g.G.SectorView.space l.base).tells ≡ (g.G.SectorView.space l.fn.base).tells;
+      serves : (capacity : ℕ) → g.G.Ground.serves l.fn.base capacity → g.G.Ground.taken l.fn.base ≤ capacity → g.G.Ground.serves l.base capacity × (g.G.Ground.taken l.base ≤ capacity);
+      goes : IsTrue (g.G.SectorView.space l.fn.base).tells → (capacity : ℕ) (committed now : Content) (shrunk : Option ℕ)
+          → Stands (g.V.Volume.knows l.fn.volume (g.G.SectorView.space l.fn.base) capacity) committed now shrunk (g.G.SectorView.space l.fn.base) (g.G.Ground.outside l.fn.base)
+          → ServesLines l.at capacity (g.V.Volume.knows l.volume (g.G.SectorView.space l.base) capacity) committed now shrunk (g.G.Ground.outside l.fn.base) l.lines l.fn.replies l.replies (g.G.SectorView.space l.base) (g.G.Ground.outside l.base);
+    }

@@ -1,0 +1,25 @@
+use Rattle.std.proofs.Common.{ap}
+use Rattle.hfs_serving.specs.Grounds.{anchor_of}
+use Rattle.hfs_serving.proofs.Grounding.{rests_on_disk, seen_outside, serves_still}
+use Rattle.hfs_serving.proofs.space.SpaceGround.look.Goals as goal
+
+pub returns-clause-still : goal.returns-clause-still
+returns-clause-still g c capacity first follows serves =
+    serves_still first.store.now (g.R.SectorDisk.state first.disk.now) c.args.self.now.store.now (g.R.SectorDisk.state c.args.self.now.disk.now) capacity follows serves
+
+pub returns-clause-room : goal.returns-clause-room
+returns-clause-room g c first follows = follows.room
+
+pub returns-clause-rests : goal.returns-clause-rests
+returns-clause-rests g c capacity serves tells =
+    let self = c.args.self.now in
+    rests_on_disk self.store.ghost_name self.disk.ghost_name self.store.now (g.R.SectorDisk.state self.disk.now) capacity (g.met.R.SectorDisk.well_formed self.disk.now) serves tells
+
+pub returns-clause-sees : goal.returns-clause-sees
+returns-clause-sees g c capacity committed first follows serves tells touches =
+    let self = c.args.self.now in
+    seen_outside committed first.store.ghost_name first.disk.ghost_name self.store.ghost_name self.disk.ghost_name first.store.now self.store.now (g.R.SectorDisk.state first.disk.now) (g.R.SectorDisk.state self.disk.now) capacity
+    (g.met.R.SectorDisk.well_formed self.disk.now) follows serves tells touches
+
+pub returns-clause-anchor : goal.returns-clause-anchor
+returns-clause-anchor g c first follows = ap anchor_of follows.plan

@@ -1,0 +1,42 @@
+use Rattle.std.proofs.Common.{◌≡◌, ◌++◌, [], ℕ, List, sym, ◌∙◌, ap, subst}
+use Rattle.std.specs.Prelude.{IsTrue}
+use Rattle.hfs_serving.specs.Going.{ServesBatch}
+use Rattle.hfs_serving.specs.Serving.{TellsOut}
+use Rattle.hfs_serving.proofs.Going.{on_err}
+use Rattle.hfs_serving.proofs.Stepping.{step_serves, step_stops, step_tells_partly}
+use Rattle.hfs_serving.proofs.telling.serve_step.Goals as goal
+
+pub returns-in_err-count-clause-stops : goal.returns-in_err-count-clause-stops
+returns-in_err-count-clause-stops g c tells capacity start shrunk stands =
+    on_err c.from_residual.result (step_stops capacity shrunk start (g.G.Ground.outside c.args.base.now) c.args.lines.now (g.G.Ground.outside c.serve_batch.new.base) (c.in_err-count.ensures.stops tells capacity start shrunk stands))
+
+pub returns-in-Ok-clause-serves : goal.returns-in-Ok-clause-serves
+returns-in-Ok-clause-serves g c tells capacity start shrunk stands =
+    let old = g.G.Ground.outside c.args.base.now in
+    let space = g.G.SectorView.space c.serve_batch.new.base in
+    let mid = g.G.Ground.outside c.serve_batch.new.base in
+    let knows = g.V.Volume.knows c.serve_batch.new.volume space capacity in
+    let after = g.G.Ground.outside c.tell_all.new.self in
+    let new = g.G.SectorView.space c.tell_all.new.self in
+    let count = c.in_ok-count.count in
+    let lines = c.args.lines.now in
+    let batch = subst (λ (l : List ℕ). ServesBatch count capacity knows start shrunk old lines l c.serve_batch.new.replies space mid) c.new-replies.ensures (c.in_ok-count.ensures.serves tells capacity start shrunk stands) in
+    let tells_there = subst (λ t. IsTrue t) (sym c.in_ok-count.ensures.tells) tells in
+    let told = subst (λ (l : List ℕ). TellsOut mid l after) c.as_slice.ensures (c.in-Ok.ensures.told tells_there) in
+    let whole = subst (λ (l : List ℕ). after.told ≡ mid.told ++ l) c.as_slice.ensures (c.in-Ok.ensures.whole tells_there) in
+    step_serves count capacity shrunk start old lines knows c.serve_batch.new.replies space mid batch after told (g.V.Volume.knows c.serve_batch.new.volume new capacity) new whole c.in-Ok.ensures.still
+    (λ committed now s known. c.look.ensures c.serve_batch.new.base capacity committed now s c.in-Ok.ensures.still known)
+
+pub returns-clause-stops : goal.returns-clause-stops
+returns-clause-stops g c tells capacity start shrunk stands =
+    let old = g.G.Ground.outside c.args.base.now in
+    let space = g.G.SectorView.space c.serve_batch.new.base in
+    let mid = g.G.Ground.outside c.serve_batch.new.base in
+    let knows = g.V.Volume.knows c.serve_batch.new.volume space capacity in
+    let after = g.G.Ground.outside c.tell_all.new.self in
+    let count = c.in_ok-count.count in
+    let lines = c.args.lines.now in
+    let batch = subst (λ (l : List ℕ). ServesBatch count capacity knows start shrunk old lines l c.serve_batch.new.replies space mid) c.new-replies.ensures (c.in_ok-count.ensures.serves tells capacity start shrunk stands) in
+    let tells_there = subst (λ t. IsTrue t) (sym c.in_ok-count.ensures.tells) tells in
+    let told = subst (λ (l : List ℕ). TellsOut mid l after) c.as_slice.ensures (c.in-Err.ensures.told tells_there) in
+    step_tells_partly count capacity shrunk start old lines knows c.serve_batch.new.replies space mid batch after told

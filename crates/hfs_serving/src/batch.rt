@@ -1,0 +1,134 @@
+//! A batch: lines are answered in memory, housekeeping rests before each, and one commit makes all durable.
+ghost use Rattle.std.specs.Prelude.{◌≡◌, ◌≤◌, [], ℕ, Bool, Option, IsTrue, IfOk, OnOk, OnErr, length};
+ghost use Rattle.jnl_format.specs.Recovery.{Content};
+ghost use Rattle.hfs_serving.specs.Going.{GoesTidy, ServesBatch, ServesLine, ServesLines, SomeStands, Stands, StopsLines, StopsOn, is_answered};
+
+use crate::basis::Ground;
+use crate::housekeeping::tidy;
+use crate::volume::{Step, Volume};
+use hx_bytes::{Bytes, Trouble};
+
+/// Serves a line, before which housekeeping comes to rest. Where the line isn't the first of its batch and wants a commit, it is left for the next
+/// batch. Answers whether it was served.
+pub fn serve_line<V: Volume, G: Ground>(
+    volume: &mut V,
+    base: &mut G,
+    line: &[u8],
+    first: bool,
+    replies: &mut Bytes,
+) -> Result<bool, Trouble>
+    requires serves { (capacity : ℕ) × G.serves base.old capacity × (G.taken base.old ≤ capacity) }
+    requires stands { IsTrue (G.space base.old).tells → SomeStands (V.knows volume.old (G.space base.old)) (G.space base.old) (G.outside base.old) }
+    ensures goes { IsTrue (G.space base.old).tells → (capacity : ℕ) (committed now : Content) (shrunk : Option ℕ) → Stands (V.knows volume.old (G.space base.old) capacity) committed now shrunk (G.space base.old) (G.outside base.old)
+        → IfOk result (λ answered. ServesLine answered capacity (V.knows volume.new (G.space base.new) capacity) committed now shrunk (G.outside base.old) line.now replies.old replies.new (G.space base.new) (G.outside base.new)) }
+    ensures stops { IsTrue (G.space base.old).tells → (capacity : ℕ) (committed now : Content) (shrunk : Option ℕ) → Stands (V.knows volume.old (G.space base.old) capacity) committed now shrunk (G.space base.old) (G.outside base.old)
+        → OnErr result (StopsOn capacity committed now shrunk (G.outside base.old) [] (G.outside base.new)) }
+    ensures still { (capacity : ℕ) → G.serves base.old capacity → G.taken base.old ≤ capacity → OnOk result (G.serves base.new capacity × (G.taken base.new ≤ capacity)) }
+    ensures tells { OnOk result ((G.space base.new).tells ≡ (G.space base.old).tells) }
+    ensures anchor { G.anchor base.new ≡ G.anchor base.old }
+{
+    if !tidy(volume, base)? {
+        return Ok(false);
+    }
+    for _ in 0..4_294_967_295u64 {
+        let step = volume.answer(base, line, replies)?;
+        if is_answered(step) {
+            return Ok(true);
+        }
+        if waits(step, first) {
+            return Ok(false);
+        }
+        make_room(volume, base, step == Step::CommitFirst)?;
+    }
+    Ok(false)
+}
+
+fn is_answered(step: Step) -> bool
+    ensures { result ≡ is_answered step }
+{
+    match step {
+        Step::Answered => true,
+        Step::Again => false,
+        Step::CommitFirst => false,
+    }
+}
+
+// Whether the line is left for the next batch.
+fn waits(step: Step, first: bool) -> bool {
+    step == Step::CommitFirst && !first
+}
+
+// Makes a commit, where one is wanted.
+fn make_room<V: Volume, G: Ground>(
+    volume: &mut V,
+    base: &mut G,
+    wanted: bool,
+) -> Result<(), Trouble>
+    requires serves { (capacity : ℕ) × G.serves base.old capacity × (G.taken base.old ≤ capacity) }
+    requires stands { IsTrue (G.space base.old).tells → SomeStands (V.knows volume.old (G.space base.old)) (G.space base.old) (G.outside base.old) }
+    ensures goes { IsTrue (G.space base.old).tells → (capacity : ℕ) (committed now : Content) (shrunk : Option ℕ) → Stands (V.knows volume.old (G.space base.old) capacity) committed now shrunk (G.space base.old) (G.outside base.old)
+        → OnOk result (GoesTidy capacity (V.knows volume.new (G.space base.new) capacity) committed now shrunk (G.outside base.old) (G.space base.new) (G.outside base.new)) }
+    ensures stops { IsTrue (G.space base.old).tells → (capacity : ℕ) (committed now : Content) (shrunk : Option ℕ) → Stands (V.knows volume.old (G.space base.old) capacity) committed now shrunk (G.space base.old) (G.outside base.old)
+        → OnErr result (StopsOn capacity committed now shrunk (G.outside base.old) [] (G.outside base.new)) }
+    ensures still { (capacity : ℕ) → G.serves base.old capacity → G.taken base.old ≤ capacity → OnOk result (G.serves base.new capacity × (G.taken base.new ≤ capacity)) }
+    ensures tells { OnOk result ((G.space base.new).tells ≡ (G.space base.old).tells) }
+    ensures anchor { G.anchor base.new ≡ G.anchor base.old }
+{
+    if !wanted {
+        return Ok(());
+    }
+    volume.commit(base)?;
+    Ok(())
+}
+
+// Serves lines until one is left for the next batch. Answers how many were served.
+fn serve_lines<V: Volume, G: Ground>(
+    volume: &mut V,
+    base: &mut G,
+    lines: &[Bytes],
+    replies: &mut Bytes,
+) -> Result<usize, Trouble>
+    requires serves { (capacity : ℕ) × G.serves base.old capacity × (G.taken base.old ≤ capacity) }
+    requires stands { IsTrue (G.space base.old).tells → SomeStands (V.knows volume.old (G.space base.old)) (G.space base.old) (G.outside base.old) }
+    ensures goes { IsTrue (G.space base.old).tells → (capacity : ℕ) (committed now : Content) (shrunk : Option ℕ) → Stands (V.knows volume.old (G.space base.old) capacity) committed now shrunk (G.space base.old) (G.outside base.old)
+        → IfOk result (λ count. ServesLines count capacity (V.knows volume.new (G.space base.new) capacity) committed now shrunk (G.outside base.old) lines.now replies.old replies.new (G.space base.new) (G.outside base.new)) }
+    ensures stops { IsTrue (G.space base.old).tells → (capacity : ℕ) (committed now : Content) (shrunk : Option ℕ) → Stands (V.knows volume.old (G.space base.old) capacity) committed now shrunk (G.space base.old) (G.outside base.old)
+        → OnErr result (StopsLines capacity committed now shrunk (G.outside base.old) lines.now (G.outside base.new)) }
+    ensures few { IfOk result (λ count. count ≤ length lines.now) }
+    ensures still { (capacity : ℕ) → G.serves base.old capacity → G.taken base.old ≤ capacity → OnOk result (G.serves base.new capacity × (G.taken base.new ≤ capacity)) }
+    ensures tells { OnOk result ((G.space base.new).tells ≡ (G.space base.old).tells) }
+    ensures anchor { G.anchor base.new ≡ G.anchor base.old }
+{
+    for at in 0..lines.len() {
+        if !serve_line(volume, base, lines[at].as_slice(), at == 0, replies)? {
+            return Ok(at);
+        }
+    }
+    Ok(lines.len())
+}
+
+/// Serves lines as one batch, and adds their replies, which are to be told only behind it. Its end is one commit of all that they changed. A line
+/// that wants a commit before it ends the batch, unless it is the first. Answers how many of the lines were served.
+pub fn serve_batch<V: Volume, G: Ground>(
+    volume: &mut V,
+    base: &mut G,
+    lines: &[Bytes],
+    replies: &mut Bytes,
+) -> Result<usize, Trouble>
+    requires serves { (capacity : ℕ) × G.serves base.old capacity × (G.taken base.old ≤ capacity) }
+    requires stands { IsTrue (G.space base.old).tells → SomeStands (V.knows volume.old (G.space base.old)) (G.space base.old) (G.outside base.old) }
+    // At Ok the first lines are served, and a crash leaves all that they changed.
+    ensures serves { IsTrue (G.space base.old).tells → (capacity : ℕ) (start : Content) (shrunk : Option ℕ) → Stands (V.knows volume.old (G.space base.old) capacity) start start shrunk (G.space base.old) (G.outside base.old)
+        → IfOk result (λ count. ServesBatch count capacity (V.knows volume.new (G.space base.new) capacity) start shrunk (G.outside base.old) lines.now replies.old replies.new (G.space base.new) (G.outside base.new)) }
+    // A fault leaves what was committed, or the content after some lines.
+    ensures stops { IsTrue (G.space base.old).tells → (capacity : ℕ) (start : Content) (shrunk : Option ℕ) → Stands (V.knows volume.old (G.space base.old) capacity) start start shrunk (G.space base.old) (G.outside base.old)
+        → OnErr result (StopsLines capacity start start shrunk (G.outside base.old) lines.now (G.outside base.new)) }
+    ensures few { IfOk result (λ count. count ≤ length lines.now) }
+    ensures still { (capacity : ℕ) → G.serves base.old capacity → G.taken base.old ≤ capacity → OnOk result (G.serves base.new capacity × (G.taken base.new ≡ 0)) }
+    ensures tells { OnOk result ((G.space base.new).tells ≡ (G.space base.old).tells) }
+    ensures anchor { G.anchor base.new ≡ G.anchor base.old }
+{
+    let count = serve_lines(volume, base, lines, replies)?;
+    volume.commit(base)?;
+    Ok(count)
+}

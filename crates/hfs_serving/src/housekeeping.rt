@@ -1,0 +1,54 @@
+//! Housekeeping within a batch.
+ghost use Rattle.std.specs.Prelude.{◌≡◌, ◌≤◌, [], ℕ, Option, IsTrue, IfOk, OnOk, OnErr};
+ghost use Rattle.jnl_format.specs.Recovery.{Content};
+ghost use Rattle.hfs_serving.specs.Going.{GoesRested, GoesTidy, SomeStands, Stands, StopsOn};
+
+use crate::basis::Ground;
+use crate::volume::{Next, Volume};
+use hx_bytes::Trouble;
+
+/// Makes a step of housekeeping, or the commit before it. Answers whether it rests.
+pub fn work<V: Volume, G: Ground>(volume: &mut V, base: &mut G) -> Result<bool, Trouble>
+    requires serves { (capacity : ℕ) × G.serves base.old capacity × (G.taken base.old ≤ capacity) }
+    requires stands { IsTrue (G.space base.old).tells → SomeStands (V.knows volume.old (G.space base.old)) (G.space base.old) (G.outside base.old) }
+    ensures goes { IsTrue (G.space base.old).tells → (capacity : ℕ) (committed now : Content) (shrunk : Option ℕ) → Stands (V.knows volume.old (G.space base.old) capacity) committed now shrunk (G.space base.old) (G.outside base.old)
+        → OnOk result (GoesTidy capacity (V.knows volume.new (G.space base.new) capacity) committed now shrunk (G.outside base.old) (G.space base.new) (G.outside base.new)) }
+    ensures rests { IsTrue (G.space base.old).tells → (capacity : ℕ) (committed now : Content) (shrunk : Option ℕ) → Stands (V.knows volume.old (G.space base.old) capacity) committed now shrunk (G.space base.old) (G.outside base.old)
+        → IfOk result (λ rests. IsTrue rests → GoesRested capacity (V.knows volume.new (G.space base.new) capacity) committed now shrunk (G.outside base.old) (G.space base.new) (G.outside base.new)) }
+    ensures stops { IsTrue (G.space base.old).tells → (capacity : ℕ) (committed now : Content) (shrunk : Option ℕ) → Stands (V.knows volume.old (G.space base.old) capacity) committed now shrunk (G.space base.old) (G.outside base.old)
+        → OnErr result (StopsOn capacity committed now shrunk (G.outside base.old) [] (G.outside base.new)) }
+    ensures still { (capacity : ℕ) → G.serves base.old capacity → G.taken base.old ≤ capacity → OnOk result (G.serves base.new capacity × (G.taken base.new ≤ capacity)) }
+    ensures tells { OnOk result ((G.space base.new).tells ≡ (G.space base.old).tells) }
+    ensures anchor { G.anchor base.new ≡ G.anchor base.old }
+{
+    match volume.tidy_step(base)? {
+        Next::Rest => Ok(true),
+        Next::Made => Ok(false),
+        Next::CommitFirst => {
+            volume.commit(base)?;
+            Ok(false)
+        }
+    }
+}
+
+/// Reclaims until nothing is left to reclaim. Answers whether it came to rest, which it surely does in as many steps as a volume has blocks and records.
+pub fn tidy<V: Volume, G: Ground>(volume: &mut V, base: &mut G) -> Result<bool, Trouble>
+    requires serves { (capacity : ℕ) × G.serves base.old capacity × (G.taken base.old ≤ capacity) }
+    requires stands { IsTrue (G.space base.old).tells → SomeStands (V.knows volume.old (G.space base.old)) (G.space base.old) (G.outside base.old) }
+    ensures goes { IsTrue (G.space base.old).tells → (capacity : ℕ) (committed now : Content) (shrunk : Option ℕ) → Stands (V.knows volume.old (G.space base.old) capacity) committed now shrunk (G.space base.old) (G.outside base.old)
+        → OnOk result (GoesTidy capacity (V.knows volume.new (G.space base.new) capacity) committed now shrunk (G.outside base.old) (G.space base.new) (G.outside base.new)) }
+    ensures rests { IsTrue (G.space base.old).tells → (capacity : ℕ) (committed now : Content) (shrunk : Option ℕ) → Stands (V.knows volume.old (G.space base.old) capacity) committed now shrunk (G.space base.old) (G.outside base.old)
+        → IfOk result (λ rests. IsTrue rests → GoesRested capacity (V.knows volume.new (G.space base.new) capacity) committed now shrunk (G.outside base.old) (G.space base.new) (G.outside base.new)) }
+    ensures stops { IsTrue (G.space base.old).tells → (capacity : ℕ) (committed now : Content) (shrunk : Option ℕ) → Stands (V.knows volume.old (G.space base.old) capacity) committed now shrunk (G.space base.old) (G.outside base.old)
+        → OnErr result (StopsOn capacity committed now shrunk (G.outside base.old) [] (G.outside base.new)) }
+    ensures still { (capacity : ℕ) → G.serves base.old capacity → G.taken base.old ≤ capacity → OnOk result (G.serves base.new capacity × (G.taken base.new ≤ capacity)) }
+    ensures tells { OnOk result ((G.space base.new).tells ≡ (G.space base.old).tells) }
+    ensures anchor { G.anchor base.new ≡ G.anchor base.old }
+{
+    for _ in 0..17_179_869_184u64 {
+        if work(volume, base)? {
+            return Ok(true);
+        }
+    }
+    Ok(false)
+}

@@ -1,0 +1,82 @@
+//! What is told beside a ground, and a batch whose replies are told at its end.
+ghost use Rattle.std.specs.Prelude.{◌≡◌, ◌≤◌, ◌++◌, ℕ, Option, IsTrue, IfOk, OnOk, OnErr, length};
+ghost use Rattle.jnl_format.specs.Recovery.{Content};
+ghost use Rattle.hfs_serving.specs.Going.{SomeStands, Stands};
+ghost use Rattle.hfs_serving.specs.Serving.{TellsOut};
+ghost use Rattle.hfs_serving.specs.Steps.{CrashesStep, IsStill, ServesStep};
+
+use crate::basis::Ground;
+use crate::batch::serve_batch;
+use crate::volume::Volume;
+use hx_bytes::{Bytes, Failed, Trouble};
+use std::alloc::Global;
+
+/// A ground with a sink beside it, on the same clock.
+pub trait Teller: Ground {
+    /// Tells all of the bytes, or a front of them where the sink fails.
+    fn tell_all(&mut self, bytes: &[u8]) -> Result<(), Failed>
+        ensures told { IsTrue (Self.space self.old).tells → TellsOut (Self.outside self.old) bytes.now (Self.outside self.new) }
+        ensures whole { IsTrue (Self.space self.old).tells → OnOk result ((Self.outside self.new).told ≡ (Self.outside self.old).told ++ bytes.now) }
+        ensures still { IsStill (Self.space self.old) (Self.space self.new) }
+        ensures serves { (capacity : ℕ) → Self.serves self.old capacity → Self.serves self.new capacity }
+        ensures taken { Self.taken self.new ≡ Self.taken self.old }
+        ensures anchor { Self.anchor self.new ≡ Self.anchor self.old };
+}
+
+/// Why a run ended before its last line.
+#[derive(Clone, Copy, PartialEq, Eq)]
+pub enum Stop {
+    /// The disk failed.
+    Disk,
+    /// There was no memory outside of a command.
+    Memory,
+    /// The sink failed.
+    Sink,
+    /// More steps were made for one line than a volume has blocks and records.
+    Steps,
+}
+
+impl From<Trouble> for Stop {
+    ghost use Rattle.std.specs.Prelude.{◌≡◌};
+    ghost use Rattle.hfs_serving.specs.Steps.{stop_of};
+
+    ghost from_gives = { λ trouble stop. stop ≡ stop_of trouble };
+
+    fn from(trouble: Trouble) -> Self {
+        match trouble {
+            Trouble::Disk => Stop::Disk,
+            Trouble::Memory => Stop::Memory,
+        }
+    }
+}
+
+/// Serves lines as one batch, and tells their replies once all that they changed is committed. Answers how many of the lines were served.
+pub fn serve_step<V: Volume, G: Teller>(
+    alloc: Global,
+    volume: &mut V,
+    base: &mut G,
+    lines: &[Bytes],
+) -> Result<usize, Stop>
+    requires serves { (capacity : ℕ) × G.serves base.old capacity × (G.taken base.old ≤ capacity) }
+    requires stands { IsTrue (G.space base.old).tells → SomeStands (V.knows volume.old (G.space base.old)) (G.space base.old) (G.outside base.old) }
+    // At Ok the first lines are served and answered, and the volume stands for what they left, which is committed.
+    ensures serves { IsTrue (G.space base.old).tells → (capacity : ℕ) (start : Content) (shrunk : Option ℕ) → Stands (V.knows volume.old (G.space base.old) capacity) start start shrunk (G.space base.old) (G.outside base.old)
+        → IfOk result (λ count. ServesStep count capacity (V.knows volume.new (G.space base.new) capacity) start shrunk (G.outside base.old) lines.now (G.space base.new) (G.outside base.new)) }
+    // A fault leaves a run of some of the lines, of which each that was answered is there after a crash.
+    ensures stops { IsTrue (G.space base.old).tells → (capacity : ℕ) (start : Content) (shrunk : Option ℕ) → Stands (V.knows volume.old (G.space base.old) capacity) start start shrunk (G.space base.old) (G.outside base.old)
+        → OnErr result (CrashesStep capacity start shrunk (G.outside base.old) lines.now (G.outside base.new)) }
+    ensures few { IfOk result (λ count. count ≤ length lines.now) }
+    ensures still { (capacity : ℕ) → G.serves base.old capacity → G.taken base.old ≤ capacity → OnOk result (G.serves base.new capacity × (G.taken base.new ≡ 0)) }
+    ensures tells { OnOk result ((G.space base.new).tells ≡ (G.space base.old).tells) }
+    ensures anchor { G.anchor base.new ≡ G.anchor base.old }
+{
+    let mut replies = Bytes::new(alloc);
+    let count = serve_batch(volume, base, lines, &mut replies)?;
+    match base.tell_all(replies.as_slice()) {
+        Ok(()) => {
+            volume.look(base);
+            Ok(count)
+        }
+        Err(_) => Err(Stop::Sink),
+    }
+}
