@@ -1,0 +1,5 @@
+pub mod Sizes
+pub mod Results
+pub mod Writes
+pub mod Leaves
+pub mod Accepting

@@ -1,0 +1,39 @@
+-- The places worked out for some sizes, and what a reader finds in the texts.
+use Rattle.std.specs.Prelude.{◌≡◌, ℕ, List, [], ◌∷◌, codes, None}
+use Rattle.hx_bytes.specs.declared.extents.Extent.{Extent}
+use Rattle.volume_header.specs.Refusal.{header_refusal}
+use Rattle.hfs_model.specs.Thin as thin
+use Rattle.volume_make.specs.declared.layout.Layout.{Layout}
+use Rattle.volume_make.specs.Layout.{CanBe, layout_of, free_of, end_of}
+use Rattle.volume_make.specs.Texts.{fresh_header, info_text, journal_text, empty_tree, catalog_tree, leaf_items}
+
+-- the first block and the number of blocks of a part
+abbrev pub run : ℕ → ℕ → Extent
+run start count = record { start = start; count = count }
+
+-- the parts in order, the last blocks, and the first free block
+abbrev pub parts_of : Layout → List Extent
+parts_of layout = layout.bitmap ∷ layout.info ∷ layout.journal ∷ layout.extents ∷ layout.attributes ∷ layout.catalog ∷ layout.last ∷ []
+
+-- the numbers of blocks: all, and those free
+abbrev pub blocks_of : Layout → List ℕ
+blocks_of layout = layout.total ∷ end_of layout.catalog ∷ free_of layout ∷ []
+
+-- these are its parts, its blocks, the first free one and the number of free ones
+pub record IsWorked (sectors block length : ℕ) (parts : List Extent) (blocks : List ℕ) : Type 0 where
+  pub parts_are : parts_of (layout_of sectors block length) ≡ parts
+  pub blocks_are : blocks_of (layout_of sectors block length) ≡ blocks
+
+-- Whatever the sizes, the header is one that a reader accepts on a disk of so many sectors.
+abbrev pub HeaderAccepted : Type 0
+HeaderAccepted = (sectors block length : ℕ) → CanBe sectors block length → header_refusal (fresh_header (layout_of sectors block length)) sectors ≡ None
+
+-- With 16,384 sectors, blocks of 4,096 bytes, a journal of 2,048 sectors and the name `untitled` the records, the trees and the
+-- journal are those of the thin volume.
+pub record IsThinVolume (layout : Layout) : Type 0 where
+  pub info : info_text layout ≡ thin.info_text
+  pub journal : journal_text layout ≡ thin.journal_text 512 512
+  pub extents : empty_tree layout.block 10 2 ≡ thin.extents_tree
+  pub attributes : empty_tree layout.block 266 6 ≡ thin.attributes_tree
+  pub catalog : catalog_tree layout.block ≡ thin.catalog_tree 0
+  pub leaf : leaf_items layout (codes "untitled") ≡ thin.leaf_items []

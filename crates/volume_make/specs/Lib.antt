@@ -1,0 +1,5 @@
+pub mod Refusal
+pub mod Layout
+pub mod Texts
+pub mod Written
+pub mod Laws

@@ -1,0 +1,19 @@
+//! Makes a volume: where its parts lie, what they hold, and the writes that put it on a disk.
+#![tactic(auto)]
+
+mod fault;
+mod formatting;
+mod laws;
+mod layout;
+mod leaf;
+mod refusing;
+mod texts;
+mod trees;
+mod writing;
+
+pub use fault::FormatFault;
+pub use formatting::format;
+pub use hfs_volume::Summary;
+pub use laws::{fresh_header_is_accepted, places_are_worked, usual_volume_is_thin};
+pub use layout::{Layout, layout_of};
+pub use refusing::format_refusal;
