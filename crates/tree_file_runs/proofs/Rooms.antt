@@ -9,7 +9,7 @@ use Rattle.btree_file.specs.Place.{sectors_at}
 use Rattle.btree_file.specs.State.{sectors_of_tree, per_node, is_written, state_of}
 use Rattle.btree_file.specs.declared.tree.TreeFile.{TreeFile}
 use Rattle.btree_file.proofs.RoomLaws.{all_from}
-use Rattle.tree_file_runs.specs.Untold.{told_none}
+use Rattle.alloc_bitmap.specs.Untold.{told_none}
 
 -- to write any node of a tree
 pub untold_room : (names : List ℕ) (tree : TreeFile) (sectors most : ℕ) → HasRoom most (state_of names tree (told_none sectors))

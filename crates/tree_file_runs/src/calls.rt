@@ -4,7 +4,7 @@ ghost use Rattle.btree_edit.specs.Desk.{IsDeskOf};
 ghost use Rattle.btree_file.specs.Frame.{SameFile};
 ghost use Rattle.btree_file.specs.Growth.{HasWholeNodes, RunInside, nodes_with};
 ghost use Rattle.btree_file.specs.Standing.{numbers_of, LiesInside};
-ghost use Rattle.tree_file_runs.specs.Untold.{told_none};
+ghost use Rattle.alloc_bitmap.specs.Untold.{told_none};
 
 use crate::sectors::Sectors;
 use btree_edit::{Desk, Found, Inserted, Removed, find, insert, next, remove, replace};

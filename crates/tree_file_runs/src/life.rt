@@ -276,11 +276,10 @@ fn put_back(start: Plot, kept: &[Sector], before: &TreeShape, bits: u32) -> Resu
     if !plot.undo(kept) {
         return Err(Flaw::Growth);
     }
-    if plot.shape() == *before && plot.map_bits() == bits {
-        Ok(plot)
-    } else {
-        Err(Flaw::Numbers)
+    if plot.map_bits() != bits {
+        return Err(Flaw::Numbers);
     }
+    with_shape(plot, before)
 }
 
 /// Looks through a tree, and once more behind an attach.

@@ -4,7 +4,7 @@ ghost use Rattle.btree_edit.specs.Desk.{IsDeskOf};
 ghost use Rattle.btree_file.specs.Growth.{HasWholeNodes, RunInside, nodes_in, nodes_with};
 ghost use Rattle.btree_file.specs.Place.{IsInside, fork_sectors};
 ghost use Rattle.btree_file.specs.Standing.{numbers_of, LiesInside};
-ghost use Rattle.tree_file_runs.specs.Untold.{told_none};
+ghost use Rattle.alloc_bitmap.specs.Untold.{told_none};
 
 use crate::calls::{add, change, find_next, find_pair, lengthen, read_again, take_out};
 use crate::sectors::Sectors;

@@ -11,7 +11,7 @@ pub struct Sectors {
 }
 
 impl SectorView for Sectors {
-    ghost use Rattle.tree_file_runs.specs.Untold.{told_none};
+    ghost use Rattle.alloc_bitmap.specs.Untold.{told_none};
 
     ghost space = { λ s. told_none (length s.list.items) };
 

@@ -1,6 +1,7 @@
 pub mod Alike
 pub mod Begun
 pub mod Bridging
+pub mod CatalogEdited
 pub mod EditsOn
 pub mod Facts
 pub mod Gauging

@@ -4,6 +4,7 @@
 mod attach;
 mod attaching;
 mod beginning;
+mod changing;
 mod editing;
 mod extents;
 mod header;

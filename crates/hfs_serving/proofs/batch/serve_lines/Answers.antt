@@ -8,6 +8,7 @@ use Rattle.hfs_serving.proofs.batch.serve_lines.Goals as goal
 
 pub loop-at-init : goal.loop-at-init
 loop-at-init g c = record {
+  most = omega arith;
   anchor = refl;
   tells = refl;
   serves = λ capacity serves taken. (serves, taken);
@@ -57,6 +58,7 @@ returns-then-not-branch-clause-goes g c tells capacity committed now shrunk stan
 
 pub loop-at-preserved : goal.loop-at-preserved
 loop-at-preserved g c = record {
+  most = omega (arith, c.if-at-eq-MOST_LINES.false, c.loop-at.invariant.most);
   anchor = c.serve_line.ensures.anchor ∙ c.loop-at.invariant.anchor;
   tells = c.in_ok-serve_line.ensures.tells ∙ c.loop-at.invariant.tells;
   serves = λ capacity serves taken. let was = c.loop-at.invariant.serves capacity serves taken in c.in_ok-serve_line.ensures.still capacity was.0 was.1;
