@@ -1,4 +1,5 @@
 pub mod Alike
+pub mod Begun
 pub mod Bridging
 pub mod EditsOn
 pub mod Facts

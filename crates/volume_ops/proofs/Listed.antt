@@ -1,9 +1,10 @@
 -- What commands answer over a settled volume is what the step answers on its tree.
 use Rattle.std.proofs.Common.{◌≡◌, ℕ, IsTrue, true, false, List, refl, sym, ◌∙◌, ap, subst, arith}
-use Rattle.std.specs.Prelude.{◌||◌, Result, Ok, Err, IfOk, All, if◌then◌else◌, ◌≤◌, ◌∷◌, [], length, zero, suc}
+use Rattle.std.specs.Prelude.{◌||◌, Option, Result, Ok, Err, IfOk, All, if◌then◌else◌, ◌≤◌, ◌∷◌, [], length, zero, suc}
 use Rattle.std.specs.List.{flat_map}
 use Rattle.hx_bytes.specs.declared.faults.Trouble.{Trouble}
 use Rattle.sector_disk.specs.Lists.{Content}
+use Rattle.attributes.specs.Values.{value_at}
 use Rattle.btree_node.specs.Levels.{Pair}
 use Rattle.btree_file.specs.Standing.{pairs_in}
 use Rattle.btree_file.specs.State.{sectors_of_tree}
@@ -22,11 +23,11 @@ use Rattle.hfs_volume.specs.Content.{VolumeState, volume_of, records_of, overflo
 use Rattle.hfs_volume.specs.TreeOf.{tree_in, tree_of, seen_entry, threaded_node, file_bytes}
 use Rattle.volume_ops.specs.Listing.{replied, names_in}
 use Rattle.volume_ops.specs.Lists.{lists_of}
-use Rattle.volume_ops.specs.Owning.{owner_in, attributes_in, names_owned}
+use Rattle.volume_ops.specs.Owning.{owner_in, attributes_in, names_owned, value_told, value_owned}
 use Rattle.volume_ops.specs.Standing.{HoldsTrees, IsSettled}
 use Rattle.volume_ops.specs.declared.volume.Volume.{Volume}
 use Rattle.volume_ops.proofs.Rising.{settled_is_plain, settled_sorted}
-use Rattle.volume_ops.proofs.Walked.{listing_same, owned_same}
+use Rattle.volume_ops.proofs.Walked.{listing_same, owned_same, value_same}
 
 -- the names of a path are short
 pub fits_short : (path : List (List ℕ)) → FitsPath path → All (λ (name : List ℕ). length name ≤ 255) path
@@ -37,10 +38,6 @@ fits_short (name ∷ path) fits (suc k) d low = fits_short path fits.1 k d (omeg
 entries_are : (content : Content) → (tree_of content).entries ≡ flat_map (seen_entry (records_of (volume_of content))) (records_of (volume_of content))
 unfolding tree_of tree_in
 entries_are content = refl
-
--- a path that begins with one of the volume's own names is refused
-pub refused_private : (tree : PlainTree) (path : List (List ℕ)) → is_private_path path ≡ true → reply.No refusal.Private ≡ (step_line tree (Ok (command.Ls path))).0
-refused_private tree path own = sym (ap (λ b. (if b || false then (reply.No refusal.Private, tree) else step tree (command.Ls path)).0) own)
 
 pub listing_is : SoundHasPlainTree → (v : Volume) (content : Content) → HoldsTrees v content → IsSettled v content → (path : List (List ℕ)) → is_private_path path ≡ false → FitsPath path
     → names_in (pairs_in (sectors_of_tree v.catalog.file) content) path ≡ (step_line (tree_of content) (Ok (command.Ls path))).0
@@ -53,9 +50,6 @@ listing_is law v content holds settled path not_own fits =
 nodes_are : (content : Content) → (tree_of content).nodes ≡ flat_map (threaded_node (attributes_of (volume_of content)) (records_of (volume_of content)) (file_bytes content)) (records_of (volume_of content))
 unfolding tree_of tree_in
 nodes_are content = refl
-
-pub refused_owner : (tree : PlainTree) (path : List (List ℕ)) → is_private_path path ≡ true → reply.No refusal.Private ≡ (step_line tree (Ok (command.LsAttr path))).0
-refused_owner tree path own = sym (ap (λ b. (if b || false then (reply.No refusal.Private, tree) else step tree (command.LsAttr path)).0) own)
 
 pub owned_is : SoundHasPlainTree → (v : Volume) (content : Content) → HoldsTrees v content → IsSettled v content → (path : List (List ℕ)) → is_private_path path ≡ false → FitsPath path
     → names_owned (lists_of v content).catalog_pairs v.private (lists_of v content).attribute_pairs path ≡ (step_line (tree_of content) (Ok (command.LsAttr path))).0
@@ -76,3 +70,23 @@ module _ (law : SoundHasPlainTree) (v : Volume) (content : Content) (holds : Hol
 
     pub told_why : (why : Refusal) → said ≡ Err why → reply.No why ≡ (step_line (tree_of content) (Ok (command.LsAttr path))).0
     told_why why err = ap (λ r. replied r (λ n. reply.Listing (attributes_in (lists_of v content).attribute_pairs n))) (sym err ∙ found) ∙ owned_is law v content holds settled path not_own fits
+
+pub value_is : SoundHasPlainTree → (v : Volume) (content : Content) → HoldsTrees v content → IsSettled v content → (path : List (List ℕ)) (name : List ℕ) → is_private_path path ≡ false → FitsPath path
+    → value_owned (lists_of v content).catalog_pairs v.private (lists_of v content).attribute_pairs path name ≡ (step_line (tree_of content) (Ok (command.GetAttr path name))).0
+value_is law v content holds settled path name not_own fits =
+    let sound = settled.sound.entries in
+    (λ i. value_owned (sym (ap (λ (l : VolumeState). l.catalog_pairs) settled.lists) i) (settled.private i) (sym (ap (λ (l : VolumeState). l.attribute_pairs) settled.lists) i) path name)
+    ∙ value_same (volume_of content).catalog_pairs (volume_of content).head.next_catalog_id sound.ids sound.rooted sound.threads (overflow_in_volume (volume_of content)) settled.sound.links.good (settled_sorted v content holds settled) (tree_of content) (entries_are content)
+    (settled_is_plain law v content holds settled) (volume_of content).attribute_pairs (file_bytes content) (nodes_are content) path name not_own fits
+    ∙ sym (ap (λ b. (if b || false then (reply.No refusal.Private, tree_of content) else step (tree_of content) (command.GetAttr path name)).0) not_own)
+
+-- the same of an attribute's value
+module _ (law : SoundHasPlainTree) (v : Volume) (content : Content) (holds : HoldsTrees v content) (settled : IsSettled v content) (path : List (List ℕ)) (name : List ℕ) (not_own : is_private_path path ≡ false) (fits : FitsPath path) (said : Result ℕ Refusal)
+    (found : said ≡ owner_in (lists_of v content).catalog_pairs v.private path)
+  where
+    pub told_value : (id : ℕ) (value : Option (List ℕ)) (told : Reply) → said ≡ Ok id → value ≡ value_at (lists_of v content).attribute_pairs id name → told ≡ value_told value → told ≡ (step_line (tree_of content) (Ok (command.GetAttr path name))).0
+    told_value id value told ok is told_is =
+        told_is ∙ ap value_told is ∙ ap (λ r. replied r (λ n. value_told (value_at (lists_of v content).attribute_pairs n name))) (sym ok ∙ found) ∙ value_is law v content holds settled path name not_own fits
+
+    pub told_value_why : (why : Refusal) → said ≡ Err why → reply.No why ≡ (step_line (tree_of content) (Ok (command.GetAttr path name))).0
+    told_value_why why err = ap (λ r. replied r (λ n. value_told (value_at (lists_of v content).attribute_pairs n name))) (sym err ∙ found) ∙ value_is law v content holds settled path name not_own fits

@@ -24,7 +24,7 @@ use Rattle.volume_ops.specs.Looking.{IsCatalogOver, IsAttributesOver, ReadsTree}
 use Rattle.volume_ops.specs.Service.{KeepsFile}
 use Rattle.volume_ops.specs.Standing.{AreWhole}
 use Rattle.volume_ops.specs.Touching.{Looks}
-use Rattle.volume_ops.proofs.Seeing.{file_none, file_both, looks_none, looks_both, looks_wider}
+use Rattle.volume_ops.proofs.Seeing.{file_both, looks_both, looks_wider}
 
 -- what a tree stands by
 abbrev Parts : Type 0
@@ -49,9 +49,6 @@ held_kept form is_key is_value cmp tells a b content told keeps was = record {
 pub inside_kept : (tells : Bool) (a b : TreeFile) (old new : Space) → KeepsFile tells a b → new.sectors ≡ old.sectors → LiesInside a old → LiesInside b new
 inside_kept tells a b old new keeps same was =
     subst (λ (k : List Extent × ℕ × ℕ). (n : ℕ) → n < length (fork_sectors k.0 k.1) → get_or (fork_sectors k.0 k.1) n 0 < k.2) {x = (a.fork, a.per_block, old.sectors)} {y = (b.fork, b.per_block, new.sectors)} (λ i. (sym keeps.file.fork i, sym keeps.file.per_block i, sym same i)) was
-
-pub reads_none : (a : TreeFile) (old : Space) → ReadsTree a a old old
-reads_none a old = record { keeps = file_none old.tells a; looks = looks_none (λ s. Contains (sectors_of_tree a) s) old }
 
 pub reads_both : (a b c : TreeFile) (old mid new : Space) → ReadsTree a b old mid → ReadsTree b c mid new → ReadsTree a c old new
 reads_both a b c old mid new p q = record {

@@ -1,6 +1,6 @@
 -- Walks over the pairs of the catalog, step by step.
 use Rattle.std.proofs.Common.{◌≡◌, ℕ, ◌+◌, ◌<◌, List, ◌∷◌, drop, length, get_or, sym, ◌∙◌, ap}
-use Rattle.std.specs.Prelude.{Result, Ok, Err}
+use Rattle.std.specs.Prelude.{Result, Ok}
 use Rattle.std.proofs.lemmas.List.{drop_more}
 use Rattle.btree_node.specs.Levels.{Pair}
 use Rattle.hfs_language.specs.declared.refusal.Refusal.{Refusal}
@@ -14,10 +14,3 @@ pub goes_on : (pairs others : List Pair) (at next : Reached) (name : List ℕ) (
 goes_on pairs others at next name path k said same low is found ok =
     ap (walk_in pairs at) (drop_more path k name low ∙ ap (λ (n : List ℕ). n ∷ drop (k + 1) path) (sym is))
     ∙ ap (λ (r : Result Reached Refusal). then_ r (λ n. walk_in pairs n (drop (k + 1) path))) (ap (λ (p : List Pair). child_in p at name) (sym same) ∙ sym found ∙ ok)
-
--- and stops at the reason against it
-pub stops_there : (pairs others : List Pair) (at : Reached) (name : List ℕ) (path : List (List ℕ)) (k : ℕ) (why : Refusal) (said : Result Reached Refusal) → others ≡ pairs → k < length path → name ≡ get_or path k name → said ≡ child_in others at name → said ≡ Err why
-    → walk_in pairs at (drop k path) ≡ Err why
-stops_there pairs others at name path k why said same low is found err =
-    ap (walk_in pairs at) (drop_more path k name low ∙ ap (λ (n : List ℕ). n ∷ drop (k + 1) path) (sym is))
-    ∙ ap (λ (r : Result Reached Refusal). then_ r (λ n. walk_in pairs n (drop (k + 1) path))) (ap (λ (p : List Pair). child_in p at name) (sym same) ∙ sym found ∙ err)

@@ -1,5 +1,5 @@
 -- Reads of a space, one after another, and what they leave of a tree.
-use Rattle.std.proofs.Common.{◌≡◌, ◌⊎◌, ◌↔◌, ◌≤◌, ℕ, IsTrue, refl, sym, ◌∙◌, ap, arith, inl, inr, ⊎_elim}
+use Rattle.std.proofs.Common.{◌≡◌, ◌⊎◌, ◌↔◌, ◌≤◌, ℕ, IsTrue, refl, sym, ◌∙◌, ap, arith, inl, inr, subst, ⊎_elim}
 use Rattle.std.specs.Prelude.{Bool, Result, Ok, Err, IfOk, IsErrOf}
 use Rattle.hx_bytes.specs.declared.faults.Trouble.{Trouble}
 use Rattle.hx_bytes.specs.declared.faults.Trouble.TheVariants.{Disk, Memory}
@@ -104,6 +104,15 @@ pub cause_of : {A : Type 0} (before now : ℕ) (result : Result A Trouble) → b
 cause_of before now (Ok a) later disk = record { later = later; failed = tt }
 cause_of before now (Err Disk) later disk = record { later = later; failed = disk refl }
 cause_of before now (Err Memory) later disk = record { later = later; failed = tt }
+
+cause_before : {T U : Type 0} (t : Trouble) (before mid now : ℕ) → before ≤ mid → HasTroubleCause {T = T} mid now (Err t) → HasTroubleCause {T = U} before now (Err t)
+cause_before Disk before mid now earlier cause = record { later = omega (arith, earlier, cause.later); failed = omega (arith, earlier, cause.failed) }
+cause_before Memory before mid now earlier cause = record { later = omega (arith, earlier, cause.later); failed = tt }
+
+-- the cause of a call is that of what it hands on, where its calls before have answered
+pub cause_on : {T U : Type 0} (t y : Trouble) (before mid now : ℕ) (q : Result U Trouble) → q ≡ Err y → y ≡ t → before ≤ mid → HasTroubleCause {T = T} mid now (Err t) → HasTroubleCause before now q
+cause_on {T} {U} t y before mid now q given same earlier cause =
+    subst (λ (r : Result U Trouble). HasTroubleCause before now r) (sym (given ∙ ap Err same)) (cause_before {T = T} {U = U} t before mid now earlier cause)
 
 -- what a call's two answers say together, where each is said of its value
 pub if_both : {A E : Type 0} (P Q : A → Type 0) (result : Result A E) → IfOk result P → IfOk result Q → IfOk result (λ a. P a × Q a)

@@ -34,7 +34,7 @@ use Rattle.volume_ops.specs.Standing.{AreWhole, HoldsTrees, HasItsForks, IsStand
 use Rattle.volume_ops.specs.declared.volume.Tree.{Tree}
 use Rattle.volume_ops.specs.declared.volume.Volume.{Volume}
 use Rattle.volume_ops.proofs.Over.{sectors_kept, held_kept, inside_kept}
-use Rattle.volume_ops.proofs.Seeing.{keeps_none, keeps_both, looks_none, looks_both, looks_wider}
+use Rattle.volume_ops.proofs.Seeing.{keeps_none, keeps_both, looks_both, looks_wider}
 
 tree_still : (tells : Bool) (a b : Tree) (before after : Space) → KeepsTree tells a b → after.sectors ≡ before.sectors → IsTreeInService a before → IsTreeInService b after
 tree_still tells a b before after keeps same was = record {
@@ -178,23 +178,6 @@ catalog_read v file desk before after reads over = record {
     in_catalog at here =
         Contains-append_right (2 ∷ sectors_of_tree v.extents.file) (sectors_of_tree v.catalog.file ++ ((if has_attributes v.header then sectors_of_tree v.attributes.file else []) ++ fork_sectors v.map.fork v.map.per_block)) at
         (Contains-append_left (sectors_of_tree v.catalog.file) ((if has_attributes v.header then sectors_of_tree v.attributes.file else []) ++ fork_sectors v.map.fork v.map.per_block) at here)
-
--- and where nothing was
-pub nothing_read : (v : Volume) (space : Space) → ReadsVolume v v space space
-nothing_read v space = record {
-  keeps = record {
-    header = refl;
-    map = refl;
-    extents = keeps_none space.tells v.extents;
-    catalog = keeps_none space.tells v.catalog;
-    attributes = keeps_none space.tells v.attributes;
-    private = refl;
-    shrunk = refl;
-    capacity = refl;
-    kept = refl;
-  };
-  looks = looks_none (λ s. Contains (own_sectors v) s) space;
-}
 
 attributes_own : (v : Volume) → IsTrue (has_attributes v.header) → (at : ℕ) → Contains (sectors_of_tree v.attributes.file) at → Contains (own_sectors v) at
 attributes_own v has at here =

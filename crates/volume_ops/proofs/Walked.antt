@@ -20,22 +20,23 @@ use Rattle.hfs_language.specs.declared.refusal.Refusal.TheVariants as refusal
 use Rattle.hfs_language.specs.declared.reply.ListedName.{ListedName}
 use Rattle.hfs_language.specs.declared.reply.Reply.{Reply}
 use Rattle.hfs_language.specs.declared.reply.Reply.TheVariants as reply
-use Rattle.hfs_model.specs.Plain.{IsPlainTree, entry_at, entries_in, node_at, is_at, is_node}
+use Rattle.hfs_model.specs.Plain.{IsPlainTree, entry_at, entries_in, node_at, attribute_at, is_at, is_node, is_named}
 use Rattle.hfs_model.specs.Sorted.{kept}
 use Rattle.hfs_model.specs.Step.{is_private_name, is_private_path, then_, unless, root_entry, child, walk, on, step, listed, listed_attribute}
+use Rattle.hfs_model.specs.declared.plain.PlainAttribute.{PlainAttribute}
 use Rattle.hfs_model.specs.declared.plain.PlainEntry.{PlainEntry}
 use Rattle.hfs_model.specs.declared.plain.PlainNode.{PlainNode}
 use Rattle.hfs_model.specs.declared.plain.PlainTree.{PlainTree}
-use Rattle.hfs_volume.specs.Changes.{AreSorted}
+use Rattle.hfs_volume.specs.Changes.{AreSorted, is_attribute_of}
 use Rattle.hfs_volume.specs.Links.{AreGoodLinks, private_id}
 use Rattle.hfs_volume.specs.Entries.{AreThreaded, AreRooted, HaveIds, IsUserId}
-use Rattle.hfs_volume.specs.Records.{Placed, Overflow, Attribute, attribute_of, placed_in, entries_of, record_at, is_placed_at, id_of, is_empty, is_thread}
+use Rattle.hfs_volume.specs.Records.{Placed, Overflow, Attribute, attribute_of, placed_in, entries_of, record_at, is_placed_at, id_of, is_empty, is_thread, inline_bytes}
 use Rattle.hfs_volume.specs.TreeOf.{is_hidden, is_seen, seen_entry, plain_entry, plain_attribute, threaded_node}
 use Rattle.hfs_volume.proofs.Flat.{found_some}
 use Rattle.hfs_volume.proofs.Members.{each_of, kept_stands}
 use Rattle.hfs_volume.proofs.Reaching.{IsFolder, Shows, seen_shows, shows_seen, seen_stands, seen_visible, seen_not_root, front_is}
 use Rattle.volume_ops.specs.Listing.{is_shown, listed_child, shown_in, replied, names_in}
-use Rattle.volume_ops.specs.Owning.{id_reached, listed_name, attributes_in, names_owned}
+use Rattle.volume_ops.specs.Owning.{id_reached, listed_name, attributes_in, names_owned, value_told, value_owned}
 use Rattle.volume_ops.specs.Reaching.{named, folder_reached, child_in, walk_in}
 use Rattle.volume_ops.specs.declared.reaching.Reached.{Reached}
 use Rattle.volume_ops.specs.declared.reaching.Reached.TheVariants as reached
@@ -69,6 +70,28 @@ find_seen records id name sees (x ∷ xs) = by_tests (is_placed_at id name x) (i
         ap (λ b. find (is_at id name) ((if b then plain_entry records x ∷ [] else []) ++ rest)) seen
         ∙ later ∙ sym (ap (λ c. option_map (plain_entry records) (cond c (Some x) (find (is_placed_at id name) xs))) at)
     by_tests true false at seen later = absurd (true≢false (sym (sees x at) ∙ seen))
+
+-- the attribute of a name among those of a folder or file
+find_owned : (id : ℕ) (name : List ℕ) (xs : List Attribute) → find (is_named name) (map plain_attribute (kept (λ (a : Attribute). a.id == id) xs)) ≡ option_map plain_attribute (find (is_attribute_of id name) xs)
+find_owned id name [] = refl
+find_owned id name (x ∷ xs) = by_test (x.id == id) refl (find_owned id name xs)
+  where
+    rest : List Attribute
+    rest = kept (λ (a : Attribute). a.id == id) xs
+
+    by_name : (c : Bool) → bytes_eq x.name name ≡ c → find (is_named name) (map plain_attribute rest) ≡ option_map plain_attribute (find (is_attribute_of id name) xs)
+        → cond (bytes_eq x.name name) (Some (plain_attribute x)) (find (is_named name) (map plain_attribute rest)) ≡ option_map plain_attribute (cond (bytes_eq x.name name) (Some x) (find (is_attribute_of id name) xs))
+    by_name true is later = ap (λ c. cond c (Some (plain_attribute x)) (find (is_named name) (map plain_attribute rest))) is ∙ sym (ap (λ c. option_map plain_attribute (cond c (Some x) (find (is_attribute_of id name) xs))) is)
+    by_name false is later = ap (λ c. cond c (Some (plain_attribute x)) (find (is_named name) (map plain_attribute rest))) is ∙ later ∙ sym (ap (λ c. option_map plain_attribute (cond c (Some x) (find (is_attribute_of id name) xs))) is)
+
+    by_test : (b : Bool) → (x.id == id) ≡ b → find (is_named name) (map plain_attribute rest) ≡ option_map plain_attribute (find (is_attribute_of id name) xs)
+        → find (is_named name) (map plain_attribute ((if x.id == id then x ∷ [] else []) ++ rest)) ≡ option_map plain_attribute (cond ((x.id == id) && bytes_eq x.name name) (Some x) (find (is_attribute_of id name) xs))
+    by_test true is later =
+        ap (λ b. find (is_named name) (map plain_attribute ((if b then x ∷ [] else []) ++ rest))) is ∙ by_name (bytes_eq x.name name) refl later
+        ∙ sym (ap (λ b. option_map plain_attribute (cond (b && bytes_eq x.name name) (Some x) (find (is_attribute_of id name) xs))) is)
+    by_test false is later =
+        ap (λ b. find (is_named name) (map plain_attribute ((if b then x ∷ [] else []) ++ rest))) is ∙ later
+        ∙ sym (ap (λ b. option_map plain_attribute (cond (b && bytes_eq x.name name) (Some x) (find (is_attribute_of id name) xs))) is)
 
 -- two answers: the same reason, or two things of which this holds
 abbrev pub Agree : (Reached → PlainEntry → Type 0) → Result Reached Refusal → Result PlainEntry Refusal → Type 0
@@ -301,3 +324,30 @@ module _ (pairs : List Pair) (next : ℕ) (ids : HaveIds next (entries_of (place
             ap (λ n. reply.Listing (attributes_in attributes n)) id_is
             ∙ ap reply.Listing (twice (kept (λ (a : Attribute). a.id == node.id) (map attribute_of attributes)) ∙ ap (map listed_attribute) (sym (node_attributes (map attribute_of attributes) records bytes_of node (subst (λ l. Contains l node) same_nodes found.0))))
             ∙ sym (ap (λ o. (on tree (ok_or o refusal.NotFound) (λ n. (reply.Listing (map listed_attribute n.attributes), tree))).0) it.node.1)
+
+    -- what `getattr` answers
+    pub value_same : (attributes : List Pair) (bytes_of : FileRecord → List ℕ) → tree.nodes ≡ flat_map (threaded_node (map attribute_of attributes) records bytes_of) records → (path : List (List ℕ)) (name : List ℕ) → is_private_path path ≡ false → FitsPath path
+        → value_owned pairs (private_id records) attributes path name ≡ (step tree (command.GetAttr path name)).0
+    value_same attributes bytes_of same_nodes path name not_own fits = by_walk (walk_in pairs reached.Root path) (walk tree root_entry path) (path_same path not_own fits)
+      where
+        by_attribute : (node : PlainNode) (o : Option Attribute) → value_told (option_map (λ (a : Attribute). inline_bytes a.value) o)
+            ≡ (on {X = PlainNode × PlainAttribute} tree (then_ (ok_or (option_map plain_attribute o) refusal.NoAttribute) (λ a. Ok (node, a))) (λ pair. (reply.Content pair.1.value, tree))).0
+        by_attribute node None = refl
+        by_attribute node (Some a) = refl
+
+        by_walk : (r : Result Reached Refusal) (s : Result PlainEntry Refusal) → Agree IsReached r s
+            → replied (then_ r (λ at. Ok (id_reached pairs (private_id records) at))) (λ id. value_told (option_map (λ (a : Attribute). inline_bytes a.value) (find (is_attribute_of id name) (map attribute_of attributes))))
+            ≡ (on {X = PlainNode × PlainAttribute} tree (then_ (then_ s (λ at. ok_or (node_at tree at.id) refusal.NotFound)) (λ node. then_ (ok_or (attribute_at node name) refusal.NoAttribute) (λ a. Ok (node, a)))) (λ pair. (reply.Content pair.1.value, tree))).0
+        by_walk (Err why) (Err other) same = ap reply.No same
+        by_walk (Ok at) (Err other) never = absurd never
+        by_walk (Err why) (Ok e) never = absurd never
+        by_walk (Ok at) (Ok e) it =
+            let node = it.node.0 in
+            let found = found_some (is_node e.id) tree.nodes node it.node.1 in
+            let id_is : id_reached pairs (private_id records) at ≡ node.id = it.id ∙ sym (eqb-true node.id e.id found.1) in
+            let attribute_is : attribute_at node name ≡ option_map plain_attribute (find (is_attribute_of node.id name) (map attribute_of attributes)) =
+            ap (find (is_named name)) (node_attributes (map attribute_of attributes) records bytes_of node (subst (λ l. Contains l node) same_nodes found.0)) ∙ find_owned node.id name (map attribute_of attributes) in
+            ap (λ n. value_told (option_map (λ (a : Attribute). inline_bytes a.value) (find (is_attribute_of n name) (map attribute_of attributes)))) id_is
+            ∙ by_attribute node (find (is_attribute_of node.id name) (map attribute_of attributes))
+            ∙ sym (ap (λ o. (on {X = PlainNode × PlainAttribute} tree (then_ (ok_or o refusal.NotFound) (λ n. then_ (ok_or (attribute_at n name) refusal.NoAttribute) (λ a. Ok (n, a)))) (λ pair. (reply.Content pair.1.value, tree))).0) it.node.1
+            ∙ ap (λ q. (on {X = PlainNode × PlainAttribute} tree (then_ (ok_or q refusal.NoAttribute) (λ a. Ok (node, a))) (λ pair. (reply.Content pair.1.value, tree))).0) attribute_is)

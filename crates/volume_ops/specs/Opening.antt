@@ -1,10 +1,12 @@
 -- A volume that comes into service.
-use Rattle.std.specs.Prelude.{◌≡◌, ℕ, ◌+◌, ◌*◌, ◌==◌, ◌||◌, nat_le, Bool, IsTrue, Option, Some, None, length}
+use Rattle.std.specs.Prelude.{Contains, ◌≡◌, ℕ, ◌+◌, ◌*◌, ◌==◌, ◌||◌, nat_le, Bool, IsTrue, Option, Some, None, length}
 use Rattle.cat_records.specs.declared.record.CatRecord.{CatRecord}
 use Rattle.cat_records.specs.declared.record.CatRecord.TheVariants.{Folder, File, Thread}
 use Rattle.hx_bytes.specs.declared.extents.Extent.{Extent}
 use Rattle.hx_bytes.specs.declared.extents.ForkRecord.{ForkRecord}
 use Rattle.jnl_format.specs.Recovery.{Content, header_of_volume}
+use Rattle.sector_disk.specs.Space.{Space}
+use Rattle.volume_header.specs.declared.header.VolumeHeader.{VolumeHeader}
 use Rattle.flag_rows.specs.Bits.{sectors_for}
 use Rattle.alloc_bitmap.specs.Fork.{HoldsBits, fork_sectors}
 use Rattle.alloc_bitmap.specs.Map.{none}
@@ -17,7 +19,10 @@ use Rattle.hfs_volume.specs.Links.{private_id}
 use Rattle.hfs_volume.specs.Records.{placed_in}
 use Rattle.hfs_volume.specs.Sound.{IsSound}
 use Rattle.volume_ops.specs.Keeping.{IsKept}
-use Rattle.volume_ops.specs.Standing.{AreWhole}
+use Rattle.volume_ops.specs.Service.{IsTreeInService}
+use Rattle.volume_ops.specs.Standing.{AreWhole, own_sectors_in}
+use Rattle.volume_ops.specs.Touching.{Looks}
+use Rattle.volume_ops.specs.declared.volume.Tree.{Tree}
 use Rattle.volume_ops.specs.declared.volume.Volume.{Volume}
 
 -- an extent without blocks, or one that ends in so many sectors, where a block has so many
@@ -34,6 +39,13 @@ pub record IsFileOf (id : ℕ) (fork : ForkRecord) (tree : TreeFile) (content : 
   pub stands : Stands tree content
   pub extents : tree.fork ≡ extents_of (overflow_of_content content) id data_kind fork
   pub per_block : tree.per_block ≡ per_block_of (header_of_volume content)
+
+-- What was read of a space that can be served, up to a later moment: its header, and its extents overflow file. Nothing else was done.
+pub record HasBegun (old new : Space) (header : VolumeHeader) (extents : Tree) : Type 0 where
+  pub looks : Looks (λ at. Contains (own_sectors_in old.content) at) old new
+  pub head : IsTrue old.tells → header ≡ header_of_volume old.content
+  pub service : IsTreeInService extents new
+  pub file : IsTrue old.tells → IsFileOf extents_id (header_of_volume old.content).extents_fork extents.file old.content
 
 -- the CNID in a folder's record
 abbrev pub folder_in : CatRecord → Option ℕ

@@ -1,7 +1,9 @@
 //! A whole volume in service, over any space of sectors.
 #![tactic(auto)]
 
+mod attach;
 mod attaching;
+mod beginning;
 mod editing;
 mod extents;
 mod header;

@@ -1,7 +1,8 @@
-//! `lsattr`: the names of the attributes of a folder or file.
+//! `lsattr` and `getattr`: the attributes of a folder or file.
 ghost use Rattle.std.specs.Prelude.{◌≡◌, ◌≤◌, List, ℕ, Ok, Err, IsTrue, IfOk, length, map};
 ghost use Rattle.std.specs.List.{All};
 ghost use Rattle.attributes.specs.Owned.{names_of};
+ghost use Rattle.attributes.specs.Values.{value_at};
 ghost use Rattle.btree_edit.specs.Causes.{HasTroubleCause};
 ghost use Rattle.btree_file.specs.Standing.{pairs_in};
 ghost use Rattle.btree_file.specs.State.{sectors_of_tree};
@@ -13,7 +14,7 @@ ghost use Rattle.hfs_model.specs.Step.{step_line};
 ghost use Rattle.hfs_volume.specs.TreeOf.{tree_of};
 ghost use Rattle.volume_ops.specs.Lists.{lists_of};
 ghost use Rattle.volume_ops.specs.Looking.{IsCatalogOver, IsAttributesOver, ReadsTree, ReadsVolume};
-ghost use Rattle.volume_ops.specs.Owning.{identity_in, id_reached, owner_in, listed_name, attributes_in};
+ghost use Rattle.volume_ops.specs.Owning.{identity_in, id_reached, owner_in, listed_name, attributes_in, value_told};
 ghost use Rattle.volume_ops.specs.Standing.{StandsOver, IsSettled};
 
 use crate::names::{copy_name, is_private_path};
@@ -25,7 +26,7 @@ use cat_records::FileRecord;
 use hard_links::resolve;
 use hfs_language::{ListedName, Listing, Path, Refusal, Reply};
 use hfs_volume::sound_has_plain_tree;
-use hx_bytes::{Names, OutOfMemory, Trouble, Units};
+use hx_bytes::{Bytes, Names, OutOfMemory, Trouble, Units};
 use sector_disk::SectorSpace;
 use std::alloc::Global;
 
@@ -153,6 +154,37 @@ fn tell_owned<P: SectorSpace>(
     Ok(told(alloc, names.as_slice())?)
 }
 
+/// The value of an attribute of a folder or file; none where it has none of the name.
+fn find_value<P: SectorSpace>(
+    alloc: Global,
+    tree: &mut TreeFile,
+    desk: &mut Desk,
+    space: &mut P,
+    id: u32,
+    name: &Units,
+) -> Result<Option<Bytes>, Trouble>
+    requires over { IsAttributesOver tree.old desk.old (P.SectorView.space space.old) }
+    requires name { length name.now ≤ 127 }
+    ensures found { IsTrue (P.SectorView.space space.old).tells → IfOk result (λ found. found ≡ value_at (pairs_in (sectors_of_tree tree.old) (P.SectorView.space space.old).content) id name.now) }
+    ensures over { IsAttributesOver tree.new desk.new (P.SectorView.space space.new) }
+    ensures reads { ReadsTree tree.old tree.new (P.SectorView.space space.old) (P.SectorView.space space.new) }
+    ensures below { P.SectorView.follows space.old space.new }
+    ensures cause { HasTroubleCause (P.SectorView.space space.old).faults (P.SectorView.space space.new).faults result }
+{
+    let mut on = TreeOn { tree, space };
+    attributes::get(alloc, &mut on, desk, id, name)
+}
+
+/// The reply about an attribute's value.
+fn value_told(found: Option<Bytes>) -> Reply
+    ensures { result ≡ value_told found }
+{
+    match found {
+        Some(value) => Reply::Content(value),
+        None => Reply::No(Refusal::NoAttribute),
+    }
+}
+
 impl Volume {
     /// The CNID of the folder or file that a path stands for, or the first reason against it.
     fn owner<P: SectorSpace>(
@@ -235,6 +267,69 @@ impl Volume {
         sound_has_plain_tree();
         match self.owner(alloc, space, path)? {
             Ok(id) => Ok(Reply::Listing(self.tell_attributes(alloc, space, id)?)),
+            Err(why) => Ok(Reply::No(why)),
+        }
+    }
+
+    /// The value of an attribute of a folder or file; a volume without an attributes file has none.
+    fn value<P: SectorSpace>(
+        &mut self,
+        alloc: Global,
+        space: &mut P,
+        id: u32,
+        name: &Units,
+    ) -> Result<Option<Bytes>, Trouble>
+        requires stands { StandsOver self.old (P.SectorView.space space.old) }
+        requires settled { IsTrue (P.SectorView.space space.old).tells → IsSettled self.old (P.SectorView.space space.old).content }
+        requires name { length name.now ≤ 127 }
+        ensures found { IsTrue (P.SectorView.space space.old).tells → IfOk result (λ found. found ≡ value_at (lists_of self.old (P.SectorView.space space.old).content).attribute_pairs id name.now) }
+        ensures reads { ReadsVolume self.old self.new (P.SectorView.space space.old) (P.SectorView.space space.new) }
+        ensures stands { StandsOver self.new (P.SectorView.space space.new) }
+        ensures settled { IsTrue (P.SectorView.space space.old).tells → IsSettled self.new (P.SectorView.space space.new).content }
+        ensures below { P.SectorView.follows space.old space.new }
+        ensures cause { HasTroubleCause (P.SectorView.space space.old).faults (P.SectorView.space space.new).faults result }
+    {
+        if self.header.attributes_fork.logical_size == 0 {
+            return Ok(None);
+        }
+        find_value(
+            alloc,
+            &mut self.attributes.file,
+            &mut self.attributes.desk,
+            space,
+            id,
+            name,
+        )
+    }
+
+    /// The reply to `getattr`: the value of the attribute of this name of the folder or file that a path stands for; or the
+    /// first reason against it, of which `NoAttribute` comes last. A path that begins with a name of the volume's own is
+    /// refused. It changes nothing. `Memory` comes where memory is wanting, `Disk` where a read failed.
+    pub fn getattr<P: SectorSpace>(
+        &mut self,
+        alloc: Global,
+        space: &mut P,
+        path: &Path,
+        name: &Units,
+    ) -> Result<Reply, Trouble>
+        requires stands { StandsOver self.old (P.SectorView.space space.old) }
+        requires settled { IsTrue (P.SectorView.space space.old).tells → IsSettled self.old (P.SectorView.space space.old).content }
+        requires fits { FitsPath path.now }
+        requires name { length name.now ≤ 127 }
+        // Told, the reply is that of the plain tree's step.
+        ensures reply { IsTrue (P.SectorView.space space.old).tells → IfOk result (λ reply. reply ≡ (step_line (tree_of (P.SectorView.space space.old).content) (Ok (command.GetAttr path.now name.now))).0) }
+        ensures reads { ReadsVolume self.old self.new (P.SectorView.space space.old) (P.SectorView.space space.new) }
+        ensures stands { StandsOver self.new (P.SectorView.space space.new) }
+        ensures settled { IsTrue (P.SectorView.space space.old).tells → IsSettled self.new (P.SectorView.space space.new).content }
+        ensures below { P.SectorView.follows space.old space.new }
+        ensures cause { HasTroubleCause (P.SectorView.space space.old).faults (P.SectorView.space space.new).faults result }
+    {
+        if is_private_path(path) {
+            return Ok(Reply::No(Refusal::Private));
+        }
+        sound_has_plain_tree();
+        match self.owner(alloc, space, path)? {
+            Ok(id) => Ok(value_told(self.value(alloc, space, id, name)?)),
             Err(why) => Ok(Reply::No(why)),
         }
     }

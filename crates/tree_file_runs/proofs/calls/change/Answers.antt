@@ -1,0 +1,18 @@
+use Rattle.std.proofs.Common.{◌≡◌, ℕ, List, ◌∷◌, [], length, get_or, inr, sym, ap}
+use Rattle.tree_file_runs.proofs.Rooms.{untold_room}
+use Rattle.tree_file_runs.proofs.calls.change.Goals as goal
+
+pub replace-requires-clause-room : goal.replace-requires-clause-room
+replace-requires-clause-room g c = inr (untold_room [] c.args.tree.now (length c.args.space.now.list.items) _)
+
+pub returns-clause-file : goal.returns-clause-file
+returns-clause-file g c =
+    let names = c.replace.ensures.does.same.names in
+    let tree_is = c.tree-1.given.1 (sym (ap (λ (l : List ℕ). get_or l 0 0) names)) in
+    rw tree_is c.replace.ensures.below.0.file
+
+pub returns-clause-sectors : goal.returns-clause-sectors
+returns-clause-sectors g c =
+    let names = c.replace.ensures.does.same.names in
+    let space_is = c.space-1.given.1 (sym (ap (λ (l : List ℕ). get_or l 1 0) names)) in
+    rw space_is c.replace.ensures.below.0.space.same.sectors
