@@ -1,5 +1,5 @@
 -- Each number of the header of a volume that can be made fits its field.
-use Rattle.std.proofs.Common.{◌≡◌, ◌<◌, ◌≤◌, ℕ, ◌+◌, ◌*◌, ◌^◌, true, List, replicate, inl, inr, refl, arith}
+use Rattle.std.proofs.Common.{◌≡◌, ◌<◌, ◌≤◌, ℕ, ◌*◌, ◌^◌, true, replicate, inl, inr, refl, arith}
 use Rattle.std.proofs.lemmas.Bool.{cases_lt}
 use Rattle.std.proofs.lemmas.List.{get_or-replicate, get_or_past, length-replicate}
 use Rattle.hx_bytes.specs.Field.{AreBytes}
@@ -10,7 +10,7 @@ use Rattle.volume_header.proofs.ReadBack.{header_of-header_bytes}
 use Rattle.hfs_model.specs.Thin.{one_run}
 use Rattle.volume_make.specs.Refusal.{is_block_size}
 use Rattle.volume_make.specs.Layout.{CanBe, layout_of}
-use Rattle.volume_make.specs.Texts.{special_fork, empty_fork, fresh_header, header_text}
+use Rattle.volume_make.specs.Texts.{special_fork, fresh_header, header_text}
 use Rattle.volume_make.proofs.Sizes.{each_size, fitting}
 
 fits_extent : (start count : ℕ) → start < 2 ^ 32 → count < 2 ^ 32 → FitsExtent (record { start = start; count = count })

@@ -1,9 +1,9 @@
 -- The journal of a volume that can be made is found by a reader, and is empty.
-use Rattle.std.proofs.Common.{◌≡◌, ◌<◌, ◌≤◌, ℕ, ◌+◌, ◌-◌, ◌*◌, ◌/◌, ◌%◌, ◌^◌, Bool, true, false, nat_lt, nat_le, Option, Some, None, replicate, refl, arith, ⊎_elim}
+use Rattle.std.proofs.Common.{◌≡◌, ◌<◌, ◌≤◌, ℕ, ◌+◌, ◌*◌, ◌/◌, ◌%◌, Bool, true, false, nat_le, Option, Some, None, replicate, refl, arith, ⊎_elim}
 use Rattle.std.specs.Prelude.{◌&&◌, ◌||◌, ◌==◌, not, if◌then◌else◌}
 use Rattle.std.proofs.lemmas.Bool.{and_parts, eq-eqb, eqb-true}
 use Rattle.std.proofs.lemmas.Bool.Decides.{leb_tells}
-use Rattle.jnl_format.specs.declared.structures.JnlRefusal.TheVariants.{OtherDevice, BadInfo}
+use Rattle.jnl_format.specs.declared.structures.JnlRefusal.TheVariants.{BadInfo}
 use Rattle.jnl_format.specs.Header.{header_spelled}
 use Rattle.jnl_format.proofs.ReadBack.{header_back, checksum_fits}
 use Rattle.jnl_format.proofs.InfoBack.{info_back}
