@@ -104,3 +104,40 @@ stands_behind_put volume a b bytes was same long puts = record {
 -- the header's own sector isn't closed
 pub header_open : (volume : Volume) (a : Space) → StandsOver volume a → IsTrue a.tells → a.closed 2 → ⊥
 header_open volume a was tells is = (was.stands tells).closed 2 is (0, omega arith, refl)
+
+-- the volume with another moment in its header
+abbrev pub dated : ℕ → Volume → Volume
+dated moment volume = record volume { header = record volume.header { modify_date = moment } }
+
+pub stands_dated : (moment : ℕ) (volume : Volume) (a : Space) → StandsOver volume a → StandsOver (dated moment volume) a
+stands_dated moment volume a was = record {
+  service = record {
+    extents = was.service.extents;
+    catalog = was.service.catalog;
+    attributes = was.service.attributes;
+    least = was.service.least;
+    most = was.service.most;
+    map_inside = was.service.map_inside;
+    map_long = was.service.map_long;
+  };
+  stands = λ tells.
+      let here = was.stands tells in
+      record {
+        trees = record { extents = here.trees.extents; catalog = here.trees.catalog; compare = here.trees.compare; attributes = here.trees.attributes };
+        forks = record {
+          extents = here.forks.extents;
+          extents_per = here.forks.extents_per;
+          catalog = here.forks.catalog;
+          catalog_per = here.forks.catalog_per;
+          attributes = here.forks.attributes;
+          attributes_per = here.forks.attributes_per;
+          map = here.forks.map;
+          map_per = here.forks.map_per;
+        };
+        whole = here.whole;
+        apart = here.apart;
+        blocks = here.blocks;
+        closed = here.closed;
+        live = here.live;
+      };
+}
