@@ -19,4 +19,5 @@ pub mod Seeing
 pub mod SoundForks
 pub mod Still
 pub mod Stood
+pub mod Touched
 pub mod Walked

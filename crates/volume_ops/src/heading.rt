@@ -1,9 +1,12 @@
 //! The header of a volume in service, put.
 ghost use Rattle.std.specs.Prelude.{◌≡◌, ◌⊎◌, ◌<◌, IsTrue};
+ghost use Rattle.std.specs.List.{Contains};
+ghost use Rattle.sector_disk.specs.Lists.{Content};
 ghost use Rattle.sector_disk.specs.Clock.{TimePasses};
 ghost use Rattle.sector_disk.specs.Space.{LeavesDurable, Puts, SameSpace, TakesRoom};
 ghost use Rattle.volume_header.specs.Header.{header_bytes};
-ghost use Rattle.volume_ops.specs.Standing.{StandsOver};
+ghost use Rattle.volume_ops.specs.Standing.{StandsOver, own_sectors};
+ghost use Rattle.volume_ops.specs.Touching.{Touches};
 
 use crate::volume::Volume;
 use sector_disk::SectorSpace;
@@ -37,6 +40,8 @@ impl Volume {
         // Nothing else of it is changed.
         ensures rest { self.new ≡ record self.old { header = record self.old.header { modify_date = moment } } }
         ensures puts { IsTrue (P.SectorView.space space.old).tells → Puts (P.SectorView.space space.old) 2 (header_bytes self.new.header) (P.SectorView.space space.new) }
+        // It puts a sector of its own, whatever was committed last.
+        ensures touches { (committed : Content) → Touches committed (λ s. Contains (own_sectors self.new) s) (P.SectorView.space space.old) (P.SectorView.space space.new) }
         ensures time { IsTrue (P.SectorView.space space.old).tells → TimePasses (P.SectorView.space space.old).clock (P.SectorView.space space.new).clock (LeavesDurable (P.SectorView.space space.new)) }
         ensures room { TakesRoom (P.SectorView.space space.old) 2 (P.SectorView.space space.new) }
         ensures same { SameSpace (P.SectorView.space space.old) (P.SectorView.space space.new) }
