@@ -84,6 +84,11 @@ fn make_room<V: Volume, G: Ground>(
     Ok(())
 }
 
+// Whether the line asks that all be made durable, which ends its batch.
+fn is_sync(line: &[u8]) -> bool {
+    line == b"sync".as_slice()
+}
+
 // Serves lines until one is left for the next batch, or the batch has its most. Answers how many were served.
 fn serve_lines<V: Volume, G: Ground>(
     volume: &mut V,
@@ -110,12 +115,15 @@ fn serve_lines<V: Volume, G: Ground>(
         if !serve_line(volume, base, lines[at].as_slice(), at == 0, replies)? {
             return Ok(at);
         }
+        if is_sync(lines[at].as_slice()) {
+            return Ok(at + 1);
+        }
     }
     Ok(lines.len())
 }
 
 /// Serves lines as one batch, and adds their replies, which are to be told only behind it. Its end is one commit of all that they changed. A line
-/// that wants a commit before it ends the batch, unless it is the first, and so does the 32nd. Answers how many of the lines were served.
+/// that wants a commit before it ends the batch, unless it is the first, and so do a `sync` and the 32nd line. Answers how many of the lines were served.
 pub fn serve_batch<V: Volume, G: Ground>(
     volume: &mut V,
     base: &mut G,

@@ -53,7 +53,7 @@ apart_parts s head first second third fourth once here = (
   )),
 )
 
-there_is : (b : Bool) (xs : List ℕ) → b ≡ true → (if b then xs else []) ≡ xs
+pub there_is : (b : Bool) (xs : List ℕ) → b ≡ true → (if b then xs else []) ≡ xs
 there_is true xs is = refl
 there_is false xs is = absurd (cc is)
 

@@ -1,5 +1,7 @@
 //! Changes of the catalog of a volume in service.
 ghost use Rattle.std.specs.Prelude.{◌≡◌, ◌≤◌, ◌/◌, ℕ, List, [], None, Some, false, IsTrue, length, OnOk, IfOk};
+ghost use Rattle.std.specs.List.{Contains};
+ghost use Rattle.sector_disk.specs.Lists.{Content};
 ghost use Rattle.btree_edit.specs.Causes.{HasTroubleCause};
 ghost use Rattle.btree_edit.specs.Editing.{CostsAtMost};
 ghost use Rattle.btree_edit.specs.Edits.{EditRoom, TakesAtMost, TakesEdits};
@@ -12,7 +14,8 @@ ghost use Rattle.cat_records.specs.Fits.{FitsRecord};
 ghost use Rattle.hfs_volume.specs.Entries.{AreSpelled, AreThreaded};
 ghost use Rattle.hfs_volume.specs.Records.{Placed, placed_in, record_at, id_in, is_thread};
 ghost use Rattle.volume_ops.specs.Service.{IsInService};
-ghost use Rattle.volume_ops.specs.Standing.{StandsOver};
+ghost use Rattle.volume_ops.specs.Standing.{StandsOver, own_sectors};
+ghost use Rattle.volume_ops.specs.Touching.{Touches};
 
 use crate::editing::{add_entry, remove_entry, update_entry};
 use crate::volume::Volume;
@@ -48,6 +51,8 @@ impl Volume {
         ensures answer { IsTrue (P.SectorView.space space.old).tells → IfOk result (λ answer. AnswersRemoval (record_at (placed_in (pairs_in (sectors_of_tree self.old.catalog.file) (P.SectorView.space space.old).content)) parent name.now) answer) }
         ensures updated { IsTrue (P.SectorView.space space.old).tells → IfOk result (λ answer. Updating parent name.now rec.now (pairs_in (sectors_of_tree self.old.catalog.file) (P.SectorView.space space.old).content) (pairs_in (sectors_of_tree self.old.catalog.file) (P.SectorView.space space.new).content) answer) }
         ensures takes { (names : List ℕ) → IsTrue (P.SectorView.space space.old).tells → CostsAtMost 1 0 (state_of names self.old.catalog.file (P.SectorView.space space.old)) (state_of names self.new.catalog.file (P.SectorView.space space.new)) }
+        // On a fault too, it puts sectors of its own alone, whatever was committed last.
+        ensures touches { (committed : Content) → Touches committed (λ s. Contains (own_sectors self.old) s) (P.SectorView.space space.old) (P.SectorView.space space.new) }
         ensures frame { FollowsOn self.old.catalog.file self.new.catalog.file (P.SectorView.space space.old) (P.SectorView.space space.new) }
         ensures below { P.SectorView.follows space.old space.new }
         ensures cause { HasTroubleCause (P.SectorView.space space.old).faults (P.SectorView.space space.new).faults result }
@@ -87,6 +92,8 @@ impl Volume {
         ensures rest { self.new ≡ record self.old { catalog = self.new.catalog } }
         ensures answer { IsTrue (P.SectorView.space space.old).tells → IfOk result (λ answer. AnswersAdd (record_at (placed_in (pairs_in (sectors_of_tree self.old.catalog.file) (P.SectorView.space space.old).content)) parent name.now) answer) }
         ensures added { IsTrue (P.SectorView.space space.old).tells → IfOk result (λ answer. Adding (record { parent = parent; name = name.now; value = rec.now }) (pairs_in (sectors_of_tree self.old.catalog.file) (P.SectorView.space space.old).content) (pairs_in (sectors_of_tree self.old.catalog.file) (P.SectorView.space space.new).content) answer) }
+        // On a fault too, it puts sectors of its own alone, whatever was committed last.
+        ensures touches { (committed : Content) → Touches committed (λ s. Contains (own_sectors self.old) s) (P.SectorView.space space.old) (P.SectorView.space space.new) }
         ensures frame { FollowsOn self.old.catalog.file self.new.catalog.file (P.SectorView.space space.old) (P.SectorView.space space.new) }
         ensures edits { (names : List ℕ) → OnOk result (TakesEdits 2 516 (state_of names self.old.catalog.file (P.SectorView.space space.old)) (state_of names self.new.catalog.file (P.SectorView.space space.new))) }
         ensures takes { (names : List ℕ) → TakesAtMost 2 516 (state_of names self.old.catalog.file (P.SectorView.space space.old)) (state_of names self.new.catalog.file (P.SectorView.space space.new)) }
@@ -125,6 +132,8 @@ impl Volume {
         ensures rest { self.new ≡ record self.old { catalog = self.new.catalog } }
         ensures answer { IsTrue (P.SectorView.space space.old).tells → IfOk result (λ answer. AnswersRemoval (record_at (placed_in (pairs_in (sectors_of_tree self.old.catalog.file) (P.SectorView.space space.old).content)) parent name.now) answer) }
         ensures removed { IsTrue (P.SectorView.space space.old).tells → IfOk result (λ answer. Removing parent name.now (pairs_in (sectors_of_tree self.old.catalog.file) (P.SectorView.space space.old).content) (pairs_in (sectors_of_tree self.old.catalog.file) (P.SectorView.space space.new).content) answer) }
+        // On a fault too, it puts sectors of its own alone, whatever was committed last.
+        ensures touches { (committed : Content) → Touches committed (λ s. Contains (own_sectors self.old) s) (P.SectorView.space space.old) (P.SectorView.space space.new) }
         ensures frame { FollowsOn self.old.catalog.file self.new.catalog.file (P.SectorView.space space.old) (P.SectorView.space space.new) }
         ensures edits { (names : List ℕ) → OnOk result (TakesEdits 2 516 (state_of names self.old.catalog.file (P.SectorView.space space.old)) (state_of names self.new.catalog.file (P.SectorView.space space.new))) }
         ensures takes { (names : List ℕ) → TakesAtMost 2 516 (state_of names self.old.catalog.file (P.SectorView.space space.old)) (state_of names self.new.catalog.file (P.SectorView.space space.new)) }

@@ -8,6 +8,7 @@ mod changing;
 mod editing;
 mod extents;
 mod header;
+mod heading;
 mod keeping;
 mod listing;
 mod looking;

@@ -1,4 +1,5 @@
 use Rattle.volume_ops.proofs.CatalogEdited.{catalog_open, serves_edited, stands_again}
+use Rattle.volume_ops.proofs.Touched.{touches_catalog}
 use Rattle.volume_ops.proofs.volume.Volume.remove.Goals as goal
 
 pub remove_entry-requires-clause-desk : goal.remove_entry-requires-clause-desk
@@ -18,3 +19,6 @@ returns-clause-stands g c = stands_again c.args.self.now (g.P.SectorView.space c
 
 pub returns-clause-service : goal.returns-clause-service
 returns-clause-service g c = serves_edited c.args.self.now (g.P.SectorView.space c.args.space.now) (g.P.SectorView.space c.remove_entry.new.space) (record { file = c.remove_entry.new.tree; desk = c.remove_entry.new.desk }) c.remove_entry.ensures.frame c.requires.stands.service c.remove_entry.ensures.desk
+
+pub returns-clause-touches : goal.returns-clause-touches
+returns-clause-touches g c committed = touches_catalog c.args.self.now committed (g.P.SectorView.space c.args.space.now) (g.P.SectorView.space c.remove_entry.new.space) c.remove_entry.ensures.frame.space
