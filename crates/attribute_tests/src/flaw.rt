@@ -1,12 +1,10 @@
 //! What is wrong with attributes.
 use crate::table::Place;
 use entry_kit::Stop;
-use hx_bytes::OutOfMemory;
 
 /// What stopped a test: a call that failed, or the first thing that isn't as the table has it.
 #[derive(Clone, Copy, Debug, PartialEq, Eq)]
 pub enum Flaw {
-    Memory,
     /// A call wasn't made, or failed.
     Stopped(Stop),
     /// Setting an attribute was answered otherwise than wanted.
@@ -20,12 +18,6 @@ pub enum Flaw {
     Names(u32),
     /// The tree hasn't the levels that were wanted, or isn't empty.
     Levels(u16),
-}
-
-impl From<OutOfMemory> for Flaw {
-    fn from(_: OutOfMemory) -> Flaw {
-        Flaw::Memory
-    }
 }
 
 impl From<Stop> for Flaw {

@@ -3,7 +3,6 @@
 
 mod checks;
 mod flaw;
-mod names;
 mod steps;
 mod table;
 #[cfg(test)]
@@ -11,6 +10,5 @@ mod tests;
 
 pub use checks::check_all;
 pub use flaw::{Flaw, wanted};
-pub use names::{Length, name_of};
 pub use steps::{delete, drop_all, set};
 pub use table::{Place, Table, value_of};

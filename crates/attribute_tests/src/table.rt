@@ -1,5 +1,5 @@
 //! The attributes that files should have.
-use crate::names::{Length, name_of};
+use entry_kit::{Length, NameForm, Stop};
 use hx_bytes::{OutOfMemory, Units};
 use std::alloc::Global;
 
@@ -14,7 +14,12 @@ pub struct Place {
 const LARGEST: u32 = 1700;
 
 /// The value that an attribute has for the so-manieth time: none of it is like the one before, and some are as long as they may be.
-pub fn value_of(alloc: Global, place: Place, version: u8) -> Result<Vec<u8>, OutOfMemory> {
+pub fn value_of(alloc: Global, place: Place, version: u8) -> Result<Vec<u8>, Stop> {
+    let value = bytes_of(alloc, place, version)?;
+    Ok(value)
+}
+
+fn bytes_of(alloc: Global, place: Place, version: u8) -> Result<Vec<u8>, OutOfMemory> {
     let number = place
         .file
         .wrapping_mul(31)
@@ -40,7 +45,7 @@ fn length_of(number: u32) -> u32 {
 /// For each place how often its attribute was given a value, or 0 where there is none.
 #[derive(Drop)]
 pub struct Table {
-    pub length: Length,
+    names: NameForm,
     pub files: u16,
     /// How many names each file may have.
     pub many: u16,
@@ -49,10 +54,15 @@ pub struct Table {
 
 impl Table {
     /// Without an attribute.
-    pub fn new(alloc: Global, length: Length, files: u16, many: u16) -> Result<Table, OutOfMemory> {
+    pub fn new(alloc: Global, length: Length, files: u16, many: u16) -> Result<Table, Stop> {
         let versions = vec![in alloc; 0u8; usize::from(files) * usize::from(many)]?;
-        Ok(Table {
+        let names = NameForm {
             length,
+            longest: 127,
+            step: 9000,
+        };
+        Ok(Table {
+            names,
             files,
             many,
             versions,
@@ -101,8 +111,8 @@ impl Table {
     }
 
     /// The name at a place.
-    pub fn name(&self, alloc: Global, place: Place) -> Result<Units, OutOfMemory> {
-        name_of(alloc, self.length, place.name)
+    pub fn name(&self, alloc: Global, place: Place) -> Result<Units, Stop> {
+        self.names.name(alloc, place.name)
     }
 
     /// How many attributes a file has.

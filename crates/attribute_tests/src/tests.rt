@@ -1,6 +1,6 @@
 //! Whole lives of attributes: set, given other values, deleted, dropped a file at a time, and set again.
-use crate::{Flaw, Length, Table, check_all, delete, drop_all, set, wanted};
-use entry_kit::Drawer;
+use crate::{Flaw, Table, check_all, delete, drop_all, set, wanted};
+use entry_kit::{Drawer, Length};
 use std::alloc::Global;
 
 /// Sets each attribute but each fourth, in shuffled order, and half of them once more.

@@ -1,6 +1,6 @@
 //! The entries that a catalog should have.
-use crate::names::{Length, name_of};
-use hx_bytes::{OutOfMemory, Units};
+use entry_kit::{Length, NameForm, Stop};
+use hx_bytes::Units;
 use std::alloc::Global;
 
 /// How many folders the tests have.
@@ -25,7 +25,7 @@ pub fn folder_id(folder: u8) -> u32 {
 /// For each place the CNID and the number of its entry, or 0 where there is none.
 #[derive(Drop)]
 pub struct Table {
-    pub length: Length,
+    names: NameForm,
     /// How many names each folder may have.
     pub many: u16,
     ids: Vec<u32>,
@@ -34,11 +34,16 @@ pub struct Table {
 
 impl Table {
     /// Without an entry.
-    pub fn new(alloc: Global, length: Length, many: u16) -> Result<Table, OutOfMemory> {
+    pub fn new(alloc: Global, length: Length, many: u16) -> Result<Table, Stop> {
         let ids = vec![in alloc; 0u32; usize::from(many) * usize::from(FOLDERS)]?;
         let counts = vec![in alloc; 0u32; usize::from(many) * usize::from(FOLDERS)]?;
-        Ok(Table {
+        let names = NameForm {
             length,
+            longest: 255,
+            step: 200,
+        };
+        Ok(Table {
+            names,
             many,
             ids,
             counts,
@@ -98,7 +103,7 @@ impl Table {
     }
 
     /// The name at a place.
-    pub fn name(&self, alloc: Global, place: Place) -> Result<Units, OutOfMemory> {
-        name_of(alloc, self.length, place.name)
+    pub fn name(&self, alloc: Global, place: Place) -> Result<Units, Stop> {
+        self.names.name(alloc, place.name)
     }
 }

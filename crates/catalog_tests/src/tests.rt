@@ -1,7 +1,7 @@
 //! Whole lives of a catalog: filled, changed, moved about and emptied.
-use crate::{Flaw, Length, Place, Table, add, check_all, move_on, remove, update, wanted};
+use crate::{Flaw, Place, Table, add, check_all, move_on, remove, update, wanted};
 use catalog::Moved;
-use entry_kit::Shelf;
+use entry_kit::{Length, Shelf};
 use std::alloc::Global;
 
 /// The CNID of the first entry.

@@ -3,11 +3,13 @@
 #![tactic(auto)]
 
 mod drawer;
+mod names;
 mod records;
 mod shelf;
 mod stop;
 
 pub use drawer::Drawer;
+pub use names::{Length, NameForm};
 pub use records::{entry, is_entry, is_file};
 pub use shelf::Shelf;
 pub use stop::Stop;

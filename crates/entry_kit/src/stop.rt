@@ -1,5 +1,6 @@
 //! Why a call wasn't made, or failed.
 use hx_bytes::{OutOfMemory, Trouble};
+use std::alloc::AllocError;
 
 /// What stopped a call.
 #[derive(Clone, Copy, Debug, PartialEq, Eq)]
@@ -13,6 +14,12 @@ pub enum Stop {
 
 impl From<OutOfMemory> for Stop {
     fn from(_: OutOfMemory) -> Stop {
+        Stop::Memory
+    }
+}
+
+impl From<AllocError> for Stop {
+    fn from(_: AllocError) -> Stop {
         Stop::Memory
     }
 }

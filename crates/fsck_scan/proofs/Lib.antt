@@ -9,3 +9,5 @@ pub mod ScanLaws
 pub mod TreeSteps
 pub mod Numbers
 pub mod EndLaws
+pub mod WholeLaws
+pub mod TreeLaws

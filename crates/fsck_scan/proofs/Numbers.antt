@@ -1,6 +1,6 @@
 -- The numbers of a tree's header record that are judged stand among those that the rules of a tree want.
 use Rattle.std.proofs.Common.{◌≡◌, ◌⊎◌, ◌<◌, ◌≤◌, ℕ, ◌-◌, ◌*◌, ◌==◌, min, max, List, [], ◌∷◌, length, map, get_or, inl, inr, refl, sym, ◌∙◌, ap, subst, arith, if◌then◌else◌}
-use Rattle.std.specs.Prelude.{Contains, slice_index, Option, Some, None, IfSome, IfNone}
+use Rattle.std.specs.Prelude.{Contains, slice_index, Option, Some, None, IfSome, IfNone, Result, Ok, Err, IfOk}
 use Rattle.std.specs.List.{count_by, range_with_len}
 use Rattle.btree_node.specs.Levels.{leaves}
 use Rattle.btree_node.specs.TreeFile.{TreeFile, TreeHead}
@@ -18,6 +18,18 @@ none_map (Some x) P Q from holds = holds
 pub some_map : {X : Type 0} (found : Option X) (P Q : X → Type 0) → ((x : X) → P x → Q x) → IfSome found P → IfSome found Q
 some_map None P Q from holds = holds
 some_map (Some x) P Q from holds = from x holds
+
+pub none_both : {X : Type 0} (found : Option X) (P Q R : Type 0) → (P → Q → R) → IfNone found P → IfNone found Q → IfNone found R
+none_both None P Q R from first second = from first second
+none_both (Some x) P Q R from first second = first
+
+pub none_any : {X : Type 0} (found : Option X) (P : Type 0) → P → IfNone found P
+none_any None P holds = holds
+none_any (Some x) P holds = tt
+
+pub ok_none : {X E : Type 0} (result : Result (Option X) E) (P Q : Type 0) → (P → Q) → IfOk result (λ found. IfNone found P) → IfOk result (λ found. IfNone found Q)
+ok_none (Ok found) P Q from holds = none_map found P Q from holds
+ok_none (Err e) P Q from holds = holds
 
 -- a fact of each number of a list, one after the other
 abbrev pub Each : (Number → Type 0) → List Number → Type 0

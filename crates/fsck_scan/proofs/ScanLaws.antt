@@ -166,7 +166,7 @@ module _ (is_key is_value : List ℕ → Type 0) (cmp : List ℕ → List ℕ �
   -- ---- the nodes of levels that were read
 
   -- all records of a level that was read
-  records_of : (j : ℕ) (records : List (List ℕ)) (ends : List ℕ) → IsLevelRead is_key is_value cmp tree j records ends → records ≡ entries tree.nodes (level_in tree j)
+  pub records_of : (j : ℕ) (records : List (List ℕ)) (ends : List ℕ) → IsLevelRead is_key is_value cmp tree j records ends → records ≡ entries tree.nodes (level_in tree j)
   records_of j records ends level = level.records_are ∙ ap (entries tree.nodes) (take_all (length (level_in tree j)) (level_in tree j) (omega arith))
 
   -- a node of a level that was read is good there

@@ -1,10 +1,12 @@
 -- What the header record of each tree of a volume says, and a finding in the words of the rules.
-use Rattle.std.specs.Prelude.{◌≡◌, ◌<◌, ◌≤◌, ℕ, ◌-◌, ◌*◌, ◌==◌, min, max, Bool, false, List, length, slice_index, slice_index_or, if◌then◌else◌}
+use Rattle.std.specs.Prelude.{◌≡◌, ◌<◌, ◌≤◌, ℕ, ◌-◌, ◌*◌, ◌/◌, ◌%◌, ◌==◌, min, max, Bool, false, List, length, slice_index, slice_index_or, if◌then◌else◌}
 use Rattle.jnl_format.specs.Recovery.{Content}
 use Rattle.flag_rows.specs.Bits.{bit_of}
 use Rattle.btree_node.specs.Levels.{Nodes}
 use Rattle.btree_node.specs.TreeFile.{TreeHead, TreeForm, TreeFile, file_of}
-use Rattle.hfs_volume.specs.Content.{node_of_fork}
+use Rattle.hx_bytes.specs.declared.extents.Extent.{Extent}
+use Rattle.btree_file.specs.Place.{fork_sectors}
+use Rattle.hfs_volume.specs.Content.{node_of_fork, tree_of_fork}
 use Rattle.hfs_volume.specs.Broken.{Want, want, bit, node_place, node_size_wanted}
 use Rattle.hfs_volume.specs.Broken as broken
 use Rattle.fsck_list.specs.declared.finding.Finding as listed
@@ -72,6 +74,10 @@ pub record FitsLeaves (head : Head) (leaves : List ℕ) (records left : ℕ) : T
 -- the tree with this header record in a fork
 abbrev pub tree_at : Content → ℕ → List ℕ → ℕ → Head → TreeFile
 tree_at content limit sectors size head = file_of (head_in head) (λ n. node_of_fork content limit sectors size n)
+
+-- the tree in a fork of a volume with so many sectors, whose blocks have so many bytes; what lies past the last whole block doesn't belong to it
+abbrev pub tree_in : Content → ℕ → ℕ → List Extent → TreeFile
+tree_in content sectors block extents = tree_of_fork content (sectors - sectors % (block / 512)) (fork_sectors extents (block / 512))
 
 -- a bit of the map that isn't set where its node is marked, or is where it isn't
 abbrev pub IsWrongBit : ℕ → List ℕ → List Bool → broken.Finding → Type 0

@@ -1,10 +1,11 @@
 -- A tree that is read level by level, each node once: how far the reading has come.
-use Rattle.std.specs.Prelude.{◌≡◌, ◌⊎◌, ◌<◌, ◌≤◌, ℕ, zero, suc, ◌+◌, ◌-◌, ◌/◌, Bool, true, false, List, [], ◌∷◌, ◌++◌, length, replicate, slice_index, slice_index_or}
+use Rattle.std.specs.Prelude.{◌≡◌, ◌≢◌, ◌⊎◌, ◌<◌, ◌≤◌, ℕ, zero, suc, ◌+◌, ◌-◌, ◌/◌, Bool, true, false, List, [], ◌∷◌, ◌++◌, length, map, replicate, slice_index, slice_index_or}
 use Rattle.std.specs.List.{All, flat_map, range_with_len}
 use Rattle.std.specs.declared.cmp.Ordering.{Ordering}
-use Rattle.btree_node.specs.Levels.{Nodes, entries}
-use Rattle.btree_node.specs.TreeFile.{TreeFile, IsHeaderNode, IsMapNode}
-use Rattle.hfs_volume.specs.Broken.{Finding, node_place, levels_in, level_in}
+use Rattle.btree_node.specs.Levels.{Nodes, entries, leaves, pair_of}
+use Rattle.btree_node.specs.Tree.{pairs_of}
+use Rattle.btree_node.specs.TreeFile.{TreeFile, TreeForm, IsHeaderNode, IsMapNode, store_of}
+use Rattle.hfs_volume.specs.Broken.{Finding, node_place, levels_in, level_in, leaves_in, KeepsRules}
 use Rattle.fsck_scan.specs.Level.{HasRead}
 use Rattle.fsck_scan.specs.Map.{AreBlankPast}
 use Rattle.fsck_scan.specs.declared.look.Fault.{Fault}
@@ -79,3 +80,24 @@ IsWrongNode id above ends ns at fault.Node finding = finding ≡ failure 5 (node
 IsWrongNode id above ends ns at fault.Order finding = finding ≡ failure 6 (node_place id (slice_index ns at))
 IsWrongNode id above ends ns at fault.Name finding =
     (i : ℕ) × (finding ≡ failure 6 (node_place id (slice_index above i))) × ((k : ℕ) → k < i → slice_index ends k ≤ at) × (i < length ends → at < slice_index ends i) × (i ≤ length ends)
+
+-- The scan has read the map of a tree: its root has this height and these bytes, or there is no root.
+pub record HasBegun (is_key is_value : List ℕ → Type 0) (cmp : List ℕ → List ℕ → Ordering) (tree : TreeFile) (size total height root : ℕ) (marks : List Bool) (node : List ℕ) : Type 0 where
+  pub size_is : tree.head.node_size ≡ size
+  pub total_is : tree.head.total ≡ total
+  pub root_is : tree.head.root ≡ root
+  pub height_is : levels_in tree ≡ height
+  pub node_is : root ≢ 0 → node ≡ tree.nodes root
+  pub blank : IsBlankPast tree (length marks)
+  pub scanned : HasScanned is_key is_value cmp tree 0 marks
+
+-- All levels of a tree were read: these are its leaves, and their records.
+pub record HasAllLevels (is_key is_value : List ℕ → Type 0) (cmp : List ℕ → List ℕ → Ordering) (tree : TreeFile) (marks : List Bool) (ns : List ℕ) (records : List (List ℕ)) : Type 0 where
+  pub scanned : HasScanned is_key is_value cmp tree (levels_in tree) marks
+  pub nodes_are : ns ≡ leaves_in tree
+  pub pairs_are : map pair_of records ≡ leaves tree.nodes tree.head.root (levels_in tree)
+
+-- a tree keeps its rules, and these are the records of its leaves
+pub record IsScanned (form : TreeForm) (is_key is_value : List ℕ → Type 0) (cmp : List ℕ → List ℕ → Ordering) (id : ℕ) (tree : TreeFile) (records : List (List ℕ)) : Type 0 where
+  pub keeps : KeepsRules form is_key is_value cmp id tree
+  pub pairs : map pair_of records ≡ pairs_of (store_of tree)

@@ -7,14 +7,19 @@ mod form;
 mod level;
 mod look;
 mod map;
+mod pairs;
 mod records;
 mod scan;
 #[cfg(test)]
 mod tests;
 mod tree;
+mod trees;
+mod whole;
 
 pub use children::{WrongChild, mark_children};
 pub use fork::Fork;
 pub use form::{Form, TreeName};
 pub use level::{WrongNode, read_level};
 pub use look::Fault;
+pub use pairs::Pairs;
+pub use trees::scan_tree;

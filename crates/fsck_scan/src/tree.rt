@@ -44,6 +44,18 @@ impl Level {
             ends: Vec::new(alloc),
         }
     }
+
+    /// Its records, with all else given up.
+    pub(crate) fn into_records(self) -> Records
+        ensures { result ≡ self.records }
+    {
+        let Level {
+            nodes: _,
+            records,
+            ends: _,
+        } = self;
+        records
+    }
 }
 
 /// The place of the node that holds a record of its level, where the records of each node end before these places.

@@ -1,5 +1,5 @@
 -- Between a rig with its store and what is seen of them from outside.
-use Rattle.std.proofs.Common.{◌≡◌, ◌⊎◌, ◌<◌, ◌≤◌, ◌/◌, ◌*◌, ◌^◌, ℕ, Bool, true, false, ◌&&◌, List, [], inl, inr, ⊎_elim, length, drop, refl, sym, ◌∙◌, ap, subst, arith, eqb, cond}
+use Rattle.std.proofs.Common.{◌≡◌, ◌<◌, ◌≤◌, ◌/◌, ◌*◌, ◌^◌, ℕ, Bool, true, false, ◌&&◌, List, [], inl, inr, ⊎_elim, length, drop, refl, sym, ◌∙◌, ap, subst, arith, eqb, cond}
 use Rattle.std.specs.Prelude.{Option, None, Some, is_none, Result, Ok, Err, ◌==◌}
 use Rattle.std.proofs.lemmas.Bool.{and_parts, and_from, eqb-true, eq-eqb}
 use Rattle.volume_header.specs.Refusal.{header_refusal, is_locked}

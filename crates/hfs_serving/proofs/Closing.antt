@@ -1,5 +1,5 @@
 -- The end of a run: the mark is put, and committed.
-use Rattle.std.proofs.Common.{◌≡◌, ◌⊎◌, ℕ, inl, inr, ⊎_elim, length, refl, sym, ◌∙◌}
+use Rattle.std.proofs.Common.{ℕ, inl, inr, refl, ◌∙◌}
 use Rattle.std.specs.Prelude.{Option}
 use Rattle.sector_disk.specs.Space.{Space}
 use Rattle.sector_disk.proofs.Passing.{both_pass, passes_with}
@@ -7,7 +7,6 @@ use Rattle.jnl_format.specs.Recovery.{Content}
 use Rattle.hfs_serving.specs.Closing.{Finishes, IsClosed, MayFinish}
 use Rattle.hfs_serving.specs.Going.{Knowing, Stands}
 use Rattle.hfs_serving.specs.Outside.{Outside}
-use Rattle.hfs_serving.specs.Runs.{Crashes, Serves, StandsAs}
 use Rattle.hfs_serving.specs.Serving.{Commits, IsDurable, MayCommit, Touches}
 use Rattle.hfs_serving.specs.Stages.{MayTurn}
 use Rattle.hfs_serving.proofs.Agreeing.{committed_below, stands_durable, stands_either, touched_below}

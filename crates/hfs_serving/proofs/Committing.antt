@@ -51,6 +51,7 @@ module _ (a b : ℕ) (store new : Store) (disk after : State) (most : store.plan
         may = commit_seen a b store disk after most h durable_size over_size leaves sink;
         durable = makes.agrees;
         content = subst (λ (d : Content). AgreesOutside (IsClosed store.plan) (content_over store (content disk)) d) over_is makes.agrees;
+        live = makes.live;
         nothing = λ s spilled. absurd (omega (arith, spilled.0, few_only (content after) s, ap (λ (c : Candidates). length (candidates_of c s)) makes.settled));
         closed = λ s. (closed_same store new journal s, closed_back store new journal s);
         leaves = λ recovered left.

@@ -1,22 +1,21 @@
 -- A volume that goes on within a batch.
-use Rattle.std.proofs.Common.{◌≡◌, ◌⊎◌, ◌≤◌, ◌∷◌, [], ◌++◌, ℕ, List, true, false, inl, inr, ⊎_elim, refl, sym, ◌∙◌, ap, subst, take, append_assoc}
+use Rattle.std.proofs.Common.{◌≡◌, ◌⊎◌, ◌∷◌, [], ◌++◌, ℕ, List, true, false, inl, inr, ⊎_elim, refl, sym, ◌∙◌, ap, subst, take, append_assoc}
 use Rattle.std.specs.Prelude.{Bool, Option, Result, Ok, Err, OnOk, OnErr}
 use Rattle.std.proofs.lemmas.List.{append-nil}
-use Rattle.sector_disk.specs.Space.{Space, AgreesOutside}
+use Rattle.sector_disk.specs.Space.{Space}
 use Rattle.jnl_format.specs.Recovery.{Content}
 use Rattle.hfs_volume.specs.Content.{volume_of}
 use Rattle.hfs_volume.specs.Reclaim.{Tidies, IsTidied, IsAtRest, none, one_more}
-use Rattle.hfs_volume.specs.Run.{Entry, shrunk_in, shrunk_after, lines_of, replies_of}
+use Rattle.hfs_volume.specs.Run.{shrunk_in, lines_of, replies_of}
 use Rattle.hfs_serving.specs.Going.{Knowing, Stands, Stays, Tidied, Answered, AnswersTo, is_answered, GoesTidy, GoesRested, GoesOn, GoesWhole, ServesBatch, ServesLine, ServesLines, StopsLines, StopsOn, line_if}
 use Rattle.hfs_serving.specs.declared.volume.Step.{Step}
 use Rattle.hfs_serving.specs.declared.volume.Step.TheVariants as step
 use Rattle.hfs_serving.specs.Outside.{Outside}
 use Rattle.hfs_serving.specs.Runs.{Leads, LeadsToRest}
-use Rattle.hfs_serving.specs.Serving.{IsDurable, IsRead, IsAsDurable, Touches, MayCommit, Commits, Goes, Stops}
-use Rattle.hfs_serving.proofs.Agreeing.{committed_below, committed_reads}
+use Rattle.hfs_serving.specs.Serving.{Touches, MayCommit, Commits, Goes, Stops}
 use Rattle.hfs_serving.proofs.Lists.{shrunk_in-none, shrunk_in-one, shrunk_in-append, lines_of-append, replies_of-none, replies_of-append, content_after-none}
-use Rattle.hfs_serving.proofs.Leading.{leads_none, leads_on, leads_entry, leads_of_rest, leads_rest, leads_to_rest, place_none, rest_on}
-use Rattle.hfs_serving.proofs.Batches.{goes_none, goes_both, goes_stops, touched_on, stops_there}
+use Rattle.hfs_serving.proofs.Leading.{leads_on, leads_entry, leads_rest, leads_to_rest, rest_on}
+use Rattle.hfs_serving.proofs.Batches.{goes_none, goes_both, goes_stops, touched_on}
 use Rattle.hfs_serving.proofs.Joining.{commit_goes_here, commit_stops_here, touch_stops_here}
 
 -- ---- whatever the answer

@@ -1,5 +1,5 @@
 -- What a store that keeps what it has to keep leaves to a crash, and what a commit of it does.
-use Rattle.std.proofs.Common.{◌≡◌, ◌≢◌, ◌⊎◌, ◌≤◌, ◌/◌, ◌^◌, ℕ, [], inl, ⊎_elim, length, refl, sym, ◌∙◌, ap, subst, arith}
+use Rattle.std.proofs.Common.{◌≡◌, ◌≢◌, ◌≤◌, ◌/◌, ◌^◌, ℕ, [], inl, ⊎_elim, length, refl, sym, ◌∙◌, ap, subst, arith}
 use Rattle.std.specs.Prelude.{IsTrue, IsErrOf, OnOk, Result, Ok, Err, Bool, true, false, ◌&&◌}
 use Rattle.std.proofs.lemmas.Bool.{and_from, and_parts, cases_eq}
 use Rattle.sector_disk.specs.Disk.{Candidates, CrashesLeave, IsDisk, IsImage, SameSink, State, Untouched, content}

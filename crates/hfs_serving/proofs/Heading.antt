@@ -1,5 +1,5 @@
 -- From what the server proves of a run to what the top call says of it.
-use Rattle.std.proofs.Common.{◌⊎◌, ◌++◌, [], ℕ, List, ⊎_elim, refl, sym, subst, arith}
+use Rattle.std.proofs.Common.{◌++◌, [], ℕ, List, ⊎_elim, refl, sym, subst, arith}
 use Rattle.std.specs.Prelude.{IsTrue, None}
 use Rattle.std.proofs.lemmas.List.{append_cancel_left}
 use Rattle.sector_disk.specs.Disk.{State, IsImage, LeftNow}

@@ -1,8 +1,8 @@
 -- From a run over a rig to its promises.
-use Rattle.std.proofs.Common.{◌≡◌, ◌+◌, ◌++◌, [], ℕ, List, refl, length, take, drop, sym, ◌∙◌, arith, ap, subst}
+use Rattle.std.proofs.Common.{◌≡◌, ◌+◌, ◌++◌, [], ℕ, List, refl, length, drop, sym, ◌∙◌, arith, ap, subst}
 use Rattle.std.proofs.lemmas.List.{append-nil, take-append-drop, take_all}
 use Rattle.std.specs.Prelude.{None, IsTrue}
-use Rattle.sector_disk.specs.Disk.{State, IsImage, LeftNow}
+use Rattle.sector_disk.specs.Disk.{State, LeftNow}
 use Rattle.sector_disk.specs.Source.{Stream}
 use Rattle.sector_disk.specs.Space.{Space}
 use Rattle.jnl_format.specs.Recovery.{Content}
@@ -16,7 +16,7 @@ use Rattle.hfs_serving.specs.Going.{Knowing, Stands}
 use Rattle.hfs_serving.specs.Grounds.{anchor_of}
 use Rattle.hfs_serving.specs.Opening.{MayServe}
 use Rattle.hfs_serving.specs.Outside.{Outside, outside_of}
-use Rattle.hfs_serving.specs.Runs.{Crashes, StandsAs}
+use Rattle.hfs_serving.specs.Runs.{Crashes}
 use Rattle.hfs_serving.specs.Steps.{CrashesStep, EndsRun, KeepsRun, ServesStep}
 use Rattle.hfs_serving.specs.Top.{AreFirst, AreTaken}
 use Rattle.hfs_serving.proofs.Agreeing.{stands_durable}

@@ -1,5 +1,5 @@
 -- A batch whose replies are told.
-use Rattle.std.proofs.Common.{◌≡◌, ◌⊎◌, ◌↔◌, ◌+◌, ◌++◌, [], ℕ, List, length, take, drop, take-add, inl, inr, ⊎_elim, refl, sym, ◌∙◌, ap, subst}
+use Rattle.std.proofs.Common.{◌≡◌, ◌⊎◌, ◌+◌, ◌++◌, [], ℕ, List, length, take, drop, take-add, inl, inr, ⊎_elim, refl, sym, ◌∙◌, ap, subst}
 use Rattle.std.specs.Prelude.{Option}
 use Rattle.sector_disk.specs.Space.{Space, AgreesOutside}
 use Rattle.jnl_format.specs.Keeping.{KeepsHeader}

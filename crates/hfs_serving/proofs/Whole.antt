@@ -1,7 +1,7 @@
 -- Bytes are told piece by piece.
-use Rattle.std.proofs.Common.{◌≡◌, ◌<◌, ◌≤◌, ◌+◌, ◌-◌, ◌++◌, [], ℕ, List, IsTrue, length, take, drop, refl, sym, ◌∙◌, ap, subst, arith, append_assoc, take-add, length-drop}
-use Rattle.std.proofs.lemmas.List.{append-nil, take_all}
-use Rattle.sector_disk.specs.Clock.{Clock, TimePasses}
+use Rattle.std.proofs.Common.{◌≡◌, ◌≤◌, ◌+◌, ◌++◌, ℕ, List, IsTrue, length, take, drop, refl, sym, ◌∙◌, ap, subst, arith, append_assoc, take-add, length-drop}
+use Rattle.std.proofs.lemmas.List.{append-nil}
+use Rattle.sector_disk.specs.Clock.{TimePasses}
 use Rattle.sector_disk.specs.Disk.{State, IsImage, SameDisk, ToldPrefix}
 use Rattle.sector_disk.proofs.Passing.{none_passes, both_pass}
 use Rattle.sector_disk.proofs.Writing.{same_after}

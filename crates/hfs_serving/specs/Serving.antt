@@ -60,12 +60,14 @@ pub record MayCommit (old : Space) (before after : Outside) : Type 0 where
   pub leaves : (recovered : Content) → after.leaves recovered → IsEither old recovered
   pub told : after.told ≡ before.told
 
--- a commit that answered Ok
+-- A commit that answered Ok: what was read is durable, nothing is spilled, and no live list names a sector that none named before and that
+-- wasn't put.
 pub record Commits (old : Space) (before : Outside) (new : Space) (after : Outside) : Type 0 where
   pub may : MayCommit old before after
   pub durable : AgreesOutside old.closed old.content new.durable
   pub content : AgreesOutside old.closed old.content new.content
   pub nothing : (s : ℕ) → new.spilled s → ⊥
+  pub live : (s : ℕ) → new.live s → old.live s
   pub closed : (s : ℕ) → new.closed s ↔ old.closed s
   pub leaves : (recovered : Content) → after.leaves recovered → IsAsDurable new recovered
 

@@ -8,6 +8,9 @@ use crate::housekeeping::tidy;
 use crate::volume::{Step, Volume};
 use hx_bytes::{Bytes, Trouble};
 
+/// The most lines of one batch.
+pub const MOST_LINES: usize = 32;
+
 /// Serves a line, before which housekeeping comes to rest. Where the line isn't the first of its batch and wants a commit, it is left for the next
 /// batch. Answers whether it was served.
 pub fn serve_line<V: Volume, G: Ground>(
@@ -81,7 +84,12 @@ fn make_room<V: Volume, G: Ground>(
     Ok(())
 }
 
-// Serves lines until one is left for the next batch. Answers how many were served.
+// Whether the line asks that all be made durable, which ends its batch.
+fn is_sync(line: &[u8]) -> bool {
+    line == b"sync".as_slice()
+}
+
+// Serves lines until one is left for the next batch, or the batch has its most. Answers how many were served.
 fn serve_lines<V: Volume, G: Ground>(
     volume: &mut V,
     base: &mut G,
@@ -95,20 +103,27 @@ fn serve_lines<V: Volume, G: Ground>(
     ensures stops { IsTrue (G.space base.old).tells → (capacity : ℕ) (committed now : Content) (shrunk : Option ℕ) → Stands (V.knows volume.old (G.space base.old) capacity) committed now shrunk (G.space base.old) (G.outside base.old)
         → OnErr result (StopsLines capacity committed now shrunk (G.outside base.old) lines.now (G.outside base.new)) }
     ensures few { IfOk result (λ count. count ≤ length lines.now) }
+    ensures most { IfOk result (λ count. count ≤ 32) }
     ensures still { (capacity : ℕ) → G.serves base.old capacity → G.taken base.old ≤ capacity → OnOk result (G.serves base.new capacity × (G.taken base.new ≤ capacity)) }
     ensures tells { OnOk result ((G.space base.new).tells ≡ (G.space base.old).tells) }
     ensures anchor { G.anchor base.new ≡ G.anchor base.old }
 {
     for at in 0..lines.len() {
+        if at == MOST_LINES {
+            return Ok(at);
+        }
         if !serve_line(volume, base, lines[at].as_slice(), at == 0, replies)? {
             return Ok(at);
+        }
+        if is_sync(lines[at].as_slice()) {
+            return Ok(at + 1);
         }
     }
     Ok(lines.len())
 }
 
 /// Serves lines as one batch, and adds their replies, which are to be told only behind it. Its end is one commit of all that they changed. A line
-/// that wants a commit before it ends the batch, unless it is the first. Answers how many of the lines were served.
+/// that wants a commit before it ends the batch, unless it is the first, and so do a `sync` and the 32nd line. Answers how many of the lines were served.
 pub fn serve_batch<V: Volume, G: Ground>(
     volume: &mut V,
     base: &mut G,
@@ -124,6 +139,7 @@ pub fn serve_batch<V: Volume, G: Ground>(
     ensures stops { IsTrue (G.space base.old).tells → (capacity : ℕ) (start : Content) (shrunk : Option ℕ) → Stands (V.knows volume.old (G.space base.old) capacity) start start shrunk (G.space base.old) (G.outside base.old)
         → OnErr result (StopsLines capacity start start shrunk (G.outside base.old) lines.now (G.outside base.new)) }
     ensures few { IfOk result (λ count. count ≤ length lines.now) }
+    ensures most { IfOk result (λ count. count ≤ 32) }
     ensures still { (capacity : ℕ) → G.serves base.old capacity → G.taken base.old ≤ capacity → OnOk result (G.serves base.new capacity × (G.taken base.new ≡ 0)) }
     ensures tells { OnOk result ((G.space base.new).tells ≡ (G.space base.old).tells) }
     ensures anchor { G.anchor base.new ≡ G.anchor base.old }

@@ -14,7 +14,7 @@ mod telling;
 mod volume;
 
 pub use basis::Ground;
-pub use batch::{serve_batch, serve_line};
+pub use batch::{MOST_LINES, serve_batch, serve_line};
 pub use finishing::finish;
 pub use housekeeping::{tidy, work};
 pub use laws::{

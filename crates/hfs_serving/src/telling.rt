@@ -66,6 +66,7 @@ pub fn serve_step<V: Volume, G: Teller>(
     ensures stops { IsTrue (G.space base.old).tells → (capacity : ℕ) (start : Content) (shrunk : Option ℕ) → Stands (V.knows volume.old (G.space base.old) capacity) start start shrunk (G.space base.old) (G.outside base.old)
         → OnErr result (CrashesStep capacity start shrunk (G.outside base.old) lines.now (G.outside base.new)) }
     ensures few { IfOk result (λ count. count ≤ length lines.now) }
+    ensures most { IfOk result (λ count. count ≤ 32) }
     ensures still { (capacity : ℕ) → G.serves base.old capacity → G.taken base.old ≤ capacity → OnOk result (G.serves base.new capacity × (G.taken base.new ≡ 0)) }
     ensures tells { OnOk result ((G.space base.new).tells ≡ (G.space base.old).tells) }
     ensures anchor { G.anchor base.new ≡ G.anchor base.old }

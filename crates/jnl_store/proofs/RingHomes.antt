@@ -94,9 +94,9 @@ named_back more text named homes puts n s inside does is = elim (cases_Bool (nam
       ∙ ap (λ (c : Content). sector c s) (does one) ∙ overlay-other puts (with_homes text homes one) s alone in
       inr (⊎_elim
       (λ (a : sector (with_homes text homes other) s ≡ sector other s). ⊎_elim
-          (λ (b : sector (with_homes text homes one) s ≡ sector one s).
-          absurd (let no : zero ≡ none = sym (get_or-replicate n s zero none inside) ∙ sym a ∙ same ∙ b ∙ get_or-replicate n s none none inside in cc no))
-          (λ h. h) (homes_else text homes one s))
+      (λ (b : sector (with_homes text homes one) s ≡ sector one s).
+      absurd (let no : zero ≡ none = sym (get_or-replicate n s zero none inside) ∙ sym a ∙ same ∙ b ∙ get_or-replicate n s none none inside in cc no))
+      (λ h. h) (homes_else text homes one s))
       (λ h. h) (homes_else text homes other s))
 ]
 

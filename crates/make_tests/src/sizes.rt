@@ -112,7 +112,7 @@ fn a_disk_that_fails_is_told(rt: HostRuntime) -> Result<(), Fail> {
     let alloc = rt.alloc();
     for late in [0, 1, 700, 2_827] {
         let mut rig = used_disk(alloc, 16_384)?;
-        let call = rig.calls() + late;
+        let call = rig.calls().saturating_add(late);
         rig.fail_on(alloc, call)?;
         let made = formatted(alloc, &mut rig, 4_096, 2_048, "a")?;
         assert_eq!(rt; made, Err(FormatFault::Disk));

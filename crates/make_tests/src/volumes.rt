@@ -13,17 +13,23 @@ pub const OLD: u8 = 0xA5;
 pub fn used_disk(alloc: Global, sectors: u64) -> Result<MemRig, OutOfMemory> {
     let mut rig = MemRig::new(alloc, sectors)?;
     for at in 0..sectors {
-        let _ = rig.write(at, &[OLD; 512]);
+        fill(&mut rig, at);
     }
-    let _ = rig.barrier();
+    let _settled = rig.barrier();
     Ok(rig)
+}
+
+fn fill(rig: &mut MemRig, at: u64) {
+    if at < rig.sectors() {
+        let _written = rig.write(at, &[OLD; 512]);
+    }
 }
 
 /// What a sector of the disk holds.
 pub fn sector_of(rig: &mut MemRig, at: u64) -> Sector {
     let mut sector = [0; 512];
     if at < rig.sectors() {
-        let _ = rig.read(at, &mut sector);
+        let _read = rig.read(at, &mut sector);
     }
     sector
 }

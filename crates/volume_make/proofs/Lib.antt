@@ -3,3 +3,5 @@ pub mod Results
 pub mod Writes
 pub mod Leaves
 pub mod Accepting
+pub mod Finding
+pub mod Fields

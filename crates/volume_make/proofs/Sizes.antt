@@ -7,7 +7,7 @@ use Rattle.std.proofs.Math.Nat.{add-mul}
 use Rattle.volume_make.specs.Refusal.{is_block_size}
 use Rattle.volume_make.specs.Layout.{CanBe, IsFitting, blocks_for, last_start, layout_of}
 
-le_true : (a b : ℕ) → nat_le a b ≡ true → a ≤ b
+pub le_true : (a b : ℕ) → nat_le a b ≡ true → a ≤ b
 le_true a b is = ⊎_elim (λ (s : (nat_le a b ≡ true) × (a ≤ b)). s.1) (λ (d : (nat_le a b ≡ false) × (b < a)). absurd (cc (d.0, is))) (leb_tells a b)
 
 either : (x y : Bool) → (x || y) ≡ true → (x ≡ true) ⊎ (y ≡ true)

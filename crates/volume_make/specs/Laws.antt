@@ -1,11 +1,17 @@
 -- The places worked out for some sizes, and what a reader finds in the texts.
-use Rattle.std.specs.Prelude.{◌≡◌, ℕ, List, [], ◌∷◌, codes, None}
+use Rattle.std.specs.Prelude.{◌≡◌, ℕ, ◌*◌, List, [], ◌∷◌, codes, false, None, Ok}
 use Rattle.hx_bytes.specs.declared.extents.Extent.{Extent}
+use Rattle.hx_bytes.specs.declared.fields.Order.TheVariants.{Little}
+use Rattle.jnl_format.specs.declared.structures.Info.{Info}
+use Rattle.jnl_format.specs.declared.structures.Header.{Header}
+use Rattle.jnl_format.specs.Info.{info_of, info_fault}
+use Rattle.jnl_format.specs.Header.{header_read}
+use Rattle.volume_header.specs.Header.{header_of}
 use Rattle.volume_header.specs.Refusal.{header_refusal}
 use Rattle.hfs_model.specs.Thin as thin
 use Rattle.volume_make.specs.declared.layout.Layout.{Layout}
 use Rattle.volume_make.specs.Layout.{CanBe, layout_of, free_of, end_of}
-use Rattle.volume_make.specs.Texts.{fresh_header, info_text, journal_text, empty_tree, catalog_tree, leaf_items}
+use Rattle.volume_make.specs.Texts.{fresh_header, header_text, info_text, journal_text, empty_tree, catalog_tree, leaf_items}
 
 -- the first block and the number of blocks of a part
 abbrev pub run : ℕ → ℕ → Extent
@@ -37,3 +43,25 @@ pub record IsThinVolume (layout : Layout) : Type 0 where
   pub attributes : empty_tree layout.block 266 6 ≡ thin.attributes_tree
   pub catalog : catalog_tree layout.block ≡ thin.catalog_tree 0
   pub leaf : leaf_items layout (codes "untitled") ≡ thin.leaf_items []
+
+-- the fields of the journal info block, and the journal's header
+abbrev pub fresh_info : Layout → Info
+fresh_info layout = record { flags = 1; offset = layout.journal.start * layout.block; size = layout.journal.count * layout.block }
+
+abbrev pub fresh_journal : Layout → Header
+fresh_journal layout = record { order = Little; start = 512; end = 512; size = layout.journal.count * layout.block; blhdr = 4096 }
+
+-- The journal is found by a reader: the info block says where it is, on this volume and inside it, and its header is that of an
+-- empty journal of this size.
+pub record JournalFound (layout : Layout) : Type 0 where
+  pub info : info_of (info_text layout) ≡ fresh_info layout
+  pub inside : info_fault (layout.sectors * 512) false (fresh_info layout) ≡ None
+  pub journal : header_read (layout.journal.count * layout.block) (journal_text layout) ≡ Ok (fresh_journal layout)
+
+-- so it is whatever the sizes
+abbrev pub JournalsFound : Type 0
+JournalsFound = (sectors block length : ℕ) → CanBe sectors block length → JournalFound (layout_of sectors block length)
+
+-- a reader reads just this header from its sector, whatever the sizes
+abbrev pub HeaderReadBack : Type 0
+HeaderReadBack = (sectors block length : ℕ) → CanBe sectors block length → header_of (header_text (layout_of sectors block length)) ≡ fresh_header (layout_of sectors block length)

@@ -1,7 +1,7 @@
 //! Laws of the layout, each as a function without a body.
 ghost use Rattle.std.specs.Prelude.{[], ◌∷◌};
 ghost use Rattle.volume_make.specs.Layout.{layout_of};
-ghost use Rattle.volume_make.specs.Laws.{run, IsWorked, HeaderAccepted, IsThinVolume};
+ghost use Rattle.volume_make.specs.Laws.{run, IsWorked, HeaderAccepted, HeaderReadBack, IsThinVolume, JournalsFound};
 
 /// The parts of some volumes, in blocks: each with its first one and their number, from the bitmap to the catalog, then the last
 /// blocks; then the number of blocks, the first free one, and the number of free ones. The sizes are the least and the greatest
@@ -16,12 +16,18 @@ pub fn places_are_worked()
     ensures most_bytes { IsWorked 2147483648 65536 65536 (run 1 32 ∷ run 33 1 ∷ run 34 512 ∷ run 546 1 ∷ run 547 1 ∷ run 548 4 ∷ run 16777215 1 ∷ []) (16777216 ∷ 552 ∷ 16776663 ∷ []) }
 {}
 
-/// The header of a volume that is made is accepted by a reader of headers.
+/// The header of a volume that is made is read from its sector as it was made, and is accepted by a reader of headers.
 pub fn fresh_header_is_accepted()
-    ensures { HeaderAccepted }
+    ensures accepted { HeaderAccepted }
+    ensures read_back { HeaderReadBack }
 {}
 
 /// The usual volume of 16,384 sectors is the thin one.
 pub fn usual_volume_is_thin()
     ensures { IsThinVolume (layout_of 16384 4096 2048) }
+{}
+
+/// The journal of a volume that is made is found by a reader, and is empty.
+pub fn fresh_journal_is_found()
+    ensures { JournalsFound }
 {}

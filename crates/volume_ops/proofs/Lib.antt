@@ -1,9 +1,11 @@
 pub mod Alike
 pub mod Begun
 pub mod Bridging
+pub mod CatalogEdited
 pub mod EditsOn
 pub mod Facts
 pub mod Gauging
+pub mod HeaderPut
 pub mod Identities
 pub mod Listed
 pub mod NodesRead
@@ -17,4 +19,5 @@ pub mod Seeing
 pub mod SoundForks
 pub mod Still
 pub mod Stood
+pub mod Touched
 pub mod Walked

@@ -1,8 +1,7 @@
 -- What commands answer over a settled volume is what the step answers on its tree.
-use Rattle.std.proofs.Common.{◌≡◌, ℕ, IsTrue, true, false, List, refl, sym, ◌∙◌, ap, subst, arith}
-use Rattle.std.specs.Prelude.{◌||◌, Option, Result, Ok, Err, IfOk, All, if◌then◌else◌, ◌≤◌, ◌∷◌, [], length, zero, suc}
+use Rattle.std.proofs.Common.{◌≡◌, ℕ, false, List, refl, sym, ◌∙◌, ap, arith}
+use Rattle.std.specs.Prelude.{◌||◌, Option, Result, Ok, Err, All, if◌then◌else◌, ◌≤◌, ◌∷◌, [], length, zero, suc}
 use Rattle.std.specs.List.{flat_map}
-use Rattle.hx_bytes.specs.declared.faults.Trouble.{Trouble}
 use Rattle.sector_disk.specs.Lists.{Content}
 use Rattle.attributes.specs.Values.{value_at}
 use Rattle.btree_node.specs.Levels.{Pair}
@@ -16,9 +15,7 @@ use Rattle.hfs_language.specs.declared.reply.ListedName.{ListedName}
 use Rattle.hfs_language.specs.declared.reply.Reply.{Reply}
 use Rattle.hfs_language.specs.declared.reply.Reply.TheVariants as reply
 use Rattle.hfs_model.specs.Step.{is_private_path, step, step_line}
-use Rattle.hfs_model.specs.declared.plain.PlainTree.{PlainTree}
 use Rattle.hfs_volume.specs.Books.{SoundHasPlainTree}
-use Rattle.hfs_volume.specs.Links.{private_id}
 use Rattle.hfs_volume.specs.Content.{VolumeState, volume_of, records_of, overflow_in_volume, attributes_of}
 use Rattle.hfs_volume.specs.TreeOf.{tree_in, tree_of, seen_entry, threaded_node, file_bytes}
 use Rattle.volume_ops.specs.Listing.{replied, names_in}

@@ -1,5 +1,5 @@
 -- What a read of the catalog leaves of it, and reads one after another.
-use Rattle.std.proofs.Common.{◌≡◌, ℕ, ◌≤◌, ◌<◌, ◌*◌, IsTrue, List, length, get_or, refl, sym, ◌∙◌, ap, subst}
+use Rattle.std.proofs.Common.{◌≡◌, ℕ, ◌<◌, ◌*◌, IsTrue, List, length, get_or, sym, ◌∙◌, ap, subst}
 use Rattle.std.specs.Prelude.{Bool}
 use Rattle.std.specs.List.{Contains}
 use Rattle.std.specs.declared.cmp.Ordering.{Ordering}
@@ -14,8 +14,7 @@ use Rattle.btree_node.specs.declared.store.TreeShape.{TreeShape}
 use Rattle.btree_edit.specs.Desk.{IsDeskOf}
 use Rattle.btree_edit.specs.declared.desk.Desk.{Desk}
 use Rattle.btree_file.specs.Held.{file_in}
-use Rattle.btree_file.specs.Place.{IsInside, IsOpen}
-use Rattle.btree_file.specs.Standing.{Stands, HoldsTree, LiesInside, LiesOpen, numbers_of, pairs_in}
+use Rattle.btree_file.specs.Standing.{HoldsTree, LiesInside, numbers_of, pairs_in}
 use Rattle.btree_file.specs.State.{sectors_of_tree, per_node, nodes_on, HasMap}
 use Rattle.btree_file.specs.declared.tree.Stretch.{Stretch}
 use Rattle.btree_file.specs.declared.tree.TreeFile.{TreeFile}
@@ -23,7 +22,6 @@ use Rattle.hfs_volume.specs.Entries.{AreSpelled}
 use Rattle.volume_ops.specs.Looking.{IsCatalogOver, IsAttributesOver, ReadsTree}
 use Rattle.volume_ops.specs.Service.{KeepsFile}
 use Rattle.volume_ops.specs.Standing.{AreWhole}
-use Rattle.volume_ops.specs.Touching.{Looks}
 use Rattle.volume_ops.proofs.Seeing.{file_both, looks_both, looks_wider}
 
 -- what a tree stands by

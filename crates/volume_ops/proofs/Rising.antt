@@ -1,6 +1,6 @@
 -- The pairs of a volume's trees stand in the order of their keys, so its lists have a plain tree.
 use Rattle.std.proofs.Common.{◌≡◌, ℕ, zero, suc, ◌<◌, Bool, true, false, List, [], ◌∷◌, length, map, refl, sym, ◌∙◌, ap, subst, arith}
-use Rattle.std.specs.Prelude.{IsTrue, slice_index_or, if◌then◌else◌}
+use Rattle.std.specs.Prelude.{slice_index_or, if◌then◌else◌}
 use Rattle.std.specs.List.{AllByRecursion}
 use Rattle.std.specs.Ordering.{is_lt}
 use Rattle.std.specs.declared.cmp.Ordering.{Ordering}
@@ -17,7 +17,7 @@ use Rattle.btree_file.specs.Standing.{pairs_in}
 use Rattle.btree_file.specs.State.{sectors_of_tree}
 use Rattle.hfs_model.specs.Plain.{IsPlainTree}
 use Rattle.hfs_model.specs.Sorted.{IsInOrder}
-use Rattle.hfs_volume.specs.Books.{SoundHasPlainTree, IsGivenTree}
+use Rattle.hfs_volume.specs.Books.{SoundHasPlainTree}
 use Rattle.hfs_volume.specs.Changes.{AreSorted, AreSortedAttributes, attribute_before}
 use Rattle.hfs_volume.specs.Content.{VolumeState, volume_of, has_attributes}
 use Rattle.hfs_volume.specs.Records.{Attribute, attribute_of}

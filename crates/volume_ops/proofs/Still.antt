@@ -15,7 +15,6 @@ use Rattle.alloc_bitmap.specs.Fork.{fork_sectors}
 use Rattle.alloc_bitmap.specs.declared.bitmap.Bitmap.{Bitmap}
 use Rattle.btree_node.specs.Keys.{IsCatalogKey, IsExtentKey, IsAttrKey, catalog_cmp, extent_cmp, attr_cmp, is_eight_extents, anything}
 use Rattle.btree_node.specs.TreeFile.{TreeForm, tree_head, extents_form, catalog_form, attributes_form}
-use Rattle.btree_edit.specs.Desk.{IsDeskOf}
 use Rattle.btree_edit.specs.declared.desk.Desk.{Desk}
 use Rattle.btree_file.specs.Map.{bits_of}
 use Rattle.btree_file.specs.Standing.{HoldsTree, pairs_in}

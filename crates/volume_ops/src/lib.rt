@@ -4,9 +4,11 @@
 mod attach;
 mod attaching;
 mod beginning;
+mod changing;
 mod editing;
 mod extents;
 mod header;
+mod heading;
 mod keeping;
 mod listing;
 mod looking;

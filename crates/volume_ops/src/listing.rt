@@ -1,7 +1,6 @@
 //! `ls`: the names in a folder.
-ghost use Rattle.std.specs.Prelude.{◌≡◌, ◌≢◌, ◌≤◌, List, ℕ, Ok, Err, IsTrue, IfOk, length};
+ghost use Rattle.std.specs.Prelude.{◌≡◌, ◌≤◌, Ok, Err, IsTrue, IfOk, length};
 ghost use Rattle.std.specs.List.{All};
-ghost use Rattle.hx_bytes.specs.declared.faults.Trouble.TheVariants.{Disk};
 ghost use Rattle.btree_edit.specs.Causes.{HasTroubleCause};
 ghost use Rattle.btree_file.specs.Standing.{pairs_in};
 ghost use Rattle.btree_file.specs.State.{sectors_of_tree};
@@ -47,6 +46,7 @@ fn list_children<P: SectorSpace>(
     catalog::children(alloc, &mut on, desk, folder)
 }
 
+/// Whether a record is a folder's.
 fn is_folder(rec: &CatRecord) -> bool
     ensures { result ≡ is_folder rec.now }
 {

@@ -47,6 +47,7 @@ pub(crate) fn is_private_path(path: &Path) -> bool
     }
 }
 
+/// A name of its own with the same units.
 pub(crate) fn copy_name(alloc: Global, name: &Units) -> Result<Units, OutOfMemory>
     ensures { IfOk result (λ copy. copy ≡ name.now) }
 {

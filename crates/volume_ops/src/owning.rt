@@ -1,5 +1,5 @@
 //! `lsattr` and `getattr`: the attributes of a folder or file.
-ghost use Rattle.std.specs.Prelude.{◌≡◌, ◌≤◌, List, ℕ, Ok, Err, IsTrue, IfOk, length, map};
+ghost use Rattle.std.specs.Prelude.{◌≡◌, ◌≤◌, Ok, Err, IsTrue, IfOk, length, map};
 ghost use Rattle.std.specs.List.{All};
 ghost use Rattle.attributes.specs.Owned.{names_of};
 ghost use Rattle.attributes.specs.Values.{value_at};
@@ -14,7 +14,7 @@ ghost use Rattle.hfs_model.specs.Step.{step_line};
 ghost use Rattle.hfs_volume.specs.TreeOf.{tree_of};
 ghost use Rattle.volume_ops.specs.Lists.{lists_of};
 ghost use Rattle.volume_ops.specs.Looking.{IsCatalogOver, IsAttributesOver, ReadsTree, ReadsVolume};
-ghost use Rattle.volume_ops.specs.Owning.{identity_in, id_reached, owner_in, listed_name, attributes_in, value_told};
+ghost use Rattle.volume_ops.specs.Owning.{id_reached, owner_in, listed_name, attributes_in, value_told};
 ghost use Rattle.volume_ops.specs.Standing.{StandsOver, IsSettled};
 
 use crate::names::{copy_name, is_private_path};

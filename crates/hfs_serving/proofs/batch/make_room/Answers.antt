@@ -1,4 +1,3 @@
-use Rattle.std.proofs.Common.{◌≡◌, ℕ}
 use Rattle.hfs_serving.proofs.Going.{begins, commits_first, commit_stops_first, on_err}
 use Rattle.hfs_serving.proofs.batch.make_room.Goals as goal
 

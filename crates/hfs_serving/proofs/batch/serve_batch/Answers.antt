@@ -1,4 +1,4 @@
-use Rattle.std.proofs.Common.{◌≡◌, ℕ, sym, ◌∙◌, subst}
+use Rattle.std.proofs.Common.{sym, subst}
 use Rattle.std.specs.Prelude.{IsTrue}
 use Rattle.hfs_serving.proofs.Going.{commit_stops_lines, lines_commit, on_err, stands_in_lines}
 use Rattle.hfs_serving.proofs.batch.serve_batch.Goals as goal

@@ -1,4 +1,4 @@
-use Rattle.std.proofs.Common.{◌≡◌, ◌++◌, ◌∷◌, [], ℕ, List, refl, sym, ◌∙◌, ap, subst}
+use Rattle.std.proofs.Common.{◌++◌, [], ℕ, List, refl, sym, ◌∙◌, ap, subst}
 use Rattle.std.specs.Prelude.{IsTrue}
 use Rattle.std.proofs.lemmas.List.{append-nil}
 use Rattle.hfs_serving.proofs.Going.{answered_line, left_line, on_err, rested_answers, rested_both, rested_left, stands_there, tidy_goes, tidy_stops, touch_stops_tidy}

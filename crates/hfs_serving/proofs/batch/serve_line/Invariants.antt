@@ -1,4 +1,4 @@
-use Rattle.std.proofs.Common.{◌≡◌, ◌≤◌, ℕ, List}
+use Rattle.std.proofs.Common.{◌≡◌, ◌≤◌, ℕ}
 use Rattle.std.specs.Prelude.{Option, IsTrue}
 use Rattle.jnl_format.specs.Recovery.{Content}
 use Rattle.hfs_serving.specs.Going.{Stands, GoesRested}

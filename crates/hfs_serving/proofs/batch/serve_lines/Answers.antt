@@ -8,6 +8,7 @@ use Rattle.hfs_serving.proofs.batch.serve_lines.Goals as goal
 
 pub loop-at-init : goal.loop-at-init
 loop-at-init g c = record {
+  most = omega arith;
   anchor = refl;
   tells = refl;
   serves = λ capacity serves taken. (serves, taken);
@@ -55,8 +56,27 @@ returns-then-not-branch-clause-goes g c tells capacity committed now shrunk stan
     lines_on capacity shrunk committed now old c.args.lines.now c.args.replies.now c.loop-at.at knows c.loop-at.replies space mid first knows_new false c.as_slice.result.now c.serve_line.new.replies new end c.loop-at.at (append-nil (take c.loop-at.at c.args.lines.now))
     (subst (λ (b : Bool). ServesLine b capacity knows_new first.goes.last first.goes.next (shrunk_in shrunk first.goes.more) mid c.as_slice.result.now c.loop-at.replies c.serve_line.new.replies new end) c.if-not-branch.true second)
 
+pub returns-then-is_sync-clause-goes : goal.returns-then-is_sync-clause-goes
+returns-then-is_sync-clause-goes g c tells capacity committed now shrunk stands =
+    let old = g.G.Ground.outside c.args.base.now in
+    let space = g.G.SectorView.space c.loop-at.base in
+    let mid = g.G.Ground.outside c.loop-at.base in
+    let knows = g.V.Volume.knows c.loop-at.volume space capacity in
+    let first = c.loop-at.invariant.goes tells capacity committed now shrunk stands in
+    let there = stands_in_lines capacity shrunk committed now old c.args.lines.now c.args.replies.now c.loop-at.at knows c.loop-at.replies space mid first in
+    let new = g.G.SectorView.space c.serve_line.new.base in
+    let end = g.G.Ground.outside c.serve_line.new.base in
+    let knows_new = g.V.Volume.knows c.serve_line.new.volume new capacity in
+    let second = c.in_ok-serve_line.ensures.goes (c.loop-at.invariant.tells ∙ tells) capacity first.goes.last first.goes.next _ there in
+    let line = c.as_slice.result.now in
+    let next : take c.loop-at.at c.args.lines.now ++ line ∷ [] ≡ take (c.loop-at.at + 1) c.args.lines.now =
+    ap (λ (l : List ℕ). take c.loop-at.at c.args.lines.now ++ l ∷ []) (c.as_slice.ensures ∙ c.index-lines-at.is) ∙ sym (take_more c.args.lines.now c.loop-at.at c.index-lines-at.result c.loop-at-test.true) in
+    lines_on capacity shrunk committed now old c.args.lines.now c.args.replies.now c.loop-at.at knows c.loop-at.replies space mid first knows_new true line c.serve_line.new.replies new end (c.loop-at.at + 1) next
+    (subst (λ (b : Bool). ServesLine b capacity knows_new first.goes.last first.goes.next (shrunk_in shrunk first.goes.more) mid line c.loop-at.replies c.serve_line.new.replies new end) c.if-not-branch.false second)
+
 pub loop-at-preserved : goal.loop-at-preserved
 loop-at-preserved g c = record {
+  most = omega (arith, c.if-at-eq-MOST_LINES.false, c.loop-at.invariant.most);
   anchor = c.serve_line.ensures.anchor ∙ c.loop-at.invariant.anchor;
   tells = c.in_ok-serve_line.ensures.tells ∙ c.loop-at.invariant.tells;
   serves = λ capacity serves taken. let was = c.loop-at.invariant.serves capacity serves taken in c.in_ok-serve_line.ensures.still capacity was.0 was.1;

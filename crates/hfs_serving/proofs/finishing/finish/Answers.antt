@@ -1,4 +1,4 @@
-use Rattle.std.proofs.Common.{◌≡◌, ◌≤◌, ℕ, sym, subst, arith}
+use Rattle.std.proofs.Common.{sym, subst, arith}
 use Rattle.std.specs.Prelude.{IsTrue}
 use Rattle.hfs_serving.proofs.Closing.{closed_stands, commit_finishes, finishes, put_stops}
 use Rattle.hfs_serving.proofs.finishing.finish.Goals as goal

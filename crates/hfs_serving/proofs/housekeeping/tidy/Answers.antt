@@ -1,4 +1,4 @@
-use Rattle.std.proofs.Common.{◌≡◌, [], ℕ, refl, sym, ◌∙◌, subst}
+use Rattle.std.proofs.Common.{[], refl, ◌∙◌, subst}
 use Rattle.std.specs.Prelude.{IsTrue}
 use Rattle.hfs_serving.proofs.Going.{begins, on_err, stands_there, tidy_both, tidy_rested, tidy_stops}
 use Rattle.hfs_serving.proofs.housekeeping.tidy.Goals as goal

@@ -1,4 +1,4 @@
-use Rattle.std.proofs.Common.{◌≡◌, ℕ, sym, subst}
+use Rattle.std.proofs.Common.{sym, subst}
 use Rattle.std.specs.Prelude.{IsTrue}
 use Rattle.hfs_serving.specs.Going.{TidiesTo}
 use Rattle.hfs_serving.specs.declared.volume.Next.{Next}

@@ -1,4 +1,4 @@
-use Rattle.std.proofs.Common.{◌≡◌, ℕ, length, sym, ◌∙◌, ap, subst, arith}
+use Rattle.std.proofs.Common.{length, sym, ◌∙◌, ap, subst, arith}
 use Rattle.std.specs.Prelude.{None, IsTrue}
 use Rattle.jnl_store.specs.Seen.{seen}
 use Rattle.jnl_store.specs.Store.{plan_of}

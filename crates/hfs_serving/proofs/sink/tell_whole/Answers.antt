@@ -1,8 +1,8 @@
-use Rattle.std.proofs.Common.{◌≡◌, ◌≤◌, ◌++◌, ◌-◌, IsTrue, length, take, drop, subst, sym, arith}
+use Rattle.std.proofs.Common.{◌≡◌, ◌≤◌, ◌++◌, length, take, subst}
 use Rattle.std.proofs.lemmas.List.{take_rest}
 use Rattle.sector_disk.specs.Clock.{TimePasses}
 use Rattle.sector_disk.specs.Disk.{IsImage, ToldPrefix}
-use Rattle.hfs_serving.proofs.Whole.{told_none, told_more, unsure_told, time_told}
+use Rattle.hfs_serving.proofs.Whole.{told_more, unsure_told, time_told}
 use Rattle.hfs_serving.proofs.sink.tell_whole.Goals as goal
 
 pub loop-at-preserved : goal.loop-at-preserved

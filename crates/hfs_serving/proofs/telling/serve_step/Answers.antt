@@ -1,4 +1,4 @@
-use Rattle.std.proofs.Common.{◌≡◌, ◌++◌, [], ℕ, List, sym, ◌∙◌, ap, subst}
+use Rattle.std.proofs.Common.{◌≡◌, ◌++◌, ℕ, List, sym, subst}
 use Rattle.std.specs.Prelude.{IsTrue}
 use Rattle.hfs_serving.specs.Going.{ServesBatch}
 use Rattle.hfs_serving.specs.Serving.{TellsOut}

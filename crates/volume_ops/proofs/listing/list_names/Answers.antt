@@ -1,4 +1,3 @@
-use Rattle.std.proofs.Common.{◌≡◌}
 use Rattle.volume_ops.proofs.Over.{reads_both}
 use Rattle.volume_ops.proofs.listing.list_names.Goals as goal
 

@@ -1,4 +1,3 @@
-use Rattle.std.proofs.Common.{◌≡◌, IsTrue}
 use Rattle.volume_ops.proofs.Over.{over_read}
 use Rattle.volume_ops.proofs.reaching.child.Goals as goal
 

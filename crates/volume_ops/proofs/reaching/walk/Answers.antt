@@ -1,4 +1,4 @@
-use Rattle.std.proofs.Common.{◌≡◌, IsTrue, Ok, ◌∙◌, sym, ap, subst, arith}
+use Rattle.std.proofs.Common.{◌∙◌, arith}
 use Rattle.btree_file.specs.Standing.{pairs_in}
 use Rattle.btree_file.specs.State.{sectors_of_tree}
 use Rattle.volume_ops.proofs.Over.{reads_both, pairs_read}

@@ -1,5 +1,4 @@
 use Rattle.std.proofs.Common.{◌≡◌, ◌≤◌, IsTrue, drop}
-use Rattle.std.specs.Prelude.{Bool}
 use Rattle.btree_file.specs.Standing.{pairs_in}
 use Rattle.btree_file.specs.State.{sectors_of_tree}
 use Rattle.volume_ops.specs.Looking.{IsCatalogOver, ReadsTree}

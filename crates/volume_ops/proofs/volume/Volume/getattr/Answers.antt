@@ -1,4 +1,4 @@
-use Rattle.std.proofs.Common.{◌≡◌, ℕ, List, IsTrue, sym, ◌∙◌, ap, subst}
+use Rattle.std.proofs.Common.{sym, ◌∙◌, ap}
 use Rattle.hfs_volume.specs.Content.{VolumeState}
 use Rattle.attributes.specs.Values.{value_at}
 use Rattle.volume_ops.proofs.Listed.{told_value, told_value_why}

@@ -1,4 +1,4 @@
-use Rattle.std.proofs.Common.{◌≡◌, ℕ, List, IsTrue, sym, ◌∙◌, ap, subst}
+use Rattle.std.proofs.Common.{sym, ◌∙◌, ap}
 use Rattle.hfs_volume.specs.Content.{VolumeState}
 use Rattle.volume_ops.specs.Owning.{attributes_in}
 use Rattle.volume_ops.proofs.Listed.{told_owned, told_why}

@@ -1,0 +1,14 @@
+use Rattle.std.proofs.Common.{◌≡◌, ℕ, List, ◌∷◌, [], length, get_or, sym, ap}
+use Rattle.bench_catalog.proofs.calls.list_entries.Goals as goal
+
+pub returns-clause-file : goal.returns-clause-file
+returns-clause-file c =
+    let names = c.children.ensures.reads.same.names in
+    let tree_is = c.tree-1.given.1 (sym (ap (λ (l : List ℕ). get_or l 0 0) names)) in
+    rw tree_is c.children.ensures.below.0.file
+
+pub returns-clause-sectors : goal.returns-clause-sectors
+returns-clause-sectors c =
+    let names = c.children.ensures.reads.same.names in
+    let space_is = c.space-1.given.1 (sym (ap (λ (l : List ℕ). get_or l 1 0) names)) in
+    rw space_is c.children.ensures.below.0.space.same.sectors

@@ -1,0 +1,18 @@
+use Rattle.std.proofs.Common.{◌≡◌, ℕ, List, ◌∷◌, [], length, get_or, sym, ap}
+use Rattle.bench_catalog.proofs.Rooms.{untold_edits}
+use Rattle.bench_catalog.proofs.calls.remove_entry.Goals as goal
+
+pub remove-requires-clause-room : goal.remove-requires-clause-room
+remove-requires-clause-room c = untold_edits _ c.args.tree.now (length c.args.space.now.list.items) 2 516 c.requires.depth c.requires.records c.requires.free
+
+pub returns-clause-file : goal.returns-clause-file
+returns-clause-file c =
+    let names = c.remove.ensures.same.names in
+    let tree_is = c.tree-1.given.1 (sym (ap (λ (l : List ℕ). get_or l 0 0) names)) in
+    rw tree_is c.remove.ensures.below.0.file
+
+pub returns-clause-sectors : goal.returns-clause-sectors
+returns-clause-sectors c =
+    let names = c.remove.ensures.same.names in
+    let space_is = c.space-1.given.1 (sym (ap (λ (l : List ℕ). get_or l 1 0) names)) in
+    rw space_is c.remove.ensures.below.0.space.same.sectors

@@ -1,0 +1,233 @@
+//! A catalog with a private folder over nodes in memory, whose calls are made only where what they need holds.
+ghost use Rattle.std.specs.Prelude.{◌≡◌, ◌≤◌, ◌+◌, ℕ, false, IsTrue, IfOk, IfSome, length};
+ghost use Rattle.btree_node.specs.Mem.{mem_state};
+ghost use Rattle.btree_edit.specs.Desk.{IsDeskOf};
+ghost use Rattle.btree_edit.specs.Edits.{EditRoom};
+ghost use Rattle.catalog.specs.Rooms.{UpdateRoom};
+ghost use Rattle.cat_records.specs.Fits.{FitsFile, FitsRecord};
+ghost use Rattle.hfs_volume.specs.Records.{is_thread};
+ghost use Rattle.node_kit.specs.Untold.{untold};
+
+use crate::places::{PRIVATE, Place};
+use crate::records::{file, link_to, private_folder};
+use crate::stop::Stop;
+use btree_edit::Desk;
+use btree_node::NodeStore;
+use cat_records::{CatRecord, FileRecord, ThreadRecord};
+use catalog::{Inserted, Moved, Removed, add, by_id, lookup, move_entry, update};
+use hard_links::{EntryAt, Linked, drop_link, make_link, orphan, resolve};
+use hx_bytes::Units;
+use node_kit::Untold;
+use std::alloc::Global;
+
+/// A catalog, and a desk for it.
+#[derive(Drop)]
+pub struct Folders {
+    store: Untold,
+    desk: Desk,
+    ghost fits: { IsDeskOf (mem_state store.nodes).shape.node_size desk },
+}
+
+impl Folders {
+    /// A catalog without an entry, of so many nodes of 4,096 bytes.
+    fn new(alloc: Global, nodes: u16) -> Result<Folders, Stop> {
+        let store = Untold::new(alloc, 4096, u32::from(nodes) + 1)?;
+        let desk = Desk::new(alloc, 4096)?;
+        Ok(Folders { store, desk })
+    }
+
+    /// A catalog with the private folder alone.
+    pub fn with_private(alloc: Global, nodes: u16) -> Result<Folders, Stop> {
+        let mut folders = Folders::new(alloc, nodes)?;
+        let place = Place::Private;
+        match folders.add_private(alloc, &place.entry(alloc)?)? {
+            Inserted::Done => Ok(folders),
+            Inserted::Exists => Err(Stop::Answer(place)),
+        }
+    }
+
+    /// Whether a call of so many edits may be made.
+    fn has_room(&self, edits: u32) -> bool
+        ensures size { IsTrue result → 4096 ≤ (mem_state self.now.store.nodes).shape.node_size }
+        ensures room { IsTrue result → (longest : ℕ) → EditRoom edits longest (untold (mem_state self.now.store.nodes)) }
+        ensures beside { IsTrue result → (most updates longest : ℕ) → most + updates ≡ edits → UpdateRoom most updates longest (untold (mem_state self.now.store.nodes)) }
+    {
+        if self.store.shape().node_size < 4096 {
+            return false;
+        }
+        self.store.has_room_for(edits)
+    }
+
+    /// Adds a file with a CNID.
+    pub fn add_file(&mut self, alloc: Global, at: &EntryAt, id: u32) -> Result<Inserted, Stop> {
+        if !is_name(&at.name) || !self.has_room(2) {
+            return Err(Stop::Room);
+        }
+        let rec = file(id, 0);
+        let answer = add(
+            alloc,
+            &mut self.store,
+            &mut self.desk,
+            at.parent,
+            &at.name,
+            &rec,
+        )?;
+        Ok(answer)
+    }
+
+    /// Adds the private folder.
+    fn add_private(&mut self, alloc: Global, at: &EntryAt) -> Result<Inserted, Stop> {
+        if !is_name(&at.name) || !self.has_room(2) {
+            return Err(Stop::Room);
+        }
+        let rec = private_folder(PRIVATE);
+        let answer = add(
+            alloc,
+            &mut self.store,
+            &mut self.desk,
+            at.parent,
+            &at.name,
+            &rec,
+        )?;
+        Ok(answer)
+    }
+
+    /// Has the record of a file made by a test say that it has so many links.
+    pub fn count(
+        &mut self,
+        alloc: Global,
+        at: &EntryAt,
+        id: u32,
+        links: u32,
+    ) -> Result<Removed, Stop> {
+        if !is_name(&at.name) {
+            return Err(Stop::Room);
+        }
+        self.put(alloc, at, &file(id, links))
+    }
+
+    /// Has the link at a place say another number.
+    pub fn refer(&mut self, alloc: Global, at: &EntryAt, number: u32) -> Result<Removed, Stop> {
+        if !is_name(&at.name) {
+            return Err(Stop::Room);
+        }
+        match self.file(alloc, at)? {
+            Some(link) => self.put(alloc, at, &link_to(link, number)),
+            None => Ok(Removed::Absent),
+        }
+    }
+
+    /// Gives an entry another record.
+    fn put(&mut self, alloc: Global, at: &EntryAt, rec: &CatRecord) -> Result<Removed, Stop>
+        requires some { 1 ≤ length at.now.name }
+        requires name { length at.now.name ≤ 255 }
+        requires kind { is_thread rec.now ≡ false }
+        requires fits { FitsRecord rec.now }
+    {
+        if !self.has_room(1) {
+            return Err(Stop::Room);
+        }
+        let answer = update(
+            alloc,
+            &mut self.store,
+            &mut self.desk,
+            at.parent,
+            &at.name,
+            rec,
+        )?;
+        Ok(answer)
+    }
+
+    /// Moves an entry.
+    pub fn move_on(&mut self, alloc: Global, from: &EntryAt, to: &EntryAt) -> Result<Moved, Stop> {
+        if !is_name(&from.name) || !is_name(&to.name) || !self.has_room(3) {
+            return Err(Stop::Room);
+        }
+        let answer = move_entry(
+            alloc,
+            &mut self.store,
+            &mut self.desk,
+            from.parent,
+            &from.name,
+            to.parent,
+            &to.name,
+        )?;
+        Ok(answer)
+    }
+
+    /// Gives a file another name.
+    pub fn link(
+        &mut self,
+        alloc: Global,
+        from: &EntryAt,
+        to: &EntryAt,
+        ids: (u32, u32),
+    ) -> Result<Linked, Stop> {
+        if !is_name(&from.name) || !is_name(&to.name) || !self.has_room(8) {
+            return Err(Stop::Room);
+        }
+        let answer = make_link(
+            alloc,
+            &mut self.store,
+            &mut self.desk,
+            PRIVATE,
+            from,
+            to,
+            ids,
+        )?;
+        Ok(answer)
+    }
+
+    /// Removes a link, and answers how many names are left.
+    pub fn drop_link(&mut self, alloc: Global, at: &EntryAt) -> Result<u32, Stop> {
+        if !is_name(&at.name) || !self.has_room(3) {
+            return Err(Stop::Room);
+        }
+        let left = drop_link(alloc, &mut self.store, &mut self.desk, PRIVATE, at)?;
+        Ok(left)
+    }
+
+    /// Has a file without a name wait to be removed.
+    pub fn orphan(&mut self, alloc: Global, at: &EntryAt) -> Result<(), Stop> {
+        if !is_name(&at.name) || !self.has_room(3) {
+            return Err(Stop::Room);
+        }
+        orphan(alloc, &mut self.store, &mut self.desk, PRIVATE, at)?;
+        Ok(())
+    }
+
+    /// The file of a name; none where there is no file of that name.
+    pub fn file(&mut self, alloc: Global, at: &EntryAt) -> Result<Option<FileRecord>, Stop>
+        ensures { IfOk result (λ found. IfSome found (λ file. FitsFile file)) }
+    {
+        if !is_name(&at.name) {
+            return Err(Stop::Room);
+        }
+        match lookup(alloc, &mut self.store, &mut self.desk, at.parent, &at.name)? {
+            Some(CatRecord::File(file)) => Ok(Some(file)),
+            Some(CatRecord::Folder(_)) => Ok(None),
+            Some(CatRecord::Thread(_)) => Ok(None),
+            None => Ok(None),
+        }
+    }
+
+    /// The file that a record stands for.
+    pub fn resolve(&mut self, alloc: Global, rec: &FileRecord) -> Result<FileRecord, Stop> {
+        let found = resolve(alloc, &mut self.store, &mut self.desk, PRIVATE, rec)?;
+        Ok(found)
+    }
+
+    /// The thread of a CNID.
+    pub fn thread(&mut self, alloc: Global, id: u32) -> Result<Option<ThreadRecord>, Stop> {
+        let found = by_id(alloc, &mut self.store, &mut self.desk, id)?;
+        Ok(found)
+    }
+}
+
+/// Whether a name has a length that the catalog takes.
+fn is_name(name: &Units) -> bool
+    ensures some { IsTrue result → 1 ≤ length name.now }
+    ensures most { IsTrue result → length name.now ≤ 255 }
+{
+    !name.is_empty() && name.len() <= 255
+}
