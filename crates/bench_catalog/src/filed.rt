@@ -15,7 +15,7 @@ use entry_kit::{Stop, entry};
 use fork_map::ExtentList;
 use hx_bytes::{Extent, Units};
 use std::alloc::Global;
-use tree_file_runs::lies_below;
+use tree_kit::lies_below;
 
 /// A catalog's file in sectors, and a desk for it.
 #[derive(Drop)]

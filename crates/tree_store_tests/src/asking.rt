@@ -14,7 +14,7 @@ use fork_map::ExtentList;
 use hx_bytes::Failed;
 use sector_disk::SectorSpace;
 use std::alloc::Global;
-use tree_file_runs::lies_below;
+use tree_kit::lies_below;
 
 /// What is asked.
 #[derive(Clone, Copy, Debug, PartialEq, Eq)]

@@ -17,7 +17,7 @@ use jnl_store::{Space, Store};
 use mem_disk::MemRig;
 use sector_disk::{SectorDisk, SectorView};
 use std::alloc::Global;
-use tree_file_runs::{Kind, key_of, value_of};
+use tree_kit::{Kind, key_of, value_of};
 use volume_header::{VolumeHeader, read_header};
 use volume_make::format;
 

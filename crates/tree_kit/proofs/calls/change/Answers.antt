@@ -1,6 +1,6 @@
 use Rattle.std.proofs.Common.{◌≡◌, ℕ, List, ◌∷◌, [], length, get_or, inr, sym, ap}
-use Rattle.tree_file_runs.proofs.Rooms.{untold_room}
-use Rattle.tree_file_runs.proofs.calls.change.Goals as goal
+use Rattle.tree_kit.proofs.Rooms.{untold_room}
+use Rattle.tree_kit.proofs.calls.change.Goals as goal
 
 pub replace-requires-clause-room : goal.replace-requires-clause-room
 replace-requires-clause-room g c = inr (untold_room [] c.args.tree.now (length c.args.space.now.list.items) _)

@@ -1,6 +1,6 @@
 use Rattle.std.proofs.Common.{◌≡◌, ℕ, List, ◌∷◌, [], length, get_or, inr, sym, ap}
-use Rattle.tree_file_runs.proofs.Rooms.{untold_room}
-use Rattle.tree_file_runs.proofs.calls.add.Goals as goal
+use Rattle.tree_kit.proofs.Rooms.{untold_room}
+use Rattle.tree_kit.proofs.calls.add.Goals as goal
 
 pub insert-requires-clause-room : goal.insert-requires-clause-room
 insert-requires-clause-room g c = untold_room [] c.args.tree.now (length c.args.space.now.list.items) _

@@ -1,6 +1,6 @@
 use Rattle.std.proofs.Common.{◌≡◌, ℕ, List, ◌∷◌, [], length, get_or, inr, sym, ap}
-use Rattle.tree_file_runs.proofs.Rooms.{untold_room}
-use Rattle.tree_file_runs.proofs.calls.find_pair.Goals as goal
+use Rattle.tree_kit.proofs.Rooms.{untold_room}
+use Rattle.tree_kit.proofs.calls.find_pair.Goals as goal
 
 pub returns-clause-file : goal.returns-clause-file
 returns-clause-file g c =

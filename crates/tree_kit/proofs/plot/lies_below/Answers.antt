@@ -2,7 +2,7 @@ use Rattle.std.proofs.Common.{◌≡◌, ◌<◌, ◌≤◌, ◌+◌, ℕ, List,
 use Rattle.std.proofs.lemmas.Bool.{cases_lt}
 use Rattle.std.proofs.lemmas.Option.{slice_get_within, get_or_from_slice_get, slice_get-get_or}
 use Rattle.btree_file.specs.Place.{fork_sectors}
-use Rattle.tree_file_runs.proofs.plot.lies_below.Goals as goal
+use Rattle.tree_kit.proofs.plot.lies_below.Goals as goal
 
 is_place : (sectors : List ℕ) (p : ℕ) → p < length sectors → ◌≡◌ {A = Option ℕ} None (slice_get sectors p) → ⊥
 is_place sectors p inside none = let no : ◌≡◌ {A = Option ℕ} None (Some (get_or sectors p 0)) = none ∙ slice_get-get_or sectors p 0 inside in absurd (cc no)

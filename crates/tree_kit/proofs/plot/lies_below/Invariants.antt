@@ -1,6 +1,6 @@
 use Rattle.std.proofs.Common.{◌≡◌, ◌<◌, ◌≤◌, ℕ, length, get_or}
 use Rattle.btree_file.specs.Place.{fork_sectors}
-use Rattle.tree_file_runs.proofs.plot.lies_below.Given as goal
+use Rattle.tree_kit.proofs.plot.lies_below.Given as goal
 
 abbrev pub invariant-loop-n : goal.invariant-loop-n
 invariant-loop-n l = record {
