@@ -23,7 +23,12 @@ use Rattle.btree_edit.proofs.Pairs.{key_of_joined, value_of_joined}
 pub place_rank : (cmp : List ℕ → List ℕ → Ordering) → IsTotalOrder cmp → (key : List ℕ) (records : List (List ℕ)) (place : ℕ) → Ascends cmp records → IsPlace cmp key records place → IsRank cmp key records place
 place_rank cmp total key records place ascends is = record {
   within = is.within;
-  before = is.before;
+  before = λ k low e. elim (cases_lt k (place - 1)) [
+    | inl less ↦
+        let far = below_all cmp total (key_of (get_or records k [])) (key_of (get_or records (place - 1) [])) key (ascends k (place - 1) less (omega (arith, low, is.within))) (is.before (omega (arith, low))) in
+        let no : Less ≡ Greater = sym far ∙ e in cc no
+    | inr same ↦ let last : k ≡ place - 1 = omega (arith, same, low) in is.before (omega (arith, low)) (ap (λ n. cmp (key_of (get_or records n [])) key) (sym last) ∙ e)
+  ];
   behind = λ i from to. elim (cases_lt place i) [
     | inl less ↦ above_all cmp total (key_of (get_or records place [])) (key_of (get_or records i [])) key (ascends place i less to) (is.behind (omega arith))
     | inr same ↦ let e : place ≡ i = omega arith in subst (λ k. cmp (key_of (get_or records k [])) key ≡ Greater) e (is.behind (omega arith))
@@ -179,14 +184,14 @@ module _ (is_key : List ℕ → Type 0) (cmp : List ℕ → List ℕ → Orderin
       rank_of place at =
           rank_below cmp total key store.nodes (take p lower) (get_or lower p 0) (drop (suc p) lower) upper (start + step.place) place
           ascends_below long_is named_is ranked here_is (some_of p in_lower) some_behind at.within
-          (λ any. at.before (place - 1) (omega arith)) at.behind
+          at.before at.behind
 
       first_of_level : (place : ℕ) → IsPlace cmp key (items (store.nodes (get_or lower p 0))) place → place ≡ 0 → length (entries store.nodes (take p lower)) ≡ 0
       first_of_level place at none =
           none_before store.nodes (take p lower)
           (front cmp total key store.nodes (take p lower) (get_or lower p 0) (drop (suc p) lower) upper (start + step.place) place
           ascends_below long_is named_is ranked here_is (some_of p in_lower) some_behind at.within
-          (λ any. at.before (place - 1) (omega arith)) at.behind none)
+          at.before at.behind none)
 
       pub leads_step : LeadsTo cmp key store (j + 1) step.child
       unfolding lower

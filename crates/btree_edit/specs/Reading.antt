@@ -16,10 +16,11 @@ pub record ReadsNodes (most : ℕ) (old new : Store) : Type 0 where
   pub loads : new.loads ≤ old.loads + most
   pub same : SameStore old new
 
--- the first of some records whose key is above this one, or the end
+-- A place of a key among some records: the record before it has no key above this one, and the record there has, or it is the end. Where the keys
+-- rise there is one such place.
 pub record IsPlace (cmp : List ℕ → List ℕ → Ordering) (key : List ℕ) (records : List (List ℕ)) (place : ℕ) : Type 0 where
   pub within : place ≤ length records
-  pub before : (k : ℕ) → k < place → cmp (key_of (slice_index_or records k [])) key ≢ Greater
+  pub before : 0 < place → cmp (key_of (slice_index_or records (place - 1) [])) key ≢ Greater
   pub behind : place < length records → cmp (key_of (slice_index_or records place [])) key ≡ Greater
 
 -- one of the records has no key

@@ -33,24 +33,29 @@ pub(crate) fn child_part(item: &[u8]) -> u32
     }
 }
 
-/// How many of a node's first records have no key above this one; none where a record has no valid key.
+/// How many of a node's first records have no key above this one, where its keys rise; none where a record that was looked at has no valid key.
+/// It is found by halves.
 pub(crate) fn place<K: KeyOrder>(node: &Node, key: &[u8]) -> Option<u16>
     requires well_formed { IsNode node.now }
     requires key { K.is_key key.now }
     ensures place { IfSome result (λ at. IsPlace K.cmp key.now (items node.now) at) }
-    ensures keys { IfSome result (λ at. (k : ℕ) → k < at → K.is_key (key_of (slice_index_or (items node.now) k []))) }
     ensures no_key { IfNone result (HasNoKey K.is_key (items node.now)) }
 {
-    for i in 0..node.count() {
-        let own = key_part(node.item(i));
+    let mut low: u16 = 0;
+    let mut high = node.count();
+    while low < high {
+        let middle = low + (high - low) / 2;
+        let own = key_part(node.item(middle));
         if !K::valid(own) {
             return None;
         }
         if K::compare(own, key).is_gt() {
-            return Some(i);
+            high = middle;
+        } else {
+            low = middle + 1;
         }
     }
-    Some(node.count())
+    Some(low)
 }
 
 /// A step from an index node towards a key.
