@@ -39,6 +39,7 @@ pub(crate) fn place<K: KeyOrder>(node: &Node, key: &[u8]) -> Option<u16>
     requires well_formed { IsNode node.now }
     requires key { K.is_key key.now }
     ensures place { IfSome result (λ at. IsPlace K.cmp key.now (items node.now) at) }
+    ensures keys { IfSome result (λ at. 0 < at → K.is_key (key_of (slice_index_or (items node.now) (at - 1) []))) }
     ensures no_key { IfNone result (HasNoKey K.is_key (items node.now)) }
 {
     let mut low: u16 = 0;

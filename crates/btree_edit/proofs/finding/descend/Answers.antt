@@ -79,3 +79,18 @@ loop-height-preserved g c =
       later = omega (arith, before.later, c.read_node.ensures.cause.later);
       below = g.met.N.NodeStore.follows_trans c.args.store.now c.loop-height.store c.read_node.new.store before.below c.read_node.ensures.below;
     }
+
+pub returns-in_err-read_node-clause-reads : goal.returns-in_err-read_node-clause-reads
+returns-in_err-read_node-clause-reads g c =
+    let s = g.N.NodeStore.state c.args.store.now in
+    reads_both (s.shape.depth - c.loop-height.height) 1 (s.shape.depth - 1) c.loop-height.invariant.reads c.read_node.ensures.reads (omega (arith, c.loop-height.invariant.high, c.loop-height-test.true))
+
+pub returns-then-not-branch-clause-reads : goal.returns-then-not-branch-clause-reads
+returns-then-not-branch-clause-reads g c =
+    let s = g.N.NodeStore.state c.args.store.now in
+    reads_both (s.shape.depth - c.loop-height.height) 1 (s.shape.depth - 1) c.loop-height.invariant.reads c.read_node.ensures.reads (omega (arith, c.loop-height.invariant.high, c.loop-height-test.true))
+
+pub returns-in_default-clause-reads : goal.returns-in_default-clause-reads
+returns-in_default-clause-reads g c =
+    let s = g.N.NodeStore.state c.args.store.now in
+    reads_both (s.shape.depth - c.loop-height.height) 1 (s.shape.depth - 1) c.loop-height.invariant.reads c.read_node.ensures.reads (omega (arith, c.loop-height.invariant.high, c.loop-height-test.true))

@@ -4,7 +4,7 @@ use Rattle.std.specs.Prelude.{IsSome}
 use Rattle.btree_node.specs.Tree.{IsTreeNode}
 use Rattle.btree_edit.specs.Reading.{LeadsTo, LeadsToLeaf}
 use Rattle.btree_edit.proofs.Descent.{leads_node}
-use Rattle.btree_edit.proofs.Repeated.{still_node}
+use Rattle.btree_edit.proofs.Repeated.{reads_both, still_node}
 use Rattle.btree_edit.proofs.Behind.{located}
 use Rattle.btree_edit.proofs.following.locate.Goals as goal
 
@@ -33,3 +33,21 @@ returns-clause-at g c = λ tells.
     located g.K.KeyOrder.is_key g.K.KeyOrder.cmp g.met.K.KeyOrder.total g.met.K.KeyOrder.key_length s t c.args.key.now c.in-Some.node some leads
     (record { node = c.read_node.new.into; other = c.descend.new.desk.other; held = c.descend.new.desk.held; first = c.descend.new.desk.first; second = c.descend.new.desk.second; path = c.descend.new.desk.path }) into
     c.place.result c.place.ensures.place c.place.ensures.no_key
+
+pub returns-in_err-read_node-clause-reads : goal.returns-in_err-read_node-clause-reads
+returns-in_err-read_node-clause-reads g c =
+    let s = g.N.NodeStore.state c.args.store.now in
+    let some : 0 < s.shape.depth = (subst (λ o. IsSome o → 0 < s.shape.depth) c.in-Some.is c.in_ok-node.ensures.depth) (search rules) in
+    reads_both (s.shape.depth - 1) 1 s.shape.depth c.descend.ensures.reads c.read_node.ensures.reads (omega (arith, some))
+
+pub returns-then-not-branch-clause-reads : goal.returns-then-not-branch-clause-reads
+returns-then-not-branch-clause-reads g c =
+    let s = g.N.NodeStore.state c.args.store.now in
+    let some : 0 < s.shape.depth = (subst (λ o. IsSome o → 0 < s.shape.depth) c.in-Some.is c.in_ok-node.ensures.depth) (search rules) in
+    reads_both (s.shape.depth - 1) 1 s.shape.depth c.descend.ensures.reads c.read_node.ensures.reads (omega (arith, some))
+
+pub returns-clause-reads : goal.returns-clause-reads
+returns-clause-reads g c =
+    let s = g.N.NodeStore.state c.args.store.now in
+    let some : 0 < s.shape.depth = (subst (λ o. IsSome o → 0 < s.shape.depth) c.in-Some.is c.in_ok-node.ensures.depth) (search rules) in
+    reads_both (s.shape.depth - 1) 1 s.shape.depth c.descend.ensures.reads c.read_node.ensures.reads (omega (arith, some))

@@ -9,6 +9,7 @@ invariant-loop-low g l = record {
   order : l.low ≤ l.high;
   within : l.high ≤ length (items l.node);
   before : 0 < l.low → g.K.KeyOrder.cmp (key_of (get_or (items l.node) (l.low - 1) [])) l.key ≢ Greater;
+  key : 0 < l.low → g.K.KeyOrder.is_key (key_of (get_or (items l.node) (l.low - 1) []));
   behind : l.high < length (items l.node) → g.K.KeyOrder.cmp (key_of (get_or (items l.node) l.high [])) l.key ≡ Greater;
 }
 

@@ -132,3 +132,49 @@ returns-clause-way g c = λ tells yes_is.
     subst (λ i. LeadsWay g.K.KeyOrder.cmp c.args.key.now s (set c.loop-level.desk.path i (record { node = c.loop-level.node; at = c.in-Some-place.at }))) there
     (on_leaf g.K.KeyOrder.is_key g.K.KeyOrder.cmp g.met.K.KeyOrder.total g.met.K.KeyOrder.key_length s t.levels t.ordered c.args.key.now c.loop-level.desk.path c.loop-level.level c.loop-level.node (before.way tells)
     (record { node = c.loop-level.node; at = c.in-Some-place.at }) (omega (arith, before.desk.path, before.most)) refl last place)
+
+pub returns-in_err-read_node-clause-reads : goal.returns-in_err-read_node-clause-reads
+returns-in_err-read_node-clause-reads g c =
+    let s = g.N.NodeStore.state c.args.store.now in
+    let deep : c.shape-shape.result.depth ≡ s.shape.depth = ap (λ h. h.depth) c.shape-shape.ensures in
+    reads_both c.loop-level.level 1 s.shape.depth c.loop-level.invariant.reads c.read_node.ensures.reads (omega (arith, c.loop-level-test.true))
+
+pub returns-then-not-branch-clause-reads : goal.returns-then-not-branch-clause-reads
+returns-then-not-branch-clause-reads g c =
+    let s = g.N.NodeStore.state c.args.store.now in
+    let deep : c.shape-shape.result.depth ≡ s.shape.depth = ap (λ h. h.depth) c.shape-shape.ensures in
+    reads_both c.loop-level.level 1 s.shape.depth c.loop-level.invariant.reads c.read_node.ensures.reads (omega (arith, c.loop-level-test.true))
+
+pub returns-in_default-clause-reads : goal.returns-in_default-clause-reads
+returns-in_default-clause-reads g c =
+    let s = g.N.NodeStore.state c.args.store.now in
+    let deep : c.shape-shape.result.depth ≡ s.shape.depth = ap (λ h. h.depth) c.shape-shape.ensures in
+    reads_both c.loop-level.level 1 s.shape.depth c.loop-level.invariant.reads c.read_node.ensures.reads (omega (arith, c.loop-level-test.true))
+
+pub returns-in_err-read_node-2-clause-reads : goal.returns-in_err-read_node-2-clause-reads
+returns-in_err-read_node-2-clause-reads g c =
+    let s = g.N.NodeStore.state c.args.store.now in
+    let deep : c.shape-shape.result.depth ≡ s.shape.depth = ap (λ h. h.depth) c.shape-shape.ensures in
+    let last : c.loop-level.level + 1 ≡ s.shape.depth = omega (arith, c.loop-level-test.false, c.loop-level.auto.level-end) in
+    reads_both c.loop-level.level 1 s.shape.depth c.loop-level.invariant.reads c.read_node-2.ensures.reads (omega (arith, last))
+
+pub returns-then-not-branch-2-clause-reads : goal.returns-then-not-branch-2-clause-reads
+returns-then-not-branch-2-clause-reads g c =
+    let s = g.N.NodeStore.state c.args.store.now in
+    let deep : c.shape-shape.result.depth ≡ s.shape.depth = ap (λ h. h.depth) c.shape-shape.ensures in
+    let last : c.loop-level.level + 1 ≡ s.shape.depth = omega (arith, c.loop-level-test.false, c.loop-level.auto.level-end) in
+    reads_both c.loop-level.level 1 s.shape.depth c.loop-level.invariant.reads c.read_node-2.ensures.reads (omega (arith, last))
+
+pub returns-in_default-place-clause-reads : goal.returns-in_default-place-clause-reads
+returns-in_default-place-clause-reads g c =
+    let s = g.N.NodeStore.state c.args.store.now in
+    let deep : c.shape-shape.result.depth ≡ s.shape.depth = ap (λ h. h.depth) c.shape-shape.ensures in
+    let last : c.loop-level.level + 1 ≡ s.shape.depth = omega (arith, c.loop-level-test.false, c.loop-level.auto.level-end) in
+    reads_both c.loop-level.level 1 s.shape.depth c.loop-level.invariant.reads c.read_node-2.ensures.reads (omega (arith, last))
+
+pub returns-clause-reads : goal.returns-clause-reads
+returns-clause-reads g c =
+    let s = g.N.NodeStore.state c.args.store.now in
+    let deep : c.shape-shape.result.depth ≡ s.shape.depth = ap (λ h. h.depth) c.shape-shape.ensures in
+    let last : c.loop-level.level + 1 ≡ s.shape.depth = omega (arith, c.loop-level-test.false, c.loop-level.auto.level-end) in
+    reads_both c.loop-level.level 1 s.shape.depth c.loop-level.invariant.reads c.read_node-2.ensures.reads (omega (arith, last))
