@@ -30,8 +30,9 @@ fn whole_blocks(sectors: u64, per_block: u32) -> u64
     sectors - sectors % per_block as u64
 }
 
-/// Reads the tree in a fork of a volume whose blocks have so many bytes, each node at most once, whatever its links are. A tree that keeps
-/// rules 4 to 7 gives its pairs. Any other gives none, and its first finding is added to `out`.
+/// Reads the tree in a fork of a volume whose blocks have so many bytes. A tree that keeps rules 4 to 7 gives its pairs. Any other gives none,
+/// and its first finding is added to `out`. It comes to each node once at most, whatever the links are, behind one look at the header record;
+/// a test counts these reads, and no clause does.
 pub fn scan_tree<V: SectorView, K: KeyOrder>(
     alloc: Global,
     view: &mut V,

@@ -31,7 +31,7 @@ pub fn work<V: Volume, G: Ground>(volume: &mut V, base: &mut G) -> Result<bool, 
     }
 }
 
-/// Reclaims until nothing is left to reclaim. Answers whether it came to rest, which it surely does in as many steps as a volume has blocks and records.
+/// Reclaims until nothing is left to reclaim, or so many steps are made. Answers whether it came to rest.
 pub fn tidy<V: Volume, G: Ground>(volume: &mut V, base: &mut G) -> Result<bool, Trouble>
     requires serves { (capacity : ℕ) × G.serves base.old capacity × (G.taken base.old ≤ capacity) }
     requires stands { IsTrue (G.space base.old).tells → SomeStands (V.knows volume.old (G.space base.old)) (G.space base.old) (G.outside base.old) }
