@@ -1,17 +1,11 @@
 -- The bits of an allocation file in a content, which is a list of sectors.
 use Rattle.std.specs.Prelude.{◌≡◌, ℕ, ◌+◌, ◌*◌, ◌/◌, ◌%◌, ◌<◌, ◌≤◌, Bool, true, false, ◌∷◌, Option, Some, None, List, [], length, slice_get, slice_index_or}
-use Rattle.hx_bytes.specs.declared.extents.Extent.{Extent}
-use Rattle.fork_map.specs.Blocks.{blocks_of, sectors_of}
 use Rattle.flag_rows.specs.Bits.{bit_of}
 
 -- the sector of a content, or no bytes where there is none
 abbrev pub sector_or_none : List (List ℕ) → Option ℕ → List ℕ
 sector_or_none content (Some at) = slice_index_or content at []
 sector_or_none content None = []
-
--- the sectors of a fork, in order, where a block has so many
-abbrev pub fork_sectors : List Extent → ℕ → List ℕ
-fork_sectors fork per_block = sectors_of per_block (blocks_of fork)
 
 -- the bit of a block in a fork, which is clear where the fork has no such bit
 abbrev pub fork_bit : List (List ℕ) → List ℕ → ℕ → Bool

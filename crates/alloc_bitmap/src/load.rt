@@ -6,7 +6,8 @@ ghost use Rattle.sector_disk.specs.Cause.{Rose, HasCause};
 ghost use Rattle.sector_disk.specs.Clock.{TimePasses};
 ghost use Rattle.sector_disk.specs.Space.{SameSpace, SameRoom, SameSectors, LeavesDurable};
 ghost use Rattle.flag_rows.specs.Bits.{bit_of, sectors_for};
-ghost use Rattle.alloc_bitmap.specs.Fork.{fork_sectors, fork_bit, HoldsBits, sector_or_none};
+ghost use Rattle.alloc_bitmap.specs.Fork.{fork_bit, HoldsBits, sector_or_none};
+ghost use Rattle.fork_map.specs.Blocks.{fork_sectors};
 ghost use Rattle.alloc_bitmap.specs.Map.{BlockMap, none};
 
 use crate::Bitmap;

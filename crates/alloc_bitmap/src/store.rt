@@ -4,10 +4,10 @@ ghost use Rattle.std.specs.List.{All};
 ghost use Rattle.sector_disk.specs.Clock.{TimePasses};
 ghost use Rattle.sector_disk.specs.Space.{SameSpace, LeavesDurable};
 ghost use Rattle.sector_disk.specs.Putting.{unput, PutsThese, TakesRoomOf};
-ghost use Rattle.fork_map.specs.Blocks.{blocks_of};
+ghost use Rattle.fork_map.specs.Blocks.{blocks_of, fork_sectors};
 ghost use Rattle.alloc_bitmap.specs.Apart.{AreApart};
 ghost use Rattle.flag_rows.specs.Bits.{bit_of, sectors_for};
-ghost use Rattle.alloc_bitmap.specs.Fork.{fork_sectors, fork_bit, HoldsBits, IsChanged, ClearsRest, changed_of};
+ghost use Rattle.alloc_bitmap.specs.Fork.{fork_bit, HoldsBits, IsChanged, ClearsRest, changed_of};
 
 use crate::Bitmap;
 use flag_rows::Bits;
@@ -61,7 +61,8 @@ struct ChangedSectors<'a> {
 
 impl SectorsToPut for ChangedSectors<'_> {
     ghost use Rattle.std.specs.Prelude.{drop};
-    ghost use Rattle.alloc_bitmap.specs.Fork.{fork_sectors, changed_of, HoldsPart};
+    ghost use Rattle.alloc_bitmap.specs.Fork.{changed_of, HoldsPart};
+    ghost use Rattle.fork_map.specs.Blocks.{fork_sectors};
 
     ghost places = { λ s. changed_of (drop s.place (fork_sectors s.fork.now s.per_block)) (drop s.place s.changed.now) };
 

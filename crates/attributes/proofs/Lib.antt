@@ -9,5 +9,6 @@ pub mod Records
 pub mod Rounds
 pub mod SingleEdits
 pub mod Units
+pub mod ValueMaps
 pub mod Values
 pub mod Walks

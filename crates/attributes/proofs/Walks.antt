@@ -1,6 +1,6 @@
 -- A walk over the attributes of one folder or file: they stand together behind the key of the empty name.
 use Rattle.std.proofs.Common.{◌≡◌, ℕ, zero, suc, ◌+◌, ◌<◌, ◌≤◌, Bool, true, false, List, [], ◌∷◌, ◌++◌, length, map, take, drop, refl, sym, ◌∙◌, ap, subst, arith}
-use Rattle.std.specs.Prelude.{slice_index_or, ◌==◌, Option, None, Some, if◌then◌else◌}
+use Rattle.std.specs.Prelude.{slice_index_or, IsTrue, ◌==◌, Option, None, Some, if◌then◌else◌}
 use Rattle.std.proofs.lemmas.Bool.{eq-eqb}
 use Rattle.std.proofs.lemmas.Grind.{flat_map-append}
 use Rattle.std.proofs.lemmas.List.{map-append, append-nil, take_all, take_more, take-append-drop, length-take, length-drop, get_or-take, get_or-drop}
@@ -9,7 +9,9 @@ use Rattle.btree_node.specs.Levels.{Pair}
 use Rattle.btree_node.specs.Store.{Store}
 use Rattle.btree_node.specs.Tree.{pairs_of}
 use Rattle.btree_edit.specs.Desk.{IsAbove, HoldsPair}
-use Rattle.btree_edit.specs.Walking.{Seeks, StandsAt, StepsOn}
+use Rattle.btree_edit.specs.Reading.{ReadsNodes}
+use Rattle.btree_edit.specs.Walking.{Seeks, StandsAt, StepsOn, leaves_until, leaves_where}
+use Rattle.btree_edit.proofs.Spans.{HasSpanned, span_begins, span_goes_on, span_ends}
 use Rattle.btree_edit.specs.declared.desk.Desk.{Desk}
 use Rattle.hfs_model.specs.Sorted.{kept}
 use Rattle.hfs_volume.specs.Records.{Attribute, attribute_of}
@@ -19,11 +21,12 @@ use Rattle.attributes.proofs.Owned.{owned_above, later_files}
 use Rattle.attributes.proofs.Places.{AscendByKey}
 
 -- What a walk knows that has gathered these names: it has passed so many pairs behind the key, and the names are those of all pairs before its place.
-pub record Gathers (id : ℕ) (start : List ℕ) (pairs : List Pair) (store : Store) (desk : Desk) (at passed : ℕ) (names : List (List ℕ)) : Type 0 where
+pub record Gathers (id : ℕ) (start : List ℕ) (whole store : Store) (desk : Desk) (at passed : ℕ) (names : List (List ℕ)) : Type 0 where
   pub first : ℕ
-  pub above : IsAbove attr_cmp start pairs first
+  pub above : IsAbove attr_cmp start (pairs_of whole) first
   pub stands : StandsAt store desk at (first + passed)
-  pub got : names ≡ names_of id (take (first + passed) pairs)
+  pub got : names ≡ names_of id (take (first + passed) (pairs_of whole))
+  pub spanned : HasSpanned (is_of id) whole store first (first + passed)
 
 names_append : (id : ℕ) (xs ys : List Pair) → names_of id (xs ++ ys) ≡ names_of id xs ++ names_of id ys
 names_append id xs ys =
@@ -79,10 +82,13 @@ module _ (id : ℕ) (start : List ℕ) (pairs : List Pair) (first : ℕ) (rises 
 pub all_taken : (id : ℕ) (pairs : List Pair) (place : ℕ) (names : List (List ℕ)) → length pairs ≤ place → names ≡ names_of id (take place pairs) → names ≡ names_of id pairs
 all_taken id pairs place names past got = got ∙ ap (names_of id) (take_all place pairs past)
 
-module _ (id : ℕ) (start : List ℕ) (pairs : List Pair) (rises : AscendByKey pairs) (inline : AreInline pairs) (file : attr_file start ≡ id) (units_are : attr_units start ≡ []) where
+module _ (id : ℕ) (start : List ℕ) (whole : Store) (rises : AscendByKey (pairs_of whole)) (inline : AreInline (pairs_of whole)) (file : attr_file start ≡ id) (units_are : attr_units start ≡ []) where
+  abbrev pairs : List Pair
+  pairs = pairs_of whole
+
   -- it begins where no name is passed
-  pub begins : (store : Store) (desk : Desk) (at : ℕ) (found : Option ℕ) → found ≡ Some at → pairs_of store ≡ pairs → Seeks attr_cmp start store desk found → Gathers id start pairs store desk at 0 []
-  begins store desk at found is same seeks =
+  pub begins : (store : Store) (desk : Desk) (at : ℕ) (found : Option ℕ) → found ≡ Some at → pairs_of store ≡ pairs → store.loads ≤ whole.loads + whole.shape.depth → Seeks attr_cmp start store desk found → Gathers id start whole store desk at 0 []
+  begins store desk at found is same loads seeks =
       let there = subst (Seeks attr_cmp start store desk) is seeks in
       let above : IsAbove attr_cmp start pairs there.0 = subst (λ l. IsAbove attr_cmp start l there.0) same there.2 in
       let here : there.0 ≡ there.0 + 0 = omega arith in
@@ -91,9 +97,10 @@ module _ (id : ℕ) (start : List ℕ) (pairs : List Pair) (rises : AscendByKey 
         above = above;
         stands = subst (StandsAt store desk at) here there.1;
         got = sym (ap (λ n. names_of id (take n pairs)) (sym here) ∙ none_passed id start pairs there.0 rises inline file units_are above);
+        spanned = subst (HasSpanned (is_of id) whole store there.0) here (span_begins (is_of id) whole store there.0 loads);
       }
 
-  module _ (store : Store) (desk : Desk) (at passed : ℕ) (names : List (List ℕ)) (known : Gathers id start pairs store desk at passed names) (next : Store) (after : Desk) (same : pairs_of next ≡ pairs) where
+  module _ (store : Store) (desk : Desk) (at passed : ℕ) (names : List (List ℕ)) (known : Gathers id start whole store desk at passed names) (next : Store) (after : Desk) (same : pairs_of next ≡ pairs) where
     abbrev place : ℕ
     place = known.first + passed
 
@@ -107,6 +114,10 @@ module _ (id : ℕ) (start : List ℕ) (pairs : List Pair) (rises : AscendByKey 
     pub ends : (found : Option ℕ) → found ≡ None → StepsOn next after place found → names ≡ names_of id pairs
     ends found none steps = all_taken id pairs place names (omega (arith, subst (StepsOn next after place) none steps, ap (λ (l : List Pair). length l) same)) known.got
 
+    -- what the walk has loaded
+    pub ends_loaded : next.loads ≤ store.loads + 1 → next.loads ≤ whole.loads + whole.shape.depth + leaves_where (is_of id) whole + 1
+    ends_loaded last = span_ends (is_of id) whole store known.first place known.spanned next (omega arith) last
+
     -- the pair is another's
     pub leaves_them : (on : ℕ) (found : Option ℕ) → found ≡ Some on → StepsOn next after place found → (attr_file after.held.key ≡ id → ⊥) → names ≡ names_of id pairs
     leaves_them on found some steps other =
@@ -115,9 +126,9 @@ module _ (id : ℕ) (start : List ℕ) (pairs : List Pair) (rises : AscendByKey 
 
     -- the pair is one more
     pub goes_on : (on : ℕ) (found : Option ℕ) (name : List ℕ) → found ≡ Some on → StepsOn next after place found → attr_file after.held.key ≡ id → name ≡ attr_units after.held.key
-        → Gathers id start pairs next after on (passed + 1) (names ++ name ∷ [])
+        → (most : ℕ) → ReadsNodes most whole store → IsTrue whole.tells → next.loads + leaves_until store place ≤ store.loads + leaves_until store (place + 1) → Gathers id start whole next after on (passed + 1) (names ++ name ∷ [])
     unfolding attribute_of
-    goes_on on found name some steps own name_is =
+    goes_on on found name some steps own name_is most reads tells loads =
         let stepped = subst (StepsOn next after place) some steps in
         let holds = stepped.0 in
         let pair = slice_index_or pairs place ([], []) in
@@ -130,4 +141,6 @@ module _ (id : ℕ) (start : List ℕ) (pairs : List Pair) (rises : AscendByKey 
               ap (λ l. l ++ name ∷ []) known.got ∙ ap (λ n. names_of id (take place pairs) ++ n ∷ []) (name_is ∙ ap attr_units (key_is holds))
               ∙ sym (one_more id start pairs known.first rises inline file units_are known.above place (inside holds) (eq-eqb (attr_file pair.0) id (sym (ap attr_file (key_is holds)) ∙ own)))
               ∙ ap (λ n. names_of id (take n pairs)) here;
+          spanned = subst (HasSpanned (is_of id) whole next known.first) here
+              (span_goes_on (is_of id) whole store known.first place known.spanned next most reads tells (eq-eqb (attr_file pair.0) id (sym (ap attr_file (key_is holds)) ∙ own)) loads);
         }

@@ -1,11 +1,12 @@
 //! The names of the attributes of a folder or file, by one walk over the leaves that have them.
-ghost use Rattle.std.specs.Prelude.{◌≡◌, ◌≤◌, ◌+◌, [], IsTrue, IfOk, length};
+ghost use Rattle.std.specs.Prelude.{◌≡◌, ◌≤◌, ◌+◌, [], IsTrue, IfOk, OnOk, length};
 ghost use Rattle.btree_node.specs.Keys.{IsAttrKey, attr_cmp, attr_file, attr_units};
 ghost use Rattle.btree_node.specs.Tree.{IsTree, pairs_of};
 ghost use Rattle.btree_edit.specs.Causes.{HasTroubleCause};
 ghost use Rattle.btree_edit.specs.Desk.{IsDeskOf};
 ghost use Rattle.btree_edit.specs.Reading.{ReadsNodes};
-ghost use Rattle.attributes.specs.Owned.{names_of};
+ghost use Rattle.btree_edit.specs.Walking.{leaves_where};
+ghost use Rattle.attributes.specs.Owned.{is_of, names_of};
 ghost use Rattle.attributes.specs.Values.{AreInline};
 
 use crate::dropping::is_key_of;
@@ -28,7 +29,9 @@ pub fn list<N: NodeStore>(
     ensures listed { IsTrue (N.state store.old).tells → IfOk result (λ names. names ≡ names_of id (pairs_of (N.state store.old))) }
     // It changes nothing.
     ensures reads { ReadsNodes ((N.state store.old).shape.depth + (N.state store.old).shape.leaf_records) (N.state store.old) (N.state store.new) }
-    // It goes down to the first name, and on from there: it loads at most one node for each name, and one behind them.
+    // It walks the leaves once: it loads the nodes of the way down, and at most those leaves that have an attribute of the folder or file, and one behind them.
+    ensures leaves { IsTrue (N.state store.old).tells → OnOk result ((N.state store.new).loads ≤ (N.state store.old).loads + (N.state store.old).shape.depth + leaves_where (is_of id) (N.state store.old) + 1) }
+    // Over any store it loads at most one node for each name beside the way down, and one behind them.
     ensures loads { IfOk result (λ names. (N.state store.new).loads ≤ (N.state store.old).loads + (N.state store.old).shape.depth + length names + 1) }
     ensures desk { IsDeskOf (N.state store.old).shape.node_size desk.new }
     ensures cause { HasTroubleCause (N.state store.old).faults (N.state store.new).faults result }
@@ -53,6 +56,7 @@ fn collect<N: NodeStore>(
     requires before { (attr_file start.now ≡ id) × (attr_units start.now ≡ []) }
     ensures listed { IsTrue (N.state store.old).tells → IfOk result (λ names. names ≡ names_of id (pairs_of (N.state store.old))) }
     ensures reads { ReadsNodes ((N.state store.old).shape.depth + (N.state store.old).shape.leaf_records) (N.state store.old) (N.state store.new) }
+    ensures leaves { IsTrue (N.state store.old).tells → OnOk result ((N.state store.new).loads ≤ (N.state store.old).loads + (N.state store.old).shape.depth + leaves_where (is_of id) (N.state store.old) + 1) }
     ensures loads { IfOk result (λ names. (N.state store.new).loads ≤ (N.state store.old).loads + (N.state store.old).shape.depth + length names + 1) }
     ensures desk { IsDeskOf (N.state store.old).shape.node_size desk.new }
     ensures cause { HasTroubleCause (N.state store.old).faults (N.state store.new).faults result }

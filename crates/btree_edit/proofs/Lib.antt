@@ -3,6 +3,7 @@ pub mod Descent
 pub mod Repeated
 pub mod Picking
 pub mod Behind
+pub mod Spans
 pub mod Walks
 pub mod Counting
 pub mod Linking

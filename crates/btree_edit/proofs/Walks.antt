@@ -15,9 +15,10 @@ use Rattle.btree_node.proofs.Ranks.{level_long, behind_node, in_node}
 use Rattle.btree_edit.specs.Desk.{IsAbove, HoldsPair}
 use Rattle.btree_edit.specs.Following.{IsInLeaf, IsLocated}
 use Rattle.btree_edit.specs.Reading.{ReadsNodes, IsPlace}
-use Rattle.btree_edit.specs.Walking.{Seeks, StandsAt, StepsOn, Turns}
+use Rattle.btree_edit.specs.Walking.{Seeks, StandsAt, StepsOn, Turns, leaves_until}
 use Rattle.btree_edit.specs.declared.desk.Desk.{Desk}
 use Rattle.btree_edit.proofs.Descent.{pair_at, pairs_long}
+use Rattle.btree_edit.proofs.Spans.{until_next}
 
 -- ---- over calls that only read
 
@@ -218,6 +219,14 @@ module _ (is_key : List ℕ → Type 0) (cmp : List ℕ → List ℕ → Orderin
             by_back : (l : List ℕ) → stands.back ≡ l → 0 < length (items mid.node)
             by_back [] is = absurd (mid_not_zero (next_is ∙ next_at ∙ ap (λ l. get_or l 0 0) is))
             by_back (n ∷ ns) is = let behind = is_behind n ns is in subst (λ l. 0 < length (items l)) (sym (turns.is refl ∙ ap store.nodes behind.next)) behind.some
+
+        -- the leaf behind is one more
+        pub one_leaf_more : leaves_until store place + 1 ≤ leaves_until store (place + 1)
+        one_leaf_more = by_back stands.back refl
+          where
+            by_back : (l : List ℕ) → stands.back ≡ l → leaves_until store place + 1 ≤ leaves_until store (place + 1)
+            by_back [] is = absurd (mid_not_zero (next_is ∙ next_at ∙ ap (λ l. get_or l 0 0) is))
+            by_back (n ∷ ns) is = until_next store old at place n ns stands at_end is (is_behind n ns is).some
 
         pub step_over : (new : Desk) → new.node ≡ mid.node → new.held.key ≡ key_of (get_or (items mid.node) 0 []) → new.held.value ≡ value_of (get_or (items mid.node) 0 []) → StepsOn store new place (Some 1)
         step_over new kept own value = by_back stands.back refl

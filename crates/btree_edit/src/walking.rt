@@ -5,7 +5,7 @@ ghost use Rattle.btree_node.specs.Store.{HasCause};
 ghost use Rattle.btree_node.specs.Tree.{IsTree, pairs_of};
 ghost use Rattle.btree_edit.specs.Desk.{IsDeskOf};
 ghost use Rattle.btree_edit.specs.Reading.{ReadsNodes};
-ghost use Rattle.btree_edit.specs.Walking.{Seeks, StandsAt, StepsOn, Turns};
+ghost use Rattle.btree_edit.specs.Walking.{Seeks, StandsAt, StepsOn, Turns, leaves_until};
 
 use crate::desk::Desk;
 use crate::following::{keep_record, locate};
@@ -68,8 +68,11 @@ pub fn step<N: NodeStore, K: KeyOrder>(
     // The pair at the walk's place is on the desk, and the walk goes one place on; it ends behind the last pair.
     ensures steps { IsTrue (N.state store.old).tells → (place : ℕ) → StandsAt (N.state store.old) desk.old at place → IfOk result (λ on. StepsOn (N.state store.new) desk.new place on) }
     ensures well_formed { IfOk result (λ on. IsSome on → IsNode desk.new.node) }
-    // It loads a node where it leaves a leaf, and changes nothing.
+    // It loads at most one node, and changes nothing.
     ensures reads { ReadsNodes 1 (N.state store.old) (N.state store.new) }
+    // It loads a node only where the pair stands in another leaf than the one before it.
+    ensures loads { IsTrue (N.state store.old).tells → (place : ℕ) → StandsAt (N.state store.old) desk.old at place
+        → IfOk result (λ on. IsSome on → (N.state store.new).loads + leaves_until (N.state store.old) place ≤ (N.state store.old).loads + leaves_until (N.state store.old) (place + 1)) }
     ensures pairs { IsTrue (N.state store.old).tells → pairs_of (N.state store.new) ≡ pairs_of (N.state store.old) }
     ensures tree { IsTrue (N.state store.old).tells → IsTree K.is_key K.cmp (N.state store.new) }
     ensures desk { IsDeskOf (N.state store.old).shape.node_size desk.new }

@@ -18,7 +18,8 @@ use Rattle.btree_file.specs.Frame.{FollowsOn}
 use Rattle.btree_file.specs.FrameLaws.{same_sectors}
 use Rattle.btree_file.specs.Held.{HoldsNodes, file_in}
 use Rattle.btree_file.specs.Map.{used_in, AreStretches}
-use Rattle.btree_file.specs.Place.{fork_sectors, sectors_at}
+use Rattle.btree_file.specs.Place.{sectors_at}
+use Rattle.fork_map.specs.Blocks.{fork_sectors}
 use Rattle.btree_file.specs.Standing.{Stands, HoldsTree}
 use Rattle.btree_file.specs.State.{sectors_of_tree, nodes_on, state_of, Agrees, HasMap}
 use Rattle.btree_file.specs.declared.tree.Stretch.{Stretch}

@@ -7,7 +7,7 @@ use Rattle.std.proofs.lemmas.Bool.{cases_lt}
 use Rattle.std.proofs.lemmas.List.{get_or_append_left, get_or-append_right}
 use Rattle.std.proofs.lemmas.List.Concat.{flat_map-append}
 use Rattle.std.proofs.lemmas.List.FromFn.{length-range_with_len}
-use Rattle.fork_map.specs.Blocks.{blocks_of, sectors_of}
+use Rattle.fork_map.specs.Blocks.{blocks_of, sectors_of, fork_sectors}
 use Rattle.hx_bytes.specs.declared.extents.Extent.{Extent}
 use Rattle.btree_node.specs.declared.store.TreeShape.{TreeShape}
 use Rattle.btree_node.specs.TreeFile.{tree_head}
@@ -16,7 +16,7 @@ use Rattle.sector_disk.specs.Space.{Space}
 use Rattle.btree_file.specs.Frame.{ReadsSpace, PutsWithin}
 use Rattle.btree_file.specs.Growth.{KeepsTree, SpendsRoom, HasRoomToGrow, TakesRoomToGrow, IsGrowing, last_node, map_nodes_with, nodes_in, nodes_with, sectors_with, unwritten_in}
 use Rattle.btree_file.specs.Map.{used_in, is_reserved}
-use Rattle.btree_file.specs.Place.{IsInside, IsOpen, fork_sectors, sectors_at}
+use Rattle.btree_file.specs.Place.{IsInside, IsOpen, sectors_at}
 use Rattle.btree_file.specs.Putting.{unput}
 use Rattle.btree_file.specs.Standing.{Stands}
 use Rattle.btree_file.specs.State.{sectors_of_tree, nodes_on, node_in, HasMap}

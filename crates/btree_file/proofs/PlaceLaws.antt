@@ -89,3 +89,10 @@ own_piece fork per n bytes content apart each k low =
     let place : n * per + piece.place ≡ n * per + k = apart (n * per + piece.place) (n * per + k) one.1 two.1 same in
     let is : piece.place ≡ k = omega (arith, place) in
     piece.is ∙ ap (λ i. slice_range bytes (i * 512) (i * 512 + 512)) is
+
+-- the place of a sector in a fork, for a node's length under another name
+pub same_place : (fork : List ℕ) (n k at long per : ℕ) → long ≡ per → Some at ≡ slice_get fork (n * long + k) → slice_get fork (n * per + k) ≡ Some at
+same_place fork n k at long per e place = ap (λ p. slice_get fork (n * p + k)) (sym e) ∙ sym place
+
+pub same_none : (fork : List ℕ) (n k long per : ℕ) → long ≡ per → ◌≡◌ {A = Option ℕ} None (slice_get fork (n * long + k)) → ◌≡◌ {A = Option ℕ} None (slice_get fork (n * per + k))
+same_none fork n k long per e place = place ∙ ap (λ p. slice_get fork (n * p + k)) e

@@ -9,14 +9,14 @@ use Rattle.std.proofs.lemmas.List.{take-append-drop, length-take, get_or-take, g
 use Rattle.std.proofs.lemmas.List.Concat.{flat_map-append}
 use Rattle.std.proofs.lemmas.List.FromFn.{length-range_with_len}
 use Rattle.hx_bytes.specs.declared.extents.Extent.{Extent}
-use Rattle.fork_map.specs.Blocks.{blocks_of, sectors_of}
+use Rattle.fork_map.specs.Blocks.{blocks_of, sectors_of, fork_sectors}
 use Rattle.fork_map.proofs.Laws.{no_sectors}
 use Rattle.btree_node.specs.TreeFile.{tree_head, shape_of}
 use Rattle.btree_node.specs.declared.store.TreeShape.{TreeShape}
 use Rattle.sector_disk.specs.Lists.{Content}
 use Rattle.sector_disk.specs.Space.{Space}
 use Rattle.btree_file.specs.Growth.{GrewFrom}
-use Rattle.btree_file.specs.Place.{AreApart, IsInside, fork_sectors}
+use Rattle.btree_file.specs.Place.{AreApart, IsInside}
 use Rattle.btree_file.specs.Standing.{Stands}
 use Rattle.btree_file.specs.State.{sectors_of_tree, nodes_on, HasMap}
 use Rattle.btree_file.specs.declared.tree.Stretch.{Stretch}

@@ -9,7 +9,8 @@ use Rattle.sector_disk.specs.Space.{Space}
 use Rattle.btree_file.specs.Frame.{PutsWithin}
 use Rattle.btree_file.specs.FrameLaws.{within_both}
 use Rattle.btree_file.specs.Growth.{ExtendsMap, KeepsTree, CountsMore, SpendsRoom, HasRoomFor, bits_each, map_nodes_for, last_node, unwritten_in}
-use Rattle.btree_file.specs.Place.{fork_sectors, sectors_at}
+use Rattle.btree_file.specs.Place.{sectors_at}
+use Rattle.fork_map.specs.Blocks.{fork_sectors}
 use Rattle.btree_file.specs.Putting.{unput}
 use Rattle.btree_file.specs.State.{sectors_of_tree, per_node}
 use Rattle.btree_file.specs.declared.tree.Stretch.{Stretch}

@@ -5,35 +5,14 @@ use Rattle.sector_disk.specs.Lists.{Content, sector}
 use Rattle.sector_disk.specs.Clock.{TimePasses}
 use Rattle.sector_disk.specs.Space.{Space, SameSpace, Puts, LeavesDurable}
 use Rattle.sector_disk.proofs.Passing.{none_passes, both_pass}
+use Rattle.sector_disk.proofs.SpaceLaws.{space_none, space_both, iff_none, iff_both, leaves_as_before}
 use Rattle.btree_node.specs.MemLaws.{legal_size}
 use Rattle.btree_node.specs.Store.{IsWellFormed}
 use Rattle.btree_node.specs.TreeFile.{TreeHead, tree_head}
 use Rattle.btree_file.specs.State.{sectors_of_tree, state_of}
-use Rattle.btree_file.specs.Place.{fork_sectors}
+use Rattle.fork_map.specs.Blocks.{fork_sectors}
 use Rattle.btree_file.specs.Frame.{PutsWithin, ReadsSpace, SameForm, SameFile, FollowsOn}
 use Rattle.btree_file.specs.declared.tree.TreeFile.{TreeFile}
-
-pub space_none : (s : Space) → SameSpace s s
-space_none s = record { tells = refl; names = refl; tells_left = refl; told = refl; sink_faults = refl; barriers = refl; sectors = refl }
-
-pub space_both : (a b c : Space) → SameSpace a b → SameSpace b c → SameSpace a c
-space_both a b c p q = record { tells = q.tells ∙ p.tells; names = q.names ∙ p.names; tells_left = q.tells_left ∙ p.tells_left; told = q.told ∙ p.told; sink_faults = q.sink_faults ∙ p.sink_faults; barriers = q.barriers ∙ p.barriers; sectors = q.sectors ∙ p.sectors }
-
-pub iff_none : (P : Type 0) → P ↔ P
-iff_none P = (λ p. p, λ p. p)
-
-pub iff_both : (P Q R : Type 0) → Q ↔ P → R ↔ Q → R ↔ P
-iff_both P Q R p q = (λ r. p.0 (q.0 r), λ x. q.1 (p.1 x))
-
--- what a crash leaves stays, where the durable content, the spilled and the closed sectors and the told bytes do
-pub leaves_as_before : (a b : Space) (image : List (List ℕ)) (told : List ℕ) → b.durable ≡ a.durable → ((k : ℕ) → b.spilled k ↔ a.spilled k) → ((k : ℕ) → b.closed k ↔ a.closed k) → b.told ≡ a.told → LeavesDurable a image told → LeavesDurable b image told
-leaves_as_before a b image told durable spilled closed same l = (
-  record {
-    size = l.0.size ∙ ap (λ (d : Content). length d) (sym durable);
-    each = λ k. ⊎_elim (λ e. inl (e ∙ ap (λ (d : Content). sector d k) (sym durable))) (λ these. inr (⊎_elim (λ s. inl ((spilled k).1 s)) (λ s. inr ((closed k).1 s)) these)) (l.0.each k);
-  },
-  l.1 ∙ sym same,
-)
 
 -- a stretch in which a sector was put
 pub time_puts : (a b c : Space) (at : ℕ) (value : List ℕ) → Puts b at value c → SameSpace b c → TimePasses a.clock b.clock (LeavesDurable b) → TimePasses b.clock c.clock (LeavesDurable c) → TimePasses a.clock c.clock (LeavesDurable c)

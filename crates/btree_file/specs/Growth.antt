@@ -2,14 +2,14 @@
 use Rattle.std.specs.Prelude.{◌≡◌, ◌≢◌, ◌⊎◌, ◌<◌, ◌≤◌, ◌%◌, ℕ, ◌+◌, ◌-◌, ◌*◌, ◌/◌, ◌^◌, not, false, IsTrue, Bool, List, [], ◌∷◌, ◌++◌, length, min, slice_index_or}
 use Rattle.std.specs.List.{All, count_by, list_all, range_with_len}
 use Rattle.hx_bytes.specs.declared.extents.Extent.{Extent}
-use Rattle.fork_map.specs.Blocks.{blocks_of}
+use Rattle.fork_map.specs.Blocks.{blocks_of, fork_sectors}
 use Rattle.flag_rows.specs.Bits.{bit_of}
 use Rattle.btree_node.specs.Node.{next_of}
 use Rattle.btree_node.specs.TreeFile.{tree_head, shape_of}
 use Rattle.sector_disk.specs.Space.{Space}
 use Rattle.btree_file.specs.Frame.{SameForm}
 use Rattle.btree_file.specs.Map.{bits_of, is_reserved, IsMapRecord}
-use Rattle.btree_file.specs.Place.{IsInside, IsOpen, AreApart, fork_sectors, sectors_at}
+use Rattle.btree_file.specs.Place.{IsInside, IsOpen, AreApart, sectors_at}
 use Rattle.btree_file.specs.Putting.{unput}
 use Rattle.btree_file.specs.Standing.{Stands, LiesInside, LiesOpen}
 use Rattle.btree_file.specs.State.{sectors_of_tree, per_node, node_in, used_on, Agrees}

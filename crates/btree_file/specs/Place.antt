@@ -4,13 +4,9 @@ use Rattle.std.specs.List.{All}
 use Rattle.hx_bytes.specs.declared.extents.Extent.{Extent}
 use Rattle.btree_node.specs.Node.{is_node_size}
 use Rattle.btree_node.specs.declared.store.TreeShape.{TreeShape}
-use Rattle.fork_map.specs.Blocks.{blocks_of, sectors_of}
+use Rattle.fork_map.specs.Blocks.{fork_sectors}
 use Rattle.sector_disk.specs.Space.{Space}
 use Rattle.btree_file.specs.declared.tree.Stretch.{Stretch}
-
--- the sectors of a fork, in order, where a block has so many
-abbrev pub fork_sectors : List Extent → ℕ → List ℕ
-fork_sectors fork per_block = sectors_of per_block (blocks_of fork)
 
 -- the sectors of the node with this number, where a node has so many
 abbrev pub sectors_at : List ℕ → ℕ → ℕ → List ℕ

@@ -7,7 +7,8 @@ use Rattle.btree_node.specs.TreeFile.{tree_head, shape_of, IsHeaderNode}
 use Rattle.btree_node.specs.declared.store.TreeShape.{TreeShape}
 use Rattle.fork_map.specs.Nodes.{node_of}
 use Rattle.sector_disk.specs.Space.{Space}
-use Rattle.btree_file.specs.Place.{fork_sectors, sectors_at}
+use Rattle.btree_file.specs.Place.{sectors_at}
+use Rattle.fork_map.specs.Blocks.{fork_sectors}
 use Rattle.btree_file.specs.Map.{used_in, is_reserved, bits_of, AreStretches}
 use Rattle.btree_file.specs.declared.tree.Stretch.{Stretch}
 use Rattle.btree_file.specs.declared.tree.TreeFile.{TreeFile}

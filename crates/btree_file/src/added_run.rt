@@ -1,13 +1,13 @@
 //! A run of blocks that is added to the fork of a tree file, with its nodes.
 ghost use Rattle.std.specs.Prelude.{◌≡◌, ◌≢◌, ◌⊎◌, ◌<◌, ◌≤◌, ◌+◌, ◌*◌, ◌/◌, ◌++◌, ◌∷◌, ◌^◌, [], IsTrue, length, replicate, vec_len, vec_capacity, IfOk, IfSome, IsSome, OnOk, OnErr, IsErrOf};
 ghost use Rattle.hx_bytes.specs.declared.faults.Trouble.TheVariants.{Disk};
-ghost use Rattle.fork_map.specs.Blocks.{blocks_of};
+ghost use Rattle.fork_map.specs.Blocks.{blocks_of, fork_sectors};
 ghost use Rattle.fork_map.specs.Nodes.{node_of};
 ghost use Rattle.sector_disk.specs.Cause.{HasCause, Rose};
 ghost use Rattle.btree_node.specs.Node.{IsNodeSize};
 ghost use Rattle.btree_file.specs.Frame.{PutsWithin, ReadsSpace};
 ghost use Rattle.btree_file.specs.Growth.{HasGrown, HasRoomToGrow, HasWholeNodes, RunApart, RunInside, RunOpen, TakesRoomToGrow, SaysSame, last_node, map_nodes_with, nodes_in, nodes_with, sectors_with};
-ghost use Rattle.btree_file.specs.Place.{IsInside, AreApart, fork_sectors};
+ghost use Rattle.btree_file.specs.Place.{IsInside, AreApart};
 ghost use Rattle.btree_file.specs.Standing.{Stands, LiesInside, LiesOpen};
 
 use crate::apart::sectors_differ;

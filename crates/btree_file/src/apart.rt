@@ -2,7 +2,8 @@
 ghost use Rattle.std.specs.Prelude.{◌≡◌, ◌<◌, ◌+◌, ◌↔◌, ℕ, IsTrue, length, slice_index_or};
 ghost use Rattle.hx_bytes.specs.declared.extents.Extent.{Extent};
 ghost use Rattle.btree_file.specs.Apart.{Meet, NoneMeet};
-ghost use Rattle.btree_file.specs.Place.{AreApart, fork_sectors};
+ghost use Rattle.btree_file.specs.Place.{AreApart};
+ghost use Rattle.fork_map.specs.Blocks.{fork_sectors};
 
 use hx_bytes::Extent;
 

@@ -7,7 +7,8 @@ ghost use Rattle.fork_map.specs.Nodes.{node_of};
 ghost use Rattle.sector_disk.specs.Cause.{Rose};
 ghost use Rattle.btree_file.specs.Frame.{ReadsSpace};
 ghost use Rattle.btree_file.specs.Held.{HoldsNodes, file_in};
-ghost use Rattle.btree_file.specs.Place.{IsInside, AreApart, fork_sectors};
+ghost use Rattle.btree_file.specs.Place.{IsInside, AreApart};
+ghost use Rattle.fork_map.specs.Blocks.{fork_sectors};
 ghost use Rattle.btree_file.specs.Standing.{Stands};
 ghost use Rattle.btree_file.specs.State.{Agrees};
 

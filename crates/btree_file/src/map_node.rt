@@ -5,7 +5,8 @@ ghost use Rattle.sector_disk.specs.Space.{SameSpace, LeavesDurable};
 ghost use Rattle.btree_node.specs.Node.{IsNodeOf, SetsLinks, items, next_of, back_of};
 ghost use Rattle.btree_node.specs.TreeFile.{SetsShape};
 ghost use Rattle.btree_file.specs.Growth.{IsNewMapNode};
-ghost use Rattle.btree_file.specs.Place.{IsInside, IsOpen, AreApart, fork_sectors, sectors_at};
+ghost use Rattle.btree_file.specs.Place.{IsInside, IsOpen, AreApart, sectors_at};
+ghost use Rattle.fork_map.specs.Blocks.{fork_sectors};
 ghost use Rattle.btree_file.specs.Putting.{unput, PutsNode, TakesRoomFor};
 
 use crate::putting::put_node;

@@ -4,7 +4,8 @@ ghost use Rattle.sector_disk.specs.Cause.{HasCause};
 ghost use Rattle.sector_disk.specs.Clock.{TimePasses};
 ghost use Rattle.sector_disk.specs.Space.{SameSpace, LeavesDurable};
 ghost use Rattle.fork_map.specs.Nodes.{node_of};
-ghost use Rattle.btree_file.specs.Place.{IsInside, IsOpen, AreApart, fork_sectors, sectors_at};
+ghost use Rattle.btree_file.specs.Place.{IsInside, IsOpen, AreApart, sectors_at};
+ghost use Rattle.fork_map.specs.Blocks.{fork_sectors};
 ghost use Rattle.btree_file.specs.Frame.{ReadsSpace};
 ghost use Rattle.btree_file.specs.Putting.{unput, PutsNode, TakesRoomFor};
 
@@ -64,7 +65,8 @@ struct NodeSectors<'a> {
 
 impl SectorsToPut for NodeSectors<'_> {
     ghost use Rattle.std.specs.Prelude.{◌/◌, drop, length};
-    ghost use Rattle.btree_file.specs.Place.{fork_sectors, sectors_at};
+    ghost use Rattle.btree_file.specs.Place.{sectors_at};
+    ghost use Rattle.fork_map.specs.Blocks.{fork_sectors};
     ghost use Rattle.btree_file.specs.Putting.{IsPiece};
 
     ghost places = { λ s. drop s.k (sectors_at (fork_sectors s.fork.now s.per_block) (length s.from.now / 512) s.node) };

@@ -7,7 +7,8 @@ ghost use Rattle.btree_node.specs.Node.{IsNode, IsNodeOf, next_of, offset, recor
 ghost use Rattle.btree_node.specs.TreeFile.{map_chain};
 ghost use Rattle.btree_file.specs.Frame.{ReadsSpace};
 ghost use Rattle.btree_file.specs.Map.{IsMapRecord, AreStretches};
-ghost use Rattle.btree_file.specs.Place.{IsInside, fork_sectors};
+ghost use Rattle.btree_file.specs.Place.{IsInside};
+ghost use Rattle.fork_map.specs.Blocks.{fork_sectors};
 ghost use Rattle.btree_file.specs.Walks.{FitsFile, HasChain, names_of};
 
 use crate::marking::is_reserved;

@@ -1,11 +1,11 @@
 -- A header record written over another.
-use Rattle.std.proofs.Common.{◌≡◌, ◌⊎◌, ℕ, ◌+◌, ◌-◌, ◌^◌, ◌<◌, ◌≤◌, List, ◌++◌, length, take, drop, get_or, inl, inr, refl, sym, ◌∙◌, ap, arith, append_assoc}
-use Rattle.std.proofs.lemmas.List.{length-take, length-drop, length-append, get_or-take, get_or-drop}
-use Rattle.hx_bytes.specs.Field.{big, big_at, put_at}
+use Rattle.std.proofs.Common.{◌≡◌, ℕ, ◌+◌, ◌-◌, ◌^◌, ◌<◌, ◌≤◌, List, ◌++◌, length, take, drop, get_or, inl, inr, refl, sym, ◌∙◌, ap, arith, append_assoc}
+use Rattle.std.proofs.lemmas.List.{length-take, length-drop, get_or-take, get_or-drop}
+use Rattle.hx_bytes.specs.Field.{big, big_at}
 use Rattle.hx_bytes.proofs.Laws.{get_or-put_at, length-put_at}
-use Rattle.hx_bytes.proofs.Reading.{Behind, behind_start, behind_part, behind_number, number_here, part_here}
+use Rattle.hx_bytes.proofs.Reading.{Behind, behind_part, behind_number, number_here, part_here}
 use Rattle.hx_bytes.proofs.Writing.{Written}
-use Rattle.btree_node.specs.TreeFile.{tree_head, shape_of, SetsShape}
+use Rattle.btree_node.specs.TreeFile.{SetsShape}
 use Rattle.btree_node.specs.declared.store.TreeShape.{TreeShape}
 
 abbrev fields : TreeShape → List ℕ → List ℕ

@@ -1,12 +1,11 @@
 -- Levels of a tree whose records change in one node.
-use Rattle.std.proofs.Common.{◌≡◌, ◌≢◌, ◌⊎◌, ℕ, zero, suc, add-one, ◌+◌, ◌-◌, ◌*◌, ◌<◌, ◌≤◌, List, [], ◌∷◌, ◌++◌, map, length, take, drop, get_or, inl, inr, refl, sym, ◌∙◌, ap, subst, arith, append_assoc}
-use Rattle.std.proofs.lemmas.List.{length-append, take-append-le, drop-append-le, map-append, length-map, append-nil}
+use Rattle.std.proofs.Common.{◌≡◌, ℕ, suc, ◌+◌, ◌<◌, ◌≤◌, List, [], ◌∷◌, ◌++◌, map, length, take, drop, get_or, refl, sym, ◌∙◌, ap, arith, append_assoc}
+use Rattle.std.proofs.lemmas.List.{take-append-le, drop-append-le, map-append, length-map, append-nil}
 use Rattle.std.proofs.lemmas.List.Concat.{flat_map-append}
 use Rattle.std.proofs.Math.Seq.{take-append-add, drop-append-add}
-use Rattle.std.specs.List.{flat_map}
 use Rattle.hx_bytes.specs.Field.{big}
 use Rattle.btree_node.specs.Node.{items}
-use Rattle.btree_node.specs.Levels.{Nodes, entries, level, leaves, key_of, child_of, pair_of, first_key, record_for, splice}
+use Rattle.btree_node.specs.Levels.{Nodes, entries, key_of, record_for, splice}
 
 -- the same records in each of these nodes are the same records of them all
 pub same_entries : (old new : Nodes) (ns : List ℕ) → ((k : ℕ) → k < length ns → items (new (get_or ns k 0)) ≡ items (old (get_or ns k 0))) → entries new ns ≡ entries old ns

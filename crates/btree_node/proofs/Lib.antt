@@ -14,3 +14,5 @@ pub mod Ranks
 pub mod Flags
 pub mod Heads
 pub mod OneBit
+pub mod Printing
+pub mod ReadingBack

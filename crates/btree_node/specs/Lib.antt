@@ -9,3 +9,4 @@ pub mod TreeFile
 pub mod Kept
 pub mod Mem
 pub mod MemLaws
+pub mod Codec

@@ -1,5 +1,5 @@
 -- The numbers of a store in memory go together, and a fresh one is a tree in every order.
-use Rattle.std.proofs.Common.{◌≡◌, ◌⊎◌, ◌↔◌, ℕ, zero, suc, ◌+◌, ◌-◌, ◌*◌, ◌/◌, ◌^◌, ◌<◌, ◌≤◌, Bool, true, false, not, cond, ◌==◌, ◌||◌, List, [], ◌∷◌, length, get_or, inl, inr, ⊎_elim, refl, sym, ◌∙◌, ap, subst, arith}
+use Rattle.std.proofs.Common.{◌≡◌, ℕ, zero, suc, ◌+◌, ◌*◌, ◌/◌, ◌<◌, ◌≤◌, Bool, true, false, not, cond, ◌==◌, ◌||◌, List, [], ◌∷◌, length, get_or, inl, inr, ⊎_elim, refl, sym, ◌∙◌, ap, arith}
 use Rattle.std.specs.Prelude.{IsTrue}
 use Rattle.std.specs.List.{count_by, range_with_len, sum_by}
 use Rattle.std.specs.declared.cmp.Ordering.{Ordering}
@@ -11,7 +11,7 @@ use Rattle.btree_node.specs.Kept.{AreNodes, one_if}
 use Rattle.btree_node.specs.Levels.{leaves}
 use Rattle.btree_node.specs.Mem.{mem_state, IsBare}
 use Rattle.btree_node.specs.Node.{IsNodeSize, is_node_size}
-use Rattle.btree_node.specs.Store.{Store, IsWellFormed, node_sectors}
+use Rattle.btree_node.specs.Store.{Store, IsWellFormed}
 use Rattle.btree_node.specs.Tree.{IsTree, IsReached}
 use Rattle.btree_node.specs.declared.mem.MemNodes.{MemNodes}
 

@@ -1,5 +1,5 @@
 -- A store of the nodes of one tree, as a contract sees it.
-use Rattle.std.specs.Prelude.{◌≡◌, ◌≢◌, ◌⊎◌, ◌<◌, ◌≤◌, ℕ, ◌+◌, ◌-◌, ◌*◌, ◌/◌, ◌^◌, ◌==◌, ◌||◌, Bool, true, false, not, IsTrue, List, min, Result, OnErr, if◌then◌else◌}
+use Rattle.std.specs.Prelude.{◌≡◌, ◌≢◌, ◌<◌, ◌≤◌, ℕ, ◌+◌, ◌-◌, ◌*◌, ◌/◌, ◌^◌, Bool, false, not, IsTrue, List, min, Result, OnErr}
 use Rattle.std.specs.List.{count_by, range_with_len}
 use Rattle.btree_node.specs.Node.{IsNodeSize}
 use Rattle.btree_node.specs.declared.store.TreeShape.{TreeShape}

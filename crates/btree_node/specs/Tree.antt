@@ -1,9 +1,9 @@
 -- What makes nodes a tree.
-use Rattle.std.specs.Prelude.{◌≡◌, ◌⊎◌, ◌<◌, ◌≤◌, ◌↔◌, ℕ, zero, suc, ℤ, pos, negsuc, ◌+◌, ◌-◌, ◌/◌, Bool, true, false, IsTrue, count_by, List, [], ◌∷◌, length, map, slice_index, slice_index_or}
+use Rattle.std.specs.Prelude.{◌≡◌, ◌⊎◌, ◌<◌, ◌≤◌, ◌↔◌, ℕ, zero, suc, ℤ, pos, negsuc, ◌+◌, ◌-◌, ◌/◌, true, false, IsTrue, count_by, List, [], ◌∷◌, length, map, slice_index, slice_index_or}
 use Rattle.std.specs.List.{All, range_with_len}
 use Rattle.std.specs.declared.cmp.Ordering.{Ordering}
 use Rattle.btree_node.specs.Node.{IsNodeOf, items, next_of, back_of}
-use Rattle.btree_node.specs.Levels.{Nodes, Pair, entries, level, leaves, key_of, record_for, Ascends}
+use Rattle.btree_node.specs.Levels.{Pair, entries, level, leaves, key_of, record_for, Ascends}
 use Rattle.btree_node.specs.Store.{Store}
 
 -- the kind of the nodes at a height: leaves are at height 1, index nodes above

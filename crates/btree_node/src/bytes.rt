@@ -5,8 +5,9 @@ ghost use Rattle.btree_node.specs.Bytes.{MovesUp, MovesDown, SetsOffset, Changes
 
 use hx_bytes::{read_be16, write_be16};
 
+/// The number of records in a node's descriptor.
 #[tactic(auto, unfolding(crate::specs::Node::record_count))]
-pub(crate) fn count_records(node: &[u8]) -> usize
+pub fn count_records(node: &[u8]) -> usize
     requires { 512 ≤ length node.now }
     ensures count { result ≡ record_count node.now }
     ensures small { result < 65536 }
@@ -14,8 +15,9 @@ pub(crate) fn count_records(node: &[u8]) -> usize
     read_be16(node, 10) as usize
 }
 
+/// Where a record begins; behind the last record's stands where free space begins.
 #[tactic(auto, unfolding(crate::specs::Node::offset))]
-pub(crate) fn get_offset(node: &[u8], i: usize) -> usize
+pub fn get_offset(node: &[u8], i: usize) -> usize
     requires { 2 * (i + 1) ≤ length node.now }
     ensures value { result ≡ offset node.now i }
     ensures small { result < 65536 }

@@ -2,6 +2,7 @@
 #![tactic(auto)]
 
 mod bytes;
+mod codec;
 mod edits;
 mod head;
 mod header;
@@ -15,6 +16,8 @@ mod store;
 #[cfg(test)]
 mod tests;
 
+pub use bytes::{count_records, get_offset};
+pub use codec::{NodeHead, TreeHeader, header_node, leaf_node, node_over, nodes_are_read_back};
 pub use keys::{AttrOrder, CatalogOrder, ExtentOrder};
 pub use mem::MemNodes;
 pub use node::Node;

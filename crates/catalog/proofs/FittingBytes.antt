@@ -17,7 +17,7 @@ use Rattle.cat_records.specs.declared.record.ThreadRecord.{ThreadRecord}
 use Rattle.hfs_volume.specs.Records.{is_folder, is_thread}
 use Rattle.catalog.proofs.RecordLengths.{picked, long_of, record_long}
 
-taken_are : (n at : ℕ) (bytes : List ℕ) → AreBytes bytes → AreBytes (take n (drop at bytes))
+pub taken_are : (n at : ℕ) (bytes : List ℕ) → AreBytes bytes → AreBytes (take n (drop at bytes))
 taken_are n at bytes are k = elim (cases_lt k n) [
   | inl inside ↦ omega (arith, get_or-take n (drop at bytes) k 0 inside, get_or-drop at bytes k 0, are (at + k))
   | inr past ↦ omega (arith, get_or-eq_default (take n (drop at bytes)) 0 {n = k} (omega (arith, past, length-take n (drop at bytes))))
@@ -46,7 +46,7 @@ entry_fits bytes are long = record {
   rest = number_at-fits Big 4 84 bytes are;
 }
 
-fork_fits : (bytes : List ℕ) (at : ℕ) → AreBytes bytes → FitsFork (fork_at bytes at)
+pub fork_fits : (bytes : List ℕ) (at : ℕ) → AreBytes bytes → FitsFork (fork_at bytes at)
 unfolding extents_at
 fork_fits bytes at are = record {
   logical_size = number_at-fits Big 8 at bytes are;

@@ -1,6 +1,6 @@
 -- The entries of a folder stand together behind the key of its thread.
 use Rattle.std.proofs.Common.{◌≡◌, ◌≢◌, ◌⊎◌, inl, inr, ℕ, zero, suc, ◌+◌, ◌-◌, ◌<◌, ◌≤◌, Bool, true, false, List, [], ◌∷◌, ◌++◌, length, map, take, drop, refl, sym, ◌∙◌, ap, subst, arith, append_assoc}
-use Rattle.std.specs.Prelude.{slice_index_or, IsTrue, T, not, ◌==◌, Option, None, Some, if◌then◌else◌}
+use Rattle.std.specs.Prelude.{slice_index_or, IsTrue, T, not, ◌==◌, ◌&&◌, Option, None, Some, if◌then◌else◌}
 use Rattle.std.specs.Ordering.{nat_cmp, ordering_then}
 use Rattle.std.specs.Cmp.{nat_cmp_is}
 use Rattle.std.specs.Cmp.Lexicographic.{slice_cmp}
@@ -15,14 +15,16 @@ use Rattle.btree_node.specs.Store.{Store}
 use Rattle.btree_node.specs.KeyLaws.{catalog_total}
 use Rattle.btree_node.specs.Tree.{IsTree, pairs_of, entries_of as tree_entries}
 use Rattle.btree_edit.specs.Desk.{IsAbove, HoldsPair}
-use Rattle.btree_edit.specs.Walking.{Seeks, StandsAt, StepsOn}
+use Rattle.btree_edit.specs.Reading.{ReadsNodes}
+use Rattle.btree_edit.specs.Walking.{Seeks, StandsAt, StepsOn, leaves_until, leaves_where}
+use Rattle.btree_edit.proofs.Spans.{HasSpanned, span_begins, span_goes_on, span_ends}
 use Rattle.btree_edit.proofs.Descent.{pair_at, pairs_long}
 use Rattle.btree_edit.specs.declared.desk.Desk.{Desk}
 use Rattle.cat_records.specs.Records.{catalog_of, is_catalog}
 use Rattle.hfs_volume.specs.Entries.{AreSpelled}
 use Rattle.hfs_model.specs.Sorted.{kept}
 use Rattle.hfs_volume.specs.Records.{Placed, placed_of, placed_in, entries_of, is_empty}
-use Rattle.catalog.specs.Children.{as_child, children_in, child_under}
+use Rattle.catalog.specs.Children.{as_child, children_in, child_under, is_child}
 use Rattle.catalog.specs.Pairs.{IsKeyOf}
 use Rattle.catalog.specs.declared.folder.Child.{Child}
 use Rattle.catalog.proofs.Places.{AscendByKey, tree_ascends}
@@ -153,6 +155,12 @@ module _ (parent : ℕ) (key : List ℕ) (pairs : List Pair) (is_key : IsKeyOf p
       ∙ ap (λ l. children_in parent (take place pairs) ++ l)
       (one_child parent (at place) here (above_named (placed_of (at place)).parent parent (placed_of (at place)).name (eqb-true (placed_of (at place)).parent parent here) (sym (order_is place) ∙ above.behind place from inside)))
 
+  pub own_is_child : (place : ℕ) → start ≤ place → place < length pairs → ((placed_of (at place)).parent == parent) ≡ true → is_child parent (at place) ≡ true
+  own_is_child place from inside here =
+      let named : is_empty (placed_of (at place)).name ≡ false =
+      above_named (placed_of (at place)).parent parent (placed_of (at place)).name (eqb-true (placed_of (at place)).parent parent here) (sym (order_is place) ∙ above.behind place from inside) in
+      λ i. here i && not (named i)
+
   -- a pair of another folder: from there on no pair is an entry of this one
   pub all_passed : (place : ℕ) → start ≤ place → place < length pairs → ((placed_of (at place)).parent == parent) ≡ false → children_in parent (take place pairs) ≡ children_in parent pairs
   unfolding placed_of
@@ -183,19 +191,20 @@ module _ (parent : ℕ) (key : List ℕ) (pairs : List Pair) (is_key : IsKeyOf p
 -- ---- the walk
 
 -- What a walk knows that has gathered these entries: it stands behind so many pairs above the key of the folder's thread, and has the entries of the folder among those that it passed.
-pub record Gathers (parent : ℕ) (pairs : List Pair) (store : Store) (desk : Desk) (at passed : ℕ) (list : List Child) : Type 0 where
+pub record Gathers (parent : ℕ) (whole store : Store) (desk : Desk) (at passed : ℕ) (list : List Child) : Type 0 where
   pub key : List ℕ
   pub is_key : IsKeyOf parent [] key
-  pub same : pairs_of store ≡ pairs
+  pub same : pairs_of store ≡ pairs_of whole
   pub tree : IsTree IsCatalogKey catalog_cmp store
   pub start : ℕ
-  pub above : IsAbove catalog_cmp key pairs start
+  pub above : IsAbove catalog_cmp key (pairs_of whole) start
   pub stands : StandsAt store desk at (start + passed)
-  pub got : list ≡ children_in parent (take (start + passed) pairs)
+  pub got : list ≡ children_in parent (take (start + passed) (pairs_of whole))
+  pub spanned : HasSpanned (is_child parent) whole store start (start + passed)
 
-pub begins : (parent : ℕ) (key : List ℕ) (pairs : List Pair) (store : Store) (desk : Desk) (at : ℕ) → IsKeyOf parent [] key → pairs_of store ≡ pairs → IsTree IsCatalogKey catalog_cmp store
-    → Seeks catalog_cmp key store desk (Some at) → Gathers parent pairs store desk at 0 []
-begins parent key pairs store desk at is_key same tree seeks = record {
+pub begins : (parent : ℕ) (key : List ℕ) (whole store : Store) (desk : Desk) (at : ℕ) → IsKeyOf parent [] key → pairs_of store ≡ pairs_of whole → IsTree IsCatalogKey catalog_cmp store
+    → store.loads ≤ whole.loads + whole.shape.depth → Seeks catalog_cmp key store desk (Some at) → Gathers parent whole store desk at 0 []
+begins parent key whole store desk at is_key same tree loads seeks = record {
   key = key;
   is_key = is_key;
   same = same;
@@ -203,7 +212,8 @@ begins parent key pairs store desk at is_key same tree seeks = record {
   start = start;
   above = above;
   stands = subst (λ n. StandsAt store desk at n) none_more seeks.1;
-  got = sym (ap (λ n. children_in parent (take n pairs)) (sym none_more) ∙ none_passed parent key pairs is_key rises start above);
+  got = sym (ap (λ n. children_in parent (take n (pairs_of whole))) (sym none_more) ∙ none_passed parent key (pairs_of whole) is_key rises start above);
+  spanned = subst (HasSpanned (is_child parent) whole store start) none_more (span_begins (is_child parent) whole store start loads);
 }
   where
     start : ℕ
@@ -212,10 +222,10 @@ begins parent key pairs store desk at is_key same tree seeks = record {
     none_more : start ≡ start + 0
     none_more = omega arith
 
-    rises : AscendByKey pairs
+    rises : AscendByKey (pairs_of whole)
     rises = subst AscendByKey same (tree_ascends store tree)
 
-    above : IsAbove catalog_cmp key pairs start
+    above : IsAbove catalog_cmp key (pairs_of whole) start
     above = subst (λ l. IsAbove catalog_cmp key l start) same seeks.2
 
 -- no pair, no entry
@@ -231,7 +241,10 @@ if_none : (b : Bool) (x : Child) → (if b then Some x else None) ≡ None → b
 if_none true x is = absurd (none_or_some x (sym is))
 if_none false x is = refl
 
-module _ (parent : ℕ) (pairs : List Pair) (store : Store) (desk : Desk) (at passed : ℕ) (list : List Child) (gathers : Gathers parent pairs store desk at passed list) where
+module _ (parent : ℕ) (whole store : Store) (desk : Desk) (at passed : ℕ) (list : List Child) (gathers : Gathers parent whole store desk at passed list) where
+  abbrev pairs : List Pair
+  pairs = pairs_of whole
+
   rises : AscendByKey pairs
   rises = subst AscendByKey gathers.same (tree_ascends store gathers.tree)
 
@@ -241,6 +254,10 @@ module _ (parent : ℕ) (pairs : List Pair) (store : Store) (desk : Desk) (at pa
   -- all pairs are passed
   pub gathered_all : length pairs ≤ place → list ≡ children_in parent pairs
   gathered_all past = gathers.got ∙ ap (children_in parent) (take_all place pairs past)
+
+  -- what the walk has loaded where its last step loads one node at most
+  pub ends_loaded : (next : Store) → next.loads ≤ store.loads + 1 → next.loads ≤ whole.loads + whole.shape.depth + leaves_where (is_child parent) whole + 1
+  ends_loaded next last = span_ends (is_child parent) whole store gathers.start place gathers.spanned next (omega arith) last
 
   pub ends : (next : Store) (to : Desk) → pairs_of next ≡ pairs_of store → StepsOn next to place None → list ≡ children_in parent pairs
   ends next to kept steps = gathered_all (omega (arith, steps, ap (λ (l : List Pair). length l) (kept ∙ gathers.same)))
@@ -286,8 +303,9 @@ module _ (parent : ℕ) (pairs : List Pair) (store : Store) (desk : Desk) (at pa
         gathers.got ∙ all_passed parent gathers.key pairs gathers.is_key rises gathers.start gathers.above place (omega arith) inside
         (sym own_parent ∙ if_none (catalog_parent to.held.key == parent) (record { name = catalog_units to.held.key; rec = catalog_of to.held.value }) none)
 
-    pub goes_on : (child : Child) → child_under parent to.held.key to.held.value ≡ Some child → Gathers parent pairs next to on (passed + 1) (list ++ child ∷ [])
-    goes_on child is =
+    pub goes_on : (child : Child) → child_under parent to.held.key to.held.value ≡ Some child → (most : ℕ) → ReadsNodes most whole store → IsTrue whole.tells
+        → next.loads + leaves_until store place ≤ store.loads + leaves_until store (place + 1) → Gathers parent whole next to on (passed + 1) (list ++ child ∷ [])
+    goes_on child is most reads tells loads =
         let found = if_some (catalog_parent to.held.key == parent) (record { name = catalog_units to.held.key; rec = catalog_of to.held.value }) child is in
         let on_is : place + 1 ≡ gathers.start + (passed + 1) = omega arith in
         record {
@@ -302,4 +320,7 @@ module _ (parent : ℕ) (pairs : List Pair) (store : Store) (desk : Desk) (at pa
               ∙ ap (λ c. children_in parent (take place pairs) ++ c ∷ []) (sym (own_child ∙ found.1))
               ∙ sym (one_more parent gathers.key pairs gathers.is_key rises gathers.start gathers.above place (omega arith) inside (sym own_parent ∙ found.0))
               ∙ ap (λ n. children_in parent (take n pairs)) on_is;
+          spanned = subst (HasSpanned (is_child parent) whole next gathers.start) on_is
+              (span_goes_on (is_child parent) whole store gathers.start place gathers.spanned next most reads tells
+              (own_is_child parent gathers.key pairs gathers.is_key rises gathers.start gathers.above place (omega arith) inside (sym own_parent ∙ found.0)) loads);
         }

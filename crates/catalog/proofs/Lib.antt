@@ -1,7 +1,9 @@
 pub mod RoomLaws
 pub mod Answers
 pub mod BeforeEdits
+pub mod Beside
 pub mod EntryEdits
+pub mod EntryMaps
 pub mod Faults
 pub mod FittingBytes
 pub mod InPlace

@@ -1,4 +1,5 @@
 pub mod Children
 pub mod Entries
+pub mod Maps
 pub mod Pairs
 pub mod Rooms

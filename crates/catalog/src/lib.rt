@@ -16,7 +16,10 @@ pub use adding::add;
 pub use btree_edit::{Inserted, Removed};
 pub use finding::{by_id, lookup};
 pub use folder::{Child, Children};
-pub use laws::keys_tell_places;
+pub use laws::{
+    entries_are_deleted, entries_are_inserted, keys_tell_places, trees_are_sorted,
+    updates_change_values,
+};
 pub use listing::children;
 pub use moving::{Moved, move_entry};
 pub use removing::remove;

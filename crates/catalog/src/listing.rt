@@ -1,14 +1,15 @@
 //! The entries of a folder, by one walk over the leaves that have them.
-ghost use Rattle.std.specs.Prelude.{◌≡◌, ◌≢◌, ◌≤◌, ◌+◌, ◌*◌, ◌<◌, IsTrue, IfOk, Some, Err, length};
+ghost use Rattle.std.specs.Prelude.{◌≡◌, ◌≢◌, ◌≤◌, ◌+◌, ◌*◌, ◌<◌, IsTrue, IfOk, OnOk, Some, Err, length};
 ghost use Rattle.hx_bytes.specs.declared.faults.Trouble.TheVariants.{Disk};
 ghost use Rattle.btree_node.specs.Keys.{IsCatalogKey, catalog_cmp, catalog_units};
 ghost use Rattle.btree_node.specs.Tree.{IsTree, pairs_of};
 ghost use Rattle.btree_edit.specs.Causes.{HasTroubleCause};
 ghost use Rattle.btree_edit.specs.Desk.{IsDeskOf};
 ghost use Rattle.btree_edit.specs.Reading.{ReadsNodes};
+ghost use Rattle.btree_edit.specs.Walking.{leaves_where};
 ghost use Rattle.cat_records.specs.Records.{is_catalog};
 ghost use Rattle.hfs_volume.specs.Entries.{AreSpelled};
-ghost use Rattle.catalog.specs.Children.{child_under, children_in};
+ghost use Rattle.catalog.specs.Children.{child_under, children_in, is_child};
 
 use crate::finding::read_value;
 use crate::folder::{Child, Children};
@@ -31,7 +32,9 @@ pub fn children<N: NodeStore>(
     ensures listed { IsTrue (N.state store.old).tells → IfOk result (λ list. list ≡ children_in parent (pairs_of (N.state store.old))) }
     // It changes nothing.
     ensures reads { ReadsNodes ((N.state store.old).shape.depth + (N.state store.old).shape.leaf_records) (N.state store.old) (N.state store.new) }
-    // It goes down to the first entry, and on from there: it loads at most one node for each entry, and one behind them.
+    // It walks the leaves once: it loads the nodes of the way down, and at most those leaves that have an entry of the folder, and one behind them.
+    ensures leaves { IsTrue (N.state store.old).tells → OnOk result ((N.state store.new).loads ≤ (N.state store.old).loads + (N.state store.old).shape.depth + leaves_where (is_child parent) (N.state store.old) + 1) }
+    // Over any store it loads at most one node for each entry beside the way down, and one behind them.
     ensures loads { IfOk result (λ list. (N.state store.new).loads ≤ (N.state store.old).loads + (N.state store.old).shape.depth + length list + 1) }
     ensures desk { IsDeskOf (N.state store.old).shape.node_size desk.new }
     ensures cause { HasTroubleCause (N.state store.old).faults (N.state store.new).faults result }

@@ -14,3 +14,7 @@ AreNumbers blocks = All (λ block. block < 2 ^ 32) blocks
 -- the sectors of these blocks, in order, where a block has so many sectors
 abbrev pub sectors_of : ℕ → List ℕ → List ℕ
 sectors_of per_block blocks = flat_map (λ block. range_with_len (block * per_block) per_block) blocks
+
+-- the sectors of a fork, in order, where a block has so many
+abbrev pub fork_sectors : List Extent → ℕ → List ℕ
+fork_sectors fork per_block = sectors_of per_block (blocks_of fork)

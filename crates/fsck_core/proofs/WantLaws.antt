@@ -37,11 +37,11 @@ each_more rule ws k first old new inside before here f stands = ⊎_elim
     (λ (is : (f ≡ finding_of rule (want_at ws k)) × ((want_at ws k).found ≢ (want_at ws k).wanted)). inr (subst (λ (g : Finding). IsUnmet rule (as_found g) (wants_in ws)) (sym is.0) (unmet_at rule ws k inside is.1)))
     (here f stands)
 
-both_true : (a b : Bool) → (a && b) ≡ true → (a ≡ true) × (b ≡ true)
+pub both_true : (a b : Bool) → (a && b) ≡ true → (a ≡ true) × (b ≡ true)
 both_true true b is = (refl, is)
 both_true false b is = cc
 
-one_false : (a b : Bool) → (a && b) ≡ false → (a ≡ false) ⊎ (b ≡ false)
+pub one_false : (a b : Bool) → (a && b) ≡ false → (a ≡ false) ⊎ (b ≡ false)
 one_false true b is = inr is
 one_false false b is = inl refl
 

@@ -1,1 +1,12 @@
 pub mod Wants
+pub mod Judged
+pub mod Rows
+pub mod Kinds
+pub mod Overflows
+pub mod Parents
+pub mod Flags
+pub mod Uses
+pub mod Behind
+pub mod Owners
+pub mod Files
+pub mod Owned

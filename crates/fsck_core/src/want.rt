@@ -35,7 +35,7 @@ fn judge_want(rule: u8, want: Want, out: &mut Findings) -> Result<bool, OutOfMem
     Ok(false)
 }
 
-fn both(one: bool, other: bool) -> bool
+pub(crate) fn both(one: bool, other: bool) -> bool
     ensures { result ≡ (one && other) }
 {
     one && other

@@ -5,7 +5,7 @@ use Rattle.flag_rows.specs.Bits.{bit_of}
 use Rattle.btree_node.specs.Levels.{Nodes}
 use Rattle.btree_node.specs.TreeFile.{TreeHead, TreeForm, TreeFile, file_of}
 use Rattle.hx_bytes.specs.declared.extents.Extent.{Extent}
-use Rattle.btree_file.specs.Place.{fork_sectors}
+use Rattle.fork_map.specs.Blocks.{fork_sectors}
 use Rattle.hfs_volume.specs.Content.{node_of_fork, tree_of_fork}
 use Rattle.hfs_volume.specs.Broken.{Want, want, bit, node_place, node_size_wanted}
 use Rattle.hfs_volume.specs.Broken as broken

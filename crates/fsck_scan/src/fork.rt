@@ -2,7 +2,7 @@
 ghost use Rattle.std.specs.Prelude.{◌≡◌, ◌≤◌, ◌^◌, IsTrue, length, replicate, slice_get, OnOk};
 ghost use Rattle.sector_disk.specs.Cause.{HasCause};
 ghost use Rattle.btree_file.specs.Frame.{ReadsSpace};
-ghost use Rattle.btree_file.specs.Place.{fork_sectors};
+ghost use Rattle.fork_map.specs.Blocks.{fork_sectors};
 ghost use Rattle.hfs_volume.specs.Content.{node_of_fork};
 ghost use Rattle.fsck_scan.specs.Read.{sector_or_zeros};
 
@@ -26,7 +26,7 @@ fn clear(into: &mut Sector)
 }
 
 /// Reads the sector at a place of a fork: zeros where the fork has no such sector, or the volume.
-pub(crate) fn read_sector<V: SectorView>(
+pub fn read_sector<V: SectorView>(
     view: &mut V,
     fork: &Fork,
     place: u64,

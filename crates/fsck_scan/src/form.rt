@@ -103,13 +103,15 @@ fn first_wrong(id: u32, numbers: &[Number]) -> Option<Finding>
     None
 }
 
-/// The header record of a tree.
+/// The header record of a tree (TN1150, "Header Record").
 #[derive(Clone, Copy)]
-pub(crate) struct Head {
-    pub(crate) shape: TreeShape,
-    pub(crate) max_key: u16,
-    pub(crate) compare: u8,
-    pub(crate) attributes: u32,
+pub struct Head {
+    pub shape: TreeShape,
+    /// The greatest length of a key, in bytes.
+    pub max_key: u16,
+    /// How keys are compared: 0xBC says unit by unit.
+    pub compare: u8,
+    pub attributes: u32,
 }
 
 /// The header record in a header node.

@@ -3,7 +3,7 @@ ghost use Rattle.std.specs.Prelude.{◌≡◌, ◌<◌, ◌≤◌, ◌+◌, ◌�
 ghost use Rattle.hx_bytes.specs.declared.faults.Trouble.TheVariants.{Disk};
 ghost use Rattle.sector_disk.specs.Cause.{Rose};
 ghost use Rattle.btree_file.specs.Frame.{ReadsSpace};
-ghost use Rattle.btree_file.specs.Place.{fork_sectors};
+ghost use Rattle.fork_map.specs.Blocks.{fork_sectors};
 ghost use Rattle.hfs_volume.specs.Content.{node_of_fork};
 ghost use Rattle.fsck_scan.specs.Good.{IsGoodRecord};
 ghost use Rattle.fsck_scan.specs.Level.{HasRead, FailsAt};

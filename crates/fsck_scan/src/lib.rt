@@ -10,16 +10,14 @@ mod map;
 mod pairs;
 mod records;
 mod scan;
-#[cfg(test)]
-mod tests;
 mod tree;
 mod trees;
 mod whole;
 
 pub use children::{WrongChild, mark_children};
-pub use fork::Fork;
-pub use form::{Form, TreeName};
+pub use fork::{Fork, read_sector};
+pub use form::{Form, Head, TreeName};
 pub use level::{WrongNode, read_level};
 pub use look::Fault;
 pub use pairs::Pairs;
-pub use trees::scan_tree;
+pub use trees::{read_tree_head, scan_tree};

@@ -5,7 +5,7 @@ ghost use Rattle.sector_disk.specs.Cause.{Rose};
 ghost use Rattle.btree_node.specs.Node.{IsNodeOf, record_count};
 ghost use Rattle.btree_node.specs.TreeFile.{IsHeaderNode, map_record};
 ghost use Rattle.btree_file.specs.Frame.{ReadsSpace};
-ghost use Rattle.btree_file.specs.Place.{fork_sectors};
+ghost use Rattle.fork_map.specs.Blocks.{fork_sectors};
 ghost use Rattle.hfs_volume.specs.Content.{node_of_fork};
 ghost use Rattle.fsck_scan.specs.Map.{AreBlankPast, TakesHeader, TakesMap, HasMapRead, IsMap, IsNoMap};
 

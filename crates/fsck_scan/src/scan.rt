@@ -4,7 +4,7 @@ ghost use Rattle.sector_disk.specs.Cause.{HasCause};
 ghost use Rattle.flag_rows.specs.Bits.{bit_of};
 ghost use Rattle.btree_node.specs.Node.{height_of};
 ghost use Rattle.btree_file.specs.Frame.{ReadsSpace};
-ghost use Rattle.btree_file.specs.Place.{fork_sectors};
+ghost use Rattle.fork_map.specs.Blocks.{fork_sectors};
 ghost use Rattle.hfs_volume.specs.Content.{node_of_fork};
 ghost use Rattle.fsck_scan.specs.Form.{as_found, IsWrongBit};
 

@@ -5,7 +5,7 @@ ghost use Rattle.sector_disk.specs.Cause.{Rose};
 ghost use Rattle.btree_node.specs.Levels.{value_of};
 ghost use Rattle.btree_node.specs.TreeFile.{TreeFile};
 ghost use Rattle.btree_file.specs.Frame.{ReadsSpace};
-ghost use Rattle.btree_file.specs.Place.{fork_sectors};
+ghost use Rattle.fork_map.specs.Blocks.{fork_sectors};
 ghost use Rattle.hfs_volume.specs.Content.{node_of_fork};
 ghost use Rattle.hfs_volume.specs.Broken.{node_place, IsBrokenTree};
 ghost use Rattle.fsck_scan.specs.Form.{as_found, form_in};

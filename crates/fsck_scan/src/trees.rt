@@ -8,13 +8,13 @@ ghost use Rattle.btree_file.specs.Frame.{ReadsSpace};
 ghost use Rattle.hfs_volume.specs.Broken.{IsBrokenTree};
 ghost use Rattle.hfs_volume.specs.Findings.{HasBytes};
 ghost use Rattle.fsck_list.specs.declared.finding.Finding.{Finding as Listed};
-ghost use Rattle.fsck_scan.specs.Form.{as_found, form_in, form_named, tree_in};
+ghost use Rattle.fsck_scan.specs.Form.{as_found, form_in, form_named, head_in, tree_in};
 
 use crate::fork::Fork;
-use crate::form::TreeName;
+use crate::form::{Head, TreeName};
 use crate::pairs::Pairs;
 use crate::tree::Level;
-use crate::whole::scan;
+use crate::whole::{find_head, scan};
 use btree_node::KeyOrder;
 use fork_map::{ExtentList, SummedFork};
 use fsck_list::Findings;
@@ -71,4 +71,29 @@ pub fn scan_tree<V: SectorView, K: KeyOrder>(
         return Ok(Pairs::new(alloc));
     }
     Ok(Pairs::from_records(level.into_records()))
+}
+
+/// Reads the header record of the tree in a fork of a volume whose blocks have so many bytes, whatever it says.
+pub fn read_tree_head<V: SectorView>(
+    alloc: Global,
+    view: &mut V,
+    fork: &ExtentList,
+    block: u32,
+) -> Result<Head, Trouble>
+    requires least { 512 ≤ block }
+    requires most { block ≤ 65536 }
+    ensures head { IsTrue (V.space view.old).tells → IfOk result (λ head. head_in head ≡ (tree_in (V.space view.old).content (V.space view.old).sectors block fork.now).head) }
+    ensures reads { ReadsSpace (V.space view.old) (V.space view.new) }
+    ensures below { V.follows view.old view.new }
+    ensures disk { IsErrOf result Disk → Rose (V.space view.old).faults (V.space view.new).faults }
+{
+    let per_block = block / 512;
+    let limit = whole_blocks(view.sectors(), per_block);
+    let extents = SummedFork::copy_of(alloc, fork)?;
+    let fork = Fork {
+        extents: &extents,
+        per_block,
+        limit,
+    };
+    find_head(alloc, view, &fork)
 }

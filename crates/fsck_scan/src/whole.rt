@@ -2,7 +2,7 @@
 ghost use Rattle.std.specs.Prelude.{◌≡◌, ◌<◌, ◌≤◌, ◌+◌, ◌-◌, ◌*◌, ◌⊎◌, ◌^◌, ℕ, [], length, map, slice_index_or, false, IsTrue, IfOk, IfNone, IfSome, IsErrOf};
 ghost use Rattle.std.specs.List.{count_by, range_with_len};
 ghost use Rattle.hx_bytes.specs.declared.faults.Trouble.TheVariants.{Disk};
-ghost use Rattle.fork_map.specs.Blocks.{blocks_of};
+ghost use Rattle.fork_map.specs.Blocks.{blocks_of, fork_sectors};
 ghost use Rattle.flag_rows.specs.Bits.{bit_of, count_set};
 ghost use Rattle.sector_disk.specs.Cause.{Rose};
 ghost use Rattle.jnl_format.specs.Recovery.{Content};
@@ -10,7 +10,6 @@ ghost use Rattle.btree_node.specs.Levels.{leaves as leaf_pairs};
 ghost use Rattle.btree_node.specs.Node.{IsNodeSize};
 ghost use Rattle.btree_node.specs.TreeFile.{TreeFile, tree_head};
 ghost use Rattle.btree_file.specs.Frame.{ReadsSpace};
-ghost use Rattle.btree_file.specs.Place.{fork_sectors};
 ghost use Rattle.hfs_volume.specs.Content.{node_of_fork, tree_of_fork};
 ghost use Rattle.hfs_volume.specs.Broken.{IsBrokenTree, IsUnmet, form_wants, is_in_use, levels_in, leaves_in};
 ghost use Rattle.fsck_scan.specs.Form.{as_found, form_in, head_in, tree_at, FitsForm, FitsLeaves, IsWrongBit};
@@ -54,7 +53,11 @@ fn nodes_there(fork: &Fork, head: &Head) -> u32
 }
 
 /// Reads the header record of the tree in a fork.
-fn find_head<V: SectorView>(alloc: Global, view: &mut V, fork: &Fork) -> Result<Head, Trouble>
+pub(crate) fn find_head<V: SectorView>(
+    alloc: Global,
+    view: &mut V,
+    fork: &Fork,
+) -> Result<Head, Trouble>
     requires { fork.now.per_block ≤ 2 ^ 23 }
     ensures head { IsTrue (V.space view.old).tells → IfOk result (λ head. head_in head ≡ tree_head (node_of_fork (V.space view.old).content fork.now.limit (fork_sectors fork.now.extents.now fork.now.per_block) 512 0)) }
     ensures few { IfOk result (λ head. head.shape.total ≤ 2 ^ 32) }

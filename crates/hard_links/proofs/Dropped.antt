@@ -20,7 +20,7 @@ use Rattle.hfs_volume.proofs.Sides.{OneMore, one_more, entries_more}
 use Rattle.hard_links.specs.Linking.{CountsLinks, DropsLink, SaysLeft, SharedBy}
 use Rattle.hard_links.specs.declared.place.EntryAt.{EntryAt}
 use Rattle.hard_links.specs.declared.shared.Shared.{Shared}
-use Rattle.hard_links.proofs.Beside.{none_is_some, placed_or, found_stands, its_place, named_beside, other_parent, spelled_less, empty_name, same_number}
+use Rattle.catalog.proofs.Beside.{none_is_some, placed_or, found_stands, its_place, named_beside, other_parent, spelled_less, empty_name, same_number}
 
 kept_more : {X : Type 0} (test : X → Bool) (xs : List X) (k : ℕ) (x : X) → length (kept test (insert xs k x)) ≡ length (kept test xs) + one_if (test x)
 kept_more {X} test xs zero x = by_test (test x)

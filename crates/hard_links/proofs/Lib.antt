@@ -1,9 +1,9 @@
 mod Asides
 mod BeforeMoves
-mod Beside
 mod Counts
 mod Dense
 mod Dropped
 mod Finders
 mod Puts
 mod Shares
+mod LinkRules

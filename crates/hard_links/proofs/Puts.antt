@@ -23,7 +23,7 @@ use Rattle.hard_links.specs.declared.place.EntryAt.{EntryAt}
 use Rattle.hard_links.specs.declared.records.Target.{Target}
 use Rattle.hard_links.specs.declared.shared.Shared.{Shared}
 use Rattle.hard_links.proofs.Asides.{first_is_free, relocated}
-use Rattle.hard_links.proofs.Beside.{none_is_some, found_stands, its_place, false_so, not_at, other_parent, named_beside, thread_beside, id_is_used, stands_there, is_found, left_vacant, spelled_less, spelled_more}
+use Rattle.catalog.proofs.Beside.{none_is_some, found_stands, its_place, false_so, not_at, other_parent, named_beside, thread_beside, id_is_used, stands_there, is_found, left_vacant, spelled_less, spelled_more}
 use Rattle.hard_links.proofs.Counts.{value_of_found}
 
 -- a link is added where there was no record

@@ -18,7 +18,7 @@ use Rattle.hard_links.specs.Linking.{HasLinks, NamesLink, SharedBy, FindsNamed, 
 use Rattle.hard_links.specs.Orphans.{file_in}
 use Rattle.hard_links.specs.declared.place.EntryAt.{EntryAt}
 use Rattle.hard_links.specs.declared.shared.Shared.{Shared}
-use Rattle.hard_links.proofs.Beside.{found_stands, found_at, its_place}
+use Rattle.catalog.proofs.Beside.{found_stands, found_at, its_place}
 
 -- what stands in the private folder is no link
 module _ (private : ℕ) (pairs : List Pair) (links : HasLinks private pairs) where
@@ -60,7 +60,7 @@ module _ (private : ℕ) (pairs : List Pair) (links : HasLinks private pairs) wh
 -- ---- what a search of the file gives
 
 -- a link is a file's record
-link_is_file : (entry : Placed) → is_link entry ≡ true → (link : FileRecord) × (entry.value ≡ File link)
+pub link_is_file : (entry : Placed) → is_link entry ≡ true → (link : FileRecord) × (entry.value ≡ File link)
 link_is_file entry is = of_value entry.value refl
   where
     of_value : (value : CatRecord) → entry.value ≡ value → (link : FileRecord) × (value ≡ File link)

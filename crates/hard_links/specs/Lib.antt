@@ -2,3 +2,4 @@ pub mod Identity
 pub mod Linking
 pub mod Numbers
 pub mod Orphans
+pub mod Rules

@@ -1,5 +1,5 @@
 //! Links dropped.
-ghost use Rattle.std.specs.Prelude.{◌≡◌, ◌≤◌, ◌-◌, ◌<◌, false, None, Some, IsTrue, length, OnOk, IfOk};
+ghost use Rattle.std.specs.Prelude.{◌≡◌, ◌≤◌, ◌-◌, ◌<◌, false, None, Some, List, IsTrue, length, OnOk, IfOk};
 ghost use Rattle.btree_node.specs.Keys.{IsCatalogKey, catalog_cmp};
 ghost use Rattle.btree_node.specs.Store.{SameStore};
 ghost use Rattle.btree_node.specs.Tree.{IsTree, pairs_of};
@@ -10,9 +10,10 @@ ghost use Rattle.cat_records.specs.declared.record.CatRecord.TheVariants.{File};
 ghost use Rattle.catalog.specs.Pairs.{HasUpdateRoom, value_at};
 ghost use Rattle.catalog.specs.Rooms.{UpdateRoom, TakesUpdates, UpdatesAtMost};
 ghost use Rattle.hfs_volume.specs.Entries.{AreSpelled, AreThreaded};
-ghost use Rattle.hfs_volume.specs.Links.{node_name};
-ghost use Rattle.hfs_volume.specs.Records.{Placed, placed_in, record_at, is_link_type, special_of};
+ghost use Rattle.hfs_volume.specs.Links.{AreLinks, node_name};
+ghost use Rattle.hfs_volume.specs.Records.{Placed, Overflow, placed_in, record_at, is_link_type, special_of};
 ghost use Rattle.hard_links.specs.Linking.{HasLinks, NamesLink, DropsLink, SharedBy, SaysLeft};
+ghost use Rattle.hard_links.specs.Rules.{KeepsRules};
 
 use crate::counting::count_links;
 use crate::place::EntryAt;
@@ -45,6 +46,9 @@ pub fn drop_link<N: NodeStore>(
     requires room { UpdateRoom 2 1 516 (N.state store.old) }
     // The link and its thread are gone, the file's record says how many links are left where some are, and nothing else is changed.
     ensures dropped { IsTrue (N.state store.old).tells → IfOk result (λ left. DropsLink private at.now left (pairs_of (N.state store.old)) (pairs_of (N.state store.new))) }
+    // The links keep their rules, and each file with links has their number; a file without one is still to be put aside.
+    ensures rules { IsTrue (N.state store.old).tells → (overflow : List Overflow) → AreLinks (placed_in (pairs_of (N.state store.old))) overflow
+        → IfOk result (λ left. KeepsRules private at.now left (pairs_of (N.state store.old)) (pairs_of (N.state store.new)) overflow) }
     ensures tree { IsTrue (N.state store.old).tells → OnOk result (IsTree IsCatalogKey catalog_cmp (N.state store.new)) }
     ensures desk { IsDeskOf (N.state store.old).shape.node_size desk.new }
     ensures header { IsTrue (N.state store.old).tells → (N.state store.old).header ≡ (N.state store.old).shape → OnOk result ((N.state store.new).header ≡ (N.state store.new).shape) }

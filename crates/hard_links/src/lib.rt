@@ -4,6 +4,7 @@
 mod counting;
 mod dropping;
 mod first_links;
+mod laws;
 mod linking;
 mod more_links;
 mod naming;
@@ -15,6 +16,7 @@ mod resolving;
 mod shared;
 
 pub use dropping::drop_link;
+pub use laws::plain_files_have_no_links;
 pub use linking::{Linked, make_link};
 pub use orphans::orphan;
 pub use place::EntryAt;

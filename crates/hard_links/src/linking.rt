@@ -1,5 +1,5 @@
 //! Links made.
-ghost use Rattle.std.specs.Prelude.{◌≡◌, ◌≤◌, ◌<◌, ◌^◌, ◌-◌, true, false, None, Some, IsTrue, length, OnOk, IfOk};
+ghost use Rattle.std.specs.Prelude.{◌≡◌, ◌≤◌, ◌<◌, ◌^◌, ◌-◌, true, false, None, Some, List, IsTrue, length, OnOk, IfOk};
 ghost use Rattle.btree_node.specs.Keys.{IsCatalogKey, catalog_cmp};
 ghost use Rattle.btree_node.specs.Store.{SameStore};
 ghost use Rattle.btree_node.specs.Tree.{IsTree, pairs_of};
@@ -9,8 +9,10 @@ ghost use Rattle.cat_records.specs.Fits.{FitsFile};
 ghost use Rattle.cat_records.specs.declared.record.CatRecord.TheVariants.{File};
 ghost use Rattle.catalog.specs.Pairs.{value_at};
 ghost use Rattle.catalog.specs.Rooms.{UpdateRoom, TakesUpdates, UpdatesAtMost};
-ghost use Rattle.hfs_volume.specs.Records.{is_link_type};
+ghost use Rattle.hfs_volume.specs.Links.{AreLinks};
+ghost use Rattle.hfs_volume.specs.Records.{Overflow, placed_in, is_link_type};
 ghost use Rattle.hard_links.specs.Linking.{MayLink, NamesLink, MakesLink};
+ghost use Rattle.hard_links.specs.Rules.{MayShow};
 
 use crate::first_links::make_first;
 use crate::more_links::make_more;
@@ -57,6 +59,9 @@ pub fn make_link<N: NodeStore>(
     requires room_more { IsTrue (N.state store.old).tells → NamesLink from.now (pairs_of (N.state store.old)) → UpdateRoom 2 1 516 (N.state store.old) }
     // TooManyLinks exactly where the file has 32,767 names or more, and then nothing is changed. Done: it has one more, and nothing else is changed.
     ensures linked { IsTrue (N.state store.old).tells → IfOk result (λ answer. MakesLink private from.now to.now ids.0 ids.1 (pairs_of (N.state store.old)) (pairs_of (N.state store.new)) answer) }
+    // The links keep their rules, and each file with links has their number.
+    ensures rules { IsTrue (N.state store.old).tells → (overflow : List Overflow) → AreLinks (placed_in (pairs_of (N.state store.old))) overflow → MayShow from.now to.now ids.0 ids.1 (placed_in (pairs_of (N.state store.old))) overflow
+        → OnOk result (AreLinks (placed_in (pairs_of (N.state store.new))) overflow) }
     ensures tree { IsTrue (N.state store.old).tells → OnOk result (IsTree IsCatalogKey catalog_cmp (N.state store.new)) }
     ensures desk { IsDeskOf (N.state store.old).shape.node_size desk.new }
     ensures header { IsTrue (N.state store.old).tells → (N.state store.old).header ≡ (N.state store.old).shape → OnOk result ((N.state store.new).header ≡ (N.state store.new).shape) }

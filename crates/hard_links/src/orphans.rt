@@ -1,5 +1,5 @@
 //! Files that wait to be removed.
-ghost use Rattle.std.specs.Prelude.{◌≡◌, ◌≤◌, ◌<◌, ◌-◌, ◌^◌, None, IsTrue, length, IfOk, OnOk};
+ghost use Rattle.std.specs.Prelude.{◌≡◌, ◌≤◌, ◌<◌, ◌-◌, ◌^◌, None, Some, List, IsTrue, length, IfOk, OnOk};
 ghost use Rattle.btree_node.specs.Keys.{IsCatalogKey, catalog_cmp};
 ghost use Rattle.btree_node.specs.Store.{SameStore};
 ghost use Rattle.btree_node.specs.Tree.{IsTree, pairs_of};
@@ -8,9 +8,11 @@ ghost use Rattle.btree_edit.specs.Desk.{IsDeskOf};
 ghost use Rattle.btree_edit.specs.Edits.{EditRoom, TakesEdits, TakesAtMost};
 ghost use Rattle.catalog.specs.Entries.{RelocatesEntry};
 ghost use Rattle.hfs_volume.specs.Entries.{AreSpelled, AreThreaded};
-ghost use Rattle.hfs_volume.specs.Records.{placed_in, record_at};
+ghost use Rattle.hfs_volume.specs.Links.{AreLinks, private_id};
+ghost use Rattle.hfs_volume.specs.Records.{Overflow, placed_in, record_at};
 ghost use Rattle.hard_links.specs.Orphans.{NamesFile, IsOrphanNumber, MakesOrphan, file_in};
 ghost use Rattle.hard_links.specs.Numbers.{OnlyReads};
+ghost use Rattle.hard_links.specs.Rules.{AreLinksBut, NamesNoLink};
 
 use crate::naming::{TEMP, orphan_name};
 use crate::numbers::free_number;
@@ -41,6 +43,9 @@ pub fn orphan<N: NodeStore>(
     requires room { EditRoom 3 516 (N.state store.old) }
     // The file and what its thread tells are moved to the first free number from its CNID on, and nothing else is changed.
     ensures moved { IsTrue (N.state store.old).tells → OnOk result (MakesOrphan private at.now (pairs_of (N.state store.old)) (pairs_of (N.state store.new))) }
+    // Where no link names the file, and it is none itself, the links keep their rules, whatever it counted.
+    ensures rules { IsTrue (N.state store.old).tells → (overflow : List Overflow) → private_id (placed_in (pairs_of (N.state store.old))) ≡ Some private → NamesNoLink at.now (pairs_of (N.state store.old))
+        → AreLinksBut at.now.parent at.now.name (placed_in (pairs_of (N.state store.old))) overflow → OnOk result (AreLinks (placed_in (pairs_of (N.state store.new))) overflow) }
     ensures tree { IsTrue (N.state store.old).tells → OnOk result (IsTree IsCatalogKey catalog_cmp (N.state store.new)) }
     ensures desk { IsDeskOf (N.state store.old).shape.node_size desk.new }
     ensures header { IsTrue (N.state store.old).tells → (N.state store.old).header ≡ (N.state store.old).shape → OnOk result ((N.state store.new).header ≡ (N.state store.new).shape) }

@@ -1,5 +1,5 @@
 -- How long the records of the catalog's leaf are.
-use Rattle.std.proofs.Common.{◌≡◌, ℕ, suc, ◌+◌, ◌*◌, ◌≤◌, Bool, true, false, List, [], ◌∷◌, ◌++◌, length, map, codes, replicate, IsTrue, refl, ◌∙◌, ap, arith}
+use Rattle.std.proofs.Common.{◌≡◌, ℕ, suc, ◌+◌, ◌*◌, ◌≤◌, Bool, true, false, List, [], ◌∷◌, ◌++◌, length, map, codes, IsTrue, refl, ◌∙◌, ap, arith}
 use Rattle.std.specs.List.{All, concat}
 use Rattle.std.proofs.lemmas.List.{length-append, length-map, append_assoc}
 use Rattle.std.proofs.lemmas.List.Folds.{concat-append}
@@ -10,10 +10,6 @@ use Rattle.hx_bytes.specs.declared.fields.Order.TheVariants.{Big}
 use Rattle.hx_bytes.proofs.Laws.{length-number_bytes}
 use Rattle.cat_records.specs.Records.{units_bytes, entry_bytes}
 use Rattle.cat_records.specs.Keys.{catalog_key_bytes}
-use Rattle.hfs_model.specs.declared.node.TreeHeader.{TreeHeader}
-use Rattle.hfs_model.specs.Bits.{bits_bytes}
-use Rattle.hfs_model.specs.Node.{tree_header_bytes, header_items}
-use Rattle.hfs_model.proofs.Bitmaps.{length-bits_bytes}
 use Rattle.hfs_model.specs.Names.{in_order, are_thin_names}
 use Rattle.hfs_model.proofs.NameLists.{ThinName, thin_list, All-in_order, length-in_order}
 use Rattle.hfs_model.specs.Thin.{catalog_item, new_entry, new_folder, new_file, new_thread, file_fork, no_fork, one_run, first_items, folder_item, journal_threads, folder_threads, leaf_items}
@@ -156,15 +152,3 @@ leaf_room names thin =
       before,
       few,
     )
-
-length-tree_header : (tree : TreeHeader) → length (tree_header_bytes tree) ≡ 106
-unfolding tree_header_bytes
-length-tree_header tree = simp (length-append, length-number_bytes Big) (omega arith)
-
--- the records of a header node fill it
-pub header_items_room : (tree : TreeHeader) (is_used : ℕ → Bool) → 14 + length (concat (header_items tree is_used)) + 2 * (length (header_items tree is_used) + 1) ≤ 4096
-unfolding header_items
-header_items_room tree is_used =
-    let map = bits_bytes is_used 0 3840 in
-    let header : length (tree_header_bytes tree) ≡ 106 = length-tree_header tree in
-    omega (arith, header, length-bits_bytes is_used 0 3840, length-append map [], length-append (replicate 128 0) (map ++ []), length-append (tree_header_bytes tree) (replicate 128 0 ++ (map ++ [])))

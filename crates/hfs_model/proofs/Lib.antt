@@ -1,6 +1,4 @@
 pub mod Sectors
-pub mod Bitmaps
-pub mod Nodes
 pub mod NameLists
 pub mod Lengths
 pub mod Threads

@@ -1,9 +1,9 @@
 -- The names that are read in a leaf are the names that its records were made of.
-use Rattle.std.proofs.Common.{◌≡◌, ℕ, ◌+◌, ◌-◌, ◌*◌, ◌/◌, ◌<◌, ◌≤◌, min, true, false, List, [], ◌∷◌, ◌++◌, length, IsTrue, refl, sym, ◌∙◌, ap, arith, pos}
+use Rattle.std.proofs.Common.{◌≡◌, ℕ, ◌+◌, ◌-◌, ◌*◌, ◌/◌, ◌<◌, ◌≤◌, min, true, false, List, [], ◌∷◌, ◌++◌, length, take, IsTrue, refl, sym, ◌∙◌, ap, arith, pos}
 use Rattle.std.specs.List.{All, concat}
 use Rattle.std.specs.Int.{w16, cast_unsigned}
 use Rattle.std.proofs.lemmas.Bool.Decides.{nat_tests}
-use Rattle.std.proofs.lemmas.List.{length-append, append_assoc}
+use Rattle.std.proofs.lemmas.List.{length-append, append_assoc, take_at}
 use Rattle.std.proofs.lemmas.List.Folds.{concat-append}
 use Rattle.std.proofs.lemmas.List.Elements.{All-head, All-tail, All-weaker}
 use Rattle.hx_bytes.specs.Field.{big, big_at}
@@ -11,13 +11,14 @@ use Rattle.hx_bytes.specs.declared.fields.Order.TheVariants.{Big}
 use Rattle.hx_bytes.proofs.Laws.{length-number_bytes, number_at-number_bytes}
 use Rattle.cat_records.specs.Records.{units_at, units_bytes}
 use Rattle.cat_records.specs.Keys.{catalog_key_bytes}
-use Rattle.hfs_model.specs.declared.node.NodeHead.{NodeHead}
 use Rattle.hfs_model.specs.Names.{is_thin_unit, are_thin_names}
-use Rattle.hfs_model.specs.Node.{IsNode, leaf_head, descriptor_bytes, offsets_bytes}
+use Rattle.btree_node.specs.Node.{record_count, offset}
+use Rattle.btree_node.specs.Codec.{IsPacked, FitsNodeHead, leaf_head, descriptor_bytes, offsets_bytes}
 use Rattle.hfs_model.specs.Thin.{catalog_item, new_thread, folder_threads, leaf_items}
 use Rattle.hfs_model.specs.Reading.{names_at, folders_in, threads_in, names_in}
 use Rattle.hfs_model.proofs.NameLists.{ThinName, thin_list, All-from_list_all}
-use Rattle.hfs_model.proofs.Nodes.{length-descriptor_bytes, offsets_split, offsets_last}
+use Rattle.btree_node.proofs.Printing.{length-descriptor_bytes}
+use Rattle.btree_node.proofs.ReadingBack.{count_is, record_begins}
 use Rattle.hfs_model.proofs.Lengths.{items_before, leaf_items_is, length-items_before, length-leaf_items, length-units_bytes, before_fits}
 
 -- the units behind a front
@@ -84,66 +85,39 @@ names_at-threads id (name ∷ names) front rest bytes at long is thin =
     ∙ ap (λ (u : List ℕ). u ∷ names_at bytes (at + 18 + 2 * length name) (length names)) name_is
     ∙ ap (λ (l : List (List ℕ)). name ∷ l) others
 
--- the number of records in a descriptor
-descriptor_count : (head : NodeHead) (count : ℕ) (rest : List ℕ) → count < 65536 → big_at 2 (descriptor_bytes head count ++ rest) 10 ≡ count
-unfolding descriptor_bytes
-descriptor_count head count rest small =
-    let front = big 4 head.next ++ big 4 head.previous ++ (head.kind ∷ head.height ∷ []) in
-    let long : length front ≡ 10 = simp (length-append, length-number_bytes Big) (omega arith) in
-    ap (λ (l : List ℕ). big_at 2 l 10) (append_assoc (front ++ big 2 count) (big 2 0) rest ∙ append_assoc front (big 2 count) (big 2 0 ++ rest))
-    ∙ number_at-number_bytes Big 2 count 10 front (big 2 0 ++ rest) long small
-
 -- where the folders' threads begin
 thread_start : List (List ℕ) → ℕ
 thread_start names = 14 + length (concat (items_before names))
 
-folders_in_leaf : (names : List (List ℕ)) (leaf : List ℕ) → IsTrue (are_thin_names names) → IsNode leaf leaf_head (leaf_items names) → folders_in leaf ≡ length names
+plain : FitsNodeHead leaf_head
+plain = record { next = omega arith; previous = omega arith }
+
+folders_in_leaf : (names : List (List ℕ)) (leaf : List ℕ) → IsTrue (are_thin_names names) → IsPacked 4096 leaf leaf_head (leaf_items names) → folders_in leaf ≡ length names
 folders_in_leaf names leaf thin node =
     let few : length names ≤ 12 = (thin_list names thin).few in
-    let items = leaf_items names in
-    let records : length items ≡ 6 + 2 * length names = length-leaf_items names in
-    let count : big_at 2 leaf 10 ≡ length items =
-    ap (λ (l : List ℕ). big_at 2 l 10) (node.is ∙ append_assoc (descriptor_bytes leaf_head (length items)) (concat items) (node.free ++ offsets_bytes 14 items))
-    ∙ descriptor_count leaf_head (length items) (concat items ++ (node.free ++ offsets_bytes 14 items)) (omega arith) in
+    let records : length (leaf_items names) ≡ 6 + 2 * length names = length-leaf_items names in
+    let count : record_count leaf ≡ length (leaf_items names) = count_is 4096 leaf leaf_head (leaf_items names) (omega arith) plain node in
     ap (λ (n : ℕ). min 12 ((n - 6) / 2)) (count ∙ records) ∙ omega arith
 
-threads_in_leaf : (names : List (List ℕ)) (leaf : List ℕ) → IsTrue (are_thin_names names) → IsNode leaf leaf_head (leaf_items names) → threads_in leaf ≡ thread_start names
+threads_in_leaf : (names : List (List ℕ)) (leaf : List ℕ) → IsTrue (are_thin_names names) → IsPacked 4096 leaf leaf_head (leaf_items names) → threads_in leaf ≡ thread_start names
 unfolding thread_start
 threads_in_leaf names leaf thin node =
     let few : length names ≤ 12 = (thin_list names thin).few in
-    let items = leaf_items names in
     let before = items_before names in
-    let threads = folder_threads 18 names in
-    let start = 14 + length (concat before) in
-    let split = offsets_split 14 before threads in
-    let last = offsets_last start threads in
-    let tail = split.0 in
-    let upper = last.0 in
-    let front = descriptor_bytes leaf_head (length items) ++ concat items in
-    let table : offsets_bytes 14 items ≡ (upper ++ big 2 start) ++ tail =
-    ap (offsets_bytes 14) (leaf_items_is names) ∙ split.2 ∙ ap (λ (l : List ℕ). l ++ tail) last.2 in
-    let leaf_is : leaf ≡ ((front ++ node.free) ++ upper) ++ (big 2 start ++ tail) =
-    node.is ∙ ap (λ (l : List ℕ). front ++ (node.free ++ l)) (table ∙ append_assoc upper (big 2 start) tail)
-    ∙ sym (append_assoc front node.free (upper ++ (big 2 start ++ tail))) ∙ sym (append_assoc (front ++ node.free) upper (big 2 start ++ tail)) in
-    let whole : length leaf ≡ length ((front ++ node.free) ++ upper) + (2 + length tail) =
-    ap length leaf_is ∙ length-append ((front ++ node.free) ++ upper) (big 2 start ++ tail)
-    ∙ ap (λ (n : ℕ). length ((front ++ node.free) ++ upper) + n) (length-append (big 2 start) tail ∙ ap (λ (n : ℕ). n + length tail) (length-number_bytes Big 2 start)) in
-    let size : length leaf ≡ 4096 = node.size in
-    let tail_long : length tail ≡ 2 * length before = split.1 in
-    let before_count : length before ≡ 6 + length names = length-items_before names in
-    let place : length ((front ++ node.free) ++ upper) ≡ 4082 - 2 * length names = omega arith in
+    let before_count : 6 + length names ≡ length before = sym (length-items_before names) in
+    let records : length (leaf_items names) ≡ 6 + 2 * length names = length-leaf_items names in
     let fit : length (concat before) ≤ 802 + 158 * length names = before_fits names thin in
-    let low : start ≤ 3136 = omega arith in
-    let small : start < 65536 = omega arith in
-    let entry : big_at 2 leaf (4082 - 2 * length names) ≡ start =
-    ap (λ (l : List ℕ). big_at 2 l (4082 - 2 * length names)) leaf_is
-    ∙ number_at-number_bytes Big 2 start (4082 - 2 * length names) ((front ++ node.free) ++ upper) tail place small in
-    ap (λ (k : ℕ). min 3136 (big_at 2 leaf (4082 - 2 * k))) (folders_in_leaf names leaf thin node)
+    let taken : take (6 + length names) (leaf_items names) ≡ before =
+    ap (take (6 + length names)) (leaf_items_is names) ∙ take_at before (folder_threads 18 names) (6 + length names) (sym before_count) in
+    let entry : offset leaf (6 + length names) ≡ 14 + length (concat before) =
+    record_begins 4096 leaf leaf_head (leaf_items names) (omega arith) plain node (6 + length names) (omega arith)
+    ∙ ap (λ (l : List (List ℕ)). 14 + length (concat l)) taken in
+    ap (λ (k : ℕ). min 3136 (offset leaf (6 + k))) (folders_in_leaf names leaf thin node)
     ∙ ap (λ (n : ℕ). min 3136 n) entry
     ∙ omega arith
 
 -- the names in a leaf are those of its records
-pub names_in_leaf : (names : List (List ℕ)) (leaf : List ℕ) → IsTrue (are_thin_names names) → IsNode leaf leaf_head (leaf_items names) → names_in leaf ≡ names
+pub names_in_leaf : (names : List (List ℕ)) (leaf : List ℕ) → IsTrue (are_thin_names names) → IsPacked 4096 leaf leaf_head (leaf_items names) → names_in leaf ≡ names
 unfolding thread_start
 names_in_leaf names leaf thin node =
     let items = leaf_items names in

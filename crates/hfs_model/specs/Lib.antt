@@ -1,7 +1,5 @@
 pub mod Names
 pub mod Parts
-pub mod Bits
-pub mod Node
 pub mod Thin
 pub mod Reading
 pub mod Sorted

@@ -25,6 +25,20 @@ pub record OnlyFolders (old new : Parts) : Type 0 where
   pub extents : new.extents ≡ old.extents
   pub attributes : new.attributes ≡ old.attributes
 
+-- these parts with another header
+abbrev pub with_header : Parts → List ℕ → Parts
+with_header parts header = record {
+  header = header;
+  alternate = parts.alternate;
+  bitmap = parts.bitmap;
+  info = parts.info;
+  journal = parts.journal;
+  extents = parts.extents;
+  attributes = parts.attributes;
+  catalog = parts.catalog;
+  leaf = parts.leaf;
+}
+
 -- all but the header is the same
 pub record OnlyHeader (old new : Parts) : Type 0 where
   pub folders : OnlyFolders old new

@@ -1,6 +1,6 @@
 -- The thin volume: 16,384 sectors in blocks of 4,096 bytes, as they are formatted, with some folders in the root.
 -- What each part holds, field by field. Ids: 1 is the root's parent, 2 the root, 16 and 17 the journal's files.
-use Rattle.std.specs.Prelude.{◌≡◌, ℕ, ◌+◌, ◌*◌, ◌^◌, ◌<◌, ◌==◌, Bool, true, false, pos, List, [], ◌∷◌, ◌++◌, length, map, replicate, codes, IsTrue, if◌then◌else◌, Some, None}
+use Rattle.std.specs.Prelude.{◌≡◌, ℕ, ◌+◌, ◌*◌, ◌^◌, ◌<◌, ◌==◌, Bool, true, false, pos, List, [], ◌∷◌, ◌++◌, length, map, replicate, codes, IsTrue, if◌then◌else◌}
 use Rattle.std.specs.List.{concat, position_or_len}
 use Rattle.std.specs.Str.{bytes_eq}
 use Rattle.hx_bytes.specs.Field.{big_at}
@@ -18,9 +18,9 @@ use Rattle.cat_records.specs.declared.record.CatRecord.TheVariants.{Folder, File
 use Rattle.cat_records.specs.Records.{catalog_bytes}
 use Rattle.cat_records.specs.Keys.{catalog_key_bytes}
 use Rattle.hfs_model.specs.declared.parts.Parts.{Parts}
-use Rattle.hfs_model.specs.declared.node.TreeHeader.{TreeHeader}
-use Rattle.hfs_model.specs.Bits.{is_marked, bits_bytes}
-use Rattle.hfs_model.specs.Node.{IsNode, node_over, header_head, leaf_head, header_items}
+use Rattle.btree_node.specs.declared.codec.TreeHeader.{TreeHeader}
+use Rattle.flag_rows.specs.Bitmap.{is_marked, nowhere, bits_bytes}
+use Rattle.btree_node.specs.Codec.{IsPacked, IsHeaderOf, node_over, leaf_head}
 use Rattle.hfs_model.specs.Names.{are_thin_names, in_order}
 use Rattle.hfs_model.specs.Parts.{parts_of}
 
@@ -88,7 +88,7 @@ writes_in header = big_at 4 header 68
 
 -- the allocation file: a bit for each block, and zeros to the end of its block
 abbrev pub bitmap_text : List ℕ
-bitmap_text = bits_bytes (is_marked 355 (Some 2047)) 0 4096
+bitmap_text = bits_bytes (is_marked 355 (record { start = 2047; count = 1 })) 0 4096
 
 -- the journal info block: the journal is on this volume, from block 3 on, and has 256 blocks
 abbrev pub info_text : List ℕ
@@ -112,9 +112,9 @@ pub record IsEmptyJournal (bytes : List ℕ) : Type 0 where
   pub header : IsJournal bytes
   pub empty : wrapped 1048576 header.start ≡ wrapped 1048576 header.end
 
--- a tree of sixteen nodes without a record
-abbrev pub empty_tree : ℕ → ℕ → TreeHeader
-empty_tree max_key attributes = record {
+-- a tree of sixteen nodes without a record, in a file that grows by blocks of this size
+abbrev pub empty_tree : ℕ → ℕ → ℕ → TreeHeader
+empty_tree block max_key attributes = record {
   depth = 0;
   root = 0;
   leaf_records = 0;
@@ -124,7 +124,7 @@ empty_tree max_key attributes = record {
   max_key_length = max_key;
   total_nodes = 16;
   free_nodes = 15;
-  clump_size = 4096;
+  clump_size = block;
   tree_type = 0;
   key_compare_type = 0;
   attributes = attributes;
@@ -132,14 +132,14 @@ empty_tree max_key attributes = record {
 
 -- the trees of the extents overflow file and the attributes file: big keys, and in the second keys of varying length
 abbrev pub extents_tree : TreeHeader
-extents_tree = empty_tree 10 2
+extents_tree = empty_tree 4096 10 2
 
 abbrev pub attributes_tree : TreeHeader
-attributes_tree = empty_tree 266 6
+attributes_tree = empty_tree 4096 266 6
 
 -- the catalog of 64 nodes, of which node 1 is the one leaf; keys are compared unit by unit
-abbrev pub catalog_tree : ℕ → TreeHeader
-catalog_tree folders = record {
+abbrev pub catalog_tree : ℕ → ℕ → TreeHeader
+catalog_tree block folders = record {
   depth = 1;
   root = 1;
   leaf_records = 6 + 2 * folders;
@@ -149,7 +149,7 @@ catalog_tree folders = record {
   max_key_length = 516;
   total_nodes = 64;
   free_nodes = 62;
-  clump_size = 4096;
+  clump_size = block;
   tree_type = 0;
   key_compare_type = 0xBC;
   attributes = 6;
@@ -233,8 +233,8 @@ pub record HasFixedParts (parts : Parts) : Type 0 where
   pub bitmap : concat parts.bitmap ≡ bitmap_text
   pub info : parts.info ≡ info_text
   pub journal : IsJournal parts.journal
-  pub extents : IsNode (concat parts.extents) header_head (header_items extents_tree (is_marked 1 None))
-  pub attributes : IsNode (concat parts.attributes) header_head (header_items attributes_tree (is_marked 1 None))
+  pub extents : IsHeaderOf extents_tree (is_marked 1 nowhere) (concat parts.extents)
+  pub attributes : IsHeaderOf attributes_tree (is_marked 1 nowhere) (concat parts.attributes)
 
 -- These parts are those of a thin volume with these folders in its root. The alternate header is as it was
 -- formatted, without folders.
@@ -243,8 +243,8 @@ pub record AreThin (parts : Parts) (names : List (List ℕ)) : Type 0 where
   pub header : IsHeader (length names) parts.header
   pub alternate : IsHeader 0 parts.alternate
   pub fixed : HasFixedParts parts
-  pub catalog : IsNode (concat parts.catalog) header_head (header_items (catalog_tree (length names)) (is_marked 2 None))
-  pub leaf : IsNode (concat parts.leaf) leaf_head (leaf_items names)
+  pub catalog : IsHeaderOf (catalog_tree 4096 (length names)) (is_marked 2 nowhere) (concat parts.catalog)
+  pub leaf : IsPacked 4096 (concat parts.leaf) leaf_head (leaf_items names)
 
 -- This content is a thin volume with these folders in its root. What its journal would write to its sectors isn't
 -- looked at, so it is said of a content whose journal is empty, or of what a content stands for.
@@ -257,4 +257,4 @@ pub record AreFresh (parts : Parts) : Type 0 where
   pub header : parts.header ≡ header_bytes (thin_header 0 true 0)
   pub alternate : parts.alternate ≡ header_bytes (thin_header 0 true 0)
   pub journal : parts.journal ≡ journal_text 512 512
-  pub leaf : concat parts.leaf ≡ node_over leaf_head (leaf_items []) (replicate 4096 0)
+  pub leaf : concat parts.leaf ≡ node_over 4096 leaf_head (leaf_items []) (replicate 4096 0)

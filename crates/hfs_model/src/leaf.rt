@@ -205,7 +205,7 @@ fn put_folders(alloc: Global, items: &mut Vec<Bytes>, names: &Names) -> Result<(
 }
 
 /// Adds the threads of the journal's files.
-fn put_journal_threads(alloc: Global, items: &mut Vec<Bytes>) -> Result<(), OutOfMemory>
+pub fn put_journal_threads(alloc: Global, items: &mut Vec<Bytes>) -> Result<(), OutOfMemory>
     ensures { OnOk result (items.new.items ≡ items.old.items ++ journal_threads) }
 {
     let journal = ascii(alloc, ".journal")?;

@@ -3,7 +3,7 @@
 #![tactic(auto)]
 
 mod answering;
-mod bits;
+mod block;
 mod blocks;
 mod bytes;
 mod changing;
@@ -13,26 +13,25 @@ mod headers;
 mod laws;
 mod leaf;
 mod names;
-mod node;
 mod ordering;
 mod own_names;
 mod parts;
 mod plain;
 mod reading;
 mod stepping;
-#[cfg(test)]
-mod tests;
 mod text;
 mod walking;
 
-pub use bits::Marks;
+pub use block::Block;
+pub use blocks::{catalog_tree, empty_tree};
 pub use hfs_language::{
     Change, ChangeKind, Changes, Command, Facts, Gauge, ListedName, Listing, Path, Refusal, Reply,
     TreeGauge,
 };
 pub use laws::one_list;
-pub use leaf::{ascii, new_entry, new_folder, new_thread, no_fork, one_run, put_item};
+pub use leaf::{
+    ascii, new_entry, new_folder, new_thread, no_fork, one_run, put_item, put_journal_threads,
+};
 pub use names::{are_thin_names, contains, is_thin_name, place_of, sorted};
-pub use node::{NodeHead, TreeHeader, header_items, node_over};
-pub use parts::{Parts, fresh_parts, thin_names, with_mark, with_names};
+pub use parts::{Parts, fresh_parts, marked_header, thin_names, with_names};
 pub use plain::{PlainAttribute, PlainEntry, PlainNode, PlainTree};

@@ -3,45 +3,49 @@ ghost use Rattle.std.specs.Prelude.{◌≡◌, ◌&&◌, ◌↔◌, ℕ, List, [
 ghost use Rattle.volume_header.specs.Header.{header_bytes};
 ghost use Rattle.std.specs.List.{concat};
 ghost use Rattle.hfs_model.specs.Names.{are_thin_names};
-ghost use Rattle.hfs_model.specs.Node.{node_over, leaf_head};
-ghost use Rattle.hfs_model.specs.Parts.{OnlyFolders, OnlyHeader};
+ghost use Rattle.btree_node.specs.Codec.{node_over, leaf_head};
+ghost use Rattle.hfs_model.specs.Parts.{OnlyFolders, with_header};
+ghost use Rattle.hfs_model.specs.declared.parts.Parts.{Parts};
 ghost use Rattle.hfs_model.specs.Thin.{AreThin, AreFresh, HasFixedParts, thin_header, is_clean_in, writes_in, leaf_items};
 
+use crate::block::Block;
 use crate::blocks::{
-    bitmap, catalog_tree, empty_tree, header_node, is_bitmap, is_header_node, is_leaf_node,
-    leaf_node,
+    bitmap, catalog_tree, empty_tree, is_bitmap, is_header_node, is_leaf_node, leaf_node,
 };
 use crate::headers::{
     header_sector, info_sector, is_clean, is_header, is_journal, journal_sector, write_count,
 };
 use crate::names::are_thin_names;
 use crate::reading::read_names;
-use crate::text::{are_same, joined, put_repeated, sectors_of};
+use crate::text::{are_same, joined, put_repeated};
+use btree_node::header_node;
 use hx_bytes::{Names, OutOfMemory, Sector};
 use std::alloc::Global;
 
-/// The sectors of a volume of 16,384 sectors that hold something. A node and a block have eight sectors.
-#[derive(Clone, Copy)]
+/// The sectors of a volume of 16,384 sectors that hold something. A node has eight sectors, as a block.
+#[derive(Drop)]
 pub struct Parts {
     /// The volume header: sector 2.
     pub header: Sector,
     /// The alternate volume header: the last sector but one.
     pub alternate: Sector,
     /// The allocation file: block 1.
-    pub bitmap: [Sector; 8],
+    pub bitmap: Block,
     /// The journal info block: sector 16, the first of block 2.
     pub info: Sector,
     /// The journal header: sector 24, the first of block 3.
     pub journal: Sector,
     /// The header node of the extents overflow file: block 259.
-    pub extents: [Sector; 8],
+    pub extents: Block,
     /// The header node of the attributes file: block 275.
-    pub attributes: [Sector; 8],
+    pub attributes: Block,
     /// The header node of the catalog file: block 291.
-    pub catalog: [Sector; 8],
+    pub catalog: Block,
     /// The catalog's leaf, its node 1: block 292.
-    pub leaf: [Sector; 8],
+    pub leaf: Block,
 }
+
+const BLOCK_SIZE: u32 = 4096;
 
 /// The largest keys and the attributes of the trees without a record: big keys, and in the attributes
 /// file keys of varying length.
@@ -63,22 +67,23 @@ pub fn fresh_parts(alloc: Global) -> Result<Parts, OutOfMemory>
     let mut zeros = Vec::new(alloc);
     put_repeated(&mut zeros, 0, 4096)?;
     let bitmap = bitmap(alloc)?;
-    let extents_tree = empty_tree(EXTENTS_KEY, EXTENTS_ATTRIBUTES);
-    let attributes_tree = empty_tree(ATTRIBUTES_KEY, ATTRIBUTES_ATTRIBUTES);
+    let extents_tree = empty_tree(BLOCK_SIZE, EXTENTS_KEY, EXTENTS_ATTRIBUTES);
+    let attributes_tree = empty_tree(BLOCK_SIZE, ATTRIBUTES_KEY, ATTRIBUTES_ATTRIBUTES);
     let extents = header_node(alloc, &extents_tree, 1, zeros.as_slice())?;
     let attributes = header_node(alloc, &attributes_tree, 1, zeros.as_slice())?;
-    let catalog = header_node(alloc, &catalog_tree(0), 2, zeros.as_slice())?;
+    let tree = catalog_tree(BLOCK_SIZE, 0);
+    let catalog = header_node(alloc, &tree, 2, zeros.as_slice())?;
     let leaf = leaf_node(alloc, &Names::new(alloc), zeros.as_slice())?;
     Ok(Parts {
         header: header_sector(0, true, 0),
         alternate: header_sector(0, true, 0),
-        bitmap: sectors_of(bitmap.as_slice()),
+        bitmap: Block::of_bytes(alloc, bitmap.as_slice())?,
         info: info_sector(),
         journal: journal_sector(JOURNAL_BEGIN, JOURNAL_BEGIN),
-        extents: sectors_of(extents.as_slice()),
-        attributes: sectors_of(attributes.as_slice()),
-        catalog: sectors_of(catalog.as_slice()),
-        leaf: sectors_of(leaf.as_slice()),
+        extents: Block::of_bytes(alloc, extents.as_slice())?,
+        attributes: Block::of_bytes(alloc, attributes.as_slice())?,
+        catalog: Block::of_bytes(alloc, catalog.as_slice())?,
+        leaf: Block::of_bytes(alloc, leaf.as_slice())?,
     })
 }
 
@@ -91,13 +96,13 @@ fn all_hold(first: bool, second: bool, third: bool, fourth: bool, fifth: bool) -
 fn has_fixed_parts(alloc: Global, parts: &Parts) -> Result<bool, OutOfMemory>
     ensures { IfOk result (λ has. IsTrue has ↔ HasFixedParts parts.now) }
 {
-    let bitmap = is_bitmap(alloc, &parts.bitmap)?;
+    let bitmap = is_bitmap(alloc, parts.bitmap.sectors())?;
     let info = are_same(&parts.info, &info_sector());
     let journal = is_journal(&parts.journal);
-    let extents_tree = empty_tree(EXTENTS_KEY, EXTENTS_ATTRIBUTES);
-    let attributes_tree = empty_tree(ATTRIBUTES_KEY, ATTRIBUTES_ATTRIBUTES);
-    let extents = is_header_node(alloc, &parts.extents, &extents_tree, 1)?;
-    let attributes = is_header_node(alloc, &parts.attributes, &attributes_tree, 1)?;
+    let extents_tree = empty_tree(BLOCK_SIZE, EXTENTS_KEY, EXTENTS_ATTRIBUTES);
+    let attributes_tree = empty_tree(BLOCK_SIZE, ATTRIBUTES_KEY, ATTRIBUTES_ATTRIBUTES);
+    let extents = is_header_node(alloc, parts.extents.sectors(), &extents_tree, 1)?;
+    let attributes = is_header_node(alloc, parts.attributes.sectors(), &attributes_tree, 1)?;
     Ok(all_hold(bitmap, info, journal, extents, attributes))
 }
 
@@ -109,8 +114,9 @@ fn are_thin(alloc: Global, parts: &Parts, names: &Names) -> Result<bool, OutOfMe
     let header = is_header(&parts.header, folders);
     let alternate = is_header(&parts.alternate, 0);
     let fixed = has_fixed_parts(alloc, parts)?;
-    let catalog = is_header_node(alloc, &parts.catalog, &catalog_tree(folders), 2)?;
-    let leaf = is_leaf_node(alloc, &parts.leaf, names)?;
+    let tree = catalog_tree(BLOCK_SIZE, folders);
+    let catalog = is_header_node(alloc, parts.catalog.sectors(), &tree, 2)?;
+    let leaf = is_leaf_node(alloc, parts.leaf.sectors(), names)?;
     Ok(all_hold(header, alternate, fixed, catalog, leaf))
 }
 
@@ -118,7 +124,7 @@ fn are_thin(alloc: Global, parts: &Parts, names: &Names) -> Result<bool, OutOfMe
 pub fn thin_names(alloc: Global, parts: &Parts) -> Result<Option<Names>, OutOfMemory>
     ensures { IfOk result (λ found. MatchOption found ((names : List (List ℕ)) → ¬ AreThin parts.now names) (λ names. AreThin parts.now names)) }
 {
-    let names = read_names(alloc, joined(alloc, &parts.leaf)?.as_slice())?;
+    let names = read_names(alloc, joined(alloc, parts.leaf.sectors())?.as_slice())?;
     if !are_thin_names(&names) {
         return Ok(None);
     }
@@ -137,39 +143,36 @@ pub fn with_names(alloc: Global, parts: &Parts, names: &Names) -> Result<Parts, 
     ensures others { IfOk result (λ new. OnlyFolders parts.now new) }
     // Bit 8 and the write count of the header stay, and so does what the leaf has in its free space.
     ensures kept { IfOk result (λ new. new.header ≡ header_bytes (thin_header (length names.now) (is_clean_in parts.now.header) (writes_in parts.now.header))) }
-    ensures free { IfOk result (λ new. concat new.leaf ≡ node_over leaf_head (leaf_items names.now) (concat parts.now.leaf)) }
+    ensures free { IfOk result (λ new. concat new.leaf ≡ node_over 4096 leaf_head (leaf_items names.now) (concat parts.now.leaf)) }
 {
     let folders = names.len() as u32;
-    let old_catalog = joined(alloc, &parts.catalog)?;
-    let old_leaf = joined(alloc, &parts.leaf)?;
-    let catalog = header_node(alloc, &catalog_tree(folders), 2, old_catalog.as_slice())?;
+    let old_catalog = joined(alloc, parts.catalog.sectors())?;
+    let old_leaf = joined(alloc, parts.leaf.sectors())?;
+    let tree = catalog_tree(BLOCK_SIZE, folders);
+    let catalog = header_node(alloc, &tree, 2, old_catalog.as_slice())?;
     let leaf = leaf_node(alloc, names, old_leaf.as_slice())?;
     let header = header_sector(folders, is_clean(&parts.header), write_count(&parts.header));
     Ok(Parts {
         header,
         alternate: parts.alternate,
-        bitmap: parts.bitmap,
+        bitmap: parts.bitmap.copied(alloc)?,
         info: parts.info,
         journal: parts.journal,
-        extents: parts.extents,
-        attributes: parts.attributes,
-        catalog: sectors_of(catalog.as_slice()),
-        leaf: sectors_of(leaf.as_slice()),
+        extents: parts.extents.copied(alloc)?,
+        attributes: parts.attributes.copied(alloc)?,
+        catalog: Block::of_bytes(alloc, catalog.as_slice())?,
+        leaf: Block::of_bytes(alloc, leaf.as_slice())?,
     })
 }
 
-/// The parts with bit 8 of the header's attributes set or cleared, and with this write count. They are those of a thin
-/// volume with these folders.
-pub fn with_mark(parts: &Parts, names: &Names, is_clean: bool, writes: u32) -> Parts
-    requires { AreThin parts.now names.now }
-    ensures thin { AreThin result names.now }
-    ensures header { result.header ≡ header_bytes (thin_header (length names.now) is_clean writes) }
-    ensures others { OnlyHeader parts.now result }
+/// The header of a thin volume with these folders, with bit 8 of its attributes set or cleared and with this write count.
+pub fn marked_header(names: &Names, is_clean: bool, writes: u32) -> Sector
+    requires { IsTrue (are_thin_names names.now) }
+    ensures header { result ≡ header_bytes (thin_header (length names.now) is_clean writes) }
+    // The parts of a thin volume with these folders stay such parts with it.
+    ensures thin { (parts : Parts) → AreThin parts names.now → AreThin (with_header parts result) names.now }
 {
-    Parts {
-        header: header_sector(names.len() as u32, is_clean, writes),
-        ..*parts
-    }
+    header_sector(names.len() as u32, is_clean, writes)
 }
 
 impl Parts {

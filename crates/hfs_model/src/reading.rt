@@ -4,8 +4,12 @@ ghost use Rattle.hx_bytes.specs.Field.{big_at};
 ghost use Rattle.cat_records.specs.Records.{units_at};
 ghost use Rattle.hfs_model.specs.Reading.{names_at, folders_in, threads_in, names_in};
 
+use btree_node::{count_records, get_offset};
 use hx_bytes::{Names, OutOfMemory, Units, read_be16};
 use std::alloc::Global;
+
+/// The records beside those of the folders.
+const OTHERS: usize = 6;
 
 const MOST_FOLDERS: usize = 12;
 
@@ -22,7 +26,7 @@ fn folders_in(leaf: &[u8]) -> usize
     ensures within { result ≤ 12 }
     ensures value { result ≡ folders_in leaf.now }
 {
-    (usize::from(read_be16(leaf, 10)).saturating_sub(6) / 2).min(MOST_FOLDERS)
+    (count_records(leaf).saturating_sub(OTHERS) / 2).min(MOST_FOLDERS)
 }
 
 fn threads_in(leaf: &[u8]) -> usize
@@ -30,7 +34,7 @@ fn threads_in(leaf: &[u8]) -> usize
     ensures within { result ≤ 3136 }
     ensures value { result ≡ threads_in leaf.now }
 {
-    usize::from(read_be16(leaf, 4082 - 2 * folders_in(leaf))).min(LAST_START)
+    get_offset(leaf, OTHERS + folders_in(leaf)).min(LAST_START)
 }
 
 fn name_length(leaf: &[u8], at: usize) -> usize

@@ -1,37 +1,9 @@
 //! Bytes written one behind the other, and blocks joined from sectors and cut into them.
 ghost use Rattle.std.specs.Prelude.{◌≡◌, ◌++◌, ◌∷◌, [], ◌↔◌, length, replicate, IsTrue, OnOk, IfOk};
 ghost use Rattle.std.specs.List.{concat};
-ghost use Rattle.hx_bytes.specs.Field.{big};
 
 use hx_bytes::{OutOfMemory, Sector};
 use std::alloc::Global;
-
-/// Adds a number of two bytes, its highest byte first.
-#[tactic(auto, unfolding(hx_bytes::specs::Field::number_bytes))]
-pub(crate) fn put_u16(out: &mut Vec<u8>, number: u16) -> Result<(), OutOfMemory>
-    ensures { OnOk result (out.new.items ≡ out.old.items ++ big 2 number) }
-{
-    out.extend_from_slice(&number.to_be_bytes())?;
-    Ok(())
-}
-
-/// Adds a number of four bytes, its highest byte first.
-#[tactic(auto, unfolding(hx_bytes::specs::Field::number_bytes))]
-pub(crate) fn put_u32(out: &mut Vec<u8>, number: u32) -> Result<(), OutOfMemory>
-    ensures { OnOk result (out.new.items ≡ out.old.items ++ big 4 number) }
-{
-    out.extend_from_slice(&number.to_be_bytes())?;
-    Ok(())
-}
-
-/// Adds a number of eight bytes, its highest byte first.
-#[tactic(auto, unfolding(hx_bytes::specs::Field::number_bytes))]
-pub(crate) fn put_u64(out: &mut Vec<u8>, number: u64) -> Result<(), OutOfMemory>
-    ensures { OnOk result (out.new.items ≡ out.old.items ++ big 8 number) }
-{
-    out.extend_from_slice(&number.to_be_bytes())?;
-    Ok(())
-}
 
 /// Adds one byte so many times.
 pub(crate) fn put_repeated(out: &mut Vec<u8>, byte: u8, count: usize) -> Result<(), OutOfMemory>

@@ -15,6 +15,12 @@ pub mod Joining
 pub mod Grounding
 pub mod Going
 pub mod Stepping
-pub mod Whole
 pub mod Promising
 pub mod Closing
+pub mod Relabelling
+pub mod Pending
+pub mod Syncing
+pub mod Places
+pub mod Openings
+pub mod Replays
+pub mod Marking

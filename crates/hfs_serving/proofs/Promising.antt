@@ -1,8 +1,8 @@
 -- From a run over a rig to its promises.
-use Rattle.std.proofs.Common.{◌≡◌, ◌+◌, ◌++◌, [], ℕ, List, refl, length, drop, sym, ◌∙◌, arith, ap, subst}
+use Rattle.std.proofs.Common.{◌≡◌, ◌+◌, ◌++◌, [], ℕ, List, refl, length, append_assoc, take, drop, sym, ◌∙◌, arith, ap, subst}
 use Rattle.std.proofs.lemmas.List.{append-nil, take-append-drop, take_all}
-use Rattle.std.specs.Prelude.{None, IsTrue}
-use Rattle.sector_disk.specs.Disk.{State, LeftNow}
+use Rattle.std.specs.Prelude.{None, Option, IsTrue}
+use Rattle.sector_disk.specs.Disk.{IsImage, LeftNow, State}
 use Rattle.sector_disk.specs.Source.{Stream}
 use Rattle.sector_disk.specs.Space.{Space}
 use Rattle.jnl_format.specs.Recovery.{Content}
@@ -16,12 +16,17 @@ use Rattle.hfs_serving.specs.Going.{Knowing, Stands}
 use Rattle.hfs_serving.specs.Grounds.{anchor_of}
 use Rattle.hfs_serving.specs.Opening.{MayServe}
 use Rattle.hfs_serving.specs.Outside.{Outside, outside_of}
-use Rattle.hfs_serving.specs.Runs.{Crashes}
+use Rattle.hfs_serving.specs.Runs.{Crashes, Serves, StandsAs}
 use Rattle.hfs_serving.specs.Steps.{CrashesStep, EndsRun, KeepsRun, ServesStep}
-use Rattle.hfs_serving.specs.Top.{AreFirst, AreTaken}
+use Rattle.hfs_serving.specs.Taking.{HasTaken}
+use Rattle.hfs_serving.specs.Top.{AreTaken}
+use Rattle.hfs_language.specs.Lines.{lines}
+use Rattle.line_source.specs.Input.{ahead, TakesLines}
+use Rattle.line_source.proofs.Cuts.{front_cut, none_left}
 use Rattle.hfs_serving.proofs.Agreeing.{stands_durable}
 use Rattle.hfs_serving.proofs.Bridging.{found_by}
 use Rattle.hfs_serving.proofs.Grounding.{outside_by}
+use Rattle.hfs_serving.proofs.Lists.{shrunk_in-none}
 use Rattle.hfs_serving.proofs.Mounting.{keeps_promises, promises_all}
 use Rattle.hfs_serving.proofs.Staging.{mark_stage_crashes}
 use Rattle.hfs_serving.proofs.Stretches.{crashes_both}
@@ -30,23 +35,68 @@ use Rattle.hfs_serving.proofs.Stretches.{crashes_both}
 finds_by : (a b : Plan) → anchor_of a ≡ anchor_of b → found a ≡ found b
 finds_by a b same = λ i. λ image. found_by a b image (ap (λ x. x.place) same) (ap (λ x. x.info) same) (ap (λ x. x.blhdr) same) i
 
-pub crash_keeps : (law : AsideIsFree) (capacity : ℕ) (start : Content) (plan plan_new : Plan) (old new : State) (lines : List (List ℕ)) (knows : Knowing) (space : Space) → anchor_of plan_new ≡ anchor_of plan
+-- a run over the first of the lines that were taken
+are_taken : (source source_new : Stream) (texts : List (List ℕ)) (run : List Entry) (count : ℕ) → lines_of run ≡ take count texts → HasTaken [] source texts source_new → AreTaken source run source_new
+are_taken source source_new texts run count asked has = record {
+  taken = has.used;
+  left = has.bytes;
+  first = (
+    drop count texts ++ has.first.0,
+    has.first.1 ∙ ap (λ (l : List (List ℕ)). l ++ has.first.0) (sym (take-append-drop count texts)) ∙ append_assoc (take count texts) (drop count texts) has.first.0
+        ∙ ap (λ (l : List (List ℕ)). l ++ (drop count texts ++ has.first.0)) (sym asked),
+  );
+}
+
+-- lines that were taken to the end
+pub has_all : (source source_new : Stream) (texts : List (List ℕ)) (taken : List ℕ) → TakesLines [] source texts taken source_new → HasTaken [] source texts source_new
+has_all source source_new texts taken takes = record {
+  used = takes.used ++ taken;
+  bytes = takes.bytes ∙ sym (append_assoc takes.used taken source_new.left);
+  first = front_cut takes.used taken source_new.left texts takes.cut;
+}
+
+-- nothing was taken
+pub has_none : (source : Stream) → HasTaken [] source [] source
+has_none source = record { used = []; bytes = refl; first = (lines [], refl) }
+
+-- a stretch over lines that were taken, from what stands for the run's start
+pub keeps_from : (law : AsideIsFree) (capacity : ℕ) (start : Content) (plan : Plan) (old new : State) (texts : List (List ℕ)) → ((image : Content) (told : List ℕ) → old.clock.left old.clock.moment image told → LeftNow old image told)
+    → ((image : Content) → IsImage old.candidates image → StandsAs start (found plan image)) → IsSound start → MayServe plan capacity start → (source source_new : Stream) → (IsTrue source.tells → HasTaken [] source texts source_new)
+    → CrashesStep capacity start None (outside_of plan old) texts (outside_of plan new) → KeepsRun capacity start old source new source_new
+keeps_from law capacity start plan old new texts only_now starts sound may source source_new taken step = record {
+  run = step.run;
+  known = step.known;
+  keeps =
+      keeps_promises law capacity start old source step.run step.known new source_new sound
+      (promises_all law plan capacity start old new step.run step.known step.crashes starts only_now sound may source source_new
+      (λ tells. are_taken source source_new texts step.run step.count step.asked (taken tells)));
+}
+
+-- what a mount finds hangs on the anchor alone, so the stretch is one by the plan of its start
+pub crash_seen : (capacity : ℕ) (start : Content) (plan plan_new : Plan) (before : Outside) (new : State) (texts : List (List ℕ)) → anchor_of plan_new ≡ anchor_of plan → CrashesStep capacity start None before texts (outside_of plan_new new)
+    → CrashesStep capacity start None before texts (outside_of plan new)
+crash_seen capacity start plan plan_new before new texts same step = subst (λ (f : Content → Content). CrashesStep capacity start None before texts (outside_by f new)) (finds_by plan_new plan same) step
+
+pub crash_keeps : (law : AsideIsFree) (capacity : ℕ) (start : Content) (plan plan_new : Plan) (old new : State) (texts : List (List ℕ)) (knows : Knowing) (space : Space) → anchor_of plan_new ≡ anchor_of plan
     → ((image : Content) (told : List ℕ) → old.clock.left old.clock.moment image told → LeftNow old image told) → Stands knows start start None space (outside_of plan old) → IsSound start → MayServe plan capacity start
-    → (source source_new : Stream) → ((run : List Entry) → AreFirst (lines_of run) lines → IsTrue source.tells → AreTaken source run source_new)
-    → CrashesStep capacity start None (outside_of plan old) lines (outside_of plan_new new) → KeepsRun capacity start old lines source new source_new
-crash_keeps law capacity start plan plan_new old new lines knows space same only_now stands sound may source source_new taken step =
-    let first : AreFirst (lines_of step.run) lines = (drop step.count lines, subst (λ (l : List (List ℕ)). lines ≡ l ++ drop step.count lines) (sym step.asked) (sym (take-append-drop step.count lines))) in
-    let crashes : Crashes capacity None start (outside_of plan old) step.run step.known (outside_of plan new) =
-    subst (λ (f : Content → Content). Crashes capacity None start (outside_of plan old) step.run step.known (outside_by f new)) (finds_by plan_new plan same) step.crashes in
-    record {
-      run = step.run;
-      known = step.known;
-      first = first;
-      keeps =
-          keeps_promises law capacity start old source step.run step.known new source_new sound
-          (promises_all law plan capacity start old new step.run step.known crashes
-          (λ image is. stands_durable start space stands.below (found plan image) (stands.leaves (found plan image) (image, is, refl))) only_now sound may source source_new (taken step.run first));
-    }
+    → (source source_new : Stream) → (IsTrue source.tells → HasTaken [] source texts source_new)
+    → CrashesStep capacity start None (outside_of plan old) texts (outside_of plan_new new) → KeepsRun capacity start old source new source_new
+crash_keeps law capacity start plan plan_new old new texts knows space same only_now stands sound may source source_new taken step =
+    keeps_from law capacity start plan old new texts only_now (λ image is. stands_durable start space stands.below (found plan image) (stands.leaves (found plan image) (image, is, refl))) sound may source source_new taken
+    (crash_seen capacity start plan plan_new (outside_of plan old) new texts same step)
+
+-- a mount before the run
+pub mount_joins : (capacity : ℕ) (start now : Content) (texts : List (List ℕ)) (before mid after : Outside) → Serves capacity None start before [] now mid → CrashesStep capacity now None mid texts after → CrashesStep capacity start None before texts after
+mount_joins capacity start now texts before mid after mounts step = record {
+  run = step.run;
+  known = step.known;
+  count = step.count;
+  crashes =
+      let no_more : 0 + step.known ≡ step.known = omega arith in
+      subst (λ (n : ℕ). Crashes capacity None start before step.run n after) no_more
+      (crashes_both capacity None start before mid after [] step.run now mounts step.known (subst (λ (s : Option ℕ). Crashes capacity s now mid step.run step.known after) (sym (shrunk_in-none None)) step.crashes));
+  asked = step.asked;
+}
 
 -- the end behind the last batch, whatever ended it
 pub finish_crashes : (capacity : ℕ) (start : Content) (old mid new : Outside) (lines : List (List ℕ)) (count : ℕ) (knows : Knowing) (space : Space) (step : ServesStep count capacity knows start None old lines space mid) → MayFinish step.now mid new → CrashesStep capacity start None old lines new
@@ -62,10 +112,11 @@ finish_crashes capacity start old mid new lines count knows space step may = rec
   asked = step.asked;
 }
 
-pub finish_ends : (capacity : ℕ) (start : Content) (old mid new : Outside) (lines : List (List ℕ)) (knows : Knowing) (space : Space) (step : ServesStep (length lines) capacity knows start None old lines space mid) → Finishes step.now mid new → EndsRun capacity start old lines new
-finish_ends capacity start old mid new lines knows space step finishes = record {
+pub finish_ends : (capacity : ℕ) (start : Content) (old mid new : Outside) (texts : List (List ℕ)) (knows : Knowing) (space : Space) (source : Stream) → (IsTrue source.tells → texts ≡ lines source.left)
+    → (step : ServesStep (length texts) capacity knows start None old texts space mid) → Finishes step.now mid new → EndsRun capacity start old source new
+finish_ends capacity start old mid new texts knows space source all step finishes = record {
   run = step.run;
-  asked = step.asked ∙ take_all (length lines) lines (omega arith);
+  asked = λ tells. step.asked ∙ take_all (length texts) texts (omega arith) ∙ all tells;
   now = step.now;
   leads = step.serves.leads;
   told = finishes.turns.may.told ∙ step.serves.told;
@@ -73,3 +124,6 @@ finish_ends capacity start old mid new lines knows space step finishes = record 
   sets = finishes.sets;
   leaves = finishes.turns.leaves;
 }
+
+pub none_behind : (taken : List ℕ) (source : Stream) → ahead taken source ≡ [] → source.left ≡ []
+none_behind taken source none = (none_left taken source.left none).1

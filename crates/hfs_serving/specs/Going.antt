@@ -1,5 +1,5 @@
 -- A volume that goes on within a batch: what it stands for, and what its calls make of it.
-use Rattle.std.specs.Prelude.{◌≡◌, ℕ, Bool, true, false, List, [], ◌∷◌, ◌++◌, take, Option}
+use Rattle.std.specs.Prelude.{◌≡◌, ◌≢◌, All, codes, ℕ, Bool, true, false, List, [], ◌∷◌, ◌++◌, take, Option}
 use Rattle.sector_disk.specs.Space.{Space}
 use Rattle.jnl_format.specs.Recovery.{Content}
 use Rattle.hfs_volume.specs.Content.{volume_of}
@@ -129,6 +129,14 @@ pub record ServesLine (answered : Bool) (capacity : ℕ) (knows : Knowing) (comm
   pub text : List ℕ
   pub replies : after ≡ before ++ text
   pub goes : GoesOn capacity knows committed now shrunk old (line_if answered line) text space new
+
+-- the line that asks that all be made durable
+abbrev pub sync_line : List ℕ
+sync_line = codes "sync"
+
+-- none of so many of these lines is a `sync`
+abbrev pub HasNoSync : ℕ → List (List ℕ) → Type 0
+HasNoSync count lines = All (λ line. line ≢ sync_line) (take count lines)
 
 -- The first of these lines were served.
 pub record ServesLines (count : ℕ) (capacity : ℕ) (knows : Knowing) (committed now : Content) (shrunk : Option ℕ) (old : Outside) (lines : List (List ℕ)) (before after : List ℕ) (space : Space) (new : Outside) : Type 0 where

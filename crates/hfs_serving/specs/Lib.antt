@@ -2,9 +2,12 @@ pub mod Outside
 pub mod Runs
 pub mod Serving
 pub mod Opening
+pub mod Refusing
 pub mod Top
 pub mod Stages
 pub mod Grounds
 pub mod Going
 pub mod Steps
+pub mod Beginning
 pub mod Closing
+pub mod Taking

@@ -1,16 +1,19 @@
 -- A batch whose replies are told, and a run of batches.
-use Rattle.std.specs.Prelude.{◌≡◌, ◌↔◌, ◌++◌, ℕ, List, take, Option, None}
+use Rattle.std.specs.Prelude.{◌≡◌, ◌↔◌, ◌++◌, ℕ, List, take, IsTrue, Option, None}
 use Rattle.hx_bytes.specs.declared.faults.Trouble.{Trouble}
 use Rattle.hx_bytes.specs.declared.faults.Trouble.TheVariants as trouble
 use Rattle.sector_disk.specs.Disk.{State}
 use Rattle.sector_disk.specs.Source.{Stream}
 use Rattle.sector_disk.specs.Space.{Space}
 use Rattle.jnl_format.specs.Recovery.{Content}
+use Rattle.hfs_language.specs.Lines.{lines}
 use Rattle.hfs_volume.specs.Run.{Entry, lines_of, replies_of, shrunk_in}
 use Rattle.hfs_serving.specs.Going.{Knowing, Stands}
 use Rattle.hfs_serving.specs.Outside.{Outside}
 use Rattle.hfs_serving.specs.Runs.{Crashes, Leads, Serves, SetsUnmounted, StandsAs}
-use Rattle.hfs_serving.specs.Top.{AreFirst, KeepsPromises}
+use Rattle.hfs_serving.specs.Top.{KeepsPromises}
+use Rattle.line_source.specs.declared.input.InputFault.{InputFault}
+use Rattle.line_source.specs.declared.input.InputFault.TheVariants as input
 use Rattle.hfs_serving.specs.declared.telling.Stop.{Stop}
 use Rattle.hfs_serving.specs.declared.telling.Stop.TheVariants as stop
 
@@ -18,6 +21,11 @@ use Rattle.hfs_serving.specs.declared.telling.Stop.TheVariants as stop
 abbrev pub stop_of : Trouble → Stop
 stop_of trouble.Disk = stop.Disk
 stop_of trouble.Memory = stop.Memory
+
+-- why a run ended that got no line
+abbrev pub stop_of_input : InputFault → Stop
+stop_of_input input.Source = stop.Source
+stop_of_input input.Memory = stop.Memory
 
 -- the space is as it was, but in what was told and when
 pub record IsStill (old new : Space) : Type 0 where
@@ -53,17 +61,16 @@ pub record CrashesStep (capacity : ℕ) (start : Content) (shrunk : Option ℕ) 
   pub crashes : Crashes capacity shrunk start old run known new
   pub asked : lines_of run ≡ take count lines
 
--- What a run over a rig promises, whatever ended it: some of these lines were served, and of them it keeps its promises.
-pub record KeepsRun (capacity : ℕ) (start : Content) (old : State) (lines : List (List ℕ)) (source : Stream) (new : State) (source_new : Stream) : Type 0 where
+-- What a run over a rig and a source promises, whatever ended it: some of the source's lines were served, and of them it keeps its promises.
+pub record KeepsRun (capacity : ℕ) (start : Content) (old : State) (source : Stream) (new : State) (source_new : Stream) : Type 0 where
   pub run : List Entry
   pub known : ℕ
-  pub first : AreFirst (lines_of run) lines
   pub keeps : KeepsPromises capacity start old source run known new source_new
 
--- A run that came to its end: all lines were served and answered, and a crash leaves what they left, with the mark of the end.
-pub record EndsRun (capacity : ℕ) (start : Content) (old : Outside) (lines : List (List ℕ)) (new : Outside) : Type 0 where
+-- A run that came to its end: all lines of the source were served and answered, and a crash leaves what they left, with the mark of the end.
+pub record EndsRun (capacity : ℕ) (start : Content) (old : Outside) (source : Stream) (new : Outside) : Type 0 where
   pub run : List Entry
-  pub asked : lines_of run ≡ lines
+  pub asked : IsTrue source.tells → lines_of run ≡ lines source.left
   pub now : Content
   pub leads : Leads capacity None start run now
   pub told : new.told ≡ old.told ++ replies_of run

@@ -1,7 +1,7 @@
 //! A batch: lines are answered in memory, housekeeping rests before each, and one commit makes all durable.
-ghost use Rattle.std.specs.Prelude.{◌≡◌, ◌≤◌, [], ℕ, Bool, Option, IsTrue, IfOk, OnOk, OnErr, length};
+ghost use Rattle.std.specs.Prelude.{◌≡◌, ◌↔◌, ◌≤◌, ◌<◌, [], ℕ, Bool, Option, IsTrue, IfOk, OnOk, OnErr, length};
 ghost use Rattle.jnl_format.specs.Recovery.{Content};
-ghost use Rattle.hfs_serving.specs.Going.{GoesTidy, ServesBatch, ServesLine, ServesLines, SomeStands, Stands, StopsLines, StopsOn, is_answered};
+ghost use Rattle.hfs_serving.specs.Going.{GoesTidy, HasNoSync, ServesBatch, ServesLine, ServesLines, SomeStands, Stands, StopsLines, StopsOn, is_answered, sync_line};
 
 use crate::basis::Ground;
 use crate::housekeeping::tidy;
@@ -85,7 +85,9 @@ fn make_room<V: Volume, G: Ground>(
 }
 
 // Whether the line asks that all be made durable, which ends its batch.
-fn is_sync(line: &[u8]) -> bool {
+fn is_sync(line: &[u8]) -> bool
+    ensures { IsTrue result ↔ (line.now ≡ sync_line) }
+{
     line == b"sync".as_slice()
 }
 
@@ -104,6 +106,7 @@ fn serve_lines<V: Volume, G: Ground>(
         → OnErr result (StopsLines capacity committed now shrunk (G.outside base.old) lines.now (G.outside base.new)) }
     ensures few { IfOk result (λ count. count ≤ length lines.now) }
     ensures most { IfOk result (λ count. count ≤ 32) }
+    ensures sync { IfOk result (λ count. (front : ℕ) → front < count → HasNoSync front lines.now) }
     ensures still { (capacity : ℕ) → G.serves base.old capacity → G.taken base.old ≤ capacity → OnOk result (G.serves base.new capacity × (G.taken base.new ≤ capacity)) }
     ensures tells { OnOk result ((G.space base.new).tells ≡ (G.space base.old).tells) }
     ensures anchor { G.anchor base.new ≡ G.anchor base.old }
@@ -140,6 +143,8 @@ pub fn serve_batch<V: Volume, G: Ground>(
         → OnErr result (StopsLines capacity start start shrunk (G.outside base.old) lines.now (G.outside base.new)) }
     ensures few { IfOk result (λ count. count ≤ length lines.now) }
     ensures most { IfOk result (λ count. count ≤ 32) }
+    // A `sync` ends it: none of the lines that are served before the last is one.
+    ensures sync { IfOk result (λ count. (front : ℕ) → front < count → HasNoSync front lines.now) }
     ensures still { (capacity : ℕ) → G.serves base.old capacity → G.taken base.old ≤ capacity → OnOk result (G.serves base.new capacity × (G.taken base.new ≡ 0)) }
     ensures tells { OnOk result ((G.space base.new).tells ≡ (G.space base.old).tells) }
     ensures anchor { G.anchor base.new ≡ G.anchor base.old }

@@ -13,6 +13,8 @@ ghost use Rattle.hfs_serving.specs.Outside.{outside_of};
 ghost use Rattle.hfs_serving.specs.Runs.{Crashes, KeepsPlace, Leads, LeadsToRest, Serves, SetsUnmounted, SetsVersion, StandsAs};
 ghost use Rattle.hfs_serving.specs.Serving.{Commits, Goes, IsDurable, IsRead, IsAsDurable, IsServing, MayCommit, Stops, TellsOut, Touches};
 ghost use Rattle.hfs_serving.specs.Stages.{MayTurn, Turns};
+ghost use Rattle.hfs_serving.specs.Steps.{CrashesStep, KeepsRun};
+ghost use Rattle.hfs_serving.specs.Taking.{HasTaken};
 ghost use Rattle.hfs_serving.specs.Top.{AreTaken, KeepsPromises, KnowsAs, KnowsTo, SurvivesAs, SurvivesTo};
 
 use crate::basis::Ground;
@@ -92,6 +94,15 @@ pub fn runs_keep_promises<D: SectorDisk>()
     ensures { (capacity : ℕ) (plan : Plan) (start : Content) (run : List Entry) (known : ℕ) (source source_new : Stream) (a b : D) → IsSound start → MayServe plan capacity start
         → ((image : Content) → IsImage (D.state a).candidates image → StandsAs start (found plan image)) → Crashes capacity None start (outside_of plan (D.state a)) run known (outside_of plan (D.state b))
         → (IsTrue source.tells → AreTaken source run source_new) → KeepsPromises capacity start (D.state a) source run known (D.state b) source_new }
+{
+    aside_is_free();
+}
+
+/// A mount and a run behind it: the run's promises begin at the image that was mounted. What the mount did is a stretch without an entry.
+pub fn mounted_runs_keep_promises<D: SectorDisk>()
+    ensures { (capacity : ℕ) (plan : Plan) (start now : Content) (texts : List (List ℕ)) (source source_new : Stream) (a b c : D) → IsSound start → MayServe plan capacity start
+        → ((image : Content) → IsImage (D.state a).candidates image → StandsAs start (found plan image)) → Serves capacity None start (outside_of plan (D.state a)) [] now (outside_of plan (D.state b))
+        → CrashesStep capacity now None (outside_of plan (D.state b)) texts (outside_of plan (D.state c)) → (IsTrue source.tells → HasTaken [] source texts source_new) → KeepsRun capacity start (D.state a) source (D.state c) source_new }
 {
     aside_is_free();
 }

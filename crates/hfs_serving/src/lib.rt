@@ -3,26 +3,30 @@
 
 mod basis;
 mod batch;
-mod finishing;
+mod ending;
 mod housekeeping;
 mod laws;
+mod opening;
 mod promises;
-mod running;
-mod sink;
+mod replaying;
 mod space;
+mod starting;
+mod taking;
 mod telling;
 mod volume;
 
 pub use basis::Ground;
 pub use batch::{MOST_LINES, serve_batch, serve_line};
-pub use finishing::finish;
+pub use ending::end_run;
 pub use housekeeping::{tidy, work};
 pub use laws::{
-    batches_end, commits_go_on, contents_tell_trees, entries_lead_on, mounts_serve, runs_end,
-    runs_keep_promises, stretches_join, touches_go_on,
+    batches_end, commits_go_on, contents_tell_trees, entries_lead_on, mounted_runs_keep_promises,
+    mounts_serve, runs_end, runs_keep_promises, stretches_join, touches_go_on,
 };
+pub use opening::{OpenRefusal, open_image};
 pub use promises::run;
-pub use running::serve_all;
-pub use sink::tell_whole;
+pub use replaying::replay_image;
+pub use starting::begin_run;
+pub use taking::{LONGEST_LINE, serve_source};
 pub use telling::{Stop, Teller, serve_step};
 pub use volume::{Next, Step, Volume};

@@ -1,49 +1,56 @@
 //! A run over a journal's store and its rig.
 ghost use Rattle.std.specs.Prelude.{◌≡◌, [], ℕ, List, None, IsTrue, OnOk};
-ghost use Rattle.sector_disk.specs.Source.{Stream};
 ghost use Rattle.jnl_format.specs.Recovery.{Content};
 ghost use Rattle.jnl_store.specs.Seen.{seen};
 ghost use Rattle.jnl_store.specs.Store.{plan_of, puts_of};
-ghost use Rattle.hfs_volume.specs.Run.{Entry, lines_of};
 ghost use Rattle.hfs_volume.specs.Sound.{IsSound};
 ghost use Rattle.hfs_serving.specs.Going.{Stands};
 ghost use Rattle.hfs_serving.specs.Grounds.{IsInService};
 ghost use Rattle.hfs_serving.specs.Opening.{MayServe};
 ghost use Rattle.hfs_serving.specs.Outside.{outside_of};
-ghost use Rattle.hfs_serving.specs.Steps.{EndsRun, KeepsRun, SomeWhole};
-ghost use Rattle.hfs_serving.specs.Top.{AreFirst, AreTaken};
+ghost use Rattle.hfs_serving.specs.Steps.{CrashesStep, EndsRun, KeepsRun, SomeWhole};
+ghost use Rattle.hfs_serving.specs.Taking.{HasTaken};
+ghost use Rattle.line_source.specs.Input.{SameSource};
 
-use crate::finishing::finish;
-use crate::running::serve_all;
+use crate::ending::end_run;
+use crate::taking::serve_source;
 use crate::telling::Stop;
 use crate::volume::Volume;
 use hfs_volume::aside_is_free;
-use hx_bytes::Bytes;
 use jnl_store::Space;
-use sector_disk::Rig;
+use line_source::Input;
+use sector_disk::{Rig, Source};
 use std::alloc::Global;
 
-/// Serves lines to the last over a journal's store and its rig, and ends the run. Its promises hold whatever ended it.
-pub fn run<V: Volume, R: Rig>(
+/// Serves the lines of a source to its end over a journal's store and its rig, and ends the run. Its promises hold whatever ended it.
+pub fn run<V: Volume, R: Rig, S: Source>(
     alloc: Global,
     volume: &mut V,
     base: &mut Space<'_, '_, R>,
-    lines: &[Bytes],
+    source: &mut S,
 ) -> Result<(), Stop>
     requires serves { (capacity : ℕ) × IsInService base.old.store.now (R.state base.old.disk.now) capacity × (puts_of base.old.store.now ≡ []) }
     requires stands { IsTrue (seen R.state base.old).tells → SomeWhole (V.knows volume.old (seen R.state base.old)) (seen R.state base.old) (outside_of (plan_of base.old.store.now) (R.state base.old.disk.now)) }
     // Where the volume stands for a sound content, each image that a crash leaves mounts to the tree after some of the lines, and each line whose
-    // reply was told is among them. The lines are those of what was taken of a source, where the caller shows that they are.
-    ensures promises { IsTrue (seen R.state base.old).tells → (capacity : ℕ) (start : Content) (source source_new : Stream)
+    // reply was told is among them. The lines are the first that the bytes which were taken of the source are cut into.
+    ensures promises { IsTrue (seen R.state base.old).tells → (capacity : ℕ) (start : Content)
         → Stands (V.knows volume.old (seen R.state base.old) capacity) start start None (seen R.state base.old) (outside_of (plan_of base.old.store.now) (R.state base.old.disk.now))
-        → IsSound start → MayServe (plan_of base.old.store.now) capacity start → ((run : List Entry) → AreFirst (lines_of run) lines.now → IsTrue source.tells → AreTaken source run source_new)
-        → KeepsRun capacity start (R.state base.old.disk.now) lines.now source (R.state base.new.disk.now) source_new }
-    // At Ok all lines were served and answered, and a crash leaves what they left, with bit 8 of the header's attributes set.
+        → IsSound start → MayServe (plan_of base.old.store.now) capacity start
+        → KeepsRun capacity start (R.state base.old.disk.now) (S.stream source.old) (R.state base.new.disk.now) (S.stream source.new) }
+    // The same as a stretch, which may go on from a mount.
+    ensures stretch { (texts : List (List ℕ)) × (IsTrue (S.stream source.old).tells → HasTaken [] (S.stream source.old) texts (S.stream source.new))
+        × (IsTrue (seen R.state base.old).tells → (capacity : ℕ) (start : Content)
+        → Stands (V.knows volume.old (seen R.state base.old) capacity) start start None (seen R.state base.old) (outside_of (plan_of base.old.store.now) (R.state base.old.disk.now))
+        → CrashesStep capacity start None (outside_of (plan_of base.old.store.now) (R.state base.old.disk.now)) texts (outside_of (plan_of base.old.store.now) (R.state base.new.disk.now))) }
+    // At Ok all lines of the source were served and answered, and a crash leaves what they left, with bit 8 of the header's attributes set.
     ensures done { IsTrue (seen R.state base.old).tells → (capacity : ℕ) (start : Content) → Stands (V.knows volume.old (seen R.state base.old) capacity) start start None (seen R.state base.old) (outside_of (plan_of base.old.store.now) (R.state base.old.disk.now))
-        → OnOk result (EndsRun capacity start (outside_of (plan_of base.old.store.now) (R.state base.old.disk.now)) lines.now (outside_of (plan_of base.new.store.now) (R.state base.new.disk.now))) }
+        → OnOk result (EndsRun capacity start (outside_of (plan_of base.old.store.now) (R.state base.old.disk.now)) (S.stream source.old) (outside_of (plan_of base.new.store.now) (R.state base.new.disk.now))) }
+    ensures end { IsTrue (S.stream source.old).tells → OnOk result ((S.stream source.new).left ≡ []) }
+    ensures same_source { SameSource (S.stream source.old) (S.stream source.new) }
 {
     aside_is_free();
-    serve_all(alloc, volume, base, lines)?;
-    finish(volume, base)?;
+    let mut input = Input::new(alloc)?;
+    serve_source(alloc, volume, base, &mut input, source)?;
+    end_run(volume, base)?;
     Ok(())
 }

@@ -5,11 +5,10 @@ ghost use Rattle.hfs_serving.specs.Grounds.{IsInService, anchor_of};
 ghost use Rattle.hfs_serving.specs.Outside.{outside_of};
 
 use crate::basis::Ground;
-use crate::sink::tell_whole;
 use crate::telling::Teller;
 use hx_bytes::Failed;
 use jnl_store::Space;
-use sector_disk::Rig;
+use sector_disk::{Rig, tell_whole};
 
 impl<R: Rig> Ground for Space<'_, '_, R> {
     ghost outside = { λ s. outside_of (plan_of s.store.now) (R.state s.disk.now) };

@@ -8,7 +8,8 @@ ghost use Rattle.hfs_serving.specs.Steps.{CrashesStep, IsStill, ServesStep};
 use crate::basis::Ground;
 use crate::batch::serve_batch;
 use crate::volume::Volume;
-use hx_bytes::{Bytes, Failed, Trouble};
+use hx_bytes::{Bytes, Failed, OutOfMemory, Trouble};
+use line_source::InputFault;
 use std::alloc::Global;
 
 /// A ground with a sink beside it, on the same clock.
@@ -30,6 +31,8 @@ pub enum Stop {
     Disk,
     /// There was no memory outside of a command.
     Memory,
+    /// The source failed.
+    Source,
     /// The sink failed.
     Sink,
     /// More steps were made for one line than a volume has blocks and records.
@@ -46,6 +49,31 @@ impl From<Trouble> for Stop {
         match trouble {
             Trouble::Disk => Stop::Disk,
             Trouble::Memory => Stop::Memory,
+        }
+    }
+}
+
+impl From<OutOfMemory> for Stop {
+    ghost use Rattle.std.specs.Prelude.{◌≡◌};
+    ghost use Rattle.hfs_serving.specs.declared.telling.Stop.TheVariants.{Memory};
+
+    ghost from_gives = { λ _ stop. stop ≡ Memory };
+
+    fn from(_: OutOfMemory) -> Self {
+        Stop::Memory
+    }
+}
+
+impl From<InputFault> for Stop {
+    ghost use Rattle.std.specs.Prelude.{◌≡◌};
+    ghost use Rattle.hfs_serving.specs.Steps.{stop_of_input};
+
+    ghost from_gives = { λ fault stop. stop ≡ stop_of_input fault };
+
+    fn from(fault: InputFault) -> Self {
+        match fault {
+            InputFault::Source => Stop::Source,
+            InputFault::Memory => Stop::Memory,
         }
     }
 }

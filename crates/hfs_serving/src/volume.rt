@@ -2,6 +2,7 @@
 ghost use Rattle.std.specs.Prelude.{◌≡◌, ◌≤◌, ℕ, Option, IsTrue, IfOk, OnOk};
 ghost use Rattle.sector_disk.specs.Space.{Space};
 ghost use Rattle.jnl_format.specs.Recovery.{Content};
+ghost use Rattle.hfs_serving.specs.Beginning.{IsMarkedMounted};
 ghost use Rattle.hfs_serving.specs.Closing.{IsClosed};
 ghost use Rattle.hfs_serving.specs.Going.{SomeStands, Stands, Stays, TidiesTo, AnswersTo};
 ghost use Rattle.hfs_serving.specs.Serving.{Commits, MayCommit, Touches};
@@ -62,6 +63,18 @@ pub trait Volume {
             → Touches committed (G.space base.old) (G.outside base.old) (G.space base.new) (G.outside base.new) }
         ensures answered { IsTrue (G.space base.old).tells → (capacity : ℕ) (committed now : Content) (shrunk : Option ℕ) → Stands (knows self.old (G.space base.old) capacity) committed now shrunk (G.space base.old) (G.outside base.old)
             → IfOk result (λ step. AnswersTo step capacity (knows self.new (G.space base.new) capacity) committed now shrunk (G.space base.new) line.now replies.old replies.new) }
+        ensures still { (capacity : ℕ) → G.serves base.old capacity → G.taken base.old ≤ capacity → OnOk result (G.serves base.new capacity × (G.taken base.new ≤ capacity)) }
+        ensures tells { (G.space base.new).tells ≡ (G.space base.old).tells }
+        ensures anchor { G.anchor base.new ≡ G.anchor base.old };
+
+    /// Puts the header's mark of a mount: bit 8 of its attributes is clear, and its count of writes is one higher, wrapping.
+    fn mark_mounted<G: Ground>(&mut self, base: &mut G) -> Result<(), Trouble>
+        requires serves { (capacity : ℕ) × G.serves base.old capacity × (G.taken base.old ≡ 0) }
+        requires stands { IsTrue (G.space base.old).tells → SomeStands (knows self.old (G.space base.old)) (G.space base.old) (G.outside base.old) }
+        ensures touches { IsTrue (G.space base.old).tells → (capacity : ℕ) (committed now : Content) (shrunk : Option ℕ) → Stands (knows self.old (G.space base.old) capacity) committed now shrunk (G.space base.old) (G.outside base.old)
+            → Touches committed (G.space base.old) (G.outside base.old) (G.space base.new) (G.outside base.new) }
+        ensures opened { IsTrue (G.space base.old).tells → (capacity : ℕ) (committed now : Content) (shrunk : Option ℕ) → Stands (knows self.old (G.space base.old) capacity) committed now shrunk (G.space base.old) (G.outside base.old)
+            → OnOk result (IsMarkedMounted (knows self.new (G.space base.new) capacity) committed now shrunk (G.space base.new)) }
         ensures still { (capacity : ℕ) → G.serves base.old capacity → G.taken base.old ≤ capacity → OnOk result (G.serves base.new capacity × (G.taken base.new ≤ capacity)) }
         ensures tells { (G.space base.new).tells ≡ (G.space base.old).tells }
         ensures anchor { G.anchor base.new ≡ G.anchor base.old };

@@ -1,52 +1,52 @@
 mod Accounts
-mod Adding
-mod AddingSeen
+pub mod Adding
+pub mod AddingSeen
 pub mod Apart
 pub mod Ascending
 mod Asides
 mod Attributing
 pub mod BlockWants
 mod Booking
-mod Bytes
+pub mod Bytes
 pub mod Counting
-mod Dropped
+pub mod Dropped
 pub mod Dropping
 mod DroppingLink
 mod Emptying
 pub mod EntryWants
-mod Fields
+pub mod Fields
 pub mod Files
 mod Finishing
-mod Fitting
+pub mod Fitting
 pub mod Flat
 mod Folders
 pub mod HeaderWants
 mod Heading
-mod Hiding
+pub mod Hiding
 mod HidingFile
 mod InOrder
-mod Keeping
-mod Keyed
+pub mod Keeping
+pub mod Keyed
 mod LinkValues
 pub mod LinkWants
 mod LinkingFirst
 mod LinkingMore
 mod LinkingNames
-mod Lying
-mod Making
+pub mod Lying
+pub mod Making
 mod Marking
-mod Marks
+pub mod Marks
 pub mod Members
-mod Moding
-mod Moments
+pub mod Moding
+pub mod Moments
 mod Moving
 mod MovingHidden
 mod MovingOver
 mod MovingSeen
-mod Named
+pub mod Named
 mod NextReclaim
 mod DropSteps
-mod NodesOf
+pub mod NodesOf
 mod Opening
 mod Ordering
 mod Owning
@@ -55,26 +55,26 @@ mod PlainBytes
 mod Plainly
 mod Ranks
 pub mod Reaching
-mod Refielding
-mod Removing
+pub mod Refielding
+pub mod Removing
 mod RemovingFile
 mod RemovingLastLink
 mod RemovingLink
 mod RemovingNames
-mod Renaming
-mod Reparenting
+pub mod Renaming
+pub mod Reparenting
 pub mod Repeats
-mod Rereading
+pub mod Rereading
 mod Running
 pub mod Sectors
 pub mod Seeing
 mod Shaping
-mod Sharing
+pub mod Sharing
 pub mod Sides
 pub mod Sounding
 mod Steadying
-mod Swapping
-mod Telling
+pub mod Swapping
+pub mod Telling
 mod TheLaws
 pub mod Threading
 pub mod TreeSounding

@@ -4,6 +4,7 @@ use Rattle.std.specs.Prelude.{IsErrOf}
 use Rattle.hx_bytes.specs.declared.faults.Trouble.{Trouble}
 use Rattle.hx_bytes.specs.declared.faults.Trouble.TheVariants.{Disk, Memory}
 use Rattle.hfsx_server.specs.declared.faults.ServeFault.TheVariants.{Source, TooMany}
+use Rattle.hfsx_server.specs.declared.faults.ServeFault.TheVariants as serve
 use Rattle.hfsx_server.specs.Cause.{IsCause}
 use Rattle.hfsx_server.specs.declared.faults.MountFault.{MountFault}
 use Rattle.hfsx_server.specs.declared.faults.MountFault.TheVariants as mount
@@ -23,6 +24,10 @@ cause_ok fault before now r x same later = record { later = later; rose = λ is.
 pub cause_other : {T E : Type 0} (fault y : E) (before now : ℕ) (r : Result T E) → r ≡ Err y → (y ≡ fault → ⊥) → before ≤ now → IsCause fault before now r
 cause_other fault y before now r same other later = record { later = later; rose = λ is. absurd (other (same_fault y fault (sym same ∙ is))) }
 
+-- the same fault, answered
+pub err_is : {T E : Type 0} (e f : E) → e ≡ f → IsErrOf {T = T} (Err e) f
+err_is {T} {E} e f same = subst (λ (x : E). IsErrOf {T = T} (Err e) x) same refl
+
 -- no trouble of the volume is one of the source
 pub not_source : (trouble : Trouble) → fault_of_trouble trouble ≡ Source → ⊥
 not_source Disk is = absurd (cc is)
@@ -32,6 +37,11 @@ not_source Memory is = absurd (cc is)
 pub not_many : (trouble : Trouble) → fault_of_trouble trouble ≡ TooMany → ⊥
 not_many Disk is = absurd (cc is)
 not_many Memory is = absurd (cc is)
+
+-- trouble that is answered as want of memory is that
+pub memory_trouble : (trouble : Trouble) → fault_of_trouble trouble ≡ serve.Memory → trouble ≡ Memory
+memory_trouble Disk is = absurd (cc is)
+memory_trouble Memory is = refl
 
 -- a fault handed on after calls that failed at nothing
 pub cause_on : {T U E : Type 0} (fault e y : E) (before mid now : ℕ) (r : Result T E) (q : Result U E) → before ≤ mid → IsCause fault mid now r → r ≡ Err e → q ≡ Err y → y ≡ e → IsCause fault before now q

@@ -9,7 +9,7 @@ use Rattle.jnl_replay.specs.declared.plan.Plan.{Plan}
 use Rattle.jnl_store.specs.Journal.{IsClosed}
 use Rattle.jnl_store.specs.Store.{KeepsOn, SameButBatch, content_over, durable_of, puts_of}
 use Rattle.jnl_store.specs.declared.store.Store.{Store}
-use Rattle.hfs_model.specs.Parts.{OnlyFolders, OnlyHeader, parts_of}
+use Rattle.hfs_model.specs.Parts.{OnlyFolders, OnlyHeader, parts_of, with_header}
 use Rattle.hfs_model.specs.Thin.{AreThin, info_text}
 use Rattle.hfs_model.specs.declared.parts.Parts.{Parts}
 use Rattle.hfsx_server.specs.Finding.{IsLargePlan}
@@ -17,7 +17,7 @@ use Rattle.hfsx_server.specs.Serving.{Changes, IsIdle, IsReady, IsThinPlan, Stan
 use Rattle.hfsx_server.specs.Volume.{Holds, Tree}
 use Rattle.hfsx_server.proofs.FoldersPlaced.{folders_put, folders_size, same_parts}
 use Rattle.hfsx_server.proofs.Pieces.{range_behind}
-use Rattle.hfsx_server.proofs.Settling.{durable_same}
+use Rattle.hfsx_server.proofs.Settling.{content_nothing, durable_same}
 use Rattle.hfsx_server.proofs.Standing.{closed_thin}
 
 -- sectors of the header, the catalog and its leaf aren't the journal's
@@ -101,6 +101,38 @@ ready_of store0 store1 old new s0 s1 idle same none few thin thin_new keeps targ
             target = target tells0;
           };
     }
+
+-- only the header is another one
+pub header_alone : (old : Parts) (header : List ℕ) → OnlyHeader old (with_header old header)
+header_alone old header = record {
+  folders = record { alternate = refl; bitmap = refl; info = refl; journal = refl; extents = refl; attributes = refl };
+  catalog = refl;
+  leaf = refl;
+}
+
+-- the parts that list the folders were put into an idle store
+pub folders_ready : (store0 store1 : Store) (old new : Parts) (s0 s1 : State) → IsIdle store0 old s0 → SameButBatch store0 store1 → Untouched s0 s1 → length (puts_of store1) ≤ length (puts_of store0) + 17 → (tree : Tree) × AreThin old tree → (tree : Tree) × AreThin new tree
+    → (KeepsOn store0 s0 → KeepsOn store1 s1)
+    → (KeepsOn store0 s0 → content_over store1 (content s1) ≡ put_sectors (put_sectors (put_sectors (content_over store0 (content s0)) 2328 new.catalog) 2336 new.leaf) 2 (new.header ∷ []))
+    → length new.catalog ≡ 8 → length new.leaf ≡ 8 → OnlyFolders old new → IsReady store1 old new s1
+folders_ready store0 store1 old new s0 s1 idle same none few thin thin_new keeps put b_catalog b_leaf others =
+    ready_of store0 store1 old new s0 s1 idle same none few thin thin_new keeps
+    (λ tells.
+    let stands = idle.stands tells in
+    let is = put stands.keeps ∙ ap (λ (d : Content). put_sectors (put_sectors (put_sectors d 2328 new.catalog) 2336 new.leaf) 2 (new.header ∷ [])) (content_nothing store0 (content s0) idle.nothing) in
+    subst (λ (t : Content). Holds t new) (sym is) (put_folders_hold (durable_of store0 (content s0)) old new stands.holds b_catalog b_leaf others))
+
+-- another header was put into an idle store
+pub header_ready : (store0 store1 : Store) (old : Parts) (header : List ℕ) (s0 s1 : State) → IsIdle store0 old s0 → SameButBatch store0 store1 → Untouched s0 s1 → length (puts_of store1) ≤ length (puts_of store0) + 17 → (tree : Tree) × AreThin old tree → (tree : Tree) × AreThin (with_header old header) tree
+    → (KeepsOn store0 s0 → KeepsOn store1 s1)
+    → (KeepsOn store0 s0 → content_over store1 (content s1) ≡ put_sectors (content_over store0 (content s0)) 2 (header ∷ []))
+    → IsReady store1 old (with_header old header) s1
+header_ready store0 store1 old header s0 s1 idle same none few thin thin_new keeps put =
+    ready_of store0 store1 old (with_header old header) s0 s1 idle same none few thin thin_new keeps
+    (λ tells.
+    let stands = idle.stands tells in
+    let is = put stands.keeps ∙ ap (λ (d : Content). put_sectors d 2 (header ∷ [])) (content_nothing store0 (content s0) idle.nothing) in
+    subst (λ (t : Content). Holds t (with_header old header)) (sym is) (put_header_holds (durable_of store0 (content s0)) old (with_header old header) stands.holds (header_alone old header)))
 
 -- a command was begun on an idle store
 pub idle_begun : (store0 store1 : Store) (parts : Parts) (s : State) → IsIdle store0 parts s → SameButBatch store0 store1 → puts_of store1 ≡ puts_of store0 → (KeepsOn store0 s → KeepsOn store1 s) → IsIdle store1 parts s

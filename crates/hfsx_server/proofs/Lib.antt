@@ -32,5 +32,4 @@ pub mod ThinJournals
 pub mod ThinMounts
 pub mod Usage
 pub mod Volumes
-pub mod Whole
 pub mod WordLists

@@ -1,16 +1,16 @@
 -- What an image stands for, and what of it are the image's own sectors.
-use Rattle.std.proofs.Common.{◌≡◌, ◌≢◌, ◌⊎◌, ◌<◌, ◌≤◌, ◌+◌, ◌/◌, ℕ, List, length, inl, inr, refl, sym, ◌∙◌, ap, subst, arith}
-use Rattle.std.specs.Prelude.{None, Ok, Result}
+use Rattle.std.proofs.Common.{◌≡◌, ◌≢◌, ◌<◌, ◌≤◌, ◌+◌, ◌/◌, ℕ, List, length, refl, sym, ◌∙◌, ap, subst}
+use Rattle.std.specs.Prelude.{None, Ok}
 use Rattle.volume_header.specs.Refusal.{header_refusal}
 use Rattle.jnl_format.specs.Info.{unless_fault}
 use Rattle.jnl_format.specs.Recovery.{Content, sector, Journal, header_of_volume, info_sector_of, journal_in, text_of, volume_of, text_fault, homes_of, replayed, recovery, recovery_at}
 use Rattle.jnl_format.specs.declared.blocks.Home.{Home}
 use Rattle.jnl_format.specs.declared.blocks.Volume.{Volume}
-use Rattle.jnl_format.proofs.Alike.{good_homes, stands_alike}
+use Rattle.jnl_format.proofs.Alike.{good_homes, never_own, not_home, stands_alike}
 use Rattle.jnl_format.specs.Keeping.{KeepsHeader}
 use Rattle.jnl_format.specs.Named.{IsGoodHome, Each}
-use Rattle.jnl_format.proofs.Mixing.{mixes_with_homes, named_home, not_named}
-use Rattle.jnl_format.specs.Named.{IsHomeOf, MixesHomes}
+use Rattle.jnl_format.proofs.Mixing.{mixes_with_homes}
+use Rattle.jnl_format.specs.Named.{MixesHomes}
 use Rattle.jnl_format.proofs.Recovering.{then_parts, unless_parts}
 use Rattle.hfsx_server.specs.Volume.{HasJournal}
 
@@ -22,13 +22,6 @@ pub record Recovers (image recovered : Content) : Type 0 where
   pub own : (s : ℕ) → journal.info.offset / 512 ≤ s → s < journal.info.offset / 512 + journal.info.size / 512 → sector recovered s ≡ sector image s
   pub info : sector recovered (info_sector_of (header_of_volume image)) ≡ sector image (info_sector_of (header_of_volume image))
   pub header : header_refusal (header_of_volume image) (length image) ≡ None → KeepsHeader image recovered
-
-kept_sector : (volume : Volume) (text : List ℕ) (homes : List Home) (old new : Content) (s : ℕ) → Each (IsGoodHome volume text) homes → ((home : Home) → IsGoodHome volume text home → home.sector ≢ s) → (sector new s ≡ sector old s) ⊎ IsHomeOf text homes s (sector new s) → sector new s ≡ sector old s
-kept_sector volume text homes old new s all never (inl e) = e
-kept_sector volume text homes old new s all never (inr h) = absurd (not_named (IsGoodHome volume text) homes s all never (named_home text homes s (sector new s) h))
-
-never_own : (volume : Volume) (text : List ℕ) (s : ℕ) (home : Home) → volume.first ≤ s → s < volume.first + volume.count → IsGoodHome volume text home → home.sector ≢ s
-never_own volume text s home low high good same = elim good.apart [ inl a ↦ absurd (omega arith) | inr b ↦ absurd (omega arith) ]
 
 never_info : (volume : Volume) (text : List ℕ) (s : ℕ) (home : Home) → s ≡ volume.info_sector → IsGoodHome volume text home → home.sector ≢ s
 never_info volume text s home is good same = good.no_info (same ∙ is)
@@ -47,7 +40,7 @@ recovery_parts image recovered is =
     let all : Each (IsGoodHome volume text) homes = good_homes at version j image q.0 in
     let m : MixesHomes text homes image (replayed j image) = mixes_with_homes text homes image in
     let kept : (s : ℕ) → ((home : Home) → IsGoodHome volume text home → home.sector ≢ s) → sector recovered s ≡ sector image s =
-    λ s never. subst (λ (d : Content). sector d s ≡ sector image s) q.1 (kept_sector volume text homes image (replayed j image) s all never (m.each s)) in
+    λ s never. subst (λ (d : Content). sector d s ≡ sector image s) q.1 (not_home volume text homes image (replayed j image) s all never (m.each s)) in
     record {
       journal = j;
       found = p.1;

@@ -4,7 +4,8 @@ ghost use Rattle.sector_disk.specs.Cause.{HasCause};
 ghost use Rattle.sector_disk.specs.Disk.{CrashesLeave, SameDisk, SameSink, Untouched, content};
 ghost use Rattle.sector_disk.specs.Lists.{put_sectors};
 ghost use Rattle.jnl_store.specs.Store.{Keeps, KeepsOn, SameButBatch, content_over, faults_of, plan_of, puts_of, spare_of};
-ghost use Rattle.hfs_model.specs.Parts.{OnlyFolders, OnlyHeader};
+ghost use Rattle.hfs_model.specs.Parts.{OnlyFolders, with_header};
+ghost use Rattle.hfs_model.specs.declared.parts.Parts.{Parts};
 ghost use Rattle.hfs_model.specs.Thin.{AreThin};
 ghost use Rattle.hfsx_server.specs.Serving.{IsIdle, IsReady, IsThinPlan, Rests};
 ghost use Rattle.hfsx_server.specs.Volume.{Tree, MountsTo};
@@ -12,7 +13,7 @@ ghost use Rattle.hfsx_server.specs.Volume.{Tree, MountsTo};
 use crate::puts::{commit_puts, put_list};
 use crate::volume::{CATALOG, HEADER, LEAF};
 use hfs_model::Parts;
-use hx_bytes::Failed;
+use hx_bytes::{Failed, Sector};
 use jnl_store::Store;
 use sector_disk::SectorDisk;
 
@@ -37,31 +38,30 @@ pub(crate) fn change_folders<D: SectorDisk>(
     ensures cause { HasCause (D.state disk.old).faults (D.state disk.new).faults result }
 {
     put_folders(store, disk, new);
-    make_durable(store, disk, old, new)
+    make_durable(store, disk)
 }
 
 /// Changes the volume header.
 pub(crate) fn change_header<D: SectorDisk>(
     store: &mut Store,
     disk: &mut D,
-    old: &Parts,
-    new: &Parts,
+    parts: &Parts,
+    header: &Sector,
 ) -> Result<(), Failed>
-    requires idle { IsIdle store.old old.now (D.state disk.old) }
+    requires idle { IsIdle store.old parts.now (D.state disk.old) }
     requires spare { 1 ≤ spare_of store.old }
-    requires thin { (tree : Tree) × AreThin old.now tree }
-    requires thin_new { (tree : Tree) × AreThin new.now tree }
-    requires others { OnlyHeader old.now new.now }
-    ensures idle { OnOk result (IsIdle store.new new.now (D.state disk.new)) }
+    requires thin { (tree : Tree) × AreThin parts.now tree }
+    requires thin_new { (tree : Tree) × AreThin (with_header parts.now header.now) tree }
+    ensures idle { OnOk result (IsIdle store.new (with_header parts.now header.now) (D.state disk.new)) }
     ensures spare { spare_of store.old ≤ spare_of store.new + 1 }
-    ensures rests { IsTrue (D.state disk.old).tells → (tree : Tree) → AreThin new.now tree → OnOk result (Rests (D.state disk.new) tree) }
-    ensures crash { IsTrue (D.state disk.old).tells → (before after : Tree) → AreThin old.now before → AreThin new.now after → CrashesLeave (D.state disk.old) (D.state disk.new) (λ image. MountsTo image before ⊎ MountsTo image after) }
+    ensures rests { IsTrue (D.state disk.old).tells → (tree : Tree) → AreThin (with_header parts.now header.now) tree → OnOk result (Rests (D.state disk.new) tree) }
+    ensures crash { IsTrue (D.state disk.old).tells → (before after : Tree) → AreThin parts.now before → AreThin (with_header parts.now header.now) after → CrashesLeave (D.state disk.old) (D.state disk.new) (λ image. MountsTo image before ⊎ MountsTo image after) }
     ensures same { SameDisk (D.state disk.old) (D.state disk.new) }
     ensures sink { SameSink (D.state disk.old) (D.state disk.new) }
     ensures cause { HasCause (D.state disk.old).faults (D.state disk.new).faults result }
 {
-    put_list(store, disk, HEADER, &[new.header]);
-    make_durable(store, disk, old, new)
+    put_list(store, disk, HEADER, &[*header]);
+    make_durable(store, disk)
 }
 
 // Puts the parts that list the folders.
@@ -79,23 +79,18 @@ fn put_folders<D: SectorDisk>(store: &mut Store, disk: &mut D, parts: &Parts)
     ensures few { length (puts_of store.new) ≤ length (puts_of store.old) + 17 }
     ensures spare { spare_of store.old ≤ spare_of store.new + 17 }
 {
-    put_list(store, disk, CATALOG, &parts.catalog);
-    put_list(store, disk, LEAF, &parts.leaf);
+    put_list(store, disk, CATALOG, parts.catalog.sectors());
+    put_list(store, disk, LEAF, parts.leaf.sectors());
     put_list(store, disk, HEADER, &[parts.header]);
 }
 
-// Keeps what was put, which changes the parts so, and makes it durable.
-fn make_durable<D: SectorDisk>(
-    store: &mut Store,
-    disk: &mut D,
-    old: &Parts,
-    new: &Parts,
-) -> Result<(), Failed>
-    requires ready { IsReady store.old old.now new.now (D.state disk.old) }
-    ensures idle { OnOk result (IsIdle store.new new.now (D.state disk.new)) }
+// Keeps what was put, which makes new parts of the old ones, and makes it durable.
+fn make_durable<D: SectorDisk>(store: &mut Store, disk: &mut D) -> Result<(), Failed>
+    requires ready { (old : Parts) × (new : Parts) × IsReady store.old old new (D.state disk.old) }
+    ensures idle { (old new : Parts) → IsReady store.old old new (D.state disk.old) → OnOk result (IsIdle store.new new (D.state disk.new)) }
     ensures spare { spare_of store.old ≤ spare_of store.new }
-    ensures rests { IsTrue (D.state disk.old).tells → (tree : Tree) → AreThin new.now tree → OnOk result (Rests (D.state disk.new) tree) }
-    ensures crash { IsTrue (D.state disk.old).tells → (before after : Tree) → AreThin old.now before → AreThin new.now after → CrashesLeave (D.state disk.old) (D.state disk.new) (λ image. MountsTo image before ⊎ MountsTo image after) }
+    ensures rests { (old new : Parts) → IsReady store.old old new (D.state disk.old) → IsTrue (D.state disk.old).tells → (tree : Tree) → AreThin new tree → OnOk result (Rests (D.state disk.new) tree) }
+    ensures crash { (old new : Parts) → IsReady store.old old new (D.state disk.old) → IsTrue (D.state disk.old).tells → (before after : Tree) → AreThin old before → AreThin new after → CrashesLeave (D.state disk.old) (D.state disk.new) (λ image. MountsTo image before ⊎ MountsTo image after) }
     ensures same { SameDisk (D.state disk.old) (D.state disk.new) }
     ensures sink { SameSink (D.state disk.old) (D.state disk.new) }
     ensures cause { HasCause (D.state disk.old).faults (D.state disk.new).faults result }

@@ -8,10 +8,10 @@ ghost use Rattle.hfsx_server.specs.Cause.{IsCause};
 ghost use Rattle.hfsx_server.specs.Telling.{Tells, refusal_text, size_refusal, formatted_text};
 ghost use Rattle.hfsx_server.specs.Volume.{IsUnmounted, MountsTo};
 
-use crate::{SizeRefusal, Status, VOLUME_SECTORS, tell_refusal, tell_whole, write_parts};
+use crate::{SizeRefusal, Status, VOLUME_SECTORS, tell_refusal, write_parts};
 use hfs_model::fresh_parts;
 use hx_bytes::{Failed, Trouble};
-use sector_disk::{Rig, SectorDisk};
+use sector_disk::{Rig, SectorDisk, tell_whole};
 use std::alloc::Global;
 
 /// The sectors behind the journal header, in which its lists go round.

@@ -3,6 +3,7 @@
 
 mod changing;
 mod faults;
+mod folders;
 mod formatting;
 mod input;
 mod mounting;
@@ -11,7 +12,6 @@ mod refusal;
 mod running;
 mod server;
 mod session;
-mod sink;
 mod starting;
 mod status;
 mod top;
@@ -26,7 +26,6 @@ pub use refusal::{SizeRefusal, tell_fault, tell_refusal, tell_usage};
 pub use running::run;
 pub use server::{Served, Server};
 pub use session::{MOST_FOLDERS, Outcome, decide, read_command};
-pub use sink::tell_whole;
 pub use starting::mount;
 pub use status::Status;
 pub use top::hfsx;

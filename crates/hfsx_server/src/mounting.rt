@@ -129,7 +129,7 @@ fn find_tree<D: SectorDisk>(
         return Err(MountFault::NotYet(0));
     }
     let peek = Peek::new(alloc, disk, &plan)?;
-    let parts = read_parts(disk, &peek)?;
+    let parts = read_parts(alloc, disk, &peek)?;
     match thin_names(alloc, &parts)? {
         Some(names) => Ok(FoundVolume { plan, parts, names }),
         None => Err(MountFault::NotYet(0)),

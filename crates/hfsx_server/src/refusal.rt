@@ -3,11 +3,11 @@ ghost use Rattle.std.specs.Prelude.{◌++◌};
 ghost use Rattle.hfs_language.specs.Text.{field, fields};
 ghost use Rattle.hfsx_server.specs.Telling.{Tells, Telling, fault_text, header_text, journal_text, refusal_text, refused_text, usage_text};
 
-use crate::{MountFault, tell_whole};
+use crate::MountFault;
 use hx_bytes::Failed;
 use itoa::Buffer;
 use jnl_format::JnlRefusal;
-use sector_disk::Rig;
+use sector_disk::{Rig, tell_whole};
 use volume_header::HeaderRefusal;
 
 /// Why a size is refused.

@@ -17,12 +17,13 @@ ghost use Rattle.hfsx_server.specs.Serving.{SameButLines, entry_of, RunSoFar, Is
 ghost use Rattle.hfsx_server.specs.Volume.{Tree, Holds, IsUnmounted, MountsTo};
 
 use crate::changing::{change_folders, change_header};
-use crate::{Input, Line, Outcome, ServeFault, decide, read_command, tell_whole};
+use crate::folders::with_last;
+use crate::{Input, Line, Outcome, ServeFault, decide, read_command};
 use cmd_lang::{MOST_BYTES, print_reply};
-use hfs_model::{Command, Parts, Refusal, with_mark, with_names};
+use hfs_model::{Command, Parts, Refusal, marked_header, with_names};
 use hx_bytes::{Bytes, Failed, Names, Trouble, Units};
 use jnl_store::{Store, StoreFault};
-use sector_disk::{Rig, SectorDisk, Source};
+use sector_disk::{Rig, SectorDisk, Source, tell_whole};
 use std::alloc::Global;
 
 /// The sectors that a new folder changes, and one for the end.
@@ -74,6 +75,8 @@ impl Server {
         // Whatever stops it, a crash leaves the tree before the line or after it, and of its reply a front was told.
         ensures stopped { IsTrue (R.state rig.old).tells → OnErr result ((run : List Entry) × RunSoFar self.old.names (R.state rig.old) run (R.state rig.new)
             × (IsTrue (S.stream source.old).tells → Stops self.old.input (S.stream source.old) run (S.stream source.new))) }
+        // After want of memory no folder was made, and the server may serve on.
+        ensures spared { IsErrOf result ServeFault.Memory → (self.new.names ≡ self.old.names) × IsServing self.new (R.state rig.new) }
         // Where the source failed or there are too many lines, nothing was told; a source that failed gave no whole line more.
         ensures quiet { IsErrOf result ServeFault.Source ⊎ IsErrOf result ServeFault.TooMany → (R.state rig.new).told ≡ (R.state rig.old).told }
         ensures begun { IsTrue (S.stream source.old).tells → IsErrOf result ServeFault.Source → (begun : List ℕ) × HasNoNewline begun × (ahead self.old.input (S.stream source.old) ≡ begun ++ (S.stream source.new).left) }
@@ -123,6 +126,7 @@ impl Server {
         ensures mark { OnOk result (KeepsMark self.old.parts self.new.parts) }
         ensures input { (self.new.input ≡ self.old.input) × (self.new.lines ≡ self.old.lines) }
         ensures same { SameDisk (R.state rig.old) (R.state rig.new) }
+        ensures spared { IsErrOf result ServeFault.Memory → (self.new.names ≡ self.old.names) × IsServing self.new (R.state rig.new) }
         ensures no_source { IsErrOf result ServeFault.Source → ⊥ }
         ensures no_many { IsErrOf result ServeFault.TooMany → ⊥ }
         ensures disk { IsCause ServeFault.Disk (R.state rig.old).faults (R.state rig.new).faults result }
@@ -149,6 +153,7 @@ impl Server {
         ensures names { OnOk result (self.new.names ≡ (step self.old.names read).1) }
         ensures mark { OnOk result (KeepsMark self.old.parts self.new.parts) }
         ensures crash { IsTrue (D.state disk.old).tells → CrashesLeave (D.state disk.old) (D.state disk.new) (λ image. MountsTo image self.old.names ⊎ MountsTo image (step self.old.names read).1) }
+        ensures spared { IsErrOf result Trouble.Memory → (self.new.names ≡ self.old.names) × IsServing self.new (D.state disk.new) }
         ensures input { (self.new.input ≡ self.old.input) × (self.new.lines ≡ self.old.lines) }
         ensures same { SameDisk (D.state disk.old) (D.state disk.new) }
         ensures sink { SameSink (D.state disk.old) (D.state disk.new) }
@@ -173,6 +178,7 @@ impl Server {
         ensures names { OnOk result (self.new.names ≡ with_folder self.old.names folder) }
         ensures mark { OnOk result (KeepsMark self.old.parts self.new.parts) }
         ensures crash { IsTrue (D.state disk.old).tells → CrashesLeave (D.state disk.old) (D.state disk.new) (λ image. MountsTo image self.old.names ⊎ MountsTo image (with_folder self.old.names folder)) }
+        ensures spared { IsErrOf result Trouble.Memory → (self.new.names ≡ self.old.names) × IsServing self.new (D.state disk.new) }
         ensures input { (self.new.input ≡ self.old.input) × (self.new.lines ≡ self.old.lines) }
         ensures same { SameDisk (D.state disk.old) (D.state disk.new) }
         ensures sink { SameSink (D.state disk.old) (D.state disk.new) }
@@ -196,16 +202,18 @@ impl Server {
         ensures names { OnOk result (self.new.names ≡ self.old.names ++ name ∷ []) }
         ensures mark { OnOk result (KeepsMark self.old.parts self.new.parts) }
         ensures crash { IsTrue (D.state disk.old).tells → CrashesLeave (D.state disk.old) (D.state disk.new) (λ image. MountsTo image self.old.names ⊎ MountsTo image (self.old.names ++ name ∷ [])) }
+        ensures spared { IsErrOf result Trouble.Memory → (self.new.names ≡ self.old.names) × IsServing self.new (D.state disk.new) }
         ensures input { (self.new.input ≡ self.old.input) × (self.new.lines ≡ self.old.lines) }
         ensures same { SameDisk (D.state disk.old) (D.state disk.new) }
         ensures sink { SameSink (D.state disk.old) (D.state disk.new) }
         ensures cause { IsCause Trouble.Disk (D.state disk.old).faults (D.state disk.new).faults result }
     {
-        self.names.push(name)?;
-        let parts = with_names(alloc, &self.parts, &self.names)?;
+        let names = with_last(alloc, &self.names, name)?;
+        let parts = with_names(alloc, &self.parts, &names)?;
         self.store.begin(alloc, FOLDER_LOAD)?;
         change_folders(&mut self.store, disk, &self.parts, &parts)?;
         self.parts = parts;
+        self.names = names;
         Ok(())
     }
 
@@ -223,9 +231,9 @@ impl Server {
         ensures sink { SameSink (R.state rig.old) (R.state rig.new) }
         ensures cause { HasCause (R.state rig.old).faults (R.state rig.new).faults result }
     {
-        let parts = with_mark(&self.parts, &self.names, true, self.parts.write_count());
-        match change_header(&mut self.store, rig, &self.parts, &parts) {
-            Ok(()) => self.parts = parts,
+        let header = marked_header(&self.names, true, self.parts.write_count());
+        match change_header(&mut self.store, rig, &self.parts, &header) {
+            Ok(()) => self.parts.header = header,
             Err(Failed) => return Err(StoreFault::Disk),
         }
         self.store.checkpoint(rig)

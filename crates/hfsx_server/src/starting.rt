@@ -18,7 +18,7 @@ ghost use Rattle.hfsx_server.specs.Volume.{Tree, IsFault, IsRefusal, MountsTo};
 use crate::changing::change_header;
 use crate::mounting::{FoundVolume, find_volume};
 use crate::{Input, MountFault, Server};
-use hfs_model::{Parts, with_mark};
+use hfs_model::{Parts, marked_header};
 use hx_bytes::{Failed, Names, OutOfMemory, Trouble};
 use jnl_replay::{Plan, replay};
 use jnl_store::Store;
@@ -72,7 +72,7 @@ fn start<D: SectorDisk>(alloc: Global, disk: &mut D, found: FoundVolume) -> Resu
     replay(disk, &found.plan)?;
     let mut store = attach(alloc, &found.plan)?;
     let FoundVolume { parts, names, .. } = found;
-    let parts = mark(alloc, &mut store, disk, &parts, &names)?;
+    let parts = mark(alloc, &mut store, disk, parts, &names)?;
     Ok(Server {
         store,
         parts,
@@ -100,13 +100,13 @@ fn mark<D: SectorDisk>(
     alloc: Global,
     store: &mut Store,
     disk: &mut D,
-    parts: &Parts,
+    parts: Parts,
     names: &Names,
 ) -> Result<Parts, Trouble>
-    requires idle { IsIdle store.old parts.now (D.state disk.old) }
-    requires thin { AreThin parts.now names.now }
+    requires idle { IsIdle store.old parts (D.state disk.old) }
+    requires thin { AreThin parts names.now }
     ensures thin { IfOk result (λ new. AreThin new names.now) }
-    ensures marked { IfOk result (IsMarked (length names.now) parts.now) }
+    ensures marked { IfOk result (IsMarked (length names.now) parts) }
     ensures idle { IfOk result (λ new. IsIdle store.new new (D.state disk.new)) }
     ensures spare { OnOk result (1 ≤ spare_of store.new) }
     ensures rests { IsTrue (D.state disk.old).tells → OnOk result (Rests (D.state disk.new) names.now) }
@@ -116,8 +116,8 @@ fn mark<D: SectorDisk>(
     ensures cause { IsCause Trouble.Disk (D.state disk.old).faults (D.state disk.new).faults result }
 {
     let writes = parts.write_count().wrapping_add(1);
-    let new = with_mark(parts, names, false, writes);
+    let header = marked_header(names, false, writes);
     store.begin(alloc, MARK_LOAD)?;
-    change_header(store, disk, parts, &new)?;
-    Ok(new)
+    change_header(store, disk, &parts, &header)?;
+    Ok(Parts { header, ..parts })
 }

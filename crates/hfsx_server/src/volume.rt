@@ -6,12 +6,14 @@ ghost use Rattle.sector_disk.specs.Disk.{SameDisk, SameSink, HasNothingPending, 
 ghost use Rattle.hfs_model.specs.Parts.{OnlyFolders, parts_of};
 ghost use Rattle.sector_disk.specs.Disk.{OnlyReads};
 ghost use Rattle.jnl_replay.specs.Viewing.{shown};
+ghost use Rattle.hfsx_server.specs.Cause.{IsCause};
 ghost use Rattle.hfsx_server.specs.Volume.{HoldsAll};
 
-use hfs_model::Parts;
-use hx_bytes::{Failed, Sector};
+use hfs_model::{Block, Parts};
+use hx_bytes::{Failed, Sector, Trouble};
 use jnl_replay::Peek;
 use sector_disk::{SectorDisk, write_all_then_barrier};
+use std::alloc::Global;
 
 /// The number of sectors of a volume.
 pub const VOLUME_SECTORS: u64 = 16_384;
@@ -35,21 +37,21 @@ pub(crate) const LEAF: u64 = 2_336;
 const ALTERNATE: u64 = 16_382;
 
 /// Reads the parts of what a disk stands for, of which the peek was made.
-pub fn read_parts<D: SectorDisk>(disk: &mut D, peek: &Peek) -> Result<Parts, Failed>
+pub fn read_parts<D: SectorDisk>(alloc: Global, disk: &mut D, peek: &Peek) -> Result<Parts, Trouble>
     requires { (D.state disk.old).sectors ≡ VOLUME_SECTORS }
     ensures parts { IsTrue (D.state disk.old).tells → IfOk result (λ parts. parts ≡ parts_of (shown peek.now (D.state disk.old).sectors (content (D.state disk.old)))) }
     ensures reads { OnlyReads (D.state disk.old) (D.state disk.new) }
-    ensures cause { HasCause (D.state disk.old).faults (D.state disk.new).faults result }
+    ensures cause { IsCause Trouble.Disk (D.state disk.old).faults (D.state disk.new).faults result }
 {
     let header = read_sector(disk, peek, HEADER)?;
     let alternate = read_sector(disk, peek, ALTERNATE)?;
-    let bitmap = read_block(disk, peek, BITMAP)?;
+    let bitmap = read_block(alloc, disk, peek, BITMAP)?;
     let info = read_sector(disk, peek, INFO)?;
     let journal = read_sector(disk, peek, JOURNAL)?;
-    let extents = read_block(disk, peek, EXTENTS)?;
-    let attributes = read_block(disk, peek, ATTRIBUTES)?;
-    let catalog = read_block(disk, peek, CATALOG)?;
-    let leaf = read_block(disk, peek, LEAF)?;
+    let extents = read_block(alloc, disk, peek, EXTENTS)?;
+    let attributes = read_block(alloc, disk, peek, ATTRIBUTES)?;
+    let catalog = read_block(alloc, disk, peek, CATALOG)?;
+    let leaf = read_block(alloc, disk, peek, LEAF)?;
     Ok(Parts {
         header,
         alternate,
@@ -75,11 +77,16 @@ fn read_sector<D: SectorDisk>(disk: &mut D, peek: &Peek, at: u64) -> Result<Sect
 }
 
 // The eight sectors of a block.
-fn read_block<D: SectorDisk>(disk: &mut D, peek: &Peek, first: u64) -> Result<[Sector; 8], Failed>
+fn read_block<D: SectorDisk>(
+    alloc: Global,
+    disk: &mut D,
+    peek: &Peek,
+    first: u64,
+) -> Result<Block, Trouble>
     requires { first + 8 ≤ (D.state disk.old).sectors }
     ensures block { IsTrue (D.state disk.old).tells → IfOk result (λ block. block ≡ slice_range (shown peek.now (D.state disk.old).sectors (content (D.state disk.old))) first (first + 8)) }
     ensures reads { OnlyReads (D.state disk.old) (D.state disk.new) }
-    ensures cause { HasCause (D.state disk.old).faults (D.state disk.new).faults result }
+    ensures cause { IsCause Trouble.Disk (D.state disk.old).faults (D.state disk.new).faults result }
 {
     // The last of them has a number, since the disk counts its sectors by one.
     let _sectors = disk.sectors();
@@ -87,7 +94,7 @@ fn read_block<D: SectorDisk>(disk: &mut D, peek: &Peek, first: u64) -> Result<[S
     for at in 0..8 {
         block[at] = read_sector(disk, peek, first + at as u64)?;
     }
-    Ok(block)
+    Ok(Block::new(alloc, &block)?)
 }
 
 /// Writes all parts of a volume, each behind a barrier.
@@ -99,11 +106,11 @@ pub fn write_parts<D: SectorDisk>(disk: &mut D, parts: &Parts) -> Result<(), Fai
     ensures sink { SameSink (D.state disk.old) (D.state disk.new) }
     ensures cause { HasCause (D.state disk.old).faults (D.state disk.new).faults result }
 {
-    write_all_then_barrier(disk, BITMAP, &parts.bitmap)?;
+    write_all_then_barrier(disk, BITMAP, parts.bitmap.sectors())?;
     write_all_then_barrier(disk, INFO, &[parts.info])?;
     write_all_then_barrier(disk, JOURNAL, &[parts.journal])?;
-    write_all_then_barrier(disk, EXTENTS, &parts.extents)?;
-    write_all_then_barrier(disk, ATTRIBUTES, &parts.attributes)?;
+    write_all_then_barrier(disk, EXTENTS, parts.extents.sectors())?;
+    write_all_then_barrier(disk, ATTRIBUTES, parts.attributes.sectors())?;
     write_all_then_barrier(disk, ALTERNATE, &[parts.alternate])?;
     write_folders(disk, parts)
 }
@@ -117,7 +124,7 @@ fn write_folders<D: SectorDisk>(disk: &mut D, parts: &Parts) -> Result<(), Faile
     ensures sink { SameSink (D.state disk.old) (D.state disk.new) }
     ensures cause { HasCause (D.state disk.old).faults (D.state disk.new).faults result }
 {
-    write_all_then_barrier(disk, CATALOG, &parts.catalog)?;
-    write_all_then_barrier(disk, LEAF, &parts.leaf)?;
+    write_all_then_barrier(disk, CATALOG, parts.catalog.sectors())?;
+    write_all_then_barrier(disk, LEAF, parts.leaf.sectors())?;
     write_all_then_barrier(disk, HEADER, &[parts.header])
 }

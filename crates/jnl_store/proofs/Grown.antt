@@ -1,5 +1,5 @@
 -- A store after a transaction was written behind its live lists, and after a checkpoint and a transaction.
-use Rattle.std.proofs.Common.{◌≡◌, ℕ, ◌+◌, ◌-◌, ◌/◌, ◌≤◌, true, false, List, [], ◌++◌, length, drop, ⊎_elim, sym, ◌∙◌, ap, subst}
+use Rattle.std.proofs.Common.{◌≡◌, ℕ, ◌+◌, ◌-◌, ◌/◌, ◌≤◌, true, false, List, [], ◌++◌, length, drop, ⊎_elim, sym, ◌∙◌, ap, subst, arith}
 use Rattle.sector_disk.specs.Lists.{Content, sector}
 use Rattle.sector_disk.specs.Disk.{State, Candidates, IsDisk, SameDisk, candidates_of, content, content_of, only}
 use Rattle.sector_disk.specs.Space.{AgreesOutside}
@@ -7,7 +7,7 @@ use Rattle.sector_disk.proofs.Candidates.{content_of-only}
 use Rattle.volume_header.specs.Refusal.{header_refusal}
 use Rattle.jnl_format.specs.Header.{header_bytes, header_spelled}
 use Rattle.jnl_format.specs.Checksum.{checksum_of}
-use Rattle.jnl_format.specs.Recovery.{header_of_volume, homes_of, replayed, text_of, with_homes}
+use Rattle.jnl_format.specs.Recovery.{header_of_volume, homes_of, replayed}
 use Rattle.jnl_format.proofs.Headers.{drop_header}
 use Rattle.jnl_format.proofs.Volumes.{same_as, same_parts}
 use Rattle.jnl_format.specs.Keeping.{IsSame}
@@ -19,9 +19,10 @@ use Rattle.jnl_replay.specs.declared.plan.Plan.{Plan}
 use Rattle.jnl_store.specs.Appending.{IsAppended, MayAppend, longer, opened}
 use Rattle.jnl_format.specs.Named.{IsNamed}
 use Rattle.jnl_store.specs.Batch.{AreOnce, names}
-use Rattle.jnl_store.specs.InUse.{blank, keeps_lists, used_of}
+use Rattle.jnl_store.specs.InUse.{keeps_lists, used_of}
 use Rattle.jnl_store.specs.Journal.{IsClosed, are_open}
-use Rattle.jnl_store.specs.Lists.{text_sectors}
+use Rattle.jnl_store.specs.Lists.{lists_homes, text_sectors}
+use Rattle.jnl_store.specs.Newest.{newest, or_later}
 use Rattle.jnl_store.specs.Overlay.{overlay}
 use Rattle.jnl_store.specs.Standing.{RingDurable, StandsFor}
 use Rattle.jnl_store.specs.Store.{KeepsRingOn, content_over, durable_of}
@@ -39,7 +40,7 @@ closed_over old_plan new_plan s place info shut =
 
 pub settles_grown : (store new : Store) (s0 s1 : State) → KeepsRingOn store s0 → IsDisk s0 → SameDisk s0 s1 → MayAppend store.plan store.batch.live store.batch.all s0 → AreOnce store.batch.all → FitsPlan s0.sectors store.plan
     → used_of store.plan / 512 + text_sectors store.plan.header.blhdr (length store.batch.all) ≤ store.plan.info.size / 512 - 2 → IsAppended store.plan store.batch.all s0 s1 → new.plan ≡ longer store.plan store.batch.all → new.batch.all ≡ [] → new.batch.kept ≡ []
-    → ((c : Content) → overlay new.batch.live c ≡ overlay store.batch.all (overlay store.batch.live c)) → RingDurable store new s0 s1 (content_over store (content s0))
+    → ((at : ℕ) → newest new.batch.live at ≡ or_later (newest (lists_homes store.plan.header.blhdr (used_of store.plan) 0 store.batch.all) at) (newest store.batch.live at)) → RingDurable store new s0 s1 (content_over store (content s0))
 unfolding durable_of
 settles_grown store new s0 s1 kept disk same may once fits room a plan_is none none_kept joined =
     let plan = store.plan in
@@ -53,8 +54,9 @@ settles_grown store new s0 s1 kept disk same may once fits room a plan_is none n
     let lists : KeepsLists (longer plan puts) new.batch.live s1 = record {
       text = text;
       named = λ s named. ap (λ (d : Candidates). length (candidates_of d s)) a.settled ∙ only_length e s (longer_inside plan puts s0 b a.listed a.whole a.puts_in s1 a.settled s named);
-      table = subst (λ (d : Content). overlay new.batch.live (blank (length d)) ≡ with_homes (text_of (journal_of (longer plan puts)) d) (homes_of (journal_of (longer plan puts)) d) (blank (length d))) (sym is)
-          (opened_table plan puts s0 b a.listed a.whole a.puts_in store.batch.live new.batch.live (length e) (subst (λ n. overlay store.batch.live (blank n) ≡ with_homes (text_of (journal_of plan) (content s0)) (homes_of (journal_of plan) (content s0)) (blank n)) (sym long) k.table) joined);
+      table = λ at inside.
+          let here : newest new.batch.live at ≡ newest (homes_of (journal_of (longer plan puts)) e) at = opened_table plan puts s0 b a.listed a.whole a.puts_in store.batch.live new.batch.live k.table joined at (omega (arith, inside, ap length is)) in
+          here ∙ ap (λ (d : Content). newest (homes_of (journal_of (longer plan puts)) d) at) (sym is);
     } in
     let now : replayed (journal_of new.plan) (content s1) ≡ replayed (journal_of (longer plan puts)) e = ap (λ (q : Plan). replayed (journal_of q) (content s1)) plan_is ∙ ap (replayed (journal_of (longer plan puts))) is in
     record {

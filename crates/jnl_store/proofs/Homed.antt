@@ -7,7 +7,7 @@ use Rattle.sector_disk.specs.Disk.{State, IsDisk, Mixes, SameDisk, candidates_of
 use Rattle.sector_disk.specs.Space.{AgreesOutside}
 use Rattle.sector_disk.proofs.Candidates.{content_of-only}
 use Rattle.sector_disk.proofs.Stages.{length-only}
-use Rattle.jnl_format.specs.Recovery.{homes_of, replayed, text_of, with_homes}
+use Rattle.jnl_format.specs.Recovery.{homes_of, replayed, text_of}
 use Rattle.jnl_format.specs.Text.{text_homes}
 use Rattle.jnl_format.specs.declared.blocks.Home.{Home}
 use Rattle.jnl_format.specs.declared.structures.Info.{Info}
@@ -19,8 +19,9 @@ use Rattle.jnl_replay.specs.Plan.{FitsPlan, journal_of}
 use Rattle.jnl_replay.specs.declared.plan.Plan.{Plan}
 use Rattle.jnl_replay.proofs.Stages.{empty_text}
 use Rattle.jnl_store.specs.Batch.{Staged, names}
-use Rattle.jnl_store.specs.InUse.{blank, keeps_lists, used_of}
+use Rattle.jnl_store.specs.InUse.{keeps_lists, used_of}
 use Rattle.jnl_store.specs.Journal.{IsAtRest, IsClosed, are_open}
+use Rattle.jnl_store.specs.Newest.{newest}
 use Rattle.jnl_store.specs.Plan.{rested}
 use Rattle.jnl_store.specs.Standing.{RingCheckpoints, StandsFor}
 use Rattle.jnl_store.specs.Store.{KeepsRingOn, durable_of}
@@ -52,7 +53,7 @@ rest_lists plan rest disk k =
         stable = λ i less. absurd (omega (arith, less, used));
       };
       named = λ s named. absurd (subst (λ (hs : List Home). IsNamed hs s) homes named);
-      table = ap (λ (hs : List Home). with_homes (text_of (journal_of plan) (content disk)) hs (blank (length (content disk)))) (sym homes);
+      table = λ at inside. ap (λ (hs : List Home). newest hs at) (sym homes);
     }
 
 -- a content with one sector replaced is an image while that is written

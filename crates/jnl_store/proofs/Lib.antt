@@ -1,5 +1,7 @@
 pub mod Batches
 pub mod Tables
+pub mod Newest
+pub mod Places
 pub mod Cached
 pub mod Slots
 pub mod ListsBack
@@ -31,6 +33,7 @@ pub mod RingStages
 pub mod RingCommits
 pub mod RingHome
 pub mod RingKept
+pub mod LiveText
 pub mod Changed
 pub mod Homed
 pub mod Grown

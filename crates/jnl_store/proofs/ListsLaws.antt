@@ -15,7 +15,7 @@ use Rattle.jnl_format.specs.declared.blocks.Home.{Home}
 use Rattle.jnl_format.specs.declared.blocks.Volume.{Volume}
 use Rattle.jnl_format.specs.declared.structures.ListHead.{ListHead}
 use Rattle.jnl_format.proofs.Lists.{IsList, list_from, none_bad, first_homes, no_homes}
-use Rattle.jnl_store.specs.Lists.{entries_bytes, blocks_bytes, list_header, list_text, lists_of, lists_text, list_count, most_puts, text_sectors, head_of, first_entry, IsForm, IsFitPut}
+use Rattle.jnl_store.specs.Lists.{entries_bytes, blocks_bytes, list_header, list_text, lists_homes, lists_of, lists_text, list_count, most_puts, text_sectors, head_of, first_entry, IsForm, IsFitPut}
 use Rattle.jnl_store.specs.Overlay.{overlay}
 use Rattle.jnl_store.specs.declared.form.ListForm.{ListForm}
 use Rattle.jnl_store.specs.declared.puts.Put.{Put}
@@ -23,7 +23,7 @@ use Rattle.jnl_store.proofs.ListsBack.{head_back, head_accepted}
 use Rattle.jnl_store.proofs.ListsBytes.{bytes_behind}
 use Rattle.jnl_store.proofs.ListsCount.{IsCount, count_is}
 use Rattle.jnl_store.proofs.ListsHeader.{length-list_bytes}
-use Rattle.jnl_store.proofs.ListsStanding.{IsSmall, Stand, stand, blocks_good, blocks_size, homes_are}
+use Rattle.jnl_store.proofs.ListsStanding.{IsSmall, Stand, stand, blocks_good, blocks_size, homes_are, homes_listed, list_begins}
 use Rattle.jnl_store.proofs.ListsText.{length-list_header, length-list_text, length-lists_of, some_puts}
 
 pub overlay-append : (a b : List Put) (content : Content) → overlay (a ++ b) content ≡ overlay b (overlay a content)
@@ -155,6 +155,42 @@ module _ (form : ListForm) (is : IsForm form) where
       ap (λ b. cond b None (cond (not (is_list volume form.order form.blhdr text at)) (Some at) (bad_list volume form.order form.blhdr text fuel (at + head.used)))) (lt-leb (length text) at s.inside)
       ∙ ap (λ b. cond (not b) (Some at) (bad_list volume form.order form.blhdr text fuel (at + head.used))) good
       ∙ none_is_bad volume fuel more (drop most puts) s.before text (at + head.used) s.count (All-drop (IsFitPut volume) most puts fit) (All-drop IsSmall most puts small) s.behind (omega (arith, s.place, used))
+
+  -- where a list has an entry left, no put is behind it
+  list_ends : (place : ℕ) (puts : List Put) → lists_homes form.blhdr place 0 (drop most puts) ≡ lists_homes form.blhdr place (most - length (take most puts)) (drop most puts)
+  list_ends place puts = elim (cases_lt (length puts) most) [
+    | inl few ↦
+        let none : drop most puts ≡ [] = nil_from_length (drop most puts) (omega (arith, few, length-drop most puts)) in
+        ap (λ (l : List Put). lists_homes form.blhdr place 0 l) none ∙ sym (ap (λ (l : List Put). lists_homes form.blhdr place (most - length (take most puts)) l) none)
+    | inr full ↦ ap (λ n. lists_homes form.blhdr place n (drop most puts)) (let e : 0 ≡ most - length (take most puts) = omega (arith, full, length-take most puts) in e)
+  ]
+
+  -- the homes of all of them, in order
+  pub all_listed : (volume : Volume) (fuel count : ℕ) (puts : List Put) (before text : List ℕ) (at : ℕ) → volume.sectors < 2 ^ 64 → count ≤ fuel → IsCount most (length puts) count → All (IsFitPut volume) puts → All IsSmall puts
+      → text ≡ before ++ lists_of form.order form.blhdr count puts → length before ≡ at → text_homes form.order form.blhdr text fuel at ≡ lists_homes form.blhdr at 0 puts
+  all_listed volume fuel zero puts before text at sectors enough number fit small whole at_is =
+      no_homes form.order form.blhdr text fuel at (omega (arith, ap length whole, length-append before [], at_is))
+      ∙ ap (λ (l : List Put). lists_homes form.blhdr at 0 l) (sym (nil_from_length puts (omega (arith, number.enough))))
+  all_listed volume zero (suc more) puts before text at sectors enough number fit small whole at_is = absurd (omega (arith, enough))
+  all_listed volume (suc fuel) (suc more) puts before text at sectors enough number fit small whole at_is =
+      let s = splits before text at more puts number small whole at_is in
+      let here = take most puts in
+      let o = form.order in
+      let blhdr = form.blhdr in
+      let head = head_at o text at in
+      let used : head.used ≡ blhdr + 512 * length here = ap (λ (x : ListHead). x.used) s.first.head in
+      let count : head.entries - 1 ≡ length here = ap (λ (x : ListHead). x.entries - 1) s.first.head ∙ omega arith in
+      let next = at + head.used in
+      let rest = text_homes o blhdr text fuel next in
+      let entries = entry_homes o text (at + 32) (at + blhdr) (length here) in
+      first_homes o blhdr text fuel at s.inside
+      ∙ ap (λ n. entry_homes o text (at + 32) (at + blhdr) n ++ rest) count
+      ∙ ap (λ (hs : List Home). entries ++ hs) (all_listed volume fuel more (drop most puts) s.before text next sectors (omega (arith, enough)) s.count (All-drop (IsFitPut volume) most puts fit) (All-drop IsSmall most puts small) s.behind (omega (arith, s.place, used)))
+      ∙ ap (λ n. entries ++ lists_homes blhdr n 0 (drop most puts)) (let e : at + head.used ≡ at + blhdr + 512 * length here = omega (arith, used) in e)
+      ∙ ap (λ (hs : List Home). entries ++ hs) (list_ends (at + blhdr + 512 * length here) puts)
+      ∙ homes_listed volume o text blhdr here (drop most puts) (at + 32) (at + blhdr) most sectors (omega (arith, length-take most puts)) (All-take (IsFitPut volume) most puts fit) s.first.there
+      ∙ ap (λ (l : List Put). lists_homes blhdr (at + blhdr) most l) (take-append-drop most puts)
+      ∙ sym (list_begins blhdr at puts (some_puts form is))
 
   -- all of them stand for the puts
   pub all_stand : (volume : Volume) (fuel count : ℕ) (puts : List Put) (before text : List ℕ) (at : ℕ) (content : Content) → volume.sectors < 2 ^ 64 → count ≤ fuel → IsCount most (length puts) count → All (IsFitPut volume) puts → All IsSmall puts

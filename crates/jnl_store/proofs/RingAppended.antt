@@ -16,13 +16,13 @@ use Rattle.jnl_format.specs.declared.structures.Entry.{Entry}
 use Rattle.jnl_format.specs.declared.structures.ListHead.{ListHead}
 use Rattle.jnl_format.specs.Named.{IsGoodHome, Each}
 use Rattle.jnl_format.proofs.Lists.{IsList, list_from, first_list, first_homes, no_homes, good_text}
-use Rattle.jnl_store.specs.Lists.{IsForm, IsFitPut, lists_text, list_count, most_puts}
+use Rattle.jnl_store.specs.Lists.{IsForm, IsFitPut, lists_homes, lists_text, list_count, most_puts}
 use Rattle.jnl_store.specs.Overlay.{overlay}
 use Rattle.jnl_store.specs.declared.form.ListForm.{ListForm}
 use Rattle.jnl_store.specs.declared.puts.Put.{Put}
 use Rattle.jnl_store.proofs.ListsBytes.{bytes_front}
 use Rattle.jnl_store.proofs.ListsCount.{count_is}
-use Rattle.jnl_store.proofs.ListsLaws.{none_is_bad, all_stand, with_homes-append, are_small}
+use Rattle.jnl_store.proofs.ListsLaws.{none_is_bad, all_listed, all_stand, with_homes-append, are_small}
 use Rattle.jnl_store.proofs.ListsText.{length-lists_text, some_puts}
 
 -- homes whose bytes lie in the front have them in the whole
@@ -184,3 +184,15 @@ module _ (volume : Volume) (form : ListForm) (puts : List Put) (is : IsForm form
       ∙ ap (λ (d : Content). with_homes text more d) (homes_front volume a (lists_text form puts) front c (good_text volume form.order form.blhdr a (length a) 0 good))
       ∙ all_stand form is volume whole_walk.left count puts a text (length a) (with_homes a front c) sectors (omega (arith, whole_walk.enough, length-lists_text form is puts, one))
       (count_is (most_puts form.blhdr) (length puts) (some_puts form is)) fit (are_small volume puts sectors fit) refl refl
+
+  -- and their homes follow its homes
+  pub appended_homes : (let text = a ++ lists_text form puts in text_homes form.order form.blhdr text (length text) 0 ≡ text_homes form.order form.blhdr a (length a) 0 ++ lists_homes form.blhdr (length a) 0 puts)
+  appended_homes =
+      let text = a ++ lists_text form puts in
+      let count = list_count form.blhdr (length puts) in
+      let one : count * 1 ≤ count * (form.blhdr / 512) = mul-le-mul_left count (omega (arith, is.least)) in
+      let front = text_homes form.order form.blhdr a (length a) 0 in
+      whole_walk.homes
+      ∙ ap (λ (hs : List Home). front ++ hs)
+      (all_listed form is volume whole_walk.left count puts a text (length a) sectors (omega (arith, whole_walk.enough, length-lists_text form is puts, one))
+      (count_is (most_puts form.blhdr) (length puts) (some_puts form is)) fit (are_small volume puts sectors fit) refl refl)

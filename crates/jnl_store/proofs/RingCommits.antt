@@ -12,6 +12,7 @@ use Rattle.sector_disk.proofs.Stages.{leaves_both, leaves_with, mixes_size}
 use Rattle.jnl_format.specs.Header.{header_bytes}
 use Rattle.jnl_format.specs.Ring.{offset_after, ring_text}
 use Rattle.jnl_format.specs.Text.{bad_list, text_homes}
+use Rattle.jnl_format.specs.declared.blocks.Home.{Home}
 use Rattle.jnl_format.specs.Recovery.{header_of_volume, homes_of, info_in, journal_in, journaling_version, foreign_fault, or_else, replayed, text_fault, text_of, volume_of, with_homes}
 use Rattle.jnl_format.specs.declared.structures.JnlRefusal.TheVariants.{BadList}
 use Rattle.jnl_format.specs.Info.{holds, info_fault, info_of}
@@ -36,9 +37,10 @@ use Rattle.jnl_replay.proofs.Checks.{place_of}
 use Rattle.jnl_replay.proofs.Stages.{replayed_still}
 use Rattle.jnl_store.specs.Batch.{AreOnce, names}
 use Rattle.jnl_store.specs.Appending.{MayAppend, end_after, longer, opened}
-use Rattle.jnl_store.specs.InUse.{IsInUse, blank, used_of}
+use Rattle.jnl_store.specs.InUse.{IsInUse, used_of}
 use Rattle.jnl_store.specs.Journal.{IsClosed, IsSpilled, are_open}
-use Rattle.jnl_store.specs.Lists.{IsFitPut, IsForm, lists_sectors, lists_text, text_sectors}
+use Rattle.jnl_store.specs.Lists.{IsFitPut, IsForm, lists_homes, lists_sectors, lists_text, text_sectors}
+use Rattle.jnl_store.specs.Newest.{newest, or_later}
 use Rattle.jnl_store.specs.Overlay.{overlay}
 use Rattle.jnl_store.specs.Plan.{form_of, header_sector_of, span_of}
 use Rattle.jnl_store.specs.Standing.{IsInForm, StandsFor, StandsForOne}
@@ -50,9 +52,10 @@ use Rattle.jnl_store.proofs.ListsSectors.{concat-lists_sectors, length-lists_sec
 use Rattle.jnl_store.proofs.Live.{fit_all, foreign_none, keeps_from, ring_same, same_from}
 use Rattle.jnl_store.proofs.One.{length-one, mixed_else, mixed_here, one_else, one_here}
 use Rattle.jnl_store.proofs.Quiet.{found_still, header_found, info_whole, not_info, old_is, volume_still}
-use Rattle.jnl_store.proofs.RingAppended.{appended_good, appended_overlay}
+use Rattle.jnl_store.proofs.RingAppended.{appended_good, appended_homes, appended_overlay}
 use Rattle.jnl_store.proofs.RingHomes.{homes_agree, named_back}
-use Rattle.jnl_store.proofs.RingKept.{lists_parts}
+use Rattle.jnl_store.proofs.Newest.{newest_append}
+use Rattle.jnl_store.proofs.RingKept.{lists_parts, long_text}
 use Rattle.jnl_store.proofs.RingStages.{KeepsText, end_in, good, has_content, header_stays, image_agrees, image_stands, length-c, listed_agrees, listed_stands, span_in_use, start_in}
 
 -- before the transaction
@@ -314,6 +317,15 @@ module _ (plan : Plan) (puts : List Put) (s0 : State) (b : Begins plan puts s0) 
             ap (λ (t : List ℕ). with_homes t (text_homes plan.header.order plan.header.blhdr t (length t) 0) d) text_is
             ∙ appended_overlay v (form_of plan) puts form small fit (text_of (journal_of plan) (content s0)) old_good d
 
+        -- and their homes follow theirs
+        pub new_listed : homes_of (journal_of (longer plan puts)) image ≡ homes_of (journal_of plan) (content s0) ++ lists_homes plan.header.blhdr (used_of plan) 0 puts
+        new_listed =
+            let v = volume_of plan.place.info_sector (journal_of (longer plan puts)) image in
+            let front = homes_of (journal_of plan) (content s0) in
+            ap (λ (t : List ℕ). text_homes plan.header.order plan.header.blhdr t (length t) 0) text_is
+            ∙ appended_homes v (form_of plan) puts form small fit (text_of (journal_of plan) (content s0)) old_good
+            ∙ ap (λ n. front ++ lists_homes plan.header.blhdr n 0 puts) (long_text plan b.rest s0 b.disk b.keeps)
+
         pub new_stands : StandsFor plan (content s0) image (replayed (journal_of (longer plan puts)) image)
         new_stands = record {
           stands =
@@ -379,9 +391,14 @@ module _ (plan : Plan) (puts : List Put) (s0 : State) (b : Begins plan puts s0) 
     opened_agrees = new_agrees (opened plan puts c1) opened_size opened_else opened_whole opened_here
 
     -- what a table has to have then
-    pub opened_table : (live new : List Put) (n : ℕ) → overlay live (blank n) ≡ with_homes (text_of (journal_of plan) (content s0)) (homes_of (journal_of plan) (content s0)) (blank n) → ((d : Content) → overlay new d ≡ overlay puts (overlay live d))
-        → overlay new (blank n) ≡ with_homes (text_of (journal_of (longer plan puts)) (opened plan puts c1)) (homes_of (journal_of (longer plan puts)) (opened plan puts c1)) (blank n)
-    opened_table live new n table joined = joined (blank n) ∙ ap (overlay puts) table ∙ sym (new_homes (opened plan puts c1) opened_size opened_else opened_whole opened_here (blank n))
+    pub opened_table : (live new : List Home) → ((at : ℕ) → at < length (content s0) → newest live at ≡ newest (homes_of (journal_of plan) (content s0)) at)
+        → ((at : ℕ) → newest new at ≡ or_later (newest (lists_homes plan.header.blhdr (used_of plan) 0 puts) at) (newest live at))
+        → (at : ℕ) → at < length (opened plan puts c1) → newest new at ≡ newest (homes_of (journal_of (longer plan puts)) (opened plan puts c1)) at
+    opened_table live new table joined at inside =
+        let more = lists_homes plan.header.blhdr (used_of plan) 0 puts in
+        let front = homes_of (journal_of plan) (content s0) in
+        joined at ∙ ap (or_later (newest more at)) (table at (omega (arith, inside, opened_size, size1)))
+        ∙ sym (ap (λ (hs : List Home). newest hs at) (new_listed (opened plan puts c1) opened_size opened_else opened_whole opened_here) ∙ newest_append front more at)
 
     opened_holds : HoldsJournal (longer plan puts) (opened plan puts c1)
     opened_holds =
@@ -470,7 +487,7 @@ stage_header plan puts s0 s1 s2 b whole puts_in settled first sink second =
     (λ image m. image_header plan puts s0 b (content s1) whole puts_in image (subst (λ (d : Candidates). Mixes d (plan.info.offset / 512) (header_sector_of (longer plan puts) (content s1) ∷ []) image) settled m))
 
 -- what a transaction begins with
-pub begins : (plan : Plan) (live puts : List Put) (s0 : State) → IsInUse plan → MayAppend plan live puts s0 → IsDisk s0 → AreOnce puts → FitsPlan s0.sectors plan → used_of plan / 512 + text_sectors plan.header.blhdr (length puts) ≤ plan.info.size / 512 - 2 → Begins plan puts s0
+pub begins : (plan : Plan) (live : List Home) (puts : List Put) (s0 : State) → IsInUse plan → MayAppend plan live puts s0 → IsDisk s0 → AreOnce puts → FitsPlan s0.sectors plan → used_of plan / 512 + text_sectors plan.header.blhdr (length puts) ≤ plan.info.size / 512 - 2 → Begins plan puts s0
 begins plan live puts s0 rest may disk once fits room = record {
   rest = rest;
   tells = may.tells;

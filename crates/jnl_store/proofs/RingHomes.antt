@@ -1,7 +1,7 @@
--- Homes written over contents that differ, and a table of puts that does the same.
-use Rattle.std.proofs.Common.{◌≡◌, ◌≢◌, ◌⊎◌, ℕ, ◌<◌, true, ◌||◌, List, [], ◌∷◌, length, replicate, set, inl, inr, ⊎_elim, refl, sym, ◌∙◌, ap, subst, arith, eqb, length-set, get_or-set_same, get_or-set_other}
-use Rattle.std.proofs.lemmas.Bool.{cases_eq, cases_lt, cases_Bool, eqb-true, true≢false}
-use Rattle.std.proofs.lemmas.List.{ext_get_or, get_or-replicate, length-replicate, length-take-le, get_or_past}
+-- Homes written over contents that differ.
+use Rattle.std.proofs.Common.{◌≡◌, ◌≢◌, ◌⊎◌, ℕ, ◌<◌, true, List, [], ◌∷◌, length, replicate, set, inl, inr, ⊎_elim, refl, sym, ◌∙◌, ap, subst, arith, length-set, get_or-set_same, get_or-set_other}
+use Rattle.std.proofs.lemmas.Bool.{cases_eq, cases_lt, cases_Bool}
+use Rattle.std.proofs.lemmas.List.{get_or-replicate, length-replicate, length-take-le, get_or_past}
 use Rattle.sector_disk.specs.Lists.{Content, sector}
 use Rattle.sector_disk.specs.Space.{AgreesOutside}
 use Rattle.jnl_format.specs.Recovery.{with_homes}
@@ -9,13 +9,11 @@ use Rattle.jnl_format.specs.Text.{bytes_at}
 use Rattle.jnl_format.specs.declared.blocks.Home.{Home}
 use Rattle.jnl_format.specs.declared.blocks.Volume.{Volume}
 use Rattle.jnl_format.specs.Named.{Each, IsGoodHome}
-use Rattle.jnl_format.proofs.Mixing.{home_has, length-with_homes, mixes_with_homes, named_home}
+use Rattle.jnl_format.proofs.Mixing.{home_has, mixes_with_homes, named_home}
 use Rattle.jnl_format.specs.Named.{IsHomeOf, IsNamed}
 use Rattle.std.proofs.Common.{length-drop}
 use Rattle.jnl_store.specs.Batch.{names}
 use Rattle.jnl_store.specs.Overlay.{overlay}
-use Rattle.jnl_store.specs.InUse.{blank}
-use Rattle.jnl_store.specs.SpaceLaws.{length-overlay}
 use Rattle.jnl_store.specs.declared.puts.Put.{Put}
 use Rattle.jnl_store.proofs.Batches.{overlay-other}
 
@@ -53,28 +51,6 @@ named_value text homes old new s size named =
     }) in
     ⊎_elim (λ e. e) (λ n. absurd (n refl)) (a.each s)
 
--- the same of puts
-pub put_value : (puts : List Put) (old new : Content) (s : ℕ) → length new ≡ length old → names puts s ≡ true → sector (overlay puts new) s ≡ sector (overlay puts old) s
-put_value [] old new s size h = absurd (cc h)
-put_value (p ∷ ps) old new s size h = elim (cases_Bool (names ps s)) [
-  | inl later ↦ put_value ps (set old p.at p.bytes) (set new p.at p.bytes) s (length-set new p.at p.bytes ∙ size ∙ sym (length-set old p.at p.bytes)) later
-  | inr alone ↦
-      let here : s ≡ p.at = elim (cases_Bool (eqb s p.at)) [ inl t ↦ eqb-true s p.at t | inr f ↦ absurd (true≢false (sym h ∙ ap (λ b. b || names ps s) f ∙ alone)) ] in
-      overlay-other ps (set new p.at p.bytes) s alone
-      ∙ subst (λ k. sector (set new p.at p.bytes) k ≡ sector (set old p.at p.bytes) k) (sym here) (set_both old new p.at p.bytes size)
-      ∙ sym (overlay-other ps (set old p.at p.bytes) s alone)
-]
-
-pub put_long : (puts : List Put) (c : Content) (s : ℕ) → s < length c → names puts s ≡ true → length (sector (overlay puts c) s) ≡ 512
-put_long [] c s inside h = absurd (cc h)
-put_long (p ∷ ps) c s inside h = elim (cases_Bool (names ps s)) [
-  | inl later ↦ put_long ps (set c p.at p.bytes) s (omega (arith, inside, length-set c p.at p.bytes)) later
-  | inr alone ↦
-      let here : s ≡ p.at = elim (cases_Bool (eqb s p.at)) [ inl t ↦ eqb-true s p.at t | inr f ↦ absurd (true≢false (sym h ∙ ap (λ b. b || names ps s) f ∙ alone)) ] in
-      ap length (overlay-other ps (set c p.at p.bytes) s alone ∙ ap (sector (set c p.at p.bytes)) here ∙ get_or-set_same c p.at p.bytes [] (omega (arith, inside, here)))
-      ∙ p.whole
-]
-
 -- a sector is as it was, or one of the homes is of it
 homes_else : (text : List ℕ) (homes : List Home) (c : Content) (s : ℕ) → (sector (with_homes text homes c) s ≡ sector c s) ⊎ IsNamed homes s
 homes_else text homes c s = ⊎_elim (λ e. inl e) (λ h. inr (named_home text homes s (sector (with_homes text homes c) s) h)) ((mixes_with_homes text homes c).each s)
@@ -105,34 +81,3 @@ pub home_long : (volume : Volume) (text : List ℕ) (homes : List Home) (s : ℕ
 home_long volume text homes s value all h =
     let Q : List ℕ → Type 0 = λ v. length v ≡ 512 in
     home_has (IsGoodHome volume text) Q text homes s value all (λ home good at. length-take-le 512 _ (omega (arith, length-drop home.place text, good.placed))) h
-
-blank_none : (n s : ℕ) → s < n → length (sector (blank n) s) ≡ 0
-blank_none n s below = let none : List ℕ = [] in ap (λ (v : List ℕ). length v) (get_or-replicate n s none none below)
-
--- What a table of puts does to blank sectors as the homes do, it does to any.
-pub table_all : (volume : Volume) (text : List ℕ) (homes : List Home) (puts : List Put) (n : ℕ) (c : Content) → length c ≡ n → Each (IsGoodHome volume text) homes → overlay puts (blank n) ≡ with_homes text homes (blank n) → overlay puts c ≡ with_homes text homes c
-table_all volume text homes puts n c size all same =
-    let none : List ℕ = [] in
-    let long : length (blank n) ≡ n = length-replicate n none in
-    let clear : (s : ℕ) → s < n → sector (with_homes text homes (blank n)) s ≡ sector (blank n) s → names puts s ≡ true → ⊥ = λ s below e named.
-    let eight : length (sector (overlay puts (blank n)) s) ≡ 512 = put_long puts (blank n) s (omega (arith, below, long)) named in
-    let zero : length (sector (overlay puts (blank n)) s) ≡ 0 = ap (λ (d : Content). length (sector d s)) same ∙ ap (λ (v : List ℕ). length v) e ∙ blank_none n s below in
-    omega (arith, eight, zero) in
-    ext_get_or [] (overlay puts c) (with_homes text homes c) (length-overlay puts c ∙ sym (length-with_homes text homes c)) (λ s inside.
-    let below : s < n = omega (arith, inside, length-overlay puts c, size) in
-    elim (cases_Bool (names puts s)) [
-      | inl named ↦ elim ((mixes_with_homes text homes (blank n)).each s) [
-        | inl e ↦ absurd (clear s below e named)
-        | inr h ↦
-            put_value puts (blank n) c s (size ∙ sym long) named ∙ ap (λ (d : Content). sector d s) same
-            ∙ sym (named_value text homes (blank n) c s (size ∙ sym long) (named_home text homes s (sector (with_homes text homes (blank n)) s) h))
-      ]
-      | inr other ↦ elim ((mixes_with_homes text homes c).each s) [
-        | inl e ↦ overlay-other puts c s other ∙ sym e
-        | inr h ↦
-            let again = named_value text homes (blank n) c s (size ∙ sym long) (named_home text homes s (sector (with_homes text homes c) s) h) in
-            let eight : length (sector (with_homes text homes c) s) ≡ 512 = home_long volume text homes s (sector (with_homes text homes c) s) all h in
-            let zero : length (sector (with_homes text homes c) s) ≡ 0 = ap (λ (v : List ℕ). length v) (again ∙ ap (λ (d : Content). sector d s) (sym same) ∙ overlay-other puts (blank n) s other) ∙ blank_none n s below in
-            absurd (omega (arith, eight, zero))
-      ]
-    ])

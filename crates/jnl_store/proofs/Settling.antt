@@ -9,8 +9,9 @@ use Rattle.sector_disk.specs.Disk.{State, Candidates, IsDisk, IsImage, IsWhole, 
 use Rattle.sector_disk.proofs.Candidates.{content_of-only}
 use Rattle.sector_disk.proofs.Passing.{none_passes}
 use Rattle.sector_disk.proofs.Stages.{leaves_with}
-use Rattle.jnl_format.specs.Recovery.{homes_of, replayed, text_fault, text_of, with_homes}
+use Rattle.jnl_format.specs.Recovery.{homes_of, replayed, text_fault}
 use Rattle.jnl_format.specs.Named.{IsNamed}
+use Rattle.jnl_format.specs.declared.blocks.Home.{Home}
 use Rattle.jnl_ring.specs.Span.{sector_after}
 use Rattle.jnl_ring.proofs.RingLaws.{barrier_leaves}
 use Rattle.jnl_replay.specs.Plan.{FitsPlan, journal_of}
@@ -18,9 +19,9 @@ use Rattle.jnl_replay.specs.declared.plan.Place.{Place}
 use Rattle.jnl_replay.specs.declared.plan.Plan.{Plan}
 use Rattle.jnl_format.specs.declared.structures.Info.{Info}
 use Rattle.jnl_store.specs.Batch.{Staged, names}
-use Rattle.jnl_store.specs.InUse.{blank, keeps_lists}
+use Rattle.jnl_store.specs.InUse.{keeps_lists}
 use Rattle.jnl_store.specs.Journal.{are_open}
-use Rattle.jnl_store.specs.Overlay.{overlay}
+use Rattle.jnl_store.specs.Newest.{newest}
 use Rattle.jnl_store.specs.Plan.{span_of}
 use Rattle.jnl_store.specs.Standing.{RingDurable, StandsBetween, StandsFor, StandsForDurable, StandsForEither}
 use Rattle.jnl_store.specs.Store.{KeepsRing, KeepsRingOn, SameJournal, durable_of, is_kept}
@@ -93,7 +94,7 @@ inside_by candidates at one = elim (cases_lt at (length candidates)) [
 ]
 
 -- what is live stays so over a barrier
-pub lists_settled : (plan : Plan) (live : List Put) (s0 s1 : State) → KeepsLists plan live s0 → s1.candidates ≡ only (content s0) → KeepsLists plan live s1
+pub lists_settled : (plan : Plan) (live : List Home) (s0 s1 : State) → KeepsLists plan live s0 → s1.candidates ≡ only (content s0) → KeepsLists plan live s1
 lists_settled plan live s0 s1 k settled =
     let c0 = content s0 in
     let j = k.text.journal in
@@ -106,7 +107,7 @@ lists_settled plan live s0 s1 k settled =
         stable = λ i less. one (sector_after (span_of plan) plan.header.start i) (k.text.stable i less);
       };
       named = λ s named. one s (k.named s (subst (λ (d : Content). IsNamed (homes_of (journal_of plan) d) s) is named));
-      table = subst (λ (d : Content). overlay live (blank (length d)) ≡ with_homes (text_of (journal_of plan) d) (homes_of (journal_of plan) d) (blank (length d))) (sym is) k.table;
+      table = λ at inside. k.table at (omega (arith, inside, ap length is)) ∙ ap (λ (d : Content). newest (homes_of (journal_of plan) d) at) (sym is);
     }
 
 -- nothing is pending any more

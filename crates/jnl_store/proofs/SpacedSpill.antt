@@ -2,7 +2,7 @@
 use Rattle.std.proofs.Common.{◌≡◌, ◌≢◌, ◌⊎◌, ℕ, ◌/◌, ◌<◌, Bool, true, false, ◌&&◌, List, [], ◌∷◌, ◌++◌, inl, inr, ⊎_elim, length, set, refl, sym, ◌∙◌, ap, subst, arith, length-append, length-set, get_or-set_same, get_or-set_other}
 use Rattle.std.specs.Cmp.{both_ways}
 use Rattle.std.specs.Prelude.{IsTrue, ◌↔◌}
-use Rattle.std.proofs.lemmas.Bool.{and_from, and_parts, cases_eq, cases_lt, true≢false}
+use Rattle.std.proofs.lemmas.Bool.{and_from, and_parts, cases_eq, cases_lt}
 use Rattle.std.proofs.lemmas.List.{get_or-map, set_comm, set-get_or, set-set, set_past}
 use Rattle.sector_disk.specs.Disk.{Candidates, IsDisk, MayHaveWritten, State, candidates_of, content, content_of, with_candidate}
 use Rattle.sector_disk.specs.Lists.{Content, last}
@@ -24,7 +24,6 @@ use Rattle.jnl_store.specs.Overlay.{overlay}
 use Rattle.jnl_store.specs.Plan.{span_of}
 use Rattle.jnl_store.specs.Spaces.{over}
 use Rattle.jnl_store.specs.Store.{content_over, durable_of}
-use Rattle.jnl_store.specs.declared.puts.Put.{Put}
 use Rattle.jnl_store.specs.declared.store.Store.{Store}
 use Rattle.jnl_store.proofs.Batches.{overlay-apart}
 use Rattle.jnl_store.proofs.Images.{closed_info, closed_own}
@@ -84,7 +83,7 @@ free_of plan rest disk at open_at no_header idle = record {
 }
 
 -- A sector with several candidates is none of these, where all is kept.
-several_free : (plan : Plan) (live : List Put) (disk : State) (at : ℕ) → KeepsLists plan live disk → 1 < length (candidates_of disk.candidates at) → IsFree plan disk at
+several_free : (plan : Plan) (live : List Home) (disk : State) (at : ℕ) → KeepsLists plan live disk → 1 < length (candidates_of disk.candidates at) → IsFree plan disk at
 several_free plan live disk at k several =
     let not_one : (s : ℕ) → length (candidates_of disk.candidates s) ≡ 1 → s ≢ at = λ s one same. omega (arith, several, subst (λ n. length (candidates_of disk.candidates n) ≡ 1) same one) in
     record {
@@ -96,11 +95,11 @@ several_free plan live disk at k several =
     }
 
 -- what is live is kept by a spill
-pub kept_spill : (plan : Plan) (rest : IsInUse plan) (live : List Put) (old new : State) (at : ℕ) → IsDisk old → IsDisk new → Changes at old.candidates new.candidates → IsFree plan old at → KeepsLists plan live old → KeepsLists plan live new
+pub kept_spill : (plan : Plan) (rest : IsInUse plan) (live : List Home) (old new : State) (at : ℕ) → IsDisk old → IsDisk new → Changes at old.candidates new.candidates → IsFree plan old at → KeepsLists plan live old → KeepsLists plan live new
 kept_spill plan rest live old new at had is changes free k = kept_over plan rest live old new had is at changes.size changes.other k free
 
 -- what a space tells doesn't change by a spill
-pub kept_both : (plan : Plan) (rest : IsInUse plan) (live : List Put) (all kept : Bool) (old new : State) (at : ℕ) → IsDisk old → IsDisk new → Changes at old.candidates new.candidates → (IsTrue (keeps_lists plan old.candidates live && all && kept) → IsFree plan old at)
+pub kept_both : (plan : Plan) (rest : IsInUse plan) (live : List Home) (all kept : Bool) (old new : State) (at : ℕ) → IsDisk old → IsDisk new → Changes at old.candidates new.candidates → (IsTrue (keeps_lists plan old.candidates live && all && kept) → IsFree plan old at)
     → (keeps_lists plan new.candidates live && all && kept) ≡ (keeps_lists plan old.candidates live && all && kept)
 kept_both plan rest live all kept old new at had is changes free =
     let L = keeps_lists plan old.candidates live in

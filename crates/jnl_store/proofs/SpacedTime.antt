@@ -21,12 +21,11 @@ use Rattle.jnl_replay.specs.declared.plan.Plan.{Plan}
 use Rattle.jnl_replay.proofs.Checks.{place_of}
 use Rattle.jnl_store.specs.InUse.{IsInUse}
 use Rattle.jnl_store.specs.Journal.{IsClosed, IsSpilled}
-use Rattle.jnl_store.specs.Overlay.{overlay}
 use Rattle.jnl_store.specs.Spaces.{found, found_in, is_in_form, is_mountable}
 use Rattle.jnl_store.specs.Store.{durable_of, is_kept}
 use Rattle.jnl_store.specs.declared.store.Store.{Store}
 use Rattle.jnl_store.proofs.RingHome.{still_agrees, still_plan}
-use Rattle.jnl_store.proofs.RingKept.{KeepsLists, lists_parts, table_is}
+use Rattle.jnl_store.proofs.RingKept.{KeepsLists, lists_parts}
 use Rattle.jnl_store.proofs.RingStages.{KeepsText, header_stays}
 use Rattle.jnl_store.proofs.Settling.{kept_parts}
 
@@ -98,8 +97,3 @@ tells_parts store disk tells =
 pub durable_is : (store : Store) (c : Content) → durable_of store c ≡ replayed (journal_of store.plan) c
 unfolding durable_of
 durable_is store c = refl
-
--- and is what the table shows over the disk's
-pub durable_table : (store : Store) (disk : State) → IsDisk disk → KeepsLists store.plan store.batch.live disk → durable_of store (content disk) ≡ overlay store.batch.live (content disk)
-unfolding durable_of
-durable_table store disk is k = sym (table_is store.plan store.rest store.batch.live disk is k)

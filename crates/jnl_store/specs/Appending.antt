@@ -6,6 +6,7 @@ use Rattle.sector_disk.specs.Space.{AgreesOutside}
 use Rattle.jnl_format.specs.Ring.{offset_after}
 use Rattle.jnl_format.specs.Recovery.{header_of_volume, journaling_version, replayed}
 use Rattle.jnl_format.specs.Keeping.{KeepsHeader}
+use Rattle.jnl_format.specs.declared.blocks.Home.{Home}
 use Rattle.jnl_ring.specs.Writing.{PutsInRing}
 use Rattle.jnl_ring.specs.Whole.{AreWhole}
 use Rattle.jnl_replay.specs.Plan.{journal_of}
@@ -40,7 +41,7 @@ StandsStill plan disk image =
     (recovered : Content) × StandsFor plan (content disk) image recovered × AgreesOutside (λ s. IsSpilled plan disk.candidates s ⊎ IsClosed plan s) (durable_by plan (content disk)) recovered
 
 -- a transaction of these puts may be written on this disk
-pub record MayAppend (plan : Plan) (live puts : List Put) (disk : State) : Type 0 where
+pub record MayAppend (plan : Plan) (live : List Home) (puts : List Put) (disk : State) : Type 0 where
   pub tells : IsTrue disk.tells
   pub kept : IsTrue (keeps_lists plan disk.candidates live)
   pub open_puts : IsTrue (are_open plan disk.sectors puts)

@@ -1,13 +1,14 @@
 -- The puts of a batch.
 use Rattle.std.specs.Prelude.{◌≡◌, ◌≤◌, ◌+◌, ◌==◌, ◌||◌, ℕ, zero, suc, Bool, true, false, not, bytes_eq, if◌then◌else◌, List, [], ◌∷◌, length, Option, None, Some}
+use Rattle.jnl_format.specs.declared.blocks.Home.{Home}
 use Rattle.jnl_store.specs.declared.puts.Put.{Put}
 
--- what was put since the last commit, the same at the last keep, each sector that a live list names with its newest
--- bytes, and how many sectors there is memory for
+-- what was put since the last commit, the same at the last keep, each sector that a live list names with the place of
+-- its newest bytes, and how many sectors there is memory for
 pub record Staged : Type 0 where
   pub all : List Put
   pub kept : List Put
-  pub live : List Put
+  pub live : List Home
   pub room : ℕ
 
 -- one of these puts is of this sector
@@ -43,7 +44,7 @@ abbrev pub is_dropped : List Put → List Put → ℕ → Bool
 is_dropped all kept at = not (is_same (bytes_of all at) (bytes_of kept at))
 
 -- there is memory for the room, in each list, and for what is live beside it
-pub record IsBatch (all kept live : List Put) (room memory more most : ℕ) : Type 0 where
+pub record IsBatch (all kept : List Put) (live : List Home) (room memory more most : ℕ) : Type 0 where
   pub some : length all ≤ room
   pub kept_some : length kept ≤ length all
   pub enough : room ≤ memory

@@ -1,5 +1,5 @@
 -- What the calls of a space leave alone of its store and its disk.
-use Rattle.std.specs.Prelude.{◌≡◌, ◌⊎◌, ◌≤◌, ℕ, List}
+use Rattle.std.specs.Prelude.{◌≡◌, ◌⊎◌, ◌≤◌}
 use Rattle.sector_disk.specs.Cause.{Rose}
 use Rattle.sector_disk.specs.Disk.{State, SameDisk, SameSink}
 use Rattle.jnl_store.specs.Store.{KeepsOn, faults_of, kept_of, live_of, plan_of, room_of, slot_count}

@@ -5,6 +5,8 @@ pub mod FollowLaws
 pub mod Following
 pub mod Journal
 pub mod Lists
+pub mod Newest
+pub mod Placed
 pub mod Overlay
 pub mod Plan
 pub mod Seen

@@ -4,6 +4,7 @@ use Rattle.sector_disk.specs.Lists.{Content}
 use Rattle.sector_disk.specs.Disk.{Candidates, State, content_of, only}
 use Rattle.jnl_format.specs.Recovery.{homes_of, replayed}
 use Rattle.jnl_format.specs.Named.{IsNamed}
+use Rattle.jnl_format.specs.declared.blocks.Home.{Home}
 use Rattle.jnl_replay.specs.Plan.{journal_of}
 use Rattle.jnl_store.specs.Batch.{names}
 use Rattle.jnl_store.specs.Cache.{AreCached, Slots, slot_of}
@@ -28,8 +29,8 @@ puts_of store = store.batch.all
 abbrev pub kept_of : Store → List Put
 kept_of store = store.batch.kept
 
--- the sectors that the journal's live lists name, with their newest bytes
-abbrev pub live_of : Store → List Put
+-- the sectors that the journal's live lists name, with the places of their newest bytes in their text
+abbrev pub live_of : Store → List Home
 live_of store = store.batch.live
 
 -- how many sectors there is room for between two commits
@@ -83,7 +84,7 @@ spare_of store = store.batch.room - length store.batch.all
 -- What is kept between calls on a disk of so many sectors, as a test. The journal header has one candidate, which
 -- is the store's, so that its start is the stable one, and so have the info block and the volume header, which name
 -- this journal. The text from that start to the end is lists that are as they must be, of which each sector has one
--- candidate, and no list names a spilled sector. The store's table has what the lists name, with the newest bytes. A
+-- candidate, and no list names a spilled sector. The store's table has what the lists name, with the places of the newest bytes. A
 -- sector with more than one candidate is spilled, or lies in the ring outside the live text. No put is of a sector of
 -- the journal.
 unfoldable pub is_kept : Store → ℕ → Candidates → Bool

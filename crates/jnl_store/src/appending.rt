@@ -11,7 +11,7 @@ ghost use Rattle.jnl_store.specs.Plan.{form_of, span_of, with_text};
 ghost use Rattle.jnl_store.specs.Standing.{StandsForOne};
 ghost use Rattle.jnl_store.specs.Appending.{IsAppended, MayAppend, durable_by, end_after, longer};
 ghost use Rattle.jnl_store.specs.Batch.{AreOnce};
-ghost use Rattle.jnl_store.specs.declared.puts.Put.{Put};
+ghost use Rattle.jnl_format.specs.declared.blocks.Home.{Home};
 
 use crate::form::ListForm;
 use crate::header_sector::write_journal_header;
@@ -29,7 +29,7 @@ pub fn append<D: SectorDisk>(disk: &mut D, plan: &Plan, puts: &[Put]) -> Result<
     requires fits { FitsPlan (D.state disk.old).sectors plan.now }
     requires room { used_of plan.now / 512 + text_sectors plan.now.header.blhdr (length puts.now) ≤ plan.now.info.size / 512 - 2 }
     requires once { AreOnce puts.now }
-    requires ready { IsTrue (D.state disk.old).tells → (live : List Put) × MayAppend plan.now live puts.now (D.state disk.old) }
+    requires ready { IsTrue (D.state disk.old).tells → (live : List Home) × MayAppend plan.now live puts.now (D.state disk.old) }
     ensures plan { IfOk result (λ done. done ≡ longer plan.now puts.now) }
     ensures rest { IfOk result IsInUse }
     ensures written { IsTrue (D.state disk.old).tells → OnOk result (IsAppended plan.now puts.now (D.state disk.old) (D.state disk.new)) }

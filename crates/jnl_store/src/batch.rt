@@ -1,9 +1,13 @@
 //! The puts since the last commit and the sectors that are live, in memory that was found before them.
-ghost use Rattle.std.specs.Prelude.{◌≡◌, ◌⊎◌, ◌<◌, ◌≤◌, ◌+◌, ◌==◌, ◌||◌, ℕ, [], Bool, IsTrue, length, slice_set, if◌then◌else◌, MatchOption, OnOk, OnErr};
+ghost use Rattle.std.specs.Prelude.{◌≡◌, ◌⊎◌, ◌<◌, ◌≤◌, ◌+◌, ◌^◌, ◌==◌, ◌||◌, ℕ, [], Bool, IsTrue, length, slice_set, if◌then◌else◌, MatchOption, OnOk, OnErr};
 ghost use Rattle.sector_disk.specs.Lists.{Content, sector};
 ghost use Rattle.jnl_store.specs.Batch.{AreOnce, is_dropped, names};
+ghost use Rattle.jnl_store.specs.Lists.{IsForm, lists_homes};
+ghost use Rattle.jnl_store.specs.Newest.{newest, or_later};
 ghost use Rattle.jnl_store.specs.Overlay.{overlay};
 
+use crate::form::ListForm;
+use crate::live_table::LiveTable;
 use crate::put_table::PutTable;
 use crate::puts::Put;
 use hx_bytes::{OutOfMemory, Sector};
@@ -11,13 +15,13 @@ use std::alloc::Global;
 use std::marker::Model;
 
 /// Each sector that was put since the last commit, once. What a command put can be dropped until it is kept. Beside
-/// them stands each sector that a live list of the journal names, with its newest bytes. There is memory for the puts to
-/// join these.
+/// them stands each sector that a live list of the journal names, with the place of its newest bytes in their text. There
+/// is memory for the puts to join these.
 #[derive(Drop)]
 pub struct Batch {
     puts: PutTable,
     kept: PutTable,
-    live: PutTable,
+    live: LiveTable,
     room: usize,
 }
 
@@ -26,9 +30,9 @@ impl Model for Batch {
 
     ghost Value = { Staged };
 
-    ghost view = { λ b. record { all = b.puts.items; kept = b.kept.items; live = b.live.items; room = b.room } };
+    ghost view = { λ b. record { all = b.puts.items; kept = b.kept.items; live = b.live.homes; room = b.room } };
 
-    ghost invariant = { λ b. IsBatch b.puts.items b.kept.items b.live.items b.room b.puts.memory b.kept.memory b.live.memory };
+    ghost invariant = { λ b. IsBatch b.puts.items b.kept.items b.live.homes b.room b.puts.memory b.kept.memory b.live.memory };
 }
 
 impl Batch {
@@ -39,7 +43,7 @@ impl Batch {
         Batch {
             puts: PutTable::new(alloc),
             kept: PutTable::new(alloc),
-            live: PutTable::new(alloc),
+            live: LiveTable::new(alloc),
             room: 0,
         }
     }
@@ -73,11 +77,11 @@ impl Batch {
         self.puts.get(at)
     }
 
-    /// The bytes that the live lists have for a sector.
-    pub fn get_live(&self, at: u64) -> Option<Sector>
-        ensures { (c : Content) → at < length c → MatchOption result (sector (overlay self.now.live c) at ≡ sector c at) (λ bytes. bytes ≡ sector (overlay self.now.live c) at) }
+    /// The place of the newest bytes that the live lists have for a sector.
+    pub fn place_of(&self, at: u64) -> Option<u64>
+        ensures { result ≡ newest self.now.live at }
     {
-        self.live.get(at)
+        self.live.find(at)
     }
 
     /// Whether an undo changes what a sector has.
@@ -151,13 +155,17 @@ impl Batch {
         self.kept.clear();
     }
 
-    /// What was put is live from now on. It leaves as much room as there was.
-    pub fn make_live(&mut self)
-        ensures content { (c : Content) → overlay self.new.live c ≡ overlay self.old.all (overlay self.old.live c) }
+    /// What was put is live from now on, in lists that begin at this place of the text. It leaves as much room as there
+    /// was.
+    pub fn make_live(&mut self, form: &ListForm, from: u64)
+        requires form { IsForm form.now }
+        requires from { from ≤ 2 ^ 40 }
+        requires few { length self.old.all ≤ 2 ^ 40 }
+        ensures newest { (s : ℕ) → newest self.new.live s ≡ or_later (newest (lists_homes form.now.blhdr from 0 self.old.all) s) (newest self.old.live s) }
         ensures nothing { (self.new.all ≡ []) × (self.new.kept ≡ []) }
         ensures room { self.new.room + length self.old.all ≡ self.old.room }
     {
-        self.live.put_all(self.puts.as_slice());
+        self.live.put_lists(form, from, self.puts.as_slice());
         self.room -= self.puts.len();
         self.puts.clear();
         self.kept.clear();

@@ -114,18 +114,6 @@ impl PutTable {
         }
     }
 
-    /// Puts all of these, for which there is memory.
-    pub fn put_all(&mut self, puts: &[Put])
-        requires room { length self.old.items + length puts.now ≤ self.old.memory }
-        ensures content { (c : Content) → overlay self.new.items c ≡ overlay puts.now (overlay self.old.items c) }
-        ensures few { length self.new.items ≤ length self.old.items + length puts.now }
-        ensures memory { self.new.memory ≡ self.old.memory }
-    {
-        for put in puts {
-            self.put(put);
-        }
-    }
-
     /// The puts of another table, for which there is memory.
     pub fn copy(&mut self, from: &PutTable)
         requires { length from.now.items ≤ self.old.memory }
@@ -167,15 +155,10 @@ mod tests {
     #[test]
     fn each_sector_is_found_with_its_last_bytes(rt: HostRuntime) -> Result<(), Fail> {
         let mut table = PutTable::new(rt.alloc());
-        table.reserve(6)?;
-        table.put_all(&[
-            put(7, 1),
-            put(3, 2),
-            put(9, 3),
-            put(1, 4),
-            put(8, 5),
-            put(3, 6),
-        ]);
+        for (at, byte) in [(7, 1), (3, 2), (9, 3), (1, 4), (8, 5), (3, 6)] {
+            table.reserve(1)?;
+            table.put(&put(at, byte));
+        }
         assert_eq!(rt; table.len(), 5);
         for (at, byte) in [(1, 4), (3, 6), (7, 1), (8, 5), (9, 3)] {
             assert_eq!(rt; table.get(at).ok_or("a put")?[511], byte);

@@ -1,11 +1,11 @@
 //! A batch written into the ring, and the live sectors written home, where no call failed before.
-ghost use Rattle.std.specs.Prelude.{◌≡◌, ◌≢◌, ◌⊎◌, ◌<◌, ◌≤◌, ◌+◌, ◌-◌, ◌/◌, ℕ, [], Bool, IsTrue, Err, OnOk, OnErr, IsErrOf, length};
+ghost use Rattle.std.specs.Prelude.{◌≡◌, ◌≢◌, ◌⊎◌, ◌<◌, ◌≤◌, ◌+◌, ◌-◌, ◌/◌, ◌^◌, ℕ, [], Bool, IsTrue, Err, OnOk, OnErr, IsErrOf, length};
 ghost use Rattle.sector_disk.specs.Cause.{HasCause, Rose, next_count};
 ghost use Rattle.sector_disk.specs.Disk.{CrashesLeave, SameDisk, SameSink, Untouched, content};
 ghost use Rattle.jnl_format.specs.Recovery.{header_of_volume, journaling_version};
 ghost use Rattle.jnl_format.specs.Keeping.{KeepsHeader};
 ghost use Rattle.jnl_replay.specs.Plan.{FitsPlan};
-ghost use Rattle.jnl_store.specs.InUse.{free_sectors, used_of};
+ghost use Rattle.jnl_store.specs.InUse.{IsInUse, free_sectors, used_of};
 ghost use Rattle.jnl_store.specs.Lists.{IsCapacity, text_sectors};
 ghost use Rattle.jnl_store.specs.Plan.{form_of, span_of};
 ghost use Rattle.jnl_store.specs.Cache.{EachReread};
@@ -18,6 +18,7 @@ use crate::form::{ListForm, sectors_of};
 use crate::homing::write_home;
 use crate::resting::rest;
 use crate::store::{Store, StoreFault};
+use jnl_replay::Plan;
 use jnl_ring::{Span, used_bytes};
 use sector_disk::SectorDisk;
 
@@ -101,9 +102,14 @@ impl Store {
         ensures cause { HasCause (D.state disk.old).faults (D.state disk.new).faults result }
     {
         self.make_room(disk)?;
+        let form = ListForm {
+            order: self.plan.header.order,
+            blhdr: self.plan.header.blhdr,
+        };
+        let from = live_bytes(&self.plan);
         let plan = append(disk, &self.plan, self.batch.as_slice())?;
         self.plan = plan;
-        self.batch.make_live();
+        self.batch.make_live(&form, from);
         self.unsettled = false;
         Ok(())
     }
@@ -187,4 +193,17 @@ impl Store {
         }
         Ok(())
     }
+}
+
+// How many bytes of lists are live.
+fn live_bytes(plan: &Plan) -> u64
+    requires { IsInUse plan.now }
+    ensures value { result ≡ used_of plan.now }
+    ensures few { result ≤ 2 ^ 40 }
+{
+    let span = Span {
+        base: plan.info.offset / 512,
+        size: plan.info.size,
+    };
+    used_bytes(&span, plan.header.start, plan.header.end)
 }

@@ -13,6 +13,7 @@ ghost use Rattle.jnl_store.specs.Following.{SpaceFollows};
 ghost use Rattle.jnl_store.specs.Seen.{seen};
 
 use crate::puts::Put;
+use crate::reading::read_durable;
 use crate::space::Space;
 use hx_bytes::{Failed, Sector};
 use sector_disk::{SectorDisk, SectorSpace, SectorView};
@@ -166,19 +167,16 @@ impl<D: SectorDisk> Space<'_, '_, D> {
                 *into = bytes;
                 Ok(())
             }
-            None => match store.batch.get_live(at) {
-                Some(bytes) => {
-                    *into = bytes;
-                    Ok(())
-                }
-                None => match self.disk.read(at, into) {
+            None => {
+                let place = store.batch.place_of(at);
+                match read_durable(self.disk, &store.plan, place, at, into) {
                     Ok(()) => Ok(()),
                     Err(failed) => {
                         store.count_fault();
                         Err(failed)
                     }
-                },
-            },
+                }
+            }
         }
     }
 }

@@ -103,6 +103,40 @@ fn a_fault_is_answered_and_then_counted(rt: HostRuntime) -> Result<(), Fail> {
     Ok(())
 }
 
+// Two lists name the sector, and no slot keeps it.
+const LIVE: [Step; 10] = [
+    Step::Begin(1),
+    Step::Put(100, 7),
+    Step::Keep,
+    Step::Commit,
+    Step::Begin(1),
+    Step::Put(100, 8),
+    Step::Keep,
+    Step::Commit,
+    Step::Byte(100),
+    Step::Oldest(100),
+];
+
+#[test]
+fn a_live_sector_is_read_from_the_ring_by_one_call(rt: HostRuntime) -> Result<(), Fail> {
+    let alloc = rt.alloc();
+    let wanted = [
+        DONE,
+        DONE,
+        DONE,
+        DONE,
+        DONE,
+        DONE,
+        DONE,
+        DONE,
+        Answer::Number(8),
+        Answer::Number(0),
+    ];
+    assert!(rt; answers_are(alloc, &LIVE, &wanted)?);
+    assert_eq!(rt; calls_of_last(alloc, &LIVE[..9])?, 1);
+    Ok(())
+}
+
 // A sector that was put is no device call; a read and a write that fail are counted.
 const READING: [Step; 9] = [
     Step::Begin(1),

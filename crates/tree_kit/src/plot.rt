@@ -2,7 +2,8 @@
 ghost use Rattle.std.specs.Prelude.{◌≡◌, ◌≤◌, ◌<◌, ◌+◌, ◌-◌, ◌*◌, ◌/◌, ◌^◌, ◌∷◌, [], ℕ, IsTrue, IfOk, IfSome, length, slice_index};
 ghost use Rattle.btree_edit.specs.Desk.{IsDeskOf};
 ghost use Rattle.btree_file.specs.Growth.{HasWholeNodes, RunInside, nodes_in, nodes_with};
-ghost use Rattle.btree_file.specs.Place.{IsInside, fork_sectors};
+ghost use Rattle.btree_file.specs.Place.{IsInside};
+ghost use Rattle.fork_map.specs.Blocks.{fork_sectors};
 ghost use Rattle.btree_file.specs.Standing.{numbers_of, LiesInside};
 ghost use Rattle.alloc_bitmap.specs.Untold.{told_none};
 

@@ -27,6 +27,3 @@ const EXTENTS_KEY: u32 = 10;
 const CATALOG_KEY: u32 = 516;
 
 const ATTRIBUTES_KEY: u32 = 266;
-
-#[cfg(test)]
-mod tests;

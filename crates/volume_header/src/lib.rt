@@ -11,6 +11,6 @@ mod writing;
 
 pub use header::VolumeHeader;
 pub use laws::header_round_trip;
-pub use reading::read_header;
+pub use reading::{header_at, read_header};
 pub use refusal::HeaderRefusal;
 pub use writing::write_header;

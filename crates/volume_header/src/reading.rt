@@ -20,7 +20,8 @@ pub fn read_header(sector: &Sector, sectors: u64) -> Result<VolumeHeader, Header
     }
 }
 
-fn header_at(sector: &Sector) -> VolumeHeader
+/// The header that a sector spells, whatever it says: no field is judged.
+pub fn header_at(sector: &Sector) -> VolumeHeader
     ensures { result ≡ header_of sector.now }
 {
     VolumeHeader {

@@ -16,16 +16,16 @@ use Rattle.volume_make.proofs.Sizes.{each_size, fitting}
 fits_extent : (start count : ℕ) → start < 2 ^ 32 → count < 2 ^ 32 → FitsExtent (record { start = start; count = count })
 fits_extent start count a b = record { start = a; count = b }
 
-fits_run : (start count : ℕ) → start < 2 ^ 32 → count < 2 ^ 32 → FitsExtents (one_run start count)
+pub fits_run : (start count : ℕ) → start < 2 ^ 32 → count < 2 ^ 32 → FitsExtents (one_run start count)
 fits_run start count a b =
     let none = fits_extent 0 0 (omega arith) (omega arith) in
     record { eight = refl; each = (fits_extent start count a b, (none, (none, (none, (none, (none, (none, (none, tt)))))))) }
 
 -- a block size and the bytes of so many blocks
-fits_size : (b : ℕ) → is_block_size b ≡ true → b < 2 ^ 32
+pub fits_size : (b : ℕ) → is_block_size b ≡ true → b < 2 ^ 32
 fits_size b is = each_size (λ n. n < 2 ^ 32) (omega arith) (omega arith) (omega arith) (omega arith) (omega arith) (omega arith) (omega arith) (omega arith) b is
 
-fits_bytes : (count b : ℕ) → is_block_size b ≡ true → count ≤ 268435456 → count * b < 2 ^ 64
+pub fits_bytes : (count b : ℕ) → is_block_size b ≡ true → count ≤ 268435456 → count * b < 2 ^ 64
 fits_bytes count b is few =
     each_size (λ n. count * n < 2 ^ 64) (omega (arith, few)) (omega (arith, few)) (omega (arith, few)) (omega (arith, few)) (omega (arith, few)) (omega (arith, few)) (omega (arith, few)) (omega (arith, few)) b is
 
@@ -40,7 +40,7 @@ fits_special b part is low few = record {
 abbrev zero_byte : ℕ
 zero_byte = 0
 
-zeros : AreBytes (replicate 32 zero_byte)
+pub zeros : AreBytes (replicate 32 zero_byte)
 zeros k = elim (cases_lt k 32) [
   | inl inside ↦ omega (arith, get_or-replicate 32 k zero_byte zero_byte inside)
   | inr past ↦ omega (arith, get_or_past (replicate 32 zero_byte) k zero_byte (omega (arith, past, length-replicate 32 zero_byte)))

@@ -18,7 +18,7 @@ use Rattle.volume_make.specs.declared.layout.Layout.{Layout}
 use Rattle.volume_make.specs.Refusal.{is_name}
 use Rattle.volume_make.specs.Texts.{file_fork, new_file, root_items, file_items, leaf_items}
 
-length-key : (parent : ℕ) (name : List ℕ) → length (catalog_key_bytes parent name) ≡ 8 + 2 * length name
+pub length-key : (parent : ℕ) (name : List ℕ) → length (catalog_key_bytes parent name) ≡ 8 + 2 * length name
 length-key parent name = simp (length-append, length-number_bytes Big, length-units_bytes) (omega arith)
 
 length-entry : (flags count id mode : ℕ) → length (entry_bytes (new_entry flags count id mode)) ≡ 86
@@ -37,7 +37,7 @@ length-no_fork : length (fork_bytes no_fork) ≡ 80
 unfolding fork_bytes
 length-no_fork = simp (length-append, length-number_bytes Big, length-extents) (omega arith)
 
-length-folder : (parent id entries : ℕ) (name : List ℕ) → length (catalog_item parent name (new_folder id entries)) ≡ 96 + 2 * length name
+pub length-folder : (parent id entries : ℕ) (name : List ℕ) → length (catalog_item parent name (new_folder id entries)) ≡ 96 + 2 * length name
 length-folder parent id entries name =
     omega (
       arith,
@@ -48,7 +48,7 @@ length-folder parent id entries name =
       length-entry 0 entries id 0x41ED,
     )
 
-length-file : (parent id block : ℕ) (part : Extent) (name : List ℕ) → length (catalog_item parent name (new_file block id part)) ≡ 256 + 2 * length name
+pub length-file : (parent id block : ℕ) (part : Extent) (name : List ℕ) → length (catalog_item parent name (new_file block id part)) ≡ 256 + 2 * length name
 length-file parent id block part name =
     let content = length-file_fork block part in
     let resource = length-no_fork in
@@ -77,7 +77,7 @@ length-threads =
     let b = length-append (catalog_item 16 [] (new_thread true 2 (codes ".journal_info_block"))) (catalog_item 17 [] (new_thread true 2 (codes ".journal")) ++ []) in
     omega (arith, info, journal, a, b)
 
-name_short : (name : List ℕ) → IsTrue (is_name name) → length name ≤ 255
+pub name_short : (name : List ℕ) → IsTrue (is_name name) → length name ≤ 255
 name_short name is =
     let parts = and_parts (nat_le 1 (length name)) (nat_le (length name) 255) is in
     ⊎_elim (λ (s : (nat_le (length name) 255 ≡ true) × (length name ≤ 255)). s.1) (λ (d : (nat_le (length name) 255 ≡ false) × (255 < length name)). absurd (cc (d.0, parts.1))) (leb_tells (length name) 255)

@@ -5,3 +5,4 @@ pub mod Leaves
 pub mod Accepting
 pub mod Finding
 pub mod Fields
+pub mod NodesBack

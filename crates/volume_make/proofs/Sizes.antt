@@ -221,3 +221,7 @@ fitting s b j can =
 pub layout_sectors : (s b j : ℕ) → (layout_of s b j).sectors ≡ s
 unfolding layout_of
 layout_sectors s b j = refl
+
+pub layout_block : (s b j : ℕ) → (layout_of s b j).block ≡ b
+unfolding layout_of
+layout_block s b j = refl

@@ -1,5 +1,5 @@
 -- The places worked out for some sizes, and what a reader finds in the texts.
-use Rattle.std.specs.Prelude.{◌≡◌, ℕ, ◌*◌, List, [], ◌∷◌, codes, false, None, Ok}
+use Rattle.std.specs.Prelude.{◌≡◌, ℕ, ◌*◌, List, [], ◌∷◌, take, drop, codes, IsTrue, false, None, Ok}
 use Rattle.hx_bytes.specs.declared.extents.Extent.{Extent}
 use Rattle.hx_bytes.specs.declared.fields.Order.TheVariants.{Little}
 use Rattle.jnl_format.specs.declared.structures.Info.{Info}
@@ -10,8 +10,11 @@ use Rattle.volume_header.specs.Header.{header_of}
 use Rattle.volume_header.specs.Refusal.{header_refusal}
 use Rattle.hfs_model.specs.Thin as thin
 use Rattle.volume_make.specs.declared.layout.Layout.{Layout}
+use Rattle.flag_rows.specs.Bitmap.{is_marked, nowhere}
+use Rattle.btree_node.specs.Codec.{HeaderReadsBack, ReadsBack, leaf_head}
+use Rattle.volume_make.specs.Refusal.{is_name}
 use Rattle.volume_make.specs.Layout.{CanBe, layout_of, free_of, end_of}
-use Rattle.volume_make.specs.Texts.{fresh_header, header_text, info_text, journal_text, empty_tree, catalog_tree, leaf_items}
+use Rattle.volume_make.specs.Texts.{fresh_header, header_text, info_text, journal_text, extents_text, attributes_text, catalog_text, leaf_items}
 
 -- the first block and the number of blocks of a part
 abbrev pub run : ℕ → ℕ → Extent
@@ -39,9 +42,9 @@ HeaderAccepted = (sectors block length : ℕ) → CanBe sectors block length →
 pub record IsThinVolume (layout : Layout) : Type 0 where
   pub info : info_text layout ≡ thin.info_text
   pub journal : journal_text layout ≡ thin.journal_text 512 512
-  pub extents : empty_tree layout.block 10 2 ≡ thin.extents_tree
-  pub attributes : empty_tree layout.block 266 6 ≡ thin.attributes_tree
-  pub catalog : catalog_tree layout.block ≡ thin.catalog_tree 0
+  pub extents : thin.empty_tree layout.block 10 2 ≡ thin.extents_tree
+  pub attributes : thin.empty_tree layout.block 266 6 ≡ thin.attributes_tree
+  pub catalog : thin.catalog_tree layout.block 0 ≡ thin.catalog_tree 4096 0
   pub leaf : leaf_items layout (codes "untitled") ≡ thin.leaf_items []
 
 -- the fields of the journal info block, and the journal's header
@@ -65,3 +68,15 @@ JournalsFound = (sectors block length : ℕ) → CanBe sectors block length → 
 -- a reader reads just this header from its sector, whatever the sizes
 abbrev pub HeaderReadBack : Type 0
 HeaderReadBack = (sectors block length : ℕ) → CanBe sectors block length → header_of (header_text (layout_of sectors block length)) ≡ fresh_header (layout_of sectors block length)
+
+-- The nodes of a volume that is made are read as they were made: of each tree the header node, with its header record and its map,
+-- and of the catalog the leaf, with its six records.
+pub record NodesReadBack (layout : Layout) (name : List ℕ) : Type 0 where
+  pub extents : HeaderReadsBack (extents_text layout) (thin.empty_tree layout.block 10 2) (is_marked 1 nowhere)
+  pub attributes : HeaderReadsBack (attributes_text layout) (thin.empty_tree layout.block 266 6) (is_marked 1 nowhere)
+  pub catalog : HeaderReadsBack (take 4096 (catalog_text layout name)) (thin.catalog_tree layout.block 0) (is_marked 2 nowhere)
+  pub leaf : ReadsBack (drop 4096 (catalog_text layout name)) leaf_head (leaf_items layout name)
+
+-- so they are with every layout and name
+abbrev pub NodesAreReadBack : Type 0
+NodesAreReadBack = (layout : Layout) (name : List ℕ) → IsTrue (is_name name) → NodesReadBack layout name

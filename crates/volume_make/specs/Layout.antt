@@ -1,6 +1,7 @@
 -- Where the parts of a volume that is made lie.
-use Rattle.std.specs.Prelude.{◌≡◌, ◌≤◌, ℕ, ◌+◌, ◌-◌, ◌*◌, ◌/◌, Bool, ◌&&◌, ◌||◌, nat_lt, nat_le, if◌then◌else◌, IsTrue}
+use Rattle.std.specs.Prelude.{◌≡◌, ◌≤◌, ℕ, ◌+◌, ◌-◌, ◌*◌, ◌/◌, Bool, nat_lt, if◌then◌else◌, IsTrue}
 use Rattle.hx_bytes.specs.declared.extents.Extent.{Extent}
+use Rattle.flag_rows.specs.Bitmap.{is_marked}
 use Rattle.volume_make.specs.declared.layout.Layout.{Layout}
 use Rattle.volume_make.specs.Refusal.{is_block_size, fits_blocks, fits_journal}
 
@@ -75,7 +76,7 @@ free_of layout = layout.total - end_of layout.catalog - layout.last.count
 
 -- a block of one of the parts, of the front or of the end
 abbrev pub is_used : Layout → ℕ → Bool
-is_used layout block = nat_lt block (end_of layout.catalog) || (nat_le layout.last.start block && nat_lt block (end_of layout.last))
+is_used layout block = is_marked (end_of layout.catalog) layout.last block
 
 -- The parts lie apart and on the volume: the bitmap behind the header's sector, each part behind the one before it, and the
 -- last one before the alternate header's sector. Each has room for its text.

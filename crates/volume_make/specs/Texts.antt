@@ -1,5 +1,5 @@
 -- What the parts of a volume hold when it is made.
-use Rattle.std.specs.Prelude.{ℕ, ◌+◌, ◌*◌, ◌/◌, nat_lt, List, [], ◌∷◌, ◌++◌, length, replicate, slice_range, codes, if◌then◌else◌, None, false}
+use Rattle.std.specs.Prelude.{ℕ, ◌+◌, ◌*◌, ◌/◌, nat_lt, List, [], ◌∷◌, ◌++◌, length, replicate, slice_range, codes, if◌then◌else◌, false}
 use Rattle.hx_bytes.specs.declared.fields.Order.TheVariants.{Little}
 use Rattle.hx_bytes.specs.declared.extents.Extent.{Extent}
 use Rattle.hx_bytes.specs.declared.extents.ForkRecord.{ForkRecord}
@@ -9,10 +9,10 @@ use Rattle.jnl_format.specs.Header as journal
 use Rattle.jnl_format.specs.Info.{with_info}
 use Rattle.cat_records.specs.declared.record.CatRecord.{CatRecord}
 use Rattle.cat_records.specs.declared.record.CatRecord.TheVariants.{File}
-use Rattle.hfs_model.specs.declared.node.TreeHeader.{TreeHeader}
-use Rattle.hfs_model.specs.Bits.{is_marked, bits_bytes}
-use Rattle.hfs_model.specs.Node.{node_over, header_head, leaf_head, header_items}
-use Rattle.hfs_model.specs.Thin.{one_run, no_fork, new_entry, new_folder, new_thread, catalog_item, journal_threads}
+use Rattle.btree_node.specs.declared.codec.TreeHeader.{TreeHeader}
+use Rattle.flag_rows.specs.Bitmap.{is_marked, nowhere, bits_bytes}
+use Rattle.btree_node.specs.Codec.{node_over, header_head, leaf_head, header_items}
+use Rattle.hfs_model.specs.Thin.{one_run, no_fork, empty_tree, catalog_tree, new_entry, new_folder, new_thread, catalog_item, journal_threads}
 use Rattle.volume_make.specs.declared.layout.Layout.{Layout}
 use Rattle.volume_make.specs.Layout.{end_of, free_of, is_used}
 
@@ -77,45 +77,9 @@ abbrev pub journal_text : Layout → List ℕ
 journal_text layout =
     journal.header_bytes (record { order = Little; start = 512; end = 512; size = layout.journal.count * layout.block; blhdr = 4096 }) ++ replicate 468 0
 
--- a tree of sixteen nodes without a record
-abbrev pub empty_tree : ℕ → ℕ → ℕ → TreeHeader
-empty_tree block max_key attributes = record {
-  depth = 0;
-  root = 0;
-  leaf_records = 0;
-  first_leaf = 0;
-  last_leaf = 0;
-  node_size = 4096;
-  max_key_length = max_key;
-  total_nodes = 16;
-  free_nodes = 15;
-  clump_size = block;
-  tree_type = 0;
-  key_compare_type = 0;
-  attributes = attributes;
-}
-
--- the catalog of 64 nodes, whose node 1 is the one leaf, with six records
-abbrev pub catalog_tree : ℕ → TreeHeader
-catalog_tree block = record {
-  depth = 1;
-  root = 1;
-  leaf_records = 6;
-  first_leaf = 1;
-  last_leaf = 1;
-  node_size = 4096;
-  max_key_length = 516;
-  total_nodes = 64;
-  free_nodes = 62;
-  clump_size = block;
-  tree_type = 0;
-  key_compare_type = 0xBC;
-  attributes = 6;
-}
-
 -- a header node whose map marks the first nodes, all else zero
 unfoldable pub header_node : TreeHeader → ℕ → List ℕ
-header_node tree used = node_over header_head (header_items tree (is_marked used None)) (replicate 4096 0)
+header_node tree used = node_over tree.node_size header_head (header_items tree (is_marked used nowhere)) (replicate 4096 0)
 
 -- the header nodes of the trees without a record: big keys, and in the attributes file keys of varying length
 abbrev pub extents_text : Layout → List ℕ
@@ -145,11 +109,11 @@ leaf_items layout name = root_items name ++ (file_items layout ++ journal_thread
 
 -- the catalog's leaf
 abbrev pub leaf_text : Layout → List ℕ → List ℕ
-leaf_text layout name = node_over leaf_head (leaf_items layout name) (replicate 4096 0)
+leaf_text layout name = node_over 4096 leaf_head (leaf_items layout name) (replicate 4096 0)
 
 -- the catalog's nodes 0 and 1
 unfoldable pub catalog_text : Layout → List ℕ → List ℕ
-catalog_text layout name = header_node (catalog_tree layout.block) 2 ++ leaf_text layout name
+catalog_text layout name = header_node (catalog_tree layout.block 0) 2 ++ leaf_text layout name
 
 -- a sector of a part that begins with a text of whole sectors; behind it all is zero
 abbrev pub piece : List ℕ → ℕ → List ℕ

@@ -1,7 +1,7 @@
 //! Laws of the layout, each as a function without a body.
 ghost use Rattle.std.specs.Prelude.{[], ◌∷◌};
 ghost use Rattle.volume_make.specs.Layout.{layout_of};
-ghost use Rattle.volume_make.specs.Laws.{run, IsWorked, HeaderAccepted, HeaderReadBack, IsThinVolume, JournalsFound};
+ghost use Rattle.volume_make.specs.Laws.{run, IsWorked, HeaderAccepted, HeaderReadBack, IsThinVolume, JournalsFound, NodesAreReadBack};
 
 /// The parts of some volumes, in blocks: each with its first one and their number, from the bitmap to the catalog, then the last
 /// blocks; then the number of blocks, the first free one, and the number of free ones. The sizes are the least and the greatest
@@ -30,4 +30,9 @@ pub fn usual_volume_is_thin()
 /// The journal of a volume that is made is found by a reader, and is empty.
 pub fn fresh_journal_is_found()
     ensures { JournalsFound }
+{}
+
+/// The nodes of a volume that is made are read as they were made, whatever the layout and the name.
+pub fn fresh_nodes_are_read_back()
+    ensures { NodesAreReadBack }
 {}

@@ -2,11 +2,12 @@
 ghost use Rattle.std.specs.Prelude.{◌≡◌, ◌++◌, IfOk, OnOk, IsTrue};
 ghost use Rattle.volume_make.specs.Refusal.{is_name};
 ghost use Rattle.volume_make.specs.Texts.{file_fork, new_file, root_items, file_items, leaf_items};
-ghost use Rattle.hfs_model.specs.Thin.{journal_threads};
 
 use crate::layout::Layout;
 use cat_records::{CatRecord, FileRecord};
-use hfs_model::{ascii, new_entry, new_folder, new_thread, no_fork, one_run, put_item};
+use hfs_model::{
+    ascii, new_entry, new_folder, new_thread, no_fork, one_run, put_item, put_journal_threads,
+};
 use hx_bytes::{Bytes, Extent, ForkRecord, OutOfMemory, Units};
 use std::alloc::Global;
 
@@ -57,7 +58,7 @@ pub(crate) fn leaf_items(
     let mut items = Vec::new(alloc);
     put_root(alloc, &mut items, name)?;
     put_files(alloc, &mut items, layout)?;
-    put_threads(alloc, &mut items)?;
+    put_journal_threads(alloc, &mut items)?;
     Ok(items)
 }
 
@@ -82,27 +83,4 @@ fn put_files(alloc: Global, items: &mut Vec<Bytes>, layout: Layout) -> Result<()
     put_item(alloc, items, ROOT, &journal, &journal_file)?;
     let info_file = new_file(layout.block, INFO_FILE, layout.info);
     put_item(alloc, items, ROOT, &info, &info_file)
-}
-
-/// Adds their threads.
-fn put_threads(alloc: Global, items: &mut Vec<Bytes>) -> Result<(), OutOfMemory>
-    ensures { OnOk result (items.new.items ≡ items.old.items ++ journal_threads) }
-{
-    let journal = ascii(alloc, ".journal")?;
-    let info = ascii(alloc, ".journal_info_block")?;
-    let nameless = Units::new(alloc);
-    put_item(
-        alloc,
-        items,
-        INFO_FILE,
-        &nameless,
-        &new_thread(alloc, true, ROOT, &info)?,
-    )?;
-    put_item(
-        alloc,
-        items,
-        JOURNAL_FILE,
-        &nameless,
-        &new_thread(alloc, true, ROOT, &journal)?,
-    )
 }

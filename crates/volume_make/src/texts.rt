@@ -1,10 +1,10 @@
 //! The sectors that a volume is made with: the header, the bitmap, and the journal's info block and header.
-ghost use Rattle.std.specs.Prelude.{◌≡◌, ◌<◌, ◌≤◌, ◌+◌, ◌*◌, ◌^◌, ◌&&◌, nat_le, nat_lt};
-ghost use Rattle.hfs_model.specs.Bits.{bit, bits_byte};
-ghost use Rattle.volume_make.specs.Layout.{IsFitting, end_of, is_used};
+ghost use Rattle.std.specs.Prelude.{◌≡◌, ◌<◌, ◌^◌};
+ghost use Rattle.volume_make.specs.Layout.{IsFitting};
 ghost use Rattle.volume_make.specs.Texts.{special_fork, empty_fork, fresh_header, header_text, bitmap_sector, info_text, journal_text, piece};
 
 use crate::layout::Layout;
+use flag_rows::{Marks, bits_sector};
 use hfs_model::one_run;
 use hx_bytes::{Extent, ForkRecord, Order, Sector};
 use jnl_format::{Header, Info};
@@ -119,54 +119,17 @@ pub(crate) fn journal_sector(layout: Layout) -> Sector
     sector
 }
 
-fn is_used(layout: Layout, block: u64) -> bool
-    requires { IsFitting layout }
-    ensures { result ≡ is_used layout block }
-{
-    if block < u64::from(layout.first_free()) {
-        return true;
-    }
-    is_last(layout, block)
-}
-
-fn is_last(layout: Layout, block: u64) -> bool
-    ensures { result ≡ (nat_le layout.last.start block && nat_lt block (end_of layout.last)) }
-{
-    u64::from(layout.last.start) <= block
-        && block < u64::from(layout.last.start) + u64::from(layout.last.count)
-}
-
-fn bit(layout: Layout, block: u64) -> u8
-    requires { IsFitting layout }
-    ensures value { result ≡ bit (is_used layout block) }
-    ensures small { result ≤ 1 }
-{
-    if is_used(layout, block) { 1 } else { 0 }
-}
-
-fn bits_byte(layout: Layout, first: u64) -> u8
-    requires fitting { IsFitting layout }
-    requires small { first + 8 < 2 ^ 64 }
-    ensures { result ≡ bits_byte (is_used layout) first }
-{
-    let high = 128 * bit(layout, first) + 64 * bit(layout, first + 1);
-    let upper = high + 32 * bit(layout, first + 2) + 16 * bit(layout, first + 3);
-    let lower = upper + 8 * bit(layout, first + 4) + 4 * bit(layout, first + 5);
-    lower + 2 * bit(layout, first + 6) + bit(layout, first + 7)
-}
-
 /// A sector of the bitmap.
 pub(crate) fn bitmap_sector(layout: Layout, k: u64) -> Sector
     requires fitting { IsFitting layout }
     requires small { k < 2 ^ 40 }
     ensures { result ≡ bitmap_sector layout k }
 {
-    let mut sector = [0; 512];
-    let first = k * SECTOR_BITS;
-    for at in 0..512 {
-        sector[at] = bits_byte(layout, first + 8 * at as u64);
-    }
-    sector
+    let used = Marks {
+        below: layout.first_free(),
+        also: layout.last,
+    };
+    bits_sector(used, k * SECTOR_BITS)
 }
 
 /// A sector of a part that begins with this text, behind which all is zero.

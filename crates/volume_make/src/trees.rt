@@ -1,11 +1,12 @@
 //! The nodes that a volume is made with.
 ghost use Rattle.std.specs.Prelude.{◌≡◌, IfOk, IsTrue};
 ghost use Rattle.volume_make.specs.Refusal.{is_name};
-ghost use Rattle.volume_make.specs.Texts.{empty_tree, catalog_tree, header_node, extents_text, attributes_text, leaf_text, catalog_text};
+ghost use Rattle.volume_make.specs.Texts.{header_node, extents_text, attributes_text, leaf_text, catalog_text};
 
 use crate::layout::Layout;
 use crate::leaf::leaf_items;
-use hfs_model::{Marks, NodeHead, TreeHeader, header_items, node_over};
+use btree_node::TreeHeader;
+use hfs_model::{catalog_tree, empty_tree};
 use hx_bytes::{OutOfMemory, Units};
 use std::alloc::Global;
 
@@ -30,66 +31,14 @@ pub(crate) struct Trees {
     pub catalog: Vec<u8>,
 }
 
-/// The header record of a tree of sixteen nodes without a record.
-fn empty_tree(block: u32, max_key_length: u16, attributes: u32) -> TreeHeader
-    ensures { result ≡ empty_tree block max_key_length attributes }
-{
-    TreeHeader {
-        depth: 0,
-        root: 0,
-        leaf_records: 0,
-        first_leaf: 0,
-        last_leaf: 0,
-        node_size: 4096,
-        max_key_length,
-        total_nodes: 16,
-        free_nodes: 15,
-        clump_size: block,
-        tree_type: 0,
-        key_compare_type: 0,
-        attributes,
-    }
-}
-
-/// The header record of the catalog.
-fn catalog_tree(block: u32) -> TreeHeader
-    ensures { result ≡ catalog_tree block }
-{
-    TreeHeader {
-        depth: 1,
-        root: 1,
-        leaf_records: 6,
-        first_leaf: 1,
-        last_leaf: 1,
-        node_size: 4096,
-        max_key_length: 516,
-        total_nodes: 64,
-        free_nodes: 62,
-        clump_size: block,
-        tree_type: 0,
-        key_compare_type: 0xBC,
-        attributes: 6,
-    }
-}
-
-/// The header node of a tree whose first nodes are used.
+/// The header node of a tree of which the first nodes are used.
 #[tactic(auto, unfolding(crate::specs::Texts::header_node))]
 fn header_node(alloc: Global, tree: &TreeHeader, used: u32) -> Result<Vec<u8>, OutOfMemory>
+    requires { tree.now.node_size ≡ 4096 }
     ensures { IfOk result (λ bytes. bytes.items ≡ header_node tree.now used) }
 {
-    let marks = Marks {
-        below: used,
-        also: None,
-    };
-    let head = NodeHead {
-        next: 0,
-        previous: 0,
-        kind: 1,
-        height: 0,
-    };
     let zeros = vec![in alloc; 0u8; NODE_SIZE]?;
-    let items = header_items(alloc, tree, marks)?;
-    node_over(alloc, &head, items.as_slice(), zeros.as_slice())
+    btree_node::header_node(alloc, tree, used, zeros.as_slice())
 }
 
 /// The catalog's leaf.
@@ -97,15 +46,9 @@ fn leaf_node(alloc: Global, layout: Layout, name: &Units) -> Result<Vec<u8>, Out
     requires { IsTrue (is_name name.now) }
     ensures { IfOk result (λ bytes. bytes.items ≡ leaf_text layout name.now) }
 {
-    let head = NodeHead {
-        next: 0,
-        previous: 0,
-        kind: 255,
-        height: 1,
-    };
     let zeros = vec![in alloc; 0u8; NODE_SIZE]?;
     let items = leaf_items(alloc, layout, name)?;
-    node_over(alloc, &head, items.as_slice(), zeros.as_slice())
+    btree_node::leaf_node(alloc, 4096, items.as_slice(), zeros.as_slice())
 }
 
 /// The catalog's header node and its leaf behind it.
@@ -114,7 +57,8 @@ fn catalog_nodes(alloc: Global, layout: Layout, name: &Units) -> Result<Vec<u8>,
     requires { IsTrue (is_name name.now) }
     ensures { IfOk result (λ bytes. bytes.items ≡ catalog_text layout name.now) }
 {
-    let mut nodes = header_node(alloc, &catalog_tree(layout.block), 2)?;
+    let tree = catalog_tree(layout.block, 0);
+    let mut nodes = header_node(alloc, &tree, 2)?;
     let leaf = leaf_node(alloc, layout, name)?;
     nodes.extend_from_slice(leaf.as_slice())?;
     Ok(nodes)

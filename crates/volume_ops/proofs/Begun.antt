@@ -3,13 +3,15 @@ use Rattle.std.proofs.Common.{◌≡◌, ◌<◌, ◌≤◌, ℕ, ◌*◌, ◌/�
 use Rattle.std.specs.Prelude.{Contains, IsTrue, Option, None, slice_index}
 use Rattle.std.specs.List.{All}
 use Rattle.flag_rows.specs.Bits.{sectors_for}
-use Rattle.alloc_bitmap.specs.Fork.{HoldsBits, fork_sectors}
+use Rattle.alloc_bitmap.specs.Fork.{HoldsBits}
+use Rattle.fork_map.specs.Blocks.{fork_sectors}
 use Rattle.alloc_bitmap.specs.Map.{BlockMap, none}
 use Rattle.btree_node.specs.Keys.{IsCatalogKey, catalog_cmp, anything}
 use Rattle.hx_bytes.specs.declared.extents.ForkRecord.{ForkRecord}
 use Rattle.sector_disk.specs.Lists.{Content}
 use Rattle.sector_disk.specs.Space.{Space}
 use Rattle.jnl_format.specs.Recovery.{header_of_volume}
+use Rattle.volume_header.specs.Header.{FitsHeader}
 use Rattle.volume_header.specs.Refusal.{header_refusal}
 use Rattle.volume_header.specs.declared.header.VolumeHeader.{VolumeHeader}
 use Rattle.btree_node.specs.declared.store.TreeShape.{TreeShape}
@@ -284,13 +286,14 @@ module _ (a d e : Space) (header : VolumeHeader) (extents : Tree) (begun_so : Ha
         private = private_is later ∙ (λ i. private_id (placed_in (pairs_in (sym sectors i) (begun_so.looks.content tells i))));
       }
 
-  pub in_service_then : (z : Space) → z.sectors ≡ e.sectors → e.sectors ≡ d.sectors → IsTreeInService first d → KeepsTree e.tells first catalog → IsTreeInService attributes d → 512 ≤ header.block_size → header.block_size ≤ 65536
+  pub in_service_then : (z : Space) → z.sectors ≡ e.sectors → e.sectors ≡ d.sectors → IsTreeInService first d → KeepsTree e.tells first catalog → IsTreeInService attributes d → FitsHeader header → 512 ≤ header.block_size → header.block_size ≤ 65536
       → All (λ at. at < d.sectors) (fork_sectors map.fork map.per_block) → sectors_for (length map.used) ≤ length (fork_sectors map.fork map.per_block)
       → IsInService (served header map extents catalog attributes private capacity) z
-  in_service_then z last middle one keeps other least most inside long = record {
+  in_service_then z last middle one keeps other fits least most inside long = record {
     extents = service_later extents e z last begun_so.service;
     catalog = service_kept e.tells first catalog d z keeps (last ∙ middle) one;
     attributes = service_later attributes d z (last ∙ middle) other;
+    fits = fits;
     least = least;
     most = most;
     map_inside = subst (λ n. All (λ at. at < n) (fork_sectors map.fork map.per_block)) (sym (last ∙ middle)) inside;

@@ -55,7 +55,7 @@ whole_size n (inr (inr (inr (inr (inr (inr e)))))) = omega (arith, e)
 
 module _ (content : Content) (limit : ℕ) (xs : List ℕ) (each : (at : ℕ) → Contains xs at → (at < limit) × (length (sector content at) ≡ 512)) where
   -- a node that the fork has
-  node_same : (size n : ℕ) → size / 512 * 512 ≡ size → (n + 1) * (size / 512) ≤ length xs → nodes_on xs size content n ≡ node_of_fork content limit xs size n
+  pub node_same : (size n : ℕ) → size / 512 * 512 ≡ size → (n + 1) * (size / 512) ≤ length xs → nodes_on xs size content n ≡ node_of_fork content limit xs size n
   unfolding node_of_fork
   node_same size n whole ends =
       let both = whole_bytes content limit (sectors_at xs (size / 512) n) (λ at has. each at (of_fork xs (size / 512) n at has)) in

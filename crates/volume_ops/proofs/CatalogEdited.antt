@@ -1,5 +1,5 @@
 -- A volume stands over its space again behind an edit of its catalog: no sector of the catalog is one of another of its files.
-use Rattle.std.proofs.Common.{◌≡◌, ◌⊎◌, ◌<◌, ◌≤◌, ℕ, ◌+◌, ◌++◌, Bool, true, false, List, [], ◌∷◌, length, map, get_or, refl, sym, ◌∙◌, ap, subst, arith, inl, inr, ⊎_elim}
+use Rattle.std.proofs.Common.{◌≡◌, ◌⊎◌, ◌<◌, ◌≤◌, ℕ, ◌+◌, ◌-◌, ◌++◌, Bool, true, false, List, [], ◌∷◌, length, map, get_or, refl, sym, ◌∙◌, ap, subst, arith, inl, inr, ⊎_elim}
 use Rattle.std.specs.Prelude.{Contains, IsTrue, Result, Ok, Err, OnOk, slice_index, if◌then◌else◌}
 use Rattle.std.specs.List.{All}
 use Rattle.std.proofs.lemmas.List.Elements.{Contains-append_left, Contains-append_right}
@@ -11,6 +11,7 @@ use Rattle.btree_node.specs.Levels.{Pair}
 use Rattle.btree_node.specs.Tree.{pairs_of}
 use Rattle.btree_node.specs.TreeFile.{TreeFile as File, store_of, tree_head, extents_form, catalog_form, attributes_form}
 use Rattle.hx_bytes.specs.declared.faults.Trouble.{Trouble}
+use Rattle.jnl_format.specs.Recovery.{info_sector_of}
 use Rattle.sector_disk.specs.Lists.{Content, sector}
 use Rattle.sector_disk.specs.Space.{Space}
 use Rattle.btree_file.specs.Frame.{FollowsOn}
@@ -23,7 +24,7 @@ use Rattle.hfs_volume.specs.Forks.{extents_of, allocation_id, attributes_id, cat
 use Rattle.hfs_volume.specs.Records.{Overflow, overflow_of}
 use Rattle.volume_ops.specs.Lists.{lists_of}
 use Rattle.volume_ops.specs.Service.{IsTreeInService, IsInService}
-use Rattle.volume_ops.specs.Standing.{IsStanding, StandsOver, attribute_sectors, map_sectors, own_sectors}
+use Rattle.volume_ops.specs.Standing.{IsStanding, StandsOver, attribute_sectors, map_sectors, file_sectors, own_sectors}
 use Rattle.volume_ops.specs.declared.volume.Tree.{Tree}
 use Rattle.volume_ops.specs.declared.volume.Volume.{Volume}
 use Rattle.volume_ops.proofs.Begun.{service_later}
@@ -63,20 +64,20 @@ module _ (volume : Volume) (a b : Space) (later : Tree) where
   edited = record volume { catalog = later }
 
   module _ (follows : FollowsOn volume.catalog.file later.file a b) where
-    catalog_same : sectors_of_tree later.file ≡ sectors_of_tree volume.catalog.file
+    pub catalog_same : sectors_of_tree later.file ≡ sectors_of_tree volume.catalog.file
     catalog_same = same_sectors volume.catalog.file later.file follows.file
 
     module _ (was : IsStanding volume a) (tells : IsTrue a.tells) (holds : HoldsTree catalog_form IsCatalogKey anything catalog_cmp later.file b.content) where
-      other : (s : ℕ) → (Contains (sectors_of_tree volume.catalog.file) s → ⊥) → sector b.content s ≡ sector a.content s
+      pub other : (s : ℕ) → (Contains (sectors_of_tree volume.catalog.file) s → ⊥) → sector b.content s ≡ sector a.content s
       other s none = ⊎_elim (λ e. e) (λ here. absurd (none here)) ((follows.space.content tells).each s)
 
       parts : (s : ℕ) → Contains (sectors_of_tree volume.catalog.file) s → (Contains (sectors_of_tree volume.extents.file) s → ⊥) × (Contains (attribute_sectors volume) s → ⊥)
       parts s here = apart_parts s (2 ∷ []) (sectors_of_tree volume.extents.file) (sectors_of_tree volume.catalog.file) (attribute_sectors volume) (map_sectors volume) (was.apart s) here
 
-      extents_same : (s : ℕ) → Contains (sectors_of_tree volume.extents.file) s → sector b.content s ≡ sector a.content s
+      pub extents_same : (s : ℕ) → Contains (sectors_of_tree volume.extents.file) s → sector b.content s ≡ sector a.content s
       extents_same s has = other s (λ here. (parts s here).0 has)
 
-      attributes_same : IsTrue (has_attributes volume.header) → (s : ℕ) → Contains (sectors_of_tree volume.attributes.file) s → sector b.content s ≡ sector a.content s
+      pub attributes_same : IsTrue (has_attributes volume.header) → (s : ℕ) → Contains (sectors_of_tree volume.attributes.file) s → sector b.content s ≡ sector a.content s
       attributes_same there s has = other s (λ here. (parts s here).1 (subst (λ (l : List ℕ). Contains l s) (sym (there_is (has_attributes volume.header) (sectors_of_tree volume.attributes.file) there)) has))
 
       overflow_same : overflow_in_volume (lists_of edited b.content) ≡ overflow_in_volume (lists_of volume a.content)
@@ -84,6 +85,9 @@ module _ (volume : Volume) (a b : Space) (later : Tree) where
 
       own_same : own_sectors edited ≡ own_sectors volume
       own_same = λ i. 2 ∷ sectors_of_tree volume.extents.file ++ (catalog_same i ++ (attribute_sectors volume ++ map_sectors volume))
+
+      files_same : file_sectors edited ≡ file_sectors volume
+      files_same = λ i. sectors_of_tree volume.extents.file ++ (catalog_same i ++ (attribute_sectors volume ++ map_sectors volume))
 
       pub stands_edited : IsStanding edited b
       stands_edited = record {
@@ -107,6 +111,10 @@ module _ (volume : Volume) (a b : Space) (later : Tree) where
         apart = subst (λ (l : List ℕ). AreApart l) (sym own_same) was.apart;
         blocks = was.blocks;
         closed = λ at is has. was.closed at ((follows.space.closed tells at).0 is) (subst (λ (l : List ℕ). Contains l at) own_same has);
+        aside = λ at is has. was.aside at (subst (λ n. (at ≡ n - 2) ⊎ (at ≡ info_sector_of volume.header)) (follows.space.content tells).size is) (subst (λ (l : List ℕ). Contains l at) own_same has);
+        large = omega (arith, was.large, (follows.space.content tells).size);
+        inside = λ at has. was.inside at (subst (λ (l : List ℕ). Contains l at) files_same has);
+        fit = omega (arith, was.fit, (follows.space.content tells).size);
         live = λ at is. subst (λ (l : List ℕ). Contains l at) (sym own_same) (⊎_elim (λ old. was.live at old) (λ here. of_catalog at here) (follows.space.live tells at is));
       }
         where
@@ -124,6 +132,7 @@ module _ (volume : Volume) (a b : Space) (later : Tree) where
             (subst (λ n. (k : ℕ) → k < length (sectors_of_tree volume.catalog.file) → slice_index (sectors_of_tree volume.catalog.file) k < n) (sym follows.space.same.sectors) was.catalog.inside);
       };
       attributes = service_later volume.attributes a b follows.space.same.sectors was.attributes;
+      fits = was.fits;
       least = was.least;
       most = was.most;
       map_inside = subst (λ n. All (λ at. at < n) (map_sectors volume)) (sym follows.space.same.sectors) was.map_inside;

@@ -20,10 +20,10 @@ use Rattle.hfs_volume.specs.Content.{facts_of}
 use Rattle.volume_ops.specs.Lists.{facts_on}
 
 module _ (tree : TreeFile) (content : Content) (stands : Stands tree content) where
-  size_is : (file_in (sectors_of_tree tree) content).head.node_size ≡ tree.shape.node_size
+  pub size_is : (file_in (sectors_of_tree tree) content).head.node_size ≡ tree.shape.node_size
   size_is = ap (λ (h : TreeHead). h.node_size) (head_is tree content stands) ∙ stands.agrees.says_size
 
-  total_is : (file_in (sectors_of_tree tree) content).head.total ≡ tree.shape.total
+  pub total_is : (file_in (sectors_of_tree tree) content).head.total ≡ tree.shape.total
   total_is = ap (λ (h : TreeHead). h.total) (head_is tree content stands) ∙ stands.agrees.says_total
 
   few : length tree.map.items ≤ tree.shape.total

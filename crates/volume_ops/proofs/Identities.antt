@@ -24,7 +24,7 @@ use Rattle.hfs_volume.proofs.Sides.{one_key, entry_is_record}
 use Rattle.volume_ops.specs.Owning.{identity_in}
 
 -- a record is found under its key
-key_found : (pairs : List Pair) → AreSorted pairs → (s : Placed) → Contains (placed_in pairs) s → (parent : ℕ) (name : List ℕ) → (s.parent == parent) ≡ true → bytes_eq s.name name ≡ true → record_at (placed_in pairs) parent name ≡ Some s
+pub key_found : (pairs : List Pair) → AreSorted pairs → (s : Placed) → Contains (placed_in pairs) s → (parent : ℕ) (name : List ℕ) → (s.parent == parent) ≡ true → bytes_eq s.name name ≡ true → record_at (placed_in pairs) parent name ≡ Some s
 key_found pairs order s stands parent name its_parent its_name = by_found (record_at (placed_in pairs) parent name) refl
   where
     passes : is_placed_at parent name s ≡ true

@@ -12,11 +12,11 @@ use Rattle.sector_disk.specs.Space.{Space}
 use Rattle.jnl_format.specs.Recovery.{header_of_volume}
 use Rattle.volume_header.specs.declared.header.VolumeHeader.{VolumeHeader}
 use Rattle.flag_rows.specs.Bits.{sectors_for}
-use Rattle.fork_map.specs.Blocks.{blocks_of, sectors_of}
+use Rattle.fork_map.specs.Blocks.{blocks_of, sectors_of, fork_sectors}
 use Rattle.alloc_bitmap.specs.Fork.{HoldsBits}
 use Rattle.alloc_bitmap.specs.Map.{BlockMap, none}
 use Rattle.btree_file.specs.Held.{HoldsNodes, file_in}
-use Rattle.btree_file.specs.Place.{AreApart, fork_sectors}
+use Rattle.btree_file.specs.Place.{AreApart}
 use Rattle.btree_file.specs.Standing.{Stands}
 use Rattle.btree_file.specs.State.{sectors_of_tree}
 use Rattle.btree_file.specs.declared.tree.TreeFile.{TreeFile as File}

@@ -12,7 +12,7 @@ use Rattle.sector_disk.specs.Lists.{Content, sector}
 use Rattle.sector_disk.specs.Space.{Space}
 use Rattle.jnl_format.specs.Recovery.{header_of_volume}
 use Rattle.volume_header.specs.declared.header.VolumeHeader.{VolumeHeader}
-use Rattle.fork_map.specs.Blocks.{blocks_of, sectors_of}
+use Rattle.fork_map.specs.Blocks.{blocks_of, sectors_of, fork_sectors}
 use Rattle.alloc_bitmap.specs.Apart.{times}
 use Rattle.alloc_bitmap.proofs.ApartLaws.{times-append}
 use Rattle.btree_node.specs.Keys.{IsCatalogKey, IsExtentKey, IsAttrKey, catalog_cmp, extent_cmp, attr_cmp, is_eight_extents, anything}
@@ -20,7 +20,7 @@ use Rattle.btree_node.specs.Node.{IsNodeSize}
 use Rattle.btree_node.specs.Tree.{pairs_of}
 use Rattle.btree_node.specs.TreeFile.{TreeHead, TreeForm, TreeFile, tree_head, IsTreeFile, store_of, extents_form, catalog_form, attributes_form}
 use Rattle.btree_file.specs.Held.{HoldsNodes, file_in}
-use Rattle.btree_file.specs.Place.{AreApart, fork_sectors}
+use Rattle.btree_file.specs.Place.{AreApart}
 use Rattle.btree_file.specs.Standing.{HoldsTree, Stands, LiesInside, pairs_in}
 use Rattle.btree_file.specs.State.{sectors_of_tree}
 use Rattle.btree_file.specs.declared.tree.TreeFile.{TreeFile as File}

@@ -6,7 +6,7 @@ use Rattle.std.specs.declared.cmp.Ordering.{Ordering}
 use Rattle.hx_bytes.specs.declared.extents.Extent.{Extent}
 use Rattle.sector_disk.specs.Lists.{Content}
 use Rattle.sector_disk.specs.Space.{Space}
-use Rattle.alloc_bitmap.specs.Fork.{fork_sectors}
+use Rattle.fork_map.specs.Blocks.{fork_sectors}
 use Rattle.attributes.specs.Values.{AreInline}
 use Rattle.btree_node.specs.Keys.{IsCatalogKey, IsAttrKey, catalog_cmp, attr_cmp, anything}
 use Rattle.btree_node.specs.TreeFile.{TreeForm, IsTreeFile, tree_head, shape_of, catalog_form, attributes_form}

@@ -10,7 +10,7 @@ use Rattle.sector_disk.specs.Space.{Space, SameSpace, SameSectors, SameRoom, Lea
 use Rattle.sector_disk.proofs.Passing.{none_passes, both_pass}
 use Rattle.btree_edit.specs.Causes.{HasTroubleCause}
 use Rattle.btree_file.specs.Frame.{ReadsSpace, SameFile}
-use Rattle.btree_file.specs.FrameLaws.{space_none, space_both, iff_none, iff_both, leaves_as_before}
+use Rattle.sector_disk.proofs.SpaceLaws.{space_none, space_both, iff_none, iff_both, leaves_as_before}
 use Rattle.btree_file.specs.declared.tree.TreeFile.{TreeFile}
 use Rattle.volume_ops.specs.Service.{KeepsFile, KeepsTree}
 use Rattle.volume_ops.specs.Touching.{Looks}

@@ -398,3 +398,62 @@ module _ (content : Content) (sound : IsSound content) where
   -- no sector of the journal is the volume's own
   pub journal_apart : (at : ℕ) → IsJournalSector content at → Contains (own_sectors_in content) at → ⊥
   journal_apart at journal has = omega (arith, journal_used at journal, stands_once at (own_sectors_in content) has, own_times at, counted (at / per))
+
+  -- ---- the blocks of the special files, and the alternate header
+
+  -- the sectors of the special files
+  abbrev pub files_of : List ℕ
+  files_of = sectors_in content (extents_of [] extents_id data_kind head.extents_fork)
+      ++ (sectors_at catalog_id head.catalog_fork ++ ((if has_attributes head then sectors_at attributes_id head.attributes_fork else []) ++ sectors_at allocation_id head.allocation_fork))
+
+  -- what holds of the sectors of each special file holds of them
+  each_file : (P : Type 0) (at : ℕ) → ((id : ℕ) (fork : ForkRecord) → Contains (special_forks (header_of_volume content)) (record { id = id; kind = data_kind; fork = fork }) → Contains (sectors_at id fork) at → P) → Contains files_of at → P
+  each_file P at holds has = elim (Contains-append_cases (sectors_in content (extents_of [] extents_id data_kind head.extents_fork)) (sectors_at catalog_id head.catalog_fork ++ more) at has) [
+    | inl extents ↦ holds extents_id head.extents_fork (0, omega arith, refl) (subst (λ (es : List Extent). Contains (sectors_in content es) at) own_extents extents)
+    | inr behind ↦ elim (Contains-append_cases (sectors_at catalog_id head.catalog_fork) more at behind) [
+      | inl catalog ↦ holds catalog_id head.catalog_fork (1, omega arith, refl) catalog
+      | inr rest ↦ elim (Contains-append_cases (if has_attributes head then sectors_at attributes_id head.attributes_fork else []) (sectors_at allocation_id head.allocation_fork) at rest) [
+        | inl attributes ↦ holds attributes_id head.attributes_fork (4, omega arith, refl) (there (has_attributes head) attributes)
+        | inr map ↦ holds allocation_id head.allocation_fork (2, omega arith, refl) map
+      ]
+    ]
+  ]
+    where
+      more : List ℕ
+      more = (if has_attributes head then sectors_at attributes_id head.attributes_fork else []) ++ sectors_at allocation_id head.allocation_fork
+
+      there : (b : Bool) → Contains (if b then sectors_at attributes_id head.attributes_fork else []) at → Contains (sectors_at attributes_id head.attributes_fork) at
+      there true has = has
+      there false has = absurd (omega (arith, has.1))
+
+  -- each is one of a block
+  in_a_block : (id : ℕ) (fork : ForkRecord) (at : ℕ) → Contains (special_forks (header_of_volume content)) (record { id = id; kind = data_kind; fork = fork }) → Contains (sectors_at id fork) at → at < block_limit content
+  in_a_block id fork at stands has = sectors_inside per (block_limit content) (extents_of (overflow_of_content content) id data_kind fork) geometry_of.some (special_limit id fork stands) at has
+
+  pub own_inside : (at : ℕ) → Contains files_of at → at < block_limit content
+  own_inside at has = each_file (at < block_limit content) at (λ id fork stands is. in_a_block id fork at stands is) has
+
+  -- and isn't the last but one, whose block is reserved
+  last_in : (id : ℕ) (fork : ForkRecord) → Contains (special_forks (header_of_volume content)) (record { id = id; kind = data_kind; fork = fork }) → Contains (sectors_at id fork) (length content - 2) → ⊥
+  last_in id fork stands has =
+      let low : length content - 2 < head.total_blocks * per = in_a_block id fork (length content - 2) stands has in
+      let under : (length content - 2) / per * per ≤ length content - 2 = div-mul-le_self (length content - 2) per in
+      let below : (length content - 2) / per < head.total_blocks = ⊎_elim
+      (λ (less : (length content - 2) / per < head.total_blocks). less)
+      (λ (more : head.total_blocks ≤ (length content - 2) / per). absurd (omega (arith, low, under, mul-le-mul_right {m = head.total_blocks} {n = (length content - 2) / per} per more)))
+      (cases_lt ((length content - 2) / per) head.total_blocks) in
+      let first : (length content * 512 - 1024) / head.block_size ≤ (length content - 2) / per = from_first head.block_size per geometry_of.whole geometry_of.some (length content * 512 - 1024) (length content - 2) (omega arith) in
+      let kept_back : 1 ≤ times ((length content - 2) / per) reserved = stands_once ((length content - 2) / per) reserved
+      (Contains-append_right (range_with_len 0 (parts_for 1536 head.block_size)) (range_with_len ((length content * 512 - 1024) / head.block_size) (head.total_blocks - (length content * 512 - 1024) / head.block_size)) ((length content - 2) / per)
+      (in_range ((length content * 512 - 1024) / head.block_size) (head.total_blocks - (length content * 512 - 1024) / head.block_size) ((length content - 2) / per) first (omega (arith, first, below)))) in
+      let used : 1 ≤ times ((length content - 2) / per) in_special = stands_once ((length content - 2) / per) in_special
+      (flat_stands (blocks_owned (overflow_of_content content)) (special_forks (header_of_volume content)) (record { id = id; kind = data_kind; fork = fork }) ((length content - 2) / per) stands (in_block per (blocks_at id fork) (length content - 2) geometry_of.some has)) in
+      omega (arith, kept_back, used, counted ((length content - 2) / per))
+
+  -- the sectors of the alternate header and of the info block are none of the volume's own
+  pub aside_apart : (at : ℕ) → (at ≡ length content - 2) ⊎ (at ≡ info_sector_of (header_of_volume content)) → Contains (own_sectors_in content) at → ⊥
+  aside_apart at (inl last) has = elim (first_or_later 2 at files_of has) [
+    | inl is ↦ omega (arith, is, last, geometry_of.large)
+    | inr files ↦ each_file ⊥ at (λ id fork stands there. last_in id fork stands (subst (λ n. Contains (sectors_at id fork) n) last there)) files
+  ]
+  aside_apart at (inr info) has = journal_apart at (inr info) has

@@ -1,5 +1,5 @@
 -- What reads leave of a volume in service, and that its catalog can be read.
-use Rattle.std.proofs.Common.{◌≡◌, ℕ, ◌<◌, ◌≤◌, ◌*◌, ◌-◌, IsTrue, List, [], ◌∷◌, ◌++◌, length, get_or, replicate, refl, sym, ◌∙◌, ap, subst, ⊎_elim}
+use Rattle.std.proofs.Common.{◌≡◌, ◌⊎◌, ℕ, ◌<◌, ◌≤◌, ◌*◌, ◌-◌, IsTrue, List, [], ◌∷◌, ◌++◌, length, get_or, replicate, refl, sym, ◌∙◌, ap, subst, ⊎_elim}
 use Rattle.std.specs.Prelude.{Bool, true, false, not, ◌==◌, All, Contains, if◌then◌else◌}
 use Rattle.std.proofs.lemmas.Bool.{eqb-true}
 use Rattle.std.proofs.lemmas.List.Elements.{Contains-append_left, Contains-append_right, All-contains_itself}
@@ -7,11 +7,11 @@ use Rattle.std.specs.declared.cmp.Ordering.{Ordering}
 use Rattle.sector_disk.specs.Lists.{Content, sector}
 use Rattle.sector_disk.specs.Space.{Space}
 use Rattle.jnl_format.specs.Recovery.{info_sector_of}
-use Rattle.volume_header.specs.Header.{header_of}
+use Rattle.volume_header.specs.Header.{header_of, FitsHeader}
 use Rattle.volume_header.specs.declared.header.VolumeHeader.{VolumeHeader}
 use Rattle.flag_rows.specs.Bits.{sectors_for}
 use Rattle.alloc_bitmap.specs.Apart.{AreApart}
-use Rattle.alloc_bitmap.specs.Fork.{fork_sectors}
+use Rattle.fork_map.specs.Blocks.{fork_sectors}
 use Rattle.alloc_bitmap.specs.declared.bitmap.Bitmap.{Bitmap}
 use Rattle.btree_node.specs.Keys.{IsCatalogKey, IsExtentKey, IsAttrKey, catalog_cmp, extent_cmp, attr_cmp, is_eight_extents, anything}
 use Rattle.btree_node.specs.TreeFile.{TreeForm, tree_head, extents_form, catalog_form, attributes_form}
@@ -29,7 +29,7 @@ use Rattle.hfs_volume.specs.Sound.{IsSoundVolume}
 use Rattle.volume_ops.specs.Lists.{lists_of, facts_on}
 use Rattle.volume_ops.specs.Looking.{IsCatalogOver, IsAttributesOver, ReadsTree, KeepsVolume, ReadsVolume}
 use Rattle.volume_ops.specs.Service.{IsInService, IsTreeInService, KeepsFile, KeepsTree}
-use Rattle.volume_ops.specs.Standing.{AreWhole, HoldsTrees, HasItsForks, IsStanding, StandsOver, IsSettled, own_sectors, with_attributes_tree}
+use Rattle.volume_ops.specs.Standing.{AreWhole, HoldsTrees, HasItsForks, IsStanding, StandsOver, IsSettled, file_sectors, own_sectors, with_attributes_tree}
 use Rattle.volume_ops.specs.declared.volume.Tree.{Tree}
 use Rattle.volume_ops.specs.declared.volume.Volume.{Volume}
 use Rattle.volume_ops.proofs.Over.{sectors_kept, held_kept, inside_kept}
@@ -53,6 +53,7 @@ module _ (old new : Volume) (before after : Space) (reads : ReadsVolume old new 
     extents = tree_still before.tells old.extents new.extents before after keeps.extents reads.looks.same.sectors was.extents;
     catalog = tree_still before.tells old.catalog new.catalog before after keeps.catalog reads.looks.same.sectors was.catalog;
     attributes = tree_still before.tells old.attributes new.attributes before after keeps.attributes reads.looks.same.sectors was.attributes;
+    fits = subst (λ (h : VolumeHeader). FitsHeader h) (sym keeps.header) was.fits;
     least = subst (λ (h : VolumeHeader). 512 ≤ h.block_size) (sym keeps.header) was.least;
     most = subst (λ (h : VolumeHeader). h.block_size ≤ 65536) (sym keeps.header) was.most;
     map_inside = subst (λ (k : Bitmap × ℕ). All (λ at. at < k.1) (fork_sectors k.0.fork k.0.per_block)) {x = (old.map, before.sectors)} {y = (new.map, after.sectors)} (λ i. (sym keeps.map i, sym reads.looks.same.sectors i)) was.map_inside;
@@ -70,6 +71,9 @@ module _ (old new : Volume) (before after : Space) (reads : ReadsVolume old new 
 
   pub own_still : own_sectors new ≡ own_sectors old
   own_still = λ i. 2 ∷ extents_at i ++ (catalog_at i ++ ((if has_attributes (keeps.header i) then attributes_at i else []) ++ fork_sectors (keeps.map i).fork (keeps.map i).per_block))
+
+  files_still : file_sectors new ≡ file_sectors old
+  files_still = λ i. extents_at i ++ (catalog_at i ++ ((if has_attributes (keeps.header i) then attributes_at i else []) ++ fork_sectors (keeps.map i).fork (keeps.map i).per_block))
 
   module _ (told : IsTrue before.tells) where
     abbrev content : after.content ≡ before.content
@@ -124,6 +128,10 @@ module _ (old new : Volume) (before after : Space) (reads : ReadsVolume old new 
       apart = subst AreApart (sym own_still) was.apart;
       blocks = (λ i. length (keeps.map i).used) ∙ was.blocks ∙ sym (λ i. (keeps.header i).total_blocks);
       closed = λ at shut own. was.closed at ((reads.looks.closed told at).0 shut) (subst (λ l. Contains l at) own_still own);
+      aside = λ at is own. was.aside at (subst (λ (k : ℕ × VolumeHeader). (at ≡ k.0 - 2) ⊎ (at ≡ info_sector_of k.1)) {x = (length after.content, new.header)} {y = (length before.content, old.header)} (λ i. (length (content i), keeps.header i)) is) (subst (λ l. Contains l at) own_still own);
+      large = subst (λ (c : Content). 2 < length c) (sym content) was.large;
+      inside = λ at has. subst (λ (h : VolumeHeader). at < h.total_blocks * per_block_of h) (sym keeps.header) (was.inside at (subst (λ l. Contains l at) files_still has));
+      fit = subst (λ (k : Content × VolumeHeader). k.1.total_blocks * per_block_of k.1 ≤ length k.0) {x = (before.content, old.header)} {y = (after.content, new.header)} (λ i. (sym content i, sym keeps.header i)) was.fit;
       live = λ at l. subst (λ xs. Contains xs at) (sym own_still) (⊎_elim (λ m. was.live at m) (λ own. own) (reads.looks.live told at l));
     }
 

@@ -1,5 +1,5 @@
 -- A volume that came into service stands over its content, and has what the content has.
-use Rattle.std.proofs.Common.{◌≡◌, ◌<◌, ◌≤◌, ℕ, zero, suc, ◌+◌, ◌-◌, ◌*◌, ◌/◌, ◌%◌, ◌++◌, Bool, true, false, List, [], ◌∷◌, length, map, replicate, get_or, refl, sym, ◌∙◌, ap, subst, arith, ⊎_elim}
+use Rattle.std.proofs.Common.{◌≡◌, ◌⊎◌, ◌<◌, ◌≤◌, ℕ, zero, suc, ◌+◌, ◌-◌, ◌*◌, ◌/◌, ◌%◌, ◌++◌, Bool, true, false, List, [], ◌∷◌, length, map, replicate, get_or, refl, sym, ◌∙◌, ap, subst, arith, ⊎_elim}
 use Rattle.std.specs.Prelude.{Contains, IsTrue, Option, Some, None, slice_get, if◌then◌else◌}
 use Rattle.std.specs.List.{flat_map, range_with_len}
 use Rattle.std.proofs.lemmas.Bool.{cases_lt}
@@ -14,9 +14,9 @@ use Rattle.sector_disk.specs.Space.{Space}
 use Rattle.jnl_format.specs.Recovery.{header_of_volume, info_sector_of}
 use Rattle.flag_rows.specs.Bits.{bit_of}
 use Rattle.flag_rows.proofs.ByteLaws.{bit_past}
-use Rattle.fork_map.specs.Blocks.{blocks_of, sectors_of}
+use Rattle.fork_map.specs.Blocks.{blocks_of, sectors_of, fork_sectors}
 use Rattle.alloc_bitmap.specs.Apart.{AreApart}
-use Rattle.alloc_bitmap.specs.Fork.{fork_sectors, fork_bit, sector_or_none}
+use Rattle.alloc_bitmap.specs.Fork.{fork_bit, sector_or_none}
 use Rattle.btree_node.specs.Levels.{Pair}
 use Rattle.btree_node.specs.Tree.{pairs_of}
 use Rattle.btree_node.specs.Keys.{IsCatalogKey, IsExtentKey, IsAttrKey, catalog_cmp, extent_cmp, attr_cmp, is_eight_extents, anything}
@@ -30,11 +30,11 @@ use Rattle.hfs_volume.specs.Links.{private_id}
 use Rattle.hfs_volume.specs.Records.{placed_in, overflow_of}
 use Rattle.volume_ops.specs.Lists.{lists_of}
 use Rattle.volume_ops.specs.Opening.{IsServable, IsOpened}
-use Rattle.volume_ops.specs.Standing.{AreWhole, HasItsForks, IsStanding, IsSettled, own_sectors, own_sectors_in, with_attributes_tree}
+use Rattle.volume_ops.specs.Standing.{AreWhole, HasItsForks, IsStanding, IsSettled, file_sectors, own_sectors, own_sectors_in, with_attributes_tree}
 use Rattle.volume_ops.specs.declared.volume.Volume.{Volume}
 use Rattle.volume_ops.proofs.Bridging.{whole_sector}
 use Rattle.volume_ops.proofs.Opened.{each_sector, sectors_are, extents_hold, extents_pairs, extents_facts, overflow_told, catalog_holds, catalog_pairs_are, catalog_compares, catalog_facts, attributes_hold, attribute_pairs_are, attribute_facts}
-use Rattle.volume_ops.proofs.SoundForks.{own_apart, own_extents, journal_apart}
+use Rattle.volume_ops.proofs.SoundForks.{own_apart, own_extents, journal_apart, aside_apart, files_of, own_inside, geometry_of}
 
 module _ (volume : Volume) (content : Content) (good : IsServable content) (opened : IsOpened volume content) where
   abbrev head : VolumeHeader
@@ -87,6 +87,12 @@ module _ (volume : Volume) (content : Content) (good : IsServable content) (open
     map_per = opened.map_per ∙ ap per_block_of (sym opened.header);
   }
 
+  in_blocks : (at : ℕ) → Contains (file_sectors volume) at → at < block_limit content
+  in_blocks at has = own_inside content good.sound at (subst (λ (l : List ℕ). Contains l at) files_are has)
+    where
+      files_are : file_sectors volume ≡ files_of content good.sound
+      files_are = λ i. extents_sectors i ++ (sectors_are content good catalog_id head.catalog_fork volume.catalog.file opened.catalog i ++ (attribute_sectors_are i ++ map_sectors_are i))
+
   pub stands : (space : Space) → space.content ≡ content → ((at : ℕ) → space.closed at → IsJournalSector content at) → ((at : ℕ) → space.live at → Contains (own_sectors_in content) at) → IsStanding volume space
   stands space here closed live = record {
     trees = record {
@@ -101,6 +107,10 @@ module _ (volume : Volume) (content : Content) (good : IsServable content) (open
     apart = subst (λ (l : List ℕ). AreApart l) (sym own_is) (own_apart content good.sound);
     blocks = opened.blocks ∙ ap (λ (h : VolumeHeader). h.total_blocks) (sym opened.header);
     closed = λ at is has. journal_apart content good.sound at (closed at is) (subst (λ (l : List ℕ). Contains l at) own_is has);
+    aside = λ at is has. aside_apart content good.sound at (subst (λ (k : ℕ × VolumeHeader). (at ≡ k.0 - 2) ⊎ (at ≡ info_sector_of k.1)) {x = (length space.content, volume.header)} {y = (length content, header_of_volume content)} (λ i. (length (here i), opened.header i)) is) (subst (λ (l : List ℕ). Contains l at) own_is has);
+    large = subst (λ (c : Content). 2 < length c) (sym here) (omega (arith, (geometry_of content good.sound).large));
+    inside = λ at has. subst (λ (h : VolumeHeader). at < h.total_blocks * per_block_of h) (sym opened.header) (in_blocks at has);
+    fit = subst (λ (k : Content × VolumeHeader). k.1.total_blocks * per_block_of k.1 ≤ length k.0) {x = (content, header_of_volume content)} {y = (space.content, volume.header)} (λ i. (sym here i, sym opened.header i)) (geometry_of content good.sound).inside;
     live = λ at is. subst (λ (l : List ℕ). Contains l at) (sym own_is) (live at is);
   }
 

@@ -8,7 +8,7 @@ use Rattle.sector_disk.specs.Clock.{TimePasses}
 use Rattle.sector_disk.specs.Space.{Space, SameSpace, Puts, TakesRoom, LeavesDurable}
 use Rattle.btree_file.specs.Frame.{PutsWithin}
 use Rattle.btree_file.specs.State.{sectors_of_tree}
-use Rattle.volume_ops.specs.Standing.{attribute_sectors, map_sectors, own_sectors}
+use Rattle.volume_ops.specs.Standing.{attribute_sectors, map_sectors, file_sectors, own_sectors}
 use Rattle.volume_ops.specs.Touching.{Touches}
 use Rattle.volume_ops.specs.declared.volume.Volume.{Volume}
 
@@ -32,26 +32,14 @@ touches_catalog volume committed a b was = touches_within committed (sectors_of_
     (λ s here. Contains-append_right (2 ∷ sectors_of_tree volume.extents.file) (sectors_of_tree volume.catalog.file ++ (attribute_sectors volume ++ map_sectors volume)) s
     (Contains-append_left (sectors_of_tree volume.catalog.file) (attribute_sectors volume ++ map_sectors volume) s here)) was
 
-or_true : (x y : Bool) → y ≡ true → (x || y) ≡ true
+pub or_true : (x y : Bool) → y ≡ true → (x || y) ≡ true
 or_true true y is = refl
 or_true false y is = is
 
-one_less : (b : Bool) (n : ℕ) → (if b then n else n - 1) ≤ n
+pub one_less : (b : Bool) (n : ℕ) → (if b then n else n - 1) ≤ n
 one_less true n = omega arith
 one_less false n = omega arith
 
--- a put of the header puts the volume's own sector
-pub touches_header : (volume : Volume) (committed : Content) (a b : Space) (bytes : List ℕ) → SameSpace a b → (IsTrue a.tells → Puts a 2 bytes b) → (IsTrue a.tells → TimePasses a.clock b.clock (LeavesDurable b)) → TakesRoom a 2 b → b.faults ≡ a.faults
-    → Touches committed (λ s. Contains (own_sectors volume) s) a b
-touches_header volume committed a b bytes same puts time room faults = record {
-  same = same;
-  durable = λ tells. record { size = ap (λ (c : Content). length c) (puts tells).durable; each = λ at. inl (ap (λ (c : Content). sector c at) (puts tells).durable) };
-  spilled = λ tells s now. inl (((puts tells).spilled s).0 now);
-  still = λ tells s before. ((puts tells).spilled s).1 before;
-  live = λ tells s l. ⊎_elim (λ before. inl before) (λ (e : s ≡ 2). inr (0, omega arith, sym e)) (((puts tells).live s).0 l);
-  closed = λ tells. (puts tells).closed;
-  still_put = λ s put. room.put s ∙ or_true (s == 2) (a.put s) put;
-  spare = subst (λ n. n ≤ a.spare) (sym room.spare) (one_less (a.put 2) a.spare);
-  faults = omega (arith, faults);
-  time = time;
-}
+-- and so does a put of the header
+pub touches_header : (volume : Volume) (committed : Content) (a b : Space) → PutsWithin (2 ∷ []) a b → Touches committed (λ s. Contains (own_sectors volume) s) a b
+touches_header volume committed a b was = touches_within committed (2 ∷ []) (λ s. Contains (own_sectors volume) s) a b (λ s here. Contains-append_left (2 ∷ []) (file_sectors volume) s here) was

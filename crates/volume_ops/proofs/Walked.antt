@@ -30,6 +30,7 @@ use Rattle.hfs_volume.specs.Links.{AreGoodLinks, private_id}
 use Rattle.hfs_volume.specs.Entries.{AreThreaded, AreRooted, HaveIds, IsUserId}
 use Rattle.hfs_volume.specs.Records.{Placed, Overflow, Attribute, attribute_of, placed_in, entries_of, record_at, is_placed_at, id_of, is_empty, is_thread, inline_bytes}
 use Rattle.hfs_volume.specs.TreeOf.{is_hidden, is_seen, seen_entry, plain_entry, plain_attribute, threaded_node}
+use Rattle.hfs_volume.proofs.Fitting.{differs}
 use Rattle.hfs_volume.proofs.Flat.{found_some}
 use Rattle.hfs_volume.proofs.Members.{each_of, kept_stands}
 use Rattle.hfs_volume.proofs.Reaching.{IsFolder, Shows, seen_shows, shows_seen, seen_stands, seen_visible, seen_not_root, front_is}
@@ -39,13 +40,6 @@ use Rattle.volume_ops.specs.Reaching.{named, folder_reached, child_in, walk_in}
 use Rattle.volume_ops.specs.declared.reaching.Reached.{Reached}
 use Rattle.volume_ops.specs.declared.reaching.Reached.TheVariants as reached
 use Rattle.volume_ops.proofs.Identities.{identity_is, node_attributes}
-
-differs : (m n : ℕ) → (m ≡ n → ⊥) → (m == n) ≡ false
-differs m n distinct = by_test (m == n) refl
-  where
-    by_test : (b : Bool) → (m == n) ≡ b → b ≡ false
-    by_test true is = absurd (distinct (eqb-true m n is))
-    by_test false is = refl
 
 -- where users see each record at a place, the entry of the tree there is that of the record
 find_seen : (records : List Placed) (id : ℕ) (name : List ℕ) → ((p : Placed) → is_placed_at id name p ≡ true → is_seen records p ≡ true) → (xs : List Placed)
@@ -92,7 +86,7 @@ find_owned id name (x ∷ xs) = by_test (x.id == id) refl (find_owned id name xs
         ∙ sym (ap (λ b. option_map plain_attribute (cond (b && bytes_eq x.name name) (Some x) (find (is_attribute_of id name) xs))) is)
 
 -- two answers: the same reason, or two things of which this holds
-abbrev pub Agree : (Reached → PlainEntry → Type 0) → Result Reached Refusal → Result PlainEntry Refusal → Type 0
+abbrev pub Agree : {X Y : Type 0} → (X → Y → Type 0) → Result X Refusal → Result Y Refusal → Type 0
 Agree Same (Ok at) (Ok e) = Same at e
 Agree Same (Err why) (Err other) = why ≡ other
 Agree Same (Ok at) (Err other) = ⊥
@@ -104,8 +98,23 @@ module _ (pairs : List Pair) (next : ℕ) (ids : HaveIds next (entries_of (place
     abbrev records : List Placed
     records = placed_in pairs
 
+    -- an entry of this value, which users see, is this one of the tree
+    pub record IsShown (value : CatRecord) (e : PlainEntry) : Type 0 where
+      pub parent : ℕ
+      pub name : List ℕ
+      pub stands : Contains (entries_of records) (record { parent = parent; name = name; value = value })
+      pub shows : Shows records (record { parent = parent; name = name; value = value })
+      pub is : e ≡ plain_entry records (record { parent = parent; name = name; value = value })
+
+    -- what was reached is the root, or an entry that users see
+    abbrev pub ComesFrom : Reached → PlainEntry → Type 0
+    ComesFrom reached.Root e = e ≡ root_entry
+    ComesFrom (reached.Folder folder) e = IsShown (Folder folder) e
+    ComesFrom (reached.File file) e = IsShown (File file) e
+
     -- what was reached by the records is this entry of the tree
     pub record IsReached (at : Reached) (e : PlainEntry) : Type 0 where
+      pub comes : ComesFrom at e
       pub folder : folder_reached at ≡ (if e.folder then Ok e.id else Err refusal.NotFolder)
       pub is_folder : e.folder ≡ true → IsFolder records next ids rooted e.id
       pub id : id_reached pairs (private_id records) at ≡ e.id
@@ -122,6 +131,7 @@ module _ (pairs : List Pair) (next : ℕ) (ids : HaveIds next (entries_of (place
         let p : Placed = record { parent = parent; name = name; value = Folder folder } in
         record {
           reached = record {
+            comes = record { parent = parent; name = name; stands = stands; shows = shows; is = refl };
             folder = refl;
             is_folder = λ is. record { folder = (p, stands, refl, refl); visible = seen_visible records next ids rooted p stands shows };
             id = refl;
@@ -133,6 +143,7 @@ module _ (pairs : List Pair) (next : ℕ) (ids : HaveIds next (entries_of (place
         let p : Placed = record { parent = parent; name = name; value = File file } in
         record {
           reached = record {
+            comes = record { parent = parent; name = name; stands = stands; shows = shows; is = refl };
             folder = refl;
             is_folder = λ is. absurd (true≢false (sym is));
             id = identity_is pairs overflow links order parent name file stands;
@@ -216,6 +227,7 @@ module _ (pairs : List Pair) (next : ℕ) (ids : HaveIds next (entries_of (place
 
     root_reached : IsReached reached.Root root_entry
     root_reached = record {
+      comes = refl;
       folder = refl;
       is_folder = λ is. (front_is records next ids rooted tree same_entries ([] ∷ []) root_entry refl refl refl refl).0;
       id = refl;

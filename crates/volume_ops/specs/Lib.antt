@@ -1,11 +1,16 @@
+pub mod Changing
+pub mod Entering
 pub mod Keeping
 pub mod Listing
 pub mod Lists
 pub mod Looking
+pub mod Nodes
 pub mod Opening
 pub mod Owning
 pub mod Reaching
+pub mod Reading
 pub mod Room
 pub mod Service
 pub mod Standing
+pub mod Stating
 pub mod Touching

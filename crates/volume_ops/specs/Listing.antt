@@ -23,9 +23,9 @@ listed_child child = record { name = child.name; folder = is_folder child.rec }
 abbrev pub shown_in : ℕ → List Child → List ListedName
 shown_in folder children = map listed_child (kept (is_shown folder) children)
 
--- the reply about a folder, or the first reason against it
-abbrev pub replied : Result ℕ Refusal → (ℕ → Reply) → Reply
-replied (Ok folder) reply_of = reply_of folder
+-- the reply about what was found, or the first reason against it
+abbrev pub replied : {X : Type 0} → Result X Refusal → (X → Reply) → Reply
+replied (Ok found) reply_of = reply_of found
 replied (Err why) reply_of = reply.No why
 
 -- the names in the folder that a path reaches, by the pairs of the catalog's tree

@@ -8,7 +8,8 @@ use Rattle.jnl_format.specs.Recovery.{Content, header_of_volume}
 use Rattle.sector_disk.specs.Space.{Space}
 use Rattle.volume_header.specs.declared.header.VolumeHeader.{VolumeHeader}
 use Rattle.flag_rows.specs.Bits.{sectors_for}
-use Rattle.alloc_bitmap.specs.Fork.{HoldsBits, fork_sectors}
+use Rattle.alloc_bitmap.specs.Fork.{HoldsBits}
+use Rattle.fork_map.specs.Blocks.{fork_sectors}
 use Rattle.alloc_bitmap.specs.Map.{none}
 use Rattle.btree_file.specs.Standing.{Stands, pairs_in}
 use Rattle.btree_file.specs.State.{sectors_of_tree}

@@ -3,7 +3,8 @@ use Rattle.std.specs.Prelude.{◌≡◌, ◌<◌, ◌≤◌, Bool, IsTrue, lengt
 use Rattle.std.specs.List.{All}
 use Rattle.flag_rows.specs.Bits.{sectors_for}
 use Rattle.sector_disk.specs.Space.{Space}
-use Rattle.alloc_bitmap.specs.Fork.{fork_sectors}
+use Rattle.fork_map.specs.Blocks.{fork_sectors}
+use Rattle.volume_header.specs.Header.{FitsHeader}
 use Rattle.btree_edit.specs.Desk.{IsDeskOf}
 use Rattle.btree_file.specs.Frame.{SameFile}
 use Rattle.btree_file.specs.Standing.{LiesInside}
@@ -16,12 +17,13 @@ pub record IsTreeInService (tree : Tree) (space : Space) : Type 0 where
   pub desk : IsDeskOf tree.file.shape.node_size tree.desk
   pub inside : LiesInside tree.file space
 
--- A volume in service: its trees are, its blocks have a size that volumes have, and the file of its bitmap lies in the space and has a bit for
--- each block.
+-- A volume in service: its trees are, its header has a spelling, its blocks have a size that volumes have, and the file of its bitmap lies in
+-- the space and has a bit for each block.
 pub record IsInService (volume : Volume) (space : Space) : Type 0 where
   pub extents : IsTreeInService volume.extents space
   pub catalog : IsTreeInService volume.catalog space
   pub attributes : IsTreeInService volume.attributes space
+  pub fits : FitsHeader volume.header
   pub least : 512 ≤ volume.header.block_size
   pub most : volume.header.block_size ≤ 65536
   pub map_inside : All (λ at. at < space.sectors) (fork_sectors volume.map.fork volume.map.per_block)

@@ -1,11 +1,11 @@
 -- A volume in service over a content.
-use Rattle.std.specs.Prelude.{◌≡◌, ◌⊎◌, ◌<◌, ℕ, ◌/◌, IsTrue, true, false, List, [], ◌∷◌, ◌++◌, length, slice_index_or, if◌then◌else◌, Option, None}
+use Rattle.std.specs.Prelude.{◌≡◌, ◌⊎◌, ◌<◌, ℕ, ◌≤◌, ◌-◌, ◌*◌, ◌/◌, IsTrue, true, false, List, [], ◌∷◌, ◌++◌, length, slice_index_or, if◌then◌else◌, Option, None}
 use Rattle.std.specs.List.{Contains}
 use Rattle.sector_disk.specs.Lists.{Content, sector}
 use Rattle.sector_disk.specs.Space.{Space}
-use Rattle.jnl_format.specs.Recovery.{header_of_volume}
+use Rattle.jnl_format.specs.Recovery.{header_of_volume, info_sector_of}
 use Rattle.alloc_bitmap.specs.Apart.{AreApart}
-use Rattle.alloc_bitmap.specs.Fork.{fork_sectors}
+use Rattle.fork_map.specs.Blocks.{fork_sectors}
 use Rattle.btree_node.specs.Keys.{IsCatalogKey, IsExtentKey, IsAttrKey, catalog_cmp, extent_cmp, attr_cmp, is_eight_extents, anything}
 use Rattle.btree_node.specs.TreeFile.{tree_head, extents_form, catalog_form, attributes_form}
 use Rattle.btree_file.specs.Frame.{SameFile}
@@ -34,6 +34,14 @@ attribute_sectors volume = if has_attributes volume.header then sectors_of_tree 
 -- the sectors of the bitmap's file
 abbrev pub map_sectors : Volume → List ℕ
 map_sectors volume = fork_sectors volume.map.fork volume.map.per_block
+
+-- the sectors of the special files: the trees', and the bitmap's
+abbrev pub file_sectors : Volume → List ℕ
+file_sectors volume = sectors_of_tree volume.extents.file ++ (sectors_of_tree volume.catalog.file ++ (attribute_sectors volume ++ map_sectors volume))
+
+-- how many sectors the blocks have
+abbrev pub blocks_end : Volume → ℕ
+blocks_end volume = volume.header.total_blocks * per_block_of volume.header
 
 -- the sectors that are put: the header's, those of the trees' files, and those of the bitmap's file
 abbrev pub own_sectors : Volume → List ℕ
@@ -69,8 +77,12 @@ pub record HasItsForks (volume : Volume) (content : Content) : Type 0 where
   pub map : volume.map.fork ≡ extents_of (overflow_in_volume (lists_of volume content)) allocation_id data_kind volume.header.allocation_fork
   pub map_per : volume.map.per_block ≡ per_block_of volume.header
 
+-- the sector of the alternate header, the last but one, and that of the journal's info block
+abbrev pub IsKeptAside : Volume → Content → ℕ → Type 0
+IsKeptAside volume content at = (at ≡ length content - 2) ⊎ (at ≡ info_sector_of volume.header)
+
 -- What the volume keeps goes with the content: its trees stand, its special files are those that header and extents overflow file name, no
--- sector is in two of them, and none of theirs is the journal's; a put or a live list names no others.
+-- sector is in two of them, and none of theirs is the journal's, nor that of the alternate header; a put or a live list names no others.
 pub record IsStanding (volume : Volume) (space : Space) : Type 0 where
   pub trees : HoldsTrees volume space.content
   pub forks : HasItsForks volume space.content
@@ -78,6 +90,11 @@ pub record IsStanding (volume : Volume) (space : Space) : Type 0 where
   pub apart : AreApart (own_sectors volume)
   pub blocks : length volume.map.used ≡ volume.header.total_blocks
   pub closed : (at : ℕ) → space.closed at → Contains (own_sectors volume) at → ⊥
+  pub aside : (at : ℕ) → IsKeptAside volume space.content at → Contains (own_sectors volume) at → ⊥
+  pub large : 2 < length space.content
+  -- the special files lie in blocks, and these in the space
+  pub inside : (at : ℕ) → Contains (file_sectors volume) at → at < blocks_end volume
+  pub fit : blocks_end volume ≤ length space.content
   pub live : (at : ℕ) → space.live at → Contains (own_sectors volume) at
 
 -- A volume in service over a space, in the middle of a command too.

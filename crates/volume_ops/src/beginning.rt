@@ -7,6 +7,7 @@ ghost use Rattle.hfs_volume.specs.Content.{has_attributes};
 ghost use Rattle.hfs_volume.specs.Forks.{attributes_id, catalog_id};
 ghost use Rattle.volume_ops.specs.Opening.{HasBegun, IsFileOf, IsServable};
 ghost use Rattle.volume_ops.specs.Service.{IsTreeInService};
+ghost use Rattle.volume_header.specs.Header.{FitsHeader};
 ghost use Rattle.volume_ops.specs.Standing.{own_sectors_in};
 ghost use Rattle.volume_ops.specs.Touching.{Looks};
 
@@ -42,6 +43,7 @@ pub(crate) struct Trees {
 pub(crate) fn attach_front<P: SectorSpace>(alloc: Global, space: &mut P) -> Result<Front, Trouble>
     requires servable { IsTrue (P.SectorView.space space.old).tells → IsServable (P.SectorView.space space.old).content }
     ensures begun { IfOk result (λ front. HasBegun (P.SectorView.space space.old) (P.SectorView.space space.new) front.header front.extents) }
+    ensures fits { IfOk result (λ front. FitsHeader front.header) }
     ensures least { IfOk result (λ front. 512 ≤ front.header.block_size) }
     ensures most { IfOk result (λ front. front.header.block_size ≤ 65536) }
     ensures looks { Looks (λ at. Contains (own_sectors_in (P.SectorView.space space.old).content) at) (P.SectorView.space space.old) (P.SectorView.space space.new) }

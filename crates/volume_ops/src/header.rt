@@ -2,10 +2,11 @@
 ghost use Rattle.std.specs.Prelude.{◌≡◌, ◌≤◌, None, IsTrue, IfOk, length};
 ghost use Rattle.sector_disk.specs.Cause.{HasCause};
 ghost use Rattle.jnl_format.specs.Recovery.{header_of_volume};
+ghost use Rattle.volume_header.specs.Header.{FitsHeader, header_of};
 ghost use Rattle.volume_header.specs.Refusal.{header_refusal};
 ghost use Rattle.btree_file.specs.Frame.{ReadsSpace};
 
-use hx_bytes::{Extent, ExtentRecord, Failed, ForkRecord};
+use hx_bytes::{Extent, ExtentRecord, Failed, ForkRecord, Sector};
 use sector_disk::SectorView;
 use volume_header::{VolumeHeader, read_header};
 
@@ -21,7 +22,8 @@ const EMPTY: ForkRecord = ForkRecord {
 
 /// The header of a volume without blocks.
 fn no_header() -> VolumeHeader
-    ensures { result.block_size ≡ 512 }
+    ensures size { result.block_size ≡ 512 }
+    ensures fits { FitsHeader result }
 {
     VolumeHeader {
         signature: 0,
@@ -53,9 +55,23 @@ fn no_header() -> VolumeHeader
     }
 }
 
+/// The header in a sector, or that of a volume without blocks where it isn't one of a volume of so many sectors.
+fn header_or_none(sector: &Sector, sectors: u64) -> VolumeHeader
+    ensures read { header_refusal (header_of sector.now) sectors ≡ None → result ≡ header_of sector.now }
+    ensures fits { FitsHeader result }
+    ensures least { 512 ≤ result.block_size }
+    ensures most { result.block_size ≤ 65536 }
+{
+    match read_header(sector, sectors) {
+        Ok(head) => head,
+        Err(_) => no_header(),
+    }
+}
+
 /// The header that a space holds, or that of a volume without blocks where it holds none.
 pub(crate) fn read_volume_header<V: SectorView>(view: &mut V) -> Result<VolumeHeader, Failed>
     ensures head { IsTrue (V.space view.old).tells → header_refusal (header_of_volume (V.space view.old).content) (V.space view.old).sectors ≡ None → IfOk result (λ head. head ≡ header_of_volume (V.space view.old).content) }
+    ensures fits { IfOk result (λ head. FitsHeader head) }
     ensures least { IfOk result (λ head. 512 ≤ head.block_size) }
     ensures most { IfOk result (λ head. head.block_size ≤ 65536) }
     ensures reads { ReadsSpace (V.space view.old) (V.space view.new) }
@@ -68,8 +84,5 @@ pub(crate) fn read_volume_header<V: SectorView>(view: &mut V) -> Result<VolumeHe
     }
     let mut sector = [0; 512];
     view.get(2, &mut sector)?;
-    match read_header(&sector, sectors) {
-        Ok(head) => Ok(head),
-        Err(_) => Ok(no_header()),
-    }
+    Ok(header_or_none(&sector, sectors))
 }

@@ -1,5 +1,5 @@
 //! Reads of the trees over a space.
-ghost use Rattle.std.specs.Prelude.{◌≡◌, ◌⊎◌, ◌≤◌, ◌+◌, ◌/◌, map, length, IsTrue, IfOk};
+ghost use Rattle.std.specs.Prelude.{◌≡◌, ◌⊎◌, ◌≤◌, ◌+◌, ◌/◌, map, length, false, IsTrue, IfOk, IfSome};
 ghost use Rattle.std.specs.List.{Contains};
 ghost use Rattle.btree_node.specs.Keys.{IsCatalogKey, IsExtentKey, catalog_cmp, extent_cmp, is_eight_extents, anything};
 ghost use Rattle.btree_node.specs.TreeFile.{extents_form, catalog_form};
@@ -7,11 +7,12 @@ ghost use Rattle.btree_edit.specs.Causes.{HasTroubleCause};
 ghost use Rattle.btree_edit.specs.Desk.{IsDeskOf};
 ghost use Rattle.btree_file.specs.Standing.{HoldsTree, LiesInside, LiesOpen, numbers_of, pairs_in};
 ghost use Rattle.btree_file.specs.State.{sectors_of_tree};
+ghost use Rattle.cat_records.specs.Fits.{FitsRecord};
 ghost use Rattle.catalog.specs.Pairs.{value_at};
 ghost use Rattle.hfs_volume.specs.Blocks.{GoesOn};
 ghost use Rattle.hfs_volume.specs.Entries.{AreSpelled};
 ghost use Rattle.hfs_volume.specs.Forks.{extents_of};
-ghost use Rattle.hfs_volume.specs.Records.{overflow_of};
+ghost use Rattle.hfs_volume.specs.Records.{overflow_of, is_thread};
 ghost use Rattle.volume_ops.specs.Service.{KeepsFile};
 ghost use Rattle.volume_ops.specs.Standing.{AreWhole};
 ghost use Rattle.volume_ops.specs.Touching.{Looks};
@@ -70,6 +71,8 @@ pub(crate) fn lookup_record<P: SectorSpace>(
     requires spelled { IsTrue (P.SectorView.space space.old).tells → AreSpelled (pairs_in (sectors_of_tree tree.old) (P.SectorView.space space.old).content) }
     requires name { length name.now ≤ 255 }
     ensures found { IsTrue (P.SectorView.space space.old).tells → IfOk result (λ found. found ≡ value_at (pairs_in (sectors_of_tree tree.old) (P.SectorView.space space.old).content) parent name.now) }
+    // The record of a folder or file has a spelling.
+    ensures fits { IfOk result (λ found. IfSome found (λ rec. is_thread rec ≡ false → FitsRecord rec)) }
     ensures keeps { KeepsFile (P.SectorView.space space.old).tells tree.old tree.new }
     ensures looks { Looks (λ s. Contains (sectors_of_tree tree.old) s) (P.SectorView.space space.old) (P.SectorView.space space.new) }
     ensures desk { IsDeskOf (numbers_of tree.new).node_size desk.new }

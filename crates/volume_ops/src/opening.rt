@@ -8,7 +8,7 @@ ghost use Rattle.btree_node.specs.Keys.{IsCatalogKey, catalog_cmp, anything};
 ghost use Rattle.btree_node.specs.TreeFile.{catalog_form};
 ghost use Rattle.btree_edit.specs.Causes.{HasTroubleCause};
 ghost use Rattle.btree_file.specs.Held.{HoldsNodes, file_in};
-ghost use Rattle.btree_file.specs.Place.{fork_sectors};
+ghost use Rattle.fork_map.specs.Blocks.{fork_sectors};
 ghost use Rattle.btree_file.specs.Standing.{HoldsTree, LiesOpen, pairs_in};
 ghost use Rattle.btree_file.specs.State.{sectors_of_tree};
 ghost use Rattle.jnl_format.specs.Recovery.{header_of_volume};

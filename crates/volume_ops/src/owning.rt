@@ -31,7 +31,7 @@ use sector_disk::SectorSpace;
 use std::alloc::Global;
 
 /// The file that a link stands for, and of another file its own record.
-fn resolve_over<P: SectorSpace>(
+pub(crate) fn resolve_over<P: SectorSpace>(
     alloc: Global,
     tree: &mut TreeFile,
     desk: &mut Desk,
@@ -187,7 +187,7 @@ fn value_told(found: Option<Bytes>) -> Reply
 
 impl Volume {
     /// The CNID of the folder or file that a path stands for, or the first reason against it.
-    fn owner<P: SectorSpace>(
+    pub(crate) fn owner<P: SectorSpace>(
         &mut self,
         alloc: Global,
         space: &mut P,

@@ -2,7 +2,8 @@ use Rattle.std.proofs.Common.{◌≡◌, ◌≤◌, ◌<◌, ◌*◌, ℕ, IsTru
 use Rattle.sector_disk.specs.Clock.{TimePasses}
 use Rattle.sector_disk.specs.Space.{SameSpace, SameRoom, SameSectors, LeavesDurable}
 use Rattle.flag_rows.specs.Bits.{bit_of}
-use Rattle.alloc_bitmap.specs.Fork.{fork_sectors, fork_bit}
+use Rattle.alloc_bitmap.specs.Fork.{fork_bit}
+use Rattle.fork_map.specs.Blocks.{fork_sectors}
 use Rattle.alloc_bitmap.proofs.load.read_bytes.Given as goal
 
 abbrev pub invariant-loop-at : goal.invariant-loop-at

@@ -10,7 +10,7 @@ use Rattle.btree_edit.specs.Walking.{StepsOn}
 use Rattle.btree_edit.proofs.Repeated.{reads_both, reads_none}
 use Rattle.attributes.proofs.Owned.{not_both, tree_keys}
 use Rattle.attributes.proofs.Places.{tree_ascends}
-use Rattle.attributes.proofs.Walks.{Gathers, begins, ends, goes_on, leaves_them}
+use Rattle.attributes.proofs.Walks.{Gathers, begins, ends, ends_loaded, goes_on, leaves_them}
 use Rattle.attributes.proofs.listing.collect.Goals as goal
 
 pub loop-passed-init : goal.loop-passed-init
@@ -24,9 +24,9 @@ loop-passed-init g c =
       well_formed = c.in_ok-first.ensures.well_formed (subst IsSome (sym c.in-Some.is) refl);
       pairs = λ tells. c.seek.ensures.pairs tells;
       tree = λ tells. c.seek.ensures.tree tells;
-      gathers = λ tells. subst (Gathers c.args.id c.args.start.now (pairs_of s) now c.seek.new.desk c.in-Some.first 0) (sym c.new-names.ensures)
-          (begins c.args.id c.args.start.now (pairs_of s) (tree_ascends s (c.requires.tree tells)) (c.requires.form tells) c.requires.before.0 c.requires.before.1 now c.seek.new.desk c.in-Some.first c.in_ok-first.field-0
-          c.in-Some.is (c.seek.ensures.pairs tells) (c.in_ok-first.ensures.seeks tells));
+      gathers = λ tells. subst (Gathers c.args.id c.args.start.now s now c.seek.new.desk c.in-Some.first 0) (sym c.new-names.ensures)
+          (begins c.args.id c.args.start.now s (tree_ascends s (c.requires.tree tells)) (c.requires.form tells) c.requires.before.0 c.requires.before.1 now c.seek.new.desk c.in-Some.first c.in_ok-first.field-0
+          c.in-Some.is (c.seek.ensures.pairs tells) c.seek.ensures.reads.loads (c.in_ok-first.ensures.seeks tells));
       reads = reads_both s.shape.depth 0 (s.shape.depth + 0) c.seek.ensures.reads (reads_none now) (omega arith);
       later = c.seek.ensures.cause.later;
       below = c.seek.ensures.below;
@@ -49,10 +49,11 @@ loop-passed-preserved g c =
       gathers = λ tells.
           let gathers = known.gathers tells in
           let own = (c.is_key_of.ensures.0 c.if-not-is_key_of.false).1 in
-          subst (Gathers c.args.id c.args.start.now (pairs_of s) new c.step.new.desk c.in-Some-2.on (c.loop-passed._passed + 1)) (sym c.in_ok-push.ensures.added)
-          (goes_on c.args.id c.args.start.now (pairs_of s) (tree_ascends s (c.requires.tree tells)) (c.requires.form tells) c.requires.before.0 c.requires.before.1 now c.loop-passed.desk c.loop-passed.at c.loop-passed._passed c.loop-passed.names gathers
+          subst (Gathers c.args.id c.args.start.now s new c.step.new.desk c.in-Some-2.on (c.loop-passed._passed + 1)) (sym c.in_ok-push.ensures.added)
+          (goes_on c.args.id c.args.start.now s (tree_ascends s (c.requires.tree tells)) (c.requires.form tells) c.requires.before.0 c.requires.before.1 now c.loop-passed.desk c.loop-passed.at c.loop-passed._passed c.loop-passed.names gathers
           new c.step.new.desk (c.step.ensures.pairs (tells_now tells) ∙ known.pairs tells) c.in-Some-2.on c.in_ok-on.field-0 c.in_ok-name.name c.in-Some-2.is
-          (c.in_ok-on.ensures.steps (tells_now tells) (gathers.first + c.loop-passed._passed) gathers.stands) (sym (ap attr_file c.key.ensures) ∙ own) (c.in_ok-name.ensures ∙ ap attr_units c.key-in-loop-passed.ensures));
+          (c.in_ok-on.ensures.steps (tells_now tells) (gathers.first + c.loop-passed._passed) gathers.stands) (sym (ap attr_file c.key.ensures) ∙ own) (c.in_ok-name.ensures ∙ ap attr_units c.key-in-loop-passed.ensures)
+          (s.shape.depth + c.loop-passed._passed) known.reads tells (c.in_ok-on.ensures.loads (tells_now tells) (gathers.first + c.loop-passed._passed) gathers.stands (subst IsSome (sym c.in-Some-2.is) refl)));
       reads = reads_both (s.shape.depth + c.loop-passed._passed) 1 (s.shape.depth + (c.loop-passed._passed + 1)) known.reads c.step.ensures.reads (omega arith);
       later = omega (arith, known.later, c.step.ensures.cause.later);
       below = g.met.N.NodeStore.follows_trans c.args.store.now c.loop-passed.store c.step.new.store known.below c.step.ensures.below;
@@ -66,7 +67,7 @@ returns-in_default-2-clause-listed g c tells =
     let known = c.loop-passed.invariant in
     let tells_now : IsTrue now.tells = known.reads.same.tells ∙ tells in
     let gathers = known.gathers tells in
-    ends c.args.id c.args.start.now (pairs_of s) (tree_ascends s (c.requires.tree tells)) (c.requires.form tells) c.requires.before.0 c.requires.before.1 now c.loop-passed.desk c.loop-passed.at c.loop-passed._passed c.loop-passed.names gathers
+    ends c.args.id c.args.start.now s (tree_ascends s (c.requires.tree tells)) (c.requires.form tells) c.requires.before.0 c.requires.before.1 now c.loop-passed.desk c.loop-passed.at c.loop-passed._passed c.loop-passed.names gathers
     new c.step.new.desk (c.step.ensures.pairs tells_now ∙ known.pairs tells) c.in_ok-on.field-0 c.in_default-2.is (c.in_ok-on.ensures.steps tells_now (gathers.first + c.loop-passed._passed) gathers.stands)
 
 pub returns-then-not-is_key_of-clause-listed : goal.returns-then-not-is_key_of-clause-listed
@@ -81,7 +82,7 @@ returns-then-not-is_key_of-clause-listed g c tells =
     let steps = c.in_ok-on.ensures.steps tells_now (gathers.first + c.loop-passed._passed) gathers.stands in
     let holds = (subst (StepsOn new c.step.new.desk (gathers.first + c.loop-passed._passed)) c.in-Some-2.is steps).0 in
     let key = subst IsAttrKey (sym (c.key.ensures ∙ holds.key)) (tree_keys new (c.step.ensures.tree tells_now) (gathers.first + c.loop-passed._passed) holds.inside) in
-    leaves_them c.args.id c.args.start.now (pairs_of s) (tree_ascends s (c.requires.tree tells)) (c.requires.form tells) c.requires.before.0 c.requires.before.1 now c.loop-passed.desk c.loop-passed.at c.loop-passed._passed c.loop-passed.names gathers
+    leaves_them c.args.id c.args.start.now s (tree_ascends s (c.requires.tree tells)) (c.requires.form tells) c.requires.before.0 c.requires.before.1 now c.loop-passed.desk c.loop-passed.at c.loop-passed._passed c.loop-passed.names gathers
     new c.step.new.desk same c.in-Some-2.on c.in_ok-on.field-0 c.in-Some-2.is steps
     (λ file. not_both c.is_key_of.result c.if-not-is_key_of.true (c.is_key_of.ensures.1 (key, ap attr_file c.key.ensures ∙ file)))
 
@@ -109,3 +110,27 @@ pub returns-in_err-push-clause-reads : goal.returns-in_err-push-clause-reads
 returns-in_err-push-clause-reads g c =
     let s = g.N.NodeStore.state c.args.store.now in
     reads_both (s.shape.depth + c.loop-passed._passed) 1 (s.shape.depth + s.shape.leaf_records) c.loop-passed.invariant.reads c.step.ensures.reads (omega (arith, c.loop-passed-test.true, ap (λ (h : TreeShape). h.leaf_records) c.shape-many.ensures))
+
+pub returns-in_default-2-clause-leaves : goal.returns-in_default-2-clause-leaves
+returns-in_default-2-clause-leaves g c tells =
+    let s = g.N.NodeStore.state c.args.store.now in
+    let now = g.N.NodeStore.state c.loop-passed.store in
+    let known = c.loop-passed.invariant in
+    ends_loaded c.args.id c.args.start.now s (tree_ascends s (c.requires.tree tells)) (c.requires.form tells) c.requires.before.0 c.requires.before.1 now c.loop-passed.desk c.loop-passed.at c.loop-passed._passed c.loop-passed.names (known.gathers tells)
+    (g.N.NodeStore.state c.step.new.store) c.step.new.desk (c.step.ensures.pairs (known.reads.same.tells ∙ tells) ∙ known.pairs tells) c.step.ensures.reads.loads
+
+pub returns-then-not-is_key_of-clause-leaves : goal.returns-then-not-is_key_of-clause-leaves
+returns-then-not-is_key_of-clause-leaves g c tells =
+    let s = g.N.NodeStore.state c.args.store.now in
+    let now = g.N.NodeStore.state c.loop-passed.store in
+    let known = c.loop-passed.invariant in
+    ends_loaded c.args.id c.args.start.now s (tree_ascends s (c.requires.tree tells)) (c.requires.form tells) c.requires.before.0 c.requires.before.1 now c.loop-passed.desk c.loop-passed.at c.loop-passed._passed c.loop-passed.names (known.gathers tells)
+    (g.N.NodeStore.state c.step.new.store) c.step.new.desk (c.step.ensures.pairs (known.reads.same.tells ∙ tells) ∙ known.pairs tells) c.step.ensures.reads.loads
+
+pub returns-clause-leaves : goal.returns-clause-leaves
+returns-clause-leaves g c tells =
+    let s = g.N.NodeStore.state c.args.store.now in
+    let now = g.N.NodeStore.state c.loop-passed.store in
+    let known = c.loop-passed.invariant in
+    ends_loaded c.args.id c.args.start.now s (tree_ascends s (c.requires.tree tells)) (c.requires.form tells) c.requires.before.0 c.requires.before.1 now c.loop-passed.desk c.loop-passed.at c.loop-passed._passed c.loop-passed.names (known.gathers tells)
+    now c.loop-passed.desk (known.pairs tells) (omega arith)

@@ -16,7 +16,7 @@ invariant-loop-passed g l = let before = g.N.NodeStore.state l.fn.store in let n
   well_formed : IsNode l.desk.node;
   pairs : IsTrue before.tells → pairs_of now ≡ pairs_of before;
   tree : IsTrue before.tells → IsTree IsAttrKey attr_cmp now;
-  gathers : IsTrue before.tells → Gathers l.id l.start (pairs_of before) now l.desk l.at l._passed l.names;
+  gathers : IsTrue before.tells → Gathers l.id l.start before now l.desk l.at l._passed l.names;
   reads : ReadsNodes (before.shape.depth + l._passed) before now;
   later : before.faults ≤ now.faults;
   below : g.N.NodeStore.follows l.fn.store l.store;

@@ -5,7 +5,8 @@ use Rattle.btree_node.specs.Node.{items}
 use Rattle.btree_edit.specs.Walking.{Turns}
 use Rattle.btree_edit.proofs.Behind.{not_inside}
 use Rattle.btree_edit.proofs.Outcomes.{read_tree, read_pairs}
-use Rattle.btree_edit.proofs.Walks.{stands_same, step_here, no_turn, first_there, step_over, steps_read}
+use Rattle.btree_edit.proofs.Walks.{stands_same, step_here, no_turn, first_there, step_over, one_leaf_more, steps_read}
+use Rattle.btree_edit.proofs.Spans.{until_more}
 use Rattle.btree_edit.proofs.walking.step.Goals as goal
 
 pub overflow_add-result : goal.overflow_add-result
@@ -87,3 +88,19 @@ returns-else-keep_record-2-clause-pairs g c tells =
 pub returns-else-keep_record-2-clause-tree : goal.returns-else-keep_record-2-clause-tree
 returns-else-keep_record-2-clause-tree g c tells =
     read_tree g.met.K.KeyOrder.key_length 1 (g.N.NodeStore.state c.args.store.now) (g.N.NodeStore.state c.turn.new.store) c.turn.ensures.reads tells (omega (arith, (g.met.N.NodeStore.well_formed c.args.store.now).total)) (c.requires.tree tells)
+
+pub returns-then-keep_record-clause-loads : goal.returns-then-keep_record-clause-loads
+returns-then-keep_record-clause-loads g c tells place stands some =
+    omega (arith, until_more (g.N.NodeStore.state c.args.store.now) place)
+
+pub returns-then-keep_record-2-clause-loads : goal.returns-then-keep_record-2-clause-loads
+returns-then-keep_record-2-clause-loads g c tells place stands some =
+    let s = g.N.NodeStore.state c.args.store.now in
+    let t = c.requires.tree tells in
+    let mid = c.keep_record.new.desk in
+    let turned = c.turn.new.desk in
+    let past = subst (λ l. length (items l) ≤ c.args.at) (sym c.keep_record.ensures.node) (not_inside c.args.at (length (items c.args.desk.now.node)) c.keep_record.result c.keep_record.ensures.all c.if-keep_record.false) in
+    let here = stands_same s c.args.desk.now mid c.args.at place c.keep_record.ensures.node stands in
+    let turns = subst (λ b. Turns s mid turned b) c.if-not-branch.false (c.in_ok-turn.ensures.turns tells) in
+    let more = one_leaf_more g.K.KeyOrder.is_key g.K.KeyOrder.cmp g.met.K.KeyOrder.total g.met.K.KeyOrder.key_length s t mid c.args.at place here past turned turns in
+    omega (arith, more, c.turn.ensures.reads.loads)

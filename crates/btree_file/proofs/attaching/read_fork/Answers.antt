@@ -2,7 +2,7 @@ use Rattle.std.proofs.Common.{◌/◌, sym}
 use Rattle.std.proofs.lemmas.Bool.{true≢false}
 use Rattle.sector_disk.specs.Space.{Space}
 use Rattle.btree_file.specs.FrameLaws.{reads_both}
-use Rattle.btree_file.specs.Place.{fork_sectors}
+use Rattle.fork_map.specs.Blocks.{fork_sectors}
 use Rattle.btree_file.proofs.Holding.{shape_holds, some_held}
 use Rattle.btree_file.proofs.attaching.read_fork.Goals as goal
 

@@ -3,7 +3,7 @@ use Rattle.std.proofs.lemmas.List.{length-replicate}
 use Rattle.fork_map.specs.Nodes.{node_of}
 use Rattle.sector_disk.specs.Space.{Space}
 use Rattle.btree_node.specs.TreeFile.{tree_head, shape_of}
-use Rattle.btree_file.specs.Place.{fork_sectors}
+use Rattle.fork_map.specs.Blocks.{fork_sectors}
 use Rattle.btree_file.proofs.attaching.read_shape.Goals as goal
 
 pub returns-clause-long : goal.returns-clause-long

@@ -5,7 +5,7 @@ use Rattle.fork_map.specs.Nodes.{node_of}
 use Rattle.sector_disk.specs.Space.{Space}
 use Rattle.btree_node.proofs.Items.{length-items}
 use Rattle.btree_file.specs.FrameLaws.{reads_both}
-use Rattle.btree_file.specs.Place.{fork_sectors}
+use Rattle.fork_map.specs.Blocks.{fork_sectors}
 use Rattle.btree_file.specs.Walks.{names_of}
 use Rattle.btree_file.proofs.Holding.{stretches_as, chain_as, has_chain_as, header_read, chain_read, settled_read, agrees_read, if_some, is_none}
 use Rattle.btree_file.proofs.attaching.read_tree.Goals as goal

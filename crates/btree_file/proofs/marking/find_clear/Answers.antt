@@ -8,7 +8,7 @@ use Rattle.fork_map.specs.Nodes.{node_of}
 use Rattle.sector_disk.specs.Space.{Space}
 use Rattle.btree_file.specs.FrameLaws.{reads_both}
 use Rattle.btree_file.specs.Map.{used_in, bits_of}
-use Rattle.btree_file.specs.Place.{fork_sectors}
+use Rattle.fork_map.specs.Blocks.{fork_sectors}
 use Rattle.btree_file.specs.declared.tree.Stretch.{Stretch}
 use Rattle.btree_file.proofs.MapLaws.{used_at}
 use Rattle.btree_file.proofs.Sizes.{size_most}

@@ -2,7 +2,7 @@ use Rattle.std.proofs.Common.{◌≡◌, ◌<◌, ◌/◌, ℕ, IsTrue, length, 
 use Rattle.fork_map.specs.Nodes.{node_of}
 use Rattle.btree_file.specs.Frame.{ReadsSpace}
 use Rattle.btree_file.specs.Map.{used_in, bits_of}
-use Rattle.btree_file.specs.Place.{fork_sectors}
+use Rattle.fork_map.specs.Blocks.{fork_sectors}
 use Rattle.btree_file.proofs.marking.find_clear.Given as goal
 
 -- the stretches before this one have no clear bit of the nodes

@@ -1,16 +1,10 @@
 use Rattle.std.proofs.Common.{◌≡◌, ◌<◌, ◌+◌, ◌*◌, ◌/◌, ℕ, List, Option, Some, None, length, slice_get, sym, ◌∙◌, ap, subst, arith}
 use Rattle.sector_disk.specs.Space.{Space}
-use Rattle.btree_file.specs.Place.{fork_sectors}
+use Rattle.fork_map.specs.Blocks.{fork_sectors}
 use Rattle.btree_file.proofs.Fetched.{Fetched, fetched_none, fetched_more}
-use Rattle.btree_file.proofs.PlaceLaws.{has_place}
+use Rattle.btree_file.proofs.PlaceLaws.{has_place, same_place, same_none}
 use Rattle.btree_file.proofs.putting.get_node.Goals as goal
 use Rattle.btree_file.proofs.putting.get_node.Goals.{in-Some+in_ok-get, in_default}
-
-same_place : (fork : List ℕ) (n k at long per : ℕ) → long ≡ per → Some at ≡ slice_get fork (n * long + k) → slice_get fork (n * per + k) ≡ Some at
-same_place fork n k at long per e place = ap (λ p. slice_get fork (n * p + k)) (sym e) ∙ sym place
-
-same_none : (fork : List ℕ) (n k long per : ℕ) → long ≡ per → ◌≡◌ {A = Option ℕ} None (slice_get fork (n * long + k)) → ◌≡◌ {A = Option ℕ} None (slice_get fork (n * per + k))
-same_none fork n k long per e place = place ∙ ap (λ p. slice_get fork (n * p + k)) e
 
 pub loop-k-init : goal.loop-k-init
 loop-k-init g c = record {

@@ -1,5 +1,5 @@
 use Rattle.std.proofs.Common.{◌≡◌, ◌/◌, length}
-use Rattle.btree_file.specs.Place.{fork_sectors}
+use Rattle.fork_map.specs.Blocks.{fork_sectors}
 use Rattle.btree_file.proofs.Fetched.{Fetched}
 use Rattle.btree_file.proofs.putting.get_node.Given as goal
 

@@ -1,6 +1,6 @@
 use Rattle.std.proofs.Common.{◌/◌, length, sym, subst}
 use Rattle.sector_disk.specs.Space.{Space}
-use Rattle.btree_file.specs.Place.{fork_sectors}
+use Rattle.fork_map.specs.Blocks.{fork_sectors}
 use Rattle.btree_file.proofs.PlaceLaws.{sectors_below, sector_in_fork, own_piece}
 use Rattle.btree_file.proofs.putting.put_node.Goals as goal
 

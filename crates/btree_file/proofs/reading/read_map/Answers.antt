@@ -7,7 +7,7 @@ use Rattle.btree_node.specs.Node.{IsNodeOf, next_of, record_count}
 use Rattle.btree_node.specs.TreeFile.{map_chain}
 use Rattle.btree_file.specs.FrameLaws.{reads_none, reads_both}
 use Rattle.btree_file.specs.Map.{is_reserved, IsMapRecord}
-use Rattle.btree_file.specs.Place.{fork_sectors}
+use Rattle.fork_map.specs.Blocks.{fork_sectors}
 use Rattle.btree_file.specs.Walks.{FitsFile, LeadTo}
 use Rattle.btree_file.specs.declared.reading.MapNode.{MapNode}
 use Rattle.btree_file.specs.declared.tree.Stretch.{Stretch}

@@ -3,7 +3,7 @@ use Rattle.fork_map.specs.Nodes.{node_of}
 use Rattle.btree_node.specs.Node.{next_of}
 use Rattle.btree_node.specs.TreeFile.{map_chain}
 use Rattle.btree_file.specs.Frame.{ReadsSpace}
-use Rattle.btree_file.specs.Place.{fork_sectors}
+use Rattle.fork_map.specs.Blocks.{fork_sectors}
 use Rattle.btree_file.specs.Walks.{FitsFile, LeadTo, names_of}
 use Rattle.btree_file.proofs.reading.read_map.Given as goal
 

@@ -1,7 +1,6 @@
 use Rattle.std.proofs.Common.{◌≡◌, ◌≤◌, ◌+◌, length}
 use Rattle.std.specs.Prelude.{IsTrue}
 use Rattle.btree_node.specs.Node.{IsNode}
-use Rattle.btree_node.specs.Tree.{pairs_of}
 use Rattle.btree_edit.specs.Desk.{IsDeskOf}
 use Rattle.btree_edit.specs.Reading.{ReadsNodes}
 use Rattle.catalog.proofs.FolderLists.{Gathers}
@@ -9,7 +8,7 @@ use Rattle.catalog.proofs.listing.children.Given as goal
 
 abbrev pub invariant-loop-passed : goal.invariant-loop-passed
 invariant-loop-passed g l = let before = g.N.NodeStore.state l.fn.store in let now = g.N.NodeStore.state l.store in record {
-  gathers : IsTrue before.tells → Gathers l.parent (pairs_of before) now l.desk l.at l._passed l.children;
+  gathers : IsTrue before.tells → Gathers l.parent before now l.desk l.at l._passed l.children;
   many : l.many ≡ before.shape.leaf_records;
   listed : length l.children ≡ l._passed;
   desk : IsDeskOf before.shape.node_size l.desk;

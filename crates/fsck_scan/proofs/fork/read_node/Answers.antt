@@ -1,7 +1,7 @@
 use Rattle.std.proofs.Common.{◌≡◌, ◌<◌, ◌+◌, ◌*◌, ◌/◌, ℕ, IsTrue, List, length, drop, slice_get, Option, inl, inr, sym, ◌∙◌, ap, subst, arith}
 use Rattle.sector_disk.specs.Space.{Space}
 use Rattle.btree_node.specs.Node.{IsNodeSize}
-use Rattle.btree_file.specs.Place.{fork_sectors}
+use Rattle.fork_map.specs.Blocks.{fork_sectors}
 use Rattle.fsck_scan.specs.Read.{sector_or_zeros}
 use Rattle.fsck_scan.proofs.Pieces.{Reads, reads_start, reads_more, reads_all, dropped_get}
 use Rattle.fsck_scan.proofs.fork.read_node.Goals as goal

@@ -1,5 +1,5 @@
 use Rattle.std.proofs.Common.{◌≡◌, ◌*◌, ◌/◌, length, drop}
-use Rattle.btree_file.specs.Place.{fork_sectors}
+use Rattle.fork_map.specs.Blocks.{fork_sectors}
 use Rattle.fsck_scan.proofs.Pieces.{Reads}
 use Rattle.fsck_scan.proofs.fork.read_node.Given as goal
 

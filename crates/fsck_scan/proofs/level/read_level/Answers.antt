@@ -8,7 +8,7 @@ use Rattle.jnl_format.specs.Recovery.{Content}
 use Rattle.sector_disk.specs.Space.{Space}
 use Rattle.btree_node.specs.Levels.{Nodes}
 use Rattle.btree_file.specs.FrameLaws.{reads_both}
-use Rattle.btree_file.specs.Place.{fork_sectors}
+use Rattle.fork_map.specs.Blocks.{fork_sectors}
 use Rattle.hfs_volume.specs.Content.{node_of_fork}
 use Rattle.fsck_scan.specs.Level.{IsRight, IsWrong, HasRead, place_in}
 use Rattle.fsck_scan.specs.declared.look.Place.{Place}

@@ -2,7 +2,7 @@ use Rattle.std.proofs.Common.{◌≡◌, IsTrue, length}
 use Rattle.std.specs.List.{All}
 use Rattle.btree_node.specs.Levels.{key_of, Ascends}
 use Rattle.btree_file.specs.Frame.{ReadsSpace}
-use Rattle.btree_file.specs.Place.{fork_sectors}
+use Rattle.fork_map.specs.Blocks.{fork_sectors}
 use Rattle.hfs_volume.specs.Content.{node_of_fork}
 use Rattle.fsck_scan.specs.Good.{IsGoodRecord}
 use Rattle.fsck_scan.specs.Level.{HasRead}

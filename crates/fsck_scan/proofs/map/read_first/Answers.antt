@@ -3,7 +3,7 @@ use Rattle.std.specs.Prelude.{slice_range}
 use Rattle.sector_disk.specs.Space.{Space}
 use Rattle.btree_node.specs.Node.{IsNodeOf, record_count}
 use Rattle.btree_node.specs.TreeFile.{IsHeaderNode, map_record}
-use Rattle.btree_file.specs.Place.{fork_sectors}
+use Rattle.fork_map.specs.Blocks.{fork_sectors}
 use Rattle.hfs_volume.specs.Content.{node_of_fork}
 use Rattle.fsck_scan.proofs.MarkLaws.{not_true, not_false}
 use Rattle.fsck_scan.proofs.map.read_first.Goals as goal

@@ -2,7 +2,7 @@ use Rattle.std.proofs.Common.{◌≡◌, ◌⊎◌, ◌<◌, ◌≤◌, ℕ, Boo
 use Rattle.sector_disk.specs.Space.{Space}
 use Rattle.btree_node.specs.Levels.{Nodes}
 use Rattle.btree_file.specs.FrameLaws.{reads_both}
-use Rattle.btree_file.specs.Place.{fork_sectors}
+use Rattle.fork_map.specs.Blocks.{fork_sectors}
 use Rattle.hfs_volume.specs.Content.{node_of_fork}
 use Rattle.fsck_scan.specs.Map.{IsMap, TakesMap}
 use Rattle.fsck_scan.proofs.MapLaws.{first_taken, next_taken, first_not_taken, not_taken, chained_all, chain_ends}

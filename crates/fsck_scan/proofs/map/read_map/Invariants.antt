@@ -1,6 +1,6 @@
 use Rattle.std.proofs.Common.{◌≡◌, ◌≤◌, ◌+◌, ◌*◌, IsTrue, length}
 use Rattle.btree_file.specs.Frame.{ReadsSpace}
-use Rattle.btree_file.specs.Place.{fork_sectors}
+use Rattle.fork_map.specs.Blocks.{fork_sectors}
 use Rattle.hfs_volume.specs.Content.{node_of_fork}
 use Rattle.fsck_scan.proofs.MapLaws.{Chained}
 use Rattle.fsck_scan.proofs.map.read_map.Given as goal

@@ -4,7 +4,7 @@ use Rattle.std.specs.List.{All}
 use Rattle.sector_disk.specs.Space.{Space}
 use Rattle.btree_node.specs.Levels.{Nodes}
 use Rattle.btree_file.specs.FrameLaws.{reads_none, reads_both}
-use Rattle.btree_file.specs.Place.{fork_sectors}
+use Rattle.fork_map.specs.Blocks.{fork_sectors}
 use Rattle.hfs_volume.specs.Content.{node_of_fork}
 use Rattle.hfs_volume.specs.Broken.{levels_in, IsBrokenTree}
 use Rattle.fsck_list.specs.declared.finding.Finding.{Finding}

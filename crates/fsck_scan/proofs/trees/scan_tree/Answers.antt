@@ -4,7 +4,7 @@ use Rattle.sector_disk.specs.Space.{Space}
 use Rattle.btree_node.specs.Levels.{pair_of}
 use Rattle.btree_node.specs.Tree.{pairs_of}
 use Rattle.btree_node.specs.TreeFile.{TreeFile, TreeForm, IsTreeFile, store_of}
-use Rattle.btree_file.specs.Place.{fork_sectors}
+use Rattle.fork_map.specs.Blocks.{fork_sectors}
 use Rattle.hfs_volume.specs.Content.{tree_of_fork}
 use Rattle.hfs_volume.specs.Broken.{Finding as Broken, IsBrokenTree}
 use Rattle.fsck_list.specs.declared.finding.Finding.{Finding}

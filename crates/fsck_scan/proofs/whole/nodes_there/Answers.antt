@@ -1,6 +1,5 @@
 use Rattle.std.proofs.Common.{◌≡◌, ◌∙◌, ◌≤◌, ◌*◌, ◌^◌, min, ap, sym, arith, length}
-use Rattle.fork_map.specs.Blocks.{blocks_of}
-use Rattle.btree_file.specs.Place.{fork_sectors}
+use Rattle.fork_map.specs.Blocks.{blocks_of, fork_sectors}
 use Rattle.fsck_scan.proofs.WholeLaws.{blank_past, few_sectors, sectors_long}
 use Rattle.fsck_scan.proofs.whole.nodes_there.Goals as goal
 

@@ -9,7 +9,7 @@ use Rattle.btree_node.specs.Levels.{Nodes, leaves}
 use Rattle.btree_node.specs.Node.{height_of}
 use Rattle.btree_node.specs.TreeFile.{TreeFile, tree_head}
 use Rattle.btree_file.specs.FrameLaws.{reads_none, reads_both}
-use Rattle.btree_file.specs.Place.{fork_sectors}
+use Rattle.fork_map.specs.Blocks.{fork_sectors}
 use Rattle.hfs_volume.specs.Content.{node_of_fork, tree_of_fork}
 use Rattle.hfs_volume.specs.Broken.{IsBrokenTree, IsUnmet, form_wants, is_in_use, levels_in, leaves_in}
 use Rattle.fsck_list.specs.declared.finding.Finding.{Finding}

@@ -6,6 +6,7 @@ use Rattle.hfs_volume.specs.Entries.{AreThreaded}
 use Rattle.hard_links.specs.Linking.{DropsLink, FindsShared, SharedBy}
 use Rattle.hard_links.proofs.Asides.{ok_so, on_ok_so}
 use Rattle.hard_links.proofs.BeforeMoves.{tree_as, pairs_as, tells_as, header_as, room_as, takes_as, most_as, takes_nothing, most_nothing}
+use Rattle.hard_links.proofs.LinkRules.{dropping_keeps_ok}
 use Rattle.hard_links.proofs.dropping.drop_link.Goals as goal
 
 pub returns-in_err-shared_of-clause-takes : goal.returns-in_err-shared_of-clause-takes
@@ -72,3 +73,11 @@ returns-in-Some-clause-edits g c =
 pub returns-in-Some-clause-takes : goal.returns-in-Some-clause-takes
 returns-in-Some-clause-takes g c =
     most_as (g.N.NodeStore.state c.args.store.now) (g.N.NodeStore.state c.shared_of.new.store) c.shared_of.ensures.reads 2 1 (g.N.NodeStore.state c.drop_counted.new.store) c.drop_counted.ensures.takes
+
+pub returns-in-None-clause-rules : goal.returns-in-None-clause-rules
+returns-in-None-clause-rules g c tells overflow links = absurd (subst (FindsShared c.args.private c.args.at.now (pairs_of (g.N.NodeStore.state c.args.store.now))) c.in-None.is (c.in_ok-shared_of.ensures.found tells))
+
+pub returns-in-Some-clause-rules : goal.returns-in-Some-clause-rules
+returns-in-Some-clause-rules g c tells overflow links =
+    dropping_keeps_ok c.args.private c.args.at.now (g.N.NodeStore.state c.args.store.now) (g.N.NodeStore.state c.drop_counted.new.store) overflow (c.requires.tree tells) (c.requires.links tells).folder c.requires.some links
+    c.drop_counted.result (returns-in-Some-clause-dropped g c tells) (c.drop_counted.ensures.tree (c.shared_of.ensures.reads.reads.same.tells ∙ tells))

@@ -5,7 +5,7 @@ use Rattle.btree_node.specs.Tree.{pairs_of}
 use Rattle.btree_edit.proofs.EditLaws.{edits_add, room_first, room_then, takes_both, takes_fewer}
 use Rattle.hfs_volume.specs.Records.{is_thread}
 use Rattle.hfs_volume.proofs.Ascending.{tree_sorted}
-use Rattle.hard_links.proofs.Beside.{empty_name}
+use Rattle.catalog.proofs.Beside.{empty_name}
 use Rattle.hard_links.proofs.Puts.{added_link, link_unused, second_unused, second_vacant}
 use Rattle.hard_links.proofs.first_links.put_links.Goals as goal
 

@@ -6,7 +6,7 @@ use Rattle.catalog.proofs.RoomLaws.{edits_are, edits_room, most_both, most_edits
 use Rattle.hard_links.specs.Linking.{MakesFirst}
 use Rattle.hfs_volume.proofs.Ascending.{tree_sorted}
 use Rattle.hard_links.proofs.Asides.{on_ok_so}
-use Rattle.hard_links.proofs.Beside.{empty_name}
+use Rattle.catalog.proofs.Beside.{empty_name}
 use Rattle.hard_links.proofs.Puts.{file_moved, made_first, may_put, node_free, spelled_linked, value_linked}
 use Rattle.hard_links.proofs.first_links.share.Goals as goal
 

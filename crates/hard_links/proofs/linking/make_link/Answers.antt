@@ -8,6 +8,7 @@ use Rattle.hard_links.specs.Linking.{MakesLink, MayLink}
 use Rattle.hard_links.specs.Orphans.{file_in}
 use Rattle.hard_links.proofs.Asides.{file_fits, file_value, no_file_there, ok_so, on_ok_so}
 use Rattle.hard_links.proofs.BeforeMoves.{tree_as, pairs_as, tells_as, header_as, room_as, takes_as, most_as, takes_nothing, most_nothing, one_read}
+use Rattle.hard_links.proofs.LinkRules.{making_keeps}
 use Rattle.hard_links.proofs.Puts.{is_a_link, is_no_link, names_link}
 use Rattle.hard_links.proofs.linking.make_link.Goals as goal
 
@@ -156,3 +157,13 @@ returns-in-Some-clause-takes_more g c tells names =
     let read = g.N.NodeStore.state c.lookup.new.store in
     let value = sym (c.in_ok-lookup.ensures.found tells) ∙ file_value c.in_ok-lookup.field-0 c.in-Some.file (sym c.in-Some.is ∙ c.file_in.ensures) in
     most_as s read (one_read s.shape.depth s read c.lookup.ensures.reads c.lookup.ensures.cause.later) 2 1 (g.N.NodeStore.state c.link_file.new.store) (c.link_file.ensures.takes_more (is_a_link c.args.from.now c.in-Some.file (pairs_of s) value names))
+
+pub returns-in-None-clause-rules : goal.returns-in-None-clause-rules
+returns-in-None-clause-rules g c tells overflow links show =
+    let pairs = pairs_of (g.N.NodeStore.state c.args.store.now) in
+    absurd (no_file_there c.args.from.now pairs (c.requires.may tells).file (sym c.in-None.is ∙ c.file_in.ensures ∙ ap file_in (c.in_ok-lookup.ensures.found tells)))
+
+pub returns-in-Some-clause-rules : goal.returns-in-Some-clause-rules
+returns-in-Some-clause-rules g c tells overflow links show =
+    making_keeps c.args.private c.args.from.now c.args.to.now c.args.ids.0 c.args.ids.1 (g.N.NodeStore.state c.args.store.now) (g.N.NodeStore.state c.link_file.new.store) overflow (c.requires.tree tells) (c.requires.may tells) c.requires.some_old c.requires.some_new links show
+    c.link_file.result (returns-in-Some-clause-linked g c tells) (c.link_file.ensures.tree (c.lookup.ensures.reads.same.tells ∙ tells))

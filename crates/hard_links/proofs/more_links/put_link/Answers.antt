@@ -7,7 +7,7 @@ use Rattle.catalog.proofs.RoomLaws.{edits_are, edits_room, most_both, most_edits
 use Rattle.hfs_volume.specs.Records.{is_empty, is_thread}
 use Rattle.hfs_volume.proofs.Ascending.{tree_sorted}
 use Rattle.hard_links.specs.Linking.{CountsLinks}
-use Rattle.hard_links.proofs.Beside.{empty_name}
+use Rattle.catalog.proofs.Beside.{empty_name}
 use Rattle.hard_links.proofs.Puts.{added_link, link_unused, spelled_between, value_between}
 use Rattle.hard_links.proofs.more_links.put_link.Goals as goal
 

@@ -8,6 +8,7 @@ use Rattle.hfs_volume.specs.Records.{placed_in, record_at, id_of}
 use Rattle.hard_links.specs.Orphans.{NamesFile}
 use Rattle.hard_links.proofs.Asides.{first_is_free, orphan_made}
 use Rattle.hard_links.proofs.BeforeMoves.{tree_as, pairs_as, edits_none}
+use Rattle.hard_links.proofs.LinkRules.{orphan_keeps_in}
 use Rattle.hard_links.proofs.orphans.orphan.Goals as goal
 
 pub put_aside-requires-clause-tree : goal.put_aside-requires-clause-tree
@@ -76,3 +77,8 @@ pub returns-clause-header : goal.returns-clause-header
 returns-clause-header g c tells same =
     let reads = c.orphan_number.ensures.reads.reads in
     c.in_ok-put_aside.ensures.header (reads.same.tells ∙ tells) ((reads.tree tells).header ∙ same ∙ sym reads.shape)
+
+pub returns-clause-rules : goal.returns-clause-rules
+returns-clause-rules g c tells overflow folder not_link links =
+    orphan_keeps_in c.args.private c.args.at.now (g.N.NodeStore.state c.args.store.now) (g.N.NodeStore.state c.put_aside.new.store) overflow (c.requires.tree tells) (c.in_ok-put_aside.ensures.tree (c.orphan_number.ensures.reads.reads.same.tells ∙ tells)) folder c.requires.some
+    (c.requires.file tells) not_link links (returns-clause-moved g c tells)

@@ -9,7 +9,7 @@ use Rattle.hard_links.specs.Linking.{FindsNamed, FindsShared}
 use Rattle.hard_links.specs.Orphans.{file_in}
 use Rattle.hard_links.proofs.Asides.{ok_so}
 use Rattle.hard_links.proofs.BeforeMoves.{tree_as, pairs_as, tells_as, one_read, more_reads}
-use Rattle.hard_links.proofs.Beside.{empty_name}
+use Rattle.catalog.proofs.Beside.{empty_name}
 use Rattle.hard_links.proofs.Shares.{finds, no_link_there}
 use Rattle.hard_links.proofs.shared.shared_of.Goals as goal
 

@@ -4,11 +4,13 @@ use Rattle.std.proofs.lemmas.List.{append-nil, take_more}
 use Rattle.hfs_serving.specs.Going.{ServesLine, ServesLines}
 use Rattle.hfs_volume.specs.Run.{shrunk_in}
 use Rattle.hfs_serving.proofs.Going.{lines_none, lines_on, lines_stop, on_err, stands_in_lines}
+use Rattle.hfs_serving.proofs.Syncing.{no_sync_more, no_sync_yet}
 use Rattle.hfs_serving.proofs.batch.serve_lines.Goals as goal
 
 pub loop-at-init : goal.loop-at-init
 loop-at-init g c = record {
   most = omega arith;
+  no_sync = λ front few. no_sync_yet c.args.lines.now front few;
   anchor = refl;
   tells = refl;
   serves = λ capacity serves taken. (serves, taken);
@@ -77,6 +79,12 @@ returns-then-is_sync-clause-goes g c tells capacity committed now shrunk stands 
 pub loop-at-preserved : goal.loop-at-preserved
 loop-at-preserved g c = record {
   most = omega (arith, c.if-at-eq-MOST_LINES.false, c.loop-at.invariant.most);
+  no_sync =
+      let all = c.args.lines.now in
+      let line = c.as_slice-in-loop-at.result.now in
+      let next : take c.loop-at.at all ++ line ∷ [] ≡ take (c.loop-at.at + 1) all =
+      ap (λ (l : List ℕ). take c.loop-at.at all ++ l ∷ []) (c.as_slice-in-loop-at.ensures ∙ c.index-lines-at-in-loop-at.is) ∙ sym (take_more all c.loop-at.at c.index-lines-at-in-loop-at.result c.loop-at-test.true) in
+      no_sync_more all c.loop-at.at line next c.is_sync.result c.is_sync.ensures c.if-is_sync.false c.loop-at.invariant.no_sync;
   anchor = c.serve_line.ensures.anchor ∙ c.loop-at.invariant.anchor;
   tells = c.in_ok-serve_line.ensures.tells ∙ c.loop-at.invariant.tells;
   serves = λ capacity serves taken. let was = c.loop-at.invariant.serves capacity serves taken in c.in_ok-serve_line.ensures.still capacity was.0 was.1;

@@ -1,90 +1,196 @@
-use Rattle.std.proofs.Common.{length, sym, ◌∙◌, ap, subst, arith}
+use Rattle.std.proofs.Common.{[], ℕ, List, length, refl, sym, ◌∙◌, ap, subst, arith}
 use Rattle.std.specs.Prelude.{None, IsTrue}
 use Rattle.jnl_store.specs.Seen.{seen}
 use Rattle.jnl_store.specs.Store.{plan_of}
 use Rattle.hfs_volume.specs.Run.{shrunk_in}
 use Rattle.hfs_serving.specs.Outside.{outside_of}
-use Rattle.hfs_serving.proofs.Promising.{crash_keeps, finish_crashes, finish_ends}
+use Rattle.hfs_serving.specs.Taking.{HasTaken}
+use Rattle.hfs_serving.proofs.Promising.{crash_keeps, crash_seen, finish_crashes, finish_ends, has_all, has_none, none_behind}
+use Rattle.hfs_serving.proofs.Stepping.{step_ends, step_none}
+use Rattle.line_source.specs.Input.{TakesLines}
+use Rattle.line_source.proofs.Cuts.{all_taken}
 use Rattle.hfs_serving.proofs.promises.run.Goals as goal
 
-pub serve_all-requires-clause-serves : goal.serve_all-requires-clause-serves
-serve_all-requires-clause-serves g c = let there = c.requires.serves in let none = ap length there.2 in (there.0, there.1, omega (arith, none))
-
-pub returns-in_err-serve_all-clause-promises : goal.returns-in_err-serve_all-clause-promises
-returns-in_err-serve_all-clause-promises g c tells capacity start source source_new stands sound may taken =
+pub returns-in_err-input-clause-promises : goal.returns-in_err-input-clause-promises
+returns-in_err-input-clause-promises g c tells capacity start stands sound may =
     let base = c.args.base.now in
-    let mid = c.serve_all.new.base in
     let plan = plan_of base.store.now in
     let old = g.R.SectorDisk.state base.disk.now in
-    let lines = c.args.lines.now in
     let space = seen g.R.SectorDisk.state base in
     let knows = g.V.Volume.knows c.args.volume.now space capacity in
-    crash_keeps c.aside_is_free.ensures capacity start plan (plan_of mid.store.now) old (g.R.SectorDisk.state mid.disk.now) lines knows space c.serve_all.ensures.anchor (g.met.R.SectorDisk.only_now base.disk.now) stands sound may source source_new taken
-    (c.in_err-serve_all.ensures.stops tells capacity start None stands)
+    let source = g.S.Source.stream c.args.source.now in
+    crash_keeps c.aside_is_free.ensures capacity start plan (plan_of base.store.now) old (g.R.SectorDisk.state base.disk.now) [] knows space refl (g.met.R.SectorDisk.only_now base.disk.now) stands sound may source source
+    (λ told. has_none source) (step_ends capacity None start (outside_of plan old) [] 0 knows space (outside_of plan old) (step_none capacity None start (outside_of plan old) [] knows space stands))
 
-pub finish-requires-clause-serves : goal.finish-requires-clause-serves
-finish-requires-clause-serves g c =
+pub serve_source-requires-clause-serves : goal.serve_source-requires-clause-serves
+serve_source-requires-clause-serves g c = let there = c.requires.serves in let none = ap length there.2 in (there.0, there.1, omega (arith, none))
+
+pub returns-in_err-serve_source-clause-promises : goal.returns-in_err-serve_source-clause-promises
+returns-in_err-serve_source-clause-promises g c tells capacity start stands sound may =
+    let base = c.args.base.now in
+    let plan = plan_of base.store.now in
+    let old = g.R.SectorDisk.state base.disk.now in
+    let space = seen g.R.SectorDisk.state base in
+    let knows = g.V.Volume.knows c.args.volume.now space capacity in
+    let source = g.S.Source.stream c.args.source.now in
+    let mid = c.serve_source.new.base in
+    let source_new = g.S.Source.stream c.serve_source.new.source in
+    let stopped = c.in_err-serve_source.ensures.stops in
+    crash_keeps c.aside_is_free.ensures capacity start plan (plan_of mid.store.now) old (g.R.SectorDisk.state mid.disk.now) stopped.0 knows space c.serve_source.ensures.anchor (g.met.R.SectorDisk.only_now base.disk.now) stands sound may source source_new
+    (λ told. subst (λ (l : List ℕ). HasTaken l source stopped.0 source_new) c.in_ok-input.ensures (stopped.1 told)) (stopped.2 tells capacity start None stands)
+
+pub end_run-requires-clause-serves : goal.end_run-requires-clause-serves
+end_run-requires-clause-serves g c =
     let there = c.requires.serves in
     let none = ap length there.2 in
-    (there.0, (c.in_ok-serve_all.ensures.still there.0 there.1 (omega (arith, none))).0, c.in_ok-serve_all.ensures.nothing there.0 there.1 none)
+    (there.0, (c.in_ok-serve_source.ensures.still there.0 there.1 (omega (arith, none))).0, c.in_ok-serve_source.ensures.nothing there.0 there.1 none)
 
-pub finish-requires-clause-stands : goal.finish-requires-clause-stands
-finish-requires-clause-stands g c tells_mid =
-    let tells = subst (λ t. IsTrue t) c.in_ok-serve_all.ensures.tells tells_mid in
+pub end_run-requires-clause-stands : goal.end_run-requires-clause-stands
+end_run-requires-clause-stands g c tells_mid =
+    let tells = subst (λ t. IsTrue t) c.in_ok-serve_source.ensures.tells tells_mid in
     let there = c.requires.stands tells in
-    let step = c.in_ok-serve_all.ensures.serves tells there.0 there.1 there.2 there.3 in
+    let step = c.in_ok-serve_source.ensures.serves.2 tells there.0 there.1 there.2 there.3 in
     (there.0, step.now, shrunk_in there.2 step.run, step.stands)
 
-pub returns-in_err-finish-clause-promises : goal.returns-in_err-finish-clause-promises
-returns-in_err-finish-clause-promises g c tells capacity start source source_new stands sound may taken =
+pub returns-in_err-end_run-clause-promises : goal.returns-in_err-end_run-clause-promises
+returns-in_err-end_run-clause-promises g c tells capacity start stands sound may =
     let base = c.args.base.now in
-    let mid = c.serve_all.new.base in
     let plan = plan_of base.store.now in
     let old = g.R.SectorDisk.state base.disk.now in
-    let lines = c.args.lines.now in
     let space = seen g.R.SectorDisk.state base in
     let knows = g.V.Volume.knows c.args.volume.now space capacity in
-    let end = c.finish.new.base in
+    let source = g.S.Source.stream c.args.source.now in
+    let mid = c.serve_source.new.base in
+    let source_new = g.S.Source.stream c.serve_source.new.source in
+    let end = c.end_run.new.base in
     let space_mid = seen g.R.SectorDisk.state mid in
     let out_mid = outside_of (plan_of mid.store.now) (g.R.SectorDisk.state mid.disk.now) in
     let out_end = outside_of (plan_of end.store.now) (g.R.SectorDisk.state end.disk.now) in
-    let knows_mid = g.V.Volume.knows c.serve_all.new.volume space_mid capacity in
-    let step = c.in_ok-serve_all.ensures.serves tells capacity start None stands in
-    let tells_mid = subst (λ t. IsTrue t) (sym c.in_ok-serve_all.ensures.tells) tells in
-    crash_keeps c.aside_is_free.ensures capacity start plan (plan_of end.store.now) old (g.R.SectorDisk.state end.disk.now) lines knows space (c.finish.ensures.anchor ∙ c.serve_all.ensures.anchor) (g.met.R.SectorDisk.only_now base.disk.now) stands sound may source source_new taken
-    (finish_crashes capacity start (outside_of plan old) out_mid out_end lines (length lines) knows_mid space_mid step (c.finish.ensures.crash tells_mid capacity step.now (shrunk_in None step.run) step.stands))
+    let knows_mid = g.V.Volume.knows c.serve_source.new.volume space_mid capacity in
+    let served = c.in_ok-serve_source.ensures.serves in
+    let step = served.2 tells capacity start None stands in
+    let tells_mid = subst (λ t. IsTrue t) (sym c.in_ok-serve_source.ensures.tells) tells in
+    let takes = λ (told : IsTrue source.tells). subst (λ (l : List ℕ). TakesLines l source served.0 c.serve_source.new.input source_new) c.in_ok-input.ensures (served.1 told).0 in
+    crash_keeps c.aside_is_free.ensures capacity start plan (plan_of end.store.now) old (g.R.SectorDisk.state end.disk.now) served.0 knows space (c.end_run.ensures.anchor ∙ c.serve_source.ensures.anchor) (g.met.R.SectorDisk.only_now base.disk.now) stands sound may source source_new
+    (λ told. has_all source source_new served.0 c.serve_source.new.input (takes told))
+    (finish_crashes capacity start (outside_of plan old) out_mid out_end served.0 (length served.0) knows_mid space_mid step (c.end_run.ensures.crash tells_mid capacity step.now (shrunk_in None step.run) step.stands))
 
 pub returns-clause-promises : goal.returns-clause-promises
-returns-clause-promises g c tells capacity start source source_new stands sound may taken =
+returns-clause-promises g c tells capacity start stands sound may =
     let base = c.args.base.now in
-    let mid = c.serve_all.new.base in
     let plan = plan_of base.store.now in
     let old = g.R.SectorDisk.state base.disk.now in
-    let lines = c.args.lines.now in
     let space = seen g.R.SectorDisk.state base in
     let knows = g.V.Volume.knows c.args.volume.now space capacity in
-    let end = c.finish.new.base in
+    let source = g.S.Source.stream c.args.source.now in
+    let mid = c.serve_source.new.base in
+    let source_new = g.S.Source.stream c.serve_source.new.source in
+    let end = c.end_run.new.base in
     let space_mid = seen g.R.SectorDisk.state mid in
     let out_mid = outside_of (plan_of mid.store.now) (g.R.SectorDisk.state mid.disk.now) in
     let out_end = outside_of (plan_of end.store.now) (g.R.SectorDisk.state end.disk.now) in
-    let knows_mid = g.V.Volume.knows c.serve_all.new.volume space_mid capacity in
-    let step = c.in_ok-serve_all.ensures.serves tells capacity start None stands in
-    let tells_mid = subst (λ t. IsTrue t) (sym c.in_ok-serve_all.ensures.tells) tells in
-    crash_keeps c.aside_is_free.ensures capacity start plan (plan_of end.store.now) old (g.R.SectorDisk.state end.disk.now) lines knows space (c.finish.ensures.anchor ∙ c.serve_all.ensures.anchor) (g.met.R.SectorDisk.only_now base.disk.now) stands sound may source source_new taken
-    (finish_crashes capacity start (outside_of plan old) out_mid out_end lines (length lines) knows_mid space_mid step (c.finish.ensures.crash tells_mid capacity step.now (shrunk_in None step.run) step.stands))
+    let knows_mid = g.V.Volume.knows c.serve_source.new.volume space_mid capacity in
+    let served = c.in_ok-serve_source.ensures.serves in
+    let step = served.2 tells capacity start None stands in
+    let tells_mid = subst (λ t. IsTrue t) (sym c.in_ok-serve_source.ensures.tells) tells in
+    let takes = λ (told : IsTrue source.tells). subst (λ (l : List ℕ). TakesLines l source served.0 c.serve_source.new.input source_new) c.in_ok-input.ensures (served.1 told).0 in
+    crash_keeps c.aside_is_free.ensures capacity start plan (plan_of end.store.now) old (g.R.SectorDisk.state end.disk.now) served.0 knows space (c.end_run.ensures.anchor ∙ c.serve_source.ensures.anchor) (g.met.R.SectorDisk.only_now base.disk.now) stands sound may source source_new
+    (λ told. has_all source source_new served.0 c.serve_source.new.input (takes told))
+    (finish_crashes capacity start (outside_of plan old) out_mid out_end served.0 (length served.0) knows_mid space_mid step (c.end_run.ensures.crash tells_mid capacity step.now (shrunk_in None step.run) step.stands))
 
 pub returns-clause-done : goal.returns-clause-done
 returns-clause-done g c tells capacity start stands =
     let base = c.args.base.now in
-    let mid = c.serve_all.new.base in
     let plan = plan_of base.store.now in
     let old = g.R.SectorDisk.state base.disk.now in
-    let lines = c.args.lines.now in
-    let end = c.finish.new.base in
+    let source = g.S.Source.stream c.args.source.now in
+    let mid = c.serve_source.new.base in
+    let source_new = g.S.Source.stream c.serve_source.new.source in
+    let end = c.end_run.new.base in
     let space_mid = seen g.R.SectorDisk.state mid in
     let out_mid = outside_of (plan_of mid.store.now) (g.R.SectorDisk.state mid.disk.now) in
     let out_end = outside_of (plan_of end.store.now) (g.R.SectorDisk.state end.disk.now) in
-    let knows_mid = g.V.Volume.knows c.serve_all.new.volume space_mid capacity in
-    let step = c.in_ok-serve_all.ensures.serves tells capacity start None stands in
-    let tells_mid = subst (λ t. IsTrue t) (sym c.in_ok-serve_all.ensures.tells) tells in
-    finish_ends capacity start (outside_of plan old) out_mid out_end lines knows_mid space_mid step (c.in_ok-finish.ensures.done tells_mid capacity step.now (shrunk_in None step.run) step.stands)
+    let knows_mid = g.V.Volume.knows c.serve_source.new.volume space_mid capacity in
+    let served = c.in_ok-serve_source.ensures.serves in
+    let step = served.2 tells capacity start None stands in
+    let tells_mid = subst (λ t. IsTrue t) (sym c.in_ok-serve_source.ensures.tells) tells in
+    let takes = λ (told : IsTrue source.tells). subst (λ (l : List ℕ). TakesLines l source served.0 c.serve_source.new.input source_new) c.in_ok-input.ensures (served.1 told).0 in
+    finish_ends capacity start (outside_of plan old) out_mid out_end served.0 knows_mid space_mid source (λ told. all_taken source served.0 c.serve_source.new.input source_new (takes told) (served.1 told).1) step
+    (c.in_ok-end_run.ensures.done tells_mid capacity step.now (shrunk_in None step.run) step.stands)
+
+pub returns-clause-end : goal.returns-clause-end
+returns-clause-end g c told = none_behind c.serve_source.new.input (g.S.Source.stream c.serve_source.new.source) (c.in_ok-serve_source.ensures.serves.1 told).1
+
+pub returns-in_err-input-clause-stretch : goal.returns-in_err-input-clause-stretch
+returns-in_err-input-clause-stretch g c =
+    let base = c.args.base.now in
+    let plan = plan_of base.store.now in
+    let old = g.R.SectorDisk.state base.disk.now in
+    let space = seen g.R.SectorDisk.state base in
+    let source = g.S.Source.stream c.args.source.now in (
+      [],
+      λ told. has_none source,
+      λ tells capacity start stands.
+          let knows = g.V.Volume.knows c.args.volume.now space capacity in
+          step_ends capacity None start (outside_of plan old) [] 0 knows space (outside_of plan old) (step_none capacity None start (outside_of plan old) [] knows space stands),
+    )
+
+pub returns-in_err-serve_source-clause-stretch : goal.returns-in_err-serve_source-clause-stretch
+returns-in_err-serve_source-clause-stretch g c =
+    let base = c.args.base.now in
+    let plan = plan_of base.store.now in
+    let old = g.R.SectorDisk.state base.disk.now in
+    let source = g.S.Source.stream c.args.source.now in
+    let mid = c.serve_source.new.base in
+    let source_new = g.S.Source.stream c.serve_source.new.source in
+    let stopped = c.in_err-serve_source.ensures.stops in (
+      stopped.0,
+      λ told. subst (λ (l : List ℕ). HasTaken l source stopped.0 source_new) c.in_ok-input.ensures (stopped.1 told),
+      λ tells capacity start stands. crash_seen capacity start plan (plan_of mid.store.now) (outside_of plan old) (g.R.SectorDisk.state mid.disk.now) stopped.0 c.serve_source.ensures.anchor (stopped.2 tells capacity start None stands),
+    )
+
+pub returns-in_err-end_run-clause-stretch : goal.returns-in_err-end_run-clause-stretch
+returns-in_err-end_run-clause-stretch g c =
+    let base = c.args.base.now in
+    let plan = plan_of base.store.now in
+    let old = g.R.SectorDisk.state base.disk.now in
+    let source = g.S.Source.stream c.args.source.now in
+    let mid = c.serve_source.new.base in
+    let source_new = g.S.Source.stream c.serve_source.new.source in
+    let end = c.end_run.new.base in
+    let space_mid = seen g.R.SectorDisk.state mid in
+    let out_mid = outside_of (plan_of mid.store.now) (g.R.SectorDisk.state mid.disk.now) in
+    let out_end = outside_of (plan_of end.store.now) (g.R.SectorDisk.state end.disk.now) in
+    let served = c.in_ok-serve_source.ensures.serves in (
+      served.0,
+      λ told. has_all source source_new served.0 c.serve_source.new.input (subst (λ (l : List ℕ). TakesLines l source served.0 c.serve_source.new.input source_new) c.in_ok-input.ensures (served.1 told).0),
+      λ tells capacity start stands.
+          let knows_mid = g.V.Volume.knows c.serve_source.new.volume space_mid capacity in
+          let step = served.2 tells capacity start None stands in
+          let tells_mid = subst (λ t. IsTrue t) (sym c.in_ok-serve_source.ensures.tells) tells in
+          crash_seen capacity start plan (plan_of end.store.now) (outside_of plan old) (g.R.SectorDisk.state end.disk.now) served.0 (c.end_run.ensures.anchor ∙ c.serve_source.ensures.anchor)
+          (finish_crashes capacity start (outside_of plan old) out_mid out_end served.0 (length served.0) knows_mid space_mid step (c.end_run.ensures.crash tells_mid capacity step.now (shrunk_in None step.run) step.stands)),
+    )
+
+pub returns-clause-stretch : goal.returns-clause-stretch
+returns-clause-stretch g c =
+    let base = c.args.base.now in
+    let plan = plan_of base.store.now in
+    let old = g.R.SectorDisk.state base.disk.now in
+    let source = g.S.Source.stream c.args.source.now in
+    let mid = c.serve_source.new.base in
+    let source_new = g.S.Source.stream c.serve_source.new.source in
+    let end = c.end_run.new.base in
+    let space_mid = seen g.R.SectorDisk.state mid in
+    let out_mid = outside_of (plan_of mid.store.now) (g.R.SectorDisk.state mid.disk.now) in
+    let out_end = outside_of (plan_of end.store.now) (g.R.SectorDisk.state end.disk.now) in
+    let served = c.in_ok-serve_source.ensures.serves in (
+      served.0,
+      λ told. has_all source source_new served.0 c.serve_source.new.input (subst (λ (l : List ℕ). TakesLines l source served.0 c.serve_source.new.input source_new) c.in_ok-input.ensures (served.1 told).0),
+      λ tells capacity start stands.
+          let knows_mid = g.V.Volume.knows c.serve_source.new.volume space_mid capacity in
+          let step = served.2 tells capacity start None stands in
+          let tells_mid = subst (λ t. IsTrue t) (sym c.in_ok-serve_source.ensures.tells) tells in
+          crash_seen capacity start plan (plan_of end.store.now) (outside_of plan old) (g.R.SectorDisk.state end.disk.now) served.0 (c.end_run.ensures.anchor ∙ c.serve_source.ensures.anchor)
+          (finish_crashes capacity start (outside_of plan old) out_mid out_end served.0 (length served.0) knows_mid space_mid step (c.end_run.ensures.crash tells_mid capacity step.now (shrunk_in None step.run) step.stands)),
+    )

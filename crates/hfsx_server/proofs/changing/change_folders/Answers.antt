@@ -1,11 +1,5 @@
-use Rattle.std.proofs.Common.{◌≡◌, ◌<◌, ◌≤◌, ◌+◌, ◌∷◌, [], IsTrue, length, refl, sym, ◌∙◌, ap, subst, arith, rules}
-use Rattle.sector_disk.specs.Lists.{Content, sector, put_sectors}
-use Rattle.sector_disk.specs.Disk.{content}
-use Rattle.sector_disk.proofs.Writing.{same_after, sink_after}
-use Rattle.jnl_store.specs.Store.{durable_of}
-use Rattle.hfsx_server.specs.Volume.{Holds, MountsTo}
-use Rattle.hfsx_server.proofs.Changed.{put_folders_hold, ready_of}
-use Rattle.hfsx_server.proofs.Settling.{content_nothing}
+use Rattle.std.proofs.Common.{◌≤◌, ◌∙◌, sym, arith}
+use Rattle.hfsx_server.proofs.Changed.{folders_ready}
 use Rattle.hfsx_server.proofs.Steps.{untouched_leaves}
 use Rattle.hfsx_server.proofs.changing.change_folders.Goals as goal
 
@@ -19,24 +13,39 @@ make_durable-requires g c =
     let old = c.args.old.now in
     let new = c.args.new.now in
     let put = c.put_folders.ensures in
-    record {
-      ready = ready_of c.args.store.now c.put_folders.new.store old new s0 s1 c.requires.idle put.store put.disk put.few c.requires.thin c.requires.thin_new put.keeps
-          (λ tells.
-          let stands = c.requires.idle.stands tells in
-          let is = put.content stands.keeps ∙ ap (λ (d : Content). put_sectors (put_sectors (put_sectors d 2328 new.catalog) 2336 new.leaf) 2 (new.header ∷ [])) (content_nothing c.args.store.now (content s0) c.requires.idle.nothing) in
-          subst (λ (t : Content). Holds t new) (sym is) (put_folders_hold (durable_of c.args.store.now (content s0)) old new stands.holds put.sizes.0 put.sizes.1 c.requires.others));
-    }
+    record { ready = (old, new, folders_ready c.args.store.now c.put_folders.new.store old new s0 s1 c.requires.idle put.store put.disk put.few c.requires.thin c.requires.thin_new put.keeps put.content put.sizes.0 put.sizes.1 c.requires.others) }
 
 pub returns-clause-crash : goal.returns-clause-crash
 returns-clause-crash g c tells before after was is =
     let s0 = g.D.SectorDisk.state c.args.disk.now in
     let s1 = g.D.SectorDisk.state c.put_folders.new.disk in
     let s2 = g.D.SectorDisk.state c.make_durable.new.disk in
-    let none = c.put_folders.ensures.disk in
-    untouched_leaves s0 s1 s2 _ none (c.make_durable.ensures.crash (none.same.tells ∙ tells) before after was is)
+    let old = c.args.old.now in
+    let new = c.args.new.now in
+    let put = c.put_folders.ensures in
+    let none = put.disk in
+    let ready = folders_ready c.args.store.now c.put_folders.new.store old new s0 s1 c.requires.idle put.store none put.few c.requires.thin c.requires.thin_new put.keeps put.content put.sizes.0 put.sizes.1 c.requires.others in
+    untouched_leaves s0 s1 s2 _ none (c.make_durable.ensures.crash old new ready (none.same.tells ∙ tells) before after was is)
 
 pub returns-clause-rests : goal.returns-clause-rests
-returns-clause-rests g c tells tree is = c.make_durable.ensures.rests (c.put_folders.ensures.disk.same.tells ∙ tells) tree is
+returns-clause-rests g c tells tree is =
+    let s0 = g.D.SectorDisk.state c.args.disk.now in
+    let s1 = g.D.SectorDisk.state c.put_folders.new.disk in
+    let old = c.args.old.now in
+    let new = c.args.new.now in
+    let put = c.put_folders.ensures in
+    let ready = folders_ready c.args.store.now c.put_folders.new.store old new s0 s1 c.requires.idle put.store put.disk put.few c.requires.thin c.requires.thin_new put.keeps put.content put.sizes.0 put.sizes.1 c.requires.others in
+    c.make_durable.ensures.rests old new ready (put.disk.same.tells ∙ tells) tree is
+
+pub returns-clause-idle : goal.returns-clause-idle
+returns-clause-idle g c =
+    let s0 = g.D.SectorDisk.state c.args.disk.now in
+    let s1 = g.D.SectorDisk.state c.put_folders.new.disk in
+    let old = c.args.old.now in
+    let new = c.args.new.now in
+    let put = c.put_folders.ensures in
+    let ready = folders_ready c.args.store.now c.put_folders.new.store old new s0 s1 c.requires.idle put.store put.disk put.few c.requires.thin c.requires.thin_new put.keeps put.content put.sizes.0 put.sizes.1 c.requires.others in
+    c.make_durable.ensures.idle old new ready
 
 pub returns-clause-spare : goal.returns-clause-spare
 returns-clause-spare g c = omega (arith, c.requires.spare, c.put_folders.ensures.spare, c.make_durable.ensures.spare)

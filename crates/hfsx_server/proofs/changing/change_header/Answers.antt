@@ -1,10 +1,6 @@
-use Rattle.std.proofs.Common.{◌≡◌, ◌<◌, ◌≤◌, ◌+◌, ◌∷◌, [], IsTrue, length, refl, sym, ◌∙◌, ap, subst, arith, rules}
-use Rattle.sector_disk.specs.Lists.{Content, sector, put_sectors}
-use Rattle.sector_disk.specs.Disk.{content}
-use Rattle.jnl_store.specs.Store.{durable_of}
-use Rattle.hfsx_server.specs.Volume.{Holds, MountsTo}
-use Rattle.hfsx_server.proofs.Changed.{open_low, put_header_holds, ready_of}
-use Rattle.hfsx_server.proofs.Settling.{content_nothing}
+use Rattle.std.proofs.Common.{◌<◌, ◌≤◌, ◌+◌, ◌∙◌, sym, arith}
+use Rattle.hfs_model.specs.Parts.{with_header}
+use Rattle.hfsx_server.proofs.Changed.{open_low, header_ready}
 use Rattle.hfsx_server.proofs.Steps.{untouched_leaves}
 use Rattle.hfsx_server.proofs.changing.change_header.Goals as goal
 
@@ -18,24 +14,38 @@ pub make_durable-requires : goal.make_durable-requires
 make_durable-requires g c =
     let s0 = g.D.SectorDisk.state c.args.disk.now in
     let s1 = g.D.SectorDisk.state c.put_list.new.disk in
-    let old = c.args.old.now in
-    let new = c.args.new.now in
+    let old = c.args.parts.now in
+    let header = c.args.header.now in
     let put = c.put_list.ensures in
-    record {
-      ready = ready_of c.args.store.now c.put_list.new.store old new s0 s1 c.requires.idle put.store put.disk (omega (arith, put.few)) c.requires.thin c.requires.thin_new put.keeps
-          (λ tells.
-          let stands = c.requires.idle.stands tells in
-          let is = put.content stands.keeps ∙ ap (λ (d : Content). put_sectors d 2 (new.header ∷ [])) (content_nothing c.args.store.now (content s0) c.requires.idle.nothing) in
-          subst (λ (t : Content). Holds t new) (sym is) (put_header_holds (durable_of c.args.store.now (content s0)) old new stands.holds c.requires.others));
-    }
+    record { ready = (old, with_header old header, header_ready c.args.store.now c.put_list.new.store old header s0 s1 c.requires.idle put.store put.disk (omega (arith, put.few)) c.requires.thin c.requires.thin_new put.keeps put.content) }
 
 pub returns-clause-crash : goal.returns-clause-crash
 returns-clause-crash g c tells before after was is =
     let s0 = g.D.SectorDisk.state c.args.disk.now in
     let s1 = g.D.SectorDisk.state c.put_list.new.disk in
+    let old = c.args.parts.now in
+    let header = c.args.header.now in
+    let put = c.put_list.ensures in
     let s2 = g.D.SectorDisk.state c.make_durable.new.disk in
-    let none = c.put_list.ensures.disk in
-    untouched_leaves s0 s1 s2 _ none (c.make_durable.ensures.crash (none.same.tells ∙ tells) before after was is)
+    let ready = header_ready c.args.store.now c.put_list.new.store old header s0 s1 c.requires.idle put.store put.disk (omega (arith, put.few)) c.requires.thin c.requires.thin_new put.keeps put.content in
+    untouched_leaves s0 s1 s2 _ put.disk (c.make_durable.ensures.crash old (with_header old header) ready (put.disk.same.tells ∙ tells) before after was is)
 
 pub returns-clause-rests : goal.returns-clause-rests
-returns-clause-rests g c tells tree is = c.make_durable.ensures.rests (c.put_list.ensures.disk.same.tells ∙ tells) tree is
+returns-clause-rests g c tells tree is =
+    let s0 = g.D.SectorDisk.state c.args.disk.now in
+    let s1 = g.D.SectorDisk.state c.put_list.new.disk in
+    let old = c.args.parts.now in
+    let header = c.args.header.now in
+    let put = c.put_list.ensures in
+    let ready = header_ready c.args.store.now c.put_list.new.store old header s0 s1 c.requires.idle put.store put.disk (omega (arith, put.few)) c.requires.thin c.requires.thin_new put.keeps put.content in
+    c.make_durable.ensures.rests old (with_header old header) ready (put.disk.same.tells ∙ tells) tree is
+
+pub returns-clause-idle : goal.returns-clause-idle
+returns-clause-idle g c =
+    let s0 = g.D.SectorDisk.state c.args.disk.now in
+    let s1 = g.D.SectorDisk.state c.put_list.new.disk in
+    let old = c.args.parts.now in
+    let header = c.args.header.now in
+    let put = c.put_list.ensures in
+    let ready = header_ready c.args.store.now c.put_list.new.store old header s0 s1 c.requires.idle put.store put.disk (omega (arith, put.few)) c.requires.thin c.requires.thin_new put.keeps put.content in
+    c.make_durable.ensures.idle old (with_header old header) ready

@@ -1,4 +1,5 @@
-use Rattle.std.proofs.Common.{◌≡◌, ◌∙◌, ◌≤◌, IsTrue, MatchOption, refl, sym, ap, subst, arith, List, ℕ}
+use Rattle.std.proofs.Common.{◌≡◌, ◌∙◌, ◌≤◌, IsTrue, MatchOption, Result, refl, sym, ap, subst, arith, List, ℕ}
+use Rattle.std.specs.Prelude.{IfErr}
 use Rattle.std.proofs.lemmas.Result.{err_from_is_err_and}
 use Rattle.sector_disk.specs.Lists.{Content}
 use Rattle.sector_disk.specs.Disk.{content}
@@ -12,7 +13,11 @@ use Rattle.hfs_model.specs.Parts.{parts_of}
 use Rattle.hfs_model.specs.Thin.{AreThin, IsThin}
 use Rattle.hfs_model.specs.declared.parts.Parts.{Parts}
 use Rattle.hfsx_server.specs.declared.faults.MountFault.TheVariants.{Disk, NotYet}
-use Rattle.hfsx_server.proofs.Causes.{cause_ok, cause_other}
+use Rattle.hfsx_server.proofs.Causes.{cause_ok, cause_other, cause_troubled}
+use Rattle.hfsx_server.proofs.Mounted.{trouble_fault}
+use Rattle.hfsx_server.specs.Volume.{IsFault}
+use Rattle.hfsx_server.specs.declared.faults.MountFault.{MountFault}
+use Rattle.hfsx_server.specs.declared.mounting.FoundVolume.{FoundVolume}
 use Rattle.hfsx_server.proofs.Finding.{not_yet, other_size, found_thin, read_parts_are}
 use Rattle.hfsx_server.proofs.mounting.find_tree.Goals as goal
 
@@ -79,3 +84,16 @@ returns-clause-refused g c tells =
     let none = subst (λ found. MatchOption found ((names : List (List ℕ)) → ¬ AreThin parts names) (λ names. AreThin parts names)) c.in-None.is c.in_ok-names.ensures in
     not_yet c0 plan (c.requires.is_open tells) (c.requires.plan tells) c.requires.large (c.requires.recovers tells)
     (λ tree thin. none tree (subst (λ (p : Parts). AreThin p tree) (sym is) thin.parts))
+
+pub returns-in_err-parts-clause-cause : goal.returns-in_err-parts-clause-cause
+returns-in_err-parts-clause-cause g c =
+    let r = c.from_residual-in_err-parts.result in
+    let p = err_from_is_err_and r c.from_residual-in_err-parts.ensures.1 in
+    cause_troubled c.in_err-parts.field-0.0 p.0 _ _ _ r p.1 p.2 (omega (arith, c.new.ensures.reads.faults)) c.in_err-parts.ensures.cause
+
+pub returns-in_err-parts-clause-refused : goal.returns-in_err-parts-clause-refused
+returns-in_err-parts-clause-refused g c tells =
+    let c0 = content (g.D.SectorDisk.state c.args.disk.now) in
+    let r = c.from_residual-in_err-parts.result in
+    let p = err_from_is_err_and r c.from_residual-in_err-parts.ensures.1 in
+    subst (λ (r : Result FoundVolume MountFault). IfErr r (IsFault c0)) (sym p.1) (trouble_fault c0 c.in_err-parts.field-0.0 p.0 p.2)

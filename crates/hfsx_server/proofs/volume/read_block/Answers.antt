@@ -10,4 +10,4 @@ returns-clause-block g c tells =
     let old = g.D.SectorDisk.state c.args.disk.now in
     let peek = c.args.peek.now in
     let size = length-shown peek old.sectors (content old) ∙ length-content old (g.met.D.SectorDisk.well_formed c.args.disk.now) tells in
-    block_is (shown peek old.sectors (content old)) c.loop-at.block c.args.first c.loop-at.invariant.size (omega (arith, size, c.requires)) (λ k inside. c.loop-at.invariant.sectors tells k (omega arith))
+    c.in_ok-new.ensures ∙ block_is (shown peek old.sectors (content old)) c.loop-at.block c.args.first c.loop-at.invariant.size (omega (arith, size, c.requires)) (λ k inside. c.loop-at.invariant.sectors tells k (omega arith))

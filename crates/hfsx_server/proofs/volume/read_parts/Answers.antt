@@ -1,9 +1,12 @@
-use Rattle.std.proofs.Common.{◌≡◌, ◌∙◌, ℕ, IsTrue, sym, ap, subst, []}
+use Rattle.std.proofs.Common.{◌≡◌, ◌≤◌, ◌∙◌, ℕ, IsTrue, refl, arith, sym, ap, subst, []}
 use Rattle.std.specs.Prelude.{slice_range}
 use Rattle.sector_disk.specs.Lists.{Content, sector}
 use Rattle.sector_disk.specs.Disk.{State, Candidates, content, content_of}
 use Rattle.sector_disk.proofs.Writing.{reads_both}
 use Rattle.jnl_replay.specs.Viewing.{shown}
+use Rattle.std.proofs.lemmas.Result.{err_from_is_err_and}
+use Rattle.hx_bytes.specs.declared.faults.Trouble.TheVariants.{Disk}
+use Rattle.hfsx_server.proofs.Causes.{cause_ok, cause_on}
 use Rattle.hfsx_server.proofs.FoldersPlaced.{same_parts}
 use Rattle.hfsx_server.proofs.Volumes.{shown_same}
 use Rattle.hfsx_server.proofs.volume.read_parts.Goals as goal
@@ -103,3 +106,31 @@ returns-clause-reads g c =
     let q7 = reads_both s0 s6 s7 q6 c.read_block-3.ensures.reads in
     let q8 = reads_both s0 s7 s8 q7 c.read_block-4.ensures.reads in
     reads_both s0 s8 s9 q8 c.read_block-5.ensures.reads
+
+pub returns-clause-cause : goal.returns-clause-cause
+returns-clause-cause g c = cause_ok Disk _ _ _ _ refl (omega (arith, c.read_sector.ensures.cause.later, c.read_sector-2.ensures.cause.later, c.read_block.ensures.cause.later, c.read_sector-3.ensures.cause.later, c.read_sector-4.ensures.cause.later, c.read_block-2.ensures.cause.later, c.read_block-3.ensures.cause.later, c.read_block-4.ensures.cause.later, c.read_block-5.ensures.cause.later))
+
+pub returns-in_err-bitmap-clause-cause : goal.returns-in_err-bitmap-clause-cause
+returns-in_err-bitmap-clause-cause g c =
+    let p = err_from_is_err_and c.from_residual-in_err-bitmap.result c.from_residual-in_err-bitmap.ensures.1 in
+    cause_on Disk _ p.0 _ _ _ _ c.from_residual-in_err-bitmap.result (omega (arith, c.read_sector.ensures.cause.later, c.read_sector-2.ensures.cause.later)) c.in_err-bitmap.ensures.cause refl p.1 p.2
+
+pub returns-in_err-extents-clause-cause : goal.returns-in_err-extents-clause-cause
+returns-in_err-extents-clause-cause g c =
+    let p = err_from_is_err_and c.from_residual-in_err-extents.result c.from_residual-in_err-extents.ensures.1 in
+    cause_on Disk _ p.0 _ _ _ _ c.from_residual-in_err-extents.result (omega (arith, c.read_sector.ensures.cause.later, c.read_sector-2.ensures.cause.later, c.read_block.ensures.cause.later, c.read_sector-3.ensures.cause.later, c.read_sector-4.ensures.cause.later)) c.in_err-extents.ensures.cause refl p.1 p.2
+
+pub returns-in_err-attributes-clause-cause : goal.returns-in_err-attributes-clause-cause
+returns-in_err-attributes-clause-cause g c =
+    let p = err_from_is_err_and c.from_residual-in_err-attributes.result c.from_residual-in_err-attributes.ensures.1 in
+    cause_on Disk _ p.0 _ _ _ _ c.from_residual-in_err-attributes.result (omega (arith, c.read_sector.ensures.cause.later, c.read_sector-2.ensures.cause.later, c.read_block.ensures.cause.later, c.read_sector-3.ensures.cause.later, c.read_sector-4.ensures.cause.later, c.read_block-2.ensures.cause.later)) c.in_err-attributes.ensures.cause refl p.1 p.2
+
+pub returns-in_err-catalog-clause-cause : goal.returns-in_err-catalog-clause-cause
+returns-in_err-catalog-clause-cause g c =
+    let p = err_from_is_err_and c.from_residual-in_err-catalog.result c.from_residual-in_err-catalog.ensures.1 in
+    cause_on Disk _ p.0 _ _ _ _ c.from_residual-in_err-catalog.result (omega (arith, c.read_sector.ensures.cause.later, c.read_sector-2.ensures.cause.later, c.read_block.ensures.cause.later, c.read_sector-3.ensures.cause.later, c.read_sector-4.ensures.cause.later, c.read_block-2.ensures.cause.later, c.read_block-3.ensures.cause.later)) c.in_err-catalog.ensures.cause refl p.1 p.2
+
+pub returns-in_err-leaf-clause-cause : goal.returns-in_err-leaf-clause-cause
+returns-in_err-leaf-clause-cause g c =
+    let p = err_from_is_err_and c.from_residual-in_err-leaf.result c.from_residual-in_err-leaf.ensures.1 in
+    cause_on Disk _ p.0 _ _ _ _ c.from_residual-in_err-leaf.result (omega (arith, c.read_sector.ensures.cause.later, c.read_sector-2.ensures.cause.later, c.read_block.ensures.cause.later, c.read_sector-3.ensures.cause.later, c.read_sector-4.ensures.cause.later, c.read_block-2.ensures.cause.later, c.read_block-3.ensures.cause.later, c.read_block-4.ensures.cause.later)) c.in_err-leaf.ensures.cause refl p.1 p.2

@@ -1,7 +1,7 @@
 use Rattle.std.proofs.Common.{◌≡◌, ◌<◌, ◌≤◌, ◌+◌, ℕ, List, Option, Some, None, slice_get, length, get_or, ◌∙◌, arith, subst, sym, ⊎_elim}
 use Rattle.std.proofs.lemmas.Bool.{cases_lt}
 use Rattle.std.proofs.lemmas.Option.{slice_get_within, get_or_from_slice_get, slice_get-get_or}
-use Rattle.btree_file.specs.Place.{fork_sectors}
+use Rattle.fork_map.specs.Blocks.{fork_sectors}
 use Rattle.tree_kit.proofs.plot.lies_below.Goals as goal
 
 is_place : (sectors : List ℕ) (p : ℕ) → p < length sectors → ◌≡◌ {A = Option ℕ} None (slice_get sectors p) → ⊥

@@ -1,7 +1,8 @@
 use Rattle.std.proofs.Common.{◌≡◌, ◌/◌, ℕ, List, Bool, length, ap, subst, ◌∙◌}
 use Rattle.hx_bytes.specs.declared.extents.Extent.{Extent}
 use Rattle.flag_rows.specs.Bits.{bits_of}
-use Rattle.alloc_bitmap.specs.Fork.{HoldsBits, fork_sectors}
+use Rattle.alloc_bitmap.specs.Fork.{HoldsBits}
+use Rattle.fork_map.specs.Blocks.{fork_sectors}
 use Rattle.alloc_bitmap.specs.Map.{BlockMap}
 use Rattle.flag_rows.proofs.RowLaws.{length-bits_of}
 use Rattle.alloc_bitmap.proofs.ForkLaws.{read_all, loaded}

@@ -1,6 +1,6 @@
 use Rattle.std.proofs.Common.{◌≡◌, ◌≤◌, ◌<◌, ℕ, true, false, List, Bool, length, get_or, arith, sym, ◌∙◌}
 use Rattle.std.proofs.lemmas.List.{get_or_default}
-use Rattle.alloc_bitmap.specs.Fork.{fork_sectors}
+use Rattle.fork_map.specs.Blocks.{fork_sectors}
 use Rattle.alloc_bitmap.proofs.ChangedLaws.{next_changed, end_of_changes, end_of_sectors}
 use Rattle.alloc_bitmap.proofs.store.ChangedSectorsSectorsToPut.next.Goals as goal
 

@@ -1,13 +1,7 @@
 use Rattle.std.proofs.Common.{◌≡◌, ◌+◌, ◌*◌, ◌/◌, ℕ, List, Option, Some, None, length, slice_get, sym, ◌∙◌, ap, arith}
-use Rattle.btree_file.specs.Place.{fork_sectors}
-use Rattle.btree_file.proofs.PlaceLaws.{next_sector, sector_place, end_of_fork}
+use Rattle.fork_map.specs.Blocks.{fork_sectors}
+use Rattle.btree_file.proofs.PlaceLaws.{next_sector, sector_place, end_of_fork, same_place, same_none}
 use Rattle.btree_file.proofs.putting.NodeSectorsSectorsToPut.next.Goals as goal
-
-same_place : (fork : List ℕ) (n k at long per : ℕ) → long ≡ per → Some at ≡ slice_get fork (n * long + k) → slice_get fork (n * per + k) ≡ Some at
-same_place fork n k at long per e place = ap (λ p. slice_get fork (n * p + k)) (sym e) ∙ sym place
-
-same_none : (fork : List ℕ) (n k long per : ℕ) → long ≡ per → ◌≡◌ {A = Option ℕ} None (slice_get fork (n * long + k)) → ◌≡◌ {A = Option ℕ} None (slice_get fork (n * per + k))
-same_none fork n k long per e place = place ∙ ap (λ p. slice_get fork (n * p + k)) e
 
 pub returns-in_default-clause-end : goal.returns-in_default-clause-end
 returns-in_default-clause-end c =

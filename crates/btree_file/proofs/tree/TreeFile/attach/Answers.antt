@@ -4,7 +4,8 @@ use Rattle.hx_bytes.specs.declared.extents.Extent.{Extent}
 use Rattle.btree_node.specs.TreeFile.{shape_of}
 use Rattle.sector_disk.specs.Space.{Space}
 use Rattle.btree_file.specs.Held.{HoldsNodes, file_in}
-use Rattle.btree_file.specs.Place.{IsInside, AreApart, fork_sectors}
+use Rattle.btree_file.specs.Place.{IsInside, AreApart}
+use Rattle.fork_map.specs.Blocks.{fork_sectors}
 use Rattle.btree_file.proofs.Edited.{stands_read}
 use Rattle.btree_file.proofs.tree.TreeFile.attach.Goals as goal
 

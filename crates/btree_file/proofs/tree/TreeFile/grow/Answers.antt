@@ -2,13 +2,13 @@ use Rattle.std.proofs.Common.{◌≡◌, ◌≢◌, ℕ, ◌+◌, ◌-◌, ◌*�
 use Rattle.std.specs.Prelude.{Option, Some, None, IfSome, IsSome}
 use Rattle.std.specs.List.{All}
 use Rattle.std.proofs.lemmas.Bool.{cases_eq, true≢false}
-use Rattle.fork_map.specs.Blocks.{blocks_of}
+use Rattle.fork_map.specs.Blocks.{blocks_of, fork_sectors}
 use Rattle.fork_map.proofs.Laws.{no_sectors}
 use Rattle.sector_disk.specs.Space.{Space}
 use Rattle.btree_file.specs.Frame.{PutsWithin}
 use Rattle.btree_file.specs.FrameLaws.{within_both, reads_within}
 use Rattle.btree_file.specs.Growth.{ExtendsMap, last_node, map_nodes_with, nodes_with, sectors_with}
-use Rattle.btree_file.specs.Place.{AreApart, fork_sectors}
+use Rattle.btree_file.specs.Place.{AreApart}
 use Rattle.btree_file.specs.State.{sectors_of_tree, nodes_on}
 use Rattle.btree_file.specs.declared.added_run.Growth.{Growth}
 use Rattle.btree_file.specs.declared.tree.Stretch.{Stretch}

@@ -1,4 +1,4 @@
-use Rattle.std.proofs.Common.{arith, ap}
+use Rattle.std.proofs.Common.{arith}
 use Rattle.btree_node.proofs.Flags.{set_all}
 use Rattle.btree_node.proofs.mem.MemNodes.first_free.Goals as goal
 

@@ -6,11 +6,12 @@ use Rattle.hfs_language.specs.Language.{command_of}
 use Rattle.hfs_language.specs.Text.{reply_text}
 use Rattle.hfs_language.specs.declared.command.Command.{Command}
 use Rattle.hfs_language.specs.declared.refusal.Refusal.{Refusal}
-use Rattle.hfsx_server.specs.declared.faults.ServeFault.TheVariants.{Disk, Source, Sink, TooMany}
+use Rattle.hfsx_server.specs.declared.faults.ServeFault.TheVariants.{Disk, Source, Sink, Memory, TooMany}
+use Rattle.hx_bytes.specs.declared.faults.Trouble.TheVariants as trouble
 use Rattle.hfsx_server.specs.Session.{step}
 use Rattle.hfsx_server.specs.Volume.{MountsTo}
 use Rattle.hfsx_server.specs.Serving.{IsServing}
-use Rattle.hfsx_server.proofs.Causes.{cause_ok, cause_other, same_fault, not_source, not_many}
+use Rattle.hfsx_server.proofs.Causes.{cause_ok, cause_other, err_is, memory_trouble, same_fault, not_source, not_many}
 use Rattle.hfsx_server.proofs.Lines.{idle_told}
 use Rattle.hfsx_server.proofs.Results.{on_err_of}
 use Rattle.hfsx_server.proofs.Runs.{served_early, served_partly, served_whole}
@@ -88,3 +89,9 @@ returns-in-Ok-clause-sink g c = cause_ok Sink _ _ _ _ refl (omega (arith, c.do_l
 
 pub returns-clause-disk : goal.returns-clause-disk
 returns-clause-disk g c = cause_other Disk Sink _ _ _ refl (λ is. absurd (cc is)) (omega (arith, c.do_line.ensures.cause.later, c.tell_whole.ensures.faults))
+
+pub returns-in_err-text-clause-spared : goal.returns-in_err-text-clause-spared
+returns-in_err-text-clause-spared g c is =
+    let p = err_from_is_err_and c.from_residual-in_err-text.result c.from_residual-in_err-text.ensures.1 in
+    let why = c.in_err-text.field-0.0 in
+    c.in_err-text.ensures.spared (err_is why trouble.Memory (memory_trouble why (sym p.2 ∙ same_fault p.0 Memory (sym p.1 ∙ is))))

@@ -1,8 +1,10 @@
 use Rattle.std.proofs.Common.{◌≡◌, ◌⊎◌, ◌≤◌, ◌+◌, ◌∙◌, ◌++◌, ◌∷◌, [], inl, refl, sym, ap, subst, IsTrue, arith, List, ℕ}
+use Rattle.std.proofs.lemmas.Result.{err_from_is_err_and}
 use Rattle.hx_bytes.specs.declared.faults.Trouble.TheVariants.{Disk}
 use Rattle.hfs_model.specs.Thin.{AreThin}
 use Rattle.hfsx_server.proofs.Causes.{cause_ok}
 use Rattle.hfsx_server.proofs.Changed.{idle_begun}
+use Rattle.hfsx_server.proofs.Lines.{serving_same}
 use Rattle.hfsx_server.proofs.Steps.{leaves_none}
 use Rattle.hfsx_server.proofs.ThinHeaders.{keeps_mark}
 use Rattle.hfsx_server.proofs.server.Server.make_folder.Goals as goal
@@ -25,8 +27,8 @@ change_folders-requires-clause-thin_new g c = (_, c.in_ok-parts.ensures.thin c.a
 pub returns-clause-cause : goal.returns-clause-cause
 returns-clause-cause g c = cause_ok Disk _ _ _ _ refl c.change_folders.ensures.cause.later
 
-pub returns-in_err-push-clause-crash : goal.returns-in_err-push-clause-crash
-returns-in_err-push-clause-crash g c tells = leaves_none (g.D.SectorDisk.state c.args.disk.now) _ (λ image is. inl (c.requires.serving.rests tells image is))
+pub returns-in_err-names-clause-crash : goal.returns-in_err-names-clause-crash
+returns-in_err-names-clause-crash g c tells = leaves_none (g.D.SectorDisk.state c.args.disk.now) _ (λ image is. inl (c.requires.serving.rests tells image is))
 
 pub returns-in_err-parts-clause-crash : goal.returns-in_err-parts-clause-crash
 returns-in_err-parts-clause-crash g c tells = leaves_none (g.D.SectorDisk.state c.args.disk.now) _ (λ image is. inl (c.requires.serving.rests tells image is))
@@ -37,13 +39,13 @@ returns-in_err-begin-clause-crash g c tells = leaves_none (g.D.SectorDisk.state 
 pub returns-in_err-change_folders-clause-crash : goal.returns-in_err-change_folders-clause-crash
 returns-in_err-change_folders-clause-crash g c tells =
     let names = c.args.self.now.names in
-    let thin : AreThin c.in_ok-parts.parts (names ++ c.args.name ∷ []) = subst (λ (n : List (List ℕ)). AreThin c.in_ok-parts.parts n) c.in_ok-push.ensures.added (c.in_ok-parts.ensures.thin names c.requires.serving.thin) in
+    let thin : AreThin c.in_ok-parts.parts (names ++ c.args.name ∷ []) = subst (λ (n : List (List ℕ)). AreThin c.in_ok-parts.parts n) c.in_ok-names.ensures (c.in_ok-parts.ensures.thin names c.requires.serving.thin) in
     c.change_folders.ensures.crash tells names (names ++ c.args.name ∷ []) c.requires.serving.thin thin
 
 pub returns-clause-crash : goal.returns-clause-crash
 returns-clause-crash g c tells =
     let names = c.args.self.now.names in
-    let thin : AreThin c.in_ok-parts.parts (names ++ c.args.name ∷ []) = subst (λ (n : List (List ℕ)). AreThin c.in_ok-parts.parts n) c.in_ok-push.ensures.added (c.in_ok-parts.ensures.thin names c.requires.serving.thin) in
+    let thin : AreThin c.in_ok-parts.parts (names ++ c.args.name ∷ []) = subst (λ (n : List (List ℕ)). AreThin c.in_ok-parts.parts n) c.in_ok-names.ensures (c.in_ok-parts.ensures.thin names c.requires.serving.thin) in
     c.change_folders.ensures.crash tells names (names ++ c.args.name ∷ []) c.requires.serving.thin thin
 
 pub returns-clause-serving : goal.returns-clause-serving
@@ -58,3 +60,11 @@ returns-clause-serving g c =
 
 pub returns-clause-mark : goal.returns-clause-mark
 returns-clause-mark g c = keeps_mark c.args.self.now.parts c.in_ok-parts.parts c.args.self.now.names _ c.requires.serving.thin c.in_ok-parts.ensures.kept
+
+pub returns-in_err-begin-clause-spared : goal.returns-in_err-begin-clause-spared
+returns-in_err-begin-clause-spared g c is = (refl, serving_same c.args.self.now _ (g.D.SectorDisk.state c.args.disk.now) c.in_err-begin.ensures.same refl refl c.requires.serving)
+
+pub returns-in_err-change_folders-clause-spared : goal.returns-in_err-change_folders-clause-spared
+returns-in_err-change_folders-clause-spared g c is =
+    let p = err_from_is_err_and c.from_residual-in_err-change_folders.result c.from_residual-in_err-change_folders.ensures.1 in
+    absurd (cc (p.1, p.2, is))

@@ -1,11 +1,12 @@
 use Rattle.std.proofs.Common.{◌≡◌, ◌≢◌, ◌∙◌, ◌+◌, ◌≤◌, ◌++◌, ◌∷◌, [], IsTrue, IfSome, IfNone, length, refl, sym, ap, subst, arith, List, ℕ}
+use Rattle.std.proofs.lemmas.Result.{err_from_is_err_and}
 use Rattle.hfs_language.specs.Lines.{lines}
-use Rattle.hfsx_server.specs.declared.faults.ServeFault.TheVariants.{Disk, Source, Sink}
+use Rattle.hfsx_server.specs.declared.faults.ServeFault.TheVariants.{Disk, Source, Sink, Memory}
 use Rattle.hfsx_server.specs.Headline.{lines_of, tree_after}
 use Rattle.hfsx_server.specs.Input.{ahead, IsLine, TakesLines}
 use Rattle.hfsx_server.specs.Session.{step}
 use Rattle.hfsx_server.specs.Serving.{KeepsMark, RunSoFar, Serves, entry_of}
-use Rattle.hfsx_server.proofs.Causes.{cause_ok}
+use Rattle.hfsx_server.proofs.Causes.{cause_ok, err_is, same_fault}
 use Rattle.hfsx_server.proofs.Lines.{serving_same, stops_none, stops_takes, takes_end, takes_some}
 use Rattle.hfsx_server.proofs.Results.{on_err_of}
 use Rattle.hfsx_server.proofs.ThinHeaders.{same_mark}
@@ -118,3 +119,18 @@ returns-in_ok-answer-in-Some-clause-mark g c = subst (λ p. KeepsMark p c.answer
 
 pub returns-in-None-clause-mark : goal.returns-in-None-clause-mark
 returns-in-None-clause-mark g c = same_mark c.args.self.now.parts
+
+pub returns-in_err-line-clause-spared : goal.returns-in_err-line-clause-spared
+returns-in_err-line-clause-spared g c is = (refl, serving_same c.args.self.now _ (g.R.SectorDisk.state c.args.rig.now) refl refl refl c.requires.serving)
+
+pub returns-in_err-count_line-in-Some-clause-spared : goal.returns-in_err-count_line-in-Some-clause-spared
+returns-in_err-count_line-in-Some-clause-spared g c is =
+    let same = c.count_line.ensures.others in
+    (same.names, serving_same c.args.self.now c.count_line.new.self (g.R.SectorDisk.state c.args.rig.now) same.store same.parts same.names c.requires.serving)
+
+pub returns-in_err-answer-in-Some-clause-spared : goal.returns-in_err-answer-in-Some-clause-spared
+returns-in_err-answer-in-Some-clause-spared g c is =
+    let p = err_from_is_err_and c.from_residual-in_err-answer-in-Some.result c.from_residual-in_err-answer-in-Some.ensures.1 in
+    let why = c.in_err-answer-in-Some.field-0.0 in
+    let spared = c.in_err-answer-in-Some.ensures.spared (err_is why Memory (sym p.2 ∙ same_fault p.0 Memory (sym p.1 ∙ is))) in
+    (spared.0 ∙ c.count_line.ensures.others.names, spared.1)

@@ -2,7 +2,7 @@ use Rattle.std.proofs.Common.{List, ◌&&◌, ◌∙◌, ◌<◌, ap, arith, inl
 use Rattle.std.specs.Prelude.{IsTrue}
 use Rattle.std.proofs.lemmas.Bool.{and_from}
 use Rattle.jnl_store.specs.Journal.{are_open}
-use Rattle.jnl_store.specs.declared.puts.Put.{Put}
+use Rattle.jnl_format.specs.declared.blocks.Home.{Home}
 use Rattle.sector_disk.specs.Disk.{State, content}
 use Rattle.jnl_format.specs.Recovery.{homes_of, replayed}
 use Rattle.jnl_format.specs.Named.{IsNamed}
@@ -30,7 +30,7 @@ invariant_of-self g c =
           let inside : c.args.at < length old = omega (arith, length-over store disk is tells, c.requires.inside) in
           keeps_some store _ disk.sectors disk.candidates disk.candidates c.args.at _
           (record {
-            kept = ap (λ (l : List Put). keeps_lists store.plan disk.candidates l && are_open store.plan disk.sectors c.put.new.self.all && are_open store.plan disk.sectors c.put.new.self.kept) c.put.ensures.live
+            kept = ap (λ (l : List Home). keeps_lists store.plan disk.candidates l && are_open store.plan disk.sectors c.put.new.self.all && are_open store.plan disk.sectors c.put.new.self.kept) c.put.ensures.live
                 ∙ kept_put store.plan (keeps_lists store.plan disk.candidates store.batch.live) disk.sectors c.args.at store.batch.all c.put.new.self.all store.batch.kept c.put.new.self.kept c.put.ensures.names c.put.ensures.kept c.requires.inside open_at keeps.ring.kept;
             settled = keeps.ring.settled;
           })
@@ -66,7 +66,7 @@ returns-clause-same g c =
     let disk = g.D.SectorDisk.state c.args.self.now.disk.now in
     record {
       tells =
-          ap (λ (l : List Put). disk.tells && (keeps_lists store.plan disk.candidates l && are_open store.plan disk.sectors c.put.new.self.all && are_open store.plan disk.sectors c.put.new.self.kept)) c.put.ensures.live
+          ap (λ (l : List Home). disk.tells && (keeps_lists store.plan disk.candidates l && are_open store.plan disk.sectors c.put.new.self.all && are_open store.plan disk.sectors c.put.new.self.kept)) c.put.ensures.live
           ∙ tells_put store.plan disk.tells (keeps_lists store.plan disk.candidates store.batch.live) disk.sectors c.args.at store.batch.all c.put.new.self.all store.batch.kept c.put.new.self.kept c.put.ensures.names c.put.ensures.kept c.requires.inside c.requires.open;
       names = refl;
       tells_left = refl;
@@ -88,7 +88,7 @@ returns-clause-keeps g c keeps open_at =
       keeps.0,
       keeps_some store _ disk.sectors disk.candidates disk.candidates c.args.at _
           (record {
-            kept = ap (λ (l : List Put). keeps_lists store.plan disk.candidates l && are_open store.plan disk.sectors c.put.new.self.all && are_open store.plan disk.sectors c.put.new.self.kept) c.put.ensures.live
+            kept = ap (λ (l : List Home). keeps_lists store.plan disk.candidates l && are_open store.plan disk.sectors c.put.new.self.all && are_open store.plan disk.sectors c.put.new.self.kept) c.put.ensures.live
                 ∙ kept_put store.plan (keeps_lists store.plan disk.candidates store.batch.live) disk.sectors c.args.at store.batch.all c.put.new.self.all store.batch.kept c.put.new.self.kept c.put.ensures.names c.put.ensures.kept c.requires.inside open_at keeps.1.ring.kept;
             settled = keeps.1.ring.settled;
           })

@@ -2,6 +2,8 @@ use Rattle.std.proofs.Common.{List, sym, ◌∙◌, ap, subst}
 use Rattle.sector_disk.specs.Disk.{CrashesLeave, content}
 use Rattle.jnl_store.specs.Appending.{IsAppended, MayAppend, durable_by, longer}
 use Rattle.jnl_store.specs.Batch.{AreOnce}
+use Rattle.jnl_store.specs.Lists.{lists_homes}
+use Rattle.jnl_store.specs.Newest.{newest, or_later}
 use Rattle.jnl_store.specs.Overlay.{overlay}
 use Rattle.jnl_store.specs.Standing.{StandsForOne}
 use Rattle.jnl_store.specs.Store.{KeepsRingOn, durable_of, is_kept}
@@ -72,4 +74,5 @@ returns-clause-done g c tells =
     (fits_still c.args.self.now mid s0.sectors s1.sectors m.same.sectors m.journal c.requires.fits) c.in_ok-make_room.ensures.room
     (subst (λ (l : List Put). IsAppended mid.plan l s1 s2) items (c.in_ok-plan.ensures.written told))
     (c.in_ok-plan.ensures.plan ∙ ap (longer mid.plan) items)
-    c.make_live.ensures.nothing.0 c.make_live.ensures.nothing.1 c.make_live.ensures.content)
+    c.make_live.ensures.nothing.0 c.make_live.ensures.nothing.1
+    (λ at. c.make_live.ensures.newest at ∙ ap (λ n. or_later (newest (lists_homes mid.plan.header.blhdr n 0 mid.batch.all) at) (newest mid.batch.live at)) c.live_bytes-from.ensures.value))

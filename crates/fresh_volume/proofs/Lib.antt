@@ -1,0 +1,13 @@
+pub mod Pieces
+pub mod Forks
+pub mod Trees
+pub mod EmptyJournal
+pub mod Pairs
+pub mod Bits
+pub mod EmptyTrees
+pub mod CatalogTree
+pub mod SixRecords
+pub mod SixLinks
+pub mod SixEntries
+pub mod SoundEntries
+pub mod SoundAttributes

@@ -1,0 +1,25 @@
+use Rattle.std.proofs.Common.{◌≡◌, ◌<◌, ◌≤◌, ℕ, ◌+◌, ◌-◌, Bool, true, false, cond, List, sym, ◌∙◌, ap, arith}
+use Rattle.std.specs.List.{count_by, range_with_len}
+use Rattle.flag_rows.specs.Bits.{bit_of}
+use Rattle.fsck_core.proofs.BehindLaws.{bit_more}
+use Rattle.fsck_core.proofs.behind.count_bits.Goals.{then-bit, else-bit}
+use Rattle.fsck_core.proofs.behind.count_bits.Goals as goal
+
+pub loop-k-preserved : goal.loop-k-preserved
+loop-k-preserved c = elim c.if-bit.branch [
+  | then-bit w ↦ record {
+    count = bit_more (bit_of c.args.sector.now) c.args.from c.loop-k.k c.loop-k.count c.if-bit.count true c.loop-k.invariant.least c.loop-k.invariant.count (sym c.bit.ensures ∙ w.if-bit.true) w.count-is;
+    few = omega (arith, w.count-is, c.loop-k.invariant.few, c.loop-k.invariant.least);
+    least = omega (arith, c.loop-k.invariant.least);
+    most = omega (arith, c.loop-k-test.true, c.loop-k.invariant.least);
+  }
+  | else-bit w ↦ record {
+    count = bit_more (bit_of c.args.sector.now) c.args.from c.loop-k.k c.loop-k.count c.if-bit.count false c.loop-k.invariant.least c.loop-k.invariant.count (sym c.bit.ensures ∙ w.if-bit.false) (w.count-is ∙ add_none c.loop-k.count);
+    few = omega (arith, w.count-is, c.loop-k.invariant.few, c.loop-k.invariant.least);
+    least = omega (arith, c.loop-k.invariant.least);
+    most = omega (arith, c.loop-k-test.true, c.loop-k.invariant.least);
+  }
+]
+  where
+    add_none : (n : ℕ) → n ≡ n + 0
+    add_none n = omega arith

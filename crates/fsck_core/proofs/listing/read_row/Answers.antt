@@ -1,0 +1,10 @@
+use Rattle.std.proofs.Common.{◌≡◌, true, false, sym, ◌∙◌}
+use Rattle.fsck_core.proofs.ListingLaws.{no_row_in, row_is}
+use Rattle.fsck_core.proofs.listing.read_row.Goals as goal
+
+pub returns-then-has_no_name : goal.returns-then-has_no_name
+returns-then-has_no_name c long = no_row_in c.args.key.now c.args.value.now (sym c.has_no_name.ensures ∙ c.if-has_no_name.true)
+
+pub returns : goal.returns
+returns c long =
+    row_is c.args.key.now c.args.value.now c.parent_of.result c.in-Ok.rec c.row_of_record.result (sym c.has_no_name.ensures ∙ c.if-has_no_name.false) (c.parent_of.ensures long) c.in-Ok.ensures.read c.row_of_record.ensures

@@ -1,0 +1,20 @@
+use Rattle.std.proofs.Common.{◌≡◌, ◌<◌, ◌≤◌, ℕ, ◌+◌, Bool, true, false, List, [], ◌∷◌, length, map, get_or, take, inl, inr, refl, sym, ◌∙◌, ap, subst, arith}
+use Rattle.std.specs.Prelude.{All, Contains, IfOk}
+use Rattle.fork_map.specs.Blocks.{blocks_of}
+use Rattle.hfs_volume.specs.Forks.{Owned, blocks_owned, bad_blocks_id}
+use Rattle.hfs_volume.specs.Records.{Overflow}
+use Rattle.hfs_volume.specs.Blocks.{GoOn, GoesOn, GoOnBad, HasFork}
+use Rattle.fsck_core.specs.Overflows.{overflow_in, overflows_in}
+use Rattle.fsck_core.specs.Owners.{owned_in, owned_all}
+use Rattle.fsck_core.specs.Owned.{FailsIn, AddsFailed, Tested}
+use Rattle.fsck_core.specs.declared.follow.OwnedFork.{OwnedFork}
+use Rattle.fsck_core.specs.declared.overflow.OverflowRow.{OverflowRow}
+use Rattle.fsck_core.proofs.OwnerLaws.{mine}
+use Rattle.fsck_core.proofs.TestedLaws.{adds_two, adds_of_test, tested_both, tested_test, tested_more, tested_begin, tested_all, stands_at, some_told, bad_told, both_told, owner_tells}
+use Rattle.fsck_core.proofs.owners.judge_going_on.Goals as goal
+
+pub returns-clause-tested : goal.returns-clause-tested
+returns-clause-tested c forks stands = tested_test c.add_unless.result (FailsIn forks (overflows_in c.args.rows.now)) (GoesOn (overflows_in c.args.rows.now) (owned_in c.args.owned.now)) c.args.owned.now.id c.is_some.result c.args.out.now c.add_unless.new.out (some_told (λ blocks. blocks ≡ length (blocks_owned (overflows_in c.args.rows.now) (owned_in c.args.owned.now))) (GoesOn (overflows_in c.args.rows.now) (owned_in c.args.owned.now)) c.follow_fork.result c.is_some.result c.is_some.ensures c.follow_fork.ensures) (λ not_on. inl ((owned_in c.args.owned.now), stands, refl, not_on)) c.add_unless.ensures.met c.add_unless.ensures.found c.add_unless.ensures.still c.add_unless.ensures.each
+
+pub returns-clause-each : goal.returns-clause-each
+returns-clause-each c forks stands = adds_of_test (FailsIn forks (overflows_in c.args.rows.now)) (GoesOn (overflows_in c.args.rows.now) (owned_in c.args.owned.now)) c.args.owned.now.id c.is_some.result c.args.out.now c.add_unless.new.out (some_told (λ blocks. blocks ≡ length (blocks_owned (overflows_in c.args.rows.now) (owned_in c.args.owned.now))) (GoesOn (overflows_in c.args.rows.now) (owned_in c.args.owned.now)) c.follow_fork.result c.is_some.result c.is_some.ensures c.follow_fork.ensures) (λ not_on. inl ((owned_in c.args.owned.now), stands, refl, not_on)) c.add_unless.ensures.each

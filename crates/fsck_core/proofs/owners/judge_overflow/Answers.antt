@@ -1,0 +1,23 @@
+use Rattle.std.proofs.Common.{◌≡◌, ◌<◌, ◌≤◌, ℕ, ◌+◌, Bool, true, false, List, [], ◌∷◌, length, map, get_or, take, inl, inr, refl, sym, ◌∙◌, ap, subst, arith}
+use Rattle.std.specs.Prelude.{All, Contains, IfOk}
+use Rattle.fork_map.specs.Blocks.{blocks_of}
+use Rattle.hfs_volume.specs.Forks.{Owned, blocks_owned, bad_blocks_id}
+use Rattle.hfs_volume.specs.Records.{Overflow}
+use Rattle.hfs_volume.specs.Blocks.{GoOn, GoesOn, GoOnBad, HasFork}
+use Rattle.fsck_core.specs.Overflows.{overflow_in, overflows_in}
+use Rattle.fsck_core.specs.Owners.{owned_in, owned_all}
+use Rattle.fsck_core.specs.Owned.{FailsIn, AddsFailed, Tested}
+use Rattle.fsck_core.specs.declared.follow.OwnedFork.{OwnedFork}
+use Rattle.fsck_core.specs.declared.overflow.OverflowRow.{OverflowRow}
+use Rattle.fsck_core.proofs.OwnerLaws.{mine}
+use Rattle.fsck_core.proofs.TestedLaws.{adds_two, adds_of_test, tested_both, tested_test, tested_more, tested_begin, tested_all, stands_at, some_told, bad_told, both_told, owner_tells}
+use Rattle.fsck_core.proofs.owners.judge_overflow.Goals as goal
+
+pub returns-in_err-other-clause-each : goal.returns-in_err-other-clause-each
+returns-in_err-other-clause-each c = adds_two (FailsIn (owned_all c.args.forks.now) (overflows_in c.args.rows.now)) c.args.out.now c.judge_all_going_on.new.out c.judge_others.new.out c.judge_all_going_on.ensures.each c.judge_others.ensures.each
+
+pub returns-clause-tested : goal.returns-clause-tested
+returns-clause-tested c = tested_both (FailsIn (owned_all c.args.forks.now) (overflows_in c.args.rows.now)) (All (GoesOn (overflows_in c.args.rows.now)) (owned_all c.args.forks.now)) (GoOnBad (overflows_in c.args.rows.now) × All (HasFork (owned_all c.args.forks.now)) (overflows_in c.args.rows.now)) c.args.out.now c.judge_all_going_on.new.out c.judge_others.new.out c.in_ok-one.one c.in_ok-other.other c.both.result c.both.ensures c.in_ok-one.ensures.tested c.in_ok-other.ensures.tested
+
+pub returns-clause-each : goal.returns-clause-each
+returns-clause-each c = (returns-clause-tested c).each

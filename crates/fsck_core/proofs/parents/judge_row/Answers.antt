@@ -1,0 +1,18 @@
+use Rattle.std.proofs.Common.{◌≡◌, false, refl, sym, ◌∙◌}
+use Rattle.hfs_volume.specs.Broken.{IsFailed}
+use Rattle.hfs_volume.specs.Broken as broken
+use Rattle.fsck_core.specs.Parents.{is_reached}
+use Rattle.fsck_scan.proofs.TreeLaws.{one_more}
+use Rattle.fsck_core.proofs.KindLaws.{still_some}
+use Rattle.fsck_core.proofs.parents.judge_row.Goals as goal
+
+pub returns-clause-found : goal.returns-clause-found
+returns-clause-found c fails = still_some _ c.args.out.now c.push.new.self c.in_ok-push.ensures.kept
+
+pub returns-clause-still : goal.returns-clause-still
+returns-clause-still c some = still_some _ c.args.out.now c.push.new.self c.in_ok-push.ensures.kept
+
+pub returns-clause-each : goal.returns-clause-each
+returns-clause-each c finding stands =
+    one_more (λ (f : broken.Finding). IsFailed 10 f (λ place. (c.args.row.id ≡ place) × (is_reached c.args.row c.args.mark ≡ false))) c.args.out.now c.push.new.self _ finding c.in_ok-push.ensures.kept
+    (refl, refl, refl, (refl, sym c.is_reached.ensures ∙ c.if-is_reached.false)) stands

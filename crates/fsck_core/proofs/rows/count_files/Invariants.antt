@@ -1,0 +1,10 @@
+use Rattle.std.proofs.Common.{◌≡◌, ◌≤◌, take}
+use Rattle.std.specs.List.{count_by}
+use Rattle.fsck_core.specs.declared.rows.Row.{Row}
+use Rattle.fsck_core.proofs.rows.count_files.Given as goal
+
+abbrev pub invariant-loop-row : goal.invariant-loop-row
+invariant-loop-row l = record {
+  count : l.count ≡ count_by (λ (r : Row). r.file) (take l.row-index l.rows);
+  few : l.count ≤ l.row-index;
+}

@@ -1,0 +1,33 @@
+-- Rule 17, judged one place after the other.
+use Rattle.std.specs.Prelude.{◌≡◌, ◌⊎◌, ◌↔◌, ◌<◌, ◌==◌, ◌&&◌, not, ℕ, Bool, false, List, length, Contains, IsTrue}
+use Rattle.fsck_list.specs.declared.finding.Finding.{Finding}
+use Rattle.hfs_volume.specs.Records.{Overflow}
+use Rattle.hfs_volume.specs.Forks.{Owned, is_of, extents_id, bad_blocks_id}
+use Rattle.hfs_volume.specs.Blocks.{GoesOn, GoOnBad, HasFork}
+use Rattle.hfs_volume.specs.Broken.{IsFailed}
+use Rattle.fsck_core.specs.Overflows.{overflow_in}
+use Rattle.fsck_core.specs.Wants.{as_found}
+use Rattle.fsck_core.specs.declared.follow.OwnedFork.{OwnedFork}
+use Rattle.fsck_core.specs.declared.overflow.OverflowRow.{OverflowRow}
+
+-- where rule 17 fails among these forks and overflow records: a fork's records don't go on, those of bad blocks don't, or one has no fork
+abbrev pub FailsIn : List Owned → List Overflow → ℕ → Type 0
+FailsIn forks overflow place =
+    ((owned : Owned) × Contains forks owned × (owned.id ≡ place) × (¬ GoesOn overflow owned))
+    ⊎ (((place ≡ bad_blocks_id) × (¬ GoOnBad overflow))
+    ⊎ ((more : Overflow) × Contains overflow more × (more.id ≡ place) × (¬ HasFork forks more)))
+
+-- what was added to the findings are places where rule 17 fails
+abbrev pub AddsFailed : (ℕ → Type 0) → List Finding → List Finding → Type 0
+AddsFailed Fails old new = (finding : Finding) → Contains new finding → Contains old finding ⊎ IsFailed 17 (as_found finding) Fails
+
+-- A part of rule 17 was judged: it is told whether it holds, there is a finding where it doesn't, and each that was added is of the rule.
+pub record Tested (Fails : ℕ → Type 0) (P : Type 0) (old new : List Finding) (met : Bool) : Type 0 where
+  pub tells : IsTrue met ↔ P
+  pub found : met ≡ false → 0 < length new
+  pub still : 0 < length old → 0 < length new
+  pub each : AddsFailed Fails old new
+
+-- an overflow record belongs to a fork, which isn't that of the extents overflow file
+abbrev pub takes : OverflowRow → OwnedFork → Bool
+takes row owned = (is_of owned.id owned.kind (overflow_in row)) && not (owned.id == extents_id)

@@ -1,0 +1,47 @@
+-- The entries of a catalog, as the rules on counts and ids look at them.
+use Rattle.std.specs.Prelude.{◌==◌, ◌⊎◌, ℕ, false, Bool, List, [], ◌∷◌, map, slice_index_or, count_by, if◌then◌else◌}
+use Rattle.hfs_volume.specs.Records.{Placed, id_of, valence_in, special_of, is_folder, is_file, is_link}
+use Rattle.hfs_volume.specs.Broken.{Finding, Want, want, id_wanted, IsUnmet, valence_wants, count_wants, id_wants}
+use Rattle.volume_header.specs.declared.header.VolumeHeader.{VolumeHeader}
+use Rattle.std.specs.List.{flat_map}
+use Rattle.fsck_core.specs.declared.rows.Row.{Row}
+
+-- an entry as a row
+abbrev pub row_of : Placed → Row
+row_of placed = record {
+  parent = placed.parent;
+  id = id_of placed;
+  valence = valence_in placed.value;
+  special = special_of placed;
+  folder = is_folder placed.value;
+  file = is_file placed.value;
+  link = is_link placed;
+}
+
+-- entries as rows
+abbrev pub rows_of : List Placed → List Row
+rows_of entries = map row_of entries
+
+-- a row of a list, by its place; past its end it doesn't matter
+abbrev pub no_row : Row
+no_row = record { parent = 0; id = 0; valence = 0; special = 0; folder = false; file = false; link = false }
+
+abbrev pub row_at : List Row → ℕ → Row
+row_at rows k = slice_index_or rows k no_row
+
+-- how many rows have this parent
+abbrev pub rows_under : List Row → ℕ → ℕ
+rows_under rows parent = count_by (λ row. row.parent == parent) rows
+
+-- a folder's valence, and how many rows it has
+abbrev pub valence_of : List Row → Row → List Want
+valence_of rows row = if row.folder then want row.id row.valence (rows_under rows row.id) ∷ [] else []
+
+-- a row's id, and the one that is wanted there
+abbrev pub given_id : ℕ → Row → List Want
+given_id next row = want row.id row.id (id_wanted next row.id) ∷ []
+
+-- one of the rules on the counts and ids of entries is broken: 11, 12 or 15
+abbrev pub IsBrokenCount : VolumeHeader → List Placed → Finding → Type 0
+IsBrokenCount head entries finding =
+    IsUnmet 11 finding (flat_map (valence_wants entries) entries) ⊎ (IsUnmet 12 finding (count_wants head entries) ⊎ IsUnmet 15 finding (flat_map (id_wants head.next_catalog_id entries) entries))

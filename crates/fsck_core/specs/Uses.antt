@@ -1,0 +1,29 @@
+-- Blocks that are used, of which each is looked at once more than it was before.
+use Rattle.std.specs.Prelude.{◌≡◌, ◌<◌, ◌≤◌, ℕ, Bool, true, false, List, length, map, slice_index_or, slice_set, IsTrue, if◌then◌else◌}
+use Rattle.alloc_bitmap.specs.Apart.{times}
+use Rattle.fsck_list.specs.declared.finding.Finding.{Finding}
+use Rattle.hfs_volume.specs.Blocks.{is_among}
+use Rattle.hfs_volume.specs.Broken.{Want, want}
+use Rattle.fsck_core.specs.Judged.{AddsUnmet}
+
+-- how many times a block is used, which is wanted to be once
+abbrev pub use_want : List ℕ → ℕ → Want
+use_want all block = want block (times block all) 1
+
+-- that of each block
+abbrev pub uses_of : List ℕ → List Want
+uses_of all = map (use_want all) all
+
+-- a place is marked, where it is one and isn't marked
+abbrev pub mark_at : List Bool → ℕ → List Bool
+mark_at flags block = if slice_index_or flags block true then flags else slice_set flags block true
+
+-- The blocks at the front of a list were marked, and it is told whether one of them stands there twice; what was found are blocks that the
+-- list has twice.
+pub record HasMarked (total : ℕ) (all front : List ℕ) (first : List Finding) (used : List Bool) (out : List Finding) (met : Bool) : Type 0 where
+  pub long : length used ≡ total
+  pub marks : (k : ℕ) → k < total → slice_index_or used k false ≡ is_among front k
+  pub once : IsTrue met → (k : ℕ) → times k front ≤ 1
+  pub twice : met ≡ false → (k : ℕ) × (1 < times k all)
+  pub found : met ≡ false → 0 < length out
+  pub each : AddsUnmet 18 (uses_of all) first out

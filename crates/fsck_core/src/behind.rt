@@ -1,0 +1,125 @@
+//! The bits of the allocation file behind those of blocks (rule 3).
+ghost use Rattle.std.specs.Prelude.{◌≡◌, ◌<◌, ◌≤◌, ◌-◌, ◌*◌, ◌/◌, ◌^◌, min, IsTrue, IfOk, IsErrOf};
+ghost use Rattle.std.specs.List.{count_by, range_with_len};
+ghost use Rattle.hx_bytes.specs.declared.faults.Trouble.TheVariants.{Disk};
+ghost use Rattle.sector_disk.specs.Cause.{HasCause, Rose};
+ghost use Rattle.fork_map.specs.Blocks.{fork_sectors};
+ghost use Rattle.jnl_format.specs.Recovery.{header_of_volume};
+ghost use Rattle.flag_rows.specs.Bits.{bit_of};
+ghost use Rattle.btree_file.specs.Frame.{ReadsSpace};
+ghost use Rattle.hfs_volume.specs.Blocks.{IsGoodHeader};
+ghost use Rattle.hfs_volume.specs.Broken.{bits_behind};
+ghost use Rattle.hfs_volume.specs.Content.{volume_of, overflow_of_content};
+ghost use Rattle.fsck_core.specs.Behind.{set_between};
+ghost use Rattle.fsck_core.specs.Overflows.{overflows_in};
+
+use crate::overflow::{OverflowRow, fork_extents};
+use flag_rows::bytes::bit;
+use fork_map::SummedFork;
+use fsck_scan::{Fork, read_sector};
+use hx_bytes::{Failed, Sector, Trouble};
+use sector_disk::SectorView;
+use std::alloc::Global;
+use volume_header::VolumeHeader;
+
+/// The CNID of the allocation file.
+const ALLOCATION_FILE: u32 = 6;
+
+const DATA: u8 = 0;
+
+/// How many bits of a sector are set, from one place up to another.
+fn count_bits(sector: &Sector, from: usize, to: usize) -> u64
+    requires { to ≤ 4096 }
+    ensures value { result ≡ count_by (bit_of sector.now) (range_with_len from (to - from)) }
+    ensures few { result ≤ 4096 }
+{
+    let mut count = 0;
+    for k in from..to {
+        if bit(sector, k) {
+            count += 1;
+        }
+    }
+    count
+}
+
+/// Where the bits behind so many begin in a sector of them, from that of the first such bit on.
+fn bits_from(total: u32, at: u64) -> usize
+    requires { total / 4096 ≤ at }
+    ensures value { result ≡ total - at * 4096 }
+    ensures few { result ≤ 4096 }
+{
+    let first = (total / 4096) as u64;
+    if at == first {
+        (total % 4096) as usize
+    } else {
+        0
+    }
+}
+
+/// Where the bits of so many bytes end in a sector of them.
+fn bits_to(size: u64, at: u64) -> usize
+    requires { at * 512 < size }
+    ensures value { result ≡ min (8 * size - at * 4096) 4096 }
+    ensures few { result ≤ 4096 }
+{
+    let left = size - at * 512;
+    left.min(512) as usize * 8
+}
+
+/// How many of a fork's bits are set behind so many, up to the end of so many bytes; no more than the largest number is told.
+fn count_past<V: SectorView>(
+    view: &mut V,
+    fork: &Fork,
+    total: u32,
+    size: u64,
+) -> Result<u64, Failed>
+    requires { fork.now.per_block ≤ 2 ^ 23 }
+    ensures value { IsTrue (V.space view.old).tells → IfOk result (λ count. count ≡ min (set_between (V.space view.old).content fork.now.limit (fork_sectors fork.now.extents.now fork.now.per_block) total (8 * size)) (2 ^ 64 - 1)) }
+    ensures reads { ReadsSpace (V.space view.old) (V.space view.new) }
+    ensures below { V.follows view.old view.new }
+    ensures cause { HasCause (V.space view.old).faults (V.space view.new).faults result }
+{
+    let mut sector = [0; 512];
+    let mut count = 0u64;
+    let first = (total / 4096) as u64;
+    for at in first..size.div_ceil(512) {
+        if fork.extents.sector_at(fork.per_block, at).is_none() {
+            return Ok(count);
+        }
+        read_sector(view, fork, at, &mut sector)?;
+        count = count.saturating_add(count_bits(&sector, bits_from(total, at), bits_to(size, at)));
+    }
+    Ok(count)
+}
+
+/// How many bits of the allocation file are set behind those of blocks, where the header keeps rule 1 and these are the volume's overflow
+/// records; no more than the largest number is told.
+pub fn count_behind<V: SectorView>(
+    alloc: Global,
+    view: &mut V,
+    head: &VolumeHeader,
+    rows: &[OverflowRow],
+) -> Result<u64, Trouble>
+    requires good { IsGoodHeader (V.space view.old).sectors head.now }
+    ensures value { IsTrue (V.space view.old).tells → head.now ≡ header_of_volume (V.space view.old).content → overflows_in rows.now ≡ overflow_of_content (V.space view.old).content
+        → IfOk result (λ count. count ≡ min (bits_behind (volume_of (V.space view.old).content)) (2 ^ 64 - 1)) }
+    ensures reads { ReadsSpace (V.space view.old) (V.space view.new) }
+    ensures below { V.follows view.old view.new }
+    ensures disk { IsErrOf result Disk → Rose (V.space view.old).faults (V.space view.new).faults }
+{
+    let list = fork_extents(alloc, rows, ALLOCATION_FILE, DATA, &head.allocation_fork)?;
+    let extents = SummedFork::from_list(alloc, list)?;
+    let per_block = head.block_size / 512;
+    let fork = Fork {
+        extents: &extents,
+        per_block,
+        limit: head.total_blocks as u64 * per_block as u64,
+    };
+    let count = count_past(
+        view,
+        &fork,
+        head.total_blocks,
+        head.allocation_fork.logical_size,
+    )?;
+    Ok(count)
+}

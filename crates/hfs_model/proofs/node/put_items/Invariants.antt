@@ -1,6 +1,0 @@
-use Rattle.std.proofs.Common.{◌≡◌, ◌++◌, drop}
-use Rattle.std.specs.List.{concat}
-use Rattle.hfs_model.proofs.node.put_items.Given as goal
-
-abbrev pub invariant-loop-item : goal.invariant-loop-item
-invariant-loop-item l = l.fn.out.items ++ concat l.items ≡ l.out.items ++ concat (drop l.item-index l.items)

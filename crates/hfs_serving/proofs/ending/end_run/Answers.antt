@@ -1,0 +1,50 @@
+use Rattle.std.proofs.Common.{sym, subst, arith}
+use Rattle.std.specs.Prelude.{IsTrue}
+use Rattle.hfs_serving.proofs.Closing.{closed_stands, commit_finishes, finishes, put_stops}
+use Rattle.hfs_serving.proofs.ending.end_run.Goals as goal
+
+pub close-requires-clause-stands : goal.close-requires-clause-stands
+close-requires-clause-stands g c tells = let there = c.requires.stands tells in (there.0, there.1, there.1, there.2, there.3)
+
+pub returns-in_err-close-clause-crash : goal.returns-in_err-close-clause-crash
+returns-in_err-close-clause-crash g c tells capacity now shrunk stands =
+    put_stops _ now shrunk _ _ stands (g.G.SectorView.space c.close.new.base) (g.G.Ground.outside c.close.new.base) (c.close.ensures.touches tells capacity now now shrunk stands)
+
+pub commit-requires-clause-serves : goal.commit-requires-clause-serves
+commit-requires-clause-serves g c =
+    let there = c.requires.serves in
+    let still = c.in_ok-close.ensures.still there.0 there.1 (omega (arith, there.2)) in
+    (there.0, still.0, still.1)
+
+pub commit-requires-clause-stands : goal.commit-requires-clause-stands
+commit-requires-clause-stands g c tells_new =
+    let tells = subst (λ t. IsTrue t) c.close.ensures.tells tells_new in
+    let there = c.requires.stands tells in
+    let capacity = there.0 in
+    let now = there.1 in
+    let shrunk = there.2 in
+    let stands = there.3 in
+    let new = g.G.SectorView.space c.close.new.base in
+    let closed = c.in_ok-close.ensures.closed tells capacity now now shrunk stands in
+    (capacity, now, closed.ended, shrunk, closed_stands _ now shrunk _ _ stands new (g.G.Ground.outside c.close.new.base) (c.close.ensures.touches tells capacity now now shrunk stands) (g.V.Volume.knows c.close.new.self new capacity) closed)
+
+pub returns-in_err-commit-clause-crash : goal.returns-in_err-commit-clause-crash
+returns-in_err-commit-clause-crash g c tells capacity now shrunk stands =
+    let new = g.G.SectorView.space c.close.new.base in
+    let closed = c.in_ok-close.ensures.closed tells capacity now now shrunk stands in
+    commit_finishes _ now shrunk _ _ stands new (g.G.Ground.outside c.close.new.base) (c.close.ensures.touches tells capacity now now shrunk stands) (g.V.Volume.knows c.close.new.self new capacity) closed (g.G.Ground.outside c.commit.new.base)
+    (c.commit.ensures.crash (subst (λ t. IsTrue t) (sym c.close.ensures.tells) tells))
+
+pub returns-clause-crash : goal.returns-clause-crash
+returns-clause-crash g c tells capacity now shrunk stands =
+    let new = g.G.SectorView.space c.close.new.base in
+    let closed = c.in_ok-close.ensures.closed tells capacity now now shrunk stands in
+    commit_finishes _ now shrunk _ _ stands new (g.G.Ground.outside c.close.new.base) (c.close.ensures.touches tells capacity now now shrunk stands) (g.V.Volume.knows c.close.new.self new capacity) closed (g.G.Ground.outside c.commit.new.base)
+    (c.commit.ensures.crash (subst (λ t. IsTrue t) (sym c.close.ensures.tells) tells))
+
+pub returns-clause-done : goal.returns-clause-done
+returns-clause-done g c tells capacity now shrunk stands =
+    let new = g.G.SectorView.space c.close.new.base in
+    let closed = c.in_ok-close.ensures.closed tells capacity now now shrunk stands in
+    finishes _ now shrunk _ _ stands new (g.G.Ground.outside c.close.new.base) (c.close.ensures.touches tells capacity now now shrunk stands) (g.V.Volume.knows c.close.new.self new capacity) closed (g.G.SectorView.space c.commit.new.base)
+    (g.G.Ground.outside c.commit.new.base) (c.in_ok-commit.ensures.done (subst (λ t. IsTrue t) (sym c.close.ensures.tells) tells))

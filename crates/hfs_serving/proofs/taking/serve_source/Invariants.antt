@@ -1,0 +1,25 @@
+use Rattle.std.proofs.Common.{◌≡◌, ◌≤◌, ◌+◌, ℕ, List, length}
+use Rattle.std.specs.Prelude.{Option, IsTrue}
+use Rattle.jnl_format.specs.Recovery.{Content}
+use Rattle.line_source.specs.Input.{weight, SameSource}
+use Rattle.hfs_serving.specs.Going.{Stands}
+use Rattle.hfs_serving.specs.Steps.{ServesStep}
+use Rattle.hfs_serving.proofs.Pending.{On}
+use Rattle.hfs_serving.proofs.taking.serve_source.Given as goal
+
+abbrev pub invariant-loop-lines : goal.invariant-loop-lines
+invariant-loop-lines g l =
+    record {
+      same : SameSource (g.S.Source.stream l.fn.source) (g.S.Source.stream l.source);
+      anchor : g.G.Ground.anchor l.base ≡ g.G.Ground.anchor l.fn.base;
+      tells : (g.G.SectorView.space l.base).tells ≡ (g.G.SectorView.space l.fn.base).tells;
+      serves : (capacity : ℕ) → g.G.Ground.serves l.fn.base capacity → g.G.Ground.taken l.fn.base ≤ capacity → g.G.Ground.serves l.base capacity × (g.G.Ground.taken l.base ≤ capacity);
+      nothing : (capacity : ℕ) → g.G.Ground.serves l.fn.base capacity → g.G.Ground.taken l.fn.base ≡ 0 → g.G.Ground.taken l.base ≡ 0;
+      on : On l.fn.input (g.S.Source.stream l.fn.source) l.lines.items l.input (g.S.Source.stream l.source)
+          (λ count texts. IsTrue (g.G.SectorView.space l.fn.base).tells → (capacity : ℕ) (start : Content) (shrunk : Option ℕ)
+          → Stands (g.V.Volume.knows l.fn.volume (g.G.SectorView.space l.fn.base) capacity) start start shrunk (g.G.SectorView.space l.fn.base) (g.G.Ground.outside l.fn.base)
+          → ServesStep count capacity (g.V.Volume.knows l.volume (g.G.SectorView.space l.base) capacity) start shrunk (g.G.Ground.outside l.fn.base) texts (g.G.SectorView.space l.base) (g.G.Ground.outside l.base));
+    }
+
+abbrev pub decreases-loop-lines : goal.decreases-loop-lines
+decreases-loop-lines g l = weight l.input (g.S.Source.stream l.source) + length l.lines.items

@@ -1,0 +1,4 @@
+pub mod Adding
+pub mod Cuts
+pub mod Fetching
+pub mod Reading

@@ -1,0 +1,57 @@
+-- What a command that changes the catalog and the numbers of the header does to a volume.
+use Rattle.std.specs.Prelude.{◌≡◌, ◌⊎◌, ◌≤◌, ℕ, ◌+◌, ◌-◌, ◌/◌, ◌^◌, IsTrue, false, List, Some}
+use Rattle.std.specs.List.{Contains}
+use Rattle.btree_edit.specs.Editing.{edit_writes}
+use Rattle.btree_file.specs.State.{sectors_of_tree}
+use Rattle.jnl_format.specs.Recovery.{header_of_volume}
+use Rattle.cat_records.specs.declared.record.CatRecord.{CatRecord}
+use Rattle.catalog.specs.Entries.{UpdatesEntry}
+use Rattle.hfs_volume.specs.Changes.{with_numbers}
+use Rattle.sector_disk.specs.Lists.{Content}
+use Rattle.sector_disk.specs.Space.{Space, AgreesOutside}
+use Rattle.volume_ops.specs.Entering.{with_mode}
+use Rattle.volume_ops.specs.Lists.{lists_of, facts_on}
+use Rattle.volume_ops.specs.declared.entries.Entry.{Entry}
+use Rattle.volume_ops.specs.declared.volume.Volume.{Volume}
+
+-- The catalog and the numbers of the header may have changed, and no sector but theirs. All else of the volume is as it was.
+pub record ChangesCatalog (old new : Volume) (before after : Content) : Type 0 where
+  pub lists : lists_of new after ≡ record (lists_of old before) { head = new.header; catalog_pairs = (lists_of new after).catalog_pairs; catalog_tree = facts_on new.catalog.file }
+  pub numbers : new.header ≡ with_numbers old.header new.header
+  pub map : new.map ≡ old.map
+  pub extents : new.extents ≡ old.extents
+  pub attributes : new.attributes ≡ old.attributes
+  pub private : new.private ≡ old.private
+  pub catalog : sectors_of_tree new.catalog.file ≡ sectors_of_tree old.catalog.file
+  pub nodes : (new.catalog.file.shape.total ≡ old.catalog.file.shape.total) × (new.catalog.file.shape.node_size ≡ old.catalog.file.shape.node_size)
+  pub outside : AgreesOutside (λ s. (s ≡ 2) ⊎ Contains (sectors_of_tree old.catalog.file) s) before after
+
+-- The header was put: the content has it, and the volume's lists over it are as they were.
+pub record PutsHeader (volume : Volume) (before after : Content) : Type 0 where
+  pub headed : header_of_volume after ≡ volume.header
+  pub lists : lists_of volume after ≡ lists_of volume before
+  pub changes : ChangesCatalog volume volume before after
+
+-- The sectors of a node of the catalog.
+abbrev pub catalog_node : Volume → ℕ
+catalog_node volume = volume.catalog.file.shape.node_size / 512
+
+-- There is room to put a node of the catalog; where the space tells nothing, for an edit of it.
+pub record HasRoomToUpdate (volume : Volume) (space : Space) : Type 0 where
+  pub told : IsTrue space.tells → catalog_node volume ≤ space.spare
+  pub untold : space.tells ≡ false
+      → (volume.catalog.file.shape.depth + 1 ≤ 11) × (volume.catalog.file.shape.leaf_records + 1 ≤ 2 ^ 32 - 1) × (volume.catalog.file.shape.depth + 2 ≤ volume.catalog.file.shape.free)
+      × (edit_writes (volume.catalog.file.shape.depth + 1) ≤ space.spare / catalog_node volume)
+
+-- A folder or file has another record where it stands, and nothing else of the volume is changed; the header wasn't put.
+pub record ReplacesRecord (entry : Entry) (rec : CatRecord) (old new : Volume) (before after : Content) : Type 0 where
+  pub updates : UpdatesEntry entry.parent entry.name rec (lists_of old before).catalog_pairs (lists_of new after).catalog_pairs
+  pub changes : ChangesCatalog old new before after
+  pub rest : new ≡ record old { catalog = new.catalog }
+  pub headed : header_of_volume after ≡ header_of_volume before
+
+-- It has these rights, set at this moment.
+pub record SetsRights (moment rights : ℕ) (entry : Entry) (old new : Volume) (before after : Content) : Type 0 where
+  pub rec : CatRecord
+  pub made : with_mode moment rights entry.rec ≡ Some rec
+  pub replaces : ReplacesRecord entry rec old new before after
