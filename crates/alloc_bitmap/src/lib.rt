@@ -8,6 +8,3 @@ mod log;
 mod store;
 
 pub use bitmap::Bitmap;
-
-#[cfg(test)]
-mod tests;

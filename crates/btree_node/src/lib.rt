@@ -13,8 +13,6 @@ mod node;
 mod order;
 mod reads;
 mod store;
-#[cfg(test)]
-mod tests;
 
 pub use bytes::{count_records, get_offset};
 pub use codec::{NodeHead, TreeHeader, header_node, leaf_node, node_over, nodes_are_read_back};

@@ -178,37 +178,3 @@ impl Batch {
         self.live.clear();
     }
 }
-
-#[cfg(test)]
-mod tests {
-    use super::*;
-    use std::test::Fail;
-
-    #[test]
-    fn a_sector_put_twice_counts_once(rt: HostRuntime) -> Result<(), Fail> {
-        let mut batch = Batch::new(rt.alloc());
-        batch.begin(2)?;
-        batch.put(7, &[1; 512]);
-        batch.put(7, &[2; 512]);
-        assert_eq!(rt; batch.len(), 1);
-        assert_eq!(rt; batch.spare(), 1);
-        assert_eq!(rt; batch.get(7).ok_or("a put")?[0], 2);
-        assert!(rt; batch.get(8).is_none());
-        Ok(())
-    }
-
-    #[test]
-    fn an_undo_drops_what_was_put_since_the_last_keep(rt: HostRuntime) -> Result<(), Fail> {
-        let mut batch = Batch::new(rt.alloc());
-        batch.begin(2)?;
-        batch.put(7, &[1; 512]);
-        batch.keep();
-        batch.put(7, &[2; 512]);
-        batch.put(8, &[3; 512]);
-        batch.undo();
-        assert_eq!(rt; batch.len(), 1);
-        assert_eq!(rt; batch.get(7).ok_or("a put")?[0], 1);
-        assert!(rt; batch.get(8).is_none());
-        Ok(())
-    }
-}

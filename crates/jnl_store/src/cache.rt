@@ -148,35 +148,3 @@ fn is_own(plan: &Plan, at: u64) -> bool
     let base = offset / 512;
     base <= at && at < base + size / 512 || at == plan.place.info_sector
 }
-
-#[cfg(test)]
-mod tests {
-    use super::*;
-    use std::test::Fail;
-
-    // Sectors 3 and 13 have one slot of ten.
-    #[test]
-    fn a_sector_takes_the_slot_of_another(rt: HostRuntime) -> Result<(), Fail> {
-        let mut cache = Cache::new(rt.alloc(), 10)?;
-        assert!(rt; !cache.holds(3));
-        for (at, byte) in [(3, 1), (4, 2), (13, 3)] {
-            let bytes = [byte; 512];
-            cache.set(at, Some(Put { at, bytes }));
-        }
-        assert!(rt; !cache.holds(3));
-        assert_eq!(rt; cache.get(4).ok_or("a slot")?[0], 2);
-        assert_eq!(rt; cache.get(13).ok_or("a slot")?[511], 3);
-        cache.set(4, None);
-        assert!(rt; cache.get(4).is_none());
-        Ok(())
-    }
-
-    #[test]
-    fn without_slots_nothing_is_held(rt: HostRuntime) -> Result<(), Fail> {
-        let mut cache = Cache::new(rt.alloc(), 0)?;
-        let bytes = [1; 512];
-        cache.set(7, Some(Put { at: 7, bytes }));
-        assert!(rt; !cache.holds(7));
-        Ok(())
-    }
-}

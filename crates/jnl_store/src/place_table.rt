@@ -169,37 +169,3 @@ fn search(sectors: &[u64], at: u64) -> Result<usize, usize>
     }
     sectors.binary_search(&at)
 }
-
-#[cfg(test)]
-mod tests {
-    use super::*;
-    use std::test::Fail;
-
-    fn table(alloc: Global, homes: &[(u64, u64)]) -> Result<PlaceTable, Fail> {
-        let mut table = PlaceTable::new(alloc);
-        for (at, place) in homes {
-            table.reserve(1)?;
-            table.put(*at, *place);
-        }
-        Ok(table)
-    }
-
-    // Sectors that stand in one table, in the other, and in both.
-    #[test]
-    fn the_newer_table_has_the_word(rt: HostRuntime) -> Result<(), Fail> {
-        let older = table(rt.alloc(), &[(9, 1), (3, 2), (7, 3), (20, 4)])?;
-        let newer = table(rt.alloc(), &[(7, 5), (1, 6), (30, 7), (8, 8)])?;
-        let mut both = PlaceTable::new(rt.alloc());
-        let room = older.len().checked_add(newer.len()).ok_or("room")?;
-        both.reserve(room)?;
-        both.merge(&older, &newer);
-        assert_eq!(rt; both.len(), 7);
-        for (at, place) in [(1, 6), (3, 2), (7, 5), (8, 8), (9, 1), (20, 4), (30, 7)] {
-            assert_eq!(rt; both.find(at).ok_or("a place")?, place, "{at}");
-        }
-        for at in [0, 2, 10, 31] {
-            assert!(rt; both.find(at).is_none(), "{at}");
-        }
-        Ok(())
-    }
-}

@@ -138,34 +138,3 @@ impl PutTable {
         self.places.clear();
     }
 }
-
-#[cfg(test)]
-mod tests {
-    use super::*;
-    use std::test::Fail;
-
-    fn put(at: u64, byte: u8) -> Put {
-        Put {
-            at,
-            bytes: [byte; 512],
-        }
-    }
-
-    // The sectors come in an order that is neither rising nor falling.
-    #[test]
-    fn each_sector_is_found_with_its_last_bytes(rt: HostRuntime) -> Result<(), Fail> {
-        let mut table = PutTable::new(rt.alloc());
-        for (at, byte) in [(7, 1), (3, 2), (9, 3), (1, 4), (8, 5), (3, 6)] {
-            table.reserve(1)?;
-            table.put(&put(at, byte));
-        }
-        assert_eq!(rt; table.len(), 5);
-        for (at, byte) in [(1, 4), (3, 6), (7, 1), (8, 5), (9, 3)] {
-            assert_eq!(rt; table.get(at).ok_or("a put")?[511], byte);
-        }
-        for at in [0, 2, 4, 10] {
-            assert!(rt; table.get(at).is_none());
-        }
-        Ok(())
-    }
-}
