@@ -27,6 +27,8 @@ pub mod OpenFiles
 pub mod Over
 pub mod Paths
 pub mod Placing
+pub mod Recounting
+pub mod Refielded
 pub mod Replaced
 pub mod Resettling
 pub mod Righting

@@ -1,12 +1,15 @@
 -- What a command that changes the catalog and the numbers of the header does to a volume.
-use Rattle.std.specs.Prelude.{◌≡◌, ◌⊎◌, ◌≤◌, ℕ, ◌+◌, ◌-◌, ◌/◌, ◌^◌, IsTrue, false, List, Some}
+use Rattle.std.specs.Prelude.{◌≡◌, ◌⊎◌, ◌<◌, ◌≤◌, ℕ, ◌+◌, ◌-◌, ◌/◌, ◌^◌, IsTrue, false, true, List, Some}
 use Rattle.std.specs.List.{Contains}
 use Rattle.btree_edit.specs.Editing.{edit_writes}
 use Rattle.btree_file.specs.State.{sectors_of_tree}
+use Rattle.btree_node.specs.Levels.{Pair}
 use Rattle.jnl_format.specs.Recovery.{header_of_volume}
 use Rattle.cat_records.specs.declared.record.CatRecord.{CatRecord}
 use Rattle.catalog.specs.Entries.{UpdatesEntry}
 use Rattle.hfs_volume.specs.Changes.{with_numbers}
+use Rattle.hfs_volume.specs.Commands.{ChangesFields, IsTouched}
+use Rattle.hfs_volume.specs.Records.{Placed, entries_of, id_of, is_folder, placed_in, valence_in}
 use Rattle.sector_disk.specs.Lists.{Content}
 use Rattle.sector_disk.specs.Space.{Space, AgreesOutside}
 use Rattle.volume_ops.specs.Entering.{with_mode}
@@ -55,3 +58,19 @@ pub record SetsRights (moment rights : ℕ) (entry : Entry) (old new : Volume) (
   pub rec : CatRecord
   pub made : with_mode moment rights entry.rec ≡ Some rec
   pub replaces : ReplacesRecord entry rec old new before after
+
+-- The folder with this CNID is there, and can count so many entries more.
+pub record HasFolder (id up : ℕ) (pairs : List Pair) : Type 0 where
+  pub entry : Placed
+  pub stands : Contains (entries_of (placed_in pairs)) entry
+  pub number : id_of entry ≡ id
+  pub folder : is_folder entry.value ≡ true
+  pub fits : valence_in entry.value + up < 2 ^ 32
+
+-- The folder with this CNID counts so many entries more and so many less, at the volume's moment. Nothing else of the volume is changed, and
+-- the header wasn't put.
+pub record TouchesFolder (id up down : ℕ) (old new : Volume) (before after : Content) : Type 0 where
+  pub counts : ChangesFields id (IsTouched old.header.modify_date up down) (lists_of old before) (lists_of new after)
+  pub changes : ChangesCatalog old new before after
+  pub rest : new ≡ record old { catalog = new.catalog }
+  pub headed : header_of_volume after ≡ header_of_volume before

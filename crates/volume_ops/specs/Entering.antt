@@ -1,5 +1,5 @@
 -- Folders and files by their CNID, and their records with other fields.
-use Rattle.std.specs.Prelude.{ℕ, ◌+◌, ◌*◌, ◌/◌, ◌%◌, ◌==◌, nat_lt, Bool, true, false, List, length, Option, None, Some, if◌then◌else◌}
+use Rattle.std.specs.Prelude.{ℕ, ◌+◌, ◌-◌, ◌*◌, ◌/◌, ◌%◌, ◌==◌, nat_lt, Bool, true, false, List, length, Option, None, Some, if◌then◌else◌}
 use Rattle.std.specs.Option.{option_map}
 use Rattle.btree_node.specs.Levels.{Pair}
 use Rattle.cat_records.specs.declared.record.CatRecord.{CatRecord}
@@ -40,3 +40,19 @@ abbrev pub with_mode : ℕ → ℕ → CatRecord → Option CatRecord
 with_mode moment rights (Folder folder) = Some (Folder (record { fields = with_rights true moment rights folder.fields }))
 with_mode moment rights (File file) = Some (File (record file { fields = with_rights false moment rights file.fields }))
 with_mode moment rights (Thread thread) = None
+
+-- ---- entries that come and go
+
+-- the flags of a folder that doesn't count its folders apart (0x0010)
+abbrev pub uncounted : ℕ → ℕ
+uncounted flags = flags - flags / 16 % 2 * 16
+
+-- the fields of a folder to which so many entries came, and from which so many went, at this moment
+abbrev pub with_entries : (moment up down : ℕ) → EntryFields → EntryFields
+with_entries moment up down fields = record fields { flags = uncounted fields.flags; count = fields.count + up - down; changed = moment; attribute = moment; rest = 0 }
+
+-- the record of such a folder
+abbrev pub touched : (moment up down : ℕ) → CatRecord → Option CatRecord
+touched moment up down (Folder folder) = Some (Folder (record { fields = with_entries moment up down folder.fields }))
+touched moment up down (File file) = None
+touched moment up down (Thread thread) = None

@@ -125,6 +125,8 @@ impl Volume {
         ensures fits { IfOk result (λ found. IfSome found (λ entry. is_thread entry.rec ≡ false → FitsRecord entry.rec)) }
         ensures name { IfOk result (λ found. IfSome found (λ entry. length entry.name ≤ 255)) }
         ensures reads { ReadsVolume self.old self.new (P.SectorView.space space.old) (P.SectorView.space space.new) }
+        // Nothing else of it is changed.
+        ensures rest { self.new ≡ record self.old { catalog = self.new.catalog } }
         ensures stands { StandsOver self.new (P.SectorView.space space.new) }
         ensures below { P.SectorView.follows space.old space.new }
         ensures cause { HasTroubleCause (P.SectorView.space space.old).faults (P.SectorView.space space.new).faults result }

@@ -25,6 +25,7 @@ mod room;
 mod setting;
 mod stating;
 mod telling;
+mod touching;
 mod volume;
 
 pub use volume::Volume;
