@@ -33,7 +33,7 @@ module _ (sectors block journal : ℕ) (name : List ℕ) (old new : Content) (ca
   fit : IsFitting layout
   fit = fitting sectors block journal can
 
-  some : 1 ≤ count_of layout layout.bitmap
+  pub some : 1 ≤ count_of layout layout.bitmap
   some =
       let per : ℕ = layout.block / 512 in
       let blocks : 0 < layout.catalog.count =

@@ -4,6 +4,7 @@ pub mod Trees
 pub mod EmptyJournal
 pub mod Pairs
 pub mod Bits
+pub mod RowCounts
 pub mod EmptyTrees
 pub mod CatalogTree
 pub mod SixRecords
@@ -11,3 +12,8 @@ pub mod SixLinks
 pub mod SixEntries
 pub mod SoundEntries
 pub mod SoundAttributes
+pub mod NineForks
+pub mod SoundBlocks
+pub mod FreshTree
+pub mod Standing
+pub mod Mounting

@@ -11,6 +11,7 @@ use Rattle.cat_records.specs.declared.record.CatRecord.{CatRecord}
 use Rattle.cat_records.specs.Keys.{catalog_key_bytes}
 use Rattle.cat_records.specs.Records.{catalog_bytes}
 use Rattle.jnl_format.specs.Recovery.{Content, Journal, recovery}
+use Rattle.hfs_model.specs.Plain.{fresh_tree}
 use Rattle.hfs_model.specs.Thin.{empty_tree, catalog_tree, new_folder, new_thread}
 use Rattle.hfs_volume.specs.Content.{extents_file, catalog_file, attributes_file, bit_in, bitmap_sectors, volume_of, records_of, overflow_in_volume, attributes_of}
 use Rattle.hfs_volume.specs.Records.{Placed}
@@ -18,7 +19,10 @@ use Rattle.hfs_volume.specs.Entries.{AreSpelled, AreEntries}
 use Rattle.hfs_volume.specs.Links.{AreLinks}
 use Rattle.hfs_volume.specs.Attributes.{AreAttributes}
 use Rattle.hfs_volume.specs.Nodes.{HasTrees}
-use Rattle.hfs_volume.specs.Mount.{IsOpen, HasJournal}
+use Rattle.hfs_volume.specs.Blocks.{HasBlocks}
+use Rattle.hfs_volume.specs.Sound.{IsSound}
+use Rattle.hfs_volume.specs.TreeOf.{tree_of}
+use Rattle.hfs_volume.specs.Mount.{IsOpen, HasJournal, MountsTo}
 use Rattle.volume_make.specs.declared.layout.Layout.{Layout}
 use Rattle.volume_make.specs.Laws.{fresh_info, fresh_journal}
 use Rattle.volume_make.specs.Layout.{CanBe, layout_of, count_of, is_used}
@@ -144,3 +148,24 @@ HasSoundAttributes content =
 abbrev pub FreshAttributesSound : Type 0
 FreshAttributesSound = (sectors block journal : ℕ) (name : List ℕ) (old new : Content) → length old ≡ sectors → CanBe sectors block journal → IsTrue (is_name name)
     → AllByRecursion (λ unit. unit < 2 ^ 16) name → IsFormatted (layout_of sectors block journal) name old new → HasSoundAttributes new
+
+-- the headers, the special files, the forks and the bits of each volume that is made with a name of units are those of a sound volume, whatever the disk held
+abbrev pub FreshBlocksSound : Type 0
+FreshBlocksSound = (sectors block journal : ℕ) (name : List ℕ) (old new : Content) → length old ≡ sectors → CanBe sectors block journal → IsTrue (is_name name)
+    → AllByRecursion (λ unit. unit < 2 ^ 16) name → IsFormatted (layout_of sectors block journal) name old new → HasBlocks (volume_of new)
+
+-- the tree of each volume that is made with a name of units is the fresh one, whatever the disk held
+abbrev pub FreshTreeFound : Type 0
+FreshTreeFound = (sectors block journal : ℕ) (name : List ℕ) (old new : Content) → CanBe sectors block journal → IsTrue (is_name name)
+    → AllByRecursion (λ unit. unit < 2 ^ 16) name → IsFormatted (layout_of sectors block journal) name old new → tree_of new ≡ fresh_tree
+
+-- the content is a sound volume with the fresh tree, and a mount finds it with that tree
+pub record IsFreshVolume (content : Content) : Type 0 where
+  pub sound : IsSound content
+  pub tree : tree_of content ≡ fresh_tree
+  pub mountable : MountsTo content fresh_tree
+
+-- so is each volume that is made with a name of units, whatever the disk held
+abbrev pub FormattedIsSound : Type 0
+FormattedIsSound = (sectors block journal : ℕ) (name : List ℕ) (old new : Content) → length old ≡ sectors → CanBe sectors block journal → IsTrue (is_name name)
+    → AllByRecursion (λ unit. unit < 2 ^ 16) name → IsFormatted (layout_of sectors block journal) name old new → IsFreshVolume new

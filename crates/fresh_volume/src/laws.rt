@@ -1,5 +1,5 @@
 //! Laws of a volume that was just made, each as a function without a body.
-ghost use Rattle.fresh_volume.specs.Fresh.{FreshTreesFound, FreshPairsFound, FreshBitsFound, FreshTreesStand, FreshJournalEmpty, FreshRecordsFound, FreshEntriesSound, FreshAttributesSound};
+ghost use Rattle.fresh_volume.specs.Fresh.{FreshTreesFound, FreshPairsFound, FreshBitsFound, FreshTreesStand, FreshJournalEmpty, FreshRecordsFound, FreshEntriesSound, FreshAttributesSound, FreshBlocksSound, FreshTreeFound, FormattedIsSound};
 
 /// The three trees of a volume that was just made are found in its content with the nodes that they were made with.
 pub fn fresh_trees_are_found()
@@ -39,4 +39,19 @@ pub fn fresh_entries_are_sound()
 /// The two files of the journal of a volume that was just made are where the header and the info block say, and it has no attributes.
 pub fn fresh_attributes_are_sound()
     ensures { FreshAttributesSound }
+{}
+
+/// The headers, the special files, the forks and the bitmap of a volume that was just made are those of a sound volume.
+pub fn fresh_blocks_are_sound()
+    ensures { FreshBlocksSound }
+{}
+
+/// The tree of a volume that was just made is the root alone.
+pub fn fresh_tree_is_found()
+    ensures { FreshTreeFound }
+{}
+
+/// A volume that was just made is sound, its tree is the root alone, and it can be mounted.
+pub fn formatted_is_sound()
+    ensures { FormattedIsSound }
 {}

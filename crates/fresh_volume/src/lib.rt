@@ -4,7 +4,7 @@
 mod laws;
 
 pub use laws::{
-    fresh_attributes_are_sound, fresh_bits_are_found, fresh_entries_are_sound,
-    fresh_journal_is_empty, fresh_pairs_are_found, fresh_records_are_found, fresh_trees_are_found,
-    fresh_trees_stand,
+    formatted_is_sound, fresh_attributes_are_sound, fresh_bits_are_found, fresh_blocks_are_sound,
+    fresh_entries_are_sound, fresh_journal_is_empty, fresh_pairs_are_found,
+    fresh_records_are_found, fresh_tree_is_found, fresh_trees_are_found, fresh_trees_stand,
 };
