@@ -17,3 +17,4 @@ pub mod SoundBlocks
 pub mod FreshTree
 pub mod Standing
 pub mod Mounting
+pub mod Making
