@@ -1,3 +1,4 @@
+pub mod Added
 pub mod Alike
 pub mod Begun
 pub mod Bridged
@@ -5,6 +6,7 @@ pub mod Bridging
 pub mod CatalogEdited
 pub mod Chmod
 pub mod Commanding
+pub mod Counted
 pub mod Dating
 pub mod EditsOn
 pub mod Entered
@@ -20,8 +22,11 @@ pub mod Identities
 pub mod Listed
 pub mod ListsAfter
 pub mod Loads
+pub mod Made
+pub mod MakeRoom
 pub mod NodeIs
 pub mod NodesRead
+pub mod Numbering
 pub mod Opened
 pub mod OpenFiles
 pub mod Over
@@ -35,6 +40,8 @@ pub mod Righting
 pub mod Rising
 pub mod Seeing
 pub mod Settling
+pub mod Sited
+pub mod Siting
 pub mod SoundForks
 pub mod Still
 pub mod Stood

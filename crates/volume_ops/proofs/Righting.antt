@@ -1,20 +1,19 @@
 -- Rights that were set in the record of a folder or file are what `chmod` changes.
 use Rattle.std.proofs.Common.{◌≡◌, ℕ, ◌+◌, ◌*◌, ◌/◌, ◌%◌, ◌<◌, ◌≤◌, ◌^◌, Bool, true, false, List, refl, sym, ◌∙◌, ap, subst, arith}
 use Rattle.std.specs.Prelude.{◌==◌, Option, None, Some, if◌then◌else◌}
-use Rattle.std.specs.Option.{option_map}
 use Rattle.std.proofs.lemmas.Bool.{true≢false}
-use Rattle.btree_node.specs.Levels.{Pair}
 use Rattle.cat_records.specs.Fits.{FitsEntry}
 use Rattle.cat_records.specs.declared.record.CatRecord.{CatRecord}
 use Rattle.cat_records.specs.declared.record.CatRecord.TheVariants.{Folder, File, Thread}
 use Rattle.cat_records.specs.declared.record.EntryFields.{EntryFields}
 use Rattle.catalog.specs.Entries.{UpdatesEntry, IsOfKind}
 use Rattle.catalog.specs.Pairs.{value_at}
-use Rattle.hfs_volume.specs.Changes.{ChangesValue, HasSameNodes, InCatalog, SameKind, Spells, Swaps}
-use Rattle.hfs_volume.specs.Commands.{ChangesFields, ChangesMode, HasFields, HasNewMode, with_fields}
+use Rattle.hfs_volume.specs.Changes.{HasSameNodes}
+use Rattle.hfs_volume.specs.Commands.{ChangesMode, HasNewMode}
 use Rattle.hfs_volume.specs.Content.{VolumeState}
-use Rattle.hfs_volume.specs.Records.{Placed, placed_in, record_at, id_in, is_thread}
+use Rattle.hfs_volume.specs.Records.{id_in, is_folder, is_thread}
 use Rattle.volume_ops.specs.Entering.{kind_bits, with_rights, with_mode}
+use Rattle.volume_ops.proofs.Refielded.{FieldsChange, changes_fields, refielded}
 
 -- ---- modes
 
@@ -74,58 +73,22 @@ kind_kept moment rights (Folder folder) new is = subst (λ (r : CatRecord). IsOf
 kind_kept moment rights (File file) new is = subst (λ (r : CatRecord). IsOfKind r (File file)) (ap (value_or new) is) (record { folder = refl; file = refl; id = refl })
 kind_kept moment rights (Thread thread) new is = absurd (let no : None ≡ Some new = is in cc no)
 
-module _ (id rights parent : ℕ) (name : List ℕ) (new_rec : CatRecord) (old new : VolumeState) (low : rights < 4096) (updates : UpdatesEntry parent name new_rec old.catalog_pairs new.catalog_pairs) (nodes : HasSameNodes old.catalog_tree new.catalog_tree)
-    (rest : new ≡ record old { catalog_pairs = new.catalog_pairs; catalog_tree = new.catalog_tree })
-  where
-    of_value : (p : ℕ) (n : List ℕ) (value : CatRecord) → updates.entry ≡ record { parent = p; name = n; value = value } → with_mode old.head.modify_date rights value ≡ Some new_rec → id_in value ≡ id → ChangesMode id rights old new
-    of_value p n (Folder folder) is made number = record {
-      entry = record { parent = p; name = n; value = Folder folder };
-      before = folder.fields;
-      after = with_rights true old.head.modify_date rights folder.fields;
-      has = refl;
-      is_entry = number;
-      fields = has_mode true old.head.modify_date rights folder.fields low;
-      changes = record {
-        changes = record {
-          pair = updates.pair;
-          is_entry = updates.is_entry.stands ∙ is;
-          other = updates.other;
-          is_other = subst (λ (q : Placed). Spells q updates.other) (λ i. record (is i) { value = ap (value_or new_rec) (sym made) i }) updates.is_other;
-          swapped = updates.swapped;
-          alike = record { place = (refl, refl); kind = (refl, refl); id = refl; link = refl; reference = λ _. refl };
-          forks = refl;
-        };
-        nodes = nodes;
-        rest = rest;
-      };
-    }
-    of_value p n (File file) is made number = record {
-      entry = record { parent = p; name = n; value = File file };
-      before = file.fields;
-      after = with_rights false old.head.modify_date rights file.fields;
-      has = refl;
-      is_entry = number;
-      fields = has_mode false old.head.modify_date rights file.fields low;
-      changes = record {
-        changes = record {
-          pair = updates.pair;
-          is_entry = updates.is_entry.stands ∙ is;
-          other = updates.other;
-          is_other = subst (λ (q : Placed). Spells q updates.other) (λ i. record (is i) { value = ap (value_or new_rec) (sym made) i }) updates.is_other;
-          swapped = updates.swapped;
-          alike = record { place = (refl, refl); kind = (refl, refl); id = refl; link = refl; reference = λ _. refl };
-          forks = refl;
-        };
-        nodes = nodes;
-        rest = rest;
-      };
-    }
-    of_value p n (Thread thread) is made number = absurd (let no : None ≡ Some new_rec = made in cc no)
+-- rights as a change of fields
+abbrev righting : ℕ → ℕ → FieldsChange
+righting moment rights folder = with_rights folder moment rights
 
-    pub changes_mode : (old_rec : CatRecord) → value_at old.catalog_pairs parent name ≡ Some old_rec → with_mode old.head.modify_date rights old_rec ≡ Some new_rec → id_in old_rec ≡ id → ChangesMode id rights old new
-    changes_mode old_rec there made number =
-        let same : updates.entry.value ≡ old_rec = ap (value_or old_rec) (sym (ap (option_map (λ (p : Placed). p.value)) updates.found) ∙ there) in
-        of_value updates.entry.parent updates.entry.name updates.entry.value refl (ap (with_mode old.head.modify_date rights) same ∙ made) (ap id_in same ∙ number)
+righted_is : (moment rights : ℕ) (old new : CatRecord) → with_mode moment rights old ≡ Some new → (new ≡ refielded (righting moment rights) old) × (is_thread old ≡ false)
+righted_is moment rights (Folder folder) new is = (sym (ap (value_or new) is), refl)
+righted_is moment rights (File file) new is = (sym (ap (value_or new) is), refl)
+righted_is moment rights (Thread thread) new is = absurd (let no : None ≡ Some new = is in cc no)
+
+pub changes_mode : (id rights parent : ℕ) (name : List ℕ) (new_rec : CatRecord) (old new : VolumeState) → rights < 4096 → UpdatesEntry parent name new_rec old.catalog_pairs new.catalog_pairs → HasSameNodes old.catalog_tree new.catalog_tree
+    → new ≡ record old { catalog_pairs = new.catalog_pairs; catalog_tree = new.catalog_tree }
+    → (old_rec : CatRecord) → value_at old.catalog_pairs parent name ≡ Some old_rec → with_mode old.head.modify_date rights old_rec ≡ Some new_rec → id_in old_rec ≡ id → ChangesMode id rights old new
+changes_mode id rights parent name new_rec old new low updates nodes rest old_rec there made number =
+    let is = righted_is old.head.modify_date rights old_rec new_rec made in
+    changes_fields (righting old.head.modify_date rights) (record { id = λ folder fields. refl; special = λ folder fields. refl; finder = λ folder fields. refl }) (HasNewMode rights old.head.modify_date)
+    id parent name new_rec old new updates nodes rest old_rec there is.0 is.1 number (λ fields has. has_mode (is_folder old_rec) old.head.modify_date rights fields low)
 
 -- the record of a folder or file can have rights
 pub mode_some : (moment rights : ℕ) (rec : CatRecord) → is_thread rec ≡ false → with_mode moment rights rec ≡ None → ⊥

@@ -4,6 +4,7 @@ pub mod Keeping
 pub mod Listing
 pub mod Lists
 pub mod Looking
+pub mod Making
 pub mod Nodes
 pub mod Opening
 pub mod Owning

@@ -11,7 +11,7 @@ use sector_disk::SectorView;
 use volume_header::{VolumeHeader, read_header};
 
 /// A fork without blocks.
-const EMPTY: ForkRecord = ForkRecord {
+pub(crate) const EMPTY: ForkRecord = ForkRecord {
     logical_size: 0,
     clump_size: 0,
     total_blocks: 0,

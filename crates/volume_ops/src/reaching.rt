@@ -38,7 +38,7 @@ fn folder_reached(at: &Reached) -> Result<u32, Refusal>
 }
 
 /// What the record of a name stands for; a thread is no name's.
-fn named(found: Option<CatRecord>) -> Result<Reached, Refusal>
+pub(crate) fn named(found: Option<CatRecord>) -> Result<Reached, Refusal>
     ensures { result ≡ named found }
 {
     match found {

@@ -1,0 +1,30 @@
+use Rattle.std.proofs.Common.{◌<◌, ◌^◌, refl, arith}
+use Rattle.hx_bytes.specs.Field.{number_at}
+use Rattle.volume_ops.proofs.HeaderFits.{zeros_are}
+use Rattle.volume_ops.proofs.new_entries.new_fields.Goals as goal
+
+pub returns-clause-no_link : goal.returns-clause-no_link
+unfolding number_at
+returns-clause-no_link c = refl
+
+pub returns-clause-fits : goal.returns-clause-fits
+returns-clause-fits c = record {
+  flags = c.ranges.flags.fits;
+  count = omega arith;
+  id = c.ranges.id.fits;
+  created = c.ranges.moment.fits;
+  changed = c.ranges.moment.fits;
+  attribute = c.ranges.moment.fits;
+  accessed = c.ranges.moment.fits;
+  backup = omega arith;
+  owner = omega arith;
+  group = omega arith;
+  admin_flags = omega arith;
+  owner_flags = omega arith;
+  mode = c.ranges.mode.fits;
+  special = omega arith;
+  finder_length = refl;
+  finder = zeros_are 32;
+  encoding = omega arith;
+  rest = omega arith;
+}

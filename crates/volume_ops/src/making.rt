@@ -1,0 +1,252 @@
+//! `mkdir` and `create`: a new folder or file.
+ghost use Rattle.std.specs.Prelude.{◌≡◌, ◌⊎◌, ◌<◌, ◌≤◌, ◌+◌, ◌^◌, ◌∷◌, ℕ, List, [], Ok, Some, false, true, IsTrue, IfOk, length, OnOk};
+ghost use Rattle.std.specs.List.{Contains};
+ghost use Rattle.sector_disk.specs.Lists.{Content};
+ghost use Rattle.btree_edit.specs.Causes.{HasTroubleCause};
+ghost use Rattle.btree_file.specs.Frame.{PutsWithin};
+ghost use Rattle.btree_file.specs.Standing.{numbers_of};
+ghost use Rattle.hfs_language.specs.Written.{FitsPath};
+ghost use Rattle.hfs_language.specs.declared.command.Command.TheVariants as command;
+ghost use Rattle.hfs_model.specs.Step.{is_private_path, is_refusal, made, step_line};
+ghost use Rattle.hfs_volume.specs.Changes.{with_numbers};
+ghost use Rattle.hfs_volume.specs.Commands.{with_made};
+ghost use Rattle.hfs_volume.specs.Content.{volume_of};
+ghost use Rattle.hfs_volume.specs.TreeOf.{tree_of};
+ghost use Rattle.hfs_volume.specs.Weight.{weight};
+ghost use Rattle.hfs_volume.specs.declared.cost.Cost.TheVariants as cost;
+ghost use Rattle.volume_ops.specs.Changing.{HasRoomToUpdate, PutsHeader};
+ghost use Rattle.volume_ops.specs.Making.{AddsNew, HasRoomToMake, IsSite, entry_load, free_place, make_load, making, path_to};
+ghost use Rattle.volume_ops.specs.Room.{capacity_of};
+ghost use Rattle.volume_ops.specs.Service.{IsInService};
+ghost use Rattle.volume_ops.specs.Standing.{IsSettled, StandsOver, own_sectors};
+ghost use Rattle.volume_ops.specs.Touching.{Touches};
+
+use crate::names::is_private_path;
+use crate::new_entries::{new_record, with_made};
+use crate::volume::Volume;
+use hfs_language::{Path, Refusal, Reply};
+use hfs_volume::{create_does_its_step, mkdir_does_its_step, sound_has_plain_tree};
+use hx_bytes::{Trouble, Units};
+use sector_disk::SectorSpace;
+use std::alloc::Global;
+use tree_weights::{edits_have_room, edits_take_their_load};
+
+impl Volume {
+    /// Counts a new folder or file in the header, which gives it the next CNID, and puts the header.
+    fn draw<P: SectorSpace>(&mut self, space: &mut P, folder: bool)
+        requires stands { StandsOver self.old (P.SectorView.space space.old) }
+        requires some { 1 ≤ (P.SectorView.space space.old).spare }
+        ensures stands { StandsOver self.new (P.SectorView.space space.new) }
+        ensures rest { self.new ≡ record self.old { header = with_numbers self.old.header self.new.header } }
+        ensures header { self.old.header.next_catalog_id + 1 < 2 ^ 32 → self.old.header.folder_count + 1 < 2 ^ 32 → self.old.header.file_count + 1 < 2 ^ 32 → self.new.header ≡ with_made folder self.old.header }
+        ensures put { IsTrue (P.SectorView.space space.old).tells → PutsHeader self.new (P.SectorView.space space.old).content (P.SectorView.space space.new).content }
+        ensures within { PutsWithin (2 ∷ []) (P.SectorView.space space.old) (P.SectorView.space space.new) }
+        ensures spent { (P.SectorView.space space.old).spare ≤ (P.SectorView.space space.new).spare + 1 }
+        ensures faults { (P.SectorView.space space.new).faults ≡ (P.SectorView.space space.old).faults }
+        ensures below { P.SectorView.follows space.old space.new }
+    {
+        self.header = with_made(folder, &self.header);
+        self.put_header(space);
+    }
+
+    /// Adds a new folder or file to a folder, with the next CNID.
+    fn add_new<P: SectorSpace>(
+        &mut self,
+        alloc: Global,
+        space: &mut P,
+        id: u32,
+        name: &Units,
+        folder: bool,
+    ) -> Result<(), Trouble>
+        requires stands { StandsOver self.old (P.SectorView.space space.old) }
+        requires settled { IsTrue (P.SectorView.space space.old).tells → IsSettled self.old (P.SectorView.space space.old).content }
+        requires size { 4096 ≤ (numbers_of self.old.catalog.file).node_size }
+        requires some { 1 ≤ length name.now }
+        requires name { length name.now ≤ 255 }
+        requires site { IsTrue (P.SectorView.space space.old).tells → IsSite (tree_of (P.SectorView.space space.old).content) id name.now }
+        requires room { HasRoomToMake self.old (P.SectorView.space space.old) }
+        ensures stands { OnOk result (StandsOver self.new (P.SectorView.space space.new)) }
+        ensures service { IsInService self.new (P.SectorView.space space.new) }
+        ensures adds { IsTrue (P.SectorView.space space.old).tells → OnOk result (AddsNew folder id name.now self.old self.new (P.SectorView.space space.old).content (P.SectorView.space space.new).content) }
+        ensures room { OnOk result (HasRoomToUpdate self.new (P.SectorView.space space.new)) }
+        ensures own { own_sectors self.new ≡ own_sectors self.old }
+        ensures touches { (committed : Content) → Touches committed (λ s. Contains (own_sectors self.old) s) (P.SectorView.space space.old) (P.SectorView.space space.new) }
+        ensures spent { IsTrue (P.SectorView.space space.old).tells → (P.SectorView.space space.old).spare ≤ (P.SectorView.space space.new).spare + (1 + entry_load self.old) }
+        ensures below { P.SectorView.follows space.old space.new }
+        ensures cause { HasTroubleCause (P.SectorView.space space.old).faults (P.SectorView.space space.new).faults result }
+    {
+        edits_have_room();
+        edits_take_their_load();
+        let rec = new_record(folder, self.header.next_catalog_id, self.header.modify_date);
+        self.draw(space, folder);
+        self.add(alloc, space, id, name, &rec)?;
+        Ok(())
+    }
+
+    /// Makes a folder or file of this name in the folder with this CNID.
+    fn make_in<P: SectorSpace>(
+        &mut self,
+        alloc: Global,
+        space: &mut P,
+        id: u32,
+        name: &Units,
+        folder: bool,
+    ) -> Result<(), Trouble>
+        requires stands { StandsOver self.old (P.SectorView.space space.old) }
+        requires settled { IsTrue (P.SectorView.space space.old).tells → IsSettled self.old (P.SectorView.space space.old).content }
+        requires some { 1 ≤ length name.now }
+        requires name { length name.now ≤ 255 }
+        requires site { IsTrue (P.SectorView.space space.old).tells → IsSite (tree_of (P.SectorView.space space.old).content) id name.now }
+        requires room { HasRoomToMake self.old (P.SectorView.space space.old) }
+        ensures stands { OnOk result (StandsOver self.new (P.SectorView.space space.new)) }
+        ensures service { IsInService self.new (P.SectorView.space space.new) }
+        ensures does { IsTrue (P.SectorView.space space.old).tells
+            → OnOk result (IsSettled self.new (P.SectorView.space space.new).content × (tree_of (P.SectorView.space space.new).content ≡ made folder (free_place id name.now) (tree_of (P.SectorView.space space.old).content))) }
+        ensures touches { (committed : Content) → Touches committed (λ s. Contains (own_sectors self.old) s) (P.SectorView.space space.old) (P.SectorView.space space.new) }
+        ensures spent { IsTrue (P.SectorView.space space.old).tells → (P.SectorView.space space.old).spare ≤ (P.SectorView.space space.new).spare + make_load self.old }
+        ensures below { P.SectorView.follows space.old space.new }
+        ensures cause { HasTroubleCause (P.SectorView.space space.old).faults (P.SectorView.space space.new).faults result }
+    {
+        mkdir_does_its_step();
+        create_does_its_step();
+        // The least node size that the format allows the catalog (TN1150, "Catalog File").
+        if self.catalog.file.shape().node_size < 4096 {
+            return Ok(());
+        }
+        self.add_new(alloc, space, id, name, folder)?;
+        self.touch(alloc, space, id, 1, 0)
+    }
+
+    /// Makes a folder or file of this name under a path, or tells the first reason against it.
+    fn make_under<P: SectorSpace>(
+        &mut self,
+        alloc: Global,
+        space: &mut P,
+        above: &[Units],
+        name: &Units,
+        folder: bool,
+    ) -> Result<Reply, Trouble>
+        requires stands { StandsOver self.old (P.SectorView.space space.old) }
+        requires settled { IsTrue (P.SectorView.space space.old).tells → IsSettled self.old (P.SectorView.space space.old).content }
+        requires fits { FitsPath (path_to above.now name.now) }
+        requires not_own { is_private_path (path_to above.now name.now) ≡ false }
+        requires room { HasRoomToMake self.old (P.SectorView.space space.old) }
+        ensures reply { IsTrue (P.SectorView.space space.old).tells → IfOk result (λ reply. reply ≡ (step_line (tree_of (P.SectorView.space space.old).content) (Ok (making folder (path_to above.now name.now)))).0) }
+        ensures tree { IsTrue (P.SectorView.space space.old).tells → OnOk result (tree_of (P.SectorView.space space.new).content ≡ (step_line (tree_of (P.SectorView.space space.old).content) (Ok (making folder (path_to above.now name.now)))).1) }
+        ensures refused { IsTrue (P.SectorView.space space.old).tells → IfOk result (λ reply. is_refusal reply ≡ true → (P.SectorView.space space.new).content ≡ (P.SectorView.space space.old).content) }
+        ensures stands { OnOk result (StandsOver self.new (P.SectorView.space space.new)) }
+        ensures settled { IsTrue (P.SectorView.space space.old).tells → OnOk result (IsSettled self.new (P.SectorView.space space.new).content) }
+        ensures service { IsInService self.new (P.SectorView.space space.new) }
+        ensures touches { (committed : Content) → Touches committed (λ s. Contains (own_sectors self.old) s) (P.SectorView.space space.old) (P.SectorView.space space.new) }
+        ensures spent { IsTrue (P.SectorView.space space.old).tells → (P.SectorView.space space.old).spare ≤ (P.SectorView.space space.new).spare + make_load self.old }
+        ensures below { P.SectorView.follows space.old space.new }
+        ensures cause { HasTroubleCause (P.SectorView.space space.old).faults (P.SectorView.space space.new).faults result }
+    {
+        sound_has_plain_tree();
+        match self.site(alloc, space, above, name)? {
+            Ok(id) => {
+                self.make_in(alloc, space, id, name, folder)?;
+                Ok(Reply::Ok)
+            }
+            Err(why) => Ok(Reply::No(why)),
+        }
+    }
+
+    /// Makes a folder or file at a path, or tells the first reason against it.
+    fn make<P: SectorSpace>(
+        &mut self,
+        alloc: Global,
+        space: &mut P,
+        path: &Path,
+        folder: bool,
+    ) -> Result<Reply, Trouble>
+        requires stands { StandsOver self.old (P.SectorView.space space.old) }
+        requires settled { IsTrue (P.SectorView.space space.old).tells → IsSettled self.old (P.SectorView.space space.old).content }
+        requires fits { FitsPath path.now }
+        requires room { HasRoomToMake self.old (P.SectorView.space space.old) }
+        ensures reply { IsTrue (P.SectorView.space space.old).tells → IfOk result (λ reply. reply ≡ (step_line (tree_of (P.SectorView.space space.old).content) (Ok (making folder path.now))).0) }
+        ensures tree { IsTrue (P.SectorView.space space.old).tells → OnOk result (tree_of (P.SectorView.space space.new).content ≡ (step_line (tree_of (P.SectorView.space space.old).content) (Ok (making folder path.now))).1) }
+        ensures refused { IsTrue (P.SectorView.space space.old).tells → IfOk result (λ reply. is_refusal reply ≡ true → (P.SectorView.space space.new).content ≡ (P.SectorView.space space.old).content) }
+        ensures stands { OnOk result (StandsOver self.new (P.SectorView.space space.new)) }
+        ensures settled { IsTrue (P.SectorView.space space.old).tells → OnOk result (IsSettled self.new (P.SectorView.space space.new).content) }
+        ensures service { IsInService self.new (P.SectorView.space space.new) }
+        ensures touches { (committed : Content) → Touches committed (λ s. Contains (own_sectors self.old) s) (P.SectorView.space space.old) (P.SectorView.space space.new) }
+        ensures spent { IsTrue (P.SectorView.space space.old).tells → (P.SectorView.space space.old).spare ≤ (P.SectorView.space space.new).spare + make_load self.old }
+        ensures below { P.SectorView.follows space.old space.new }
+        ensures cause { HasTroubleCause (P.SectorView.space space.old).faults (P.SectorView.space space.new).faults result }
+    {
+        if is_private_path(path) {
+            return Ok(Reply::No(Refusal::Private));
+        }
+        match path.as_slice().split_last() {
+            Some((name, above)) => self.make_under(alloc, space, above, name, folder),
+            None => Ok(Reply::No(Refusal::Root)),
+        }
+    }
+
+    /// `mkdir`: makes a folder at a path, with mode 0755, in a folder that is there; or tells the first reason against it. A
+    /// path that begins with a name of the volume's own is refused. A refused command changes nothing. `Memory` comes where
+    /// memory is wanting, `Disk` where a read failed.
+    pub fn mkdir<P: SectorSpace>(
+        &mut self,
+        alloc: Global,
+        space: &mut P,
+        path: &Path,
+    ) -> Result<Reply, Trouble>
+        requires stands { StandsOver self.old (P.SectorView.space space.old) }
+        requires settled { IsTrue (P.SectorView.space space.old).tells → IsSettled self.old (P.SectorView.space space.old).content }
+        requires fits { FitsPath path.now }
+        // There is a CNID for it, and room for what it puts; the catalog needn't grow before.
+        requires room { HasRoomToMake self.old (P.SectorView.space space.old) }
+        // Told, reply and tree are those of the plain tree's step.
+        ensures reply { IsTrue (P.SectorView.space space.old).tells → IfOk result (λ reply. reply ≡ (step_line (tree_of (P.SectorView.space space.old).content) (Ok (command.Mkdir path.now))).0) }
+        ensures tree { IsTrue (P.SectorView.space space.old).tells → OnOk result (tree_of (P.SectorView.space space.new).content ≡ (step_line (tree_of (P.SectorView.space space.old).content) (Ok (command.Mkdir path.now))).1) }
+        ensures refused { IsTrue (P.SectorView.space space.old).tells → IfOk result (λ reply. is_refusal reply ≡ true → (P.SectorView.space space.new).content ≡ (P.SectorView.space space.old).content) }
+        ensures stands { OnOk result (StandsOver self.new (P.SectorView.space space.new)) }
+        ensures settled { IsTrue (P.SectorView.space space.old).tells → OnOk result (IsSettled self.new (P.SectorView.space space.new).content) }
+        ensures service { IsInService self.new (P.SectorView.space space.new) }
+        // On a fault too, it puts sectors of its own alone, whatever was committed last.
+        ensures touches { (committed : Content) → Touches committed (λ s. Contains (own_sectors self.old) s) (P.SectorView.space space.old) (P.SectorView.space space.new) }
+        ensures spent { IsTrue (P.SectorView.space space.old).tells → (P.SectorView.space space.old).spare ≤ (P.SectorView.space space.new).spare + make_load self.old }
+        // What its load names bounds the sectors that it puts.
+        ensures loads { IsTrue (P.SectorView.space space.old).tells → (n : ℕ) (grow : List ℕ) → weight (capacity_of self.old) (volume_of (P.SectorView.space space.old).content) (tree_of (P.SectorView.space space.old).content) (command.Mkdir path.now) ≡ cost.Load n grow
+            → (P.SectorView.space space.old).spare ≤ (P.SectorView.space space.new).spare + n }
+        ensures below { P.SectorView.follows space.old space.new }
+        ensures cause { HasTroubleCause (P.SectorView.space space.old).faults (P.SectorView.space space.new).faults result }
+    {
+        self.make(alloc, space, path, true)
+    }
+
+    /// `create`: makes an empty file at a path, with mode 0644, in a folder that is there; or tells the first reason against
+    /// it. A path that begins with a name of the volume's own is refused. A refused command changes nothing. `Memory` comes
+    /// where memory is wanting, `Disk` where a read failed.
+    pub fn create<P: SectorSpace>(
+        &mut self,
+        alloc: Global,
+        space: &mut P,
+        path: &Path,
+    ) -> Result<Reply, Trouble>
+        requires stands { StandsOver self.old (P.SectorView.space space.old) }
+        requires settled { IsTrue (P.SectorView.space space.old).tells → IsSettled self.old (P.SectorView.space space.old).content }
+        requires fits { FitsPath path.now }
+        // There is a CNID for it, and room for what it puts; the catalog needn't grow before.
+        requires room { HasRoomToMake self.old (P.SectorView.space space.old) }
+        // Told, reply and tree are those of the plain tree's step.
+        ensures reply { IsTrue (P.SectorView.space space.old).tells → IfOk result (λ reply. reply ≡ (step_line (tree_of (P.SectorView.space space.old).content) (Ok (command.Create path.now))).0) }
+        ensures tree { IsTrue (P.SectorView.space space.old).tells → OnOk result (tree_of (P.SectorView.space space.new).content ≡ (step_line (tree_of (P.SectorView.space space.old).content) (Ok (command.Create path.now))).1) }
+        ensures refused { IsTrue (P.SectorView.space space.old).tells → IfOk result (λ reply. is_refusal reply ≡ true → (P.SectorView.space space.new).content ≡ (P.SectorView.space space.old).content) }
+        ensures stands { OnOk result (StandsOver self.new (P.SectorView.space space.new)) }
+        ensures settled { IsTrue (P.SectorView.space space.old).tells → OnOk result (IsSettled self.new (P.SectorView.space space.new).content) }
+        ensures service { IsInService self.new (P.SectorView.space space.new) }
+        // On a fault too, it puts sectors of its own alone, whatever was committed last.
+        ensures touches { (committed : Content) → Touches committed (λ s. Contains (own_sectors self.old) s) (P.SectorView.space space.old) (P.SectorView.space space.new) }
+        ensures spent { IsTrue (P.SectorView.space space.old).tells → (P.SectorView.space space.old).spare ≤ (P.SectorView.space space.new).spare + make_load self.old }
+        // What its load names bounds the sectors that it puts.
+        ensures loads { IsTrue (P.SectorView.space space.old).tells → (n : ℕ) (grow : List ℕ) → weight (capacity_of self.old) (volume_of (P.SectorView.space space.old).content) (tree_of (P.SectorView.space space.old).content) (command.Create path.now) ≡ cost.Load n grow
+            → (P.SectorView.space space.old).spare ≤ (P.SectorView.space space.new).spare + n }
+        ensures below { P.SectorView.follows space.old space.new }
+        ensures cause { HasTroubleCause (P.SectorView.space space.old).faults (P.SectorView.space space.new).faults result }
+    {
+        self.make(alloc, space, path, false)
+    }
+}
