@@ -24,6 +24,7 @@ pub mod ListsAfter
 pub mod Loads
 pub mod Made
 pub mod MakeRoom
+pub mod Mapped
 pub mod NodeIs
 pub mod NodesRead
 pub mod Numbering

@@ -33,11 +33,11 @@ use Rattle.volume_ops.proofs.HeaderPut as put
 use Rattle.volume_ops.proofs.Placing.{stands_once}
 
 -- the same pairs, where there is such a tree
-if_there : (b : Bool) (one other : List Pair) → (b ≡ true → one ≡ other) → (if b then one else []) ≡ (if b then other else [])
+pub if_there : (b : Bool) (one other : List Pair) → (b ≡ true → one ≡ other) → (if b then one else []) ≡ (if b then other else [])
 if_there true one other same = same refl
 if_there false one other same = refl
 
-file_pairs : (sectors : List ℕ) (a b : Content) → ((s : ℕ) → Contains sectors s → sector b s ≡ sector a s) → pairs_in sectors b ≡ pairs_in sectors a
+pub file_pairs : (sectors : List ℕ) (a b : Content) → ((s : ℕ) → Contains sectors s → sector b s ≡ sector a s) → pairs_in sectors b ≡ pairs_in sectors a
 file_pairs sectors a b same = ap (λ (f : File). pairs_of (store_of f)) (file_elsewhere sectors a b same)
 
 -- ---- an edit of the catalog

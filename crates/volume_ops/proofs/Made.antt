@@ -1,6 +1,7 @@
 -- `mkdir` and `create`: where the entry was added and the folder above counts it, the volume is settled again, and its tree is the step's.
-use Rattle.std.proofs.Common.{◌≡◌, ◌⊎◌, ◌<◌, ◌≤◌, ℕ, ◌+◌, ◌^◌, Bool, true, false, not, List, [], ◌∷◌, length, refl, sym, ◌∙◌, ap, subst, arith, inl, inr, ⊎_elim}
+use Rattle.std.proofs.Common.{◌≡◌, ◌⊎◌, ◌<◌, ◌≤◌, ℕ, ◌+◌, ◌^◌, Bool, true, false, not, List, [], ◌∷◌, ◌++◌, length, refl, sym, ◌∙◌, ap, subst, arith, inl, inr, ⊎_elim}
 use Rattle.std.specs.Prelude.{Contains, ◌==◌, ◌&&◌, ◌||◌, insert, IsTrue, Option, None, Some, Result, Ok, Err, map}
+use Rattle.std.specs.Option.{option_map}
 use Rattle.std.specs.Str.{bytes_eq}
 use Rattle.std.proofs.lemmas.Bool.{and_parts, eqb-true, true≢false}
 use Rattle.std.proofs.lemmas.List.{length-map}
@@ -14,6 +15,8 @@ use Rattle.btree_node.specs.Levels.{Pair}
 use Rattle.btree_node.specs.TreeFile.{store_of}
 use Rattle.btree_file.specs.Held.{file_in}
 use Rattle.btree_file.specs.State.{sectors_of_tree}
+use Rattle.hx_bytes.specs.Field.{number_at}
+use Rattle.catalog.specs.Pairs.{value_at}
 use Rattle.cat_records.specs.declared.record.CatRecord.{CatRecord}
 use Rattle.cat_records.specs.declared.record.CatRecord.TheVariants.{Folder, File, Thread}
 use Rattle.cat_records.specs.declared.record.EntryFields.{EntryFields}
@@ -36,20 +39,23 @@ use Rattle.hfs_volume.proofs.Ascending.{tree_sorted}
 use Rattle.hfs_volume.proofs.Bytes.{file_bytes_are}
 use Rattle.hfs_volume.proofs.Counting.{map_insert}
 use Rattle.hfs_volume.proofs.Flat.{found_some}
-use Rattle.hfs_volume.proofs.Fields.{not_thread}
+use Rattle.hfs_volume.proofs.Fields.{id_of_fields, not_thread}
+use Rattle.hfs_volume.proofs.Keeping.{swapped}
 use Rattle.hfs_volume.proofs.Making.{placed_splits, tree_entries}
-use Rattle.hfs_volume.proofs.Members.{at_front, each_of, kept_cases, kept_stands, still_stands}
+use Rattle.hfs_volume.proofs.Members.{at_front, each_of, inserted_stands, kept_cases, kept_stands, still_stands}
 use Rattle.hfs_volume.proofs.Reaching.{new_place_is}
 use Rattle.hfs_volume.proofs.Seeing.{private_kept}
 use Rattle.hfs_volume.proofs.Swapping.{Splits, private_same}
 use Rattle.hfs_volume.proofs.Threading.{threads_kept}
 use Rattle.volume_ops.specs.Changing.{ChangesCatalog, HasFolder, TouchesFolder}
 use Rattle.volume_ops.specs.Lists.{lists_of, facts_on}
-use Rattle.volume_ops.specs.Making.{AddsNew, IsSite, free_place}
+use Rattle.volume_ops.specs.Making.{AddsNew, IsSite, free_place, new_value}
 use Rattle.volume_ops.specs.Standing.{IsStanding, IsSettled}
 use Rattle.volume_ops.specs.declared.volume.Volume.{Volume}
 use Rattle.volume_ops.proofs.Counted.{counts_low}
+use Rattle.volume_ops.proofs.Entered.{at_place}
 use Rattle.volume_ops.proofs.ListsAfter.{changes_both}
+use Rattle.volume_ops.proofs.Rising.{settled_sorted}
 use Rattle.volume_ops.proofs.Settling.{lists_then, settles_again, tree_again}
 
 -- ---- both laws in one
@@ -69,13 +75,24 @@ makes_both mkdir create false path at old new bytes_of are sound not_own named a
 
 -- ---- the entry that was added
 
-new_kind : (folder : Bool) (drawn moment : ℕ) (value : CatRecord) → IsNewValue folder drawn moment value → is_thread value ≡ false
-new_kind true drawn moment (Folder f) is = refl
-new_kind true drawn moment (File f) is = absurd is
-new_kind true drawn moment (Thread f) is = absurd is
-new_kind false drawn moment (Folder f) is = absurd is
-new_kind false drawn moment (File f) is = refl
-new_kind false drawn moment (Thread f) is = absurd is
+new_kind : (folder : Bool) (id moment : ℕ) → is_thread (new_value folder id moment) ≡ false
+new_kind true id moment = refl
+new_kind false id moment = refl
+
+new_id : (folder : Bool) (id moment : ℕ) → id_in (new_value folder id moment) ≡ id
+new_id true id moment = refl
+new_id false id moment = refl
+
+-- a new record is one as new ones are
+new_is : (folder : Bool) (id moment : ℕ) → IsNewValue folder id moment (new_value folder id moment)
+unfolding number_at
+new_is true id moment = record { id = refl; count = refl; mode = refl; created = refl; changed = refl; attribute = refl }
+new_is false id moment = (
+  record { id = refl; count = refl; mode = refl; created = refl; changed = refl; attribute = refl },
+  refl,
+  record { size = refl; blocks = refl; extents = refl },
+  record { size = refl; blocks = refl; extents = refl },
+)
 
 placed_still : (pair : Pair) (old new : List Pair) → Adds pair old new → (y : Placed) → Contains (placed_in old) y → Contains (placed_in new) y
 placed_still pair old new added y stands =
@@ -180,14 +197,14 @@ module _ (v : Volume) (a : Space) (settled : IsSettled v a.content) where
     free_before = ap (λ (l : List Pair). record_at (placed_in l) id name) (sym pairs_are) ∙ is_new
 
     module _ (w : Volume) (b : Space) (folder : Bool) (adds : AddsNew folder id name v w a.content b.content) where
-      added_entry : AddsEntry (entry_in (free_place id name) adds.value) (volume_of a.content).catalog_pairs (lists_of w b.content).catalog_pairs
-      added_entry = subst (λ (l : List Pair). AddsEntry (entry_in (free_place id name) adds.value) l (lists_of w b.content).catalog_pairs) (sym pairs_are) adds.adds
+      added_entry : AddsEntry (entry_in (free_place id name) (new_value folder v.header.next_catalog_id v.header.modify_date)) (volume_of a.content).catalog_pairs (lists_of w b.content).catalog_pairs
+      added_entry = subst (λ (l : List Pair). AddsEntry (entry_in (free_place id name) (new_value folder v.header.next_catalog_id v.header.modify_date)) l (lists_of w b.content).catalog_pairs) (sym pairs_are) adds.adds
 
       -- behind the entry, records and threads match one to one
       pub threads_after : AreThreaded (lists_of w b.content).catalog_pairs
       threads_after =
-          threads_kept (entry_in (free_place id name) adds.value) (volume_of a.content).catalog_pairs (lists_of w b.content).catalog_pairs added_entry
-          (new_kind folder v.header.next_catalog_id v.header.modify_date adds.value adds.is_new) has_name settled.sound.entries.threads
+          threads_kept (entry_in (free_place id name) (new_value folder v.header.next_catalog_id v.header.modify_date)) (volume_of a.content).catalog_pairs (lists_of w b.content).catalog_pairs added_entry
+          (new_kind folder v.header.next_catalog_id v.header.modify_date) has_name settled.sound.entries.threads
 
       -- and the folder above is there
       pub folder_after : v.header.next_catalog_id + 1 < 2 ^ 32 → HasFolder id 1 (lists_of w b.content).catalog_pairs
@@ -198,7 +215,7 @@ module _ (v : Volume) (a : Space) (settled : IsSettled v a.content) where
           above.0 above.1 above.2 in
           record {
             entry = above.0;
-            stands = entry_still (entry_in (free_place id name) adds.value) (volume_of a.content).catalog_pairs (lists_of w b.content).catalog_pairs added_entry above.0 above.1;
+            stands = entry_still (entry_in (free_place id name) (new_value folder v.header.next_catalog_id v.header.modify_date)) (volume_of a.content).catalog_pairs (lists_of w b.content).catalog_pairs added_entry above.0 above.1;
             number = above.3;
             folder = above.2;
             fits = omega (arith, valence, low, next, fits);
@@ -207,9 +224,9 @@ module _ (v : Volume) (a : Space) (settled : IsSettled v a.content) where
       -- the new entry isn't the private folder
       private_added : private_id (placed_in (lists_of w b.content).catalog_pairs) ≡ private_id (placed_in (volume_of a.content).catalog_pairs)
       private_added =
-          private_kept (entry_in (free_place id name) adds.value) (placed_in (volume_of a.content).catalog_pairs) (placed_in added_entry.between) (placed_in (lists_of w b.content).catalog_pairs)
-          (placed_adds (entry_in (free_place id name) adds.value) added_entry.pair (volume_of a.content).catalog_pairs added_entry.between added_entry.entry_added added_entry.is_entry.stands)
-          (placed_adds (thread_with added_entry.spare (entry_in (free_place id name) adds.value)) added_entry.thread added_entry.between (lists_of w b.content).catalog_pairs added_entry.thread_added added_entry.is_thread.stands)
+          private_kept (entry_in (free_place id name) (new_value folder v.header.next_catalog_id v.header.modify_date)) (placed_in (volume_of a.content).catalog_pairs) (placed_in added_entry.between) (placed_in (lists_of w b.content).catalog_pairs)
+          (placed_adds (entry_in (free_place id name) (new_value folder v.header.next_catalog_id v.header.modify_date)) added_entry.pair (volume_of a.content).catalog_pairs added_entry.between added_entry.entry_added added_entry.is_entry.stands)
+          (placed_adds (thread_with added_entry.spare (entry_in (free_place id name) (new_value folder v.header.next_catalog_id v.header.modify_date))) added_entry.thread added_entry.between (lists_of w b.content).catalog_pairs added_entry.thread_added added_entry.is_thread.stands)
           (third_false (id == 2) (bytes_eq name journal_name) (bytes_eq name journal_info_name) (bytes_eq name private_name) not_own)
 
       nodes : HasSameNodes (volume_of a.content).catalog_tree (facts_on w.catalog.file)
@@ -218,7 +235,7 @@ module _ (v : Volume) (a : Space) (settled : IsSettled v a.content) where
         size = adds.changes.nodes.1 ∙ sym (ap (λ (l : VolumeState). l.catalog_tree.shape.node_size) settled.lists);
       }
 
-      in_catalog : InCatalog (AddsEntry (entry_in (free_place id name) adds.value)) (record (volume_of a.content) { head = with_made folder (volume_of a.content).head }) (lists_then a.content w b.content)
+      in_catalog : InCatalog (AddsEntry (entry_in (free_place id name) (new_value folder v.header.next_catalog_id v.header.modify_date))) (record (volume_of a.content) { head = with_made folder (volume_of a.content).head }) (lists_then a.content w b.content)
       in_catalog = record {
         changes = added_entry;
         nodes = nodes;
@@ -228,8 +245,17 @@ module _ (v : Volume) (a : Space) (settled : IsSettled v a.content) where
             ∙ (λ i. record (volume_of a.content) { head = (adds.header ∙ ap (with_made folder) (sym head_is)) i; catalog_pairs = (lists_of w b.content).catalog_pairs; catalog_tree = facts_on w.catalog.file });
       }
 
-      new_value : IsNewValue folder (volume_of a.content).head.next_catalog_id (volume_of a.content).head.modify_date adds.value
-      new_value = subst (λ (h : VolumeHeader). IsNewValue folder h.next_catalog_id h.modify_date adds.value) (sym head_is) adds.is_new
+      new_here : IsNewValue folder (volume_of a.content).head.next_catalog_id (volume_of a.content).head.modify_date (new_value folder v.header.next_catalog_id v.header.modify_date)
+      new_here = subst (λ (h : VolumeHeader). IsNewValue folder h.next_catalog_id h.modify_date (new_value folder v.header.next_catalog_id v.header.modify_date)) (sym head_is) (new_is folder v.header.next_catalog_id v.header.modify_date)
+
+      abbrev entry : Placed
+      entry = entry_in (free_place id name) (new_value folder v.header.next_catalog_id v.header.modify_date)
+
+      entry_there : Contains (placed_in (lists_of w b.content).catalog_pairs) entry
+      entry_there =
+          placed_still added_entry.thread added_entry.between (lists_of w b.content).catalog_pairs added_entry.thread_added entry
+          (subst (λ l. Contains l entry) (sym (placed_adds entry added_entry.pair (volume_of a.content).catalog_pairs added_entry.between added_entry.entry_added added_entry.is_entry.stands).is)
+          (inserted_stands (placed_in (volume_of a.content).catalog_pairs) (placed_adds entry added_entry.pair (volume_of a.content).catalog_pairs added_entry.between added_entry.entry_added added_entry.is_entry.stands).place entry))
 
       module _ (was : IsStanding v a) (between : IsStanding w b) (u : Volume) (c : Space) (stands : IsStanding u c) (t : TouchesFolder id 1 0 w u b.content c.content) (law : MakeDoes folder) where
         moment : w.header.modify_date ≡ (volume_of a.content).head.modify_date
@@ -252,8 +278,8 @@ module _ (v : Volume) (a : Space) (settled : IsSettled v a.content) where
 
         makes : MakesEntry folder (free_place id name) (volume_of a.content) (lists_then a.content u c.content)
         makes = record {
-          value = adds.value;
-          is_new = new_value;
+          value = new_value folder v.header.next_catalog_id v.header.modify_date;
+          is_new = new_here;
           added = lists_then a.content w b.content;
           adds = in_catalog;
           sorted = tree_sorted IsCatalogKey (store_of (file_in (sectors_of_tree w.catalog.file) b.content)) between.trees.catalog.file.rules;
@@ -288,9 +314,31 @@ module _ (v : Volume) (a : Space) (settled : IsSettled v a.content) where
             ap private_id parts.is ∙ private_same t.counts.entry value parts.front parts.back above_named t.counts.changes.changes.alike ∙ sym (ap private_id parts.was)
             ∙ private_added ∙ ap (λ (l : List Pair). private_id (placed_in l)) pairs_are
 
-        pub made_does : IsSettled u c.content × (tree_of c.content ≡ made folder (free_place id name) (tree_of a.content))
+        -- the folder above isn't the new entry
+        other : entry ≡ t.counts.entry → ⊥
+        other same =
+            let next = ap (λ (h : VolumeHeader). h.next_catalog_id) head_is in
+            let low = each_of (λ (p : Placed). IsUserId (volume_of a.content).head.next_catalog_id (id_of p)) (entries_of (records_of (volume_of a.content))) settled.sound.entries.ids.each above.0 above.1 in
+            let number : v.header.next_catalog_id ≡ id =
+            sym (new_id folder v.header.next_catalog_id v.header.modify_date) ∙ ap id_of same ∙ id_of_fields t.counts.entry.value t.counts.before t.counts.has ∙ t.counts.is_entry in
+            ⊎_elim
+            (λ (two : id_of above.0 ≡ 2). omega (arith, two, above.3, number, next, settled.sound.blocks.header.next_id))
+            (λ (high : (16 ≤ id_of above.0) × (id_of above.0 < (volume_of a.content).head.next_catalog_id)). omega (arith, high.1, above.3, number, next))
+            low
+
+        entry_stays : Contains (placed_in (lists_of u c.content).catalog_pairs) entry
+        entry_stays = subst (λ l. Contains l entry) (sym parts.is)
+            (⊎_elim (λ is. absurd (other is)) (λ stays. stays) (swapped t.counts.entry (record t.counts.entry { value = value }) parts.front parts.back entry (subst (λ l. Contains l entry) parts.was entry_there)))
+
+        settled_now : IsSettled u c.content
+        settled_now = settles_again v u a c changes settled was stands headed does.0 private
+
+        found_now : value_at (lists_of u c.content).catalog_pairs id name ≡ Some (new_value folder v.header.next_catalog_id v.header.modify_date)
+        found_now =
+            let same : (volume_of c.content).catalog_pairs ≡ (lists_of u c.content).catalog_pairs = ap (λ (l : VolumeState). l.catalog_pairs) settled_now.lists in
+            ap (option_map (λ (p : Placed). p.value))
+            (at_place (lists_of u c.content).catalog_pairs (subst AreThreaded same settled_now.sound.entries.threads) (subst AreSorted same (settled_sorted u c.content stands.trees settled_now)) entry entry_stays)
+
+        pub made_does : IsSettled u c.content × (tree_of c.content ≡ made folder (free_place id name) (tree_of a.content)) × (value_at (lists_of u c.content).catalog_pairs id name ≡ Some (new_value folder v.header.next_catalog_id v.header.modify_date))
         unfolding tree_of
-        made_does = (
-          settles_again v u a c changes settled was stands headed does.0 private,
-          tree_again v u a c changes settled was stands headed does.0 ∙ does.1,
-        )
+        made_does = (settled_now, tree_again v u a c changes settled was stands headed does.0 ∙ does.1, found_now)

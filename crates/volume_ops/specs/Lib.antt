@@ -5,6 +5,7 @@ pub mod Listing
 pub mod Lists
 pub mod Looking
 pub mod Making
+pub mod Mapping
 pub mod Nodes
 pub mod Opening
 pub mod Owning

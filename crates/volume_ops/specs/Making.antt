@@ -1,11 +1,15 @@
 -- A new folder or file: its place, the room for it, and what adding it does to a volume.
-use Rattle.std.specs.Prelude.{◌≡◌, ◌<◌, ◌≤◌, ℕ, ◌+◌, ◌-◌, ◌*◌, ◌^◌, Bool, true, false, IsTrue, List, [], ◌∷◌, ◌++◌, Option, None, Result, Ok, Err}
+use Rattle.std.specs.Prelude.{◌≡◌, ◌<◌, ◌≤◌, ℕ, ◌+◌, ◌-◌, ◌*◌, ◌^◌, Bool, true, false, IsTrue, List, [], ◌∷◌, ◌++◌, Option, None, Some, replicate, Result, Ok, Err}
 use Rattle.sector_disk.specs.Lists.{Content}
 use Rattle.sector_disk.specs.Space.{Space}
 use Rattle.jnl_format.specs.Recovery.{header_of_volume}
 use Rattle.btree_node.specs.Levels.{Pair}
 use Rattle.btree_edit.specs.Editing.{edit_writes}
+use Rattle.hx_bytes.specs.declared.extents.ForkRecord.{ForkRecord}
+use Rattle.volume_header.specs.declared.header.VolumeHeader.{VolumeHeader}
 use Rattle.cat_records.specs.declared.record.CatRecord.{CatRecord}
+use Rattle.cat_records.specs.declared.record.CatRecord.TheVariants.{Folder, File}
+use Rattle.cat_records.specs.declared.record.EntryFields.{EntryFields}
 use Rattle.catalog.specs.Pairs.{value_at}
 use Rattle.hfs_language.specs.declared.command.Command.{Command}
 use Rattle.hfs_language.specs.declared.command.Command.TheVariants as command
@@ -14,7 +18,7 @@ use Rattle.hfs_language.specs.declared.refusal.Refusal.TheVariants as refusal
 use Rattle.hfs_model.specs.Step.{Place, then_, unless, is_root, front, last_name, is_private_path, to_make}
 use Rattle.hfs_model.specs.declared.plain.PlainTree.{PlainTree}
 use Rattle.hfs_volume.specs.Changes.{AddsEntry}
-use Rattle.hfs_volume.specs.Commands.{IsNewValue, entry_in, with_made}
+use Rattle.hfs_volume.specs.Commands.{entry_in, with_made}
 use Rattle.hfs_volume.specs.Cost.{catalog_key, growth, is_too_deep, tree_load}
 use Rattle.hfs_volume.specs.Records.{is_empty}
 use Rattle.hfs_volume.specs.Weight.{cost_of_tree}
@@ -84,13 +88,50 @@ pub record HasRoomToMake (volume : Volume) (space : Space) : Type 0 where
       → (volume.catalog.file.shape.depth + 3 ≤ 11) × (volume.catalog.file.shape.leaf_records + 3 ≤ 2 ^ 32 - 1) × (3 * (volume.catalog.file.shape.depth + 4) ≤ volume.catalog.file.shape.free)
       × (3 * edit_writes (volume.catalog.file.shape.depth + 3) * catalog_node volume + 1 ≤ space.spare)
 
+-- ---- the record
+
+-- the fields of a new folder or file
+abbrev pub new_fields : (id moment mode flags : ℕ) → EntryFields
+new_fields id moment mode flags = record {
+  flags = flags;
+  count = 0;
+  id = id;
+  created = moment;
+  changed = moment;
+  attribute = moment;
+  accessed = moment;
+  backup = 0;
+  owner = 0;
+  group = 0;
+  admin_flags = 0;
+  owner_flags = 0;
+  mode = mode;
+  special = 0;
+  finder = replicate 32 0;
+  encoding = 0;
+  rest = 0;
+}
+
+-- a fork without blocks
+abbrev pub no_fork : ForkRecord
+no_fork = record { logical_size = 0; clump_size = 0; total_blocks = 0; extents = record { extents = replicate 8 (record { start = 0; count = 0 }) } }
+
+-- the record of a new folder, with mode 0040755, or of a new file, with mode 0100644 and the flag that its thread exists
+abbrev pub new_value : Bool → ℕ → ℕ → CatRecord
+new_value true id moment = Folder (record { fields = new_fields id moment 16877 0 })
+new_value false id moment = File (record { fields = new_fields id moment 33188 2; data_fork = no_fork; resource_fork = no_fork })
+
 -- ---- the change
 
 -- A folder (true) or file with the next CNID stands in a folder under a name, with its thread, and the header counts it and was put.
 pub record AddsNew (folder : Bool) (id : ℕ) (name : List ℕ) (old new : Volume) (before after : Content) : Type 0 where
-  pub value : CatRecord
-  pub is_new : IsNewValue folder old.header.next_catalog_id old.header.modify_date value
-  pub adds : AddsEntry (entry_in (free_place id name) value) (lists_of old before).catalog_pairs (lists_of new after).catalog_pairs
+  pub adds : AddsEntry (entry_in (free_place id name) (new_value folder old.header.next_catalog_id old.header.modify_date)) (lists_of old before).catalog_pairs (lists_of new after).catalog_pairs
   pub changes : ChangesCatalog old new before after
   pub header : new.header ≡ with_made folder old.header
   pub headed : header_of_volume after ≡ new.header
+
+-- The record of a new folder or file stands under the last name of a path: its CNID is the one that came next, and its dates are the volume's
+-- moment.
+pub record HasNew (folder : Bool) (path : List (List ℕ)) (head : VolumeHeader) (pairs : List Pair) : Type 0 where
+  pub parent : ℕ
+  pub stands : value_at pairs parent (last_name path) ≡ Some (new_value folder head.next_catalog_id head.modify_date)

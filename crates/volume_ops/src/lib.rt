@@ -15,6 +15,7 @@ mod keeping;
 mod listing;
 mod looking;
 mod making;
+mod mapping;
 mod names;
 mod new_entries;
 mod nodes;

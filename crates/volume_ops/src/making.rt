@@ -5,8 +5,10 @@ ghost use Rattle.sector_disk.specs.Lists.{Content};
 ghost use Rattle.btree_edit.specs.Causes.{HasTroubleCause};
 ghost use Rattle.btree_file.specs.Frame.{PutsWithin};
 ghost use Rattle.btree_file.specs.Standing.{numbers_of};
+ghost use Rattle.catalog.specs.Pairs.{value_at};
 ghost use Rattle.hfs_language.specs.Written.{FitsPath};
 ghost use Rattle.hfs_language.specs.declared.command.Command.TheVariants as command;
+ghost use Rattle.hfs_language.specs.declared.reply.Reply.TheVariants as reply;
 ghost use Rattle.hfs_model.specs.Step.{is_private_path, is_refusal, made, step_line};
 ghost use Rattle.hfs_volume.specs.Changes.{with_numbers};
 ghost use Rattle.hfs_volume.specs.Commands.{with_made};
@@ -15,7 +17,8 @@ ghost use Rattle.hfs_volume.specs.TreeOf.{tree_of};
 ghost use Rattle.hfs_volume.specs.Weight.{weight};
 ghost use Rattle.hfs_volume.specs.declared.cost.Cost.TheVariants as cost;
 ghost use Rattle.volume_ops.specs.Changing.{HasRoomToUpdate, PutsHeader};
-ghost use Rattle.volume_ops.specs.Making.{AddsNew, HasRoomToMake, IsSite, entry_load, free_place, make_load, making, path_to};
+ghost use Rattle.volume_ops.specs.Lists.{lists_of};
+ghost use Rattle.volume_ops.specs.Making.{AddsNew, HasNew, HasRoomToMake, IsSite, entry_load, free_place, make_load, making, new_value, path_to};
 ghost use Rattle.volume_ops.specs.Room.{capacity_of};
 ghost use Rattle.volume_ops.specs.Service.{IsInService};
 ghost use Rattle.volume_ops.specs.Standing.{IsSettled, StandsOver, own_sectors};
@@ -101,7 +104,8 @@ impl Volume {
         ensures stands { OnOk result (StandsOver self.new (P.SectorView.space space.new)) }
         ensures service { IsInService self.new (P.SectorView.space space.new) }
         ensures does { IsTrue (P.SectorView.space space.old).tells
-            → OnOk result (IsSettled self.new (P.SectorView.space space.new).content × (tree_of (P.SectorView.space space.new).content ≡ made folder (free_place id name.now) (tree_of (P.SectorView.space space.old).content))) }
+            → OnOk result (IsSettled self.new (P.SectorView.space space.new).content × (tree_of (P.SectorView.space space.new).content ≡ made folder (free_place id name.now) (tree_of (P.SectorView.space space.old).content))
+            × (value_at (lists_of self.new (P.SectorView.space space.new).content).catalog_pairs id name.now ≡ Some (new_value folder self.old.header.next_catalog_id self.old.header.modify_date))) }
         ensures touches { (committed : Content) → Touches committed (λ s. Contains (own_sectors self.old) s) (P.SectorView.space space.old) (P.SectorView.space space.new) }
         ensures spent { IsTrue (P.SectorView.space space.old).tells → (P.SectorView.space space.old).spare ≤ (P.SectorView.space space.new).spare + make_load self.old }
         ensures below { P.SectorView.follows space.old space.new }
@@ -134,6 +138,7 @@ impl Volume {
         ensures reply { IsTrue (P.SectorView.space space.old).tells → IfOk result (λ reply. reply ≡ (step_line (tree_of (P.SectorView.space space.old).content) (Ok (making folder (path_to above.now name.now)))).0) }
         ensures tree { IsTrue (P.SectorView.space space.old).tells → OnOk result (tree_of (P.SectorView.space space.new).content ≡ (step_line (tree_of (P.SectorView.space space.old).content) (Ok (making folder (path_to above.now name.now)))).1) }
         ensures refused { IsTrue (P.SectorView.space space.old).tells → IfOk result (λ reply. is_refusal reply ≡ true → (P.SectorView.space space.new).content ≡ (P.SectorView.space space.old).content) }
+        ensures entry { IsTrue (P.SectorView.space space.old).tells → IfOk result (λ said. said ≡ reply.Ok → HasNew folder (path_to above.now name.now) self.old.header (lists_of self.new (P.SectorView.space space.new).content).catalog_pairs) }
         ensures stands { OnOk result (StandsOver self.new (P.SectorView.space space.new)) }
         ensures settled { IsTrue (P.SectorView.space space.old).tells → OnOk result (IsSettled self.new (P.SectorView.space space.new).content) }
         ensures service { IsInService self.new (P.SectorView.space space.new) }
@@ -167,6 +172,7 @@ impl Volume {
         ensures reply { IsTrue (P.SectorView.space space.old).tells → IfOk result (λ reply. reply ≡ (step_line (tree_of (P.SectorView.space space.old).content) (Ok (making folder path.now))).0) }
         ensures tree { IsTrue (P.SectorView.space space.old).tells → OnOk result (tree_of (P.SectorView.space space.new).content ≡ (step_line (tree_of (P.SectorView.space space.old).content) (Ok (making folder path.now))).1) }
         ensures refused { IsTrue (P.SectorView.space space.old).tells → IfOk result (λ reply. is_refusal reply ≡ true → (P.SectorView.space space.new).content ≡ (P.SectorView.space space.old).content) }
+        ensures entry { IsTrue (P.SectorView.space space.old).tells → IfOk result (λ said. said ≡ reply.Ok → HasNew folder path.now self.old.header (lists_of self.new (P.SectorView.space space.new).content).catalog_pairs) }
         ensures stands { OnOk result (StandsOver self.new (P.SectorView.space space.new)) }
         ensures settled { IsTrue (P.SectorView.space space.old).tells → OnOk result (IsSettled self.new (P.SectorView.space space.new).content) }
         ensures service { IsInService self.new (P.SectorView.space space.new) }
@@ -202,6 +208,8 @@ impl Volume {
         ensures reply { IsTrue (P.SectorView.space space.old).tells → IfOk result (λ reply. reply ≡ (step_line (tree_of (P.SectorView.space space.old).content) (Ok (command.Mkdir path.now))).0) }
         ensures tree { IsTrue (P.SectorView.space space.old).tells → OnOk result (tree_of (P.SectorView.space space.new).content ≡ (step_line (tree_of (P.SectorView.space space.old).content) (Ok (command.Mkdir path.now))).1) }
         ensures refused { IsTrue (P.SectorView.space space.old).tells → IfOk result (λ reply. is_refusal reply ≡ true → (P.SectorView.space space.new).content ≡ (P.SectorView.space space.old).content) }
+        // Behind `Ok` its record stands in the catalog, as new ones are.
+        ensures entry { IsTrue (P.SectorView.space space.old).tells → IfOk result (λ said. said ≡ reply.Ok → HasNew true path.now self.old.header (lists_of self.new (P.SectorView.space space.new).content).catalog_pairs) }
         ensures stands { OnOk result (StandsOver self.new (P.SectorView.space space.new)) }
         ensures settled { IsTrue (P.SectorView.space space.old).tells → OnOk result (IsSettled self.new (P.SectorView.space space.new).content) }
         ensures service { IsInService self.new (P.SectorView.space space.new) }
@@ -235,6 +243,8 @@ impl Volume {
         ensures reply { IsTrue (P.SectorView.space space.old).tells → IfOk result (λ reply. reply ≡ (step_line (tree_of (P.SectorView.space space.old).content) (Ok (command.Create path.now))).0) }
         ensures tree { IsTrue (P.SectorView.space space.old).tells → OnOk result (tree_of (P.SectorView.space space.new).content ≡ (step_line (tree_of (P.SectorView.space space.old).content) (Ok (command.Create path.now))).1) }
         ensures refused { IsTrue (P.SectorView.space space.old).tells → IfOk result (λ reply. is_refusal reply ≡ true → (P.SectorView.space space.new).content ≡ (P.SectorView.space space.old).content) }
+        // Behind `Ok` its record stands in the catalog, as new ones are.
+        ensures entry { IsTrue (P.SectorView.space space.old).tells → IfOk result (λ said. said ≡ reply.Ok → HasNew false path.now self.old.header (lists_of self.new (P.SectorView.space space.new).content).catalog_pairs) }
         ensures stands { OnOk result (StandsOver self.new (P.SectorView.space space.new)) }
         ensures settled { IsTrue (P.SectorView.space space.old).tells → OnOk result (IsSettled self.new (P.SectorView.space space.new).content) }
         ensures service { IsInService self.new (P.SectorView.space space.new) }

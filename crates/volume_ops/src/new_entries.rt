@@ -1,10 +1,11 @@
 //! The records of new folders and files, and the header that counts them.
-ghost use Rattle.std.specs.Prelude.{◌≡◌, ◌<◌, ◌^◌, ◌+◌, ◌%◌, true, false};
+ghost use Rattle.std.specs.Prelude.{◌≡◌, ◌<◌, ◌^◌, ◌+◌, true, false};
 ghost use Rattle.cat_records.specs.Fits.{FitsEntry, FitsRecord};
 ghost use Rattle.hfs_volume.specs.Changes.{with_numbers};
-ghost use Rattle.hfs_volume.specs.Commands.{AreNewFields, IsNewValue, with_made};
-ghost use Rattle.hfs_volume.specs.Records.{id_in, is_link_type, is_thread};
+ghost use Rattle.hfs_volume.specs.Commands.{with_made};
+ghost use Rattle.hfs_volume.specs.Records.{id_in, is_thread};
 ghost use Rattle.volume_header.specs.Header.{FitsHeader};
+ghost use Rattle.volume_ops.specs.Making.{new_fields, new_value};
 
 use crate::header::EMPTY;
 use cat_records::{CatRecord, EntryFields, FileRecord, FolderRecord};
@@ -15,8 +16,7 @@ const HAS_THREAD: u16 = 2;
 
 /// The fields of a new folder or file.
 fn new_fields(id: u32, moment: u32, mode: u16, flags: u16) -> EntryFields
-    ensures new { AreNewFields id (mode % 4096) moment result }
-    ensures no_link { is_link_type result ≡ false }
+    ensures same { result ≡ new_fields id moment mode flags }
     ensures fits { FitsEntry result }
 {
     EntryFields {
@@ -42,7 +42,7 @@ fn new_fields(id: u32, moment: u32, mode: u16, flags: u16) -> EntryFields
 
 /// The record of a new folder, with mode 0755.
 fn new_folder(id: u32, moment: u32) -> CatRecord
-    ensures new { IsNewValue true id moment result }
+    ensures same { result ≡ new_value true id moment }
     ensures fits { FitsRecord result }
     ensures kind { is_thread result ≡ false }
     ensures id { id_in result ≡ id }
@@ -54,7 +54,7 @@ fn new_folder(id: u32, moment: u32) -> CatRecord
 
 /// The record of a new file, with mode 0644 and without blocks.
 fn new_file(id: u32, moment: u32) -> CatRecord
-    ensures new { IsNewValue false id moment result }
+    ensures same { result ≡ new_value false id moment }
     ensures fits { FitsRecord result }
     ensures kind { is_thread result ≡ false }
     ensures id { id_in result ≡ id }
@@ -68,7 +68,7 @@ fn new_file(id: u32, moment: u32) -> CatRecord
 
 /// The record of a new folder or file.
 pub(crate) fn new_record(folder: bool, id: u32, moment: u32) -> CatRecord
-    ensures new { IsNewValue folder id moment result }
+    ensures same { result ≡ new_value folder id moment }
     ensures fits { FitsRecord result }
     ensures kind { is_thread result ≡ false }
     ensures id { id_in result ≡ id }

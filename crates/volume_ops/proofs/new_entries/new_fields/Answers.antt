@@ -1,11 +1,6 @@
 use Rattle.std.proofs.Common.{◌<◌, ◌^◌, refl, arith}
-use Rattle.hx_bytes.specs.Field.{number_at}
 use Rattle.volume_ops.proofs.HeaderFits.{zeros_are}
 use Rattle.volume_ops.proofs.new_entries.new_fields.Goals as goal
-
-pub returns-clause-no_link : goal.returns-clause-no_link
-unfolding number_at
-returns-clause-no_link c = refl
 
 pub returns-clause-fits : goal.returns-clause-fits
 returns-clause-fits c = record {

@@ -36,7 +36,7 @@ returns-clause-adds g c tells =
     let later = c.draw.ensures.within.same.tells ∙ tells in
     adds_new c.args.self.now c.draw.new.self (g.P.SectorView.space c.args.space.now) (g.P.SectorView.space c.draw.new.space) c.draw.ensures.rest (c.draw.ensures.put tells) c.add.new.self (g.P.SectorView.space c.add.new.space)
     (c.draw.ensures.stands.stands (c.draw.ensures.within.same.tells ∙ tells)) (c.draw.ensures.within.same.tells ∙ tells) (c.in_ok-add.ensures.stands.stands (c.add.ensures.frame.space.same.tells ∙ c.draw.ensures.within.same.tells ∙ tells)) c.add.ensures.frame c.add.ensures.rest
-    c.args.folder c.args.id c.args.name.now c.new_record-rec.result c.in_ok-add.field-0 c.new_record-rec.ensures.new (c.draw.ensures.header c.requires.room.ids fits.0 fits.1)
+    c.args.folder c.args.id c.args.name.now c.new_record-rec.result c.in_ok-add.field-0 c.new_record-rec.ensures.same (c.draw.ensures.header c.requires.room.ids fits.0 fits.1)
     (free_before c.args.self.now (g.P.SectorView.space c.args.space.now) (c.requires.settled tells) c.args.id c.args.name.now (c.requires.site tells))
     (c.in_ok-add.ensures.answer (c.draw.ensures.within.same.tells ∙ tells)) (c.in_ok-add.ensures.added (c.draw.ensures.within.same.tells ∙ tells))
 

@@ -2,9 +2,11 @@ use Rattle.std.proofs.Common.{◌≡◌, ℕ, List, [], length, refl, sym, ◌�
 use Rattle.std.specs.Prelude.{IfOk, OnOk, Ok}
 use Rattle.hfs_language.specs.Written.{FitsPath}
 use Rattle.hfs_language.specs.declared.reply.Reply.{Reply}
+use Rattle.hfs_language.specs.declared.reply.Reply.TheVariants as reply
 use Rattle.hfs_model.specs.Step.{is_private_path, step_line}
 use Rattle.hfs_volume.specs.TreeOf.{tree_of}
-use Rattle.volume_ops.specs.Making.{making}
+use Rattle.volume_ops.specs.Lists.{lists_of}
+use Rattle.volume_ops.specs.Making.{HasNew, making}
 use Rattle.volume_ops.proofs.Commanding.{touches_none}
 use Rattle.volume_ops.proofs.Sited.{private_line, root_line}
 use Rattle.volume_ops.proofs.volume.Volume.make.Goals as goal
@@ -52,3 +54,14 @@ returns-then-is_private_path-clause-touches g c committed = touches_none committ
 
 pub returns-then-is_private_path-clause-service : goal.returns-then-is_private_path-clause-service
 returns-then-is_private_path-clause-service g c = c.requires.stands.service
+
+pub returns-in-Some-clause-entry : goal.returns-in-Some-clause-entry
+returns-in-Some-clause-entry g c tells =
+    subst (λ (p : List (List ℕ)). IfOk c.make_under.result (λ (said : Reply). said ≡ reply.Ok → HasNew c.args.folder p c.args.self.now.header (lists_of c.make_under.new.self (g.P.SectorView.space c.make_under.new.space).content).catalog_pairs))
+    (sym c.in-Some.ensures.cases.0 ∙ c.as_slice.ensures) (c.make_under.ensures.entry tells)
+
+pub returns-in-None-clause-entry : goal.returns-in-None-clause-entry
+returns-in-None-clause-entry g c tells is = absurd (cc is)
+
+pub returns-then-is_private_path-clause-entry : goal.returns-then-is_private_path-clause-entry
+returns-then-is_private_path-clause-entry g c tells is = absurd (cc is)

@@ -1,11 +1,13 @@
 use Rattle.std.proofs.Common.{◌≡◌, ◌≤◌, ◌+◌, ◌/◌, ℕ, List, refl, sym, ◌∙◌, ap, subst, arith}
-use Rattle.std.specs.Prelude.{OnOk}
+use Rattle.std.specs.Prelude.{OnOk, Some}
 use Rattle.std.specs.List.{Contains}
 use Rattle.btree_node.specs.declared.store.TreeShape.{TreeShape}
 use Rattle.hfs_model.specs.Step.{made}
 use Rattle.hfs_volume.specs.TreeOf.{tree_of}
 use Rattle.volume_ops.specs.Changing.{TouchesFolder}
-use Rattle.volume_ops.specs.Making.{free_place}
+use Rattle.catalog.specs.Pairs.{value_at}
+use Rattle.volume_ops.specs.Lists.{lists_of}
+use Rattle.volume_ops.specs.Making.{free_place, new_value}
 use Rattle.volume_ops.specs.Standing.{IsSettled, StandsOver}
 use Rattle.volume_ops.specs.Touching.{Touches}
 use Rattle.volume_ops.proofs.Commanding.{touches_both, touches_none}
@@ -33,7 +35,8 @@ returns-clause-does g c tells =
     let later = (c.add_new.ensures.touches (g.P.SectorView.space c.args.space.now).content).same.tells ∙ tells in
     let last = (c.touch.ensures.touches (g.P.SectorView.space c.args.space.now).content).same.tells ∙ later in
     ok_both (StandsOver c.touch.new.self (g.P.SectorView.space c.touch.new.space)) (TouchesFolder c.args.id 1 0 c.add_new.new.self c.touch.new.self (g.P.SectorView.space c.add_new.new.space).content (g.P.SectorView.space c.touch.new.space).content)
-    (IsSettled c.touch.new.self (g.P.SectorView.space c.touch.new.space).content × (tree_of (g.P.SectorView.space c.touch.new.space).content ≡ made c.args.folder (free_place c.args.id c.args.name.now) (tree_of (g.P.SectorView.space c.args.space.now).content)))
+    (IsSettled c.touch.new.self (g.P.SectorView.space c.touch.new.space).content × (tree_of (g.P.SectorView.space c.touch.new.space).content ≡ made c.args.folder (free_place c.args.id c.args.name.now) (tree_of (g.P.SectorView.space c.args.space.now).content))
+    × (value_at (lists_of c.touch.new.self (g.P.SectorView.space c.touch.new.space).content).catalog_pairs c.args.id c.args.name.now ≡ Some (new_value c.args.folder c.args.self.now.header.next_catalog_id c.args.self.now.header.modify_date)))
     c.touch.result c.touch.ensures.stands (c.touch.ensures.counts later)
     (λ stands t. made_does c.args.self.now (g.P.SectorView.space c.args.space.now) (c.requires.settled tells) c.args.id c.args.name.now (c.requires.site tells) c.add_new.new.self (g.P.SectorView.space c.add_new.new.space) c.args.folder (c.in_ok-add_new.ensures.adds tells)
     (c.requires.stands.stands tells) (c.in_ok-add_new.ensures.stands.stands later) c.touch.new.self (g.P.SectorView.space c.touch.new.space) (stands.stands last) t (makes_both c.mkdir_does_its_step.ensures c.create_does_its_step.ensures c.args.folder))

@@ -1,10 +1,15 @@
 use Rattle.std.proofs.Common.{◌≡◌, ◌≤◌, ◌+◌, ◌/◌, ℕ, List, true, false, refl, sym, ◌∙◌, ap, subst, arith}
+use Rattle.std.specs.Prelude.{Some}
 use Rattle.std.specs.List.{Contains}
 use Rattle.std.proofs.lemmas.Bool.{true≢false}
 use Rattle.sector_disk.specs.Lists.{Content}
+use Rattle.catalog.specs.Pairs.{value_at}
 use Rattle.hfs_model.specs.Step.{made}
+use Rattle.hfs_model.proofs.Below.{last_name-last}
+use Rattle.volume_header.specs.declared.header.VolumeHeader.{VolumeHeader}
 use Rattle.hfs_volume.specs.TreeOf.{tree_of}
-use Rattle.volume_ops.specs.Making.{IsSite, free_place, path_to}
+use Rattle.volume_ops.specs.Lists.{lists_of}
+use Rattle.volume_ops.specs.Making.{IsSite, free_place, new_value, path_to}
 use Rattle.volume_ops.specs.Touching.{Touches}
 use Rattle.volume_ops.proofs.Commanding.{touches_looks, touches_both}
 use Rattle.volume_ops.proofs.MakeRoom.{load_still, make_room_still}
@@ -103,3 +108,14 @@ returns-in_err-id-clause-spent g c tells = omega (arith, c.site.ensures.reads.lo
 
 pub returns-in_err-id-clause-service : goal.returns-in_err-id-clause-service
 returns-in_err-id-clause-service g c = c.site.ensures.stands.service
+
+pub returns-in_ok-make_in-in-Ok-clause-entry : goal.returns-in_ok-make_in-in-Ok-clause-entry
+returns-in_ok-make_in-in-Ok-clause-entry g c tells is = record {
+  parent = c.in-Ok.id;
+  stands = (λ i. value_at (lists_of c.make_in.new.self (g.P.SectorView.space c.make_in.new.space).content).catalog_pairs c.in-Ok.id (last_name-last c.args.above.now c.args.name.now i))
+      ∙ (c.in_ok-make_in-in-Ok.ensures.does (c.site.ensures.reads.looks.same.tells ∙ tells)).2
+      ∙ ap (λ (h : VolumeHeader). Some (new_value c.args.folder h.next_catalog_id h.modify_date)) c.site.ensures.reads.keeps.header;
+}
+
+pub returns-in-Err-clause-entry : goal.returns-in-Err-clause-entry
+returns-in-Err-clause-entry g c tells is = absurd (cc is)
