@@ -1,10 +1,11 @@
 //! A replay that is stopped after half of its home sectors, and its repetition too.
-use crate::{folders_in, run_lines};
+use crate::runs::{folders_in, run_lines};
+use crate::thin::{Thin, fresh_thin};
 use hx_bytes::OutOfMemory;
 use jnl_format::{read_header, read_list};
-use mem_disk::{MemImage, MemRig};
+use mem_disk::MemImage;
 use std::alloc::Global;
-use test_kit::{BASE, fresh};
+use test_kit::BASE;
 
 // The journal of the volume has 2,048 sectors.
 const SIZE: u64 = 1_048_576;
@@ -76,15 +77,15 @@ fn live_lists(image: &MemImage) -> Live {
 
 /// What the first crash leaves that has a live list, of a run that makes a folder.
 fn live_image(alloc: Global) -> Result<MemImage, OutOfMemory> {
-    let start = fresh(alloc)?;
-    let mut whole = MemRig::from_image(alloc, &start)?;
+    let start = fresh_thin(alloc)?;
+    let mut whole = Thin::over(alloc, &start)?;
     run_lines(alloc, &mut whole, b"mkdir /d0\n")?;
-    for call in 0..whole.calls() {
-        if whole.wrote(call) {
-            let mut rig = MemRig::from_image(alloc, &start)?;
-            rig.stop_after(call.saturating_add(1));
-            let ran = run_lines(alloc, &mut rig, b"mkdir /d0\n")?;
-            let image = rig.image(alloc, 1)?;
+    for call in 0..whole.rig.calls() {
+        if whole.rig.wrote(call) {
+            let mut disk = Thin::over(alloc, &start)?;
+            disk.rig.stop_after(call.saturating_add(1));
+            let ran = run_lines(alloc, &mut disk, b"mkdir /d0\n")?;
+            let image = disk.rig.image(alloc, 1)?;
             if ran.lines == 0 && 1 < live_lists(&image).homes {
                 if let Some(1) = folders_in(alloc, &image)? {
                     return Ok(image);
@@ -97,30 +98,30 @@ fn live_image(alloc: Global) -> Result<MemImage, OutOfMemory> {
 
 /// The disk of an image, whose mount stopped after half of the home sectors of its replay. Before them the replay writes
 /// the volume header, the info block, the journal header and the lists again, and calls a barrier.
-fn stopped_half_way(alloc: Global, image: &MemImage) -> Result<MemRig, OutOfMemory> {
+fn stopped_half_way(alloc: Global, image: &MemImage) -> Result<Thin, OutOfMemory> {
     let live = live_lists(image);
     let half = live.text.saturating_add(4).saturating_add(live.homes / 2);
-    let mut whole = MemRig::from_image(alloc, image)?;
+    let mut whole = Thin::over(alloc, image)?;
     run_lines(alloc, &mut whole, b"")?;
-    let mut rig = MemRig::from_image(alloc, image)?;
+    let mut disk = Thin::over(alloc, image)?;
     let mut written: u64 = 0;
-    for call in 0..whole.calls() {
-        if whole.wrote(call) {
+    for call in 0..whole.rig.calls() {
+        if whole.rig.wrote(call) {
             written = written.saturating_add(1);
             if written == half {
-                rig.stop_after(call.saturating_add(1));
+                disk.rig.stop_after(call.saturating_add(1));
             }
         }
     }
-    run_lines(alloc, &mut rig, b"")?;
-    Ok(rig)
+    run_lines(alloc, &mut disk, b"")?;
+    Ok(disk)
 }
 
 /// Whether a replay that is stopped half way, and stopped half way again, leaves its folder by this choice.
 pub fn is_replayed_after_two_stops(alloc: Global, choice: u64) -> Result<bool, OutOfMemory> {
     let live = live_image(alloc)?;
-    let once = stopped_half_way(alloc, &live)?.image(alloc, choice)?;
-    let twice = stopped_half_way(alloc, &once)?.image(alloc, choice)?;
+    let once = stopped_half_way(alloc, &live)?.rig.image(alloc, choice)?;
+    let twice = stopped_half_way(alloc, &once)?.rig.image(alloc, choice)?;
     let is_live = 1 < live_lists(&live).homes
         && 1 < live_lists(&once).homes
         && 1 < live_lists(&twice).homes;

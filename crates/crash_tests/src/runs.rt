@@ -1,9 +1,13 @@
 //! Whole runs, and what an image's folders are.
-use hfsx_server::Status;
+use crate::thin::Thin;
+use hfsx_server::{Status, hfsx};
 use hx_bytes::OutOfMemory;
-use mem_disk::{MemImage, MemRig};
+use mem_disk::{MemImage, MemSource};
 use std::alloc::Global;
-use test_kit::run_on;
+use test_kit::words;
+
+// How many bytes a take of the source gives at most: few, so that lines come in pieces.
+const PIECE: u64 = 7;
 
 /// How a run ended, and how many whole lines it told.
 #[derive(Clone, Copy)]
@@ -13,7 +17,7 @@ pub struct Ran {
 }
 
 /// What `ls /` tells where the volume has the first so many folders.
-const LISTINGS: [&str; 11] = [
+const LISTINGS: [&str; 7] = [
     "ok 0\n",
     "ok 1 d0/\n",
     "ok 2 d0/ d1/\n",
@@ -21,17 +25,15 @@ const LISTINGS: [&str; 11] = [
     "ok 4 d0/ d1/ d2/ d3/\n",
     "ok 5 d0/ d1/ d2/ d3/ d4/\n",
     "ok 6 d0/ d1/ d2/ d3/ d4/ d5/\n",
-    "ok 7 d0/ d1/ d2/ d3/ d4/ d5/ d6/\n",
-    "ok 8 d0/ d1/ d2/ d3/ d4/ d5/ d6/ d7/\n",
-    "ok 9 d0/ d1/ d2/ d3/ d4/ d5/ d6/ d7/ d8/\n",
-    "ok 10 d0/ d1/ d2/ d3/ d4/ d5/ d6/ d7/ d8/ d9/\n",
 ];
 
 /// Serves these lines, and counts the whole lines that were told.
-pub fn run_lines(alloc: Global, rig: &mut MemRig, input: &[u8]) -> Result<Ran, OutOfMemory> {
-    let status = run_on(alloc, "run v.img", rig, input)?;
+pub fn run_lines(alloc: Global, disk: &mut Thin, input: &[u8]) -> Result<Ran, OutOfMemory> {
+    let words = words(alloc, "run v.img")?;
+    let mut source = MemSource::new(alloc, input, PIECE, None)?;
+    let status = hfsx(alloc, words.as_slice(), disk, &mut source);
     let mut lines: u64 = 0;
-    for byte in rig.told() {
+    for byte in disk.rig.told() {
         if *byte == b'\n' {
             lines = lines.saturating_add(1);
         }
@@ -41,14 +43,14 @@ pub fn run_lines(alloc: Global, rig: &mut MemRig, input: &[u8]) -> Result<Ran, O
 
 /// How many folders a mount of this image finds, where they are the first of those that the runs make.
 pub fn folders_in(alloc: Global, image: &MemImage) -> Result<Option<u64>, OutOfMemory> {
-    let mut rig = MemRig::from_image(alloc, image)?;
-    let status = run_on(alloc, "run v.img", &mut rig, b"ls /\n")?;
-    if status != Status::Done {
+    let mut disk = Thin::over(alloc, image)?;
+    let ran = run_lines(alloc, &mut disk, b"ls /\n")?;
+    if ran.status != Status::Done {
         return Ok(None);
     }
     let mut count: u64 = 0;
     for listing in LISTINGS {
-        if rig.told() == listing.as_bytes() {
+        if disk.rig.told() == listing.as_bytes() {
             return Ok(Some(count));
         }
         count = count.saturating_add(1);

@@ -1,13 +1,15 @@
 //! Power fails in a run, and again in the mount of what it left.
-use crate::crashes::LINES;
-use crate::{folders_in, run_lines};
+use crate::runs::{folders_in, run_lines};
+use crate::thin::{Thin, fresh_thin};
 use hx_bytes::OutOfMemory;
-use mem_disk::{MemImage, MemRig};
+use mem_disk::MemImage;
 use std::alloc::Global;
-use test_kit::fresh;
+
+/// A run that makes three folders, and asks after each that it is durable.
+const LINES: &[u8] = b"mkdir /d0\nsync\nmkdir /d1\nsync\nmkdir /d2\nsync\n";
 
 // How many calls of a mount that wrote are passed over between two that are tried.
-const STEP: u64 = 160;
+const STEP: u64 = 40;
 
 /// What all pairs of crashes left.
 #[derive(Clone, Copy)]
@@ -20,20 +22,20 @@ pub struct Pairs {
 /// Stops the run after each call that wrote, and the mount of the image of this choice again after such
 /// calls. What the second image has must be what the first one has.
 pub fn try_pairs(alloc: Global, choice: u64) -> Result<Pairs, OutOfMemory> {
-    let start = fresh(alloc)?;
-    let mut whole = MemRig::from_image(alloc, &start)?;
+    let start = fresh_thin(alloc)?;
+    let mut whole = Thin::over(alloc, &start)?;
     run_lines(alloc, &mut whole, LINES)?;
     let mut tried = Pairs {
         pairs: 0,
         wrong: None,
     };
-    for call in 0..whole.calls() {
-        if whole.wrote(call) {
+    for call in 0..whole.rig.calls() {
+        if whole.rig.wrote(call) {
             let stop = call.saturating_add(1);
-            let mut rig = MemRig::from_image(alloc, &start)?;
-            rig.stop_after(stop);
-            run_lines(alloc, &mut rig, LINES)?;
-            let image = rig.image(alloc, choice)?;
+            let mut disk = Thin::over(alloc, &start)?;
+            disk.rig.stop_after(stop);
+            run_lines(alloc, &mut disk, LINES)?;
+            let image = disk.rig.image(alloc, choice)?;
             try_mount(alloc, &image, choice, stop, &mut tried)?;
         }
     }
@@ -49,18 +51,18 @@ fn try_mount(
     tried: &mut Pairs,
 ) -> Result<(), OutOfMemory> {
     let want = folders_in(alloc, image)?;
-    let mut whole = MemRig::from_image(alloc, image)?;
+    let mut whole = Thin::over(alloc, image)?;
     run_lines(alloc, &mut whole, b"")?;
     let mut nth = stop;
-    for call in 0..whole.calls() {
-        if whole.wrote(call) {
+    for call in 0..whole.rig.calls() {
+        if whole.rig.wrote(call) {
             nth = nth.wrapping_add(1);
             if nth % STEP == 0 {
                 let again = call.saturating_add(1);
-                let mut rig = MemRig::from_image(alloc, image)?;
-                rig.stop_after(again);
-                run_lines(alloc, &mut rig, b"")?;
-                let second = rig.image(alloc, choice)?;
+                let mut disk = Thin::over(alloc, image)?;
+                disk.rig.stop_after(again);
+                run_lines(alloc, &mut disk, b"")?;
+                let second = disk.rig.image(alloc, choice)?;
                 if want.is_none() || folders_in(alloc, &second)? != want {
                     tried.wrong = Some((stop, again));
                 }
