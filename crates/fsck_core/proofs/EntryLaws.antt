@@ -57,7 +57,7 @@ kept_order {X} before test (x ∷ xs) order = at (kept_order before test xs orde
     at rest false = rest
 
 -- a key before another has no greater parent
-parents_before : (p q : Placed) → placed_before p q ≡ true → p.parent ≤ q.parent
+pub parents_before : (p q : Placed) → placed_before p q ≡ true → p.parent ≤ q.parent
 parents_before p q before = by (nat_lt p.parent q.parent) (p.parent == q.parent) refl refl before
   where
     by : (lt eq : Bool) → nat_lt p.parent q.parent ≡ lt → p.parent == q.parent ≡ eq → is_lt (ordering_then (cond lt Less (cond eq Equal Greater)) (slice_cmp nat_cmp p.name q.name)) ≡ true → p.parent ≤ q.parent

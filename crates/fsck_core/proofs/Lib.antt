@@ -17,3 +17,9 @@ pub mod BehindLaws
 pub mod OwnerLaws
 pub mod ForkWants
 pub mod TestedLaws
+pub mod NumberLaws
+pub mod NameLaws
+pub mod DecidedLaws
+pub mod SharedLaws
+pub mod LinkLaws
+pub mod AllForkLaws

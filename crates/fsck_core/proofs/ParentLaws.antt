@@ -1,4 +1,4 @@
--- Which rows the root leads to.
+-- Which rows a folder leads to.
 use Rattle.std.proofs.Common.{◌≡◌, ◌⊎◌, ◌↔◌, ◌<◌, ◌≤◌, ℕ, suc, ◌+◌, ◌-◌, Bool, true, false, ◌&&◌, ◌||◌, ◌==◌, nat_lt, if◌then◌else◌, List, [], ◌∷◌, ◌++◌, length, replicate, get_or, set, inl, inr, refl, sym, ◌∙◌, ap, subst, arith, ⊎_elim, T, length-append, length-set, get_or-set_same, get_or-set_other}
 use Rattle.std.specs.Prelude.{Contains, All, IsTrue, slice_index}
 use Rattle.std.specs.List.{list_any}
@@ -17,7 +17,7 @@ use Rattle.hfs_volume.specs.Broken.{IsFailed, FailsParent}
 use Rattle.hfs_volume.proofs.Members.{in_one, at_front, all_of, each_of, map_cases, map_stands}
 use Rattle.fsck_core.specs.Wants.{as_found}
 use Rattle.fsck_core.specs.Rows.{row_of, rows_of, row_at, no_row}
-use Rattle.fsck_core.specs.Parents.{is_root_row, IsBelow, is_root, under, marked, Leads, folder_of, IsReaching, Grows, Enters, EntersAll, IsWalking, HasRoom, is_reached, AreReached, FailsReach}
+use Rattle.fsck_core.specs.Parents.{is_root_row, IsBelow, is_top, under, marked, Leads, folder_of, IsReaching, Grows, Enters, EntersAll, IsWalking, HasRoom, is_reached, AreReached, FailsReach}
 use Rattle.fsck_core.specs.declared.rows.Row.{Row}
 use Rattle.fsck_core.proofs.RowLaws.{below_true, below_false}
 use Rattle.fsck_core.proofs.WantLaws.{both_true, one_false}
@@ -27,22 +27,22 @@ row_stands rows k inside = (k, inside, get_or_default rows k (row_at rows k) no_
 
 -- ---- one mark more
 
-back : (marks : List Bool) (at k : ℕ) → marked (set marks at true) k ≡ true → (k ≡ at) ⊎ (marked marks k ≡ true)
-back marks at k is = ⊎_elim (λ (same : k ≡ at). inl same) (λ (other : k ≡ at → ⊥). inr (sym (get_or-set_other marks at k true false other) ∙ is)) (cases_eq k at)
+pub mark_back : (marks : List Bool) (at k : ℕ) → marked (set marks at true) k ≡ true → (k ≡ at) ⊎ (marked marks k ≡ true)
+mark_back marks at k is = ⊎_elim (λ (same : k ≡ at). inl same) (λ (other : k ≡ at → ⊥). inr (sym (get_or-set_other marks at k true false other) ∙ is)) (cases_eq k at)
 
-keeps_mark : (marks : List Bool) (at k : ℕ) → at < length marks → marked marks k ≡ true → marked (set marks at true) k ≡ true
+pub keeps_mark : (marks : List Bool) (at k : ℕ) → at < length marks → marked marks k ≡ true → marked (set marks at true) k ≡ true
 keeps_mark marks at k inside is = ⊎_elim
     (λ (same : k ≡ at). ap (marked (set marks at true)) same ∙ get_or-set_same marks at true false inside)
     (λ (other : k ≡ at → ⊥). get_or-set_other marks at k true false other ∙ is)
     (cases_eq k at)
 
--- what a row adds lies below the root
-added_below : (rows : List Row) (seen : Bool) (row : Row) → Contains rows row → IsBelow rows row.parent → (x : ℕ) → Contains (folder_of seen row) x → IsBelow rows x
-added_below rows seen row stands up x there = at seen row.folder refl there
+-- what a row adds lies below it
+added_below : {top : ℕ} (rows : List Row) (seen : Bool) (row : Row) → Contains rows row → IsBelow top rows row.parent → (x : ℕ) → Contains (folder_of seen row) x → IsBelow top rows x
+added_below {top} rows seen row stands up x there = at seen row.folder refl there
   where
-    at : (s b : Bool) → row.folder ≡ b → Contains (if s then [] else if b then row.id ∷ [] else []) x → IsBelow rows x
+    at : (s b : Bool) → row.folder ≡ b → Contains (if s then [] else if b then row.id ∷ [] else []) x → IsBelow top rows x
     at true b is none = absurd (omega (arith, none.1))
-    at false true is one = subst (IsBelow rows) (sym (in_one row.id x one)) (under row.id row stands is refl up)
+    at false true is one = subst (IsBelow top rows) (sym (in_one row.id x one)) (under row.id row stands is refl up)
     at false false is none = absurd (omega (arith, none.1))
 
 module _ (rows : List Row) (at : ℕ) (marks : List Bool) (folders : List ℕ) (more : List Bool) (further : List ℕ) (inside : at < length marks)
@@ -51,13 +51,13 @@ module _ (rows : List Row) (at : ℕ) (marks : List Bool) (folders : List ℕ) (
   added = folder_of (marked marks at) (row_at rows at)
 
   before_or_here : (k : ℕ) → marked more k ≡ true → (k ≡ at) ⊎ (marked marks k ≡ true)
-  before_or_here k is = back marks at k (sym (ap (λ (l : List Bool). marked l k) marks_are) ∙ is)
+  before_or_here k is = mark_back marks at k (sym (ap (λ (l : List Bool). marked l k) marks_are) ∙ is)
 
-  -- a row whose parent lies below the root is marked
-  pub reach_step : at < length rows → IsBelow rows (row_at rows at).parent → IsReaching rows marks folders → IsReaching rows more further
-  reach_step here up reaching = record {
+  -- a row whose parent lies below it is marked
+  pub reach_step : {top : ℕ} → at < length rows → IsBelow top rows (row_at rows at).parent → IsReaching top rows marks folders → IsReaching top rows more further
+  reach_step {top} here up reaching = record {
     sound = λ k within is. ⊎_elim
-        (λ (same : k ≡ at). subst (λ n. IsBelow rows (row_at rows n).parent) (sym same) up)
+        (λ (same : k ≡ at). subst (λ n. IsBelow top rows (row_at rows n).parent) (sym same) up)
         (λ (old : marked marks k ≡ true). reaching.sound k within old)
         (before_or_here k is);
     below = λ id there. ⊎_elim
@@ -115,16 +115,16 @@ grows_more a b c d e f first second = record {
   same = λ i low. second.same i (omega (arith, low, first.long)) ∙ first.same i low;
 }
 
-pub enters_none : (rows : List Row) (from : ℕ) (marks : List Bool) (folders : List ℕ) → IsReaching rows marks folders → Enters rows from from marks folders marks folders
-enters_none rows from marks folders reaching = record {
+pub enters_none : {top : ℕ} (rows : List Row) (from : ℕ) (marks : List Bool) (folders : List ℕ) → IsReaching top rows marks folders → Enters top rows from from marks folders marks folders
+enters_none {top} rows from marks folders reaching = record {
   reaching = reaching;
   grows = record { still = λ k is. is; long = omega arith; same = λ i low. refl };
   all = λ k low high. absurd (omega (arith, low, high));
 }
 
-pub enters_more : (rows : List Row) (from at : ℕ) (first : List Bool) (begun : List ℕ) (marks : List Bool) (folders : List ℕ) (more : List Bool) (further : List ℕ) → at < length rows → length marks ≡ length rows
-    → more ≡ set marks at true → further ≡ folders ++ folder_of (marked marks at) (row_at rows at) → IsBelow rows (row_at rows at).parent → Enters rows from at first begun marks folders → Enters rows from (at + 1) first begun more further
-enters_more rows from at first begun marks folders more further here long marks_are folders_are up enters = record {
+pub enters_more : {top : ℕ} (rows : List Row) (from at : ℕ) (first : List Bool) (begun : List ℕ) (marks : List Bool) (folders : List ℕ) (more : List Bool) (further : List ℕ) → at < length rows → length marks ≡ length rows
+    → more ≡ set marks at true → further ≡ folders ++ folder_of (marked marks at) (row_at rows at) → IsBelow top rows (row_at rows at).parent → Enters top rows from at first begun marks folders → Enters top rows from (at + 1) first begun more further
+enters_more {top} rows from at first begun marks folders more further here long marks_are folders_are up enters = record {
   reaching = reach_step rows at marks folders more further inside marks_are folders_are here up enters.reaching;
   grows = grows_more first begun marks folders more further enters.grows (grow_step rows at marks folders more further inside marks_are folders_are);
   all = λ k low high. ⊎_elim
@@ -151,8 +151,8 @@ module _ (rows : List Row) (id from to : ℕ) (inside_from : from ≤ length row
     ⊎_elim (λ (low : k < to). low) (λ (high : to ≤ k). absurd (let most = below_false (row_at rows k).parent (id + 1) (last.1 k no_row high inside) in omega (arith, most, same))) (cases_lt k to),
   )
 
-  pub enters_all : (marks : List Bool) (folders : List ℕ) (more : List Bool) (further : List ℕ) (at : ℕ) → to ≤ at → Enters rows from at marks folders more further → EntersAll rows id marks folders more further
-  enters_all marks folders more further at end enters = record {
+  pub enters_all : {top : ℕ} (marks : List Bool) (folders : List ℕ) (more : List Bool) (further : List ℕ) (at : ℕ) → to ≤ at → Enters top rows from at marks folders more further → EntersAll top rows id marks folders more further
+  enters_all {top} marks folders more further at end enters = record {
     reaching = enters.reaching;
     grows = enters.grows;
     all = λ k inside same. let where_it_is = between_parent k inside same in enters.all k where_it_is.0 (omega (arith, where_it_is.1, end));
@@ -160,14 +160,14 @@ module _ (rows : List Row) (id from to : ℕ) (inside_from : from ≤ length row
 
 -- ---- the walk
 
-pub walk_starts : (rows : List Row) (marks : List Bool) (folders : List ℕ) → ((k : ℕ) → marked marks k ≡ false) → folders ≡ 2 ∷ [] → IsWalking rows marks folders 0
-walk_starts rows marks folders none only = record {
+pub walk_starts : {top : ℕ} (rows : List Row) (marks : List Bool) (folders : List ℕ) → ((k : ℕ) → marked marks k ≡ false) → folders ≡ top ∷ [] → IsWalking top rows marks folders 0
+walk_starts {top} rows marks folders none only = record {
   reaching = record {
     sound = λ k inside is. absurd (subst T (sym is ∙ none k) tt);
-    below = λ id there. subst (IsBelow rows) (sym (in_one 2 id (subst (λ (l : List ℕ). Contains l id) only there))) is_root;
+    below = λ id there. subst (IsBelow top rows) (sym (in_one top id (subst (λ (l : List ℕ). Contains l id) only there))) is_top;
     next = λ k inside is folder. absurd (subst T (sym is ∙ none k) tt);
   };
-  top = subst (λ (l : List ℕ). Contains l 2) (sym only) (at_front 2 []);
+  first = subst (λ (l : List ℕ). Contains l top) (sym only) (at_front top []);
   done = λ i less. absurd (omega (arith, less));
 }
 
@@ -176,23 +176,23 @@ stays marks folders more further x grows stands =
     let inside : stands.0 < length further = omega (arith, stands.1, grows.long) in
     (stands.0, inside, get_or_default further stands.0 x 0 inside ∙ grows.same stands.0 stands.1 ∙ get_or_default folders stands.0 0 x stands.1 ∙ stands.2)
 
-pub walk_more : (rows : List Row) (marks : List Bool) (folders : List ℕ) (more : List Bool) (further : List ℕ) (at id : ℕ) → at < length folders → id ≡ slice_index folders at
-    → IsWalking rows marks folders at → EntersAll rows id marks folders more further → IsWalking rows more further (at + 1)
-walk_more rows marks folders more further at id inside is walking enters = record {
+pub walk_more : {top : ℕ} (rows : List Row) (marks : List Bool) (folders : List ℕ) (more : List Bool) (further : List ℕ) (at id : ℕ) → at < length folders → id ≡ slice_index folders at
+    → IsWalking top rows marks folders at → EntersAll top rows id marks folders more further → IsWalking top rows more further (at + 1)
+walk_more {top} rows marks folders more further at id inside is walking enters = record {
   reaching = enters.reaching;
-  top = stays marks folders more further 2 enters.grows walking.top;
+  first = stays marks folders more further top enters.grows walking.first;
   done = λ i less k within same. ⊎_elim
       (λ (low : i < at). enters.grows.still k (walking.done i low k within (same ∙ enters.grows.same i (omega (arith, low, inside)))))
       (λ (high : at ≤ i). let here : i ≡ at = omega (arith, less, high) in enters.all k within (same ∙ ap (λ n. slice_index further n) here ∙ enters.grows.same at inside ∙ sym is))
       (cases_lt i at);
 }
 
-pub id_below : (rows : List Row) (marks : List Bool) (folders : List ℕ) (at id : ℕ) → at < length folders → id ≡ slice_index folders at → IsWalking rows marks folders at → IsBelow rows id
-id_below rows marks folders at id inside is walking = walking.reaching.below id (at, inside, get_or_default folders at id 0 inside ∙ sym is)
+pub id_below : {top : ℕ} (rows : List Row) (marks : List Bool) (folders : List ℕ) (at id : ℕ) → at < length folders → id ≡ slice_index folders at → IsWalking top rows marks folders at → IsBelow top rows id
+id_below {top} rows marks folders at id inside is walking = walking.reaching.below id (at, inside, get_or_default folders at id 0 inside ∙ sym is)
 
--- the folders that were reached all were entered, so whatever lies below the root is marked
-pub walk_ends : (rows : List Row) (marks : List Bool) (folders : List ℕ) (at : ℕ) → length folders ≤ at → IsWalking rows marks folders at → Leads rows marks
-walk_ends rows marks folders at end walking = record {
+-- the folders that were reached all were entered, so whatever lies below it is marked
+pub walk_ends : {top : ℕ} (rows : List Row) (marks : List Bool) (folders : List ℕ) (at : ℕ) → length folders ≤ at → IsWalking top rows marks folders at → Leads top rows marks
+walk_ends {top} rows marks folders at end walking = record {
   sound = walking.reaching.sound;
   whole = λ k inside up. all (row_at rows k).parent up k inside refl;
 }
@@ -200,8 +200,8 @@ walk_ends rows marks folders at end walking = record {
     entered : (id : ℕ) → Contains folders id → (k : ℕ) → k < length rows → (row_at rows k).parent ≡ id → marked marks k ≡ true
     entered id stands k inside same = walking.done stands.0 (omega (arith, stands.1, end)) k inside (same ∙ sym stands.2 ∙ get_or_default folders stands.0 id 0 stands.1)
 
-    all : (id : ℕ) → IsBelow rows id → (k : ℕ) → k < length rows → (row_at rows k).parent ≡ id → marked marks k ≡ true
-    all _ is_root k inside same = entered 2 walking.top k inside same
+    all : (id : ℕ) → IsBelow top rows id → (k : ℕ) → k < length rows → (row_at rows k).parent ≡ id → marked marks k ≡ true
+    all _ is_top k inside same = entered top walking.first k inside same
     all _ (under id row stands folder own up) k inside same =
         let is : row_at rows stands.0 ≡ row = get_or_default rows stands.0 no_row row stands.1 ∙ stands.2 in
         let seen : marked marks stands.0 ≡ true = all row.parent up stands.0 stands.1 (ap (λ (r : Row). r.parent) is) in
@@ -215,14 +215,14 @@ marks_few marks = count_by-le-length (λ flag. flag) marks
 abbrev parent_in : Row → ℕ
 parent_in row = row.parent
 
-pub lies_in : (entries : List Placed) (id : ℕ) → IsBelow (rows_of entries) id → LiesIn entries 2 id
-lies_in entries _ is_root = is_it
-lies_in entries _ (under id row stands folder own up) =
+pub lies_in : {top : ℕ} (entries : List Placed) (id : ℕ) → IsBelow top (rows_of entries) id → LiesIn entries top id
+lies_in entries _ is_top = is_it
+lies_in {top} entries _ (under id row stands folder own up) =
     let from = map_cases row_of entries row stands in
-    below id from.0 from.1 (sym (ap (λ (r : Row). r.folder) from.2) ∙ folder) (sym (ap (λ (r : Row). r.id) from.2) ∙ own) (subst (LiesIn entries 2) (ap parent_in from.2) (lies_in entries row.parent up))
+    below id from.0 from.1 (sym (ap (λ (r : Row). r.folder) from.2) ∙ folder) (sym (ap (λ (r : Row). r.id) from.2) ∙ own) (subst (LiesIn entries top) (ap parent_in from.2) (lies_in entries row.parent up))
 
-pub is_below : (entries : List Placed) (id : ℕ) → LiesIn entries 2 id → IsBelow (rows_of entries) id
-is_below entries _ is_it = is_root
+pub is_below : {top : ℕ} (entries : List Placed) (id : ℕ) → LiesIn entries top id → IsBelow top (rows_of entries) id
+is_below entries _ is_it = is_top
 is_below entries _ (below id folder stands is_a own up) = under id (row_of folder) (map_stands row_of entries folder stands) is_a own (is_below entries folder.parent up)
 
 root_parts : (a b c : Bool) → (a && (b && c)) ≡ true → (a ≡ true) × (b ≡ true) × (c ≡ true)
@@ -258,7 +258,7 @@ any_at p (row ∷ rows) is = ⊎_elim
     (λ (later : list_any p rows ≡ true). let at = any_at p rows later in (suc at.0, omega (arith, at.1), at.2))
     (either_true (p row) (list_any p rows) is)
 
-module _ (entries : List Placed) (marks : List Bool) (leads : Leads (rows_of entries) marks) where
+module _ (entries : List Placed) (marks : List Bool) (leads : Leads 2 (rows_of entries) marks) where
   entry_at : (k : ℕ) → k < length (rows_of entries) → (placed : Placed) × Contains entries placed × (row_at (rows_of entries) k ≡ row_of placed)
   entry_at k inside = map_cases row_of entries (row_at (rows_of entries) k) (row_stands (rows_of entries) k inside)
 
@@ -274,7 +274,7 @@ module _ (entries : List Placed) (marks : List Bool) (leads : Leads (rows_of ent
         let is : row_at (rows_of entries) row.0 ≡ row_of p = get_or_default (rows_of entries) row.0 no_row (row_of p) row.1 ∙ row.2 in
         ⊎_elim
         (λ (yes : is_root_row (row_at (rows_of entries) row.0) ≡ true). inl (root_is p (ap is_root_row (sym is) ∙ yes)))
-        (λ (seen : marked marks row.0 ≡ true). inr (lies_in entries p.parent (subst (IsBelow (rows_of entries)) (ap parent_in is) (leads.sound row.0 row.1 seen))))
+        (λ (seen : marked marks row.0 ≡ true). inr (lies_in entries p.parent (subst (IsBelow 2 (rows_of entries)) (ap parent_in is) (leads.sound row.0 row.1 seen))))
         (either_true (is_root_row (row_at (rows_of entries) row.0)) (marked marks row.0) (reached row.0 row.1)));
   }
 
@@ -289,7 +289,7 @@ module _ (entries : List Placed) (marks : List Bool) (leads : Leads (rows_of ent
       ⊎_elim
       (λ (root : IsRoot from.0). or_left (is_root_row (row_at (rows_of entries) k)) (marked marks k) (ap is_root_row from.2 ∙ is_the_root from.0 root))
       (λ (up : LiesIn entries 2 from.0.parent). or_right (is_root_row (row_at (rows_of entries) k)) (marked marks k)
-      (leads.whole k inside (subst (IsBelow (rows_of entries)) (sym (ap parent_in from.2)) (is_below entries from.0.parent up))))
+      (leads.whole k inside (subst (IsBelow 2 (rows_of entries)) (sym (ap parent_in from.2)) (is_below entries from.0.parent up))))
       (each_of (λ (p : Placed). IsRoot p ⊎ LiesIn entries 2 p.parent) entries are.each from.0 from.1)
 
   -- where a row isn't reached, the rule fails at its entry
@@ -302,7 +302,7 @@ module _ (entries : List Placed) (marks : List Bool) (leads : Leads (rows_of ent
         sym (ap (λ (r : Row). r.id) from.2) ∙ fails.2,
         (λ root. subst T (sym (or_left (is_root_row (row_at (rows_of entries) fails.0)) (marked marks fails.0) (ap is_root_row from.2 ∙ is_the_root from.0 root)) ∙ fails.3) tt),
         (λ up. subst T (sym (or_right (is_root_row (row_at (rows_of entries) fails.0)) (marked marks fails.0)
-            (leads.whole fails.0 fails.1 (subst (IsBelow (rows_of entries)) (sym (ap parent_in from.2)) (is_below entries from.0.parent up)))) ∙ fails.3) tt),
+            (leads.whole fails.0 fails.1 (subst (IsBelow 2 (rows_of entries)) (sym (ap parent_in from.2)) (is_below entries from.0.parent up)))) ∙ fails.3) tt),
       )
 
 -- where no row is the root's, the rule fails at the root's id
@@ -356,18 +356,18 @@ root_adds rows entries first new are here f stands = ⊎_elim
     inr (fails.0, fails.1, fails.2, root_fails entries f.place fails.3.0 (ap (list_any is_root_row) (sym are) ∙ fails.3.1)))
     (here f stands)
 
-pub rows_add : (rows : List Row) (entries : List Placed) (marks : List Bool) (first mid new : List Finding) → rows ≡ rows_of entries → Leads rows marks → FoundMore first mid (FailsParent entries)
+pub rows_add : (rows : List Row) (entries : List Placed) (marks : List Bool) (first mid new : List Finding) → rows ≡ rows_of entries → Leads 2 rows marks → FoundMore first mid (FailsParent entries)
     → FoundMore mid new (FailsReach rows marks) → FoundMore first new (FailsParent entries)
 rows_add rows entries marks first mid new are leads before here f stands = ⊎_elim
     (λ (earlier : Contains mid f). before f earlier)
     (λ (fails : IsFailed 10 (as_found f) (FailsReach rows marks)).
-    inr (fails.0, fails.1, fails.2, row_fails entries marks (subst (λ (l : List Row). Leads l marks) are leads) f.place (subst (λ (l : List Row). FailsReach l marks f.place) are fails.3)))
+    inr (fails.0, fails.1, fails.2, row_fails entries marks (subst (λ (l : List Row). Leads 2 l marks) are leads) f.place (subst (λ (l : List Row). FailsReach l marks f.place) are fails.3)))
     (here f stands)
 
-pub parents_tell : (rows : List Row) (entries : List Placed) (marks : List Bool) (reached root both : Bool) → rows ≡ rows_of entries → Leads rows marks → both ≡ (reached && root) → root ≡ list_any is_root_row rows
+pub parents_tell : (rows : List Row) (entries : List Placed) (marks : List Bool) (reached root both : Bool) → rows ≡ rows_of entries → Leads 2 rows marks → both ≡ (reached && root) → root ≡ list_any is_root_row rows
     → IsTrue reached ↔ AreReached rows marks → IsTrue both ↔ AreRooted entries
 parents_tell rows entries marks reached root both are leads is root_is_there tells =
-    let own : Leads (rows_of entries) marks = subst (λ (l : List Row). Leads l marks) are leads in
+    let own : Leads 2 (rows_of entries) marks = subst (λ (l : List Row). Leads 2 l marks) are leads in
     let there : root ≡ list_any is_root_row (rows_of entries) = root_is_there ∙ ap (list_any is_root_row) are in
     let each : IsTrue reached ↔ AreReached (rows_of entries) marks = subst (λ (l : List Row). IsTrue reached ↔ AreReached l marks) are tells in (
       λ holds. (let parts = both_true reached root (sym is ∙ holds) in rooted entries marks own (sym there ∙ parts.1) (each.0 parts.0)),

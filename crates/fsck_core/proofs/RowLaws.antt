@@ -42,7 +42,7 @@ counted_between rows id from to inside_from inside_to first last =
     sym (range_length (λ (r : Row). r.parent == id) rows from to stretch) ∙ count_passing (λ (r : Row). r.parent == id) rows
   where
     none : Row
-    none = record { parent = 0; id = 0; valence = 0; special = 0; folder = false; file = false; link = false }
+    none = record { parent = 0; id = 0; valence = 0; special = 0; folder = false; file = false; link = false; bare = false }
 
     order : from ≤ to
     order = ⊎_elim

@@ -10,3 +10,8 @@ pub mod Behind
 pub mod Owners
 pub mod Files
 pub mod Owned
+pub mod Decided
+pub mod Names
+pub mod Links
+pub mod Catalogs
+pub mod AllForks

@@ -1,10 +1,23 @@
 -- The entries of a catalog, as the rules on counts and ids look at them.
-use Rattle.std.specs.Prelude.{◌==◌, ◌⊎◌, ℕ, false, Bool, List, [], ◌∷◌, map, slice_index_or, count_by, if◌then◌else◌}
+use Rattle.std.specs.Prelude.{◌==◌, ◌&&◌, ◌⊎◌, ℕ, false, Bool, List, [], ◌∷◌, map, slice_index_or, count_by, if◌then◌else◌}
 use Rattle.hfs_volume.specs.Records.{Placed, id_of, valence_in, special_of, is_folder, is_file, is_link}
 use Rattle.hfs_volume.specs.Broken.{Finding, Want, want, id_wanted, IsUnmet, valence_wants, count_wants, id_wants}
 use Rattle.volume_header.specs.declared.header.VolumeHeader.{VolumeHeader}
-use Rattle.std.specs.List.{flat_map}
+use Rattle.std.specs.List.{flat_map, list_all}
+use Rattle.hx_bytes.specs.declared.extents.ForkRecord.{ForkRecord}
+use Rattle.cat_records.specs.declared.record.CatRecord.{CatRecord}
+use Rattle.cat_records.specs.declared.record.CatRecord.TheVariants.{Folder, File, Thread}
 use Rattle.fsck_core.specs.declared.rows.Row.{Row}
+
+-- no extent of a fork's record has a block
+abbrev pub has_no_block : ForkRecord → Bool
+has_no_block fork = list_all (λ extent. extent.count == 0) fork.extents.extents
+
+-- no extent of a file's record has one
+abbrev pub is_bare : CatRecord → Bool
+is_bare (Folder folder) = false
+is_bare (File file) = has_no_block file.data_fork && has_no_block file.resource_fork
+is_bare (Thread thread) = false
 
 -- an entry as a row
 abbrev pub row_of : Placed → Row
@@ -16,6 +29,7 @@ row_of placed = record {
   folder = is_folder placed.value;
   file = is_file placed.value;
   link = is_link placed;
+  bare = is_bare placed.value;
 }
 
 -- entries as rows
@@ -24,7 +38,7 @@ rows_of entries = map row_of entries
 
 -- a row of a list, by its place; past its end it doesn't matter
 abbrev pub no_row : Row
-no_row = record { parent = 0; id = 0; valence = 0; special = 0; folder = false; file = false; link = false }
+no_row = record { parent = 0; id = 0; valence = 0; special = 0; folder = false; file = false; link = false; bare = false }
 
 abbrev pub row_at : List Row → ℕ → Row
 row_at rows k = slice_index_or rows k no_row

@@ -4,13 +4,14 @@ ghost use Rattle.cat_records.specs.Records.{is_catalog};
 ghost use Rattle.hfs_volume.specs.Records.{placed_of, placed_in, entries_of, is_link_type};
 ghost use Rattle.hfs_volume.specs.Entries.{AreSpelled};
 ghost use Rattle.fsck_core.specs.Kinds.{row_in, some_of};
-ghost use Rattle.fsck_core.specs.Rows.{row_of, rows_of};
+ghost use Rattle.fsck_core.specs.Rows.{row_of, rows_of, has_no_block};
 
 use crate::kinds::{has_no_name, parent_of};
 use crate::rows::Row;
+use crate::want::both;
 use cat_records::{CatRecord, EntryFields, read_catalog};
 use fsck_scan::Pairs;
-use hx_bytes::{OutOfMemory, read_be32};
+use hx_bytes::{ForkRecord, OutOfMemory, read_be32};
 use std::alloc::Global;
 
 /// `hlnk`, the type of a file that is a further name of another (TN1150, "Hard Links").
@@ -26,8 +27,15 @@ fn is_link_type(fields: &EntryFields) -> bool
         && read_be32(fields.finder.as_slice(), 4) == LINK_CREATOR
 }
 
+/// Whether no extent of a fork's record has a block.
+fn has_no_block(fork: &ForkRecord) -> bool
+    ensures { result ≡ has_no_block fork.now }
+{
+    fork.extents.extents.iter().all(|extent| extent.count == 0)
+}
+
 /// The row of a record under a parent.
-fn row_of_record(parent: u32, rec: &CatRecord) -> Row
+pub(crate) fn row_of_record(parent: u32, rec: &CatRecord) -> Row
     ensures { result ≡ row_of (record { parent = parent; name = []; value = rec.now }) }
 {
     match rec {
@@ -39,6 +47,7 @@ fn row_of_record(parent: u32, rec: &CatRecord) -> Row
             folder: true,
             file: false,
             link: false,
+            bare: false,
         },
         CatRecord::File(file) => Row {
             parent,
@@ -48,6 +57,10 @@ fn row_of_record(parent: u32, rec: &CatRecord) -> Row
             folder: false,
             file: true,
             link: is_link_type(&file.fields),
+            bare: both(
+                has_no_block(&file.data_fork),
+                has_no_block(&file.resource_fork),
+            ),
         },
         CatRecord::Thread(_) => Row {
             parent,
@@ -57,12 +70,13 @@ fn row_of_record(parent: u32, rec: &CatRecord) -> Row
             folder: false,
             file: false,
             link: false,
+            bare: false,
         },
     }
 }
 
 /// The row of a pair, where its key has a name.
-fn read_row(alloc: Global, key: &[u8], value: &[u8]) -> Result<Option<Row>, OutOfMemory>
+pub(crate) fn read_row(alloc: Global, key: &[u8], value: &[u8]) -> Result<Option<Row>, OutOfMemory>
     requires { IsTrue (is_catalog value.now) }
     ensures { 8 ≤ length key.now → IfOk result (λ row. row ≡ row_in (placed_of (key.now, value.now))) }
 {

@@ -60,8 +60,8 @@ fn enter(
     requires { length marks.old.items ≡ length rows.now }
     ensures long { OnOk result (length marks.new.items ≡ length rows.now) }
     ensures room { OnOk result (HasRoom marks.old.items folders.old.items marks.new.items folders.new.items) }
-    ensures enters { IsNonDecreasingBy (λ row. row.parent) rows.now → IsReaching rows.now marks.old.items folders.old.items → IsBelow rows.now id
-        → OnOk result (EntersAll rows.now id marks.old.items folders.old.items marks.new.items folders.new.items) }
+    ensures enters { (top : ℕ) → IsNonDecreasingBy (λ row. row.parent) rows.now → IsReaching top rows.now marks.old.items folders.old.items → IsBelow top rows.now id
+        → OnOk result (EntersAll top rows.now id marks.old.items folders.old.items marks.new.items folders.new.items) }
 {
     let from = rows_below(rows, id as u64);
     let to = rows_below(rows, id as u64 + 1);
@@ -71,13 +71,13 @@ fn enter(
     Ok(())
 }
 
-/// Which rows the root leads to, found by a walk down from it.
-fn walk_down(alloc: Global, rows: &[Row]) -> Result<Vec<bool>, OutOfMemory>
+/// Which rows a folder leads to, found by a walk down from it.
+pub(crate) fn walk_down(alloc: Global, rows: &[Row], top: u32) -> Result<Vec<bool>, OutOfMemory>
     ensures long { IfOk result (λ marks. length marks.items ≡ length rows.now) }
-    ensures leads { IsNonDecreasingBy (λ row. row.parent) rows.now → IfOk result (λ marks. Leads rows.now marks.items) }
+    ensures leads { IsNonDecreasingBy (λ row. row.parent) rows.now → IfOk result (λ marks. Leads top rows.now marks.items) }
 {
     let mut marks = vec![in alloc; false; rows.len()]?;
-    let mut folders = vec![in alloc; ROOT; 1]?;
+    let mut folders = vec![in alloc; top; 1]?;
     let mut at = 0;
     while at < folders.len() {
         enter(rows, folders[at], &mut marks, &mut folders)?;
@@ -168,7 +168,7 @@ pub fn judge_parents(alloc: Global, rows: &[Row], out: &mut Findings) -> Result<
     ensures each { (entries : List Placed) → rows.now ≡ rows_of entries → IsNonDecreasingBy (λ row. row.parent) rows.now
         → (finding : Listed) → Contains out.new finding → Contains out.old finding ⊎ IsFailed 10 (as_found finding) (FailsParent entries) }
 {
-    let marks = walk_down(alloc, rows)?;
+    let marks = walk_down(alloc, rows, ROOT)?;
     let root = judge_root(rows, out)?;
     let reached = judge_rows(rows, &marks, out)?;
     Ok(both(reached, root))

@@ -17,6 +17,8 @@ pub struct Row {
     pub folder: bool,
     pub file: bool,
     pub link: bool,
+    /// Of a file, whether no extent of its record has a block.
+    pub bare: bool,
 }
 
 /// How many rows stand before the first whose parent isn't below this one.

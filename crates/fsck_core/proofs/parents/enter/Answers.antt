@@ -10,7 +10,7 @@ loop-at-init c = record {
   long = c.requires;
   low = omega arith;
   room = omega arith;
-  enters = λ reaching below parents. enters_none c.args.rows.now c.rows_below-from.result c.args.marks.now.items c.args.folders.now.items reaching;
+  enters = λ top reaching below parents. enters_none c.args.rows.now c.rows_below-from.result c.args.marks.now.items c.args.folders.now.items reaching;
 }
 
 pub loop-at-preserved : goal.loop-at-preserved
@@ -30,12 +30,12 @@ loop-at-preserved c =
       long = long_step rows at marks folders more further inside marks_are folders_are ∙ c.loop-at.invariant.long;
       low = omega (arith, c.loop-at.invariant.low);
       room = omega (arith, c.loop-at.invariant.room, step);
-      enters = λ reaching below parents. enters_more rows c.rows_below-from.result at c.args.marks.now.items c.args.folders.now.items marks folders more further here c.loop-at.invariant.long marks_are folders_are
-          (subst (IsBelow rows) (sym (parents at c.loop-at.invariant.low c.loop-at-test.true)) below) (c.loop-at.invariant.enters reaching below parents);
+      enters = λ top reaching below parents. enters_more rows c.rows_below-from.result at c.args.marks.now.items c.args.folders.now.items marks folders more further here c.loop-at.invariant.long marks_are folders_are
+          (subst (IsBelow top rows) (sym (parents at c.loop-at.invariant.low c.loop-at-test.true)) below) (c.loop-at.invariant.enters top reaching below parents);
     }
 
 pub returns-clause-enters : goal.returns-clause-enters
-returns-clause-enters c rises reaching below =
+returns-clause-enters c top rises reaching below =
     let rows : List Row = c.args.rows.now in
     let from : ℕ = c.rows_below-from.result in
     let to : ℕ = c.rows_below-to.result in
@@ -43,4 +43,4 @@ returns-clause-enters c rises reaching below =
     let last = c.rows_below-to.ensures.point rises in
     enters_all rows c.args.id from to c.rows_below-from.ensures.inside c.rows_below-to.ensures.inside first last c.args.marks.now.items c.args.folders.now.items c.loop-at.marks.items c.loop-at.folders.items c.loop-at.at
     (omega (arith, c.loop-at-test.false))
-    (c.loop-at.invariant.enters reaching below (parent_between rows c.args.id from to c.rows_below-from.ensures.inside c.rows_below-to.ensures.inside first last))
+    (c.loop-at.invariant.enters top reaching below (parent_between rows c.args.id from to c.rows_below-from.ensures.inside c.rows_below-to.ensures.inside first last))

@@ -12,12 +12,12 @@ returns-in_err-reached-clause-still c some = c.judge_rows.ensures.still (c.judge
 
 pub returns-in_err-reached-clause-each : goal.returns-in_err-reached-clause-each
 returns-in_err-reached-clause-each c entries are rises =
-    rows_add c.args.rows.now entries c.deref.result.now c.args.out.now c.judge_root.new.out c.judge_rows.new.out are (subst (Leads c.args.rows.now) (sym c.deref.ensures.value) (c.in_ok-marks.ensures.leads rises))
+    rows_add c.args.rows.now entries c.deref.result.now c.args.out.now c.judge_root.new.out c.judge_rows.new.out are (subst (Leads 2 c.args.rows.now) (sym c.deref.ensures.value) (c.in_ok-marks.ensures.leads rises))
     (root_adds c.args.rows.now entries c.args.out.now c.judge_root.new.out are c.judge_root.ensures.each) c.judge_rows.ensures.each
 
 pub returns-clause-met : goal.returns-clause-met
 returns-clause-met c entries are rises =
-    parents_tell c.args.rows.now entries c.deref.result.now c.in_ok-reached.reached c.in_ok-root.root c.both.result are (subst (Leads c.args.rows.now) (sym c.deref.ensures.value) (c.in_ok-marks.ensures.leads rises)) c.both.ensures c.in_ok-root.ensures.met c.in_ok-reached.ensures.met
+    parents_tell c.args.rows.now entries c.deref.result.now c.in_ok-reached.reached c.in_ok-root.root c.both.result are (subst (Leads 2 c.args.rows.now) (sym c.deref.ensures.value) (c.in_ok-marks.ensures.leads rises)) c.both.ensures c.in_ok-root.ensures.met c.in_ok-reached.ensures.met
 
 pub returns-clause-found : goal.returns-clause-found
 returns-clause-found c =
@@ -28,5 +28,5 @@ returns-clause-still c some = c.judge_rows.ensures.still (c.judge_root.ensures.s
 
 pub returns-clause-each : goal.returns-clause-each
 returns-clause-each c entries are rises =
-    rows_add c.args.rows.now entries c.deref.result.now c.args.out.now c.judge_root.new.out c.judge_rows.new.out are (subst (Leads c.args.rows.now) (sym c.deref.ensures.value) (c.in_ok-marks.ensures.leads rises))
+    rows_add c.args.rows.now entries c.deref.result.now c.args.out.now c.judge_root.new.out c.judge_rows.new.out are (subst (Leads 2 c.args.rows.now) (sym c.deref.ensures.value) (c.in_ok-marks.ensures.leads rises))
     (root_adds c.args.rows.now entries c.args.out.now c.judge_root.new.out are c.judge_root.ensures.each) c.judge_rows.ensures.each

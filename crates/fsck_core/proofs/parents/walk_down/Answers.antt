@@ -9,7 +9,7 @@ use Rattle.fsck_core.proofs.parents.walk_down.Goals as goal
 pub loop-at-init : goal.loop-at-init
 loop-at-init c =
     let marks_are : c.in_ok-marks.marks.items ≡ replicate (length c.args.rows.now) false = c.in_ok-marks.ensures.items_if_clones_equal (λ y same. same) in
-    let folders_are : c.in_ok-folders.folders.items ≡ 2 ∷ [] = c.in_ok-folders.ensures.items_if_clones_equal (λ y same. same) in
+    let folders_are : c.in_ok-folders.folders.items ≡ c.args.top ∷ [] = c.in_ok-folders.ensures.items_if_clones_equal (λ y same. same) in
     record {
       long = ap (λ (l : List Bool). length l) marks_are ∙ length-replicate {A = Bool} (length c.args.rows.now) false;
       room = omega (arith, ap (λ (l : List ℕ). length l) folders_are);
@@ -29,7 +29,7 @@ loop-at-preserved c =
       walks = λ rises.
           let walking = c.loop-at.invariant.walks rises in
           walk_more rows c.loop-at.marks.items folders c.enter.new.marks.items c.enter.new.folders.items at c.index.result.now inside is walking
-          (c.in_ok-enter.ensures.enters rises walking.reaching (id_below rows c.loop-at.marks.items folders at c.index.result.now inside is walking));
+          (c.in_ok-enter.ensures.enters c.args.top rises walking.reaching (id_below rows c.loop-at.marks.items folders at c.index.result.now inside is walking));
     }
 
 pub returns-clause-leads : goal.returns-clause-leads

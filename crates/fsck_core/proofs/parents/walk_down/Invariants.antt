@@ -12,5 +12,5 @@ abbrev pub invariant-loop-at : goal.invariant-loop-at
 invariant-loop-at l = record {
   long : length l.marks.items ≡ length l.rows;
   room : length l.folders.items ≤ count_set l.marks.items + 1;
-  walks : IsNonDecreasingBy (λ (r : Row). r.parent) l.rows → IsWalking l.rows l.marks.items l.folders.items l.at;
+  walks : IsNonDecreasingBy (λ (r : Row). r.parent) l.rows → IsWalking l.top l.rows l.marks.items l.folders.items l.at;
 }
