@@ -21,7 +21,7 @@ use Rattle.hfs_serving.proofs.Agreeing.{agrees_self}
 use Rattle.hfs_serving.proofs.Bridging.{commit_seen, lifted, found_stands}
 use Rattle.hfs_serving.proofs.Recoveries.{recovery_parts}
 
-few_only : (c : Content) (s : ℕ) → length (candidates_of (only c) s) ≤ 1
+pub few_only : (c : Content) (s : ℕ) → length (candidates_of (only c) s) ≤ 1
 few_only [] s = omega arith
 few_only (v ∷ c) zero = omega arith
 few_only (v ∷ c) (suc s) = few_only c s

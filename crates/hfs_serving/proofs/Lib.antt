@@ -24,3 +24,13 @@ pub mod Places
 pub mod Openings
 pub mod Replays
 pub mod Marking
+pub mod Reheading
+pub mod Versions
+pub mod Readied
+pub mod VersionBytes
+pub mod Attached
+pub mod Attachable
+pub mod Served
+pub mod Peeks
+pub mod Judging
+pub mod Replayed

@@ -5,7 +5,7 @@ use Rattle.sector_disk.specs.Space.{Space}
 use Rattle.sector_disk.proofs.Passing.{both_pass, passes_with}
 use Rattle.jnl_format.specs.Recovery.{Content}
 use Rattle.hfs_volume.specs.Reclaim.{Tidies, none, one_more}
-use Rattle.hfs_serving.specs.Beginning.{BeginsRun, IsMarkedMounted}
+use Rattle.hfs_serving.specs.Beginning.{BeginsRun, IsMarkedMounted, MayBegin}
 use Rattle.hfs_serving.specs.Going.{Knowing, Stands, Stays}
 use Rattle.hfs_serving.specs.Outside.{Outside}
 use Rattle.hfs_serving.specs.Runs.{Crashes}
@@ -30,6 +30,9 @@ module _ (capacity : â„•) (knows : Knowing) (start : Content) (shrunk : Option â
   pub mark_put_stops : Crashes capacity shrunk start before [] 0 mid
   mark_put_stops = tidy_stage_crashes capacity shrunk start start before mid same_turn (none start) (place_none start)
 
+  pub put_may : MayBegin start before mid
+  put_may = record { begun = start; marked = inl refl; place = place_none start; may = same_turn }
+
   module _ (knows_mid : Knowing) (marked : IsMarkedMounted knows_mid start start shrunk new) where
     -- it was put, and the volume stands for it
     pub marked_stands : Stands knows_mid start marked.begun shrunk new mid
@@ -48,6 +51,9 @@ module _ (capacity : â„•) (knows : Knowing) (start : Content) (shrunk : Option â
         told = commit.told âˆ™ touches.told;
       }
 
+      pub begun_may : MayBegin start before after
+      begun_may = record { begun = marked.begun; marked = inr marked.marks; place = marked.place; may = begun_turn }
+
       -- a commit of it, whatever ended it
       pub mark_stops : Crashes capacity shrunk start before [] 0 after
       mark_stops = tidy_stage_crashes capacity shrunk start marked.begun before after begun_turn tidies marked.place
@@ -62,6 +68,8 @@ module _ (capacity : â„•) (knows : Knowing) (start : Content) (shrunk : Option â
         record {
           begun = marked.begun;
           marks = marked.marks;
+          place = marked.place;
+          turns = turns;
           serves = tidy_stage_serves capacity shrunk start marked.begun before after turns tidies marked.place;
           stands = record { known = stays.known; below = below; reads = stays.reads; heads = stays.heads; leaves = commits.leaves };
         }

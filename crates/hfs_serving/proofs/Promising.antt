@@ -32,7 +32,7 @@ use Rattle.hfs_serving.proofs.Staging.{mark_stage_crashes}
 use Rattle.hfs_serving.proofs.Stretches.{crashes_both}
 
 -- what a mount finds hangs on the anchor alone
-finds_by : (a b : Plan) → anchor_of a ≡ anchor_of b → found a ≡ found b
+pub finds_by : (a b : Plan) → anchor_of a ≡ anchor_of b → found a ≡ found b
 finds_by a b same = λ i. λ image. found_by a b image (ap (λ x. x.place) same) (ap (λ x. x.info) same) (ap (λ x. x.blhdr) same) i
 
 -- a run over the first of the lines that were taken

@@ -36,7 +36,7 @@ module _ (plan : Plan) (old : Content) (total : ℕ) (fits : FitsPlan total plan
   accepted : header_refusal (header_of_volume old) (length old) ≡ None
   accepted = is.place.accepted
 
-  start_info : info_sector_of (header_of_volume start) ≡ plan.place.info_sector
+  pub start_info : info_sector_of (header_of_volume start) ≡ plan.place.info_sector
   start_info = same_info old start ((recovery_parts old start recovers).header accepted).same ∙ sym is.place.info_sector
 
   -- the journal lies there where the plan has it

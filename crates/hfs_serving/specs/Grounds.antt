@@ -1,5 +1,5 @@
 -- A store with its disk, in service: what a commit rests on, and what stays of it over the calls of a space.
-use Rattle.std.specs.Prelude.{◌≡◌, ℕ, IsTrue}
+use Rattle.std.specs.Prelude.{◌≡◌, ℕ, List, IsTrue}
 use Rattle.sector_disk.specs.Disk.{State}
 use Rattle.sector_disk.specs.Space.{Space}
 use Rattle.jnl_format.specs.Keeping.{KeepsHeader}
@@ -26,10 +26,15 @@ pub record KeepsHeading (space : Space) : Type 0 where
   pub apart : space.closed 2 → ⊥
 
 -- what a mount looks at of a journal's plan: where it lies, and the bytes of a list's header
-pub record Anchor : Type 0 where
+pub record JournalAnchor : Type 0 where
   pub place : Place
   pub info : Info
   pub blhdr : ℕ
 
-abbrev pub anchor_of : Plan → Anchor
+abbrev pub anchor_of : Plan → JournalAnchor
 anchor_of plan = record { place = plan.place; info = plan.info; blhdr = plan.header.blhdr }
+
+-- The same of a ground's journal, and the references that the ground holds, by their ghost names.
+pub record Anchor : Type 0 where
+  pub journal : JournalAnchor
+  pub names : List ℕ

@@ -11,3 +11,6 @@ pub mod Steps
 pub mod Beginning
 pub mod Closing
 pub mod Taking
+pub mod Readying
+pub mod Attaching
+pub mod Checking

@@ -16,7 +16,7 @@ pub trait Ground: SectorSpace {
     /// It is in service, and a transaction holds at most so many sectors.
     ghost serves: { Self → ℕ → Type 0 };
 
-    /// What a mount looks at of its journal. No call changes it.
+    /// What a mount looks at of its journal, and what it holds. No call changes either.
     ghost anchor: { Self → Anchor };
 
     /// How many sectors were put since the last commit.
@@ -48,7 +48,7 @@ pub trait Ground: SectorSpace {
     fn look(&self)
         ensures still { (capacity : ℕ) (first : Self) → Self.follows first self.now → serves first capacity → serves self.now capacity }
         ensures room { (first : Self) → Self.follows first self.now → room self.now ≡ room first }
-        ensures anchor { (first : Self) → Self.follows first self.now → anchor self.now ≡ anchor first }
+        ensures anchor { (first : Self) → Self.follows first self.now → (Self.space self.now).names ≡ (Self.space first).names → anchor self.now ≡ anchor first }
         // A crash leaves what is durable, but in what was spilled and in the journal itself.
         ensures rests { (capacity : ℕ) → serves self.now capacity → IsTrue (Self.space self.now).tells → (recovered : Content) → (outside self.now).leaves recovered → IsAsDurable (Self.space self.now) recovered }
         ensures sees { (capacity : ℕ) (committed : Content) (first : Self) → Self.follows first self.now → serves first capacity → IsTrue (Self.space first).tells → TouchesSpace committed (Self.space first) (Self.space self.now)

@@ -1,22 +1,28 @@
 //! A volume in service: how a run goes on from batch to batch, and what a crash leaves of it.
 #![tactic(auto)]
 
+mod attaching;
 mod basis;
 mod batch;
+mod checking;
 mod ending;
 mod housekeeping;
 mod laws;
 mod opening;
 mod promises;
+mod readying;
 mod replaying;
+mod serving;
 mod space;
 mod starting;
 mod taking;
 mod telling;
 mod volume;
 
+pub use attaching::attach_volume;
 pub use basis::Ground;
 pub use batch::{MOST_LINES, serve_batch, serve_line};
+pub use checking::{Checker, MountRefusal, Verdict, find_image};
 pub use ending::end_run;
 pub use housekeeping::{tidy, work};
 pub use laws::{
@@ -25,7 +31,9 @@ pub use laws::{
 };
 pub use opening::{OpenRefusal, open_image};
 pub use promises::run;
+pub use readying::ready_image;
 pub use replaying::replay_image;
+pub use serving::serve_image;
 pub use starting::begin_run;
 pub use taking::{LONGEST_LINE, serve_source};
 pub use telling::{Stop, Teller, serve_step};

@@ -19,7 +19,7 @@ use sector_disk::SectorDisk;
 use volume_header::{HeaderRefusal, VolumeHeader, read_header};
 
 /// The sector of the volume header.
-const HEADER: u64 = 2;
+pub(crate) const HEADER: u64 = 2;
 
 /// A transaction must hold so many sectors.
 const LEAST_CAPACITY: u64 = 256;

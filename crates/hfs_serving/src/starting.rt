@@ -1,7 +1,7 @@
 //! The begin of a run.
 ghost use Rattle.std.specs.Prelude.{◌≡◌, ◌≤◌, [], ℕ, Option, IsTrue, OnOk};
 ghost use Rattle.jnl_format.specs.Recovery.{Content};
-ghost use Rattle.hfs_serving.specs.Beginning.{BeginsRun};
+ghost use Rattle.hfs_serving.specs.Beginning.{BeginsRun, MayBegin};
 ghost use Rattle.hfs_serving.specs.Going.{Stands};
 ghost use Rattle.hfs_serving.specs.Runs.{Crashes};
 ghost use Rattle.hfs_serving.specs.Steps.{SomeWhole};
@@ -17,6 +17,8 @@ pub fn begin_run<V: Volume, G: Ground>(volume: &mut V, base: &mut G) -> Result<(
     // Whatever ends it, a crash leaves the content as it was, or with the mark.
     ensures crash { IsTrue (G.space base.old).tells → (capacity : ℕ) (start : Content) (shrunk : Option ℕ) → Stands (V.knows volume.old (G.space base.old) capacity) start start shrunk (G.space base.old) (G.outside base.old)
         → Crashes capacity shrunk start (G.outside base.old) [] 0 (G.outside base.new) }
+    ensures may { IsTrue (G.space base.old).tells → (capacity : ℕ) (start : Content) (shrunk : Option ℕ) → Stands (V.knows volume.old (G.space base.old) capacity) start start shrunk (G.space base.old) (G.outside base.old)
+        → MayBegin start (G.outside base.old) (G.outside base.new) }
     // At Ok the mark is committed, and the volume stands for the content with it.
     ensures done { IsTrue (G.space base.old).tells → (capacity : ℕ) (start : Content) (shrunk : Option ℕ) → Stands (V.knows volume.old (G.space base.old) capacity) start start shrunk (G.space base.old) (G.outside base.old)
         → OnOk result (BeginsRun capacity (V.knows volume.new (G.space base.new) capacity) start shrunk (G.outside base.old) (G.space base.new) (G.outside base.new)) }

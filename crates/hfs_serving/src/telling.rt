@@ -53,6 +53,17 @@ impl From<Trouble> for Stop {
     }
 }
 
+impl From<Failed> for Stop {
+    ghost use Rattle.std.specs.Prelude.{◌≡◌};
+    ghost use Rattle.hfs_serving.specs.declared.telling.Stop.TheVariants.{Disk};
+
+    ghost from_gives = { λ _ stop. stop ≡ Disk };
+
+    fn from(_: Failed) -> Self {
+        Stop::Disk
+    }
+}
+
 impl From<OutOfMemory> for Stop {
     ghost use Rattle.std.specs.Prelude.{◌≡◌};
     ghost use Rattle.hfs_serving.specs.declared.telling.Stop.TheVariants.{Memory};

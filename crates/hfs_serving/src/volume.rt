@@ -1,7 +1,8 @@
 //! A volume that is served within batches, as its server sees it.
-ghost use Rattle.std.specs.Prelude.{◌≡◌, ◌≤◌, ℕ, Option, IsTrue, IfOk, OnOk};
+ghost use Rattle.std.specs.Prelude.{◌≡◌, ◌≤◌, ℕ, Option, None, IsTrue, IfOk, OnOk};
 ghost use Rattle.sector_disk.specs.Space.{Space};
 ghost use Rattle.jnl_format.specs.Recovery.{Content};
+ghost use Rattle.hfs_serving.specs.Attaching.{MayAttach, SomeAttach};
 ghost use Rattle.hfs_serving.specs.Beginning.{IsMarkedMounted};
 ghost use Rattle.hfs_serving.specs.Closing.{IsClosed};
 ghost use Rattle.hfs_serving.specs.Going.{SomeStands, Stands, Stays, TidiesTo, AnswersTo};
@@ -10,6 +11,7 @@ ghost use Rattle.hfs_serving.specs.Steps.{IsStill};
 
 use crate::basis::Ground;
 use hx_bytes::{Bytes, Trouble};
+use std::alloc::Global;
 
 /// What a step of housekeeping came to.
 #[derive(Clone, Copy, PartialEq, Eq)]
@@ -32,10 +34,22 @@ pub enum Step {
 }
 
 /// A volume in service. Each call wants room for what it puts in the transaction, and answers `CommitFirst` where there is too little.
-pub trait Volume {
+pub trait Volume: Drop {
     /// What it knows of itself over a space: how many sectors a transaction holds, what was committed last, what it stands for, and the file
     /// that was shrunk last.
     ghost knows: { Self → Space → ℕ → Content → Content → Option ℕ → Type 0 };
+
+    /// The volume that a ground holds, over a journal whose transactions hold so many sectors. It only reads.
+    fn attach<G: Ground>(alloc: Global, base: &mut G, capacity: u64) -> Result<Self, Trouble>
+        requires serves { G.serves base.old capacity × (G.taken base.old ≡ 0) }
+        requires room { capacity ≤ (G.space base.old).spare }
+        requires stands { IsTrue (G.space base.old).tells → SomeAttach (G.space base.old) (G.outside base.old) }
+        ensures touches { IsTrue (G.space base.old).tells → (now : Content) → MayAttach now (G.space base.old) (G.outside base.old) → Touches now (G.space base.old) (G.outside base.old) (G.space base.new) (G.outside base.new) }
+        // No file was shrunk.
+        ensures attached { IsTrue (G.space base.old).tells → (now : Content) → MayAttach now (G.space base.old) (G.outside base.old) → IfOk result (λ volume. Stays (knows volume (G.space base.new) capacity) now now None (G.space base.new)) }
+        ensures still { OnOk result (G.serves base.new capacity × (G.taken base.new ≡ 0)) }
+        ensures tells { (G.space base.new).tells ≡ (G.space base.old).tells }
+        ensures anchor { G.anchor base.new ≡ G.anchor base.old };
 
     /// Makes the next step of housekeeping.
     fn tidy_step<G: Ground>(&mut self, base: &mut G) -> Result<Next, Trouble>

@@ -3,6 +3,7 @@ use Rattle.std.specs.Prelude.{None, IsTrue}
 use Rattle.jnl_store.specs.Seen.{seen}
 use Rattle.jnl_store.specs.Store.{plan_of}
 use Rattle.hfs_volume.specs.Run.{shrunk_in}
+use Rattle.hfs_serving.specs.Grounds.{Anchor}
 use Rattle.hfs_serving.specs.Outside.{outside_of}
 use Rattle.hfs_serving.specs.Taking.{HasTaken}
 use Rattle.hfs_serving.proofs.Promising.{crash_keeps, crash_seen, finish_crashes, finish_ends, has_all, has_none, none_behind}
@@ -36,7 +37,7 @@ returns-in_err-serve_source-clause-promises g c tells capacity start stands soun
     let mid = c.serve_source.new.base in
     let source_new = g.S.Source.stream c.serve_source.new.source in
     let stopped = c.in_err-serve_source.ensures.stops in
-    crash_keeps c.aside_is_free.ensures capacity start plan (plan_of mid.store.now) old (g.R.SectorDisk.state mid.disk.now) stopped.0 knows space c.serve_source.ensures.anchor (g.met.R.SectorDisk.only_now base.disk.now) stands sound may source source_new
+    crash_keeps c.aside_is_free.ensures capacity start plan (plan_of mid.store.now) old (g.R.SectorDisk.state mid.disk.now) stopped.0 knows space (ap (λ (a : Anchor). a.journal) c.serve_source.ensures.anchor) (g.met.R.SectorDisk.only_now base.disk.now) stands sound may source source_new
     (λ told. subst (λ (l : List ℕ). HasTaken l source stopped.0 source_new) c.in_ok-input.ensures (stopped.1 told)) (stopped.2 tells capacity start None stands)
 
 pub end_run-requires-clause-serves : goal.end_run-requires-clause-serves
@@ -71,7 +72,7 @@ returns-in_err-end_run-clause-promises g c tells capacity start stands sound may
     let step = served.2 tells capacity start None stands in
     let tells_mid = subst (λ t. IsTrue t) (sym c.in_ok-serve_source.ensures.tells) tells in
     let takes = λ (told : IsTrue source.tells). subst (λ (l : List ℕ). TakesLines l source served.0 c.serve_source.new.input source_new) c.in_ok-input.ensures (served.1 told).0 in
-    crash_keeps c.aside_is_free.ensures capacity start plan (plan_of end.store.now) old (g.R.SectorDisk.state end.disk.now) served.0 knows space (c.end_run.ensures.anchor ∙ c.serve_source.ensures.anchor) (g.met.R.SectorDisk.only_now base.disk.now) stands sound may source source_new
+    crash_keeps c.aside_is_free.ensures capacity start plan (plan_of end.store.now) old (g.R.SectorDisk.state end.disk.now) served.0 knows space (ap (λ (a : Anchor). a.journal) (c.end_run.ensures.anchor ∙ c.serve_source.ensures.anchor)) (g.met.R.SectorDisk.only_now base.disk.now) stands sound may source source_new
     (λ told. has_all source source_new served.0 c.serve_source.new.input (takes told))
     (finish_crashes capacity start (outside_of plan old) out_mid out_end served.0 (length served.0) knows_mid space_mid step (c.end_run.ensures.crash tells_mid capacity step.now (shrunk_in None step.run) step.stands))
 
@@ -94,7 +95,7 @@ returns-clause-promises g c tells capacity start stands sound may =
     let step = served.2 tells capacity start None stands in
     let tells_mid = subst (λ t. IsTrue t) (sym c.in_ok-serve_source.ensures.tells) tells in
     let takes = λ (told : IsTrue source.tells). subst (λ (l : List ℕ). TakesLines l source served.0 c.serve_source.new.input source_new) c.in_ok-input.ensures (served.1 told).0 in
-    crash_keeps c.aside_is_free.ensures capacity start plan (plan_of end.store.now) old (g.R.SectorDisk.state end.disk.now) served.0 knows space (c.end_run.ensures.anchor ∙ c.serve_source.ensures.anchor) (g.met.R.SectorDisk.only_now base.disk.now) stands sound may source source_new
+    crash_keeps c.aside_is_free.ensures capacity start plan (plan_of end.store.now) old (g.R.SectorDisk.state end.disk.now) served.0 knows space (ap (λ (a : Anchor). a.journal) (c.end_run.ensures.anchor ∙ c.serve_source.ensures.anchor)) (g.met.R.SectorDisk.only_now base.disk.now) stands sound may source source_new
     (λ told. has_all source source_new served.0 c.serve_source.new.input (takes told))
     (finish_crashes capacity start (outside_of plan old) out_mid out_end served.0 (length served.0) knows_mid space_mid step (c.end_run.ensures.crash tells_mid capacity step.now (shrunk_in None step.run) step.stands))
 
@@ -146,7 +147,7 @@ returns-in_err-serve_source-clause-stretch g c =
     let stopped = c.in_err-serve_source.ensures.stops in (
       stopped.0,
       λ told. subst (λ (l : List ℕ). HasTaken l source stopped.0 source_new) c.in_ok-input.ensures (stopped.1 told),
-      λ tells capacity start stands. crash_seen capacity start plan (plan_of mid.store.now) (outside_of plan old) (g.R.SectorDisk.state mid.disk.now) stopped.0 c.serve_source.ensures.anchor (stopped.2 tells capacity start None stands),
+      λ tells capacity start stands. crash_seen capacity start plan (plan_of mid.store.now) (outside_of plan old) (g.R.SectorDisk.state mid.disk.now) stopped.0 (ap (λ (a : Anchor). a.journal) c.serve_source.ensures.anchor) (stopped.2 tells capacity start None stands),
     )
 
 pub returns-in_err-end_run-clause-stretch : goal.returns-in_err-end_run-clause-stretch
@@ -168,7 +169,7 @@ returns-in_err-end_run-clause-stretch g c =
           let knows_mid = g.V.Volume.knows c.serve_source.new.volume space_mid capacity in
           let step = served.2 tells capacity start None stands in
           let tells_mid = subst (λ t. IsTrue t) (sym c.in_ok-serve_source.ensures.tells) tells in
-          crash_seen capacity start plan (plan_of end.store.now) (outside_of plan old) (g.R.SectorDisk.state end.disk.now) served.0 (c.end_run.ensures.anchor ∙ c.serve_source.ensures.anchor)
+          crash_seen capacity start plan (plan_of end.store.now) (outside_of plan old) (g.R.SectorDisk.state end.disk.now) served.0 (ap (λ (a : Anchor). a.journal) (c.end_run.ensures.anchor ∙ c.serve_source.ensures.anchor))
           (finish_crashes capacity start (outside_of plan old) out_mid out_end served.0 (length served.0) knows_mid space_mid step (c.end_run.ensures.crash tells_mid capacity step.now (shrunk_in None step.run) step.stands)),
     )
 
@@ -191,6 +192,15 @@ returns-clause-stretch g c =
           let knows_mid = g.V.Volume.knows c.serve_source.new.volume space_mid capacity in
           let step = served.2 tells capacity start None stands in
           let tells_mid = subst (λ t. IsTrue t) (sym c.in_ok-serve_source.ensures.tells) tells in
-          crash_seen capacity start plan (plan_of end.store.now) (outside_of plan old) (g.R.SectorDisk.state end.disk.now) served.0 (c.end_run.ensures.anchor ∙ c.serve_source.ensures.anchor)
+          crash_seen capacity start plan (plan_of end.store.now) (outside_of plan old) (g.R.SectorDisk.state end.disk.now) served.0 (ap (λ (a : Anchor). a.journal) (c.end_run.ensures.anchor ∙ c.serve_source.ensures.anchor))
           (finish_crashes capacity start (outside_of plan old) out_mid out_end served.0 (length served.0) knows_mid space_mid step (c.end_run.ensures.crash tells_mid capacity step.now (shrunk_in None step.run) step.stands)),
     )
+
+pub returns-in_err-serve_source-clause-names : goal.returns-in_err-serve_source-clause-names
+returns-in_err-serve_source-clause-names g c = ap (λ (a : Anchor). a.names) c.serve_source.ensures.anchor
+
+pub returns-in_err-end_run-clause-names : goal.returns-in_err-end_run-clause-names
+returns-in_err-end_run-clause-names g c = ap (λ (a : Anchor). a.names) (c.end_run.ensures.anchor ∙ c.serve_source.ensures.anchor)
+
+pub returns-clause-names : goal.returns-clause-names
+returns-clause-names g c = ap (λ (a : Anchor). a.names) (c.end_run.ensures.anchor ∙ c.serve_source.ensures.anchor)

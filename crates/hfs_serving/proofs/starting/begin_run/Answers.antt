@@ -1,6 +1,6 @@
 use Rattle.std.proofs.Common.{sym, ◌∙◌, subst, arith}
 use Rattle.std.specs.Prelude.{IsTrue}
-use Rattle.hfs_serving.proofs.Marking.{mark_begins, mark_put_stops, mark_stops, marked_stands}
+use Rattle.hfs_serving.proofs.Marking.{begun_may, mark_begins, mark_put_stops, mark_stops, marked_stands, put_may}
 use Rattle.hfs_serving.proofs.starting.begin_run.Goals as goal
 
 pub mark_mounted-requires-clause-stands : goal.mark_mounted-requires-clause-stands
@@ -53,3 +53,21 @@ returns-clause-done g c tells capacity start shrunk stands =
     let there = marked_stands capacity _ start shrunk _ _ stands new mid touches knows_mid marked in
     mark_begins capacity _ start shrunk _ _ stands new mid touches knows_mid marked _ (g.G.SectorView.space c.commit.new.base) (g.G.Ground.outside c.commit.new.base) (c.in_ok-commit.ensures.done tells_mid)
     (c.in_ok-commit.ensures.knows tells_mid capacity start marked.begun shrunk there)
+
+pub returns-in_err-mark_mounted-clause-may : goal.returns-in_err-mark_mounted-clause-may
+returns-in_err-mark_mounted-clause-may g c tells capacity start shrunk stands =
+    put_may capacity _ start shrunk _ _ stands (g.G.SectorView.space c.mark_mounted.new.base) (g.G.Ground.outside c.mark_mounted.new.base) (c.mark_mounted.ensures.touches tells capacity start start shrunk stands)
+
+pub returns-in_err-commit-clause-may : goal.returns-in_err-commit-clause-may
+returns-in_err-commit-clause-may g c tells capacity start shrunk stands =
+    let new = g.G.SectorView.space c.mark_mounted.new.base in
+    let marked = c.in_ok-mark_mounted.ensures.opened tells capacity start start shrunk stands in
+    begun_may capacity _ start shrunk _ _ stands new (g.G.Ground.outside c.mark_mounted.new.base) (c.mark_mounted.ensures.touches tells capacity start start shrunk stands) (g.V.Volume.knows c.mark_mounted.new.self new capacity) marked (g.G.Ground.outside c.commit.new.base)
+    (c.commit.ensures.crash (subst (λ t. IsTrue t) (sym c.mark_mounted.ensures.tells) tells))
+
+pub returns-clause-may : goal.returns-clause-may
+returns-clause-may g c tells capacity start shrunk stands =
+    let new = g.G.SectorView.space c.mark_mounted.new.base in
+    let marked = c.in_ok-mark_mounted.ensures.opened tells capacity start start shrunk stands in
+    begun_may capacity _ start shrunk _ _ stands new (g.G.Ground.outside c.mark_mounted.new.base) (c.mark_mounted.ensures.touches tells capacity start start shrunk stands) (g.V.Volume.knows c.mark_mounted.new.self new capacity) marked (g.G.Ground.outside c.commit.new.base)
+    (c.commit.ensures.crash (subst (λ t. IsTrue t) (sym c.mark_mounted.ensures.tells) tells))

@@ -1,4 +1,4 @@
-use Rattle.std.proofs.Common.{◌≡◌, ◌≢◌, ℕ, ⊎_elim, ap, length, subst}
+use Rattle.std.proofs.Common.{◌≡◌, ◌≢◌, ◌∷◌, [], ℕ, ⊎_elim, ap, length, subst}
 use Rattle.std.specs.Prelude.{IsTrue}
 use Rattle.std.proofs.lemmas.Bool.{cases_eq}
 use Rattle.jnl_store.specs.Store.{faults_of}
@@ -80,7 +80,11 @@ invariant_of-self g c =
     }
 
 pub returns-in-Ok-clause-anchor : goal.returns-in-Ok-clause-anchor
-returns-in-Ok-clause-anchor g c = same_anchor c.args.self.now.store.now c.commit.new.self c.commit.ensures.journal
+returns-in-Ok-clause-anchor g c =
+    let same = same_anchor c.args.self.now.store.now c.commit.new.self c.commit.ensures.journal in
+    λ i. record { journal = same i; names = c.args.self.now.store.ghost_name ∷ c.args.self.now.disk.ghost_name ∷ [] }
 
 pub returns-in-Err-clause-anchor : goal.returns-in-Err-clause-anchor
-returns-in-Err-clause-anchor g c = same_anchor c.args.self.now.store.now c.commit.new.self c.commit.ensures.journal
+returns-in-Err-clause-anchor g c =
+    let same = same_anchor c.args.self.now.store.now c.commit.new.self c.commit.ensures.journal in
+    λ i. record { journal = same i; names = c.args.self.now.store.ghost_name ∷ c.args.self.now.disk.ghost_name ∷ [] }

@@ -1,4 +1,4 @@
-use Rattle.std.proofs.Common.{ap}
+use Rattle.std.proofs.Common.{ℕ, List, ◌∷◌, [], get_or, ap}
 use Rattle.hfs_serving.specs.Grounds.{anchor_of}
 use Rattle.hfs_serving.proofs.Grounding.{rests_on_disk, seen_outside, serves_still}
 use Rattle.hfs_serving.proofs.space.SpaceGround.look.Goals as goal
@@ -22,4 +22,4 @@ returns-clause-sees g c capacity committed first follows serves tells touches =
     (g.met.R.SectorDisk.well_formed self.disk.now) follows serves tells touches
 
 pub returns-clause-anchor : goal.returns-clause-anchor
-returns-clause-anchor g c first follows = ap anchor_of follows.plan
+returns-clause-anchor g c first follows same = λ i. record { journal = ap anchor_of follows.plan i; names = get_or (same i) 0 0 ∷ get_or (same i) 1 0 ∷ [] }

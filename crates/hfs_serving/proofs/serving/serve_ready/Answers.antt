@@ -1,0 +1,108 @@
+use Rattle.std.proofs.Common.{◌≡◌, ℕ, List, [], get_or, sym, ◌∙◌, ap, length, subst}
+use Rattle.std.specs.Prelude.{IsTrue, None}
+use Rattle.jnl_store.specs.Seen.{seen}
+use Rattle.jnl_store.specs.Store.{plan_of}
+use Rattle.hfs_serving.specs.Grounds.{Anchor}
+use Rattle.hfs_serving.specs.Outside.{outside_of}
+use Rattle.hfs_serving.specs.Steps.{CrashesStep}
+use Rattle.hfs_serving.proofs.Attachable.{capacity_ready, finds_ready, in_service, keeps_on, may_attach, tells_space}
+use Rattle.hfs_serving.proofs.Grounding.{told_disk}
+use Rattle.hfs_serving.proofs.Promising.{has_none}
+use Rattle.hfs_serving.proofs.Served.{begin_stopped, begun_goes_on, nothing_more}
+use Rattle.hfs_serving.proofs.serving.serve_ready.Goals as goal
+
+pub returns-in_err-store-clause-stretch : goal.returns-in_err-store-clause-stretch
+returns-in_err-store-clause-stretch g c = (
+  [],
+  λ told. has_none (g.S.Source.stream c.args.source.now),
+  λ tells capacity most start now first versioned place ready sound turns. nothing_more capacity start now c.args.plan.now (g.R.SectorDisk.state first) (g.R.SectorDisk.state c.args.rig.now) versioned place turns,
+)
+
+pub invariant_of-base : goal.invariant_of-base
+invariant_of-base g c =
+    let disk = c.args.rig.now in
+    let attached = c.in_ok-store.ensures disk c.requires.fits in
+    record {
+      kept = λ none tells. let there = c.requires.ready tells in (keeps_on c.in_ok-store.store c.args.plan.now (g.R.SectorDisk.state disk) attached (g.met.R.SectorDisk.well_formed disk) tells there.0 there.1).1;
+    }
+
+pub attach_volume-requires-clause-serves : goal.attach_volume-requires-clause-serves
+attach_volume-requires-clause-serves g c =
+    let disk = c.args.rig.now in
+    let attached = c.in_ok-store.ensures disk c.requires.fits in
+    (in_service c.in_ok-store.store c.args.plan.now (g.R.SectorDisk.state disk) attached (g.met.R.SectorDisk.well_formed disk) c.requires.ready c.capacity-capacity.result c.capacity-capacity.ensures, ap length attached.nothing)
+
+pub attach_volume-requires-clause-room : goal.attach_volume-requires-clause-room
+attach_volume-requires-clause-room g c = (c.in_ok-store.ensures c.args.rig.now c.requires.fits).room c.capacity-capacity.result c.capacity-capacity.ensures
+
+pub attach_volume-requires-clause-stands : goal.attach_volume-requires-clause-stands
+attach_volume-requires-clause-stands g c tells_space_now =
+    let disk = c.args.rig.now in
+    let d0 = g.R.SectorDisk.state disk in
+    let store = c.in_ok-store.store in
+    let attached = c.in_ok-store.ensures disk c.requires.fits in
+    let tells = told_disk c.store-3-1.given.0 c.base-1.given store d0 tells_space_now in
+    let there = c.requires.ready tells in
+    (there.0, may_attach store c.args.plan.now d0 attached (g.met.R.SectorDisk.well_formed disk) tells there.0 there.1 c.aside_is_free.ensures there.2 c.store-3-1.given.0 c.base-1.given)
+
+pub returns-in_err-volume-clause-stretch : goal.returns-in_err-volume-clause-stretch
+returns-in_err-volume-clause-stretch g c =
+    let disk = c.args.rig.now in
+    let d0 = g.R.SectorDisk.state disk in
+    let plan = c.args.plan.now in
+    let store = c.in_ok-store.store in
+    let attached = c.in_ok-store.ensures disk c.requires.fits in
+    let base = c.attach_volume.new.base in
+    let names = ap (λ (a : Anchor). a.names) c.attach_volume.ensures.anchor in
+    let rig_is = c.in_err-volume.rig-1-own.given.1 (sym (ap (λ (l : List ℕ). get_or l 1 0) names)) in (
+      [],
+      λ told. has_none (g.S.Source.stream c.args.source.now),
+      λ tells capacity most start now first versioned place ready sound turns.
+          let is = g.met.R.SectorDisk.well_formed disk in
+          let may = may_attach store plan d0 attached is tells now ready c.aside_is_free.ensures sound c.store-3-1.given.0 c.base-1.given in
+          let space_tells = tells_space store plan d0 attached is tells now ready c.store-3-1.given.0 c.base-1.given in
+          subst (λ (r : g.row.R.Denot). CrashesStep capacity start None (outside_of plan (g.R.SectorDisk.state first)) [] (outside_of plan (g.R.SectorDisk.state r))) (sym rig_is)
+          (begin_stopped capacity start now plan (g.R.SectorDisk.state first) d0 versioned place turns (plan_of store) (plan_of base.store.now) (finds_ready store plan d0 attached) (ap (λ (a : Anchor). a.journal) c.attach_volume.ensures.anchor) (g.R.SectorDisk.state base.disk.now)
+          (c.attach_volume.ensures.may space_tells now may)),
+    )
+
+pub run-requires-clause-stands : goal.run-requires-clause-stands
+run-requires-clause-stands g c tells_mid =
+    let disk = c.args.rig.now in
+    let d0 = g.R.SectorDisk.state disk in
+    let store = c.in_ok-store.store in
+    let attached = c.in_ok-store.ensures disk c.requires.fits in
+    let space_tells = subst (λ t. IsTrue t) c.in_ok-volume.ensures.tells tells_mid in
+    let tells = told_disk c.store-3-1.given.0 c.base-1.given store d0 space_tells in
+    let there = c.requires.ready tells in
+    let may = may_attach store c.args.plan.now d0 attached (g.met.R.SectorDisk.well_formed disk) tells there.0 there.1 c.aside_is_free.ensures there.2 c.store-3-1.given.0 c.base-1.given in
+    let begins = c.in_ok-volume.ensures.begins space_tells there.0 may in
+    (c.capacity-capacity.result, begins.begun, None, begins.stands)
+
+pub returns-clause-stretch : goal.returns-clause-stretch
+returns-clause-stretch g c =
+    let disk = c.args.rig.now in
+    let d0 = g.R.SectorDisk.state disk in
+    let plan = c.args.plan.now in
+    let store = c.in_ok-store.store in
+    let attached = c.in_ok-store.ensures disk c.requires.fits in
+    let base = c.attach_volume.new.base in
+    let last = c.run.new.base in
+    let names = c.run.ensures.names ∙ ap (λ (a : Anchor). a.names) c.attach_volume.ensures.anchor in
+    let rig_is = c.rig-2-1.given.1 (sym (ap (λ (l : List ℕ). get_or l 1 0) names)) in
+    let stretch = c.run.ensures.stretch in (
+      stretch.0,
+      stretch.1,
+      λ tells capacity most start now first versioned place ready sound turns.
+          let is = g.met.R.SectorDisk.well_formed disk in
+          let mine = c.capacity-capacity.result in
+          let may = may_attach store plan d0 attached is tells now ready c.aside_is_free.ensures sound c.store-3-1.given.0 c.base-1.given in
+          let space_tells = tells_space store plan d0 attached is tells now ready c.store-3-1.given.0 c.base-1.given in
+          let begins = c.in_ok-volume.ensures.begins space_tells now may in
+          let base_tells = subst (λ t. IsTrue t) (sym c.in_ok-volume.ensures.tells) space_tells in
+          let space = seen g.R.SectorDisk.state base in
+          subst (λ (r : g.row.R.Denot). CrashesStep capacity start None (outside_of plan (g.R.SectorDisk.state first)) stretch.0 (outside_of plan (g.R.SectorDisk.state r))) (sym rig_is)
+          (subst (λ n. CrashesStep n start None (outside_of plan (g.R.SectorDisk.state first)) stretch.0 (outside_of plan (g.R.SectorDisk.state last.disk.now))) (capacity_ready store plan d0 attached capacity mine most c.capacity-capacity.ensures)
+          (begun_goes_on mine start now plan (g.R.SectorDisk.state first) d0 versioned place turns (plan_of store) (plan_of base.store.now) (finds_ready store plan d0 attached) (ap (λ (a : Anchor). a.journal) c.attach_volume.ensures.anchor)
+          (g.R.SectorDisk.state base.disk.now) (g.R.SectorDisk.state last.disk.now) stretch.0 (g.V.Volume.knows c.in_ok-volume.volume space mine) space begins (stretch.2 base_tells mine begins.begun begins.stands))),
+    )

@@ -1,0 +1,119 @@
+//! An image served: it is found, made ready, attached to, and its source's lines are served to their end.
+ghost use Rattle.std.specs.Prelude.{◌≡◌, [], ℕ, List, None, IsTrue, IfOk, IfErr, OnOk};
+ghost use Rattle.sector_disk.specs.Disk.{HasNothingPending, OnlyReads, content};
+ghost use Rattle.jnl_format.specs.Recovery.{Content, replayed};
+ghost use Rattle.jnl_replay.specs.Plan.{FitsPlan, journal_of};
+ghost use Rattle.jnl_store.specs.Plan.{IsCapacityOf};
+ghost use Rattle.hfs_volume.specs.Mount.{Mounts};
+ghost use Rattle.hfs_volume.specs.Sound.{IsSound};
+ghost use Rattle.line_source.specs.Input.{SameSource};
+ghost use Rattle.hfs_serving.specs.Attaching.{IsAttached};
+ghost use Rattle.hfs_serving.specs.Checking.{IsFound, RefusesMount};
+ghost use Rattle.hfs_serving.specs.Outside.{outside_of};
+ghost use Rattle.hfs_serving.specs.Readying.{IsReady, IsVersioned};
+ghost use Rattle.hfs_serving.specs.Runs.{KeepsPlace};
+ghost use Rattle.hfs_serving.specs.Stages.{Turns};
+ghost use Rattle.hfs_serving.specs.Steps.{CrashesStep, KeepsRun};
+ghost use Rattle.hfs_serving.specs.Taking.{HasTaken};
+
+use crate::attaching::attach_volume;
+use crate::checking::{Checker, MountRefusal, find_image};
+use crate::promises::run;
+use crate::readying::ready_image;
+use crate::telling::Stop;
+use crate::volume::Volume;
+use hfs_volume::aside_is_free;
+use hx_bytes::OutOfMemory;
+use jnl_replay::Plan;
+use jnl_store::{Space, Store};
+use sector_disk::{Rig, SectorDisk, Source};
+use std::alloc::Global;
+
+/// Mounts an image and serves the lines of a source to its end, with so many slots for sectors of the content in memory. A refusal comes exactly
+/// where one stands, and then nothing is written and no line is taken.
+pub fn serve_image<V: Volume, C: Checker, R: Rig, S: Source>(
+    alloc: Global,
+    checker: &mut C,
+    cache: u32,
+    rig: &mut R,
+    source: &mut S,
+) -> Result<Result<(), MountRefusal>, Stop>
+    // Each image that a crash leaves mounts to the tree after some of the lines, and each line whose reply was told is among them, whatever ended
+    // the run, from what the image stood for.
+    ensures promises { IsTrue (R.state rig.old).tells → HasNothingPending (R.state rig.old) → (capacity : ℕ) (start : Content) → Mounts (content (R.state rig.old)) capacity start
+        → KeepsRun capacity start (R.state rig.old) (S.stream source.old) (R.state rig.new) (S.stream source.new) }
+    // A refusal is the first that stands, so an image that can be mounted has none.
+    ensures refused { IsTrue (R.state rig.old).tells → IfOk result (λ answer. IfErr answer (RefusesMount (content (R.state rig.old)) (C.findings checker.new))) }
+    ensures served { IsTrue (R.state rig.old).tells → IfOk result (λ answer. OnOk answer ((capacity : ℕ) × (start : Content) × Mounts (content (R.state rig.old)) capacity start)) }
+    ensures unwritten { IfOk result (λ answer. IfErr answer (λ _. OnlyReads (R.state rig.old) (R.state rig.new))) }
+    ensures end { IsTrue (S.stream source.old).tells → IfOk result (λ answer. OnOk answer ((S.stream source.new).left ≡ [])) }
+    ensures same_source { SameSource (S.stream source.old) (S.stream source.new) }
+{
+    match find_image(alloc, checker, rig)? {
+        Ok(plan) => {
+            serve_found::<V, R, S>(alloc, plan, cache, rig, source)?;
+            Ok(Ok(()))
+        }
+        Err(why) => Ok(Err(why)),
+    }
+}
+
+// Serves an image that was found.
+fn serve_found<V: Volume, R: Rig, S: Source>(
+    alloc: Global,
+    plan: Plan,
+    cache: u32,
+    rig: &mut R,
+    source: &mut S,
+) -> Result<(), Stop>
+    requires fits { FitsPlan (R.state rig.old).sectors plan }
+    requires found { IsTrue (R.state rig.old).tells → IsFound (content (R.state rig.old)) plan }
+    // Its promises begin at any moment since which the rig was only read.
+    ensures promises { IsTrue (R.state rig.old).tells → HasNothingPending (R.state rig.old) → (capacity : ℕ) → IsCapacityOf plan capacity → (first : R) → OnlyReads (R.state first) (R.state rig.old)
+        → KeepsRun capacity (replayed (journal_of plan) (content (R.state rig.old))) (R.state first) (S.stream source.old) (R.state rig.new) (S.stream source.new) }
+    ensures end { IsTrue (S.stream source.old).tells → OnOk result ((S.stream source.new).left ≡ []) }
+    ensures same_source { SameSource (S.stream source.old) (S.stream source.new) }
+{
+    aside_is_free();
+    let ready = ready_image(rig, &plan)?;
+    serve_ready::<V, R, S>(alloc, &ready, cache, rig, source)
+}
+
+// Serves an image that is ready for a store.
+fn serve_ready<V: Volume, R: Rig, S: Source>(
+    alloc: Global,
+    plan: &Plan,
+    cache: u32,
+    rig: &mut R,
+    source: &mut S,
+) -> Result<(), Stop>
+    requires fits { FitsPlan (R.state rig.old).sectors plan.now }
+    requires ready { IsTrue (R.state rig.old).tells → (now : Content) × IsReady plan.now now (R.state rig.old) × IsSound now }
+    // A stretch from what it stood for before it was made ready.
+    ensures stretch { (texts : List (List ℕ)) × (IsTrue (S.stream source.old).tells → HasTaken [] (S.stream source.old) texts (S.stream source.new))
+        × (IsTrue (R.state rig.old).tells → (capacity : ℕ) → IsCapacityOf plan.now capacity → (start now : Content) (first : R) → IsVersioned start now → KeepsPlace start now → IsReady plan.now now (R.state rig.old) → IsSound now
+        → Turns start now (outside_of plan.now (R.state first)) (outside_of plan.now (R.state rig.old)) → CrashesStep capacity start None (outside_of plan.now (R.state first)) texts (outside_of plan.now (R.state rig.new))) }
+    ensures end { IsTrue (S.stream source.old).tells → OnOk result ((S.stream source.new).left ≡ []) }
+    ensures same_source { SameSource (S.stream source.old) (S.stream source.new) }
+{
+    aside_is_free();
+    let mut store = attach_store::<R>(alloc, plan, cache)?;
+    let capacity = store.capacity();
+    let mut base = Space {
+        store: &mut store,
+        disk: rig,
+    };
+    let mut volume = attach_volume::<V, Space<'_, '_, R>>(alloc, &mut base, capacity)?;
+    run(alloc, &mut volume, &mut base, source)
+}
+
+// The store of a disk that is ready with this plan, with the memory for one transaction.
+fn attach_store<D: SectorDisk>(alloc: Global, plan: &Plan, cache: u32) -> Result<Store, OutOfMemory>
+    requires fits { (sectors : ℕ) × FitsPlan sectors plan.now }
+    ensures { (disk : D) → FitsPlan (D.state disk).sectors plan.now → IfOk result (λ store. IsAttached store plan.now (D.state disk)) }
+{
+    let mut store = Store::attach(alloc, plan, cache)?;
+    let capacity = store.capacity();
+    store.begin(alloc, capacity)?;
+    Ok(store)
+}
