@@ -1,4 +1,4 @@
--- The bytes of files stay where no sector but the header's and the catalog's is another.
+-- The bytes of files stay where no sector but the header's, the catalog's and the attributes file's is another.
 use Rattle.std.proofs.Common.{◌≡◌, ◌≢◌, ◌⊎◌, ◌<◌, ◌≤◌, ℕ, ◌-◌, ◌*◌, ◌/◌, List, ◌++◌, take, map, refl, sym, ◌∙◌, ap, subst, arith, inl, inr}
 use Rattle.std.specs.Prelude.{Contains}
 use Rattle.std.specs.List.{range_with_len}
@@ -12,7 +12,7 @@ use Rattle.cat_records.specs.declared.record.CatRecord.TheVariants.{File}
 use Rattle.hfs_volume.specs.Blocks.{forks_of}
 use Rattle.hfs_volume.specs.Content.{VolumeState, volume_of, records_of, overflow_in_volume, block_bytes}
 use Rattle.hfs_volume.specs.Entries.{IsUserId}
-use Rattle.hfs_volume.specs.Forks.{Owned, per_block_of, parts_for, data_kind, catalog_id, extents_of, blocks_owned, reserved_blocks}
+use Rattle.hfs_volume.specs.Forks.{Owned, per_block_of, parts_for, data_kind, catalog_id, attributes_id, extents_of, blocks_owned, reserved_blocks}
 use Rattle.hfs_volume.specs.Records.{Placed, entries_of, overflow_of, id_of, id_in}
 use Rattle.hfs_volume.specs.Sound.{IsSoundVolume}
 use Rattle.hfs_volume.specs.TreeOf.{tree_in, file_bytes}
@@ -34,6 +34,10 @@ pub record ReadsAs (content : Content) (lists : VolumeState) : Type 0 where
 abbrev pub catalog_sectors : VolumeState → List ℕ
 catalog_sectors lists = sectors_of (per_block_of lists.head) (blocks_of (extents_of (overflow_in_volume lists) catalog_id data_kind lists.head.catalog_fork))
 
+-- and those of the attributes file
+abbrev pub attributes_sectors : VolumeState → List ℕ
+attributes_sectors lists = sectors_of (per_block_of lists.head) (blocks_of (extents_of (overflow_in_volume lists) attributes_id data_kind lists.head.attributes_fork))
+
 module _ (lists : VolumeState) (sound : IsSoundVolume lists) where
   whole : HasWholeBlocks lists.sectors lists.head
   whole = whole_blocks lists.sectors lists.head sound.blocks.header.accepted
@@ -43,6 +47,9 @@ module _ (lists : VolumeState) (sound : IsSoundVolume lists) where
 
   abbrev catalog_owned : Owned
   catalog_owned = record { id = catalog_id; kind = data_kind; fork = lists.head.catalog_fork }
+
+  abbrev attributes_owned : Owned
+  attributes_owned = record { id = attributes_id; kind = data_kind; fork = lists.head.attributes_fork }
 
   abbrev blocks_by : Owned → List ℕ
   blocks_by owned = blocks_owned (overflow_in_volume lists) owned
@@ -65,19 +72,26 @@ module _ (lists : VolumeState) (sound : IsSoundVolume lists) where
     user_id : IsUserId lists.head.next_catalog_id file.fields.id
     user_id = subst (λ id. IsUserId lists.head.next_catalog_id id) (ap id_in is) (each_of (λ (q : Placed). IsUserId lists.head.next_catalog_id (id_of q)) (entries_of (records_of lists)) sound.entries.ids.each p stands)
 
-    not_catalog : catalog_owned ≢ data_fork_of file
-    not_catalog same = by user_id
+    -- it is no special file's
+    not_special : (owned : Owned) → owned.id ≢ 2 → owned.id < 16 → owned ≢ data_fork_of file
+    not_special owned differs low same = by user_id
       where
         by : IsUserId lists.head.next_catalog_id file.fields.id → ⊥
-        by (inl two) = omega (arith, two, ap (λ (o : Owned). o.id) same)
-        by (inr user) = omega (arith, user.0, ap (λ (o : Owned). o.id) same)
+        by (inl two) = differs (ap (λ (o : Owned). o.id) same ∙ two)
+        by (inr user) = omega (arith, user.0, low, ap (λ (o : Owned). o.id) same)
 
     not_2 : (at : ℕ) → Contains file_sectors at → at ≢ 2
     not_2 at has two = no_header (data_fork_of file) (λ kept_back inside. not_reserved lists sound.blocks.forks (data_fork_of file) (2 / per) kept_back fork_there inside) (subst (λ n. Contains file_sectors n) two has)
 
+    not_in : (owned : Owned) → Contains (forks_of lists) owned → owned ≢ data_fork_of file → (at : ℕ) → Contains file_sectors at → Contains (sectors_of per (blocks_by owned)) at → ⊥
+    not_in owned stands_too differs at has there = not_in_both lists sound.blocks.forks owned (data_fork_of file) (at / per) stands_too fork_there differs
+        (in_block per (blocks_by owned) at whole.some there) (in_block per (blocks_by (data_fork_of file)) at whole.some has)
+
     not_in_catalog : (at : ℕ) → Contains file_sectors at → Contains (catalog_sectors lists) at → ⊥
-    not_in_catalog at has there = not_in_both lists sound.blocks.forks catalog_owned (data_fork_of file) (at / per) (special_stands lists catalog_owned (1, omega arith, refl)) fork_there not_catalog
-        (in_block per (blocks_by catalog_owned) at whole.some there) (in_block per (blocks_by (data_fork_of file)) at whole.some has)
+    not_in_catalog at has there = not_in catalog_owned (special_stands lists catalog_owned (1, omega arith, refl)) (not_special catalog_owned (λ two. absurd (omega (arith, two))) (omega arith)) at has there
+
+    not_in_attributes : (at : ℕ) → Contains file_sectors at → Contains (attributes_sectors lists) at → ⊥
+    not_in_attributes at has there = not_in attributes_owned (special_stands lists attributes_owned (4, omega arith, refl)) (not_special attributes_owned (λ two. absurd (omega (arith, two))) (omega arith)) at has there
 
     -- the bytes by the lists
     by_lists : (content : Content) → ReadsAs content lists → file_bytes content file ≡ take file.data_fork.logical_size (block_bytes content (lists.head.total_blocks * per) file_sectors)
@@ -85,10 +99,10 @@ module _ (lists : VolumeState) (sound : IsSoundVolume lists) where
     by_lists content reads = λ i. take file.data_fork.logical_size
         (block_bytes content (reads.total i * (reads.block i / 512)) (sectors_of (reads.block i / 512) (blocks_of (extents_of (map overflow_of (reads.overflow i)) file.fields.id data_kind file.data_fork))))
 
-    module _ (a b : Content) (reads_a : ReadsAs a lists) (reads_b : ReadsAs b lists) (agrees : (at : ℕ) → at ≢ 2 → (Contains (catalog_sectors lists) at → ⊥) → sector b at ≡ sector a at) where
+    module _ (a b : Content) (reads_a : ReadsAs a lists) (reads_b : ReadsAs b lists) (agrees : (at : ℕ) → at ≢ 2 → (Contains (catalog_sectors lists) at → ⊥) → (Contains (attributes_sectors lists) at → ⊥) → sector b at ≡ sector a at) where
       bytes_stay : file_bytes b file ≡ file_bytes a file
-      bytes_stay = by_lists b reads_b ∙ ap (λ (l : List ℕ). take file.data_fork.logical_size l) (same_bytes a b (lists.head.total_blocks * per) file_sectors (λ at has. agrees at (not_2 at has) (not_in_catalog at has))) ∙ sym (by_lists a reads_a)
+      bytes_stay = by_lists b reads_b ∙ ap (λ (l : List ℕ). take file.data_fork.logical_size l) (same_bytes a b (lists.head.total_blocks * per) file_sectors (λ at has. agrees at (not_2 at has) (not_in_catalog at has) (not_in_attributes at has))) ∙ sym (by_lists a reads_a)
 
   -- so the tree of the lists is the same by both
-  pub tree_stays : (a b : Content) → ReadsAs a lists → ReadsAs b lists → ((at : ℕ) → at ≢ 2 → (Contains (catalog_sectors lists) at → ⊥) → sector b at ≡ sector a at) → tree_in lists (file_bytes b) ≡ tree_in lists (file_bytes a)
+  pub tree_stays : (a b : Content) → ReadsAs a lists → ReadsAs b lists → ((at : ℕ) → at ≢ 2 → (Contains (catalog_sectors lists) at → ⊥) → (Contains (attributes_sectors lists) at → ⊥) → sector b at ≡ sector a at) → tree_in lists (file_bytes b) ≡ tree_in lists (file_bytes a)
   tree_stays a b reads_a reads_b agrees = same_bytes_same_tree lists (file_bytes b) (file_bytes a) (λ p file stands is. bytes_stay p file stands is a b reads_a reads_b agrees)

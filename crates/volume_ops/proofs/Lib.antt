@@ -1,5 +1,6 @@
 pub mod Added
 pub mod Alike
+pub mod AttributesEdited
 pub mod Begun
 pub mod Bridged
 pub mod Bridging
@@ -25,12 +26,17 @@ pub mod Loads
 pub mod Made
 pub mod MakeRoom
 pub mod Mapped
+pub mod MarkLoads
+pub mod MarkRoom
+pub mod Marked
 pub mod NodeIs
 pub mod NodesRead
 pub mod Numbering
-pub mod Opened
 pub mod OpenFiles
+pub mod Opened
 pub mod Over
+pub mod OwnedChange
+pub mod OwnedTold
 pub mod Paths
 pub mod Placing
 pub mod Recounting
@@ -49,4 +55,6 @@ pub mod Stood
 pub mod Tallies
 pub mod ToNode
 pub mod Touched
+pub mod TreesAfter
+pub mod TreesSettled
 pub mod Walked

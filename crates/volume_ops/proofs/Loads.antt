@@ -23,7 +23,7 @@ load_in other (cost.Load n grow) = n
 load_in other (cost.Refused why) = other
 
 -- a load is the one that was counted
-load_is : (r : Option Refusal) (counted n : ℕ) (grow told : List ℕ) → cost_or r counted grow ≡ cost.Load n told → n ≡ counted
+pub load_is : (r : Option Refusal) (counted n : ℕ) (grow told : List ℕ) → cost_or r counted grow ≡ cost.Load n told → n ≡ counted
 unfolding load_in
 load_is None counted n grow told is = sym (ap (load_in n) is)
 load_is (Some why) counted n grow told is = absurd (let no : cost.Refused why ≡ cost.Load n told = is in cc no)

@@ -1,3 +1,4 @@
+pub mod Attributing
 pub mod Changing
 pub mod Entering
 pub mod Keeping
@@ -16,3 +17,4 @@ pub mod Service
 pub mod Standing
 pub mod Stating
 pub mod Touching
+pub mod Trees

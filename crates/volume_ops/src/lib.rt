@@ -3,8 +3,10 @@
 
 mod attach;
 mod attaching;
+mod attributing;
 mod beginning;
 mod changing;
+mod delattr;
 mod editing;
 mod entries;
 mod extents;
@@ -16,6 +18,7 @@ mod listing;
 mod looking;
 mod making;
 mod mapping;
+mod marking;
 mod names;
 mod new_entries;
 mod nodes;
@@ -25,11 +28,13 @@ mod reaching;
 mod reading;
 mod replacing;
 mod room;
+mod setattr;
 mod setting;
 mod sites;
 mod stating;
 mod telling;
 mod touching;
+mod valuing;
 mod volume;
 
 pub use volume::Volume;

@@ -103,7 +103,7 @@ fn owner<P: SectorSpace>(
 }
 
 /// The names of the attributes of a folder or file, in their order.
-fn list_owned<P: SectorSpace>(
+pub(crate) fn list_owned<P: SectorSpace>(
     alloc: Global,
     tree: &mut TreeFile,
     desk: &mut Desk,
@@ -155,7 +155,7 @@ fn tell_owned<P: SectorSpace>(
 }
 
 /// The value of an attribute of a folder or file; none where it has none of the name.
-fn find_value<P: SectorSpace>(
+pub(crate) fn find_value<P: SectorSpace>(
     alloc: Global,
     tree: &mut TreeFile,
     desk: &mut Desk,
