@@ -61,8 +61,11 @@ module _ (edits : ℕ) (some : (edits == 0) ≡ false) where
   records_low : (tree : TreeCost) → is_too_deep attributes_key tree edits ≡ false → tree.records < 2 ^ 32
   records_low tree is =
       let tests = nat_le 8 tree.depth || nat_lt 11 (depth_of tree + 1 + rises attributes_key tree edits) || nat_lt 4294967295 (tree.records + edits) in
-      omega (arith, ltb-false 4294967295 (tree.records + edits) (third_false (nat_le 8 tree.depth) (nat_lt 11 (depth_of tree + 1 + rises attributes_key tree edits)) (nat_lt 4294967295 (tree.records + edits))
-      (sym (ap (λ b. not b && (nat_le 8 tree.depth || nat_lt 11 (depth_of tree + 1 + rises attributes_key tree edits) || nat_lt 4294967295 (tree.records + edits))) some) ∙ is)))
+      omega (
+        arith,
+        ltb-false 4294967295 (tree.records + edits) (third_false (nat_le 8 tree.depth) (nat_lt 11 (depth_of tree + 1 + rises attributes_key tree edits)) (nat_lt 4294967295 (tree.records + edits))
+            (sym (ap (λ b. not b && (nat_le 8 tree.depth || nat_lt 11 (depth_of tree + 1 + rises attributes_key tree edits) || nat_lt 4294967295 (tree.records + edits))) some) ∙ is)),
+      )
 
   module _ (v : Volume) (names : List ℕ) (a : Space) where
     grown : HasGrown (attributes_cost v) 0 (state_of names v.attributes.file a)

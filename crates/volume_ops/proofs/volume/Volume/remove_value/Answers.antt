@@ -55,8 +55,12 @@ returns-clause-touches g c committed =
 pub returns-clause-spent : goal.returns-clause-spent
 returns-clause-spent g c tells =
     let large : 4096 ≤ c.args.self.now.attributes.file.shape.node_size = omega (arith, c.if-shape-lt4096.false, ap (λ (s : TreeShape). s.node_size) c.shape.ensures) in
-    omega (arith, spent_edits 1 refl c.edits_have_room.ensures c.edits_take_their_load.ensures c.args.self.now c.delete.new.self (g.P.SectorView.space c.args.space.now) (g.P.SectorView.space c.delete.new.space) c.requires.room c.requires.has large (c.delete.ensures.takes []) tells,
-    c.put_mark.ensures.spent (c.delete.ensures.frame.space.same.tells ∙ tells), ap (λ (x : Volume). x.catalog.file.shape.node_size / 512) c.delete.ensures.rest)
+    omega (
+      arith,
+      spent_edits 1 refl c.edits_have_room.ensures c.edits_take_their_load.ensures c.args.self.now c.delete.new.self (g.P.SectorView.space c.args.space.now) (g.P.SectorView.space c.delete.new.space) c.requires.room c.requires.has large (c.delete.ensures.takes []) tells,
+      c.put_mark.ensures.spent (c.delete.ensures.frame.space.same.tells ∙ tells),
+      ap (λ (x : Volume). x.catalog.file.shape.node_size / 512) c.delete.ensures.rest,
+    )
 
 pub returns-clause-below : goal.returns-clause-below
 returns-clause-below g c = g.met.P.SectorView.follows_trans c.args.space.now c.delete.new.space c.put_mark.new.space c.delete.ensures.below c.put_mark.ensures.below
