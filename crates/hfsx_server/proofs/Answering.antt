@@ -1,9 +1,8 @@
 -- A server on its way through the lines of a source.
-use Rattle.std.proofs.Common.{◌≡◌, ◌≢◌, ◌⊎◌, ◌<◌, ◌≤◌, ◌+◌, ◌++◌, ◌∷◌, [], ℕ, List, IsTrue, inl, inr, length, take, refl, sym, ◌∙◌, ap, subst, arith, append_assoc, length-append}
+use Rattle.std.proofs.Common.{◌≡◌, ◌≢◌, ◌<◌, ◌≤◌, ◌+◌, ◌++◌, ◌∷◌, [], ℕ, List, IsTrue, inl, inr, length, refl, sym, ◌∙◌, ap, subst, arith, append_assoc, length-append}
 use Rattle.std.proofs.lemmas.List.{append-nil, take_all}
 use Rattle.sector_disk.specs.Lists.{Content}
-use Rattle.sector_disk.specs.Clock.{TimePasses}
-use Rattle.sector_disk.specs.Disk.{State, IsImage, CrashesLeave, SameDisk, SameSink}
+use Rattle.sector_disk.specs.Disk.{State, CrashesLeave, SameDisk, SameSink}
 use Rattle.sector_disk.specs.Source.{Stream}
 use Rattle.sector_disk.proofs.Passing.{both_pass}
 use Rattle.hfs_language.specs.Lines.{lines, HasNoNewline}
@@ -13,7 +12,7 @@ use Rattle.hfsx_server.specs.Input.{ahead, SplitsIntoLines, SameSource, TakesLin
 use Rattle.hfsx_server.specs.Serving.{RunSoFar, IsServing, Serves, Stops, SurvivesFrom}
 use Rattle.hfsx_server.specs.Volume.{IsUnmounted, MountsTo, Tree}
 use Rattle.hfsx_server.specs.declared.server.Server.{Server}
-use Rattle.hfsx_server.proofs.Cuts.{all_taken, are_taken, front_cut, takes_both, takes_none}
+use Rattle.hfsx_server.proofs.Cuts.{all_taken, front_cut, takes_both, takes_none}
 use Rattle.hfsx_server.proofs.Runs.{crashes_both, lines_of-append, serves_both, serves_none, tree_after-append, tree_after-none}
 
 -- the lines that were served since the start

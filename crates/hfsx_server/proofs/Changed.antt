@@ -1,9 +1,9 @@
 -- Parts of a volume that were put.
-use Rattle.std.proofs.Common.{◌≡◌, ◌⊎◌, ◌<◌, ◌≤◌, ◌+◌, ◌-◌, ℕ, Bool, false, List, [], ◌∷◌, IsTrue, inl, inr, length, refl, sym, ◌∙◌, ap, subst, arith}
+use Rattle.std.proofs.Common.{◌≡◌, ◌<◌, ◌≤◌, ◌+◌, ℕ, List, [], ◌∷◌, IsTrue, inl, inr, length, refl, sym, ◌∙◌, ap, subst, arith}
 use Rattle.std.specs.Prelude.{slice_range}
 use Rattle.sector_disk.specs.Lists.{Content, sector, put_sectors}
-use Rattle.sector_disk.specs.Disk.{State, Candidates, Untouched, content, content_of}
-use Rattle.sector_disk.proofs.Stages.{put_before, put_behind, put_inside, length-put}
+use Rattle.sector_disk.specs.Disk.{State, Untouched, content, content_of}
+use Rattle.sector_disk.proofs.Stages.{put_behind, put_inside, length-put}
 use Rattle.jnl_replay.specs.Plan.{FitsPlan}
 use Rattle.jnl_replay.specs.declared.plan.Plan.{Plan}
 use Rattle.jnl_store.specs.Journal.{IsClosed}
@@ -13,7 +13,7 @@ use Rattle.hfs_model.specs.Parts.{OnlyFolders, OnlyHeader, parts_of, with_header
 use Rattle.hfs_model.specs.Thin.{AreThin, info_text}
 use Rattle.hfs_model.specs.declared.parts.Parts.{Parts}
 use Rattle.hfsx_server.specs.Finding.{IsLargePlan}
-use Rattle.hfsx_server.specs.Serving.{Changes, IsIdle, IsReady, IsThinPlan, Stands}
+use Rattle.hfsx_server.specs.Serving.{IsIdle, IsReady, IsThinPlan}
 use Rattle.hfsx_server.specs.Volume.{Holds, Tree}
 use Rattle.hfsx_server.proofs.FoldersPlaced.{folders_put, folders_size, same_parts}
 use Rattle.hfsx_server.proofs.Pieces.{range_behind}

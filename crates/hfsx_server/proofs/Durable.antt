@@ -1,23 +1,23 @@
 -- Parts of a volume that are changed by one transaction.
-use Rattle.std.proofs.Common.{◌≡◌, ◌⊎◌, ◌<◌, ◌≤◌, ◌+◌, ℕ, Bool, false, List, [], ◌∷◌, ◌++◌, IsTrue, Result, Ok, Err, inl, inr, ⊎_elim, length, refl, sym, ◌∙◌, ap, subst, arith}
+use Rattle.std.proofs.Common.{◌≡◌, ◌⊎◌, false, List, [], IsTrue, Result, Ok, Err, inl, inr, ⊎_elim, sym, ◌∙◌, ap, subst}
 use Rattle.std.specs.Prelude.{OnOk}
-use Rattle.sector_disk.specs.Lists.{Content, sector}
-use Rattle.sector_disk.specs.Disk.{State, Candidates, IsImage, HasNothingPending, CrashesLeave, SameDisk, content, content_of, only}
+use Rattle.sector_disk.specs.Lists.{Content}
+use Rattle.sector_disk.specs.Disk.{State, HasNothingPending, CrashesLeave, SameDisk, content}
 use Rattle.sector_disk.specs.Space.{AgreesOutside}
 use Rattle.sector_disk.proofs.Stages.{leaves_with}
 use Rattle.jnl_format.specs.Recovery.{header_of_volume, journaling_version}
 use Rattle.jnl_format.specs.Keeping.{KeepsHeader}
 use Rattle.jnl_replay.specs.Plan.{FitsPlan}
 use Rattle.jnl_replay.specs.declared.plan.Plan.{Plan}
-use Rattle.jnl_store.specs.Journal.{IsClosed, IsSpilled}
+use Rattle.jnl_store.specs.Journal.{IsClosed}
 use Rattle.jnl_store.specs.Overlay.{overlay}
-use Rattle.jnl_store.specs.Standing.{AgreesDurable, MakesDurable, StandsFor, StandsForEither}
+use Rattle.jnl_store.specs.Standing.{AgreesDurable, MakesDurable, StandsForEither}
 use Rattle.jnl_store.specs.Store.{SameButBatch, SameJournal, content_over, durable_of, faults_of, has_spilled, plan_of, puts_of}
 use Rattle.jnl_store.specs.declared.puts.Put.{Put}
 use Rattle.jnl_store.specs.declared.store.Store.{Store}
 use Rattle.hfs_model.specs.Thin.{AreThin}
 use Rattle.hfs_model.specs.declared.parts.Parts.{Parts}
-use Rattle.hfsx_server.specs.Serving.{Changes, IsIdle, IsReady, IsThinPlan, Rests, Stands}
+use Rattle.hfsx_server.specs.Serving.{IsIdle, IsReady, IsThinPlan, Rests, Stands}
 use Rattle.hfsx_server.specs.Volume.{Holds, MountsTo, Tree}
 use Rattle.hfsx_server.proofs.Mounts.{image_info, image_journal, stands_holds, stands_mounts, stands_size}
 use Rattle.hfsx_server.proofs.Settling.{durable_same, large_again, none_spilled, thin_plan_again}

@@ -1,13 +1,13 @@
 -- What a mount finds, and why an image isn't mounted.
-use Rattle.std.proofs.Common.{◌≡◌, ◌⊎◌, ◌<◌, ◌≤◌, ◌/◌, ℕ, Bool, true, false, List, IsTrue, inl, inr, length, refl, sym, ◌∙◌, ap, subst, arith, cond, eqb}
-use Rattle.std.specs.Prelude.{Ok, Err, MatchOption, Option, None}
+use Rattle.std.proofs.Common.{◌≡◌, ◌<◌, ◌≤◌, ◌/◌, ℕ, Bool, false, inl, inr, length, refl, sym, ◌∙◌, ap, subst, arith, cond}
+use Rattle.std.specs.Prelude.{Ok, None}
 use Rattle.std.proofs.lemmas.Bool.{eq-eqb, cases_lt}
 use Rattle.jnl_ring.specs.declared.span.Span.{Span}
 use Rattle.jnl_store.specs.declared.form.ListForm.{ListForm}
 use Rattle.sector_disk.specs.Lists.{Content}
 use Rattle.sector_disk.specs.Disk.{State, content}
 use Rattle.volume_header.specs.Refusal.{header_refusal, is_locked}
-use Rattle.jnl_format.specs.Recovery.{Journal, header_of_volume, info_sector_of, journal_in, recovery, replayed}
+use Rattle.jnl_format.specs.Recovery.{Journal, header_of_volume, journal_in, recovery, replayed}
 use Rattle.jnl_replay.specs.Peeking.{peeked}
 use Rattle.jnl_replay.specs.Plan.{IsPlan, journal_of}
 use Rattle.jnl_replay.specs.Viewing.{shown}
@@ -18,9 +18,8 @@ use Rattle.jnl_store.specs.Plan.{form_of, span_of}
 use Rattle.hfs_model.specs.Parts.{parts_of}
 use Rattle.hfs_model.specs.Thin.{AreThin, IsThin}
 use Rattle.hfs_model.specs.declared.parts.Parts.{Parts}
-use Rattle.hfs_model.proofs.Checks.{one_list}
 use Rattle.hfsx_server.specs.Finding.{IsFound, IsLargePlan}
-use Rattle.hfsx_server.specs.Volume.{HasJournal, HoldsAtMost, IsFault, IsMountable, IsOpen, IsRefusal, MountsTo, Refuses, Tree}
+use Rattle.hfsx_server.specs.Volume.{HasJournal, HoldsAtMost, IsFault, IsMountable, IsOpen, MountsTo, Refuses, Tree}
 use Rattle.volume_header.specs.declared.header.VolumeHeader.{VolumeHeader}
 use Rattle.hfsx_server.specs.declared.mounting.FoundVolume.{FoundVolume}
 use Rattle.hfsx_server.specs.declared.faults.MountFault.{MountFault}

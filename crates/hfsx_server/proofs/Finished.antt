@@ -1,25 +1,18 @@
 -- A volume that is unmounted.
-use Rattle.std.proofs.Common.{◌≡◌, ◌⊎◌, ◌<◌, ◌≤◌, ◌+◌, ◌/◌, ◌^◌, ◌&&◌, ◌++◌, ◌∷◌, [], ℕ, Bool, true, false, List, IsTrue, inl, inr, ⊎_elim, length, take, drop, replicate, refl, sym, ◌∙◌, ap, subst, arith, take-append-drop}
-use Rattle.std.specs.Prelude.{bytes_eq}
-use Rattle.std.specs.Cmp.Lexicographic.{bytes_decides}
-use Rattle.std.proofs.lemmas.Bool.{and_parts}
+use Rattle.std.proofs.Common.{◌≡◌, ◌<◌, ◌/◌, ◌^◌, ◌++◌, ℕ, true, List, IsTrue, length, take, drop, sym, ◌∙◌, ap, subst, take-append-drop}
 use Rattle.sector_disk.specs.Lists.{Content, sector}
-use Rattle.sector_disk.specs.Disk.{State, Candidates, IsImage, HasNothingPending, content, content_of}
-use Rattle.sector_disk.specs.Space.{AgreesOutside}
+use Rattle.sector_disk.specs.Disk.{State, HasNothingPending, content}
 use Rattle.volume_header.specs.Refusal.{is_unmounted}
 use Rattle.volume_header.specs.Header.{header_of, header_bytes}
 use Rattle.volume_header.specs.declared.header.VolumeHeader.{VolumeHeader}
 use Rattle.volume_header.proofs.ReadBack.{header_of-header_bytes}
 use Rattle.jnl_format.specs.Header as jnl
 use Rattle.jnl_format.specs.Header.{IsHeader, wrapped}
-use Rattle.jnl_format.specs.Recovery.{header_of_volume}
-use Rattle.jnl_format.proofs.Headers.{drop_header}
 use Rattle.jnl_replay.specs.Plan.{FitsPlan}
 use Rattle.jnl_store.specs.Standing.{Checkpoints, MakesDurable, StandsForDurable}
 use Rattle.jnl_store.specs.Store.{SameJournal, durable_of, plan_of}
 use Rattle.jnl_store.specs.declared.store.Store.{Store}
-use Rattle.hfs_model.specs.Parts.{parts_of}
-use Rattle.hfs_model.specs.Thin.{AreThin, IsEmptyJournal, IsJournal, IsThin, info_text, thin_header}
+use Rattle.hfs_model.specs.Thin.{AreThin, IsEmptyJournal, IsJournal, thin_header}
 use Rattle.hfs_model.specs.declared.parts.Parts.{Parts}
 use Rattle.jnl_store.proofs.Settling.{lists_of}
 use Rattle.hfsx_server.specs.Serving.{IsIdle, IsThinPlan, Stands}

@@ -1,5 +1,5 @@
 -- The parts that a new folder changes, put in place one by one.
-use Rattle.std.proofs.Common.{◌≡◌, ◌<◌, ◌≤◌, ◌+◌, ◌∷◌, [], ℕ, List, length, refl, sym, ◌∙◌, ap, subst, arith}
+use Rattle.std.proofs.Common.{◌≡◌, ◌≤◌, ◌+◌, ◌∷◌, [], ℕ, List, length, sym, ◌∙◌, subst, arith}
 use Rattle.std.specs.Prelude.{slice_range}
 use Rattle.sector_disk.specs.Lists.{Content, sector, put_sectors}
 use Rattle.sector_disk.proofs.Stages.{put_before, put_behind, put_inside, length-put}

@@ -1,6 +1,6 @@
 -- A volume that was formatted is one at rest.
-use Rattle.std.proofs.Common.{◌≡◌, ◌<◌, ◌≤◌, ◌^◌, [], ℕ, List, true, false, refl, sym, ◌∙◌, ap, subst, arith}
-use Rattle.sector_disk.specs.Disk.{State, Candidates, HasNothingPending, content, content_of, only}
+use Rattle.std.proofs.Common.{◌≡◌, [], ℕ, List, true, refl, sym, ◌∙◌, ap, subst, arith}
+use Rattle.sector_disk.specs.Disk.{State, HasNothingPending, content, content_of, only}
 use Rattle.volume_header.specs.Refusal.{is_unmounted}
 use Rattle.volume_header.specs.Header.{header_of}
 use Rattle.volume_header.specs.declared.header.VolumeHeader.{VolumeHeader}
@@ -9,6 +9,9 @@ use Rattle.jnl_format.specs.Recovery.{header_of_volume}
 use Rattle.hfs_model.specs.Parts.{parts_of}
 use Rattle.hfs_model.specs.Thin.{AreFresh, AreThin, IsEmptyJournal, IsThin, journal_text, thin_header}
 use Rattle.hfs_model.specs.declared.parts.Parts.{Parts}
+use Rattle.volume_make.specs.Written.{IsFormatted}
+use Rattle.fresh_volume.specs.Fresh.{IsFreshVolume}
+use Rattle.hfsx_server.specs.Made.{IsMade, made_layout, made_name}
 use Rattle.hfsx_server.specs.Volume.{HoldsAll, IsUnmounted, Tree}
 use Rattle.hfsx_server.proofs.ThinHeaders.{thin_fits}
 
@@ -41,3 +44,11 @@ fresh_held disk parts holds fresh = subst AreFresh (sym holds.parts_are) fresh
 
 pub fresh_told : (old new : State) → new.candidates ≡ old.candidates → AreFresh (parts_of (content old)) → AreFresh (parts_of (content new))
 fresh_told old new same is = subst (λ c. AreFresh (parts_of c)) (sym (ap content_of same)) is
+
+-- a volume that was made stays so where nothing but the sink is touched
+pub made_told : (old mid new : State) → new.candidates ≡ mid.candidates → IsMade old mid → IsMade old new
+made_told old mid new same made = record {
+  parts = subst (IsFormatted (made_layout old.sectors) made_name (content old)) (sym (ap content_of same)) made.parts;
+  settled = same ∙ made.settled ∙ ap only (sym (ap content_of same));
+  fresh = subst IsFreshVolume (sym (ap content_of same)) made.fresh;
+}

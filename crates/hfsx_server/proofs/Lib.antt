@@ -9,6 +9,7 @@ pub mod FoldersPlaced
 pub mod Formatted
 pub mod PartsPlaced
 pub mod Lines
+pub mod MadeSizes
 pub mod Mounted
 pub mod Mounts
 pub mod Pieces

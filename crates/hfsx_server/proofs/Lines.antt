@@ -1,21 +1,17 @@
 -- Lines that are taken, and what stops a server between them.
-use Rattle.std.proofs.Common.{◌≡◌, ◌⊎◌, ◌≤◌, ◌+◌, ◌++◌, ◌∷◌, [], ℕ, List, IsTrue, inl, inr, ⊎_elim, length, refl, sym, ◌∙◌, ap, subst, arith, append_assoc}
-use Rattle.std.proofs.lemmas.List.{append-nil}
+use Rattle.std.proofs.Common.{◌≡◌, ◌≤◌, ◌++◌, ◌∷◌, [], ℕ, List, inl, length, refl, sym, ◌∙◌, ap, subst, append_assoc}
 use Rattle.sector_disk.specs.Lists.{Content}
-use Rattle.sector_disk.specs.Disk.{State, Candidates, IsImage, CrashesLeave, SameDisk, SameSink, content, content_of}
+use Rattle.sector_disk.specs.Disk.{State, Candidates, IsImage, SameDisk, content, content_of}
 use Rattle.sector_disk.specs.Source.{Stream}
 use Rattle.jnl_replay.specs.Plan.{FitsPlan}
 use Rattle.jnl_store.specs.Store.{Keeps, KeepsOn, durable_of}
 use Rattle.hfs_language.specs.Lines.{lines}
-use Rattle.hfs_language.specs.Language.{command_of}
-use Rattle.hfsx_server.specs.Headline.{Entry, IsPrefix, lines_of, replies_of, tree_after}
+use Rattle.hfsx_server.specs.Headline.{Entry, lines_of}
 use Rattle.hfsx_server.specs.Input.{ahead, TakesLines}
-use Rattle.hfsx_server.specs.Session.{step}
-use Rattle.hfsx_server.specs.Serving.{RunSoFar, IsIdle, IsServing, Rests, Serves, Stands, Stops, entry_of}
-use Rattle.hfsx_server.specs.Volume.{Holds, MountsTo, Tree}
+use Rattle.hfsx_server.specs.Serving.{IsIdle, IsServing, Rests, Stops}
+use Rattle.hfsx_server.specs.Volume.{Holds}
 use Rattle.hfsx_server.specs.declared.server.Server.{Server}
-use Rattle.hfsx_server.proofs.Cuts.{front_cut, none_cut, none_left, takes_none}
-use Rattle.hfsx_server.proofs.Runs.{serves_crashes, serves_none}
+use Rattle.hfsx_server.proofs.Cuts.{front_cut, none_cut, none_left}
 
 -- no line was answered
 pub stops_none : (taken : List ℕ) (source source_new : Stream) → (gone : List ℕ) × (ahead taken source ≡ gone ++ source_new.left) → Stops taken source [] source_new

@@ -1,11 +1,11 @@
 -- The tree that a mount finds, and trouble that is no refusal.
-use Rattle.std.proofs.Common.{◌≡◌, ◌⊎◌, List, ℕ, Ok, inl, inr, refl, sym, subst}
+use Rattle.std.proofs.Common.{◌≡◌, inl, inr, subst}
 use Rattle.sector_disk.specs.Lists.{Content}
 use Rattle.hx_bytes.specs.declared.faults.Trouble.{Trouble}
 use Rattle.hx_bytes.specs.declared.faults.Trouble.TheVariants.{Disk, Memory}
 use Rattle.hfs_model.proofs.Checks.{one_list}
 use Rattle.hfs_model.specs.Parts.{parts_of}
-use Rattle.hfs_model.specs.Thin.{AreThin, IsThin}
+use Rattle.hfs_model.specs.Thin.{AreThin}
 use Rattle.hfsx_server.specs.declared.faults.MountFault.{MountFault}
 use Rattle.hfsx_server.specs.Faults.{mount_fault_of}
 use Rattle.hfsx_server.specs.Volume.{IsFault, IsRefusal, MountsTo, Tree}

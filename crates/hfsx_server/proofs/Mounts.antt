@@ -1,17 +1,13 @@
 -- Images that a mount finds a tree in.
-use Rattle.std.proofs.Common.{◌≡◌, ◌⊎◌, ◌<◌, ◌≤◌, ◌+◌, ◌/◌, ◌*◌, ℕ, Bool, false, List, ◌++◌, inl, inr, length, drop, IsTrue, refl, sym, ◌∙◌, ap, subst, arith}
+use Rattle.std.proofs.Common.{◌≡◌, ◌/◌, ◌*◌, false, ◌++◌, length, drop, refl, sym, ◌∙◌, ap, subst, arith}
 use Rattle.std.specs.Prelude.{None, Ok, ◌==◌}
-use Rattle.std.specs.Int.{bit_at}
 use Rattle.sector_disk.specs.Lists.{Content, sector}
 use Rattle.sector_disk.specs.Space.{AgreesOutside}
 use Rattle.volume_header.specs.Refusal.{header_refusal, is_locked}
-use Rattle.volume_header.specs.declared.header.VolumeHeader.{VolumeHeader}
 use Rattle.jnl_format.specs.Header.{header_bytes, IsHeader}
-use Rattle.jnl_format.specs.Recovery.{Journal, header_of_volume, info_sector_of, recovery, replayed}
+use Rattle.jnl_format.specs.Recovery.{header_of_volume, info_sector_of, recovery}
 use Rattle.jnl_format.specs.Keeping.{KeepsHeader}
 use Rattle.jnl_format.specs.Keeping.{IsSame}
-use Rattle.jnl_replay.specs.Homing.{StandsForSame, empty_header, emptied}
-use Rattle.jnl_replay.specs.Plan.{journal_of}
 use Rattle.jnl_replay.specs.declared.plan.Plan.{Plan}
 use Rattle.jnl_store.specs.Journal.{IsClosed}
 use Rattle.jnl_store.specs.Standing.{StandsFor}
@@ -20,10 +16,10 @@ use Rattle.hfs_model.specs.Thin.{AreThin, IsThin, IsJournal, info_text}
 use Rattle.hfs_model.specs.declared.parts.Parts.{Parts}
 use Rattle.hfsx_server.specs.Serving.{IsThinPlan}
 use Rattle.hfsx_server.specs.Volume.{Holds, MountsTo, Tree}
-use Rattle.hfsx_server.proofs.Recoveries.{Recovers, recovery_parts}
-use Rattle.hfsx_server.proofs.Standing.{AgreesOutsideOwn, agrees_own, closed_thin, thin_closed, holds_again, holds_thin, holds_info, thin_holds}
-use Rattle.hfsx_server.proofs.ThinHeaders.{HasThinHeader, has_header, thin_unlocked, thin_place}
-use Rattle.hfsx_server.proofs.ThinJournals.{IsThinJournal, info_is, journal_again, thin_info, thin_journal, thin_large}
+use Rattle.hfsx_server.proofs.Recoveries.{recovery_parts}
+use Rattle.hfsx_server.proofs.Standing.{agrees_own, thin_closed, holds_again, holds_thin, holds_info, thin_holds}
+use Rattle.hfsx_server.proofs.ThinHeaders.{has_header, thin_unlocked, thin_place}
+use Rattle.hfsx_server.proofs.ThinJournals.{info_is, journal_again, thin_info, thin_journal, thin_large}
 
 -- an image with an accepted header that stands for a thin volume: its journal and the place of its info block
 pub record ThinImage (image recovered : Content) : Type 0 where

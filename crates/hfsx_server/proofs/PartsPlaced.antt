@@ -1,11 +1,11 @@
 -- The other parts of a volume, put in place one by one.
-use Rattle.std.proofs.Common.{◌≡◌, ◌<◌, ◌≤◌, ◌+◌, ◌∷◌, [], ℕ, List, length, refl, sym, ◌∙◌, ap, subst, arith}
+use Rattle.std.proofs.Common.{◌≡◌, ◌≤◌, ◌+◌, ◌∷◌, [], length, sym, ◌∙◌, arith}
 use Rattle.std.specs.Prelude.{slice_range}
 use Rattle.sector_disk.specs.Lists.{Content, sector, put_sectors}
-use Rattle.sector_disk.proofs.Stages.{put_before, put_behind, put_inside, length-put}
+use Rattle.sector_disk.proofs.Stages.{put_before, put_inside, length-put}
 use Rattle.hfs_model.specs.declared.parts.Parts.{Parts}
 use Rattle.hfs_model.specs.Parts.{OnlyFolders, parts_of}
-use Rattle.hfsx_server.proofs.Pieces.{range_before, range_behind}
+use Rattle.hfsx_server.proofs.Pieces.{range_before}
 use Rattle.hfsx_server.proofs.FoldersPlaced.{put_block}
 
 -- the other parts

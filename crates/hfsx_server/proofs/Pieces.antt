@@ -1,5 +1,5 @@
 -- Stretches of sectors, after sectors were put in place.
-use Rattle.std.proofs.Common.{◌≡◌, ◌<◌, ◌≤◌, ◌+◌, ◌-◌, ℕ, List, [], length, get_or, take, drop, refl, sym, ◌∙◌, ap, arith, length-append, length-take-le, length-drop}
+use Rattle.std.proofs.Common.{◌≡◌, ◌<◌, ◌≤◌, ◌+◌, ◌-◌, ℕ, [], length, drop, sym, ◌∙◌, arith, length-take-le, length-drop}
 use Rattle.std.specs.Prelude.{slice_range}
 use Rattle.std.proofs.lemmas.List.{ext_get_or, get_or-take, get_or-drop}
 use Rattle.sector_disk.specs.Lists.{Content, sector, put_sectors}

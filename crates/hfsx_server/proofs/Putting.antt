@@ -1,18 +1,16 @@
 -- Sectors that are put, one after the other.
-use Rattle.std.proofs.Common.{◌≡◌, ◌<◌, ◌≤◌, ◌+◌, ◌-◌, ℕ, List, [], ◌∷◌, IsTrue, length, take, drop, take-append-drop, add-zero, ◌++◌, set, refl, sym, ◌∙◌, ap, subst, arith}
-use Rattle.std.specs.List.{fold}
+use Rattle.std.proofs.Common.{◌≡◌, ◌<◌, ◌≤◌, ◌+◌, ℕ, List, [], ◌∷◌, length, take, drop, take-append-drop, add-zero, ◌++◌, set, refl, sym, ◌∙◌, ap, arith}
 use Rattle.std.proofs.Math.ListN.{length-set}
 use Rattle.std.proofs.lemmas.List.{append-nil}
 use Rattle.sector_disk.specs.Lists.{Content, sector, put_sectors}
-use Rattle.sector_disk.specs.Disk.{State, Candidates, IsDisk, SameDisk, Untouched, content, content_of}
+use Rattle.sector_disk.specs.Disk.{State, IsDisk, Untouched, content}
 use Rattle.sector_disk.proofs.Writing.{put_more}
 use Rattle.jnl_replay.proofs.Checks.{length-content}
 use Rattle.jnl_store.specs.Overlay.{overlay}
-use Rattle.jnl_store.specs.Store.{KeepsOn, SameButBatch, content_over, durable_of, spare_of}
+use Rattle.jnl_store.specs.Store.{KeepsOn, SameButBatch, content_over, durable_of}
 use Rattle.jnl_store.specs.declared.puts.Put.{Put}
 use Rattle.jnl_store.specs.declared.store.Store.{Store}
 use Rattle.hfsx_server.proofs.Settling.{length-durable_of}
-use Rattle.hfsx_server.proofs.Steps.{untouched_both}
 
 pub length-overlay : (puts : List Put) (c : Content) → length (overlay puts c) ≡ length c
 length-overlay [] c = refl

@@ -1,15 +1,14 @@
 -- A run as its caller sees it: the mount, and then the lines.
-use Rattle.std.proofs.Common.{◌≡◌, ◌⊎◌, ◌≤◌, ◌++◌, [], ℕ, List, IsTrue, inl, inr, length, refl, sym, ◌∙◌, ap, subst, arith}
+use Rattle.std.proofs.Common.{◌≡◌, ◌≤◌, ◌++◌, [], ℕ, List, IsTrue, inl, inr, length, refl, sym, ◌∙◌, ap, subst, arith}
 use Rattle.std.proofs.lemmas.List.{append-nil, length-map}
 use Rattle.sector_disk.specs.Lists.{Content}
-use Rattle.sector_disk.specs.Clock.{TimePasses}
-use Rattle.sector_disk.specs.Disk.{State, IsImage, HasNothingPending, LeftNow, CrashesLeave, SameSink, content}
+use Rattle.sector_disk.specs.Disk.{State, HasNothingPending, LeftNow, CrashesLeave, SameSink, content}
 use Rattle.sector_disk.specs.Source.{Stream}
 use Rattle.sector_disk.proofs.Passing.{both_pass, passes_with}
 use Rattle.hfs_language.specs.Lines.{lines}
 use Rattle.hfsx_server.specs.declared.faults.MountFault.{MountFault}
 use Rattle.hfsx_server.specs.declared.faults.MountFault.TheVariants as fault
-use Rattle.hfsx_server.specs.Headline.{AreTaken, Entry, Headline, IsAnswered, IsAnsweredToTheLast, IsFinished, lines_of, replies_of, tree_after}
+use Rattle.hfsx_server.specs.Headline.{AreTaken, Entry, Headline, IsAnswered, IsAnsweredToTheLast, IsFinished, lines_of, replies_of}
 use Rattle.hfsx_server.specs.Serving.{RunSoFar, Rests, SurvivesFrom}
 use Rattle.hfsx_server.specs.Volume.{IsFault, IsRefusal, MountsTo, Refuses, Tree}
 use Rattle.hfsx_server.proofs.Runs.{headline_crash, replies_of-none, survives_early, tree_after-none}

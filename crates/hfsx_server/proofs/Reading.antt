@@ -1,9 +1,9 @@
 -- A line on its way out of a source.
-use Rattle.std.proofs.Common.{◌≡◌, ◌↔◌, inl, inr, Bool, true, false, ◌≤◌, ◌<◌, ◌+◌, ◌++◌, ◌∷◌, [], ℕ, List, IsTrue, length, refl, sym, ◌∙◌, ap, subst, arith, append_assoc, length-append}
+use Rattle.std.proofs.Common.{◌≡◌, ◌↔◌, inl, inr, Bool, false, ◌≤◌, ◌<◌, ◌+◌, ◌++◌, ◌∷◌, [], ℕ, List, IsTrue, length, refl, sym, ◌∙◌, ap, subst, arith, append_assoc, length-append}
 use Rattle.std.proofs.lemmas.List.{append-nil}
 use Rattle.sector_disk.specs.Source.{Stream}
 use Rattle.hfs_language.specs.Lines.{lines, HasNoNewline}
-use Rattle.hfs_language.proofs.Lines.{lines-nil, lines_ended, lines_last, HasNoNewline-nil, HasNoNewline-push}
+use Rattle.hfs_language.proofs.Lines.{lines_ended, lines_last, HasNoNewline-nil, HasNoNewline-push}
 use Rattle.hfsx_server.specs.declared.input.Line.{Line}
 use Rattle.hfsx_server.specs.Input.{ahead, weight, IsLine, SameSource, TakesLines, TakesNoMore}
 use Rattle.hfsx_server.proofs.Fetching.{Fetches, fetches_nothing, fetches_byte, fetches_none, no_more}

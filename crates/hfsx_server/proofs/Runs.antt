@@ -1,10 +1,10 @@
 -- How runs go on.
-use Rattle.std.proofs.Common.{◌≡◌, ◌⊎◌, ◌<◌, ◌≤◌, ◌+◌, ◌-◌, ◌∷◌, [], ◌++◌, ℕ, zero, suc, List, inl, inr, ⊎_elim, length, take, drop, map, refl, sym, ◌∙◌, ap, subst, arith, append_assoc, length-append, take-append-drop}
+use Rattle.std.proofs.Common.{◌≡◌, ◌⊎◌, ◌<◌, ◌≤◌, ◌+◌, ◌-◌, ◌∷◌, [], ◌++◌, ℕ, List, inl, inr, ⊎_elim, length, take, drop, refl, sym, ◌∙◌, ap, subst, arith, append_assoc, length-append, take-append-drop}
 use Rattle.std.proofs.Math.Seq.{take-append-add}
 use Rattle.std.proofs.lemmas.Bool.{cases_lt}
-use Rattle.std.proofs.lemmas.List.{length-take-le, append-nil, take_all, take-append-le, append_cancel_left, map-append}
+use Rattle.std.proofs.lemmas.List.{length-take-le, append-nil, take-append-le, append_cancel_left, map-append}
 use Rattle.sector_disk.specs.Lists.{Content}
-use Rattle.sector_disk.specs.Clock.{Clock, TimePasses, WithTold}
+use Rattle.sector_disk.specs.Clock.{TimePasses}
 use Rattle.sector_disk.specs.Disk.{State, Candidates, IsImage, CrashesLeave, LeftNow, SameSink, ToldPrefix}
 use Rattle.sector_disk.proofs.Passing.{none_passes, both_pass, passes_with}
 use Rattle.hfs_language.specs.Text.{reply_text, body_text}
@@ -12,7 +12,7 @@ use Rattle.hfs_language.specs.declared.reply.Reply.{Reply}
 use Rattle.hfs_language.specs.Language.{command_of}
 use Rattle.hfsx_server.specs.Session.{step}
 use Rattle.hfsx_server.specs.Volume.{Tree, MountsTo}
-use Rattle.hfsx_server.specs.Headline.{Entry, IsServed, IsRun, IsPrefix, Survives, tree_after, replies_of, lines_of}
+use Rattle.hfsx_server.specs.Headline.{Entry, IsRun, IsPrefix, Survives, tree_after, replies_of, lines_of}
 use Rattle.hfsx_server.specs.Serving.{Rests, entry_of, SurvivesFrom, RunSoFar, Serves}
 
 pub tree_after-none : (start : Tree) → tree_after start [] ≡ start

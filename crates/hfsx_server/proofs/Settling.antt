@@ -1,19 +1,14 @@
 -- A store between two transactions, and what it has made durable.
-use Rattle.std.proofs.Common.{◌≡◌, ◌≢◌, ◌⊎◌, ◌<◌, ◌≤◌, ◌+◌, ◌/◌, ◌%◌, ◌*◌, ◌^◌, ◌&&◌, ℕ, Bool, true, false, List, [], ◌∷◌, ◌++◌, IsTrue, Contains, inl, inr, ⊎_elim, length, map, refl, sym, ◌∙◌, ap, subst, arith}
-use Rattle.std.specs.Prelude.{None, Ok}
-use Rattle.std.specs.List.{fold}
+use Rattle.std.proofs.Common.{◌≡◌, ◌<◌, ℕ, List, [], ◌∷◌, inl, inr, length, sym, ◌∙◌, ap, subst, arith}
 use Rattle.std.proofs.lemmas.Bool.{and_parts, and_from}
 use Rattle.std.proofs.lemmas.List.{get_or-map, get_or_past, length-map}
-use Rattle.sector_disk.specs.Lists.{Content, sector}
-use Rattle.sector_disk.specs.Disk.{State, Candidates, candidates_of, HasNothingPending, SameDisk, content, content_of, only}
-use Rattle.sector_disk.specs.Space.{AgreesOutside}
-use Rattle.jnl_format.specs.Header.{IsHeader}
+use Rattle.sector_disk.specs.Lists.{Content}
+use Rattle.sector_disk.specs.Disk.{State, Candidates, candidates_of, HasNothingPending, content, only}
 use Rattle.jnl_format.specs.Recovery.{homes_of, replayed, text_of}
 use Rattle.jnl_format.proofs.Mixing.{mixes_with_homes}
-use Rattle.jnl_replay.specs.Plan.{FitsPlan, journal_of}
+use Rattle.jnl_replay.specs.Plan.{journal_of}
 use Rattle.jnl_replay.specs.declared.plan.Plan.{Plan}
-use Rattle.jnl_store.specs.Batch.{Staged}
-use Rattle.jnl_store.specs.Journal.{IsAtRest, IsClosed, IsSpilled, are_open, keeps_journal}
+use Rattle.jnl_store.specs.Journal.{IsSpilled}
 use Rattle.jnl_store.specs.Overlay.{overlay}
 use Rattle.jnl_store.specs.Plan.{form_of, span_of}
 use Rattle.jnl_store.specs.Store.{SameButBatch, SameJournal, content_over, durable_of, plan_of, puts_of}

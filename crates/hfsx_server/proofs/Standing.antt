@@ -1,25 +1,19 @@
 -- A content that agrees with that of a thin volume outside the journal is one of the same volume.
-use Rattle.std.proofs.Common.{◌≡◌, ◌≢◌, ◌⊎◌, ◌<◌, ◌≤◌, ◌+◌, ◌-◌, ◌*◌, ◌/◌, ◌%◌, ◌&&◌, ◌||◌, ℕ, Bool, true, false, List, [], ◌∷◌, ◌++◌, IsTrue, inl, inr, ⊎_elim, length, drop, refl, sym, ◌∙◌, ap, subst, arith}
-use Rattle.std.specs.Prelude.{nat_le, nat_lt, ◌==◌, slice_range, Ok}
+use Rattle.std.proofs.Common.{◌≡◌, ◌⊎◌, ◌<◌, ◌≤◌, ◌+◌, ◌-◌, ◌/◌, ◌&&◌, ◌||◌, ℕ, Bool, true, [], inl, inr, length, refl, sym, ◌∙◌, ap, subst, arith}
+use Rattle.std.specs.Prelude.{nat_le, nat_lt, ◌==◌, slice_range}
 use Rattle.std.proofs.lemmas.Bool.{and_parts, or_cases, leb-true, ltb-true, eqb-true}
 use Rattle.std.proofs.lemmas.List.{ext_get_or}
 use Rattle.sector_disk.specs.Lists.{Content, sector}
 use Rattle.sector_disk.specs.Space.{AgreesOutside}
-use Rattle.volume_header.specs.Refusal.{header_refusal, is_locked}
-use Rattle.volume_header.specs.Header.{header_of, header_bytes}
-use Rattle.jnl_format.specs.Recovery.{header_of_volume, info_sector_of, recovery}
-use Rattle.jnl_format.specs.Keeping.{KeepsHeader}
 use Rattle.jnl_replay.specs.declared.plan.Plan.{Plan}
 use Rattle.jnl_store.specs.Journal.{is_closed, IsClosed}
 use Rattle.hfs_model.specs.Parts.{parts_of}
-use Rattle.hfs_model.specs.Thin.{AreThin, IsThin, IsJournal, info_text, thin_header}
+use Rattle.hfs_model.specs.Thin.{AreThin, IsThin, IsJournal, info_text}
 use Rattle.hfs_model.specs.declared.parts.Parts.{Parts}
 use Rattle.hfsx_server.specs.Serving.{IsThinPlan}
-use Rattle.hfsx_server.specs.Volume.{Holds, IsAccepted, MountsTo, Tree}
+use Rattle.hfsx_server.specs.Volume.{Holds, Tree}
 use Rattle.hfsx_server.proofs.FoldersPlaced.{same_parts}
 use Rattle.hfsx_server.proofs.Pieces.{sector-range, length-range}
-use Rattle.hfsx_server.proofs.Recoveries.{Recovers, recovery_parts}
-use Rattle.hfsx_server.proofs.ThinJournals.{thin_journal, thin_large}
 
 -- the sectors of a thin volume's journal, and its info block
 abbrev pub IsOwn : ℕ → Type 0

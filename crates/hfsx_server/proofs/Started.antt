@@ -1,33 +1,24 @@
 -- A volume that was found, and what a replay of its journal leaves.
-use Rattle.std.proofs.Common.{◌≡◌, ◌≢◌, ◌⊎◌, ◌<◌, ◌≤◌, ◌+◌, ◌/◌, ◌%◌, ◌*◌, ◌^◌, ◌++◌, ◌∷◌, [], ℕ, Bool, true, false, List, IsTrue, inl, inr, ⊎_elim, length, drop, replicate, refl, sym, ◌∙◌, ap, subst, arith, cond}
-use Rattle.std.specs.Prelude.{Ok, bit_and}
+use Rattle.std.proofs.Common.{◌≡◌, ◌≢◌, ◌<◌, ◌≤◌, ◌+◌, ◌/◌, ◌++◌, ◌∷◌, [], ℕ, Bool, true, false, List, inl, inr, ⊎_elim, length, drop, refl, sym, ◌∙◌, ap, subst, arith, cond}
 use Rattle.std.proofs.lemmas.Bool.{cases_eq, cases_lt}
-use Rattle.std.proofs.lemmas.List.{get_or_past}
 use Rattle.sector_disk.specs.Lists.{Content, sector, put_sectors}
-use Rattle.sector_disk.specs.Disk.{State, Candidates, IsImage, HasNothingPending, CrashesLeave, content, content_of, only}
-use Rattle.sector_disk.proofs.Candidates.{content_of-only}
 use Rattle.sector_disk.proofs.Stages.{put_before, put_behind, put_inside, length-put}
 use Rattle.hx_bytes.specs.Field.{number_bytes}
-use Rattle.hx_bytes.specs.declared.fields.Order.TheVariants.{Little}
-use Rattle.volume_header.specs.Refusal.{header_refusal}
 use Rattle.jnl_format.specs.Info.{with_info}
 use Rattle.jnl_format.specs.Header.{header_bytes, IsHeader}
-use Rattle.jnl_format.specs.Recovery.{header_of_volume, info_sector_of, journal_in, recovery, replayed}
-use Rattle.jnl_format.specs.declared.structures.Header.{Header}
+use Rattle.jnl_format.specs.Recovery.{replayed}
 use Rattle.jnl_format.specs.declared.structures.Info.{Info}
-use Rattle.jnl_format.specs.Keeping.{KeepsHeader}
 use Rattle.jnl_replay.specs.Homing.{StandsForSame, after_replay, emptied, empty_header, initialised, with_empty_header}
-use Rattle.jnl_replay.specs.Plan.{FitsPlan, IsPlan, journal_of}
+use Rattle.jnl_replay.specs.Plan.{FitsPlan, journal_of}
 use Rattle.jnl_replay.specs.declared.plan.Plan.{Plan}
-use Rattle.jnl_store.specs.Plan.{form_of, info_after, rested, span_of}
+use Rattle.jnl_store.specs.Plan.{form_of, info_after, rested}
 use Rattle.jnl_store.specs.Store.{plan_of}
 use Rattle.jnl_store.specs.declared.store.Store.{Store}
-use Rattle.hfs_model.specs.Parts.{parts_of}
-use Rattle.hfs_model.specs.Thin.{AreThin, IsThin, IsJournal, info_text}
+use Rattle.hfs_model.specs.Thin.{AreThin, IsJournal, info_text}
 use Rattle.hfs_model.specs.declared.parts.Parts.{Parts}
 use Rattle.hfsx_server.specs.Finding.{IsFound, IsLargePlan}
-use Rattle.hfsx_server.specs.Serving.{IsIdle, IsThinPlan, Rests, Stands}
-use Rattle.hfsx_server.specs.Volume.{Holds, MountsTo, Tree}
+use Rattle.hfsx_server.specs.Serving.{IsThinPlan}
+use Rattle.hfsx_server.specs.Volume.{Holds, MountsTo}
 use Rattle.hfsx_server.specs.declared.mounting.FoundVolume.{FoundVolume}
 use Rattle.hfsx_server.proofs.Mounts.{ThinImage, accepted_again, mounts_thin, thin_image}
 use Rattle.hfsx_server.proofs.Recoveries.{recovery_parts}

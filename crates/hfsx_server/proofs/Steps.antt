@@ -1,10 +1,9 @@
 -- Stretches of calls: what a crash leaves where some of them touch no device.
-use Rattle.std.proofs.Common.{◌≡◌, ◌⊎◌, ◌<◌, ◌≤◌, ◌∷◌, [], ℕ, List, IsTrue, inl, inr, ⊎_elim, length, refl, sym, ◌∙◌, ap, subst, arith}
+use Rattle.std.proofs.Common.{◌≡◌, inl, inr, ⊎_elim, refl, ◌∙◌, subst, arith}
 use Rattle.sector_disk.specs.Lists.{Content}
-use Rattle.sector_disk.specs.Clock.{Clock, TimePasses, WithTold}
-use Rattle.sector_disk.specs.Disk.{State, Candidates, IsImage, HasNothingPending, CrashesLeave, LeftNow, SameDisk, SameSink, Untouched, content, content_of, only}
-use Rattle.sector_disk.proofs.Passing.{none_passes, both_pass, passes_with}
-use Rattle.sector_disk.proofs.Stages.{image_only, leaves_both}
+use Rattle.sector_disk.specs.Disk.{State, Candidates, IsImage, HasNothingPending, CrashesLeave, Untouched, content}
+use Rattle.sector_disk.proofs.Passing.{none_passes, passes_with}
+use Rattle.sector_disk.proofs.Stages.{image_only}
 use Rattle.sector_disk.specs.Disk.{OnlyReads}
 
 pub untouched_none : (old : State) → Untouched old old

@@ -1,9 +1,9 @@
 -- Lines that are told piece by piece.
 use Rattle.std.proofs.Common.{◌≡◌, ◌≤◌, ◌<◌, ◌+◌, ◌++◌, ◌∷◌, [], ℕ, zero, suc, List, Result, Ok, Err, IsTrue, inl, inr, ⊎_elim, subst, length, take, drop, get_or, refl, sym, ◌∙◌, ap, arith, append_assoc, length-append, take-append-drop}
 use Rattle.std.specs.Prelude.{OnOk, OnErr}
+use Rattle.std.specs.List.{flat_map}
 use Rattle.std.proofs.lemmas.List.{append-nil, take-append-le}
 use Rattle.std.proofs.lemmas.Grind.{flat_map-append}
-use Rattle.hfs_language.specs.Text.{field, fields}
 use Rattle.std.proofs.Math.Seq.{take-append-add}
 use Rattle.sector_disk.specs.Cause.{Rose, HasCause}
 use Rattle.sector_disk.specs.Disk.{State, SameDisk, ToldPrefix}
@@ -108,74 +108,76 @@ told_nothing old = record {
   cause = record { later = omega arith; failed = tt };
 }
 
-fields_more : (list : List ℕ) (k : ℕ) → k < length list → fields (take (suc k) list) ≡ fields (take k list) ++ field (get_or list k 0)
-fields_more [] k inside = absurd (omega (arith, inside))
-fields_more (n ∷ []) zero inside = append-nil (field n)
-fields_more (n ∷ m ∷ list) zero inside = append-nil (field n)
-fields_more (n ∷ list) (suc k) inside = ap (λ (l : List ℕ). field n ++ l) (fields_more list k (omega (arith, inside))) ∙ sym (append_assoc (field n) (fields (take k list)) (field (get_or list k 0)))
+-- texts one behind the other, each that of an item of a list
+module _ {A : Type 0} (f : A → List ℕ) (none : A) where
+  texts_more : (list : List A) (k : ℕ) → k < length list → flat_map f (take (suc k) list) ≡ flat_map f (take k list) ++ f (get_or list k none)
+  texts_more [] k inside = absurd (omega (arith, inside))
+  texts_more (n ∷ []) zero inside = append-nil (f n)
+  texts_more (n ∷ m ∷ list) zero inside = append-nil (f n)
+  texts_more (n ∷ list) (suc k) inside = ap (λ (l : List ℕ). f n ++ l) (texts_more list k (omega (arith, inside))) ∙ sym (append_assoc (f n) (flat_map f (take k list)) (f (get_or list k none)))
 
-fields_next : (list : List ℕ) (k : ℕ) → k < length list → fields (take (k + 1) list) ≡ fields (take k list) ++ field (get_or list k 0)
-fields_next list k inside =
-    let same : suc k ≡ k + 1 = omega arith in
-    subst (λ (n : ℕ). fields (take n list) ≡ fields (take k list) ++ field (get_or list k 0)) same (fields_more list k inside)
+  texts_next : (list : List A) (k : ℕ) → k < length list → flat_map f (take (k + 1) list) ≡ flat_map f (take k list) ++ f (get_or list k none)
+  texts_next list k inside =
+      let same : suc k ≡ k + 1 = omega arith in
+      subst (λ (n : ℕ). flat_map f (take n list) ≡ flat_map f (take k list) ++ f (get_or list k none)) same (texts_more list k inside)
 
-fields_split : (list : List ℕ) (k : ℕ) → k < length list → (fields (take k list) ++ field (get_or list k 0)) ++ fields (drop (k + 1) list) ≡ fields list
-fields_split list k inside =
-    ap (λ (l : List ℕ). l ++ fields (drop (k + 1) list)) (sym (fields_next list k inside)) ∙ sym (flat_map-append field (take (k + 1) list) (drop (k + 1) list))
-    ∙ ap (λ (l : List ℕ). fields l) (take-append-drop (k + 1) list)
+  texts_split : (list : List A) (k : ℕ) → k < length list → (flat_map f (take k list) ++ f (get_or list k none)) ++ flat_map f (drop (k + 1) list) ≡ flat_map f list
+  texts_split list k inside =
+      ap (λ (l : List ℕ). l ++ flat_map f (drop (k + 1) list)) (sym (texts_next list k inside)) ∙ sym (flat_map-append f (take (k + 1) list) (drop (k + 1) list))
+      ∙ ap (λ (l : List A). flat_map f l) (take-append-drop (k + 1) list)
 
--- one number more
-pub told_next : {T E : Type 0} (old mid new : State) (list : List ℕ) (k : ℕ) (x : T) → k < length list → ToldAll old mid (fields (take k list)) → Telling {E = E} mid new (field (get_or list k 0)) (Ok x) → ToldAll old new (fields (take (k + 1) list))
-told_next old mid new list k x inside so_far told =
-    let both = telling_both {E = ℕ} old mid new (fields (take k list)) (field (get_or list k 0)) (Ok 0) (Ok x) 0 refl so_far (record {
-      told = told.told;
-      unsure = told.unsure;
-      candidates = told.candidates;
-      barriers = told.barriers;
-      faults = told.faults;
-      same = told.same;
-      cause = record { later = told.cause.later; failed = tt };
-    }) in
-    subst (λ (l : List ℕ). ToldAll old new l) (sym (fields_next list k inside)) (record {
-      told = both.told;
-      unsure = both.unsure;
-      candidates = both.candidates;
-      barriers = both.barriers;
-      faults = both.faults;
-      same = both.same;
-      cause = record { later = both.cause.later; failed = tt };
-    })
+  -- one item more
+  pub told_next : {T E : Type 0} (old mid new : State) (list : List A) (k : ℕ) (x : T) → k < length list → ToldAll old mid (flat_map f (take k list)) → Telling {E = E} mid new (f (get_or list k none)) (Ok x) → ToldAll old new (flat_map f (take (k + 1) list))
+  told_next old mid new list k x inside so_far told =
+      let both = telling_both {E = ℕ} old mid new (flat_map f (take k list)) (f (get_or list k none)) (Ok 0) (Ok x) 0 refl so_far (record {
+        told = told.told;
+        unsure = told.unsure;
+        candidates = told.candidates;
+        barriers = told.barriers;
+        faults = told.faults;
+        same = told.same;
+        cause = record { later = told.cause.later; failed = tt };
+      }) in
+      subst (λ (l : List ℕ). ToldAll old new l) (sym (texts_next list k inside)) (record {
+        told = both.told;
+        unsure = both.unsure;
+        candidates = both.candidates;
+        barriers = both.barriers;
+        faults = both.faults;
+        same = both.same;
+        cause = record { later = both.cause.later; failed = tt };
+      })
 
--- the last number that was begun failed
-pub told_failed : {T U E : Type 0} (old mid new : State) (list : List ℕ) (k : ℕ) (e f : E) (q : Result U E) → k < length list → q ≡ Err f → ToldAll old mid (fields (take k list)) → Telling {T = T} mid new (field (get_or list k 0)) (Err e) → Telling old new (fields list) q
-told_failed {T} {U} {E} old mid new list k e f q inside failed so_far told =
-    let first = fields (take k list) ++ field (get_or list k 0) in
-    let so : Telling {T = ℕ} {E = E} old mid (fields (take k list)) (Ok 0) = record {
-      told = so_far.told;
-      unsure = so_far.unsure;
-      candidates = so_far.candidates;
-      barriers = so_far.barriers;
-      faults = so_far.faults;
-      same = so_far.same;
-      cause = record { later = so_far.cause.later; failed = tt };
-    } in
-    let both : Telling {T = T} {E = E} old new first (Err e) = telling_both old mid new (fields (take k list)) (field (get_or list k 0)) (Ok 0) (Err e) 0 refl so told in
-    subst (λ (l : List ℕ). Telling old new l q) (fields_split list k inside) (telling_failed old new first (fields (drop (k + 1) list)) (Err e) q e f refl failed both)
+  -- the last item that was begun failed
+  pub told_failed : {T U E : Type 0} (old mid new : State) (list : List A) (k : ℕ) (e g : E) (q : Result U E) → k < length list → q ≡ Err g → ToldAll old mid (flat_map f (take k list)) → Telling {T = T} mid new (f (get_or list k none)) (Err e) → Telling old new (flat_map f list) q
+  told_failed {T} {U} {E} old mid new list k e g q inside failed so_far told =
+      let first = flat_map f (take k list) ++ f (get_or list k none) in
+      let so : Telling {T = ℕ} {E = E} old mid (flat_map f (take k list)) (Ok 0) = record {
+        told = so_far.told;
+        unsure = so_far.unsure;
+        candidates = so_far.candidates;
+        barriers = so_far.barriers;
+        faults = so_far.faults;
+        same = so_far.same;
+        cause = record { later = so_far.cause.later; failed = tt };
+      } in
+      let both : Telling {T = T} {E = E} old new first (Err e) = telling_both old mid new (flat_map f (take k list)) (f (get_or list k none)) (Ok 0) (Err e) 0 refl so told in
+      subst (λ (l : List ℕ). Telling old new l q) (texts_split list k inside) (telling_failed old new first (flat_map f (drop (k + 1) list)) (Err e) q e g refl failed both)
 
--- all numbers were told
-pub told_whole : {T E : Type 0} (old new : State) (list : List ℕ) (k : ℕ) (x : T) → take k list ≡ list → ToldAll old new (fields (take k list)) → Telling {E = E} old new (fields list) (Ok x)
-told_whole old new list k x all so_far =
-    let whole = subst (λ (l : List ℕ). ToldAll old new (fields l)) all so_far in
-    record {
-      told = whole.told;
-      unsure = whole.unsure;
-      candidates = whole.candidates;
-      barriers = whole.barriers;
-      faults = whole.faults;
-      same = whole.same;
-      cause = record { later = whole.cause.later; failed = tt };
-    }
+  -- all items were told
+  pub told_whole : {T E : Type 0} (old new : State) (list : List A) (k : ℕ) (x : T) → take k list ≡ list → ToldAll old new (flat_map f (take k list)) → Telling {E = E} old new (flat_map f list) (Ok x)
+  told_whole old new list k x all so_far =
+      let whole = subst (λ (l : List A). ToldAll old new (flat_map f l)) all so_far in
+      record {
+        told = whole.told;
+        unsure = whole.unsure;
+        candidates = whole.candidates;
+        barriers = whole.barriers;
+        faults = whole.faults;
+        same = whole.same;
+        cause = record { later = whole.cause.later; failed = tt };
+      }
 
-pub take_nothing : (list : List ℕ) → take 0 list ≡ []
+pub take_nothing : {A : Type 0} (list : List A) → take 0 list ≡ []
 take_nothing [] = refl
 take_nothing (n ∷ list) = refl

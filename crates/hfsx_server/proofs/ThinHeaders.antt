@@ -1,13 +1,13 @@
 -- The volume header of a thin volume: it is accepted, and its volume isn't locked.
-use Rattle.std.proofs.Common.{◌≡◌, ◌⊎◌, ◌<◌, ◌≤◌, ◌+◌, ◌*◌, ◌/◌, ◌^◌, ℕ, Bool, true, false, List, [], ◌∷◌, inl, inr, IsTrue, length, replicate, get_or, refl, sym, ◌∙◌, ap, subst, arith}
-use Rattle.std.specs.Prelude.{None, slice_index, nat_le}
+use Rattle.std.proofs.Common.{◌≡◌, ◌<◌, ◌≤◌, ◌^◌, ℕ, Bool, true, false, inl, inr, IsTrue, length, replicate, refl, sym, ◌∙◌, ap, subst, arith}
+use Rattle.std.specs.Prelude.{None}
 use Rattle.std.specs.Int.{bit_at}
 use Rattle.std.proofs.lemmas.Bool.{cases_lt, and_parts, leb-true}
 use Rattle.std.proofs.lemmas.List.{get_or-replicate, get_or_past, length-replicate}
 use Rattle.hx_bytes.specs.Field.{AreBytes}
 use Rattle.hx_bytes.specs.Fork.{FitsExtent, FitsExtents, FitsFork}
-use Rattle.sector_disk.specs.Lists.{Content, sector}
-use Rattle.volume_header.specs.Refusal.{header_refusal, is_locked, is_unmounted}
+use Rattle.sector_disk.specs.Lists.{Content}
+use Rattle.volume_header.specs.Refusal.{header_refusal, is_locked}
 use Rattle.volume_header.specs.Header.{header_of, header_bytes, FitsHeader}
 use Rattle.volume_header.specs.declared.header.VolumeHeader.{VolumeHeader}
 use Rattle.volume_header.proofs.ReadBack.{header_of-header_bytes}
@@ -15,7 +15,7 @@ use Rattle.jnl_format.specs.Recovery.{header_of_volume, info_sector_of, journali
 use Rattle.jnl_format.specs.Keeping.{KeepsHeader}
 use Rattle.jnl_format.specs.Keeping.{IsSame}
 use Rattle.hfs_model.specs.Names.{are_thin_names}
-use Rattle.hfs_model.specs.Thin.{AreThin, IsHeader, is_clean_in, thin_header, one_run, special_fork, writes_in}
+use Rattle.hfs_model.specs.Thin.{AreThin, is_clean_in, thin_header, one_run, special_fork, writes_in}
 use Rattle.hfs_model.specs.declared.parts.Parts.{Parts}
 use Rattle.hfs_model.proofs.HeaderChecks.{is_clean_at, writes_at}
 use Rattle.hfsx_server.specs.Serving.{KeepsMark}

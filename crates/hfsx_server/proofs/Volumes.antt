@@ -1,9 +1,9 @@
 -- What a disk holds after its parts were read or written.
-use Rattle.std.proofs.Common.{◌≡◌, ◌<◌, ◌≤◌, ◌+◌, ◌-◌, ◌∷◌, [], ℕ, List, IsTrue, length, get_or, refl, sym, ◌∙◌, ap, subst, arith}
+use Rattle.std.proofs.Common.{◌≡◌, ◌<◌, ◌≤◌, ◌+◌, ◌∷◌, [], ℕ, List, IsTrue, length, get_or, refl, sym, ◌∙◌, ap, subst, arith}
 use Rattle.std.specs.Prelude.{slice_range}
 use Rattle.std.proofs.lemmas.List.{ext_get_or, length-map}
 use Rattle.sector_disk.specs.Lists.{Content, sector, put_sectors, last}
-use Rattle.sector_disk.specs.Disk.{State, IsDisk, Candidates, SameDisk, SameSink, HasNothingPending, content, content_of, only}
+use Rattle.sector_disk.specs.Disk.{State, IsDisk, Candidates, HasNothingPending, content, content_of, only}
 use Rattle.sector_disk.proofs.Candidates.{content_of-only}
 use Rattle.std.proofs.Common.{Bool, true, false, cond}
 use Rattle.std.specs.Prelude.{◌==◌}
@@ -19,7 +19,7 @@ use Rattle.hfs_model.specs.Thin.{AreThin, IsThin}
 use Rattle.hfsx_server.specs.Volume.{HoldsAll}
 use Rattle.hfsx_server.proofs.Pieces.{sector-range, length-range}
 use Rattle.hfsx_server.proofs.FoldersPlaced.{folders_put, folders_size}
-use Rattle.hfsx_server.proofs.PartsPlaced.{others_put, others_size}
+use Rattle.hfsx_server.proofs.PartsPlaced.{others_put}
 
 -- a disk that tells its content tells each sector
 pub size_of : (disk : State) → IsDisk disk → IsTrue disk.tells → length (content disk) ≡ disk.sectors

@@ -1,5 +1,5 @@
 -- Lists of words of a known length.
-use Rattle.std.proofs.Common.{◌≡◌, ◌≤◌, ◌<◌, [], ◌∷◌, ℕ, List, length, get_or, map, refl, sym, ◌∙◌, ap, arith, String, Global}
+use Rattle.std.proofs.Common.{◌≡◌, [], ◌∷◌, List, length, get_or, arith, String, Global}
 use Rattle.std.specs.Prelude.{string_bytes}
 use Rattle.hfsx_server.specs.Words.{texts}
 

@@ -1,7 +1,6 @@
 -- What a run promises, whatever ends it and whenever power fails.
-use Rattle.std.specs.Prelude.{◌≡◌, ◌≤◌, ℕ, List, [], ◌∷◌, ◌++◌, length, map, take, IsTrue, Result}
-use Rattle.sector_disk.specs.Disk.{State, IsImage, HasNothingPending, content}
-use Rattle.sector_disk.specs.Clock.{TimePasses}
+use Rattle.std.specs.Prelude.{◌≡◌, ◌≤◌, ℕ, List, [], ◌∷◌, ◌++◌, length, map, take, IsTrue}
+use Rattle.sector_disk.specs.Disk.{State}
 use Rattle.sector_disk.specs.Lists.{Content}
 use Rattle.sector_disk.specs.Source.{Stream}
 use Rattle.hfs_language.specs.Language.{command_of}

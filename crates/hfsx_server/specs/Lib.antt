@@ -1,6 +1,7 @@
 pub mod Cause
 pub mod Faults
 pub mod Finding
+pub mod Made
 pub mod Input
 pub mod Serving
 pub mod Session

@@ -1,5 +1,5 @@
 -- Lines, their replies and the folders after them, over the names of the folders in the root.
-use Rattle.std.specs.Prelude.{◌≡◌, ℕ, List, [], ◌∷◌, ◌++◌, Bool, true, false, ◌||◌, nat_le, length, map, Result, Ok, Err, Option, Some, None, codes, if◌then◌else◌}
+use Rattle.std.specs.Prelude.{ℕ, List, [], ◌∷◌, ◌++◌, Bool, true, false, ◌||◌, nat_le, length, map, Result, Ok, Err, Option, Some, None, codes, if◌then◌else◌}
 use Rattle.std.specs.Str.{bytes_eq}
 use Rattle.hfs_language.specs.Language.{command_of}
 use Rattle.hfs_model.specs.Names.{is_thin_name, has_name, in_order}

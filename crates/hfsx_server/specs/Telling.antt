@@ -1,5 +1,5 @@
 -- Lines that are told before the program ends.
-use Rattle.std.specs.Prelude.{◌≡◌, ◌⊎◌, ◌≤◌, ◌++◌, ℕ, List, [], ◌∷◌, IsTrue, Result, OnOk, codes, decimal, nat_lt, if◌then◌else◌}
+use Rattle.std.specs.Prelude.{◌≡◌, ◌⊎◌, ◌≤◌, ◌++◌, ℕ, List, [], ◌∷◌, IsTrue, Result, OnOk, codes, nat_lt, if◌then◌else◌}
 use Rattle.sector_disk.specs.Cause.{Rose, HasCause}
 use Rattle.sector_disk.specs.Disk.{State, SameDisk, ToldPrefix, content}
 use Rattle.hfsx_server.specs.declared.refusal.SizeRefusal.{SizeRefusal}
@@ -8,7 +8,7 @@ use Rattle.volume_header.specs.declared.refusal.HeaderRefusal.{HeaderRefusal}
 use Rattle.volume_header.specs.declared.refusal.HeaderRefusal.TheVariants as header
 use Rattle.jnl_format.specs.declared.structures.JnlRefusal.{JnlRefusal}
 use Rattle.jnl_format.specs.declared.structures.JnlRefusal.TheVariants as jnl
-use Rattle.hfs_language.specs.Text.{fields}
+use Rattle.hfs_language.specs.Text.{field, fields}
 use Rattle.hfsx_server.specs.Volume.{Refuses}
 use Rattle.hfsx_server.specs.declared.faults.MountFault.{MountFault}
 use Rattle.hfsx_server.specs.declared.faults.MountFault.TheVariants as fault
@@ -56,9 +56,9 @@ fault_text fault.Memory = refused_text (codes "Memory") []
 abbrev pub size_refusal : ℕ → SizeRefusal
 size_refusal sectors = if nat_lt sectors 16384 then TooSmall sectors else TooLarge sectors
 
--- what is told of a volume that was formatted
-abbrev pub formatted_text : List ℕ
-formatted_text = codes "formatted 2048 blocks, 1692 free\n"
+-- what is told of a volume that was formatted: its blocks, and those that are free
+abbrev pub formatted_text : ℕ → ℕ → List ℕ
+formatted_text blocks free = codes "formatted" ++ field blocks ++ (codes " blocks," ++ field free ++ codes " free\n")
 
 -- the text was told, or the sink failed after a front of it
 abbrev pub ToldUnlessFailed : State → State → List ℕ → Type 0

@@ -1,6 +1,6 @@
 -- What an image is to a mount, and what a disk holds of a volume.
 use Rattle.std.specs.Prelude.{◌≡◌, ◌≢◌, ◌⊎◌, ◌<◌, ◌≤◌, ◌/◌, ℕ, List, length, true, false, None, Some, Ok, Err}
-use Rattle.sector_disk.specs.Disk.{State, IsImage, HasNothingPending, content}
+use Rattle.sector_disk.specs.Disk.{State, HasNothingPending, content}
 use Rattle.sector_disk.specs.Lists.{sector}
 use Rattle.volume_header.specs.Refusal.{header_refusal, is_locked, is_unmounted}
 use Rattle.jnl_format.specs.Recovery.{Content, Journal, header_of_volume, info_sector_of, journal_in, recovery}

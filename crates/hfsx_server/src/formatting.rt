@@ -1,36 +1,64 @@
 // A volume that is formatted.
-ghost use Rattle.std.specs.Prelude.{◌≡◌, ◌≢◌, ◌↔◌, ◌++◌, [], IsTrue, OnOk};
+ghost use Rattle.std.specs.Prelude.{◌≡◌, ◌≢◌, ◌≤◌, ◌⊎◌, ◌↔◌, ◌++◌, [], IsTrue, IfOk, OnOk, None};
 ghost use Rattle.sector_disk.specs.Cause.{HasCause, Rose};
 ghost use Rattle.sector_disk.specs.Disk.{SameDisk, SameSink, content};
 ghost use Rattle.hfs_model.specs.Parts.{parts_of};
 ghost use Rattle.hfs_model.specs.Thin.{AreFresh};
+ghost use Rattle.volume_make.specs.Layout.{free_of};
+ghost use Rattle.volume_make.specs.Refusal.{as_refusal};
 ghost use Rattle.hfsx_server.specs.Cause.{IsCause};
+ghost use Rattle.hfsx_server.specs.Made.{HasBlocks, IsMade, IsNoSize, journal_sectors, made_layout};
 ghost use Rattle.hfsx_server.specs.Telling.{Tells, refusal_text, size_refusal, formatted_text};
 ghost use Rattle.hfsx_server.specs.Volume.{IsUnmounted, MountsTo};
 
+use crate::reports::tell_formatted;
 use crate::{SizeRefusal, Status, VOLUME_SECTORS, tell_refusal, write_parts};
-use hfs_model::fresh_parts;
+use hfs_model::{ascii, fresh_parts};
 use hx_bytes::{Failed, Trouble};
-use sector_disk::{Rig, SectorDisk, tell_whole};
+use sector_disk::{Rig, SectorDisk};
 use std::alloc::Global;
+use volume_make::{FormatFault, Summary};
+
+/// The fewest sectors that a volume has, and the most.
+const FEWEST: u64 = 16_384;
+
+const MOST: u64 = 2_147_483_648;
+
+/// The bytes of a block.
+const BLOCK: u32 = 4_096;
+
+/// The most sectors that a journal has.
+const MOST_JOURNAL: u64 = 65_536;
+
+/// The volume's name.
+const NAME: &str = "untitled";
 
 /// The sectors behind the journal header, in which its lists go round.
 const RING: u64 = 25;
 
 const RING_END: u64 = 2_072;
 
-const FORMATTED: &[u8; 33] = b"formatted 2048 blocks, 1692 free\n";
+/// What a thin volume without folders has.
+const THIN: Summary = Summary {
+    files: 2,
+    folders: 0,
+    blocks: 2_048,
+    free: 1_692,
+};
 
-/// Formats an image of 16,384 sectors, and tells its blocks. An image of another size is refused and isn't written.
+/// Formats an image, and tells its blocks and those that are free: blocks of 4,096 bytes, a journal of an eighth of the
+/// image, the name `untitled`. An image of fewer than 16,384 or more than 2,147,483,648 sectors is refused and isn't written.
+/// One of 16,384 sectors becomes a thin volume, which `run` serves.
 pub fn format<R: Rig>(alloc: Global, rig: &mut R) -> Status
-    ensures refused { (result ≡ Status.Refused) ↔ ((R.state rig.old).sectors ≢ VOLUME_SECTORS) }
+    ensures refused { (result ≡ Status.Refused) ↔ IsNoSize (R.state rig.old).sectors }
     ensures refusal { result ≡ Status.Refused → Tells (R.state rig.old) (R.state rig.new) (refusal_text (size_refusal (R.state rig.old).sectors)) }
-    ensures unmounted { IsTrue (R.state rig.old).tells → result ≡ Status.Done → IsUnmounted (R.state rig.new) [] }
+    ensures made { IsTrue (R.state rig.old).tells → result ≡ Status.Done → (R.state rig.old).sectors ≢ VOLUME_SECTORS → IsMade (R.state rig.old) (R.state rig.new) }
+    ensures unmounted { IsTrue (R.state rig.old).tells → result ≡ Status.Done → (R.state rig.old).sectors ≡ VOLUME_SECTORS → IsUnmounted (R.state rig.new) [] }
     // Also where a volume leaves it open its parts are as they are formatted: write count 0, and a journal that begins at its
     // second sector and is empty.
-    ensures fresh { IsTrue (R.state rig.old).tells → result ≡ Status.Done → AreFresh (parts_of (content (R.state rig.new))) }
-    ensures mounts { IsTrue (R.state rig.old).tells → result ≡ Status.Done → MountsTo (content (R.state rig.new)) [] }
-    ensures told { IsTrue (R.state rig.old).tells → result ≡ Status.Done → (R.state rig.new).told ≡ (R.state rig.old).told ++ formatted_text }
+    ensures fresh { IsTrue (R.state rig.old).tells → result ≡ Status.Done → (R.state rig.old).sectors ≡ VOLUME_SECTORS → AreFresh (parts_of (content (R.state rig.new))) }
+    ensures mounts { IsTrue (R.state rig.old).tells → result ≡ Status.Done → (R.state rig.old).sectors ≡ VOLUME_SECTORS → MountsTo (content (R.state rig.new)) [] }
+    ensures told { IsTrue (R.state rig.old).tells → result ≡ Status.Done → (R.state rig.new).told ≡ (R.state rig.old).told ++ formatted_text (made_layout (R.state rig.old).sectors).total (free_of (made_layout (R.state rig.old).sectors)) }
     ensures no_usage { result ≢ Status.Usage }
     ensures no_source { result ≢ Status.Source }
     ensures no_many { result ≢ Status.TooMany }
@@ -39,27 +67,82 @@ pub fn format<R: Rig>(alloc: Global, rig: &mut R) -> Status
     ensures same { SameDisk (R.state rig.old) (R.state rig.new) }
 {
     let sectors = rig.sectors();
-    if sectors < VOLUME_SECTORS {
+    if sectors < FEWEST {
         tell_refusal(rig, SizeRefusal::TooSmall(sectors));
         return Status::Refused;
     }
-    if sectors > VOLUME_SECTORS {
+    if sectors > MOST {
         tell_refusal(rig, SizeRefusal::TooLarge(sectors));
         return Status::Refused;
     }
     match make_volume(alloc, rig) {
-        Ok(()) => {}
-        Err(Trouble::Disk) => return Status::Disk,
-        Err(Trouble::Memory) => return Status::Memory,
-    }
-    match tell_whole(rig, FORMATTED) {
-        Ok(()) => Status::Done,
-        Err(Failed) => Status::Sink,
+        Ok(summary) => match tell_formatted(rig, summary) {
+            Ok(()) => Status::Done,
+            Err(Failed) => Status::Sink,
+        },
+        Err(Trouble::Disk) => Status::Disk,
+        Err(Trouble::Memory) => Status::Memory,
     }
 }
 
-// Writes a volume without folders.
-fn make_volume<D: SectorDisk>(alloc: Global, disk: &mut D) -> Result<(), Trouble>
+// Writes a volume without folders: the thin one where it has its size.
+fn make_volume<D: SectorDisk>(alloc: Global, disk: &mut D) -> Result<Summary, Trouble>
+    requires fewest { FEWEST ≤ (D.state disk.old).sectors }
+    requires most { (D.state disk.old).sectors ≤ MOST }
+    ensures blocks { IfOk result (HasBlocks (D.state disk.old).sectors) }
+    ensures made { IsTrue (D.state disk.old).tells → OnOk result ((D.state disk.old).sectors ≢ VOLUME_SECTORS → IsMade (D.state disk.old) (D.state disk.new)) }
+    ensures unmounted { IsTrue (D.state disk.old).tells → OnOk result ((D.state disk.old).sectors ≡ VOLUME_SECTORS → IsUnmounted (D.state disk.new) []) }
+    ensures fresh { IsTrue (D.state disk.old).tells → OnOk result ((D.state disk.old).sectors ≡ VOLUME_SECTORS → AreFresh (parts_of (content (D.state disk.new)))) }
+    ensures same { SameDisk (D.state disk.old) (D.state disk.new) }
+    ensures sink { SameSink (D.state disk.old) (D.state disk.new) }
+    ensures cause { IsCause Trouble.Disk (D.state disk.old).faults (D.state disk.new).faults result }
+{
+    if disk.sectors() == VOLUME_SECTORS {
+        make_thin(alloc, disk)?;
+        Ok(THIN)
+    } else {
+        make_other(alloc, disk)
+    }
+}
+
+// Writes a volume of any size.
+fn make_other<D: SectorDisk>(alloc: Global, disk: &mut D) -> Result<Summary, Trouble>
+    requires fewest { FEWEST ≤ (D.state disk.old).sectors }
+    requires most { (D.state disk.old).sectors ≤ MOST }
+    ensures blocks { IfOk result (HasBlocks (D.state disk.old).sectors) }
+    ensures made { IsTrue (D.state disk.old).tells → OnOk result (IsMade (D.state disk.old) (D.state disk.new)) }
+    ensures same { SameDisk (D.state disk.old) (D.state disk.new) }
+    ensures sink { SameSink (D.state disk.old) (D.state disk.new) }
+    ensures cause { IsCause Trouble.Disk (D.state disk.old).faults (D.state disk.new).faults result }
+{
+    let name = ascii(alloc, NAME)?;
+    let journal = journal_sectors(disk.sectors());
+    match fresh_volume::format(alloc, disk, BLOCK, journal, &name) {
+        Ok(summary) => Ok(summary),
+        Err(fault) => Err(trouble_of(fault)),
+    }
+}
+
+// The sectors of the journal: an eighth of all, in whole blocks, up to the most that a journal has. They are 2,048 at least.
+fn journal_sectors(sectors: u64) -> u64
+    ensures { result ≡ journal_sectors sectors }
+{
+    (sectors / 64 * 8).min(MOST_JOURNAL)
+}
+
+// The trouble of a format that isn't refused.
+fn trouble_of(fault: FormatFault) -> Trouble
+    requires { as_refusal fault ≡ None }
+    ensures disk { (result ≡ Trouble.Disk) ↔ (fault ≡ FormatFault.Disk) }
+{
+    match fault {
+        FormatFault::Disk => Trouble::Disk,
+        _ => Trouble::Memory,
+    }
+}
+
+// Writes a thin volume without folders.
+fn make_thin<D: SectorDisk>(alloc: Global, disk: &mut D) -> Result<(), Trouble>
     requires { (D.state disk.old).sectors ≡ VOLUME_SECTORS }
     ensures unmounted { IsTrue (D.state disk.old).tells → OnOk result (IsUnmounted (D.state disk.new) []) }
     ensures fresh { IsTrue (D.state disk.old).tells → OnOk result (AreFresh (parts_of (content (D.state disk.new)))) }

@@ -9,6 +9,7 @@ mod input;
 mod mounting;
 mod puts;
 mod refusal;
+mod reports;
 mod running;
 mod server;
 mod session;

@@ -99,7 +99,7 @@ fn tell_refused<R: Rig>(rig: &mut R, name: &[u8], numbers: &[u64]) -> Result<(),
 }
 
 // Numbers, each behind a space.
-fn tell_numbers<R: Rig>(rig: &mut R, numbers: &[u64]) -> Result<(), Failed>
+pub(crate) fn tell_numbers<R: Rig>(rig: &mut R, numbers: &[u64]) -> Result<(), Failed>
     ensures { Telling (R.state rig.old) (R.state rig.new) (fields numbers.now) result }
 {
     for number in numbers {
@@ -108,7 +108,7 @@ fn tell_numbers<R: Rig>(rig: &mut R, numbers: &[u64]) -> Result<(), Failed>
     Ok(())
 }
 
-fn tell_number<R: Rig>(rig: &mut R, number: u64) -> Result<(), Failed>
+pub(crate) fn tell_number<R: Rig>(rig: &mut R, number: u64) -> Result<(), Failed>
     ensures { Telling (R.state rig.old) (R.state rig.new) (field number) result }
 {
     let mut buffer = Buffer::new();
@@ -116,7 +116,7 @@ fn tell_number<R: Rig>(rig: &mut R, number: u64) -> Result<(), Failed>
     tell_piece(rig, buffer.format(number).as_bytes())
 }
 
-fn tell_piece<R: Rig>(rig: &mut R, bytes: &[u8]) -> Result<(), Failed>
+pub(crate) fn tell_piece<R: Rig>(rig: &mut R, bytes: &[u8]) -> Result<(), Failed>
     ensures { Telling (R.state rig.old) (R.state rig.new) bytes.now result }
 {
     tell_whole(rig, bytes)

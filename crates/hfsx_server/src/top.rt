@@ -6,6 +6,8 @@ ghost use Rattle.hfs_language.specs.Lines.{lines};
 ghost use Rattle.hfs_model.specs.Parts.{parts_of};
 ghost use Rattle.hfs_model.specs.Thin.{AreFresh};
 ghost use Rattle.hfsx_server.specs.Headline.{Entry, Headline, IsAnswered, IsAnsweredToTheLast, IsFinished};
+ghost use Rattle.volume_make.specs.Layout.{free_of};
+ghost use Rattle.hfsx_server.specs.Made.{IsMade, IsNoSize, made_layout};
 ghost use Rattle.hfsx_server.specs.Telling.{ToldRefusal, ToldUnlessFailed, refusal_text, size_refusal, usage_text, formatted_text};
 ghost use Rattle.hfsx_server.specs.Volume.{Tree, IsMountable, IsUnmounted, MountsTo};
 ghost use Rattle.hfsx_server.specs.Words.{texts, AreRun, AreFormat, AreInUse};
@@ -16,7 +18,7 @@ use std::alloc::Global;
 
 /// Does what the words after the program's name ask for, on an image and with the lines of a source.
 ///
-/// `format IMAGE SECTORS` writes an empty volume, and `run IMAGE` answers line after line. The name of the image
+/// `format IMAGE SECTORS` makes an empty volume, and `run IMAGE` answers line after line. The name of the image
 /// is the caller's, who opened it. Other words tell how the program is called.
 pub fn hfsx<R: Rig, S: Source>(
     alloc: Global,
@@ -28,17 +30,24 @@ pub fn hfsx<R: Rig, S: Source>(
     ensures usage { (result ≡ Status.Usage) ↔ ¬ (AreInUse (texts words.now) (R.state rig.old).sectors) }
     ensures usage_told { IsTrue (R.state rig.old).tells → result ≡ Status.Usage → ToldUnlessFailed (R.state rig.old) (R.state rig.new) usage_text }
 
-    // `format`: status 1 stands exactly where the image hasn't 16,384 sectors.
-    ensures format_refused { AreFormat (texts words.now) (R.state rig.old).sectors → (result ≡ Status.Refused) ↔ ((R.state rig.old).sectors ≢ 16384) }
+    // `format`: status 1 stands exactly where the image has fewer than 16,384 sectors or more than 2,147,483,648.
+    ensures format_refused { AreFormat (texts words.now) (R.state rig.old).sectors → (result ≡ Status.Refused) ↔ IsNoSize (R.state rig.old).sectors }
     ensures format_refusal { AreFormat (texts words.now) (R.state rig.old).sectors → IsTrue (R.state rig.old).tells → result ≡ Status.Refused
         → ToldUnlessFailed (R.state rig.old) (R.state rig.new) (refusal_text (size_refusal (R.state rig.old).sectors)) }
-    // Status 0 means that the image is a volume without folders, unmounted and with nothing pending, that it mounts to the
-    // tree without folders, and that its line was told.
-    ensures formatted { AreFormat (texts words.now) (R.state rig.old).sectors → IsTrue (R.state rig.old).tells → result ≡ Status.Done
-        → IsUnmounted (R.state rig.new) [] × MountsTo (content (R.state rig.new)) [] × ((R.state rig.new).told ≡ (R.state rig.old).told ++ formatted_text) }
+    // Status 0 means that its line was told, with its blocks and those that are free.
+    ensures format_told { AreFormat (texts words.now) (R.state rig.old).sectors → IsTrue (R.state rig.old).tells → result ≡ Status.Done
+        → (R.state rig.new).told ≡ (R.state rig.old).told ++ formatted_text (made_layout (R.state rig.old).sectors).total (free_of (made_layout (R.state rig.old).sectors)) }
+    // With 16,384 sectors it means that the image is a volume without folders, unmounted and with nothing pending, and that it
+    // mounts to the tree without folders.
+    ensures formatted { AreFormat (texts words.now) (R.state rig.old).sectors → IsTrue (R.state rig.old).tells → result ≡ Status.Done → (R.state rig.old).sectors ≡ 16384
+        → IsUnmounted (R.state rig.new) [] × MountsTo (content (R.state rig.new)) [] }
     // Its parts are as they are formatted, also where a volume leaves it open: write count 0, and a journal that begins at its
     // second sector and is empty.
-    ensures format_fresh { AreFormat (texts words.now) (R.state rig.old).sectors → IsTrue (R.state rig.old).tells → result ≡ Status.Done → AreFresh (parts_of (content (R.state rig.new))) }
+    ensures format_fresh { AreFormat (texts words.now) (R.state rig.old).sectors → IsTrue (R.state rig.old).tells → result ≡ Status.Done → (R.state rig.old).sectors ≡ 16384
+        → AreFresh (parts_of (content (R.state rig.new))) }
+    // With any other number of sectors it means that each part of the volume has its text, and that nothing is pending.
+    ensures format_made { AreFormat (texts words.now) (R.state rig.old).sectors → IsTrue (R.state rig.old).tells → result ≡ Status.Done → (R.state rig.old).sectors ≢ 16384
+        → IsMade (R.state rig.old) (R.state rig.new) }
 
     // `run`: status 1 stands exactly where the image isn't mountable, unless it couldn't be read, and then the first refusal
     // that stands is told.

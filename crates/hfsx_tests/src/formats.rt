@@ -11,7 +11,7 @@ const USAGE: &str = "usage: hfsx format IMAGE SECTORS | run IMAGE | check IMAGE 
 #[test]
 fn a_size_is_refused_or_formatted(rt: HostRuntime) -> Result<(), Fail> {
     let alloc = rt.alloc();
-    // A sector too few, the one size that there is, and a sector too many.
+    // A sector too few, the least size, one whose last sector is in no block, and another.
     for (sectors, line, status, told) in [
         (
             16_383,
@@ -28,8 +28,14 @@ fn a_size_is_refused_or_formatted(rt: HostRuntime) -> Result<(), Fail> {
         (
             16_385,
             "format v.img 16385",
-            Status::Refused,
-            "refused TooLarge 16385\n",
+            Status::Done,
+            "formatted 2048 blocks, 1692 free\n",
+        ),
+        (
+            20_000,
+            "format v.img 20000",
+            Status::Done,
+            "formatted 2500 blocks, 2088 free\n",
         ),
     ] {
         let mut rig = MemRig::new(alloc, sectors)?;
@@ -55,6 +61,37 @@ fn a_format_clears_the_lists_of_the_journal(rt: HostRuntime) -> Result<(), Fail>
     }
     // A sector that belongs to no structure stays as it was.
     assert_eq!(rt; sector_of(&mut rig, 2_400), [0xA5; 512]);
+    Ok(())
+}
+
+#[test]
+fn a_volume_of_another_size_is_made_and_not_served(rt: HostRuntime) -> Result<(), Fail> {
+    let alloc = rt.alloc();
+    let mut rig = MemRig::new(alloc, 20_000)?;
+    for at in 0..20_000 {
+        put(&mut rig, at, &[0xA5; 512]);
+    }
+    assert_eq!(rt;
+        run_on(alloc, "format v.img 20000", &mut rig, b"")?,
+        Status::Done
+    );
+    // The header stands in its two places, with 2,500 blocks.
+    let header = sector_of(&mut rig, 2);
+    assert_eq!(rt;
+        &header[40..48],
+        [0, 0, 0x10, 0, 0, 0, 0x09, 0xC4].as_slice()
+    );
+    assert_eq!(rt; sector_of(&mut rig, 19_998), header);
+    // The journal has 2,496 sectors from block 3 on, and its lists are cleared.
+    let info = sector_of(&mut rig, 16);
+    assert_eq!(rt; &info[44..52], [0, 0, 0, 0, 0, 0x13, 0x80, 0].as_slice());
+    assert_eq!(rt; sector_of(&mut rig, 2_519), [0; 512]);
+    // A node that no record reaches is cleared, and a free sector stays as it was.
+    assert_eq!(rt; sector_of(&mut rig, 3_287), [0; 512]);
+    assert_eq!(rt; sector_of(&mut rig, 3_288), [0xA5; 512]);
+    let image = rig.image(alloc, 1)?;
+    let mut made = MemRig::from_image(alloc, &image)?;
+    assert!(rt; is_refused(alloc, &mut made, "refused NotYet 0\n")?);
     Ok(())
 }
 

@@ -1,4 +1,4 @@
-use Rattle.std.proofs.Common.{◌≤◌, ◌∙◌, sym, arith}
+use Rattle.std.proofs.Common.{◌∙◌, arith}
 use Rattle.hfsx_server.proofs.Changed.{folders_ready}
 use Rattle.hfsx_server.proofs.Steps.{untouched_leaves}
 use Rattle.hfsx_server.proofs.changing.change_folders.Goals as goal

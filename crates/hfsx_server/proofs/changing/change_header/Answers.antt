@@ -1,4 +1,4 @@
-use Rattle.std.proofs.Common.{◌<◌, ◌≤◌, ◌+◌, ◌∙◌, sym, arith}
+use Rattle.std.proofs.Common.{◌∙◌, arith}
 use Rattle.hfs_model.specs.Parts.{with_header}
 use Rattle.hfsx_server.proofs.Changed.{open_low, header_ready}
 use Rattle.hfsx_server.proofs.Steps.{untouched_leaves}

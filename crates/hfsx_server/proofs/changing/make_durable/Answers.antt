@@ -1,6 +1,3 @@
-use Rattle.std.proofs.Common.{◌≡◌}
-use Rattle.jnl_store.specs.Standing.{MakesDurable}
-use Rattle.jnl_store.specs.Store.{KeepsOn}
 use Rattle.hfsx_server.proofs.Results.{on_ok}
 use Rattle.hfsx_server.proofs.Durable.{change_crash, change_idle, change_rests, header_kept, version_kept, on_ok_two}
 use Rattle.hfsx_server.proofs.changing.make_durable.Goals as goal

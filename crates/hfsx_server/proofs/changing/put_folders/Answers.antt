@@ -1,6 +1,6 @@
-use Rattle.std.proofs.Common.{◌≡◌, ◌<◌, ◌≤◌, ◌+◌, [], ◌∷◌, length, ◌∙◌, ap, arith}
+use Rattle.std.proofs.Common.{◌≡◌, length, ◌∙◌, ap, arith}
 use Rattle.sector_disk.specs.Lists.{Content}
-use Rattle.hfsx_server.proofs.Changed.{open_low, open_high}
+use Rattle.hfsx_server.proofs.Changed.{open_high}
 use Rattle.hfsx_server.proofs.changing.put_folders.Goals as goal
 
 pub put_list-requires-clause-inside : goal.put_list-requires-clause-inside

@@ -1,12 +1,15 @@
 use Rattle.std.proofs.Common.{◌≡◌, ◌<◌, ◌∙◌, ◌++◌, [], ℕ, List, IsTrue, sym, ap, subst, arith}
+use Rattle.volume_make.specs.Layout.{free_of}
+use Rattle.hfsx_server.specs.Made.{made_layout}
 use Rattle.hfsx_server.specs.Telling.{Tells, refusal_text, size_refusal, formatted_text}
-use Rattle.hfsx_server.proofs.Formatted.{fresh_told, unmounted_told}
+use Rattle.hfsx_server.proofs.Formatted.{fresh_told, made_told, unmounted_told}
+use Rattle.hfsx_server.proofs.MadeSizes.{no_size}
 use Rattle.hfsx_server.proofs.Telling.{too_small, too_large}
 use Rattle.hfsx_server.proofs.ThinMounts.{unmounted_mounts}
 use Rattle.hfsx_server.proofs.formatting.format.Goals as goal
 
-pub returns-then-sectors-lt-VOLUME_SECTORS-clause-refusal : goal.returns-then-sectors-lt-VOLUME_SECTORS-clause-refusal
-returns-then-sectors-lt-VOLUME_SECTORS-clause-refusal g c _ =
+pub returns-then-sectors-lt-FEWEST-clause-refusal : goal.returns-then-sectors-lt-FEWEST-clause-refusal
+returns-then-sectors-lt-FEWEST-clause-refusal g c _ =
     let old = g.R.SectorDisk.state c.args.rig.now in
     let new = g.R.SectorDisk.state c.tell_refusal.new.rig in
     let number : c.sectors-sectors.result ≡ old.sectors = c.sectors-sectors.ensures in
@@ -14,28 +17,50 @@ returns-then-sectors-lt-VOLUME_SECTORS-clause-refusal g c _ =
     subst (λ (n : ℕ). Tells old new (refusal_text (size_refusal n))) number
     (subst (λ refusal. Tells old new (refusal_text refusal)) (sym (too_small c.sectors-sectors.result small)) c.tell_refusal.ensures)
 
-pub returns-then-sectors-gt-VOLUME_SECTORS-clause-refusal : goal.returns-then-sectors-gt-VOLUME_SECTORS-clause-refusal
-returns-then-sectors-gt-VOLUME_SECTORS-clause-refusal g c _ =
+pub returns-then-sectors-gt-MOST-clause-refusal : goal.returns-then-sectors-gt-MOST-clause-refusal
+returns-then-sectors-gt-MOST-clause-refusal g c _ =
     let old = g.R.SectorDisk.state c.args.rig.now in
-    let new = g.R.SectorDisk.state c.tell_refusal-then-sectors-gt-VOLUME_SECTORS.new.rig in
+    let new = g.R.SectorDisk.state c.tell_refusal-then-sectors-gt-MOST.new.rig in
     let number : c.sectors-sectors.result ≡ old.sectors = c.sectors-sectors.ensures in
-    let large : 16384 < c.sectors-sectors.result = omega arith in
+    let large : 2147483648 < c.sectors-sectors.result = omega arith in
     subst (λ (n : ℕ). Tells old new (refusal_text (size_refusal n))) number
-    (subst (λ refusal. Tells old new (refusal_text refusal)) (sym (too_large c.sectors-sectors.result large)) c.tell_refusal-then-sectors-gt-VOLUME_SECTORS.ensures)
+    (subst (λ refusal. Tells old new (refusal_text refusal)) (sym (too_large c.sectors-sectors.result (omega (arith, large)))) c.tell_refusal-then-sectors-gt-MOST.ensures)
 
-pub returns-in-Ok-tell_whole-clause-unmounted : goal.returns-in-Ok-tell_whole-clause-unmounted
-returns-in-Ok-tell_whole-clause-unmounted g c tells _ =
-    unmounted_told (g.R.SectorDisk.state c.make_volume.new.disk) (g.R.SectorDisk.state c.tell_whole.new.rig) [] c.tell_whole.ensures.candidates (c.in-Ok.ensures.unmounted tells)
+pub returns-in-Ok-tell_formatted-clause-refused : goal.returns-in-Ok-tell_formatted-clause-refused
+returns-in-Ok-tell_formatted-clause-refused g c = (
+  λ is. absurd (cc is),
+  λ none. absurd (no_size (g.R.SectorDisk.state c.args.rig.now).sectors c.sectors-sectors.result c.sectors-sectors.ensures c.if-sectors-lt-FEWEST.false c.if-sectors-gt-MOST.false none),
+)
 
-pub returns-in-Ok-tell_whole-clause-told : goal.returns-in-Ok-tell_whole-clause-told
-returns-in-Ok-tell_whole-clause-told g c tells _ =
+pub returns-in-Err-clause-refused : goal.returns-in-Err-clause-refused
+returns-in-Err-clause-refused g c = (
+  λ is. absurd (cc is),
+  λ none. absurd (no_size (g.R.SectorDisk.state c.args.rig.now).sectors c.sectors-sectors.result c.sectors-sectors.ensures c.if-sectors-lt-FEWEST.false c.if-sectors-gt-MOST.false none),
+)
+
+pub returns-in-Ok-tell_formatted-clause-made : goal.returns-in-Ok-tell_formatted-clause-made
+returns-in-Ok-tell_formatted-clause-made g c tells _ other =
+    made_told (g.R.SectorDisk.state c.args.rig.now) (g.R.SectorDisk.state c.make_volume.new.disk) (g.R.SectorDisk.state c.tell_formatted.new.rig) c.tell_formatted.ensures.candidates (c.in-Ok.ensures.made tells other)
+
+pub returns-in-Ok-tell_formatted-clause-unmounted : goal.returns-in-Ok-tell_formatted-clause-unmounted
+returns-in-Ok-tell_formatted-clause-unmounted g c tells _ usual =
+    unmounted_told (g.R.SectorDisk.state c.make_volume.new.disk) (g.R.SectorDisk.state c.tell_formatted.new.rig) [] c.tell_formatted.ensures.candidates (c.in-Ok.ensures.unmounted tells usual)
+
+pub returns-in-Ok-tell_formatted-clause-told : goal.returns-in-Ok-tell_formatted-clause-told
+returns-in-Ok-tell_formatted-clause-told g c tells _ =
     let still = subst IsTrue (sym c.make_volume.ensures.same.tells) tells in
-    c.in-Ok-tell_whole.ensures.told still ∙ ap (λ (l : List ℕ). l ++ formatted_text) c.make_volume.ensures.sink.told
+    let old = g.R.SectorDisk.state c.args.rig.now in
+    let new = g.R.SectorDisk.state c.tell_formatted.new.rig in
+    let blocks = c.in-Ok.ensures.blocks in
+    subst (λ (n : ℕ). new.told ≡ old.told ++ formatted_text n (free_of (made_layout old.sectors))) blocks.blocks
+    (subst (λ (n : ℕ). new.told ≡ old.told ++ formatted_text c.in-Ok.summary.blocks n) blocks.free
+    (c.in-Ok-tell_formatted.ensures.told still ∙ ap (λ (l : List ℕ). l ++ formatted_text c.in-Ok.summary.blocks c.in-Ok.summary.free) c.make_volume.ensures.sink.told))
 
-pub returns-in-Ok-tell_whole-clause-mounts : goal.returns-in-Ok-tell_whole-clause-mounts
-returns-in-Ok-tell_whole-clause-mounts g c tells _ =
-    let new = g.R.SectorDisk.state c.tell_whole.new.rig in
-    unmounted_mounts new [] (unmounted_told (g.R.SectorDisk.state c.make_volume.new.disk) new [] c.tell_whole.ensures.candidates (c.in-Ok.ensures.unmounted tells))
+pub returns-in-Ok-tell_formatted-clause-mounts : goal.returns-in-Ok-tell_formatted-clause-mounts
+returns-in-Ok-tell_formatted-clause-mounts g c tells _ usual =
+    let new = g.R.SectorDisk.state c.tell_formatted.new.rig in
+    unmounted_mounts new [] (unmounted_told (g.R.SectorDisk.state c.make_volume.new.disk) new [] c.tell_formatted.ensures.candidates (c.in-Ok.ensures.unmounted tells usual))
 
-pub returns-in-Ok-tell_whole-clause-fresh : goal.returns-in-Ok-tell_whole-clause-fresh
-returns-in-Ok-tell_whole-clause-fresh g c tells _ = fresh_told (g.R.SectorDisk.state c.make_volume.new.disk) (g.R.SectorDisk.state c.tell_whole.new.rig) c.tell_whole.ensures.candidates (c.in-Ok.ensures.fresh tells)
+pub returns-in-Ok-tell_formatted-clause-fresh : goal.returns-in-Ok-tell_formatted-clause-fresh
+returns-in-Ok-tell_formatted-clause-fresh g c tells _ usual =
+    fresh_told (g.R.SectorDisk.state c.make_volume.new.disk) (g.R.SectorDisk.state c.tell_formatted.new.rig) c.tell_formatted.ensures.candidates (c.in-Ok.ensures.fresh tells usual)

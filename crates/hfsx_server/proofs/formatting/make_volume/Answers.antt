@@ -1,17 +1,25 @@
-use Rattle.std.proofs.Common.{◌∙◌, refl, arith}
+use Rattle.std.proofs.Common.{refl, sym, ◌∙◌, subst}
 use Rattle.hx_bytes.specs.declared.faults.Trouble.TheVariants.{Disk}
+use Rattle.hfs_volume.specs.declared.summary.Summary.{Summary}
+use Rattle.hfsx_server.specs.Made.{HasBlocks}
 use Rattle.hfsx_server.proofs.Causes.{cause_ok}
-use Rattle.hfsx_server.proofs.Formatted.{fresh_held, fresh_unmounted}
+use Rattle.hfsx_server.proofs.Results.{on_ok_of}
+use Rattle.hfsx_server.proofs.MadeSizes.{thin_blocks}
 use Rattle.hfsx_server.proofs.formatting.make_volume.Goals as goal
 
-pub returns-clause-unmounted : goal.returns-clause-unmounted
-returns-clause-unmounted g c tells =
-    let written = c.in_ok-write_parts.ensures in
-    let told = c.clear_ring.ensures.same.tells ∙ tells in
-    fresh_unmounted (g.D.SectorDisk.state c.write_parts.new.disk) c.in_ok-parts.parts (written.written told) c.in_ok-parts.ensures.thin c.in_ok-parts.ensures.fresh (written.settled told)
+pub returns-in_ok-make_thin-clause-blocks : goal.returns-in_ok-make_thin-clause-blocks
+returns-in_ok-make_thin-clause-blocks g c =
+    let summary : Summary = record { files = 2; folders = 0; blocks = 2048; free = 1692 } in
+    subst (λ sectors. HasBlocks sectors summary) (sym c.if-sectors-eq-VOLUME_SECTORS.true ∙ c.sectors.ensures) (thin_blocks summary refl refl)
 
-pub returns-clause-cause : goal.returns-clause-cause
-returns-clause-cause g c = cause_ok Disk _ _ _ _ refl (omega (arith, c.clear_ring.ensures.cause.later, c.write_parts.ensures.cause.later))
+pub returns-in_ok-make_thin-clause-unmounted : goal.returns-in_ok-make_thin-clause-unmounted
+returns-in_ok-make_thin-clause-unmounted g c tells _ = c.in_ok-make_thin.ensures.unmounted tells
 
-pub returns-clause-fresh : goal.returns-clause-fresh
-returns-clause-fresh g c tells = fresh_held (g.D.SectorDisk.state c.write_parts.new.disk) c.in_ok-parts.parts (c.in_ok-write_parts.ensures.written (c.clear_ring.ensures.same.tells ∙ tells)) c.in_ok-parts.ensures.fresh
+pub returns-in_ok-make_thin-clause-fresh : goal.returns-in_ok-make_thin-clause-fresh
+returns-in_ok-make_thin-clause-fresh g c tells _ = c.in_ok-make_thin.ensures.fresh tells
+
+pub returns-in_ok-make_thin-clause-cause : goal.returns-in_ok-make_thin-clause-cause
+returns-in_ok-make_thin-clause-cause g c = cause_ok Disk _ _ _ _ refl c.make_thin.ensures.cause.later
+
+pub returns-else-sectors-eq-VOLUME_SECTORS-clause-unmounted : goal.returns-else-sectors-eq-VOLUME_SECTORS-clause-unmounted
+returns-else-sectors-eq-VOLUME_SECTORS-clause-unmounted g c _ = on_ok_of _ c.make_other.result (λ usual. absurd (c.if-sectors-eq-VOLUME_SECTORS.false (c.sectors.ensures ∙ usual)))

@@ -1,4 +1,4 @@
-use Rattle.std.proofs.Common.{◌≡◌, ◌<◌, ◌∙◌, sym, ap, subst}
+use Rattle.std.proofs.Common.{◌<◌, sym, ap, subst}
 use Rattle.jnl_replay.specs.declared.plan.Place.{Place}
 use Rattle.hfsx_server.proofs.Places.{accepted_place}
 use Rattle.hfsx_server.proofs.mounting.find_journal.Goals as goal

@@ -1,16 +1,14 @@
-use Rattle.std.proofs.Common.{◌≡◌, ◌∙◌, ◌≤◌, IsTrue, MatchOption, Result, refl, sym, ap, subst, arith, List, ℕ}
+use Rattle.std.proofs.Common.{◌≡◌, ◌∙◌, MatchOption, Result, refl, sym, subst, arith, List, ℕ}
 use Rattle.std.specs.Prelude.{IfErr}
 use Rattle.std.proofs.lemmas.Result.{err_from_is_err_and}
-use Rattle.sector_disk.specs.Lists.{Content}
 use Rattle.sector_disk.specs.Disk.{content}
 use Rattle.jnl_format.specs.Recovery.{replayed}
 use Rattle.jnl_replay.specs.Plan.{journal_of}
-use Rattle.jnl_replay.specs.Peeking.{peeked}
 use Rattle.jnl_replay.proofs.Checks.{length-content}
 use Rattle.sector_disk.proofs.Writing.{reads_both}
 use Rattle.jnl_replay.proofs.ReadOn.{same_content}
 use Rattle.hfs_model.specs.Parts.{parts_of}
-use Rattle.hfs_model.specs.Thin.{AreThin, IsThin}
+use Rattle.hfs_model.specs.Thin.{AreThin}
 use Rattle.hfs_model.specs.declared.parts.Parts.{Parts}
 use Rattle.hfsx_server.specs.declared.faults.MountFault.TheVariants.{Disk, NotYet}
 use Rattle.hfsx_server.proofs.Causes.{cause_ok, cause_other, cause_troubled}

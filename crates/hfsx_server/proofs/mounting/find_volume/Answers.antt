@@ -1,9 +1,8 @@
-use Rattle.std.proofs.Common.{◌≡◌, ◌<◌, ◌≤◌, ◌∙◌, ℕ, IsTrue, IfOk, false, refl, sym, ap, subst, arith}
+use Rattle.std.proofs.Common.{◌≡◌, ◌∙◌, sym, subst, arith}
 use Rattle.sector_disk.specs.Lists.{Content}
 use Rattle.sector_disk.specs.Disk.{content}
 use Rattle.jnl_format.specs.Recovery.{recovery, replayed}
 use Rattle.jnl_replay.specs.Plan.{IsPlan, journal_of}
-use Rattle.jnl_replay.specs.declared.plan.Plan.{Plan}
 use Rattle.jnl_replay.proofs.Checks.{length-content}
 use Rattle.sector_disk.proofs.Writing.{reads_both}
 use Rattle.jnl_replay.proofs.ReadOn.{same_content}

@@ -1,4 +1,4 @@
-use Rattle.std.proofs.Common.{rules, arith, sym, ◌≡◌, ap, subst}
+use Rattle.std.proofs.Common.{rules, arith}
 use Rattle.jnl_store.specs.Store.{KeepsOn}
 use Rattle.hfsx_server.proofs.puts.put_sector.Goals as goal
 

@@ -1,4 +1,4 @@
-use Rattle.std.proofs.Common.{◌≡◌, ℕ, sym, subst, rules, [], ◌∷◌}
+use Rattle.std.proofs.Common.{◌≡◌, ℕ, sym, subst, rules}
 use Rattle.hfsx_server.specs.Telling.{Tells, fault_text}
 use Rattle.hfsx_server.specs.declared.faults.MountFault.TheVariants as fault
 use Rattle.hfsx_server.proofs.Telling.{tells_all}

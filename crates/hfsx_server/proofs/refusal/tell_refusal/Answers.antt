@@ -1,4 +1,4 @@
-use Rattle.std.proofs.Common.{◌≡◌, ℕ, sym, subst, rules, [], ◌∷◌}
+use Rattle.std.proofs.Common.{sym, subst}
 use Rattle.hfsx_server.specs.Telling.{Tells, refusal_text}
 use Rattle.hfsx_server.specs.declared.refusal.SizeRefusal.TheVariants.{TooSmall, TooLarge}
 use Rattle.hfsx_server.proofs.Telling.{tells_all}

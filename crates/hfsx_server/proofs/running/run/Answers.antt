@@ -1,17 +1,13 @@
-use Rattle.std.proofs.Common.{◌≡◌, ◌≢◌, ◌⊎◌, ◌≤◌, ◌∙◌, ◌++◌, [], ℕ, List, IsTrue, Result, Err, inl, inr, ⊎_elim, length, refl, sym, ap, subst, arith}
+use Rattle.std.proofs.Common.{◌≡◌, ◌≤◌, ◌∙◌, [], ⊎_elim, subst, arith}
 use Rattle.sector_disk.specs.Disk.{content}
 use Rattle.sector_disk.proofs.Writing.{same_after}
-use Rattle.hfsx_server.specs.declared.faults.MountFault.{MountFault}
-use Rattle.hfsx_server.specs.declared.status.Status.TheVariants as status
-use Rattle.hfsx_server.specs.Headline.{Entry, IsAnswered, IsAnsweredToTheLast, IsFinished}
+use Rattle.hfsx_server.specs.Headline.{IsAnswered, IsAnsweredToTheLast, IsFinished}
 use Rattle.hfsx_server.specs.Serving.{RunSoFar}
-use Rattle.hfsx_server.specs.Telling.{ToldUnlessFailed, fault_text}
-use Rattle.hfsx_server.specs.Volume.{IsFault, IsRefusal, MountsTo, Refuses, Tree}
+use Rattle.hfsx_server.specs.Volume.{IsRefusal, Refuses, Tree}
 use Rattle.hfsx_server.proofs.Finding.{refused_image}
 use Rattle.hfsx_server.proofs.Mounted.{one_tree}
 use Rattle.hfsx_server.proofs.Ran.{answered_before, few_lines, finished_before, headline_of, last_before, mounted_crashes, none_crashes, none_taken, refusal_of, rests_start}
 use Rattle.hfsx_server.proofs.Statuses.{rose_later, stopped_status}
-use Rattle.hfsx_server.proofs.Telling.{told_from}
 use Rattle.hfsx_server.proofs.running.run.Goals as goal
 
 pub returns-in-Ok-clause-refused : goal.returns-in-Ok-clause-refused

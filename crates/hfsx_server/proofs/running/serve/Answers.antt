@@ -1,9 +1,7 @@
-use Rattle.std.proofs.Common.{◌≡◌, ◌≢◌, ◌⊎◌, inl, inr, ◌<◌, ◌≤◌, ◌∙◌, ◌++◌, ℕ, List, IsTrue, Result, Err, ⊎_elim, length, refl, sym, ap, subst, arith}
+use Rattle.std.proofs.Common.{inl, inr, ◌∙◌, ◌++◌, IsTrue, Err, ⊎_elim, sym, ap, arith}
 use Rattle.std.proofs.lemmas.List.{length-map}
 use Rattle.sector_disk.proofs.Writing.{same_after}
-use Rattle.hfsx_server.specs.declared.status.Status.TheVariants as status
-use Rattle.hfsx_server.specs.Headline.{Entry, lines_of, replies_of}
-use Rattle.hfsx_server.specs.Input.{ahead}
+use Rattle.hfsx_server.specs.Headline.{Entry}
 use Rattle.hfsx_server.proofs.Cuts.{are_taken}
 use Rattle.hfsx_server.proofs.Answering.{Going, all_whole, end_crashes, end_finished, goes_on, left_none, serving_start, stops_so, stops_taken, taken_before, too_many}
 use Rattle.hfsx_server.proofs.Statuses.{no_done, no_refused, no_usage, is_many, is_disk, is_source, is_sink, rose_later}

@@ -1,4 +1,4 @@
-use Rattle.std.proofs.Common.{◌≡◌, ◌⊎◌, ◌+◌, ◌%◌, ◌^◌, false, length, ⊎_elim, refl, ap, subst, arith}
+use Rattle.std.proofs.Common.{◌≡◌, ◌⊎◌, ◌+◌, ◌%◌, ◌^◌, false, length, ⊎_elim, refl, subst, arith}
 use Rattle.sector_disk.proofs.Stages.{leaves_with}
 use Rattle.hx_bytes.specs.declared.faults.Trouble.TheVariants.{Disk}
 use Rattle.volume_header.specs.Header.{header_bytes}

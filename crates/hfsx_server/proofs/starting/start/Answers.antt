@@ -1,19 +1,18 @@
-use Rattle.std.proofs.Common.{◌≡◌, ◌≤◌, ◌∙◌, [], IsTrue, length, refl, sym, ap, subst, arith}
+use Rattle.std.proofs.Common.{◌≡◌, ◌∙◌, IsTrue, length, refl, sym, ap, subst, arith}
 use Rattle.sector_disk.specs.Lists.{Content, sector}
-use Rattle.sector_disk.specs.Disk.{Candidates, CrashesLeave, content, content_of, only}
+use Rattle.sector_disk.specs.Disk.{Candidates, content, content_of, only}
 use Rattle.sector_disk.proofs.Candidates.{content_of-only}
 use Rattle.sector_disk.proofs.Stages.{leaves_both, leaves_with}
 use Rattle.hx_bytes.specs.declared.faults.Trouble.TheVariants.{Disk}
 use Rattle.jnl_replay.proofs.Checks.{length-content}
 use Rattle.jnl_replay.specs.Homing.{StandsForSame, after_replay}
 use Rattle.jnl_ring.proofs.Bytes.{content_whole}
-use Rattle.jnl_store.specs.Store.{Keeps, KeepsOn}
-use Rattle.hfsx_server.specs.Serving.{IsThinPlan, Stands}
+use Rattle.jnl_store.specs.Store.{Keeps}
+use Rattle.hfsx_server.specs.Serving.{IsThinPlan}
 use Rattle.hfsx_server.specs.Volume.{Holds, MountsTo}
 use Rattle.hfs_model.specs.Thin.{IsJournal}
 use Rattle.std.proofs.lemmas.Result.{err_from_is_err_and}
 use Rattle.hfsx_server.proofs.Causes.{cause_ok, cause_on, cause_other}
-use Rattle.hfsx_server.proofs.Steps.{settled_image}
 use Rattle.hfsx_server.proofs.Started.{after_holds, after_journal, large_rested, rested_thin, same_mounts}
 use Rattle.hfsx_server.proofs.Standing.{holds_info}
 use Rattle.hfsx_server.proofs.starting.start.Goals as goal

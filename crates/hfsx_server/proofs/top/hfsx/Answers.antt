@@ -6,7 +6,7 @@ use Rattle.hfsx_server.proofs.Usage.{not_both, same_sectors}
 use Rattle.hfsx_server.proofs.top.hfsx.Goals as goal
 
 pub returns-then-sectors-clause-formatted : goal.returns-then-sectors-clause-formatted
-returns-then-sectors-clause-formatted g c words tells is = (c.format.ensures.unmounted tells is, c.format.ensures.mounts tells is, c.format.ensures.told tells is)
+returns-then-sectors-clause-formatted g c words tells is usual = (c.format.ensures.unmounted tells is usual, c.format.ensures.mounts tells is usual)
 
 pub returns-else-sectors-clause-usage : goal.returns-else-sectors-clause-usage
 returns-else-sectors-clause-usage g c =

@@ -1,4 +1,4 @@
-use Rattle.std.proofs.Common.{◌≡◌, ◌≤◌, ◌<◌, ◌+◌, ℕ, IsTrue, get_or, [], length}
+use Rattle.std.proofs.Common.{◌≡◌, ◌<◌, ◌+◌, ℕ, IsTrue, get_or, [], length}
 use Rattle.sector_disk.specs.Lists.{sector}
 use Rattle.sector_disk.specs.Disk.{content}
 use Rattle.sector_disk.specs.Disk.{OnlyReads}

@@ -1,7 +1,7 @@
-use Rattle.std.proofs.Common.{◌≡◌, ◌≤◌, ◌∙◌, ℕ, IsTrue, refl, arith, sym, ap, subst, []}
+use Rattle.std.proofs.Common.{◌∙◌, IsTrue, refl, arith, sym, ap, subst}
 use Rattle.std.specs.Prelude.{slice_range}
 use Rattle.sector_disk.specs.Lists.{Content, sector}
-use Rattle.sector_disk.specs.Disk.{State, Candidates, content, content_of}
+use Rattle.sector_disk.specs.Disk.{content}
 use Rattle.sector_disk.proofs.Writing.{reads_both}
 use Rattle.jnl_replay.specs.Viewing.{shown}
 use Rattle.std.proofs.lemmas.Result.{err_from_is_err_and}

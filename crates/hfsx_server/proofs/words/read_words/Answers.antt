@@ -1,6 +1,6 @@
-use Rattle.std.proofs.Common.{◌≡◌, ◌↔◌, ◌∙◌, ◌∷◌, [], List, ℕ, IsTrue, length, sym, ap, arith, rules, codes}
+use Rattle.std.proofs.Common.{◌≡◌, ◌↔◌, ◌∙◌, ◌∷◌, [], List, ℕ, IsTrue, length, ap, arith, rules, codes}
 use Rattle.std.specs.Prelude.{string_bytes, decimal}
-use Rattle.hfsx_server.specs.Words.{texts, MayName}
+use Rattle.hfsx_server.specs.Words.{MayName}
 use Rattle.hfsx_server.proofs.WordLists.{two_words, three_words}
 use Rattle.hfsx_server.proofs.words.read_words.Goals as goal
 

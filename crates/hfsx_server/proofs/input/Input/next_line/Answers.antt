@@ -1,4 +1,4 @@
-use Rattle.std.proofs.Common.{◌≡◌, ◌<◌, ◌∷◌, [], ℕ, IsTrue, IfSome, IfNone, OnSome, false, sym, ◌∙◌, subst, arith, List}
+use Rattle.std.proofs.Common.{◌≡◌, ◌<◌, ◌∷◌, [], IsTrue, IfSome, IfNone, OnSome, sym, subst}
 use Rattle.hfsx_server.specs.Input.{ahead, weight}
 use Rattle.hfsx_server.proofs.Reading.{reads_more, reads_ended, reads_last, reads_none, reads_gone, reads_gone_byte, reads_gone_end, reads_begun, reads_few, reads_few_byte, reads_few_end, some_text, nearer_last}
 use Rattle.hfsx_server.proofs.input.Input.next_line.Goals as goal

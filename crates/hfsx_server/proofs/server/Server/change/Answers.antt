@@ -1,4 +1,4 @@
-use Rattle.std.proofs.Common.{◌≡◌, ◌⊎◌, List, ℕ, Option, inl, sym, subst}
+use Rattle.std.proofs.Common.{◌⊎◌, List, ℕ, Option, inl, sym, subst}
 use Rattle.sector_disk.specs.Disk.{CrashesLeave}
 use Rattle.hfsx_server.specs.Session.{with_folder}
 use Rattle.hfsx_server.specs.Volume.{MountsTo}

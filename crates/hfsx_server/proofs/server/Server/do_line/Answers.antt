@@ -1,4 +1,4 @@
-use Rattle.std.proofs.Common.{◌≡◌, ◌⊎◌, ◌∙◌, inl, refl, sym, ap, subst, IsTrue, List, ℕ}
+use Rattle.std.proofs.Common.{◌⊎◌, inl, refl, sym, ap, subst, IsTrue, List, ℕ}
 use Rattle.sector_disk.specs.Disk.{CrashesLeave}
 use Rattle.hx_bytes.specs.declared.faults.Trouble.TheVariants.{Disk}
 use Rattle.hfs_model.specs.Names.{are_thin_names}

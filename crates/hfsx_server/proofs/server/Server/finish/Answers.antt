@@ -1,5 +1,4 @@
-use Rattle.std.proofs.Common.{◌≡◌, ◌⊎◌, ◌≤◌, ◌∙◌, IsTrue, true, length, ⊎_elim, refl, sym, ap, subst, arith}
-use Rattle.sector_disk.specs.Disk.{content}
+use Rattle.std.proofs.Common.{◌≡◌, ◌⊎◌, ◌∙◌, true, length, ⊎_elim, subst, arith}
 use Rattle.sector_disk.proofs.Stages.{leaves_both, leaves_with}
 use Rattle.jnl_store.specs.Standing.{StandsForDurable}
 use Rattle.hfsx_server.specs.Volume.{MountsTo}

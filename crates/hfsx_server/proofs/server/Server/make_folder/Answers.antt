@@ -1,4 +1,4 @@
-use Rattle.std.proofs.Common.{◌≡◌, ◌⊎◌, ◌≤◌, ◌+◌, ◌∙◌, ◌++◌, ◌∷◌, [], inl, refl, sym, ap, subst, IsTrue, arith, List, ℕ}
+use Rattle.std.proofs.Common.{◌∙◌, ◌++◌, ◌∷◌, [], inl, refl, sym, subst, arith, List, ℕ}
 use Rattle.std.proofs.lemmas.Result.{err_from_is_err_and}
 use Rattle.hx_bytes.specs.declared.faults.Trouble.TheVariants.{Disk}
 use Rattle.hfs_model.specs.Thin.{AreThin}

@@ -1,8 +1,6 @@
-use Rattle.std.proofs.Common.{◌≡◌, ◌≢◌, ◌∙◌, ◌+◌, ◌≤◌, ◌++◌, ◌∷◌, [], IsTrue, IfSome, IfNone, length, refl, sym, ap, subst, arith, List, ℕ}
+use Rattle.std.proofs.Common.{◌≡◌, ◌∙◌, ◌∷◌, [], IsTrue, IfSome, IfNone, refl, sym, ap, subst, arith, List, ℕ}
 use Rattle.std.proofs.lemmas.Result.{err_from_is_err_and}
-use Rattle.hfs_language.specs.Lines.{lines}
 use Rattle.hfsx_server.specs.declared.faults.ServeFault.TheVariants.{Disk, Source, Sink, Memory}
-use Rattle.hfsx_server.specs.Headline.{lines_of, tree_after}
 use Rattle.hfsx_server.specs.Input.{ahead, IsLine, TakesLines}
 use Rattle.hfsx_server.specs.Session.{step}
 use Rattle.hfsx_server.specs.Serving.{KeepsMark, RunSoFar, Serves, entry_of}
