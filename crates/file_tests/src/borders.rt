@@ -1,6 +1,6 @@
 //! Writes, reads, growing and shrinking at every border of blocks and extents.
-use crate::File;
 use crate::calls::read_part;
+use crate::file::File;
 use crate::making::make;
 use crate::moves::{clear, cut_to, extend_to, put};
 use crate::plain::{Border, byte_at, place_at};

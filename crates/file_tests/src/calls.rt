@@ -2,7 +2,8 @@
 ghost use Rattle.std.specs.Prelude.{◌≡◌, ◌≤◌, ◌^◌};
 ghost use Rattle.std.specs.List.{All};
 
-use crate::{File, has_room, holds_file, is_block_size, may_spill, uses};
+use crate::file::File;
+use crate::gates::{has_room, holds_file, is_block_size, may_spill, uses};
 use file_io::{grow_step, read, shrink_step, write};
 use fork_map::ExtentList;
 use hx_bytes::{Bytes, Trouble};

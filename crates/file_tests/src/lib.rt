@@ -1,18 +1,16 @@
-//! Files over sectors in memory against a plain array of bytes.
+//! Bitmaps over sectors in memory, and files there against a plain array of bytes.
 #![tactic(auto)]
 
-mod file;
-mod gates;
-mod sectors;
-
-pub use file::File;
-pub use gates::{has_room, holds_file, is_block_size, may_spill, uses};
-pub use sectors::Sectors;
-
+#[cfg(test)]
+mod bitmaps;
 #[cfg(test)]
 mod borders;
 #[cfg(test)]
 mod calls;
+#[cfg(test)]
+mod file;
+#[cfg(test)]
+mod gates;
 #[cfg(test)]
 mod making;
 #[cfg(test)]
@@ -23,3 +21,5 @@ mod plain;
 mod power;
 #[cfg(test)]
 mod rows;
+#[cfg(test)]
+mod sectors;

@@ -1,5 +1,6 @@
 //! Volumes of 96 blocks with an empty file.
-use crate::{File, Sectors};
+use crate::file::File;
+use crate::sectors::Sectors;
 use alloc_bitmap::Bitmap;
 use fork_map::ExtentList;
 use hx_bytes::Extent;

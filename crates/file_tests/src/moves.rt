@@ -1,6 +1,6 @@
 //! Commands on a file, each beside the plain array.
-use crate::File;
 use crate::calls::{grow_to, is_as_told, shrink, write_at};
+use crate::file::File;
 use crate::making::BLOCKS;
 use crate::plain::{overwritten, pattern, resized};
 use fork_map::ExtentList;

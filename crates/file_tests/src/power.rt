@@ -1,6 +1,6 @@
 //! Writes during which the power fails.
-use crate::File;
 use crate::calls::{is_as_told, write_at};
+use crate::file::File;
 use crate::making::make;
 use crate::moves::{clear, end_command, put};
 use crate::plain::{Border, overwritten, pattern, place_at};

@@ -1,6 +1,6 @@
 //! Files whose bytes and blocks are known beforehand.
-use crate::File;
 use crate::calls::read_part;
+use crate::file::File;
 use crate::making::{first_used, make, make_with};
 use crate::moves::{cut_to, extend_to, put_value};
 use fork_map::ExtentList;

@@ -1,5 +1,6 @@
 // Single edits, each held against the list and looked through.
-use crate::{Flaw, Grove, Wanted, look};
+use crate::grove::Grove;
+use crate::looking::{Flaw, Wanted, look};
 use btree_edit::{Inserted, Removed};
 use btree_node::{KeyOrder, TreeShape};
 use std::alloc::Global;

@@ -1,16 +1,17 @@
-//! Trees edited thousands of times, held against a sorted list and looked through by a plain checker after each edit.
+//! Nodes and keys byte for byte, and trees edited thousands of times, held against a sorted list and looked through by a plain checker after each edit.
 #![tactic(auto)]
 
+#[cfg(test)]
 mod edits;
+#[cfg(test)]
 mod grove;
+#[cfg(test)]
 mod keys;
+#[cfg(test)]
 mod looking;
+#[cfg(test)]
+mod nodes;
+#[cfg(test)]
 mod planting;
 #[cfg(test)]
 mod tests;
-
-pub use edits::{add, change, step_through, take_out};
-pub use grove::Grove;
-pub use keys::{Kind, key_of, value_of};
-pub use looking::{Flaw, Wanted, look};
-pub use planting::plant;

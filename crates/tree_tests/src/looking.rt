@@ -1,5 +1,5 @@
 // A plain checker of a whole tree: level by level from the root, with each rule asked where it is met.
-use crate::Grove;
+use crate::grove::Grove;
 use crate::keys::{Kind, key_of, value_of};
 use btree_node::Node;
 use hx_bytes::OutOfMemory;

@@ -1,6 +1,6 @@
 //! Nodes and keys as TN1150 spells them.
 
-use crate::{AttrOrder, CatalogOrder, ExtentOrder, KeyOrder, Node};
+use btree_node::{AttrOrder, CatalogOrder, ExtentOrder, KeyOrder, Node};
 use std::alloc::Global;
 use std::cmp::Ordering;
 

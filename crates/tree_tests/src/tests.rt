@@ -1,6 +1,9 @@
 // Trees of all orders and sizes: filled, changed, half emptied, filled again and emptied.
 use crate::edits::{add, change, step_through, take_out};
-use crate::{Flaw, Grove, Kind, Wanted, look, plant};
+use crate::grove::Grove;
+use crate::keys::Kind;
+use crate::looking::{Flaw, Wanted, look};
+use crate::planting::plant;
 use btree_edit::{Inserted, Removed};
 use btree_node::{AttrOrder, CatalogOrder, ExtentOrder, KeyOrder, NodeStore};
 use hx_bytes::OutOfMemory;
