@@ -40,6 +40,7 @@ pub mod OwnedTold
 pub mod Paths
 pub mod Placing
 pub mod Recounting
+pub mod Redating
 pub mod Refielded
 pub mod Replaced
 pub mod Resettling
@@ -58,3 +59,4 @@ pub mod Touched
 pub mod TreesAfter
 pub mod TreesSettled
 pub mod Walked
+pub mod UpdateRoom

@@ -59,7 +59,7 @@ module _ (v : Volume) (names : List ℕ) (m : Space) where
 
 -- ---- edits
 
-many_fit : (k n spare : ℕ) → 0 < n → k * n ≤ spare → k ≤ spare / n
+pub many_fit : (k n spare : ℕ) → 0 < n → k * n ≤ spare → k ≤ spare / n
 many_fit k n spare some fits = (le-div_iff_mul-le {k = n} {x = k} {y = spare} some).1 fits
 
 least_low : (m x y : ℕ) → m ≤ y → min m x ≤ y
@@ -95,7 +95,7 @@ room_for_entry law v a m room large same spent names = by a.tells refl
         }
 
 -- what so many writes take
-spent_nodes : (v w : Volume) (m b : Space) (most takes : ℕ) → CostsAtMost most takes (state_of [] v.catalog.file m) (state_of [] w.catalog.file b) → m.spare ≤ b.spare + most * catalog_node v
+pub spent_nodes : (v w : Volume) (m b : Space) (most takes : ℕ) → CostsAtMost most takes (state_of [] v.catalog.file m) (state_of [] w.catalog.file b) → m.spare ≤ b.spare + most * catalog_node v
 unfolding unwritten_sectors
 spent_nodes v w m b most takes costs =
     let grown : (state_of [] v.catalog.file m).unwritten * catalog_node v ≤ ((state_of [] w.catalog.file b).unwritten + most) * catalog_node v =

@@ -1,5 +1,5 @@
 -- What a command that changes the catalog and the numbers of the header does to a volume.
-use Rattle.std.specs.Prelude.{◌≡◌, ◌⊎◌, ◌<◌, ◌≤◌, ℕ, ◌+◌, ◌-◌, ◌/◌, ◌^◌, IsTrue, false, true, List, Some}
+use Rattle.std.specs.Prelude.{◌≡◌, ◌⊎◌, ◌<◌, ◌≤◌, ℕ, ◌+◌, ◌-◌, ◌*◌, ◌/◌, ◌^◌, IsTrue, false, true, List, Some}
 use Rattle.std.specs.List.{Contains}
 use Rattle.btree_edit.specs.Editing.{edit_writes}
 use Rattle.btree_file.specs.State.{sectors_of_tree}
@@ -8,7 +8,7 @@ use Rattle.jnl_format.specs.Recovery.{header_of_volume}
 use Rattle.cat_records.specs.declared.record.CatRecord.{CatRecord}
 use Rattle.catalog.specs.Entries.{UpdatesEntry}
 use Rattle.hfs_volume.specs.Changes.{with_numbers}
-use Rattle.hfs_volume.specs.Commands.{ChangesFields, IsTouched}
+use Rattle.hfs_volume.specs.Commands.{ChangesFields, IsMarkedAlone, IsTouched}
 use Rattle.hfs_volume.specs.Records.{Placed, entries_of, id_of, is_folder, placed_in, valence_in}
 use Rattle.sector_disk.specs.Lists.{Content}
 use Rattle.sector_disk.specs.Space.{Space, AgreesOutside}
@@ -46,6 +46,13 @@ pub record HasRoomToUpdate (volume : Volume) (space : Space) : Type 0 where
       → (volume.catalog.file.shape.depth + 1 ≤ 11) × (volume.catalog.file.shape.leaf_records + 1 ≤ 2 ^ 32 - 1) × (volume.catalog.file.shape.depth + 2 ≤ volume.catalog.file.shape.free)
       × (edit_writes (volume.catalog.file.shape.depth + 1) ≤ space.spare / catalog_node volume)
 
+-- There is room to update so many records in place, one after another; where the space tells nothing, for as many edits.
+pub record HasRoomToUpdates (many : ℕ) (volume : Volume) (space : Space) : Type 0 where
+  pub told : IsTrue space.tells → many * catalog_node volume ≤ space.spare
+  pub untold : space.tells ≡ false
+      → (volume.catalog.file.shape.depth + many ≤ 11) × (volume.catalog.file.shape.leaf_records + many ≤ 2 ^ 32 - 1) × (many * (volume.catalog.file.shape.depth + many + 1) ≤ volume.catalog.file.shape.free)
+      × (many * edit_writes (volume.catalog.file.shape.depth + many) * catalog_node volume ≤ space.spare)
+
 -- A folder or file has another record where it stands, and nothing else of the volume is changed; the header wasn't put.
 pub record ReplacesRecord (entry : Entry) (rec : CatRecord) (old new : Volume) (before after : Content) : Type 0 where
   pub updates : UpdatesEntry entry.parent entry.name rec (lists_of old before).catalog_pairs (lists_of new after).catalog_pairs
@@ -71,6 +78,20 @@ pub record HasFolder (id up : ℕ) (pairs : List Pair) : Type 0 where
 -- the header wasn't put.
 pub record TouchesFolder (id up down : ℕ) (old new : Volume) (before after : Content) : Type 0 where
   pub counts : ChangesFields id (IsTouched old.header.modify_date up down) (lists_of old before) (lists_of new after)
+  pub changes : ChangesCatalog old new before after
+  pub rest : new ≡ record old { catalog = new.catalog }
+  pub headed : header_of_volume after ≡ header_of_volume before
+
+-- The folder or file with this CNID is there.
+pub record HasEntry (id : ℕ) (pairs : List Pair) : Type 0 where
+  pub entry : Placed
+  pub stands : Contains (entries_of (placed_in pairs)) entry
+  pub number : id_of entry ≡ id
+
+-- Something was done at the volume's moment to the folder or file with this CNID, but not to what it holds: its attribute date says so. Nothing
+-- else of the volume is changed, and the header wasn't put.
+pub record DatesEntry (id : ℕ) (old new : Volume) (before after : Content) : Type 0 where
+  pub dates : ChangesFields id (IsMarkedAlone old.header.modify_date) (lists_of old before) (lists_of new after)
   pub changes : ChangesCatalog old new before after
   pub rest : new ≡ record old { catalog = new.catalog }
   pub headed : header_of_volume after ≡ header_of_volume before

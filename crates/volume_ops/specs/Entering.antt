@@ -56,3 +56,11 @@ abbrev pub touched : (moment up down : ℕ) → CatRecord → Option CatRecord
 touched moment up down (Folder folder) = Some (Folder (record { fields = with_entries moment up down folder.fields }))
 touched moment up down (File file) = None
 touched moment up down (Thread thread) = None
+
+-- ---- something was done to a folder or file
+
+-- the record of a folder or file to which something was done at this moment, but not to what it holds
+abbrev pub dated : (moment : ℕ) → CatRecord → Option CatRecord
+dated moment (Folder folder) = Some (Folder (record { fields = record folder.fields { attribute = moment } }))
+dated moment (File file) = Some (File (record file { fields = record file.fields { attribute = moment } }))
+dated moment (Thread thread) = None

@@ -10,6 +10,7 @@ ghost use Rattle.btree_file.specs.Standing.{numbers_of, pairs_in};
 ghost use Rattle.btree_file.specs.State.{sectors_of_tree, state_of};
 ghost use Rattle.catalog.specs.Entries.{AnswersAdd, Adding, AnswersRemoval, Removing, Updating, IsOfKind};
 ghost use Rattle.catalog.specs.Pairs.{HasUpdateRoom};
+ghost use Rattle.catalog.specs.Rooms.{TakesUpdates};
 ghost use Rattle.cat_records.specs.Fits.{FitsRecord};
 ghost use Rattle.hfs_volume.specs.Entries.{AreSpelled, AreThreaded};
 ghost use Rattle.hfs_volume.specs.Records.{Placed, placed_in, record_at, id_in, is_thread};
@@ -51,6 +52,7 @@ impl Volume {
         ensures answer { IsTrue (P.SectorView.space space.old).tells → IfOk result (λ answer. AnswersRemoval (record_at (placed_in (pairs_in (sectors_of_tree self.old.catalog.file) (P.SectorView.space space.old).content)) parent name.now) answer) }
         ensures updated { IsTrue (P.SectorView.space space.old).tells → IfOk result (λ answer. Updating parent name.now rec.now (pairs_in (sectors_of_tree self.old.catalog.file) (P.SectorView.space space.old).content) (pairs_in (sectors_of_tree self.old.catalog.file) (P.SectorView.space space.new).content) answer) }
         ensures takes { (names : List ℕ) → IsTrue (P.SectorView.space space.old).tells → CostsAtMost 1 0 (state_of names self.old.catalog.file (P.SectorView.space space.old)) (state_of names self.new.catalog.file (P.SectorView.space space.new)) }
+        ensures edits { (names : List ℕ) → OnOk result (TakesUpdates 0 1 516 (state_of names self.old.catalog.file (P.SectorView.space space.old)) (state_of names self.new.catalog.file (P.SectorView.space space.new))) }
         // On a fault too, it puts sectors of its own alone, whatever was committed last.
         ensures touches { (committed : Content) → Touches committed (λ s. Contains (own_sectors self.old) s) (P.SectorView.space space.old) (P.SectorView.space space.new) }
         ensures frame { FollowsOn self.old.catalog.file self.new.catalog.file (P.SectorView.space space.old) (P.SectorView.space space.new) }

@@ -11,6 +11,7 @@ ghost use Rattle.btree_file.specs.Standing.{HoldsTree, LiesInside, LiesOpen, num
 ghost use Rattle.btree_file.specs.State.{sectors_of_tree, state_of};
 ghost use Rattle.catalog.specs.Entries.{AnswersAdd, Adding, AnswersRemoval, Removing, Updating, IsOfKind};
 ghost use Rattle.catalog.specs.Pairs.{HasUpdateRoom};
+ghost use Rattle.catalog.specs.Rooms.{TakesUpdates};
 ghost use Rattle.cat_records.specs.Fits.{FitsRecord};
 ghost use Rattle.hfs_volume.specs.Entries.{AreSpelled, AreThreaded};
 ghost use Rattle.hfs_volume.specs.Records.{Placed, placed_in, record_at, id_in, is_thread};
@@ -118,6 +119,7 @@ pub(crate) fn update_entry<P: SectorSpace>(
     // The tree keeps its numbers, and one node is written at most.
     ensures shape { IsTrue (P.SectorView.space space.old).tells → numbers_of tree.new ≡ numbers_of tree.old }
     ensures takes { (names : List ℕ) → IsTrue (P.SectorView.space space.old).tells → CostsAtMost 1 0 (state_of names tree.old (P.SectorView.space space.old)) (state_of names tree.new (P.SectorView.space space.new)) }
+    ensures edits { (names : List ℕ) → OnOk result (TakesUpdates 0 1 516 (state_of names tree.old (P.SectorView.space space.old)) (state_of names tree.new (P.SectorView.space space.new))) }
     ensures frame { FollowsOn tree.old tree.new (P.SectorView.space space.old) (P.SectorView.space space.new) }
     ensures desk { IsDeskOf (numbers_of tree.new).node_size desk.new }
     ensures below { P.SectorView.follows space.old space.new }

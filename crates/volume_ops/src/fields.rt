@@ -3,7 +3,7 @@ ghost use Rattle.std.specs.Prelude.{◌≡◌, ◌<◌, ◌^◌, ◌+◌, ◌%�
 ghost use Rattle.cat_records.specs.Fits.{FitsEntry, FitsRecord};
 ghost use Rattle.catalog.specs.Entries.{IsOfKind};
 ghost use Rattle.hfs_volume.specs.Records.{is_thread, valence_in};
-ghost use Rattle.volume_ops.specs.Entering.{kind_bits, touched, with_entries, with_mode, with_rights};
+ghost use Rattle.volume_ops.specs.Entering.{dated, kind_bits, touched, with_entries, with_mode, with_rights};
 
 use cat_records::{CatRecord, EntryFields, FileRecord, FolderRecord};
 
@@ -77,6 +77,36 @@ pub(crate) fn touched(moment: u32, up: u32, down: u32, rec: &CatRecord) -> Optio
             fields: with_entries(moment, up, down, &folder.fields),
         })),
         CatRecord::File(_) => None,
+        CatRecord::Thread(_) => None,
+    }
+}
+
+/// The fields of a folder or file to which something was done at this moment, but not to what it holds.
+fn with_date(moment: u32, fields: &EntryFields) -> EntryFields
+    ensures same { result ≡ record fields.now { attribute = moment } }
+    ensures fits { FitsEntry fields.now → FitsEntry result }
+{
+    let mut changed = *fields;
+    changed.attribute = moment;
+    changed
+}
+
+/// The record of such a folder or file; none of a thread.
+pub(crate) fn dated(moment: u32, rec: &CatRecord) -> Option<CatRecord>
+    ensures same { result ≡ dated moment rec.now }
+    ensures alike { IfSome result (λ changed. IsOfKind changed rec.now) }
+    ensures fits { (is_thread rec.now ≡ false → FitsRecord rec.now) → IfSome result (λ changed. FitsRecord changed) }
+    ensures kind { IfSome result (λ changed. is_thread changed ≡ false) }
+{
+    match rec {
+        CatRecord::Folder(folder) => Some(CatRecord::Folder(FolderRecord {
+            fields: with_date(moment, &folder.fields),
+        })),
+        CatRecord::File(file) => Some(CatRecord::File(FileRecord {
+            fields: with_date(moment, &file.fields),
+            data_fork: file.data_fork,
+            resource_fork: file.resource_fork,
+        })),
         CatRecord::Thread(_) => None,
     }
 }

@@ -7,7 +7,7 @@ use Rattle.btree_file.proofs.StandingLaws.{tree_held, pairs_held}
 use Rattle.catalog.specs.Entries.{AnswersRemoval, IsOfKind, Updating}
 use Rattle.hfs_volume.specs.Entries.{AreSpelled, AreThreaded}
 use Rattle.hfs_volume.specs.Records.{Placed, placed_in, record_at, id_in}
-use Rattle.volume_ops.proofs.EditsOn.{holds_again, pairs_again, costs_renamed}
+use Rattle.volume_ops.proofs.EditsOn.{holds_again, pairs_again, costs_renamed, updates_renamed}
 use Rattle.volume_ops.proofs.editing.update_entry.Goals as goal
 
 pub update-requires-clause-tree : goal.update-requires-clause-tree
@@ -57,6 +57,12 @@ returns-clause-takes g c names tells =
     let tree_is = c.tree-1.given.1 (sym (ap (λ (l : List ℕ). get_or l 0 0) c.update.ensures.same.names)) in
     let space_is = c.space-1.given.1 (sym (ap (λ (l : List ℕ). get_or l 1 0) c.update.ensures.same.names)) in
     rw (tree_is, space_is) (costs_renamed _ _ names c.args.tree.now c.update.new.store.tree.now (g.P.SectorView.space c.args.space.now) (g.P.SectorView.space c.update.new.store.space.now) 1 0 (c.update.ensures.takes tells))
+
+pub returns-clause-edits : goal.returns-clause-edits
+returns-clause-edits g c names =
+    let tree_is = c.tree-1.given.1 (sym (ap (λ (l : List ℕ). get_or l 0 0) c.update.ensures.same.names)) in
+    let space_is = c.space-1.given.1 (sym (ap (λ (l : List ℕ). get_or l 1 0) c.update.ensures.same.names)) in
+    rw (tree_is, space_is) (updates_renamed _ _ names c.args.tree.now c.update.new.store.tree.now (g.P.SectorView.space c.args.space.now) (g.P.SectorView.space c.update.new.store.space.now) 0 1 516 c.update.result c.update.ensures.edits)
 
 pub returns-clause-below : goal.returns-clause-below
 returns-clause-below g c =

@@ -8,6 +8,7 @@ use Rattle.volume_ops.specs.Changing.{ReplacesRecord, TouchesFolder}
 use Rattle.volume_ops.proofs.Commanding.{touches_none}
 use Rattle.volume_ops.proofs.FoundEntry.{ok_so}
 use Rattle.volume_ops.proofs.Recounting.{touched_some, touches_folder}
+use Rattle.volume_ops.proofs.UpdateRoom.{room_less}
 use Rattle.volume_ops.proofs.volume.Volume.put_touched.Goals as goal
 
 pub replace-requires-clause-kind : goal.replace-requires-clause-kind
@@ -35,3 +36,6 @@ returns-in_default-clause-touches g c committed = touches_none committed _ (g.P.
 
 pub returns-in_default-clause-service : goal.returns-in_default-clause-service
 returns-in_default-clause-service g c = c.requires.stands.service
+
+pub returns-in_default-clause-room : goal.returns-in_default-clause-room
+returns-in_default-clause-room g c many room = room_less many c.args.self.now (g.P.SectorView.space c.args.space.now) room

@@ -5,6 +5,7 @@ use Rattle.btree_file.specs.Standing.{pairs_in}
 use Rattle.btree_file.specs.State.{sectors_of_tree}
 use Rattle.volume_ops.proofs.Commanding.{touches_none}
 use Rattle.volume_ops.proofs.Replaced.{update_room, spent_node, kind_there, replaces, node_large}
+use Rattle.volume_ops.proofs.UpdateRoom.{room_after, room_less}
 use Rattle.volume_ops.proofs.volume.Volume.replace.Goals as goal
 
 pub update-requires-clause-same_kind : goal.update-requires-clause-same_kind
@@ -33,3 +34,10 @@ returns-then-shape-lt4096-clause-replaces g c tells =
 
 pub returns-then-shape-lt4096-clause-touches : goal.returns-then-shape-lt4096-clause-touches
 returns-then-shape-lt4096-clause-touches g c committed = touches_none committed _ (g.P.SectorView.space c.args.space.now)
+
+pub returns-clause-room : goal.returns-clause-room
+returns-clause-room g c many room =
+    room_after many c.args.self.now c.update.new.self (g.P.SectorView.space c.args.space.now) (g.P.SectorView.space c.update.new.space) c.update.ensures.frame.space.same.tells (λ tells. c.update.ensures.takes [] tells) (c.in_ok-update.ensures.edits []) room
+
+pub returns-then-shape-lt4096-clause-room : goal.returns-then-shape-lt4096-clause-room
+returns-then-shape-lt4096-clause-room g c many room = room_less many c.args.self.now (g.P.SectorView.space c.args.space.now) room

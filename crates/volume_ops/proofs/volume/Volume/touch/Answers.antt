@@ -1,4 +1,4 @@
-use Rattle.std.proofs.Common.{◌≡◌, ◌≤◌, false, ℕ, List, length, sym, ◌∙◌, ap, subst, arith}
+use Rattle.std.proofs.Common.{◌≡◌, ◌≤◌, ◌+◌, false, ℕ, List, length, sym, ◌∙◌, ap, subst, arith}
 use Rattle.std.specs.Prelude.{Option, None, Some, IfSome, OnOk}
 use Rattle.std.specs.List.{Contains}
 use Rattle.btree_node.specs.Levels.{Pair}
@@ -15,6 +15,7 @@ use Rattle.volume_ops.proofs.Commanding.{touches_looks, touches_both}
 use Rattle.volume_ops.proofs.FoundEntry.{room_still, node_still, ok_so}
 use Rattle.volume_ops.proofs.Recounting.{folder_there, folder_not_none, touches_read}
 use Rattle.volume_ops.proofs.Still.{lists_still, own_still}
+use Rattle.volume_ops.proofs.UpdateRoom.{room_less, updates_still}
 use Rattle.volume_ops.proofs.volume.Volume.touch.Goals as goal
 
 pub entry-requires-clause-spelled : goal.entry-requires-clause-spelled
@@ -83,3 +84,9 @@ returns-in_err-entry-clause-spent g c tells = omega (arith, c.entry.ensures.read
 
 pub returns-in_err-entry-clause-service : goal.returns-in_err-entry-clause-service
 returns-in_err-entry-clause-service g c = c.entry.ensures.stands.service
+
+pub returns-in-Some-clause-room : goal.returns-in-Some-clause-room
+returns-in-Some-clause-room g c many room = c.put_touched.ensures.room many (updates_still (many + 1) c.args.self.now c.entry.new.self (g.P.SectorView.space c.args.space.now) (g.P.SectorView.space c.entry.new.space) c.entry.ensures.reads room)
+
+pub returns-in-None-clause-room : goal.returns-in-None-clause-room
+returns-in-None-clause-room g c many room = room_less many c.entry.new.self (g.P.SectorView.space c.entry.new.space) (updates_still (many + 1) c.args.self.now c.entry.new.self (g.P.SectorView.space c.args.space.now) (g.P.SectorView.space c.entry.new.space) c.entry.ensures.reads room)
