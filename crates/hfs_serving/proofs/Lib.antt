@@ -34,3 +34,4 @@ pub mod Served
 pub mod Peeks
 pub mod Judging
 pub mod Replayed
+pub mod Causes

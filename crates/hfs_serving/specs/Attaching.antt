@@ -8,7 +8,7 @@ use Rattle.jnl_replay.specs.Homing.{after_replay}
 use Rattle.jnl_replay.specs.Plan.{FitsPlan}
 use Rattle.jnl_replay.specs.declared.plan.Plan.{Plan}
 use Rattle.jnl_store.specs.Plan.{IsCapacityOf, rested}
-use Rattle.jnl_store.specs.Store.{HasNoList, Keeps, durable_of, plan_of, puts_of, spare_of}
+use Rattle.jnl_store.specs.Store.{HasNoList, Keeps, durable_of, faults_of, plan_of, puts_of, spare_of}
 use Rattle.jnl_store.specs.declared.store.Store.{Store}
 use Rattle.hfs_volume.specs.Content.{volume_of}
 use Rattle.hfs_volume.specs.Sound.{IsSound}
@@ -44,6 +44,7 @@ pub record IsAttached (store : Store) (plan : Plan) (disk : State) : Type 0 wher
   pub fits : FitsPlan disk.sectors (plan_of store)
   pub nothing : puts_of store ≡ []
   pub no_list : HasNoList store
+  pub no_fault : faults_of store ≡ 0
   pub durable : durable_of store (content disk) ≡ content disk
   pub room : (capacity : ℕ) → IsCapacityOf (plan_of store) capacity → capacity ≤ spare_of store
   pub keeps : IsTrue disk.tells → (now : Content) → IsReady plan now disk → Keeps store disk.sectors (only (after_replay plan (content disk)))

@@ -14,3 +14,4 @@ pub mod Taking
 pub mod Readying
 pub mod Attaching
 pub mod Checking
+pub mod Faults

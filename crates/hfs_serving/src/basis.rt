@@ -1,6 +1,8 @@
 //! What a server stands on: a space of sectors with a rig beneath it.
-ghost use Rattle.std.specs.Prelude.{◌≡◌, ◌≤◌, ◌+◌, ℕ, IsTrue, OnOk};
+ghost use Rattle.std.specs.Prelude.{◌≡◌, ◌≤◌, ◌+◌, ℕ, IsTrue, OnOk, OnErr};
 ghost use Rattle.jnl_format.specs.Recovery.{Content};
+ghost use Rattle.sector_disk.specs.Cause.{Rose};
+ghost use Rattle.hfs_serving.specs.Faults.{CountsFaults};
 ghost use Rattle.hfs_serving.specs.Grounds.{Anchor, KeepsHeading};
 ghost use Rattle.hfs_serving.specs.Outside.{Outside};
 ghost use Rattle.hfs_serving.specs.Serving.{Commits, IsAsDurable, MayCommit, Touches, TouchesSpace};
@@ -18,6 +20,9 @@ pub trait Ground: SectorSpace {
 
     /// What a mount looks at of its journal, and what it holds. No call changes either.
     ghost anchor: { Self → Anchor };
+
+    /// How many faults of the disk it has counted.
+    ghost failed: { Self → ℕ };
 
     /// How many sectors were put since the last commit.
     ghost taken: { Self → ℕ };
@@ -42,12 +47,15 @@ pub trait Ground: SectorSpace {
         ensures heads { IsTrue (Self.space self.old).tells → OnOk result (KeepsHeading (Self.space self.new)) }
         ensures still { (capacity : ℕ) → serves self.old capacity → OnOk result (serves self.new capacity) }
         ensures tells { OnOk result ((Self.space self.new).tells ≡ (Self.space self.old).tells) }
-        ensures anchor { anchor self.new ≡ anchor self.old };
+        ensures anchor { anchor self.new ≡ anchor self.old }
+        ensures counts { CountsFaults (failed self.old) (Self.space self.old) (failed self.new) (Self.space self.new) }
+        ensures cause { OnErr result (failed self.old ≡ 0 → Rose (Self.space self.old).faults (Self.space self.new).faults) };
 
     /// What calls of the space alone did since an earlier moment, and what a crash leaves now. It calls nothing.
     fn look(&self)
         ensures still { (capacity : ℕ) (first : Self) → Self.follows first self.now → serves first capacity → serves self.now capacity }
         ensures room { (first : Self) → Self.follows first self.now → room self.now ≡ room first }
+        ensures counts { (first : Self) → Self.follows first self.now → (Self.space self.now).sink_faults ≡ (Self.space first).sink_faults → CountsFaults (failed first) (Self.space first) (failed self.now) (Self.space self.now) }
         ensures anchor { (first : Self) → Self.follows first self.now → (Self.space self.now).names ≡ (Self.space first).names → anchor self.now ≡ anchor first }
         // A crash leaves what is durable, but in what was spilled and in the journal itself.
         ensures rests { (capacity : ℕ) → serves self.now capacity → IsTrue (Self.space self.now).tells → (recovered : Content) → (outside self.now).leaves recovered → IsAsDurable (Self.space self.now) recovered }

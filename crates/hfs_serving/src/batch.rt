@@ -1,6 +1,7 @@
 //! A batch: lines are answered in memory, housekeeping rests before each, and one commit makes all durable.
 ghost use Rattle.std.specs.Prelude.{◌≡◌, ◌↔◌, ◌≤◌, ◌<◌, [], ℕ, Bool, Option, IsTrue, IfOk, OnOk, OnErr, length};
 ghost use Rattle.jnl_format.specs.Recovery.{Content};
+ghost use Rattle.hfs_serving.specs.Faults.{Faults};
 ghost use Rattle.hfs_serving.specs.Going.{GoesTidy, HasNoSync, ServesBatch, ServesLine, ServesLines, SomeStands, Stands, StopsLines, StopsOn, is_answered, sync_line};
 
 use crate::basis::Ground;
@@ -29,6 +30,7 @@ pub fn serve_line<V: Volume, G: Ground>(
     ensures still { (capacity : ℕ) → G.serves base.old capacity → G.taken base.old ≤ capacity → OnOk result (G.serves base.new capacity × (G.taken base.new ≤ capacity)) }
     ensures tells { OnOk result ((G.space base.new).tells ≡ (G.space base.old).tells) }
     ensures anchor { G.anchor base.new ≡ G.anchor base.old }
+    ensures faults { Faults (G.failed base.old) (G.space base.old) (G.failed base.new) (G.space base.new) result }
 {
     if !tidy(volume, base)? {
         return Ok(false);
@@ -76,6 +78,7 @@ fn make_room<V: Volume, G: Ground>(
     ensures still { (capacity : ℕ) → G.serves base.old capacity → G.taken base.old ≤ capacity → OnOk result (G.serves base.new capacity × (G.taken base.new ≤ capacity)) }
     ensures tells { OnOk result ((G.space base.new).tells ≡ (G.space base.old).tells) }
     ensures anchor { G.anchor base.new ≡ G.anchor base.old }
+    ensures faults { Faults (G.failed base.old) (G.space base.old) (G.failed base.new) (G.space base.new) result }
 {
     if !wanted {
         return Ok(());
@@ -110,6 +113,7 @@ fn serve_lines<V: Volume, G: Ground>(
     ensures still { (capacity : ℕ) → G.serves base.old capacity → G.taken base.old ≤ capacity → OnOk result (G.serves base.new capacity × (G.taken base.new ≤ capacity)) }
     ensures tells { OnOk result ((G.space base.new).tells ≡ (G.space base.old).tells) }
     ensures anchor { G.anchor base.new ≡ G.anchor base.old }
+    ensures faults { Faults (G.failed base.old) (G.space base.old) (G.failed base.new) (G.space base.new) result }
 {
     for at in 0..lines.len() {
         if at == MOST_LINES {
@@ -148,6 +152,7 @@ pub fn serve_batch<V: Volume, G: Ground>(
     ensures still { (capacity : ℕ) → G.serves base.old capacity → G.taken base.old ≤ capacity → OnOk result (G.serves base.new capacity × (G.taken base.new ≡ 0)) }
     ensures tells { OnOk result ((G.space base.new).tells ≡ (G.space base.old).tells) }
     ensures anchor { G.anchor base.new ≡ G.anchor base.old }
+    ensures faults { Faults (G.failed base.old) (G.space base.old) (G.failed base.new) (G.space base.new) result }
 {
     let count = serve_lines(volume, base, lines, replies)?;
     volume.commit(base)?;

@@ -1,6 +1,7 @@
 //! The end of a run.
 ghost use Rattle.std.specs.Prelude.{◌≡◌, ◌≤◌, ℕ, Option, IsTrue, OnOk};
 ghost use Rattle.jnl_format.specs.Recovery.{Content};
+ghost use Rattle.hfs_serving.specs.Faults.{Faults};
 ghost use Rattle.hfs_serving.specs.Closing.{Finishes, MayFinish};
 ghost use Rattle.hfs_serving.specs.Going.{Stands};
 ghost use Rattle.hfs_serving.specs.Steps.{SomeWhole};
@@ -19,6 +20,7 @@ pub fn end_run<V: Volume, G: Ground>(volume: &mut V, base: &mut G) -> Result<(),
     ensures done { IsTrue (G.space base.old).tells → (capacity : ℕ) (now : Content) (shrunk : Option ℕ) → Stands (V.knows volume.old (G.space base.old) capacity) now now shrunk (G.space base.old) (G.outside base.old)
         → OnOk result (Finishes now (G.outside base.old) (G.outside base.new)) }
     ensures anchor { G.anchor base.new ≡ G.anchor base.old }
+    ensures faults { Faults (G.failed base.old) (G.space base.old) (G.failed base.new) (G.space base.new) result }
 {
     volume.close(base)?;
     volume.commit(base)?;

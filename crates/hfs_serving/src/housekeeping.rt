@@ -1,6 +1,7 @@
 //! Housekeeping within a batch.
 ghost use Rattle.std.specs.Prelude.{◌≡◌, ◌≤◌, [], ℕ, Option, IsTrue, IfOk, OnOk, OnErr};
 ghost use Rattle.jnl_format.specs.Recovery.{Content};
+ghost use Rattle.hfs_serving.specs.Faults.{Faults};
 ghost use Rattle.hfs_serving.specs.Going.{GoesRested, GoesTidy, SomeStands, Stands, StopsOn};
 
 use crate::basis::Ground;
@@ -20,6 +21,7 @@ pub fn work<V: Volume, G: Ground>(volume: &mut V, base: &mut G) -> Result<bool, 
     ensures still { (capacity : ℕ) → G.serves base.old capacity → G.taken base.old ≤ capacity → OnOk result (G.serves base.new capacity × (G.taken base.new ≤ capacity)) }
     ensures tells { OnOk result ((G.space base.new).tells ≡ (G.space base.old).tells) }
     ensures anchor { G.anchor base.new ≡ G.anchor base.old }
+    ensures faults { Faults (G.failed base.old) (G.space base.old) (G.failed base.new) (G.space base.new) result }
 {
     match volume.tidy_step(base)? {
         Next::Rest => Ok(true),
@@ -44,6 +46,7 @@ pub fn tidy<V: Volume, G: Ground>(volume: &mut V, base: &mut G) -> Result<bool, 
     ensures still { (capacity : ℕ) → G.serves base.old capacity → G.taken base.old ≤ capacity → OnOk result (G.serves base.new capacity × (G.taken base.new ≤ capacity)) }
     ensures tells { OnOk result ((G.space base.new).tells ≡ (G.space base.old).tells) }
     ensures anchor { G.anchor base.new ≡ G.anchor base.old }
+    ensures faults { Faults (G.failed base.old) (G.space base.old) (G.failed base.new) (G.space base.new) result }
 {
     for _ in 0..17_179_869_184u64 {
         if work(volume, base)? {

@@ -1,6 +1,6 @@
 //! A journal's store over a rig, as a ground to serve on.
 ghost use Rattle.std.specs.Prelude.{◌∷◌, [], length};
-ghost use Rattle.jnl_store.specs.Store.{plan_of, puts_of, room_of};
+ghost use Rattle.jnl_store.specs.Store.{faults_of, plan_of, puts_of, room_of};
 ghost use Rattle.hfs_serving.specs.Grounds.{IsInService, anchor_of};
 ghost use Rattle.hfs_serving.specs.Outside.{outside_of};
 
@@ -16,6 +16,8 @@ impl<R: Rig> Ground for Space<'_, '_, R> {
     ghost serves = { λ s capacity. IsInService s.store.now (R.state s.disk.now) capacity };
 
     ghost anchor = { λ s. record { journal = anchor_of (plan_of s.store.now); names = s.store.ghost_name ∷ s.disk.ghost_name ∷ [] } };
+
+    ghost failed = { λ s. faults_of s.store.now };
 
     ghost taken = { λ s. length (puts_of s.store.now) };
 

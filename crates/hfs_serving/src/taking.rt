@@ -1,6 +1,8 @@
 //! The lines of a source, batch after batch.
 ghost use Rattle.std.specs.Prelude.{◌≡◌, ◌≤◌, [], ℕ, List, Option, IsTrue, OnOk, OnErr, length};
 ghost use Rattle.jnl_format.specs.Recovery.{Content};
+ghost use Rattle.sector_disk.specs.Cause.{Rose};
+ghost use Rattle.hfs_serving.specs.Faults.{StopFaults};
 ghost use Rattle.hfs_serving.specs.Going.{Stands};
 ghost use Rattle.hfs_serving.specs.Steps.{CrashesStep, ServesStep, SomeWhole};
 ghost use Rattle.hfs_serving.specs.Taking.{HasTaken};
@@ -41,6 +43,8 @@ pub fn serve_source<V: Volume, G: Teller, S: Source>(
     ensures nothing { (capacity : ℕ) → G.serves base.old capacity → G.taken base.old ≡ 0 → OnOk result (G.taken base.new ≡ 0) }
     ensures tells { OnOk result ((G.space base.new).tells ≡ (G.space base.old).tells) }
     ensures anchor { G.anchor base.new ≡ G.anchor base.old }
+    ensures faults { StopFaults (G.failed base.old) (G.space base.old) (G.failed base.new) (G.space base.new) (Rose (S.stream source.old).faults (S.stream source.new).faults) result }
+    ensures later { (S.stream source.old).faults ≤ (S.stream source.new).faults }
     ensures same_source { SameSource (S.stream source.old) (S.stream source.new) }
 {
     let mut lines = Vec::new(alloc);

@@ -1,6 +1,8 @@
 //! What is told beside a ground, and a batch whose replies are told at its end.
 ghost use Rattle.std.specs.Prelude.{◌≡◌, ◌≤◌, ◌++◌, ℕ, Option, IsTrue, IfOk, OnOk, OnErr, length};
 ghost use Rattle.jnl_format.specs.Recovery.{Content};
+ghost use Rattle.sector_disk.specs.Cause.{HasCause};
+ghost use Rattle.hfs_serving.specs.Faults.{CountsFaults, StopFaults};
 ghost use Rattle.hfs_serving.specs.Going.{SomeStands, Stands};
 ghost use Rattle.hfs_serving.specs.Serving.{TellsOut};
 ghost use Rattle.hfs_serving.specs.Steps.{CrashesStep, IsStill, ServesStep};
@@ -21,7 +23,9 @@ pub trait Teller: Ground {
         ensures still { IsStill (Self.space self.old) (Self.space self.new) }
         ensures serves { (capacity : ℕ) → Self.serves self.old capacity → Self.serves self.new capacity }
         ensures taken { Self.taken self.new ≡ Self.taken self.old }
-        ensures anchor { Self.anchor self.new ≡ Self.anchor self.old };
+        ensures anchor { Self.anchor self.new ≡ Self.anchor self.old }
+        ensures counts { CountsFaults (Self.failed self.old) (Self.space self.old) (Self.failed self.new) (Self.space self.new) }
+        ensures cause { HasCause (Self.space self.old).sink_faults (Self.space self.new).sink_faults result };
 }
 
 /// Why a run ended before its last line.
@@ -109,6 +113,7 @@ pub fn serve_step<V: Volume, G: Teller>(
     ensures still { (capacity : ℕ) → G.serves base.old capacity → G.taken base.old ≤ capacity → OnOk result (G.serves base.new capacity × (G.taken base.new ≡ 0)) }
     ensures tells { OnOk result ((G.space base.new).tells ≡ (G.space base.old).tells) }
     ensures anchor { G.anchor base.new ≡ G.anchor base.old }
+    ensures faults { StopFaults (G.failed base.old) (G.space base.old) (G.failed base.new) (G.space base.new) ⊥ result }
 {
     let mut replies = Bytes::new(alloc);
     let count = serve_batch(volume, base, lines, &mut replies)?;

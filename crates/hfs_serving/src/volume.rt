@@ -5,6 +5,7 @@ ghost use Rattle.jnl_format.specs.Recovery.{Content};
 ghost use Rattle.hfs_serving.specs.Attaching.{MayAttach, SomeAttach};
 ghost use Rattle.hfs_serving.specs.Beginning.{IsMarkedMounted};
 ghost use Rattle.hfs_serving.specs.Closing.{IsClosed};
+ghost use Rattle.hfs_serving.specs.Faults.{Faults};
 ghost use Rattle.hfs_serving.specs.Going.{SomeStands, Stands, Stays, TidiesTo, AnswersTo};
 ghost use Rattle.hfs_serving.specs.Serving.{Commits, MayCommit, Touches};
 ghost use Rattle.hfs_serving.specs.Steps.{IsStill};
@@ -49,7 +50,8 @@ pub trait Volume: Drop {
         ensures attached { IsTrue (G.space base.old).tells → (now : Content) → MayAttach now (G.space base.old) (G.outside base.old) → IfOk result (λ volume. Stays (knows volume (G.space base.new) capacity) now now None (G.space base.new)) }
         ensures still { OnOk result (G.serves base.new capacity × (G.taken base.new ≡ 0)) }
         ensures tells { (G.space base.new).tells ≡ (G.space base.old).tells }
-        ensures anchor { G.anchor base.new ≡ G.anchor base.old };
+        ensures anchor { G.anchor base.new ≡ G.anchor base.old }
+        ensures faults { Faults (G.failed base.old) (G.space base.old) (G.failed base.new) (G.space base.new) result };
 
     /// Makes the next step of housekeeping.
     fn tidy_step<G: Ground>(&mut self, base: &mut G) -> Result<Next, Trouble>
@@ -62,7 +64,8 @@ pub trait Volume: Drop {
             → IfOk result (λ next. TidiesTo next capacity (knows self.new (G.space base.new) capacity) committed now shrunk (G.space base.new)) }
         ensures still { (capacity : ℕ) → G.serves base.old capacity → G.taken base.old ≤ capacity → OnOk result (G.serves base.new capacity × (G.taken base.new ≤ capacity)) }
         ensures tells { (G.space base.new).tells ≡ (G.space base.old).tells }
-        ensures anchor { G.anchor base.new ≡ G.anchor base.old };
+        ensures anchor { G.anchor base.new ≡ G.anchor base.old }
+        ensures faults { Faults (G.failed base.old) (G.space base.old) (G.failed base.new) (G.space base.new) result };
 
     /// Answers a line, and adds the text of its reply. Where memory is missing, that is its reply.
     fn answer<G: Ground>(
@@ -79,7 +82,8 @@ pub trait Volume: Drop {
             → IfOk result (λ step. AnswersTo step capacity (knows self.new (G.space base.new) capacity) committed now shrunk (G.space base.new) line.now replies.old replies.new) }
         ensures still { (capacity : ℕ) → G.serves base.old capacity → G.taken base.old ≤ capacity → OnOk result (G.serves base.new capacity × (G.taken base.new ≤ capacity)) }
         ensures tells { (G.space base.new).tells ≡ (G.space base.old).tells }
-        ensures anchor { G.anchor base.new ≡ G.anchor base.old };
+        ensures anchor { G.anchor base.new ≡ G.anchor base.old }
+        ensures faults { Faults (G.failed base.old) (G.space base.old) (G.failed base.new) (G.space base.new) result };
 
     /// Puts the header's mark of a mount: bit 8 of its attributes is clear, and its count of writes is one higher, wrapping.
     fn mark_mounted<G: Ground>(&mut self, base: &mut G) -> Result<(), Trouble>
@@ -91,7 +95,8 @@ pub trait Volume: Drop {
             → OnOk result (IsMarkedMounted (knows self.new (G.space base.new) capacity) committed now shrunk (G.space base.new)) }
         ensures still { (capacity : ℕ) → G.serves base.old capacity → G.taken base.old ≤ capacity → OnOk result (G.serves base.new capacity × (G.taken base.new ≤ capacity)) }
         ensures tells { (G.space base.new).tells ≡ (G.space base.old).tells }
-        ensures anchor { G.anchor base.new ≡ G.anchor base.old };
+        ensures anchor { G.anchor base.new ≡ G.anchor base.old }
+        ensures faults { Faults (G.failed base.old) (G.space base.old) (G.failed base.new) (G.space base.new) result };
 
     /// Puts bit 8 of the header's attributes, which says that the run was ended in good order.
     fn close<G: Ground>(&mut self, base: &mut G) -> Result<(), Trouble>
@@ -103,7 +108,8 @@ pub trait Volume: Drop {
             → OnOk result (IsClosed (knows self.new (G.space base.new) capacity) committed now shrunk (G.space base.new)) }
         ensures still { (capacity : ℕ) → G.serves base.old capacity → G.taken base.old ≤ capacity → OnOk result (G.serves base.new capacity × (G.taken base.new ≤ capacity)) }
         ensures tells { (G.space base.new).tells ≡ (G.space base.old).tells }
-        ensures anchor { G.anchor base.new ≡ G.anchor base.old };
+        ensures anchor { G.anchor base.new ≡ G.anchor base.old }
+        ensures faults { Faults (G.failed base.old) (G.space base.old) (G.failed base.new) (G.space base.new) result };
 
     /// Makes all durable, and nothing is held any more.
     fn commit<G: Ground>(&mut self, base: &mut G) -> Result<(), Trouble>
@@ -115,7 +121,8 @@ pub trait Volume: Drop {
             → OnOk result (Stays (knows self.new (G.space base.new) capacity) now now shrunk (G.space base.new)) }
         ensures still { (capacity : ℕ) → G.serves base.old capacity → OnOk result (G.serves base.new capacity × (G.taken base.new ≡ 0)) }
         ensures tells { OnOk result ((G.space base.new).tells ≡ (G.space base.old).tells) }
-        ensures anchor { G.anchor base.new ≡ G.anchor base.old };
+        ensures anchor { G.anchor base.new ≡ G.anchor base.old }
+        ensures faults { Faults (G.failed base.old) (G.space base.old) (G.failed base.new) (G.space base.new) result };
 
     /// What it knows it knows still where only bytes were told. It calls nothing.
     fn look<G: Ground>(&self, base: &G)

@@ -1,6 +1,8 @@
 use Rattle.std.proofs.Common.{sym, subst}
 use Rattle.std.specs.Prelude.{IsTrue}
 use Rattle.hfs_serving.proofs.Going.{commit_stops_lines, lines_commit, on_err, stands_in_lines}
+use Rattle.std.proofs.lemmas.Result.{err_from_is_err_and}
+use Rattle.hfs_serving.proofs.Causes.{counts_both, counts_none, fine, handed}
 use Rattle.hfs_serving.proofs.batch.serve_batch.Goals as goal
 
 pub returns-in_err-count-clause-stops : goal.returns-in_err-count-clause-stops
@@ -39,3 +41,17 @@ returns-clause-serves g c tells capacity start shrunk stands =
     let new = g.G.SectorView.space c.commit.new.base in
     lines_commit c.in_ok-count.count capacity shrunk start (g.G.Ground.outside c.args.base.now) c.args.lines.now c.args.replies.now c.serve_lines.new.replies knows space mid first (g.V.Volume.knows c.commit.new.self new capacity) new
     (g.G.Ground.outside c.commit.new.base) (c.in_ok-commit.ensures.done tells_there) (c.in_ok-commit.ensures.knows tells_there capacity first.goes.last first.goes.next _ there)
+
+pub returns-in_err-count-clause-faults : goal.returns-in_err-count-clause-faults
+returns-in_err-count-clause-faults g c =
+    let p = err_from_is_err_and c.from_residual.result c.from_residual.ensures.1 in
+    handed (counts_none _ _) _ p.0 c.from_residual.result c.in_err-count.ensures.faults p.1 p.2
+
+pub returns-in_err-commit-clause-faults : goal.returns-in_err-commit-clause-faults
+returns-in_err-commit-clause-faults g c =
+    let p = err_from_is_err_and c.from_residual-in_err-commit.result c.from_residual-in_err-commit.ensures.1 in
+    handed (c.serve_lines.ensures.faults.counts) _ p.0 c.from_residual-in_err-commit.result c.in_err-commit.ensures.faults p.1 p.2
+
+pub returns-clause-faults : goal.returns-clause-faults
+returns-clause-faults g c =
+    fine (counts_both c.serve_lines.ensures.faults.counts c.commit.ensures.faults.counts) _

@@ -2,6 +2,8 @@ use Rattle.std.proofs.Common.{◌++◌, [], ℕ, List, refl, sym, ◌∙◌, ap,
 use Rattle.std.specs.Prelude.{IsTrue}
 use Rattle.std.proofs.lemmas.List.{append-nil}
 use Rattle.hfs_serving.proofs.Going.{answered_line, left_line, on_err, rested_answers, rested_both, rested_left, stands_there, tidy_goes, tidy_stops, touch_stops_tidy}
+use Rattle.std.proofs.lemmas.Result.{err_from_is_err_and}
+use Rattle.hfs_serving.proofs.Causes.{counts_both, counts_none, fine, handed}
 use Rattle.hfs_serving.proofs.batch.serve_line.Goals as goal
 
 pub returns-then-not-branch-clause-goes : goal.returns-then-not-branch-clause-goes
@@ -15,6 +17,7 @@ returns-then-not-branch-clause-goes g c tells capacity committed now shrunk stan
 
 pub loop-init : goal.loop-init
 loop-init g c = record {
+  counts = c.tidy.ensures.faults.counts;
   anchor = c.tidy.ensures.anchor;
   tells = c.in_ok-tidy.ensures.tells;
   serves = λ capacity serves taken. c.in_ok-tidy.ensures.still capacity serves taken;
@@ -165,6 +168,7 @@ returns-in_err-make_room-clause-stops g c tells capacity committed now shrunk st
 
 pub loop-preserved : goal.loop-preserved
 loop-preserved g c = record {
+  counts = counts_both (counts_both c.loop.invariant.counts c.answer.ensures.faults.counts) c.make_room.ensures.faults.counts;
   anchor = c.make_room.ensures.anchor ∙ c.answer.ensures.anchor ∙ c.loop.invariant.anchor;
   tells = c.in_ok-make_room.ensures.tells ∙ c.answer.ensures.tells ∙ c.loop.invariant.tells;
   serves = λ capacity serves taken.
@@ -210,3 +214,34 @@ returns-clause-still g c capacity serves taken = c.loop.invariant.serves capacit
 
 pub returns-clause-tells : goal.returns-clause-tells
 returns-clause-tells g c = c.loop.invariant.tells
+
+pub returns-in_err-tidy-clause-faults : goal.returns-in_err-tidy-clause-faults
+returns-in_err-tidy-clause-faults g c =
+    let p = err_from_is_err_and c.from_residual.result c.from_residual.ensures.1 in
+    handed (counts_none _ _) _ p.0 c.from_residual.result c.in_err-tidy.ensures.faults p.1 p.2
+
+pub returns-then-not-branch-clause-faults : goal.returns-then-not-branch-clause-faults
+returns-then-not-branch-clause-faults g c =
+    fine c.tidy.ensures.faults.counts _
+
+pub returns-in_err-step-clause-faults : goal.returns-in_err-step-clause-faults
+returns-in_err-step-clause-faults g c =
+    let p = err_from_is_err_and c.from_residual-in_err-step.result c.from_residual-in_err-step.ensures.1 in
+    handed (c.loop.invariant.counts) _ p.0 c.from_residual-in_err-step.result c.in_err-step.ensures.faults p.1 p.2
+
+pub returns-then-is_answered-clause-faults : goal.returns-then-is_answered-clause-faults
+returns-then-is_answered-clause-faults g c =
+    fine (counts_both c.loop.invariant.counts c.answer.ensures.faults.counts) _
+
+pub returns-then-waits-clause-faults : goal.returns-then-waits-clause-faults
+returns-then-waits-clause-faults g c =
+    fine (counts_both c.loop.invariant.counts c.answer.ensures.faults.counts) _
+
+pub returns-in_err-make_room-clause-faults : goal.returns-in_err-make_room-clause-faults
+returns-in_err-make_room-clause-faults g c =
+    let p = err_from_is_err_and c.from_residual-in_err-make_room.result c.from_residual-in_err-make_room.ensures.1 in
+    handed (counts_both c.loop.invariant.counts c.answer.ensures.faults.counts) _ p.0 c.from_residual-in_err-make_room.result c.in_err-make_room.ensures.faults p.1 p.2
+
+pub returns-clause-faults : goal.returns-clause-faults
+returns-clause-faults g c =
+    fine c.loop.invariant.counts _

@@ -5,12 +5,15 @@ use Rattle.hfs_serving.specs.Going.{ServesLine, ServesLines}
 use Rattle.hfs_volume.specs.Run.{shrunk_in}
 use Rattle.hfs_serving.proofs.Going.{lines_none, lines_on, lines_stop, on_err, stands_in_lines}
 use Rattle.hfs_serving.proofs.Syncing.{no_sync_more, no_sync_yet}
+use Rattle.std.proofs.lemmas.Result.{err_from_is_err_and}
+use Rattle.hfs_serving.proofs.Causes.{counts_both, counts_none, fine, handed}
 use Rattle.hfs_serving.proofs.batch.serve_lines.Goals as goal
 
 pub loop-at-init : goal.loop-at-init
 loop-at-init g c = record {
   most = omega arith;
   no_sync = λ front few. no_sync_yet c.args.lines.now front few;
+  counts = counts_none _ _;
   anchor = refl;
   tells = refl;
   serves = λ capacity serves taken. (serves, taken);
@@ -85,6 +88,7 @@ loop-at-preserved g c = record {
       let next : take c.loop-at.at all ++ line ∷ [] ≡ take (c.loop-at.at + 1) all =
       ap (λ (l : List ℕ). take c.loop-at.at all ++ l ∷ []) (c.as_slice-in-loop-at.ensures ∙ c.index-lines-at-in-loop-at.is) ∙ sym (take_more all c.loop-at.at c.index-lines-at-in-loop-at.result c.loop-at-test.true) in
       no_sync_more all c.loop-at.at line next c.is_sync.result c.is_sync.ensures c.if-is_sync.false c.loop-at.invariant.no_sync;
+  counts = counts_both c.loop-at.invariant.counts c.serve_line.ensures.faults.counts;
   anchor = c.serve_line.ensures.anchor ∙ c.loop-at.invariant.anchor;
   tells = c.in_ok-serve_line.ensures.tells ∙ c.loop-at.invariant.tells;
   serves = λ capacity serves taken. let was = c.loop-at.invariant.serves capacity serves taken in c.in_ok-serve_line.ensures.still capacity was.0 was.1;
@@ -119,3 +123,24 @@ returns-clause-still g c capacity serves taken = c.loop-at.invariant.serves capa
 
 pub returns-clause-tells : goal.returns-clause-tells
 returns-clause-tells g c = c.loop-at.invariant.tells
+
+pub returns-then-at-eq-MOST_LINES-clause-faults : goal.returns-then-at-eq-MOST_LINES-clause-faults
+returns-then-at-eq-MOST_LINES-clause-faults g c =
+    fine c.loop-at.invariant.counts _
+
+pub returns-in_err-serve_line-clause-faults : goal.returns-in_err-serve_line-clause-faults
+returns-in_err-serve_line-clause-faults g c =
+    let p = err_from_is_err_and c.from_residual.result c.from_residual.ensures.1 in
+    handed (c.loop-at.invariant.counts) _ p.0 c.from_residual.result c.in_err-serve_line.ensures.faults p.1 p.2
+
+pub returns-then-not-branch-clause-faults : goal.returns-then-not-branch-clause-faults
+returns-then-not-branch-clause-faults g c =
+    fine (counts_both c.loop-at.invariant.counts c.serve_line.ensures.faults.counts) _
+
+pub returns-then-is_sync-clause-faults : goal.returns-then-is_sync-clause-faults
+returns-then-is_sync-clause-faults g c =
+    fine (counts_both c.loop-at.invariant.counts c.serve_line.ensures.faults.counts) _
+
+pub returns-clause-faults : goal.returns-clause-faults
+returns-clause-faults g c =
+    fine c.loop-at.invariant.counts _

@@ -1,6 +1,7 @@
 use Rattle.std.proofs.Common.{◌≡◌, ◌≤◌, ℕ}
 use Rattle.std.specs.Prelude.{Option, IsTrue}
 use Rattle.jnl_format.specs.Recovery.{Content}
+use Rattle.hfs_serving.specs.Faults.{CountsFaults}
 use Rattle.hfs_serving.specs.Going.{HasNoSync, Stands, ServesLines}
 use Rattle.hfs_serving.proofs.batch.serve_lines.Given as goal
 
@@ -9,6 +10,7 @@ invariant-loop-at g l =
     record {
       most : l.at ≤ 32;
       no_sync : (front : ℕ) → front ≤ l.at → HasNoSync front l.lines;
+      counts : CountsFaults (g.G.Ground.failed l.fn.base) (g.G.SectorView.space l.fn.base) (g.G.Ground.failed l.base) (g.G.SectorView.space l.base);
       anchor : g.G.Ground.anchor l.base ≡ g.G.Ground.anchor l.fn.base;
       tells : (g.G.SectorView.space l.base).tells ≡ (g.G.SectorView.space l.fn.base).tells;
       serves : (capacity : ℕ) → g.G.Ground.serves l.fn.base capacity → g.G.Ground.taken l.fn.base ≤ capacity → g.G.Ground.serves l.base capacity × (g.G.Ground.taken l.base ≤ capacity);

@@ -1,6 +1,8 @@
 use Rattle.std.proofs.Common.{sym, subst, arith}
 use Rattle.std.specs.Prelude.{IsTrue}
 use Rattle.hfs_serving.proofs.Closing.{closed_stands, commit_finishes, finishes, put_stops}
+use Rattle.std.proofs.lemmas.Result.{err_from_is_err_and}
+use Rattle.hfs_serving.proofs.Causes.{counts_both, counts_none, fine, handed}
 use Rattle.hfs_serving.proofs.ending.end_run.Goals as goal
 
 pub close-requires-clause-stands : goal.close-requires-clause-stands
@@ -48,3 +50,17 @@ returns-clause-done g c tells capacity now shrunk stands =
     let closed = c.in_ok-close.ensures.closed tells capacity now now shrunk stands in
     finishes _ now shrunk _ _ stands new (g.G.Ground.outside c.close.new.base) (c.close.ensures.touches tells capacity now now shrunk stands) (g.V.Volume.knows c.close.new.self new capacity) closed (g.G.SectorView.space c.commit.new.base)
     (g.G.Ground.outside c.commit.new.base) (c.in_ok-commit.ensures.done (subst (λ t. IsTrue t) (sym c.close.ensures.tells) tells))
+
+pub returns-in_err-close-clause-faults : goal.returns-in_err-close-clause-faults
+returns-in_err-close-clause-faults g c =
+    let p = err_from_is_err_and c.from_residual.result c.from_residual.ensures.1 in
+    handed (counts_none _ _) _ p.0 c.from_residual.result c.in_err-close.ensures.faults p.1 p.2
+
+pub returns-in_err-commit-clause-faults : goal.returns-in_err-commit-clause-faults
+returns-in_err-commit-clause-faults g c =
+    let p = err_from_is_err_and c.from_residual-in_err-commit.result c.from_residual-in_err-commit.ensures.1 in
+    handed (c.close.ensures.faults.counts) _ p.0 c.from_residual-in_err-commit.result c.in_err-commit.ensures.faults p.1 p.2
+
+pub returns-clause-faults : goal.returns-clause-faults
+returns-clause-faults g c =
+    fine (counts_both c.close.ensures.faults.counts c.commit.ensures.faults.counts) _

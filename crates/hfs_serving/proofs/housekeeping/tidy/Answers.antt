@@ -1,10 +1,13 @@
 use Rattle.std.proofs.Common.{[], refl, ◌∙◌, subst}
 use Rattle.std.specs.Prelude.{IsTrue}
 use Rattle.hfs_serving.proofs.Going.{begins, on_err, stands_there, tidy_both, tidy_rested, tidy_stops}
+use Rattle.std.proofs.lemmas.Result.{err_from_is_err_and}
+use Rattle.hfs_serving.proofs.Causes.{counts_both, counts_none, fine, handed}
 use Rattle.hfs_serving.proofs.housekeeping.tidy.Goals as goal
 
 pub loop-init : goal.loop-init
 loop-init g c = record {
+  counts = counts_none _ _;
   anchor = refl;
   tells = refl;
   serves = λ capacity serves taken. (serves, taken);
@@ -59,6 +62,7 @@ returns-then-branch-clause-rests g c tells capacity committed now shrunk stands 
 
 pub loop-preserved : goal.loop-preserved
 loop-preserved g c = record {
+  counts = counts_both c.loop.invariant.counts c.work.ensures.faults.counts;
   anchor = c.work.ensures.anchor ∙ c.loop.invariant.anchor;
   tells = c.in_ok-work.ensures.tells ∙ c.loop.invariant.tells;
   serves = λ capacity serves taken. let was = c.loop.invariant.serves capacity serves taken in c.in_ok-work.ensures.still capacity was.0 was.1;
@@ -72,3 +76,16 @@ loop-preserved g c = record {
       tidy_both capacity shrunk committed now old knows space mid goes (g.V.Volume.knows c.work.new.volume new capacity) new (g.G.Ground.outside c.work.new.base)
       (c.in_ok-work.ensures.goes (c.loop.invariant.tells ∙ tells) capacity goes.last goes.next shrunk (stands_there capacity shrunk committed now old knows space mid goes));
 }
+
+pub returns-in_err-work-clause-faults : goal.returns-in_err-work-clause-faults
+returns-in_err-work-clause-faults g c =
+    let p = err_from_is_err_and c.from_residual.result c.from_residual.ensures.1 in
+    handed (c.loop.invariant.counts) _ p.0 c.from_residual.result c.in_err-work.ensures.faults p.1 p.2
+
+pub returns-then-branch-clause-faults : goal.returns-then-branch-clause-faults
+returns-then-branch-clause-faults g c =
+    fine (counts_both c.loop.invariant.counts c.work.ensures.faults.counts) _
+
+pub returns-clause-faults : goal.returns-clause-faults
+returns-clause-faults g c =
+    fine c.loop.invariant.counts _

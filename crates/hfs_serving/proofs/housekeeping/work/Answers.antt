@@ -3,6 +3,8 @@ use Rattle.std.specs.Prelude.{IsTrue}
 use Rattle.hfs_serving.specs.Going.{TidiesTo}
 use Rattle.hfs_serving.specs.declared.volume.Next.{Next}
 use Rattle.hfs_serving.proofs.Going.{first_looks, first_rests, first_stands, first_stops, first_tidied, on_err, then_commits, then_commit_stops}
+use Rattle.std.proofs.lemmas.Result.{err_from_is_err_and}
+use Rattle.hfs_serving.proofs.Causes.{counts_both, counts_none, fine, handed}
 use Rattle.hfs_serving.proofs.housekeeping.work.Goals as goal
 
 pub returns-in_err-tidy_step-clause-stops : goal.returns-in_err-tidy_step-clause-stops
@@ -66,3 +68,25 @@ returns-in_ok-commit-in-CommitFirst-clause-goes g c tells capacity committed now
     let last = g.G.SectorView.space c.commit.new.base in
     then_commits capacity shrunk committed now _ _ _ stands knows_new new mid touches tidied (g.V.Volume.knows c.commit.new.self last capacity) last (g.G.Ground.outside c.commit.new.base) (c.in_ok-commit-in-CommitFirst.ensures.done tells_new)
     (c.in_ok-commit-in-CommitFirst.ensures.knows tells_new capacity committed now shrunk (first_stands capacity shrunk committed now _ _ _ stands knows_new new mid touches tidied))
+
+pub returns-in_err-tidy_step-clause-faults : goal.returns-in_err-tidy_step-clause-faults
+returns-in_err-tidy_step-clause-faults g c =
+    let p = err_from_is_err_and c.from_residual.result c.from_residual.ensures.1 in
+    handed (counts_none _ _) _ p.0 c.from_residual.result c.in_err-tidy_step.ensures.faults p.1 p.2
+
+pub returns-in-Rest-clause-faults : goal.returns-in-Rest-clause-faults
+returns-in-Rest-clause-faults g c =
+    fine c.tidy_step.ensures.faults.counts _
+
+pub returns-in-Made-clause-faults : goal.returns-in-Made-clause-faults
+returns-in-Made-clause-faults g c =
+    fine c.tidy_step.ensures.faults.counts _
+
+pub returns-in_err-commit-in-CommitFirst-clause-faults : goal.returns-in_err-commit-in-CommitFirst-clause-faults
+returns-in_err-commit-in-CommitFirst-clause-faults g c =
+    let p = err_from_is_err_and c.from_residual-in_err-commit-in-CommitFirst.result c.from_residual-in_err-commit-in-CommitFirst.ensures.1 in
+    handed (c.tidy_step.ensures.faults.counts) _ p.0 c.from_residual-in_err-commit-in-CommitFirst.result c.in_err-commit-in-CommitFirst.ensures.faults p.1 p.2
+
+pub returns-in_ok-commit-in-CommitFirst-clause-faults : goal.returns-in_ok-commit-in-CommitFirst-clause-faults
+returns-in_ok-commit-in-CommitFirst-clause-faults g c =
+    fine (counts_both c.tidy_step.ensures.faults.counts c.commit.ensures.faults.counts) _

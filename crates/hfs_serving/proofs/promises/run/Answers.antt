@@ -10,6 +10,9 @@ use Rattle.hfs_serving.proofs.Promising.{crash_keeps, crash_seen, finish_crashes
 use Rattle.hfs_serving.proofs.Stepping.{step_ends, step_none}
 use Rattle.line_source.specs.Input.{TakesLines}
 use Rattle.line_source.proofs.Cuts.{all_taken}
+use Rattle.std.proofs.lemmas.Result.{err_from_is_err_and}
+use Rattle.hfs_serving.proofs.Causes.{counts_both, counts_none, fine_stop, handed_on, handed_stop, other_stop}
+use Rattle.sector_disk.specs.Cause.{Rose}
 use Rattle.hfs_serving.proofs.promises.run.Goals as goal
 
 pub returns-in_err-input-clause-promises : goal.returns-in_err-input-clause-promises
@@ -204,3 +207,23 @@ returns-in_err-end_run-clause-names g c = ap (λ (a : Anchor). a.names) (c.end_r
 
 pub returns-clause-names : goal.returns-clause-names
 returns-clause-names g c = ap (λ (a : Anchor). a.names) (c.end_run.ensures.anchor ∙ c.serve_source.ensures.anchor)
+
+pub returns-in_err-input-clause-faults : goal.returns-in_err-input-clause-faults
+returns-in_err-input-clause-faults g c =
+    let p = err_from_is_err_and c.from_residual.result c.from_residual.ensures.1 in
+    let source = (g.S.Source.stream c.args.source.now).faults in
+    other_stop (counts_none _ _) (Rose source source) p.0 c.from_residual.result p.1 (λ is. absurd (cc (p.2, is))) (λ is. absurd (cc (p.2, is))) (λ is. absurd (cc (p.2, is)))
+
+pub returns-in_err-serve_source-clause-faults : goal.returns-in_err-serve_source-clause-faults
+returns-in_err-serve_source-clause-faults g c =
+    let p = err_from_is_err_and c.from_residual-in_err-serve_source.result c.from_residual-in_err-serve_source.ensures.1 in
+    handed_on (counts_none _ _) (Rose (g.S.Source.stream c.args.source.now).faults (g.S.Source.stream c.serve_source.new.source).faults) (Rose (g.S.Source.stream c.args.source.now).faults (g.S.Source.stream c.serve_source.new.source).faults) _ p.0 c.from_residual-in_err-serve_source.result (λ rose. rose) c.in_err-serve_source.ensures.faults p.1 p.2
+
+pub returns-in_err-end_run-clause-faults : goal.returns-in_err-end_run-clause-faults
+returns-in_err-end_run-clause-faults g c =
+    let p = err_from_is_err_and c.from_residual-in_err-end_run.result c.from_residual-in_err-end_run.ensures.1 in
+    handed_stop (c.serve_source.ensures.faults.counts) (Rose (g.S.Source.stream c.args.source.now).faults (g.S.Source.stream c.serve_source.new.source).faults) _ p.0 c.from_residual-in_err-end_run.result c.in_err-end_run.ensures.faults p.1 p.2
+
+pub returns-clause-faults : goal.returns-clause-faults
+returns-clause-faults g c =
+    fine_stop (counts_both c.serve_source.ensures.faults.counts c.end_run.ensures.faults.counts) (Rose (g.S.Source.stream c.args.source.now).faults (g.S.Source.stream c.serve_source.new.source).faults) _

@@ -4,5 +4,5 @@ use Rattle.hfs_serving.proofs.serving.attach_store.Goals as goal
 pub returns : goal.returns
 returns g c disk fits =
     let first = c.in_ok-store.ensures in
-    attached_store c.in_ok-store.store c.begin.new.self c.args.plan.now (g.D.SectorDisk.state disk) (g.met.D.SectorDisk.well_formed disk) first.plan c.begin.ensures.rest c.begin.ensures.puts first.nothing.0 first.no_list
+    attached_store c.in_ok-store.store c.begin.new.self c.args.plan.now (g.D.SectorDisk.state disk) (g.met.D.SectorDisk.well_formed disk) first.plan c.begin.ensures.rest c.begin.ensures.puts first.nothing.0 first.no_list first.faults
     (first.still_fits (g.D.SectorDisk.state disk).sectors fits) fits first.durable c.capacity-capacity.result c.capacity-capacity.ensures c.in_ok-begin.ensures.room first.keeps c.begin.ensures.keeps

@@ -9,6 +9,11 @@ use Rattle.hfs_serving.specs.Outside.{outside_of}
 use Rattle.hfs_serving.proofs.Promising.{has_none, keeps_from}
 use Rattle.hfs_serving.proofs.Readied.{turns_on}
 use Rattle.hfs_serving.proofs.Served.{capacity_mounted, goes_on_from, may_serve, reads_ready, reads_turn, ready_stopped, start_found, versioned_sound}
+use Rattle.std.proofs.Common.{◌≤◌, arith}
+use Rattle.std.proofs.lemmas.Result.{err_from_is_err_and}
+use Rattle.hx_bytes.specs.declared.faults.Trouble.TheVariants as trouble
+use Rattle.sector_disk.specs.Cause.{Rose}
+use Rattle.hfs_serving.proofs.Causes.{rig_behind, rig_trouble}
 use Rattle.hfs_serving.proofs.serving.serve_found.Goals as goal
 
 pub returns-in_err-ready-clause-promises : goal.returns-in_err-ready-clause-promises
@@ -60,3 +65,17 @@ returns-clause-promises g c tells settled capacity holds first reads =
     (goes_on_from plan ready c.in_ok-ready.ensures.plan capacity start done.made.now s s1 s2 stretch.0 turns
     (stretch.2 tells_mid capacity (subst (λ (q : Plan). IsCapacityOf q capacity) (sym c.in_ok-ready.ensures.plan) (capacity_mounted plan capacity holds)) start done.made.now first done.made.versioned done.made.place done.made.is_ready
     (versioned_sound start done.made.now done.made.versioned found.sound)))
+
+pub returns-in_err-ready-clause-faults : goal.returns-in_err-ready-clause-faults
+returns-in_err-ready-clause-faults g c =
+    let p = err_from_is_err_and c.from_residual.result c.from_residual.ensures.1 in
+    let s0 = g.R.SectorDisk.state c.args.rig.now in
+    let s1 = g.R.SectorDisk.state c.ready_image.new.disk in
+    rig_trouble s0 s1 s1 c.ready_image.ensures.cause.later (omega (arith, c.ready_image.ensures.sink.faults)) (Rose (g.S.Source.stream c.args.source.now).faults (g.S.Source.stream c.args.source.now).faults) trouble.Disk p.0 c.from_residual.result (λ _. c.in_err-ready.ensures.cause.failed) p.1 p.2
+
+pub returns-clause-faults : goal.returns-clause-faults
+returns-clause-faults g c =
+    let s0 = g.R.SectorDisk.state c.args.rig.now in
+    let s1 = g.R.SectorDisk.state c.ready_image.new.disk in
+    let s2 = g.R.SectorDisk.state c.serve_ready.new.rig in
+    rig_behind s0 s1 s2 c.ready_image.ensures.cause.later (omega (arith, c.ready_image.ensures.sink.faults)) (Rose (g.S.Source.stream c.args.source.now).faults (g.S.Source.stream c.serve_ready.new.source).faults) c.serve_ready.result c.serve_ready.ensures.faults

@@ -8,6 +8,10 @@ use Rattle.hfs_serving.specs.Checking.{IsFound}
 use Rattle.hfs_serving.specs.Steps.{KeepsRun}
 use Rattle.hfs_serving.specs.declared.checking.MountRefusal.{MountRefusal}
 use Rattle.hfs_serving.proofs.Served.{found_mounts, mounts_one, reads_content, reads_keep, reads_settled}
+use Rattle.std.proofs.Common.{◌≤◌, Err, arith}
+use Rattle.std.proofs.lemmas.Result.{err_from_is_err_and}
+use Rattle.sector_disk.specs.Cause.{Rose}
+use Rattle.hfs_serving.proofs.Causes.{rig_fine, rig_handed, rig_trouble}
 use Rattle.hfs_serving.proofs.serving.serve_image.Goals as goal
 
 pub returns-in_err-plan-clause-promises : goal.returns-in_err-plan-clause-promises
@@ -54,3 +58,31 @@ returns-in_ok-serve_found-in-Ok-clause-served g c tells =
     let found = subst (λ (r : Result Plan MountRefusal). IfOk r (IsFound image)) c.in-Ok.is (c.in_ok-plan.ensures.found tells) in
     let fits = subst (λ (r : Result Plan MountRefusal). IfOk r (FitsPlan s0.sectors)) c.in-Ok.is c.in_ok-plan.ensures.fits in
     (found.opened.capacity, replayed (journal_of plan) image, found_mounts image plan s0.sectors fits found.opened found.sound)
+
+pub returns-in_err-plan-clause-faults : goal.returns-in_err-plan-clause-faults
+returns-in_err-plan-clause-faults g c =
+    let p = err_from_is_err_and c.from_residual.result c.from_residual.ensures.1 in
+    let s0 = g.R.SectorDisk.state c.args.rig.now in
+    let s1 = g.R.SectorDisk.state c.find_image.new.disk in
+    rig_trouble s0 s1 s1 c.find_image.ensures.reads.faults (omega (arith, c.find_image.ensures.reads.sink.faults)) (Rose (g.S.Source.stream c.args.source.now).faults (g.S.Source.stream c.args.source.now).faults) _ p.0 c.from_residual.result (λ is. c.in_err-plan.ensures.cause.rose (ap Err is)) p.1 p.2
+
+pub returns-in-Err-clause-faults : goal.returns-in-Err-clause-faults
+returns-in-Err-clause-faults g c =
+    let s0 = g.R.SectorDisk.state c.args.rig.now in
+    let s1 = g.R.SectorDisk.state c.find_image.new.disk in
+    rig_fine s0 s1 s1 c.find_image.ensures.reads.faults (omega (arith, c.find_image.ensures.reads.sink.faults)) (Rose (g.S.Source.stream c.args.source.now).faults (g.S.Source.stream c.args.source.now).faults) _
+
+pub returns-in_err-serve_found-in-Ok-clause-faults : goal.returns-in_err-serve_found-in-Ok-clause-faults
+returns-in_err-serve_found-in-Ok-clause-faults g c =
+    let p = err_from_is_err_and c.from_residual-in_err-serve_found-in-Ok.result c.from_residual-in_err-serve_found-in-Ok.ensures.1 in
+    let s0 = g.R.SectorDisk.state c.args.rig.now in
+    let s1 = g.R.SectorDisk.state c.find_image.new.disk in
+    let s2 = g.R.SectorDisk.state c.serve_found.new.rig in
+    rig_handed s0 s1 s2 c.find_image.ensures.reads.faults (omega (arith, c.find_image.ensures.reads.sink.faults)) (Rose (g.S.Source.stream c.args.source.now).faults (g.S.Source.stream c.serve_found.new.source).faults) _ p.0 c.from_residual-in_err-serve_found-in-Ok.result c.in_err-serve_found-in-Ok.ensures.faults p.1 p.2
+
+pub returns-in_ok-serve_found-in-Ok-clause-faults : goal.returns-in_ok-serve_found-in-Ok-clause-faults
+returns-in_ok-serve_found-in-Ok-clause-faults g c =
+    let s0 = g.R.SectorDisk.state c.args.rig.now in
+    let s1 = g.R.SectorDisk.state c.find_image.new.disk in
+    let s2 = g.R.SectorDisk.state c.serve_found.new.rig in
+    rig_fine s0 s2 s2 (omega (arith, c.find_image.ensures.reads.faults, c.serve_found.ensures.faults.later)) (omega (arith, c.find_image.ensures.reads.sink.faults, c.serve_found.ensures.faults.sink_later)) (Rose (g.S.Source.stream c.args.source.now).faults (g.S.Source.stream c.serve_found.new.source).faults) _

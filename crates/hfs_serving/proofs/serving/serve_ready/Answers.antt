@@ -9,6 +9,12 @@ use Rattle.hfs_serving.proofs.Attachable.{capacity_ready, finds_ready, in_servic
 use Rattle.hfs_serving.proofs.Grounding.{told_disk}
 use Rattle.hfs_serving.proofs.Promising.{has_none}
 use Rattle.hfs_serving.proofs.Served.{begin_stopped, begun_goes_on, nothing_more}
+use Rattle.std.proofs.Common.{◌≤◌, refl, arith}
+use Rattle.std.proofs.lemmas.Result.{err_from_is_err_and}
+use Rattle.sector_disk.specs.Cause.{Rose}
+use Rattle.jnl_store.specs.Spaces.{over}
+use Rattle.hfs_serving.specs.Faults.{RigFaults}
+use Rattle.hfs_serving.proofs.Causes.{behind_stop, counts_none, handed_stop, rig_from, rig_memory}
 use Rattle.hfs_serving.proofs.serving.serve_ready.Goals as goal
 
 pub returns-in_err-store-clause-stretch : goal.returns-in_err-store-clause-stretch
@@ -106,3 +112,34 @@ returns-clause-stretch g c =
           (begun_goes_on mine start now plan (g.R.SectorDisk.state first) d0 versioned place turns (plan_of store) (plan_of base.store.now) (finds_ready store plan d0 attached) (ap (λ (a : Anchor). a.journal) c.attach_volume.ensures.anchor)
           (g.R.SectorDisk.state base.disk.now) (g.R.SectorDisk.state last.disk.now) stretch.0 (g.V.Volume.knows c.in_ok-volume.volume space mine) space begins (stretch.2 base_tells mine begins.begun begins.stands))),
     )
+
+pub returns-in_err-store-clause-faults : goal.returns-in_err-store-clause-faults
+returns-in_err-store-clause-faults g c =
+    let p = err_from_is_err_and c.from_residual.result c.from_residual.ensures.1 in
+    let s = g.R.SectorDisk.state c.args.rig.now in
+    rig_memory s s s (omega arith) (omega arith) (Rose (g.S.Source.stream c.args.source.now).faults (g.S.Source.stream c.args.source.now).faults) p.0 c.from_residual.result p.1 p.2
+
+pub returns-in_err-volume-clause-faults : goal.returns-in_err-volume-clause-faults
+returns-in_err-volume-clause-faults g c =
+    let p = err_from_is_err_and c.from_residual-in_err-volume.result c.from_residual-in_err-volume.ensures.1 in
+    let disk = c.args.rig.now in
+    let d0 = g.R.SectorDisk.state disk in
+    let base = c.attach_volume.new.base in
+    let names = ap (λ (a : Anchor). a.names) c.attach_volume.ensures.anchor in
+    let rig_is = c.in_err-volume.rig-1-own.given.1 (sym (ap (λ (l : List ℕ). get_or l 1 0) names)) in
+    let source = Rose (g.S.Source.stream c.args.source.now).faults (g.S.Source.stream c.args.source.now).faults in
+    subst (λ (r : g.row.R.Denot). RigFaults d0 (g.R.SectorDisk.state r) source c.from_residual-in_err-volume.result) (sym rig_is)
+    (rig_from d0 (g.R.SectorDisk.state base.disk.now) (over c.store-3-1.given.0 c.base-1.given c.in_ok-store.store d0) (seen g.R.SectorDisk.state base) refl refl refl refl (c.in_ok-store.ensures disk c.requires.fits).no_fault
+    (handed_stop (counts_none _ _) source _ p.0 c.from_residual-in_err-volume.result c.in_err-volume.ensures.faults p.1 p.2))
+
+pub returns-clause-faults : goal.returns-clause-faults
+returns-clause-faults g c =
+    let disk = c.args.rig.now in
+    let d0 = g.R.SectorDisk.state disk in
+    let last = c.run.new.base in
+    let names = c.run.ensures.names ∙ ap (λ (a : Anchor). a.names) c.attach_volume.ensures.anchor in
+    let rig_is = c.rig-2-1.given.1 (sym (ap (λ (l : List ℕ). get_or l 1 0) names)) in
+    let source = Rose (g.S.Source.stream c.args.source.now).faults (g.S.Source.stream c.run.new.source).faults in
+    subst (λ (r : g.row.R.Denot). RigFaults d0 (g.R.SectorDisk.state r) source c.run.result) (sym rig_is)
+    (rig_from d0 (g.R.SectorDisk.state last.disk.now) (over c.store-3-1.given.0 c.base-1.given c.in_ok-store.store d0) (seen g.R.SectorDisk.state last) refl refl refl refl (c.in_ok-store.ensures disk c.requires.fits).no_fault
+    (behind_stop c.attach_volume.ensures.faults.counts source source c.run.result (λ rose. rose) c.run.ensures.faults))

@@ -1,6 +1,8 @@
 use Rattle.std.proofs.Common.{sym, ◌∙◌, subst, arith}
 use Rattle.std.specs.Prelude.{IsTrue}
 use Rattle.hfs_serving.proofs.Marking.{begun_may, mark_begins, mark_put_stops, mark_stops, marked_stands, put_may}
+use Rattle.std.proofs.lemmas.Result.{err_from_is_err_and}
+use Rattle.hfs_serving.proofs.Causes.{counts_both, counts_none, fine, handed}
 use Rattle.hfs_serving.proofs.starting.begin_run.Goals as goal
 
 pub mark_mounted-requires-clause-stands : goal.mark_mounted-requires-clause-stands
@@ -71,3 +73,17 @@ returns-clause-may g c tells capacity start shrunk stands =
     let marked = c.in_ok-mark_mounted.ensures.opened tells capacity start start shrunk stands in
     begun_may capacity _ start shrunk _ _ stands new (g.G.Ground.outside c.mark_mounted.new.base) (c.mark_mounted.ensures.touches tells capacity start start shrunk stands) (g.V.Volume.knows c.mark_mounted.new.self new capacity) marked (g.G.Ground.outside c.commit.new.base)
     (c.commit.ensures.crash (subst (λ t. IsTrue t) (sym c.mark_mounted.ensures.tells) tells))
+
+pub returns-in_err-mark_mounted-clause-faults : goal.returns-in_err-mark_mounted-clause-faults
+returns-in_err-mark_mounted-clause-faults g c =
+    let p = err_from_is_err_and c.from_residual.result c.from_residual.ensures.1 in
+    handed (counts_none _ _) _ p.0 c.from_residual.result c.in_err-mark_mounted.ensures.faults p.1 p.2
+
+pub returns-in_err-commit-clause-faults : goal.returns-in_err-commit-clause-faults
+returns-in_err-commit-clause-faults g c =
+    let p = err_from_is_err_and c.from_residual-in_err-commit.result c.from_residual-in_err-commit.ensures.1 in
+    handed (c.mark_mounted.ensures.faults.counts) _ p.0 c.from_residual-in_err-commit.result c.in_err-commit.ensures.faults p.1 p.2
+
+pub returns-clause-faults : goal.returns-clause-faults
+returns-clause-faults g c =
+    fine (counts_both c.mark_mounted.ensures.faults.counts c.commit.ensures.faults.counts) _

@@ -5,11 +5,16 @@ use Rattle.hfs_serving.specs.Steps.{CrashesStep, ServesStep}
 use Rattle.hfs_serving.proofs.Going.{on_err}
 use Rattle.hfs_serving.proofs.Stepping.{step_both, step_crash, step_ends, step_none}
 use Rattle.hfs_serving.proofs.Pending.{crash_texts, no_items, on_add, on_ends, on_none, on_serve, on_stops, step_more, step_texts}
+use Rattle.std.proofs.lemmas.Result.{err_from_is_err_and}
+use Rattle.hfs_serving.proofs.Causes.{counts_both, counts_none, fine_stop, handed_on, input_stop, other_stop}
+use Rattle.sector_disk.specs.Cause.{Rose}
 use Rattle.hfs_serving.proofs.taking.serve_source.Goals as goal
 
 pub loop-lines-init : goal.loop-lines-init
 loop-lines-init g c = record {
   same = record { tells = refl; names = refl };
+  counts = counts_none _ _;
+  later = omega arith;
   anchor = refl;
   tells = refl;
   serves = λ capacity serves taken. (serves, taken);
@@ -123,6 +128,8 @@ loop-lines-preserved g c =
     (λ count texts more inside served tells capacity start shrunk stands. step_more capacity start shrunk old texts more count _ _ _ inside (served tells capacity start shrunk stands)) in
     record {
       same = record { tells = c.read_lines.ensures.same.tells ∙ same.tells; names = c.read_lines.ensures.same.names ∙ same.names };
+      counts = counts_both c.loop-lines.invariant.counts c.serve_step.ensures.faults.counts;
+      later = omega (arith, c.loop-lines.invariant.later, c.read_lines.ensures.cause.later);
       anchor = c.serve_step.ensures.anchor ∙ c.loop-lines.invariant.anchor;
       tells = c.in_ok-count.ensures.tells ∙ c.loop-lines.invariant.tells;
       serves = λ capacity serves taken.
@@ -153,3 +160,37 @@ loop-lines-preserved g c =
           let both = step_both capacity shrunk start old texts count knows space mid first k knows_new space_new after second in
           both);
     }
+
+pub returns-in_err-read_lines-clause-faults : goal.returns-in_err-read_lines-clause-faults
+returns-in_err-read_lines-clause-faults g c =
+    let p = err_from_is_err_and c.from_residual.result c.from_residual.ensures.1 in
+    input_stop c.loop-lines.invariant.counts _ _ _ _ p.0 c.from_residual.result c.loop-lines.invariant.later c.in_err-read_lines.ensures.cause p.1 p.2
+
+pub returns-in_err-read_lines-clause-later : goal.returns-in_err-read_lines-clause-later
+returns-in_err-read_lines-clause-later g c =
+    omega (arith, c.loop-lines.invariant.later, c.read_lines.ensures.cause.later)
+
+pub returns-then-is_empty-clause-faults : goal.returns-then-is_empty-clause-faults
+returns-then-is_empty-clause-faults g c =
+    fine_stop c.loop-lines.invariant.counts (Rose (g.S.Source.stream c.args.source.now).faults (g.S.Source.stream c.read_lines.new.source).faults) _
+
+pub returns-then-is_empty-clause-later : goal.returns-then-is_empty-clause-later
+returns-then-is_empty-clause-later g c =
+    omega (arith, c.loop-lines.invariant.later, c.read_lines.ensures.cause.later)
+
+pub returns-in_err-count-clause-faults : goal.returns-in_err-count-clause-faults
+returns-in_err-count-clause-faults g c =
+    let p = err_from_is_err_and c.from_residual-in_err-count.result c.from_residual-in_err-count.ensures.1 in
+    handed_on c.loop-lines.invariant.counts ⊥ (Rose (g.S.Source.stream c.args.source.now).faults (g.S.Source.stream c.read_lines.new.source).faults) _ p.0 c.from_residual-in_err-count.result (λ never. absurd never) c.in_err-count.ensures.faults p.1 p.2
+
+pub returns-in_err-count-clause-later : goal.returns-in_err-count-clause-later
+returns-in_err-count-clause-later g c =
+    omega (arith, c.loop-lines.invariant.later, c.read_lines.ensures.cause.later)
+
+pub returns-then-count-eq0-clause-faults : goal.returns-then-count-eq0-clause-faults
+returns-then-count-eq0-clause-faults g c =
+    other_stop (counts_both c.loop-lines.invariant.counts c.serve_step.ensures.faults.counts) (Rose (g.S.Source.stream c.args.source.now).faults (g.S.Source.stream c.read_lines.new.source).faults) _ _ refl (λ is. absurd (cc is)) (λ is. absurd (cc is)) (λ is. absurd (cc is))
+
+pub returns-then-count-eq0-clause-later : goal.returns-then-count-eq0-clause-later
+returns-then-count-eq0-clause-later g c =
+    omega (arith, c.loop-lines.invariant.later, c.read_lines.ensures.cause.later)

@@ -2,6 +2,7 @@ use Rattle.std.proofs.Common.{◌≡◌, ◌≤◌, ◌+◌, ℕ, List, length}
 use Rattle.std.specs.Prelude.{Option, IsTrue}
 use Rattle.jnl_format.specs.Recovery.{Content}
 use Rattle.line_source.specs.Input.{weight, SameSource}
+use Rattle.hfs_serving.specs.Faults.{CountsFaults}
 use Rattle.hfs_serving.specs.Going.{Stands}
 use Rattle.hfs_serving.specs.Steps.{ServesStep}
 use Rattle.hfs_serving.proofs.Pending.{On}
@@ -11,6 +12,8 @@ abbrev pub invariant-loop-lines : goal.invariant-loop-lines
 invariant-loop-lines g l =
     record {
       same : SameSource (g.S.Source.stream l.fn.source) (g.S.Source.stream l.source);
+      counts : CountsFaults (g.G.Ground.failed l.fn.base) (g.G.SectorView.space l.fn.base) (g.G.Ground.failed l.base) (g.G.SectorView.space l.base);
+      later : (g.S.Source.stream l.fn.source).faults ≤ (g.S.Source.stream l.source).faults;
       anchor : g.G.Ground.anchor l.base ≡ g.G.Ground.anchor l.fn.base;
       tells : (g.G.SectorView.space l.base).tells ≡ (g.G.SectorView.space l.fn.base).tells;
       serves : (capacity : ℕ) → g.G.Ground.serves l.fn.base capacity → g.G.Ground.taken l.fn.base ≤ capacity → g.G.Ground.serves l.base capacity × (g.G.Ground.taken l.base ≤ capacity);

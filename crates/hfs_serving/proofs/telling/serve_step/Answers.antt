@@ -4,6 +4,8 @@ use Rattle.hfs_serving.specs.Going.{ServesBatch}
 use Rattle.hfs_serving.specs.Serving.{TellsOut}
 use Rattle.hfs_serving.proofs.Going.{on_err}
 use Rattle.hfs_serving.proofs.Stepping.{step_serves, step_stops, step_tells_partly}
+use Rattle.std.proofs.lemmas.Result.{err_from_is_err_and}
+use Rattle.hfs_serving.proofs.Causes.{counts_both, counts_none, fine_stop, handed_stop, sink_stop}
 use Rattle.hfs_serving.proofs.telling.serve_step.Goals as goal
 
 pub returns-in_err-count-clause-stops : goal.returns-in_err-count-clause-stops
@@ -40,3 +42,16 @@ returns-clause-stops g c tells capacity start shrunk stands =
     let tells_there = subst (λ t. IsTrue t) (sym c.in_ok-count.ensures.tells) tells in
     let told = subst (λ (l : List ℕ). TellsOut mid l after) c.as_slice.ensures (c.in-Err.ensures.told tells_there) in
     step_tells_partly count capacity shrunk start old lines knows c.serve_batch.new.replies space mid batch after told
+
+pub returns-in_err-count-clause-faults : goal.returns-in_err-count-clause-faults
+returns-in_err-count-clause-faults g c =
+    let p = err_from_is_err_and c.from_residual.result c.from_residual.ensures.1 in
+    handed_stop (counts_none _ _) (⊥) _ p.0 c.from_residual.result c.in_err-count.ensures.faults p.1 p.2
+
+pub returns-in-Ok-clause-faults : goal.returns-in-Ok-clause-faults
+returns-in-Ok-clause-faults g c =
+    fine_stop (counts_both c.serve_batch.ensures.faults.counts c.tell_all.ensures.counts) ⊥ _
+
+pub returns-clause-faults : goal.returns-clause-faults
+returns-clause-faults g c =
+    sink_stop c.serve_batch.ensures.faults.counts c.tell_all.ensures.counts c.in-Err.ensures.cause.failed

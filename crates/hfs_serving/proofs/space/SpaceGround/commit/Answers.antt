@@ -3,6 +3,11 @@ use Rattle.std.specs.Prelude.{IsTrue}
 use Rattle.std.proofs.lemmas.Bool.{cases_eq}
 use Rattle.jnl_store.specs.Store.{faults_of}
 use Rattle.hfs_serving.proofs.Grounding.{commit_leaves, commit_makes, heads_on, kept_after, keeps_tells, same_anchor, serves_after, sizes_over, tells_still, told_disk}
+use Rattle.std.proofs.Common.{◌≤◌, Result, arith}
+use Rattle.std.specs.Prelude.{OnErr}
+use Rattle.sector_disk.specs.Cause.{Rose}
+use Rattle.jnl_store.specs.declared.store.StoreFault.{StoreFault}
+use Rattle.hfs_serving.proofs.Causes.{commit_cause, commit_counted}
 use Rattle.hfs_serving.proofs.space.SpaceGround.commit.Goals as goal
 
 pub commit-requires-clause-fits : goal.commit-requires-clause-fits
@@ -88,3 +93,26 @@ pub returns-in-Err-clause-anchor : goal.returns-in-Err-clause-anchor
 returns-in-Err-clause-anchor g c =
     let same = same_anchor c.args.self.now.store.now c.commit.new.self c.commit.ensures.journal in
     λ i. record { journal = same i; names = c.args.self.now.store.ghost_name ∷ c.args.self.now.disk.ghost_name ∷ [] }
+
+pub returns-in-Ok-clause-counts : goal.returns-in-Ok-clause-counts
+returns-in-Ok-clause-counts g c =
+    record {
+      later = c.commit.ensures.later;
+      counted = commit_counted _ _ _ c.commit.result c.args.self.now.store.now c.commit.new.self (g.R.SectorDisk.state c.args.self.now.disk.now).faults (g.R.SectorDisk.state c.commit.new.disk).faults c.commit.ensures.nothing (λ is. (c.commit.ensures.disk is).0) (λ other. (c.commit.ensures.failed other).1) c.commit.ensures.not_failed;
+      sink = omega (arith, c.commit.ensures.sink.faults);
+    }
+
+pub returns-in-Err-clause-counts : goal.returns-in-Err-clause-counts
+returns-in-Err-clause-counts g c =
+    record {
+      later = c.commit.ensures.later;
+      counted = commit_counted _ _ _ c.commit.result c.args.self.now.store.now c.commit.new.self (g.R.SectorDisk.state c.args.self.now.disk.now).faults (g.R.SectorDisk.state c.commit.new.disk).faults c.commit.ensures.nothing (λ is. (c.commit.ensures.disk is).0) (λ other. (c.commit.ensures.failed other).1) c.commit.ensures.not_failed;
+      sink = omega (arith, c.commit.ensures.sink.faults);
+    }
+
+pub returns-in-Err-clause-cause : goal.returns-in-Err-clause-cause
+returns-in-Err-clause-cause g c =
+    let store = c.args.self.now.store.now in
+    let before = (g.R.SectorDisk.state c.args.self.now.disk.now).faults in
+    let now = (g.R.SectorDisk.state c.commit.new.disk).faults in
+    subst (λ (r : Result (Unit {0}) StoreFault). OnErr r (faults_of store ≡ 0 → Rose before now)) c.in-Err.is (commit_cause c.commit.result store before now (λ is. (c.commit.ensures.disk is).0) c.commit.ensures.not_failed)

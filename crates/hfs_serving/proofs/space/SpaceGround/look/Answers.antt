@@ -1,6 +1,7 @@
 use Rattle.std.proofs.Common.{ℕ, List, ◌∷◌, [], get_or, ap}
 use Rattle.hfs_serving.specs.Grounds.{anchor_of}
 use Rattle.hfs_serving.proofs.Grounding.{rests_on_disk, seen_outside, serves_still}
+use Rattle.std.proofs.Common.{◌≤◌, arith}
 use Rattle.hfs_serving.proofs.space.SpaceGround.look.Goals as goal
 
 pub returns-clause-still : goal.returns-clause-still
@@ -23,3 +24,7 @@ returns-clause-sees g c capacity committed first follows serves tells touches =
 
 pub returns-clause-anchor : goal.returns-clause-anchor
 returns-clause-anchor g c first follows same = λ i. record { journal = ap anchor_of follows.plan i; names = get_or (same i) 0 0 ∷ get_or (same i) 1 0 ∷ [] }
+
+pub returns-clause-counts : goal.returns-clause-counts
+returns-clause-counts g c =
+    λ first follows sink. record { later = follows.later; counted = follows.faults; sink = omega (arith, sink) }
