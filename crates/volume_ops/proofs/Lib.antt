@@ -60,3 +60,7 @@ pub mod TreesAfter
 pub mod TreesSettled
 pub mod Walked
 pub mod UpdateRoom
+pub mod Emptied
+pub mod Leaving
+pub mod RoomToRemove
+pub mod TakenOff

@@ -196,7 +196,7 @@ module _ (volume : VolumeState) (sound : IsSoundVolume volume) (sorted : AreSort
     empty_named false is = refl
 
     -- users see each entry of a folder other than the root
-    elsewhere : (id : ℕ) → IsFolder records next sound.entries.ids sound.entries.rooted id → (id == 2) ≡ false → length (entries_in tree id) ≡ count_in entries id
+    pub elsewhere : (id : ℕ) → IsFolder records next sound.entries.ids sound.entries.rooted id → (id == 2) ≡ false → length (entries_in tree id) ≡ count_in entries id
     elsewhere id is not_root =
         let fewer = count_below (λ (x : Placed). is_seen records x && (x.parent == id)) (λ (x : Placed). not (is_empty x.name) && (x.parent == id)) records there in
         let more = count_below (λ (x : Placed). not (is_empty x.name) && (x.parent == id)) (λ (x : Placed). is_seen records x && (x.parent == id)) records back in
@@ -309,7 +309,7 @@ module _ (volume : VolumeState) (sound : IsSoundVolume volume) (sorted : AreSort
             ∙ sym (ap (λ o. count_in entries 2 - own_entries (folder_id o)) found ∙ ap (λ b. count_in entries 2 - own_entries (if b then Some (id_of p) else None)) (sound.links.good.private_folder p found))
 
     -- as many as users see
-    entries_same : (folder : FolderRecord) (p : Placed) → Contains entries p → p.value ≡ Folder folder → IsFolder records next sound.entries.ids sound.entries.rooted folder.fields.id
+    pub entries_same : (folder : FolderRecord) (p : Placed) → Contains entries p → p.value ≡ Folder folder → IsFolder records next sound.entries.ids sound.entries.rooted folder.fields.id
         → length (entries_in tree folder.fields.id) ≡ entries_told (own_entries (private_id records)) folder.fields
     entries_same folder p stands value is = by_root (folder.fields.id == 2) refl
       where

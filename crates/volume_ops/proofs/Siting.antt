@@ -36,7 +36,7 @@ then_ok (Ok x) = refl
 then_ok (Err why) = refl
 
 -- a walk is one along the front, and a step
-front_walk : (pairs : List Pair) (path : List (List ℕ)) → is_root path ≡ false → (at : Reached) → walk_in pairs at path ≡ then_ (walk_in pairs at (front path)) (λ n. child_in pairs n (last_name path))
+pub front_walk : (pairs : List Pair) (path : List (List ℕ)) → is_root path ≡ false → (at : Reached) → walk_in pairs at path ≡ then_ (walk_in pairs at (front path)) (λ n. child_in pairs n (last_name path))
 front_walk pairs [] some at = absurd (true≢false some)
 front_walk pairs (name ∷ []) some at = then_ok (child_in pairs at name)
 front_walk pairs (name ∷ next ∷ path) some at = by (child_in pairs at name) (λ m. front_walk pairs (next ∷ path) refl m)
@@ -46,7 +46,7 @@ front_walk pairs (name ∷ next ∷ path) some at = by (child_in pairs at name) 
     by (Ok m) further = further m
     by (Err why) further = refl
 
-front_tree : (tree : PlainTree) (path : List (List ℕ)) → is_root path ≡ false → (at : PlainEntry) → walk tree at path ≡ then_ (walk tree at (front path)) (λ n. child tree n (last_name path))
+pub front_tree : (tree : PlainTree) (path : List (List ℕ)) → is_root path ≡ false → (at : PlainEntry) → walk tree at path ≡ then_ (walk tree at (front path)) (λ n. child tree n (last_name path))
 front_tree tree [] some at = absurd (true≢false some)
 front_tree tree (name ∷ []) some at = then_ok (child tree at name)
 front_tree tree (name ∷ next ∷ path) some at = by (child tree at name) (λ m. front_tree tree (next ∷ path) refl m)
@@ -56,12 +56,12 @@ front_tree tree (name ∷ next ∷ path) some at = by (child tree at name) (λ m
     by (Ok m) further = further m
     by (Err why) further = refl
 
-front_fits : (path : List (List ℕ)) → FitsPath path → FitsPath (front path)
+pub front_fits : (path : List (List ℕ)) → FitsPath path → FitsPath (front path)
 front_fits [] fits = fits
 front_fits (name ∷ []) fits = tt
 front_fits (name ∷ next ∷ path) fits = (fits.0, front_fits (next ∷ path) fits.1)
 
-front_free : (path : List (List ℕ)) → is_private_path path ≡ false → is_private_path (front path) ≡ false
+pub front_free : (path : List (List ℕ)) → is_private_path path ≡ false → is_private_path (front path) ≡ false
 front_free [] free = refl
 front_free (name ∷ []) free = refl
 front_free (name ∷ next ∷ path) free = free

@@ -18,3 +18,4 @@ pub mod Standing
 pub mod Stating
 pub mod Touching
 pub mod Trees
+pub mod Removing

@@ -27,6 +27,7 @@ mod owning;
 mod reaching;
 mod reading;
 mod relocating;
+mod removing;
 mod replacing;
 mod room;
 mod setattr;

@@ -1,0 +1,60 @@
+-- The room for a folder that is removed: for its edits of the catalog, and behind them for the folder above.
+use Rattle.std.proofs.Common.{◌≡◌, ◌<◌, ◌≤◌, ℕ, ◌+◌, ◌-◌, ◌*◌, ◌/◌, ◌^◌, false, List, [], sym, ◌∙◌, ap, subst, arith}
+use Rattle.std.specs.Prelude.{IsTrue}
+use Rattle.sector_disk.specs.Space.{Space}
+use Rattle.volume_header.specs.declared.header.VolumeHeader.{VolumeHeader}
+use Rattle.btree_node.specs.declared.store.TreeShape.{TreeShape}
+use Rattle.btree_edit.specs.Editing.{edit_writes}
+use Rattle.btree_edit.specs.Edits.{EditRoom, TakesAtMost, TakesEdits}
+use Rattle.btree_file.specs.State.{state_of}
+use Rattle.hfs_volume.specs.Cost.{catalog_key, growth, is_too_deep, tree_load}
+use Rattle.hfs_volume.specs.Content.{TreeFacts, VolumeState}
+use Rattle.hfs_volume.specs.Weight.{cost_of_tree}
+use Rattle.tree_weights.specs.Weights.{EditsHaveRoom, EditsTakeTheirLoad}
+use Rattle.volume_ops.specs.Changing.{HasRoomToUpdate}
+use Rattle.volume_ops.specs.Lists.{facts_on}
+use Rattle.volume_ops.specs.Looking.{ReadsVolume}
+use Rattle.volume_ops.specs.Making.{HasRoomToMake, entry_load}
+use Rattle.volume_ops.specs.Removing.{HasRoomToRemove, remove_load}
+use Rattle.volume_ops.specs.declared.volume.Volume.{Volume}
+use Rattle.volume_ops.proofs.MakeRoom.{load_still, room_behind, room_for_entry, spent_entry}
+use Rattle.volume_ops.proofs.Still.{lists_still}
+
+-- the volume with a CNID to give: removing asks for none
+abbrev with_ids : Volume → Volume
+with_ids v = record v { header = record v.header { next_catalog_id = 0 } }
+
+as_making : (v : Volume) (a : Space) → HasRoomToRemove v a → HasRoomToMake (with_ids v) a
+as_making v a room = record { ids = omega arith; some = room.some; told = room.told; untold = room.untold }
+
+pub room_to_remove : EditsHaveRoom → (v : Volume) (a m : Space) → HasRoomToRemove v a → 4096 ≤ v.catalog.file.shape.node_size → m.tells ≡ a.tells → a.spare ≤ m.spare + 1 → (names : List ℕ) → EditRoom 2 516 (state_of names v.catalog.file m)
+room_to_remove law v a m room large same spent names = room_for_entry law (with_ids v) a m (as_making v a room) large same spent names
+
+module _ (law : EditsHaveRoom) (takes_law : EditsTakeTheirLoad) (v w : Volume) (a m b : Space) (room : HasRoomToRemove v a) (large : 4096 ≤ v.catalog.file.shape.node_size) (same : m.tells ≡ a.tells) (spent : a.spare ≤ m.spare + 1)
+    (takes : TakesAtMost 2 516 (state_of [] v.catalog.file m) (state_of [] w.catalog.file b))
+  where
+    pub spent_removal : IsTrue a.tells → a.spare ≤ b.spare + (1 + entry_load v)
+    spent_removal tells = spent_entry law takes_law (with_ids v) w a m b (as_making v a room) large same spent takes tells
+
+    pub room_behind_removal : b.tells ≡ m.tells → TakesEdits 2 516 (state_of [] v.catalog.file m) (state_of [] w.catalog.file b) → HasRoomToUpdate w b
+    room_behind_removal later edits = room_behind law takes_law (with_ids v) w a m b (as_making v a room) large same spent takes later edits
+
+-- ---- reads leave the room
+
+module _ (v w : Volume) (a b : Space) (reads : ReadsVolume v w a b) where
+  facts_read : IsTrue a.tells → facts_on w.catalog.file ≡ facts_on v.catalog.file
+  facts_read tells = ap (λ (l : VolumeState). l.catalog_tree) (lists_still v w a b reads tells)
+
+  pub remove_load_still : IsTrue a.tells → remove_load w ≡ remove_load v
+  remove_load_still tells = load_still v w a b reads tells
+
+  pub remove_room_still : HasRoomToRemove v a → HasRoomToRemove w b
+  remove_room_still was = record {
+    some = omega (arith, was.some, reads.looks.spare);
+    told = λ tells.
+        subst (λ (k : TreeFacts × VolumeHeader × ℕ). (1 + k.0.shape.node_size / 512 + tree_load catalog_key (cost_of_tree k.0 0) 2 0 ≤ k.2) × (is_too_deep catalog_key (cost_of_tree k.0 0) 2 ≡ false) × (growth k.1.block_size catalog_key (cost_of_tree k.0 0) 2 ≡ 0))
+        {x = (facts_on v.catalog.file, v.header, a.spare)} {y = (facts_on w.catalog.file, w.header, b.spare)} (λ i. (sym (facts_read (sym reads.looks.same.tells ∙ tells)) i, sym reads.keeps.header i, sym reads.looks.spare i)) (was.told (sym reads.looks.same.tells ∙ tells));
+    untold = λ silent.
+        subst (λ (k : TreeShape × ℕ). (k.0.depth + 3 ≤ 11) × (k.0.leaf_records + 3 ≤ 2 ^ 32 - 1) × (3 * (k.0.depth + 4) ≤ k.0.free) × (3 * edit_writes (k.0.depth + 3) * (k.0.node_size / 512) + 1 ≤ k.1))
+        {x = (v.catalog.file.shape, a.spare)} {y = (w.catalog.file.shape, b.spare)} (λ i. (sym reads.keeps.catalog.file.shape i, sym reads.looks.spare i)) (was.untold (sym reads.looks.same.tells ∙ silent));
+  }
