@@ -64,3 +64,4 @@ pub mod Emptied
 pub mod Leaving
 pub mod RoomToRemove
 pub mod TakenOff
+pub mod RemoveLoads

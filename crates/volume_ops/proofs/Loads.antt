@@ -55,12 +55,12 @@ chmod_load v content settled capacity rights path tree n grow is =
 -- ---- `mkdir` and `create`
 
 -- how a tree grows doesn't hang on the extents of its file
-growth_any : (block key edits one other : ℕ) (facts : TreeFacts) → growth block key (cost_of_tree facts one) edits ≡ growth block key (cost_of_tree facts other) edits
+pub growth_any : (block key edits one other : ℕ) (facts : TreeFacts) → growth block key (cost_of_tree facts one) edits ≡ growth block key (cost_of_tree facts other) edits
 unfolding growth_for
 growth_any block key edits one other facts = refl
 
 -- the load of so many updates and edits of the catalog
-counts_edits : (free : List Bool) (capacity : ℕ) (volume : VolumeState) (many : Edits) (n : ℕ) (grow : List ℕ) → cost_of (needs_for free volume many None) (room_with capacity free volume) ≡ cost.Load n grow
+pub counts_edits : (free : List Bool) (capacity : ℕ) (volume : VolumeState) (many : Edits) (n : ℕ) (grow : List ℕ) → cost_of (needs_for free volume many None) (room_with capacity free volume) ≡ cost.Load n grow
     → 1 + many.updates * (volume.catalog_tree.shape.node_size / 512)
     + tree_load catalog_key (cost_of_tree volume.catalog_tree (extents_in_use volume catalog_id volume.head.catalog_fork)) many.catalog
     (growth volume.head.block_size catalog_key (cost_of_tree volume.catalog_tree (extents_in_use volume catalog_id volume.head.catalog_fork)) many.catalog) ≤ n

@@ -1,24 +1,38 @@
 //! `rmdir`: a folder is removed.
-ghost use Rattle.std.specs.Prelude.{◌≡◌, ◌⊎◌, ◌<◌, ◌≤◌, ◌+◌, ◌∷◌, ℕ, List, [], false, true, IsTrue, IfOk, length, OnOk};
-ghost use Rattle.std.specs.List.{Contains};
+ghost use Rattle.std.specs.Prelude.{◌≡◌, ◌≤◌, ◌+◌, ◌∷◌, ℕ, List, [], Ok, false, true, IsTrue, IfOk, length, OnOk};
+ghost use Rattle.std.specs.List.{All, Contains};
 ghost use Rattle.sector_disk.specs.Lists.{Content};
 ghost use Rattle.btree_edit.specs.Causes.{HasTroubleCause};
 ghost use Rattle.btree_file.specs.Frame.{PutsWithin};
-ghost use Rattle.btree_file.specs.Standing.{numbers_of};
-ghost use Rattle.hfs_model.specs.Step.{removed_folder};
+ghost use Rattle.btree_file.specs.Standing.{numbers_of, pairs_in};
+ghost use Rattle.btree_file.specs.State.{sectors_of_tree};
+ghost use Rattle.hfs_language.specs.Written.{FitsPath};
+ghost use Rattle.hfs_language.specs.declared.command.Command.TheVariants as command;
+ghost use Rattle.hfs_model.specs.Step.{is_private_path, is_refusal, removed_folder, step_line, then_};
 ghost use Rattle.volume_header.specs.Header.{FitsHeader};
 ghost use Rattle.hfs_volume.specs.Changes.{with_numbers};
 ghost use Rattle.hfs_volume.specs.Commands.{with_folder_removed};
 ghost use Rattle.hfs_volume.specs.Content.{volume_of};
 ghost use Rattle.hfs_volume.specs.TreeOf.{tree_of};
+ghost use Rattle.hfs_volume.specs.Weight.{weight};
+ghost use Rattle.hfs_volume.specs.declared.cost.Cost.TheVariants as cost;
 ghost use Rattle.volume_ops.specs.Changing.{HasRoomToUpdate, PutsHeader};
-ghost use Rattle.volume_ops.specs.Making.{entry_load};
-ghost use Rattle.volume_ops.specs.Removing.{DropsFolder, HasNoAttributes, HasRoomToRemove, IsLeaving, folder_at, remove_load};
+ghost use Rattle.volume_ops.specs.Lists.{lists_of};
+ghost use Rattle.volume_ops.specs.Looking.{IsCatalogOver, ReadsTree, ReadsVolume};
+ghost use Rattle.volume_ops.specs.Making.{entry_load, path_to};
+ghost use Rattle.volume_ops.specs.Removing.{DropsFolder, HasNoAttributes, HasRoomToRemove, IsBare, IsLeaving, folder_at, leaving_under, remove_load, to_leave};
+ghost use Rattle.volume_ops.specs.Room.{capacity_of};
 ghost use Rattle.volume_ops.specs.Service.{IsInService};
 ghost use Rattle.volume_ops.specs.Standing.{IsSettled, StandsOver, own_sectors};
 ghost use Rattle.volume_ops.specs.Touching.{Touches};
 
+use crate::looking::lookup_record;
+use crate::names::is_private_path;
+use crate::reaching::{Reached, find_folder, named};
 use crate::volume::Volume;
+use btree_edit::Desk;
+use btree_file::TreeFile;
+use hfs_language::{Path, Refusal, Reply};
 use hfs_volume::{rmdir_does_its_step, sound_has_plain_tree};
 use hx_bytes::{Trouble, Units};
 use sector_disk::SectorSpace;
@@ -31,6 +45,54 @@ use volume_header::VolumeHeader;
 pub(crate) struct Leaving {
     pub(crate) parent: u32,
     pub(crate) id: u32,
+}
+
+/// What was reached in a folder, if it is a folder without an entry; or the first reason against its removal.
+fn to_leave(parent: u32, there: Result<Reached, Refusal>) -> Result<Leaving, Refusal>
+    ensures { result ≡ then_ there (to_leave parent) }
+{
+    match there {
+        Ok(Reached::Root) => Err(Refusal::Root),
+        Ok(Reached::Folder(folder)) => {
+            if folder.fields.count == 0 {
+                Ok(Leaving {
+                    parent,
+                    id: folder.fields.id,
+                })
+            } else {
+                Err(Refusal::NotEmpty)
+            }
+        }
+        Ok(Reached::File(_)) => Err(Refusal::NotFolder),
+        Err(why) => Err(why),
+    }
+}
+
+/// The folder of this name in the folder that a path reaches, if it may be removed; or the first reason against it.
+fn find_leaving<P: SectorSpace>(
+    alloc: Global,
+    tree: &mut TreeFile,
+    desk: &mut Desk,
+    space: &mut P,
+    above: &[Units],
+    name: &Units,
+) -> Result<Result<Leaving, Refusal>, Trouble>
+    requires over { IsCatalogOver tree.old desk.old (P.SectorView.space space.old) }
+    requires names { All (λ name. length name ≤ 255) above.now }
+    requires name { length name.now ≤ 255 }
+    ensures found { IsTrue (P.SectorView.space space.old).tells → IfOk result (λ said. said ≡ leaving_under (pairs_in (sectors_of_tree tree.old) (P.SectorView.space space.old).content) above.now name.now) }
+    ensures over { IsCatalogOver tree.new desk.new (P.SectorView.space space.new) }
+    ensures reads { ReadsTree tree.old tree.new (P.SectorView.space space.old) (P.SectorView.space space.new) }
+    ensures below { P.SectorView.follows space.old space.new }
+    ensures cause { HasTroubleCause (P.SectorView.space space.old).faults (P.SectorView.space space.new).faults result }
+{
+    match find_folder(alloc, tree, desk, space, above)? {
+        Ok(id) => {
+            let found = lookup_record(alloc, tree, desk, space, id, name)?;
+            Ok(to_leave(id, named(found)))
+        }
+        Err(why) => Ok(Err(why)),
+    }
 }
 
 /// The header after a folder was removed.
@@ -126,5 +188,112 @@ impl Volume {
         }
         self.take_off(alloc, space, at, name)?;
         self.touch(alloc, space, at.parent, 0, 1)
+    }
+
+    /// The folder of this name in the folder that a path reaches, if it may be removed; or the first reason against it.
+    fn leaving<P: SectorSpace>(
+        &mut self,
+        alloc: Global,
+        space: &mut P,
+        above: &[Units],
+        name: &Units,
+    ) -> Result<Result<Leaving, Refusal>, Trouble>
+        requires stands { StandsOver self.old (P.SectorView.space space.old) }
+        requires settled { IsTrue (P.SectorView.space space.old).tells → IsSettled self.old (P.SectorView.space space.old).content }
+        requires fits { FitsPath above.now }
+        requires name { length name.now ≤ 255 }
+        ensures found { IsTrue (P.SectorView.space space.old).tells → IfOk result (λ said. said ≡ leaving_under (lists_of self.old (P.SectorView.space space.old).content).catalog_pairs above.now name.now) }
+        ensures reads { ReadsVolume self.old self.new (P.SectorView.space space.old) (P.SectorView.space space.new) }
+        ensures stands { StandsOver self.new (P.SectorView.space space.new) }
+        ensures settled { IsTrue (P.SectorView.space space.old).tells → IsSettled self.new (P.SectorView.space space.new).content }
+        ensures below { P.SectorView.follows space.old space.new }
+        ensures cause { HasTroubleCause (P.SectorView.space space.old).faults (P.SectorView.space space.new).faults result }
+    {
+        find_leaving(
+            alloc,
+            &mut self.catalog.file,
+            &mut self.catalog.desk,
+            space,
+            above,
+            name,
+        )
+    }
+
+    /// Removes the folder of a name under a path, or tells the first reason against it.
+    fn rmdir_under<P: SectorSpace>(
+        &mut self,
+        alloc: Global,
+        space: &mut P,
+        above: &[Units],
+        name: &Units,
+    ) -> Result<Reply, Trouble>
+        requires stands { StandsOver self.old (P.SectorView.space space.old) }
+        requires settled { IsTrue (P.SectorView.space space.old).tells → IsSettled self.old (P.SectorView.space space.old).content }
+        requires fits { FitsPath (path_to above.now name.now) }
+        requires not_own { is_private_path (path_to above.now name.now) ≡ false }
+        requires bare { IsTrue (P.SectorView.space space.old).tells → IsBare (tree_of (P.SectorView.space space.old).content) (path_to above.now name.now) (volume_of (P.SectorView.space space.old).content).attribute_pairs }
+        requires room { HasRoomToRemove self.old (P.SectorView.space space.old) }
+        ensures reply { IsTrue (P.SectorView.space space.old).tells → IfOk result (λ reply. reply ≡ (step_line (tree_of (P.SectorView.space space.old).content) (Ok (command.Rmdir (path_to above.now name.now)))).0) }
+        ensures tree { IsTrue (P.SectorView.space space.old).tells → OnOk result (tree_of (P.SectorView.space space.new).content ≡ (step_line (tree_of (P.SectorView.space space.old).content) (Ok (command.Rmdir (path_to above.now name.now)))).1) }
+        ensures refused { IsTrue (P.SectorView.space space.old).tells → IfOk result (λ reply. is_refusal reply ≡ true → (P.SectorView.space space.new).content ≡ (P.SectorView.space space.old).content) }
+        ensures stands { OnOk result (StandsOver self.new (P.SectorView.space space.new)) }
+        ensures settled { IsTrue (P.SectorView.space space.old).tells → OnOk result (IsSettled self.new (P.SectorView.space space.new).content) }
+        ensures service { IsInService self.new (P.SectorView.space space.new) }
+        ensures touches { (committed : Content) → Touches committed (λ s. Contains (own_sectors self.old) s) (P.SectorView.space space.old) (P.SectorView.space space.new) }
+        ensures spent { IsTrue (P.SectorView.space space.old).tells → (P.SectorView.space space.old).spare ≤ (P.SectorView.space space.new).spare + remove_load self.old }
+        ensures loads { IsTrue (P.SectorView.space space.old).tells → (n : ℕ) (grow : List ℕ) → weight (capacity_of self.old) (volume_of (P.SectorView.space space.old).content) (tree_of (P.SectorView.space space.old).content) (command.Rmdir (path_to above.now name.now)) ≡ cost.Load n grow
+            → (P.SectorView.space space.old).spare ≤ (P.SectorView.space space.new).spare + n }
+        ensures below { P.SectorView.follows space.old space.new }
+        ensures cause { HasTroubleCause (P.SectorView.space space.old).faults (P.SectorView.space space.new).faults result }
+    {
+        sound_has_plain_tree();
+        match self.leaving(alloc, space, above, name)? {
+            Ok(at) => {
+                self.remove_folder(alloc, space, at, name)?;
+                Ok(Reply::Ok)
+            }
+            Err(why) => Ok(Reply::No(why)),
+        }
+    }
+
+    /// `rmdir`: removes the folder at a path, which has no entries; or tells the first reason against it. A path that begins
+    /// with a name of the volume's own is refused. A refused command changes nothing. `Memory` comes where memory is wanting,
+    /// `Disk` where a read failed.
+    pub fn rmdir<P: SectorSpace>(
+        &mut self,
+        alloc: Global,
+        space: &mut P,
+        path: &Path,
+    ) -> Result<Reply, Trouble>
+        requires stands { StandsOver self.old (P.SectorView.space space.old) }
+        requires settled { IsTrue (P.SectorView.space space.old).tells → IsSettled self.old (P.SectorView.space space.old).content }
+        requires fits { FitsPath path.now }
+        // The folder has no attributes: these aren't removed yet.
+        requires bare { IsTrue (P.SectorView.space space.old).tells → IsBare (tree_of (P.SectorView.space space.old).content) path.now (volume_of (P.SectorView.space space.old).content).attribute_pairs }
+        // There is room for what it puts; the catalog needn't grow before.
+        requires room { HasRoomToRemove self.old (P.SectorView.space space.old) }
+        // Told, reply and tree are those of the plain tree's step.
+        ensures reply { IsTrue (P.SectorView.space space.old).tells → IfOk result (λ reply. reply ≡ (step_line (tree_of (P.SectorView.space space.old).content) (Ok (command.Rmdir path.now))).0) }
+        ensures tree { IsTrue (P.SectorView.space space.old).tells → OnOk result (tree_of (P.SectorView.space space.new).content ≡ (step_line (tree_of (P.SectorView.space space.old).content) (Ok (command.Rmdir path.now))).1) }
+        ensures refused { IsTrue (P.SectorView.space space.old).tells → IfOk result (λ reply. is_refusal reply ≡ true → (P.SectorView.space space.new).content ≡ (P.SectorView.space space.old).content) }
+        ensures stands { OnOk result (StandsOver self.new (P.SectorView.space space.new)) }
+        ensures settled { IsTrue (P.SectorView.space space.old).tells → OnOk result (IsSettled self.new (P.SectorView.space space.new).content) }
+        ensures service { IsInService self.new (P.SectorView.space space.new) }
+        // On a fault too, it puts sectors of its own alone, whatever was committed last.
+        ensures touches { (committed : Content) → Touches committed (λ s. Contains (own_sectors self.old) s) (P.SectorView.space space.old) (P.SectorView.space space.new) }
+        ensures spent { IsTrue (P.SectorView.space space.old).tells → (P.SectorView.space space.old).spare ≤ (P.SectorView.space space.new).spare + remove_load self.old }
+        // What its load names bounds the sectors that it puts.
+        ensures loads { IsTrue (P.SectorView.space space.old).tells → (n : ℕ) (grow : List ℕ) → weight (capacity_of self.old) (volume_of (P.SectorView.space space.old).content) (tree_of (P.SectorView.space space.old).content) (command.Rmdir path.now) ≡ cost.Load n grow
+            → (P.SectorView.space space.old).spare ≤ (P.SectorView.space space.new).spare + n }
+        ensures below { P.SectorView.follows space.old space.new }
+        ensures cause { HasTroubleCause (P.SectorView.space space.old).faults (P.SectorView.space space.new).faults result }
+    {
+        if is_private_path(path) {
+            return Ok(Reply::No(Refusal::Private));
+        }
+        match path.as_slice().split_last() {
+            Some((name, above)) => self.rmdir_under(alloc, space, above, name),
+            None => Ok(Reply::No(Refusal::Root)),
+        }
     }
 }
