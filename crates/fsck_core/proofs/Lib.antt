@@ -22,4 +22,6 @@ pub mod NameLaws
 pub mod DecidedLaws
 pub mod SharedLaws
 pub mod LinkLaws
+pub mod ThreadLaws
+pub mod AttributeLaws
 pub mod AllForkLaws

@@ -24,7 +24,7 @@ use Rattle.fsck_core.specs.Names.{pair_at, value_found}
 use Rattle.btree_node.proofs.Units.{units_at, units_end}
 use Rattle.fsck_core.proofs.RowLaws.{true_below, not_below}
 
-abbrev number_or : Option ℕ → ℕ → ℕ
+abbrev pub number_or : Option ℕ → ℕ → ℕ
 number_or None d = d
 number_or (Some n) d = n
 

@@ -14,4 +14,6 @@ pub mod Decided
 pub mod Names
 pub mod Links
 pub mod Catalogs
+pub mod Threads
+pub mod Attributes
 pub mod AllForks

@@ -1,6 +1,7 @@
 //! The rules of a sound volume, judged one after the other, with a finding for each place where one is broken.
 #![tactic(auto)]
 
+mod attributes;
 mod behind;
 mod blocks;
 mod decided;
@@ -22,10 +23,12 @@ mod reading;
 mod rows;
 mod shared;
 mod sizes;
+mod threads;
 mod trees;
 mod uses;
 mod want;
 
+pub use attributes::judge_attributes;
 pub use behind::count_behind;
 pub use blocks::judge_blocks;
 pub use entries::{judge_counts, judge_entries, judge_ids, judge_valences};
@@ -43,6 +46,7 @@ pub use parents::judge_parents;
 pub use reading::{Headers, read_headers};
 pub use rows::Row;
 pub use sizes::{judge_compare, judge_files, judge_size, judge_total};
+pub use threads::judge_threads;
 pub use trees::{scan_attributes, scan_catalog, scan_extents};
 pub use uses::judge_uses;
 pub use want::{Want, judge_wants};

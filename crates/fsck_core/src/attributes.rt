@@ -1,0 +1,252 @@
+//! The attributes of folders and files, and the two files of the journal (rule 20).
+ghost use Rattle.std.specs.Prelude.{◌≡◌, ◌<◌, ◌≤◌, ◌+◌, ◌↔◌, ◌∷◌, [], ℕ, length, All, IsTrue, IfOk, OnOk, if◌then◌else◌};
+ghost use Rattle.std.specs.List.Sorted.{IsNonDecreasing};
+ghost use Rattle.alloc_bitmap.specs.Apart.{times};
+ghost use Rattle.btree_node.specs.Keys.{attr_file};
+ghost use Rattle.hx_bytes.specs.declared.extents.Extent.{Extent as Span};
+ghost use Rattle.hfs_volume.specs.Attributes.{AreAttributes, IsOneExtent, journal_extent, info_extent};
+ghost use Rattle.hfs_volume.specs.Broken.{IsFailed, FailsAttribute};
+ghost use Rattle.hfs_volume.specs.Content.{VolumeState, records_of, overflow_in_volume};
+ghost use Rattle.hfs_volume.specs.Entries.{AreSpelled};
+ghost use Rattle.hfs_volume.specs.Records.{placed_in};
+ghost use Rattle.fsck_core.specs.Attributes.{owner_here, owner_count, inline_value, is_good, good_at, IsSpan, IsOneFile, HasOneFile, FailsFile, HasAttributes};
+ghost use Rattle.fsck_core.specs.Catalogs.{HasRows};
+ghost use Rattle.fsck_core.specs.Decided.{Adds, Decided, AllPass, IsMissed};
+ghost use Rattle.fsck_core.specs.Names.{pair_at};
+ghost use Rattle.fsck_core.specs.Overflows.{overflows_in};
+
+use crate::decided::add_unless;
+use crate::names::{id_found, record_in_root};
+use crate::numbers::{count_number, sort_numbers};
+use crate::overflow::{OverflowRow, fork_extents};
+use crate::rows::Row;
+use crate::want::both;
+use cat_records::CatRecord;
+use fsck_list::Findings;
+use fsck_scan::Pairs;
+use hx_bytes::{Extent, OutOfMemory, read_be32};
+use jnl_format::Info;
+use std::alloc::Global;
+use volume_header::VolumeHeader;
+
+/// The type of an attribute whose value stands in its record.
+const INLINE: u32 = 0x10;
+
+/// The bytes of such a record before its value.
+const FRONT: usize = 16;
+
+const DATA: u8 = 0;
+
+/// `.journal`
+const JOURNAL: [u16; 8] = [46, 106, 111, 117, 114, 110, 97, 108];
+
+/// `.journal_info_block`
+const JOURNAL_INFO: [u16; 19] = [
+    46, 106, 111, 117, 114, 110, 97, 108, 95, 105, 110, 102, 111, 95, 98, 108, 111, 99, 107,
+];
+
+/// Blocks that a file must have, which may lie outside the volume.
+#[derive(Clone, Copy, Debug, PartialEq, Eq)]
+pub(crate) struct Blocks {
+    pub start: u128,
+    pub count: u128,
+}
+
+fn add_owner(ids: &mut Vec<u32>, row: Row) -> Result<(), OutOfMemory>
+    ensures { OnOk result ((id : ℕ) → times id ids.new.items ≡ times id ids.old.items + (if owner_here id row then 1 else 0)) }
+{
+    if !row.link {
+        ids.push(row.id)?;
+    }
+    Ok(())
+}
+
+/// The CNIDs of those that may have attributes, in order: all folders and files but further names of files.
+fn owner_ids(alloc: Global, rows: &[Row]) -> Result<Vec<u32>, OutOfMemory>
+    ensures order { IfOk result (λ ids. IsNonDecreasing ids.items) }
+    ensures same { IfOk result (λ ids. (id : ℕ) → times id ids.items ≡ owner_count rows.now id) }
+{
+    let mut ids = Vec::new(alloc);
+    for row in rows {
+        add_owner(&mut ids, *row)?;
+    }
+    sort_numbers(&mut ids);
+    Ok(ids)
+}
+
+/// Whether a record is an attribute with its value (TN1150, "Attributes File Data").
+fn has_value(value: &[u8]) -> bool
+    ensures { result ≡ inline_value value.now }
+{
+    if value.len() < FRONT {
+        return false;
+    }
+    let size = read_be32(value, 12) as usize;
+    read_be32(value, 0) == INLINE && value.len() == FRONT + size + size % 2
+}
+
+/// The CNID in a key of the attributes file, and 0 where bytes are too short for a key.
+fn owner_of(key: &[u8]) -> u32
+    ensures { 14 ≤ length key.now → result ≡ attr_file key.now }
+{
+    if key.len() < 14 {
+        return 0;
+    }
+    read_be32(key, 4)
+}
+
+/// Whether a pair is an attribute of one of these owners, which has a name.
+fn is_good(key: &[u8], value: &[u8], owners: &[u32]) -> bool
+    ensures { 14 ≤ length key.now → IsNonDecreasing owners.now → result ≡ is_good (key.now, value.now) (times (attr_file key.now) owners.now) }
+{
+    if key.len() < 16 {
+        return false;
+    }
+    if read_be32(key, 8) != 0 {
+        return false;
+    }
+    if !has_value(value) {
+        return false;
+    }
+    count_number(owners, owner_of(key)) != 0
+}
+
+/// Judges each attribute.
+fn judge_each(attributes: &Pairs, owners: &[u32], out: &mut Findings) -> Result<bool, OutOfMemory>
+    ensures decided { All (λ pair. 14 ≤ length pair.0) attributes.now → IsNonDecreasing owners.now
+        → IfOk result (λ met. Decided (IsMissed 20 (good_at attributes.now owners.now) (λ k. attr_file (pair_at attributes.now k).0) (length attributes.now)) (AllPass (good_at attributes.now owners.now) (length attributes.now)) out.old out.new met) }
+    ensures each { All (λ pair. 14 ≤ length pair.0) attributes.now → IsNonDecreasing owners.now
+        → Adds (IsMissed 20 (good_at attributes.now owners.now) (λ k. attr_file (pair_at attributes.now k).0) (length attributes.now)) out.old out.new }
+{
+    let mut met = true;
+    for at in 0..attributes.len() {
+        let key = attributes.key(at);
+        let good = is_good(key, attributes.value(at), owners);
+        let one = add_unless(20, good, owner_of(key), out)?;
+        met = both(one, met);
+    }
+    Ok(met)
+}
+
+/// The blocks that hold the journal's bytes.
+fn journal_blocks(head: &VolumeHeader, info: &Info) -> Blocks
+    ensures { 0 < head.now.block_size → IsSpan result (journal_extent head.now (record { offset = info.now.offset; size = info.now.size })) }
+{
+    let size = head.block_size as u128;
+    if size == 0 {
+        return Blocks { start: 0, count: 0 };
+    }
+    let start = info.offset as u128 / size;
+    let end = (info.offset as u128 + info.size as u128 + size - 1) / size;
+    Blocks {
+        start,
+        count: end.saturating_sub(start),
+    }
+}
+
+/// The block of the journal's info block.
+fn info_blocks(head: &VolumeHeader) -> Blocks
+    ensures { IsSpan result (info_extent head.now) }
+{
+    Blocks {
+        start: head.journal_info_block as u128,
+        count: 1,
+    }
+}
+
+/// Whether extents are one, which has these blocks.
+fn is_one(extents: &[Extent], blocks: Blocks) -> bool
+    ensures { (span : Span) → IsSpan blocks span → IsTrue result ↔ extents.now ≡ span ∷ [] }
+{
+    if extents.len() != 1 {
+        return false;
+    }
+    extents[0].start as u128 == blocks.start && extents[0].count as u128 == blocks.count
+}
+
+/// Whether a record is a file whose data fork is one extent, with these blocks.
+fn is_one_file(
+    alloc: Global,
+    overflow: &[OverflowRow],
+    rec: &CatRecord,
+    blocks: Blocks,
+) -> Result<bool, OutOfMemory>
+    ensures { (span : Span) → IsSpan blocks span → IfOk result (λ is. IsTrue is ↔ IsOneFile (overflows_in overflow.now) rec.now span) }
+{
+    match rec {
+        CatRecord::File(file) => {
+            let extents = fork_extents(alloc, overflow, file.fields.id, DATA, &file.data_fork)?;
+            Ok(is_one(extents.as_slice(), blocks))
+        }
+        _ => Ok(false),
+    }
+}
+
+/// Whether what was found is such a file.
+fn is_one_extent(
+    alloc: Global,
+    overflow: &[OverflowRow],
+    found: &Option<CatRecord>,
+    blocks: Blocks,
+) -> Result<bool, OutOfMemory>
+    ensures { (span : Span) → IsSpan blocks span → IfOk result (λ is. IsTrue is ↔ HasOneFile (overflows_in overflow.now) found.now span) }
+{
+    match found {
+        Some(rec) => is_one_file(alloc, overflow, rec, blocks),
+        None => Ok(false),
+    }
+}
+
+/// Judges a file of the journal, which is one extent with these blocks.
+fn judge_journal_file(
+    alloc: Global,
+    pairs: &Pairs,
+    overflow: &[OverflowRow],
+    name: &[u16],
+    blocks: Blocks,
+    out: &mut Findings,
+) -> Result<bool, OutOfMemory>
+    requires { AreSpelled pairs.now }
+    ensures decided { (span : Span) → All (λ pair. 8 ≤ length pair.0) pairs.now → IsSpan blocks span
+        → IfOk result (λ met. Decided (λ finding. IsFailed 20 finding (FailsFile (placed_in pairs.now) (overflows_in overflow.now) name.now span)) (IsOneExtent (placed_in pairs.now) (overflows_in overflow.now) name.now span) out.old out.new met) }
+    ensures each { (span : Span) → All (λ pair. 8 ≤ length pair.0) pairs.now → IsSpan blocks span
+        → Adds (λ finding. IsFailed 20 finding (FailsFile (placed_in pairs.now) (overflows_in overflow.now) name.now span)) out.old out.new }
+{
+    let found = record_in_root(alloc, pairs, name)?;
+    let holds = is_one_extent(alloc, overflow, &found, blocks)?;
+    add_unless(20, holds, id_found(&found), out)
+}
+
+/// Judges the attributes of a volume, and the two files of its journal: each attribute belongs to a folder or a file, has a name, and its
+/// value in its record; and each file is one extent, where the volume header and the info block say (TN1150, "Attributes File", "Journal").
+pub fn judge_attributes(
+    alloc: Global,
+    head: &VolumeHeader,
+    info: &Info,
+    pairs: &Pairs,
+    rows: &[Row],
+    overflow: &[OverflowRow],
+    attributes: &Pairs,
+    out: &mut Findings,
+) -> Result<bool, OutOfMemory>
+    requires { AreSpelled pairs.now }
+    ensures decided { (volume : VolumeState) → HasRows volume pairs.now rows.now → HasAttributes volume head.now info.now (overflows_in overflow.now) attributes.now
+        → IfOk result (λ met. Decided (λ finding. IsFailed 20 finding (FailsAttribute volume)) (AreAttributes volume.head volume.journal (records_of volume) (overflow_in_volume volume) volume.attribute_pairs) out.old out.new met) }
+    ensures each { (volume : VolumeState) → HasRows volume pairs.now rows.now → HasAttributes volume head.now info.now (overflows_in overflow.now) attributes.now
+        → Adds (λ finding. IsFailed 20 finding (FailsAttribute volume)) out.old out.new }
+{
+    let owners = owner_ids(alloc, rows)?;
+    let each = judge_each(attributes, &owners, out)?;
+    let journal = journal_blocks(head, info);
+    let one = judge_journal_file(alloc, pairs, overflow, JOURNAL.as_slice(), journal, out)?;
+    let info_block = info_blocks(head);
+    let other = judge_journal_file(
+        alloc,
+        pairs,
+        overflow,
+        JOURNAL_INFO.as_slice(),
+        info_block,
+        out,
+    )?;
+    Ok(both(other, both(one, each)))
+}

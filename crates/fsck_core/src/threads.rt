@@ -1,0 +1,194 @@
+//! The threads of a catalog, which match its entries one to one (rule 9).
+ghost use Rattle.std.specs.Prelude.{◌≡◌, ◌↔◌, ◌<◌, ◌≤◌, ◌+◌, ℕ, true, length, slice_set, Some, IsTrue, IfSome, IfOk, OnOk};
+ghost use Rattle.btree_node.specs.Keys.{catalog_units};
+ghost use Rattle.cat_records.specs.Records.{is_catalog};
+ghost use Rattle.hfs_volume.specs.Broken.{IsFailed, FailsThread};
+ghost use Rattle.hfs_volume.specs.Entries.{AreSpelled, AreThreaded};
+ghost use Rattle.hfs_volume.specs.Records.{placed_in, placed_of};
+ghost use Rattle.fsck_core.specs.Decided.{Adds, Decided, AllPass, IsMissed};
+ghost use Rattle.fsck_core.specs.Parents.{marked};
+ghost use Rattle.fsck_core.specs.Catalogs.{IsCatalog};
+ghost use Rattle.fsck_core.specs.Threads.{placed_at, IsSplit, same_bit, is_thread_of, IsItsThread, IsThreadAt, AreMatched, place_of};
+
+use crate::decided::add_unless;
+use crate::kinds::{has_no_name, parent_of};
+use crate::listing::read_row;
+use crate::names::has_name;
+use crate::rows::Row;
+use crate::want::both;
+use cat_records::{CatRecord, read_catalog};
+use fsck_list::Findings;
+use fsck_scan::Pairs;
+use hx_bytes::OutOfMemory;
+use std::alloc::Global;
+
+/// How many pairs stand before the first whose parent isn't below this one, found by halves.
+fn pairs_below(pairs: &Pairs, parent: u32) -> usize
+    ensures inside { result ≤ length pairs.now }
+    ensures split { IsCatalog pairs.now → IsSplit pairs.now parent result }
+{
+    let mut low = 0;
+    let mut high = pairs.len();
+    while low < high {
+        let mid = low + (high - low) / 2;
+        if parent_of(pairs.key(mid)) < parent {
+            low = mid + 1;
+        } else {
+            high = mid;
+        }
+    }
+    low
+}
+
+/// Whether two kinds are the same.
+fn same_kind(one: bool, other: bool) -> bool
+    ensures { result ≡ same_bit one other }
+{
+    if one { other } else { !other }
+}
+
+/// Whether a record is a thread that tells this row's place and kind, and the name in its key.
+fn tells(rec: &CatRecord, row: Row, key: &[u8]) -> bool
+    ensures { result ≡ is_thread_of rec.now row (catalog_units key.now) }
+{
+    match rec {
+        CatRecord::Thread(thread) => {
+            thread.parent == row.parent
+                && same_kind(thread.of_file, row.file)
+                && has_name(key, thread.name.as_slice())
+        }
+        _ => false,
+    }
+}
+
+/// Whether a pair is the thread of a row with this key.
+fn is_its_thread(
+    alloc: Global,
+    row: Row,
+    key: &[u8],
+    other: &[u8],
+    value: &[u8],
+) -> Result<bool, OutOfMemory>
+    requires { IsTrue (is_catalog value.now) }
+    ensures { 8 ≤ length other.now → IfOk result (λ is. IsTrue is ↔ IsItsThread row (catalog_units key.now) (placed_of (other.now, value.now))) }
+{
+    if parent_of(other) != row.id {
+        return Ok(false);
+    }
+    if !has_no_name(other) {
+        return Ok(false);
+    }
+    let Ok(rec) = read_catalog(alloc, value) else {
+        return Err(OutOfMemory);
+    };
+    Ok(tells(&rec, row, key))
+}
+
+/// The place of the thread of a row with this key, if it has one.
+fn find_thread(
+    alloc: Global,
+    pairs: &Pairs,
+    row: Row,
+    key: &[u8],
+) -> Result<Option<usize>, OutOfMemory>
+    requires { AreSpelled pairs.now }
+    ensures inside { IfOk result (λ found. IfSome found (λ at. at < length pairs.now)) }
+    ensures is { IsCatalog pairs.now → IfOk result (λ found. (at : ℕ) → found ≡ Some at ↔ IsThreadAt pairs.now row (catalog_units key.now) at) }
+{
+    let at = pairs_below(pairs, row.id);
+    if at >= pairs.len() {
+        return Ok(None);
+    }
+    let its = is_its_thread(alloc, row, key, pairs.key(at), pairs.value(at))?;
+    if its {
+        return Ok(Some(at));
+    }
+    Ok(None)
+}
+
+fn mark(marks: &mut Vec<bool>, at: usize)
+    requires { at < length marks.old.items }
+    ensures { marks.new.items ≡ slice_set marks.old.items at true }
+{
+    marks[at] = true;
+}
+
+/// Marks an entry and its thread, where it has one.
+fn match_entry(
+    alloc: Global,
+    pairs: &Pairs,
+    at: usize,
+    marks: &mut Vec<bool>,
+) -> Result<(), OutOfMemory>
+    requires spelled { AreSpelled pairs.now }
+    requires inside { at < length pairs.now }
+    requires long { length marks.old.items ≡ length pairs.now }
+    ensures long { length marks.new.items ≡ length pairs.now }
+    ensures matched { IsCatalog pairs.now → AreMatched pairs.now marks.old.items at → OnOk result (AreMatched pairs.now marks.new.items (at + 1)) }
+{
+    let Some(row) = read_row(alloc, pairs.key(at), pairs.value(at))? else {
+        return Ok(());
+    };
+    let Some(thread) = find_thread(alloc, pairs, row, pairs.key(at))? else {
+        return Ok(());
+    };
+    mark(marks, at);
+    mark(marks, thread);
+    Ok(())
+}
+
+/// Which entries have a thread, and which threads an entry.
+fn match_pairs(alloc: Global, pairs: &Pairs) -> Result<Vec<bool>, OutOfMemory>
+    requires { AreSpelled pairs.now }
+    ensures long { IfOk result (λ marks. length marks.items ≡ length pairs.now) }
+    ensures matched { IsCatalog pairs.now → IfOk result (λ marks. AreMatched pairs.now marks.items (length pairs.now)) }
+{
+    let mut marks = vec![in alloc; false; pairs.len()]?;
+    for at in 0..pairs.len() {
+        match_entry(alloc, pairs, at, &mut marks)?;
+    }
+    Ok(marks)
+}
+
+/// The CNID of an entry, and that of the entry whose thread a pair is.
+fn place_of(alloc: Global, key: &[u8], value: &[u8]) -> Result<u32, OutOfMemory>
+    requires { IsTrue (is_catalog value.now) }
+    ensures { 8 ≤ length key.now → IfOk result (λ place. place ≡ place_of (placed_of (key.now, value.now))) }
+{
+    let Some(row) = read_row(alloc, key, value)? else {
+        return Ok(parent_of(key));
+    };
+    Ok(row.id)
+}
+
+/// Judges that each pair is marked.
+fn judge_marks(
+    alloc: Global,
+    pairs: &Pairs,
+    marks: &[bool],
+    out: &mut Findings,
+) -> Result<bool, OutOfMemory>
+    requires spelled { AreSpelled pairs.now }
+    requires long { length marks.now ≡ length pairs.now }
+    ensures decided { IsCatalog pairs.now → IfOk result (λ met. Decided (IsMissed 9 (marked marks.now) (λ k. place_of (placed_at pairs.now k)) (length pairs.now)) (AllPass (marked marks.now) (length pairs.now)) out.old out.new met) }
+    ensures each { IsCatalog pairs.now → Adds (IsMissed 9 (marked marks.now) (λ k. place_of (placed_at pairs.now k)) (length pairs.now)) out.old out.new }
+{
+    let mut met = true;
+    for at in 0..pairs.len() {
+        let place = place_of(alloc, pairs.key(at), pairs.value(at))?;
+        let one = add_unless(9, marks[at], place, out)?;
+        met = both(one, met);
+    }
+    Ok(met)
+}
+
+/// Judges the threads of a catalog whose records are of the kinds that their keys ask for: each folder and each file has its thread, which
+/// tells its parent, its name and its kind, and each thread has its entry (TN1150, "Catalog Thread Records").
+pub fn judge_threads(alloc: Global, pairs: &Pairs, out: &mut Findings) -> Result<bool, OutOfMemory>
+    requires { AreSpelled pairs.now }
+    ensures decided { IsCatalog pairs.now → IfOk result (λ met. Decided (λ finding. IsFailed 9 finding (FailsThread (placed_in pairs.now))) (AreThreaded pairs.now) out.old out.new met) }
+    ensures each { IsCatalog pairs.now → Adds (λ finding. IsFailed 9 finding (FailsThread (placed_in pairs.now))) out.old out.new }
+{
+    let marks = match_pairs(alloc, pairs)?;
+    judge_marks(alloc, pairs, &marks, out)
+}
