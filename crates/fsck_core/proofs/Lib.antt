@@ -12,6 +12,7 @@ pub mod SizeLaws
 pub mod EntryLaws
 pub mod FlagLaws
 pub mod UseLaws
+pub mod SweepLaws
 pub mod UsedLaws
 pub mod BehindLaws
 pub mod OwnerLaws

@@ -41,7 +41,7 @@ pub fn judge_blocks(
         → (finding : Listed) → Contains out.new finding → Contains out.old finding ⊎ IsBrokenUse volume (as_found finding) }
 {
     let mut used = no_marks(alloc, head.total_blocks)?;
-    let once = judge_uses(extents, &mut used, out)?;
+    let once = judge_uses(alloc, extents, &mut used, out)?;
     let bits = judge_bits(flags, &used, out)?;
     let free = judge_free(head, &used, out)?;
     let most = both(bits, once);
