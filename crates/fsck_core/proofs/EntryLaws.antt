@@ -120,7 +120,7 @@ ids_apart pairs sorted threads id =
     thread_of_entry x stands = subst (HasThread (placed_in pairs)) stands.2 (threads.threaded stands.0 x stands.1)
 
 -- a number that isn't the one wanted, if there is one
-some_unmet : (ws : List Want) → AllMet ws ⊎ ((w : Want) × Contains ws w × (w.found ≢ w.wanted))
+pub some_unmet : (ws : List Want) → AllMet ws ⊎ ((w : Want) × Contains ws w × (w.found ≢ w.wanted))
 some_unmet [] = inl none_met
 some_unmet (w ∷ ws) = ⊎_elim
     (λ (same : (w.found == w.wanted ≡ true) × (w.found ≡ w.wanted)). elim (some_unmet ws) [

@@ -26,3 +26,9 @@ pub mod LinkLaws
 pub mod ThreadLaws
 pub mod AttributeLaws
 pub mod AllForkLaws
+pub mod Joining
+pub mod ListJoins
+pub mod ShownLaws
+pub mod OpeningLaws
+pub mod BitsLaws
+pub mod UsedLists

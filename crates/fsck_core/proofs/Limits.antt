@@ -1,21 +1,21 @@
 -- The blocks of a volume take its sectors up to the last whole block.
-use Rattle.std.proofs.Common.{◌≡◌, ◌<◌, ◌≤◌, ℕ, ◌+◌, ◌-◌, ◌*◌, ◌/◌, ◌%◌, true, ◌==◌, ◌&&◌, nat_le, length, [], refl, sym, ◌∙◌, ap, subst, arith}
+use Rattle.std.proofs.Common.{◌≡◌, ◌<◌, ◌≤◌, ℕ, ◌+◌, ◌-◌, ◌*◌, ◌/◌, ◌%◌, ◌^◌, true, ◌==◌, ◌&&◌, ◌||◌, nat_le, nat_lt, length, [], refl, sym, ◌∙◌, ap, subst, arith}
 use Rattle.std.specs.Prelude.{None, Some, not, if◌then◌else◌, Option, Bool, false}
 use Rattle.std.specs.Int.{is_power_of_two}
-use Rattle.std.proofs.Math.Nat.{div-mul-le_self, le-div_iff_mul-le, div-add-mod'}
-use Rattle.std.proofs.lemmas.Bool.{eqb-true, leb-true, and_parts}
-use Rattle.volume_header.specs.Refusal.{header_refusal, is_volume_size, is_hfsx, is_block_size, fits_blocks}
+use Rattle.std.proofs.Math.Nat.{div-mul-le_self, le-div_iff_mul-le, div-add-mod', mul-le-mul_right, div-le_of_le-mul}
+use Rattle.std.proofs.lemmas.Bool.{eqb-true, leb-true, ltb-true, and_parts}
+use Rattle.volume_header.specs.Refusal.{header_refusal, is_volume_size, is_hfsx, is_block_size, fits_blocks, fits_journal, is_journaled}
 use Rattle.volume_header.specs.declared.header.VolumeHeader.{VolumeHeader}
 use Rattle.volume_header.specs.declared.refusal.HeaderRefusal.{HeaderRefusal}
-use Rattle.volume_header.specs.declared.refusal.HeaderRefusal.TheVariants.{LimitSectors, NotHfsx, BadGeometry}
+use Rattle.volume_header.specs.declared.refusal.HeaderRefusal.TheVariants.{LimitSectors, NotHfsx, BadGeometry, NotJournaled}
 use Rattle.fork_map.specs.Blocks.{fork_sectors}
-use Rattle.btree_node.specs.TreeFile.{TreeFile}
 use Rattle.jnl_format.specs.Recovery.{Content, header_of_volume}
 use Rattle.hfs_volume.specs.Forks.{per_block_of, extents_of, extents_id, catalog_id, attributes_id, data_kind}
 use Rattle.hfs_volume.specs.Content.{block_limit, tree_of_fork, extents_file, catalog_file, attributes_file, overflow_of_content}
 use Rattle.hfs_volume.specs.Blocks.{IsGoodHeader}
 use Rattle.hfs_volume.proofs.Untouched.{whole_blocks}
 use Rattle.fsck_scan.specs.Form.{tree_in}
+use Rattle.fsck_core.proofs.HeaderLaws.{few_sectors}
 
 passed : (b : Bool) (why : HeaderRefusal) (rest : Option HeaderRefusal) → (if not b then Some why else rest) ≡ None → (b ≡ true) × (rest ≡ None)
 passed true why rest is = (refl, is)
@@ -79,3 +79,32 @@ module _ (content : Content) (good : IsGoodHeader (length content) (header_of_vo
   unfolding attributes_file
   attributes_lie =
       λ i. tree_of_fork content (sym (limit_is content good) i) (fork_sectors (extents_of (overflow_of_content content) attributes_id data_kind (header_of_volume content).attributes_fork) (per_block_of (header_of_volume content)))
+
+-- a volume has few sectors
+pub sectors_range : (sectors : ℕ) (head : VolumeHeader) → IsGoodHeader sectors head → sectors ≤ 2 ^ 31
+sectors_range sectors head good = few_sectors sectors (passed (is_volume_size sectors) (LimitSectors sectors) _ good.accepted).0
+
+-- the journal's info block is one of the volume's sectors
+pub info_inside : (sectors : ℕ) (head : VolumeHeader) → IsGoodHeader sectors head → head.journal_info_block * (head.block_size / 512) < sectors
+info_inside sectors head good =
+    let p1 = passed (is_volume_size sectors) (LimitSectors sectors) _ good.accepted in
+    let p2 = passed (is_hfsx head) (NotHfsx head.signature head.version) _ p1.1 in
+    let p3 = passed (is_block_size head.block_size) (BadGeometry 40) _ p2.1 in
+    let p4 = passed (fits_blocks head sectors) (BadGeometry 44) _ p3.1 in
+    let p5 = passed (fits_journal head) (BadGeometry 12) _ p4.1 in
+    let p6 = passed (is_journaled head.attributes) NotJournaled _ p5.1 in
+    let inside : head.journal_info_block < head.total_blocks = ltb-true head.journal_info_block head.total_blocks (subst (λ b. (not b || nat_lt head.journal_info_block head.total_blocks) ≡ true) p6.0 p5.0) in
+    let blocks = whole_blocks sectors head good.accepted in
+    let per : ℕ = per_block_of head in
+    let some : 0 < per = blocks.some in
+    let filled : head.total_blocks * per ≡ sectors - sectors % per = ap (λ n. n * per) (total_is sectors head good.accepted) ∙ whole_part sectors per head.block_size blocks.whole some in
+    let next : (head.journal_info_block + 1) * per ≤ head.total_blocks * per = mul-le-mul_right per (omega (arith, inside)) in
+    let split : (head.journal_info_block + 1) * per ≡ head.journal_info_block * per + per = omega arith in
+    omega (arith, filled, next, split, some)
+
+-- a place near the end of a volume, in blocks, is small
+pub quotient_few : (sectors size : ℕ) → 512 ≤ size → (sectors * 512 - 1024) / size ≤ sectors
+quotient_few sectors size least = div-le_of_le-mul size {m = sectors * 512 - 1024} {n = sectors} (let wide : 512 * sectors ≤ size * sectors = mul-le-mul_right sectors least in omega (arith, wide))
+
+pub some_size : (sectors : ℕ) (head : VolumeHeader) → IsGoodHeader sectors head → 0 < head.block_size
+some_size sectors head good = let range = block_range sectors head good in omega (arith, range.0)

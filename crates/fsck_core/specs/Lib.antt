@@ -17,3 +17,7 @@ pub mod Catalogs
 pub mod Threads
 pub mod Attributes
 pub mod AllForks
+pub mod Passed
+pub mod Lists
+pub mod Shown
+pub mod UsedExtents

@@ -18,7 +18,7 @@ use std::alloc::Global;
 use volume_header::VolumeHeader;
 
 /// So many blocks, of which none is marked.
-fn no_marks(alloc: Global, total: u32) -> Result<Marks, OutOfMemory>
+pub(crate) fn no_marks(alloc: Global, total: u32) -> Result<Marks, OutOfMemory>
     ensures none { IfOk result (λ marks. marks ≡ replicate total false) }
     ensures few { IfOk result (λ marks. length marks ≤ 2 ^ 32) }
 {

@@ -85,6 +85,7 @@ pub fn judge_header(
     requires { is_volume_size sectors ≡ true }
     ensures met { IfOk result (λ met. IsTrue met ↔ IsGoodHeader sectors head.now) }
     ensures listed { IfOk result (λ _. (finding : Listed) → IsUnmet 1 (as_found finding) (header_wants sectors head.now) → IsListed out.new finding) }
+    ensures still { IfOk result (λ _. (finding : Listed) → IsListed out.old finding → IsListed out.new finding) }
     ensures each { (finding : Listed) → Contains out.new finding → Contains out.old finding ⊎ IsUnmet 1 (as_found finding) (header_wants sectors head.now) }
 {
     let total = head.total_blocks as u64;
@@ -153,6 +154,7 @@ pub fn judge_alternate(
 ) -> Result<bool, OutOfMemory>
     ensures met { IfOk result (λ met. IsTrue met ↔ AgreesWith head.now alternate.now) }
     ensures listed { IfOk result (λ _. (finding : Listed) → IsUnmet 2 (as_found finding) (alternate_wants head.now alternate.now) → IsListed out.new finding) }
+    ensures still { IfOk result (λ _. (finding : Listed) → IsListed out.old finding → IsListed out.new finding) }
     ensures each { (finding : Listed) → Contains out.new finding → Contains out.old finding ⊎ IsUnmet 2 (as_found finding) (alternate_wants head.now alternate.now) }
 {
     judge_wants(

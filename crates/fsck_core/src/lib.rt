@@ -3,6 +3,7 @@
 
 mod attributes;
 mod behind;
+mod bits;
 mod blocks;
 mod decided;
 mod entries;
@@ -11,10 +12,13 @@ mod follow;
 mod forks;
 mod header;
 mod kinds;
+mod late;
 mod links;
 mod listing;
+mod lists;
 mod names;
 mod numbers;
+mod opening;
 mod overflow;
 mod owned;
 mod owners;
@@ -25,7 +29,9 @@ mod shared;
 mod sizes;
 mod threads;
 mod trees;
+mod used;
 mod uses;
+mod volume;
 mod want;
 
 pub use attributes::judge_attributes;
@@ -48,5 +54,6 @@ pub use rows::Row;
 pub use sizes::{judge_compare, judge_files, judge_size, judge_total};
 pub use threads::judge_threads;
 pub use trees::{scan_attributes, scan_catalog, scan_extents};
+pub use used::read_used;
 pub use uses::judge_uses;
 pub use want::{Want, judge_wants};

@@ -1,5 +1,5 @@
 //! The three trees of a volume, scanned (rules 4 to 7).
-ghost use Rattle.std.specs.Prelude.{◌≡◌, ◌<◌, ◌≤◌, ◌+◌, ◌*◌, ◌⊎◌, [], length, map, true, Contains, IsTrue, IsSome, IfOk, IsErrOf, MatchOption};
+ghost use Rattle.std.specs.Prelude.{◌≡◌, ◌<◌, ◌≤◌, ◌+◌, ◌*◌, ◌⊎◌, [], length, map, true, Contains, IsTrue, IsSome, IfOk, IfSome, IsErrOf, MatchOption};
 ghost use Rattle.hx_bytes.specs.declared.faults.Trouble.TheVariants.{Disk};
 ghost use Rattle.sector_disk.specs.Cause.{Rose};
 ghost use Rattle.jnl_format.specs.Recovery.{header_of_volume};
@@ -49,6 +49,7 @@ fn scan_file<V: SectorView, K: KeyOrder>(
     requires most { block ≤ 65536 }
     requires order { 2 * (K.MAX + 16) ≤ (form_named tree).least_node }
     requires none { out.old ≡ [] }
+    ensures empty { IfOk result (λ o. IfSome o (λ _. out.new ≡ [])) }
     ensures found { IsTrue (V.space view.old).tells → HasBytes (V.space view.old).content → IfOk result (λ o. MatchOption o (0 < length out.new) (λ pairs.
         IsTreeFile (form_in (form_named tree)) K.is_key K.is_value K.cmp (tree_in (V.space view.old).content (V.space view.old).sectors block fork.now)
         × (pairs ≡ pairs_of (store_of (tree_in (V.space view.old).content (V.space view.old).sectors block fork.now))) × (out.new ≡ []))) }
@@ -75,6 +76,7 @@ pub fn scan_extents<V: SectorView>(
 ) -> Result<Option<Pairs>, Trouble>
     requires good { IsGoodHeader (V.space view.old).sectors head.now }
     requires none { out.old ≡ [] }
+    ensures empty { IfOk result (λ o. IfSome o (λ _. out.new ≡ [])) }
     ensures found { IsTrue (V.space view.old).tells → HasBytes (V.space view.old).content → head.now ≡ header_of_volume (V.space view.old).content
         → IfOk result (λ o. MatchOption o (0 < length out.new) (λ pairs. IsTreeFile extents_form IsExtentKey is_eight_extents extent_cmp (extents_file (V.space view.old).content)
         × (pairs ≡ pairs_of (store_of (extents_file (V.space view.old).content))) × (out.new ≡ []))) }
@@ -98,6 +100,7 @@ pub fn scan_catalog<V: SectorView>(
 ) -> Result<Option<Pairs>, Trouble>
     requires good { IsGoodHeader (V.space view.old).sectors head.now }
     requires none { out.old ≡ [] }
+    ensures empty { IfOk result (λ o. IfSome o (λ _. out.new ≡ [])) }
     ensures found { IsTrue (V.space view.old).tells → HasBytes (V.space view.old).content → head.now ≡ header_of_volume (V.space view.old).content → overflows_in rows.now ≡ overflow_of_content (V.space view.old).content
         → IfOk result (λ o. MatchOption o (0 < length out.new) (λ pairs. IsTreeFile catalog_form IsCatalogKey anything catalog_cmp (catalog_file (V.space view.old).content)
         × (pairs ≡ pairs_of (store_of (catalog_file (V.space view.old).content))) × (out.new ≡ []))) }
@@ -121,6 +124,7 @@ pub fn scan_attributes<V: SectorView>(
 ) -> Result<Option<Pairs>, Trouble>
     requires good { IsGoodHeader (V.space view.old).sectors head.now }
     requires none { out.old ≡ [] }
+    ensures empty { IfOk result (λ o. IfSome o (λ _. out.new ≡ [])) }
     ensures found { IsTrue (V.space view.old).tells → HasBytes (V.space view.old).content → head.now ≡ header_of_volume (V.space view.old).content → overflows_in rows.now ≡ overflow_of_content (V.space view.old).content
         → IfOk result (λ o. MatchOption o (0 < length out.new) (λ pairs. IsTreeFile attributes_form IsAttrKey anything attr_cmp (attributes_file (V.space view.old).content)
         × (pairs ≡ pairs_of (store_of (attributes_file (V.space view.old).content))) × (out.new ≡ []))) }
