@@ -16,9 +16,14 @@ use Rattle.hfs_volume.specs.Cost.{no_tree}
 use Rattle.hfs_volume.specs.Forks.{attributes_id}
 use Rattle.hfs_volume.specs.Weight.{free_blocks, room_with, tree_gauge, cost_of_tree, extents_in_use, gauge}
 use Rattle.volume_ops.specs.Lists.{lists_of}
-use Rattle.volume_ops.specs.Room.{gauge_on, attributes_gauge, gauge_now}
+use Rattle.volume_ops.specs.Room.{attributes_on, cost_on, gauge_now}
+use Rattle.btree_node.specs.declared.store.TreeShape.{TreeShape}
 use Rattle.volume_ops.specs.Standing.{IsSettled, with_attributes_tree}
 use Rattle.volume_ops.specs.declared.volume.Volume.{Volume}
+
+-- the numbers of a tree that `df` tells
+abbrev gauge_on : TreeShape → TreeGauge
+gauge_on shape = record { depth = shape.depth; nodes = shape.total; unused = shape.free }
 
 module _ (volume : Volume) (content : Content) (settled : IsSettled volume content) where
   abbrev lists : VolumeState
@@ -34,17 +39,17 @@ module _ (volume : Volume) (content : Content) (settled : IsSettled volume conte
       let inside : k < length (map (λ block. not (is_set lists block)) (range_with_len 0 volume.header.total_blocks)) = omega (arith, length-map (range_with_len 0 volume.header.total_blocks) (λ block. not (is_set lists block)), length-range_with_len 0 volume.header.total_blocks, low, settled.blocks) in
       one ∙ ap not (sym bit) ∙ ap (λ b. not (is_set lists b)) (sym here) ∙ sym two ∙ get_or_default (map (λ block. not (is_set lists block)) (range_with_len 0 volume.header.total_blocks)) k (not (is_set lists 0)) true inside
 
-  free_is : unused_of volume.map ≡ free_blocks lists
+  pub free_is : unused_of volume.map ≡ free_blocks lists
   unfolding free_blocks
   free_is = ext_get_or true (map (λ used. not used) volume.map.used) (map (λ block. not (is_set lists block)) (range_with_len 0 volume.header.total_blocks))
       (omega (arith, length-map volume.map.used (λ used. not used), length-map (range_with_len 0 volume.header.total_blocks) (λ block. not (is_set lists block)), length-range_with_len 0 volume.header.total_blocks, settled.blocks))
       (λ k low. free_at k (omega (arith, low, length-map volume.map.used (λ used. not used))))
 
-  third : attributes_gauge volume ≡ tree_gauge (if has_attributes volume.header then cost_of_tree lists.attributes_tree (extents_in_use lists attributes_id volume.header.attributes_fork) else no_tree)
+  third : tree_gauge (attributes_on volume) ≡ tree_gauge (if has_attributes volume.header then cost_of_tree lists.attributes_tree (extents_in_use lists attributes_id volume.header.attributes_fork) else no_tree)
   third = by (has_attributes volume.header) (λ has. settled.attributes has)
     where
       by : (b : Bool) → (b ≡ true → (volume_of content).attributes_tree ≡ record { shape = volume.attributes.file.shape; map_bits = bits_of volume.attributes.file.map.items })
-          → (if b then gauge_on volume.attributes.file.shape else record { depth = 0; nodes = 0; unused = 0 }) ≡ tree_gauge (if b then cost_of_tree lists.attributes_tree (extents_in_use lists attributes_id volume.header.attributes_fork) else no_tree)
+          → tree_gauge (if b then cost_on volume.attributes.file else no_tree) ≡ tree_gauge (if b then cost_of_tree lists.attributes_tree (extents_in_use lists attributes_id volume.header.attributes_fork) else no_tree)
       by true there = ap (λ (f : TreeFacts). gauge_on f.shape) (sym (there refl))
       by false there = refl
 

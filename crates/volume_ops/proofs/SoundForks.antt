@@ -41,7 +41,7 @@ use Rattle.volume_ops.proofs.Placing.{default_is, flat_cases, flat_stands, stand
 
 -- ---- the header
 
-passed : (b : Bool) (why : HeaderRefusal) (rest : Option HeaderRefusal) → (if not b then Some why else rest) ≡ None → (b ≡ true) × (rest ≡ None)
+pub passed : (b : Bool) (why : HeaderRefusal) (rest : Option HeaderRefusal) → (if not b then Some why else rest) ≡ None → (b ≡ true) × (rest ≡ None)
 passed true why rest is = (refl, is)
 passed false why rest is = absurd (cc)
 

@@ -12,10 +12,11 @@ pub mod Opening
 pub mod Owning
 pub mod Reaching
 pub mod Reading
+pub mod Removing
 pub mod Room
 pub mod Service
 pub mod Standing
 pub mod Stating
 pub mod Touching
 pub mod Trees
-pub mod Removing
+pub mod Weighing

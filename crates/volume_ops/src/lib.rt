@@ -39,5 +39,6 @@ mod telling;
 mod touching;
 mod valuing;
 mod volume;
+mod weighing;
 
 pub use volume::Volume;

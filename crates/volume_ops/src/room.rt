@@ -1,57 +1,139 @@
 //! What a volume has left.
-ghost use Rattle.std.specs.Prelude.{◌≡◌};
-ghost use Rattle.hfs_volume.specs.Weight.{gauge};
+ghost use Rattle.std.specs.Prelude.{◌≡◌, min, length, slice_index};
+ghost use Rattle.flag_rows.specs.Bits.{count_set};
+ghost use Rattle.flag_rows.specs.Runs.{longest_of, runs_of};
+ghost use Rattle.hfs_volume.specs.Cost.{no_tree, tree_at};
+ghost use Rattle.hfs_volume.specs.Weight.{gauge, gauge_of, tree_gauge};
 ghost use Rattle.hfs_volume.specs.Content.{volume_of};
 ghost use Rattle.sector_disk.specs.Lists.{Content};
-ghost use Rattle.volume_ops.specs.Room.{attributes_gauge, gauge_now, capacity_of};
+ghost use Rattle.volume_ops.specs.Room.{attributes_on, capacity_of, cost_on, free_in, gauge_now, room_on};
 ghost use Rattle.volume_ops.specs.Standing.{IsSettled};
 
 use crate::volume::{Tree, Volume};
+use fork_map::ExtentList;
 use hfs_language::{Gauge, TreeGauge};
+use hfs_volume::{Room, TreeCost};
 
-/// The numbers of a tree that `df` tells.
-fn tree_gauge(tree: &Tree) -> TreeGauge
-    ensures depth { result.depth ≡ tree.now.file.shape.depth }
-    ensures nodes { result.nodes ≡ tree.now.file.shape.total }
-    ensures unused { result.unused ≡ tree.now.file.shape.free }
+/// Which blocks count as free.
+#[derive(Clone, Copy)]
+pub(crate) enum FreeBlocks {
+    /// Each that isn't used.
+    All,
+    /// Of these, only those that aren't held for an undo.
+    Takable,
+}
+
+/// No tree, with zeros for its numbers.
+const NO_TREE: TreeCost = TreeCost {
+    node_size: 0,
+    depth: 0,
+    records: 0,
+    nodes: 0,
+    unused: 0,
+    map_bits: 0,
+    extents: 0,
+};
+
+/// How many extents there are, or 4,294,967,295 where there are more.
+fn count_extents(list: &ExtentList) -> u32
+    ensures { result ≡ min (length list.now) 4294967295 }
+{
+    (list.len() as u64).min(0xFFFF_FFFF) as u32
+}
+
+/// The numbers of a tree that its growth and its load rest on.
+fn tree_cost(tree: &Tree) -> TreeCost
+    ensures { result ≡ cost_on tree.now.file }
 {
     let shape = tree.file.shape();
-    TreeGauge {
+    TreeCost {
+        node_size: shape.node_size,
         depth: shape.depth,
+        records: shape.leaf_records,
         nodes: shape.total,
         unused: shape.free,
+        map_bits: tree.file.map_bits(),
+        extents: count_extents(tree.file.fork()),
+    }
+}
+
+/// The numbers of a tree that `df` tells.
+fn tree_gauge(tree: &TreeCost) -> TreeGauge
+    ensures { result ≡ tree_gauge tree.now }
+{
+    TreeGauge {
+        depth: tree.depth,
+        nodes: tree.nodes,
+        unused: tree.unused,
     }
 }
 
 impl Volume {
-    /// The numbers of the attributes file that `df` tells; where there is none, zeros.
-    fn attributes_gauge(&self) -> TreeGauge
-        ensures { result ≡ attributes_gauge self.now }
+    /// The numbers of the attributes file; where there is none, zeros.
+    fn attributes_cost(&self) -> TreeCost
+        ensures { result ≡ attributes_on self.now }
     {
         if self.header.attributes_fork.logical_size == 0 {
-            return TreeGauge {
-                depth: 0,
-                nodes: 0,
-                unused: 0,
-            };
+            return NO_TREE;
         }
-        tree_gauge(&self.attributes)
+        tree_cost(&self.attributes)
+    }
+
+    /// How many blocks are free.
+    fn count_free(&self, free: FreeBlocks) -> u32
+        ensures { result ≡ count_set (free_in free self.now.map) }
+    {
+        match free {
+            FreeBlocks::All => self.map.count_all(),
+            FreeBlocks::Takable => self.map.count_free(),
+        }
+    }
+
+    /// The length of the longest run of free blocks.
+    fn longest_free(&self, free: FreeBlocks) -> u32
+        ensures { result ≡ longest_of (runs_of (free_in free self.now.map)) }
+    {
+        match free {
+            FreeBlocks::All => self.map.longest_all(),
+            FreeBlocks::Takable => self.map.longest(),
+        }
+    }
+
+    /// What the volume has, where these blocks count as free.
+    pub(crate) fn room(&self, free: FreeBlocks) -> Room
+        ensures { result ≡ room_on free self.now }
+    {
+        Room {
+            block: self.header.block_size,
+            total: self.header.total_blocks,
+            free: self.count_free(free),
+            longest: self.longest_free(free),
+            capacity: self.capacity,
+            next_id: self.header.next_catalog_id,
+            trees: [
+                tree_cost(&self.extents),
+                tree_cost(&self.catalog),
+                self.attributes_cost(),
+            ],
+        }
     }
 
     /// The numbers that `df` tells, read of the volume.
     fn read_gauge(&self) -> Gauge
         ensures { result ≡ gauge_now self.now }
     {
+        let room = self.room(FreeBlocks::All);
+        let [extents, catalog, attributes] = room.trees;
         Gauge {
-            block: self.header.block_size,
-            total: self.header.total_blocks,
-            free: self.map.count_all(),
-            longest: self.map.longest_all(),
-            capacity: self.capacity,
+            block: room.block,
+            total: room.total,
+            free: room.free,
+            longest: room.longest,
+            capacity: room.capacity,
             trees: [
-                tree_gauge(&self.extents),
-                tree_gauge(&self.catalog),
-                self.attributes_gauge(),
+                tree_gauge(&extents),
+                tree_gauge(&catalog),
+                tree_gauge(&attributes),
             ],
         }
     }
