@@ -145,6 +145,19 @@ module _ {a b : ℕ} {x y : Space} (counts : CountsFaults a x b y) where
       no_sink input.Source is = absurd (cc is)
       no_sink input.Memory is = absurd (cc is)
 
+module _ {a b : ℕ} {x y : Space} (counts : CountsFaults a x b y) where
+  -- lines weren't taken
+  pub took_stop : {T U : Type 0} (first mid now : ℕ) (e f : Stop) (r : Result U Stop) → first ≤ mid → IsCause {T = T} stop.Source mid now (Err e) → (IsErrOf {T = T} {E = Stop} (Err e) stop.Disk → ⊥) → (IsErrOf {T = T} {E = Stop} (Err e) stop.Sink → ⊥) → r ≡ Err f → f ≡ e
+      → StopFaults a x b y (Rose first now) r
+  took_stop {T} first mid now e f r later cause no_disk no_sink given same =
+      let at : (other : Stop) → IsErrOf r other → IsErrOf {T = T} {E = Stop} (Err e) other = λ other is. ap Err (sym same ∙ the_fault r f other given is) in
+      record {
+        counts = counts;
+        disk = λ is. absurd (no_disk (at stop.Disk is));
+        sink = λ is. absurd (no_sink (at stop.Sink is));
+        source = λ is. rose_later first mid now later (cause.rose (at stop.Source is));
+      }
+
 -- ---- a store's commit
 
 pub commit_counted : {A : Type 0} (X Y Z : Type 0) (r : Result A StoreFault) (store new : Store) (before now : ℕ) → OnOk r (X × Y × Z × (faults_of new ≡ faults_of store)) → (IsErrOf r fault.Disk → Rose before now) → (faults_of store ≢ 0 → new ≡ store) → (faults_of store ≡ 0 → (n : ℕ) → r ≢ Err (fault.Failed n))

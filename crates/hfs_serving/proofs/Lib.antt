@@ -35,3 +35,4 @@ pub mod Peeks
 pub mod Judging
 pub mod Replayed
 pub mod Causes
+pub mod Numbering

@@ -1,10 +1,11 @@
 //! A run over a journal's store and its rig.
-ghost use Rattle.std.specs.Prelude.{◌≡◌, ◌≤◌, ◌∷◌, [], ℕ, List, None, IsTrue, OnOk};
+ghost use Rattle.std.specs.Prelude.{◌≡◌, ◌≤◌, ◌<◌, ◌∷◌, [], ℕ, List, None, IsErrOf, IsTrue, OnOk, length};
 ghost use Rattle.jnl_format.specs.Recovery.{Content};
 ghost use Rattle.jnl_store.specs.Seen.{seen};
 ghost use Rattle.jnl_store.specs.Store.{faults_of, plan_of, puts_of};
 ghost use Rattle.hfs_volume.specs.Sound.{IsSound};
 ghost use Rattle.sector_disk.specs.Cause.{Rose};
+ghost use Rattle.hfs_language.specs.Lines.{lines};
 ghost use Rattle.hfs_serving.specs.Faults.{StopFaults};
 ghost use Rattle.hfs_serving.specs.Going.{Stands};
 ghost use Rattle.hfs_serving.specs.Grounds.{IsInService};
@@ -48,6 +49,9 @@ pub fn run<V: Volume, R: Rig, S: Source>(
     ensures done { IsTrue (seen R.state base.old).tells → (capacity : ℕ) (start : Content) → Stands (V.knows volume.old (seen R.state base.old) capacity) start start None (seen R.state base.old) (outside_of (plan_of base.old.store.now) (R.state base.old.disk.now))
         → OnOk result (EndsRun capacity start (outside_of (plan_of base.old.store.now) (R.state base.old.disk.now)) (S.stream source.old) (outside_of (plan_of base.new.store.now) (R.state base.new.disk.now))) }
     ensures end { IsTrue (S.stream source.old).tells → OnOk result ((S.stream source.new).left ≡ []) }
+    // There are too many lines exactly where there is one more than have a number.
+    ensures few { IsTrue (S.stream source.old).tells → OnOk result (length (lines (S.stream source.old).left) ≤ 4294967295) }
+    ensures many { IsTrue (S.stream source.old).tells → IsErrOf result Stop.TooMany → 4294967295 < length (lines (S.stream source.old).left) }
     // Each answer other than Ok comes of a fault whose count rose, but for memory and steps.
     ensures faults { StopFaults (faults_of base.old.store.now) (seen R.state base.old) (faults_of base.new.store.now) (seen R.state base.new) (Rose (S.stream source.old).faults (S.stream source.new).faults) result }
     ensures later { (S.stream source.old).faults ≤ (S.stream source.new).faults }

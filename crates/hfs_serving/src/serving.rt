@@ -1,9 +1,10 @@
 //! An image served: it is found, made ready, attached to, and its source's lines are served to their end.
-ghost use Rattle.std.specs.Prelude.{◌≡◌, ◌≤◌, [], ℕ, List, None, IsTrue, IfOk, IfErr, OnOk};
+ghost use Rattle.std.specs.Prelude.{◌≡◌, ◌≤◌, ◌<◌, [], ℕ, List, None, IsErrOf, IsTrue, IfOk, IfErr, OnOk, length};
 ghost use Rattle.sector_disk.specs.Disk.{HasNothingPending, OnlyReads, content};
 ghost use Rattle.jnl_format.specs.Recovery.{Content, replayed};
 ghost use Rattle.jnl_replay.specs.Plan.{FitsPlan, journal_of};
 ghost use Rattle.jnl_store.specs.Plan.{IsCapacityOf};
+ghost use Rattle.hfs_language.specs.Lines.{lines};
 ghost use Rattle.hfs_volume.specs.Mount.{Mounts};
 ghost use Rattle.hfs_volume.specs.Sound.{IsSound};
 ghost use Rattle.line_source.specs.Input.{SameSource};
@@ -49,6 +50,9 @@ pub fn serve_image<V: Volume, C: Checker, R: Rig, S: Source>(
     ensures served { IsTrue (R.state rig.old).tells → IfOk result (λ answer. OnOk answer ((capacity : ℕ) × (start : Content) × Mounts (content (R.state rig.old)) capacity start)) }
     ensures unwritten { IfOk result (λ answer. IfErr answer (λ _. OnlyReads (R.state rig.old) (R.state rig.new))) }
     ensures end { IsTrue (S.stream source.old).tells → IfOk result (λ answer. OnOk answer ((S.stream source.new).left ≡ [])) }
+    // There are too many lines exactly where there is one more than have a number.
+    ensures few { IsTrue (S.stream source.old).tells → IfOk result (λ answer. OnOk answer (length (lines (S.stream source.old).left) ≤ 4294967295)) }
+    ensures many { IsTrue (S.stream source.old).tells → IsErrOf result Stop.TooMany → 4294967295 < length (lines (S.stream source.old).left) }
     // Each fault that is answered is one of a device whose count rose.
     ensures faults { RigFaults (R.state rig.old) (R.state rig.new) (Rose (S.stream source.old).faults (S.stream source.new).faults) result }
     ensures later { (S.stream source.old).faults ≤ (S.stream source.new).faults }
@@ -77,6 +81,8 @@ fn serve_found<V: Volume, R: Rig, S: Source>(
     ensures promises { IsTrue (R.state rig.old).tells → HasNothingPending (R.state rig.old) → (capacity : ℕ) → IsCapacityOf plan capacity → (first : R) → OnlyReads (R.state first) (R.state rig.old)
         → KeepsRun capacity (replayed (journal_of plan) (content (R.state rig.old))) (R.state first) (S.stream source.old) (R.state rig.new) (S.stream source.new) }
     ensures end { IsTrue (S.stream source.old).tells → OnOk result ((S.stream source.new).left ≡ []) }
+    ensures few { IsTrue (S.stream source.old).tells → OnOk result (length (lines (S.stream source.old).left) ≤ 4294967295) }
+    ensures many { IsTrue (S.stream source.old).tells → IsErrOf result Stop.TooMany → 4294967295 < length (lines (S.stream source.old).left) }
     ensures faults { RigFaults (R.state rig.old) (R.state rig.new) (Rose (S.stream source.old).faults (S.stream source.new).faults) result }
     ensures later { (S.stream source.old).faults ≤ (S.stream source.new).faults }
     ensures same_source { SameSource (S.stream source.old) (S.stream source.new) }
@@ -101,6 +107,8 @@ fn serve_ready<V: Volume, R: Rig, S: Source>(
         × (IsTrue (R.state rig.old).tells → (capacity : ℕ) → IsCapacityOf plan.now capacity → (start now : Content) (first : R) → IsVersioned start now → KeepsPlace start now → IsReady plan.now now (R.state rig.old) → IsSound now
         → Turns start now (outside_of plan.now (R.state first)) (outside_of plan.now (R.state rig.old)) → CrashesStep capacity start None (outside_of plan.now (R.state first)) texts (outside_of plan.now (R.state rig.new))) }
     ensures end { IsTrue (S.stream source.old).tells → OnOk result ((S.stream source.new).left ≡ []) }
+    ensures few { IsTrue (S.stream source.old).tells → OnOk result (length (lines (S.stream source.old).left) ≤ 4294967295) }
+    ensures many { IsTrue (S.stream source.old).tells → IsErrOf result Stop.TooMany → 4294967295 < length (lines (S.stream source.old).left) }
     ensures faults { RigFaults (R.state rig.old) (R.state rig.new) (Rose (S.stream source.old).faults (S.stream source.new).faults) result }
     ensures later { (S.stream source.old).faults ≤ (S.stream source.new).faults }
     ensures same_source { SameSource (S.stream source.old) (S.stream source.new) }

@@ -1,22 +1,29 @@
 //! The lines of a source, batch after batch.
-ghost use Rattle.std.specs.Prelude.{◌≡◌, ◌≤◌, [], ℕ, List, Option, IsTrue, OnOk, OnErr, length};
+ghost use Rattle.std.specs.Prelude.{◌≡◌, ◌≢◌, ◌≤◌, ◌<◌, ◌++◌, [], ℕ, List, Option, IsErrOf, IsTrue, OnOk, OnErr, length};
 ghost use Rattle.jnl_format.specs.Recovery.{Content};
 ghost use Rattle.sector_disk.specs.Cause.{Rose};
+ghost use Rattle.hfs_language.specs.Lines.{lines};
 ghost use Rattle.hfs_serving.specs.Faults.{StopFaults};
 ghost use Rattle.hfs_serving.specs.Going.{Stands};
 ghost use Rattle.hfs_serving.specs.Steps.{CrashesStep, ServesStep, SomeWhole};
 ghost use Rattle.hfs_serving.specs.Taking.{HasTaken};
+ghost use Rattle.line_source.specs.Batch.{AddsLines};
+ghost use Rattle.line_source.specs.Cause.{IsCause};
 ghost use Rattle.line_source.specs.Input.{ahead, SameSource, TakesLines};
 
 use crate::batch::MOST_LINES;
 use crate::telling::{Stop, Teller, serve_step};
 use crate::volume::Volume;
+use hx_bytes::Bytes;
 use line_source::{Input, drop_first};
 use sector_disk::Source;
 use std::alloc::Global;
 
 /// How many bytes a line has at most, without its newline.
 pub const LONGEST_LINE: usize = 140_000;
+
+/// How many lines are served, at most: each has a number of 32 bits, and the last of these is no line's.
+const MOST_SERVED: usize = 4_294_967_295;
 
 /// Serves the lines of a source to its end. Each batch has at most 32 lines, and beyond its first only lines that were taken already. Nothing is
 /// taken of the source while a line that was taken is unanswered.
@@ -45,11 +52,15 @@ pub fn serve_source<V: Volume, G: Teller, S: Source>(
     ensures anchor { G.anchor base.new ≡ G.anchor base.old }
     ensures faults { StopFaults (G.failed base.old) (G.space base.old) (G.failed base.new) (G.space base.new) (Rose (S.stream source.old).faults (S.stream source.new).faults) result }
     ensures later { (S.stream source.old).faults ≤ (S.stream source.new).faults }
+    // There are too many lines exactly where there is one more than are served at most.
+    ensures few { IsTrue (S.stream source.old).tells → OnOk result (length (lines (ahead input.old (S.stream source.old))) ≤ 4294967295) }
+    ensures many { IsTrue (S.stream source.old).tells → IsErrOf result Stop.TooMany → 4294967295 < length (lines (ahead input.old (S.stream source.old))) }
     ensures same_source { SameSource (S.stream source.old) (S.stream source.new) }
 {
     let mut lines = Vec::new(alloc);
+    let mut left = MOST_SERVED;
     loop {
-        input.read_lines(alloc, source, LONGEST_LINE, MOST_LINES, &mut lines)?;
+        take_lines(alloc, left, input, source, &mut lines)?;
         if lines.is_empty() {
             return Ok(());
         }
@@ -58,5 +69,39 @@ pub fn serve_source<V: Volume, G: Teller, S: Source>(
             return Err(Stop::Steps);
         }
         drop_first(&mut lines, count);
+        left -= count;
+    }
+}
+
+// Takes the lines of a batch, of which there are no more than are left to be served. Where none is there behind it the source is at its end.
+fn take_lines<S: Source>(
+    alloc: Global,
+    left: usize,
+    input: &mut Input,
+    source: &mut S,
+    pending: &mut Vec<Bytes>,
+) -> Result<(), Stop>
+    requires left { length pending.old.items ≤ left }
+    requires most { length pending.old.items ≤ 32 }
+    ensures lines { OnOk result (AddsLines 140000 pending.old.items input.old (S.stream source.old) pending.new.items input.new (S.stream source.new)) }
+    ensures left { OnOk result (length pending.new.items ≤ left) }
+    ensures most { OnOk result (length pending.new.items ≤ 32) }
+    ensures end { IsTrue (S.stream source.old).tells → OnOk result (pending.new.items ≡ [] → (ahead input.old (S.stream source.old) ≡ []) × (ahead input.new (S.stream source.new) ≡ [])) }
+    // Whatever it answers, the bytes that were taken stood first.
+    ensures gone { IsTrue (S.stream source.old).tells → (gone : List ℕ) × (ahead input.old (S.stream source.old) ≡ gone ++ (S.stream source.new).left) }
+    ensures many { IsErrOf result Stop.TooMany → (left ≡ 0) × (IsTrue (S.stream source.old).tells → lines (ahead input.old (S.stream source.old)) ≢ []) }
+    ensures cause { IsCause Stop.Source (S.stream source.old).faults (S.stream source.new).faults result }
+    ensures no_disk { IsErrOf result Stop.Disk → ⊥ }
+    ensures no_sink { IsErrOf result Stop.Sink → ⊥ }
+    ensures same { SameSource (S.stream source.old) (S.stream source.new) }
+{
+    if left > 0 {
+        let most = if left < MOST_LINES { left } else { MOST_LINES };
+        input.read_lines(alloc, source, LONGEST_LINE, most, pending)?;
+        return Ok(());
+    }
+    match input.next_line(alloc, source, LONGEST_LINE)? {
+        Some(_) => Err(Stop::TooMany),
+        None => Ok(()),
     }
 }

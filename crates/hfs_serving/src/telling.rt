@@ -1,5 +1,5 @@
 //! What is told beside a ground, and a batch whose replies are told at its end.
-ghost use Rattle.std.specs.Prelude.{◌≡◌, ◌≤◌, ◌++◌, ℕ, Option, IsTrue, IfOk, OnOk, OnErr, length};
+ghost use Rattle.std.specs.Prelude.{◌≡◌, ◌≤◌, ◌++◌, ℕ, Option, IsErrOf, IsTrue, IfOk, OnOk, OnErr, length};
 ghost use Rattle.jnl_format.specs.Recovery.{Content};
 ghost use Rattle.sector_disk.specs.Cause.{HasCause};
 ghost use Rattle.hfs_serving.specs.Faults.{CountsFaults, StopFaults};
@@ -41,6 +41,8 @@ pub enum Stop {
     Sink,
     /// More steps were made for one line than a volume has blocks and records.
     Steps,
+    /// There were too many lines.
+    TooMany,
 }
 
 impl From<Trouble> for Stop {
@@ -114,6 +116,7 @@ pub fn serve_step<V: Volume, G: Teller>(
     ensures tells { OnOk result ((G.space base.new).tells ≡ (G.space base.old).tells) }
     ensures anchor { G.anchor base.new ≡ G.anchor base.old }
     ensures faults { StopFaults (G.failed base.old) (G.space base.old) (G.failed base.new) (G.space base.new) ⊥ result }
+    ensures no_many { IsErrOf result Stop.TooMany → ⊥ }
 {
     let mut replies = Bytes::new(alloc);
     let count = serve_batch(volume, base, lines, &mut replies)?;

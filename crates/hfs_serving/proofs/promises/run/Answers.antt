@@ -13,6 +13,10 @@ use Rattle.line_source.proofs.Cuts.{all_taken}
 use Rattle.std.proofs.lemmas.Result.{err_from_is_err_and}
 use Rattle.hfs_serving.proofs.Causes.{counts_both, counts_none, fine_stop, handed_on, handed_stop, other_stop}
 use Rattle.sector_disk.specs.Cause.{Rose}
+use Rattle.line_source.specs.Input.{ahead}
+use Rattle.std.specs.Prelude.{◌≤◌, ◌<◌}
+use Rattle.hfs_language.specs.Lines.{lines}
+use Rattle.hfs_serving.proofs.Numbering.{no_memory, no_trouble, too_many}
 use Rattle.hfs_serving.proofs.promises.run.Goals as goal
 
 pub returns-in_err-input-clause-promises : goal.returns-in_err-input-clause-promises
@@ -227,3 +231,26 @@ returns-in_err-end_run-clause-faults g c =
 pub returns-clause-faults : goal.returns-clause-faults
 returns-clause-faults g c =
     fine_stop (counts_both c.serve_source.ensures.faults.counts c.end_run.ensures.faults.counts) (Rose (g.S.Source.stream c.args.source.now).faults (g.S.Source.stream c.serve_source.new.source).faults) _
+
+pub returns-in_err-input-clause-many : goal.returns-in_err-input-clause-many
+returns-in_err-input-clause-many g c told is =
+    let p = err_from_is_err_and c.from_residual.result c.from_residual.ensures.1 in
+    absurd (no_memory p.0 c.from_residual.result p.1 p.2 is)
+
+pub returns-in_err-serve_source-clause-many : goal.returns-in_err-serve_source-clause-many
+returns-in_err-serve_source-clause-many g c told is =
+    let p = err_from_is_err_and c.from_residual-in_err-serve_source.result c.from_residual-in_err-serve_source.ensures.1 in
+    subst (λ (l : List ℕ). 4294967295 < length (lines (ahead l (g.S.Source.stream c.args.source.now)))) c.in_ok-input.ensures
+    (c.in_err-serve_source.ensures.many told (too_many _ p.0 c.from_residual-in_err-serve_source.result p.1 p.2 is))
+
+pub returns-in_err-end_run-clause-many : goal.returns-in_err-end_run-clause-many
+returns-in_err-end_run-clause-many g c told is =
+    let p = err_from_is_err_and c.from_residual-in_err-end_run.result c.from_residual-in_err-end_run.ensures.1 in
+    absurd (no_trouble _ p.0 c.from_residual-in_err-end_run.result p.1 p.2 is)
+
+pub returns-clause-few : goal.returns-clause-few
+returns-clause-few g c told =
+    subst (λ (l : List ℕ). length (lines (ahead l (g.S.Source.stream c.args.source.now))) ≤ 4294967295) c.in_ok-input.ensures (c.in_ok-serve_source.ensures.few told)
+
+pub returns-clause-many : goal.returns-clause-many
+returns-clause-many g c told is = absurd (cc is)

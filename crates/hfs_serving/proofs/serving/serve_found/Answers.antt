@@ -14,6 +14,7 @@ use Rattle.std.proofs.lemmas.Result.{err_from_is_err_and}
 use Rattle.hx_bytes.specs.declared.faults.Trouble.TheVariants as trouble
 use Rattle.sector_disk.specs.Cause.{Rose}
 use Rattle.hfs_serving.proofs.Causes.{rig_behind, rig_trouble}
+use Rattle.hfs_serving.proofs.Numbering.{no_trouble}
 use Rattle.hfs_serving.proofs.serving.serve_found.Goals as goal
 
 pub returns-in_err-ready-clause-promises : goal.returns-in_err-ready-clause-promises
@@ -79,3 +80,8 @@ returns-clause-faults g c =
     let s1 = g.R.SectorDisk.state c.ready_image.new.disk in
     let s2 = g.R.SectorDisk.state c.serve_ready.new.rig in
     rig_behind s0 s1 s2 c.ready_image.ensures.cause.later (omega (arith, c.ready_image.ensures.sink.faults)) (Rose (g.S.Source.stream c.args.source.now).faults (g.S.Source.stream c.serve_ready.new.source).faults) c.serve_ready.result c.serve_ready.ensures.faults
+
+pub returns-in_err-ready-clause-many : goal.returns-in_err-ready-clause-many
+returns-in_err-ready-clause-many g c told is =
+    let p = err_from_is_err_and c.from_residual.result c.from_residual.ensures.1 in
+    absurd (no_trouble trouble.Disk p.0 c.from_residual.result p.1 p.2 is)

@@ -12,6 +12,7 @@ use Rattle.std.proofs.Common.{◌≤◌, Err, arith}
 use Rattle.std.proofs.lemmas.Result.{err_from_is_err_and}
 use Rattle.sector_disk.specs.Cause.{Rose}
 use Rattle.hfs_serving.proofs.Causes.{rig_fine, rig_handed, rig_trouble}
+use Rattle.hfs_serving.proofs.Numbering.{no_trouble, too_many}
 use Rattle.hfs_serving.proofs.serving.serve_image.Goals as goal
 
 pub returns-in_err-plan-clause-promises : goal.returns-in_err-plan-clause-promises
@@ -86,3 +87,13 @@ returns-in_ok-serve_found-in-Ok-clause-faults g c =
     let s1 = g.R.SectorDisk.state c.find_image.new.disk in
     let s2 = g.R.SectorDisk.state c.serve_found.new.rig in
     rig_fine s0 s2 s2 (omega (arith, c.find_image.ensures.reads.faults, c.serve_found.ensures.faults.later)) (omega (arith, c.find_image.ensures.reads.sink.faults, c.serve_found.ensures.faults.sink_later)) (Rose (g.S.Source.stream c.args.source.now).faults (g.S.Source.stream c.serve_found.new.source).faults) _
+
+pub returns-in_err-plan-clause-many : goal.returns-in_err-plan-clause-many
+returns-in_err-plan-clause-many g c told is =
+    let p = err_from_is_err_and c.from_residual.result c.from_residual.ensures.1 in
+    absurd (no_trouble _ p.0 c.from_residual.result p.1 p.2 is)
+
+pub returns-in_err-serve_found-in-Ok-clause-many : goal.returns-in_err-serve_found-in-Ok-clause-many
+returns-in_err-serve_found-in-Ok-clause-many g c told is =
+    let p = err_from_is_err_and c.from_residual-in_err-serve_found-in-Ok.result c.from_residual-in_err-serve_found-in-Ok.ensures.1 in
+    c.in_err-serve_found-in-Ok.ensures.many told (too_many _ p.0 c.from_residual-in_err-serve_found-in-Ok.result p.1 p.2 is)

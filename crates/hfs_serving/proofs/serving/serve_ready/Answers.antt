@@ -15,6 +15,7 @@ use Rattle.sector_disk.specs.Cause.{Rose}
 use Rattle.jnl_store.specs.Spaces.{over}
 use Rattle.hfs_serving.specs.Faults.{RigFaults}
 use Rattle.hfs_serving.proofs.Causes.{behind_stop, counts_none, handed_stop, rig_from, rig_memory}
+use Rattle.hfs_serving.proofs.Numbering.{no_memory, no_trouble}
 use Rattle.hfs_serving.proofs.serving.serve_ready.Goals as goal
 
 pub returns-in_err-store-clause-stretch : goal.returns-in_err-store-clause-stretch
@@ -143,3 +144,13 @@ returns-clause-faults g c =
     subst (λ (r : g.row.R.Denot). RigFaults d0 (g.R.SectorDisk.state r) source c.run.result) (sym rig_is)
     (rig_from d0 (g.R.SectorDisk.state last.disk.now) (over c.store-3-1.given.0 c.base-1.given c.in_ok-store.store d0) (seen g.R.SectorDisk.state last) refl refl refl refl (c.in_ok-store.ensures disk c.requires.fits).no_fault
     (behind_stop c.attach_volume.ensures.faults.counts source source c.run.result (λ rose. rose) c.run.ensures.faults))
+
+pub returns-in_err-store-clause-many : goal.returns-in_err-store-clause-many
+returns-in_err-store-clause-many g c told is =
+    let p = err_from_is_err_and c.from_residual.result c.from_residual.ensures.1 in
+    absurd (no_memory p.0 c.from_residual.result p.1 p.2 is)
+
+pub returns-in_err-volume-clause-many : goal.returns-in_err-volume-clause-many
+returns-in_err-volume-clause-many g c told is =
+    let p = err_from_is_err_and c.from_residual-in_err-volume.result c.from_residual-in_err-volume.ensures.1 in
+    absurd (no_trouble _ p.0 c.from_residual-in_err-volume.result p.1 p.2 is)

@@ -18,10 +18,12 @@ invariant-loop-lines g l =
       tells : (g.G.SectorView.space l.base).tells ≡ (g.G.SectorView.space l.fn.base).tells;
       serves : (capacity : ℕ) → g.G.Ground.serves l.fn.base capacity → g.G.Ground.taken l.fn.base ≤ capacity → g.G.Ground.serves l.base capacity × (g.G.Ground.taken l.base ≤ capacity);
       nothing : (capacity : ℕ) → g.G.Ground.serves l.fn.base capacity → g.G.Ground.taken l.fn.base ≡ 0 → g.G.Ground.taken l.base ≡ 0;
+      fits : length l.lines.items ≤ l.left;
+      most : length l.lines.items ≤ 32;
       on : On l.fn.input (g.S.Source.stream l.fn.source) l.lines.items l.input (g.S.Source.stream l.source)
-          (λ count texts. IsTrue (g.G.SectorView.space l.fn.base).tells → (capacity : ℕ) (start : Content) (shrunk : Option ℕ)
+          (λ count texts. (count + l.left ≡ 4294967295) × (IsTrue (g.G.SectorView.space l.fn.base).tells → (capacity : ℕ) (start : Content) (shrunk : Option ℕ)
           → Stands (g.V.Volume.knows l.fn.volume (g.G.SectorView.space l.fn.base) capacity) start start shrunk (g.G.SectorView.space l.fn.base) (g.G.Ground.outside l.fn.base)
-          → ServesStep count capacity (g.V.Volume.knows l.volume (g.G.SectorView.space l.base) capacity) start shrunk (g.G.Ground.outside l.fn.base) texts (g.G.SectorView.space l.base) (g.G.Ground.outside l.base));
+          → ServesStep count capacity (g.V.Volume.knows l.volume (g.G.SectorView.space l.base) capacity) start shrunk (g.G.Ground.outside l.fn.base) texts (g.G.SectorView.space l.base) (g.G.Ground.outside l.base)));
     }
 
 abbrev pub decreases-loop-lines : goal.decreases-loop-lines

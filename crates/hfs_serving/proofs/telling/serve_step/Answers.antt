@@ -6,6 +6,7 @@ use Rattle.hfs_serving.proofs.Going.{on_err}
 use Rattle.hfs_serving.proofs.Stepping.{step_serves, step_stops, step_tells_partly}
 use Rattle.std.proofs.lemmas.Result.{err_from_is_err_and}
 use Rattle.hfs_serving.proofs.Causes.{counts_both, counts_none, fine_stop, handed_stop, sink_stop}
+use Rattle.hfs_serving.proofs.Numbering.{no_trouble}
 use Rattle.hfs_serving.proofs.telling.serve_step.Goals as goal
 
 pub returns-in_err-count-clause-stops : goal.returns-in_err-count-clause-stops
@@ -55,3 +56,14 @@ returns-in-Ok-clause-faults g c =
 pub returns-clause-faults : goal.returns-clause-faults
 returns-clause-faults g c =
     sink_stop c.serve_batch.ensures.faults.counts c.tell_all.ensures.counts c.in-Err.ensures.cause.failed
+
+pub returns-in_err-count-clause-no_many : goal.returns-in_err-count-clause-no_many
+returns-in_err-count-clause-no_many g c =
+    let p = err_from_is_err_and c.from_residual.result c.from_residual.ensures.1 in
+    no_trouble _ p.0 c.from_residual.result p.1 p.2
+
+pub returns-in-Ok-clause-no_many : goal.returns-in-Ok-clause-no_many
+returns-in-Ok-clause-no_many g c is = absurd (cc is)
+
+pub returns-clause-no_many : goal.returns-clause-no_many
+returns-clause-no_many g c is = absurd (cc is)
