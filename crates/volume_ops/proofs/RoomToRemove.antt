@@ -1,6 +1,15 @@
 -- The room for a folder that is removed: for its edits of the catalog, and behind them for the folder above.
-use Rattle.std.proofs.Common.{◌≡◌, ◌<◌, ◌≤◌, ℕ, ◌+◌, ◌-◌, ◌*◌, ◌/◌, ◌^◌, false, List, [], sym, ◌∙◌, ap, subst, arith}
-use Rattle.std.specs.Prelude.{IsTrue}
+use Rattle.std.proofs.Common.{◌≡◌, ◌<◌, ◌≤◌, ℕ, ◌+◌, ◌-◌, ◌*◌, ◌/◌, ◌^◌, Bool, true, false, not, List, [], ◌∷◌, ◌++◌, length, map, refl, sym, ◌∙◌, ap, subst, arith}
+use Rattle.std.specs.Prelude.{◌==◌, IsTrue, if◌then◌else◌}
+use Rattle.std.proofs.lemmas.Bool.{true≢false}
+use Rattle.std.proofs.lemmas.List.{length-map}
+use Rattle.sector_disk.specs.Lists.{Content}
+use Rattle.attributes.specs.Owned.{names_of}
+use Rattle.btree_node.specs.Levels.{Pair}
+use Rattle.hfs_language.specs.declared.reply.ListedName.{ListedName}
+use Rattle.hfs_model.specs.Sorted.{kept}
+use Rattle.hfs_volume.specs.Commands.{DropsAttributes}
+use Rattle.hfs_volume.specs.Records.{Attribute, attribute_of}
 use Rattle.sector_disk.specs.Space.{Space}
 use Rattle.volume_header.specs.declared.header.VolumeHeader.{VolumeHeader}
 use Rattle.btree_node.specs.declared.store.TreeShape.{TreeShape}
@@ -8,14 +17,16 @@ use Rattle.btree_edit.specs.Editing.{edit_writes}
 use Rattle.btree_edit.specs.Edits.{EditRoom, TakesAtMost, TakesEdits}
 use Rattle.btree_file.specs.State.{state_of}
 use Rattle.hfs_volume.specs.Cost.{catalog_key, growth, is_too_deep, tree_load}
-use Rattle.hfs_volume.specs.Content.{TreeFacts, VolumeState}
+use Rattle.hfs_volume.specs.Content.{TreeFacts, VolumeState, volume_of}
 use Rattle.hfs_volume.specs.Weight.{cost_of_tree}
 use Rattle.tree_weights.specs.Weights.{EditsHaveRoom, EditsTakeTheirLoad}
 use Rattle.volume_ops.specs.Changing.{HasRoomToUpdate}
-use Rattle.volume_ops.specs.Lists.{facts_on}
+use Rattle.volume_ops.specs.Lists.{facts_on, lists_of}
 use Rattle.volume_ops.specs.Looking.{ReadsVolume}
 use Rattle.volume_ops.specs.Making.{HasRoomToMake, entry_load}
-use Rattle.volume_ops.specs.Removing.{HasRoomToRemove, remove_load}
+use Rattle.volume_ops.specs.Owning.{attributes_in, listed_name}
+use Rattle.volume_ops.specs.Removing.{HasNoAttributes, HasRoomToRemove, remove_load}
+use Rattle.volume_ops.specs.Standing.{IsSettled}
 use Rattle.volume_ops.specs.declared.volume.Volume.{Volume}
 use Rattle.volume_ops.proofs.MakeRoom.{load_still, room_behind, room_for_entry, spent_entry}
 use Rattle.volume_ops.proofs.Still.{lists_still}
@@ -58,3 +69,29 @@ module _ (v w : Volume) (a b : Space) (reads : ReadsVolume v w a b) where
         subst (λ (k : TreeShape × ℕ). (k.0.depth + 3 ≤ 11) × (k.0.leaf_records + 3 ≤ 2 ^ 32 - 1) × (3 * (k.0.depth + 4) ≤ k.0.free) × (3 * edit_writes (k.0.depth + 3) * (k.0.node_size / 512) + 1 ≤ k.1))
         {x = (v.catalog.file.shape, a.spare)} {y = (w.catalog.file.shape, b.spare)} (λ i. (sym reads.keeps.catalog.file.shape i, sym reads.looks.spare i)) (was.untold (sym reads.looks.same.tells ∙ silent));
   }
+
+-- ---- a folder of whose attributes none is listed has none
+
+kept_whole : (id : ℕ) (pairs : List Pair) → names_of id pairs ≡ [] → pairs ≡ kept (λ pair. not ((attribute_of pair).id == id)) pairs
+kept_whole id [] none = refl
+kept_whole id (pair ∷ pairs) none = by ((attribute_of pair).id == id) (kept_whole id pairs) none
+  where
+    is_nil : List (List ℕ) → Bool
+    is_nil [] = true
+    is_nil (name ∷ names) = false
+
+    by : (b : Bool) → (names_of id pairs ≡ [] → pairs ≡ kept (λ p. not ((attribute_of p).id == id)) pairs) → map (λ (attribute : Attribute). attribute.name) ((if b then attribute_of pair ∷ [] else []) ++ kept (λ attribute. attribute.id == id) (map attribute_of pairs)) ≡ []
+        → pair ∷ pairs ≡ (if not b then pair ∷ [] else []) ++ kept (λ p. not ((attribute_of p).id == id)) pairs
+    by true others listed = absurd (true≢false (sym (ap is_nil listed)))
+    by false others listed = ap (λ (l : List Pair). pair ∷ l) (others listed)
+
+pub none_owned : (v : Volume) (content : Content) → IsSettled v content → (id : ℕ) (list : List ListedName) → list ≡ attributes_in (lists_of v content).attribute_pairs id → length list ≡ 0 → HasNoAttributes id (volume_of content).attribute_pairs
+none_owned v content settled id list listed none =
+    let same = ap (λ (l : VolumeState). l.attribute_pairs) settled.lists in
+    subst (λ (l : List Pair). DropsAttributes id l l) (sym same)
+    (kept_whole id (lists_of v content).attribute_pairs
+    (empty_list (names_of id (lists_of v content).attribute_pairs) (sym (length-map (names_of id (lists_of v content).attribute_pairs) listed_name) ∙ ap (λ (l : List ListedName). length l) (sym listed) ∙ none)))
+  where
+    empty_list : (l : List (List ℕ)) → length l ≡ 0 → l ≡ []
+    empty_list [] is = refl
+    empty_list (x ∷ xs) is = absurd (omega (arith, is))

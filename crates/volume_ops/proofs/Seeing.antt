@@ -109,6 +109,11 @@ cause_before : {T U : Type 0} (t : Trouble) (before mid now : ℕ) → before �
 cause_before Disk before mid now earlier cause = record { later = omega (arith, earlier, cause.later); failed = omega (arith, earlier, cause.failed) }
 cause_before Memory before mid now earlier cause = record { later = omega (arith, earlier, cause.later); failed = tt }
 
+-- the cause of a call is that of what it ends with, where what came before only read
+pub cause_since : {T : Type 0} (before mid now : ℕ) (result : Result T Trouble) → before ≤ mid → HasTroubleCause mid now result → HasTroubleCause before now result
+cause_since before mid now (Ok answer) earlier cause = record { later = omega (arith, earlier, cause.later); failed = tt }
+cause_since {T} before mid now (Err trouble) earlier cause = cause_before {T = T} {U = T} trouble before mid now earlier cause
+
 -- the cause of a call is that of what it hands on, where its calls before have answered
 pub cause_on : {T U : Type 0} (t y : Trouble) (before mid now : ℕ) (q : Result U Trouble) → q ≡ Err y → y ≡ t → before ≤ mid → HasTroubleCause {T = T} mid now (Err t) → HasTroubleCause before now q
 cause_on {T} {U} t y before mid now q given same earlier cause =

@@ -52,10 +52,6 @@ pub record IsLeaving (tree : PlainTree) (at : Leaving) (name : List ℕ) : Type 
 abbrev pub HasNoAttributes : ℕ → List Pair → Type 0
 HasNoAttributes id pairs = DropsAttributes id pairs pairs
 
--- the folder that a path names for its removal has none
-abbrev pub IsBare : PlainTree → List (List ℕ) → List Pair → Type 0
-IsBare tree path pairs = (entry : PlainEntry) → to_rmdir tree path ≡ Ok entry → HasNoAttributes entry.id pairs
-
 -- ---- the room
 
 -- the sectors that a removed folder takes at most: the header's, a node for the folder above, and those of its edits

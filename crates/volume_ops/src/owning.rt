@@ -214,7 +214,7 @@ impl Volume {
     }
 
     /// The names of the attributes of a folder or file; a volume without an attributes file has none.
-    fn tell_attributes<P: SectorSpace>(
+    pub(crate) fn tell_attributes<P: SectorSpace>(
         &mut self,
         alloc: Global,
         space: &mut P,

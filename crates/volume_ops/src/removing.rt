@@ -20,7 +20,7 @@ ghost use Rattle.volume_ops.specs.Changing.{HasRoomToUpdate, PutsHeader};
 ghost use Rattle.volume_ops.specs.Lists.{lists_of};
 ghost use Rattle.volume_ops.specs.Looking.{IsCatalogOver, ReadsTree, ReadsVolume};
 ghost use Rattle.volume_ops.specs.Making.{entry_load, path_to};
-ghost use Rattle.volume_ops.specs.Removing.{DropsFolder, HasNoAttributes, HasRoomToRemove, IsBare, IsLeaving, folder_at, leaving_under, remove_load, to_leave};
+ghost use Rattle.volume_ops.specs.Removing.{DropsFolder, HasNoAttributes, HasRoomToRemove, IsLeaving, folder_at, leaving_under, remove_load, to_leave};
 ghost use Rattle.volume_ops.specs.Room.{capacity_of};
 ghost use Rattle.volume_ops.specs.Service.{IsInService};
 ghost use Rattle.volume_ops.specs.Standing.{IsSettled, StandsOver, own_sectors};
@@ -190,6 +190,37 @@ impl Volume {
         self.touch(alloc, space, at.parent, 0, 1)
     }
 
+    /// Removes a folder without entries, where it has no attributes. Where it has some, which are not removed yet, `Memory` is
+    /// answered before anything was put.
+    fn remove_bare<P: SectorSpace>(
+        &mut self,
+        alloc: Global,
+        space: &mut P,
+        at: Leaving,
+        name: &Units,
+    ) -> Result<(), Trouble>
+        requires stands { StandsOver self.old (P.SectorView.space space.old) }
+        requires settled { IsTrue (P.SectorView.space space.old).tells → IsSettled self.old (P.SectorView.space space.old).content }
+        requires some { 1 ≤ length name.now }
+        requires name { length name.now ≤ 255 }
+        requires leaving { IsTrue (P.SectorView.space space.old).tells → IsLeaving (tree_of (P.SectorView.space space.old).content) at name.now }
+        requires room { HasRoomToRemove self.old (P.SectorView.space space.old) }
+        ensures stands { OnOk result (StandsOver self.new (P.SectorView.space space.new)) }
+        ensures service { IsInService self.new (P.SectorView.space space.new) }
+        ensures does { IsTrue (P.SectorView.space space.old).tells
+            → OnOk result (IsSettled self.new (P.SectorView.space space.new).content × (tree_of (P.SectorView.space space.new).content ≡ removed_folder (folder_at at name.now) (tree_of (P.SectorView.space space.old).content))) }
+        ensures touches { (committed : Content) → Touches committed (λ s. Contains (own_sectors self.old) s) (P.SectorView.space space.old) (P.SectorView.space space.new) }
+        ensures spent { IsTrue (P.SectorView.space space.old).tells → (P.SectorView.space space.old).spare ≤ (P.SectorView.space space.new).spare + remove_load self.old }
+        ensures below { P.SectorView.follows space.old space.new }
+        ensures cause { HasTroubleCause (P.SectorView.space space.old).faults (P.SectorView.space space.new).faults result }
+    {
+        let owned = self.tell_attributes(alloc, space, at.id)?;
+        if !owned.is_empty() {
+            return Err(Trouble::Memory);
+        }
+        self.remove_folder(alloc, space, at, name)
+    }
+
     /// The folder of this name in the folder that a path reaches, if it may be removed; or the first reason against it.
     fn leaving<P: SectorSpace>(
         &mut self,
@@ -231,7 +262,6 @@ impl Volume {
         requires settled { IsTrue (P.SectorView.space space.old).tells → IsSettled self.old (P.SectorView.space space.old).content }
         requires fits { FitsPath (path_to above.now name.now) }
         requires not_own { is_private_path (path_to above.now name.now) ≡ false }
-        requires bare { IsTrue (P.SectorView.space space.old).tells → IsBare (tree_of (P.SectorView.space space.old).content) (path_to above.now name.now) (volume_of (P.SectorView.space space.old).content).attribute_pairs }
         requires room { HasRoomToRemove self.old (P.SectorView.space space.old) }
         ensures reply { IsTrue (P.SectorView.space space.old).tells → IfOk result (λ reply. reply ≡ (step_line (tree_of (P.SectorView.space space.old).content) (Ok (command.Rmdir (path_to above.now name.now)))).0) }
         ensures tree { IsTrue (P.SectorView.space space.old).tells → OnOk result (tree_of (P.SectorView.space space.new).content ≡ (step_line (tree_of (P.SectorView.space space.old).content) (Ok (command.Rmdir (path_to above.now name.now)))).1) }
@@ -249,7 +279,7 @@ impl Volume {
         sound_has_plain_tree();
         match self.leaving(alloc, space, above, name)? {
             Ok(at) => {
-                self.remove_folder(alloc, space, at, name)?;
+                self.remove_bare(alloc, space, at, name)?;
                 Ok(Reply::Ok)
             }
             Err(why) => Ok(Reply::No(why)),
@@ -258,7 +288,7 @@ impl Volume {
 
     /// `rmdir`: removes the folder at a path, which has no entries; or tells the first reason against it. A path that begins
     /// with a name of the volume's own is refused. A refused command changes nothing. `Memory` comes where memory is wanting,
-    /// `Disk` where a read failed.
+    /// and, with nothing put, where the folder has attributes, which are not removed yet; `Disk` where a read failed.
     pub fn rmdir<P: SectorSpace>(
         &mut self,
         alloc: Global,
@@ -268,8 +298,6 @@ impl Volume {
         requires stands { StandsOver self.old (P.SectorView.space space.old) }
         requires settled { IsTrue (P.SectorView.space space.old).tells → IsSettled self.old (P.SectorView.space space.old).content }
         requires fits { FitsPath path.now }
-        // The folder has no attributes: these aren't removed yet.
-        requires bare { IsTrue (P.SectorView.space space.old).tells → IsBare (tree_of (P.SectorView.space space.old).content) path.now (volume_of (P.SectorView.space space.old).content).attribute_pairs }
         // There is room for what it puts; the catalog needn't grow before.
         requires room { HasRoomToRemove self.old (P.SectorView.space space.old) }
         // Told, reply and tree are those of the plain tree's step.

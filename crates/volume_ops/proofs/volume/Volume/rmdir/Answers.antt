@@ -8,7 +8,6 @@ use Rattle.hfs_volume.specs.Content.{volume_of}
 use Rattle.hfs_volume.specs.TreeOf.{tree_of}
 use Rattle.hfs_volume.specs.Weight.{weight}
 use Rattle.hfs_volume.specs.declared.cost.Cost.TheVariants as cost
-use Rattle.volume_ops.specs.Removing.{IsBare}
 use Rattle.volume_ops.proofs.Commanding.{touches_none}
 use Rattle.volume_ops.proofs.Leaving.{private_line, root_line}
 use Rattle.volume_ops.proofs.volume.Volume.rmdir.Goals as goal
@@ -56,10 +55,6 @@ returns-then-is_private_path-clause-touches g c committed = touches_none committ
 
 pub returns-then-is_private_path-clause-service : goal.returns-then-is_private_path-clause-service
 returns-then-is_private_path-clause-service g c = c.requires.stands.service
-
-pub rmdir_under-requires-clause-bare : goal.rmdir_under-requires-clause-bare
-rmdir_under-requires-clause-bare g c tells =
-    subst (λ (p : List (List ℕ)). IsBare (tree_of (g.P.SectorView.space c.args.space.now).content) p (volume_of (g.P.SectorView.space c.args.space.now).content).attribute_pairs) (sym (sym c.in-Some.ensures.cases.0 ∙ c.as_slice.ensures)) (c.requires.bare tells)
 
 pub returns-in-Some-clause-loads : goal.returns-in-Some-clause-loads
 returns-in-Some-clause-loads g c tells n grow =

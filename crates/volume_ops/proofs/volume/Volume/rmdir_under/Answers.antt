@@ -4,9 +4,8 @@ use Rattle.std.proofs.lemmas.Bool.{true≢false}
 use Rattle.sector_disk.specs.Lists.{Content}
 use Rattle.hfs_model.specs.Step.{removed_folder}
 use Rattle.hfs_volume.specs.TreeOf.{tree_of}
-use Rattle.hfs_volume.specs.Content.{volume_of}
 use Rattle.volume_ops.specs.Making.{path_to}
-use Rattle.volume_ops.specs.Removing.{HasNoAttributes, IsLeaving, folder_at}
+use Rattle.volume_ops.specs.Removing.{IsLeaving, folder_at}
 use Rattle.volume_ops.specs.Touching.{Touches}
 use Rattle.volume_ops.proofs.Commanding.{touches_looks, touches_both}
 use Rattle.volume_ops.proofs.Leaving.{is_leaving, leaving_refused, leaving_told, refused_line, removed_line}
@@ -22,61 +21,61 @@ leaving-requires-clause-fits g c = fits_above c.args.above.now c.args.name.now c
 pub leaving-requires-clause-name : goal.leaving-requires-clause-name
 leaving-requires-clause-name g c = (fits_name c.args.above.now c.args.name.now c.requires.fits).short
 
-pub remove_folder-requires-clause-settled : goal.remove_folder-requires-clause-settled
-remove_folder-requires-clause-settled g c tells = c.leaving.ensures.settled (sym c.leaving.ensures.reads.looks.same.tells ∙ tells)
+pub remove_bare-requires-clause-settled : goal.remove_bare-requires-clause-settled
+remove_bare-requires-clause-settled g c tells = c.leaving.ensures.settled (sym c.leaving.ensures.reads.looks.same.tells ∙ tells)
 
-pub remove_folder-requires-clause-some : goal.remove_folder-requires-clause-some
-remove_folder-requires-clause-some g c = (fits_name c.args.above.now c.args.name.now c.requires.fits).some
+pub remove_bare-requires-clause-some : goal.remove_bare-requires-clause-some
+remove_bare-requires-clause-some g c = (fits_name c.args.above.now c.args.name.now c.requires.fits).some
 
-pub remove_folder-requires-clause-name : goal.remove_folder-requires-clause-name
-remove_folder-requires-clause-name g c = (fits_name c.args.above.now c.args.name.now c.requires.fits).short
+pub remove_bare-requires-clause-name : goal.remove_bare-requires-clause-name
+remove_bare-requires-clause-name g c = (fits_name c.args.above.now c.args.name.now c.requires.fits).short
 
-pub remove_folder-requires-clause-leaving : goal.remove_folder-requires-clause-leaving
-remove_folder-requires-clause-leaving g c tells =
+pub remove_bare-requires-clause-leaving : goal.remove_bare-requires-clause-leaving
+remove_bare-requires-clause-leaving g c tells =
     let before = sym c.leaving.ensures.reads.looks.same.tells ∙ tells in
     subst (λ (k : Content). IsLeaving (tree_of k) c.in-Ok.at c.args.name.now) (sym (c.leaving.ensures.reads.looks.content before))
     (is_leaving c.sound_has_plain_tree.ensures c.args.self.now (g.P.SectorView.space c.args.space.now).content (c.requires.stands.stands before).trees (c.requires.settled before) c.args.above.now c.args.name.now c.requires.not_own c.requires.fits c.in_ok-at.field-0 (c.in_ok-at.ensures.found before) c.in-Ok.at c.in-Ok.is)
 
-pub remove_folder-requires-clause-room : goal.remove_folder-requires-clause-room
-remove_folder-requires-clause-room g c = remove_room_still c.args.self.now c.leaving.new.self (g.P.SectorView.space c.args.space.now) (g.P.SectorView.space c.leaving.new.space) c.leaving.ensures.reads c.requires.room
+pub remove_bare-requires-clause-room : goal.remove_bare-requires-clause-room
+remove_bare-requires-clause-room g c = remove_room_still c.args.self.now c.leaving.new.self (g.P.SectorView.space c.args.space.now) (g.P.SectorView.space c.leaving.new.space) c.leaving.ensures.reads c.requires.room
 
-pub returns-in_ok-remove_folder-in-Ok-clause-reply : goal.returns-in_ok-remove_folder-in-Ok-clause-reply
-returns-in_ok-remove_folder-in-Ok-clause-reply g c tells =
+pub returns-in_ok-remove_bare-in-Ok-clause-reply : goal.returns-in_ok-remove_bare-in-Ok-clause-reply
+returns-in_ok-remove_bare-in-Ok-clause-reply g c tells =
     (removed_line (tree_of (g.P.SectorView.space c.args.space.now).content) (path_to c.args.above.now c.args.name.now) (folder_at c.in-Ok.at c.args.name.now) c.requires.not_own (leaving_told c.sound_has_plain_tree.ensures c.args.self.now (g.P.SectorView.space c.args.space.now).content (c.requires.stands.stands tells).trees (c.requires.settled tells) c.args.above.now c.args.name.now c.requires.not_own c.requires.fits c.in_ok-at.field-0 (c.in_ok-at.ensures.found tells) c.in-Ok.at c.in-Ok.is)).0
 
-pub returns-in_ok-remove_folder-in-Ok-clause-tree : goal.returns-in_ok-remove_folder-in-Ok-clause-tree
-returns-in_ok-remove_folder-in-Ok-clause-tree g c tells =
-    (c.in_ok-remove_folder-in-Ok.ensures.does (c.leaving.ensures.reads.looks.same.tells ∙ tells)).1
+pub returns-in_ok-remove_bare-in-Ok-clause-tree : goal.returns-in_ok-remove_bare-in-Ok-clause-tree
+returns-in_ok-remove_bare-in-Ok-clause-tree g c tells =
+    (c.in_ok-remove_bare-in-Ok.ensures.does (c.leaving.ensures.reads.looks.same.tells ∙ tells)).1
     ∙ ap (λ (k : Content). removed_folder (folder_at c.in-Ok.at c.args.name.now) (tree_of k)) (c.leaving.ensures.reads.looks.content tells)
     ∙ (removed_line (tree_of (g.P.SectorView.space c.args.space.now).content) (path_to c.args.above.now c.args.name.now) (folder_at c.in-Ok.at c.args.name.now) c.requires.not_own (leaving_told c.sound_has_plain_tree.ensures c.args.self.now (g.P.SectorView.space c.args.space.now).content (c.requires.stands.stands tells).trees (c.requires.settled tells) c.args.above.now c.args.name.now c.requires.not_own c.requires.fits c.in_ok-at.field-0 (c.in_ok-at.ensures.found tells) c.in-Ok.at c.in-Ok.is)).1
 
-pub returns-in_ok-remove_folder-in-Ok-clause-settled : goal.returns-in_ok-remove_folder-in-Ok-clause-settled
-returns-in_ok-remove_folder-in-Ok-clause-settled g c tells = (c.in_ok-remove_folder-in-Ok.ensures.does (c.leaving.ensures.reads.looks.same.tells ∙ tells)).0
+pub returns-in_ok-remove_bare-in-Ok-clause-settled : goal.returns-in_ok-remove_bare-in-Ok-clause-settled
+returns-in_ok-remove_bare-in-Ok-clause-settled g c tells = (c.in_ok-remove_bare-in-Ok.ensures.does (c.leaving.ensures.reads.looks.same.tells ∙ tells)).0
 
-pub returns-in_ok-remove_folder-in-Ok-clause-refused : goal.returns-in_ok-remove_folder-in-Ok-clause-refused
-returns-in_ok-remove_folder-in-Ok-clause-refused g c tells is = absurd (true≢false (sym is))
+pub returns-in_ok-remove_bare-in-Ok-clause-refused : goal.returns-in_ok-remove_bare-in-Ok-clause-refused
+returns-in_ok-remove_bare-in-Ok-clause-refused g c tells is = absurd (true≢false (sym is))
 
-pub returns-in_ok-remove_folder-in-Ok-clause-touches : goal.returns-in_ok-remove_folder-in-Ok-clause-touches
-returns-in_ok-remove_folder-in-Ok-clause-touches g c committed =
-    touches_both committed _ (g.P.SectorView.space c.args.space.now) (g.P.SectorView.space c.leaving.new.space) (g.P.SectorView.space c.remove_folder.new.space) (touches_looks committed _ (g.P.SectorView.space c.args.space.now) (g.P.SectorView.space c.leaving.new.space) c.leaving.ensures.reads.looks)
-    (subst (λ (l : List ℕ). Touches committed (λ s. Contains l s) (g.P.SectorView.space c.leaving.new.space) (g.P.SectorView.space c.remove_folder.new.space)) (own_still c.args.self.now c.leaving.new.self (g.P.SectorView.space c.args.space.now) (g.P.SectorView.space c.leaving.new.space) c.leaving.ensures.reads) (c.remove_folder.ensures.touches committed))
+pub returns-in_ok-remove_bare-in-Ok-clause-touches : goal.returns-in_ok-remove_bare-in-Ok-clause-touches
+returns-in_ok-remove_bare-in-Ok-clause-touches g c committed =
+    touches_both committed _ (g.P.SectorView.space c.args.space.now) (g.P.SectorView.space c.leaving.new.space) (g.P.SectorView.space c.remove_bare.new.space) (touches_looks committed _ (g.P.SectorView.space c.args.space.now) (g.P.SectorView.space c.leaving.new.space) c.leaving.ensures.reads.looks)
+    (subst (λ (l : List ℕ). Touches committed (λ s. Contains l s) (g.P.SectorView.space c.leaving.new.space) (g.P.SectorView.space c.remove_bare.new.space)) (own_still c.args.self.now c.leaving.new.self (g.P.SectorView.space c.args.space.now) (g.P.SectorView.space c.leaving.new.space) c.leaving.ensures.reads) (c.remove_bare.ensures.touches committed))
 
-pub returns-in_ok-remove_folder-in-Ok-clause-below : goal.returns-in_ok-remove_folder-in-Ok-clause-below
-returns-in_ok-remove_folder-in-Ok-clause-below g c = g.met.P.SectorView.follows_trans c.args.space.now c.leaving.new.space c.remove_folder.new.space c.leaving.ensures.below c.remove_folder.ensures.below
+pub returns-in_ok-remove_bare-in-Ok-clause-below : goal.returns-in_ok-remove_bare-in-Ok-clause-below
+returns-in_ok-remove_bare-in-Ok-clause-below g c = g.met.P.SectorView.follows_trans c.args.space.now c.leaving.new.space c.remove_bare.new.space c.leaving.ensures.below c.remove_bare.ensures.below
 
-pub returns-in_ok-remove_folder-in-Ok-clause-spent : goal.returns-in_ok-remove_folder-in-Ok-clause-spent
-returns-in_ok-remove_folder-in-Ok-clause-spent g c tells = omega (arith, c.leaving.ensures.reads.looks.spare, c.remove_folder.ensures.spent (c.leaving.ensures.reads.looks.same.tells ∙ tells), remove_load_still c.args.self.now c.leaving.new.self (g.P.SectorView.space c.args.space.now) (g.P.SectorView.space c.leaving.new.space) c.leaving.ensures.reads tells)
+pub returns-in_ok-remove_bare-in-Ok-clause-spent : goal.returns-in_ok-remove_bare-in-Ok-clause-spent
+returns-in_ok-remove_bare-in-Ok-clause-spent g c tells = omega (arith, c.leaving.ensures.reads.looks.spare, c.remove_bare.ensures.spent (c.leaving.ensures.reads.looks.same.tells ∙ tells), remove_load_still c.args.self.now c.leaving.new.self (g.P.SectorView.space c.args.space.now) (g.P.SectorView.space c.leaving.new.space) c.leaving.ensures.reads tells)
 
-pub returns-in_err-remove_folder-in-Ok-clause-touches : goal.returns-in_err-remove_folder-in-Ok-clause-touches
-returns-in_err-remove_folder-in-Ok-clause-touches g c committed =
-    touches_both committed _ (g.P.SectorView.space c.args.space.now) (g.P.SectorView.space c.leaving.new.space) (g.P.SectorView.space c.remove_folder.new.space) (touches_looks committed _ (g.P.SectorView.space c.args.space.now) (g.P.SectorView.space c.leaving.new.space) c.leaving.ensures.reads.looks)
-    (subst (λ (l : List ℕ). Touches committed (λ s. Contains l s) (g.P.SectorView.space c.leaving.new.space) (g.P.SectorView.space c.remove_folder.new.space)) (own_still c.args.self.now c.leaving.new.self (g.P.SectorView.space c.args.space.now) (g.P.SectorView.space c.leaving.new.space) c.leaving.ensures.reads) (c.remove_folder.ensures.touches committed))
+pub returns-in_err-remove_bare-in-Ok-clause-touches : goal.returns-in_err-remove_bare-in-Ok-clause-touches
+returns-in_err-remove_bare-in-Ok-clause-touches g c committed =
+    touches_both committed _ (g.P.SectorView.space c.args.space.now) (g.P.SectorView.space c.leaving.new.space) (g.P.SectorView.space c.remove_bare.new.space) (touches_looks committed _ (g.P.SectorView.space c.args.space.now) (g.P.SectorView.space c.leaving.new.space) c.leaving.ensures.reads.looks)
+    (subst (λ (l : List ℕ). Touches committed (λ s. Contains l s) (g.P.SectorView.space c.leaving.new.space) (g.P.SectorView.space c.remove_bare.new.space)) (own_still c.args.self.now c.leaving.new.self (g.P.SectorView.space c.args.space.now) (g.P.SectorView.space c.leaving.new.space) c.leaving.ensures.reads) (c.remove_bare.ensures.touches committed))
 
-pub returns-in_err-remove_folder-in-Ok-clause-below : goal.returns-in_err-remove_folder-in-Ok-clause-below
-returns-in_err-remove_folder-in-Ok-clause-below g c = g.met.P.SectorView.follows_trans c.args.space.now c.leaving.new.space c.remove_folder.new.space c.leaving.ensures.below c.remove_folder.ensures.below
+pub returns-in_err-remove_bare-in-Ok-clause-below : goal.returns-in_err-remove_bare-in-Ok-clause-below
+returns-in_err-remove_bare-in-Ok-clause-below g c = g.met.P.SectorView.follows_trans c.args.space.now c.leaving.new.space c.remove_bare.new.space c.leaving.ensures.below c.remove_bare.ensures.below
 
-pub returns-in_err-remove_folder-in-Ok-clause-spent : goal.returns-in_err-remove_folder-in-Ok-clause-spent
-returns-in_err-remove_folder-in-Ok-clause-spent g c tells = omega (arith, c.leaving.ensures.reads.looks.spare, c.remove_folder.ensures.spent (c.leaving.ensures.reads.looks.same.tells ∙ tells), remove_load_still c.args.self.now c.leaving.new.self (g.P.SectorView.space c.args.space.now) (g.P.SectorView.space c.leaving.new.space) c.leaving.ensures.reads tells)
+pub returns-in_err-remove_bare-in-Ok-clause-spent : goal.returns-in_err-remove_bare-in-Ok-clause-spent
+returns-in_err-remove_bare-in-Ok-clause-spent g c tells = omega (arith, c.leaving.ensures.reads.looks.spare, c.remove_bare.ensures.spent (c.leaving.ensures.reads.looks.same.tells ∙ tells), remove_load_still c.args.self.now c.leaving.new.self (g.P.SectorView.space c.args.space.now) (g.P.SectorView.space c.leaving.new.space) c.leaving.ensures.reads tells)
 
 pub returns-in-Err-clause-reply : goal.returns-in-Err-clause-reply
 returns-in-Err-clause-reply g c tells =
@@ -108,29 +107,23 @@ returns-in_err-at-clause-spent g c tells = omega (arith, c.leaving.ensures.reads
 pub returns-in_err-at-clause-service : goal.returns-in_err-at-clause-service
 returns-in_err-at-clause-service g c = c.leaving.ensures.stands.service
 
-pub remove_folder-requires-clause-bare : goal.remove_folder-requires-clause-bare
-remove_folder-requires-clause-bare g c tells =
-    let before = sym c.leaving.ensures.reads.looks.same.tells ∙ tells in
-    subst (λ (k : Content). HasNoAttributes c.in-Ok.at.id (volume_of k).attribute_pairs) (sym (c.leaving.ensures.reads.looks.content (sym c.leaving.ensures.reads.looks.same.tells ∙ tells)))
-    (c.requires.bare before (folder_at c.in-Ok.at c.args.name.now) (leaving_told c.sound_has_plain_tree.ensures c.args.self.now (g.P.SectorView.space c.args.space.now).content (c.requires.stands.stands before).trees (c.requires.settled before) c.args.above.now c.args.name.now c.requires.not_own c.requires.fits c.in_ok-at.field-0 (c.in_ok-at.ensures.found before) c.in-Ok.at c.in-Ok.is))
-
-pub returns-in_ok-remove_folder-in-Ok-clause-loads : goal.returns-in_ok-remove_folder-in-Ok-clause-loads
-returns-in_ok-remove_folder-in-Ok-clause-loads g c tells n grow is =
+pub returns-in_ok-remove_bare-in-Ok-clause-loads : goal.returns-in_ok-remove_bare-in-Ok-clause-loads
+returns-in_ok-remove_bare-in-Ok-clause-loads g c tells n grow is =
     omega (
       arith,
       c.leaving.ensures.reads.looks.spare,
-      c.remove_folder.ensures.spent (c.leaving.ensures.reads.looks.same.tells ∙ tells),
+      c.remove_bare.ensures.spent (c.leaving.ensures.reads.looks.same.tells ∙ tells),
       remove_load_still c.args.self.now c.leaving.new.self (g.P.SectorView.space c.args.space.now) (g.P.SectorView.space c.leaving.new.space) c.leaving.ensures.reads tells,
       remove_load_told c.args.self.now (g.P.SectorView.space c.args.space.now).content (c.requires.settled tells) (c.requires.room.told tells).2 c.args.self.now.capacity (path_to c.args.above.now c.args.name.now) (tree_of (g.P.SectorView.space c.args.space.now).content) (folder_at c.in-Ok.at c.args.name.now) n grow
           (leaving_told c.sound_has_plain_tree.ensures c.args.self.now (g.P.SectorView.space c.args.space.now).content (c.requires.stands.stands tells).trees (c.requires.settled tells) c.args.above.now c.args.name.now c.requires.not_own c.requires.fits c.in_ok-at.field-0 (c.in_ok-at.ensures.found tells) c.in-Ok.at c.in-Ok.is) is,
     )
 
-pub returns-in_err-remove_folder-in-Ok-clause-loads : goal.returns-in_err-remove_folder-in-Ok-clause-loads
-returns-in_err-remove_folder-in-Ok-clause-loads g c tells n grow is =
+pub returns-in_err-remove_bare-in-Ok-clause-loads : goal.returns-in_err-remove_bare-in-Ok-clause-loads
+returns-in_err-remove_bare-in-Ok-clause-loads g c tells n grow is =
     omega (
       arith,
       c.leaving.ensures.reads.looks.spare,
-      c.remove_folder.ensures.spent (c.leaving.ensures.reads.looks.same.tells ∙ tells),
+      c.remove_bare.ensures.spent (c.leaving.ensures.reads.looks.same.tells ∙ tells),
       remove_load_still c.args.self.now c.leaving.new.self (g.P.SectorView.space c.args.space.now) (g.P.SectorView.space c.leaving.new.space) c.leaving.ensures.reads tells,
       remove_load_told c.args.self.now (g.P.SectorView.space c.args.space.now).content (c.requires.settled tells) (c.requires.room.told tells).2 c.args.self.now.capacity (path_to c.args.above.now c.args.name.now) (tree_of (g.P.SectorView.space c.args.space.now).content) (folder_at c.in-Ok.at c.args.name.now) n grow
           (leaving_told c.sound_has_plain_tree.ensures c.args.self.now (g.P.SectorView.space c.args.space.now).content (c.requires.stands.stands tells).trees (c.requires.settled tells) c.args.above.now c.args.name.now c.requires.not_own c.requires.fits c.in_ok-at.field-0 (c.in_ok-at.ensures.found tells) c.in-Ok.at c.in-Ok.is) is,

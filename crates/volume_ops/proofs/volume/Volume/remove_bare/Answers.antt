@@ -1,0 +1,58 @@
+use Rattle.std.proofs.Common.{◌≡◌, ◌≤◌, ◌+◌, ℕ, List, length, sym, ◌∙◌, ap, subst, arith}
+use Rattle.std.specs.Prelude.{OnOk}
+use Rattle.std.specs.List.{Contains}
+use Rattle.std.proofs.lemmas.Bool.{eqb-true}
+use Rattle.sector_disk.specs.Lists.{Content}
+use Rattle.hfs_model.specs.Step.{removed_folder}
+use Rattle.hfs_volume.specs.Content.{volume_of}
+use Rattle.hfs_volume.specs.TreeOf.{tree_of}
+use Rattle.volume_ops.specs.Removing.{HasNoAttributes, IsLeaving, folder_at}
+use Rattle.volume_ops.specs.Standing.{IsSettled}
+use Rattle.volume_ops.specs.Touching.{Touches}
+use Rattle.volume_ops.proofs.Commanding.{touches_both, touches_looks}
+use Rattle.volume_ops.proofs.RoomToRemove.{none_owned, remove_load_still, remove_room_still}
+use Rattle.volume_ops.proofs.Seeing.{cause_since}
+use Rattle.volume_ops.proofs.Still.{own_still}
+use Rattle.volume_ops.proofs.volume.Volume.remove_bare.Goals as goal
+
+pub remove_folder-requires-clause-settled : goal.remove_folder-requires-clause-settled
+remove_folder-requires-clause-settled g c tells = c.tell_attributes.ensures.settled (sym c.tell_attributes.ensures.reads.looks.same.tells ∙ tells)
+
+pub remove_folder-requires-clause-leaving : goal.remove_folder-requires-clause-leaving
+remove_folder-requires-clause-leaving g c tells =
+    let before = sym c.tell_attributes.ensures.reads.looks.same.tells ∙ tells in
+    subst (λ (k : Content). IsLeaving (tree_of k) c.args.at c.args.name.now) (sym (c.tell_attributes.ensures.reads.looks.content (sym c.tell_attributes.ensures.reads.looks.same.tells ∙ tells))) (c.requires.leaving before)
+
+pub remove_folder-requires-clause-bare : goal.remove_folder-requires-clause-bare
+remove_folder-requires-clause-bare g c tells =
+    let before = sym c.tell_attributes.ensures.reads.looks.same.tells ∙ tells in
+    subst (λ (k : Content). HasNoAttributes c.args.at.id (volume_of k).attribute_pairs) (sym (c.tell_attributes.ensures.reads.looks.content (sym c.tell_attributes.ensures.reads.looks.same.tells ∙ tells)))
+    (none_owned c.args.self.now (g.P.SectorView.space c.args.space.now).content (c.requires.settled before) c.args.at.id _ (c.in_ok-owned.ensures.listed before) (eqb-true (length c.in_ok-owned.owned) 0 (sym c.is_empty.ensures ∙ c.if-not-is_empty.false)))
+
+pub remove_folder-requires-clause-room : goal.remove_folder-requires-clause-room
+remove_folder-requires-clause-room g c = remove_room_still c.args.self.now c.tell_attributes.new.self (g.P.SectorView.space c.args.space.now) (g.P.SectorView.space c.tell_attributes.new.space) c.tell_attributes.ensures.reads c.requires.room
+
+pub returns-clause-does : goal.returns-clause-does
+returns-clause-does g c tells =
+    subst (λ (k : Content). OnOk c.remove_folder.result (IsSettled c.remove_folder.new.self (g.P.SectorView.space c.remove_folder.new.space).content × (tree_of (g.P.SectorView.space c.remove_folder.new.space).content ≡ removed_folder (folder_at c.args.at c.args.name.now) (tree_of k))))
+    (c.tell_attributes.ensures.reads.looks.content tells) (c.remove_folder.ensures.does (c.tell_attributes.ensures.reads.looks.same.tells ∙ tells))
+
+pub returns-clause-touches : goal.returns-clause-touches
+returns-clause-touches g c committed =
+    touches_both committed _ (g.P.SectorView.space c.args.space.now) (g.P.SectorView.space c.tell_attributes.new.space) (g.P.SectorView.space c.remove_folder.new.space) (touches_looks committed _ (g.P.SectorView.space c.args.space.now) (g.P.SectorView.space c.tell_attributes.new.space) c.tell_attributes.ensures.reads.looks)
+    (subst (λ (l : List ℕ). Touches committed (λ s. Contains l s) (g.P.SectorView.space c.tell_attributes.new.space) (g.P.SectorView.space c.remove_folder.new.space)) (own_still c.args.self.now c.tell_attributes.new.self (g.P.SectorView.space c.args.space.now) (g.P.SectorView.space c.tell_attributes.new.space) c.tell_attributes.ensures.reads) (c.remove_folder.ensures.touches committed))
+
+pub returns-clause-spent : goal.returns-clause-spent
+returns-clause-spent g c tells = omega (arith, c.tell_attributes.ensures.reads.looks.spare, c.remove_folder.ensures.spent (c.tell_attributes.ensures.reads.looks.same.tells ∙ tells), remove_load_still c.args.self.now c.tell_attributes.new.self (g.P.SectorView.space c.args.space.now) (g.P.SectorView.space c.tell_attributes.new.space) c.tell_attributes.ensures.reads tells)
+
+pub returns-clause-below : goal.returns-clause-below
+returns-clause-below g c = g.met.P.SectorView.follows_trans c.args.space.now c.tell_attributes.new.space c.remove_folder.new.space c.tell_attributes.ensures.below c.remove_folder.ensures.below
+
+pub returns-in_err-owned-clause-touches : goal.returns-in_err-owned-clause-touches
+returns-in_err-owned-clause-touches g c committed = touches_looks committed _ (g.P.SectorView.space c.args.space.now) (g.P.SectorView.space c.tell_attributes.new.space) c.tell_attributes.ensures.reads.looks
+
+pub returns-then-not-is_empty-clause-touches : goal.returns-then-not-is_empty-clause-touches
+returns-then-not-is_empty-clause-touches g c committed = touches_looks committed _ (g.P.SectorView.space c.args.space.now) (g.P.SectorView.space c.tell_attributes.new.space) c.tell_attributes.ensures.reads.looks
+
+pub returns-clause-cause : goal.returns-clause-cause
+returns-clause-cause g c = cause_since (g.P.SectorView.space c.args.space.now).faults (g.P.SectorView.space c.tell_attributes.new.space).faults (g.P.SectorView.space c.remove_folder.new.space).faults c.remove_folder.result c.tell_attributes.ensures.reads.looks.faults c.remove_folder.ensures.cause
