@@ -28,7 +28,9 @@ pub mod AttributeLaws
 pub mod AllForkLaws
 pub mod Joining
 pub mod ListJoins
+pub mod JudgingLaws
 pub mod ShownLaws
 pub mod OpeningLaws
+pub mod CheckLaws
 pub mod BitsLaws
 pub mod UsedLists

@@ -20,4 +20,5 @@ pub mod AllForks
 pub mod Passed
 pub mod Lists
 pub mod Shown
+pub mod Verdicts
 pub mod UsedExtents

@@ -49,6 +49,6 @@ pub(crate) fn judge_blocks_used(
 {
     let extents = read_used(alloc, lists.sectors, &lists.head, &lists.overflow, forks)?;
     let mut used = no_marks(alloc, lists.head.total_blocks)?;
-    judge_uses(extents.as_slice(), &mut used, out)?;
+    judge_uses(alloc, extents.as_slice(), &mut used, out)?;
     Ok(used)
 }
