@@ -6,6 +6,7 @@ pub mod Bridged
 pub mod Bridging
 pub mod CatalogEdited
 pub mod Chmod
+pub mod CommandWeights
 pub mod Commanding
 pub mod CostSame
 pub mod Counted

@@ -87,7 +87,7 @@ fn find_owned<P: SectorSpace>(
 impl Volume {
     /// Whether a folder or file has more than one attribute; none where it has none of the name, as in a volume without an
     /// attributes file.
-    fn owned<P: SectorSpace>(
+    pub(crate) fn owned<P: SectorSpace>(
         &mut self,
         alloc: Global,
         space: &mut P,

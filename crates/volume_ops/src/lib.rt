@@ -40,5 +40,7 @@ mod touching;
 mod valuing;
 mod volume;
 mod weighing;
+mod weights;
 
 pub use volume::Volume;
+pub use weighing::Weight;

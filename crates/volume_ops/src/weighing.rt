@@ -5,8 +5,9 @@ ghost use Rattle.hfs_volume.specs.Cost.{cost_of};
 ghost use Rattle.hfs_volume.specs.Weight.{room_with};
 ghost use Rattle.volume_cost.specs.Sizes.{AreSmall};
 ghost use Rattle.volume_ops.specs.Room.{capacity_of, free_in};
+ghost use Rattle.volume_ops.specs.declared.room.FreeBlocks.TheVariants as blocks;
 ghost use Rattle.volume_ops.specs.Standing.{IsSettled, StandsOver};
-ghost use Rattle.volume_ops.specs.Weighing.{are_within, is_block, is_measured, needs_asked};
+ghost use Rattle.volume_ops.specs.Weighing.{are_within, edits_weighed, is_block, is_measured, joined, needs_asked};
 
 use crate::room::FreeBlocks;
 use crate::volume::Volume;
@@ -23,6 +24,39 @@ pub(crate) struct Edits {
     pub(crate) catalog: u32,
     pub(crate) attributes: u32,
     pub(crate) updates: u32,
+}
+
+/// What a command needs before its step.
+#[derive(Clone, Copy)]
+pub enum Weight {
+    /// Its step refuses it, or a resource is missing.
+    Refused(Refusal),
+    /// Blocks that were given back are free behind the next commit alone.
+    CommitFirst,
+    /// Its step puts so many sectors at most.
+    Load(u64),
+}
+
+/// What all free blocks cost, and what those cost that may be taken, together.
+fn joined(all: Cost, takable: Cost) -> Weight
+    ensures { result ≡ joined all takable }
+{
+    match all {
+        Cost::Refused(why) => Weight::Refused(why),
+        Cost::Load { grow, .. } => match takable {
+            Cost::Refused(_) => Weight::CommitFirst,
+            Cost::Load {
+                sectors,
+                grow: more,
+            } => {
+                if grow[0] == more[0] {
+                    Weight::Load(sectors)
+                } else {
+                    Weight::CommitFirst
+                }
+            }
+        },
+    }
 }
 
 /// What edits need, where no data is put.
@@ -100,5 +134,17 @@ impl Volume {
             return Cost::Refused(Refusal::NoSpace(0, 0));
         }
         cost(&needs_of(edits), &room)
+    }
+
+    /// What edits weigh: what all free blocks cost, and what those cost that may be taken.
+    pub(crate) fn weigh_edits<P: SectorSpace>(&self, space: &P, edits: Edits) -> Weight
+        requires stands { StandsOver self.now (P.SectorView.space space.now) }
+        requires settled { IsTrue (P.SectorView.space space.now).tells → IsSettled self.now (P.SectorView.space space.now).content }
+        requires tree { IsTrue (P.SectorView.space space.now).tells → 0 < edits.attributes → IsTrue (has_attributes self.now.header) }
+        ensures exact { IsTrue (P.SectorView.space space.now).tells → result ≡ edits_weighed (capacity_of self.now) (free_in blocks.Takable self.now.map) (volume_of (P.SectorView.space space.now).content) edits }
+    {
+        let all = self.cost_of_edits(space, FreeBlocks::All, edits);
+        let takable = self.cost_of_edits(space, FreeBlocks::Takable, edits);
+        joined(all, takable)
     }
 }
