@@ -1,6 +1,6 @@
 //! Power fails after each call of a commit: a mount finds all of the sectors old, or all of them new.
-use crate::Quiet;
 use crate::mounted::Mounted;
+use crate::quiet::Quiet;
 use crate::volumes::{disk_of, volume};
 use hx_bytes::OutOfMemory;
 use mem_disk::{MemImage, MemRig};

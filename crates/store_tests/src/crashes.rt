@@ -50,34 +50,43 @@ fn puts_alone_leave_the_old(rt: HostRuntime) -> Result<(), Fail> {
     Ok(())
 }
 
-// Each list has one sector of header, and the ring has 62 sectors beside the one that stays free.
+// Each list has one sector of header, and the ring has 62 sectors beside the one that stays free: of five lists of eleven sectors
+// the third wraps, and no block is home before the fifth is stable.
 #[test]
-fn lists_that_wrap_are_whole(rt: HostRuntime) -> Result<(), Fail> {
-    let alloc = rt.alloc();
-    let tables = [
-        // Five lists of eleven sectors, of which the third wraps, and no block is home before the fifth is stable.
-        Rounds {
-            before: 3,
-            count: 5,
-            sectors: 10,
-        },
-        // The sixth list has no room: the five before it go home inside its commit, and it wraps.
-        Rounds {
-            before: 0,
-            count: 6,
-            sectors: 10,
-        },
-        // A transaction of two lists, of which the second wraps in the middle of its blocks.
-        Rounds {
-            before: 1,
-            count: 1,
-            sectors: 31,
-        },
-    ];
-    for rounds in &tables {
-        let tried = try_rounds(alloc, rounds)?;
-        assert!(rt; are_whole(&tried), "{} before", rounds.before);
-    }
+fn a_list_that_wraps_is_whole(rt: HostRuntime) -> Result<(), Fail> {
+    let rounds = Rounds {
+        before: 3,
+        count: 5,
+        sectors: 10,
+    };
+    let tried = try_rounds(rt.alloc(), &rounds)?;
+    assert!(rt; are_whole(&tried));
+    Ok(())
+}
+
+// The sixth list has no room: the five before it go home inside its commit, and it wraps.
+#[test]
+fn a_list_behind_a_checkpoint_is_whole(rt: HostRuntime) -> Result<(), Fail> {
+    let rounds = Rounds {
+        before: 0,
+        count: 6,
+        sectors: 10,
+    };
+    let tried = try_rounds(rt.alloc(), &rounds)?;
+    assert!(rt; are_whole(&tried));
+    Ok(())
+}
+
+// A transaction of two lists, of which the second wraps in the middle of its blocks.
+#[test]
+fn two_lists_that_wrap_are_whole(rt: HostRuntime) -> Result<(), Fail> {
+    let rounds = Rounds {
+        before: 1,
+        count: 1,
+        sectors: 31,
+    };
+    let tried = try_rounds(rt.alloc(), &rounds)?;
+    assert!(rt; are_whole(&tried));
     Ok(())
 }
 
@@ -102,6 +111,6 @@ fn a_slot_saves_a_read(rt: HostRuntime) -> Result<(), Fail> {
 fn a_barrier_that_failed_does_no_harm_later(rt: HostRuntime) -> Result<(), Fail> {
     let lost = try_lost(rt.alloc())?;
     assert_eq!(rt; lost.wrong, None);
-    assert!(rt; 500 < lost.images);
+    assert!(rt; 200 < lost.images);
     Ok(())
 }

@@ -4,68 +4,60 @@ use mem_disk::{MemImage, MemRig};
 use std::alloc::Global;
 use test_kit::put;
 
-/// What was written, and what of it is stable. A barrier that answers `Ok` makes stable what was written since the last
-/// barrier, whether that one answered `Ok` or not. So what was written before a barrier that failed is lost, though
-/// reads go on giving it.
+/// A write, and the number of its sector.
+#[derive(Clone, Copy)]
+struct Written {
+    at: u64,
+    bytes: Sector,
+}
+
+/// What was written since the last barrier, and what is stable of what was written before it. A barrier that answers `Ok`
+/// makes stable what was written since the last barrier, whether that one answered `Ok` or not. So what was written
+/// before a barrier that failed is lost, though reads go on giving it.
 #[derive(Drop)]
 pub struct Kept {
-    written: Vec<Sector>,
-    stable: Vec<Sector>,
-    since: Vec<bool>,
+    since: Vec<Written>,
+    stable: Vec<Written>,
+    is_starved: bool,
 }
 
 impl Kept {
-    /// Nothing is kept.
+    /// Nothing was written.
     pub fn nothing(alloc: Global) -> Kept {
         Kept {
-            written: Vec::new(alloc),
-            stable: Vec::new(alloc),
             since: Vec::new(alloc),
+            stable: Vec::new(alloc),
+            is_starved: false,
         }
-    }
-
-    /// All of this image is stable.
-    pub fn from_image(alloc: Global, image: &MemImage) -> Result<Kept, OutOfMemory> {
-        let mut since = Vec::new(alloc);
-        for _ in &image.sectors {
-            since.push(false)?;
-        }
-        Ok(Kept {
-            written: Vec::from_slice(alloc, &image.sectors)?,
-            stable: Vec::from_slice(alloc, &image.sectors)?,
-            since,
-        })
     }
 
     /// A sector was written.
     pub fn write(&mut self, at: u64, from: &Sector) {
-        let at = at as usize;
-        if at < self.written.len() && at < self.since.len() {
-            self.written[at] = *from;
-            self.since[at] = true;
+        if self.since.push(Written { at, bytes: *from }).is_err() {
+            self.is_starved = true;
         }
     }
 
     /// A barrier was called, and answered so.
     pub fn barrier(&mut self, is_ok: bool) {
-        let Kept {
-            written,
-            stable,
-            since,
-        } = self;
-        for ((value, kept), is_new) in written.iter().zip(stable.iter_mut()).zip(since.iter_mut()) {
-            if is_ok && *is_new {
-                *kept = *value;
+        if is_ok {
+            for written in self.since.as_slice() {
+                if self.stable.push(*written).is_err() {
+                    self.is_starved = true;
+                }
             }
-            *is_new = false;
         }
+        self.since.clear();
     }
 
-    /// What a crash leaves.
-    pub fn image(&self, alloc: Global) -> Result<MemImage, OutOfMemory> {
-        let mut rig = MemRig::new(alloc, self.stable.len() as u64)?;
-        for (at, sector) in self.stable.iter().enumerate() {
-            put(&mut rig, at as u64, sector);
+    /// What a crash leaves of a disk that began with this image.
+    pub fn image(&self, alloc: Global, start: &MemImage) -> Result<MemImage, OutOfMemory> {
+        if self.is_starved {
+            return Err(OutOfMemory);
+        }
+        let mut rig = MemRig::from_image(alloc, start)?;
+        for written in self.stable.as_slice() {
+            put(&mut rig, written.at, &written.bytes);
         }
         rig.image(alloc, 1)
     }

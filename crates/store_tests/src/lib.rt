@@ -1,24 +1,27 @@
-//! Transactions over a disk in memory: which calls they make, what they answer, and what a crash leaves.
+//! Transactions over a disk in memory: which calls they make, what they answer and write, and what a crash leaves.
 #![tactic(auto)]
 
+#[cfg(test)]
+mod capacities;
+#[cfg(test)]
 mod commits;
 #[cfg(test)]
 mod crashes;
+#[cfg(test)]
 mod kept;
+#[cfg(test)]
 mod losses;
+#[cfg(test)]
 mod mounted;
+#[cfg(test)]
 mod quiet;
+#[cfg(test)]
 mod rounds;
+#[cfg(test)]
 mod steps;
 #[cfg(test)]
 mod tests;
+#[cfg(test)]
+mod texts;
+#[cfg(test)]
 mod volumes;
-
-pub use commits::{Tried, try_all, try_committed, try_put};
-pub use kept::Kept;
-pub use losses::{Lost, try_lost};
-pub use mounted::Mounted;
-pub use quiet::Quiet;
-pub use rounds::{Rounds, calls_of_reads, many_batches, try_rounds};
-pub use steps::{Answer, Step, answers_are, calls_of_last};
-pub use volumes::{disk_of, losing_disk_of, new_volume, volume};

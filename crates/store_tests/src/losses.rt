@@ -1,8 +1,8 @@
 //! A barrier that fails loses what was written before it, though reads go on giving it: what the next mount then makes of it.
-use crate::Quiet;
 use crate::commits::{byte_of, put_all};
 use crate::mounted::Mounted;
-use crate::volumes::{losing_disk_of, volume};
+use crate::quiet::Quiet;
+use crate::volumes::{disk_of, volume};
 use hx_bytes::OutOfMemory;
 use mem_disk::MemImage;
 use std::alloc::Global;
@@ -13,6 +13,9 @@ const SECTORS: u64 = 5;
 const FIRST: u8 = 3;
 
 const SECOND: u8 = 9;
+
+// How many calls of the second mount are passed over between two that are tried.
+const STEP: u64 = 3;
 
 /// What was tried.
 #[derive(Clone, Copy)]
@@ -48,11 +51,11 @@ fn second_mount(alloc: Global, disk: &mut Quiet) -> Result<bool, OutOfMemory> {
     Ok(matches!(store.commit(disk), Some(Ok(()))))
 }
 
-/// Lets each call of a first mount fail, mounts the disk as it reads then, and lets power fail after each call of that
-/// second mount. What was answered is there, and each transaction is whole.
+/// Lets each call of a first mount fail, mounts the disk as it reads then, and lets power fail after some calls of that
+/// second mount, beginning with another one for each. What was answered is there, and each transaction is whole.
 pub fn try_lost(alloc: Global) -> Result<Lost, OutOfMemory> {
     let image = volume(alloc)?;
-    let mut whole = losing_disk_of(alloc, &image)?;
+    let mut whole = disk_of(alloc, &image)?;
     first_mount(alloc, &mut whole)?;
     let mut lost = Lost {
         images: 0,
@@ -66,10 +69,11 @@ pub fn try_lost(alloc: Global) -> Result<Lost, OutOfMemory> {
     Ok(lost)
 }
 
-// This call of the first mount fails. Power fails after each call of the second one, until that is answered.
+// This call of the first mount fails. Power fails after some calls of the second one, until that is answered.
 fn try_call(alloc: Global, call: u64, lost: &mut Lost) -> Result<(), OutOfMemory> {
     let image = volume(alloc)?;
-    for stop in 0..1000u64 {
+    let mut stop = call % STEP;
+    for _ in 0..1000 {
         let (is_answered, is_wrong) = try_stop(alloc, &image, call, stop)?;
         lost.images = lost.images.saturating_add(1);
         if is_wrong {
@@ -78,9 +82,10 @@ fn try_call(alloc: Global, call: u64, lost: &mut Lost) -> Result<(), OutOfMemory
         if is_answered {
             return Ok(());
         }
+        stop = stop.saturating_add(STEP);
     }
     // The second mount was never answered.
-    lost.wrong = Some((call, 1000));
+    lost.wrong = Some((call, stop));
     Ok(())
 }
 
@@ -92,13 +97,13 @@ fn try_stop(
     call: u64,
     stop: u64,
 ) -> Result<(bool, bool), OutOfMemory> {
-    let mut disk = losing_disk_of(alloc, image)?;
+    let mut disk = disk_of(alloc, image)?;
     disk.rig.fail_on(alloc, call)?;
     let answered = first_mount(alloc, &mut disk)?;
     let begun = disk.rig.calls();
     disk.rig.stop_after(begun.saturating_add(stop));
     let is_answered = second_mount(alloc, &mut disk)?;
-    let byte = byte_of(alloc, &disk.kept.image(alloc)?, SECTORS)?;
+    let byte = byte_of(alloc, &disk.kept.image(alloc, image)?, SECTORS)?;
     Ok((is_answered, !is_right(answered, is_answered, byte)))
 }
 

@@ -2,7 +2,7 @@
 ghost use Rattle.jnl_replay.specs.Plan.{FitsPlan};
 ghost use Rattle.jnl_store.specs.Store.{plan_of};
 
-use crate::Quiet;
+use crate::quiet::Quiet;
 use hx_bytes::OutOfMemory;
 use jnl_replay::replay;
 use jnl_store::{Space, Store, StoreFault};

@@ -1,14 +1,14 @@
 //! Transactions that go round the ring: many lists are live, and some wrap.
-use crate::Quiet;
 use crate::commits::{FIRST, Tried, byte_of, put_all};
 use crate::mounted::Mounted;
+use crate::quiet::Quiet;
 use crate::volumes::{disk_of, volume};
 use hx_bytes::OutOfMemory;
 use mem_disk::{MemImage, MemRig};
 use std::alloc::Global;
 
 // Which calls of a mount are tried: one of so many that wrote, from one of its first three on.
-const STEP: u64 = 17;
+const STEP: u64 = 41;
 
 /// Transactions in a row, over a ring on which some were made before it was mounted.
 #[derive(Clone, Copy)]

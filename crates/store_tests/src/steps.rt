@@ -1,6 +1,6 @@
 //! Calls of a store as a table, and what they answer.
-use crate::Quiet;
 use crate::mounted::Mounted;
+use crate::quiet::Quiet;
 use crate::volumes::{disk_of, volume};
 use hx_bytes::OutOfMemory;
 use jnl_store::StoreFault;
