@@ -68,4 +68,5 @@ pub mod TreesAfter
 pub mod TreesSettled
 pub mod UpdateRoom
 pub mod Walked
+pub mod UpdateRoom
 pub mod Weighed
