@@ -28,15 +28,17 @@ added_done : (entry : Placed) (old new : List Pair) (found : Option Placed) (ans
 added_done entry old new found inserted.Exists none there same = absurd (there none)
 added_done entry old new found inserted.Done none free added = added.0
 
+-- an edit of the catalog leaves the volume's own sectors
+pub own_edited : (x w : Volume) (m b : Space) → FollowsOn x.catalog.file w.catalog.file m b → w ≡ record x { catalog = w.catalog } → own_sectors w ≡ own_sectors x
+own_edited x w m b follows rest =
+    ap own_sectors rest ∙ (λ i. 2 ∷ sectors_of_tree x.extents.file ++ (same_sectors x.catalog.file w.catalog.file follows.file i ++ (attribute_sectors x ++ map_sectors x)))
+
 module _ (v x w : Volume) (m b : Space) (numbered : x ≡ record v { header = with_numbers v.header x.header }) (follows : FollowsOn x.catalog.file w.catalog.file m b) (rest : w ≡ record x { catalog = w.catalog }) where
   pub own_drawn : own_sectors x ≡ own_sectors v
   own_drawn = ap own_sectors numbered
 
   pub own_added : own_sectors w ≡ own_sectors v
-  own_added =
-      ap own_sectors rest
-      ∙ (λ i. 2 ∷ sectors_of_tree x.extents.file ++ (same_sectors x.catalog.file w.catalog.file follows.file i ++ (attribute_sectors x ++ map_sectors x)))
-      ∙ own_drawn
+  own_added = own_edited x w m b follows rest ∙ own_drawn
 
 module _ (v x : Volume) (a m : Space) (numbered : x ≡ record v { header = with_numbers v.header x.header }) (put : PutsHeader x a.content m.content) where
   -- the header's put leaves the catalog

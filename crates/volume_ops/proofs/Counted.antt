@@ -1,5 +1,5 @@
 -- Entries have distinct CNIDs below the next one, so that there are no more of them than that number.
-use Rattle.std.proofs.Common.{◌≡◌, ◌⊎◌, ◌<◌, ◌≤◌, ℕ, zero, suc, ◌+◌, ◌==◌, Bool, true, false, nat_le, List, [], ◌∷◌, refl, sym, ◌∙◌, ap, subst, arith, inl, inr, eq-eqb, ⊎_elim}
+use Rattle.std.proofs.Common.{◌≡◌, ◌⊎◌, ◌<◌, ◌≤◌, ℕ, zero, suc, ◌+◌, ◌-◌, ◌==◌, Bool, true, false, nat_le, List, [], ◌∷◌, refl, sym, ◌∙◌, ap, subst, arith, inl, inr, eq-eqb, ⊎_elim}
 use Rattle.std.specs.Prelude.{Contains, nat_lt, count_by, if◌then◌else◌}
 use Rattle.std.proofs.lemmas.Bool.{eqb-true}
 use Rattle.std.proofs.lemmas.Bool.Decides.{leb_tells}
@@ -58,3 +58,24 @@ counts_low next entries some ids test =
   where
     low : (p : Placed) → Contains entries p → nat_lt (id_of p) next ≡ true
     low p stands = low_true (id_of p) next (⊎_elim (λ (two : id_of p ≡ 2). omega (arith, two, some)) (λ (high : (16 ≤ id_of p) × (id_of p < next)). omega (arith, high.1)) (each_of (λ (q : Placed). IsUserId next (id_of q)) entries ids.each p stands))
+
+-- and each count stays below it
+pub counts_lower : (next : ℕ) (entries : List Placed) → 16 ≤ next → HaveIds next entries → (test : Placed → Bool) → count_by test entries + 1 ≤ next
+counts_lower next entries some ids test =
+    omega (arith, some, count_below test (λ p. nat_lt (id_of p - 1) (next - 1)) entries (λ p stands _. low p stands), no_more (λ (p : Placed). id_of p - 1) (next - 1) entries once)
+  where
+    at_least : (p : Placed) → Contains entries p → (2 ≤ id_of p) × (id_of p < next)
+    at_least p stands = ⊎_elim
+        (λ (two : id_of p ≡ 2). (omega (arith, two), omega (arith, two, some)))
+        (λ (high : (16 ≤ id_of p) × (id_of p < next)). (omega (arith, high.0), high.1))
+        (each_of (λ (q : Placed). IsUserId next (id_of q)) entries ids.each p stands)
+
+    low : (p : Placed) → Contains entries p → nat_lt (id_of p - 1) (next - 1) ≡ true
+    low p stands = low_true (id_of p - 1) (next - 1) (omega (arith, (at_least p stands).0, (at_least p stands).1))
+
+    once : (k : ℕ) → count_by (λ p. (id_of p - 1) == k) entries ≤ 1
+    once k = omega (
+      arith,
+      ids.distinct (k + 1),
+      count_below (λ p. (id_of p - 1) == k) (λ p. id_of p == k + 1) entries (λ p stands is. eq-eqb (id_of p) (k + 1) (omega (arith, eqb-true (id_of p - 1) k is, (at_least p stands).0))),
+    )

@@ -17,7 +17,7 @@ use Rattle.catalog.specs.Pairs.{value_at}
 use Rattle.hfs_model.specs.declared.plain.PlainNode.{PlainNode}
 use Rattle.hfs_volume.specs.Changes.{AreSorted}
 use Rattle.hfs_volume.specs.Content.{VolumeState, volume_of, records_of, attributes_of}
-use Rattle.hfs_volume.specs.Entries.{AreSpelled}
+use Rattle.hfs_volume.specs.Entries.{AreSpelled, AreThreaded}
 use Rattle.hfs_volume.specs.Records.{Placed, placed_in, entries_of, id_of, id_in, is_thread, is_empty}
 use Rattle.hfs_volume.specs.TreeOf.{tree_of, file_bytes}
 use Rattle.hfs_volume.proofs.Members.{each_of}
@@ -85,6 +85,9 @@ module _ (v : Volume) (content : Content) (holds : HoldsTrees v content) (settle
 pub settled_spelled : (v : Volume) (content : Content) → IsSettled v content → AreSpelled (lists_of v content).catalog_pairs
 settled_spelled v content settled = subst AreSpelled (ap (λ (l : VolumeState). l.catalog_pairs) settled.lists) settled.sound.entries.threads.spelled
 
+pub settled_threads : (v : Volume) (content : Content) → IsSettled v content → AreThreaded (lists_of v content).catalog_pairs
+settled_threads v content settled = subst AreThreaded (ap (λ (l : VolumeState). l.catalog_pairs) settled.lists) settled.sound.entries.threads
+
 pub catalog_over_by : (v : Volume) (space : Space) → StandsOver v space → (IsTrue space.tells → AreSpelled (pairs_in (sectors_of_tree v.catalog.file) space.content)) → IsCatalogOver v.catalog.file v.catalog.desk space
 catalog_over_by v space stands spelled = record {
   fits = stands.service.catalog.desk;
@@ -116,3 +119,7 @@ ok_so P Q (Err e) p so = p
 pub ok_both : {A E : Type 0} (P Q R : Type 0) (result : Result A E) → OnOk result P → OnOk result Q → (P → Q → R) → OnOk result R
 ok_both P Q R (Ok a) p q so = so p q
 ok_both P Q R (Err e) p q so = p
+
+pub ok_true : {A E : Type 0} {P : Type 0} (result : Result A E) → P → OnOk result P
+ok_true (Ok a) p = p
+ok_true (Err e) p = tt

@@ -4,6 +4,7 @@ pub mod AttributesEdited
 pub mod Begun
 pub mod Bridged
 pub mod Bridging
+pub mod Carried
 pub mod CatalogEdited
 pub mod Chmod
 pub mod CommandWeights
@@ -33,6 +34,8 @@ pub mod Mapped
 pub mod MarkLoads
 pub mod MarkRoom
 pub mod Marked
+pub mod MoveRoom
+pub mod Moved
 pub mod NodeIs
 pub mod NodesRead
 pub mod Numbering

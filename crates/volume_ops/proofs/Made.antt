@@ -105,7 +105,7 @@ placed_adds entry pair old new added stands = record {
   is = ap placed_in added.is ∙ map_insert placed_of old added.place pair ∙ ap (insert (placed_in old) added.place) stands;
 }
 
-third_false : (a b c d : Bool) → (a && (b || c || d)) ≡ false → (a && d) ≡ false
+pub third_false : (a b c d : Bool) → (a && (b || c || d)) ≡ false → (a && d) ≡ false
 third_false false b c d is = refl
 third_false true true c d is = absurd (true≢false is)
 third_false true false true d is = absurd (true≢false is)

@@ -39,19 +39,19 @@ count_most p (x ∷ xs) = omega (arith, count_cons p x xs, one_most (p x), count
     one_most true = omega arith
     one_most false = omega arith
 
-third_false : (a b c : Bool) → (a || b || c) ≡ false → c ≡ false
-third_false true b c is = absurd (true≢false is)
-third_false false true c is = absurd (true≢false is)
-third_false false false c is = is
+pub third_low : (a b c : Bool) → (a || b || c) ≡ false → c ≡ false
+third_low true b c is = absurd (true≢false is)
+third_low false true c is = absurd (true≢false is)
+third_low false false c is = is
 
 records_low : (tree : TreeCost) → is_too_deep catalog_key tree 2 ≡ false → tree.records < 2 ^ 32
-records_low tree is = omega (arith, ltb-false 4294967295 (tree.records + 2) (third_false (nat_le 8 tree.depth) (nat_lt 11 (depth_of tree + 1 + rises catalog_key tree 2)) (nat_lt 4294967295 (tree.records + 2)) is))
+records_low tree is = omega (arith, ltb-false 4294967295 (tree.records + 2) (third_low (nat_le 8 tree.depth) (nat_lt 11 (depth_of tree + 1 + rises catalog_key tree 2)) (nat_lt 4294967295 (tree.records + 2)) is))
 
 module _ (v : Volume) (names : List ℕ) (m : Space) where
-  grown : HasGrown (catalog_cost v) 0 (state_of names v.catalog.file m)
+  pub grown : HasGrown (catalog_cost v) 0 (state_of names v.catalog.file m)
   grown = record { node_size = refl; depth = refl; records = refl; total = omega arith; free = omega arith }
 
-  written : IsWrittenByGrowth (catalog_cost v) 0 0 (state_of names v.catalog.file m)
+  pub written : IsWrittenByGrowth (catalog_cost v) 0 0 (state_of names v.catalog.file m)
   written = record {
     few = omega arith;
     others = omega (arith, count_most (λ n. not (is_written v.catalog.file m.put n)) (range_with_len 0 v.catalog.file.shape.total), length-range_with_len 0 v.catalog.file.shape.total);
@@ -62,10 +62,10 @@ module _ (v : Volume) (names : List ℕ) (m : Space) where
 pub many_fit : (k n spare : ℕ) → 0 < n → k * n ≤ spare → k ≤ spare / n
 many_fit k n spare some fits = (le-div_iff_mul-le {k = n} {x = k} {y = spare} some).1 fits
 
-least_low : (m x y : ℕ) → m ≤ y → min m x ≤ y
+pub least_low : (m x y : ℕ) → m ≤ y → min m x ≤ y
 least_low m x y low = omega (arith, low, min-le_left m x)
 
-fewer_fit : (few many n spare : ℕ) → few ≤ many → many * n ≤ spare → few * n ≤ spare
+pub fewer_fit : (few many n spare : ℕ) → few ≤ many → many * n ≤ spare → few * n ≤ spare
 fewer_fit few many n spare less fits = omega (arith, fits, mul-le-mul_right {m = few} {n = many} n less)
 
 -- the header is put before

@@ -7,6 +7,7 @@ pub mod Lists
 pub mod Looking
 pub mod Making
 pub mod Mapping
+pub mod Moving
 pub mod Nodes
 pub mod Opening
 pub mod Owning

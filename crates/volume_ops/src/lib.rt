@@ -19,6 +19,7 @@ mod looking;
 mod making;
 mod mapping;
 mod marking;
+mod moving;
 mod names;
 mod new_entries;
 mod nodes;

@@ -80,7 +80,7 @@ fn id_reached<P: SectorSpace>(
 }
 
 /// The CNID of the folder or file that a path stands for, or the first reason against it.
-fn owner<P: SectorSpace>(
+pub(crate) fn owner<P: SectorSpace>(
     alloc: Global,
     tree: &mut TreeFile,
     desk: &mut Desk,

@@ -31,7 +31,7 @@ fn untaken(id: u32, there: Result<Reached, Refusal>) -> Result<u32, Refusal>
 }
 
 /// The folder that a path reaches, if this name may be made in it; or the first reason against it.
-fn find_site<P: SectorSpace>(
+pub(crate) fn find_site<P: SectorSpace>(
     alloc: Global,
     tree: &mut TreeFile,
     desk: &mut Desk,

@@ -6,6 +6,7 @@ use Rattle.btree_file.specs.State.{sectors_of_tree}
 use Rattle.volume_ops.proofs.Commanding.{touches_none}
 use Rattle.volume_ops.proofs.Replaced.{update_room, spent_node, kind_there, replaces, node_large}
 use Rattle.volume_ops.proofs.UpdateRoom.{room_after, room_less}
+use Rattle.volume_ops.proofs.Added.{own_edited}
 use Rattle.volume_ops.proofs.volume.Volume.replace.Goals as goal
 
 pub update-requires-clause-same_kind : goal.update-requires-clause-same_kind
@@ -41,3 +42,15 @@ returns-clause-room g c many room =
 
 pub returns-then-shape-lt4096-clause-room : goal.returns-then-shape-lt4096-clause-room
 returns-then-shape-lt4096-clause-room g c many room = room_less many c.args.self.now (g.P.SectorView.space c.args.space.now) room
+
+pub returns-clause-own : goal.returns-clause-own
+returns-clause-own g c = own_edited c.args.self.now c.update.new.self (g.P.SectorView.space c.args.space.now) (g.P.SectorView.space c.update.new.space) c.update.ensures.frame c.update.ensures.rest
+
+pub returns-in_err-update-clause-own : goal.returns-in_err-update-clause-own
+returns-in_err-update-clause-own g c = own_edited c.args.self.now c.update.new.self (g.P.SectorView.space c.args.space.now) (g.P.SectorView.space c.update.new.space) c.update.ensures.frame c.update.ensures.rest
+
+pub returns-clause-size : goal.returns-clause-size
+returns-clause-size g c = c.update.ensures.frame.file.node_size
+
+pub returns-in_err-update-clause-size : goal.returns-in_err-update-clause-size
+returns-in_err-update-clause-size g c = c.update.ensures.frame.file.node_size

@@ -90,3 +90,21 @@ returns-in-Some-clause-room g c many room = c.put_touched.ensures.room many (upd
 
 pub returns-in-None-clause-room : goal.returns-in-None-clause-room
 returns-in-None-clause-room g c many room = room_less many c.entry.new.self (g.P.SectorView.space c.entry.new.space) (updates_still (many + 1) c.args.self.now c.entry.new.self (g.P.SectorView.space c.args.space.now) (g.P.SectorView.space c.entry.new.space) c.entry.ensures.reads room)
+
+pub returns-in-Some-clause-own : goal.returns-in-Some-clause-own
+returns-in-Some-clause-own g c = c.put_touched.ensures.own ∙ own_still c.args.self.now c.entry.new.self (g.P.SectorView.space c.args.space.now) (g.P.SectorView.space c.entry.new.space) c.entry.ensures.reads
+
+pub returns-in-None-clause-own : goal.returns-in-None-clause-own
+returns-in-None-clause-own g c = own_still c.args.self.now c.entry.new.self (g.P.SectorView.space c.args.space.now) (g.P.SectorView.space c.entry.new.space) c.entry.ensures.reads
+
+pub returns-in_err-entry-clause-own : goal.returns-in_err-entry-clause-own
+returns-in_err-entry-clause-own g c = own_still c.args.self.now c.entry.new.self (g.P.SectorView.space c.args.space.now) (g.P.SectorView.space c.entry.new.space) c.entry.ensures.reads
+
+pub returns-in-Some-clause-size : goal.returns-in-Some-clause-size
+returns-in-Some-clause-size g c = c.put_touched.ensures.size ∙ c.entry.ensures.reads.keeps.catalog.file.file.node_size
+
+pub returns-in-None-clause-size : goal.returns-in-None-clause-size
+returns-in-None-clause-size g c = c.entry.ensures.reads.keeps.catalog.file.file.node_size
+
+pub returns-in_err-entry-clause-size : goal.returns-in_err-entry-clause-size
+returns-in_err-entry-clause-size g c = c.entry.ensures.reads.keeps.catalog.file.file.node_size

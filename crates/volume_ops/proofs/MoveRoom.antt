@@ -1,0 +1,80 @@
+-- The room for a move: for its edits of the catalog, and behind them for three records.
+use Rattle.std.proofs.Common.{◌≡◌, ◌<◌, ◌≤◌, ℕ, ◌+◌, ◌-◌, ◌*◌, ◌/◌, ◌^◌, Bool, true, false, List, [], refl, sym, ◌∙◌, ap, subst, arith}
+use Rattle.std.specs.Prelude.{◌||◌, nat_le, nat_lt, IsTrue}
+use Rattle.std.proofs.Math.Nat.{mul-le-mul_right}
+use Rattle.std.proofs.lemmas.Bool.{ltb-false, true≢false}
+use Rattle.sector_disk.specs.Space.{Space}
+use Rattle.btree_edit.specs.Editing.{CostsAtMost, edit_writes}
+use Rattle.btree_edit.specs.Edits.{EditRoom, TakesAtMost, TakesEdits}
+use Rattle.btree_file.specs.FrameLaws.{state_well_formed}
+use Rattle.btree_file.specs.State.{state_of}
+use Rattle.hfs_volume.specs.Cost.{catalog_key, depth_of, is_too_deep, node_sectors, rises, tree_load}
+use Rattle.hfs_volume.specs.declared.cost.TreeCost.{TreeCost}
+use Rattle.tree_weights.specs.Weights.{EditsHaveRoom, EditsTakeTheirLoad, HasGrown, IsWrittenByGrowth}
+use Rattle.volume_ops.specs.Changing.{HasRoomToUpdates, catalog_node}
+use Rattle.volume_ops.specs.Making.{catalog_cost}
+use Rattle.volume_ops.specs.Moving.{HasRoomToMove, move_load}
+use Rattle.volume_ops.specs.declared.volume.Volume.{Volume}
+use Rattle.volume_ops.proofs.MakeRoom.{fewer_fit, grown, least_low, many_fit, spent_nodes, third_low, written}
+
+low : (tree : TreeCost) → is_too_deep catalog_key tree 3 ≡ false → tree.records < 2 ^ 32
+low tree is = omega (arith, ltb-false 4294967295 (tree.records + 3) (third_low (nat_le 8 tree.depth) (nat_lt 11 (depth_of tree + 1 + rises catalog_key tree 3)) (nat_lt 4294967295 (tree.records + 3)) is))
+
+pub room_to_move : EditsHaveRoom → (v : Volume) (a : Space) → HasRoomToMove v a → 4096 ≤ v.catalog.file.shape.node_size → (names : List ℕ) → EditRoom 3 516 (state_of names v.catalog.file a)
+room_to_move law v a room large names = by a.tells refl
+  where
+    by : (b : Bool) → a.tells ≡ b → EditRoom 3 516 (state_of names v.catalog.file a)
+    by true tells =
+        let told = room.told tells in
+        let size : 3 * (516 + 8) ≤ v.catalog.file.shape.node_size - 16 = omega (arith, large) in
+        law v.header.block_size catalog_key 3 0 (catalog_cost v) (state_of names v.catalog.file a) tells (state_well_formed names v.catalog.file a) size (low (catalog_cost v) told.1) told.1
+        (subst (λ g. HasGrown (catalog_cost v) g (state_of names v.catalog.file a)) (sym told.2) (grown v names a)) (subst (λ g. IsWrittenByGrowth (catalog_cost v) g 0 (state_of names v.catalog.file a)) (sym told.2) (written v names a))
+        (subst (λ g. tree_load catalog_key (catalog_cost v) 3 g ≤ a.spare + 0 * node_sectors (catalog_cost v)) (sym told.2) (omega (arith, told.0)))
+    by false silent =
+        let it = room.untold silent in
+        let some : 0 < v.catalog.file.shape.node_size / 512 = omega (arith, large) in
+        record {
+          deepest = v.catalog.file.shape.depth + 3;
+          deep = record { told = λ tells. absurd (true≢false (sym tells ∙ silent)); untold = λ _. omega arith };
+          depth = λ _. omega (arith, it.0);
+          records = omega (arith, it.1);
+          free = omega (arith, it.2);
+          writes = least_low (3 * edit_writes (v.catalog.file.shape.depth + 3)) (state_of names v.catalog.file a).unwritten (a.spare / (v.catalog.file.shape.node_size / 512))
+              (many_fit (3 * edit_writes (v.catalog.file.shape.depth + 3)) (v.catalog.file.shape.node_size / 512) a.spare some
+              (fewer_fit (3 * edit_writes (v.catalog.file.shape.depth + 3)) (6 * edit_writes (v.catalog.file.shape.depth + 6)) (v.catalog.file.shape.node_size / 512) a.spare (omega arith) it.3));
+        }
+
+module _ (law : EditsHaveRoom) (takes_law : EditsTakeTheirLoad) (v w : Volume) (a b : Space) (room : HasRoomToMove v a) (large : 4096 ≤ v.catalog.file.shape.node_size) (takes : TakesAtMost 3 516 (state_of [] v.catalog.file a) (state_of [] w.catalog.file b)) where
+  costs : CostsAtMost (3 * edit_writes (room_to_move law v a room large []).deepest) (3 * ((room_to_move law v a room large []).deepest + 1)) (state_of [] v.catalog.file a) (state_of [] w.catalog.file b)
+  costs = takes (room_to_move law v a room large []).deepest (room_to_move law v a room large []).deep
+
+  pub node_moved : catalog_node w ≡ catalog_node v
+  node_moved = ap (λ n. n / 512) costs.same.node_size
+
+  pub large_moved : 4096 ≤ w.catalog.file.shape.node_size
+  large_moved = omega (arith, large, costs.same.node_size)
+
+  pub spent_move : IsTrue a.tells → a.spare ≤ b.spare + tree_load catalog_key (catalog_cost v) 3 0
+  spent_move tells =
+      let size : 3 * (516 + 8) ≤ v.catalog.file.shape.node_size - 16 = omega (arith, large) in
+      let it = takes_law catalog_key 3 0 0 (catalog_cost v) (state_of [] v.catalog.file a) (state_of [] w.catalog.file b) tells size (grown v [] a) (written v [] a) costs.same takes in
+      omega (arith, it)
+
+  pub room_moved : b.tells ≡ a.tells → TakesEdits 3 516 (state_of [] v.catalog.file a) (state_of [] w.catalog.file b) → HasRoomToUpdates 3 w b
+  room_moved later edits = record {
+    told = λ tells. omega (arith, spent_move (sym later ∙ tells), (room.told (sym later ∙ tells)).0, node_moved);
+    untold = λ silent.
+        let it = room.untold (sym later ∙ silent) in
+        let paid = takes (v.catalog.file.shape.depth + 3) (record { told = λ tells. absurd (true≢false (sym tells ∙ sym later ∙ silent)); untold = λ _. omega arith }) in
+        let out = spent_nodes v w a b (3 * edit_writes (v.catalog.file.shape.depth + 3)) (3 * (v.catalog.file.shape.depth + 3 + 1)) paid in
+        let both : (3 * edit_writes (v.catalog.file.shape.depth + 3) + 3 * edit_writes (w.catalog.file.shape.depth + 3)) * catalog_node v ≤ 6 * edit_writes (v.catalog.file.shape.depth + 6) * catalog_node v =
+        mul-le-mul_right {m = 3 * edit_writes (v.catalog.file.shape.depth + 3) + 3 * edit_writes (w.catalog.file.shape.depth + 3)} {n = 6 * edit_writes (v.catalog.file.shape.depth + 6)} (catalog_node v) (omega (arith, edits.depth)) in
+        let parts : (3 * edit_writes (v.catalog.file.shape.depth + 3) + 3 * edit_writes (w.catalog.file.shape.depth + 3)) * catalog_node v
+        ≡ 3 * edit_writes (v.catalog.file.shape.depth + 3) * catalog_node v + 3 * edit_writes (w.catalog.file.shape.depth + 3) * catalog_node v = omega arith in
+        let here : 3 * edit_writes (w.catalog.file.shape.depth + 3) * catalog_node w ≡ 3 * edit_writes (w.catalog.file.shape.depth + 3) * catalog_node v = ap (λ n. 3 * edit_writes (w.catalog.file.shape.depth + 3) * n) node_moved in (
+          omega (arith, it.0, edits.depth),
+          omega (arith, it.1, edits.records),
+          omega (arith, it.2, paid.free, edits.depth),
+          omega (arith, out, both, parts, here, it.3),
+        );
+  }

@@ -1,0 +1,44 @@
+use Rattle.std.proofs.Common.{◌≡◌, ◌<◌, ◌≤◌, ◌+◌, ◌*◌, ◌/◌, ℕ, List, refl, sym, ◌∙◌, ap, subst, arith}
+use Rattle.std.specs.Prelude.{OnOk}
+use Rattle.std.specs.List.{Contains}
+use Rattle.volume_ops.specs.Changing.{DatesEntry}
+use Rattle.volume_ops.specs.Moving.{Arrives}
+use Rattle.volume_ops.specs.Touching.{Touches}
+use Rattle.volume_ops.proofs.Carried.{fields_carry, threads_changed}
+use Rattle.volume_ops.proofs.Commanding.{touches_both}
+use Rattle.volume_ops.proofs.FoundEntry.{ok_so}
+use Rattle.volume_ops.proofs.Moved.{entry_carried}
+use Rattle.volume_ops.proofs.UpdateRoom.{room_one}
+use Rattle.volume_ops.specs.Lists.{lists_of}
+use Rattle.volume_ops.proofs.volume.Volume.arrive.Goals as goal
+
+pub touch-requires-clause-room : goal.touch-requires-clause-room
+touch-requires-clause-room g c = room_one 1 c.args.self.now (g.P.SectorView.space c.args.space.now) c.requires.size c.requires.room
+
+pub date-requires-clause-threads : goal.date-requires-clause-threads
+date-requires-clause-threads g c tells = threads_changed c.args.way.now.folder (lists_of c.args.self.now (g.P.SectorView.space c.args.space.now).content) (lists_of c.touch.new.self (g.P.SectorView.space c.touch.new.space).content) (c.in_ok-touch.ensures.counts (sym (c.touch.ensures.touches (g.P.SectorView.space c.args.space.now).content).same.tells ∙ tells)).counts (c.requires.threads (sym (c.touch.ensures.touches (g.P.SectorView.space c.args.space.now).content).same.tells ∙ tells))
+
+pub date-requires-clause-there : goal.date-requires-clause-there
+date-requires-clause-there g c tells = entry_carried c.args.way.now.folder c.args.way.now.id c.args.self.now c.touch.new.self (g.P.SectorView.space c.args.space.now).content (g.P.SectorView.space c.touch.new.space).content (c.in_ok-touch.ensures.counts (sym (c.touch.ensures.touches (g.P.SectorView.space c.args.space.now).content).same.tells ∙ tells)) (c.requires.threads (sym (c.touch.ensures.touches (g.P.SectorView.space c.args.space.now).content).same.tells ∙ tells)) (c.requires.there (sym (c.touch.ensures.touches (g.P.SectorView.space c.args.space.now).content).same.tells ∙ tells))
+
+pub date-requires-clause-room : goal.date-requires-clause-room
+date-requires-clause-room g c = room_one 0 c.touch.new.self (g.P.SectorView.space c.touch.new.space) (omega (arith, c.requires.size, c.touch.ensures.size)) (c.in_ok-touch.ensures.room 1 c.requires.room)
+
+pub returns-clause-arrives : goal.returns-clause-arrives
+returns-clause-arrives g c tells =
+    ok_so (DatesEntry c.args.way.now.id c.touch.new.self c.date.new.self (g.P.SectorView.space c.touch.new.space).content (g.P.SectorView.space c.date.new.space).content) (Arrives c.args.way.now.folder c.args.way.now.id c.args.self.now c.date.new.self (g.P.SectorView.space c.args.space.now).content (g.P.SectorView.space c.date.new.space).content) c.date.result (c.date.ensures.dates ((c.touch.ensures.touches (g.P.SectorView.space c.args.space.now).content).same.tells ∙ tells))
+    (λ d. record { middle = c.touch.new.self; content = (g.P.SectorView.space c.touch.new.space).content; gains = c.in_ok-touch.ensures.counts tells; dates = d })
+
+pub returns-clause-touches : goal.returns-clause-touches
+returns-clause-touches g c committed =
+    touches_both committed _ (g.P.SectorView.space c.args.space.now) (g.P.SectorView.space c.touch.new.space) (g.P.SectorView.space c.date.new.space) (c.touch.ensures.touches committed)
+    (subst (λ (l : List ℕ). Touches committed (λ s. Contains l s) (g.P.SectorView.space c.touch.new.space) (g.P.SectorView.space c.date.new.space)) c.touch.ensures.own (c.date.ensures.touches committed))
+
+pub returns-clause-below : goal.returns-clause-below
+returns-clause-below g c = g.met.P.SectorView.follows_trans c.args.space.now c.touch.new.space c.date.new.space c.touch.ensures.below c.date.ensures.below
+
+pub returns-clause-spent : goal.returns-clause-spent
+returns-clause-spent g c tells = omega (arith, c.touch.ensures.spent tells, c.date.ensures.spent ((c.touch.ensures.touches (g.P.SectorView.space c.args.space.now).content).same.tells ∙ tells), ap (λ n. n / 512) c.touch.ensures.size)
+
+pub returns-in_err-touch-clause-spent : goal.returns-in_err-touch-clause-spent
+returns-in_err-touch-clause-spent g c tells = omega (arith, c.touch.ensures.spent tells)

@@ -1,0 +1,232 @@
+//! `mv`: a folder or file under another name.
+ghost use Rattle.std.specs.Prelude.{◌≡◌, ◌<◌, ◌≤◌, ◌+◌, ◌*◌, ℕ, List, Ok, false, true, IsTrue, IfOk, length, OnOk};
+ghost use Rattle.std.specs.List.{All, Contains};
+ghost use Rattle.sector_disk.specs.Lists.{Content};
+ghost use Rattle.btree_edit.specs.Causes.{HasTroubleCause};
+ghost use Rattle.btree_file.specs.Standing.{numbers_of, pairs_in};
+ghost use Rattle.btree_file.specs.State.{sectors_of_tree};
+ghost use Rattle.hfs_language.specs.Written.{FitsPath};
+ghost use Rattle.hfs_language.specs.declared.command.Command.TheVariants as command;
+ghost use Rattle.hfs_model.specs.Step.{is_below, is_private_path, is_refusal, step, step_line};
+ghost use Rattle.hfs_model.specs.declared.plain.PlainEntry.{PlainEntry};
+ghost use Rattle.hfs_volume.specs.Content.{volume_of};
+ghost use Rattle.hfs_volume.specs.Entries.{AreThreaded};
+ghost use Rattle.hfs_volume.specs.TreeOf.{tree_of};
+ghost use Rattle.hfs_volume.specs.Weight.{weight};
+ghost use Rattle.hfs_volume.specs.declared.cost.Cost.TheVariants as cost;
+ghost use Rattle.volume_ops.specs.Changing.{HasEntry, HasFolder, HasRoomToUpdates, catalog_node};
+ghost use Rattle.volume_ops.specs.Lists.{lists_of};
+ghost use Rattle.volume_ops.specs.Looking.{IsCatalogOver, ReadsTree, ReadsVolume};
+ghost use Rattle.volume_ops.specs.Making.{path_to};
+ghost use Rattle.volume_ops.specs.Moving.{Arrives, HasRoomToMove, IsMove, Leaves, leave_load, move_load, route_in};
+ghost use Rattle.volume_ops.specs.Room.{capacity_of};
+ghost use Rattle.volume_ops.specs.Service.{IsInService};
+ghost use Rattle.volume_ops.specs.Standing.{IsSettled, StandsOver, own_sectors};
+ghost use Rattle.volume_ops.specs.Touching.{Touches};
+
+use crate::names::is_private_path;
+use crate::owning::owner;
+use crate::reaching::find_folder;
+use crate::sites::find_site;
+use crate::volume::Volume;
+use btree_edit::Desk;
+use btree_file::TreeFile;
+use hfs_language::{Path, Refusal, Reply};
+use hfs_volume::{mv_does_its_step, sound_has_plain_tree};
+use hx_bytes::{Trouble, Units};
+use sector_disk::SectorSpace;
+use std::alloc::Global;
+use tree_weights::{edits_have_room, edits_take_their_load};
+
+/// What is moved, by its CNID, from which folder, and to which.
+#[derive(Clone, Copy)]
+pub(crate) struct Route {
+    pub(crate) id: u32,
+    pub(crate) parent: u32,
+    pub(crate) folder: u32,
+}
+
+/// What a path stands for, its folder, and the folder that another path reaches, if this name may be made in it; or the
+/// first reason against it.
+fn find_route<P: SectorSpace>(
+    alloc: Global,
+    tree: &mut TreeFile,
+    desk: &mut Desk,
+    space: &mut P,
+    private: Option<u32>,
+    from: &[Units],
+    above: &[Units],
+    under: &[Units],
+    name: &Units,
+) -> Result<Result<Route, Refusal>, Trouble>
+    requires over { IsCatalogOver tree.old desk.old (P.SectorView.space space.old) }
+    requires from_names { All (λ name. length name ≤ 255) from.now }
+    requires above_names { All (λ name. length name ≤ 255) above.now }
+    requires under_names { All (λ name. length name ≤ 255) under.now }
+    requires name { length name.now ≤ 255 }
+    ensures found { IsTrue (P.SectorView.space space.old).tells → IfOk result (λ said. said ≡ route_in (pairs_in (sectors_of_tree tree.old) (P.SectorView.space space.old).content) private from.now above.now under.now name.now) }
+    ensures over { IsCatalogOver tree.new desk.new (P.SectorView.space space.new) }
+    ensures reads { ReadsTree tree.old tree.new (P.SectorView.space space.old) (P.SectorView.space space.new) }
+    ensures below { P.SectorView.follows space.old space.new }
+    ensures cause { HasTroubleCause (P.SectorView.space space.old).faults (P.SectorView.space space.new).faults result }
+{
+    match owner(alloc, tree, desk, space, private, from)? {
+        Ok(id) => match find_folder(alloc, tree, desk, space, above)? {
+            Ok(parent) => match find_site(alloc, tree, desk, space, under, name)? {
+                Ok(folder) => Ok(Ok(Route { id, parent, folder })),
+                Err(why) => Ok(Err(why)),
+            },
+            Err(why) => Ok(Err(why)),
+        },
+        Err(why) => Ok(Err(why)),
+    }
+}
+
+/// Whether a path goes on below another.
+fn is_below(path: &[Units], top: &[Units]) -> bool
+    ensures { result ≡ is_below path.now top.now }
+{
+    if path.len() <= top.len() {
+        return false;
+    }
+    for (at, name) in top.iter().enumerate() {
+        if path[at].as_slice() != name.as_slice() {
+            return false;
+        }
+    }
+    true
+}
+
+impl Volume {
+    /// What a path stands for, its folder, and the folder that another path reaches, if this name may be made in it; or
+    /// the first reason against it.
+    fn route<P: SectorSpace>(
+        &mut self,
+        alloc: Global,
+        space: &mut P,
+        from: &[Units],
+        above: &[Units],
+        under: &[Units],
+        name: &Units,
+    ) -> Result<Result<Route, Refusal>, Trouble>
+        requires stands { StandsOver self.old (P.SectorView.space space.old) }
+        requires settled { IsTrue (P.SectorView.space space.old).tells → IsSettled self.old (P.SectorView.space space.old).content }
+        requires from_fits { FitsPath from.now }
+        requires above_fits { FitsPath above.now }
+        requires under_fits { FitsPath under.now }
+        requires name { length name.now ≤ 255 }
+        ensures found { IsTrue (P.SectorView.space space.old).tells → IfOk result (λ said. said ≡ route_in (lists_of self.old (P.SectorView.space space.old).content).catalog_pairs self.old.private from.now above.now under.now name.now) }
+        ensures reads { ReadsVolume self.old self.new (P.SectorView.space space.old) (P.SectorView.space space.new) }
+        ensures stands { StandsOver self.new (P.SectorView.space space.new) }
+        ensures settled { IsTrue (P.SectorView.space space.old).tells → IsSettled self.new (P.SectorView.space space.new).content }
+        ensures below { P.SectorView.follows space.old space.new }
+        ensures cause { HasTroubleCause (P.SectorView.space space.old).faults (P.SectorView.space space.new).faults result }
+    {
+        find_route(
+            alloc,
+            &mut self.catalog.file,
+            &mut self.catalog.desk,
+            space,
+            self.private,
+            from,
+            above,
+            under,
+            name,
+        )
+    }
+
+    /// Moves a folder or file, and lets its old folder count it no more.
+    fn leave<P: SectorSpace>(
+        &mut self,
+        alloc: Global,
+        space: &mut P,
+        way: &Route,
+        old: &Units,
+        name: &Units,
+    ) -> Result<(), Trouble>
+        requires stands { StandsOver self.old (P.SectorView.space space.old) }
+        requires settled { IsTrue (P.SectorView.space space.old).tells → IsSettled self.old (P.SectorView.space space.old).content }
+        requires size { 4096 ≤ (numbers_of self.old.catalog.file).node_size }
+        requires some { 1 ≤ length old.now }
+        requires old_name { length old.now ≤ 255 }
+        requires some_new { 1 ≤ length name.now }
+        requires name { length name.now ≤ 255 }
+        requires moves { IsTrue (P.SectorView.space space.old).tells → (from to : List (List ℕ)) × (at : PlainEntry) × IsMove (tree_of (P.SectorView.space space.old).content) from to at way.now.parent old.now way.now.id way.now.folder name.now }
+        requires room { HasRoomToMove self.old (P.SectorView.space space.old) }
+        ensures stands { OnOk result (StandsOver self.new (P.SectorView.space space.new)) }
+        ensures service { IsInService self.new (P.SectorView.space space.new) }
+        ensures leaves { IsTrue (P.SectorView.space space.old).tells → OnOk result (Leaves way.now.parent old.now way.now.folder name.now self.old self.new (P.SectorView.space space.old).content (P.SectorView.space space.new).content) }
+        ensures room { OnOk result (HasRoomToUpdates 2 self.new (P.SectorView.space space.new)) }
+        ensures own { own_sectors self.new ≡ own_sectors self.old }
+        ensures touches { (committed : Content) → Touches committed (λ s. Contains (own_sectors self.old) s) (P.SectorView.space space.old) (P.SectorView.space space.new) }
+        ensures spent { IsTrue (P.SectorView.space space.old).tells → (P.SectorView.space space.old).spare ≤ (P.SectorView.space space.new).spare + leave_load self.old }
+        ensures size { OnOk result ((numbers_of self.new.catalog.file).node_size ≡ (numbers_of self.old.catalog.file).node_size) }
+        ensures below { P.SectorView.follows space.old space.new }
+        ensures cause { HasTroubleCause (P.SectorView.space space.old).faults (P.SectorView.space space.new).faults result }
+    {
+        edits_have_room();
+        edits_take_their_load();
+        self.relocate(alloc, space, way.parent, old, way.folder, name)?;
+        self.touch(alloc, space, way.parent, 0, 1)
+    }
+
+    /// Lets the folder to which something was moved count it, and dates what was moved.
+    fn arrive<P: SectorSpace>(
+        &mut self,
+        alloc: Global,
+        space: &mut P,
+        way: &Route,
+    ) -> Result<(), Trouble>
+        requires stands { StandsOver self.old (P.SectorView.space space.old) }
+        requires size { 4096 ≤ (numbers_of self.old.catalog.file).node_size }
+        requires threads { IsTrue (P.SectorView.space space.old).tells → AreThreaded (lists_of self.old (P.SectorView.space space.old).content).catalog_pairs }
+        requires goal { IsTrue (P.SectorView.space space.old).tells → HasFolder way.now.folder 1 (lists_of self.old (P.SectorView.space space.old).content).catalog_pairs }
+        requires there { IsTrue (P.SectorView.space space.old).tells → HasEntry way.now.id (lists_of self.old (P.SectorView.space space.old).content).catalog_pairs }
+        requires room { HasRoomToUpdates 2 self.old (P.SectorView.space space.old) }
+        ensures stands { OnOk result (StandsOver self.new (P.SectorView.space space.new)) }
+        ensures service { IsInService self.new (P.SectorView.space space.new) }
+        ensures arrives { IsTrue (P.SectorView.space space.old).tells → OnOk result (Arrives way.now.folder way.now.id self.old self.new (P.SectorView.space space.old).content (P.SectorView.space space.new).content) }
+        ensures touches { (committed : Content) → Touches committed (λ s. Contains (own_sectors self.old) s) (P.SectorView.space space.old) (P.SectorView.space space.new) }
+        ensures spent { IsTrue (P.SectorView.space space.old).tells → (P.SectorView.space space.old).spare ≤ (P.SectorView.space space.new).spare + 2 * catalog_node self.old }
+        ensures below { P.SectorView.follows space.old space.new }
+        ensures cause { HasTroubleCause (P.SectorView.space space.old).faults (P.SectorView.space space.new).faults result }
+    {
+        self.touch(alloc, space, way.folder, 1, 0)?;
+        self.date(alloc, space, way.id)
+    }
+
+    /// Moves a folder or file.
+    fn move_in<P: SectorSpace>(
+        &mut self,
+        alloc: Global,
+        space: &mut P,
+        way: &Route,
+        old: &Units,
+        name: &Units,
+    ) -> Result<(), Trouble>
+        requires stands { StandsOver self.old (P.SectorView.space space.old) }
+        requires settled { IsTrue (P.SectorView.space space.old).tells → IsSettled self.old (P.SectorView.space space.old).content }
+        requires some { 1 ≤ length old.now }
+        requires old_name { length old.now ≤ 255 }
+        requires some_new { 1 ≤ length name.now }
+        requires name { length name.now ≤ 255 }
+        requires moves { IsTrue (P.SectorView.space space.old).tells → (from to : List (List ℕ)) × (at : PlainEntry) × IsMove (tree_of (P.SectorView.space space.old).content) from to at way.now.parent old.now way.now.id way.now.folder name.now }
+        requires room { HasRoomToMove self.old (P.SectorView.space space.old) }
+        ensures stands { OnOk result (StandsOver self.new (P.SectorView.space space.new)) }
+        ensures service { IsInService self.new (P.SectorView.space space.new) }
+        ensures does { IsTrue (P.SectorView.space space.old).tells → (from to : List (List ℕ)) (at : PlainEntry) → IsMove (tree_of (P.SectorView.space space.old).content) from to at way.now.parent old.now way.now.id way.now.folder name.now
+            → OnOk result (IsSettled self.new (P.SectorView.space space.new).content × (tree_of (P.SectorView.space space.new).content ≡ (step (tree_of (P.SectorView.space space.old).content) (command.Mv from to)).1)) }
+        ensures touches { (committed : Content) → Touches committed (λ s. Contains (own_sectors self.old) s) (P.SectorView.space space.old) (P.SectorView.space space.new) }
+        ensures spent { IsTrue (P.SectorView.space space.old).tells → (P.SectorView.space space.old).spare ≤ (P.SectorView.space space.new).spare + move_load self.old }
+        ensures below { P.SectorView.follows space.old space.new }
+        ensures cause { HasTroubleCause (P.SectorView.space space.old).faults (P.SectorView.space space.new).faults result }
+    {
+        mv_does_its_step();
+        // The least node size that the format allows the catalog (TN1150, "Catalog File").
+        if self.catalog.file.shape().node_size < 4096 {
+            return Ok(());
+        }
+        self.leave(alloc, space, way, old, name)?;
+        self.arrive(alloc, space, way)
+    }
+}
