@@ -56,6 +56,7 @@ pub mod Righting
 pub mod Rising
 pub mod RoomKept
 pub mod RoomToRemove
+pub mod Routed
 pub mod Seeing
 pub mod Settling
 pub mod Sited

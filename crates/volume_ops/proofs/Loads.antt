@@ -15,6 +15,7 @@ use Rattle.hfs_volume.specs.declared.cost.Needs.{Needs}
 use Rattle.hfs_volume.specs.declared.cost.Room.{Room}
 use Rattle.volume_ops.specs.Changing.{catalog_node}
 use Rattle.volume_ops.specs.Making.{catalog_cost, entry_load, make_load, making}
+use Rattle.volume_ops.specs.Moving.{move_load}
 use Rattle.volume_ops.specs.Standing.{IsSettled}
 use Rattle.volume_ops.specs.declared.volume.Volume.{Volume}
 
@@ -92,3 +93,25 @@ make_load_told v content settled none capacity folder path tree n grow is = omeg
 
     load : tree_load catalog_key (cost_of_tree (volume_of content).catalog_tree extents) 2 (growth (volume_of content).head.block_size catalog_key (cost_of_tree (volume_of content).catalog_tree extents) 2) ≡ entry_load v
     load = ap (tree_load catalog_key (cost_of_tree (volume_of content).catalog_tree extents) 2) same ∙ (λ i. tree_load catalog_key (cost_of_tree (settled.lists i).catalog_tree 0) 2 0)
+
+-- ---- `mv`
+
+moving_counts : (capacity : ℕ) (volume : VolumeState) (from to : List (List ℕ)) (tree : PlainTree) (n : ℕ) (grow : List ℕ) → weight capacity volume tree (command.Mv from to) ≡ cost.Load n grow
+    → 1 + 3 * (volume.catalog_tree.shape.node_size / 512)
+    + tree_load catalog_key (cost_of_tree volume.catalog_tree (extents_in_use volume catalog_id volume.head.catalog_fork)) 3
+    (growth volume.head.block_size catalog_key (cost_of_tree volume.catalog_tree (extents_in_use volume catalog_id volume.head.catalog_fork)) 3) ≤ n
+unfolding weight_with
+moving_counts capacity volume from to tree n grow is = counts_edits (free_blocks volume) capacity volume (edits 0 3 0 3) n grow is
+
+pub move_load_told : (v : Volume) (content : Content) → IsSettled v content → growth v.header.block_size catalog_key (catalog_cost v) 3 ≡ 0 → (capacity : ℕ) (from to : List (List ℕ)) (tree : PlainTree) (n : ℕ) (grow : List ℕ)
+    → weight capacity (volume_of content) tree (command.Mv from to) ≡ cost.Load n grow → move_load v ≤ n
+move_load_told v content settled none capacity from to tree n grow is = omega (arith, moving_counts capacity (volume_of content) from to tree n grow is, ap (λ (l : VolumeState). l.catalog_tree.shape.node_size / 512) settled.lists, load)
+  where
+    extents : ℕ
+    extents = extents_in_use (volume_of content) catalog_id (volume_of content).head.catalog_fork
+
+    same : growth (volume_of content).head.block_size catalog_key (cost_of_tree (volume_of content).catalog_tree extents) 3 ≡ 0
+    same = growth_any (volume_of content).head.block_size catalog_key 3 extents 0 (volume_of content).catalog_tree ∙ (λ i. growth (settled.lists i).head.block_size catalog_key (cost_of_tree (settled.lists i).catalog_tree 0) 3) ∙ none
+
+    load : tree_load catalog_key (cost_of_tree (volume_of content).catalog_tree extents) 3 (growth (volume_of content).head.block_size catalog_key (cost_of_tree (volume_of content).catalog_tree extents) 3) ≡ tree_load catalog_key (catalog_cost v) 3 0
+    load = ap (tree_load catalog_key (cost_of_tree (volume_of content).catalog_tree extents) 3) same ∙ (λ i. tree_load catalog_key (cost_of_tree (settled.lists i).catalog_tree 0) 3 0)

@@ -8,13 +8,20 @@ use Rattle.btree_edit.specs.Editing.{CostsAtMost, edit_writes}
 use Rattle.btree_edit.specs.Edits.{EditRoom, TakesAtMost, TakesEdits}
 use Rattle.btree_file.specs.FrameLaws.{state_well_formed}
 use Rattle.btree_file.specs.State.{state_of}
-use Rattle.hfs_volume.specs.Cost.{catalog_key, depth_of, is_too_deep, node_sectors, rises, tree_load}
+use Rattle.volume_header.specs.declared.header.VolumeHeader.{VolumeHeader}
+use Rattle.btree_node.specs.declared.store.TreeShape.{TreeShape}
+use Rattle.hfs_volume.specs.Content.{TreeFacts, VolumeState}
+use Rattle.hfs_volume.specs.Weight.{cost_of_tree}
+use Rattle.hfs_volume.specs.Cost.{catalog_key, depth_of, growth, is_too_deep, node_sectors, rises, tree_load}
 use Rattle.hfs_volume.specs.declared.cost.TreeCost.{TreeCost}
 use Rattle.tree_weights.specs.Weights.{EditsHaveRoom, EditsTakeTheirLoad, HasGrown, IsWrittenByGrowth}
 use Rattle.volume_ops.specs.Changing.{HasRoomToUpdates, catalog_node}
+use Rattle.volume_ops.specs.Lists.{facts_on}
+use Rattle.volume_ops.specs.Looking.{ReadsVolume}
 use Rattle.volume_ops.specs.Making.{catalog_cost}
 use Rattle.volume_ops.specs.Moving.{HasRoomToMove, move_load}
 use Rattle.volume_ops.specs.declared.volume.Volume.{Volume}
+use Rattle.volume_ops.proofs.Still.{lists_still}
 use Rattle.volume_ops.proofs.MakeRoom.{fewer_fit, grown, least_low, many_fit, spent_nodes, third_low, written}
 
 low : (tree : TreeCost) → is_too_deep catalog_key tree 3 ≡ false → tree.records < 2 ^ 32
@@ -77,4 +84,23 @@ module _ (law : EditsHaveRoom) (takes_law : EditsTakeTheirLoad) (v w : Volume) (
           omega (arith, it.2, paid.free, edits.depth),
           omega (arith, out, both, parts, here, it.3),
         );
+  }
+
+-- ---- reads leave the room
+
+module _ (v w : Volume) (a b : Space) (reads : ReadsVolume v w a b) where
+  facts_read : IsTrue a.tells → facts_on w.catalog.file ≡ facts_on v.catalog.file
+  facts_read tells = ap (λ (l : VolumeState). l.catalog_tree) (lists_still v w a b reads tells)
+
+  pub move_load_still : IsTrue a.tells → move_load w ≡ move_load v
+  move_load_still tells = ap (λ (f : TreeFacts). tree_load catalog_key (cost_of_tree f 0) 3 0 + f.shape.node_size / 512 + 2 * (f.shape.node_size / 512)) (facts_read tells)
+
+  pub move_room_still : HasRoomToMove v a → HasRoomToMove w b
+  move_room_still was = record {
+    told = λ tells.
+        subst (λ (k : TreeFacts × VolumeHeader × ℕ). (tree_load catalog_key (cost_of_tree k.0 0) 3 0 + k.0.shape.node_size / 512 + 2 * (k.0.shape.node_size / 512) ≤ k.2) × (is_too_deep catalog_key (cost_of_tree k.0 0) 3 ≡ false) × (growth k.1.block_size catalog_key (cost_of_tree k.0 0) 3 ≡ 0))
+        {x = (facts_on v.catalog.file, v.header, a.spare)} {y = (facts_on w.catalog.file, w.header, b.spare)} (λ i. (sym (facts_read (sym reads.looks.same.tells ∙ tells)) i, sym reads.keeps.header i, sym reads.looks.spare i)) (was.told (sym reads.looks.same.tells ∙ tells));
+    untold = λ silent.
+        subst (λ (k : TreeShape × ℕ). (k.0.depth + 6 ≤ 11) × (k.0.leaf_records + 6 ≤ 2 ^ 32 - 1) × (6 * (k.0.depth + 7) ≤ k.0.free) × (6 * edit_writes (k.0.depth + 6) * (k.0.node_size / 512) ≤ k.1))
+        {x = (v.catalog.file.shape, a.spare)} {y = (w.catalog.file.shape, b.spare)} (λ i. (sym reads.keeps.catalog.file.shape i, sym reads.looks.spare i)) (was.untold (sym reads.looks.same.tells ∙ silent));
   }

@@ -38,11 +38,11 @@ pub some_name : (name : List ℕ) → 0 < length name → is_empty name ≡ fals
 some_name [] some = absurd (omega (arith, some))
 some_name (unit ∷ units) some = refl
 
-not_root : (above : List (List ℕ)) (name : List ℕ) → is_root (above ++ name ∷ []) ≡ false
+pub not_root : (above : List (List ℕ)) (name : List ℕ) → is_root (above ++ name ∷ []) ≡ false
 not_root [] name = refl
 not_root (first ∷ above) name = refl
 
-site_is : (pairs : List Pair) (above : List (List ℕ)) (name : List ℕ) → site_in pairs (above ++ name ∷ []) ≡ site_under pairs above name
+pub site_is : (pairs : List Pair) (above : List (List ℕ)) (name : List ℕ) → site_in pairs (above ++ name ∷ []) ≡ site_under pairs above name
 site_is pairs above name =
     ap (λ b. then_ (if b then Err refusal.Root else Ok (above ++ name ∷ [])) (λ some. site_under pairs (front some) (last_name some))) (not_root above name)
     ∙ (λ i. site_under pairs (front-last above name i) (last_name-last above name i))

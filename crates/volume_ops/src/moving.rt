@@ -229,4 +229,98 @@ impl Volume {
         self.leave(alloc, space, way, old, name)?;
         self.arrive(alloc, space, way)
     }
+
+    /// Moves what a path stands for, with its name apart, to a name under another path; or tells the first reason against it.
+    fn mv_under<P: SectorSpace>(
+        &mut self,
+        alloc: Global,
+        space: &mut P,
+        from: &Path,
+        to: &Path,
+        above: &[Units],
+        old: &Units,
+        under: &[Units],
+        name: &Units,
+    ) -> Result<Reply, Trouble>
+        requires stands { StandsOver self.old (P.SectorView.space space.old) }
+        requires settled { IsTrue (P.SectorView.space space.old).tells → IsSettled self.old (P.SectorView.space space.old).content }
+        requires from_fits { FitsPath from.now }
+        requires to_fits { FitsPath to.now }
+        requires split { from.now ≡ path_to above.now old.now }
+        requires goal_split { to.now ≡ path_to under.now name.now }
+        requires not_own { is_private_path from.now ≡ false }
+        requires goal_not_own { is_private_path to.now ≡ false }
+        requires room { HasRoomToMove self.old (P.SectorView.space space.old) }
+        ensures reply { IsTrue (P.SectorView.space space.old).tells → IfOk result (λ reply. reply ≡ (step_line (tree_of (P.SectorView.space space.old).content) (Ok (command.Mv from.now to.now))).0) }
+        ensures tree { IsTrue (P.SectorView.space space.old).tells → OnOk result (tree_of (P.SectorView.space space.new).content ≡ (step_line (tree_of (P.SectorView.space space.old).content) (Ok (command.Mv from.now to.now))).1) }
+        ensures refused { IsTrue (P.SectorView.space space.old).tells → IfOk result (λ reply. is_refusal reply ≡ true → (P.SectorView.space space.new).content ≡ (P.SectorView.space space.old).content) }
+        ensures stands { OnOk result (StandsOver self.new (P.SectorView.space space.new)) }
+        ensures settled { IsTrue (P.SectorView.space space.old).tells → OnOk result (IsSettled self.new (P.SectorView.space space.new).content) }
+        ensures service { IsInService self.new (P.SectorView.space space.new) }
+        ensures touches { (committed : Content) → Touches committed (λ s. Contains (own_sectors self.old) s) (P.SectorView.space space.old) (P.SectorView.space space.new) }
+        ensures spent { IsTrue (P.SectorView.space space.old).tells → (P.SectorView.space space.old).spare ≤ (P.SectorView.space space.new).spare + move_load self.old }
+        ensures below { P.SectorView.follows space.old space.new }
+        ensures cause { HasTroubleCause (P.SectorView.space space.old).faults (P.SectorView.space space.new).faults result }
+    {
+        sound_has_plain_tree();
+        match self.route(alloc, space, from.as_slice(), above, under, name)? {
+            Ok(way) => {
+                if is_below(to.as_slice(), from.as_slice()) {
+                    return Ok(Reply::No(Refusal::Inside));
+                }
+                self.move_in(alloc, space, &way, old, name)?;
+                Ok(Reply::Ok)
+            }
+            Err(why) => Ok(Reply::No(why)),
+        }
+    }
+
+    /// `mv`: gives what a path stands for another place and name, where nothing is yet, and dates it and both folders by
+    /// the volume's moment; or tells the first reason against it. A path that begins with a name of the volume's own is
+    /// refused. A refused command changes nothing. `Memory` comes where memory is wanting, `Disk` where a read failed.
+    pub fn mv<P: SectorSpace>(
+        &mut self,
+        alloc: Global,
+        space: &mut P,
+        from: &Path,
+        to: &Path,
+    ) -> Result<Reply, Trouble>
+        requires stands { StandsOver self.old (P.SectorView.space space.old) }
+        requires settled { IsTrue (P.SectorView.space space.old).tells → IsSettled self.old (P.SectorView.space space.old).content }
+        requires from_fits { FitsPath from.now }
+        requires to_fits { FitsPath to.now }
+        // There is room for what it puts; the catalog needn't grow before.
+        requires room { HasRoomToMove self.old (P.SectorView.space space.old) }
+        // Told, reply and tree are those of the plain tree's step.
+        ensures reply { IsTrue (P.SectorView.space space.old).tells → IfOk result (λ reply. reply ≡ (step_line (tree_of (P.SectorView.space space.old).content) (Ok (command.Mv from.now to.now))).0) }
+        ensures tree { IsTrue (P.SectorView.space space.old).tells → OnOk result (tree_of (P.SectorView.space space.new).content ≡ (step_line (tree_of (P.SectorView.space space.old).content) (Ok (command.Mv from.now to.now))).1) }
+        ensures refused { IsTrue (P.SectorView.space space.old).tells → IfOk result (λ reply. is_refusal reply ≡ true → (P.SectorView.space space.new).content ≡ (P.SectorView.space space.old).content) }
+        ensures stands { OnOk result (StandsOver self.new (P.SectorView.space space.new)) }
+        ensures settled { IsTrue (P.SectorView.space space.old).tells → OnOk result (IsSettled self.new (P.SectorView.space space.new).content) }
+        ensures service { IsInService self.new (P.SectorView.space space.new) }
+        // On a fault too, it puts sectors of its own alone, whatever was committed last.
+        ensures touches { (committed : Content) → Touches committed (λ s. Contains (own_sectors self.old) s) (P.SectorView.space space.old) (P.SectorView.space space.new) }
+        ensures spent { IsTrue (P.SectorView.space space.old).tells → (P.SectorView.space space.old).spare ≤ (P.SectorView.space space.new).spare + move_load self.old }
+        // What its load names bounds the sectors that it puts.
+        ensures loads { IsTrue (P.SectorView.space space.old).tells → (n : ℕ) (grow : List ℕ) → weight (capacity_of self.old) (volume_of (P.SectorView.space space.old).content) (tree_of (P.SectorView.space space.old).content) (command.Mv from.now to.now) ≡ cost.Load n grow
+            → (P.SectorView.space space.old).spare ≤ (P.SectorView.space space.new).spare + n }
+        ensures below { P.SectorView.follows space.old space.new }
+        ensures cause { HasTroubleCause (P.SectorView.space space.old).faults (P.SectorView.space space.new).faults result }
+    {
+        if is_private_path(from) {
+            return Ok(Reply::No(Refusal::Private));
+        }
+        if is_private_path(to) {
+            return Ok(Reply::No(Refusal::Private));
+        }
+        match from.as_slice().split_last() {
+            Some((old, above)) => match to.as_slice().split_last() {
+                Some((name, under)) => {
+                    self.mv_under(alloc, space, from, to, above, old, under, name)
+                }
+                None => Ok(Reply::No(Refusal::Root)),
+            },
+            None => Ok(Reply::No(Refusal::Root)),
+        }
+    }
 }
