@@ -1,9 +1,7 @@
 -- A volume behind its header and a new entry of its catalog.
-use Rattle.std.proofs.Common.{◌≡◌, ℕ, ◌++◌, Bool, List, [], ◌∷◌, refl, sym, ◌∙◌, ap, subst}
+use Rattle.std.proofs.Common.{◌≡◌, ℕ, ◌++◌, Bool, List, ◌∷◌, sym, ◌∙◌, ap, subst}
 use Rattle.std.specs.Prelude.{IsTrue, Option, None}
-use Rattle.sector_disk.specs.Lists.{Content}
 use Rattle.sector_disk.specs.Space.{Space}
-use Rattle.jnl_format.specs.Recovery.{header_of_volume}
 use Rattle.btree_node.specs.Levels.{Pair}
 use Rattle.btree_edit.specs.declared.edits.Inserted.{Inserted}
 use Rattle.btree_edit.specs.declared.edits.Inserted.TheVariants as inserted

@@ -1,7 +1,6 @@
 -- What a change of one record, or a move, leaves of the other entries: they stand, threads match, and the private folder is the same.
-use Rattle.std.proofs.Common.{◌≡◌, ◌⊎◌, ◌≤◌, ℕ, ◌+◌, Bool, false, List, ◌∷◌, ◌++◌, refl, sym, ◌∙◌, ap, subst, arith, inl, inr, ⊎_elim}
+use Rattle.std.proofs.Common.{◌≡◌, ◌≤◌, ℕ, ◌+◌, false, List, refl, sym, ◌∙◌, ap, subst, arith, ⊎_elim}
 use Rattle.std.specs.Prelude.{Contains, IsTrue}
-use Rattle.std.proofs.lemmas.List.Elements.{Contains-append_right}
 use Rattle.btree_node.specs.Levels.{Pair}
 use Rattle.cat_records.specs.Records.{is_catalog}
 use Rattle.cat_records.specs.declared.record.CatRecord.{CatRecord}

@@ -1,6 +1,6 @@
 -- Entries have distinct CNIDs below the next one, so that there are no more of them than that number.
-use Rattle.std.proofs.Common.{◌≡◌, ◌⊎◌, ◌<◌, ◌≤◌, ℕ, zero, suc, ◌+◌, ◌-◌, ◌==◌, Bool, true, false, nat_le, List, [], ◌∷◌, refl, sym, ◌∙◌, ap, subst, arith, inl, inr, eq-eqb, ⊎_elim}
-use Rattle.std.specs.Prelude.{Contains, nat_lt, count_by, if◌then◌else◌}
+use Rattle.std.proofs.Common.{◌≡◌, ◌<◌, ◌≤◌, ℕ, zero, suc, ◌+◌, ◌-◌, ◌==◌, Bool, true, false, nat_le, List, [], ◌∷◌, refl, ◌∙◌, ap, arith, eq-eqb, ⊎_elim}
+use Rattle.std.specs.Prelude.{Contains, nat_lt, count_by}
 use Rattle.std.proofs.lemmas.Bool.{eqb-true}
 use Rattle.std.proofs.lemmas.Bool.Decides.{leb_tells}
 use Rattle.hfs_volume.specs.Entries.{HaveIds, IsUserId}

@@ -72,5 +72,4 @@ pub mod TreesAfter
 pub mod TreesSettled
 pub mod UpdateRoom
 pub mod Walked
-pub mod UpdateRoom
 pub mod Weighed

@@ -1,13 +1,12 @@
 -- `mkdir` and `create`: where the entry was added and the folder above counts it, the volume is settled again, and its tree is the step's.
-use Rattle.std.proofs.Common.{◌≡◌, ◌⊎◌, ◌<◌, ◌≤◌, ℕ, ◌+◌, ◌^◌, Bool, true, false, not, List, [], ◌∷◌, ◌++◌, length, refl, sym, ◌∙◌, ap, subst, arith, inl, inr, ⊎_elim}
-use Rattle.std.specs.Prelude.{Contains, ◌==◌, ◌&&◌, ◌||◌, insert, IsTrue, Option, None, Some, Result, Ok, Err, map}
+use Rattle.std.proofs.Common.{◌≡◌, ◌<◌, ◌≤◌, ℕ, ◌+◌, ◌^◌, Bool, true, false, not, List, [], ◌∷◌, refl, sym, ◌∙◌, ap, subst, arith, ⊎_elim}
+use Rattle.std.specs.Prelude.{Contains, ◌==◌, ◌&&◌, ◌||◌, insert, Option, None, Some, Ok}
 use Rattle.std.specs.Option.{option_map}
 use Rattle.std.specs.Str.{bytes_eq}
 use Rattle.std.proofs.lemmas.Bool.{and_parts, eqb-true, true≢false}
 use Rattle.std.proofs.lemmas.List.{length-map}
 use Rattle.std.proofs.lemmas.List.Elements.{Contains-append_right}
 use Rattle.std.proofs.lemmas.Slice.Eq.{bytes_eq-Decides}
-use Rattle.sector_disk.specs.Lists.{Content}
 use Rattle.sector_disk.specs.Space.{Space}
 use Rattle.jnl_format.specs.Recovery.{header_of_volume}
 use Rattle.btree_node.specs.Keys.{IsCatalogKey}
@@ -19,17 +18,15 @@ use Rattle.hx_bytes.specs.Field.{number_at}
 use Rattle.catalog.specs.Pairs.{value_at}
 use Rattle.cat_records.specs.declared.record.CatRecord.{CatRecord}
 use Rattle.cat_records.specs.declared.record.CatRecord.TheVariants.{Folder, File, Thread}
-use Rattle.cat_records.specs.declared.record.EntryFields.{EntryFields}
 use Rattle.cat_records.specs.declared.record.FileRecord.{FileRecord}
 use Rattle.cat_records.specs.declared.record.ThreadRecord.{ThreadRecord}
 use Rattle.hfs_language.specs.declared.reply.Reply.TheVariants as reply
 use Rattle.hfs_model.specs.Step.{Place, is_private_name, is_private_path, journal_info_name, journal_name, last_name, made, on, private_name, to_make}
-use Rattle.hfs_model.specs.declared.plain.PlainTree.{PlainTree}
 use Rattle.volume_header.specs.declared.header.VolumeHeader.{VolumeHeader}
 use Rattle.hfs_volume.specs.Changes.{Adds, AddsEntry, AreSorted, HasSameNodes, InCatalog, thread_with}
 use Rattle.hfs_volume.specs.Commands.{AreBytesOf, ChangesFields, CreateDoes, IsNewValue, IsTouched, MakesEntry, MkdirDoes, entry_in, with_fields, with_made}
-use Rattle.hfs_volume.specs.Content.{VolumeState, TreeFacts, volume_of, records_of}
-use Rattle.hfs_volume.specs.Entries.{AreThreaded, IsThreadOf, IsUserId, count_in}
+use Rattle.hfs_volume.specs.Content.{VolumeState, volume_of, records_of}
+use Rattle.hfs_volume.specs.Entries.{AreThreaded, IsUserId, count_in}
 use Rattle.hfs_volume.specs.Laws.{IsFolderId}
 use Rattle.hfs_volume.specs.Links.{private_id}
 use Rattle.hfs_volume.specs.Records.{Placed, entries_of, id_in, id_of, is_empty, is_file, is_folder, is_placed_at, is_thread, placed_in, placed_of, record_at, valence_in}

@@ -1,20 +1,18 @@
 -- The room for a new folder or file: for its edits of the catalog, and behind them for the folder above.
-use Rattle.std.proofs.Common.{◌≡◌, ◌⊎◌, ◌<◌, ◌≤◌, ℕ, zero, suc, ◌+◌, ◌-◌, ◌*◌, ◌/◌, ◌^◌, Bool, true, false, List, [], ◌∷◌, length, min, refl, sym, ◌∙◌, ap, subst, arith}
-use Rattle.std.specs.Prelude.{◌==◌, ◌&&◌, ◌||◌, not, nat_le, nat_lt, IsTrue, Result, Ok, Err, OnOk, count_by, slice_index}
+use Rattle.std.proofs.Common.{◌≡◌, ◌<◌, ◌≤◌, ℕ, ◌+◌, ◌-◌, ◌*◌, ◌/◌, ◌^◌, Bool, true, false, List, [], ◌∷◌, length, min, refl, sym, ◌∙◌, ap, subst, arith}
+use Rattle.std.specs.Prelude.{◌||◌, not, nat_le, nat_lt, IsTrue, count_by}
 use Rattle.std.specs.List.{range_with_len}
 use Rattle.std.proofs.Math.Nat.{le-div_iff_mul-le, mul-le-mul_right, min-le_left}
 use Rattle.std.proofs.lemmas.Bool.{ltb-false, true≢false}
 use Rattle.std.proofs.lemmas.List.FromFn.{length-range_with_len}
-use Rattle.hx_bytes.specs.declared.faults.Trouble.{Trouble}
 use Rattle.sector_disk.specs.Space.{Space}
-use Rattle.btree_node.specs.Store.{Store, unwritten_sectors}
+use Rattle.btree_node.specs.Store.{unwritten_sectors}
 use Rattle.volume_header.specs.declared.header.VolumeHeader.{VolumeHeader}
 use Rattle.btree_node.specs.declared.store.TreeShape.{TreeShape}
 use Rattle.btree_edit.specs.Editing.{CostsAtMost, edit_writes}
-use Rattle.btree_edit.specs.Edits.{EditRoom, GoesNoDeeper, TakesAtMost, TakesEdits}
+use Rattle.btree_edit.specs.Edits.{EditRoom, TakesAtMost, TakesEdits}
 use Rattle.btree_file.specs.FrameLaws.{state_well_formed}
 use Rattle.btree_file.specs.State.{is_written, state_of}
-use Rattle.btree_file.specs.declared.tree.TreeFile.{TreeFile}
 use Rattle.hfs_volume.specs.Cost.{catalog_key, depth_of, growth, is_too_deep, node_sectors, rises, tree_load}
 use Rattle.hfs_volume.specs.Content.{TreeFacts, VolumeState}
 use Rattle.hfs_volume.specs.Laws.{one_if}

@@ -1,9 +1,9 @@
 -- A volume stands over its space again behind a put of its bitmap, whose sectors are in none of its trees.
-use Rattle.std.proofs.Common.{◌≡◌, ◌≢◌, ◌⊎◌, ◌<◌, ◌≤◌, ℕ, zero, suc, ◌+◌, ◌-◌, ◌*◌, ◌/◌, ◌%◌, ◌++◌, Bool, true, false, List, [], ◌∷◌, length, replicate, get_or, refl, sym, ◌∙◌, ap, subst, arith, cond, eq-eqb, inl, inr, length-append, ⊎_elim}
-use Rattle.std.specs.Prelude.{◌==◌, ◌↔◌, Contains, IsTrue, Option, None, Some, slice_get, slice_index_or, map, if◌then◌else◌}
+use Rattle.std.proofs.Common.{◌≡◌, ◌⊎◌, ◌<◌, ◌≤◌, ℕ, zero, suc, ◌+◌, ◌-◌, ◌*◌, ◌/◌, ◌%◌, ◌++◌, Bool, true, false, List, [], ◌∷◌, length, replicate, get_or, refl, sym, ◌∙◌, ap, subst, arith, cond, eq-eqb, inl, inr, length-append, ⊎_elim}
+use Rattle.std.specs.Prelude.{Contains, IsTrue, Option, None, Some, slice_get, slice_index_or, map}
 use Rattle.std.proofs.lemmas.Bool.{cases_lt, true≢false}
 use Rattle.std.proofs.lemmas.List.{get_or_append_left, get_or-append_right}
-use Rattle.std.proofs.lemmas.List.Elements.{Contains-append_left, Contains-append_right}
+use Rattle.std.proofs.lemmas.List.Elements.{Contains-append_right}
 use Rattle.std.proofs.lemmas.Option.{slice_get_within, get_or_from_slice_get}
 use Rattle.alloc_bitmap.specs.Apart.{AreApart, times}
 use Rattle.alloc_bitmap.specs.Fork.{ClearsRest, HoldsBits, IsChanged, fork_bit, sector_or_none}
@@ -22,12 +22,11 @@ use Rattle.btree_file.specs.Frame.{PutsWithin}
 use Rattle.btree_file.specs.State.{sectors_of_tree}
 use Rattle.btree_file.proofs.Edited.{file_elsewhere, held_elsewhere}
 use Rattle.hfs_volume.specs.Content.{has_attributes, journal_place, overflow_in_volume}
-use Rattle.hfs_volume.specs.Forks.{allocation_id, attributes_id, catalog_id, data_kind, extents_of, per_block_of}
+use Rattle.hfs_volume.specs.Forks.{allocation_id, attributes_id, catalog_id, data_kind, extents_of}
 use Rattle.hfs_volume.specs.Records.{Overflow, overflow_of}
 use Rattle.volume_header.specs.Header.{header_of}
 use Rattle.volume_ops.specs.Lists.{bits_on, facts_on, lists_of}
 use Rattle.volume_ops.specs.Mapping.{HasBit, HoldsMap, HoldsUnchanged, PutsMap}
-use Rattle.volume_ops.specs.Service.{IsInService}
 use Rattle.volume_ops.specs.Standing.{IsStanding, StandsOver, attribute_sectors, file_sectors, map_sectors, own_sectors}
 use Rattle.volume_ops.specs.declared.volume.Volume.{Volume}
 use Rattle.volume_ops.proofs.CatalogEdited.{there_is}

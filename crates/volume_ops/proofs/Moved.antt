@@ -1,6 +1,6 @@
 -- `mv`: where the entry was moved, both folders count it, and what was moved is dated, the volume is settled again, and its tree is the step's.
-use Rattle.std.proofs.Common.{◌≡◌, ◌⊎◌, ◌<◌, ◌≤◌, ℕ, ◌+◌, ◌-◌, ◌^◌, Bool, true, false, not, List, [], ◌∷◌, eq-eqb, refl, sym, ◌∙◌, ap, subst, arith, inl, inr, ⊎_elim}
-use Rattle.std.specs.Prelude.{Contains, ◌==◌, ◌&&◌, ◌||◌, IsTrue, Option, None, Some, Result, Ok, Err, count_by}
+use Rattle.std.proofs.Common.{◌≡◌, ◌<◌, ◌≤◌, ℕ, ◌+◌, ◌^◌, Bool, true, false, List, [], ◌∷◌, eq-eqb, refl, sym, ◌∙◌, ap, subst, arith, ⊎_elim}
+use Rattle.std.specs.Prelude.{Contains, ◌==◌, ◌&&◌, IsTrue, None, Ok}
 use Rattle.std.specs.Str.{bytes_eq}
 use Rattle.std.proofs.lemmas.Bool.{and_parts, eqb-true, true≢false}
 use Rattle.std.proofs.lemmas.Slice.Eq.{bytes_eq-Decides}
@@ -22,10 +22,10 @@ use Rattle.hfs_model.specs.Step.{is_private_name, journal_info_name, journal_nam
 use Rattle.hfs_model.specs.declared.plain.PlainEntry.{PlainEntry}
 use Rattle.hfs_model.specs.declared.plain.PlainNode.{PlainNode}
 use Rattle.volume_header.specs.declared.header.VolumeHeader.{VolumeHeader}
-use Rattle.hfs_volume.specs.Changes.{HasSameNodes, InCatalog, MovesEntry, thread_with}
+use Rattle.hfs_volume.specs.Changes.{HasSameNodes, InCatalog, MovesEntry}
 use Rattle.hfs_volume.specs.Commands.{ChangesFields, IsMarkedAlone, IsTouched}
 use Rattle.hfs_volume.specs.Content.{VolumeState, volume_of, records_of, attributes_of}
-use Rattle.hfs_volume.specs.Entries.{AreThreaded, IsUserId, count_in}
+use Rattle.hfs_volume.specs.Entries.{AreThreaded, count_in}
 use Rattle.hfs_volume.specs.Laws.{IsFolderId, one_if}
 use Rattle.hfs_volume.specs.Links.{private_id}
 use Rattle.hfs_volume.specs.Naming.{MovesName, MvDoes}
@@ -49,7 +49,7 @@ use Rattle.volume_ops.specs.Making.{free_place}
 use Rattle.volume_ops.specs.Moving.{IsMove, MovesTo}
 use Rattle.volume_ops.specs.Standing.{HoldsTrees, IsStanding, IsSettled}
 use Rattle.volume_ops.specs.declared.volume.Volume.{Volume}
-use Rattle.volume_ops.proofs.Carried.{AreCarried, Carries, both_carry, fields_carry, fields_private, then_fields, threads_changed}
+use Rattle.volume_ops.proofs.Carried.{AreCarried, both_carry, fields_carry, fields_private, then_fields, threads_changed}
 use Rattle.volume_ops.proofs.Counted.{counts_lower}
 use Rattle.volume_ops.proofs.Listed.{nodes_are}
 use Rattle.volume_ops.proofs.CatalogEdited.{catalog_same}

@@ -1,5 +1,5 @@
 -- A volume with other numbers in its header stands as before.
-use Rattle.std.proofs.Common.{◌≡◌, refl, subst, sym}
+use Rattle.std.proofs.Common.{◌≡◌, subst, sym}
 use Rattle.sector_disk.specs.Space.{Space}
 use Rattle.volume_header.specs.Header.{FitsHeader}
 use Rattle.volume_header.specs.declared.header.VolumeHeader.{VolumeHeader}

@@ -1,5 +1,5 @@
 -- A folder whose entries came and went, with its record in the place of the old one.
-use Rattle.std.proofs.Common.{◌≡◌, ◌<◌, ◌≤◌, ℕ, ◌+◌, ◌-◌, ◌*◌, ◌/◌, ◌%◌, ◌^◌, Bool, true, false, List, length, refl, sym, ◌∙◌, ap, subst, arith, inl}
+use Rattle.std.proofs.Common.{◌≡◌, ◌<◌, ℕ, ◌+◌, ◌^◌, Bool, true, false, List, length, refl, sym, ◌∙◌, ap, subst, inl}
 use Rattle.std.specs.Prelude.{Contains, IsTrue, Option, None, Some}
 use Rattle.std.specs.Option.{option_map}
 use Rattle.std.proofs.lemmas.Bool.{true≢false}
@@ -16,11 +16,11 @@ use Rattle.cat_records.specs.declared.record.CatRecord.{CatRecord}
 use Rattle.cat_records.specs.declared.record.CatRecord.TheVariants.{Folder, File, Thread}
 use Rattle.cat_records.specs.declared.record.EntryFields.{EntryFields}
 use Rattle.catalog.specs.Pairs.{value_at}
-use Rattle.hfs_volume.specs.Changes.{AreSorted, HasSameNodes, with_numbers}
+use Rattle.hfs_volume.specs.Changes.{AreSorted, with_numbers}
 use Rattle.hfs_volume.specs.Commands.{ChangesFields, IsTouched}
 use Rattle.hfs_volume.specs.Content.{VolumeState}
 use Rattle.hfs_volume.specs.Entries.{AreThreaded}
-use Rattle.hfs_volume.specs.Records.{Placed, placed_in, entries_of, id_of, id_in, is_folder, is_thread, valence_in}
+use Rattle.hfs_volume.specs.Records.{Placed, placed_in, id_in, is_folder, is_thread, valence_in}
 use Rattle.hfs_volume.proofs.Ascending.{tree_sorted}
 use Rattle.hfs_volume.proofs.Sides.{entry_is_record}
 use Rattle.volume_ops.specs.Changing.{ChangesCatalog, HasFolder, ReplacesRecord, TouchesFolder}
@@ -30,7 +30,6 @@ use Rattle.volume_ops.specs.Looking.{ReadsVolume}
 use Rattle.volume_ops.specs.Standing.{HoldsTrees}
 use Rattle.volume_ops.specs.declared.entries.Entry.{Entry}
 use Rattle.volume_ops.specs.declared.volume.Volume.{Volume}
-use Rattle.volume_ops.specs.declared.volume.Tree.{Tree}
 use Rattle.volume_ops.proofs.Entered.{keys_are, short_names, at_place, entry_is}
 use Rattle.volume_ops.proofs.ListsAfter.{changes_both}
 use Rattle.volume_ops.proofs.Over.{sectors_kept}

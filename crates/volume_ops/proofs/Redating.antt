@@ -1,5 +1,5 @@
 -- A folder or file that was dated, with its record in the place of the old one.
-use Rattle.std.proofs.Common.{◌≡◌, ℕ, Bool, false, List, length, refl, sym, ◌∙◌, ap, subst}
+use Rattle.std.proofs.Common.{◌≡◌, ℕ, false, refl, sym, ◌∙◌, ap, subst}
 use Rattle.std.specs.Prelude.{Contains, IsTrue, Option, None, Some}
 use Rattle.std.specs.Option.{option_map}
 use Rattle.std.proofs.lemmas.Bool.{true≢false}
@@ -14,13 +14,12 @@ use Rattle.btree_file.specs.Held.{file_in}
 use Rattle.btree_file.specs.State.{sectors_of_tree}
 use Rattle.cat_records.specs.declared.record.CatRecord.{CatRecord}
 use Rattle.cat_records.specs.declared.record.CatRecord.TheVariants.{Folder, File, Thread}
-use Rattle.cat_records.specs.declared.record.EntryFields.{EntryFields}
 use Rattle.catalog.specs.Pairs.{value_at}
 use Rattle.hfs_volume.specs.Changes.{AreSorted}
 use Rattle.hfs_volume.specs.Commands.{ChangesFields, IsMarkedAlone}
 use Rattle.hfs_volume.specs.Content.{VolumeState}
 use Rattle.hfs_volume.specs.Entries.{AreThreaded}
-use Rattle.hfs_volume.specs.Records.{Placed, placed_in, entries_of, id_of, id_in, is_empty, is_folder, is_thread}
+use Rattle.hfs_volume.specs.Records.{Placed, placed_in, id_in, is_empty, is_thread}
 use Rattle.hfs_volume.proofs.Ascending.{tree_sorted}
 use Rattle.hfs_volume.proofs.Members.{each_of}
 use Rattle.hfs_volume.proofs.Sides.{entry_is_record, entry_is_named}
@@ -35,7 +34,7 @@ use Rattle.volume_ops.proofs.Entered.{keys_are, short_names, at_place, entry_is}
 use Rattle.volume_ops.proofs.FoundEntry.{IsThere}
 use Rattle.volume_ops.proofs.ListsAfter.{changes_both}
 use Rattle.volume_ops.proofs.Recounting.{read_changes}
-use Rattle.volume_ops.proofs.Refielded.{FieldsChange, KeepsEntry, changes_fields, refielded}
+use Rattle.volume_ops.proofs.Refielded.{FieldsChange, changes_fields, refielded}
 use Rattle.volume_ops.proofs.Still.{lists_still}
 
 -- ---- the record

@@ -1,7 +1,6 @@
 -- Where a name may be made by the records of a settled volume it may be made on its tree; and what `mkdir` and `create` answer.
-use Rattle.std.proofs.Common.{◌≡◌, ◌<◌, ◌≤◌, ℕ, suc, Bool, true, false, List, [], ◌∷◌, ◌++◌, length, refl, sym, ◌∙◌, ap, subst, arith}
-use Rattle.std.specs.Prelude.{◌||◌, Option, Some, None, Result, Ok, Err, if◌then◌else◌}
-use Rattle.std.proofs.lemmas.Bool.{true≢false}
+use Rattle.std.proofs.Common.{◌≡◌, ◌<◌, ℕ, Bool, true, false, List, [], ◌∷◌, ◌++◌, length, refl, sym, ◌∙◌, ap, subst, arith}
+use Rattle.std.specs.Prelude.{◌||◌, Result, Ok, Err, if◌then◌else◌}
 use Rattle.sector_disk.specs.Lists.{Content}
 use Rattle.btree_node.specs.Levels.{Pair}
 use Rattle.hfs_language.specs.Written.{FitsPath, IsName}
@@ -9,7 +8,7 @@ use Rattle.hfs_language.specs.declared.command.Command.TheVariants as command
 use Rattle.hfs_language.specs.declared.refusal.Refusal.{Refusal}
 use Rattle.hfs_language.specs.declared.refusal.Refusal.TheVariants as refusal
 use Rattle.hfs_language.specs.declared.reply.Reply.TheVariants as reply
-use Rattle.hfs_model.specs.Step.{Place, front, is_private_path, is_root, last_name, made, on, step, step_line, then_, to_make, unless}
+use Rattle.hfs_model.specs.Step.{Place, front, is_private_path, is_root, last_name, made, on, step, step_line, then_, to_make}
 use Rattle.hfs_model.specs.declared.plain.PlainTree.{PlainTree}
 use Rattle.hfs_model.proofs.Below.{front-last, last_name-last}
 use Rattle.hfs_volume.specs.Books.{SoundHasPlainTree}

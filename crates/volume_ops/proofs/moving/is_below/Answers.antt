@@ -1,4 +1,4 @@
-use Rattle.std.proofs.Common.{sym, ◌∙◌, ap, arith, List, ℕ, length, drop, ◌<◌}
+use Rattle.std.proofs.Common.{sym, ◌∙◌, arith, List, ℕ, length, drop, ◌<◌}
 use Rattle.std.proofs.lemmas.List.{at_drop_all, length-drop}
 use borrow.Author.Tests.{leb-true, leb-false}
 use Rattle.hfs_model.specs.Step.{is_below}

@@ -1,4 +1,4 @@
-use Rattle.std.proofs.Common.{◌<◌, ◌^◌, refl, arith}
+use Rattle.std.proofs.Common.{refl, arith}
 use Rattle.volume_ops.proofs.HeaderFits.{zeros_are}
 use Rattle.volume_ops.proofs.new_entries.new_fields.Goals as goal
 

@@ -1,10 +1,9 @@
-use Rattle.std.proofs.Common.{◌≡◌, ◌<◌, ◌≤◌, ◌+◌, ◌*◌, ◌/◌, ℕ, List, refl, sym, ◌∙◌, ap, subst, arith}
-use Rattle.std.specs.Prelude.{OnOk}
+use Rattle.std.proofs.Common.{◌/◌, ℕ, List, sym, ◌∙◌, ap, subst, arith}
 use Rattle.std.specs.List.{Contains}
 use Rattle.volume_ops.specs.Changing.{DatesEntry}
 use Rattle.volume_ops.specs.Moving.{Arrives}
 use Rattle.volume_ops.specs.Touching.{Touches}
-use Rattle.volume_ops.proofs.Carried.{fields_carry, threads_changed}
+use Rattle.volume_ops.proofs.Carried.{threads_changed}
 use Rattle.volume_ops.proofs.Commanding.{touches_both}
 use Rattle.volume_ops.proofs.FoundEntry.{ok_so}
 use Rattle.volume_ops.proofs.Moved.{entry_carried}

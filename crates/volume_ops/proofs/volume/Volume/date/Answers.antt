@@ -1,14 +1,12 @@
 use Rattle.std.proofs.Common.{◌≡◌, ◌≤◌, ◌+◌, false, ℕ, List, length, sym, ◌∙◌, ap, subst, arith}
-use Rattle.std.specs.Prelude.{Option, None, Some, IfSome, OnOk}
+use Rattle.std.specs.Prelude.{Option, IfSome}
 use Rattle.std.specs.List.{Contains}
-use Rattle.btree_node.specs.Levels.{Pair}
 use Rattle.cat_records.specs.Fits.{FitsRecord}
 use Rattle.catalog.specs.Pairs.{value_at}
 use Rattle.hfs_volume.specs.Content.{VolumeState}
 use Rattle.hfs_volume.specs.Entries.{AreSpelled}
 use Rattle.hfs_volume.specs.Records.{id_in, is_thread}
 use Rattle.volume_ops.specs.Changing.{DatesEntry}
-use Rattle.volume_ops.specs.Lists.{lists_of}
 use Rattle.volume_ops.specs.Touching.{Touches}
 use Rattle.volume_ops.specs.declared.entries.Entry.{Entry}
 use Rattle.volume_ops.proofs.Commanding.{touches_looks, touches_both}

@@ -1,4 +1,4 @@
-use Rattle.std.proofs.Common.{◌≤◌, ◌+◌, true, arith}
+use Rattle.std.proofs.Common.{true, arith}
 use Rattle.hfs_volume.specs.TreeOf.{tree_of}
 use Rattle.volume_ops.proofs.Loads.{make_load_told}
 use Rattle.volume_ops.proofs.volume.Volume.mkdir.Goals as goal
