@@ -14,6 +14,7 @@ use Rattle.volume_ops.specs.Changing.{ChangesCatalog, PutsHeader}
 use Rattle.volume_ops.specs.Standing.{IsStanding, IsSettled}
 use Rattle.volume_ops.specs.declared.volume.Volume.{Volume}
 use Rattle.volume_ops.proofs.HeaderPut.{dated}
+use Rattle.volume_ops.proofs.ListsAgain.{lists_again}
 use Rattle.volume_ops.proofs.ListsAfter.{numbers_change, changes_both}
 use Rattle.volume_ops.proofs.Settling.{lists_then, settles_again, tree_again}
 
@@ -32,6 +33,10 @@ module _ (law : AtDoes) (moment : ℕ) (v : Volume) (a b : Space) (settled : IsS
 
   pub dated_settles : IsSettled (dated moment v) b.content
   dated_settles = settles_again v (dated moment v) a b changes settled was stands put.headed sound (ap (λ (l : VolumeState). private_id (placed_in l.catalog_pairs)) put.lists)
+
+  -- the content's lists have the moment, and nothing else of them is changed
+  pub dated_lists : volume_of b.content ≡ at_moment moment (volume_of a.content)
+  dated_lists = lists_again v (dated moment v) a b changes settled was dated_settles ∙ told
 
   pub dated_tree : tree_of b.content ≡ (step_line (tree_of a.content) (Ok (command.At moment))).1
   unfolding tree_of

@@ -62,6 +62,15 @@ module _ (lists : VolumeState) (sound : IsSoundVolume lists) where
       (in_range 0 (parts_for 1536 lists.head.block_size) (2 / per) (omega arith) (omega (arith, in_front lists.head.block_size per whole.whole whole.some 1536 2 (omega arith)))))
       (in_block per (blocks_by owned) 2 whole.some has)
 
+  -- a sector of the attributes file is neither the header's nor the catalog's, whatever the size of the file
+  pub attributes_apart : (at : ℕ) → Contains (attributes_sectors lists) at → (at ≢ 2) × (Contains (catalog_sectors lists) at → ⊥)
+  attributes_apart at has = (
+    λ two. no_header attributes_owned (λ kept_back inside. not_reserved lists sound.blocks.forks attributes_owned (2 / per) kept_back (special_stands lists attributes_owned (4, omega arith, refl)) inside)
+        (subst (λ n. Contains (attributes_sectors lists) n) two has),
+    λ there. not_in_both lists sound.blocks.forks catalog_owned attributes_owned (at / per) (special_stands lists catalog_owned (1, omega arith, refl)) (special_stands lists attributes_owned (4, omega arith, refl))
+        (λ same. absurd (omega (arith, ap (λ (o : Owned). o.id) same))) (in_block per (blocks_by catalog_owned) at whole.some there) (in_block per (blocks_by attributes_owned) at whole.some has),
+  )
+
   module _ (p : Placed) (file : FileRecord) (stands : Contains (entries_of (records_of lists)) p) (is : p.value ≡ File file) where
     abbrev file_sectors : List ℕ
     file_sectors = sectors_of per (blocks_by (data_fork_of file))

@@ -27,6 +27,7 @@ pub mod Identities
 pub mod Leaving
 pub mod Listed
 pub mod ListsAfter
+pub mod ListsAgain
 pub mod Loads
 pub mod Made
 pub mod MakeRoom
@@ -36,6 +37,7 @@ pub mod MarkRoom
 pub mod Marked
 pub mod MoveRoom
 pub mod Moved
+pub mod Mounted
 pub mod NodeIs
 pub mod NodesRead
 pub mod Numbering

@@ -8,6 +8,7 @@ pub mod Looking
 pub mod Making
 pub mod Mapping
 pub mod Moving
+pub mod Mounting
 pub mod Nodes
 pub mod Opening
 pub mod Owning

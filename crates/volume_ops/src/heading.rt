@@ -5,6 +5,7 @@ ghost use Rattle.sector_disk.specs.Lists.{Content};
 ghost use Rattle.btree_file.specs.Frame.{PutsWithin};
 ghost use Rattle.hfs_language.specs.declared.command.Command.TheVariants as command;
 ghost use Rattle.hfs_model.specs.Step.{step_line};
+ghost use Rattle.hfs_volume.specs.Attributing.{at_moment};
 ghost use Rattle.hfs_volume.specs.Content.{volume_of};
 ghost use Rattle.hfs_volume.specs.TreeOf.{tree_of};
 ghost use Rattle.hfs_volume.specs.Weight.{weight};
@@ -50,6 +51,8 @@ impl Volume {
         // Told, reply and tree are those of the plain tree's step.
         ensures reply { IsTrue (P.SectorView.space space.old).tells → result ≡ (step_line (tree_of (P.SectorView.space space.old).content) (Ok (command.At moment))).0 }
         ensures tree { IsTrue (P.SectorView.space space.old).tells → tree_of (P.SectorView.space space.new).content ≡ (step_line (tree_of (P.SectorView.space space.old).content) (Ok (command.At moment))).1 }
+        // The moment of the header alone is another.
+        ensures lists { IsTrue (P.SectorView.space space.old).tells → volume_of (P.SectorView.space space.new).content ≡ at_moment moment (volume_of (P.SectorView.space space.old).content) }
         ensures stands { StandsOver self.new (P.SectorView.space space.new) }
         ensures settled { IsTrue (P.SectorView.space space.old).tells → IsSettled self.new (P.SectorView.space space.new).content }
         // Nothing else of it is changed.

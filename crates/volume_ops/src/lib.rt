@@ -20,6 +20,7 @@ mod making;
 mod mapping;
 mod marking;
 mod moving;
+mod mounting;
 mod names;
 mod new_entries;
 mod nodes;

@@ -1,5 +1,5 @@
 use Rattle.std.proofs.Common.{◌≤◌, ◌+◌, refl, sym, ◌∙◌, arith}
-use Rattle.volume_ops.proofs.Dating.{dated_settles, dated_tree}
+use Rattle.volume_ops.proofs.Dating.{dated_lists, dated_settles, dated_tree}
 use Rattle.hfs_volume.specs.Content.{volume_of}
 use Rattle.hfs_volume.specs.TreeOf.{tree_of}
 use Rattle.volume_ops.proofs.Loads.{at_load}
@@ -27,3 +27,7 @@ returns-clause-settled g c tells = dated_settles c.at_does_its_step.ensures c.ar
 pub returns-clause-loads : goal.returns-clause-loads
 returns-clause-loads g c tells n grow is =
     omega (arith, c.put_header.ensures.spent, at_load c.args.self.now.capacity c.args.moment (volume_of (g.P.SectorView.space c.args.space.now).content) (tree_of (g.P.SectorView.space c.args.space.now).content) n grow is)
+
+pub returns-clause-lists : goal.returns-clause-lists
+returns-clause-lists g c tells = dated_lists c.at_does_its_step.ensures c.args.moment c.args.self.now (g.P.SectorView.space c.args.space.now) (g.P.SectorView.space c.put_header.new.space) (c.requires.settled tells) (c.requires.stands.stands tells)
+    (c.put_header.ensures.stands.stands (c.put_header.ensures.within.same.tells ∙ tells)) (c.put_header.ensures.put tells)
