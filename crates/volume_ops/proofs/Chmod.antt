@@ -28,6 +28,7 @@ use Rattle.volume_ops.specs.Lists.{lists_of, facts_on}
 use Rattle.volume_ops.specs.Standing.{IsStanding, IsSettled, StandsOver}
 use Rattle.volume_ops.specs.declared.entries.Entry.{Entry}
 use Rattle.volume_ops.specs.declared.volume.Volume.{Volume}
+use Rattle.volume_ops.proofs.ListsAgain.{lists_again}
 use Rattle.volume_ops.proofs.Righting.{changes_mode}
 use Rattle.volume_ops.proofs.Settling.{lists_then, settles_again, tree_again, header_settled}
 
@@ -80,17 +81,21 @@ module _ (law : ChmodDoes) (halves : (volume : VolumeState) → SoundIsBoth volu
       private : private_id (placed_in (lists_of w b.content).catalog_pairs) ≡ private_id (placed_in (lists_of v a.content).catalog_pairs)
       private = private_after_fields (id_in entry.rec) (volume_of a.content) (lists_then a.content w b.content) changes ((halves (volume_of a.content)).0 settled.sound).0 ∙ ap (λ (l : List Pair). private_id (placed_in l)) pairs_are
 
-      pub mode_does : IsSettled w b.content × (tree_of b.content ≡ (step (tree_of a.content) (command.Chmod path rights)).1)
+      settled_now : IsSettled w b.content
+      settled_now = settles_again v w a b sets.replaces.changes settled was stands headed does.0 private
+
+      pub mode_does : IsSettled w b.content × (tree_of b.content ≡ (step (tree_of a.content) (command.Chmod path rights)).1) × ChangesMode (id_in entry.rec) rights (volume_of a.content) (volume_of b.content)
       unfolding tree_of
       mode_does = (
-        settles_again v w a b sets.replaces.changes settled was stands headed does.0 private,
+        settled_now,
         tree_again v w a b sets.replaces.changes settled was stands headed does.0 ∙ does.1,
+        subst (λ (l : VolumeState). ChangesMode (id_in entry.rec) rights (volume_of a.content) l) (sym (lists_again v w a b sets.replaces.changes settled was settled_now)) changes,
       )
 
 -- the same of a volume that was read before: its content and its tree are those that they were
 pub mode_set : (law : ChmodDoes) → ((volume : VolumeState) → SoundIsBoth volume) → (v w : Volume) (a b : Space) → IsSettled v a.content → StandsOver v a → IsTrue a.tells → b.tells ≡ a.tells → (entry : Entry) (rights : ℕ) → rights < 4096
     → value_at (lists_of v a.content).catalog_pairs entry.parent entry.name ≡ Some entry.rec → (before : Content) → a.content ≡ before → (path : List (List ℕ)) (node : PlainNode) → to_node (tree_of before) path ≡ Ok node → node.id ≡ id_in entry.rec
-    → StandsOver w b → SetsRights v.header.modify_date rights entry v w a.content b.content → IsSettled w b.content × (tree_of b.content ≡ (step (tree_of before) (command.Chmod path rights)).1)
+    → StandsOver w b → SetsRights v.header.modify_date rights entry v w a.content b.content → IsSettled w b.content × (tree_of b.content ≡ (step (tree_of before) (command.Chmod path rights)).1) × ChangesMode (id_in entry.rec) rights (volume_of before) (volume_of b.content)
 mode_set law halves v w a b settled was tells same entry rights low there before content path node allowed number stands sets =
     let does = mode_does law halves v w a b settled (was.stands tells) (stands.stands (same ∙ tells)) entry rights low sets there path node (ap (λ (c : Content). to_node (tree_of c) path) content ∙ allowed) number in
-    (does.0, does.1 ∙ ap (λ (c : Content). (step (tree_of c) (command.Chmod path rights)).1) content)
+    (does.0, does.1 ∙ ap (λ (c : Content). (step (tree_of c) (command.Chmod path rights)).1) content, subst (λ (c : Content). ChangesMode (id_in entry.rec) rights (volume_of c) (volume_of b.content)) content does.2)

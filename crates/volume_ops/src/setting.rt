@@ -7,8 +7,10 @@ ghost use Rattle.catalog.specs.Pairs.{value_at};
 ghost use Rattle.cat_records.specs.Fits.{FitsRecord};
 ghost use Rattle.hfs_language.specs.Written.{FitsPath};
 ghost use Rattle.hfs_language.specs.declared.command.Command.TheVariants as command;
+ghost use Rattle.hfs_language.specs.declared.reply.Reply.TheVariants as reply;
 ghost use Rattle.hfs_model.specs.Step.{step, step_line, to_node, is_refusal};
 ghost use Rattle.hfs_model.specs.declared.plain.PlainNode.{PlainNode};
+ghost use Rattle.hfs_volume.specs.Commands.{ChangesMode};
 ghost use Rattle.hfs_volume.specs.Content.{volume_of};
 ghost use Rattle.hfs_volume.specs.Entries.{AreSpelled};
 ghost use Rattle.hfs_volume.specs.Records.{is_thread};
@@ -49,6 +51,7 @@ impl Volume {
         requires room { HasRoomToUpdate self.old (P.SectorView.space space.old) }
         ensures stands { OnOk result (StandsOver self.new (P.SectorView.space space.new)) }
         ensures service { IsInService self.new (P.SectorView.space space.new) }
+        ensures rest { self.new ≡ record self.old { catalog = self.new.catalog } }
         ensures sets { IsTrue (P.SectorView.space space.old).tells → is_thread entry.now.rec ≡ false
             → OnOk result (SetsRights self.old.header.modify_date rights entry.now self.old self.new (P.SectorView.space space.old).content (P.SectorView.space space.new).content) }
         ensures touches { (committed : Content) → Touches committed (λ s. Contains (own_sectors self.old) s) (P.SectorView.space space.old) (P.SectorView.space space.new) }
@@ -77,8 +80,10 @@ impl Volume {
         requires room { HasRoomToUpdate self.old (P.SectorView.space space.old) }
         ensures stands { OnOk result (StandsOver self.new (P.SectorView.space space.new)) }
         ensures service { IsInService self.new (P.SectorView.space space.new) }
+        ensures rest { self.new ≡ record self.old { catalog = self.new.catalog } }
         ensures does { IsTrue (P.SectorView.space space.old).tells → (path : List (List ℕ)) (node : PlainNode) → to_node (tree_of (P.SectorView.space space.old).content) path ≡ Ok node → node.id ≡ id
-            → OnOk result (IsSettled self.new (P.SectorView.space space.new).content × (tree_of (P.SectorView.space space.new).content ≡ (step (tree_of (P.SectorView.space space.old).content) (command.Chmod path rights)).1)) }
+            → OnOk result (IsSettled self.new (P.SectorView.space space.new).content × (tree_of (P.SectorView.space space.new).content ≡ (step (tree_of (P.SectorView.space space.old).content) (command.Chmod path rights)).1)
+            × ChangesMode id rights (volume_of (P.SectorView.space space.old).content) (volume_of (P.SectorView.space space.new).content)) }
         ensures touches { (committed : Content) → Touches committed (λ s. Contains (own_sectors self.old) s) (P.SectorView.space space.old) (P.SectorView.space space.new) }
         ensures spent { IsTrue (P.SectorView.space space.old).tells → (P.SectorView.space space.old).spare ≤ (P.SectorView.space space.new).spare + catalog_node self.old }
         ensures below { P.SectorView.follows space.old space.new }
@@ -112,6 +117,11 @@ impl Volume {
         ensures reply { IsTrue (P.SectorView.space space.old).tells → IfOk result (λ reply. reply ≡ (step_line (tree_of (P.SectorView.space space.old).content) (Ok (command.Chmod path.now rights))).0) }
         ensures tree { IsTrue (P.SectorView.space space.old).tells → OnOk result (tree_of (P.SectorView.space space.new).content ≡ (step_line (tree_of (P.SectorView.space space.old).content) (Ok (command.Chmod path.now rights))).1) }
         ensures refused { IsTrue (P.SectorView.space space.old).tells → IfOk result (λ reply. is_refusal reply ≡ true → (P.SectorView.space space.new).content ≡ (P.SectorView.space space.old).content) }
+        // Where it isn't refused, the folder or file has these rights in the content's lists, and nothing else of them is changed.
+        ensures lists { IsTrue (P.SectorView.space space.old).tells → IfOk result (λ said. said ≡ reply.Ok → (node : PlainNode) × (to_node (tree_of (P.SectorView.space space.old).content) path.now ≡ Ok node) × ChangesMode node.id rights (volume_of (P.SectorView.space space.old).content) (volume_of (P.SectorView.space space.new).content)) }
+        // The header and the blocks in use are as they were.
+        ensures header { self.new.header ≡ self.old.header }
+        ensures map { self.new.map ≡ self.old.map }
         ensures stands { OnOk result (StandsOver self.new (P.SectorView.space space.new)) }
         ensures settled { IsTrue (P.SectorView.space space.old).tells → OnOk result (IsSettled self.new (P.SectorView.space space.new).content) }
         ensures service { IsInService self.new (P.SectorView.space space.new) }

@@ -5,8 +5,11 @@ use Rattle.sector_disk.specs.Lists.{Content}
 use Rattle.hfs_language.specs.declared.command.Command.TheVariants as command
 use Rattle.hfs_model.specs.Step.{step, to_node}
 use Rattle.hfs_model.specs.declared.plain.PlainTree.{PlainTree}
+use Rattle.hfs_volume.specs.Commands.{ChangesMode}
+use Rattle.hfs_volume.specs.Content.{volume_of}
 use Rattle.hfs_volume.specs.TreeOf.{tree_of}
 use Rattle.volume_ops.specs.Touching.{Touches}
+use Rattle.volume_ops.specs.declared.volume.Volume.{Volume}
 use Rattle.volume_ops.proofs.Commanding.{touches_looks, touches_both, touches_none}
 use Rattle.volume_ops.proofs.FoundEntry.{room_still, node_still}
 use Rattle.volume_ops.proofs.Loads.{chmod_load}
@@ -125,3 +128,30 @@ returns-in-Err-clause-loads g c tells n grow is = omega (arith, c.owner.ensures.
 
 pub returns-in_err-id-clause-loads : goal.returns-in_err-id-clause-loads
 returns-in_err-id-clause-loads g c tells n grow is = omega (arith, c.owner.ensures.reads.looks.spare)
+
+pub returns-in_ok-set_mode-in-Ok-clause-lists : goal.returns-in_ok-set_mode-in-Ok-clause-lists
+returns-in_ok-set_mode-in-Ok-clause-lists g c tells ok =
+    let n = node_told c.sound_has_plain_tree.ensures c.args.self.now (g.P.SectorView.space c.args.space.now).content (c.requires.stands.stands tells).trees (c.requires.settled tells) c.args.path.now (sym c.is_private_path.ensures ∙ c.if-is_private_path.false) c.requires.fits c.in_ok-id.field-0 (c.in_ok-id.ensures.found tells) c.in-Ok.id c.in-Ok.is in
+    let does = c.in_ok-set_mode-in-Ok.ensures.does (c.owner.ensures.reads.looks.same.tells ∙ tells) c.args.path.now n.0 (ap (λ (k : Content). to_node (tree_of k) c.args.path.now) (c.owner.ensures.reads.looks.content tells) ∙ n.1) n.2 in (
+      n.0,
+      n.1,
+      subst (λ (k : ℕ × Content). ChangesMode k.0 c.args.rights (volume_of k.1) (volume_of (g.P.SectorView.space c.set_mode.new.space).content)) {x = (c.in-Ok.id, (g.P.SectorView.space c.owner.new.space).content)} {y = (n.0.id, (g.P.SectorView.space c.args.space.now).content)} (λ i. (sym n.2 i, c.owner.ensures.reads.looks.content tells i)) does.2,
+    )
+
+pub returns-in_ok-set_mode-in-Ok-clause-header : goal.returns-in_ok-set_mode-in-Ok-clause-header
+returns-in_ok-set_mode-in-Ok-clause-header g c = ap (λ (x : Volume). x.header) c.set_mode.ensures.rest ∙ c.owner.ensures.reads.keeps.header
+
+pub returns-in_ok-set_mode-in-Ok-clause-map : goal.returns-in_ok-set_mode-in-Ok-clause-map
+returns-in_ok-set_mode-in-Ok-clause-map g c = ap (λ (x : Volume). x.map) c.set_mode.ensures.rest ∙ c.owner.ensures.reads.keeps.map
+
+pub returns-in_err-set_mode-in-Ok-clause-header : goal.returns-in_err-set_mode-in-Ok-clause-header
+returns-in_err-set_mode-in-Ok-clause-header g c = ap (λ (x : Volume). x.header) c.set_mode.ensures.rest ∙ c.owner.ensures.reads.keeps.header
+
+pub returns-in_err-set_mode-in-Ok-clause-map : goal.returns-in_err-set_mode-in-Ok-clause-map
+returns-in_err-set_mode-in-Ok-clause-map g c = ap (λ (x : Volume). x.map) c.set_mode.ensures.rest ∙ c.owner.ensures.reads.keeps.map
+
+pub returns-in-Err-clause-lists : goal.returns-in-Err-clause-lists
+returns-in-Err-clause-lists g c tells ok = absurd (cc ok)
+
+pub returns-then-is_private_path-clause-lists : goal.returns-then-is_private_path-clause-lists
+returns-then-is_private_path-clause-lists g c tells ok = absurd (cc ok)

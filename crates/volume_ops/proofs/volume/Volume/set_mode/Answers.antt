@@ -6,7 +6,8 @@ use Rattle.cat_records.specs.declared.record.CatRecord.{CatRecord}
 use Rattle.catalog.specs.Pairs.{value_at}
 use Rattle.hfs_language.specs.declared.command.Command.TheVariants as command
 use Rattle.hfs_model.specs.Step.{step}
-use Rattle.hfs_volume.specs.Content.{VolumeState}
+use Rattle.hfs_volume.specs.Commands.{ChangesMode}
+use Rattle.hfs_volume.specs.Content.{VolumeState, volume_of}
 use Rattle.hfs_volume.specs.Records.{is_thread}
 use Rattle.hfs_volume.specs.TreeOf.{tree_of}
 use Rattle.volume_ops.specs.Changing.{SetsRights}
@@ -48,10 +49,10 @@ returns-in-Some-clause-does g c tells path node allowed number =
     let it = entry_there c.args.self.now (g.P.SectorView.space c.args.space.now).content (c.requires.stands.stands tells).trees (c.requires.settled tells) c.args.id node (node_there (tree_of (g.P.SectorView.space c.args.space.now).content) path node allowed) number c.in-Some.entry (sym c.in-Some.is ∙ c.in_ok-entry.ensures.found tells) in
     let there = ap (λ (l : VolumeState). value_at l.catalog_pairs c.in-Some.entry.parent c.in-Some.entry.name) (lists_still c.args.self.now c.entry.new.self (g.P.SectorView.space c.args.space.now) (g.P.SectorView.space c.entry.new.space) c.entry.ensures.reads tells) ∙ it.value in
     ok_both (StandsOver c.put_mode.new.self (g.P.SectorView.space c.put_mode.new.space)) (SetsRights c.entry.new.self.header.modify_date c.args.rights c.in-Some.entry c.entry.new.self c.put_mode.new.self (g.P.SectorView.space c.entry.new.space).content (g.P.SectorView.space c.put_mode.new.space).content)
-    (IsSettled c.put_mode.new.self (g.P.SectorView.space c.put_mode.new.space).content × (tree_of (g.P.SectorView.space c.put_mode.new.space).content ≡ (step (tree_of (g.P.SectorView.space c.args.space.now).content) (command.Chmod path c.args.rights)).1))
+    (IsSettled c.put_mode.new.self (g.P.SectorView.space c.put_mode.new.space).content × (tree_of (g.P.SectorView.space c.put_mode.new.space).content ≡ (step (tree_of (g.P.SectorView.space c.args.space.now).content) (command.Chmod path c.args.rights)).1) × ChangesMode c.args.id c.args.rights (volume_of (g.P.SectorView.space c.args.space.now).content) (volume_of (g.P.SectorView.space c.put_mode.new.space).content))
     c.put_mode.result c.put_mode.ensures.stands (c.put_mode.ensures.sets (c.entry.ensures.reads.looks.same.tells ∙ tells) it.kind)
-    (λ stands sets. mode_set c.chmod_does_its_step.ensures c.soundness_has_two_halves.ensures c.entry.new.self c.put_mode.new.self (g.P.SectorView.space c.entry.new.space) (g.P.SectorView.space c.put_mode.new.space) (settled_still c.args.self.now c.entry.new.self (g.P.SectorView.space c.args.space.now) (g.P.SectorView.space c.entry.new.space) c.entry.ensures.reads tells (c.requires.settled tells)) c.entry.ensures.stands (c.entry.ensures.reads.looks.same.tells ∙ tells)
-    (c.put_mode.ensures.touches (g.P.SectorView.space c.args.space.now).content).same.tells c.in-Some.entry c.args.rights c.requires.rights there (g.P.SectorView.space c.args.space.now).content (c.entry.ensures.reads.looks.content tells) path node allowed (number ∙ sym it.number) stands sets)
+    (λ stands sets. let does = mode_set c.chmod_does_its_step.ensures c.soundness_has_two_halves.ensures c.entry.new.self c.put_mode.new.self (g.P.SectorView.space c.entry.new.space) (g.P.SectorView.space c.put_mode.new.space) (settled_still c.args.self.now c.entry.new.self (g.P.SectorView.space c.args.space.now) (g.P.SectorView.space c.entry.new.space) c.entry.ensures.reads tells (c.requires.settled tells)) c.entry.ensures.stands (c.entry.ensures.reads.looks.same.tells ∙ tells)
+    (c.put_mode.ensures.touches (g.P.SectorView.space c.args.space.now).content).same.tells c.in-Some.entry c.args.rights c.requires.rights there (g.P.SectorView.space c.args.space.now).content (c.entry.ensures.reads.looks.content tells) path node allowed (number ∙ sym it.number) stands sets in (does.0, does.1, subst (λ n. ChangesMode n c.args.rights (volume_of (g.P.SectorView.space c.args.space.now).content) (volume_of (g.P.SectorView.space c.put_mode.new.space).content)) it.number does.2))
 
 pub returns-in-Some-clause-touches : goal.returns-in-Some-clause-touches
 returns-in-Some-clause-touches g c committed =
@@ -85,3 +86,6 @@ returns-in_err-entry-clause-spent g c tells = omega (arith, c.entry.ensures.read
 
 pub returns-in_err-entry-clause-service : goal.returns-in_err-entry-clause-service
 returns-in_err-entry-clause-service g c = c.entry.ensures.stands.service
+
+pub returns-in-Some-clause-rest : goal.returns-in-Some-clause-rest
+returns-in-Some-clause-rest g c = c.put_mode.ensures.rest ∙ (λ i. record (c.entry.ensures.rest i) { catalog = c.put_mode.new.self.catalog })
