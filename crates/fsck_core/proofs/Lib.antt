@@ -34,3 +34,4 @@ pub mod OpeningLaws
 pub mod CheckLaws
 pub mod BitsLaws
 pub mod UsedLists
+pub mod StretchLaws

@@ -1,8 +1,9 @@
 -- Parts of rule 17 that are judged one after the other.
-use Rattle.std.proofs.Common.{◌≡◌, ◌⊎◌, ◌↔◌, ◌<◌, ◌≤◌, ℕ, ◌+◌, Bool, true, false, not, ◌==◌, ◌&&◌, ◌||◌, List, [], ◌∷◌, ◌++◌, length, map, take, get_or, inl, inr, refl, sym, ◌∙◌, ap, subst, arith, ⊎_elim}
+use Rattle.std.proofs.Common.{◌≡◌, ◌≢◌, cond, ◌⊎◌, ◌↔◌, ◌<◌, ◌≤◌, ℕ, ◌+◌, Bool, true, false, not, ◌==◌, ◌&&◌, ◌||◌, List, [], ◌∷◌, ◌++◌, length, map, take, get_or, inl, inr, refl, sym, ◌∙◌, ap, subst, arith, ⊎_elim}
 use Rattle.std.specs.Prelude.{All, Contains, IsTrue, Result, Ok, Err, IfOk, Option, Some, None, MatchOption, is_some}
-use Rattle.std.specs.List.{list_any}
-use Rattle.std.proofs.lemmas.Bool.{true≢false, eqb-true, eq-eqb, or_cases, or_right}
+use Rattle.std.specs.List.{list_any, count_by}
+use Rattle.std.proofs.lemmas.List.Sums.{sum_by-cons}
+use Rattle.std.proofs.lemmas.Bool.{true≢false, eqb-true, eq-eqb, ne_eqb, or_cases, or_right}
 use Rattle.std.proofs.lemmas.List.{take_more, take_all, get_or_default}
 use Rattle.std.proofs.lemmas.List.Elements.{Contains-append_left, Contains-append_right, Contains-append_cases}
 use Rattle.hfs_volume.specs.Records.{Overflow}
@@ -12,7 +13,7 @@ use Rattle.hfs_volume.proofs.Members.{all_of, each_of, map_cases, map_stands, at
 use Rattle.fsck_list.specs.declared.finding.Finding.{Finding}
 use Rattle.fsck_core.specs.Overflows.{overflow_in}
 use Rattle.fsck_core.specs.Owners.{owned_in, owned_all, follow}
-use Rattle.fsck_core.specs.Owned.{AddsFailed, Tested, takes}
+use Rattle.fsck_core.specs.Owned.{AddsFailed, Tested, takes, takes_id}
 use Rattle.fsck_core.specs.declared.follow.OwnedFork.{OwnedFork}
 use Rattle.fsck_core.specs.declared.overflow.OverflowRow.{OverflowRow}
 use Rattle.fsck_core.specs.declared.follow.Front.{Front}
@@ -170,3 +171,16 @@ owner_tells forks row holds is = (
       or_right (row.id == 5) (list_any (takes row) forks) (any_stands (takes row) forks from.0 from.1 ((λ i. (own i) && not (from.0.id == extents_id)) ∙ other)))
       has,
 )
+
+-- whether some pass is told by how many do
+any_counted : {X : Type 0} (p : X → Bool) (xs : List X) → not (count_by p xs == 0) ≡ list_any p xs
+any_counted p [] = refl
+any_counted {X} p (x ∷ xs) = ap (λ n. not (n == 0)) (sum_by-cons (λ y. cond (p y) 1 0) x xs) ∙ at (any_counted p xs) (p x)
+  where
+    at : not (count_by p xs == 0) ≡ list_any p xs → (b : Bool) → not (cond b 1 0 + count_by p xs == 0) ≡ (b || list_any p xs)
+    at rest true = let some : 1 + count_by p xs ≢ 0 = λ none. absurd (omega (arith, none)) in ap not (ne_eqb (1 + count_by p xs) 0 some)
+    at rest false = (let same : 0 + count_by p xs ≡ count_by p xs = omega arith in ap (λ n. not (n == 0)) same) ∙ rest
+
+-- a row has a fork of its kind where one of these has its CNID
+pub owned_by_id : (forks : List OwnedFork) (row : OverflowRow) (kind many : ℕ) → row.fork ≡ kind → many ≡ count_by (takes_id kind row.id) forks → not (many == 0) ≡ list_any (takes row) forks
+owned_by_id forks row kind many same is = ap (λ n. not (n == 0)) (is ∙ ap (λ k. count_by (takes_id k row.id) forks) (sym same)) ∙ any_counted (takes row) forks

@@ -1,8 +1,10 @@
 -- Rule 17, judged one place after the other.
-use Rattle.std.specs.Prelude.{◌≡◌, ◌⊎◌, ◌↔◌, ◌<◌, ◌==◌, ◌&&◌, not, ℕ, Bool, false, List, length, Contains, IsTrue}
+use Rattle.std.specs.Prelude.{◌≡◌, ◌⊎◌, ◌↔◌, ◌<◌, ◌==◌, ◌&&◌, not, ℕ, Bool, false, List, length, Contains, IsTrue, count_by}
 use Rattle.fsck_list.specs.declared.finding.Finding.{Finding}
 use Rattle.hfs_volume.specs.Records.{Overflow}
-use Rattle.hfs_volume.specs.Forks.{Owned, is_of, extents_id, bad_blocks_id}
+use Rattle.std.specs.List.Sorted.{IsNonDecreasing}
+use Rattle.alloc_bitmap.specs.Apart.{times}
+use Rattle.hfs_volume.specs.Forks.{Owned, is_of, extents_id, bad_blocks_id, data_kind, resource_kind}
 use Rattle.hfs_volume.specs.Blocks.{GoesOn, GoOnBad, HasFork}
 use Rattle.hfs_volume.specs.Broken.{IsFailed}
 use Rattle.fsck_core.specs.Overflows.{overflow_in}
@@ -31,3 +33,14 @@ pub record Tested (Fails : ℕ → Type 0) (P : Type 0) (old new : List Finding)
 -- an overflow record belongs to a fork, which isn't that of the extents overflow file
 abbrev pub takes : OverflowRow → OwnedFork → Bool
 takes row owned = (is_of owned.id owned.kind (overflow_in row)) && not (owned.id == extents_id)
+
+-- a fork is of this kind and this CNID, which isn't that of the extents overflow file
+abbrev pub takes_id : ℕ → ℕ → OwnedFork → Bool
+takes_id kind id owned = ((id == owned.id) && (kind == owned.kind)) && not (owned.id == extents_id)
+
+-- The CNIDs of data forks and of resource forks, in order.
+pub record AreForkIds (forks : List OwnedFork) (data_ids resource_ids : List ℕ) : Type 0 where
+  pub data_order : IsNonDecreasing data_ids
+  pub data_same : (id : ℕ) → times id data_ids ≡ count_by (takes_id data_kind id) forks
+  pub resource_order : IsNonDecreasing resource_ids
+  pub resource_same : (id : ℕ) → times id resource_ids ≡ count_by (takes_id resource_kind id) forks

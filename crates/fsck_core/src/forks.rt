@@ -1,6 +1,7 @@
 //! The forks of a volume: each is as long as it says, and its extents lie in the volume (rule 16).
 ghost use Rattle.std.specs.Prelude.{◌≡◌, ◌+◌, ◌*◌, ◌∷◌, ◌++◌, ◌↔◌, [], ℕ, min, length, All, IsTrue, IfOk};
 ghost use Rattle.std.specs.List.{flat_map};
+ghost use Rattle.std.specs.List.Sorted.{IsNonDecreasingBy};
 ghost use Rattle.hfs_volume.specs.Forks.{blocks_owned};
 ghost use Rattle.hfs_volume.specs.Blocks.{GoesOn, HasSizes, LieInside, forks_of};
 ghost use Rattle.hfs_volume.specs.Broken.{want, extent_wants, fork_wants, overflow_wants};
@@ -9,8 +10,9 @@ ghost use Rattle.fsck_core.specs.Judged.{Judged, AddsUnmet};
 ghost use Rattle.fsck_core.specs.Overflows.{overflows_in};
 ghost use Rattle.fsck_core.specs.Owners.{owned_in, owned_all, extent_want, number_wants, own_wants, row_wants};
 
-use crate::follow::{OwnedFork, follow_fork};
+use crate::follow::OwnedFork;
 use crate::overflow::OverflowRow;
+use crate::stretch::{are_in_order, follow_own};
 use crate::want::{Want, both, judge_wants};
 use fsck_list::Findings;
 use hx_bytes::{Extent, OutOfMemory};
@@ -61,10 +63,11 @@ fn judge_extents(
 }
 
 /// How many blocks a fork has whose overflow records go on behind its record.
-fn count_owned(rows: &[OverflowRow], owned: &OwnedFork) -> u64
+fn count_owned(rows: &[OverflowRow], in_order: bool, owned: &OwnedFork) -> u64
+    requires { IsTrue in_order → IsNonDecreasingBy (λ row. row.id) rows.now }
     ensures { GoesOn (overflows_in rows.now) (owned_in owned.now) → result ≡ length (blocks_owned (overflows_in rows.now) (owned_in owned.now)) }
 {
-    let Some(blocks) = follow_fork(rows, owned) else {
+    let Some(blocks) = follow_own(rows, in_order, owned) else {
         return 0;
     };
     blocks
@@ -81,13 +84,15 @@ fn bytes_held(blocks: u32, block_size: u32) -> u64
 fn judge_numbers(
     head: &VolumeHeader,
     rows: &[OverflowRow],
+    in_order: bool,
     owned: &OwnedFork,
     out: &mut Findings,
 ) -> Result<bool, OutOfMemory>
+    requires { IsTrue in_order → IsNonDecreasingBy (λ row. row.id) rows.now }
     ensures judged { GoesOn (overflows_in rows.now) (owned_in owned.now) → IfOk result (λ met. Judged 16 (number_wants head.now (overflows_in rows.now) (owned_in owned.now)) out.old out.new met) }
     ensures each { GoesOn (overflows_in rows.now) (owned_in owned.now) → AddsUnmet 16 (number_wants head.now (overflows_in rows.now) (owned_in owned.now)) out.old out.new }
 {
-    let blocks = count_owned(rows, owned);
+    let blocks = count_owned(rows, in_order, owned);
     let held = bytes_held(owned.fork.total_blocks, head.block_size);
     let most = owned.fork.logical_size.min(held);
     judge_wants(
@@ -112,13 +117,15 @@ fn judge_numbers(
 fn judge_fork(
     head: &VolumeHeader,
     rows: &[OverflowRow],
+    in_order: bool,
     owned: &OwnedFork,
     out: &mut Findings,
 ) -> Result<bool, OutOfMemory>
+    requires { IsTrue in_order → IsNonDecreasingBy (λ row. row.id) rows.now }
     ensures judged { GoesOn (overflows_in rows.now) (owned_in owned.now) → IfOk result (λ met. Judged 16 (own_wants head.now (overflows_in rows.now) (owned_in owned.now)) out.old out.new met) }
     ensures each { GoesOn (overflows_in rows.now) (owned_in owned.now) → AddsUnmet 16 (own_wants head.now (overflows_in rows.now) (owned_in owned.now)) out.old out.new }
 {
-    let one = judge_numbers(head, rows, owned, out)?;
+    let one = judge_numbers(head, rows, in_order, owned, out)?;
     let other = judge_extents(
         owned.id,
         head.total_blocks,
@@ -140,9 +147,10 @@ fn judge_own_forks(
     ensures each { All (λ row. GoesOn (overflows_in rows.now) (owned_in row)) forks.now
         → AddsUnmet 16 (flat_map (λ row. own_wants head.now (overflows_in rows.now) (owned_in row)) forks.now) out.old out.new }
 {
+    let in_order = are_in_order(rows);
     let mut met = true;
     for owned in forks {
-        let one = judge_fork(head, rows, owned, out)?;
+        let one = judge_fork(head, rows, in_order, owned, out)?;
         met = both(one, met);
     }
     Ok(met)

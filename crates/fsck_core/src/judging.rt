@@ -97,7 +97,7 @@ fn judge_forks_and_names(
     ensures { (volume : VolumeState) → AreLists volume lists.now → HasEntries lists.now.catalog rows.now → owned_all forks.now ≡ forks_of volume
         → IfOk result (λ _. Passed (IsBrokenList volume) (HaveForks volume × HaveNames volume) out.old out.new) }
 {
-    let goes_on = judge_overflow(&lists.overflow, forks, out)?;
+    let goes_on = judge_overflow(alloc, &lists.overflow, forks, out)?;
     if !goes_on {
         return Ok(());
     }

@@ -29,6 +29,7 @@ mod reading;
 mod rows;
 mod shared;
 mod sizes;
+mod stretch;
 mod threads;
 mod trees;
 mod used;

@@ -10,7 +10,8 @@ ghost use Rattle.fsck_core.specs.Owners.{owned_all};
 ghost use Rattle.fsck_core.specs.UsedExtents.{reserved_extents, bad_in};
 
 use crate::follow::OwnedFork;
-use crate::overflow::{OverflowRow, fork_extents};
+use crate::overflow::OverflowRow;
+use crate::stretch::{are_in_order, own_extents};
 use fork_map::ExtentList;
 use hx_bytes::{Extent, OutOfMemory};
 use std::alloc::Global;
@@ -84,8 +85,9 @@ fn add_owned(
 ) -> Result<(), OutOfMemory>
     ensures { OnOk result (blocks_of list.new ≡ blocks_of list.old ++ flat_map (blocks_owned (overflows_in rows.now)) (owned_all forks.now)) }
 {
+    let in_order = are_in_order(rows);
     for owned in forks {
-        let extents = fork_extents(alloc, rows, owned.id, owned.kind, &owned.fork)?;
+        let extents = own_extents(alloc, rows, in_order, owned)?;
         add_extents(list, extents.as_slice())?;
     }
     Ok(())

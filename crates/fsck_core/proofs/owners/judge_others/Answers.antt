@@ -11,6 +11,8 @@ use Rattle.fsck_core.specs.declared.follow.OwnedFork.{OwnedFork}
 use Rattle.fsck_core.specs.declared.overflow.OverflowRow.{OverflowRow}
 use Rattle.fsck_core.proofs.OwnerLaws.{mine}
 use Rattle.fsck_core.proofs.TestedLaws.{adds_two, adds_of_test, tested_both, tested_test, tested_more, tested_begin, tested_all, stands_at, some_told, bad_told, both_told, owner_tells}
+use Rattle.std.specs.List.Sorted.{IsNonDecreasing}
+use Rattle.alloc_bitmap.specs.Apart.{times}
 use Rattle.fsck_core.proofs.owners.judge_others.Goals as goal
 
 pub returns-in_err-one-clause-each : goal.returns-in_err-one-clause-each
@@ -24,3 +26,11 @@ returns-clause-tested c = tested_both (FailsIn (owned_all c.args.forks.now) (ove
 
 pub returns-clause-each : goal.returns-clause-each
 returns-clause-each c = (returns-clause-tested c).each
+
+pub judge_owners-requires : goal.judge_owners-requires
+judge_owners-requires c = record {
+  data_order = subst IsNonDecreasing (sym c.deref.ensures.value) c.in_ok-data_ids.ensures.order;
+  data_same = λ id. ap (times id) c.deref.ensures.value ∙ c.in_ok-data_ids.ensures.same id;
+  resource_order = subst IsNonDecreasing (sym c.deref-2.ensures.value) c.in_ok-resource_ids.ensures.order;
+  resource_same = λ id. ap (times id) c.deref-2.ensures.value ∙ c.in_ok-resource_ids.ensures.same id;
+}
