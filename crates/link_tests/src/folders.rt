@@ -1,5 +1,5 @@
 //! A catalog with a private folder over nodes in memory, whose calls are made only where what they need holds.
-ghost use Rattle.std.specs.Prelude.{◌≡◌, ◌≤◌, ◌+◌, ℕ, false, IsTrue, IfOk, IfSome, length};
+ghost use Rattle.std.specs.Prelude.{◌≡◌, ◌≤◌, ◌+◌, ℕ, false, IfOk, IfSome, OnOk, length};
 ghost use Rattle.btree_node.specs.Mem.{mem_state};
 ghost use Rattle.btree_edit.specs.Desk.{IsDeskOf};
 ghost use Rattle.btree_edit.specs.Edits.{EditRoom};
@@ -46,23 +46,26 @@ impl Folders {
         }
     }
 
-    /// Whether a call of so many edits may be made.
-    fn has_room(&self, edits: u32) -> bool
-        ensures size { IsTrue result → 4096 ≤ (mem_state self.now.store.nodes).shape.node_size }
-        ensures room { IsTrue result → (longest : ℕ) → EditRoom edits longest (untold (mem_state self.now.store.nodes)) }
-        ensures beside { IsTrue result → (most updates longest : ℕ) → most + updates ≡ edits → UpdateRoom most updates longest (untold (mem_state self.now.store.nodes)) }
+    /// Refuses a call of so many edits for which there is no room.
+    fn takes(&self, edits: u32) -> Result<(), Stop>
+        ensures size { OnOk result (4096 ≤ (mem_state self.now.store.nodes).shape.node_size) }
+        ensures room { OnOk result ((longest : ℕ) → EditRoom edits longest (untold (mem_state self.now.store.nodes))) }
+        ensures beside { OnOk result ((most updates longest : ℕ) → most + updates ≡ edits → UpdateRoom most updates longest (untold (mem_state self.now.store.nodes))) }
     {
         if self.store.shape().node_size < 4096 {
-            return false;
+            return Err(Stop::Room);
         }
-        self.store.has_room_for(edits)
+        if self.store.has_room_for(edits) {
+            Ok(())
+        } else {
+            Err(Stop::Room)
+        }
     }
 
     /// Adds a file with a CNID.
     pub fn add_file(&mut self, alloc: Global, at: &EntryAt, id: u32) -> Result<Inserted, Stop> {
-        if !is_name(&at.name) || !self.has_room(2) {
-            return Err(Stop::Room);
-        }
+        takes_name(&at.name)?;
+        self.takes(2)?;
         let rec = file(id, 0);
         let answer = add(
             alloc,
@@ -77,9 +80,8 @@ impl Folders {
 
     /// Adds the private folder.
     fn add_private(&mut self, alloc: Global, at: &EntryAt) -> Result<Inserted, Stop> {
-        if !is_name(&at.name) || !self.has_room(2) {
-            return Err(Stop::Room);
-        }
+        takes_name(&at.name)?;
+        self.takes(2)?;
         let rec = private_folder(PRIVATE);
         let answer = add(
             alloc,
@@ -100,17 +102,13 @@ impl Folders {
         id: u32,
         links: u32,
     ) -> Result<Removed, Stop> {
-        if !is_name(&at.name) {
-            return Err(Stop::Room);
-        }
+        takes_name(&at.name)?;
         self.put(alloc, at, &file(id, links))
     }
 
     /// Has the link at a place say another number.
     pub fn refer(&mut self, alloc: Global, at: &EntryAt, number: u32) -> Result<Removed, Stop> {
-        if !is_name(&at.name) {
-            return Err(Stop::Room);
-        }
+        takes_name(&at.name)?;
         match self.file(alloc, at)? {
             Some(link) => self.put(alloc, at, &link_to(link, number)),
             None => Ok(Removed::Absent),
@@ -124,9 +122,7 @@ impl Folders {
         requires kind { is_thread rec.now ≡ false }
         requires fits { FitsRecord rec.now }
     {
-        if !self.has_room(1) {
-            return Err(Stop::Room);
-        }
+        self.takes(1)?;
         let answer = update(
             alloc,
             &mut self.store,
@@ -140,9 +136,9 @@ impl Folders {
 
     /// Moves an entry.
     pub fn move_on(&mut self, alloc: Global, from: &EntryAt, to: &EntryAt) -> Result<Moved, Stop> {
-        if !is_name(&from.name) || !is_name(&to.name) || !self.has_room(3) {
-            return Err(Stop::Room);
-        }
+        takes_name(&from.name)?;
+        takes_name(&to.name)?;
+        self.takes(3)?;
         let answer = move_entry(
             alloc,
             &mut self.store,
@@ -163,9 +159,9 @@ impl Folders {
         to: &EntryAt,
         ids: (u32, u32),
     ) -> Result<Linked, Stop> {
-        if !is_name(&from.name) || !is_name(&to.name) || !self.has_room(8) {
-            return Err(Stop::Room);
-        }
+        takes_name(&from.name)?;
+        takes_name(&to.name)?;
+        self.takes(8)?;
         let answer = make_link(
             alloc,
             &mut self.store,
@@ -180,18 +176,16 @@ impl Folders {
 
     /// Removes a link, and answers how many names are left.
     pub fn drop_link(&mut self, alloc: Global, at: &EntryAt) -> Result<u32, Stop> {
-        if !is_name(&at.name) || !self.has_room(3) {
-            return Err(Stop::Room);
-        }
+        takes_name(&at.name)?;
+        self.takes(3)?;
         let left = drop_link(alloc, &mut self.store, &mut self.desk, PRIVATE, at)?;
         Ok(left)
     }
 
     /// Has a file without a name wait to be removed.
     pub fn orphan(&mut self, alloc: Global, at: &EntryAt) -> Result<(), Stop> {
-        if !is_name(&at.name) || !self.has_room(3) {
-            return Err(Stop::Room);
-        }
+        takes_name(&at.name)?;
+        self.takes(3)?;
         orphan(alloc, &mut self.store, &mut self.desk, PRIVATE, at)?;
         Ok(())
     }
@@ -200,9 +194,7 @@ impl Folders {
     pub fn file(&mut self, alloc: Global, at: &EntryAt) -> Result<Option<FileRecord>, Stop>
         ensures { IfOk result (λ found. IfSome found (λ file. FitsFile file)) }
     {
-        if !is_name(&at.name) {
-            return Err(Stop::Room);
-        }
+        takes_name(&at.name)?;
         match lookup(alloc, &mut self.store, &mut self.desk, at.parent, &at.name)? {
             Some(CatRecord::File(file)) => Ok(Some(file)),
             Some(CatRecord::Folder(_)) => Ok(None),
@@ -224,10 +216,13 @@ impl Folders {
     }
 }
 
-/// Whether a name has a length that the catalog takes.
-fn is_name(name: &Units) -> bool
-    ensures some { IsTrue result → 1 ≤ length name.now }
-    ensures most { IsTrue result → length name.now ≤ 255 }
+/// Refuses a name of a length that the catalog doesn't take.
+fn takes_name(name: &Units) -> Result<(), Stop>
+    ensures some { OnOk result (1 ≤ length name.now) }
+    ensures most { OnOk result (length name.now ≤ 255) }
 {
-    !name.is_empty() && name.len() <= 255
+    if name.is_empty() || name.len() > 255 {
+        return Err(Stop::Room);
+    }
+    Ok(())
 }

@@ -19,7 +19,7 @@ const NODE: [u16; 5] = [0x69, 0x4E, 0x6F, 0x64, 0x65];
 const TEMP: [u16; 4] = [0x74, 0x65, 0x6D, 0x70];
 
 /// Where an entry stands.
-#[derive(Clone, Copy, Debug, PartialEq, Eq)]
+#[derive(Clone, Copy, Debug)]
 pub enum Place {
     /// A name of one unit in the root.
     Root(u16),

@@ -9,7 +9,7 @@ use hard_links::{EntryAt, Linked};
 use std::alloc::Global;
 
 /// What a name should give.
-#[derive(Clone, Copy, Debug, PartialEq, Eq)]
+#[derive(Clone, Copy)]
 pub enum Wanted {
     /// A file with a CNID, which says that it has so many links.
     File(u32, u32),
@@ -130,7 +130,7 @@ fn set_aside(alloc: Global, folders: &mut Folders, at: Place) -> Result<(), Stop
 }
 
 /// A step of a test.
-#[derive(Clone, Copy, Debug, PartialEq, Eq)]
+#[derive(Clone, Copy)]
 pub enum Step {
     /// Adds a file with a CNID.
     Add(Place, u32),

@@ -3,7 +3,7 @@ use crate::places::Place;
 use hx_bytes::{OutOfMemory, Trouble};
 
 /// What stopped a test: a call that wasn't made or failed, or the first thing that isn't as wanted.
-#[derive(Clone, Copy, Debug, PartialEq, Eq)]
+#[derive(Clone, Copy, Debug)]
 pub enum Stop {
     Memory,
     /// The name has no unit or too many, or the store has no room for more.

@@ -1,5 +1,8 @@
 //! Names of files, made and dropped, as tables of steps.
-use crate::{Folders, Place, Step, Stop, Wanted, play};
+use crate::folders::Folders;
+use crate::places::Place;
+use crate::steps::{Step, Wanted, play};
+use crate::stop::Stop;
 use hard_links::Linked;
 use std::alloc::Global;
 
@@ -103,71 +106,51 @@ const MOST_NAMES: [Step; 7] = [
     Step::Look(A, Wanted::Link(19, 16)),
 ];
 
-/// Plays two tables on a new volume, one after the other.
-fn plays(alloc: Global, before: &[Step], then: &[Step]) -> Result<(), Stop> {
+/// Plays tables on a new volume, one after the other.
+fn plays(alloc: Global, tables: &[&[Step]]) -> Result<(), Stop> {
     let mut folders = Folders::with_private(alloc, 300)?;
-    play(alloc, &mut folders, before)?;
-    play(alloc, &mut folders, then)
+    for table in tables {
+        play(alloc, &mut folders, table)?;
+    }
+    Ok(())
 }
 
 #[test]
-fn a_first_link_moves_the_file_out_of_sight(rt: HostRuntime) {
-    assert_eq!(rt; plays(rt.alloc(), FIRST.as_slice(), &[]), Ok(()));
+fn a_first_link_moves_the_file_out_of_sight(rt: HostRuntime) -> Result<(), Stop> {
+    plays(rt.alloc(), &[&FIRST])
 }
 
 #[test]
-fn a_later_link_is_one_more(rt: HostRuntime) {
-    assert_eq!(rt;
-        plays(rt.alloc(), FIRST.as_slice(), SECOND.as_slice()),
-        Ok(())
-    );
+fn a_later_link_is_one_more(rt: HostRuntime) -> Result<(), Stop> {
+    plays(rt.alloc(), &[&FIRST, &SECOND])
 }
 
 #[test]
 fn names_are_dropped_down_to_the_last(rt: HostRuntime) -> Result<(), Stop> {
-    let mut folders = Folders::with_private(rt.alloc(), 300)?;
-    play(rt.alloc(), &mut folders, FIRST.as_slice())?;
-    play(rt.alloc(), &mut folders, SECOND.as_slice())?;
-    play(rt.alloc(), &mut folders, ALL_DROPPED.as_slice())
+    plays(rt.alloc(), &[&FIRST, &SECOND, &ALL_DROPPED])
 }
 
 #[test]
-fn a_number_that_is_taken_is_passed_by(rt: HostRuntime) {
-    assert_eq!(rt;
-        plays(
-            rt.alloc(),
-            ANOTHER_NUMBER.as_slice(),
-            NEXT_NUMBER.as_slice()
-        ),
-        Ok(())
-    );
+fn a_number_that_is_taken_is_passed_by(rt: HostRuntime) -> Result<(), Stop> {
+    plays(rt.alloc(), &[&ANOTHER_NUMBER, &NEXT_NUMBER])
 }
 
 #[test]
-fn names_go_by_the_number(rt: HostRuntime) {
-    assert_eq!(rt;
-        plays(rt.alloc(), ANOTHER_NUMBER.as_slice(), BY_NUMBER.as_slice()),
-        Ok(())
-    );
+fn names_go_by_the_number(rt: HostRuntime) -> Result<(), Stop> {
+    plays(rt.alloc(), &[&ANOTHER_NUMBER, &BY_NUMBER])
 }
 
 #[test]
-fn a_file_that_waits_passes_by_those_before(rt: HostRuntime) {
-    assert_eq!(rt; plays(rt.alloc(), TWO_ORPHANS.as_slice(), &[]), Ok(()));
+fn a_file_that_waits_passes_by_those_before(rt: HostRuntime) -> Result<(), Stop> {
+    plays(rt.alloc(), &[&TWO_ORPHANS])
 }
 
 #[test]
-fn a_moved_name_names_its_file(rt: HostRuntime) {
-    assert_eq!(rt;
-        plays(rt.alloc(), FIRST.as_slice(), MOVED_NAME.as_slice()),
-        Ok(())
-    );
+fn a_moved_name_names_its_file(rt: HostRuntime) -> Result<(), Stop> {
+    plays(rt.alloc(), &[&FIRST, &MOVED_NAME])
 }
 
 #[test]
-fn the_most_names_are_32767(rt: HostRuntime) {
-    assert_eq!(rt;
-        plays(rt.alloc(), FIRST.as_slice(), MOST_NAMES.as_slice()),
-        Ok(())
-    );
+fn the_most_names_are_32767(rt: HostRuntime) -> Result<(), Stop> {
+    plays(rt.alloc(), &[&FIRST, &MOST_NAMES])
 }
