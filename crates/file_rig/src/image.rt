@@ -10,6 +10,17 @@ use std::os::unix::fs::{FileExt, FileTypeExt, MetadataExt};
 /// The bytes of a sector.
 const SECTOR: u64 = 512;
 
+/// What an image is opened for.
+#[derive(Clone, Copy)]
+enum Purpose {
+    /// It is read alone. Others may read it at the same time.
+    Reading,
+    /// It is read and written.
+    Writing,
+    /// It is made if it is missing, read and written.
+    Making,
+}
+
 /// An image, or a file that is to become one.
 #[derive(Drop)]
 pub enum Image<'a> {
@@ -21,14 +32,22 @@ pub enum Image<'a> {
         name: &'a str,
         sectors: u64,
     },
-    /// A file that is locked against other processes.
+    /// A file that is locked: against other processes, or where it is read alone against those that write it.
     Open(File),
 }
 
 impl<'a> Image<'a> {
     /// Opens a file or a block device that is there, and says how many whole sectors it has.
     pub fn open(rt: &'a HostRuntime, name: &'a str) -> Result<(Image<'a>, u64), Failure> {
-        let file = locked(rt, name, false)?;
+        let file = locked(rt, name, Purpose::Writing)?;
+        let sectors = sectors_of(&file)?;
+        Ok((Image::Open(file), sectors))
+    }
+
+    /// Opens a file or a block device that is there to read it alone, and says how many whole sectors it has. It needn't be one that
+    /// may be written.
+    pub fn to_check(rt: &'a HostRuntime, name: &'a str) -> Result<(Image<'a>, u64), Failure> {
+        let file = locked(rt, name, Purpose::Reading)?;
         let sectors = sectors_of(&file)?;
         Ok((Image::Open(file), sectors))
     }
@@ -48,7 +67,7 @@ impl<'a> Image<'a> {
     // The file, which is opened now where that was put off, or none.
     fn file(&mut self) -> Result<Option<&File>, Failure> {
         if let Image::Unmade { rt, name, sectors } = self {
-            let file = locked(*rt, *name, true)?;
+            let file = locked(*rt, *name, Purpose::Making)?;
             let length = sectors.checked_mul(SECTOR).unwrap_or(u64::MAX);
             if let Err(error) = file.set_len(length) {
                 return Err(Act::Lengthening.failed(error));
@@ -99,16 +118,18 @@ impl<'a> Place for Image<'a> {
     }
 }
 
-// The file or block device, locked for this process alone as long as it is open.
-fn locked(rt: &HostRuntime, name: &str, may_make: bool) -> Result<File, Failure> {
-    let mut how = OpenOptions::new();
-    how.read(true).write(true).create(may_make);
-    let file = match how.open(rt, name) {
+// The file or block device, locked as long as it is open: for this process alone, or where it is read alone for all that do no more.
+fn locked(rt: &HostRuntime, name: &str, purpose: Purpose) -> Result<File, Failure> {
+    let file = match ways(purpose).open(rt, name) {
         Ok(file) => file,
         Err(error) => return Err(Act::Opening.failed(error)),
     };
     may_be_image(rt, &file)?;
-    match file.try_lock() {
+    let lock = match purpose {
+        Purpose::Reading => file.try_lock_shared(),
+        Purpose::Writing | Purpose::Making => file.try_lock(),
+    };
+    match lock {
         Ok(()) => Ok(file),
         Err(TryLockError::WouldBlock) => {
             let busy = io::Error::new(ErrorKind::ResourceBusy, "another process uses it");
@@ -116,6 +137,22 @@ fn locked(rt: &HostRuntime, name: &str, may_make: bool) -> Result<File, Failure>
         }
         Err(TryLockError::Error(error)) => Err(Act::Locking.failed(error)),
     }
+}
+
+// How a file is opened for this.
+fn ways(purpose: Purpose) -> OpenOptions {
+    let mut how = OpenOptions::new();
+    how.read(true);
+    match purpose {
+        Purpose::Reading => {}
+        Purpose::Writing => {
+            how.write(true);
+        }
+        Purpose::Making => {
+            how.write(true).create(true);
+        }
+    }
+    how
 }
 
 // Refuses what has no fixed sectors, and a standard stream, over which replies would be written.

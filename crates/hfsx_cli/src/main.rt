@@ -89,6 +89,7 @@ fn image_of<'a>(
     match work {
         Work::Format { sectors } => Image::to_format(rt, name, sectors),
         Work::Run => Image::open(rt, name),
+        Work::Check => Image::to_check(rt, name),
         Work::Wrong => Ok((Image::Absent, 0)),
     }
 }

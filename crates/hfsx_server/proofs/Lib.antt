@@ -1,4 +1,6 @@
+pub mod Bytes
 pub mod Causes
+pub mod Checked
 pub mod Changed
 pub mod Durable
 pub mod Fetching

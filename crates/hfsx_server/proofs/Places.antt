@@ -29,6 +29,10 @@ refused_none false x rest h = absurd (cc h)
 journal_fits : (head : VolumeHeader) → (not (is_journaled head.attributes) || nat_lt head.journal_info_block head.total_blocks) ≡ true → is_journaled head.attributes ≡ true → nat_lt head.journal_info_block head.total_blocks ≡ true
 journal_fits head fits is = subst (λ (b : Bool). (not b || nat_lt head.journal_info_block head.total_blocks) ≡ true) is fits
 
+-- an accepted header is that of a volume's size
+pub accepted_size : (head : VolumeHeader) (sectors : ℕ) → header_refusal head sectors ≡ None → is_volume_size sectors ≡ true
+accepted_size head sectors accepted = (refused_none (is_volume_size sectors) (LimitSectors sectors) _ accepted).0
+
 -- the info block of an accepted header lies on the volume, which isn't too large
 pub accepted_place : (head : VolumeHeader) (sectors : ℕ) → header_refusal head sectors ≡ None → (info_sector_of head < sectors) × (sectors ≤ 2147483648)
 accepted_place head sectors accepted =

@@ -1,4 +1,5 @@
 pub mod Cause
+pub mod Checking
 pub mod Faults
 pub mod Finding
 pub mod Made

@@ -1,5 +1,6 @@
 -- Lines that are told before the program ends.
-use Rattle.std.specs.Prelude.{◌≡◌, ◌⊎◌, ◌≤◌, ◌++◌, ℕ, List, [], ◌∷◌, IsTrue, Result, OnOk, codes, nat_lt, if◌then◌else◌}
+use Rattle.std.specs.Prelude.{◌≡◌, ◌⊎◌, ◌≤◌, ◌++◌, ℕ, List, [], ◌∷◌, IsTrue, Result, OnOk, codes, decimal, length, nat_lt, if◌then◌else◌}
+use Rattle.std.specs.List.{flat_map}
 use Rattle.sector_disk.specs.Cause.{Rose, HasCause}
 use Rattle.sector_disk.specs.Disk.{State, SameDisk, ToldPrefix, content}
 use Rattle.hfsx_server.specs.declared.refusal.SizeRefusal.{SizeRefusal}
@@ -9,6 +10,8 @@ use Rattle.volume_header.specs.declared.refusal.HeaderRefusal.TheVariants as hea
 use Rattle.jnl_format.specs.declared.structures.JnlRefusal.{JnlRefusal}
 use Rattle.jnl_format.specs.declared.structures.JnlRefusal.TheVariants as jnl
 use Rattle.hfs_language.specs.Text.{field, fields}
+use Rattle.hfs_volume.specs.declared.summary.Summary.{Summary}
+use Rattle.fsck_list.specs.declared.finding.Finding.{Finding}
 use Rattle.hfsx_server.specs.Volume.{Refuses}
 use Rattle.hfsx_server.specs.declared.faults.MountFault.{MountFault}
 use Rattle.hfsx_server.specs.declared.faults.MountFault.TheVariants as fault
@@ -59,6 +62,18 @@ size_refusal sectors = if nat_lt sectors 16384 then TooSmall sectors else TooLar
 -- what is told of a volume that was formatted: its blocks, and those that are free
 abbrev pub formatted_text : ℕ → ℕ → List ℕ
 formatted_text blocks free = codes "formatted" ++ field blocks ++ (codes " blocks," ++ field free ++ codes " free\n")
+
+-- what is told of a sound volume: its files, its folders, its blocks, and those that are free
+abbrev pub clean_text : Summary → List ℕ
+clean_text summary = codes "clean files" ++ field summary.files ++ (codes " folders" ++ field summary.folders) ++ (codes " blocks" ++ field summary.blocks) ++ (codes " free" ++ field summary.free ++ codes "\n")
+
+-- a finding: its rule, its place, what is found there and what is wanted
+abbrev pub finding_text : Finding → List ℕ
+finding_text f = codes "S" ++ decimal f.rule ++ fields (f.place ∷ f.found ∷ f.wanted ∷ []) ++ codes "\n"
+
+-- what is told of a volume that isn't sound: each finding, and how many there are
+abbrev pub findings_text : List Finding → List ℕ
+findings_text list = flat_map finding_text list ++ (codes "findings" ++ field (length list) ++ codes "\n")
 
 -- the text was told, or the sink failed after a front of it
 abbrev pub ToldUnlessFailed : State → State → List ℕ → Type 0

@@ -2,7 +2,7 @@
 use Rattle.std.specs.Prelude.{◌≡◌, ◌≢◌, ◌⊎◌, ◌<◌, ◌^◌, ℕ, List, [], ◌∷◌, map, slice_index, String, string_bytes, codes, decimal}
 use Rattle.std.specs.declared.alloc.Global.{Global}
 use Rattle.hfsx_server.specs.declared.words.Work.{Work}
-use Rattle.hfsx_server.specs.declared.words.Work.TheVariants.{Format, Run, Wrong}
+use Rattle.hfsx_server.specs.declared.words.Work.TheVariants.{Check, Format, Run, Wrong}
 
 -- the words as lists of bytes
 abbrev pub texts : List (String Global) → List (List ℕ)
@@ -18,6 +18,10 @@ pub record MayName (word : List ℕ) : Type 0 where
 abbrev pub AreRun : List (List ℕ) → Type 0
 AreRun words = (image : List ℕ) × MayName image × (words ≡ codes "run" ∷ image ∷ [])
 
+-- the words are `check IMAGE`
+abbrev pub AreCheck : List (List ℕ) → Type 0
+AreCheck words = (image : List ℕ) × MayName image × (words ≡ codes "check" ∷ image ∷ [])
+
 -- the words are `format IMAGE SECTORS`
 abbrev pub AreFormat : List (List ℕ) → ℕ → Type 0
 AreFormat words sectors = (image : List ℕ) × MayName image × (sectors < 2 ^ 64) × (words ≡ codes "format" ∷ image ∷ decimal sectors ∷ [])
@@ -26,8 +30,9 @@ AreFormat words sectors = (image : List ℕ) × MayName image × (sectors < 2 ^ 
 abbrev pub AreWordsOf : List (List ℕ) → Work → Type 0
 AreWordsOf words (Format sectors) = AreFormat words sectors
 AreWordsOf words Run = AreRun words
-AreWordsOf words Wrong = ¬ AreRun words × ((sectors : ℕ) → ¬ AreFormat words sectors)
+AreWordsOf words Check = AreCheck words
+AreWordsOf words Wrong = ¬ AreRun words × ¬ AreCheck words × ((sectors : ℕ) → ¬ AreFormat words sectors)
 
 -- the words ask for a work, and where they give a number of sectors, it is that of the image
 abbrev pub AreInUse : List (List ℕ) → ℕ → Type 0
-AreInUse words sectors = AreRun words ⊎ AreFormat words sectors
+AreInUse words sectors = AreRun words ⊎ (AreCheck words ⊎ AreFormat words sectors)

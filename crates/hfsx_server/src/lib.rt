@@ -2,6 +2,7 @@
 #![tactic(auto)]
 
 mod changing;
+mod checking;
 mod faults;
 mod folders;
 mod formatting;
@@ -19,6 +20,7 @@ mod top;
 mod volume;
 mod words;
 
+pub use checking::check;
 pub use faults::{MountFault, ServeFault};
 pub use formatting::format;
 pub use input::{Input, InputFault, Line};

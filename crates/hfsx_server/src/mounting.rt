@@ -7,6 +7,7 @@ ghost use Rattle.jnl_replay.specs.Plan.{FitsPlan, IsPlan, journal_of};
 ghost use Rattle.sector_disk.specs.Disk.{OnlyReads};
 ghost use Rattle.hfs_model.specs.Thin.{AreThin};
 ghost use Rattle.hfsx_server.specs.Cause.{IsCause};
+ghost use Rattle.hfsx_server.specs.Checking.{IsCheckFault};
 ghost use Rattle.hfsx_server.specs.Finding.{IsFound, IsLargePlan};
 ghost use Rattle.hfsx_server.specs.Volume.{IsFault, IsOpen};
 
@@ -58,10 +59,11 @@ pub fn find_volume<D: SectorDisk>(alloc: Global, disk: &mut D) -> Result<FoundVo
 }
 
 // The volume header, where it is accepted.
-fn find_header<D: SectorDisk>(disk: &mut D) -> Result<VolumeHeader, MountFault>
+pub(crate) fn find_header<D: SectorDisk>(disk: &mut D) -> Result<VolumeHeader, MountFault>
     ensures header { IsTrue (D.state disk.old).tells → IfOk result (λ head. head ≡ header_of_volume (content (D.state disk.old))) }
     ensures accepted { IfOk result (λ head. header_refusal head (D.state disk.old).sectors ≡ None) }
     ensures refused { IsTrue (D.state disk.old).tells → IfErr result (IsFault (content (D.state disk.old))) }
+    ensures unchecked { IsTrue (D.state disk.old).tells → IfErr result (IsCheckFault (content (D.state disk.old))) }
     ensures reads { OnlyReads (D.state disk.old) (D.state disk.new) }
     ensures cause { IsCause MountFault.Disk (D.state disk.old).faults (D.state disk.new).faults result }
 {
@@ -88,13 +90,15 @@ fn place_of(header: &VolumeHeader) -> Place
 }
 
 // The journal, where it has no fault.
-fn find_journal<D: SectorDisk>(disk: &mut D, header: &VolumeHeader) -> Result<Plan, MountFault>
+pub(crate) fn find_journal<D: SectorDisk>(
+    disk: &mut D,
+    header: &VolumeHeader,
+) -> Result<Plan, MountFault>
     requires accepted { header_refusal header.now (D.state disk.old).sectors ≡ None }
-    requires unlocked { is_locked header.now.attributes ≡ false }
     requires header { IsTrue (D.state disk.old).tells → header.now ≡ header_of_volume (content (D.state disk.old)) }
     ensures plan { IsTrue (D.state disk.old).tells → IfOk result (IsPlan (content (D.state disk.old))) }
     ensures recovers { IsTrue (D.state disk.old).tells → IfOk result (λ plan. recovery (content (D.state disk.old)) ≡ Ok (replayed (journal_of plan) (content (D.state disk.old)))) }
-    ensures refused { IsTrue (D.state disk.old).tells → IfErr result (IsFault (content (D.state disk.old))) }
+    ensures unchecked { IsTrue (D.state disk.old).tells → IfErr result (IsCheckFault (content (D.state disk.old))) }
     ensures fits { IfOk result (λ plan. FitsPlan (D.state disk.old).sectors plan) }
     ensures reads { OnlyReads (D.state disk.old) (D.state disk.new) }
     ensures cause { IsCause MountFault.Disk (D.state disk.old).faults (D.state disk.new).faults result }

@@ -1,5 +1,5 @@
 // Refusals of an image or a size, and lines that are told before the program ends.
-ghost use Rattle.std.specs.Prelude.{◌++◌};
+ghost use Rattle.std.specs.Prelude.{◌++◌, decimal};
 ghost use Rattle.hfs_language.specs.Text.{field, fields};
 ghost use Rattle.hfsx_server.specs.Telling.{Tells, Telling, fault_text, header_text, journal_text, refusal_text, refused_text, usage_text};
 
@@ -111,8 +111,14 @@ pub(crate) fn tell_numbers<R: Rig>(rig: &mut R, numbers: &[u64]) -> Result<(), F
 pub(crate) fn tell_number<R: Rig>(rig: &mut R, number: u64) -> Result<(), Failed>
     ensures { Telling (R.state rig.old) (R.state rig.new) (field number) result }
 {
-    let mut buffer = Buffer::new();
     tell_piece(rig, b" ")?;
+    tell_decimal(rig, number)
+}
+
+pub(crate) fn tell_decimal<R: Rig>(rig: &mut R, number: u64) -> Result<(), Failed>
+    ensures { Telling (R.state rig.old) (R.state rig.new) (decimal number) result }
+{
+    let mut buffer = Buffer::new();
     tell_piece(rig, buffer.format(number).as_bytes())
 }
 

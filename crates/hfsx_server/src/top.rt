@@ -7,19 +7,20 @@ ghost use Rattle.hfs_model.specs.Parts.{parts_of};
 ghost use Rattle.hfs_model.specs.Thin.{AreFresh};
 ghost use Rattle.hfsx_server.specs.Headline.{Entry, Headline, IsAnswered, IsAnsweredToTheLast, IsFinished};
 ghost use Rattle.volume_make.specs.Layout.{free_of};
+ghost use Rattle.hfsx_server.specs.Checking.{IsSoundImage, ToldBroken, ToldCheckRefusal, ToldSound};
 ghost use Rattle.hfsx_server.specs.Made.{IsMade, IsNoSize, made_layout};
 ghost use Rattle.hfsx_server.specs.Telling.{ToldRefusal, ToldUnlessFailed, refusal_text, size_refusal, usage_text, formatted_text};
 ghost use Rattle.hfsx_server.specs.Volume.{Tree, IsMountable, IsUnmounted, MountsTo};
-ghost use Rattle.hfsx_server.specs.Words.{texts, AreRun, AreFormat, AreInUse};
+ghost use Rattle.hfsx_server.specs.Words.{texts, AreRun, AreCheck, AreFormat, AreInUse};
 
-use crate::{Status, Work, format, read_words, run, tell_usage};
+use crate::{Status, Work, check, format, read_words, run, tell_usage};
 use sector_disk::{Rig, Source};
 use std::alloc::Global;
 
 /// Does what the words after the program's name ask for, on an image and with the lines of a source.
 ///
-/// `format IMAGE SECTORS` makes an empty volume, and `run IMAGE` answers line after line. The name of the image
-/// is the caller's, who opened it. Other words tell how the program is called.
+/// `format IMAGE SECTORS` makes an empty volume, `run IMAGE` answers line after line, and `check IMAGE` says whether the volume is
+/// sound. The name of the image is the caller's, who opened it. Other words tell how the program is called.
 pub fn hfsx<R: Rig, S: Source>(
     alloc: Global,
     words: &[String],
@@ -71,6 +72,16 @@ pub fn hfsx<R: Rig, S: Source>(
     ensures few { AreRun (texts words.now) → IsTrue (S.stream source.old).tells → IsTrue (R.state rig.old).tells → HasNothingPending (R.state rig.old) → IsMountable (content (R.state rig.old)) → result ≡ Status.Done
         → length (lines (S.stream source.old).left) ≤ 4294967295 }
 
+    // `check`: status 0 stands only where the image, with its journal replayed, is a sound volume, and the line with its numbers was
+    // told. Status 1 stands exactly where it isn't, unless it couldn't be read: the first refusal was told, or findings of which each
+    // is broken. Nothing is written, whatever it finds.
+    ensures check_sound { AreCheck (texts words.now) → IsTrue (R.state rig.old).tells → result ≡ Status.Done → ToldSound (R.state rig.old) (R.state rig.new) }
+    ensures check_found { AreCheck (texts words.now) → IsTrue (R.state rig.old).tells → result ≡ Status.Refused
+        → ¬ IsSoundImage (content (R.state rig.old)) × (ToldCheckRefusal (R.state rig.old) (R.state rig.new) ⊎ ToldBroken (R.state rig.old) (R.state rig.new)) }
+    ensures check_finds { AreCheck (texts words.now) → IsTrue (R.state rig.old).tells → ¬ IsSoundImage (content (R.state rig.old))
+        → (result ≡ Status.Refused) ⊎ ((result ≡ Status.Disk) ⊎ (result ≡ Status.Memory)) }
+    ensures check_unwritten { AreCheck (texts words.now) → ((R.state rig.new).candidates ≡ (R.state rig.old).candidates) × ((R.state rig.new).barriers ≡ (R.state rig.old).barriers) }
+
     // What is refused, and wrong words, leave the image as it was.
     ensures unwritten { (result ≡ Status.Refused) ⊎ (result ≡ Status.Usage) → (R.state rig.new).candidates ≡ (R.state rig.old).candidates }
 
@@ -81,6 +92,7 @@ pub fn hfsx<R: Rig, S: Source>(
 {
     match read_words(words) {
         Work::Run => run(alloc, rig, source),
+        Work::Check => check(alloc, rig),
         Work::Format { sectors } => {
             if sectors == rig.sectors() {
                 format(alloc, rig)

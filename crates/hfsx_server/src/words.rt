@@ -11,6 +11,8 @@ pub enum Work {
     Format { sectors: u64 },
     /// `run IMAGE`
     Run,
+    /// `check IMAGE`
+    Check,
     /// Any other words.
     Wrong,
 }
@@ -21,11 +23,16 @@ pub fn read_words(words: &[String]) -> Work
 {
     match words {
         [verb, image] => {
-            if verb.as_str() == "run" && may_name(image.as_str()) {
-                Work::Run
-            } else {
-                Work::Wrong
+            if !may_name(image.as_str()) {
+                return Work::Wrong;
             }
+            if verb.as_str() == "run" {
+                return Work::Run;
+            }
+            if verb.as_str() == "check" {
+                return Work::Check;
+            }
+            Work::Wrong
         }
         [verb, image, sectors] => {
             if verb.as_str() == "format" && may_name(image.as_str()) {

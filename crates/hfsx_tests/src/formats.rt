@@ -99,10 +99,9 @@ fn a_volume_of_another_size_is_made_and_not_served(rt: HostRuntime) -> Result<()
 fn wrong_words_tell_the_usage(rt: HostRuntime) -> Result<(), Fail> {
     let alloc = rt.alloc();
     for line in [
-        // No work, and two that aren't built.
+        // No work, and one that isn't built.
         "",
         "gen 7",
-        "check v.img",
         // Words for options, the word `help` and an empty word.
         "--help",
         "run -v",
@@ -111,6 +110,9 @@ fn wrong_words_tell_the_usage(rt: HostRuntime) -> Result<(), Fail> {
         // One word too few or too many.
         "run",
         "run v.img w.img",
+        "check",
+        "check v.img w.img",
+        "check -v",
         // No number, and not that of the image.
         "format v.img 07",
         "format v.img +7",

@@ -3,6 +3,8 @@
 
 #[cfg(test)]
 mod barriers;
+#[cfg(test)]
+mod checks;
 mod counting;
 #[cfg(test)]
 mod faults;

@@ -1,7 +1,6 @@
-use Rattle.std.proofs.Common.{◌∙◌, ◌∷◌, [], refl, subst}
+use Rattle.std.proofs.Common.{◌≡◌, ℕ, List, ◌++◌, ◌∷◌, [], length, codes, refl}
 use Rattle.std.specs.Prelude.{decimal}
 use Rattle.std.proofs.lemmas.Result.{err_from_is_err_and}
-use Rattle.hfsx_server.specs.Telling.{Telling}
 use Rattle.hfsx_server.proofs.Telling.{telling_both, telling_failed}
 use Rattle.hfsx_server.proofs.refusal.tell_number.Goals as goal
 
@@ -12,8 +11,4 @@ returns-in_err-tell_piece g c =
 
 pub returns : goal.returns
 returns g c =
-    let s0 = g.R.SectorDisk.state c.args.rig.now in
-    let s1 = g.R.SectorDisk.state c.tell_piece.new.rig in
-    let s2 = g.R.SectorDisk.state c.tell_piece-2.new.rig in
-    let number = c.as_bytes.ensures.value ∙ c.format.ensures.text in
-    telling_both s0 s1 s2 (32 ∷ []) (decimal c.args.number) _ c.tell_piece-2.result _ refl c.in_ok-tell_piece.ensures (subst (λ l. Telling s1 s2 l c.tell_piece-2.result) number c.tell_piece-2.ensures)
+    telling_both (g.R.SectorDisk.state c.args.rig.now) (g.R.SectorDisk.state c.tell_piece.new.rig) (g.R.SectorDisk.state c.tell_decimal.new.rig) (32 ∷ []) (decimal c.args.number) _ c.tell_decimal.result _ refl c.in_ok-tell_piece.ensures c.tell_decimal.ensures

@@ -2,7 +2,7 @@ use Rattle.std.proofs.Common.{◌∙◌, ⊎_elim, refl, sym}
 use Rattle.sector_disk.specs.Disk.{content}
 use Rattle.hfsx_server.proofs.Finding.{refused_image}
 use Rattle.hfsx_server.specs.Words.{texts}
-use Rattle.hfsx_server.proofs.Usage.{not_both, same_sectors}
+use Rattle.hfsx_server.proofs.Usage.{no_check, no_format, not_both, same_sectors}
 use Rattle.hfsx_server.proofs.top.hfsx.Goals as goal
 
 pub returns-then-sectors-clause-formatted : goal.returns-then-sectors-clause-formatted
@@ -12,7 +12,8 @@ pub returns-else-sectors-clause-usage : goal.returns-else-sectors-clause-usage
 returns-else-sectors-clause-usage g c =
     let words = texts c.args.words.now in (
       λ _ right. ⊎_elim (λ run. not_both words c.in-Format.sectors run c.in-Format.ensures)
-          (λ format. c.if-sectors.false (same_sectors words _ _ c.in-Format.ensures format ∙ sym c.sectors.ensures)) right,
+          (λ rest. ⊎_elim (λ check. no_format words c.in-Format.sectors check c.in-Format.ensures)
+          (λ format. c.if-sectors.false (same_sectors words _ _ c.in-Format.ensures format ∙ sym c.sectors.ensures)) rest) right,
       λ _. refl,
     )
 
@@ -21,10 +22,10 @@ returns-else-sectors-clause-format_refused g c format =
     absurd (c.if-sectors.false (same_sectors (texts c.args.words.now) _ _ c.in-Format.ensures format ∙ sym c.sectors.ensures))
 
 pub returns-in-Wrong-clause-usage : goal.returns-in-Wrong-clause-usage
-returns-in-Wrong-clause-usage g c = (λ _ right. ⊎_elim (λ run. c.in-Wrong.ensures.0 run) (λ format. c.in-Wrong.ensures.1 _ format) right, λ _. refl)
+returns-in-Wrong-clause-usage g c = (λ _ right. ⊎_elim (λ run. c.in-Wrong.ensures.0 run) (λ rest. ⊎_elim (λ check. c.in-Wrong.ensures.1 check) (λ format. c.in-Wrong.ensures.2 _ format) rest) right, λ _. refl)
 
 pub returns-in-Wrong-clause-format_refused : goal.returns-in-Wrong-clause-format_refused
-returns-in-Wrong-clause-format_refused g c format = absurd (c.in-Wrong.ensures.1 _ format)
+returns-in-Wrong-clause-format_refused g c format = absurd (c.in-Wrong.ensures.2 _ format)
 
 pub returns-then-sectors-clause-unwritten : goal.returns-then-sectors-clause-unwritten
 returns-then-sectors-clause-unwritten g c either = ⊎_elim (λ refused. (c.format.ensures.refusal refused).candidates) (λ usage. absurd (c.format.ensures.no_usage usage)) either
@@ -65,3 +66,96 @@ returns-then-sectors-clause-source_stopped g c run tells start mounts is = absur
 
 pub returns-then-sectors-clause-many_stopped : goal.returns-then-sectors-clause-many_stopped
 returns-then-sectors-clause-many_stopped g c run tells start mounts is = absurd (not_both (texts c.args.words.now) c.in-Format.sectors run c.in-Format.ensures)
+
+pub returns-then-sectors-clause-check_sound : goal.returns-then-sectors-clause-check_sound
+returns-then-sectors-clause-check_sound g c check tells is = absurd (no_format (texts c.args.words.now) c.in-Format.sectors check c.in-Format.ensures)
+
+pub returns-then-sectors-clause-check_found : goal.returns-then-sectors-clause-check_found
+returns-then-sectors-clause-check_found g c check tells is = absurd (no_format (texts c.args.words.now) c.in-Format.sectors check c.in-Format.ensures)
+
+pub returns-then-sectors-clause-check_finds : goal.returns-then-sectors-clause-check_finds
+returns-then-sectors-clause-check_finds g c check tells none = absurd (no_format (texts c.args.words.now) c.in-Format.sectors check c.in-Format.ensures)
+
+pub returns-then-sectors-clause-check_unwritten : goal.returns-then-sectors-clause-check_unwritten
+returns-then-sectors-clause-check_unwritten g c check = absurd (no_format (texts c.args.words.now) c.in-Format.sectors check c.in-Format.ensures)
+
+pub returns-else-sectors-clause-check_sound : goal.returns-else-sectors-clause-check_sound
+returns-else-sectors-clause-check_sound g c check tells is = absurd (no_format (texts c.args.words.now) c.in-Format.sectors check c.in-Format.ensures)
+
+pub returns-else-sectors-clause-check_found : goal.returns-else-sectors-clause-check_found
+returns-else-sectors-clause-check_found g c check tells is = absurd (no_format (texts c.args.words.now) c.in-Format.sectors check c.in-Format.ensures)
+
+pub returns-else-sectors-clause-check_finds : goal.returns-else-sectors-clause-check_finds
+returns-else-sectors-clause-check_finds g c check tells none = absurd (no_format (texts c.args.words.now) c.in-Format.sectors check c.in-Format.ensures)
+
+pub returns-else-sectors-clause-check_unwritten : goal.returns-else-sectors-clause-check_unwritten
+returns-else-sectors-clause-check_unwritten g c check = absurd (no_format (texts c.args.words.now) c.in-Format.sectors check c.in-Format.ensures)
+
+pub returns-in-Run-clause-check_sound : goal.returns-in-Run-clause-check_sound
+returns-in-Run-clause-check_sound g c check tells is = absurd (no_check (texts c.args.words.now) c.in-Run.ensures check)
+
+pub returns-in-Run-clause-check_found : goal.returns-in-Run-clause-check_found
+returns-in-Run-clause-check_found g c check tells is = absurd (no_check (texts c.args.words.now) c.in-Run.ensures check)
+
+pub returns-in-Run-clause-check_finds : goal.returns-in-Run-clause-check_finds
+returns-in-Run-clause-check_finds g c check tells none = absurd (no_check (texts c.args.words.now) c.in-Run.ensures check)
+
+pub returns-in-Run-clause-check_unwritten : goal.returns-in-Run-clause-check_unwritten
+returns-in-Run-clause-check_unwritten g c check = absurd (no_check (texts c.args.words.now) c.in-Run.ensures check)
+
+pub returns-in-Wrong-clause-check_sound : goal.returns-in-Wrong-clause-check_sound
+returns-in-Wrong-clause-check_sound g c check tells is = absurd (c.in-Wrong.ensures.1 check)
+
+pub returns-in-Wrong-clause-check_found : goal.returns-in-Wrong-clause-check_found
+returns-in-Wrong-clause-check_found g c check tells is = absurd (c.in-Wrong.ensures.1 check)
+
+pub returns-in-Wrong-clause-check_finds : goal.returns-in-Wrong-clause-check_finds
+returns-in-Wrong-clause-check_finds g c check tells none = absurd (c.in-Wrong.ensures.1 check)
+
+pub returns-in-Wrong-clause-check_unwritten : goal.returns-in-Wrong-clause-check_unwritten
+returns-in-Wrong-clause-check_unwritten g c check = absurd (c.in-Wrong.ensures.1 check)
+
+pub returns-in-Check-clause-format_refused : goal.returns-in-Check-clause-format_refused
+returns-in-Check-clause-format_refused g c format = absurd (no_format (texts c.args.words.now) _ c.in-Check.ensures format)
+
+pub returns-in-Check-clause-format_refusal : goal.returns-in-Check-clause-format_refusal
+returns-in-Check-clause-format_refusal g c format tells is = absurd (no_format (texts c.args.words.now) _ c.in-Check.ensures format)
+
+pub returns-in-Check-clause-format_told : goal.returns-in-Check-clause-format_told
+returns-in-Check-clause-format_told g c format tells is = absurd (no_format (texts c.args.words.now) _ c.in-Check.ensures format)
+
+pub returns-in-Check-clause-formatted : goal.returns-in-Check-clause-formatted
+returns-in-Check-clause-formatted g c format tells is usual = absurd (no_format (texts c.args.words.now) _ c.in-Check.ensures format)
+
+pub returns-in-Check-clause-format_fresh : goal.returns-in-Check-clause-format_fresh
+returns-in-Check-clause-format_fresh g c format tells is usual = absurd (no_format (texts c.args.words.now) _ c.in-Check.ensures format)
+
+pub returns-in-Check-clause-format_made : goal.returns-in-Check-clause-format_made
+returns-in-Check-clause-format_made g c format tells is other = absurd (no_format (texts c.args.words.now) _ c.in-Check.ensures format)
+
+pub returns-in-Check-clause-run_refused : goal.returns-in-Check-clause-run_refused
+returns-in-Check-clause-run_refused g c run tells is = absurd (no_check (texts c.args.words.now) run c.in-Check.ensures)
+
+pub returns-in-Check-clause-run_refuses : goal.returns-in-Check-clause-run_refuses
+returns-in-Check-clause-run_refuses g c run tells none = absurd (no_check (texts c.args.words.now) run c.in-Check.ensures)
+
+pub returns-in-Check-clause-headline : goal.returns-in-Check-clause-headline
+returns-in-Check-clause-headline g c run tells settled start mounts = absurd (no_check (texts c.args.words.now) run c.in-Check.ensures)
+
+pub returns-in-Check-clause-source_stopped : goal.returns-in-Check-clause-source_stopped
+returns-in-Check-clause-source_stopped g c run tells start mounts is = absurd (no_check (texts c.args.words.now) run c.in-Check.ensures)
+
+pub returns-in-Check-clause-many_stopped : goal.returns-in-Check-clause-many_stopped
+returns-in-Check-clause-many_stopped g c run tells start mounts is = absurd (no_check (texts c.args.words.now) run c.in-Check.ensures)
+
+pub returns-in-Check-clause-end : goal.returns-in-Check-clause-end
+returns-in-Check-clause-end g c run told is = absurd (no_check (texts c.args.words.now) run c.in-Check.ensures)
+
+pub returns-in-Check-clause-few : goal.returns-in-Check-clause-few
+returns-in-Check-clause-few g c run told tells settled mountable is = absurd (no_check (texts c.args.words.now) run c.in-Check.ensures)
+
+pub returns-in-Check-clause-check_found : goal.returns-in-Check-clause-check_found
+returns-in-Check-clause-check_found g c check tells is = (c.check.ensures.unsound tells is, c.check.ensures.found tells is)
+
+pub returns-in-Check-clause-unwritten : goal.returns-in-Check-clause-unwritten
+returns-in-Check-clause-unwritten g c either = c.check.ensures.unwritten

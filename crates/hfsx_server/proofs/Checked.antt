@@ -1,0 +1,106 @@
+-- What a check finds, and why it refuses an image.
+use Rattle.std.specs.Prelude.{◌↔◌, ◌≤◌, Contains, IfOk}
+use Rattle.std.proofs.Common.{◌≡◌, ◌⊎◌, ◌<◌, ◌++◌, ℕ, Bool, true, false, List, IsTrue, Result, Ok, Err, Option, None, inl, inr, ⊎_elim, length, refl, sym, ◌∙◌, ap, subst}
+use Rattle.sector_disk.specs.Disk.{State, content}
+use Rattle.volume_header.specs.Refusal.{header_refusal}
+use Rattle.volume_header.specs.declared.header.VolumeHeader.{VolumeHeader}
+use Rattle.jnl_format.specs.Recovery.{Content, header_of_volume, recovery}
+use Rattle.hfs_volume.specs.Sound.{IsSound}
+use Rattle.hfs_volume.specs.declared.summary.Summary.{Summary}
+use Rattle.fsck_list.specs.declared.finding.Finding.{Finding}
+use Rattle.fsck_core.specs.Verdicts.{IsCounted, KeepsEarly, findings_in, is_clean}
+use Rattle.fsck_core.specs.Wants.{as_found}
+use Rattle.fsck_list.specs.Kept.{IsListed}
+use Rattle.hfs_volume.specs.Broken.{IsBroken}
+use Rattle.hfs_volume.specs.Content.{volume_of}
+use Rattle.fsck_core.specs.declared.checking.Verdict.{Verdict}
+use Rattle.fsck_core.specs.declared.checking.Verdict.TheVariants as verdict
+use Rattle.hfsx_server.specs.Checking.{IsCheckFault, IsSoundImage, Judges, JudgesImage, RefusesCheck, StandsFor, ToldBroken, ToldSound}
+use Rattle.hfsx_server.specs.Telling.{ToldUnlessFailed, clean_text, findings_text}
+use Rattle.hfsx_server.specs.Volume.{IsFault, IsOpen, IsRefusal, Refuses}
+use Rattle.hfsx_server.specs.declared.faults.MountFault.{MountFault}
+use Rattle.hfsx_server.specs.declared.faults.MountFault.TheVariants as fault
+use Rattle.hfsx_server.proofs.Finding.{same_recovered}
+use Rattle.hfsx_server.proofs.Telling.{told_from}
+
+-- ---- faults
+
+refuses_of : (c : Content) (why : MountFault) → IsOpen c → RefusesCheck c why → Refuses c why
+refuses_of c (fault.Header why) is_open is = is
+refuses_of c (fault.Journal why) is_open is = (is_open, is.1)
+refuses_of c fault.SoftwareLocked is_open is = absurd is
+refuses_of c (fault.JournalTooSmall need has) is_open is = absurd is
+refuses_of c (fault.NotYet part) is_open is = absurd is
+refuses_of c fault.Disk is_open is = absurd is
+refuses_of c fault.Memory is_open is = absurd is
+
+-- why an open image isn't checked, it isn't mounted
+pub fault_of_check : (c : Content) (why : MountFault) → IsOpen c → IsCheckFault c why → IsFault c why
+fault_of_check c why is_open is =
+    ⊎_elim (λ (disk : why ≡ fault.Disk). inl disk)
+    (λ (rest : (why ≡ fault.Memory) ⊎ RefusesCheck c why). inr (⊎_elim (λ (memory : why ≡ fault.Memory). inl memory) (λ (refuses : RefusesCheck c why). inr (refuses_of c why is_open refuses)) rest)) is
+
+-- a fault that is a refusal refuses the image
+pub refusal_of_check : (c : Content) (why : MountFault) → IsCheckFault c why → IsRefusal why → RefusesCheck c why
+refusal_of_check c why is refusal =
+    ⊎_elim (λ (disk : why ≡ fault.Disk). absurd (refusal.0 disk))
+    (λ (rest : (why ≡ fault.Memory) ⊎ RefusesCheck c why). ⊎_elim (λ (memory : why ≡ fault.Memory). absurd (refusal.1 memory)) (λ (refuses : RefusesCheck c why). refuses) rest) is
+
+pub refused_unsound : (c : Content) (why : MountFault) → RefusesCheck c why → ¬ IsSoundImage c
+refused_unsound c (fault.Header why) is sound = absurd (cc (is, sound.1.accepted))
+refused_unsound c (fault.Journal why) is sound = absurd (cc (is.1, sound.1.recovers))
+refused_unsound c fault.SoftwareLocked is sound = is
+refused_unsound c (fault.JournalTooSmall need has) is sound = is
+refused_unsound c (fault.NotYet part) is sound = is
+refused_unsound c fault.Disk is sound = is
+refused_unsound c fault.Memory is sound = is
+
+-- ---- verdicts
+
+not_clean : (b : Bool) → b ≡ false → IsTrue b → ⊥
+not_clean b none is = absurd (cc (none, is))
+
+pub broken_unsound : (c : Content) (found : Verdict) → JudgesImage c found → is_clean found ≡ false → ¬ IsSoundImage c
+broken_unsound c found judged none sound =
+    let same : sound.0 ≡ judged.0 = same_recovered c sound.0 judged.0 sound.1.recovers judged.1.recovers in
+    not_clean (is_clean found) none (judged.2.sound.1 (subst IsSound same sound.2))
+
+pub told_sound : (old mid new : State) (summary : Summary) → JudgesImage (content old) (verdict.Clean summary) → mid.told ≡ old.told → new.told ≡ mid.told ++ clean_text summary → ToldSound old new
+told_sound old mid new summary judged same told = record {
+  recovered = judged.0;
+  stands = judged.1;
+  sound = judged.2.sound.0 refl;
+  summary = summary;
+  numbers = judged.2.counted;
+  told = told ∙ ap (λ (l : List ℕ). l ++ clean_text summary) same;
+}
+
+none_clean : (list : List Finding) → IsTrue (is_clean (verdict.Findings list)) ⊎ (0 < length list) → 0 < length list
+none_clean list some = ⊎_elim (λ (clean : IsTrue (is_clean (verdict.Findings list))). absurd (not_clean false refl clean)) (λ found. found) some
+
+pub told_broken : (old mid new : State) (list : List Finding) → JudgesImage (content old) (verdict.Findings list) → mid.told ≡ old.told → mid.sink_faults ≡ old.sink_faults → ToldUnlessFailed mid new (findings_text list) → ToldBroken old new
+told_broken old mid new list judged same faults told = record {
+  recovered = judged.0;
+  stands = judged.1;
+  list = list;
+  some = none_clean list judged.2.some;
+  broken = judged.2.broken;
+  listed = judged.2.listed;
+  told = told_from old mid new (findings_text list) same faults told;
+}
+
+-- ---- the verdict of a check
+
+-- what is said of each verdict clause by clause
+pub judges_of : {E : Type 0} (c : Content) (r : Result Verdict E) → IfOk r (λ found. IsTrue (is_clean found) ↔ IsSound c) → IfOk r (IsCounted (volume_of c)) → IfOk r (λ found. IsTrue (is_clean found) ⊎ (0 < length (findings_in found)))
+    → IfOk r (λ found. (f : Finding) → Contains (findings_in found) f → IsBroken c (as_found f))
+    → (KeepsEarly c → IfOk r (λ found. (f : Finding) → 11 ≤ f.rule → f.rule ≤ 14 → IsBroken c (as_found f) → IsListed (findings_in found) f)) → IfOk r (Judges c)
+judges_of c (Ok found) sound counted some broken listed = record { sound = sound; counted = counted; some = some; broken = broken; listed = listed }
+judges_of c (Err e) sound counted some broken listed = tt
+
+-- what an image stands for whose header was read, and accepted, and whose journal was found
+pub stands_for : (c : Content) (head : VolumeHeader) (sectors : ℕ) (recovered : Content) → head ≡ header_of_volume c → header_refusal head sectors ≡ None → length c ≡ sectors → recovery c ≡ Ok recovered → StandsFor c recovered
+stands_for c head sectors recovered is accepted size recovers = record {
+  accepted = ap (λ n. header_refusal (header_of_volume c) n) size ∙ ap (λ (h : VolumeHeader). header_refusal h sectors) (sym is) ∙ accepted;
+  recovers = recovers;
+}

@@ -1,0 +1,156 @@
+// Images that are checked.
+use hfsx_server::Status;
+use hx_bytes::OutOfMemory;
+use mem_disk::MemRig;
+use std::alloc::Global;
+use std::test::Fail;
+use test_kit::{fresh_rig, put, run_on, sector_of};
+
+const CLEAN: &str = "clean files 2 folders 0 blocks 2048 free 1692\n";
+
+// Whether a check of the image ends so, tells this, and writes nothing.
+fn finds(alloc: Global, rig: &mut MemRig, status: Status, told: &str) -> Result<bool, OutOfMemory> {
+    let image = rig.image(alloc, 1)?;
+    let mut checked = MemRig::from_image(alloc, &image)?;
+    let ended = run_on(alloc, "check v.img", &mut checked, b"")?;
+    Ok(ended == status && checked.told() == told.as_bytes() && !has_written(&checked))
+}
+
+fn has_written(rig: &MemRig) -> bool {
+    for call in 0..rig.calls() {
+        if rig.wrote(call) {
+            return true;
+        }
+    }
+    false
+}
+
+// Changes a byte of an image.
+fn set(rig: &mut MemRig, sector: u64, byte: usize, value: u8) {
+    let mut bytes = sector_of(rig, sector);
+    if byte < 512 {
+        bytes[byte] = value;
+    }
+    put(rig, sector, &bytes);
+}
+
+#[test]
+fn a_fresh_volume_is_clean(rt: HostRuntime) -> Result<(), Fail> {
+    let alloc = rt.alloc();
+    let mut rig = fresh_rig(alloc)?;
+    assert!(rt; finds(alloc, &mut rig, Status::Done, CLEAN)?);
+    Ok(())
+}
+
+#[test]
+fn a_volume_of_another_size_is_clean(rt: HostRuntime) -> Result<(), Fail> {
+    let alloc = rt.alloc();
+    let mut rig = MemRig::new(alloc, 20_000)?;
+    run_on(alloc, "format v.img 20000", &mut rig, b"")?;
+    let told = "clean files 2 folders 0 blocks 2500 free 2088\n";
+    assert!(rt; finds(alloc, &mut rig, Status::Done, told)?);
+    Ok(())
+}
+
+#[test]
+fn folders_are_counted(rt: HostRuntime) -> Result<(), Fail> {
+    let alloc = rt.alloc();
+    let mut rig = fresh_rig(alloc)?;
+    run_on(alloc, "run v.img", &mut rig, b"mkdir /a\nmkdir /b\n")?;
+    let told = "clean files 2 folders 2 blocks 2048 free 1692\n";
+    assert!(rt; finds(alloc, &mut rig, Status::Done, told)?);
+    Ok(())
+}
+
+// A run that is stopped leaves a live list in the journal, which the check looks through.
+#[test]
+fn a_live_journal_is_looked_through(rt: HostRuntime) -> Result<(), Fail> {
+    let alloc = rt.alloc();
+    let lines = b"mkdir /a\nls /\n".as_slice();
+    let mut whole = fresh_rig(alloc)?;
+    run_on(alloc, "run v.img", &mut whole, lines)?;
+    let mut rig = fresh_rig(alloc)?;
+    // The end of a run writes the journal's sectors home and sets bit 8.
+    rig.stop_after(whole.calls().saturating_sub(30));
+    assert_eq!(rt; run_on(alloc, "run v.img", &mut rig, lines)?, Status::Disk);
+    let told = "clean files 2 folders 1 blocks 2048 free 1692\n";
+    assert!(rt; finds(alloc, &mut rig, Status::Done, told)?);
+    Ok(())
+}
+
+#[test]
+fn a_bit_that_is_set_is_found(rt: HostRuntime) -> Result<(), Fail> {
+    let alloc = rt.alloc();
+    let mut rig = fresh_rig(alloc)?;
+    set(&mut rig, 8, 250, 0x80);
+    assert!(rt;
+        finds(
+            alloc,
+            &mut rig,
+            Status::Refused,
+            "S13 2000 1 0\nfindings 1\n"
+        )?
+    );
+    Ok(())
+}
+
+#[test]
+fn a_count_that_is_wrong_is_found(rt: HostRuntime) -> Result<(), Fail> {
+    let alloc = rt.alloc();
+    let mut rig = fresh_rig(alloc)?;
+    set(&mut rig, 2, 50, 0);
+    set(&mut rig, 2, 51, 5);
+    assert!(rt;
+        finds(
+            alloc,
+            &mut rig,
+            Status::Refused,
+            "S14 48 5 1692\nfindings 1\n"
+        )?
+    );
+    Ok(())
+}
+
+#[test]
+fn a_locked_volume_is_checked(rt: HostRuntime) -> Result<(), Fail> {
+    let alloc = rt.alloc();
+    let mut rig = fresh_rig(alloc)?;
+    set(&mut rig, 2, 6, 0xA1);
+    assert!(rt; finds(alloc, &mut rig, Status::Done, CLEAN)?);
+    Ok(())
+}
+
+#[test]
+fn what_stands_for_no_volume_is_refused(rt: HostRuntime) -> Result<(), Fail> {
+    let alloc = rt.alloc();
+    let mut zeros = MemRig::new(alloc, 16_384)?;
+    assert!(rt; finds(alloc, &mut zeros, Status::Refused, "refused NotHfsx 0 0\n")?);
+    let mut small = MemRig::new(alloc, 8)?;
+    assert!(rt;
+        finds(
+            alloc,
+            &mut small,
+            Status::Refused,
+            "refused LimitSectors 8\n"
+        )?
+    );
+    // The journal's info block says another device.
+    let mut other = fresh_rig(alloc)?;
+    set(&mut other, 16, 3, 2);
+    assert!(rt; finds(alloc, &mut other, Status::Refused, "refused OtherDevice\n")?);
+    Ok(())
+}
+
+#[test]
+fn a_check_ends_where_a_device_fails(rt: HostRuntime) -> Result<(), Fail> {
+    let alloc = rt.alloc();
+    let mut rig = fresh_rig(alloc)?;
+    rig.fail_on(alloc, 0)?;
+    assert_eq!(rt; run_on(alloc, "check v.img", &mut rig, b"")?, Status::Disk);
+    assert_eq!(rt; rig.told(), b"".as_slice());
+    let mut full = fresh_rig(alloc)?;
+    full.sink_room(5);
+    assert_eq!(rt; run_on(alloc, "check v.img", &mut full, b"")?, Status::Sink);
+    assert_eq!(rt; full.told(), b"clean".as_slice());
+    Ok(())
+}
