@@ -8,11 +8,11 @@ use Rattle.sector_disk.proofs.Passing.{both_pass}
 use Rattle.hfs_language.specs.Lines.{lines, HasNoNewline}
 use Rattle.hfs_language.proofs.Lines.{lines-nil}
 use Rattle.hfsx_server.specs.Headline.{AreAllTaken, AreTaken, Entry, IsFinished, IsPrefix, lines_of, replies_of, tree_after}
-use Rattle.hfsx_server.specs.Input.{ahead, SplitsIntoLines, SameSource, TakesLines}
+use Rattle.line_source.specs.Input.{ahead, SplitsIntoLines, SameSource, TakesLines}
 use Rattle.hfsx_server.specs.Serving.{RunSoFar, IsServing, Serves, Stops, SurvivesFrom}
 use Rattle.hfsx_server.specs.Volume.{IsUnmounted, MountsTo, Tree}
 use Rattle.hfsx_server.specs.declared.server.Server.{Server}
-use Rattle.hfsx_server.proofs.Cuts.{all_taken, front_cut, takes_both, takes_none}
+use Rattle.line_source.proofs.Cuts.{all_taken, front_cut, takes_both, takes_none}
 use Rattle.hfsx_server.proofs.Runs.{crashes_both, lines_of-append, serves_both, serves_none, tree_after-append, tree_after-none}
 
 -- the lines that were served since the start

@@ -3,13 +3,13 @@ pub mod Causes
 pub mod Checked
 pub mod Changed
 pub mod Durable
-pub mod Fetching
 pub mod Finding
 pub mod Cuts
 pub mod Finished
 pub mod FoldersPlaced
 pub mod Formatted
 pub mod PartsPlaced
+pub mod Held
 pub mod Lines
 pub mod MadeSizes
 pub mod Mounted
@@ -18,7 +18,6 @@ pub mod Pieces
 pub mod Places
 pub mod Putting
 pub mod Ran
-pub mod Reading
 pub mod Recoveries
 pub mod Results
 pub mod Answering

@@ -7,11 +7,11 @@ use Rattle.jnl_replay.specs.Plan.{FitsPlan}
 use Rattle.jnl_store.specs.Store.{Keeps, KeepsOn, durable_of}
 use Rattle.hfs_language.specs.Lines.{lines}
 use Rattle.hfsx_server.specs.Headline.{Entry, lines_of}
-use Rattle.hfsx_server.specs.Input.{ahead, TakesLines}
+use Rattle.line_source.specs.Input.{ahead, TakesLines}
 use Rattle.hfsx_server.specs.Serving.{IsIdle, IsServing, Rests, Stops}
 use Rattle.hfsx_server.specs.Volume.{Holds}
 use Rattle.hfsx_server.specs.declared.server.Server.{Server}
-use Rattle.hfsx_server.proofs.Cuts.{front_cut, none_cut, none_left}
+use Rattle.line_source.proofs.Cuts.{front_cut, none_cut, none_left}
 
 -- no line was answered
 pub stops_none : (taken : List ℕ) (source source_new : Stream) → (gone : List ℕ) × (ahead taken source ≡ gone ++ source_new.left) → Stops taken source [] source_new

@@ -1,8 +1,8 @@
 -- Faults of the server, as those of its parts and as statuses.
 use Rattle.hx_bytes.specs.declared.faults.Trouble.{Trouble}
 use Rattle.hx_bytes.specs.declared.faults.Trouble.TheVariants as trouble
-use Rattle.hfsx_server.specs.declared.input.InputFault.{InputFault}
-use Rattle.hfsx_server.specs.declared.input.InputFault.TheVariants as line
+use Rattle.line_source.specs.declared.input.InputFault.{InputFault}
+use Rattle.line_source.specs.declared.input.InputFault.TheVariants as line
 use Rattle.hfsx_server.specs.declared.faults.MountFault.{MountFault}
 use Rattle.hfsx_server.specs.declared.faults.MountFault.TheVariants as mount
 use Rattle.hfsx_server.specs.declared.faults.ServeFault.{ServeFault}

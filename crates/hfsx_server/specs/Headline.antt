@@ -7,7 +7,7 @@ use Rattle.hfs_language.specs.Language.{command_of}
 use Rattle.hfs_language.specs.Lines.{lines, HasNoNewline}
 use Rattle.hfs_language.specs.Text.{reply_text}
 use Rattle.hfs_language.specs.declared.reply.Reply.{Reply}
-use Rattle.hfsx_server.specs.Input.{SplitsIntoLines}
+use Rattle.line_source.specs.Input.{SplitsIntoLines}
 use Rattle.hfsx_server.specs.Session.{step}
 use Rattle.hfsx_server.specs.Volume.{Tree, MountsTo, IsUnmounted}
 

@@ -3,7 +3,6 @@ pub mod Checking
 pub mod Faults
 pub mod Finding
 pub mod Made
-pub mod Input
 pub mod Serving
 pub mod Session
 pub mod Status

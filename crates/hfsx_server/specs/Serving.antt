@@ -17,7 +17,7 @@ use Rattle.hfs_model.specs.Thin.{AreThin, IsJournal, info_text, is_clean_in, thi
 use Rattle.hfs_model.specs.declared.parts.Parts.{Parts}
 use Rattle.hfsx_server.specs.Finding.{IsLargePlan}
 use Rattle.hfsx_server.specs.Headline.{Entry, IsPrefix, IsRun, Survives, lines_of, replies_of, tree_after}
-use Rattle.hfsx_server.specs.Input.{ahead}
+use Rattle.line_source.specs.Input.{ahead}
 use Rattle.hfsx_server.specs.Session.{step}
 use Rattle.hfsx_server.specs.Volume.{Tree, Holds, MountsTo, least_capacity}
 use Rattle.hfsx_server.specs.declared.server.Server.{Server}

@@ -3,9 +3,10 @@ ghost use Rattle.std.specs.Prelude.{◌≡◌, ◌↔◌, IsTrue};
 ghost use Rattle.hfsx_server.specs.Faults.{status_of, status_of_mount};
 ghost use Rattle.hfsx_server.specs.Volume.{IsRefusal};
 
-use crate::{InputFault, Status};
+use crate::Status;
 use hx_bytes::{Failed, OutOfMemory, Trouble};
 use jnl_format::JnlRefusal;
+use line_source::InputFault;
 use volume_header::HeaderRefusal;
 
 /// Why an image isn't served. Of the refusals, the first in this order that stands is told.

@@ -4,7 +4,7 @@ ghost use Rattle.sector_disk.specs.Disk.{CrashesLeave, SameDisk, SameSink, HasNo
 ghost use Rattle.hfs_language.specs.Lines.{lines};
 ghost use Rattle.hfsx_server.specs.Cause.{IsCauseOf};
 ghost use Rattle.hfsx_server.specs.Headline.{AreTaken, Entry, Headline, IsAnswered, IsAnsweredToTheLast, IsFinished};
-ghost use Rattle.hfsx_server.specs.Input.{SameSource};
+ghost use Rattle.line_source.specs.Input.{SameSource};
 ghost use Rattle.hfsx_server.specs.Serving.{RunSoFar, IsServing};
 ghost use Rattle.hfsx_server.specs.Telling.{ToldRefusal};
 ghost use Rattle.hfsx_server.specs.Volume.{Tree, IsMountable, IsUnmounted, MountsTo};

@@ -11,18 +11,19 @@ ghost use Rattle.hfs_language.specs.Text.{reply_text};
 ghost use Rattle.hfs_model.specs.Thin.{AreThin};
 ghost use Rattle.hfsx_server.specs.Cause.{IsCause};
 ghost use Rattle.hfsx_server.specs.Headline.{Entry, lines_of, tree_after};
-ghost use Rattle.hfsx_server.specs.Input.{ahead, weight, IsLine, SameSource, TakesLines, TakesNoMore};
+ghost use Rattle.line_source.specs.Input.{ahead, weight, IsLine, SameSource, TakesLines, TakesNoMore};
 ghost use Rattle.hfsx_server.specs.Session.{step, with_folder, answer, after};
 ghost use Rattle.hfsx_server.specs.Serving.{SameButLines, entry_of, RunSoFar, IsIdle, IsMarkedClean, IsServing, KeepsMark, Rests, Serves, Stops};
 ghost use Rattle.hfsx_server.specs.Volume.{Tree, Holds, IsUnmounted, MountsTo};
 
 use crate::changing::{change_folders, change_header};
 use crate::folders::with_last;
-use crate::{Input, Line, Outcome, ServeFault, decide, read_command};
+use crate::{Outcome, ServeFault, decide, read_command};
 use cmd_lang::{MOST_BYTES, print_reply};
 use hfs_model::{Command, Parts, Refusal, marked_header, with_names};
 use hx_bytes::{Bytes, Failed, Names, Trouble, Units};
 use jnl_store::{Store, StoreFault};
+use line_source::Input;
 use sector_disk::{Rig, SectorDisk, Source, tell_whole};
 use std::alloc::Global;
 
@@ -117,7 +118,7 @@ impl Server {
     }
 
     // Answers a line.
-    fn answer<R: Rig>(&mut self, alloc: Global, rig: &mut R, line: &Line) -> Result<(), ServeFault>
+    fn answer<R: Rig>(&mut self, alloc: Global, rig: &mut R, line: &Bytes) -> Result<(), ServeFault>
         requires serving { IsServing self.old (R.state rig.old) }
         ensures serving { OnOk result (IsServing self.new (R.state rig.new)) }
         ensures served { IsTrue (R.state rig.old).tells → (text : List ℕ) → IsLine MOST_BYTES text line.now → OnOk result (Serves self.old.names (R.state rig.old) (entry_of self.old.names text ∷ []) (R.state rig.new)) }

@@ -2,15 +2,14 @@
 ghost use Rattle.std.specs.Prelude.{◌≡◌, ◌∷◌, [], ℕ, List, map, length, IsTrue, IfOk, MatchOption};
 ghost use Rattle.hfs_language.specs.Language.{command_of};
 ghost use Rattle.hfs_model.specs.Names.{in_order};
-ghost use Rattle.hfsx_server.specs.Input.{IsLine};
+ghost use Rattle.line_source.specs.Input.{IsLine};
 ghost use Rattle.hfsx_server.specs.Session.{is_private_name, is_private_path, is_private, refused, as_folder, make_step, mkdir_step, ls_step, built_step, step, with_folder};
 
-use crate::Line;
 use cmd_lang::{LineFault, MOST_BYTES, read_line};
 use hfs_model::{
     Command, ListedName, Listing, Path, Refusal, Reply, contains, is_thin_name, sorted,
 };
-use hx_bytes::{Names, OutOfMemory, Units};
+use hx_bytes::{Bytes, Names, OutOfMemory, Units};
 use std::alloc::Global;
 
 /// The most folders that the root may have.
@@ -36,18 +35,14 @@ pub struct Outcome {
     pub folder: Option<Units>,
 }
 
-/// The command that a line spells, or the first reason why it spells none.
-#[tactic(auto, unfolding(hfs_language::specs::Language::command_of))]
-pub fn read_command(alloc: Global, line: &Line) -> Result<Result<Command, Refusal>, OutOfMemory>
+/// The command that a line spells, or the first reason why it spells none. Of a line that is too long no more than its front needs to be held.
+pub fn read_command(alloc: Global, line: &Bytes) -> Result<Result<Command, Refusal>, OutOfMemory>
     ensures { IfOk result (λ read. (text : List ℕ) → IsLine MOST_BYTES text line.now → read ≡ command_of text) }
 {
-    match line {
-        Line::Whole(bytes) => match read_line(alloc, bytes.as_slice()) {
-            Ok(command) => Ok(Ok(command)),
-            Err(LineFault::No(why)) => Ok(Err(why)),
-            Err(LineFault::Memory) => Err(OutOfMemory),
-        },
-        Line::TooLong => Ok(Err(Refusal::TooLong)),
+    match read_line(alloc, line.as_slice()) {
+        Ok(command) => Ok(Ok(command)),
+        Err(LineFault::No(why)) => Ok(Err(why)),
+        Err(LineFault::Memory) => Err(OutOfMemory),
     }
 }
 
@@ -57,7 +52,7 @@ pub fn decide(
     names: &Names,
     read: Result<Command, Refusal>,
 ) -> Result<Outcome, OutOfMemory>
-    ensures { IfOk result (λ deed. step names.now read ≡ (deed.reply, with_folder names.now deed.folder)) }
+    ensures { IfOk result (λ outcome. step names.now read ≡ (outcome.reply, with_folder names.now outcome.folder)) }
 {
     match read {
         Ok(command) => {
@@ -123,7 +118,7 @@ fn is_private_name(name: &[u16]) -> bool
 
 // What a command does that isn't about the volume's own names.
 fn built(alloc: Global, names: &Names, command: Command) -> Result<Outcome, OutOfMemory>
-    ensures { IfOk result (λ deed. built_step names.now command ≡ (deed.reply, with_folder names.now deed.folder)) }
+    ensures { IfOk result (λ outcome. built_step names.now command ≡ (outcome.reply, with_folder names.now outcome.folder)) }
 {
     match command {
         Command::Mkdir(path) => Ok(mkdir(names, path)),
@@ -178,7 +173,7 @@ fn make(names: &Names, name: Units) -> Outcome
 }
 
 fn ls(alloc: Global, names: &Names, path: &Path) -> Result<Outcome, OutOfMemory>
-    ensures { IfOk result (λ deed. ls_step names.now path.now ≡ (deed.reply, with_folder names.now deed.folder)) }
+    ensures { IfOk result (λ outcome. ls_step names.now path.now ≡ (outcome.reply, with_folder names.now outcome.folder)) }
 {
     if !path.is_empty() {
         return Ok(refusal(Refusal::NotBuilt));

@@ -17,11 +17,12 @@ ghost use Rattle.hfsx_server.specs.Volume.{Tree, IsFault, IsRefusal, MountsTo};
 
 use crate::changing::change_header;
 use crate::mounting::{FoundVolume, find_volume};
-use crate::{Input, MountFault, Server};
+use crate::{MountFault, Server};
 use hfs_model::{Parts, marked_header};
 use hx_bytes::{Failed, Names, OutOfMemory, Trouble};
 use jnl_replay::{Plan, replay};
 use jnl_store::Store;
+use line_source::Input;
 use sector_disk::{Rig, SectorDisk};
 use std::alloc::Global;
 
@@ -70,6 +71,7 @@ fn start<D: SectorDisk>(alloc: Global, disk: &mut D, found: FoundVolume) -> Resu
     ensures cause { IsCause Trouble.Disk (D.state disk.old).faults (D.state disk.new).faults result }
 {
     replay(disk, &found.plan)?;
+    let input = Input::new(alloc)?;
     let mut store = attach(alloc, &found.plan)?;
     let FoundVolume { parts, names, .. } = found;
     let parts = mark(alloc, &mut store, disk, parts, &names)?;
@@ -77,7 +79,7 @@ fn start<D: SectorDisk>(alloc: Global, disk: &mut D, found: FoundVolume) -> Resu
         store,
         parts,
         names,
-        input: Input::new(),
+        input,
         lines: 0,
     })
 }

@@ -1,4 +1,4 @@
-use Rattle.hfsx_server.specs.Input.{weight}
+use Rattle.line_source.specs.Input.{weight}
 use Rattle.hfsx_server.proofs.Answering.{ServedSo}
 use Rattle.hfsx_server.proofs.running.serve.Given as goal
 

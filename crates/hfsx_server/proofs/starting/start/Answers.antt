@@ -118,3 +118,16 @@ returns-in_err-parts-clause-cause g c =
 
 pub replay-requires-clause-plan : goal.replay-requires-clause-plan
 replay-requires-clause-plan g c tells = (c.requires.found tells).plan
+
+pub returns-in_err-input-clause-crash : goal.returns-in_err-input-clause-crash
+returns-in_err-input-clause-crash g c tells settled =
+    let s0 = g.D.SectorDisk.state c.args.disk.now in
+    let s1 = g.D.SectorDisk.state c.replay.new.disk in
+    let found = c.args.found in
+    leaves_with s0 s1 (StandsForSame found.plan (content s0)) (λ image. MountsTo image found.names) (c.replay.ensures.crash tells settled)
+    (λ image stands. same_mounts (content s0) found (c.requires.found tells) s0.sectors c.requires.fits image stands)
+
+pub returns-in_err-input-clause-cause : goal.returns-in_err-input-clause-cause
+returns-in_err-input-clause-cause g c =
+    let p = err_from_is_err_and c.from_residual-in_err-input.result c.from_residual-in_err-input.ensures.1 in
+    cause_other Disk p.0 _ _ c.from_residual-in_err-input.result p.1 (λ is. absurd (cc (p.2, is))) c.replay.ensures.cause.later

@@ -1,7 +1,7 @@
 use Rattle.std.proofs.Common.{◌≡◌, ◌∙◌, ◌∷◌, [], IsTrue, IfSome, IfNone, refl, sym, ap, subst, arith, List, ℕ}
 use Rattle.std.proofs.lemmas.Result.{err_from_is_err_and}
 use Rattle.hfsx_server.specs.declared.faults.ServeFault.TheVariants.{Disk, Source, Sink, Memory}
-use Rattle.hfsx_server.specs.Input.{ahead, IsLine, TakesLines}
+use Rattle.line_source.specs.Input.{ahead, IsLine, TakesLines}
 use Rattle.hfsx_server.specs.Session.{step}
 use Rattle.hfsx_server.specs.Serving.{KeepsMark, RunSoFar, Serves, entry_of}
 use Rattle.hfsx_server.proofs.Causes.{cause_ok, err_is, same_fault}

@@ -1,9 +1,0 @@
-use Rattle.hfsx_server.specs.Input.{weight}
-use Rattle.hfsx_server.proofs.Reading.{Reads}
-use Rattle.hfsx_server.proofs.input.Input.next_line.Given as goal
-
-abbrev pub invariant-loop-line : goal.invariant-loop-line
-invariant-loop-line g l = Reads l.limit l.initial.self (g.S.Source.stream l.initial.source) l.self (g.S.Source.stream l.source) l.line
-
-abbrev pub decreases-loop-line : goal.decreases-loop-line
-decreases-loop-line g l = weight l.self (g.S.Source.stream l.source)
