@@ -57,7 +57,7 @@ module _ (Does : List Pair → List Pair → Type 0) (flag : Bool) (halves : (vo
     head_is : (volume_of a.content).head ≡ v.header
     head_is = ap (λ (l : VolumeState). l.head) settled.lists
 
-    header_same : w.header ≡ v.header
+    pub header_same : w.header ≡ v.header
     header_same = ap (λ (x : Volume). x.header) owned.marks.replaces.rest ∙ ap (λ (x : Volume). x.header) owned.attributes.rest
 
     pub headed : header_of_volume b.content ≡ w.header
@@ -128,6 +128,10 @@ module _ (Does : List Pair → List Pair → Type 0) (flag : Bool) (halves : (vo
       pub tree_then : tree_of b.content ≡ tree_in (lists_with (facts_on w.attributes.file) w b.content) (file_bytes a.content)
       tree_then = tree_again v w a b changes settled was stands headed (facts_on w.attributes.file) (λ x. refl) sound
 
+-- where there is an attributes file, a settled content has the lists that are kept
+lists_now : (w : Volume) (content : Content) → IsSettled w content → IsTrue (has_attributes w.header) → volume_of content ≡ lists_with (facts_on w.attributes.file) w content
+lists_now w content settled has = settled.lists ∙ (λ i. record (lists_of w content) { attributes_tree = settled.attributes has i })
+
 -- ---- `setattr`
 
 module _ (law : SetAttrDoes) (halves : (volume : VolumeState) → SoundIsBoth volume) (v w : Volume) (a b : Space) (settled : IsSettled v a.content) (was : IsStanding v a) (stands : IsStanding w b) (has : IsTrue (has_attributes v.header))
@@ -148,13 +152,15 @@ module _ (law : SetAttrDoes) (halves : (volume : VolumeState) → SoundIsBoth vo
         }
 
     pub set_does : 0 < length name → (path : List (List ℕ)) (node : PlainNode) → to_set (tree_of a.content) path value ≡ Ok node → node.id ≡ id_in entry.rec
-        → IsSettled w b.content × (tree_of b.content ≡ (step (tree_of a.content) (command.SetAttr path name value)).1)
+        → IsSettled w b.content × (tree_of b.content ≡ (step (tree_of a.content) (command.SetAttr path name value)).1) × SetsAttribute (id_in entry.rec) name value (volume_of a.content) (volume_of b.content)
     unfolding tree_of
     set_does named path node allowed number =
         let so = law path name value node (volume_of a.content) (lists_with (facts_on w.attributes.file) w b.content) (file_bytes a.content) (file_bytes_are a.content) settled.sound named allowed
         (subst (λ id. SetsAttribute id name value (volume_of a.content) (lists_with (facts_on w.attributes.file) w b.content)) (sym number) sets) in (
           settled_then (SetsValue (id_in entry.rec) name value) flag halves v w a b settled was stands has entry there kind owned so.0,
           tree_then (SetsValue (id_in entry.rec) name value) flag halves v w a b settled was stands has entry there kind owned so.0 ∙ so.1,
+          subst (λ (l : VolumeState). SetsAttribute (id_in entry.rec) name value (volume_of a.content) l)
+              (sym (lists_now w b.content (settled_then (SetsValue (id_in entry.rec) name value) flag halves v w a b settled was stands has entry there kind owned so.0) (subst (λ (h : VolumeHeader). IsTrue (has_attributes h)) (sym (header_same (SetsValue (id_in entry.rec) name value) flag halves v w a b settled was stands has entry there kind owned)) has))) sets,
         )
 
 -- ---- `delattr`
@@ -176,13 +182,15 @@ module _ (law : DelAttrDoes) (halves : (volume : VolumeState) → SoundIsBoth vo
     }
 
     pub delete_does : (path : List (List ℕ)) (node : PlainNode) (attribute : PlainAttribute) → to_attribute (tree_of a.content) path name ≡ Ok (node, attribute) → node.id ≡ id_in entry.rec
-        → IsSettled w b.content × (tree_of b.content ≡ (step (tree_of a.content) (command.DelAttr path name)).1)
+        → IsSettled w b.content × (tree_of b.content ≡ (step (tree_of a.content) (command.DelAttr path name)).1) × DeletesAttribute (id_in entry.rec) name (volume_of a.content) (volume_of b.content)
     unfolding tree_of
     delete_does path node attribute allowed number =
         let so = law path name node attribute (volume_of a.content) (lists_with (facts_on w.attributes.file) w b.content) (file_bytes a.content) (file_bytes_are a.content) settled.sound allowed
         (subst (λ id. DeletesAttribute id name (volume_of a.content) (lists_with (facts_on w.attributes.file) w b.content)) (sym number) deletes) in (
           settled_then (DropsAttribute (id_in entry.rec) name) flag halves v w a b settled was stands has entry there kind owned so.0,
           tree_then (DropsAttribute (id_in entry.rec) name) flag halves v w a b settled was stands has entry there kind owned so.0 ∙ so.1,
+          subst (λ (l : VolumeState). DeletesAttribute (id_in entry.rec) name (volume_of a.content) l)
+              (sym (lists_now w b.content (settled_then (DropsAttribute (id_in entry.rec) name) flag halves v w a b settled was stands has entry there kind owned so.0) (subst (λ (h : VolumeHeader). IsTrue (has_attributes h)) (sym (header_same (DropsAttribute (id_in entry.rec) name) flag halves v w a b settled was stands has entry there kind owned)) has))) deletes,
         )
 
 -- ---- the same of a volume that was read before: its content and its tree are those that they were
@@ -200,18 +208,24 @@ to_set_is tree path value node long allowed =
 pub value_set : (law : SetAttrDoes) → ((volume : VolumeState) → SoundIsBoth volume) → (v w : Volume) (a b : Space) → IsSettled v a.content → StandsOver v a → IsTrue a.tells → b.tells ≡ a.tells → IsTrue (has_attributes v.header) → (entry : Entry)
     → value_at (lists_of v a.content).catalog_pairs entry.parent entry.name ≡ Some entry.rec → is_thread entry.rec ≡ false → (id : ℕ) → id_in entry.rec ≡ id → (name value : List ℕ) → length value ≤ 1700 → 1 ≤ length name
     → (before : Content) → a.content ≡ before → (path : List (List ℕ)) (node : PlainNode) → to_node (tree_of before) path ≡ Ok node → node.id ≡ id_in entry.rec → StandsOver w b → ChangesOwned (SetsValue id name value) true entry v w a.content b.content
-    → IsSettled w b.content × (tree_of b.content ≡ (step (tree_of before) (command.SetAttr path name value)).1)
+    → IsSettled w b.content × (tree_of b.content ≡ (step (tree_of before) (command.SetAttr path name value)).1) × SetsAttribute id name value (volume_of before) (volume_of b.content)
 value_set law halves v w a b settled was tells same has entry there kind id is name value long named before content path node allowed number stands sets =
     let does_it = set_does law halves v w a b settled (was.stands tells) (stands.stands (same ∙ tells)) has entry there kind name value true
     (subst (λ n. ChangesOwned (SetsValue n name value) true entry v w a.content b.content) (sym is) sets) named path node
-    (ap (λ (c : Content). to_set (tree_of c) path value) content ∙ to_set_is (tree_of before) path value node long allowed) number in
-    (does_it.0, does_it.1 ∙ ap (λ (c : Content). (step (tree_of c) (command.SetAttr path name value)).1) content)
+    (ap (λ (c : Content). to_set (tree_of c) path value) content ∙ to_set_is (tree_of before) path value node long allowed) number in (
+      does_it.0,
+      does_it.1 ∙ ap (λ (c : Content). (step (tree_of c) (command.SetAttr path name value)).1) content,
+      subst (λ (k : ℕ × Content). SetsAttribute k.0 name value (volume_of k.1) (volume_of b.content)) {x = (id_in entry.rec, a.content)} {y = (id, before)} (λ i. (is i, content i)) does_it.2,
+    )
 
 pub value_deleted : (law : DelAttrDoes) → ((volume : VolumeState) → SoundIsBoth volume) → (v w : Volume) (a b : Space) → IsSettled v a.content → StandsOver v a → IsTrue a.tells → b.tells ≡ a.tells → IsTrue (has_attributes v.header) → (entry : Entry)
     → value_at (lists_of v a.content).catalog_pairs entry.parent entry.name ≡ Some entry.rec → is_thread entry.rec ≡ false → (id : ℕ) → id_in entry.rec ≡ id → (name : List ℕ) (flag : Bool)
     → (before : Content) → a.content ≡ before → (path : List (List ℕ)) (node : PlainNode) (attribute : PlainAttribute) → to_attribute (tree_of before) path name ≡ Ok (node, attribute) → node.id ≡ id_in entry.rec → StandsOver w b
-    → ChangesOwned (DropsAttribute id name) flag entry v w a.content b.content → IsSettled w b.content × (tree_of b.content ≡ (step (tree_of before) (command.DelAttr path name)).1)
+    → ChangesOwned (DropsAttribute id name) flag entry v w a.content b.content → IsSettled w b.content × (tree_of b.content ≡ (step (tree_of before) (command.DelAttr path name)).1) × DeletesAttribute id name (volume_of before) (volume_of b.content)
 value_deleted law halves v w a b settled was tells same has entry there kind id is name flag before content path node attribute allowed number stands deleted =
     let does_it = delete_does law halves v w a b settled (was.stands tells) (stands.stands (same ∙ tells)) has entry there kind name flag
-    (subst (λ n. ChangesOwned (DropsAttribute n name) flag entry v w a.content b.content) (sym is) deleted) path node attribute (ap (λ (c : Content). to_attribute (tree_of c) path name) content ∙ allowed) number in
-    (does_it.0, does_it.1 ∙ ap (λ (c : Content). (step (tree_of c) (command.DelAttr path name)).1) content)
+    (subst (λ n. ChangesOwned (DropsAttribute n name) flag entry v w a.content b.content) (sym is) deleted) path node attribute (ap (λ (c : Content). to_attribute (tree_of c) path name) content ∙ allowed) number in (
+      does_it.0,
+      does_it.1 ∙ ap (λ (c : Content). (step (tree_of c) (command.DelAttr path name)).1) content,
+      subst (λ (k : ℕ × Content). DeletesAttribute k.0 name (volume_of k.1) (volume_of b.content)) {x = (id_in entry.rec, a.content)} {y = (id, before)} (λ i. (is i, content i)) does_it.2,
+    )

@@ -81,14 +81,14 @@ module _ (tree : PlainTree) (path : List (List ℕ)) (name value : List ℕ) whe
         → (reply.No refusal.AttributeTooLarge ≡ set_answer has (step_line tree (Ok (command.SetAttr path name value))).0) × (tree ≡ (step_line tree (Ok (command.SetAttr path name value))).1)
     set_too_large has node is long = set_why has refusal.AttributeTooLarge (to_set_by node true is (lt-ltb 1700 (length value) long))
 
-    allowed : (node : PlainNode) → to_node tree path ≡ Ok node → length value ≤ 1700 → to_set tree path value ≡ Ok node
-    allowed node is long = to_set_by node false is (le-ltb 1700 (length value) long)
+    pub set_allowed : (node : PlainNode) → to_node tree path ≡ Ok node → length value ≤ 1700 → to_set tree path value ≡ Ok node
+    set_allowed node is long = to_set_by node false is (le-ltb 1700 (length value) long)
 
     pub set_lacks : (has : Bool) → has ≡ false → (node : PlainNode) → to_node tree path ≡ Ok node → length value ≤ 1700 → reply.No refusal.NoTree ≡ set_answer has (step_line tree (Ok (command.SetAttr path name value))).0
-    set_lacks has none node is long = sym (ap (λ b. set_answer b (step_line tree (Ok (command.SetAttr path name value))).0) none ∙ ap (λ (s : Reply × PlainTree). set_answer false s.0) (by_set (Ok node) (allowed node is long)))
+    set_lacks has none node is long = sym (ap (λ b. set_answer b (step_line tree (Ok (command.SetAttr path name value))).0) none ∙ ap (λ (s : Reply × PlainTree). set_answer false s.0) (by_set (Ok node) (set_allowed node is long)))
 
     pub set_replied : (has : Bool) → has ≡ true → (node : PlainNode) → to_node tree path ≡ Ok node → length value ≤ 1700 → reply.Ok ≡ set_answer has (step_line tree (Ok (command.SetAttr path name value))).0
-    set_replied has some node is long = sym (ap (λ b. set_answer b (step_line tree (Ok (command.SetAttr path name value))).0) some ∙ ap (λ (s : Reply × PlainTree). s.0) (by_set (Ok node) (allowed node is long)))
+    set_replied has some node is long = sym (ap (λ b. set_answer b (step_line tree (Ok (command.SetAttr path name value))).0) some ∙ ap (λ (s : Reply × PlainTree). s.0) (by_set (Ok node) (set_allowed node is long)))
 
 -- ---- `delattr`
 

@@ -76,6 +76,8 @@ impl Volume {
         requires room { HasRoomToUpdate self.old (P.SectorView.space space.old) }
         ensures stands { OnOk result (StandsOver self.new (P.SectorView.space space.new)) }
         ensures service { IsInService self.new (P.SectorView.space space.new) }
+        // Nothing else of it is changed.
+        ensures rest { self.new ≡ record self.old { catalog = self.new.catalog } }
         ensures marks { IsTrue (P.SectorView.space space.old).tells → is_thread entry.now.rec ≡ false
             → OnOk result (MarksEntry has self.old.header.modify_date entry.now self.old self.new (P.SectorView.space space.old).content (P.SectorView.space space.new).content) }
         // On a fault too, it puts sectors of its own alone, whatever was committed last; those of one node at most.

@@ -8,8 +8,10 @@ ghost use Rattle.catalog.specs.Pairs.{value_at};
 ghost use Rattle.cat_records.specs.Fits.{FitsRecord};
 ghost use Rattle.hfs_language.specs.Written.{FitsPath};
 ghost use Rattle.hfs_language.specs.declared.command.Command.TheVariants as command;
+ghost use Rattle.hfs_language.specs.declared.reply.Reply.TheVariants as reply;
 ghost use Rattle.hfs_model.specs.Step.{step, step_line, to_node, is_refusal};
 ghost use Rattle.hfs_model.specs.declared.plain.PlainNode.{PlainNode};
+ghost use Rattle.hfs_volume.specs.Attributing.{SetsAttribute};
 ghost use Rattle.hfs_volume.specs.Content.{volume_of, has_attributes};
 ghost use Rattle.hfs_volume.specs.Entries.{AreSpelled};
 ghost use Rattle.hfs_volume.specs.Records.{id_in, is_thread};
@@ -57,6 +59,8 @@ impl Volume {
         requires room { HasRoomToMark 2 self.old (P.SectorView.space space.old) }
         ensures stands { OnOk result (StandsOver self.new (P.SectorView.space space.new)) }
         ensures service { IsInService self.new (P.SectorView.space space.new) }
+        ensures header { self.new.header ≡ self.old.header }
+        ensures map { self.new.map ≡ self.old.map }
         ensures sets { IsTrue (P.SectorView.space space.old).tells → is_thread entry.now.rec ≡ false
             → OnOk result (ChangesOwned (SetsValue id name.now value.now) true entry.now self.old self.new (P.SectorView.space space.old).content (P.SectorView.space space.new).content) }
         ensures touches { (committed : Content) → Touches committed (λ s. Contains (own_sectors self.old) s) (P.SectorView.space space.old) (P.SectorView.space space.new) }
@@ -93,8 +97,11 @@ impl Volume {
         requires room { HasRoomToMark 2 self.old (P.SectorView.space space.old) }
         ensures stands { OnOk result (StandsOver self.new (P.SectorView.space space.new)) }
         ensures service { IsInService self.new (P.SectorView.space space.new) }
+        ensures header { self.new.header ≡ self.old.header }
+        ensures map { self.new.map ≡ self.old.map }
         ensures does { IsTrue (P.SectorView.space space.old).tells → (path : List (List ℕ)) (node : PlainNode) → to_node (tree_of (P.SectorView.space space.old).content) path ≡ Ok node → node.id ≡ id
-            → OnOk result (IsSettled self.new (P.SectorView.space space.new).content × (tree_of (P.SectorView.space space.new).content ≡ (step (tree_of (P.SectorView.space space.old).content) (command.SetAttr path name.now value.now)).1)) }
+            → OnOk result (IsSettled self.new (P.SectorView.space space.new).content × (tree_of (P.SectorView.space space.new).content ≡ (step (tree_of (P.SectorView.space space.old).content) (command.SetAttr path name.now value.now)).1)
+            × SetsAttribute id name.now value.now (volume_of (P.SectorView.space space.old).content) (volume_of (P.SectorView.space space.new).content)) }
         ensures touches { (committed : Content) → Touches committed (λ s. Contains (own_sectors self.old) s) (P.SectorView.space space.old) (P.SectorView.space space.new) }
         ensures spent { IsTrue (P.SectorView.space space.old).tells → (P.SectorView.space space.old).spare ≤ (P.SectorView.space space.new).spare + mark_load 2 self.old }
         ensures below { P.SectorView.follows space.old space.new }
@@ -133,6 +140,11 @@ impl Volume {
         ensures tree { IsTrue (P.SectorView.space space.old).tells → IsTrue (has_attributes self.old.header)
             → OnOk result (tree_of (P.SectorView.space space.new).content ≡ (step_line (tree_of (P.SectorView.space space.old).content) (Ok (command.SetAttr path.now name.now value.now))).1) }
         ensures refused { IsTrue (P.SectorView.space space.old).tells → IfOk result (λ reply. is_refusal reply ≡ true → (P.SectorView.space space.new).content ≡ (P.SectorView.space space.old).content) }
+        // Where it isn't refused, the folder or file has the attribute in the content's lists and is marked, and nothing else of them is changed.
+        ensures lists { IsTrue (P.SectorView.space space.old).tells → IfOk result (λ said. said ≡ reply.Ok → (node : PlainNode) × (to_node (tree_of (P.SectorView.space space.old).content) path.now ≡ Ok node) × SetsAttribute node.id name.now value.now (volume_of (P.SectorView.space space.old).content) (volume_of (P.SectorView.space space.new).content)) }
+        // The header and the blocks in use are as they were.
+        ensures header { self.new.header ≡ self.old.header }
+        ensures map { self.new.map ≡ self.old.map }
         ensures stands { OnOk result (StandsOver self.new (P.SectorView.space space.new)) }
         ensures settled { IsTrue (P.SectorView.space space.old).tells → OnOk result (IsSettled self.new (P.SectorView.space space.new).content) }
         ensures service { IsInService self.new (P.SectorView.space space.new) }

@@ -5,7 +5,8 @@ use Rattle.std.proofs.lemmas.Bool.{true≢false}
 use Rattle.sector_disk.specs.Lists.{Content}
 use Rattle.hfs_language.specs.declared.command.Command.TheVariants as command
 use Rattle.hfs_model.specs.Step.{step, to_attribute}
-use Rattle.hfs_volume.specs.Content.{VolumeState, has_attributes}
+use Rattle.hfs_volume.specs.Attributing.{DeletesAttribute}
+use Rattle.hfs_volume.specs.Content.{VolumeState, volume_of, has_attributes}
 use Rattle.hfs_volume.specs.TreeOf.{tree_of}
 use Rattle.volume_header.specs.declared.header.VolumeHeader.{VolumeHeader}
 use Rattle.volume_ops.specs.Attributing.{others_owned}
@@ -184,3 +185,48 @@ returns-then-is_private_path-clause-touches g c committed = touches_none committ
 
 pub returns-then-is_private_path-clause-service : goal.returns-then-is_private_path-clause-service
 returns-then-is_private_path-clause-service g c = c.requires.stands.service
+
+pub returns-in_ok-delete_from-in-Some-clause-lists : goal.returns-in_ok-delete_from-in-Some-clause-lists
+returns-in_ok-delete_from-in-Some-clause-lists g c tells ok =
+    let n = node_told c.sound_has_plain_tree.ensures c.args.self.now (g.P.SectorView.space c.args.space.now).content (c.requires.stands.stands tells).trees (c.requires.settled tells) c.args.path.now (sym c.is_private_path.ensures ∙ c.if-is_private_path.false) c.requires.fits c.in_ok-id.field-0 (c.in_ok-id.ensures.found tells) c.in-Ok.id c.in-Ok.is in
+    let a = attribute_told c.sound_has_plain_tree.ensures c.args.self.now (g.P.SectorView.space c.args.space.now).content (c.requires.stands.stands tells).trees (c.requires.settled tells) c.args.path.now c.args.name.now (sym c.is_private_path.ensures ∙ c.if-is_private_path.false) c.requires.fits c.in_ok-id.field-0 (c.in_ok-id.ensures.found tells) c.in-Ok.id c.in-Ok.is n.0 n.1 c.in-Some.others
+    (sym c.in-Some.is ∙ c.in_ok-others-in-Ok.ensures.found (c.owner.ensures.reads.looks.same.tells ∙ tells) ∙ ap (λ (l : VolumeState). others_owned l.attribute_pairs c.in-Ok.id c.args.name.now) (lists_still c.args.self.now c.owner.new.self (g.P.SectorView.space c.args.space.now) (g.P.SectorView.space c.owner.new.space) c.owner.ensures.reads tells)) in
+    let does = c.in_ok-delete_from-in-Some.ensures.does ((volume_both c.args.self.now c.owner.new.self c.owned.new.self (g.P.SectorView.space c.args.space.now) (g.P.SectorView.space c.owner.new.space) (g.P.SectorView.space c.owned.new.space) c.owner.ensures.reads c.owned.ensures.reads).looks.same.tells ∙ tells) c.args.path.now n.0 a.0 (ap (λ (k : Content). to_attribute (tree_of k) c.args.path.now c.args.name.now) ((volume_both c.args.self.now c.owner.new.self c.owned.new.self (g.P.SectorView.space c.args.space.now) (g.P.SectorView.space c.owner.new.space) (g.P.SectorView.space c.owned.new.space) c.owner.ensures.reads c.owned.ensures.reads).looks.content tells) ∙ a.1) n.2 in (
+      n.0,
+      a.0,
+      a.1,
+      subst (λ (k : ℕ × Content). DeletesAttribute k.0 c.args.name.now (volume_of k.1) (volume_of (g.P.SectorView.space c.delete_from.new.space).content)) {x = (c.in-Ok.id, (g.P.SectorView.space c.owned.new.space).content)} {y = (n.0.id, (g.P.SectorView.space c.args.space.now).content)} (λ i. (sym n.2 i, (volume_both c.args.self.now c.owner.new.self c.owned.new.self (g.P.SectorView.space c.args.space.now) (g.P.SectorView.space c.owner.new.space) (g.P.SectorView.space c.owned.new.space) c.owner.ensures.reads c.owned.ensures.reads).looks.content tells i)) does.2,
+    )
+
+pub returns-in-Err-clause-lists : goal.returns-in-Err-clause-lists
+returns-in-Err-clause-lists g c tells ok = absurd (cc ok)
+
+pub returns-then-is_private_path-clause-lists : goal.returns-then-is_private_path-clause-lists
+returns-then-is_private_path-clause-lists g c tells ok = absurd (cc ok)
+
+pub returns-in-None-clause-lists : goal.returns-in-None-clause-lists
+returns-in-None-clause-lists g c tells ok = absurd (cc ok)
+
+pub returns-in_ok-delete_from-in-Some-clause-header : goal.returns-in_ok-delete_from-in-Some-clause-header
+returns-in_ok-delete_from-in-Some-clause-header g c = c.delete_from.ensures.header ∙ (volume_both c.args.self.now c.owner.new.self c.owned.new.self (g.P.SectorView.space c.args.space.now) (g.P.SectorView.space c.owner.new.space) (g.P.SectorView.space c.owned.new.space) c.owner.ensures.reads c.owned.ensures.reads).keeps.header
+
+pub returns-in_ok-delete_from-in-Some-clause-map : goal.returns-in_ok-delete_from-in-Some-clause-map
+returns-in_ok-delete_from-in-Some-clause-map g c = c.delete_from.ensures.map ∙ (volume_both c.args.self.now c.owner.new.self c.owned.new.self (g.P.SectorView.space c.args.space.now) (g.P.SectorView.space c.owner.new.space) (g.P.SectorView.space c.owned.new.space) c.owner.ensures.reads c.owned.ensures.reads).keeps.map
+
+pub returns-in_err-delete_from-in-Some-clause-header : goal.returns-in_err-delete_from-in-Some-clause-header
+returns-in_err-delete_from-in-Some-clause-header g c = c.delete_from.ensures.header ∙ (volume_both c.args.self.now c.owner.new.self c.owned.new.self (g.P.SectorView.space c.args.space.now) (g.P.SectorView.space c.owner.new.space) (g.P.SectorView.space c.owned.new.space) c.owner.ensures.reads c.owned.ensures.reads).keeps.header
+
+pub returns-in_err-delete_from-in-Some-clause-map : goal.returns-in_err-delete_from-in-Some-clause-map
+returns-in_err-delete_from-in-Some-clause-map g c = c.delete_from.ensures.map ∙ (volume_both c.args.self.now c.owner.new.self c.owned.new.self (g.P.SectorView.space c.args.space.now) (g.P.SectorView.space c.owner.new.space) (g.P.SectorView.space c.owned.new.space) c.owner.ensures.reads c.owned.ensures.reads).keeps.map
+
+pub returns-in-None-clause-header : goal.returns-in-None-clause-header
+returns-in-None-clause-header g c = (volume_both c.args.self.now c.owner.new.self c.owned.new.self (g.P.SectorView.space c.args.space.now) (g.P.SectorView.space c.owner.new.space) (g.P.SectorView.space c.owned.new.space) c.owner.ensures.reads c.owned.ensures.reads).keeps.header
+
+pub returns-in-None-clause-map : goal.returns-in-None-clause-map
+returns-in-None-clause-map g c = (volume_both c.args.self.now c.owner.new.self c.owned.new.self (g.P.SectorView.space c.args.space.now) (g.P.SectorView.space c.owner.new.space) (g.P.SectorView.space c.owned.new.space) c.owner.ensures.reads c.owned.ensures.reads).keeps.map
+
+pub returns-in_err-others-in-Ok-clause-header : goal.returns-in_err-others-in-Ok-clause-header
+returns-in_err-others-in-Ok-clause-header g c = (volume_both c.args.self.now c.owner.new.self c.owned.new.self (g.P.SectorView.space c.args.space.now) (g.P.SectorView.space c.owner.new.space) (g.P.SectorView.space c.owned.new.space) c.owner.ensures.reads c.owned.ensures.reads).keeps.header
+
+pub returns-in_err-others-in-Ok-clause-map : goal.returns-in_err-others-in-Ok-clause-map
+returns-in_err-others-in-Ok-clause-map g c = (volume_both c.args.self.now c.owner.new.self c.owned.new.self (g.P.SectorView.space c.args.space.now) (g.P.SectorView.space c.owner.new.space) (g.P.SectorView.space c.owned.new.space) c.owner.ensures.reads c.owned.ensures.reads).keeps.map

@@ -76,3 +76,15 @@ returns-then-shape-lt4096-clause-sets g c tells kind =
 
 pub returns-then-shape-lt4096-clause-touches : goal.returns-then-shape-lt4096-clause-touches
 returns-then-shape-lt4096-clause-touches g c committed = touches_none committed _ (g.P.SectorView.space c.args.space.now)
+
+pub returns-clause-header : goal.returns-clause-header
+returns-clause-header g c = ap (λ (x : Volume). x.header) c.put_mark.ensures.rest ∙ ap (λ (x : Volume). x.header) c.set.ensures.rest
+
+pub returns-in_err-set-clause-header : goal.returns-in_err-set-clause-header
+returns-in_err-set-clause-header g c = ap (λ (x : Volume). x.header) c.set.ensures.rest
+
+pub returns-clause-map : goal.returns-clause-map
+returns-clause-map g c = ap (λ (x : Volume). x.map) c.put_mark.ensures.rest ∙ ap (λ (x : Volume). x.map) c.set.ensures.rest
+
+pub returns-in_err-set-clause-map : goal.returns-in_err-set-clause-map
+returns-in_err-set-clause-map g c = ap (λ (x : Volume). x.map) c.set.ensures.rest

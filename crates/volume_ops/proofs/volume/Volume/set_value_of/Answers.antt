@@ -7,7 +7,8 @@ use Rattle.cat_records.specs.declared.record.CatRecord.{CatRecord}
 use Rattle.catalog.specs.Pairs.{value_at}
 use Rattle.hfs_language.specs.declared.command.Command.TheVariants as command
 use Rattle.hfs_model.specs.Step.{step}
-use Rattle.hfs_volume.specs.Content.{VolumeState, has_attributes}
+use Rattle.hfs_volume.specs.Attributing.{SetsAttribute}
+use Rattle.hfs_volume.specs.Content.{VolumeState, volume_of, has_attributes}
 use Rattle.hfs_volume.specs.Records.{is_thread}
 use Rattle.hfs_volume.specs.TreeOf.{tree_of}
 use Rattle.volume_header.specs.declared.header.VolumeHeader.{VolumeHeader}
@@ -56,7 +57,7 @@ returns-in-Some-clause-does g c tells path node allowed number =
     let it = entry_there c.args.self.now (g.P.SectorView.space c.args.space.now).content (c.requires.stands.stands tells).trees (c.requires.settled tells) c.args.id node (node_there (tree_of (g.P.SectorView.space c.args.space.now).content) path node allowed) number c.in-Some.entry (sym c.in-Some.is ∙ c.in_ok-entry.ensures.found tells) in
     let there = ap (λ (l : VolumeState). value_at l.catalog_pairs c.in-Some.entry.parent c.in-Some.entry.name) (lists_still c.args.self.now c.entry.new.self (g.P.SectorView.space c.args.space.now) (g.P.SectorView.space c.entry.new.space) c.entry.ensures.reads tells) ∙ it.value in
     ok_both (StandsOver c.put_value.new.self (g.P.SectorView.space c.put_value.new.space)) (ChangesOwned (SetsValue c.args.id c.args.name.now c.args.value.now) true c.in-Some.entry c.entry.new.self c.put_value.new.self (g.P.SectorView.space c.entry.new.space).content (g.P.SectorView.space c.put_value.new.space).content)
-    (IsSettled c.put_value.new.self (g.P.SectorView.space c.put_value.new.space).content × (tree_of (g.P.SectorView.space c.put_value.new.space).content ≡ (step (tree_of (g.P.SectorView.space c.args.space.now).content) (command.SetAttr path c.args.name.now c.args.value.now)).1))
+    (IsSettled c.put_value.new.self (g.P.SectorView.space c.put_value.new.space).content × (tree_of (g.P.SectorView.space c.put_value.new.space).content ≡ (step (tree_of (g.P.SectorView.space c.args.space.now).content) (command.SetAttr path c.args.name.now c.args.value.now)).1) × SetsAttribute c.args.id c.args.name.now c.args.value.now (volume_of (g.P.SectorView.space c.args.space.now).content) (volume_of (g.P.SectorView.space c.put_value.new.space).content))
     c.put_value.result c.put_value.ensures.stands (c.put_value.ensures.sets (c.entry.ensures.reads.looks.same.tells ∙ tells) it.kind)
     (λ stands sets. value_set c.setattr_does_its_step.ensures c.soundness_has_two_halves.ensures c.entry.new.self c.put_value.new.self (g.P.SectorView.space c.entry.new.space) (g.P.SectorView.space c.put_value.new.space) (settled_still c.args.self.now c.entry.new.self (g.P.SectorView.space c.args.space.now) (g.P.SectorView.space c.entry.new.space) c.entry.ensures.reads tells (c.requires.settled tells)) c.entry.ensures.stands (c.entry.ensures.reads.looks.same.tells ∙ tells)
     (c.put_value.ensures.touches (g.P.SectorView.space c.args.space.now).content).same.tells (subst (λ (h : VolumeHeader). IsTrue (has_attributes h)) (sym c.entry.ensures.reads.keeps.header) c.requires.has) c.in-Some.entry there it.kind c.args.id it.number
@@ -94,3 +95,9 @@ returns-in_err-entry-clause-spent g c tells = omega (arith, c.entry.ensures.read
 
 pub returns-in_err-entry-clause-service : goal.returns-in_err-entry-clause-service
 returns-in_err-entry-clause-service g c = c.entry.ensures.stands.service
+
+pub returns-in-Some-clause-header : goal.returns-in-Some-clause-header
+returns-in-Some-clause-header g c = c.put_value.ensures.header ∙ c.entry.ensures.reads.keeps.header
+
+pub returns-in-Some-clause-map : goal.returns-in-Some-clause-map
+returns-in-Some-clause-map g c = c.put_value.ensures.map ∙ c.entry.ensures.reads.keeps.map

@@ -5,7 +5,8 @@ use Rattle.std.proofs.lemmas.Bool.{true≢false}
 use Rattle.sector_disk.specs.Lists.{Content}
 use Rattle.hfs_language.specs.declared.command.Command.TheVariants as command
 use Rattle.hfs_model.specs.Step.{step, to_node}
-use Rattle.hfs_volume.specs.Content.{has_attributes}
+use Rattle.hfs_volume.specs.Attributing.{SetsAttribute}
+use Rattle.hfs_volume.specs.Content.{volume_of, has_attributes}
 use Rattle.hfs_volume.specs.TreeOf.{tree_of}
 use Rattle.volume_header.specs.declared.header.VolumeHeader.{VolumeHeader}
 use Rattle.volume_ops.specs.Touching.{Touches}
@@ -181,3 +182,36 @@ returns-then-is_private_path-clause-touches g c committed = touches_none committ
 
 pub returns-then-is_private_path-clause-service : goal.returns-then-is_private_path-clause-service
 returns-then-is_private_path-clause-service g c = c.requires.stands.service
+
+pub returns-in_ok-set_value_of-in-Ok-clause-lists : goal.returns-in_ok-set_value_of-in-Ok-clause-lists
+returns-in_ok-set_value_of-in-Ok-clause-lists g c tells ok =
+    let n = node_told c.sound_has_plain_tree.ensures c.args.self.now (g.P.SectorView.space c.args.space.now).content (c.requires.stands.stands tells).trees (c.requires.settled tells) c.args.path.now (sym c.is_private_path.ensures ∙ c.if-is_private_path.false) c.requires.fits c.in_ok-id.field-0 (c.in_ok-id.ensures.found tells) c.in-Ok.id c.in-Ok.is in
+    let does = c.in_ok-set_value_of-in-Ok.ensures.does (c.owner.ensures.reads.looks.same.tells ∙ tells) c.args.path.now n.0 (ap (λ (k : Content). to_node (tree_of k) c.args.path.now) (c.owner.ensures.reads.looks.content tells) ∙ n.1) n.2 in (
+      n.0,
+      n.1,
+      subst (λ (k : ℕ × Content). SetsAttribute k.0 c.args.name.now c.args.value.now (volume_of k.1) (volume_of (g.P.SectorView.space c.set_value_of.new.space).content)) {x = (c.in-Ok.id, (g.P.SectorView.space c.owner.new.space).content)} {y = (n.0.id, (g.P.SectorView.space c.args.space.now).content)} (λ i. (sym n.2 i, c.owner.ensures.reads.looks.content tells i)) does.2,
+    )
+
+pub returns-in-Err-clause-lists : goal.returns-in-Err-clause-lists
+returns-in-Err-clause-lists g c tells ok = absurd (cc ok)
+
+pub returns-then-is_private_path-clause-lists : goal.returns-then-is_private_path-clause-lists
+returns-then-is_private_path-clause-lists g c tells ok = absurd (cc ok)
+
+pub returns-then-value-gt1700-clause-lists : goal.returns-then-value-gt1700-clause-lists
+returns-then-value-gt1700-clause-lists g c tells ok = absurd (cc ok)
+
+pub returns-then-self-eq0-clause-lists : goal.returns-then-self-eq0-clause-lists
+returns-then-self-eq0-clause-lists g c tells ok = absurd (cc ok)
+
+pub returns-in_ok-set_value_of-in-Ok-clause-header : goal.returns-in_ok-set_value_of-in-Ok-clause-header
+returns-in_ok-set_value_of-in-Ok-clause-header g c = c.set_value_of.ensures.header ∙ c.owner.ensures.reads.keeps.header
+
+pub returns-in_ok-set_value_of-in-Ok-clause-map : goal.returns-in_ok-set_value_of-in-Ok-clause-map
+returns-in_ok-set_value_of-in-Ok-clause-map g c = c.set_value_of.ensures.map ∙ c.owner.ensures.reads.keeps.map
+
+pub returns-in_err-set_value_of-in-Ok-clause-header : goal.returns-in_err-set_value_of-in-Ok-clause-header
+returns-in_err-set_value_of-in-Ok-clause-header g c = c.set_value_of.ensures.header ∙ c.owner.ensures.reads.keeps.header
+
+pub returns-in_err-set_value_of-in-Ok-clause-map : goal.returns-in_err-set_value_of-in-Ok-clause-map
+returns-in_err-set_value_of-in-Ok-clause-map g c = c.set_value_of.ensures.map ∙ c.owner.ensures.reads.keeps.map
