@@ -36,6 +36,7 @@ pub mod MarkLoads
 pub mod MarkRoom
 pub mod Marked
 pub mod MoveRoom
+pub mod MoveWeight
 pub mod Moved
 pub mod Mounted
 pub mod NodeIs

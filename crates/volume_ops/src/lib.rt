@@ -19,6 +19,8 @@ mod looking;
 mod making;
 mod mapping;
 mod marking;
+mod move_weight;
+mod moving;
 mod mounting;
 mod moving;
 mod names;

@@ -83,7 +83,7 @@ fn find_route<P: SectorSpace>(
 }
 
 /// Whether a path goes on below another.
-fn is_below(path: &[Units], top: &[Units]) -> bool
+pub(crate) fn is_below(path: &[Units], top: &[Units]) -> bool
     ensures { result ≡ is_below path.now top.now }
 {
     if path.len() <= top.len() {
@@ -100,7 +100,7 @@ fn is_below(path: &[Units], top: &[Units]) -> bool
 impl Volume {
     /// What a path stands for, its folder, and the folder that another path reaches, if this name may be made in it; or
     /// the first reason against it.
-    fn route<P: SectorSpace>(
+    pub(crate) fn route<P: SectorSpace>(
         &mut self,
         alloc: Global,
         space: &mut P,

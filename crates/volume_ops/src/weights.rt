@@ -263,8 +263,8 @@ impl Volume {
     }
 
     /// What a command needs before its step: that it is refused, by its step or for want of a resource; that a commit comes
-    /// first; or how many sectors it puts at most. It changes nothing. `at`, `chmod`, `setattr`, `delattr`, `mkdir` and
-    /// `create` are weighed, and no others yet: of these nothing is told. `Memory` comes where memory is wanting, `Disk` where
+    /// first; or how many sectors it puts at most. It changes nothing. `at`, `chmod`, `setattr`, `delattr`, `mkdir`, `create`
+    /// and `mv` are weighed, and no others yet: of these nothing is told. `Memory` comes where memory is wanting, `Disk` where
     /// a read failed.
     pub fn weigh<P: SectorSpace>(
         &mut self,
@@ -295,9 +295,9 @@ impl Volume {
             }
             Command::Mkdir(path) => Ok(Some(self.weigh_mkdir(alloc, space, path)?)),
             Command::Create(path) => Ok(Some(self.weigh_create(alloc, space, path)?)),
+            Command::Mv(from, to) => Ok(Some(self.weigh_mv(alloc, space, from, to)?)),
             Command::Rm(_)
             | Command::Rmdir(_)
-            | Command::Mv(_, _)
             | Command::Ln(_, _)
             | Command::Write { .. }
             | Command::Read { .. }
