@@ -1,18 +1,18 @@
 -- Counting the bits of a fork, sector by sector.
-use Rattle.std.proofs.Common.{◌≡◌, ◌⊎◌, ◌<◌, ◌≤◌, ℕ, zero, suc, ◌+◌, ◌-◌, ◌*◌, ◌/◌, ◌%◌, ◌^◌, min, max, Bool, true, false, cond, ◌==◌, List, [], ◌∷◌, ◌++◌, length, map, replicate, refl, sym, ◌∙◌, ap, subst, arith, ⊎_elim, IsTrue}
-use Rattle.std.specs.Prelude.{Option, Some, None, is_some, not, slice_get, slice_index_or}
+use Rattle.std.proofs.Common.{◌≡◌, ◌<◌, ◌≤◌, ℕ, zero, suc, ◌+◌, ◌-◌, ◌*◌, ◌/◌, ◌%◌, ◌^◌, min, Bool, false, cond, ◌==◌, List, [], replicate, refl, sym, ◌∙◌, ap, arith, ⊎_elim}
+use Rattle.std.specs.Prelude.{Option, Some, None, slice_get}
 use Rattle.std.specs.List.{count_by, range_with_len}
-use Rattle.std.proofs.lemmas.Bool.{cases_lt, true≢false}
+use Rattle.std.proofs.lemmas.Bool.{cases_lt}
 use Rattle.std.specs.Int.{bit_at}
 use Rattle.std.proofs.Math.Nat.{zero-div}
-use Rattle.std.proofs.lemmas.List.{length-map, get_or_past, get_or-replicate}
+use Rattle.std.proofs.lemmas.List.{get_or-replicate}
 use Rattle.std.proofs.lemmas.List.Sums.{sum_by-append, sum_by-cons}
-use Rattle.std.proofs.lemmas.List.FromFn.{length-range_with_len, get_or-map-range_with_len}
+use Rattle.std.proofs.lemmas.List.FromFn.{get_or-map-range_with_len}
 use Rattle.fork_map.proofs.Ranges.{range-append}
 use Rattle.jnl_format.specs.Recovery.{Content, header_of_volume}
 use Rattle.flag_rows.specs.Bits.{bit_of}
 use Rattle.hfs_volume.specs.Broken.{bits_behind}
-use Rattle.hfs_volume.specs.Content.{VolumeState, volume_of, is_set, bit_in, bit_of_sector, bitmap_sectors, block_limit, overflow_of_content}
+use Rattle.hfs_volume.specs.Content.{volume_of, is_set, bit_in, bit_of_sector, bitmap_sectors, block_limit, overflow_of_content}
 use Rattle.hx_bytes.specs.declared.extents.Extent.{Extent}
 use Rattle.volume_header.specs.declared.header.VolumeHeader.{VolumeHeader}
 use Rattle.fork_map.specs.Blocks.{fork_sectors}
@@ -96,31 +96,6 @@ module _ (content : Content) (limit : ℕ) (sectors : List ℕ) where
       let rest : (at * 4096 + from + i) % 4096 ≡ from + i = omega (arith, less, fits) in
       (λ j. bit_of (sector_or_zeros content limit (slice_get sectors (place j))) (rest j)) ∙ ap (λ b. bit_of b (from + i)) (sym is))
 
-  -- past a fork's end there is no bit
-  pub past_end : (at k : ℕ) → slice_get sectors at ≡ None → at ≤ k / 4096 → fork_bit content limit sectors k ≡ false
-  unfolding fork_bit
-  past_end at k none past = ap (λ o. bit_of (sector_or_zeros content limit o) (k % 4096)) (none_later sectors at (k / 4096) none past) ∙ no_bit (k % 4096) (omega arith)
-    where
-      none_later : (xs : List ℕ) (i j : ℕ) → slice_get xs i ≡ None → i ≤ j → slice_get xs j ≡ None
-      none_later [] i j is most = refl
-      none_later (x ∷ xs) zero j is most = absurd cc
-      none_later (x ∷ xs) (suc i) zero is most = absurd (omega (arith, most))
-      none_later (x ∷ xs) (suc i) (suc j) is most = none_later xs i j is (omega (arith, most))
-
-  -- where the fork ends, all its bits were counted
-  pub counted_all : (total end at : ℕ) → at * 4096 < end → total / 4096 ≤ at → slice_get sectors at ≡ None
-      → count_by (fork_bit content limit sectors) (range_with_len total (reached total end at - total)) ≡ set_between content limit sectors total end
-  counted_all total end at inside first none = ⊎_elim
-      (λ (past : end < total). let one : reached total end at - total ≡ end - total = omega (arith, past) in ap (λ n. count_by (fork_bit content limit sectors) (range_with_len total n)) one)
-      (λ (within : total ≤ end).
-      let m : ℕ = reached total end at - total in
-      let n : ℕ = end - (total + m) in
-      let whole : end - total ≡ m + n = omega (arith, within, inside) in
-      let start : at * 4096 ≤ total + m = omega (arith, within, inside) in
-      let clear : count_by (fork_bit content limit sectors) (range_with_len (total + m) n) ≡ 0 = none_on (fork_bit content limit sectors) (total + m) n (λ i less. past_end at (total + m + i) none (omega (arith, start))) in
-      sym (ap (λ k. count_by (fork_bit content limit sectors) (range_with_len total k)) whole ∙ split_count (fork_bit content limit sectors) total m n ∙ ap (λ k. count_by (fork_bit content limit sectors) (range_with_len total m) + k) clear ∙ omega arith))
-      (cases_lt end total)
-
 -- at the end, all bits were looked at
 pub reached_all : (total size at : ℕ) → (size + 511) / 512 ≤ at → reached total (8 * size) at - total ≡ 8 * size - total
 reached_all total size at whole = omega (arith, whole)
@@ -150,10 +125,6 @@ bits_are content = same_on (is_set (volume_of content)) (fork_bit content (block
 -- a count up to the largest number, with more
 pub saturated : (all more old new most : ℕ) → old ≡ min all most → new ≡ min (old + more) most → new ≡ min (all + more) most
 saturated all more old new most was is = omega (arith, was, is)
-
-pub none_of : (o : Option ℕ) (b : Bool) → is_some o ≡ not b → b ≡ true → o ≡ None
-none_of None b same is = refl
-none_of (Some x) b same is = absurd (true≢false (same ∙ ap not is))
 
 -- the count of a fork with the allocation file's extents is that of the volume
 pub behind_is : (content : Content) (head : VolumeHeader) (overflow : List Overflow) (extents : List Extent) (limit per_block count : ℕ) → head ≡ header_of_volume content → overflow ≡ overflow_of_content content

@@ -16,3 +16,7 @@ set_between content limit sectors from to = count_by (fork_bit content limit sec
 -- how far the bits from one place up to another were looked at, where the sectors before one were
 abbrev pub reached : ℕ → ℕ → ℕ → ℕ
 reached from to at = min to (max from (at * 4096))
+
+-- how many are set from a place on up to another, in the sectors before one
+abbrev pub set_up_to : Content → ℕ → List ℕ → ℕ → ℕ → ℕ → ℕ
+set_up_to content limit sectors from to at = count_by (fork_bit content limit sectors) (range_with_len from (reached from to at - from))

@@ -1,5 +1,5 @@
 //! The bits of the allocation file behind those of blocks (rule 3).
-ghost use Rattle.std.specs.Prelude.{◌≡◌, ◌<◌, ◌≤◌, ◌-◌, ◌*◌, ◌/◌, ◌^◌, min, IsTrue, IfOk, IsErrOf};
+ghost use Rattle.std.specs.Prelude.{◌≡◌, ◌<◌, ◌≤◌, ◌-◌, ◌*◌, ◌/◌, ◌^◌, ◌+◌, min, max, IsTrue, IfOk, IsErrOf};
 ghost use Rattle.std.specs.List.{count_by, range_with_len};
 ghost use Rattle.hx_bytes.specs.declared.faults.Trouble.TheVariants.{Disk};
 ghost use Rattle.sector_disk.specs.Cause.{HasCause, Rose};
@@ -10,14 +10,14 @@ ghost use Rattle.btree_file.specs.Frame.{ReadsSpace};
 ghost use Rattle.hfs_volume.specs.Blocks.{IsGoodHeader};
 ghost use Rattle.hfs_volume.specs.Broken.{bits_behind};
 ghost use Rattle.hfs_volume.specs.Content.{volume_of, overflow_of_content};
-ghost use Rattle.fsck_core.specs.Behind.{set_between};
+ghost use Rattle.fsck_core.specs.Behind.{set_between, set_up_to};
 ghost use Rattle.fsck_core.specs.Overflows.{overflows_in};
 
 use crate::overflow::{OverflowRow, fork_extents};
 use flag_rows::bytes::bit;
 use fork_map::SummedFork;
 use fsck_scan::{Fork, read_sector};
-use hx_bytes::{Failed, Sector, Trouble};
+use hx_bytes::{Extent, Failed, Sector, Trouble};
 use sector_disk::SectorView;
 use std::alloc::Global;
 use volume_header::VolumeHeader;
@@ -66,28 +66,76 @@ fn bits_to(size: u64, at: u64) -> usize
     left.min(512) as usize * 8
 }
 
-/// How many of a fork's bits are set behind so many, up to the end of so many bytes; no more than the largest number is told.
+/// Adds to a count how many of a fork's bits are set in the sectors from one place up to another; no more than the largest number is told.
+fn count_stretch<V: SectorView>(
+    view: &mut V,
+    fork: &Fork,
+    total: u32,
+    size: u64,
+    from: u64,
+    to: u64,
+    before: u64,
+) -> Result<u64, Failed>
+    requires per_block { fork.now.per_block ≤ 2 ^ 23 }
+    requires first { total / 4096 ≤ from }
+    requires end { to ≤ (size + 511) / 512 }
+    ensures value { IsTrue (V.space view.old).tells
+        → before ≡ min (set_up_to (V.space view.old).content fork.now.limit (fork_sectors fork.now.extents.now fork.now.per_block) total (8 * size) from) (2 ^ 64 - 1)
+        → IfOk result (λ count. count ≡ min (set_up_to (V.space view.old).content fork.now.limit (fork_sectors fork.now.extents.now fork.now.per_block) total (8 * size) (max from to)) (2 ^ 64 - 1)) }
+    ensures reads { ReadsSpace (V.space view.old) (V.space view.new) }
+    ensures below { V.follows view.old view.new }
+    ensures cause { HasCause (V.space view.old).faults (V.space view.new).faults result }
+{
+    let mut sector = [0; 512];
+    let mut count = before;
+    for at in from..to {
+        read_sector(view, fork, at, &mut sector)?;
+        count = count.saturating_add(count_bits(&sector, bits_from(total, at), bits_to(size, at)));
+    }
+    Ok(count)
+}
+
+/// How many blocks of an extent lie in a volume of so many.
+fn blocks_inside(extent: Extent, total: u32) -> u32
+    ensures { result ≡ min extent.count (total - extent.start) }
+{
+    extent.count.min(total.saturating_sub(extent.start))
+}
+
+/// The place of the first sector behind so many blocks of a fork, or an end that comes before it.
+fn place_behind(blocks: u128, per_block: u32, end: u64) -> u64
+    requires { blocks < 2 ^ 96 }
+    ensures { result ≡ min end (blocks * per_block) }
+{
+    (blocks * per_block as u128).min(end as u128) as u64
+}
+
+/// How many of a fork's bits are set behind so many, up to the end of so many bytes; no more than the largest number is told. Blocks outside
+/// the volume are zeros, and aren't looked at one by one.
 fn count_past<V: SectorView>(
     view: &mut V,
     fork: &Fork,
     total: u32,
     size: u64,
 ) -> Result<u64, Failed>
-    requires { fork.now.per_block ≤ 2 ^ 23 }
+    requires few { fork.now.per_block ≤ 2 ^ 23 }
+    requires some { 0 < fork.now.per_block }
+    requires limit { fork.now.limit ≡ total * fork.now.per_block }
     ensures value { IsTrue (V.space view.old).tells → IfOk result (λ count. count ≡ min (set_between (V.space view.old).content fork.now.limit (fork_sectors fork.now.extents.now fork.now.per_block) total (8 * size)) (2 ^ 64 - 1)) }
     ensures reads { ReadsSpace (V.space view.old) (V.space view.new) }
     ensures below { V.follows view.old view.new }
     ensures cause { HasCause (V.space view.old).faults (V.space view.new).faults result }
 {
-    let mut sector = [0; 512];
-    let mut count = 0u64;
-    let first = (total / 4096) as u64;
-    for at in first..size.div_ceil(512) {
-        if fork.extents.sector_at(fork.per_block, at).is_none() {
-            return Ok(count);
-        }
-        read_sector(view, fork, at, &mut sector)?;
-        count = count.saturating_add(count_bits(&sector, bits_from(total, at), bits_to(size, at)));
+    let end = size.div_ceil(512);
+    let mut at = (total / 4096) as u64;
+    let mut count = 0;
+    let mut front: u128 = 0;
+    for extent in fork.extents.as_slice() {
+        let inside = front + blocks_inside(*extent, total) as u128;
+        let upto = place_behind(inside, fork.per_block, end);
+        count = count_stretch(view, fork, total, size, at, upto, count)?;
+        front += extent.count as u128;
+        at = at.max(upto).max(place_behind(front, fork.per_block, end));
     }
     Ok(count)
 }

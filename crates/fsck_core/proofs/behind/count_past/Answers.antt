@@ -1,47 +1,62 @@
-use Rattle.std.proofs.Common.{◌≡◌, ◌<◌, ◌≤◌, ℕ, ◌+◌, ◌-◌, ◌*◌, ◌/◌, ◌^◌, min, IsTrue, List, sym, ◌∙◌, ap, arith}
-use Rattle.std.specs.Prelude.{Option, None, slice_get}
-use Rattle.std.specs.List.{count_by, range_with_len}
+use Rattle.std.proofs.Common.{◌≡◌, ◌<◌, ℕ, ◌+◌, ◌-◌, ◌*◌, ◌/◌, ◌^◌, min, max, IsTrue, List, length, get_or, sym, ◌∙◌, ap, subst, arith, ◌≤◌}
 use Rattle.sector_disk.specs.Space.{Space}
 use Rattle.jnl_format.specs.Recovery.{Content}
-use Rattle.fork_map.specs.Blocks.{fork_sectors}
+use Rattle.hx_bytes.specs.declared.extents.Extent.{Extent}
+use Rattle.fork_map.specs.Blocks.{blocks_of, fork_sectors}
+use Rattle.fork_map.proofs.SumLaws.{blocks_all}
+use Rattle.fork_map.proofs.KeptBlocks.{blocks_more}
 use Rattle.btree_file.specs.FrameLaws.{reads_both}
-use Rattle.fsck_scan.specs.Read.{sector_or_zeros}
-use Rattle.fsck_core.specs.Behind.{fork_bit, reached}
-use Rattle.fsck_core.proofs.BehindLaws.{counted_all, sector_bits, sector_more, saturated, none_of}
+use Rattle.fsck_core.specs.Behind.{set_up_to}
+use Rattle.fsck_core.proofs.BehindSkips.{passed, all_passed}
 use Rattle.fsck_core.proofs.behind.count_past.Goals as goal
 
-pub returns-then-is_none-clause-value : goal.returns-then-is_none-clause-value
-returns-then-is_none-clause-value g c tells =
-    let content : Content = (g.V.SectorView.space c.args.view.now).content in
-    let sectors : List ℕ = fork_sectors c.args.fork.now.extents.now c.args.fork.now.per_block in
-    let inside : c.loop-at.at * 4096 < 8 * c.args.size = omega (arith, c.loop-at-test.true, c.div_ceil-at-end.ensures) in
-    let none : slice_get sectors c.loop-at.at ≡ None = sym c.sector_at.ensures ∙ none_of c.sector_at.result c.is_none.result c.is_none.ensures c.if-is_none.true in
-    c.loop-at.invariant.count tells ∙ ap (λ n. min n (2 ^ 64 - 1)) (counted_all content c.args.fork.now.limit sectors c.args.total (8 * c.args.size) c.loop-at.at inside c.loop-at.invariant.least none)
+no_extent : Extent
+no_extent = record { start = 0; count = 0 }
 
-pub loop-at-preserved : goal.loop-at-preserved
-loop-at-preserved g c =
+pub loop-extent-preserved : goal.loop-extent-preserved
+unfolding no_extent
+loop-extent-preserved g c =
     let old : Space = g.V.SectorView.space c.args.view.now in
-    let now : Space = g.V.SectorView.space c.loop-at.view in
-    let new : Space = g.V.SectorView.space c.read_sector.new.view in
+    let now : Space = g.V.SectorView.space c.loop-extent.view in
+    let new : Space = g.V.SectorView.space c.count_stretch.new.view in
     let limit : ℕ = c.args.fork.now.limit in
-    let sectors : List ℕ = fork_sectors c.args.fork.now.extents.now c.args.fork.now.per_block in
-    let at : ℕ = c.loop-at.at in
-    let from : ℕ = c.bits_from.result in
-    let to : ℕ = c.bits_to.result in
-    let inside : at * 4096 < 8 * c.args.size = omega (arith, c.loop-at-test.true, c.div_ceil-at-end.ensures) in
+    let per : ℕ = c.args.fork.now.per_block in
+    let es : List Extent = c.args.fork.now.extents.now in
+    let index : ℕ = c.loop-extent.extent-index in
+    let e : Extent = get_or c.as_slice-extent-items.result.now index no_extent in
+    let is : e ≡ get_or es index no_extent = ap (λ (l : List Extent). get_or l index no_extent) c.as_slice-extent-items.ensures in
+    let inside : index < length es = subst (λ (l : List Extent). index < length l) c.as_slice-extent-items.ensures c.loop-extent-test.true in
+    let end_is : c.div_ceil-end.result ≡ (c.args.size + 511) / 512 = omega (arith, c.div_ceil-end.ensures) in
+    let upto : ℕ = c.place_behind-upto.result in
+    let upto_is : upto ≡ min ((c.args.size + 511) / 512) ((c.loop-extent.front + min e.count (c.args.total - e.start)) * per) = c.place_behind-upto.ensures ∙ (λ i. min (end_is i) ((c.loop-extent.front + c.blocks_inside.ensures i) * per)) in
+    let behind : ℕ = c.place_behind.result in
+    let behind_is : behind ≡ min ((c.args.size + 511) / 512) ((c.loop-extent.front + e.count) * per) = c.place_behind.ensures ∙ ap (λ n. min n ((c.loop-extent.front + e.count) * per)) end_is in
+    let at_is : max (max c.loop-extent.at upto) behind ≡ c.max-at.result = sym (c.max-at.ensures ∙ ap (λ n. max n behind) c.max.ensures) in
     record {
       count = λ tells.
-          let told : IsTrue now.tells = c.loop-at.invariant.reads.same.tells ∙ tells in
-          let content : now.content ≡ old.content = (c.loop-at.invariant.reads.sectors tells).content in
-          let sector : c.read_sector.new.into ≡ sector_or_zeros old.content limit (slice_get sectors at) = c.in_ok-read_sector.ensures.value told ∙ ap (λ (ct : Content). sector_or_zeros ct limit (slice_get sectors at)) content in
-          let fits : from + (to - from) ≤ 4096 = omega (arith, c.bits_from.ensures.few, c.bits_to.ensures.few) in
-          let bits : c.count_bits.result ≡ count_by (fork_bit old.content limit sectors) (range_with_len (at * 4096 + from) (to - from)) =
-          c.count_bits.ensures.value ∙ sym (sector_bits old.content limit sectors at from (to - from) c.read_sector.new.into fits sector) in
-          saturated (count_by (fork_bit old.content limit sectors) (range_with_len c.args.total (reached c.args.total (8 * c.args.size) at - c.args.total))) c.count_bits.result c.loop-at.count c.saturating_add-count.result (2 ^ 64 - 1)
-          (c.loop-at.invariant.count tells) c.saturating_add-count.ensures
-          ∙ ap (λ n. min n (2 ^ 64 - 1)) (ap (λ n. count_by (fork_bit old.content limit sectors) (range_with_len c.args.total (reached c.args.total (8 * c.args.size) at - c.args.total)) + n) bits
-          ∙ sym (sector_more (fork_bit old.content limit sectors) c.args.total (8 * c.args.size) at from to inside c.loop-at.invariant.least c.bits_from.ensures.value c.bits_to.ensures.value));
-      least = omega (arith, c.loop-at.invariant.least);
-      reads = reads_both old now new c.loop-at.invariant.reads c.read_sector.ensures.reads;
-      below = g.met.V.SectorView.follows_trans c.args.view.now c.loop-at.view c.read_sector.new.view c.loop-at.invariant.below c.read_sector.ensures.below;
+          let told : IsTrue now.tells = c.loop-extent.invariant.reads.same.tells ∙ tells in
+          let content : now.content ≡ old.content = (c.loop-extent.invariant.reads.sectors tells).content in
+          let before : c.loop-extent.count ≡ min (set_up_to now.content limit (fork_sectors es per) c.args.total (8 * c.args.size) c.loop-extent.at) (2 ^ 64 - 1) =
+          c.loop-extent.invariant.count tells ∙ ap (λ (ct : Content). min (set_up_to ct limit (fork_sectors es per) c.args.total (8 * c.args.size) c.loop-extent.at) (2 ^ 64 - 1)) (sym content) in
+          let after : c.in_ok-count.count ≡ min (set_up_to now.content limit (fork_sectors es per) c.args.total (8 * c.args.size) (max c.loop-extent.at upto)) (2 ^ 64 - 1) = c.in_ok-count.ensures.value told before in
+          after
+          ∙ ap (λ (ct : Content). min (set_up_to ct limit (fork_sectors es per) c.args.total (8 * c.args.size) (max c.loop-extent.at upto)) (2 ^ 64 - 1)) content
+          ∙ ap (λ n. min n (2 ^ 64 - 1)) (passed old.content limit c.args.total per es c.requires.some c.requires.limit index c.loop-extent.front upto behind (max c.loop-extent.at upto) c.args.size no_extent e inside is c.loop-extent.invariant.front upto_is behind_is (omega arith)
+          ∙ ap (λ n. set_up_to old.content limit (fork_sectors es per) c.args.total (8 * c.args.size) n) at_is);
+      least = omega (arith, c.loop-extent.invariant.least, at_is);
+      front = (λ i. c.loop-extent.invariant.front i + ap (λ (x : Extent). x.count) is i) ∙ sym (blocks_more es index no_extent inside);
+      few = omega arith;
+      far = omega (arith, at_is, behind_is);
+      reads = reads_both old now new c.loop-extent.invariant.reads c.in_ok-count.ensures.reads;
+      below = g.met.V.SectorView.follows_trans c.args.view.now c.loop-extent.view c.count_stretch.new.view c.loop-extent.invariant.below c.in_ok-count.ensures.below;
     }
+
+pub returns-clause-value : goal.returns-clause-value
+returns-clause-value g c tells =
+    let old : Space = g.V.SectorView.space c.args.view.now in
+    let limit : ℕ = c.args.fork.now.limit in
+    let per : ℕ = c.args.fork.now.per_block in
+    let es : List Extent = c.args.fork.now.extents.now in
+    let ended : length es ≤ c.loop-extent.extent-index = subst (λ (l : List Extent). length l ≤ c.loop-extent.extent-index) c.as_slice-extent-items.ensures c.loop-extent-test.false in
+    let whole : c.loop-extent.front ≡ length (blocks_of es) = c.loop-extent.invariant.front ∙ blocks_all es c.loop-extent.extent-index ended in
+    c.loop-extent.invariant.count tells ∙ ap (λ n. min n (2 ^ 64 - 1)) (all_passed old.content limit c.args.total per es c.requires.some c.requires.limit c.loop-extent.front c.loop-extent.at c.args.size whole c.loop-extent.invariant.far)

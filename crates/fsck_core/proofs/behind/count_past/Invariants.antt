@@ -1,14 +1,16 @@
-use Rattle.std.proofs.Common.{◌≡◌, ◌≤◌, ◌-◌, ◌*◌, ◌/◌, ◌^◌, min, IsTrue}
-use Rattle.std.specs.List.{count_by, range_with_len}
-use Rattle.fork_map.specs.Blocks.{fork_sectors}
+use Rattle.std.proofs.Common.{◌≡◌, ◌≤◌, ◌-◌, ◌*◌, ◌/◌, ◌^◌, ◌+◌, min, length, take, IsTrue}
+use Rattle.fork_map.specs.Blocks.{blocks_of, fork_sectors}
 use Rattle.btree_file.specs.Frame.{ReadsSpace}
-use Rattle.fsck_core.specs.Behind.{fork_bit, reached}
+use Rattle.fsck_core.specs.Behind.{set_up_to}
 use Rattle.fsck_core.proofs.behind.count_past.Given as goal
 
-abbrev pub invariant-loop-at : goal.invariant-loop-at
-invariant-loop-at g l = record {
-  count : IsTrue (g.V.SectorView.space l.fn.view).tells → l.count ≡ min (count_by (fork_bit (g.V.SectorView.space l.fn.view).content l.fork.limit (fork_sectors l.fork.extents.now l.fork.per_block)) (range_with_len l.total (reached l.total (8 * l.size) l.at - l.total))) (2 ^ 64 - 1);
+abbrev pub invariant-loop-extent : goal.invariant-loop-extent
+invariant-loop-extent g l = record {
+  count : IsTrue (g.V.SectorView.space l.fn.view).tells → l.count ≡ min (set_up_to (g.V.SectorView.space l.fn.view).content l.fork.limit (fork_sectors l.fork.extents.now l.fork.per_block) l.total (8 * l.size) l.at) (2 ^ 64 - 1);
   least : l.total / 4096 ≤ l.at;
+  front : l.front ≡ length (blocks_of (take l.extent-index l.fork.extents.now));
+  few : l.front ≤ l.extent-index * 2 ^ 32;
+  far : min ((l.size + 511) / 512) (l.front * l.fork.per_block) ≤ l.at;
   reads : ReadsSpace (g.V.SectorView.space l.fn.view) (g.V.SectorView.space l.view);
   below : g.V.SectorView.follows l.fn.view l.view;
 }
