@@ -1,12 +1,11 @@
 -- `rmdir`: where the folder was removed and the folder above counts it no more, the volume is settled again, and its tree is the step's.
-use Rattle.std.proofs.Common.{◌≡◌, ◌⊎◌, inl, inr, ◌<◌, ◌≤◌, ℕ, ◌+◌, ◌-◌, ◌^◌, Bool, true, false, not, List, [], ◌∷◌, length, refl, sym, ◌∙◌, ap, subst, arith}
-use Rattle.std.specs.Prelude.{Contains, ◌==◌, ◌&&◌, ◌||◌, insert, IsTrue, Option, None, Some, Result, Ok, Err, map, if◌then◌else◌}
+use Rattle.std.proofs.Common.{◌≡◌, ◌⊎◌, inl, inr, ◌<◌, ℕ, ◌^◌, Bool, true, false, not, List, [], ◌∷◌, length, refl, sym, ◌∙◌, ap, subst, arith}
+use Rattle.std.specs.Prelude.{Contains, ◌==◌, ◌&&◌, ◌||◌, insert, None, Some, Ok, if◌then◌else◌}
 use Rattle.std.specs.Str.{bytes_eq}
 use Rattle.std.proofs.lemmas.Bool.{and_parts, eqb-true, true≢false, not-false}
 use Rattle.std.proofs.lemmas.List.{length-map}
 use Rattle.std.proofs.lemmas.List.Elements.{Contains-append_right}
 use Rattle.std.proofs.lemmas.Slice.Eq.{bytes_eq-Decides}
-use Rattle.sector_disk.specs.Lists.{Content}
 use Rattle.sector_disk.specs.Space.{Space}
 use Rattle.jnl_format.specs.Recovery.{header_of_volume}
 use Rattle.btree_node.specs.Levels.{Pair}
@@ -15,13 +14,13 @@ use Rattle.cat_records.specs.declared.record.FileRecord.{FileRecord}
 use Rattle.hfs_language.specs.declared.command.Command.TheVariants as command
 use Rattle.hfs_language.specs.declared.refusal.Refusal.TheVariants as refusal
 use Rattle.hfs_model.specs.Plain.{entries_in}
-use Rattle.hfs_model.specs.Step.{is_private_name, is_root, journal_info_name, journal_name, private_name, reached, root_entry, step, then_, to_rmdir, unless}
+use Rattle.hfs_model.specs.Step.{is_root, journal_info_name, journal_name, private_name, reached, root_entry, step, then_, to_rmdir, unless}
 use Rattle.hfs_model.specs.declared.plain.PlainEntry.{PlainEntry}
 use Rattle.hfs_model.specs.declared.plain.PlainTree.{PlainTree}
 use Rattle.volume_header.specs.declared.header.VolumeHeader.{VolumeHeader}
-use Rattle.hfs_volume.specs.Changes.{Adds, AddsEntry, HasSameNodes, InAttributes, InCatalog, DropsEntry, thread_with}
+use Rattle.hfs_volume.specs.Changes.{Adds, HasSameNodes, InAttributes, InCatalog, DropsEntry, thread_with}
 use Rattle.hfs_volume.specs.Commands.{ChangesFields, DropsAttributes, IsTouched, RemovesFolder, RmdirDoes, with_fields, with_folder_removed, without_attributes}
-use Rattle.hfs_volume.specs.Content.{VolumeState, TreeFacts, volume_of, records_of}
+use Rattle.hfs_volume.specs.Content.{VolumeState, volume_of, records_of}
 use Rattle.hfs_volume.specs.Books.{SoundHasPlainTree}
 use Rattle.hfs_volume.specs.Entries.{AreThreaded, IsRoot, LiesIn, below, count_in, is_it}
 use Rattle.hfs_volume.specs.Laws.{IsFolderId}
@@ -106,7 +105,7 @@ module _ (v : Volume) (a : Space) (was : IsStanding v a) (settled : IsSettled v 
   unfolding tree_of
   allowed = leaving.allowed
 
-  left : IsSeen (records_of (volume_of a.content)) (folder_at at name) × ((length (entries_in (tree_in (volume_of a.content) (file_bytes a.content)) at.id) == 0) ≡ true)
+  pub left : IsSeen (records_of (volume_of a.content)) (folder_at at name) × ((length (entries_in (tree_in (volume_of a.content) (file_bytes a.content)) at.id) == 0) ≡ true)
   left = seen_where_left (volume_of a.content) (file_bytes a.content) settled.sound leaving.path (folder_at at name) allowed
 
   -- the entry that stands under this key is the folder

@@ -1,6 +1,6 @@
 -- The folder that `rmdir` removes, by the records of the catalog and on the tree; and what `rmdir` answers.
 use Rattle.std.proofs.Common.{◌≡◌, ℕ, ◌-◌, Bool, true, false, not, List, [], ◌∷◌, ◌++◌, length, refl, sym, ◌∙◌, ap, subst, arith}
-use Rattle.std.specs.Prelude.{◌==◌, ◌&&◌, ◌||◌, Contains, Option, Some, None, Result, Ok, Err, if◌then◌else◌}
+use Rattle.std.specs.Prelude.{◌==◌, ◌||◌, Option, Some, None, Result, Ok, Err, if◌then◌else◌}
 use Rattle.std.specs.Option.{ok_or}
 use Rattle.std.specs.Str.{bytes_eq}
 use Rattle.std.specs.List.{flat_map}
@@ -32,7 +32,7 @@ use Rattle.hfs_volume.proofs.Fitting.{differs}
 use Rattle.hfs_volume.proofs.Flat.{found_some}
 use Rattle.hfs_volume.proofs.Reaching.{IsFolder, ok_same, seen_not_root}
 use Rattle.volume_ops.specs.Lists.{lists_of}
-use Rattle.volume_ops.specs.Reaching.{child_in, folder_in, folder_reached, named, walk_in}
+use Rattle.volume_ops.specs.Reaching.{child_in, folder_reached, named, walk_in}
 use Rattle.volume_ops.specs.Removing.{IsLeaving, folder_at, leaving_in, leaving_under, to_leave}
 use Rattle.volume_ops.specs.Standing.{HoldsTrees, IsSettled}
 use Rattle.volume_ops.specs.Stating.{own_entries}

@@ -52,7 +52,6 @@ pub mod Placing
 pub mod Recounting
 pub mod Redating
 pub mod Refielded
-pub mod RemoveLoads
 pub mod Replaced
 pub mod Resettling
 pub mod Righting
@@ -76,3 +75,7 @@ pub mod TreesSettled
 pub mod UpdateRoom
 pub mod Walked
 pub mod Weighed
+pub mod Bared
+pub mod OwnedEdits
+pub mod BareRoom
+pub mod BareLoads

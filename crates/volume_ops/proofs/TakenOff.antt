@@ -1,7 +1,6 @@
 -- A volume behind its header and the removal of a folder from its catalog.
-use Rattle.std.proofs.Common.{◌≡◌, ℕ, List, [], refl, sym, ◌∙◌, ap, subst}
+use Rattle.std.proofs.Common.{◌≡◌, ℕ, List, sym, ◌∙◌, ap, subst}
 use Rattle.std.specs.Prelude.{IsTrue, Option, None}
-use Rattle.sector_disk.specs.Lists.{Content}
 use Rattle.sector_disk.specs.Space.{Space}
 use Rattle.btree_node.specs.Levels.{Pair}
 use Rattle.btree_edit.specs.declared.edits.Removed.{Removed}
@@ -13,7 +12,7 @@ use Rattle.btree_file.specs.State.{sectors_of_tree}
 use Rattle.catalog.specs.Entries.{AnswersRemoval, RemovesEntry, Removing}
 use Rattle.hfs_volume.specs.Changes.{with_numbers}
 use Rattle.hfs_volume.specs.Commands.{with_folder_removed}
-use Rattle.hfs_volume.specs.Content.{VolumeState, volume_of}
+use Rattle.hfs_volume.specs.Content.{VolumeState}
 use Rattle.hfs_volume.specs.Entries.{AreThreaded}
 use Rattle.hfs_volume.specs.Records.{Placed, placed_in, record_at}
 use Rattle.volume_ops.specs.Changing.{ChangesCatalog, PutsHeader}

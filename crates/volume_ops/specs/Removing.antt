@@ -1,19 +1,23 @@
 -- A folder that is removed: where it stands, the room for its edits, and what its removal does to a volume.
-use Rattle.std.specs.Prelude.{◌≡◌, ◌<◌, ◌≤◌, ℕ, ◌+◌, ◌-◌, ◌*◌, ◌^◌, ◌==◌, true, false, not, IsTrue, List, Result, Ok, Err}
+use Rattle.std.specs.Prelude.{◌≡◌, ◌≤◌, ℕ, ◌+◌, ◌-◌, ◌*◌, ◌/◌, ◌^◌, ◌==◌, true, false, not, IsTrue, List, Result, Ok, Err}
 use Rattle.sector_disk.specs.Lists.{Content}
 use Rattle.sector_disk.specs.Space.{Space}
 use Rattle.jnl_format.specs.Recovery.{header_of_volume}
 use Rattle.btree_node.specs.Levels.{Pair}
+use Rattle.btree_node.specs.declared.store.TreeShape.{TreeShape}
 use Rattle.btree_edit.specs.Editing.{edit_writes}
 use Rattle.catalog.specs.Entries.{RemovesEntry}
 use Rattle.catalog.specs.Pairs.{value_at}
 use Rattle.hfs_language.specs.declared.refusal.Refusal.{Refusal}
 use Rattle.hfs_language.specs.declared.refusal.Refusal.TheVariants as refusal
+use Rattle.hfs_model.specs.Plain.{is_node}
+use Rattle.hfs_model.specs.Sorted.{kept}
 use Rattle.hfs_model.specs.Step.{then_, unless, is_root, front, last_name, to_rmdir}
 use Rattle.hfs_model.specs.declared.plain.PlainEntry.{PlainEntry}
 use Rattle.hfs_model.specs.declared.plain.PlainTree.{PlainTree}
 use Rattle.hfs_volume.specs.Commands.{DropsAttributes, with_folder_removed}
-use Rattle.hfs_volume.specs.Cost.{catalog_key, growth, is_too_deep}
+use Rattle.hfs_volume.specs.Cost.{attributes_key, catalog_key, growth, is_too_deep, tree_load}
+use Rattle.volume_ops.specs.Attributing.{attributes_cost}
 use Rattle.volume_ops.specs.Changing.{ChangesCatalog, catalog_node}
 use Rattle.volume_ops.specs.Lists.{lists_of}
 use Rattle.volume_ops.specs.Making.{catalog_cost, entry_load}
@@ -52,6 +56,11 @@ pub record IsLeaving (tree : PlainTree) (at : Leaving) (name : List ℕ) : Type 
 abbrev pub HasNoAttributes : ℕ → List Pair → Type 0
 HasNoAttributes id pairs = DropsAttributes id pairs pairs
 
+-- On a tree, one folder or file may be another; all others, the entries and all else are as they were.
+pub record ChangesNodeAlone (id : ℕ) (old new : PlainTree) : Type 0 where
+  pub rest : new ≡ record old { nodes = new.nodes }
+  pub others : kept (λ node. not (is_node id node)) new.nodes ≡ kept (λ node. not (is_node id node)) old.nodes
+
 -- ---- the room
 
 -- the sectors that a removed folder takes at most: the header's, a node for the folder above, and those of its edits
@@ -66,6 +75,23 @@ pub record HasRoomToRemove (volume : Volume) (space : Space) : Type 0 where
   pub untold : space.tells ≡ false
       → (volume.catalog.file.shape.depth + 3 ≤ 11) × (volume.catalog.file.shape.leaf_records + 3 ≤ 2 ^ 32 - 1) × (3 * (volume.catalog.file.shape.depth + 4) ≤ volume.catalog.file.shape.free)
       × (3 * edit_writes (volume.catalog.file.shape.depth + 3) * catalog_node volume + 1 ≤ space.spare)
+
+-- the sectors that the removal of so many attributes takes at most
+abbrev pub bare_load : Volume → ℕ → ℕ
+bare_load volume many = tree_load attributes_key (attributes_cost volume) many 0
+
+-- So many attributes can be removed with this room from a file with these numbers, whatever its tree is like, and it leaves enough to
+-- remove a folder from a catalog with those.
+pub record FitsToBare (many : ℕ) (owned catalog : TreeShape) (spare : ℕ) : Type 0 where
+  pub size : 4096 ≤ owned.node_size
+  pub depth : owned.depth + many ≤ 11
+  pub records : owned.leaf_records + many ≤ 2 ^ 32 - 1
+  pub free : many * (owned.depth + many + 1) ≤ owned.free
+  pub writes : many * edit_writes (owned.depth + many) * (owned.node_size / 512) + (3 * edit_writes (catalog.depth + 3) * (catalog.node_size / 512) + 1) ≤ spare
+
+-- the same of a volume's files
+abbrev pub HasRoomToBare : ℕ → Volume → ℕ → Type 0
+HasRoomToBare many volume spare = FitsToBare many volume.attributes.file.shape volume.catalog.file.shape spare
 
 -- ---- the change
 

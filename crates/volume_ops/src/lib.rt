@@ -4,6 +4,7 @@
 mod attach;
 mod attaching;
 mod attributing;
+mod baring;
 mod beginning;
 mod changing;
 mod delattr;

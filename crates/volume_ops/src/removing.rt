@@ -2,6 +2,7 @@
 ghost use Rattle.std.specs.Prelude.{◌≡◌, ◌≤◌, ◌+◌, ◌∷◌, ℕ, List, [], Ok, false, true, IsTrue, IfOk, length, OnOk};
 ghost use Rattle.std.specs.List.{All, Contains};
 ghost use Rattle.sector_disk.specs.Lists.{Content};
+ghost use Rattle.attributes.specs.Owned.{count_of};
 ghost use Rattle.btree_edit.specs.Causes.{HasTroubleCause};
 ghost use Rattle.btree_file.specs.Frame.{PutsWithin};
 ghost use Rattle.btree_file.specs.Standing.{numbers_of, pairs_in};
@@ -20,7 +21,7 @@ ghost use Rattle.volume_ops.specs.Changing.{HasRoomToUpdate, PutsHeader};
 ghost use Rattle.volume_ops.specs.Lists.{lists_of};
 ghost use Rattle.volume_ops.specs.Looking.{IsCatalogOver, ReadsTree, ReadsVolume};
 ghost use Rattle.volume_ops.specs.Making.{entry_load, path_to};
-ghost use Rattle.volume_ops.specs.Removing.{DropsFolder, HasNoAttributes, HasRoomToRemove, IsLeaving, folder_at, leaving_under, remove_load, to_leave};
+ghost use Rattle.volume_ops.specs.Removing.{DropsFolder, HasNoAttributes, HasRoomToRemove, IsLeaving, bare_load, folder_at, leaving_under, remove_load, to_leave};
 ghost use Rattle.volume_ops.specs.Room.{capacity_of};
 ghost use Rattle.volume_ops.specs.Service.{IsInService};
 ghost use Rattle.volume_ops.specs.Standing.{IsSettled, StandsOver, own_sectors};
@@ -190,8 +191,45 @@ impl Volume {
         self.touch(alloc, space, at.parent, 0, 1)
     }
 
-    /// Removes a folder without entries, where it has no attributes. Where it has some, which are not removed yet, `Memory` is
-    /// answered before anything was put.
+    /// Removes a folder without entries, after its attributes, of which there are at most `most`. Where the room doesn't suffice
+    /// for these by numbers alone, `Memory` is answered before anything was put.
+    fn remove_owner<P: SectorSpace>(
+        &mut self,
+        alloc: Global,
+        space: &mut P,
+        at: Leaving,
+        name: &Units,
+        most: u32,
+    ) -> Result<(), Trouble>
+        requires stands { StandsOver self.old (P.SectorView.space space.old) }
+        requires settled { IsTrue (P.SectorView.space space.old).tells → IsSettled self.old (P.SectorView.space space.old).content }
+        requires some { 1 ≤ length name.now }
+        requires name { length name.now ≤ 255 }
+        requires leaving { IsTrue (P.SectorView.space space.old).tells → IsLeaving (tree_of (P.SectorView.space space.old).content) at name.now }
+        requires few { IsTrue (P.SectorView.space space.old).tells → count_of at.id (lists_of self.old (P.SectorView.space space.old).content).attribute_pairs ≤ most }
+        requires room { HasRoomToRemove self.old (P.SectorView.space space.old) }
+        ensures stands { OnOk result (StandsOver self.new (P.SectorView.space space.new)) }
+        ensures service { IsInService self.new (P.SectorView.space space.new) }
+        ensures does { IsTrue (P.SectorView.space space.old).tells
+            → OnOk result (IsSettled self.new (P.SectorView.space space.new).content × (tree_of (P.SectorView.space space.new).content ≡ removed_folder (folder_at at name.now) (tree_of (P.SectorView.space space.old).content))) }
+        ensures touches { (committed : Content) → Touches committed (λ s. Contains (own_sectors self.old) s) (P.SectorView.space space.old) (P.SectorView.space space.new) }
+        ensures spent { IsTrue (P.SectorView.space space.old).tells → (P.SectorView.space space.old).spare ≤ (P.SectorView.space space.new).spare + (remove_load self.old + bare_load self.old most) }
+        ensures below { P.SectorView.follows space.old space.new }
+        ensures cause { HasTroubleCause (P.SectorView.space space.old).faults (P.SectorView.space space.new).faults result }
+    {
+        edits_take_their_load();
+        if self.header.attributes_fork.logical_size == 0 {
+            return Err(Trouble::Memory);
+        }
+        if !self.can_bare(space.spare(), most) {
+            return Err(Trouble::Memory);
+        }
+        self.bare(alloc, space, at.id, most)?;
+        self.remove_folder(alloc, space, at, name)
+    }
+
+    /// Removes a folder without entries, with its attributes. Where it has more than eleven, or the room doesn't suffice for them
+    /// by numbers alone, `Memory` is answered before anything was put.
     fn remove_bare<P: SectorSpace>(
         &mut self,
         alloc: Global,
@@ -210,15 +248,18 @@ impl Volume {
         ensures does { IsTrue (P.SectorView.space space.old).tells
             → OnOk result (IsSettled self.new (P.SectorView.space space.new).content × (tree_of (P.SectorView.space space.new).content ≡ removed_folder (folder_at at name.now) (tree_of (P.SectorView.space space.old).content))) }
         ensures touches { (committed : Content) → Touches committed (λ s. Contains (own_sectors self.old) s) (P.SectorView.space space.old) (P.SectorView.space space.new) }
-        ensures spent { IsTrue (P.SectorView.space space.old).tells → (P.SectorView.space space.old).spare ≤ (P.SectorView.space space.new).spare + remove_load self.old }
+        ensures spent { IsTrue (P.SectorView.space space.old).tells → (P.SectorView.space space.old).spare ≤ (P.SectorView.space space.new).spare + (remove_load self.old + bare_load self.old (count_of at.id (lists_of self.old (P.SectorView.space space.old).content).attribute_pairs)) }
         ensures below { P.SectorView.follows space.old space.new }
         ensures cause { HasTroubleCause (P.SectorView.space space.old).faults (P.SectorView.space space.new).faults result }
     {
         let owned = self.tell_attributes(alloc, space, at.id)?;
-        if !owned.is_empty() {
+        if owned.is_empty() {
+            return self.remove_folder(alloc, space, at, name);
+        }
+        if owned.len() > 11 {
             return Err(Trouble::Memory);
         }
-        self.remove_folder(alloc, space, at, name)
+        self.remove_owner(alloc, space, at, name, owned.len() as u32)
     }
 
     /// The folder of this name in the folder that a path reaches, if it may be removed; or the first reason against it.
@@ -270,7 +311,6 @@ impl Volume {
         ensures settled { IsTrue (P.SectorView.space space.old).tells → OnOk result (IsSettled self.new (P.SectorView.space space.new).content) }
         ensures service { IsInService self.new (P.SectorView.space space.new) }
         ensures touches { (committed : Content) → Touches committed (λ s. Contains (own_sectors self.old) s) (P.SectorView.space space.old) (P.SectorView.space space.new) }
-        ensures spent { IsTrue (P.SectorView.space space.old).tells → (P.SectorView.space space.old).spare ≤ (P.SectorView.space space.new).spare + remove_load self.old }
         ensures loads { IsTrue (P.SectorView.space space.old).tells → (n : ℕ) (grow : List ℕ) → weight (capacity_of self.old) (volume_of (P.SectorView.space space.old).content) (tree_of (P.SectorView.space space.old).content) (command.Rmdir (path_to above.now name.now)) ≡ cost.Load n grow
             → (P.SectorView.space space.old).spare ≤ (P.SectorView.space space.new).spare + n }
         ensures below { P.SectorView.follows space.old space.new }
@@ -287,8 +327,9 @@ impl Volume {
     }
 
     /// `rmdir`: removes the folder at a path, which has no entries; or tells the first reason against it. A path that begins
-    /// with a name of the volume's own is refused. A refused command changes nothing. `Memory` comes where memory is wanting,
-    /// and, with nothing put, where the folder has attributes, which are not removed yet; `Disk` where a read failed.
+    /// with a name of the volume's own is refused. A refused command changes nothing. Its attributes go before it, up to eleven:
+    /// where it has more, or an edit of each that made their tree deeper had no room, `Memory` is answered and nothing was put.
+    /// `Memory` comes too where memory is wanting, `Disk` where a read failed.
     pub fn rmdir<P: SectorSpace>(
         &mut self,
         alloc: Global,
@@ -309,7 +350,6 @@ impl Volume {
         ensures service { IsInService self.new (P.SectorView.space space.new) }
         // On a fault too, it puts sectors of its own alone, whatever was committed last.
         ensures touches { (committed : Content) → Touches committed (λ s. Contains (own_sectors self.old) s) (P.SectorView.space space.old) (P.SectorView.space space.new) }
-        ensures spent { IsTrue (P.SectorView.space space.old).tells → (P.SectorView.space space.old).spare ≤ (P.SectorView.space space.new).spare + remove_load self.old }
         // What its load names bounds the sectors that it puts.
         ensures loads { IsTrue (P.SectorView.space space.old).tells → (n : ℕ) (grow : List ℕ) → weight (capacity_of self.old) (volume_of (P.SectorView.space space.old).content) (tree_of (P.SectorView.space space.old).content) (command.Rmdir path.now) ≡ cost.Load n grow
             → (P.SectorView.space space.old).spare ≤ (P.SectorView.space space.new).spare + n }

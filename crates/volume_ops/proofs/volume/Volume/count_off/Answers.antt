@@ -1,5 +1,4 @@
-use Rattle.std.proofs.Common.{inl, refl, sym, ◌∙◌, ap}
-use Rattle.volume_header.specs.declared.header.VolumeHeader.{VolumeHeader}
+use Rattle.std.proofs.Common.{inl, sym, ◌∙◌, ap}
 use Rattle.hfs_volume.specs.Changes.{with_numbers}
 use Rattle.volume_ops.proofs.Numbering.{stands_with}
 use Rattle.volume_ops.proofs.volume.Volume.count_off.Goals as goal

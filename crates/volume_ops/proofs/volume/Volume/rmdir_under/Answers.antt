@@ -1,15 +1,18 @@
-use Rattle.std.proofs.Common.{◌≡◌, ◌≤◌, ◌+◌, ◌/◌, ℕ, List, true, false, refl, sym, ◌∙◌, ap, subst, arith}
+use Rattle.std.proofs.Common.{ℕ, List, sym, ◌∙◌, ap, subst, arith}
 use Rattle.std.specs.List.{Contains}
 use Rattle.std.proofs.lemmas.Bool.{true≢false}
 use Rattle.sector_disk.specs.Lists.{Content}
 use Rattle.hfs_model.specs.Step.{removed_folder}
+use Rattle.attributes.specs.Owned.{count_of}
+use Rattle.hfs_volume.specs.Content.{VolumeState}
 use Rattle.hfs_volume.specs.TreeOf.{tree_of}
+use Rattle.volume_ops.specs.Lists.{lists_of}
 use Rattle.volume_ops.specs.Making.{path_to}
-use Rattle.volume_ops.specs.Removing.{IsLeaving, folder_at}
+use Rattle.volume_ops.specs.Removing.{IsLeaving, bare_load, folder_at}
 use Rattle.volume_ops.specs.Touching.{Touches}
+use Rattle.volume_ops.proofs.BareLoads.{bare_load_still, count_still, remove_all_told}
 use Rattle.volume_ops.proofs.Commanding.{touches_looks, touches_both}
 use Rattle.volume_ops.proofs.Leaving.{is_leaving, leaving_refused, leaving_told, refused_line, removed_line}
-use Rattle.volume_ops.proofs.RemoveLoads.{remove_load_told}
 use Rattle.volume_ops.proofs.RoomToRemove.{remove_load_still, remove_room_still}
 use Rattle.volume_ops.proofs.Sited.{fits_above, fits_name}
 use Rattle.volume_ops.proofs.Still.{own_still}
@@ -63,9 +66,6 @@ returns-in_ok-remove_bare-in-Ok-clause-touches g c committed =
 pub returns-in_ok-remove_bare-in-Ok-clause-below : goal.returns-in_ok-remove_bare-in-Ok-clause-below
 returns-in_ok-remove_bare-in-Ok-clause-below g c = g.met.P.SectorView.follows_trans c.args.space.now c.leaving.new.space c.remove_bare.new.space c.leaving.ensures.below c.remove_bare.ensures.below
 
-pub returns-in_ok-remove_bare-in-Ok-clause-spent : goal.returns-in_ok-remove_bare-in-Ok-clause-spent
-returns-in_ok-remove_bare-in-Ok-clause-spent g c tells = omega (arith, c.leaving.ensures.reads.looks.spare, c.remove_bare.ensures.spent (c.leaving.ensures.reads.looks.same.tells ∙ tells), remove_load_still c.args.self.now c.leaving.new.self (g.P.SectorView.space c.args.space.now) (g.P.SectorView.space c.leaving.new.space) c.leaving.ensures.reads tells)
-
 pub returns-in_err-remove_bare-in-Ok-clause-touches : goal.returns-in_err-remove_bare-in-Ok-clause-touches
 returns-in_err-remove_bare-in-Ok-clause-touches g c committed =
     touches_both committed _ (g.P.SectorView.space c.args.space.now) (g.P.SectorView.space c.leaving.new.space) (g.P.SectorView.space c.remove_bare.new.space) (touches_looks committed _ (g.P.SectorView.space c.args.space.now) (g.P.SectorView.space c.leaving.new.space) c.leaving.ensures.reads.looks)
@@ -73,9 +73,6 @@ returns-in_err-remove_bare-in-Ok-clause-touches g c committed =
 
 pub returns-in_err-remove_bare-in-Ok-clause-below : goal.returns-in_err-remove_bare-in-Ok-clause-below
 returns-in_err-remove_bare-in-Ok-clause-below g c = g.met.P.SectorView.follows_trans c.args.space.now c.leaving.new.space c.remove_bare.new.space c.leaving.ensures.below c.remove_bare.ensures.below
-
-pub returns-in_err-remove_bare-in-Ok-clause-spent : goal.returns-in_err-remove_bare-in-Ok-clause-spent
-returns-in_err-remove_bare-in-Ok-clause-spent g c tells = omega (arith, c.leaving.ensures.reads.looks.spare, c.remove_bare.ensures.spent (c.leaving.ensures.reads.looks.same.tells ∙ tells), remove_load_still c.args.self.now c.leaving.new.self (g.P.SectorView.space c.args.space.now) (g.P.SectorView.space c.leaving.new.space) c.leaving.ensures.reads tells)
 
 pub returns-in-Err-clause-reply : goal.returns-in-Err-clause-reply
 returns-in-Err-clause-reply g c tells =
@@ -92,41 +89,47 @@ returns-in-Err-clause-refused g c tells is = c.leaving.ensures.reads.looks.conte
 pub returns-in-Err-clause-touches : goal.returns-in-Err-clause-touches
 returns-in-Err-clause-touches g c committed = touches_looks committed _ (g.P.SectorView.space c.args.space.now) (g.P.SectorView.space c.leaving.new.space) c.leaving.ensures.reads.looks
 
-pub returns-in-Err-clause-spent : goal.returns-in-Err-clause-spent
-returns-in-Err-clause-spent g c tells = omega (arith, c.leaving.ensures.reads.looks.spare)
-
 pub returns-in-Err-clause-service : goal.returns-in-Err-clause-service
 returns-in-Err-clause-service g c = c.leaving.ensures.stands.service
 
 pub returns-in_err-at-clause-touches : goal.returns-in_err-at-clause-touches
 returns-in_err-at-clause-touches g c committed = touches_looks committed _ (g.P.SectorView.space c.args.space.now) (g.P.SectorView.space c.leaving.new.space) c.leaving.ensures.reads.looks
 
-pub returns-in_err-at-clause-spent : goal.returns-in_err-at-clause-spent
-returns-in_err-at-clause-spent g c tells = omega (arith, c.leaving.ensures.reads.looks.spare)
-
 pub returns-in_err-at-clause-service : goal.returns-in_err-at-clause-service
 returns-in_err-at-clause-service g c = c.leaving.ensures.stands.service
 
 pub returns-in_ok-remove_bare-in-Ok-clause-loads : goal.returns-in_ok-remove_bare-in-Ok-clause-loads
 returns-in_ok-remove_bare-in-Ok-clause-loads g c tells n grow is =
+    let content = (g.P.SectorView.space c.args.space.now).content in
+    let pairs = ap (λ (l : VolumeState). bare_load c.args.self.now (count_of c.in-Ok.at.id l.attribute_pairs)) (c.requires.settled tells).lists in
     omega (
       arith,
       c.leaving.ensures.reads.looks.spare,
       c.remove_bare.ensures.spent (c.leaving.ensures.reads.looks.same.tells ∙ tells),
       remove_load_still c.args.self.now c.leaving.new.self (g.P.SectorView.space c.args.space.now) (g.P.SectorView.space c.leaving.new.space) c.leaving.ensures.reads tells,
-      remove_load_told c.args.self.now (g.P.SectorView.space c.args.space.now).content (c.requires.settled tells) (c.requires.room.told tells).2 c.args.self.now.capacity (path_to c.args.above.now c.args.name.now) (tree_of (g.P.SectorView.space c.args.space.now).content) (folder_at c.in-Ok.at c.args.name.now) n grow
-          (leaving_told c.sound_has_plain_tree.ensures c.args.self.now (g.P.SectorView.space c.args.space.now).content (c.requires.stands.stands tells).trees (c.requires.settled tells) c.args.above.now c.args.name.now c.requires.not_own c.requires.fits c.in_ok-at.field-0 (c.in_ok-at.ensures.found tells) c.in-Ok.at c.in-Ok.is) is,
+      bare_load_still c.args.self.now c.leaving.new.self (g.P.SectorView.space c.args.space.now) (g.P.SectorView.space c.leaving.new.space) c.leaving.ensures.reads tells (count_of c.in-Ok.at.id (lists_of c.leaving.new.self (g.P.SectorView.space c.leaving.new.space).content).attribute_pairs),
+      ap (bare_load c.args.self.now) (count_still c.args.self.now c.leaving.new.self (g.P.SectorView.space c.args.space.now) (g.P.SectorView.space c.leaving.new.space) c.leaving.ensures.reads tells c.in-Ok.at.id),
+      pairs,
+      remove_all_told c.sound_has_plain_tree.ensures c.args.self.now (g.P.SectorView.space c.args.space.now) (c.requires.stands.stands tells) (c.requires.settled tells) (c.requires.room.told tells).2 c.args.self.now.capacity (path_to c.args.above.now c.args.name.now) c.in-Ok.at c.args.name.now n grow
+          (is_leaving c.sound_has_plain_tree.ensures c.args.self.now content (c.requires.stands.stands tells).trees (c.requires.settled tells) c.args.above.now c.args.name.now c.requires.not_own c.requires.fits c.in_ok-at.field-0 (c.in_ok-at.ensures.found tells) c.in-Ok.at c.in-Ok.is)
+          (leaving_told c.sound_has_plain_tree.ensures c.args.self.now content (c.requires.stands.stands tells).trees (c.requires.settled tells) c.args.above.now c.args.name.now c.requires.not_own c.requires.fits c.in_ok-at.field-0 (c.in_ok-at.ensures.found tells) c.in-Ok.at c.in-Ok.is) is,
     )
 
 pub returns-in_err-remove_bare-in-Ok-clause-loads : goal.returns-in_err-remove_bare-in-Ok-clause-loads
 returns-in_err-remove_bare-in-Ok-clause-loads g c tells n grow is =
+    let content = (g.P.SectorView.space c.args.space.now).content in
+    let pairs = ap (λ (l : VolumeState). bare_load c.args.self.now (count_of c.in-Ok.at.id l.attribute_pairs)) (c.requires.settled tells).lists in
     omega (
       arith,
       c.leaving.ensures.reads.looks.spare,
       c.remove_bare.ensures.spent (c.leaving.ensures.reads.looks.same.tells ∙ tells),
       remove_load_still c.args.self.now c.leaving.new.self (g.P.SectorView.space c.args.space.now) (g.P.SectorView.space c.leaving.new.space) c.leaving.ensures.reads tells,
-      remove_load_told c.args.self.now (g.P.SectorView.space c.args.space.now).content (c.requires.settled tells) (c.requires.room.told tells).2 c.args.self.now.capacity (path_to c.args.above.now c.args.name.now) (tree_of (g.P.SectorView.space c.args.space.now).content) (folder_at c.in-Ok.at c.args.name.now) n grow
-          (leaving_told c.sound_has_plain_tree.ensures c.args.self.now (g.P.SectorView.space c.args.space.now).content (c.requires.stands.stands tells).trees (c.requires.settled tells) c.args.above.now c.args.name.now c.requires.not_own c.requires.fits c.in_ok-at.field-0 (c.in_ok-at.ensures.found tells) c.in-Ok.at c.in-Ok.is) is,
+      bare_load_still c.args.self.now c.leaving.new.self (g.P.SectorView.space c.args.space.now) (g.P.SectorView.space c.leaving.new.space) c.leaving.ensures.reads tells (count_of c.in-Ok.at.id (lists_of c.leaving.new.self (g.P.SectorView.space c.leaving.new.space).content).attribute_pairs),
+      ap (bare_load c.args.self.now) (count_still c.args.self.now c.leaving.new.self (g.P.SectorView.space c.args.space.now) (g.P.SectorView.space c.leaving.new.space) c.leaving.ensures.reads tells c.in-Ok.at.id),
+      pairs,
+      remove_all_told c.sound_has_plain_tree.ensures c.args.self.now (g.P.SectorView.space c.args.space.now) (c.requires.stands.stands tells) (c.requires.settled tells) (c.requires.room.told tells).2 c.args.self.now.capacity (path_to c.args.above.now c.args.name.now) c.in-Ok.at c.args.name.now n grow
+          (is_leaving c.sound_has_plain_tree.ensures c.args.self.now content (c.requires.stands.stands tells).trees (c.requires.settled tells) c.args.above.now c.args.name.now c.requires.not_own c.requires.fits c.in_ok-at.field-0 (c.in_ok-at.ensures.found tells) c.in-Ok.at c.in-Ok.is)
+          (leaving_told c.sound_has_plain_tree.ensures c.args.self.now content (c.requires.stands.stands tells).trees (c.requires.settled tells) c.args.above.now c.args.name.now c.requires.not_own c.requires.fits c.in_ok-at.field-0 (c.in_ok-at.ensures.found tells) c.in-Ok.at c.in-Ok.is) is,
     )
 
 pub returns-in-Err-clause-loads : goal.returns-in-Err-clause-loads

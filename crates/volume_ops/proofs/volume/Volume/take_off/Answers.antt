@@ -1,5 +1,4 @@
-use Rattle.std.proofs.Common.{◌≡◌, ◌≤◌, [], ℕ, List, refl, sym, ◌∙◌, ap, subst, arith}
-use Rattle.std.specs.Prelude.{None, Ok, OnOk}
+use Rattle.std.proofs.Common.{[], ℕ, List, sym, ◌∙◌, ap, subst, arith}
 use Rattle.std.specs.List.{Contains}
 use Rattle.btree_edit.specs.Edits.{EditRoom, TakesAtMost, TakesEdits}
 use Rattle.btree_file.specs.Standing.{numbers_of}

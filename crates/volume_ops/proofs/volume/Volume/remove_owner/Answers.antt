@@ -1,0 +1,93 @@
+use Rattle.std.proofs.Common.{◌≡◌, ℕ, List, [], sym, ◌∙◌, ap, subst, arith}
+use Rattle.std.specs.Prelude.{OnOk}
+use Rattle.std.specs.List.{Contains}
+use Rattle.hfs_volume.specs.TreeOf.{tree_of}
+use Rattle.volume_ops.specs.Removing.{HasRoomToBare, remove_load}
+use Rattle.volume_ops.specs.Standing.{IsSettled}
+use Rattle.volume_ops.specs.Touching.{Touches}
+use Rattle.volume_ops.proofs.AttributesEdited.{own_then}
+use Rattle.volume_ops.proofs.BareRoom.{room_for_folder, room_to_bare, spent_bare, spent_counted}
+use Rattle.volume_ops.proofs.Bared.{leaving_still, node_alone, none_left, removed_same, settled_bared}
+use Rattle.volume_ops.proofs.Commanding.{touches_both, touches_none}
+use Rattle.volume_ops.proofs.OwnedChange.{settled_inline}
+use Rattle.volume_ops.proofs.Seeing.{cause_since}
+use Rattle.volume_ops.proofs.Still.{has_them}
+use Rattle.volume_ops.proofs.volume.Volume.remove_owner.Goals as goal
+
+pub bare-requires-clause-has : goal.bare-requires-clause-has
+bare-requires-clause-has g c = has_them c.args.self.now.header c.if-self-eq0.false
+
+pub bare-requires-clause-size : goal.bare-requires-clause-size
+bare-requires-clause-size g c = (subst (λ n. HasRoomToBare c.args.most c.args.self.now n) c.spare.ensures (c.can_bare.ensures c.if-not-can_bare.false)).size
+
+pub bare-requires-clause-inline : goal.bare-requires-clause-inline
+bare-requires-clause-inline g c tells = settled_inline c.args.self.now (g.P.SectorView.space c.args.space.now).content (c.requires.settled tells)
+
+pub bare-requires-clause-room : goal.bare-requires-clause-room
+bare-requires-clause-room g c = room_to_bare c.args.most c.args.self.now (g.P.SectorView.space c.args.space.now) (subst (λ n. HasRoomToBare c.args.most c.args.self.now n) c.spare.ensures (c.can_bare.ensures c.if-not-can_bare.false))
+
+pub remove_folder-requires-clause-settled : goal.remove_folder-requires-clause-settled
+remove_folder-requires-clause-settled g c later =
+    let tells = sym c.bare.ensures.frame.space.same.tells ∙ later in
+    settled_bared c.args.self.now c.bare.new.self (g.P.SectorView.space c.args.space.now) (g.P.SectorView.space c.bare.new.space) c.args.at.id (c.in_ok-bare.ensures.bares tells) (c.requires.settled tells) (c.requires.stands.stands tells) (c.in_ok-bare.ensures.stands.stands later) (has_them c.args.self.now.header c.if-self-eq0.false)
+
+pub remove_folder-requires-clause-leaving : goal.remove_folder-requires-clause-leaving
+remove_folder-requires-clause-leaving g c later =
+    let tells = sym c.bare.ensures.frame.space.same.tells ∙ later in
+    leaving_still (tree_of (g.P.SectorView.space c.args.space.now).content) (tree_of (g.P.SectorView.space c.bare.new.space).content) c.args.at c.args.name.now
+    (node_alone c.args.self.now c.bare.new.self (g.P.SectorView.space c.args.space.now) (g.P.SectorView.space c.bare.new.space) c.args.at.id (c.in_ok-bare.ensures.bares tells) (c.requires.settled tells) (c.requires.stands.stands tells) (c.in_ok-bare.ensures.stands.stands later) (has_them c.args.self.now.header c.if-self-eq0.false)) (c.requires.leaving tells)
+
+pub remove_folder-requires-clause-bare : goal.remove_folder-requires-clause-bare
+remove_folder-requires-clause-bare g c later =
+    let tells = sym c.bare.ensures.frame.space.same.tells ∙ later in
+    none_left c.args.self.now c.bare.new.self (g.P.SectorView.space c.args.space.now) (g.P.SectorView.space c.bare.new.space) c.args.at.id (c.in_ok-bare.ensures.bares tells) (c.requires.settled tells) (c.requires.stands.stands tells) (c.in_ok-bare.ensures.stands.stands later) (has_them c.args.self.now.header c.if-self-eq0.false)
+
+pub remove_folder-requires-clause-room : goal.remove_folder-requires-clause-room
+remove_folder-requires-clause-room g c =
+    room_for_folder c.args.most c.args.self.now c.bare.new.self (g.P.SectorView.space c.args.space.now) (g.P.SectorView.space c.bare.new.space) c.bare.ensures.rest c.bare.ensures.frame.space.same.tells c.requires.room (subst (λ n. HasRoomToBare c.args.most c.args.self.now n) c.spare.ensures (c.can_bare.ensures c.if-not-can_bare.false))
+    (spent_bare c.args.most c.args.self.now c.bare.new.self (g.P.SectorView.space c.args.space.now) (g.P.SectorView.space c.bare.new.space) (subst (λ n. HasRoomToBare c.args.most c.args.self.now n) c.spare.ensures (c.can_bare.ensures c.if-not-can_bare.false)) (c.bare.ensures.takes []))
+
+pub returns-clause-does : goal.returns-clause-does
+returns-clause-does g c tells =
+    let later = c.bare.ensures.frame.space.same.tells ∙ tells in
+    subst (λ t. OnOk c.remove_folder.result (IsSettled c.remove_folder.new.self (g.P.SectorView.space c.remove_folder.new.space).content × (tree_of (g.P.SectorView.space c.remove_folder.new.space).content ≡ t)))
+    (removed_same (tree_of (g.P.SectorView.space c.args.space.now).content) (tree_of (g.P.SectorView.space c.bare.new.space).content) c.args.at c.args.name.now
+    (node_alone c.args.self.now c.bare.new.self (g.P.SectorView.space c.args.space.now) (g.P.SectorView.space c.bare.new.space) c.args.at.id (c.in_ok-bare.ensures.bares tells) (c.requires.settled tells) (c.requires.stands.stands tells) (c.in_ok-bare.ensures.stands.stands later) (has_them c.args.self.now.header c.if-self-eq0.false)))
+    (c.remove_folder.ensures.does later)
+
+pub returns-clause-touches : goal.returns-clause-touches
+returns-clause-touches g c committed =
+    touches_both committed _ (g.P.SectorView.space c.args.space.now) (g.P.SectorView.space c.bare.new.space) (g.P.SectorView.space c.remove_folder.new.space) (c.bare.ensures.touches committed)
+    (subst (λ (l : List ℕ). Touches committed (λ s. Contains l s) (g.P.SectorView.space c.bare.new.space) (g.P.SectorView.space c.remove_folder.new.space)) (own_then c.args.self.now c.bare.new.self (g.P.SectorView.space c.args.space.now) (g.P.SectorView.space c.bare.new.space) c.bare.ensures.rest c.bare.ensures.frame) (c.remove_folder.ensures.touches committed))
+
+pub returns-clause-spent : goal.returns-clause-spent
+returns-clause-spent g c tells =
+    let later = c.bare.ensures.frame.space.same.tells ∙ tells in
+    omega (
+      arith,
+      spent_counted c.edits_take_their_load.ensures c.args.most c.args.self.now c.bare.new.self (g.P.SectorView.space c.args.space.now) (g.P.SectorView.space c.bare.new.space) tells (subst (λ n. HasRoomToBare c.args.most c.args.self.now n) c.spare.ensures (c.can_bare.ensures c.if-not-can_bare.false)).size (c.bare.ensures.takes []),
+      c.remove_folder.ensures.spent later,
+      ap remove_load c.bare.ensures.rest,
+    )
+
+pub returns-in_err-bare-clause-spent : goal.returns-in_err-bare-clause-spent
+returns-in_err-bare-clause-spent g c tells =
+    omega (arith, spent_counted c.edits_take_their_load.ensures c.args.most c.args.self.now c.bare.new.self (g.P.SectorView.space c.args.space.now) (g.P.SectorView.space c.bare.new.space) tells (subst (λ n. HasRoomToBare c.args.most c.args.self.now n) c.spare.ensures (c.can_bare.ensures c.if-not-can_bare.false)).size (c.bare.ensures.takes []))
+
+pub returns-clause-below : goal.returns-clause-below
+returns-clause-below g c = g.met.P.SectorView.follows_trans c.args.space.now c.bare.new.space c.remove_folder.new.space c.bare.ensures.below c.remove_folder.ensures.below
+
+pub returns-clause-cause : goal.returns-clause-cause
+returns-clause-cause g c = cause_since (g.P.SectorView.space c.args.space.now).faults (g.P.SectorView.space c.bare.new.space).faults (g.P.SectorView.space c.remove_folder.new.space).faults c.remove_folder.result c.bare.ensures.cause.later c.remove_folder.ensures.cause
+
+pub returns-then-self-eq0-clause-touches : goal.returns-then-self-eq0-clause-touches
+returns-then-self-eq0-clause-touches g c committed = touches_none committed _ (g.P.SectorView.space c.args.space.now)
+
+pub returns-then-self-eq0-clause-service : goal.returns-then-self-eq0-clause-service
+returns-then-self-eq0-clause-service g c = c.requires.stands.service
+
+pub returns-then-not-can_bare-clause-touches : goal.returns-then-not-can_bare-clause-touches
+returns-then-not-can_bare-clause-touches g c committed = touches_none committed _ (g.P.SectorView.space c.args.space.now)
+
+pub returns-then-not-can_bare-clause-service : goal.returns-then-not-can_bare-clause-service
+returns-then-not-can_bare-clause-service g c = c.requires.stands.service
