@@ -1,15 +1,14 @@
 -- A store that was attached to a disk that is ready: a volume may be attached to the two.
-use Rattle.std.proofs.Common.{◌≡◌, ◌<◌, ◌≤◌, ◌+◌, ◌/◌, ◌==◌, ◌&&◌, ◌||◌, ℕ, Bool, List, [], Contains, inl, inr, ⊎_elim, length, refl, sym, ◌∙◌, ap, subst, arith}
+use Rattle.std.proofs.Common.{◌≡◌, ◌<◌, ◌≤◌, ◌+◌, ◌/◌, ◌==◌, ◌&&◌, ◌||◌, ℕ, Bool, List, [], Contains, inl, inr, length, refl, sym, ◌∙◌, ap, subst, arith}
 use Rattle.std.specs.Prelude.{IsTrue, nat_le, nat_lt}
 use Rattle.std.proofs.lemmas.Bool.{cases_lt}
 use Rattle.sector_disk.specs.Disk.{Candidates, IsDisk, State, candidates_of, content, only}
 use Rattle.sector_disk.specs.Lists.{IsSector, sector}
 use Rattle.sector_disk.specs.Space.{AgreesOutside}
 use Rattle.sector_disk.proofs.Stages.{length-only}
-use Rattle.jnl_format.specs.Info.{info_of}
 use Rattle.jnl_format.specs.Keeping.{KeepsHeader}
 use Rattle.jnl_format.specs.Named.{IsNamed}
-use Rattle.jnl_format.specs.Recovery.{Content, header_of_volume, homes_of, info_sector_of, replayed}
+use Rattle.jnl_format.specs.Recovery.{Content, header_of_volume, homes_of, replayed}
 use Rattle.jnl_format.specs.Text.{text_homes}
 use Rattle.jnl_format.specs.declared.blocks.Home.{Home}
 use Rattle.jnl_format.specs.declared.structures.Info.{Info}

@@ -1,18 +1,17 @@
 -- A volume that came into service, and the begin of a run behind it.
-use Rattle.std.proofs.Common.{◌≡◌, ◌⊎◌, ℕ, [], inl, inr, ⊎_elim, refl, sym, ◌∙◌, ap, subst}
+use Rattle.std.proofs.Common.{◌≡◌, ℕ, [], inl, inr, ⊎_elim, refl, ◌∙◌, ap, subst}
 use Rattle.std.specs.Prelude.{None}
 use Rattle.sector_disk.specs.Space.{Space}
 use Rattle.sector_disk.proofs.Passing.{both_pass, passes_with}
-use Rattle.volume_header.specs.declared.header.VolumeHeader.{VolumeHeader}
 use Rattle.jnl_format.specs.Recovery.{Content}
-use Rattle.hfs_volume.specs.Content.{VolumeState, volume_of}
-use Rattle.hfs_volume.specs.Reclaim.{MarksHeader, Tidies, mounted_header, none, one_more}
+use Rattle.hfs_volume.specs.Content.{VolumeState}
+use Rattle.hfs_volume.specs.Reclaim.{MarksHeader, mounted_header, none, one_more}
 use Rattle.hfs_serving.specs.Attaching.{MayAttach}
 use Rattle.hfs_serving.specs.Beginning.{BeginsRun, MayBegin}
 use Rattle.hfs_serving.specs.Going.{Knowing, Stands, Stays}
 use Rattle.hfs_serving.specs.Outside.{Outside}
 use Rattle.hfs_serving.specs.Readying.{IsVersioned}
-use Rattle.hfs_serving.specs.Runs.{Crashes, KeepsPlace, Serves, SetsVersion, version_header}
+use Rattle.hfs_serving.specs.Runs.{Crashes, KeepsPlace, Serves, SetsVersion}
 use Rattle.hfs_serving.specs.Serving.{IsDurable, Touches}
 use Rattle.hfs_serving.specs.Stages.{MayTurn, Turns}
 use Rattle.hfs_serving.proofs.Agreeing.{stands_durable, touched_below}

@@ -1,19 +1,22 @@
 -- A volume that goes on within a batch.
-use Rattle.std.proofs.Common.{◌≡◌, ◌⊎◌, ◌∷◌, [], ◌++◌, ℕ, List, true, false, inl, inr, ⊎_elim, refl, sym, ◌∙◌, ap, subst, take, append_assoc}
+use Rattle.std.proofs.Common.{◌≡◌, ◌⊎◌, ◌≤◌, ◌+◌, ◌∷◌, [], ◌++◌, ℕ, List, true, false, inl, inr, ⊎_elim, refl, sym, ◌∙◌, ap, arith, length, subst, take}
 use Rattle.std.specs.Prelude.{Bool, Option, Result, Ok, Err, OnOk, OnErr}
-use Rattle.std.proofs.lemmas.List.{append-nil}
+use Rattle.std.proofs.lemmas.List.{append-nil, length-map, length-take-le}
 use Rattle.sector_disk.specs.Space.{Space}
 use Rattle.jnl_format.specs.Recovery.{Content}
 use Rattle.hfs_volume.specs.Content.{volume_of}
 use Rattle.hfs_volume.specs.Reclaim.{Tidies, IsTidied, IsAtRest, none, one_more}
-use Rattle.hfs_volume.specs.Run.{shrunk_in, lines_of, replies_of}
+use Rattle.hfs_volume.specs.Run.{Entry, shrunk_in, lines_of}
 use Rattle.hfs_serving.specs.Going.{Knowing, Stands, Stays, Tidied, Answered, AnswersTo, is_answered, GoesTidy, GoesRested, GoesOn, GoesWhole, ServesBatch, ServesLine, ServesLines, StopsLines, StopsOn, line_if}
 use Rattle.hfs_serving.specs.declared.volume.Step.{Step}
 use Rattle.hfs_serving.specs.declared.volume.Step.TheVariants as step
 use Rattle.hfs_serving.specs.Outside.{Outside}
 use Rattle.hfs_serving.specs.Runs.{Leads, LeadsToRest}
 use Rattle.hfs_serving.specs.Serving.{Touches, MayCommit, Commits, Goes, Stops}
-use Rattle.hfs_serving.proofs.Lists.{shrunk_in-none, shrunk_in-one, shrunk_in-append, lines_of-append, replies_of-none, replies_of-append, content_after-none}
+use Rattle.hfs_serving.proofs.Lists.{shrunk_in-none, shrunk_in-one, shrunk_in-append, lines_of-append, content_after-none}
+use Rattle.hfs_serving.proofs.Saying.{joined_both, joined_none, said_append, said_none}
+use Rattle.hfs_serving.specs.Said.{joined, said_of, untold}
+use Rattle.hfs_serving.specs.declared.volume.ToTell.{ToTell}
 use Rattle.hfs_serving.proofs.Leading.{leads_on, leads_entry, leads_rest, leads_to_rest, rest_on}
 use Rattle.hfs_serving.proofs.Batches.{goes_none, goes_both, goes_stops, touched_on}
 use Rattle.hfs_serving.proofs.Joining.{commit_goes_here, commit_stops_here, touch_stops_here}
@@ -31,13 +34,13 @@ on_ok (Err e) goes p = tt
 -- ---- a step of a line
 
 -- a line that wasn't answered had no reply: a step of housekeeping was made for it, or it was only looked at
-module _ (capacity : ℕ) (knows : Knowing) (committed now : Content) (shrunk : Option ℕ) (space : Space) (line before after : List ℕ) where
-  pub left_line : (made : Step) → is_answered made ≡ false → AnswersTo made capacity knows committed now shrunk space line before after → (after ≡ before) × (Tidied capacity knows committed now shrunk space ⊎ Stays knows committed now shrunk space)
+module _ (capacity : ℕ) (knows : Knowing) (committed now : Content) (shrunk : Option ℕ) (space : Space) (number : ℕ) (line : List ℕ) (before after : ToTell) where
+  pub left_line : (made : Step) → is_answered made ≡ false → AnswersTo made capacity knows committed now shrunk space number line before after → (after ≡ before) × (Tidied capacity knows committed now shrunk space ⊎ Stays knows committed now shrunk space)
   left_line step.Answered other answers = absurd (cc other)
   left_line step.Again other answers = (answers.0, inl answers.1)
   left_line step.CommitFirst other answers = (answers.0, inr answers.1)
 
-  pub answered_line : (made : Step) → is_answered made ≡ true → AnswersTo made capacity knows committed now shrunk space line before after → (text : List ℕ) × (after ≡ before ++ text) × Answered capacity knows committed now shrunk space line text
+  pub answered_line : (made : Step) → is_answered made ≡ true → AnswersTo made capacity knows committed now shrunk space number line before after → (said : ToTell) × (after ≡ joined before said) × Answered capacity knows committed now shrunk space number line said
   answered_line step.Answered is answers = answers
   answered_line step.Again is answers = absurd (cc is)
   answered_line step.CommitFirst is answers = absurd (cc is)
@@ -118,8 +121,8 @@ module _ (capacity : ℕ) (shrunk : Option ℕ) (committed now : Content) (old :
     }
 
     -- it is one with entries, of which it has none
-    pub tidy_goes : GoesOn capacity knows committed now shrunk old [] [] space mid
-    tidy_goes = record {
+    pub tidy_goes : (number : ℕ) → GoesOn capacity knows committed now shrunk old number [] untold space mid
+    tidy_goes number = record {
       more = [];
       last = goes.last;
       next = goes.next;
@@ -127,7 +130,7 @@ module _ (capacity : ℕ) (shrunk : Option ℕ) (committed now : Content) (old :
       heads = goes.heads;
       known = subst (λ (s : Option ℕ). knows goes.last goes.next s) (sym (shrunk_in-none shrunk)) goes.known;
       asked = refl;
-      told = replies_of-none;
+      told = said_none number;
     }
 
     pub tidy_stops : (others : List (List ℕ)) (after : Outside) → StopsOn capacity goes.last goes.next shrunk mid others after → StopsOn capacity committed now shrunk old others after
@@ -170,9 +173,9 @@ module _ (capacity : ℕ) (shrunk : Option ℕ) (committed now : Content) (old :
     }
 
     -- a line was answered
-    pub rested_answers : (knows_new : Knowing) (line text : List ℕ) (new : Space) (after : Outside) → Touches rested.tidy.last space mid new after → Answered capacity knows_new rested.tidy.last rested.tidy.next shrunk new line text
-        → GoesOn capacity knows_new committed now shrunk old (line ∷ []) text new after
-    rested_answers knows_new line text new after touches answered =
+    pub rested_answers : (knows_new : Knowing) (number : ℕ) (line : List ℕ) (said : ToTell) (new : Space) (after : Outside) → Touches rested.tidy.last space mid new after → Answered capacity knows_new rested.tidy.last rested.tidy.next shrunk new number line said
+        → GoesOn capacity knows_new committed now shrunk old number (line ∷ []) said new after
+    rested_answers knows_new number line said new after touches answered =
         let first = rested.tidy in
         let leads : Leads capacity shrunk now (answered.entry ∷ []) answered.entry.after = leads_entry capacity shrunk now [] first.next answered.entry rested.rests answered.before answered.served answered.place in
         record {
@@ -239,8 +242,8 @@ module _ (capacity : ℕ) (shrunk : Option ℕ) (committed now : Content) (old :
 -- ---- with entries
 
 module _ (capacity : ℕ) (shrunk : Option ℕ) (committed now : Content) (old : Outside) where
-  pub on_none : (knows : Knowing) (space : Space) → Stands knows committed now shrunk space old → GoesOn capacity knows committed now shrunk old [] [] space old
-  on_none knows space stands = record {
+  pub on_none : (knows : Knowing) (space : Space) (number : ℕ) → Stands knows committed now shrunk space old → GoesOn capacity knows committed now shrunk old number [] untold space old
+  on_none knows space number stands = record {
     more = [];
     last = committed;
     next = now;
@@ -248,15 +251,15 @@ module _ (capacity : ℕ) (shrunk : Option ℕ) (committed now : Content) (old :
     heads = stands.heads;
     known = subst (λ (s : Option ℕ). knows committed now s) (sym (shrunk_in-none shrunk)) stands.known;
     asked = refl;
-    told = replies_of-none;
+    told = said_none number;
   }
 
-  module _ (knows : Knowing) (lines : List (List ℕ)) (text : List ℕ) (space : Space) (mid : Outside) (goes : GoesOn capacity knows committed now shrunk old lines text space mid) where
+  module _ (knows : Knowing) (number : ℕ) (lines : List (List ℕ)) (said : ToTell) (space : Space) (mid : Outside) (goes : GoesOn capacity knows committed now shrunk old number lines said space mid) where
     pub stands_on_there : Stands knows goes.last goes.next (shrunk_in shrunk goes.more) space mid
     stands_on_there = record { known = goes.known; below = goes.goes.below; reads = goes.goes.reads; heads = goes.heads; leaves = goes.goes.leaves }
 
-    pub on_both : (knows_new : Knowing) (others : List (List ℕ)) (then : List ℕ) (new : Space) (after : Outside) → GoesOn capacity knows_new goes.last goes.next (shrunk_in shrunk goes.more) mid others then new after
-        → GoesOn capacity knows_new committed now shrunk old (lines ++ others) (text ++ then) new after
+    pub on_both : (knows_new : Knowing) (others : List (List ℕ)) (then : ToTell) (new : Space) (after : Outside) → GoesOn capacity knows_new goes.last goes.next (shrunk_in shrunk goes.more) mid (number + length goes.more) others then new after
+        → GoesOn capacity knows_new committed now shrunk old number (lines ++ others) (joined said then) new after
     on_both knows_new others then new after second = record {
       more = goes.more ++ second.more;
       last = second.last;
@@ -265,7 +268,7 @@ module _ (capacity : ℕ) (shrunk : Option ℕ) (committed now : Content) (old :
       heads = second.heads;
       known = subst (λ (s : Option ℕ). knows_new second.last second.next s) (sym (shrunk_in-append shrunk goes.more second.more)) second.known;
       asked = lines_of-append goes.more second.more ∙ ap (λ (l : List (List ℕ)). l ++ lines_of second.more) goes.asked ∙ ap (λ (l : List (List ℕ)). lines ++ l) second.asked;
-      told = replies_of-append goes.more second.more ∙ ap (λ (l : List ℕ). l ++ replies_of second.more) goes.told ∙ ap (λ (l : List ℕ). text ++ l) second.told;
+      told = said_append number goes.more second.more ∙ ap (λ (l : ToTell). joined l (said_of (number + length goes.more) second.more)) goes.told ∙ ap (λ (l : ToTell). joined said l) second.told;
     }
 
     pub on_stops : (others : List (List ℕ)) (after : Outside) → StopsOn capacity goes.last goes.next (shrunk_in shrunk goes.more) mid others after → StopsOn capacity committed now shrunk old (lines ++ others) after
@@ -276,41 +279,46 @@ module _ (capacity : ℕ) (shrunk : Option ℕ) (committed now : Content) (old :
 
 -- ---- lines
 
-module _ (capacity : ℕ) (shrunk : Option ℕ) (committed now : Content) (old : Outside) (lines : List (List ℕ)) (before : List ℕ) where
-  pub lines_none : (knows : Knowing) (space : Space) → Stands knows committed now shrunk space old → ServesLines 0 capacity knows committed now shrunk old lines before before space old
-  lines_none knows space stands = record { text = []; replies = sym (append-nil before); goes = on_none capacity shrunk committed now old knows space stands }
+-- the number behind some lines
+numbers_on : (number count : ℕ) (lines : List (List ℕ)) (run : List Entry) → count ≤ length lines → lines_of run ≡ take count lines → number + count ≡ number + length run
+numbers_on number count lines run few asked = omega (arith, ap (λ (l : List (List ℕ)). length l) asked, length-map run (λ (e : Entry). e.line), length-take-le count lines few)
 
-  module _ (count : ℕ) (knows : Knowing) (middle : List ℕ) (space : Space) (mid : Outside) (first : ServesLines count capacity knows committed now shrunk old lines before middle space mid) where
+module _ (capacity : ℕ) (shrunk : Option ℕ) (committed now : Content) (old : Outside) (number : ℕ) (lines : List (List ℕ)) (before : ToTell) where
+  pub lines_none : (knows : Knowing) (space : Space) → Stands knows committed now shrunk space old → ServesLines 0 capacity knows committed now shrunk old number lines before before space old
+  lines_none knows space stands = record { said = untold; told = sym (joined_none before); goes = on_none capacity shrunk committed now old knows space number stands }
+
+  module _ (count : ℕ) (knows : Knowing) (middle : ToTell) (space : Space) (mid : Outside) (first : ServesLines count capacity knows committed now shrunk old number lines before middle space mid) where
     pub stands_in_lines : Stands knows first.goes.last first.goes.next (shrunk_in shrunk first.goes.more) space mid
-    stands_in_lines = stands_on_there capacity shrunk committed now old knows (take count lines) first.text space mid first.goes
+    stands_in_lines = stands_on_there capacity shrunk committed now old knows number (take count lines) first.said space mid first.goes
 
     pub lines_stop : (after : Outside) → StopsOn capacity first.goes.last first.goes.next (shrunk_in shrunk first.goes.more) mid [] after → StopsLines capacity committed now shrunk old lines after
     lines_stop after second = record {
       count = count;
       stops =
           subst (λ (l : List (List ℕ)). StopsOn capacity committed now shrunk old l after) (append-nil (take count lines))
-          (on_stops capacity shrunk committed now old knows (take count lines) first.text space mid first.goes [] after second);
+          (on_stops capacity shrunk committed now old knows number (take count lines) first.said space mid first.goes [] after second);
     }
 
     pub commit_stops_lines : (after : Outside) → MayCommit space mid after → StopsLines capacity committed now shrunk old lines after
-    commit_stops_lines after may = record { count = count; stops = commit_stops_on capacity shrunk committed now old knows (take count lines) first.text space mid first.goes after may }
+    commit_stops_lines after may = record { count = count; stops = commit_stops_on capacity shrunk committed now old knows number (take count lines) first.said space mid first.goes after may }
 
     -- one more, or none
-    pub lines_on : (knows_new : Knowing) (answered : Bool) (line after : List ℕ) (new : Space) (end : Outside) (many : ℕ) → take count lines ++ line_if answered line ≡ take many lines
-        → ServesLine answered capacity knows_new first.goes.last first.goes.next (shrunk_in shrunk first.goes.more) mid line middle after new end → ServesLines many capacity knows_new committed now shrunk old lines before after new end
-    lines_on knows_new answered line after new end many are second = record {
-      text = first.text ++ second.text;
-      replies = second.replies ∙ ap (λ (l : List ℕ). l ++ second.text) first.replies ∙ append_assoc before first.text second.text;
+    pub lines_on : (knows_new : Knowing) (answered : Bool) (line : List ℕ) (after : ToTell) (new : Space) (end : Outside) (many : ℕ) → count ≤ length lines → take count lines ++ line_if answered line ≡ take many lines
+        → ServesLine answered capacity knows_new first.goes.last first.goes.next (shrunk_in shrunk first.goes.more) mid (number + count) line middle after new end → ServesLines many capacity knows_new committed now shrunk old number lines before after new end
+    lines_on knows_new answered line after new end many few are second = record {
+      said = joined first.said second.said;
+      told = second.told ∙ ap (λ (l : ToTell). joined l second.said) first.told ∙ joined_both before first.said second.said;
       goes =
-          subst (λ (l : List (List ℕ)). GoesOn capacity knows_new committed now shrunk old l (first.text ++ second.text) new end) are
-          (on_both capacity shrunk committed now old knows (take count lines) first.text space mid first.goes knows_new (line_if answered line) second.text new end second.goes);
+          subst (λ (l : List (List ℕ)). GoesOn capacity knows_new committed now shrunk old number l (joined first.said second.said) new end) are
+          (on_both capacity shrunk committed now old knows number (take count lines) first.said space mid first.goes knows_new (line_if answered line) second.said new end
+          (subst (λ (n : ℕ). GoesOn capacity knows_new first.goes.last first.goes.next (shrunk_in shrunk first.goes.more) mid n (line_if answered line) second.said new end) (numbers_on number count lines first.goes.more few first.goes.asked) second.goes));
     }
 
 -- ---- the end of a batch
 
-pub whole_batch : (capacity : ℕ) (shrunk : Option ℕ) (start : Content) (old : Outside) (knows : Knowing) (lines : List (List ℕ)) (text : List ℕ) (space : Space) (mid : Outside) (goes : GoesOn capacity knows start start shrunk old lines text space mid) (knows_new : Knowing) (new : Space) (after : Outside)
-    → Commits space mid new after → Stays knows_new goes.next goes.next (shrunk_in shrunk goes.more) new → GoesWhole capacity knows_new start shrunk old lines text new after
-whole_batch capacity shrunk start old knows lines text space mid goes knows_new new after commits stays = record {
+pub whole_batch : (capacity : ℕ) (shrunk : Option ℕ) (start : Content) (old : Outside) (knows : Knowing) (number : ℕ) (lines : List (List ℕ)) (said : ToTell) (space : Space) (mid : Outside) (goes : GoesOn capacity knows start start shrunk old number lines said space mid) (knows_new : Knowing) (new : Space) (after : Outside)
+    → Commits space mid new after → Stays knows_new goes.next goes.next (shrunk_in shrunk goes.more) new → GoesWhole capacity knows_new start shrunk old number lines said new after
+whole_batch capacity shrunk start old knows number lines said space mid goes knows_new new after commits stays = record {
   run = goes.more;
   now = goes.next;
   goes = commit_goes_here capacity shrunk start start old goes.more goes.last goes.next space mid goes.goes new after commits;
@@ -321,11 +329,11 @@ whole_batch capacity shrunk start old knows lines text space mid goes knows_new 
 }
 
 -- the commit at the end
-pub lines_commit : (count capacity : ℕ) (shrunk : Option ℕ) (start : Content) (old : Outside) (lines : List (List ℕ)) (before after : List ℕ) (knows : Knowing) (space : Space) (mid : Outside)
-    (first : ServesLines count capacity knows start start shrunk old lines before after space mid) (knows_new : Knowing) (new : Space) (end : Outside) → Commits space mid new end → Stays knows_new first.goes.next first.goes.next (shrunk_in shrunk first.goes.more) new
-    → ServesBatch count capacity knows_new start shrunk old lines before after new end
-lines_commit count capacity shrunk start old lines before after knows space mid first knows_new new end commits stays = record {
-  text = first.text;
-  replies = first.replies;
-  whole = whole_batch capacity shrunk start old knows (take count lines) first.text space mid first.goes knows_new new end commits stays;
+pub lines_commit : (count capacity : ℕ) (shrunk : Option ℕ) (start : Content) (old : Outside) (number : ℕ) (lines : List (List ℕ)) (before after : ToTell) (knows : Knowing) (space : Space) (mid : Outside)
+    (first : ServesLines count capacity knows start start shrunk old number lines before after space mid) (knows_new : Knowing) (new : Space) (end : Outside) → Commits space mid new end → Stays knows_new first.goes.next first.goes.next (shrunk_in shrunk first.goes.more) new
+    → ServesBatch count capacity knows_new start shrunk old number lines before after new end
+lines_commit count capacity shrunk start old number lines before after knows space mid first knows_new new end commits stays = record {
+  said = first.said;
+  told = first.told;
+  whole = whole_batch capacity shrunk start old knows number (take count lines) first.said space mid first.goes knows_new new end commits stays;
 }

@@ -13,6 +13,8 @@ pub mod Staging
 pub mod Mounting
 pub mod Joining
 pub mod Grounding
+pub mod Saying
+pub mod Hearing
 pub mod Going
 pub mod Stepping
 pub mod Promising

@@ -1,14 +1,14 @@
 -- What is opened of an image, and why an image isn't.
-use Rattle.std.proofs.Common.{◌≡◌, ◌<◌, ◌≤◌, ℕ, Result, refl, sym, ◌∙◌, ap, subst, length}
+use Rattle.std.proofs.Common.{◌≡◌, ◌≤◌, ℕ, Result, refl, sym, ◌∙◌, ap, subst, length}
 use Rattle.std.specs.Prelude.{IfOk, IfErr, Ok, Err, None, false}
 use Rattle.volume_header.specs.Refusal.{header_refusal, is_locked}
 use Rattle.volume_header.specs.declared.header.VolumeHeader.{VolumeHeader}
-use Rattle.jnl_format.specs.Recovery.{Content, header_of_volume, info_sector_of, journal_in, recovery, replayed}
+use Rattle.jnl_format.specs.Recovery.{Content, header_of_volume, journal_in, recovery, replayed}
 use Rattle.jnl_replay.specs.Plan.{FitsPlan, IsPlan, journal_of}
 use Rattle.jnl_replay.specs.declared.plan.Plan.{Plan}
 use Rattle.jnl_store.specs.Plan.{IsCapacityOf}
-use Rattle.hfs_volume.specs.Mount.{HasJournal, IsOpen}
-use Rattle.hfs_serving.specs.Opening.{Opens, Recovers}
+use Rattle.hfs_volume.specs.Mount.{IsOpen}
+use Rattle.hfs_serving.specs.Opening.{Recovers}
 use Rattle.hfs_serving.specs.Refusing.{IsOpened, RefusesImage, RefusesPlan}
 use Rattle.hfs_serving.specs.declared.opening.OpenRefusal.{OpenRefusal}
 use Rattle.hfs_serving.specs.declared.opening.OpenRefusal.TheVariants as refusal

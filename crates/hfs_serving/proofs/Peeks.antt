@@ -1,5 +1,5 @@
 -- What a peek shows of a disk that was only read since it was made.
-use Rattle.std.proofs.Common.{◌≡◌, ◌==◌, ℕ, Bool, sym, ◌∙◌, ap, cond, eq-eqb}
+use Rattle.std.proofs.Common.{◌≡◌, Bool, sym, ◌∙◌, ap, cond, eq-eqb}
 use Rattle.sector_disk.specs.Disk.{Candidates, OnlyReads, State, content, content_of}
 use Rattle.sector_disk.specs.Lists.{Content}
 use Rattle.jnl_replay.specs.Peeking.{peeked}

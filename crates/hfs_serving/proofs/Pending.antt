@@ -1,18 +1,21 @@
 -- Lines of a source that are read and served.
-use Rattle.std.proofs.Common.{◌≡◌, ◌≤◌, ◌<◌, ◌+◌, ◌-◌, ◌++◌, ◌∷◌, ◌==◌, [], Bool, true, ℕ, List, IsTrue, length, length-append, length-drop, map, take, drop, refl, sym, ◌∙◌, ap, subst, arith, append_assoc}
+use Rattle.std.proofs.Common.{◌≡◌, ◌≤◌, ◌+◌, ◌++◌, ◌∷◌, ◌==◌, [], Bool, true, ℕ, List, IsTrue, length, length-append, length-drop, take, drop, refl, sym, ◌∙◌, ap, subst, arith, append_assoc}
 use Rattle.std.specs.Prelude.{Option}
 use Rattle.std.proofs.lemmas.Bool.Decides.{nat_tests}
-use Rattle.std.proofs.lemmas.List.{drop-append-le, drop-drop, drop-map, length-map, map-append, take-append-le, take-map, take_all}
+use Rattle.std.proofs.lemmas.List.{drop-append-le, drop-drop, drop-map, length-map, map-append, take-append-le, take-map}
 use Rattle.sector_disk.specs.Source.{Stream}
 use Rattle.sector_disk.specs.Space.{Space}
 use Rattle.jnl_format.specs.Recovery.{Content}
 use Rattle.hfs_language.specs.Language.{most_bytes}
-use Rattle.hfs_volume.specs.Run.{Entry, lines_of, shrunk_in}
+use Rattle.hfs_volume.specs.Run.{Entry, lines_of}
 use Rattle.hfs_serving.specs.Going.{Knowing, Stands}
 use Rattle.hfs_serving.specs.Outside.{Outside}
 use Rattle.hfs_serving.specs.Steps.{CrashesStep, ServesStep}
+use Rattle.hfs_serving.specs.Watching.{CrashesHeard, ServesHeard}
+use Rattle.hfs_language.specs.declared.reply.Change.{Change}
+use Rattle.hfs_volume.specs.Told.{changes_in}
 use Rattle.hfs_serving.specs.Taking.{HasTaken}
-use Rattle.hfs_serving.proofs.Relabelling.{Holds, crashes_text, relabel, relabel_lines, relabel_shrunk, serves_text}
+use Rattle.hfs_serving.proofs.Relabelling.{Holds, crashes_text, holds_take, relabel, relabel_changes, relabel_take, relabel_lines, relabel_shrunk, serves_text}
 use Rattle.line_source.specs.Batch.{AddsLines, held}
 use Rattle.line_source.specs.Input.{ahead, SplitsIntoLines, TakesLines}
 use Rattle.line_source.proofs.Cuts.{front_cut, takes_both, takes_none}
@@ -47,6 +50,22 @@ module _ (capacity : ℕ) (start : Content) (shrunk : Option ℕ) (old : Outside
         asked = relabel_lines step.run some holds;
       }
 
+  pub texts_heard : (number : ℕ) (heard : List Change) (count : ℕ) (knows : Knowing) (space : Space) (new : Outside) → ServesHeard number heard count capacity knows start shrunk old (held most_bytes texts) space new → ServesHeard number heard count capacity knows start shrunk old texts space new
+  unfolding step_texts
+  texts_heard number heard count knows space new step =
+      (step_texts count knows space new step.0, relabel_changes number step.0.run (take count texts) (asked_held count step.0.run step.0.asked) ∙ step.1)
+
+  pub crash_heard : (number : ℕ) (heard : List Change) (new : Outside) → CrashesHeard number heard capacity start shrunk old (held most_bytes texts) new → CrashesHeard number heard capacity start shrunk old texts new
+  unfolding crash_texts
+  crash_heard number heard new step =
+      let run = step.0.run in
+      let some = take step.0.count texts in
+      let known = step.0.known in
+      let holds = asked_held step.0.count run step.0.asked in (
+        crash_texts new step.0,
+        ap (λ (r : List Entry). changes_in number r) (relabel_take known run some) ∙ relabel_changes number (take known run) (take known some) (holds_take known run some holds) ∙ step.1,
+      )
+
   -- more lines were read
   pub step_more : (more : List (List ℕ)) (count : ℕ) (knows : Knowing) (space : Space) (new : Outside) → count ≤ length texts → ServesStep count capacity knows start shrunk old texts space new
       → ServesStep count capacity knows start shrunk old (texts ++ more) space new
@@ -57,6 +76,11 @@ module _ (capacity : ℕ) (start : Content) (shrunk : Option ℕ) (old : Outside
     stands = step.stands;
     asked = step.asked ∙ sym (take-append-le count texts more inside);
   }
+
+  pub more_heard : (number : ℕ) (heard : List Change) (more : List (List ℕ)) (count : ℕ) (knows : Knowing) (space : Space) (new : Outside) → count ≤ length texts → ServesHeard number heard count capacity knows start shrunk old texts space new
+      → ServesHeard number heard count capacity knows start shrunk old (texts ++ more) space new
+  unfolding step_more
+  more_heard number heard more count knows space new inside step = (step_more more count knows space new inside step.0, step.1)
 
 -- ---- lines that were read, of which some are still in memory
 
@@ -93,7 +117,7 @@ module _ (taken : List ℕ) (source : Stream) (pending : List (List ℕ)) (taken
   )
 
   pub on_serve : (P : ℕ → List (List ℕ) → Type 0) (k : ℕ) (pending_new : List (List ℕ)) → k ≤ length pending → pending_new ≡ drop k pending
-      → ((count : ℕ) (texts : List (List ℕ)) → pending ≡ held most_bytes (drop count texts) → Q count texts → P (count + k) texts) → On taken source pending_new taken_now now P
+      → ((count : ℕ) (texts : List (List ℕ)) → count ≤ length texts → pending ≡ held most_bytes (drop count texts) → Q count texts → P (count + k) texts) → On taken source pending_new taken_now now P
   on_serve P k pending_new few is goes = (
     record {
       texts = on.0.texts;
@@ -104,7 +128,7 @@ module _ (taken : List ℕ) (source : Stream) (pending : List (List ℕ)) (taken
       pending_are = is ∙ ap (λ (l : List (List ℕ)). drop k l) on.0.pending_are ∙ drop-map (take (most_bytes + 1)) k (drop on.0.count on.0.texts) ∙ ap (held most_bytes) (drop-drop k on.0.count on.0.texts);
       takes = on.0.takes;
     },
-    goes on.0.count on.0.texts on.0.pending_are on.1,
+    goes on.0.count on.0.texts on.0.inside on.0.pending_are on.1,
   )
 
   -- at the end of the source all of them are served
@@ -117,7 +141,7 @@ module _ (taken : List ℕ) (source : Stream) (pending : List (List ℕ)) (taken
 
   -- something ended it, and these bytes are gone
   pub on_stops : (R : List (List ℕ) → Type 0) (new : Stream) → (IsTrue source.tells → (gone : List ℕ) × (ahead taken_now now ≡ gone ++ new.left))
-      → ((count : ℕ) (texts : List (List ℕ)) → pending ≡ held most_bytes (drop count texts) → Q count texts → R texts)
+      → ((count : ℕ) (texts : List (List ℕ)) → count ≤ length texts → pending ≡ held most_bytes (drop count texts) → Q count texts → R texts)
       → (texts : List (List ℕ)) × (IsTrue source.tells → HasTaken taken source texts new) × R texts
   on_stops R new gone stops = (
     on.0.texts,
@@ -129,7 +153,7 @@ module _ (taken : List ℕ) (source : Stream) (pending : List (List ℕ)) (taken
           bytes = takes.bytes ∙ ap (λ (l : List ℕ). takes.used ++ l) away.1 ∙ sym (append_assoc takes.used away.0 new.left);
           first = front_cut takes.used away.0 new.left on.0.texts (subst (λ (l : List ℕ). SplitsIntoLines takes.used on.0.texts l) away.1 takes.cut);
         },
-    stops on.0.count on.0.texts on.0.pending_are on.1,
+    stops on.0.count on.0.texts on.0.inside on.0.pending_are on.1,
   )
 
 pub no_items : (l : List (List ℕ)) (n : ℕ) (empty : Bool) → n ≡ length l → empty ≡ (n == 0) → empty ≡ true → l ≡ []

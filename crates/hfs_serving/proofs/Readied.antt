@@ -1,5 +1,5 @@
 -- An image made ready for its store: what the replay and the version leave, from the content that the image stood for.
-use Rattle.std.proofs.Common.{◌≡◌, ◌≢◌, ◌⊎◌, ◌<◌, ◌/◌, ◌*◌, ℕ, Bool, true, false, List, [], ◌∷◌, inl, inr, ⊎_elim, length, take, drop, refl, sym, ◌∙◌, ap, subst, arith, eqb, cond}
+use Rattle.std.proofs.Common.{◌≡◌, ◌≢◌, ◌⊎◌, ◌<◌, ◌/◌, ◌*◌, ℕ, Bool, true, false, List, [], ◌∷◌, inl, inr, ⊎_elim, length, refl, sym, ◌∙◌, ap, subst, arith, eqb, cond}
 use Rattle.std.specs.Prelude.{Result, Ok, Err, IsTrue}
 use Rattle.std.proofs.lemmas.Bool.{cases_eq, eqb-true}
 use Rattle.std.proofs.lemmas.List.{ext_get_or}
@@ -31,18 +31,18 @@ use Rattle.hfs_volume.specs.Attributing.{RemountKeeps}
 use Rattle.hfs_volume.specs.Content.{JournalPlace, volume_of}
 use Rattle.hfs_volume.specs.Sound.{IsSound}
 use Rattle.hfs_serving.specs.Outside.{Outside, outside_of}
-use Rattle.hfs_serving.specs.Readying.{IsMadeReady, IsReady, IsVersioned, MayReady, Readies, mounted_plan, version_sector, versioned, with_version, with_version_set}
+use Rattle.hfs_serving.specs.Readying.{IsMadeReady, IsReady, MayReady, Readies, mounted_plan, version_sector, versioned, with_version, with_version_set}
 use Rattle.hfs_serving.specs.Runs.{KeepsPlace, SetsVersion, StandsAs, version_header}
 use Rattle.hfs_serving.specs.Stages.{MayTurn, Turns}
 use Rattle.hfs_serving.proofs.Agreeing.{agrees_more}
 use Rattle.hfs_serving.proofs.Attachable.{sectors_are}
 use Rattle.hfs_serving.proofs.Bridging.{lifted}
 use Rattle.hfs_serving.proofs.Leading.{place_none}
-use Rattle.hfs_serving.proofs.Reheading.{sets_version, version_place, volume_stays}
+use Rattle.hfs_serving.proofs.Reheading.{sets_version, version_place}
 use Rattle.hfs_serving.proofs.Replayed.{replay_stands}
 use Rattle.hfs_serving.proofs.Replays.{journal_lies, replay_turns}
 use Rattle.hfs_serving.proofs.VersionBytes.{version_spells}
-use Rattle.hfs_serving.proofs.Versions.{LiesIn, agrees_start, apart, base_inside, closed_start, emptied_here, found_before, found_here, h, header_same, holds_version, long_c, only_image, plan_here, rest, rest_version}
+use Rattle.hfs_serving.proofs.Versions.{LiesIn, agrees_start, apart, base_inside, closed_start, emptied_here, found_before, found_here, h, header_same, holds_version, long_c, plan_here, rest, rest_version}
 
 -- ---- one stage behind another
 

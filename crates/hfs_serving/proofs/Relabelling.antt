@@ -1,6 +1,6 @@
 -- Runs over lines of which only a front is held: an entry of such a line is one of the whole text.
-use Rattle.std.proofs.Common.{◌≡◌, ◌⊎◌, ◌<◌, ◌≤◌, ◌+◌, ◌∷◌, [], ◌++◌, zero, suc, inl, inr, ⊎_elim, ℕ, List, length, map, take, refl, sym, ◌∙◌, ap, subst, arith, Result, Ok, Err}
-use Rattle.std.specs.Prelude.{Option, nat_lt, if◌then◌else◌}
+use Rattle.std.proofs.Common.{◌≡◌, ◌⊎◌, ◌<◌, ◌≤◌, ◌+◌, ◌∷◌, [], ◌++◌, zero, suc, inl, inr, ⊎_elim, ℕ, List, length, take, refl, sym, ◌∙◌, ap, subst, arith, Result, Ok, Err}
+use Rattle.std.specs.Prelude.{Option, if◌then◌else◌}
 use Rattle.std.proofs.lemmas.Bool.{cases_lt}
 use Rattle.std.proofs.lemmas.Bool.Decides.{nat_tests}
 use Rattle.std.proofs.lemmas.List.{length-take-le, take_all}
@@ -13,7 +13,9 @@ use Rattle.hfs_language.specs.declared.refusal.Refusal.{Refusal}
 use Rattle.hfs_language.specs.declared.refusal.Refusal.TheVariants.{TooLong}
 use Rattle.hfs_model.specs.Step.{step_line}
 use Rattle.hfs_volume.specs.TreeOf.{tree_of}
-use Rattle.hfs_volume.specs.Reclaim.{Rests, Tidies}
+use Rattle.hfs_volume.specs.Told.{changes_by, changes_in, changes_of}
+use Rattle.hfs_language.specs.declared.reply.Change.{Change}
+use Rattle.hfs_volume.specs.Reclaim.{Tidies}
 use Rattle.hfs_volume.specs.Run.{DoesLine, Entry, IsAnswered, IsRunFrom, IsServed, LacksMemory, LacksResource, asked_by, content_after, is_ok, lines_of, or_before, replies_of, reply_to, shrunk_after, shrunk_by, shrunk_in}
 use Rattle.hfs_serving.specs.Outside.{Outside}
 use Rattle.hfs_serving.specs.Runs.{Crashes, IsPrefix, Leads, Serves, StandsIn, Survives, SurvivesFrom}
@@ -93,6 +95,22 @@ unfolding relabel replies_of with_text
 relabel_replies [] texts holds = refl
 relabel_replies (entry ∷ run) [] holds = absurd (cc holds)
 relabel_replies (entry ∷ run) (text ∷ texts) holds = ap (λ (l : List ℕ). reply_text entry.reply ++ l) (relabel_replies run texts (rest_held entry run text texts holds))
+
+changes_text : (entry : Entry) (text : List ℕ) → entry.line ≡ take (most_bytes + 1) text → (number : ℕ) → changes_by number (with_text entry text) ≡ changes_by number entry
+unfolding with_text
+changes_text entry text is number = sym (ap (λ (asked : Result Command Refusal). if is_ok entry.reply then changes_asked asked else []) (same_command entry text is))
+  where
+    changes_asked : Result Command Refusal → List Change
+    changes_asked (Ok asked) = changes_of number (tree_of entry.before) asked
+    changes_asked (Err why) = []
+
+pub relabel_changes : (number : ℕ) (run : List Entry) (texts : List (List ℕ)) → Holds run texts → changes_in number (relabel run texts) ≡ changes_in number run
+unfolding relabel changes_in
+relabel_changes number [] texts holds = refl
+relabel_changes number (entry ∷ run) [] holds = absurd (cc holds)
+relabel_changes number (entry ∷ run) (text ∷ texts) holds =
+    ap (λ (l : List Change). l ++ changes_in (number + 1) (relabel run texts)) (changes_text entry text (first_held entry run text texts holds) number)
+    ∙ ap (λ (l : List Change). changes_by number entry ++ l) (relabel_changes (number + 1) run texts (rest_held entry run text texts holds))
 
 pub relabel_content : (start : Content) (run : List Entry) (texts : List (List ℕ)) → Holds run texts → content_after start (relabel run texts) ≡ content_after start run
 unfolding relabel content_after with_text

@@ -1,5 +1,5 @@
 -- The content that a replay leaves stands for what the one before it stood for.
-use Rattle.std.proofs.Common.{◌≡◌, ◌≢◌, ◌<◌, ◌≤◌, ◌+◌, ◌*◌, ◌/◌, ℕ, Bool, true, false, List, [], ◌∷◌, Contains, inl, inr, length, refl, sym, ◌∙◌, ap, subst, arith, cond}
+use Rattle.std.proofs.Common.{◌≡◌, ◌≢◌, ◌<◌, ◌*◌, ◌/◌, ℕ, Bool, true, false, List, [], ◌∷◌, Contains, inl, inr, length, refl, sym, ◌∙◌, ap, subst, arith, cond}
 use Rattle.std.proofs.lemmas.Bool.{cases_eq}
 use Rattle.sector_disk.specs.Lists.{Content, put_sectors, sector}
 use Rattle.sector_disk.specs.Disk.{Mixes, candidates_of, only}

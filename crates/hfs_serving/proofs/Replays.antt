@@ -1,12 +1,11 @@
 -- A replay as a stage of a mount: what it leaves at any moment is found to be what the image stood for.
-use Rattle.std.proofs.Common.{◌≡◌, ◌⊎◌, ◌<◌, ◌≤◌, ◌/◌, ◌*◌, ◌+◌, ℕ, Bool, true, ◌&&◌, List, [], inl, inr, ⊎_elim, length, refl, sym, ◌∙◌, ap, subst, arith, eqb, cond}
+use Rattle.std.proofs.Common.{◌≡◌, ◌⊎◌, ◌/◌, ◌*◌, ℕ, true, ◌&&◌, [], inl, inr, ⊎_elim, length, sym, ◌∙◌, ap, subst, arith, eqb, cond}
 use Rattle.std.specs.Prelude.{Option, None, is_none, Ok}
 use Rattle.std.proofs.lemmas.Bool.{and_from, eq-eqb}
 use Rattle.volume_header.specs.Refusal.{header_refusal}
 use Rattle.volume_header.specs.declared.refusal.HeaderRefusal.{HeaderRefusal}
 use Rattle.sector_disk.specs.Lists.{sector}
 use Rattle.sector_disk.specs.Disk.{CrashesLeave, SameSink, State, content}
-use Rattle.sector_disk.specs.Space.{AgreesOutside}
 use Rattle.jnl_format.specs.Info.{info_of}
 use Rattle.jnl_format.specs.Keeping.{IsSame}
 use Rattle.jnl_format.specs.Recovery.{Content, header_of_volume, info_sector_of, journal_in, recovery, replayed}
@@ -19,11 +18,11 @@ use Rattle.jnl_replay.specs.Plan.{FitsPlan, IsPlan, journal_of}
 use Rattle.jnl_replay.specs.declared.plan.Plan.{Plan}
 use Rattle.jnl_store.specs.Spaces.{found, found_in, is_in_form, is_mountable}
 use Rattle.jnl_store.proofs.SpacedTime.{same_volume_self}
-use Rattle.hfs_volume.specs.Aside.{IsAside, IsJournalSector}
+use Rattle.hfs_volume.specs.Aside.{IsAside}
 use Rattle.hfs_volume.specs.Content.{JournalPlace, journal_place, volume_of}
 use Rattle.hfs_serving.specs.Outside.{outside_of}
 use Rattle.hfs_serving.specs.Runs.{StandsAs}
-use Rattle.hfs_serving.specs.Stages.{MayTurn, Turns}
+use Rattle.hfs_serving.specs.Stages.{Turns}
 use Rattle.hfs_serving.proofs.Bridging.{lifted}
 use Rattle.hfs_serving.proofs.Recoveries.{recovery_parts}
 

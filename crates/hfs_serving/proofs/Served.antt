@@ -1,6 +1,6 @@
 -- An image served: what was done before the first line and the lines behind it, as one run from what the image stood for.
-use Rattle.std.proofs.Common.{◌≡◌, ◌⊎◌, ◌<◌, ◌≤◌, ◌++◌, ◌+◌, ◌*◌, ◌/◌, ◌==◌, ℕ, List, [], inl, inr, ⊎_elim, length, refl, sym, ◌∙◌, ap, subst, arith}
-use Rattle.std.specs.Prelude.{IsTrue, None, Result, Ok, Err}
+use Rattle.std.proofs.Common.{◌≡◌, ◌≤◌, ◌++◌, ◌/◌, ◌==◌, ℕ, List, [], inl, inr, ⊎_elim, refl, sym, ◌∙◌, ap, subst, arith}
+use Rattle.std.specs.Prelude.{None, Result, Ok, Err}
 use Rattle.std.proofs.lemmas.Bool.{cases_lt}
 use Rattle.std.proofs.lemmas.List.{append-nil, append_cancel_left}
 use Rattle.sector_disk.specs.Disk.{Candidates, IsImage, LeftNow, OnlyReads, State, content, content_of, only}
@@ -8,39 +8,34 @@ use Rattle.sector_disk.specs.Source.{Stream}
 use Rattle.sector_disk.specs.Space.{Space}
 use Rattle.sector_disk.proofs.Passing.{none_passes}
 use Rattle.sector_disk.proofs.Stages.{image_only}
-use Rattle.volume_header.specs.Refusal.{is_locked}
 use Rattle.hfs_language.specs.Lines.{lines}
-use Rattle.jnl_format.specs.Recovery.{Content, Journal, header_of_volume, info_sector_of, journal_in, recovery, replayed}
+use Rattle.jnl_format.specs.Recovery.{Content, Journal, replayed}
 use Rattle.jnl_format.specs.declared.structures.JnlRefusal.{JnlRefusal}
-use Rattle.jnl_replay.specs.Plan.{FitsPlan, IsPlan, journal_of}
+use Rattle.jnl_replay.specs.Plan.{FitsPlan, journal_of}
 use Rattle.jnl_replay.specs.declared.plan.Plan.{Plan}
 use Rattle.jnl_store.specs.Lists.{IsCapacity}
-use Rattle.jnl_store.specs.Plan.{IsCapacityOf, form_of, rested, span_of}
+use Rattle.jnl_store.specs.Plan.{IsCapacityOf, form_of, span_of}
 use Rattle.jnl_store.specs.Spaces.{found}
-use Rattle.jnl_store.specs.declared.form.ListForm.{ListForm}
 use Rattle.jnl_store.proofs.Attached.{offset_is, size_is}
 use Rattle.jnl_store.proofs.SpacedTime.{found_live}
 use Rattle.jnl_ring.specs.declared.span.Span.{Span}
-use Rattle.hfs_volume.specs.Aside.{AsideIsFree, IsAside}
+use Rattle.hfs_volume.specs.Aside.{IsAside}
 use Rattle.hfs_volume.specs.Content.{JournalPlace, volume_of}
-use Rattle.hfs_volume.specs.Mount.{HasJournal, HoldsAtMost, Mounts, MountsTo, sectors_in_ring}
+use Rattle.hfs_volume.specs.Mount.{HoldsAtMost, Mounts, MountsTo}
 use Rattle.hfs_volume.specs.Reclaim.{none}
-use Rattle.hfs_volume.specs.Run.{Entry, replies_of, tree_after}
+use Rattle.hfs_volume.specs.Run.{replies_of, tree_after}
 use Rattle.hfs_volume.specs.Sound.{IsSound}
 use Rattle.hfs_volume.specs.TreeOf.{tree_of}
 use Rattle.hfs_serving.specs.Beginning.{BeginsRun, MayBegin}
-use Rattle.hfs_serving.specs.Checking.{IsFound}
 use Rattle.hfs_serving.specs.Going.{Knowing}
 use Rattle.hfs_serving.specs.Grounds.{anchor_of}
 use Rattle.hfs_serving.specs.Opening.{MayServe}
 use Rattle.hfs_serving.specs.Outside.{Outside, outside_of}
-use Rattle.hfs_serving.specs.Readying.{IsVersioned, MayReady, Readies, mounted_plan}
+use Rattle.hfs_serving.specs.Readying.{IsVersioned, MayReady, mounted_plan}
 use Rattle.hfs_serving.specs.Refusing.{IsOpened}
 use Rattle.hfs_serving.specs.Runs.{Crashes, KeepsPlace, StandsAs}
 use Rattle.hfs_serving.specs.Stages.{MayTurn, Turns}
 use Rattle.hfs_serving.specs.Steps.{CrashesStep, KeepsRun}
-use Rattle.hfs_serving.specs.Taking.{HasTaken}
-use Rattle.hfs_serving.specs.Top.{AreTaken, KnowsTo, SurvivesTo}
 use Rattle.hfs_serving.proofs.Agreeing.{agrees_self}
 use Rattle.hfs_serving.proofs.Attachable.{capacity_one}
 use Rattle.hfs_serving.proofs.Bridging.{lifted}
@@ -50,7 +45,7 @@ use Rattle.hfs_serving.proofs.Grounding.{outside_by}
 use Rattle.hfs_serving.proofs.Leading.{place_none}
 use Rattle.hfs_serving.proofs.Lists.{content_after-none, replies_of-none}
 use Rattle.hfs_serving.proofs.Mounting.{keeps_case}
-use Rattle.hfs_serving.proofs.Promising.{finds_by, has_none, keeps_from, mount_joins}
+use Rattle.hfs_serving.proofs.Promising.{finds_by, mount_joins}
 use Rattle.hfs_serving.proofs.Recoveries.{recovery_parts}
 use Rattle.hfs_serving.proofs.Replays.{journal_lies}
 use Rattle.hfs_serving.proofs.Staging.{mark_stage_crashes, tidy_stage_crashes}

@@ -1,5 +1,13 @@
 -- A batch whose replies are told.
-use Rattle.std.proofs.Common.{◌≡◌, ◌⊎◌, ◌+◌, ◌++◌, [], ℕ, List, length, take, drop, take-add, inl, inr, ⊎_elim, refl, sym, ◌∙◌, ap, subst}
+use Rattle.std.proofs.Common.{◌≡◌, ◌⊎◌, ◌≤◌, ◌+◌, ◌++◌, [], ℕ, List, length, take, drop, take-add, inl, inr, ⊎_elim, refl, sym, ◌∙◌, ap, arith, subst}
+use Rattle.std.proofs.lemmas.List.{length-map, length-take-le, take_all}
+use Rattle.std.proofs.Math.Seq.{take-append-add}
+use Rattle.hfs_language.specs.declared.reply.Change.{Change}
+use Rattle.hfs_volume.specs.Told.{changes_in}
+use Rattle.hfs_serving.specs.Said.{untold}
+use Rattle.hfs_serving.specs.Watching.{CrashesHeard, ServesHeard}
+use Rattle.hfs_serving.specs.declared.volume.ToTell.{ToTell}
+use Rattle.hfs_serving.proofs.Saying.{changes_in-append, changes_in-none}
 use Rattle.std.specs.Prelude.{Option}
 use Rattle.sector_disk.specs.Space.{Space, AgreesOutside}
 use Rattle.jnl_format.specs.Keeping.{KeepsHeader}
@@ -40,26 +48,33 @@ still_stands knows knows_new committed now shrunk space new mid after stands sti
       (stands.leaves recovered (leaves recovered left)));
 }
 
-module _ (count capacity : ℕ) (shrunk : Option ℕ) (start : Content) (old : Outside) (lines : List (List ℕ)) (knows : Knowing) (replies : List ℕ) (space : Space) (mid : Outside) (batch : ServesBatch count capacity knows start shrunk old lines [] replies space mid) (after : Outside) (tells : TellsOut mid replies after) where
-  text_is : replies ≡ replies_of batch.whole.run
-  text_is = batch.replies ∙ sym batch.whole.told
+module _ (count capacity : ℕ) (shrunk : Option ℕ) (start : Content) (old : Outside) (number : ℕ) (lines : List (List ℕ)) (knows : Knowing) (told : ToTell) (space : Space) (mid : Outside) (batch : ServesBatch count capacity knows start shrunk old number lines untold told space mid) (after : Outside) (tells : TellsOut mid told.replies after) where
+  text_is : told.replies ≡ replies_of batch.whole.run
+  text_is = ap (λ (t : ToTell). t.replies) batch.told ∙ sym (ap (λ (t : ToTell). t.replies) batch.whole.told)
+
+  changes_are : changes_in number batch.whole.run ≡ told.changes
+  changes_are = sym (ap (λ (t : ToTell). t.changes) batch.told ∙ sym (ap (λ (t : ToTell). t.changes) batch.whole.told))
 
   tells_text : TellsOut mid (replies_of batch.whole.run) after
   tells_text = subst (λ (l : List ℕ). TellsOut mid l after) text_is tells
 
-  pub step_serves : (knows_new : Knowing) (new : Space) → after.told ≡ mid.told ++ replies → IsStill space new → ((committed now : Content) (s : Option ℕ) → knows committed now s → knows_new committed now s) → ServesStep count capacity knows_new start shrunk old lines new after
-  step_serves knows_new new told still carries =
+  pub step_serves : (knows_new : Knowing) (new : Space) → after.told ≡ mid.told ++ told.replies → IsStill space new → ((committed now : Content) (s : Option ℕ) → knows committed now s → knows_new committed now s) → ServesStep count capacity knows_new start shrunk old lines new after
+  step_serves knows_new new is_told still carries =
       let whole = batch.whole in
       let last = shrunk_in shrunk whole.run in
       record {
         run = whole.run;
         now = whole.now;
-        serves = batch_ends capacity shrunk start old whole.run whole.now space mid after whole.goes tells_text (told ∙ ap (λ (l : List ℕ). mid.told ++ l) text_is);
+        serves = batch_ends capacity shrunk start old whole.run whole.now space mid after whole.goes tells_text (is_told ∙ ap (λ (l : List ℕ). mid.told ++ l) text_is);
         stands =
             still_stands knows knows_new whole.now whole.now last space new mid after
             (record { known = whole.known; below = whole.goes.below; reads = whole.goes.reads; heads = whole.heads; leaves = whole.goes.leaves }) still (carries whole.now whole.now last) tells.leaves;
         asked = whole.asked;
       }
+
+  pub step_heard : (knows_new : Knowing) (new : Space) → after.told ≡ mid.told ++ told.replies → IsStill space new → ((committed now : Content) (s : Option ℕ) → knows committed now s → knows_new committed now s) → ServesHeard number told.changes count capacity knows_new start shrunk old lines new after
+  unfolding step_serves
+  step_heard knows_new new is_told still carries = (step_serves knows_new new is_told still carries, changes_are)
 
   pub step_tells_partly : CrashesStep capacity start shrunk old lines after
   step_tells_partly = record {
@@ -70,6 +85,10 @@ module _ (count capacity : ℕ) (shrunk : Option ℕ) (start : Content) (old : O
     asked = batch.whole.asked;
   }
 
+  pub partly_heard : CrashesHeard number told.changes capacity start shrunk old lines after
+  unfolding step_tells_partly
+  partly_heard = (step_tells_partly, ap (λ (r : List Entry). changes_in number r) (take_all (length batch.whole.run) batch.whole.run (omega arith)) ∙ changes_are)
+
 pub step_stops : (capacity : ℕ) (shrunk : Option ℕ) (start : Content) (old : Outside) (lines : List (List ℕ)) (after : Outside) → StopsLines capacity start start shrunk old lines after → CrashesStep capacity start shrunk old lines after
 step_stops capacity shrunk start old lines after stopped = record {
   run = stopped.stops.more;
@@ -78,6 +97,10 @@ step_stops capacity shrunk start old lines after stopped = record {
   crashes = stops_crashes capacity shrunk start old stopped.stops.more after stopped.stops.stops;
   asked = stopped.stops.asked;
 }
+
+pub stops_heard : (number capacity : ℕ) (shrunk : Option ℕ) (start : Content) (old : Outside) (lines : List (List ℕ)) (after : Outside) → StopsLines capacity start start shrunk old lines after → CrashesHeard number [] capacity start shrunk old lines after
+unfolding step_stops
+stops_heard number capacity shrunk start old lines after stopped = (step_stops capacity shrunk start old lines after stopped, changes_in-none number)
 
 -- ---- batch after batch
 
@@ -101,6 +124,14 @@ module _ (capacity : ℕ) (shrunk : Option ℕ) (start : Content) (old : Outside
     asked = step.asked;
   }
 
+  pub none_heard : (knows : Knowing) (space : Space) → Stands knows start start shrunk space old → ServesHeard 0 [] 0 capacity knows start shrunk old lines space old
+  unfolding step_none
+  none_heard knows space stands = (step_none knows space stands, changes_in-none 0)
+
+  pub ends_heard : (number : ℕ) (heard : List Change) (count : ℕ) (knows : Knowing) (space : Space) (new : Outside) → ServesHeard number heard count capacity knows start shrunk old lines space new → CrashesHeard number heard capacity start shrunk old lines new
+  unfolding step_ends
+  ends_heard number heard count knows space new step = (step_ends count knows space new step.0, ap (λ (r : List Entry). changes_in number r) (take_all (length step.0.run) step.0.run (omega arith)) ∙ step.1)
+
   module _ (at : ℕ) (knows : Knowing) (space : Space) (mid : Outside) (first : ServesStep at capacity knows start shrunk old lines space mid) where
     asked_both : (run : List Entry) (count : ℕ) → lines_of run ≡ take count (drop at lines) → lines_of (first.run ++ run) ≡ take (at + count) lines
     asked_both run count asked =
@@ -123,3 +154,23 @@ module _ (capacity : ℕ) (shrunk : Option ℕ) (start : Content) (old : Outside
       crashes = crashes_both capacity shrunk start old mid after first.run second.run first.now first.serves second.known second.crashes;
       asked = asked_both second.run second.count second.asked;
     }
+
+    -- the same of what watchers heard
+    module _ (inside : at ≤ length lines) (heard : List Change) (is : changes_in 0 first.run ≡ heard) where
+      at_is : 0 + length first.run ≡ at
+      at_is = omega (arith, ap (λ (l : List (List ℕ)). length l) first.asked, length-map first.run (λ (e : Entry). e.line), length-take-le at lines inside)
+
+      pub both_heard : (more : List Change) (count : ℕ) (knows_new : Knowing) (new : Space) (after : Outside) → ServesHeard at more count capacity knows_new first.now (shrunk_in shrunk first.run) mid (drop at lines) new after → ServesHeard 0 (heard ++ more) (at + count) capacity knows_new start shrunk old lines new after
+      unfolding step_both
+      both_heard more count knows_new new after second = (
+        step_both count knows_new new after second.0,
+        changes_in-append 0 first.run second.0.run ∙ ap (λ (n : ℕ). changes_in 0 first.run ++ changes_in n second.0.run) at_is ∙ ap (λ (l : List Change). l ++ changes_in at second.0.run) is ∙ ap (λ (l : List Change). heard ++ l) second.1,
+      )
+
+      pub crash_both_heard : (more : List Change) (after : Outside) → CrashesHeard at more capacity first.now (shrunk_in shrunk first.run) mid (drop at lines) after → CrashesHeard 0 (heard ++ more) capacity start shrunk old lines after
+      unfolding step_crash
+      crash_both_heard more after second = (
+        step_crash after second.0,
+        ap (λ (r : List Entry). changes_in 0 r) (take-append-add first.run second.0.run second.0.known) ∙ changes_in-append 0 first.run (take second.0.known second.0.run)
+            ∙ ap (λ (n : ℕ). changes_in 0 first.run ++ changes_in n (take second.0.known second.0.run)) at_is ∙ ap (λ (l : List Change). l ++ changes_in at (take second.0.known second.0.run)) is ∙ ap (λ (l : List Change). heard ++ l) second.1,
+      )

@@ -1,5 +1,5 @@
 -- Lines of a batch before a `sync`.
-use Rattle.std.proofs.Common.{◌≡◌, ◌≤◌, ◌<◌, ◌+◌, ◌++◌, ◌∷◌, ◌↔◌, [], zero, suc, ⊎_elim, Bool, false, ℕ, List, IsTrue, take, refl, sym, subst, arith}
+use Rattle.std.proofs.Common.{◌≡◌, ◌≤◌, ◌<◌, ◌+◌, ◌++◌, ◌∷◌, ◌↔◌, [], zero, suc, ⊎_elim, Bool, false, ℕ, List, IsTrue, take, subst, arith}
 use Rattle.std.proofs.lemmas.Bool.{cases_lt}
 use Rattle.std.proofs.lemmas.List.Elements.{All-nil, All-push}
 use Rattle.hfs_serving.specs.Going.{HasNoSync, sync_line}

@@ -1,18 +1,18 @@
 -- The version of systems that keep the journal, written into the header of a volume whose journal is empty.
-use Rattle.std.proofs.Common.{◌≡◌, ◌≢◌, ◌⊎◌, ◌<◌, ◌≤◌, ◌+◌, ◌*◌, ◌/◌, ◌%◌, ◌^◌, ◌==◌, ℕ, Bool, true, false, ◌&&◌, ◌||◌, List, [], ◌∷◌, ◌++◌, Contains, inl, inr, ⊎_elim, length, take, drop, refl, sym, ◌∙◌, ap, subst, arith, eqb, cond}
-use Rattle.std.specs.Prelude.{Option, None, is_none, IsTrue, Result, Ok, Err, nat_le, nat_lt}
+use Rattle.std.proofs.Common.{◌≡◌, ◌≢◌, ◌⊎◌, ◌<◌, ◌≤◌, ◌+◌, ◌*◌, ◌/◌, ◌==◌, ℕ, ◌&&◌, ◌||◌, List, [], ◌∷◌, ◌++◌, Contains, inl, inr, ⊎_elim, length, take, drop, refl, sym, ◌∙◌, ap, subst, arith, eqb, cond}
+use Rattle.std.specs.Prelude.{is_none, Result, Ok, Err, nat_le, nat_lt}
 use Rattle.std.proofs.lemmas.Bool.{and_parts, and_from, cases_eq, eq-eqb, eqb-true, leb-true, ltb-true, le-leb, lt-ltb, or_cases, or_left, or_right}
-use Rattle.std.proofs.lemmas.List.{ext_get_or, get_or-map, get_or_past}
+use Rattle.std.proofs.lemmas.List.{ext_get_or, get_or-map}
 use Rattle.volume_header.specs.Header.{header_of}
 use Rattle.volume_header.specs.Refusal.{header_refusal}
 use Rattle.volume_header.specs.declared.header.VolumeHeader.{VolumeHeader}
 use Rattle.sector_disk.specs.Lists.{sector, put_sectors}
-use Rattle.sector_disk.specs.Disk.{IsImage, only, Mixes}
+use Rattle.sector_disk.specs.Disk.{IsImage, only}
 use Rattle.sector_disk.specs.Space.{AgreesOutside}
 use Rattle.sector_disk.proofs.Stages.{length-only}
 use Rattle.jnl_format.specs.Header.{header_bytes}
 use Rattle.jnl_format.specs.Info.{info_of, info_fault, holds, IsInfo}
-use Rattle.jnl_format.specs.Recovery.{Content, Journal, header_of_volume, info_sector_of, journal_in, journaling_version, recovery, replayed}
+use Rattle.jnl_format.specs.Recovery.{Content, Journal, header_of_volume, info_sector_of, journal_in, recovery, replayed}
 use Rattle.jnl_format.specs.Text.{is_same_volume}
 use Rattle.jnl_format.specs.declared.structures.Info.{Info}
 use Rattle.jnl_format.specs.declared.structures.Header.{Header}
@@ -29,17 +29,13 @@ use Rattle.jnl_store.specs.Spaces.{found, found_in, is_in_form, is_mountable}
 use Rattle.jnl_store.proofs.AtRest.{rested_rests}
 use Rattle.jnl_store.proofs.Attached.{holds_after, length-after, offset_is, size_is}
 use Rattle.jnl_store.proofs.Journals.{HoldsJournal}
-use Rattle.jnl_store.proofs.One.{length-one, one_else, one_here, mixed_else, mixed_here}
+use Rattle.jnl_store.proofs.One.{length-one, one_else, one_here}
 use Rattle.jnl_store.proofs.Quiet.{header_spells, info_whole, plan_found, rest_replayed, rest_text}
 use Rattle.jnl_store.proofs.SpacedTime.{found_live}
 use Rattle.hfs_volume.specs.Aside.{IsJournalSector}
-use Rattle.hfs_volume.specs.Attributing.{RemountKeeps}
-use Rattle.hfs_volume.specs.Content.{JournalPlace, VolumeState, volume_of}
-use Rattle.hfs_volume.specs.Sound.{IsSound}
+use Rattle.hfs_volume.specs.Content.{JournalPlace, volume_of}
 use Rattle.hfs_serving.specs.Readying.{with_version}
-use Rattle.hfs_serving.specs.Runs.{KeepsPlace, SetsVersion, StandsAs, version_header}
-use Rattle.hfs_serving.proofs.Agreeing.{agrees_more}
-use Rattle.hfs_serving.proofs.Reheading.{sets_version, version_place, volume_stays}
+use Rattle.hfs_serving.specs.Runs.{version_header}
 use Rattle.hfs_serving.proofs.Replays.{journal_lies, start_info}
 
 -- ---- what is found hangs on the place and the sizes of a journal alone

@@ -1,5 +1,5 @@
 -- A store and a volume that come into service.
-use Rattle.std.specs.Prelude.{◌≡◌, ◌<◌, ◌≤◌, ℕ, List, [], length, IsTrue}
+use Rattle.std.specs.Prelude.{◌≡◌, ◌<◌, ◌≤◌, ℕ, [], length, IsTrue}
 use Rattle.sector_disk.specs.Disk.{State, content, only}
 use Rattle.sector_disk.specs.Lists.{IsSector, sector}
 use Rattle.sector_disk.specs.Space.{Space}

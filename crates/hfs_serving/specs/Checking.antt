@@ -1,5 +1,5 @@
 -- What a mount finds of a volume before it writes anything, and why it refuses one.
-use Rattle.std.specs.Prelude.{◌≡◌, ℕ, List, Contains, Result, Ok, Err}
+use Rattle.std.specs.Prelude.{ℕ, List, Contains, Result, Ok, Err}
 use Rattle.jnl_format.specs.Recovery.{Content, replayed}
 use Rattle.jnl_replay.specs.Plan.{journal_of}
 use Rattle.jnl_replay.specs.declared.plan.Plan.{Plan}

@@ -1,14 +1,16 @@
 -- A volume that goes on within a batch: what it stands for, and what its calls make of it.
-use Rattle.std.specs.Prelude.{◌≡◌, ◌≢◌, All, codes, ℕ, Bool, true, false, List, [], ◌∷◌, ◌++◌, take, Option}
+use Rattle.std.specs.Prelude.{◌≡◌, ◌≢◌, All, codes, ℕ, Bool, true, false, List, [], ◌∷◌, take, Option}
 use Rattle.sector_disk.specs.Space.{Space}
 use Rattle.jnl_format.specs.Recovery.{Content}
 use Rattle.hfs_volume.specs.Content.{volume_of}
 use Rattle.hfs_volume.specs.Reclaim.{IsTidied, IsAtRest}
-use Rattle.hfs_volume.specs.Run.{Entry, IsServed, shrunk_in, shrunk_after, lines_of, replies_of}
+use Rattle.hfs_volume.specs.Run.{Entry, IsServed, shrunk_in, shrunk_after, lines_of}
 use Rattle.hfs_serving.specs.Grounds.{KeepsHeading}
 use Rattle.hfs_serving.specs.Outside.{Outside}
 use Rattle.hfs_serving.specs.Runs.{KeepsPlace, LeadsToRest}
+use Rattle.hfs_serving.specs.Said.{joined, said_of}
 use Rattle.hfs_serving.specs.Serving.{IsDurable, IsRead, IsAsDurable, Goes, Stops}
+use Rattle.hfs_serving.specs.declared.volume.ToTell.{ToTell}
 use Rattle.hfs_serving.specs.declared.volume.Next.{Next}
 use Rattle.hfs_serving.specs.declared.volume.Next.TheVariants as next
 use Rattle.hfs_serving.specs.declared.volume.Step.{Step}
@@ -47,8 +49,8 @@ pub record Tidied (capacity : ℕ) (knows : Knowing) (committed now : Content) (
   pub heads : KeepsHeading space
   pub known : knows committed next shrunk
 
--- a line was answered, and its reply is this text
-pub record Answered (capacity : ℕ) (knows : Knowing) (committed now : Content) (shrunk : Option ℕ) (space : Space) (line text : List ℕ) : Type 0 where
+-- a line of this number was answered, and this is to be told of it
+pub record Answered (capacity : ℕ) (knows : Knowing) (committed now : Content) (shrunk : Option ℕ) (space : Space) (number : ℕ) (line : List ℕ) (said : ToTell) : Type 0 where
   pub entry : Entry
   pub line_is : entry.line ≡ line
   pub before : entry.before ≡ now
@@ -57,7 +59,7 @@ pub record Answered (capacity : ℕ) (knows : Knowing) (committed now : Content)
   pub reads : IsRead entry.after space
   pub heads : KeepsHeading space
   pub known : knows committed entry.after (shrunk_after shrunk entry)
-  pub told : replies_of (entry ∷ []) ≡ text
+  pub told : said_of number (entry ∷ []) ≡ said
 
 -- what a step of housekeeping answers
 abbrev pub TidiesTo : Next → ℕ → Knowing → Content → Content → Option ℕ → Space → Type 0
@@ -72,15 +74,15 @@ is_answered step.Again = false
 is_answered step.CommitFirst = false
 
 -- what a step of a line answers: the line was answered, a step of housekeeping was made for it, or a commit is wanted first
-abbrev pub AnswersTo : Step → ℕ → Knowing → Content → Content → Option ℕ → Space → List ℕ → List ℕ → List ℕ → Type 0
-AnswersTo step.Answered capacity knows committed now shrunk space line before after = (text : List ℕ) × (after ≡ before ++ text) × Answered capacity knows committed now shrunk space line text
-AnswersTo step.Again capacity knows committed now shrunk space line before after = (after ≡ before) × Tidied capacity knows committed now shrunk space
-AnswersTo step.CommitFirst capacity knows committed now shrunk space line before after = (after ≡ before) × Stays knows committed now shrunk space
+abbrev pub AnswersTo : Step → ℕ → Knowing → Content → Content → Option ℕ → Space → ℕ → List ℕ → ToTell → ToTell → Type 0
+AnswersTo step.Answered capacity knows committed now shrunk space number line before after = (said : ToTell) × (after ≡ joined before said) × Answered capacity knows committed now shrunk space number line said
+AnswersTo step.Again capacity knows committed now shrunk space number line before after = (after ≡ before) × Tidied capacity knows committed now shrunk space
+AnswersTo step.CommitFirst capacity knows committed now shrunk space number line before after = (after ≡ before) × Stays knows committed now shrunk space
 
 -- ---- stretches within a batch
 
--- Its entries are these lines, and their replies these bytes.
-pub record GoesOn (capacity : ℕ) (knows : Knowing) (committed now : Content) (shrunk : Option ℕ) (old : Outside) (lines : List (List ℕ)) (text : List ℕ) (space : Space) (new : Outside) : Type 0 where
+-- Its entries are these lines, of which the first has this number, and this is to be told of them.
+pub record GoesOn (capacity : ℕ) (knows : Knowing) (committed now : Content) (shrunk : Option ℕ) (old : Outside) (number : ℕ) (lines : List (List ℕ)) (said : ToTell) (space : Space) (new : Outside) : Type 0 where
   pub more : List Entry
   pub last : Content
   pub next : Content
@@ -88,7 +90,7 @@ pub record GoesOn (capacity : ℕ) (knows : Knowing) (committed now : Content) (
   pub heads : KeepsHeading space
   pub known : knows last next (shrunk_in shrunk more)
   pub asked : lines_of more ≡ lines
-  pub told : replies_of more ≡ text
+  pub told : said_of number more ≡ said
 
 -- without an entry
 pub record GoesTidy (capacity : ℕ) (knows : Knowing) (committed now : Content) (shrunk : Option ℕ) (old : Outside) (space : Space) (new : Outside) : Type 0 where
@@ -109,26 +111,26 @@ pub record StopsOn (capacity : ℕ) (committed now : Content) (shrunk : Option �
   pub asked : lines_of more ≡ lines
   pub stops : Stops capacity shrunk committed now old more new
 
--- All that the volume stands for is committed, and nothing of it is told: these are the lines and their replies.
-pub record GoesWhole (capacity : ℕ) (knows : Knowing) (start : Content) (shrunk : Option ℕ) (old : Outside) (lines : List (List ℕ)) (text : List ℕ) (space : Space) (new : Outside) : Type 0 where
+-- All that the volume stands for is committed, and nothing of it is told: these are the lines, and this is to be told of them.
+pub record GoesWhole (capacity : ℕ) (knows : Knowing) (start : Content) (shrunk : Option ℕ) (old : Outside) (number : ℕ) (lines : List (List ℕ)) (said : ToTell) (space : Space) (new : Outside) : Type 0 where
   pub run : List Entry
   pub now : Content
   pub goes : Goes capacity shrunk start start old run now now space new
   pub heads : KeepsHeading space
   pub known : knows now now (shrunk_in shrunk run)
   pub asked : lines_of run ≡ lines
-  pub told : replies_of run ≡ text
+  pub told : said_of number run ≡ said
 
 -- the line, where it was answered
 abbrev pub line_if : Bool → List ℕ → List (List ℕ)
 line_if true line = line ∷ []
 line_if false line = []
 
--- A line was served, or was left because a commit is wanted before it; housekeeping went on before that. `before` and `after` are the replies.
-pub record ServesLine (answered : Bool) (capacity : ℕ) (knows : Knowing) (committed now : Content) (shrunk : Option ℕ) (old : Outside) (line before after : List ℕ) (space : Space) (new : Outside) : Type 0 where
-  pub text : List ℕ
-  pub replies : after ≡ before ++ text
-  pub goes : GoesOn capacity knows committed now shrunk old (line_if answered line) text space new
+-- A line was served, or was left because a commit is wanted before it; housekeeping went on before that. `before` and `after` are what is to be told.
+pub record ServesLine (answered : Bool) (capacity : ℕ) (knows : Knowing) (committed now : Content) (shrunk : Option ℕ) (old : Outside) (number : ℕ) (line : List ℕ) (before after : ToTell) (space : Space) (new : Outside) : Type 0 where
+  pub said : ToTell
+  pub told : after ≡ joined before said
+  pub goes : GoesOn capacity knows committed now shrunk old number (line_if answered line) said space new
 
 -- the line that asks that all be made durable
 abbrev pub sync_line : List ℕ
@@ -139,10 +141,10 @@ abbrev pub HasNoSync : ℕ → List (List ℕ) → Type 0
 HasNoSync count lines = All (λ line. line ≢ sync_line) (take count lines)
 
 -- The first of these lines were served.
-pub record ServesLines (count : ℕ) (capacity : ℕ) (knows : Knowing) (committed now : Content) (shrunk : Option ℕ) (old : Outside) (lines : List (List ℕ)) (before after : List ℕ) (space : Space) (new : Outside) : Type 0 where
-  pub text : List ℕ
-  pub replies : after ≡ before ++ text
-  pub goes : GoesOn capacity knows committed now shrunk old (take count lines) text space new
+pub record ServesLines (count : ℕ) (capacity : ℕ) (knows : Knowing) (committed now : Content) (shrunk : Option ℕ) (old : Outside) (number : ℕ) (lines : List (List ℕ)) (before after : ToTell) (space : Space) (new : Outside) : Type 0 where
+  pub said : ToTell
+  pub told : after ≡ joined before said
+  pub goes : GoesOn capacity knows committed now shrunk old number (take count lines) said space new
 
 -- A fault ended it after some of these lines.
 pub record StopsLines (capacity : ℕ) (committed now : Content) (shrunk : Option ℕ) (old : Outside) (lines : List (List ℕ)) (new : Outside) : Type 0 where
@@ -150,7 +152,7 @@ pub record StopsLines (capacity : ℕ) (committed now : Content) (shrunk : Optio
   pub stops : StopsOn capacity committed now shrunk old (take count lines) new
 
 -- The first of these lines were served, and all of it is committed.
-pub record ServesBatch (count : ℕ) (capacity : ℕ) (knows : Knowing) (start : Content) (shrunk : Option ℕ) (old : Outside) (lines : List (List ℕ)) (before after : List ℕ) (space : Space) (new : Outside) : Type 0 where
-  pub text : List ℕ
-  pub replies : after ≡ before ++ text
-  pub whole : GoesWhole capacity knows start shrunk old (take count lines) text space new
+pub record ServesBatch (count : ℕ) (capacity : ℕ) (knows : Knowing) (start : Content) (shrunk : Option ℕ) (old : Outside) (number : ℕ) (lines : List (List ℕ)) (before after : ToTell) (space : Space) (new : Outside) : Type 0 where
+  pub said : ToTell
+  pub told : after ≡ joined before said
+  pub whole : GoesWhole capacity knows start shrunk old number (take count lines) said space new

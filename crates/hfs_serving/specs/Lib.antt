@@ -6,8 +6,10 @@ pub mod Refusing
 pub mod Top
 pub mod Stages
 pub mod Grounds
+pub mod Said
 pub mod Going
 pub mod Steps
+pub mod Watching
 pub mod Beginning
 pub mod Closing
 pub mod Taking

@@ -1,12 +1,12 @@
 //! A batch: lines are answered in memory, housekeeping rests before each, and one commit makes all durable.
-ghost use Rattle.std.specs.Prelude.{◌≡◌, ◌↔◌, ◌≤◌, ◌<◌, [], ℕ, Bool, Option, IsTrue, IfOk, OnOk, OnErr, length};
+ghost use Rattle.std.specs.Prelude.{◌≡◌, ◌↔◌, ◌≤◌, ◌<◌, ◌+◌, [], ℕ, Bool, Option, IsTrue, IfOk, OnOk, OnErr, length};
 ghost use Rattle.jnl_format.specs.Recovery.{Content};
 ghost use Rattle.hfs_serving.specs.Faults.{Faults};
 ghost use Rattle.hfs_serving.specs.Going.{GoesTidy, HasNoSync, ServesBatch, ServesLine, ServesLines, SomeStands, Stands, StopsLines, StopsOn, is_answered, sync_line};
 
 use crate::basis::Ground;
 use crate::housekeeping::tidy;
-use crate::volume::{Step, Volume};
+use crate::volume::{Step, ToTell, Volume};
 use hx_bytes::{Bytes, Trouble};
 
 /// The most lines of one batch.
@@ -17,14 +17,15 @@ pub const MOST_LINES: usize = 32;
 pub fn serve_line<V: Volume, G: Ground>(
     volume: &mut V,
     base: &mut G,
+    number: u64,
     line: &[u8],
     first: bool,
-    replies: &mut Bytes,
+    told: &mut ToTell,
 ) -> Result<bool, Trouble>
     requires serves { (capacity : ℕ) × G.serves base.old capacity × (G.taken base.old ≤ capacity) }
     requires stands { IsTrue (G.space base.old).tells → SomeStands (V.knows volume.old (G.space base.old)) (G.space base.old) (G.outside base.old) }
     ensures goes { IsTrue (G.space base.old).tells → (capacity : ℕ) (committed now : Content) (shrunk : Option ℕ) → Stands (V.knows volume.old (G.space base.old) capacity) committed now shrunk (G.space base.old) (G.outside base.old)
-        → IfOk result (λ answered. ServesLine answered capacity (V.knows volume.new (G.space base.new) capacity) committed now shrunk (G.outside base.old) line.now replies.old replies.new (G.space base.new) (G.outside base.new)) }
+        → IfOk result (λ answered. ServesLine answered capacity (V.knows volume.new (G.space base.new) capacity) committed now shrunk (G.outside base.old) number line.now told.old told.new (G.space base.new) (G.outside base.new)) }
     ensures stops { IsTrue (G.space base.old).tells → (capacity : ℕ) (committed now : Content) (shrunk : Option ℕ) → Stands (V.knows volume.old (G.space base.old) capacity) committed now shrunk (G.space base.old) (G.outside base.old)
         → OnErr result (StopsOn capacity committed now shrunk (G.outside base.old) [] (G.outside base.new)) }
     ensures still { (capacity : ℕ) → G.serves base.old capacity → G.taken base.old ≤ capacity → OnOk result (G.serves base.new capacity × (G.taken base.new ≤ capacity)) }
@@ -36,7 +37,7 @@ pub fn serve_line<V: Volume, G: Ground>(
         return Ok(false);
     }
     for _ in 0..4_294_967_295u64 {
-        let step = volume.answer(base, line, replies)?;
+        let step = volume.answer(base, number, line, told)?;
         if is_answered(step) {
             return Ok(true);
         }
@@ -98,13 +99,15 @@ fn is_sync(line: &[u8]) -> bool
 fn serve_lines<V: Volume, G: Ground>(
     volume: &mut V,
     base: &mut G,
+    number: u64,
     lines: &[Bytes],
-    replies: &mut Bytes,
+    told: &mut ToTell,
 ) -> Result<usize, Trouble>
     requires serves { (capacity : ℕ) × G.serves base.old capacity × (G.taken base.old ≤ capacity) }
+    requires numbers { number + length lines.now ≤ 4294967295 }
     requires stands { IsTrue (G.space base.old).tells → SomeStands (V.knows volume.old (G.space base.old)) (G.space base.old) (G.outside base.old) }
     ensures goes { IsTrue (G.space base.old).tells → (capacity : ℕ) (committed now : Content) (shrunk : Option ℕ) → Stands (V.knows volume.old (G.space base.old) capacity) committed now shrunk (G.space base.old) (G.outside base.old)
-        → IfOk result (λ count. ServesLines count capacity (V.knows volume.new (G.space base.new) capacity) committed now shrunk (G.outside base.old) lines.now replies.old replies.new (G.space base.new) (G.outside base.new)) }
+        → IfOk result (λ count. ServesLines count capacity (V.knows volume.new (G.space base.new) capacity) committed now shrunk (G.outside base.old) number lines.now told.old told.new (G.space base.new) (G.outside base.new)) }
     ensures stops { IsTrue (G.space base.old).tells → (capacity : ℕ) (committed now : Content) (shrunk : Option ℕ) → Stands (V.knows volume.old (G.space base.old) capacity) committed now shrunk (G.space base.old) (G.outside base.old)
         → OnErr result (StopsLines capacity committed now shrunk (G.outside base.old) lines.now (G.outside base.new)) }
     ensures few { IfOk result (λ count. count ≤ length lines.now) }
@@ -119,7 +122,14 @@ fn serve_lines<V: Volume, G: Ground>(
         if at == MOST_LINES {
             return Ok(at);
         }
-        if !serve_line(volume, base, lines[at].as_slice(), at == 0, replies)? {
+        if !serve_line(
+            volume,
+            base,
+            number + at as u64,
+            lines[at].as_slice(),
+            at == 0,
+            told,
+        )? {
             return Ok(at);
         }
         if is_sync(lines[at].as_slice()) {
@@ -134,14 +144,16 @@ fn serve_lines<V: Volume, G: Ground>(
 pub fn serve_batch<V: Volume, G: Ground>(
     volume: &mut V,
     base: &mut G,
+    number: u64,
     lines: &[Bytes],
-    replies: &mut Bytes,
+    told: &mut ToTell,
 ) -> Result<usize, Trouble>
     requires serves { (capacity : ℕ) × G.serves base.old capacity × (G.taken base.old ≤ capacity) }
+    requires numbers { number + length lines.now ≤ 4294967295 }
     requires stands { IsTrue (G.space base.old).tells → SomeStands (V.knows volume.old (G.space base.old)) (G.space base.old) (G.outside base.old) }
     // At Ok the first lines are served, and a crash leaves all that they changed.
     ensures serves { IsTrue (G.space base.old).tells → (capacity : ℕ) (start : Content) (shrunk : Option ℕ) → Stands (V.knows volume.old (G.space base.old) capacity) start start shrunk (G.space base.old) (G.outside base.old)
-        → IfOk result (λ count. ServesBatch count capacity (V.knows volume.new (G.space base.new) capacity) start shrunk (G.outside base.old) lines.now replies.old replies.new (G.space base.new) (G.outside base.new)) }
+        → IfOk result (λ count. ServesBatch count capacity (V.knows volume.new (G.space base.new) capacity) start shrunk (G.outside base.old) number lines.now told.old told.new (G.space base.new) (G.outside base.new)) }
     // A fault leaves what was committed, or the content after some lines.
     ensures stops { IsTrue (G.space base.old).tells → (capacity : ℕ) (start : Content) (shrunk : Option ℕ) → Stands (V.knows volume.old (G.space base.old) capacity) start start shrunk (G.space base.old) (G.outside base.old)
         → OnErr result (StopsLines capacity start start shrunk (G.outside base.old) lines.now (G.outside base.new)) }
@@ -154,7 +166,7 @@ pub fn serve_batch<V: Volume, G: Ground>(
     ensures anchor { G.anchor base.new ≡ G.anchor base.old }
     ensures faults { Faults (G.failed base.old) (G.space base.old) (G.failed base.new) (G.space base.new) result }
 {
-    let count = serve_lines(volume, base, lines, replies)?;
+    let count = serve_lines(volume, base, number, lines, told)?;
     volume.commit(base)?;
     Ok(count)
 }

@@ -37,4 +37,4 @@ pub use serving::serve_image;
 pub use starting::begin_run;
 pub use taking::{LONGEST_LINE, serve_source};
 pub use telling::{Stop, Teller, serve_step};
-pub use volume::{Next, Step, Volume};
+pub use volume::{Next, Step, ToTell, Volume};

@@ -24,12 +24,14 @@ use jnl_store::Space;
 use line_source::Input;
 use sector_disk::{Rig, Source};
 use std::alloc::Global;
+use watchers::Watcher;
 
 /// Serves the lines of a source to its end over a journal's store and its rig, and ends the run. Its promises hold whatever ended it.
 pub fn run<V: Volume, R: Rig, S: Source>(
     alloc: Global,
     volume: &mut V,
     base: &mut Space<'_, '_, R>,
+    watchers: &mut Vec<Box<dyn Watcher>>,
     source: &mut S,
 ) -> Result<(), Stop>
     requires serves { (capacity : ℕ) × IsInService base.old.store.now (R.state base.old.disk.now) capacity × (puts_of base.old.store.now ≡ []) }
@@ -61,7 +63,7 @@ pub fn run<V: Volume, R: Rig, S: Source>(
 {
     aside_is_free();
     let mut input = Input::new(alloc)?;
-    serve_source(alloc, volume, base, &mut input, source)?;
+    serve_source(alloc, volume, base, watchers, &mut input, source)?;
     end_run(volume, base)?;
     Ok(())
 }

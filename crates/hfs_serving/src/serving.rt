@@ -31,6 +31,7 @@ use jnl_replay::Plan;
 use jnl_store::{Space, Store};
 use sector_disk::{Rig, SectorDisk, Source};
 use std::alloc::Global;
+use watchers::Watcher;
 
 /// Mounts an image and serves the lines of a source to its end, with so many slots for sectors of the content in memory. A refusal comes exactly
 /// where one stands, and then nothing is written and no line is taken.
@@ -39,6 +40,7 @@ pub fn serve_image<V: Volume, C: Checker, R: Rig, S: Source>(
     checker: &mut C,
     cache: u32,
     rig: &mut R,
+    watchers: &mut Vec<Box<dyn Watcher>>,
     source: &mut S,
 ) -> Result<Result<(), MountRefusal>, Stop>
     // Each image that a crash leaves mounts to the tree after some of the lines, and each line whose reply was told is among them, whatever ended
@@ -60,7 +62,7 @@ pub fn serve_image<V: Volume, C: Checker, R: Rig, S: Source>(
 {
     match find_image(alloc, checker, rig)? {
         Ok(plan) => {
-            serve_found::<V, R, S>(alloc, plan, cache, rig, source)?;
+            serve_found::<V, R, S>(alloc, plan, cache, rig, watchers, source)?;
             Ok(Ok(()))
         }
         Err(why) => Ok(Err(why)),
@@ -73,6 +75,7 @@ fn serve_found<V: Volume, R: Rig, S: Source>(
     plan: Plan,
     cache: u32,
     rig: &mut R,
+    watchers: &mut Vec<Box<dyn Watcher>>,
     source: &mut S,
 ) -> Result<(), Stop>
     requires fits { FitsPlan (R.state rig.old).sectors plan }
@@ -89,7 +92,7 @@ fn serve_found<V: Volume, R: Rig, S: Source>(
 {
     aside_is_free();
     let ready = ready_image(rig, &plan)?;
-    serve_ready::<V, R, S>(alloc, &ready, cache, rig, source)
+    serve_ready::<V, R, S>(alloc, &ready, cache, rig, watchers, source)
 }
 
 // Serves an image that is ready for a store.
@@ -98,6 +101,7 @@ fn serve_ready<V: Volume, R: Rig, S: Source>(
     plan: &Plan,
     cache: u32,
     rig: &mut R,
+    watchers: &mut Vec<Box<dyn Watcher>>,
     source: &mut S,
 ) -> Result<(), Stop>
     requires fits { FitsPlan (R.state rig.old).sectors plan.now }
@@ -121,7 +125,7 @@ fn serve_ready<V: Volume, R: Rig, S: Source>(
         disk: rig,
     };
     let mut volume = attach_volume::<V, Space<'_, '_, R>>(alloc, &mut base, capacity)?;
-    run(alloc, &mut volume, &mut base, source)
+    run(alloc, &mut volume, &mut base, watchers, source)
 }
 
 // The store of a disk that is ready with this plan, with the memory for one transaction.

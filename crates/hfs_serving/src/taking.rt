@@ -1,12 +1,16 @@
 //! The lines of a source, batch after batch.
-ghost use Rattle.std.specs.Prelude.{◌≡◌, ◌≢◌, ◌≤◌, ◌<◌, ◌++◌, [], ℕ, List, Option, IsErrOf, IsTrue, OnOk, OnErr, length};
+ghost use Rattle.std.specs.Prelude.{◌≡◌, ◌≢◌, ◌≤◌, ◌<◌, ◌++◌, [], ℕ, List, Option, IsErrOf, IsTrue, OnOk, OnErr, false, length};
+ghost use Rattle.std.specs.List.{AllByRecursion};
 ghost use Rattle.jnl_format.specs.Recovery.{Content};
 ghost use Rattle.sector_disk.specs.Cause.{Rose};
 ghost use Rattle.hfs_language.specs.Lines.{lines};
+ghost use Rattle.hfs_language.specs.declared.reply.Change.{Change};
 ghost use Rattle.hfs_serving.specs.Faults.{StopFaults};
 ghost use Rattle.hfs_serving.specs.Going.{Stands};
 ghost use Rattle.hfs_serving.specs.Steps.{CrashesStep, ServesStep, SomeWhole};
 ghost use Rattle.hfs_serving.specs.Taking.{HasTaken};
+ghost use Rattle.hfs_serving.specs.Watching.{CrashesHeard};
+ghost use Rattle.watchers.specs.Told.{AreTold};
 ghost use Rattle.line_source.specs.Batch.{AddsLines};
 ghost use Rattle.line_source.specs.Cause.{IsCause};
 ghost use Rattle.line_source.specs.Input.{ahead, SameSource, TakesLines};
@@ -18,6 +22,7 @@ use hx_bytes::Bytes;
 use line_source::{Input, drop_first};
 use sector_disk::Source;
 use std::alloc::Global;
+use watchers::Watcher;
 
 /// How many bytes a line has at most, without its newline.
 pub const LONGEST_LINE: usize = 140_000;
@@ -31,6 +36,7 @@ pub fn serve_source<V: Volume, G: Teller, S: Source>(
     alloc: Global,
     volume: &mut V,
     base: &mut G,
+    watchers: &mut Vec<Box<dyn Watcher>>,
     input: &mut Input,
     source: &mut S,
 ) -> Result<(), Stop>
@@ -46,6 +52,11 @@ pub fn serve_source<V: Volume, G: Teller, S: Source>(
         × (IsTrue (S.stream source.old).tells → HasTaken input.old (S.stream source.old) texts (S.stream source.new))
         × (IsTrue (G.space base.old).tells → (capacity : ℕ) (start : Content) (shrunk : Option ℕ) → Stands (V.knows volume.old (G.space base.old) capacity) start start shrunk (G.space base.old) (G.outside base.old)
         → CrashesStep capacity start shrunk (G.outside base.old) texts (G.outside base.new))) }
+    // Whatever ended it, watchers are told what some of the lines changed that were taken, each change once, and each crash leaves these lines.
+    ensures watched { (heard : List Change) × (AllByRecursion (λ w. leaves w ≡ false) watchers.old.items → AreTold (λ w. told w) (λ w. leaves w) heard watchers.old.items watchers.new.items)
+        × (texts : List (List ℕ)) × (IsTrue (S.stream source.old).tells → HasTaken input.old (S.stream source.old) texts (S.stream source.new))
+        × (IsTrue (G.space base.old).tells → (capacity : ℕ) (start : Content) (shrunk : Option ℕ) → Stands (V.knows volume.old (G.space base.old) capacity) start start shrunk (G.space base.old) (G.outside base.old)
+        → CrashesHeard 0 heard capacity start shrunk (G.outside base.old) texts (G.outside base.new)) }
     ensures still { (capacity : ℕ) → G.serves base.old capacity → G.taken base.old ≤ capacity → OnOk result (G.serves base.new capacity × (G.taken base.new ≤ capacity)) }
     ensures nothing { (capacity : ℕ) → G.serves base.old capacity → G.taken base.old ≡ 0 → OnOk result (G.taken base.new ≡ 0) }
     ensures tells { OnOk result ((G.space base.new).tells ≡ (G.space base.old).tells) }
@@ -64,7 +75,14 @@ pub fn serve_source<V: Volume, G: Teller, S: Source>(
         if lines.is_empty() {
             return Ok(());
         }
-        let count = serve_step(alloc, volume, base, lines.as_slice())?;
+        let count = serve_step(
+            alloc,
+            volume,
+            base,
+            watchers,
+            (MOST_SERVED - left) as u64,
+            lines.as_slice(),
+        )?;
         if count == 0 {
             return Err(Stop::Steps);
         }

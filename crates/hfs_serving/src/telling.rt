@@ -1,18 +1,24 @@
 //! What is told beside a ground, and a batch whose replies are told at its end.
-ghost use Rattle.std.specs.Prelude.{◌≡◌, ◌≤◌, ◌++◌, ℕ, Option, IsErrOf, IsTrue, IfOk, OnOk, OnErr, length};
+ghost use Rattle.std.specs.Prelude.{◌≡◌, ◌≤◌, ◌++◌, ◌+◌, ℕ, List, Option, IsErrOf, IsTrue, IfOk, OnOk, OnErr, false, length};
+ghost use Rattle.std.specs.List.{AllByRecursion};
 ghost use Rattle.jnl_format.specs.Recovery.{Content};
+ghost use Rattle.hfs_language.specs.declared.reply.Change.{Change};
 ghost use Rattle.sector_disk.specs.Cause.{HasCause};
 ghost use Rattle.hfs_serving.specs.Faults.{CountsFaults, StopFaults};
 ghost use Rattle.hfs_serving.specs.Going.{SomeStands, Stands};
 ghost use Rattle.hfs_serving.specs.Serving.{TellsOut};
 ghost use Rattle.hfs_serving.specs.Steps.{CrashesStep, IsStill, ServesStep};
+ghost use Rattle.hfs_serving.specs.Watching.{CrashesHeard, ServesHeard};
+ghost use Rattle.watchers.specs.Told.{AreTold};
 
 use crate::basis::Ground;
 use crate::batch::serve_batch;
-use crate::volume::Volume;
+use crate::volume::{ToTell, Volume};
+use hfs_language::Changes;
 use hx_bytes::{Bytes, Failed, OutOfMemory, Trouble};
 use line_source::InputFault;
 use std::alloc::Global;
+use watchers::{Watcher, tell_all};
 
 /// A ground with a sink beside it, on the same clock.
 pub trait Teller: Ground {
@@ -95,21 +101,30 @@ impl From<InputFault> for Stop {
     }
 }
 
-/// Serves lines as one batch, and tells their replies once all that they changed is committed. Answers how many of the lines were served.
+/// Serves lines as one batch, whose first line has this number. Once all that they changed is committed, it tells the changes to the watchers and
+/// then the replies. Answers how many of the lines were served.
 pub fn serve_step<V: Volume, G: Teller>(
     alloc: Global,
     volume: &mut V,
     base: &mut G,
+    watchers: &mut Vec<Box<dyn Watcher>>,
+    number: u64,
     lines: &[Bytes],
 ) -> Result<usize, Stop>
     requires serves { (capacity : ℕ) × G.serves base.old capacity × (G.taken base.old ≤ capacity) }
     requires stands { IsTrue (G.space base.old).tells → SomeStands (V.knows volume.old (G.space base.old)) (G.space base.old) (G.outside base.old) }
+    requires numbers { number + length lines.now ≤ 4294967295 }
     // At Ok the first lines are served and answered, and the volume stands for what they left, which is committed.
     ensures serves { IsTrue (G.space base.old).tells → (capacity : ℕ) (start : Content) (shrunk : Option ℕ) → Stands (V.knows volume.old (G.space base.old) capacity) start start shrunk (G.space base.old) (G.outside base.old)
         → IfOk result (λ count. ServesStep count capacity (V.knows volume.new (G.space base.new) capacity) start shrunk (G.outside base.old) lines.now (G.space base.new) (G.outside base.new)) }
     // A fault leaves a run of some of the lines, of which each that was answered is there after a crash.
     ensures stops { IsTrue (G.space base.old).tells → (capacity : ℕ) (start : Content) (shrunk : Option ℕ) → Stands (V.knows volume.old (G.space base.old) capacity) start start shrunk (G.space base.old) (G.outside base.old)
         → OnErr result (CrashesStep capacity start shrunk (G.outside base.old) lines.now (G.outside base.new)) }
+    // Of a batch that is committed watchers are told all that its lines changed, each change once, and of another nothing.
+    ensures watched { (heard : List Change) × (AllByRecursion (λ w. leaves w ≡ false) watchers.old.items → AreTold (λ w. told w) (λ w. leaves w) heard watchers.old.items watchers.new.items)
+        × (IsTrue (G.space base.old).tells → (capacity : ℕ) (start : Content) (shrunk : Option ℕ) → Stands (V.knows volume.old (G.space base.old) capacity) start start shrunk (G.space base.old) (G.outside base.old)
+        → IfOk result (λ count. ServesHeard number heard count capacity (V.knows volume.new (G.space base.new) capacity) start shrunk (G.outside base.old) lines.now (G.space base.new) (G.outside base.new))
+        × OnErr result (CrashesHeard number heard capacity start shrunk (G.outside base.old) lines.now (G.outside base.new))) }
     ensures few { IfOk result (λ count. count ≤ length lines.now) }
     ensures most { IfOk result (λ count. count ≤ 32) }
     ensures still { (capacity : ℕ) → G.serves base.old capacity → G.taken base.old ≤ capacity → OnOk result (G.serves base.new capacity × (G.taken base.new ≡ 0)) }
@@ -118,9 +133,12 @@ pub fn serve_step<V: Volume, G: Teller>(
     ensures faults { StopFaults (G.failed base.old) (G.space base.old) (G.failed base.new) (G.space base.new) ⊥ result }
     ensures no_many { IsErrOf result Stop.TooMany → ⊥ }
 {
-    let mut replies = Bytes::new(alloc);
-    let count = serve_batch(volume, base, lines, &mut replies)?;
-    match base.tell_all(replies.as_slice()) {
+    let replies = Bytes::new(alloc);
+    let changes = Changes::new(alloc);
+    let mut to_tell = ToTell { replies, changes };
+    let count = serve_batch(volume, base, number, lines, &mut to_tell)?;
+    tell_all(watchers, &to_tell.changes);
+    match base.tell_all(to_tell.replies.as_slice()) {
         Ok(()) => {
             volume.look(base);
             Ok(count)

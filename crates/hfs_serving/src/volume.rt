@@ -11,6 +11,7 @@ ghost use Rattle.hfs_serving.specs.Serving.{Commits, MayCommit, Touches};
 ghost use Rattle.hfs_serving.specs.Steps.{IsStill};
 
 use crate::basis::Ground;
+use hfs_language::Changes;
 use hx_bytes::{Bytes, Trouble};
 use std::alloc::Global;
 
@@ -32,6 +33,14 @@ pub enum Step {
     Again,
     /// The line wants a commit before it.
     CommitFirst,
+}
+
+/// What is to be told once a batch is committed.
+#[derive(Drop)]
+pub struct ToTell {
+    pub replies: Bytes,
+    /// What watchers are told.
+    pub changes: Changes,
 }
 
 /// A volume in service. Each call wants room for what it puts in the transaction, and answers `CommitFirst` where there is too little.
@@ -67,19 +76,20 @@ pub trait Volume: Drop {
         ensures anchor { G.anchor base.new ≡ G.anchor base.old }
         ensures faults { Faults (G.failed base.old) (G.space base.old) (G.failed base.new) (G.space base.new) result };
 
-    /// Answers a line, and adds the text of its reply. Where memory is missing, that is its reply.
+    /// Answers a line of this number, and adds the text of its reply and what it changed. Where memory is missing, that is its reply.
     fn answer<G: Ground>(
         &mut self,
         base: &mut G,
+        number: u64,
         line: &[u8],
-        replies: &mut Bytes,
+        told: &mut ToTell,
     ) -> Result<Step, Trouble>
         requires serves { (capacity : ℕ) × G.serves base.old capacity × (G.taken base.old ≤ capacity) }
         requires stands { IsTrue (G.space base.old).tells → SomeStands (knows self.old (G.space base.old)) (G.space base.old) (G.outside base.old) }
         ensures touches { IsTrue (G.space base.old).tells → (capacity : ℕ) (committed now : Content) (shrunk : Option ℕ) → Stands (knows self.old (G.space base.old) capacity) committed now shrunk (G.space base.old) (G.outside base.old)
             → Touches committed (G.space base.old) (G.outside base.old) (G.space base.new) (G.outside base.new) }
         ensures answered { IsTrue (G.space base.old).tells → (capacity : ℕ) (committed now : Content) (shrunk : Option ℕ) → Stands (knows self.old (G.space base.old) capacity) committed now shrunk (G.space base.old) (G.outside base.old)
-            → IfOk result (λ step. AnswersTo step capacity (knows self.new (G.space base.new) capacity) committed now shrunk (G.space base.new) line.now replies.old replies.new) }
+            → IfOk result (λ step. AnswersTo step capacity (knows self.new (G.space base.new) capacity) committed now shrunk (G.space base.new) number line.now told.old told.new) }
         ensures still { (capacity : ℕ) → G.serves base.old capacity → G.taken base.old ≤ capacity → OnOk result (G.serves base.new capacity × (G.taken base.new ≤ capacity)) }
         ensures tells { (G.space base.new).tells ≡ (G.space base.old).tells }
         ensures anchor { G.anchor base.new ≡ G.anchor base.old }

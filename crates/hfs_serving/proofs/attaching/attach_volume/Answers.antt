@@ -1,4 +1,4 @@
-use Rattle.std.proofs.Common.{◌≡◌, sym, subst}
+use Rattle.std.proofs.Common.{sym, subst}
 use Rattle.std.specs.Prelude.{IsTrue, None}
 use Rattle.hfs_serving.proofs.Attached.{attach_begins, attach_may, attach_stands, attach_stops}
 use Rattle.std.proofs.lemmas.Result.{err_from_is_err_and}

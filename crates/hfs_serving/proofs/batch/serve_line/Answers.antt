@@ -1,6 +1,8 @@
-use Rattle.std.proofs.Common.{◌++◌, [], ℕ, List, refl, sym, ◌∙◌, ap, subst}
+use Rattle.std.proofs.Common.{[], refl, sym, ◌∙◌, ap, subst}
 use Rattle.std.specs.Prelude.{IsTrue}
-use Rattle.std.proofs.lemmas.List.{append-nil}
+use Rattle.hfs_serving.specs.Said.{joined, untold}
+use Rattle.hfs_serving.specs.declared.volume.ToTell.{ToTell}
+use Rattle.hfs_serving.proofs.Saying.{joined_none}
 use Rattle.hfs_serving.proofs.Going.{answered_line, left_line, on_err, rested_answers, rested_both, rested_left, stands_there, tidy_goes, tidy_stops, touch_stops_tidy}
 use Rattle.std.proofs.lemmas.Result.{err_from_is_err_and}
 use Rattle.hfs_serving.proofs.Causes.{counts_both, counts_none, fine, handed}
@@ -10,9 +12,9 @@ pub returns-then-not-branch-clause-goes : goal.returns-then-not-branch-clause-go
 returns-then-not-branch-clause-goes g c tells capacity committed now shrunk stands =
     let new = g.G.SectorView.space c.tidy.new.base in
     record {
-      text = [];
-      replies = sym (append-nil c.args.replies.now);
-      goes = tidy_goes capacity shrunk committed now (g.G.Ground.outside c.args.base.now) (g.V.Volume.knows c.tidy.new.volume new capacity) new (g.G.Ground.outside c.tidy.new.base) (c.in_ok-tidy.ensures.goes tells capacity committed now shrunk stands);
+      said = untold;
+      told = sym (joined_none c.args.told.now);
+      goes = tidy_goes capacity shrunk committed now (g.G.Ground.outside c.args.base.now) (g.V.Volume.knows c.tidy.new.volume new capacity) new (g.G.Ground.outside c.tidy.new.base) (c.in_ok-tidy.ensures.goes tells capacity committed now shrunk stands) c.args.number;
     }
 
 pub loop-init : goal.loop-init
@@ -66,11 +68,11 @@ returns-then-is_answered-clause-goes g c tells capacity committed now shrunk sta
     let knows_new = g.V.Volume.knows c.answer.new.self new capacity in
     let touches = c.answer.ensures.touches tells_there capacity goes.tidy.last goes.tidy.next shrunk there in
     let answered = c.in_ok-step.ensures.answered tells_there capacity goes.tidy.last goes.tidy.next shrunk there in
-    let line = answered_line capacity knows_new goes.tidy.last goes.tidy.next shrunk new c.args.line.now c.loop.replies c.answer.new.replies c.in_ok-step.step (sym c.is_answered.ensures ∙ c.if-is_answered.true) answered in
+    let line = answered_line capacity knows_new goes.tidy.last goes.tidy.next shrunk new c.args.number c.args.line.now c.loop.told c.answer.new.told c.in_ok-step.step (sym c.is_answered.ensures ∙ c.if-is_answered.true) answered in
     record {
-      text = line.0;
-      replies = line.1 ∙ ap (λ (l : List ℕ). l ++ line.0) both.0;
-      goes = rested_answers capacity shrunk committed now old knows space mid goes knows_new c.args.line.now line.0 new after touches line.2;
+      said = line.0;
+      told = line.1 ∙ ap (λ (l : ToTell). joined l line.0) both.0;
+      goes = rested_answers capacity shrunk committed now old knows space mid goes knows_new c.args.number c.args.line.now line.0 new after touches line.2;
     }
 
 pub returns-then-is_answered-clause-still : goal.returns-then-is_answered-clause-still
@@ -96,12 +98,12 @@ returns-then-waits-clause-goes g c tells capacity committed now shrunk stands =
     let knows_new = g.V.Volume.knows c.answer.new.self new capacity in
     let touches = c.answer.ensures.touches tells_there capacity goes.tidy.last goes.tidy.next shrunk there in
     let answered = c.in_ok-step.ensures.answered tells_there capacity goes.tidy.last goes.tidy.next shrunk there in
-    let left = left_line capacity knows_new goes.tidy.last goes.tidy.next shrunk new c.args.line.now c.loop.replies c.answer.new.replies c.in_ok-step.step (sym c.is_answered.ensures ∙ c.if-is_answered.false) answered in
+    let left = left_line capacity knows_new goes.tidy.last goes.tidy.next shrunk new c.args.number c.args.line.now c.loop.told c.answer.new.told c.in_ok-step.step (sym c.is_answered.ensures ∙ c.if-is_answered.false) answered in
     let rested = rested_left capacity shrunk committed now old knows space mid goes knows_new new after touches left.1 in
     record {
-      text = [];
-      replies = left.0 ∙ both.0 ∙ sym (append-nil c.args.replies.now);
-      goes = tidy_goes capacity shrunk committed now old knows_new new after rested.tidy;
+      said = untold;
+      told = left.0 ∙ both.0 ∙ sym (joined_none c.args.told.now);
+      goes = tidy_goes capacity shrunk committed now old knows_new new after rested.tidy c.args.number;
     }
 
 pub returns-then-waits-clause-still : goal.returns-then-waits-clause-still
@@ -141,7 +143,7 @@ make_room-requires-clause-stands g c tells_new =
     let knows_new = g.V.Volume.knows c.answer.new.self new capacity in
     let touches = c.answer.ensures.touches tells_there capacity goes.tidy.last goes.tidy.next shrunk there in
     let answered = c.in_ok-step.ensures.answered tells_there capacity goes.tidy.last goes.tidy.next shrunk there in
-    let left = left_line capacity knows_new goes.tidy.last goes.tidy.next shrunk new c.args.line.now c.loop.replies c.answer.new.replies c.in_ok-step.step (sym c.is_answered.ensures ∙ c.if-is_answered.false) answered in
+    let left = left_line capacity knows_new goes.tidy.last goes.tidy.next shrunk new c.args.number c.args.line.now c.loop.told c.answer.new.told c.in_ok-step.step (sym c.is_answered.ensures ∙ c.if-is_answered.false) answered in
     let rested = rested_left capacity shrunk committed now old knows space mid goes knows_new new after touches left.1 in
     (capacity, rested.tidy.last, rested.tidy.next, shrunk, stands_there capacity shrunk committed now old knows_new new after rested.tidy)
 
@@ -160,7 +162,7 @@ returns-in_err-make_room-clause-stops g c tells capacity committed now shrunk st
     let knows_new = g.V.Volume.knows c.answer.new.self new capacity in
     let touches = c.answer.ensures.touches tells_there capacity goes.tidy.last goes.tidy.next shrunk there in
     let answered = c.in_ok-step.ensures.answered tells_there capacity goes.tidy.last goes.tidy.next shrunk there in
-    let left = left_line capacity knows_new goes.tidy.last goes.tidy.next shrunk new c.args.line.now c.loop.replies c.answer.new.replies c.in_ok-step.step (sym c.is_answered.ensures ∙ c.if-is_answered.false) answered in
+    let left = left_line capacity knows_new goes.tidy.last goes.tidy.next shrunk new c.args.number c.args.line.now c.loop.told c.answer.new.told c.in_ok-step.step (sym c.is_answered.ensures ∙ c.if-is_answered.false) answered in
     let rested = rested_left capacity shrunk committed now old knows space mid goes knows_new new after touches left.1 in
     on_err c.from_residual-in_err-make_room.result
     (tidy_stops capacity shrunk committed now old knows_new new after rested.tidy [] (g.G.Ground.outside c.make_room.new.base)
@@ -189,7 +191,7 @@ loop-preserved g c = record {
       let knows_new = g.V.Volume.knows c.answer.new.self new capacity in
       let touches = c.answer.ensures.touches tells_there capacity goes.tidy.last goes.tidy.next shrunk there in
       let answered = c.in_ok-step.ensures.answered tells_there capacity goes.tidy.last goes.tidy.next shrunk there in
-      let left = left_line capacity knows_new goes.tidy.last goes.tidy.next shrunk new c.args.line.now c.loop.replies c.answer.new.replies c.in_ok-step.step (sym c.is_answered.ensures ∙ c.if-is_answered.false) answered in
+      let left = left_line capacity knows_new goes.tidy.last goes.tidy.next shrunk new c.args.number c.args.line.now c.loop.told c.answer.new.told c.in_ok-step.step (sym c.is_answered.ensures ∙ c.if-is_answered.false) answered in
       let rested = rested_left capacity shrunk committed now old knows space mid goes knows_new new after touches left.1 in
       let end = g.G.SectorView.space c.make_room.new.base in (
         left.0 ∙ both.0,
@@ -204,9 +206,9 @@ returns-clause-goes g c tells capacity committed now shrunk stands =
     let both = c.loop.invariant.goes tells capacity committed now shrunk stands in
     let goes = both.1 in
     record {
-      text = [];
-      replies = both.0 ∙ sym (append-nil c.args.replies.now);
-      goes = tidy_goes capacity shrunk committed now (g.G.Ground.outside c.args.base.now) (g.V.Volume.knows c.loop.volume space capacity) space (g.G.Ground.outside c.loop.base) goes.tidy;
+      said = untold;
+      told = both.0 ∙ sym (joined_none c.args.told.now);
+      goes = tidy_goes capacity shrunk committed now (g.G.Ground.outside c.args.base.now) (g.V.Volume.knows c.loop.volume space capacity) space (g.G.Ground.outside c.loop.base) goes.tidy c.args.number;
     }
 
 pub returns-clause-still : goal.returns-clause-still

@@ -17,7 +17,7 @@ loop-at-init g c = record {
   anchor = refl;
   tells = refl;
   serves = λ capacity serves taken. (serves, taken);
-  goes = λ tells capacity committed now shrunk stands. lines_none capacity shrunk committed now (g.G.Ground.outside c.args.base.now) c.args.lines.now c.args.replies.now _ _ stands;
+  goes = λ tells capacity committed now shrunk stands. lines_none capacity shrunk committed now (g.G.Ground.outside c.args.base.now) c.args.number c.args.lines.now c.args.told.now _ _ stands;
 }
 
 pub serve_line-requires-clause-serves : goal.serve_line-requires-clause-serves
@@ -32,7 +32,7 @@ serve_line-requires-clause-stands g c tells_there =
     let there = c.requires.stands tells in
     let first = c.loop-at.invariant.goes tells there.0 there.1 there.2 there.3 there.4 in
     let space = g.G.SectorView.space c.loop-at.base in
-    (there.0, first.goes.last, first.goes.next, _, stands_in_lines there.0 there.3 there.1 there.2 (g.G.Ground.outside c.args.base.now) c.args.lines.now c.args.replies.now c.loop-at.at (g.V.Volume.knows c.loop-at.volume space there.0) c.loop-at.replies space (g.G.Ground.outside c.loop-at.base) first)
+    (there.0, first.goes.last, first.goes.next, _, stands_in_lines there.0 there.3 there.1 there.2 (g.G.Ground.outside c.args.base.now) c.args.number c.args.lines.now c.args.told.now c.loop-at.at (g.V.Volume.knows c.loop-at.volume space there.0) c.loop-at.told space (g.G.Ground.outside c.loop-at.base) first)
 
 pub returns-in_err-serve_line-clause-stops : goal.returns-in_err-serve_line-clause-stops
 returns-in_err-serve_line-clause-stops g c tells capacity committed now shrunk stands =
@@ -41,9 +41,9 @@ returns-in_err-serve_line-clause-stops g c tells capacity committed now shrunk s
     let mid = g.G.Ground.outside c.loop-at.base in
     let knows = g.V.Volume.knows c.loop-at.volume space capacity in
     let first = c.loop-at.invariant.goes tells capacity committed now shrunk stands in
-    let there = stands_in_lines capacity shrunk committed now old c.args.lines.now c.args.replies.now c.loop-at.at knows c.loop-at.replies space mid first in
+    let there = stands_in_lines capacity shrunk committed now old c.args.number c.args.lines.now c.args.told.now c.loop-at.at knows c.loop-at.told space mid first in
     on_err c.from_residual.result
-    (lines_stop capacity shrunk committed now old c.args.lines.now c.args.replies.now c.loop-at.at knows c.loop-at.replies space mid first (g.G.Ground.outside c.serve_line.new.base)
+    (lines_stop capacity shrunk committed now old c.args.number c.args.lines.now c.args.told.now c.loop-at.at knows c.loop-at.told space mid first (g.G.Ground.outside c.serve_line.new.base)
     (c.in_err-serve_line.ensures.stops (c.loop-at.invariant.tells ∙ tells) capacity first.goes.last first.goes.next _ there))
 
 pub returns-then-not-branch-clause-goes : goal.returns-then-not-branch-clause-goes
@@ -53,13 +53,13 @@ returns-then-not-branch-clause-goes g c tells capacity committed now shrunk stan
     let mid = g.G.Ground.outside c.loop-at.base in
     let knows = g.V.Volume.knows c.loop-at.volume space capacity in
     let first = c.loop-at.invariant.goes tells capacity committed now shrunk stands in
-    let there = stands_in_lines capacity shrunk committed now old c.args.lines.now c.args.replies.now c.loop-at.at knows c.loop-at.replies space mid first in
+    let there = stands_in_lines capacity shrunk committed now old c.args.number c.args.lines.now c.args.told.now c.loop-at.at knows c.loop-at.told space mid first in
     let new = g.G.SectorView.space c.serve_line.new.base in
     let end = g.G.Ground.outside c.serve_line.new.base in
     let knows_new = g.V.Volume.knows c.serve_line.new.volume new capacity in
     let second = c.in_ok-serve_line.ensures.goes (c.loop-at.invariant.tells ∙ tells) capacity first.goes.last first.goes.next _ there in
-    lines_on capacity shrunk committed now old c.args.lines.now c.args.replies.now c.loop-at.at knows c.loop-at.replies space mid first knows_new false c.as_slice.result.now c.serve_line.new.replies new end c.loop-at.at (append-nil (take c.loop-at.at c.args.lines.now))
-    (subst (λ (b : Bool). ServesLine b capacity knows_new first.goes.last first.goes.next (shrunk_in shrunk first.goes.more) mid c.as_slice.result.now c.loop-at.replies c.serve_line.new.replies new end) c.if-not-branch.true second)
+    lines_on capacity shrunk committed now old c.args.number c.args.lines.now c.args.told.now c.loop-at.at knows c.loop-at.told space mid first knows_new false c.as_slice.result.now c.serve_line.new.told new end c.loop-at.at (omega (arith, c.loop-at.auto.at-end)) (append-nil (take c.loop-at.at c.args.lines.now))
+    (subst (λ (b : Bool). ServesLine b capacity knows_new first.goes.last first.goes.next (shrunk_in shrunk first.goes.more) mid (c.args.number + c.loop-at.at) c.as_slice.result.now c.loop-at.told c.serve_line.new.told new end) c.if-not-branch.true second)
 
 pub returns-then-is_sync-clause-goes : goal.returns-then-is_sync-clause-goes
 returns-then-is_sync-clause-goes g c tells capacity committed now shrunk stands =
@@ -68,7 +68,7 @@ returns-then-is_sync-clause-goes g c tells capacity committed now shrunk stands 
     let mid = g.G.Ground.outside c.loop-at.base in
     let knows = g.V.Volume.knows c.loop-at.volume space capacity in
     let first = c.loop-at.invariant.goes tells capacity committed now shrunk stands in
-    let there = stands_in_lines capacity shrunk committed now old c.args.lines.now c.args.replies.now c.loop-at.at knows c.loop-at.replies space mid first in
+    let there = stands_in_lines capacity shrunk committed now old c.args.number c.args.lines.now c.args.told.now c.loop-at.at knows c.loop-at.told space mid first in
     let new = g.G.SectorView.space c.serve_line.new.base in
     let end = g.G.Ground.outside c.serve_line.new.base in
     let knows_new = g.V.Volume.knows c.serve_line.new.volume new capacity in
@@ -76,8 +76,8 @@ returns-then-is_sync-clause-goes g c tells capacity committed now shrunk stands 
     let line = c.as_slice.result.now in
     let next : take c.loop-at.at c.args.lines.now ++ line ∷ [] ≡ take (c.loop-at.at + 1) c.args.lines.now =
     ap (λ (l : List ℕ). take c.loop-at.at c.args.lines.now ++ l ∷ []) (c.as_slice.ensures ∙ c.index-lines-at.is) ∙ sym (take_more c.args.lines.now c.loop-at.at c.index-lines-at.result c.loop-at-test.true) in
-    lines_on capacity shrunk committed now old c.args.lines.now c.args.replies.now c.loop-at.at knows c.loop-at.replies space mid first knows_new true line c.serve_line.new.replies new end (c.loop-at.at + 1) next
-    (subst (λ (b : Bool). ServesLine b capacity knows_new first.goes.last first.goes.next (shrunk_in shrunk first.goes.more) mid line c.loop-at.replies c.serve_line.new.replies new end) c.if-not-branch.false second)
+    lines_on capacity shrunk committed now old c.args.number c.args.lines.now c.args.told.now c.loop-at.at knows c.loop-at.told space mid first knows_new true line c.serve_line.new.told new end (c.loop-at.at + 1) (omega (arith, c.loop-at.auto.at-end)) next
+    (subst (λ (b : Bool). ServesLine b capacity knows_new first.goes.last first.goes.next (shrunk_in shrunk first.goes.more) mid (c.args.number + c.loop-at.at) line c.loop-at.told c.serve_line.new.told new end) c.if-not-branch.false second)
 
 pub loop-at-preserved : goal.loop-at-preserved
 loop-at-preserved g c = record {
@@ -98,7 +98,7 @@ loop-at-preserved g c = record {
       let mid = g.G.Ground.outside c.loop-at.base in
       let knows = g.V.Volume.knows c.loop-at.volume space capacity in
       let first = c.loop-at.invariant.goes tells capacity committed now shrunk stands in
-      let there = stands_in_lines capacity shrunk committed now old c.args.lines.now c.args.replies.now c.loop-at.at knows c.loop-at.replies space mid first in
+      let there = stands_in_lines capacity shrunk committed now old c.args.number c.args.lines.now c.args.told.now c.loop-at.at knows c.loop-at.told space mid first in
       let new = g.G.SectorView.space c.serve_line.new.base in
       let end = g.G.Ground.outside c.serve_line.new.base in
       let knows_new = g.V.Volume.knows c.serve_line.new.volume new capacity in
@@ -106,8 +106,8 @@ loop-at-preserved g c = record {
       let line = c.as_slice.result.now in
       let next : take c.loop-at.at c.args.lines.now ++ line ∷ [] ≡ take (c.loop-at.at + 1) c.args.lines.now =
       ap (λ (l : List ℕ). take c.loop-at.at c.args.lines.now ++ l ∷ []) (c.as_slice.ensures ∙ c.index-lines-at.is) ∙ sym (take_more c.args.lines.now c.loop-at.at c.index-lines-at.result c.loop-at-test.true) in
-      lines_on capacity shrunk committed now old c.args.lines.now c.args.replies.now c.loop-at.at knows c.loop-at.replies space mid first knows_new true line c.serve_line.new.replies new end (c.loop-at.at + 1) next
-      (subst (λ (b : Bool). ServesLine b capacity knows_new first.goes.last first.goes.next (shrunk_in shrunk first.goes.more) mid line c.loop-at.replies c.serve_line.new.replies new end) c.if-not-branch.false second);
+      lines_on capacity shrunk committed now old c.args.number c.args.lines.now c.args.told.now c.loop-at.at knows c.loop-at.told space mid first knows_new true line c.serve_line.new.told new end (c.loop-at.at + 1) (omega (arith, c.loop-at.auto.at-end)) next
+      (subst (λ (b : Bool). ServesLine b capacity knows_new first.goes.last first.goes.next (shrunk_in shrunk first.goes.more) mid (c.args.number + c.loop-at.at) line c.loop-at.told c.serve_line.new.told new end) c.if-not-branch.false second);
 }
 
 pub returns-clause-goes : goal.returns-clause-goes
@@ -115,7 +115,7 @@ returns-clause-goes g c tells capacity committed now shrunk stands =
     let old = g.G.Ground.outside c.args.base.now in
     let space = g.G.SectorView.space c.loop-at.base in
     let all : c.loop-at.at ≡ length c.args.lines.now = omega (arith, c.loop-at-test.false, c.loop-at.auto.at-end) in
-    subst (λ (n : ℕ). ServesLines n capacity (g.V.Volume.knows c.loop-at.volume space capacity) committed now shrunk old c.args.lines.now c.args.replies.now c.loop-at.replies space (g.G.Ground.outside c.loop-at.base)) all
+    subst (λ (n : ℕ). ServesLines n capacity (g.V.Volume.knows c.loop-at.volume space capacity) committed now shrunk old c.args.number c.args.lines.now c.args.told.now c.loop-at.told space (g.G.Ground.outside c.loop-at.base)) all
     (c.loop-at.invariant.goes tells capacity committed now shrunk stands)
 
 pub returns-clause-still : goal.returns-clause-still

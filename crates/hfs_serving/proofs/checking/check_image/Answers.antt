@@ -1,10 +1,9 @@
-use Rattle.std.proofs.Common.{◌≡◌, sym, ◌∙◌, ap, subst}
+use Rattle.std.proofs.Common.{◌∙◌, subst}
 use Rattle.std.specs.Prelude.{IfOk}
 use Rattle.sector_disk.specs.Disk.{content}
 use Rattle.sector_disk.specs.Lists.{Content}
 use Rattle.jnl_format.specs.Recovery.{replayed}
 use Rattle.jnl_replay.specs.Plan.{journal_of}
-use Rattle.jnl_replay.specs.Viewing.{shown}
 use Rattle.hfs_serving.specs.Checking.{IsVerdict}
 use Rattle.hfs_serving.proofs.Peeks.{shown_as}
 use Rattle.hfs_serving.proofs.checking.check_image.Goals as goal

@@ -1,4 +1,4 @@
-use Rattle.std.proofs.Common.{◌≡◌, sym, subst}
+use Rattle.std.proofs.Common.{sym, subst}
 use Rattle.std.specs.Prelude.{Result, IfOk, IfErr}
 use Rattle.jnl_replay.specs.declared.plan.Plan.{Plan}
 use Rattle.sector_disk.specs.Disk.{content}

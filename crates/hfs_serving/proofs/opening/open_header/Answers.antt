@@ -1,4 +1,4 @@
-use Rattle.std.proofs.Common.{◌≡◌, ◌<◌, sym, ◌∙◌, ap, subst}
+use Rattle.std.proofs.Common.{◌<◌, sym, ◌∙◌, ap, subst}
 use Rattle.jnl_replay.specs.declared.plan.Place.{Place}
 use Rattle.jnl_replay.proofs.Checks.{length-content}
 use Rattle.sector_disk.specs.Disk.{content}

@@ -1,4 +1,4 @@
-use Rattle.std.proofs.Common.{◌≡◌, refl, sym, ◌∙◌, inl, subst}
+use Rattle.std.proofs.Common.{refl, sym, ◌∙◌, inl, subst}
 use Rattle.std.specs.Prelude.{IsTrue}
 use Rattle.jnl_replay.specs.Plan.{FitsPlan}
 use Rattle.jnl_replay.specs.declared.plan.Plan.{Plan}

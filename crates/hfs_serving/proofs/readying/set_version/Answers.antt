@@ -1,5 +1,4 @@
-use Rattle.std.proofs.Common.{◌≡◌, ◌<◌, ◌∷◌, [], sym, ◌∙◌, ap, arith, length}
-use Rattle.std.specs.Prelude.{IsTrue}
+use Rattle.std.proofs.Common.{◌∷◌, [], sym, ◌∙◌, ap, arith}
 use Rattle.sector_disk.specs.Disk.{OnlyReads, content}
 use Rattle.sector_disk.specs.Lists.{sector}
 use Rattle.jnl_replay.proofs.Checks.{length-content}

@@ -1,4 +1,4 @@
-use Rattle.std.proofs.Common.{◌≡◌, ℕ, [], refl, sym, ◌∙◌, subst}
+use Rattle.std.proofs.Common.{[], refl, sym, ◌∙◌, subst}
 use Rattle.std.specs.Prelude.{IsTrue}
 use Rattle.sector_disk.specs.Disk.{content}
 use Rattle.jnl_format.specs.Recovery.{replayed}
@@ -9,7 +9,7 @@ use Rattle.hfs_serving.specs.Outside.{outside_of}
 use Rattle.hfs_serving.proofs.Promising.{has_none, keeps_from}
 use Rattle.hfs_serving.proofs.Readied.{turns_on}
 use Rattle.hfs_serving.proofs.Served.{capacity_mounted, goes_on_from, may_serve, reads_ready, reads_turn, ready_stopped, start_found, versioned_sound}
-use Rattle.std.proofs.Common.{◌≤◌, arith}
+use Rattle.std.proofs.Common.{arith}
 use Rattle.std.proofs.lemmas.Result.{err_from_is_err_and}
 use Rattle.hx_bytes.specs.declared.faults.Trouble.TheVariants as trouble
 use Rattle.sector_disk.specs.Cause.{Rose}

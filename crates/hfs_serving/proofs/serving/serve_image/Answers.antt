@@ -1,4 +1,4 @@
-use Rattle.std.proofs.Common.{◌≡◌, ℕ, Result, sym, ◌∙◌, ap, subst}
+use Rattle.std.proofs.Common.{Result, sym, ◌∙◌, ap, subst}
 use Rattle.std.specs.Prelude.{IfOk}
 use Rattle.sector_disk.specs.Disk.{content}
 use Rattle.jnl_format.specs.Recovery.{Content, replayed}
@@ -8,7 +8,7 @@ use Rattle.hfs_serving.specs.Checking.{IsFound}
 use Rattle.hfs_serving.specs.Steps.{KeepsRun}
 use Rattle.hfs_serving.specs.declared.checking.MountRefusal.{MountRefusal}
 use Rattle.hfs_serving.proofs.Served.{found_mounts, mounts_one, reads_content, reads_keep, reads_settled}
-use Rattle.std.proofs.Common.{◌≤◌, Err, arith}
+use Rattle.std.proofs.Common.{Err, arith}
 use Rattle.std.proofs.lemmas.Result.{err_from_is_err_and}
 use Rattle.sector_disk.specs.Cause.{Rose}
 use Rattle.hfs_serving.proofs.Causes.{rig_fine, rig_handed, rig_trouble}

@@ -1,4 +1,4 @@
-use Rattle.std.proofs.Common.{◌≡◌, ℕ, List, [], get_or, sym, ◌∙◌, ap, length, subst}
+use Rattle.std.proofs.Common.{ℕ, List, [], get_or, sym, ◌∙◌, ap, length, subst}
 use Rattle.std.specs.Prelude.{IsTrue, None}
 use Rattle.jnl_store.specs.Seen.{seen}
 use Rattle.jnl_store.specs.Store.{plan_of}
@@ -9,7 +9,7 @@ use Rattle.hfs_serving.proofs.Attachable.{capacity_ready, finds_ready, in_servic
 use Rattle.hfs_serving.proofs.Grounding.{told_disk}
 use Rattle.hfs_serving.proofs.Promising.{has_none}
 use Rattle.hfs_serving.proofs.Served.{begin_stopped, begun_goes_on, nothing_more}
-use Rattle.std.proofs.Common.{◌≤◌, refl, arith}
+use Rattle.std.proofs.Common.{refl, arith}
 use Rattle.std.proofs.lemmas.Result.{err_from_is_err_and}
 use Rattle.sector_disk.specs.Cause.{Rose}
 use Rattle.jnl_store.specs.Spaces.{over}

@@ -1,4 +1,4 @@
-use Rattle.std.proofs.Common.{sym, ◌∙◌, subst, arith}
+use Rattle.std.proofs.Common.{sym, subst, arith}
 use Rattle.std.specs.Prelude.{IsTrue}
 use Rattle.hfs_serving.proofs.Marking.{begun_may, mark_begins, mark_put_stops, mark_stops, marked_stands, put_may}
 use Rattle.std.proofs.lemmas.Result.{err_from_is_err_and}

@@ -1,14 +1,20 @@
 use Rattle.std.proofs.Common.{◌≡◌, ◌≤◌, ◌<◌, ◌+◌, [], ℕ, List, length, length-append, length-drop, take, drop, refl, sym, ◌∙◌, ap, subst, arith}
-use Rattle.std.specs.Prelude.{IsTrue}
+use Rattle.std.specs.Prelude.{Option, IsTrue}
+use Rattle.jnl_format.specs.Recovery.{Content}
+use Rattle.hfs_serving.specs.Going.{Stands}
 use Rattle.hfs_volume.specs.Run.{shrunk_in}
 use Rattle.hfs_serving.specs.Steps.{CrashesStep, ServesStep}
 use Rattle.hfs_serving.proofs.Going.{on_err}
-use Rattle.hfs_serving.proofs.Stepping.{step_both, step_crash, step_ends, step_none}
-use Rattle.hfs_serving.proofs.Pending.{crash_texts, no_items, on_add, on_ends, on_none, on_serve, on_stops, step_more, step_texts}
+use Rattle.hfs_serving.proofs.Stepping.{both_heard, crash_both_heard, ends_heard, none_heard, step_both, step_crash, step_ends}
+use Rattle.hfs_serving.proofs.Pending.{crash_heard, crash_texts, more_heard, no_items, on_add, on_ends, on_none, on_serve, on_stops, step_texts, texts_heard}
 use Rattle.std.proofs.lemmas.Result.{err_from_is_err_and}
 use Rattle.hfs_serving.proofs.Causes.{counts_both, counts_none, fine_stop, handed_on, other_stop, took_stop}
 use Rattle.sector_disk.specs.Cause.{Rose}
 use Rattle.hfs_serving.proofs.Numbering.{all_lines, counted, more_lines, too_many}
+use Rattle.std.proofs.Common.{◌-◌, ◌++◌}
+use Rattle.hfs_serving.specs.Watching.{CrashesHeard, ServesHeard}
+use Rattle.hfs_serving.proofs.Hearing.{all_stay}
+use Rattle.watchers.proofs.Tellings.{told_both, told_nothing}
 use Rattle.std.proofs.lemmas.Bool.Decides.{nat_tests}
 use Rattle.std.proofs.lemmas.List.{length-map}
 use Rattle.hfs_language.specs.Language.{most_bytes}
@@ -26,16 +32,20 @@ loop-lines-init g c = record {
   nothing = λ capacity serves none. none;
   fits = omega (arith, ap (λ (l : List (List ℕ)). length l) c.new-lines.ensures.items);
   most = omega (arith, ap (λ (l : List (List ℕ)). length l) c.new-lines.ensures.items);
-  on =
-      on_none c.args.input.now (g.S.Source.stream c.args.source.now) c.new-lines.result.items _ c.new-lines.ensures.items
-      (omega arith, λ tells capacity start shrunk stands. step_none capacity shrunk start (g.G.Ground.outside c.args.base.now) [] _ _ stands);
+  bound = omega arith;
+  on = (
+    [],
+    λ stay. told_nothing _ _ c.args.watchers.now.items stay,
+    on_none c.args.input.now (g.S.Source.stream c.args.source.now) c.new-lines.result.items _ c.new-lines.ensures.items
+        (omega arith, λ tells capacity start shrunk stands. none_heard capacity shrunk start (g.G.Ground.outside c.args.base.now) [] _ _ stands),
+  );
 }
 
 pub serve_step-requires-clause-stands : goal.serve_step-requires-clause-stands
 serve_step-requires-clause-stands g c tells_there =
     let tells = subst (λ t. IsTrue t) c.loop-lines.invariant.tells tells_there in
     let there = c.requires.stands tells in
-    let first = c.loop-lines.invariant.on.1.1 tells there.0 there.1 there.2 there.3 in
+    let first = (c.loop-lines.invariant.on.2.1.1 tells there.0 there.1 there.2 there.3).0 in
     (there.0, first.now, first.now, shrunk_in there.2 first.run, first.stands)
 
 pub returns-in_err-take_lines-clause-stops : goal.returns-in_err-take_lines-clause-stops
@@ -44,9 +54,9 @@ returns-in_err-take_lines-clause-stops g c =
     let now = g.S.Source.stream c.loop-lines.source in
     let new = g.S.Source.stream c.take_lines.new.source in
     on_err c.from_residual.result
-    (on_stops c.args.input.now source c.loop-lines.lines.items c.loop-lines.input now _ c.loop-lines.invariant.on _ new
+    (on_stops c.args.input.now source c.loop-lines.lines.items c.loop-lines.input now _ c.loop-lines.invariant.on.2 _ new
     (λ tells. c.take_lines.ensures.gone (subst IsTrue (sym c.loop-lines.invariant.same.tells) tells))
-    (λ count texts are served tells capacity start shrunk stands. step_ends capacity shrunk start (g.G.Ground.outside c.args.base.now) texts count _ _ _ (served.1 tells capacity start shrunk stands)))
+    (λ count texts inside are served tells capacity start shrunk stands. step_ends capacity shrunk start (g.G.Ground.outside c.args.base.now) texts count _ _ _ (served.1 tells capacity start shrunk stands).0))
 
 pub returns-then-is_empty-clause-serves : goal.returns-then-is_empty-clause-serves
 returns-then-is_empty-clause-serves g c =
@@ -57,11 +67,11 @@ returns-then-is_empty-clause-serves g c =
     let pending = c.take_lines.new.pending.items in
     let same = c.loop-lines.invariant.same in
     let read =
-    on_add c.args.input.now source c.loop-lines.lines.items c.loop-lines.input now _ c.loop-lines.invariant.on pending c.take_lines.new.input new same.tells c.in_ok-take_lines.ensures.lines
-    (λ count texts more inside served. (served.0, λ tells capacity start shrunk stands. step_more capacity start shrunk old texts more count _ _ _ inside (served.1 tells capacity start shrunk stands))) in
+    on_add c.args.input.now source c.loop-lines.lines.items c.loop-lines.input now _ c.loop-lines.invariant.on.2 pending c.take_lines.new.input new same.tells c.in_ok-take_lines.ensures.lines
+    (λ count texts more inside served. (served.0, λ tells capacity start shrunk stands. more_heard capacity start shrunk old texts 0 c.loop-lines.invariant.on.0 more count _ _ _ inside (served.1 tells capacity start shrunk stands))) in
     let none = no_items pending c.take_lines.new.pending.len c.is_empty.result c.take_lines.new.pending.ok.0 c.is_empty.ensures c.if-is_empty.true in
     let ends = on_ends c.args.input.now source pending c.take_lines.new.input new _ read none (λ tells. (c.in_ok-take_lines.ensures.end (subst IsTrue (sym same.tells) tells) none).1) in
-    (ends.0, ends.1, ends.2.1)
+    (ends.0, ends.1, λ tells capacity start shrunk stands. (ends.2.1 tells capacity start shrunk stands).0)
 
 pub returns-in_err-count-clause-stops : goal.returns-in_err-count-clause-stops
 returns-in_err-count-clause-stops g c =
@@ -72,15 +82,15 @@ returns-in_err-count-clause-stops g c =
     let pending = c.take_lines.new.pending.items in
     let same = c.loop-lines.invariant.same in
     let read =
-    on_add c.args.input.now source c.loop-lines.lines.items c.loop-lines.input now _ c.loop-lines.invariant.on pending c.take_lines.new.input new same.tells c.in_ok-take_lines.ensures.lines
-    (λ count texts more inside served. (served.0, λ tells capacity start shrunk stands. step_more capacity start shrunk old texts more count _ _ _ inside (served.1 tells capacity start shrunk stands))) in
+    on_add c.args.input.now source c.loop-lines.lines.items c.loop-lines.input now _ c.loop-lines.invariant.on.2 pending c.take_lines.new.input new same.tells c.in_ok-take_lines.ensures.lines
+    (λ count texts more inside served. (served.0, λ tells capacity start shrunk stands. more_heard capacity start shrunk old texts 0 c.loop-lines.invariant.on.0 more count _ _ _ inside (served.1 tells capacity start shrunk stands))) in
     on_err c.from_residual-in_err-count.result
     (on_stops c.args.input.now source pending c.take_lines.new.input new _ read _ new (λ tells. (c.take_lines.new.input, refl))
-    (λ count texts are served tells capacity start shrunk stands.
+    (λ count texts inside are served tells capacity start shrunk stands.
     let space = g.G.SectorView.space c.loop-lines.base in
     let mid = g.G.Ground.outside c.loop-lines.base in
     let knows = g.V.Volume.knows c.loop-lines.volume space capacity in
-    let first = served.1 tells capacity start shrunk stands in
+    let first = (served.1 tells capacity start shrunk stands).0 in
     let tells_there = c.loop-lines.invariant.tells ∙ tells in
     let last = shrunk_in shrunk first.run in
     let after = g.G.Ground.outside c.serve_step.new.base in
@@ -99,14 +109,14 @@ returns-then-count-eq0-clause-stops g c =
     let pending = c.take_lines.new.pending.items in
     let same = c.loop-lines.invariant.same in
     let read =
-    on_add c.args.input.now source c.loop-lines.lines.items c.loop-lines.input now _ c.loop-lines.invariant.on pending c.take_lines.new.input new same.tells c.in_ok-take_lines.ensures.lines
-    (λ count texts more inside served. (served.0, λ tells capacity start shrunk stands. step_more capacity start shrunk old texts more count _ _ _ inside (served.1 tells capacity start shrunk stands))) in
+    on_add c.args.input.now source c.loop-lines.lines.items c.loop-lines.input now _ c.loop-lines.invariant.on.2 pending c.take_lines.new.input new same.tells c.in_ok-take_lines.ensures.lines
+    (λ count texts more inside served. (served.0, λ tells capacity start shrunk stands. more_heard capacity start shrunk old texts 0 c.loop-lines.invariant.on.0 more count _ _ _ inside (served.1 tells capacity start shrunk stands))) in
     on_stops c.args.input.now source pending c.take_lines.new.input new _ read _ new (λ tells. (c.take_lines.new.input, refl))
-    (λ count texts are served tells capacity start shrunk stands.
+    (λ count texts inside are served tells capacity start shrunk stands.
     let space = g.G.SectorView.space c.loop-lines.base in
     let mid = g.G.Ground.outside c.loop-lines.base in
     let knows = g.V.Volume.knows c.loop-lines.volume space capacity in
-    let first = served.1 tells capacity start shrunk stands in
+    let first = (served.1 tells capacity start shrunk stands).0 in
     let tells_there = c.loop-lines.invariant.tells ∙ tells in
     let last = shrunk_in shrunk first.run in
     let after = g.G.Ground.outside c.serve_step.new.base in
@@ -132,8 +142,8 @@ loop-lines-preserved g c =
     let pending = c.take_lines.new.pending.items in
     let same = c.loop-lines.invariant.same in
     let read =
-    on_add c.args.input.now source c.loop-lines.lines.items c.loop-lines.input now _ c.loop-lines.invariant.on pending c.take_lines.new.input new same.tells c.in_ok-take_lines.ensures.lines
-    (λ count texts more inside served. (served.0, λ tells capacity start shrunk stands. step_more capacity start shrunk old texts more count _ _ _ inside (served.1 tells capacity start shrunk stands))) in
+    on_add c.args.input.now source c.loop-lines.lines.items c.loop-lines.input now _ c.loop-lines.invariant.on.2 pending c.take_lines.new.input new same.tells c.in_ok-take_lines.ensures.lines
+    (λ count texts more inside served. (served.0, λ tells capacity start shrunk stands. more_heard capacity start shrunk old texts 0 c.loop-lines.invariant.on.0 more count _ _ _ inside (served.1 tells capacity start shrunk stands))) in
     let few = subst (λ (l : List (List ℕ)). c.in_ok-count.count ≤ length l) c.as_slice.ensures.value c.in_ok-count.ensures.few in
     let far : c.in_ok-count.count ≤ c.loop-lines.left = omega (arith, few, c.in_ok-take_lines.ensures.left) in
     record {
@@ -151,29 +161,36 @@ loop-lines-preserved g c =
           (c.in_ok-count.ensures.still capacity was.0 was.1).1;
       fits = omega (arith, few, c.in_ok-take_lines.ensures.left, ap (λ (l : List (List ℕ)). length l) c.drop_first.ensures, length-drop c.in_ok-count.count pending);
       most = omega (arith, c.in_ok-take_lines.ensures.most, ap (λ (l : List (List ℕ)). length l) c.drop_first.ensures, length-drop c.in_ok-count.count pending);
-      on =
-          on_serve c.args.input.now source pending c.take_lines.new.input new _ read _ c.in_ok-count.count c.drop_first.new.lines.items
-          (subst (λ (l : List (List ℕ)). c.in_ok-count.count ≤ length l) c.as_slice.ensures.value c.in_ok-count.ensures.few) c.drop_first.ensures
-          (λ count texts are served. (
-            counted c.in_ok-count.count count c.loop-lines.left served.0 far,
-            λ tells capacity start shrunk stands.
-                let space = g.G.SectorView.space c.loop-lines.base in
-                let mid = g.G.Ground.outside c.loop-lines.base in
-                let knows = g.V.Volume.knows c.loop-lines.volume space capacity in
-                let first = served.1 tells capacity start shrunk stands in
-                let tells_there = c.loop-lines.invariant.tells ∙ tells in
-                let last = shrunk_in shrunk first.run in
-                let after = g.G.Ground.outside c.serve_step.new.base in
-                let are_texts = c.as_slice.ensures.value ∙ are in
-                let space_new = g.G.SectorView.space c.serve_step.new.base in
-                let knows_new = g.V.Volume.knows c.serve_step.new.volume space_new capacity in
-                let k = c.in_ok-count.count in
-                let second =
-                step_texts capacity first.now last mid (drop count texts) k knows_new space_new after
-                (subst (λ (l : List (List ℕ)). ServesStep k capacity knows_new first.now last mid l space_new after) are_texts (c.in_ok-count.ensures.serves tells_there capacity first.now last first.stands)) in
-                let both = step_both capacity shrunk start old texts count knows space mid first k knows_new space_new after second in
-                both,
-          ));
+      bound = omega (arith, c.loop-lines.invariant.bound);
+      on = (
+        c.loop-lines.invariant.on.0 ++ c.in_ok-count.ensures.watched.0,
+        λ stay.
+            let before = c.loop-lines.invariant.on.1 stay in
+            told_both _ _ c.loop-lines.invariant.on.0 c.in_ok-count.ensures.watched.0 _ _ _ before (c.in_ok-count.ensures.watched.1 (all_stay _ _ c.loop-lines.invariant.on.0 _ _ before)),
+        on_serve c.args.input.now source pending c.take_lines.new.input new _ read _ c.in_ok-count.count c.drop_first.new.lines.items few c.drop_first.ensures
+            (λ count texts inside are served. (
+              counted c.in_ok-count.count count c.loop-lines.left served.0 far,
+              λ tells capacity start shrunk stands.
+                  let space = g.G.SectorView.space c.loop-lines.base in
+                  let mid = g.G.Ground.outside c.loop-lines.base in
+                  let knows = g.V.Volume.knows c.loop-lines.volume space capacity in
+                  let first = served.1 tells capacity start shrunk stands in
+                  let tells_there = c.loop-lines.invariant.tells ∙ tells in
+                  let last = shrunk_in shrunk first.0.run in
+                  let after = g.G.Ground.outside c.serve_step.new.base in
+                  let are_texts = c.as_slice.ensures.value ∙ are in
+                  let space_new = g.G.SectorView.space c.serve_step.new.base in
+                  let knows_new = g.V.Volume.knows c.serve_step.new.volume space_new capacity in
+                  let k = c.in_ok-count.count in
+                  let heard = c.in_ok-count.ensures.watched.0 in
+                  let at : 4294967295 - c.loop-lines.left ≡ count = omega (arith, served.0) in
+                  let second =
+                  texts_heard capacity first.0.now last mid (drop count texts) count heard k knows_new space_new after
+                  (subst (λ (n : ℕ). ServesHeard n heard k capacity knows_new first.0.now last mid (held most_bytes (drop count texts)) space_new after) at
+                  (subst (λ (l : List (List ℕ)). ServesHeard (4294967295 - c.loop-lines.left) heard k capacity knows_new first.0.now last mid l space_new after) are_texts (c.in_ok-count.ensures.watched.2 tells_there capacity first.0.now last first.0.stands).0)) in
+                  both_heard capacity shrunk start old texts count knows space mid first.0 inside c.loop-lines.invariant.on.0 first.1 heard k knows_new space_new after second,
+            )),
+      );
     }
 
 pub returns-in_err-take_lines-clause-faults : goal.returns-in_err-take_lines-clause-faults
@@ -221,7 +238,7 @@ pub returns-in_err-take_lines-clause-many : goal.returns-in_err-take_lines-claus
 returns-in_err-take_lines-clause-many g c told is =
     let p = err_from_is_err_and c.from_residual.result c.from_residual.ensures.1 in
     let many = c.in_err-take_lines.ensures.many (too_many _ p.0 c.from_residual.result p.1 p.2 is) in
-    let on = c.loop-lines.invariant.on in
+    let on = c.loop-lines.invariant.on.2 in
     let more = more_lines c.args.input.now (g.S.Source.stream c.args.source.now) on.0.texts c.loop-lines.input (g.S.Source.stream c.loop-lines.source) (on.0.takes told) (many.1 (subst IsTrue (sym c.loop-lines.invariant.same.tells) told)) in
     omega (arith, more, many.0, on.0.inside, on.1.0)
 
@@ -234,8 +251,8 @@ returns-then-is_empty-clause-few g c told =
     let pending = c.take_lines.new.pending.items in
     let same = c.loop-lines.invariant.same in
     let read =
-    on_add c.args.input.now source c.loop-lines.lines.items c.loop-lines.input now _ c.loop-lines.invariant.on pending c.take_lines.new.input new same.tells c.in_ok-take_lines.ensures.lines
-    (λ count texts more inside served. (served.0, λ tells capacity start shrunk stands. step_more capacity start shrunk old texts more count _ _ _ inside (served.1 tells capacity start shrunk stands))) in
+    on_add c.args.input.now source c.loop-lines.lines.items c.loop-lines.input now _ c.loop-lines.invariant.on.2 pending c.take_lines.new.input new same.tells c.in_ok-take_lines.ensures.lines
+    (λ count texts more inside served. (served.0, λ tells capacity start shrunk stands. more_heard capacity start shrunk old texts 0 c.loop-lines.invariant.on.0 more count _ _ _ inside (served.1 tells capacity start shrunk stands))) in
     let none = no_items pending c.take_lines.new.pending.len c.is_empty.result c.take_lines.new.pending.ok.0 c.is_empty.ensures c.if-is_empty.true in
     let ends = on_ends c.args.input.now source pending c.take_lines.new.input new _ read none (λ tells. (c.in_ok-take_lines.ensures.end (subst IsTrue (sym same.tells) tells) none).1) in
     let all = ends.1 told in
@@ -256,3 +273,120 @@ loop-lines-smaller g c =
     let few = subst (λ (l : List (List ℕ)). c.in_ok-count.count ≤ length l) c.as_slice.ensures.value c.in_ok-count.ensures.few in
     let some : 0 < c.in_ok-count.count = grind (arith, nat_tests, c.if-count-eq0.false) in
     omega (arith, some, few, adds.nearer, ap (λ (l : List (List ℕ)). length l) adds.held_are, length-append c.loop-lines.lines.items (held most_bytes adds.texts), length-map adds.texts (take (most_bytes + 1)), ap (λ (l : List (List ℕ)). length l) c.drop_first.ensures, length-drop c.in_ok-count.count pending)
+
+pub returns-in_err-take_lines-clause-watched : goal.returns-in_err-take_lines-clause-watched
+returns-in_err-take_lines-clause-watched g c =
+    let source = g.S.Source.stream c.args.source.now in
+    let now = g.S.Source.stream c.loop-lines.source in
+    let new = g.S.Source.stream c.take_lines.new.source in
+    let stops =
+    on_stops c.args.input.now source c.loop-lines.lines.items c.loop-lines.input now _ c.loop-lines.invariant.on.2
+    (λ (texts : List (List ℕ)). IsTrue (g.G.SectorView.space c.args.base.now).tells → (capacity : ℕ) (start : Content) (shrunk : Option ℕ)
+    → Stands (g.V.Volume.knows c.args.volume.now (g.G.SectorView.space c.args.base.now) capacity) start start shrunk (g.G.SectorView.space c.args.base.now) (g.G.Ground.outside c.args.base.now)
+    → CrashesHeard 0 c.loop-lines.invariant.on.0 capacity start shrunk (g.G.Ground.outside c.args.base.now) texts (g.G.Ground.outside c.loop-lines.base)) new (λ tells. c.take_lines.ensures.gone (subst IsTrue (sym c.loop-lines.invariant.same.tells) tells))
+    (λ count texts inside are served tells capacity start shrunk stands. ends_heard capacity shrunk start (g.G.Ground.outside c.args.base.now) texts 0 c.loop-lines.invariant.on.0 count _ _ _ (served.1 tells capacity start shrunk stands)) in
+    (c.loop-lines.invariant.on.0, c.loop-lines.invariant.on.1, stops.0, stops.1, stops.2)
+
+pub returns-then-is_empty-clause-watched : goal.returns-then-is_empty-clause-watched
+returns-then-is_empty-clause-watched g c =
+    let source = g.S.Source.stream c.args.source.now in
+    let now = g.S.Source.stream c.loop-lines.source in
+    let new = g.S.Source.stream c.take_lines.new.source in
+    let stops =
+    on_stops c.args.input.now source c.loop-lines.lines.items c.loop-lines.input now _ c.loop-lines.invariant.on.2
+    (λ (texts : List (List ℕ)). IsTrue (g.G.SectorView.space c.args.base.now).tells → (capacity : ℕ) (start : Content) (shrunk : Option ℕ)
+    → Stands (g.V.Volume.knows c.args.volume.now (g.G.SectorView.space c.args.base.now) capacity) start start shrunk (g.G.SectorView.space c.args.base.now) (g.G.Ground.outside c.args.base.now)
+    → CrashesHeard 0 c.loop-lines.invariant.on.0 capacity start shrunk (g.G.Ground.outside c.args.base.now) texts (g.G.Ground.outside c.loop-lines.base)) new (λ tells. c.take_lines.ensures.gone (subst IsTrue (sym c.loop-lines.invariant.same.tells) tells))
+    (λ count texts inside are served tells capacity start shrunk stands. ends_heard capacity shrunk start (g.G.Ground.outside c.args.base.now) texts 0 c.loop-lines.invariant.on.0 count _ _ _ (served.1 tells capacity start shrunk stands)) in
+    (c.loop-lines.invariant.on.0, c.loop-lines.invariant.on.1, stops.0, stops.1, stops.2)
+
+pub returns-in_err-count-clause-watched : goal.returns-in_err-count-clause-watched
+returns-in_err-count-clause-watched g c =
+    let source = g.S.Source.stream c.args.source.now in
+    let now = g.S.Source.stream c.loop-lines.source in
+    let new = g.S.Source.stream c.take_lines.new.source in
+    let old = g.G.Ground.outside c.args.base.now in
+    let pending = c.take_lines.new.pending.items in
+    let same = c.loop-lines.invariant.same in
+    let before = c.loop-lines.invariant.on.0 in
+    let read =
+    on_add c.args.input.now source c.loop-lines.lines.items c.loop-lines.input now _ c.loop-lines.invariant.on.2 pending c.take_lines.new.input new same.tells c.in_ok-take_lines.ensures.lines
+    (λ count texts more inside served. (served.0, λ tells capacity start shrunk stands. more_heard capacity start shrunk old texts 0 before more count _ _ _ inside (served.1 tells capacity start shrunk stands))) in
+    let heard = c.in_err-count.ensures.watched.0 in
+    let stops =
+    on_stops c.args.input.now source pending c.take_lines.new.input new _ read
+    (λ (texts : List (List ℕ)). IsTrue (g.G.SectorView.space c.args.base.now).tells → (capacity : ℕ) (start : Content) (shrunk : Option ℕ)
+    → Stands (g.V.Volume.knows c.args.volume.now (g.G.SectorView.space c.args.base.now) capacity) start start shrunk (g.G.SectorView.space c.args.base.now) old
+    → CrashesHeard 0 (before ++ heard) capacity start shrunk old texts (g.G.Ground.outside c.serve_step.new.base)) new (λ tells. (c.take_lines.new.input, refl))
+    (λ count texts inside are served tells capacity start shrunk stands.
+    let space = g.G.SectorView.space c.loop-lines.base in
+    let mid = g.G.Ground.outside c.loop-lines.base in
+    let knows = g.V.Volume.knows c.loop-lines.volume space capacity in
+    let first = served.1 tells capacity start shrunk stands in
+    let tells_there = c.loop-lines.invariant.tells ∙ tells in
+    let last = shrunk_in shrunk first.0.run in
+    let after = g.G.Ground.outside c.serve_step.new.base in
+    let are_texts = c.as_slice.ensures.value ∙ are in
+    let at : 4294967295 - c.loop-lines.left ≡ count = omega (arith, served.0) in
+    let second =
+    crash_heard capacity first.0.now last mid (drop count texts) count heard after
+    (subst (λ (n : ℕ). CrashesHeard n heard capacity first.0.now last mid (held most_bytes (drop count texts)) after) at
+    (subst (λ (l : List (List ℕ)). CrashesHeard (4294967295 - c.loop-lines.left) heard capacity first.0.now last mid l after) are_texts (c.in_err-count.ensures.watched.2 tells_there capacity first.0.now last first.0.stands).1)) in
+    crash_both_heard capacity shrunk start old texts count knows space mid first.0 inside before first.1 heard after second) in (
+      before ++ heard,
+      λ stay.
+          let there = c.loop-lines.invariant.on.1 stay in
+          told_both _ _ before heard _ _ _ there (c.in_err-count.ensures.watched.1 (all_stay _ _ before _ _ there)),
+      stops.0,
+      stops.1,
+      stops.2,
+    )
+
+pub returns-then-count-eq0-clause-watched : goal.returns-then-count-eq0-clause-watched
+returns-then-count-eq0-clause-watched g c =
+    let source = g.S.Source.stream c.args.source.now in
+    let now = g.S.Source.stream c.loop-lines.source in
+    let new = g.S.Source.stream c.take_lines.new.source in
+    let old = g.G.Ground.outside c.args.base.now in
+    let pending = c.take_lines.new.pending.items in
+    let same = c.loop-lines.invariant.same in
+    let before = c.loop-lines.invariant.on.0 in
+    let read =
+    on_add c.args.input.now source c.loop-lines.lines.items c.loop-lines.input now _ c.loop-lines.invariant.on.2 pending c.take_lines.new.input new same.tells c.in_ok-take_lines.ensures.lines
+    (λ count texts more inside served. (served.0, λ tells capacity start shrunk stands. more_heard capacity start shrunk old texts 0 before more count _ _ _ inside (served.1 tells capacity start shrunk stands))) in
+    let heard = c.in_ok-count.ensures.watched.0 in
+    let stops =
+    on_stops c.args.input.now source pending c.take_lines.new.input new _ read
+    (λ (texts : List (List ℕ)). IsTrue (g.G.SectorView.space c.args.base.now).tells → (capacity : ℕ) (start : Content) (shrunk : Option ℕ)
+    → Stands (g.V.Volume.knows c.args.volume.now (g.G.SectorView.space c.args.base.now) capacity) start start shrunk (g.G.SectorView.space c.args.base.now) old
+    → CrashesHeard 0 (before ++ heard) capacity start shrunk old texts (g.G.Ground.outside c.serve_step.new.base)) new (λ tells. (c.take_lines.new.input, refl))
+    (λ count texts inside are served tells capacity start shrunk stands.
+    let space = g.G.SectorView.space c.loop-lines.base in
+    let mid = g.G.Ground.outside c.loop-lines.base in
+    let knows = g.V.Volume.knows c.loop-lines.volume space capacity in
+    let first = served.1 tells capacity start shrunk stands in
+    let tells_there = c.loop-lines.invariant.tells ∙ tells in
+    let last = shrunk_in shrunk first.0.run in
+    let after = g.G.Ground.outside c.serve_step.new.base in
+    let are_texts = c.as_slice.ensures.value ∙ are in
+    let at : 4294967295 - c.loop-lines.left ≡ count = omega (arith, served.0) in
+    let space_new = g.G.SectorView.space c.serve_step.new.base in
+    let knows_new = g.V.Volume.knows c.serve_step.new.volume space_new capacity in
+    let k = c.in_ok-count.count in
+    let second =
+    texts_heard capacity first.0.now last mid (drop count texts) count heard k knows_new space_new after
+    (subst (λ (n : ℕ). ServesHeard n heard k capacity knows_new first.0.now last mid (held most_bytes (drop count texts)) space_new after) at
+    (subst (λ (l : List (List ℕ)). ServesHeard (4294967295 - c.loop-lines.left) heard k capacity knows_new first.0.now last mid l space_new after) are_texts (c.in_ok-count.ensures.watched.2 tells_there capacity first.0.now last first.0.stands).0)) in
+    ends_heard capacity shrunk start old texts 0 (before ++ heard) (count + k) knows_new space_new after (both_heard capacity shrunk start old texts count knows space mid first.0 inside before first.1 heard k knows_new space_new after second)) in (
+      before ++ heard,
+      λ stay.
+          let there = c.loop-lines.invariant.on.1 stay in
+          told_both _ _ before heard _ _ _ there (c.in_ok-count.ensures.watched.1 (all_stay _ _ before _ _ there)),
+      stops.0,
+      stops.1,
+      stops.2,
+    )
+
+pub serve_step-requires-clause-numbers : goal.serve_step-requires-clause-numbers
+serve_step-requires-clause-numbers g c =
+    omega (arith, c.loop-lines.invariant.bound, c.in_ok-take_lines.ensures.left, ap (λ (l : List (List ℕ)). length l) c.as_slice.ensures.value)

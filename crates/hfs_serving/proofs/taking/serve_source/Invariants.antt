@@ -1,10 +1,13 @@
-use Rattle.std.proofs.Common.{◌≡◌, ◌≤◌, ◌+◌, ℕ, List, length}
+use Rattle.std.proofs.Common.{◌≡◌, ◌≤◌, ◌+◌, ℕ, List, false, length}
 use Rattle.std.specs.Prelude.{Option, IsTrue}
 use Rattle.jnl_format.specs.Recovery.{Content}
 use Rattle.line_source.specs.Input.{weight, SameSource}
 use Rattle.hfs_serving.specs.Faults.{CountsFaults}
 use Rattle.hfs_serving.specs.Going.{Stands}
-use Rattle.hfs_serving.specs.Steps.{ServesStep}
+use Rattle.hfs_language.specs.declared.reply.Change.{Change}
+use Rattle.std.specs.List.{AllByRecursion}
+use Rattle.watchers.specs.Told.{AreTold}
+use Rattle.hfs_serving.specs.Watching.{ServesHeard}
 use Rattle.hfs_serving.proofs.Pending.{On}
 use Rattle.hfs_serving.proofs.taking.serve_source.Given as goal
 
@@ -20,10 +23,14 @@ invariant-loop-lines g l =
       nothing : (capacity : ℕ) → g.G.Ground.serves l.fn.base capacity → g.G.Ground.taken l.fn.base ≡ 0 → g.G.Ground.taken l.base ≡ 0;
       fits : length l.lines.items ≤ l.left;
       most : length l.lines.items ≤ 32;
-      on : On l.fn.input (g.S.Source.stream l.fn.source) l.lines.items l.input (g.S.Source.stream l.source)
+      bound : l.left ≤ 4294967295;
+      on : (heard : List Change)
+          × (AllByRecursion (λ w. (goal.Watcher-dyn g (w.vtable, w.value)).leaves w.value ≡ false) l.fn.watchers.items
+          → AreTold (λ w. (goal.Watcher-dyn g (w.vtable, w.value)).told w.value) (λ w. (goal.Watcher-dyn g (w.vtable, w.value)).leaves w.value) heard l.fn.watchers.items l.watchers.items)
+          × On l.fn.input (g.S.Source.stream l.fn.source) l.lines.items l.input (g.S.Source.stream l.source)
           (λ count texts. (count + l.left ≡ 4294967295) × (IsTrue (g.G.SectorView.space l.fn.base).tells → (capacity : ℕ) (start : Content) (shrunk : Option ℕ)
           → Stands (g.V.Volume.knows l.fn.volume (g.G.SectorView.space l.fn.base) capacity) start start shrunk (g.G.SectorView.space l.fn.base) (g.G.Ground.outside l.fn.base)
-          → ServesStep count capacity (g.V.Volume.knows l.volume (g.G.SectorView.space l.base) capacity) start shrunk (g.G.Ground.outside l.fn.base) texts (g.G.SectorView.space l.base) (g.G.Ground.outside l.base)));
+          → ServesHeard 0 heard count capacity (g.V.Volume.knows l.volume (g.G.SectorView.space l.base) capacity) start shrunk (g.G.Ground.outside l.fn.base) texts (g.G.SectorView.space l.base) (g.G.Ground.outside l.base)));
     }
 
 abbrev pub decreases-loop-lines : goal.decreases-loop-lines

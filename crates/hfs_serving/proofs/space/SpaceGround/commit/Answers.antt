@@ -3,7 +3,7 @@ use Rattle.std.specs.Prelude.{IsTrue}
 use Rattle.std.proofs.lemmas.Bool.{cases_eq}
 use Rattle.jnl_store.specs.Store.{faults_of}
 use Rattle.hfs_serving.proofs.Grounding.{commit_leaves, commit_makes, heads_on, kept_after, keeps_tells, same_anchor, serves_after, sizes_over, tells_still, told_disk}
-use Rattle.std.proofs.Common.{◌≤◌, Result, arith}
+use Rattle.std.proofs.Common.{Result, arith}
 use Rattle.std.specs.Prelude.{OnErr}
 use Rattle.sector_disk.specs.Cause.{Rose}
 use Rattle.jnl_store.specs.declared.store.StoreFault.{StoreFault}

@@ -1,7 +1,7 @@
-use Rattle.std.proofs.Common.{ℕ, List, ◌∷◌, [], get_or, ap}
+use Rattle.std.proofs.Common.{◌∷◌, [], get_or, ap}
 use Rattle.hfs_serving.specs.Grounds.{anchor_of}
 use Rattle.hfs_serving.proofs.Grounding.{rests_on_disk, seen_outside, serves_still}
-use Rattle.std.proofs.Common.{◌≤◌, arith}
+use Rattle.std.proofs.Common.{arith}
 use Rattle.hfs_serving.proofs.space.SpaceGround.look.Goals as goal
 
 pub returns-clause-still : goal.returns-clause-still
