@@ -153,63 +153,90 @@ fn fresh_single(alloc: Global) -> Result<Single, OutOfMemory> {
     })
 }
 
+// The offset of each field of a fresh volume header that isn't zero, and its number.
+const HEADER: [(usize, u32); 33] = [
+    (0, 0x4858_0005),
+    (4, 0x2100),
+    (8, 0x4846_534A),
+    (12, 2),
+    (32, 2),
+    (40, 4096),
+    (44, 2048),
+    (48, 1692),
+    (52, 355),
+    (56, 4096),
+    (60, 4096),
+    (64, 18),
+    (76, 1),
+    (116, 4096),
+    (120, 4096),
+    (124, 1),
+    (128, 1),
+    (132, 1),
+    (196, 65536),
+    (200, 4096),
+    (204, 16),
+    (208, 259),
+    (212, 16),
+    (276, 262_144),
+    (280, 4096),
+    (284, 64),
+    (288, 291),
+    (292, 64),
+    (356, 65536),
+    (360, 4096),
+    (364, 16),
+    (368, 275),
+    (372, 16),
+];
+
+// The same of a fresh info block.
+const INFO: [(usize, u32); 3] = [(0, 1), (40, 12288), (48, 1_048_576)];
+
+// The front of a fresh journal header, little-endian: magic, order, start, end, size, list header size, checksum, header size.
+const JOURNAL: [u8; 44] = [
+    0x78, 0x4C, 0x4E, 0x4A, 0x78, 0x56, 0x34, 0x12, 0, 2, 0, 0, 0, 0, 0, 0, 0, 2, 0, 0, 0, 0, 0, 0,
+    0, 0, 0x10, 0, 0, 0, 0, 0, 0, 0x10, 0, 0, 0x69, 0x5B, 0x5A, 8, 0, 2, 0, 0,
+];
+
+// The number of a table at an offset, and zero where it has none.
+fn number_at(table: &[(usize, u32)], at: usize) -> u32 {
+    for (place, number) in table {
+        if *place == at {
+            return *number;
+        }
+    }
+    0
+}
+
+// The first offset at which a sector hasn't the numbers of a table.
+fn first_other(sector: &Sector, table: &[(usize, u32)]) -> Option<usize> {
+    for word in 0..128 {
+        if long(sector, 4 * word) != number_at(table, 4 * word) {
+            return Some(4 * word);
+        }
+    }
+    None
+}
+
 #[test]
 fn fresh_headers_stand_as_formatted(rt: HostRuntime) -> Result<(), Fail> {
     let parts = fresh_single(rt.alloc())?;
-    // the offset of each field that isn't zero, and its number
-    let header = [
-        (0, 0x4858_0005),
-        (4, 0x2100),
-        (8, 0x4846_534A),
-        (12, 2),
-        (32, 2),
-        (40, 4096),
-        (44, 2048),
-        (48, 1692),
-        (52, 355),
-        (56, 4096),
-        (60, 4096),
-        (64, 18),
-        (76, 1),
-        (116, 4096),
-        (120, 4096),
-        (124, 1),
-        (128, 1),
-        (132, 1),
-        (196, 65536),
-        (200, 4096),
-        (204, 16),
-        (208, 259),
-        (212, 16),
-        (276, 262_144),
-        (280, 4096),
-        (284, 64),
-        (288, 291),
-        (292, 64),
-        (356, 65536),
-        (360, 4096),
-        (364, 16),
-        (368, 275),
-        (372, 16),
-    ];
-    for word in 0..128 {
-        let want = header
-            .iter()
-            .find(|(at, _)| *at == 4 * word)
-            .map_or(0, |(_, number)| *number);
-        assert_eq!(rt; long(&parts.header, 4 * word), want, "at {}", 4 * word);
-    }
+    assert_eq!(rt; first_other(&parts.header, &HEADER), None);
     assert!(rt; parts.alternate == parts.header);
-    for (at, want) in [(0, 1), (36, 0), (40, 12288), (44, 0), (48, 1_048_576)] {
-        assert_eq!(rt; long(&parts.info, at), want, "at {at}");
-    }
-    // little-endian: magic, order, start, end, size, list header size, checksum, header size
-    let journal = [
-        0x78, 0x4C, 0x4E, 0x4A, 0x78, 0x56, 0x34, 0x12, 0, 2, 0, 0, 0, 0, 0, 0, 0, 2, 0, 0, 0, 0,
-        0, 0, 0, 0, 0x10, 0, 0, 0, 0, 0, 0, 0x10, 0, 0, 0x69, 0x5B, 0x5A, 8, 0, 2, 0, 0,
-    ];
-    assert!(rt; parts.journal.starts_with(&journal));
-    assert!(rt; parts.journal.iter().skip(44).all(|byte| *byte == 0));
+    assert_eq!(rt; first_other(&parts.info, &INFO), None);
+    Ok(())
+}
+
+// Whether a sector has these bytes in front, and zeros behind them.
+fn has_front(sector: &Sector, front: &[u8]) -> bool {
+    sector.starts_with(front) && sector.iter().skip(front.len()).all(|byte| *byte == 0)
+}
+
+#[test]
+fn the_fresh_journal_stands_as_formatted(rt: HostRuntime) -> Result<(), Fail> {
+    let parts = fresh_single(rt.alloc())?;
+    assert!(rt; has_front(&parts.journal, &JOURNAL));
     Ok(())
 }
 
@@ -296,42 +323,53 @@ fn fresh_leaf(alloc: Global) -> Result<Vec<u8>, OutOfMemory> {
     joined(alloc, &parts.leaf)
 }
 
+// A record of a leaf: its place, its parent, the length of its name, its type, and of a folder or a file its id.
+type Record = (usize, u32, u16, u16, u32);
+
+const RECORDS: [Record; 6] = [
+    (14, 1, 8, 1, 2),
+    (126, 2, 0, 3, 0),
+    (160, 2, 8, 2, 17),
+    (432, 2, 19, 2, 16),
+    (726, 16, 0, 4, 0),
+    (782, 17, 0, 4, 0),
+];
+
+fn has_key(leaf: &[u8], at: usize, parent: u32, length: u16) -> bool {
+    short(leaf, at) == length.saturating_mul(2).saturating_add(6)
+        && long(leaf, at.saturating_add(2)) == parent
+        && short(leaf, at.saturating_add(6)) == length
+}
+
+fn has_record(leaf: &[u8], record: Record) -> bool {
+    let (at, parent, length, kind, id) = record;
+    let value = at.saturating_add(8 + 2 * usize::from(length));
+    has_key(leaf, at, parent, length)
+        && short(leaf, value) == kind
+        && (kind >= 3 || long(leaf, value.saturating_add(8)) == id)
+}
+
 #[test]
 fn the_leaf_has_the_records_of_root_and_journal(rt: HostRuntime) -> Result<(), Fail> {
+    let leaf = fresh_leaf(rt.alloc())?;
+    assert_eq!(rt; [8, 10].map(|at| short(leaf.as_slice(), at)), [0xFF01, 6]);
+    for record in RECORDS {
+        assert!(rt; has_record(leaf.as_slice(), record), "at {}", record.0);
+    }
+    Ok(())
+}
+
+// The offsets of the records; the root's valence and mode; the journal's flags, mode, size, blocks and first block.
+#[test]
+fn the_leaf_has_these_numbers(rt: HostRuntime) -> Result<(), Fail> {
     let node = fresh_leaf(rt.alloc())?;
     let leaf = node.as_slice();
-    assert_eq!(rt; [8, 10].map(|at| short(leaf, at)), [0xFF01, 6]);
-    // the record's place, its parent, the length of its name, its type, and of a folder or a file its id
-    let records = [
-        (14, 1, 8, 1, 2),
-        (126, 2, 0, 3, 0),
-        (160, 2, 8, 2, 17),
-        (432, 2, 19, 2, 16),
-        (726, 16, 0, 4, 0),
-        (782, 17, 0, 4, 0),
-    ];
-    for (at, parent, length, kind, id) in records {
-        let value = at + 8 + 2 * usize::from(length);
-        assert_eq!(rt; short(leaf, at), 6 + 2 * length, "key length at {at}");
-        assert_eq!(rt;
-            (long(leaf, at + 2), short(leaf, at + 6)),
-            (parent, length),
-            "key at {at}"
-        );
-        assert_eq!(rt; short(leaf, value), kind, "type at {at}");
-        if kind < 3 {
-            assert_eq!(rt; long(leaf, value + 8), id, "id at {at}");
-        }
-    }
     let table = [4082, 4084, 4086, 4088, 4090, 4092, 4094].map(|at| short(leaf, at));
-    assert_eq!(rt; table, [816, 782, 726, 432, 160, 126, 14]);
-    // the root's valence and mode; the journal's flags, mode, size, blocks and first block
-    assert_eq!(rt; (long(leaf, 42), short(leaf, 80)), (2, 0x41ED));
-    assert_eq!(rt; (short(leaf, 186), short(leaf, 226)), (2, 0x81A4));
-    assert_eq!(rt;
-        [276, 284, 288, 292].map(|at| long(leaf, at)),
-        [1_048_576, 256, 3, 256]
-    );
+    assert!(rt; table == [816, 782, 726, 432, 160, 126, 14]);
+    let shorts = [80, 186, 226].map(|at| short(leaf, at));
+    assert!(rt; shorts == [0x41ED, 2, 0x81A4]);
+    let longs = [42, 276, 284, 288, 292].map(|at| long(leaf, at));
+    assert!(rt; longs == [2, 1_048_576, 256, 3, 256]);
     Ok(())
 }
 
@@ -489,27 +527,52 @@ fn what_is_open_is_not_looked_at(rt: HostRuntime) -> Result<(), Fail> {
     Ok(())
 }
 
+// A name, and whether a folder of a thin volume may have it.
+const JUDGED: [(&str, bool); 8] = [
+    ("", false),
+    ("a", true),
+    ("0z9", true),
+    ("A", false),
+    ("a-b", false),
+    ("a/", false),
+    ("abcdefghijklmnopqrstuvwxyz01234", true),
+    ("abcdefghijklmnopqrstuvwxyz012345", false),
+];
+
+fn is_thin(alloc: Global, text: &str) -> Result<bool, OutOfMemory> {
+    Ok(is_thin_name(&units(alloc, text)?))
+}
+
 #[test]
-fn names_are_judged_and_sorted(rt: HostRuntime) -> Result<(), Fail> {
-    let alloc = rt.alloc();
-    // a name, and whether a folder of a thin volume may have it
-    let cases = [
-        ("", false),
-        ("a", true),
-        ("0z9", true),
-        ("A", false),
-        ("a-b", false),
-        ("a/", false),
-        ("abcdefghijklmnopqrstuvwxyz01234", true),
-        ("abcdefghijklmnopqrstuvwxyz012345", false),
-    ];
-    for (text, want) in cases {
-        assert_eq!(rt; is_thin_name(&units(alloc, text)?), want, "{text}");
+fn names_are_judged(rt: HostRuntime) -> Result<(), Fail> {
+    for (text, want) in JUDGED {
+        assert_eq!(rt; is_thin(rt.alloc(), text)?, want, "{text}");
     }
+    Ok(())
+}
+
+fn has_name(alloc: Global, list: &Names, text: &str) -> Result<bool, OutOfMemory> {
+    Ok(contains(list, &units(alloc, text)?))
+}
+
+fn are_thin(alloc: Global, texts: &[&str]) -> Result<bool, OutOfMemory> {
+    Ok(are_thin_names(&names(alloc, texts)?))
+}
+
+#[test]
+fn names_are_sorted(rt: HostRuntime) -> Result<(), Fail> {
+    let alloc = rt.alloc();
     let list = names(alloc, &["b", "ab", "a", "9"])?;
     assert!(rt; are_named(&sorted(alloc, &list)?, &["9", "a", "ab", "b"]));
-    assert!(rt; contains(&list, &units(alloc, "ab")?) && !contains(&list, &units(alloc, "c")?));
+    assert!(rt; has_name(alloc, &list, "ab")?);
+    assert!(rt; !has_name(alloc, &list, "c")?);
     assert_eq!(rt; place_of(&list, &units(alloc, "a")?), 2);
-    assert!(rt; are_thin_names(&list) && !are_thin_names(&names(alloc, &["a", "a"])?));
+    Ok(())
+}
+
+#[test]
+fn no_name_stands_twice(rt: HostRuntime) -> Result<(), Fail> {
+    assert!(rt; are_thin(rt.alloc(), &["b", "ab", "a", "9"])?);
+    assert!(rt; !are_thin(rt.alloc(), &["a", "a"])?);
     Ok(())
 }
