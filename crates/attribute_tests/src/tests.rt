@@ -1,5 +1,8 @@
 //! Whole lives of attributes: set, given other values, deleted, dropped a file at a time, and set again.
-use crate::{Flaw, Table, check_all, delete, drop_all, set, wanted};
+use crate::checks::check_all;
+use crate::flaw::{Flaw, wanted};
+use crate::steps::{delete, drop_all, set};
+use crate::table::Table;
 use entry_kit::{Drawer, Length};
 use std::alloc::Global;
 

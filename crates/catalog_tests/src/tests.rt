@@ -1,5 +1,8 @@
 //! Whole lives of a catalog: filled, changed, moved about and emptied.
-use crate::{Flaw, Place, Table, add, check_all, move_on, remove, update, wanted};
+use crate::checks::check_all;
+use crate::flaw::{Flaw, wanted};
+use crate::steps::{add, move_on, remove, update};
+use crate::table::{Place, Table};
 use catalog::Moved;
 use entry_kit::{Length, Shelf};
 use std::alloc::Global;

@@ -5,6 +5,7 @@
 mod barriers;
 #[cfg(test)]
 mod checks;
+#[cfg(test)]
 mod counting;
 #[cfg(test)]
 mod faults;
@@ -12,5 +13,3 @@ mod faults;
 mod formats;
 #[cfg(test)]
 mod lines;
-
-pub use counting::Counting;

@@ -1,15 +1,15 @@
 //! Whole forks stored and loaded over nodes in memory, held against plain lists, with their records as the format has them.
 #![tactic(auto)]
 
+#[cfg(test)]
 mod checks;
+#[cfg(test)]
 mod flaw;
+#[cfg(test)]
 mod fork;
+#[cfg(test)]
 mod forks;
+#[cfg(test)]
 mod gates;
 #[cfg(test)]
 mod tests;
-
-pub use checks::{check, store};
-pub use flaw::{Flaw, wanted};
-pub use fork::{Fork, count_records, scattered};
-pub use forks::Forks;

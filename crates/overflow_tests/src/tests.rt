@@ -1,5 +1,8 @@
 //! Forks grown, cut and replaced beside their neighbours.
-use crate::{Flaw, Fork, Forks, check, scattered, store, wanted};
+use crate::checks::{check, store};
+use crate::flaw::{Flaw, wanted};
+use crate::fork::{Fork, scattered};
+use crate::forks::Forks;
 use fork_map::ExtentList;
 use hx_bytes::{Extent, OutOfMemory};
 use std::alloc::Global;
