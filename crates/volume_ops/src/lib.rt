@@ -23,7 +23,6 @@ mod marking;
 mod mounting;
 mod move_weight;
 mod moving;
-mod moving;
 mod names;
 mod new_entries;
 mod nodes;
