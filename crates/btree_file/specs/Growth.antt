@@ -3,6 +3,7 @@ use Rattle.std.specs.Prelude.{◌≡◌, ◌≢◌, ◌⊎◌, ◌<◌, ◌≤�
 use Rattle.std.specs.List.{All, count_by, list_all, range_with_len}
 use Rattle.hx_bytes.specs.declared.extents.Extent.{Extent}
 use Rattle.fork_map.specs.Blocks.{blocks_of, fork_sectors}
+use Rattle.fork_map.specs.Cut.{join}
 use Rattle.flag_rows.specs.Bits.{bit_of}
 use Rattle.btree_node.specs.Node.{next_of}
 use Rattle.btree_node.specs.TreeFile.{tree_head, shape_of}
@@ -147,6 +148,7 @@ pub record HasGrown (run : Extent) (before after : TreeFile) (old new : List (Li
   pub total : after.shape.total ≡ nodes_with before run
   pub free : after.shape.free + map_nodes_with before run ≡ before.shape.free + nodes_in run before.per_block before.shape.node_size
   pub blocks : blocks_of after.fork ≡ blocks_of before.fork ++ blocks_of (run ∷ [])
+  pub extents : after.fork ≡ join before.fork (run ∷ [])
   pub per_block : after.per_block ≡ before.per_block
   pub grew : GrewFrom before after
 

@@ -2,6 +2,7 @@
 ghost use Rattle.std.specs.Prelude.{◌≡◌, ◌≢◌, ◌⊎◌, ◌<◌, ◌≤◌, ◌+◌, ◌*◌, ◌/◌, ◌++◌, ◌∷◌, ◌^◌, [], IsTrue, length, replicate, vec_len, vec_capacity, IfOk, IfSome, IsSome, OnOk, OnErr, IsErrOf};
 ghost use Rattle.hx_bytes.specs.declared.faults.Trouble.TheVariants.{Disk};
 ghost use Rattle.fork_map.specs.Blocks.{blocks_of, fork_sectors};
+ghost use Rattle.fork_map.specs.Cut.{join};
 ghost use Rattle.fork_map.specs.Nodes.{node_of};
 ghost use Rattle.sector_disk.specs.Cause.{HasCause, Rose};
 ghost use Rattle.btree_node.specs.Node.{IsNodeSize};
@@ -40,7 +41,8 @@ fn count_nodes(run: Extent, per_block: u32, node_size: u32) -> u64
 
 /// A fork with a run behind it.
 fn longer_fork(alloc: Global, fork: &SummedFork, run: Extent) -> Result<SummedFork, OutOfMemory>
-    ensures { IfOk result (λ list. blocks_of list ≡ blocks_of fork.now ++ blocks_of (run ∷ [])) }
+    ensures blocks { IfOk result (λ list. blocks_of list ≡ blocks_of fork.now ++ blocks_of (run ∷ [])) }
+    ensures extents { IfOk result (λ list. list ≡ join fork.now (run ∷ [])) }
 {
     let mut tail = ExtentList::new(alloc);
     tail.push(run)?;
@@ -88,6 +90,7 @@ impl TreeFile {
         requires few { nodes_with self.now run < 2 ^ 32 }
         ensures some { IfOk result (λ found. IfSome found (λ growth. 0 < length self.now.map.items)) }
         ensures blocks { IfOk result (λ found. IfSome found (λ growth. blocks_of growth.fork ≡ blocks_of self.now.fork ++ blocks_of (run ∷ []))) }
+        ensures extents { IfOk result (λ found. IfSome found (λ growth. growth.fork ≡ join self.now.fork (run ∷ []))) }
         ensures apart { IfOk result (λ found. IfSome found (λ growth. AreApart (fork_sectors growth.fork self.now.per_block))) }
         ensures zeros { IfOk result (λ found. IfSome found (λ growth. growth.zeros ≡ replicate self.now.shape.node_size 0)) }
         ensures goal { IfOk result (λ found. IfSome found (λ growth. growth.goal ≡ nodes_with self.now run)) }

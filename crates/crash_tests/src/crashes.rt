@@ -1,13 +1,22 @@
 //! Power fails after each write and each barrier of a run.
-use crate::runs::{folders_in, run_lines};
-use crate::thin::{Thin, fresh_thin};
+use crate::few::{Few, fresh_few};
+use crate::plain::told_behind;
+use crate::runs::{is_clean, run_lines, told_by};
 use hx_bytes::OutOfMemory;
 use mem_disk::MemImage;
 use std::alloc::Global;
 
 /// A run that makes six folders, and asks after each that it is durable.
-pub const LINES: &[u8] =
+const FOLDERS: &[u8] =
     b"mkdir /d0\nsync\nmkdir /d1\nsync\nmkdir /d2\nsync\nmkdir /d3\nsync\nmkdir /d4\nsync\nmkdir /d5\nsync\n";
+
+/// A run with each command that changes a volume without bytes of files.
+const COMMANDS: &[u8] =
+    b"mkdir /a\ncreate /a/f\nat 500\nchmod /a/f 600\nsetattr /a/f k =one\nsync\nmkdir /a/b\nmv /a/f /a/b/g\nsetattr /a/b/g k =two\nsetattr /a l =\nsync\ndelattr /a/b/g k\ncreate /h\nrmdir /a\nmv /a/b/g /g\nrmdir /a/b\nrmdir /a\nsync\n";
+
+/// What is read back behind it.
+const READS: &[u8] =
+    b"ls /\nstat /\nls /a\nstat /a\nlsattr /a\nstat /a/f\ngetattr /a/f k\nls /a/b\nstat /a/b\nstat /a/b/g\ngetattr /a/b/g k\nstat /h\nstat /g\nlsattr /g\n";
 
 /// What all crashes of a run left.
 #[derive(Clone, Copy)]
@@ -18,34 +27,47 @@ pub struct Tried {
     pub wrong: Option<u64>,
 }
 
-/// All crashes of a run on a new volume.
+/// All crashes of a run of all commands on a new volume.
 pub fn try_all(alloc: Global, choice: u64) -> Result<Tried, OutOfMemory> {
-    try_from(alloc, &fresh_thin(alloc)?, choice)
+    try_from(alloc, &fresh_few(alloc)?, COMMANDS, READS, choice)
 }
 
-/// All crashes of a run on a volume of which the ring was nearly gone round before.
+/// All crashes of a run on a volume of which the ring was gone round before.
 pub fn try_worn(alloc: Global, choice: u64) -> Result<Tried, OutOfMemory> {
-    try_from(alloc, &worn(alloc)?, choice)
+    try_from(alloc, &worn(alloc)?, FOLDERS, b"ls /\n", choice)
 }
 
-// How many mounts the ring is worn by, each of two batches: the header that a mount commits, and that of its end.
-const MOUNTS: u64 = 222;
+/// How many batches wear the ring: a new mode of the root, and a `sync`.
+const BATCHES: u16 = 506;
 
-/// A volume on which 444 batches were committed before. The next list begins so near to the ring's end that the ring
+/// A volume on which so many batches were committed before. The next list begins so near to the ring's end that the ring
 /// wraps inside one of the lists of the run.
 pub fn worn(alloc: Global) -> Result<MemImage, OutOfMemory> {
-    let mut disk = Thin::over(alloc, &fresh_thin(alloc)?)?;
-    for _ in 0..MOUNTS {
-        run_lines(alloc, &mut disk, b"")?;
+    let mut disk = Few::over(alloc, &fresh_few(alloc)?)?;
+    let mut lines = Vec::new(alloc);
+    for batch in 0..BATCHES {
+        lines.extend_from_slice(b"chmod / ")?;
+        for place in [6, 3, 0] {
+            lines.push(b'0' + (batch >> place & 7) as u8)?;
+        }
+        lines.extend_from_slice(b"\nsync\n")?;
     }
+    run_lines(alloc, &mut disk, &lines)?;
     disk.rig.image(alloc, 1)
 }
 
-/// Stops the run after each call that wrote, and mounts the image of this choice. It must have the first j
-/// folders, j at least half the number of the lines that were told, rounded up.
-fn try_from(alloc: Global, start: &MemImage, choice: u64) -> Result<Tried, OutOfMemory> {
-    let mut whole = Thin::over(alloc, start)?;
-    run_lines(alloc, &mut whole, LINES)?;
+/// Stops the run after each call that wrote, and mounts the image of this choice. It must be sound, and what is read of it must be what the
+/// plain tree tells after some of the lines, among them each that was answered.
+fn try_from(
+    alloc: Global,
+    start: &MemImage,
+    lines: &[u8],
+    reads: &[u8],
+    choice: u64,
+) -> Result<Tried, OutOfMemory> {
+    let wanted = told_behind(alloc, lines, reads)?;
+    let mut whole = Few::over(alloc, start)?;
+    run_lines(alloc, &mut whole, lines)?;
     let mut tried = Tried {
         crashes: 0,
         wrong: None,
@@ -55,16 +77,30 @@ fn try_from(alloc: Global, start: &MemImage, choice: u64) -> Result<Tried, OutOf
             continue;
         }
         let stop = call.saturating_add(1);
-        let mut disk = Thin::over(alloc, start)?;
+        let mut disk = Few::over(alloc, start)?;
         disk.rig.stop_after(stop);
-        let ran = run_lines(alloc, &mut disk, LINES)?;
+        let ran = run_lines(alloc, &mut disk, lines)?;
         let image = disk.rig.image(alloc, choice)?;
-        let least = ran.lines.div_ceil(2);
-        match folders_in(alloc, &image)? {
-            Some(folders) if least <= folders => {}
-            _ => tried.wrong = Some(stop),
+        let told = told_by(alloc, &image, reads)?;
+        if !is_clean(alloc, &image)? || !is_one_of(&wanted, ran.lines, told) {
+            tried.wrong = Some(stop);
         }
         tried.crashes = tried.crashes.saturating_add(1);
     }
     Ok(tried)
+}
+
+// Whether this was told, and is wanted after so many lines at least.
+fn is_one_of(wanted: &[Vec<u8>], least: u64, told: Option<Vec<u8>>) -> bool {
+    let Some(told) = told else {
+        return false;
+    };
+    let mut count: u64 = 0;
+    for want in wanted {
+        if least <= count && want.as_slice() == told.as_slice() {
+            return true;
+        }
+        count = count.saturating_add(1);
+    }
+    false
 }

@@ -4,7 +4,7 @@ use hx_bytes::{Order, OutOfMemory, Sector, write_be32};
 use jnl_format::{Entry, Header, ListHead, write_entry, write_header, write_list};
 use mem_disk::MemRig;
 use std::alloc::Global;
-use test_kit::{BASE, fresh, put, run_on, sector_of};
+use test_kit::{BASE, INFO, fresh, put, run_on, sector_of};
 
 pub const HEADER: u64 = 2;
 
@@ -114,6 +114,18 @@ pub fn is_refused(alloc: Global, damage: Damage, told: &str) -> Result<bool, Out
     let ended = run_on(alloc, "run v.img", &mut mounted, b"ls /\n")?;
     let is_told = mounted.told() == told.as_bytes();
     Ok(ended == Status::Refused && is_told && !has_written(&mounted))
+}
+
+/// What a run tells on a volume with a live journal that still has to be initialised: such a journal counts as empty.
+pub fn told_before_the_journal(alloc: Global) -> Result<Vec<u8>, OutOfMemory> {
+    let mut rig = live(alloc)?;
+    change(&mut rig, INFO, 0, 5);
+    let mut mounted = settled(alloc, &rig)?;
+    run_on(alloc, "run v.img", &mut mounted, b"ls /\n")?;
+    if sector_of(&mut mounted, HOME) == [2; 512] {
+        return Ok(Vec::new(alloc));
+    }
+    Ok(Vec::from_slice(alloc, mounted.told())?)
 }
 
 /// How many sectors outside the journal a run changes that only mounts: the block's sector has its bytes then.

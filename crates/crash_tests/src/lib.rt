@@ -4,14 +4,16 @@
 #[cfg(test)]
 mod crashes;
 #[cfg(test)]
+mod few;
+#[cfg(test)]
 mod journals;
+#[cfg(test)]
+mod plain;
 #[cfg(test)]
 mod replays;
 #[cfg(test)]
 mod runs;
 #[cfg(test)]
 mod tests;
-#[cfg(test)]
-mod thin;
 #[cfg(test)]
 mod twice;

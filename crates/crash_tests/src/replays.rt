@@ -1,6 +1,6 @@
 //! A replay that is stopped after half of its home sectors, and its repetition too.
-use crate::runs::{folders_in, run_lines};
-use crate::thin::{Thin, fresh_thin};
+use crate::few::{Few, fresh_few};
+use crate::runs::{run_lines, told_by};
 use hx_bytes::OutOfMemory;
 use jnl_format::{read_header, read_list};
 use mem_disk::MemImage;
@@ -77,17 +77,17 @@ fn live_lists(image: &MemImage) -> Live {
 
 /// What the first crash leaves that has a live list, of a run that makes a folder.
 fn live_image(alloc: Global) -> Result<MemImage, OutOfMemory> {
-    let start = fresh_thin(alloc)?;
-    let mut whole = Thin::over(alloc, &start)?;
+    let start = fresh_few(alloc)?;
+    let mut whole = Few::over(alloc, &start)?;
     run_lines(alloc, &mut whole, b"mkdir /d0\n")?;
     for call in 0..whole.rig.calls() {
         if whole.rig.wrote(call) {
-            let mut disk = Thin::over(alloc, &start)?;
+            let mut disk = Few::over(alloc, &start)?;
             disk.rig.stop_after(call.saturating_add(1));
             let ran = run_lines(alloc, &mut disk, b"mkdir /d0\n")?;
             let image = disk.rig.image(alloc, 1)?;
             if ran.lines == 0 && 1 < live_lists(&image).homes {
-                if let Some(1) = folders_in(alloc, &image)? {
+                if has_folder(alloc, &image)? {
                     return Ok(image);
                 }
             }
@@ -96,14 +96,22 @@ fn live_image(alloc: Global) -> Result<MemImage, OutOfMemory> {
     Ok(start)
 }
 
+// Whether a mount finds the folder.
+fn has_folder(alloc: Global, image: &MemImage) -> Result<bool, OutOfMemory> {
+    match told_by(alloc, image, b"ls /\n")? {
+        Some(told) => Ok(told.as_slice() == b"ok 1 d0/\n".as_slice()),
+        None => Ok(false),
+    }
+}
+
 /// The disk of an image, whose mount stopped after half of the home sectors of its replay. Before them the replay writes
 /// the volume header, the info block, the journal header and the lists again, and calls a barrier.
-fn stopped_half_way(alloc: Global, image: &MemImage) -> Result<Thin, OutOfMemory> {
+fn stopped_half_way(alloc: Global, image: &MemImage) -> Result<Few, OutOfMemory> {
     let live = live_lists(image);
     let half = live.text.saturating_add(4).saturating_add(live.homes / 2);
-    let mut whole = Thin::over(alloc, image)?;
+    let mut whole = Few::over(alloc, image)?;
     run_lines(alloc, &mut whole, b"")?;
-    let mut disk = Thin::over(alloc, image)?;
+    let mut disk = Few::over(alloc, image)?;
     let mut written: u64 = 0;
     for call in 0..whole.rig.calls() {
         if whole.rig.wrote(call) {
@@ -125,5 +133,5 @@ pub fn is_replayed_after_two_stops(alloc: Global, choice: u64) -> Result<bool, O
     let is_live = 1 < live_lists(&live).homes
         && 1 < live_lists(&once).homes
         && 1 < live_lists(&twice).homes;
-    Ok(is_live && folders_in(alloc, &twice)? == Some(1))
+    Ok(is_live && has_folder(alloc, &twice)?)
 }

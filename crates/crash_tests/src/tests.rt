@@ -1,10 +1,10 @@
 // Runs that are cut off, and runs over devices that fail; each choice of a crash's image is a test of its own.
 use crate::crashes::{try_all, try_worn, worn};
-use crate::journals::{Damage, HEADER, changed_sectors, is_refused};
+use crate::journals::{Damage, HEADER, changed_sectors, is_refused, told_before_the_journal};
 use crate::replays::{is_replayed_after_two_stops, start_of};
 use crate::twice::try_pairs;
 use std::test::Fail;
-use test_kit::{BASE, INFO};
+use test_kit::BASE;
 
 #[test]
 fn the_oldest_values_leave_a_prefix(rt: HostRuntime) -> Result<(), Fail> {
@@ -134,12 +134,12 @@ fn a_ring_that_wraps_leaves_a_prefix_7(rt: HostRuntime) -> Result<(), Fail> {
     Ok(())
 }
 
-// Two batches of nine sectors a mount, over 2,047 sectors: the list of the third folder begins 39 sectors before the
-// ring's end, and that of the fourth 14, which a list of 25 sectors passes.
+// Each batch has 16 sectors in the ring of 2,047, and a mount and its end have nine each. So the list of the third folder begins 15 sectors
+// before the ring's end, which one of 25 sectors passes.
 #[test]
 fn the_worn_ring_wraps_inside_a_list(rt: HostRuntime) -> Result<(), Fail> {
     let start = start_of(&worn(rt.alloc())?);
-    assert_eq!(rt; start, Some(1 + 222 * 18 % 2047));
+    assert_eq!(rt; start, Some(1 + (18 + 506 * 16) % 2047));
     Ok(())
 }
 
@@ -229,12 +229,17 @@ fn a_journal_with_a_fault_is_refused(rt: HostRuntime) -> Result<(), Fail> {
         ),
         // A start that no journal has.
         (Damage::Number(BASE, 8, 1), "refused BadHeader 8\n"),
-        // A journal that still has to be initialised counts as empty; such a volume isn't served yet.
-        (Damage::Number(INFO, 0, 5), "refused NotYet 0\n"),
     ];
     for (damage, told) in rows {
         assert!(rt; is_refused(rt.alloc(), damage, told)?, "{told}");
     }
+    Ok(())
+}
+
+#[test]
+fn a_journal_to_be_initialised_counts_as_empty(rt: HostRuntime) -> Result<(), Fail> {
+    let told = told_before_the_journal(rt.alloc())?;
+    assert_eq!(rt; told.as_slice(), b"ok 0\n".as_slice());
     Ok(())
 }
 

@@ -1,12 +1,15 @@
 //! Power fails in a run, and again in the mount of what it left.
-use crate::runs::{folders_in, run_lines};
-use crate::thin::{Thin, fresh_thin};
+use crate::few::{Few, fresh_few};
+use crate::runs::{run_lines, told_by};
 use hx_bytes::OutOfMemory;
 use mem_disk::MemImage;
 use std::alloc::Global;
 
-/// A run that makes three folders, and asks after each that it is durable.
-const LINES: &[u8] = b"mkdir /d0\nsync\nmkdir /d1\nsync\nmkdir /d2\nsync\n";
+/// A run that makes a folder, a file and an attribute, and asks after each that it is durable.
+const LINES: &[u8] = b"mkdir /d\nsync\ncreate /d/f\nsync\nsetattr /d k =v\nsync\n";
+
+/// What is read back behind it.
+const READS: &[u8] = b"ls /\nls /d\nlsattr /d\n";
 
 // How many calls of a mount that wrote are passed over between two that are tried.
 const STEP: u64 = 40;
@@ -22,8 +25,8 @@ pub struct Pairs {
 /// Stops the run after each call that wrote, and the mount of the image of this choice again after such
 /// calls. What the second image has must be what the first one has.
 pub fn try_pairs(alloc: Global, choice: u64) -> Result<Pairs, OutOfMemory> {
-    let start = fresh_thin(alloc)?;
-    let mut whole = Thin::over(alloc, &start)?;
+    let start = fresh_few(alloc)?;
+    let mut whole = Few::over(alloc, &start)?;
     run_lines(alloc, &mut whole, LINES)?;
     let mut tried = Pairs {
         pairs: 0,
@@ -32,7 +35,7 @@ pub fn try_pairs(alloc: Global, choice: u64) -> Result<Pairs, OutOfMemory> {
     for call in 0..whole.rig.calls() {
         if whole.rig.wrote(call) {
             let stop = call.saturating_add(1);
-            let mut disk = Thin::over(alloc, &start)?;
+            let mut disk = Few::over(alloc, &start)?;
             disk.rig.stop_after(stop);
             run_lines(alloc, &mut disk, LINES)?;
             let image = disk.rig.image(alloc, choice)?;
@@ -50,8 +53,8 @@ fn try_mount(
     stop: u64,
     tried: &mut Pairs,
 ) -> Result<(), OutOfMemory> {
-    let want = folders_in(alloc, image)?;
-    let mut whole = Thin::over(alloc, image)?;
+    let want = told_by(alloc, image, READS)?;
+    let mut whole = Few::over(alloc, image)?;
     run_lines(alloc, &mut whole, b"")?;
     let mut nth = stop;
     for call in 0..whole.rig.calls() {
@@ -59,11 +62,11 @@ fn try_mount(
             nth = nth.wrapping_add(1);
             if nth % STEP == 0 {
                 let again = call.saturating_add(1);
-                let mut disk = Thin::over(alloc, image)?;
+                let mut disk = Few::over(alloc, image)?;
                 disk.rig.stop_after(again);
                 run_lines(alloc, &mut disk, b"")?;
                 let second = disk.rig.image(alloc, choice)?;
-                if want.is_none() || folders_in(alloc, &second)? != want {
+                if want.is_none() || told_by(alloc, &second, READS)? != want {
                     tried.wrong = Some((stop, again));
                 }
                 tried.pairs = tried.pairs.saturating_add(1);

@@ -1,10 +1,9 @@
 -- Entries in the order of their keys: their rows don't fall by parent, and where threads match them, no two have one id.
-use Rattle.std.proofs.Common.{◌≡◌, ◌≢◌, ◌⊎◌, ◌↔◌, ◌<◌, ◌≤◌, ℕ, zero, suc, ◌+◌, Bool, true, false, not, cond, ◌==◌, ◌&&◌, nat_lt, if◌then◌else◌, T, List, [], ◌∷◌, ◌++◌, length, map, get_or, inl, inr, refl, sym, ◌∙◌, ap, subst, arith, ⊎_elim}
-use Rattle.std.specs.Prelude.{Contains, IsTrue, slice_index_or}
-use Rattle.std.specs.List.{AllByRecursion, count_by, flat_map}
+use Rattle.std.proofs.Common.{◌≡◌, ◌≢◌, ◌⊎◌, ◌<◌, ◌≤◌, ℕ, zero, suc, ◌+◌, Bool, true, false, not, cond, ◌==◌, nat_lt, if◌then◌else◌, T, List, [], ◌∷◌, ◌++◌, length, get_or, inl, inr, refl, sym, ◌∙◌, ap, subst, arith, ⊎_elim}
+use Rattle.std.specs.Prelude.{Contains}
+use Rattle.std.specs.List.{AllByRecursion, count_by}
 use Rattle.std.specs.List.Sorted.{IsNonDecreasingBy}
 use Rattle.std.specs.Ordering.{is_lt, nat_cmp, ordering_then}
-use Rattle.std.specs.declared.cmp.Ordering.{Ordering}
 use Rattle.std.specs.declared.cmp.Ordering.TheVariants.{Less, Equal, Greater}
 use Rattle.std.specs.Cmp.Lexicographic.{slice_cmp}
 use Rattle.std.proofs.lemmas.Bool.{eqb-true}
@@ -17,23 +16,19 @@ use Rattle.cat_records.specs.declared.record.CatRecord.{CatRecord}
 use Rattle.cat_records.specs.declared.record.CatRecord.TheVariants.{Folder, File, Thread}
 use Rattle.cat_records.specs.declared.record.ThreadRecord.{ThreadRecord}
 use Rattle.hfs_model.specs.Sorted.{kept, IsInOrder}
-use Rattle.volume_header.specs.declared.header.VolumeHeader.{VolumeHeader}
 use Rattle.hfs_volume.specs.Changes.{AreSorted}
-use Rattle.hfs_volume.specs.Entries.{AreThreaded, AreRooted, AreEntries, HasThread}
+use Rattle.hfs_volume.specs.Entries.{AreThreaded, HasThread}
 use Rattle.hfs_volume.specs.Records.{Placed, placed_in, placed_before, entries_of, id_of, is_empty}
-use Rattle.hfs_volume.specs.Broken.{Want, want, AllMet, IsUnmet, valence_wants, count_wants, id_wants}
-use Rattle.hfs_volume.proofs.Members.{at_front, behind, first_or_later, kept_cases, all_of}
-use Rattle.hfs_volume.proofs.Wants.{first_met, met_each}
+use Rattle.hfs_volume.specs.Broken.{Want, AllMet}
+use Rattle.hfs_volume.proofs.Members.{at_front, behind, first_or_later, kept_cases}
 use Rattle.hfs_volume.proofs.BlockWants.{none_met, cons_met}
-use Rattle.hfs_volume.proofs.EntryWants.{none_or_one, entries_hold, entries_met}
+use Rattle.hfs_volume.proofs.EntryWants.{none_or_one}
 use Rattle.hfs_volume.proofs.Sides.{entry_is_record, not_before_itself, one_key}
 use Rattle.fsck_list.specs.declared.finding.Finding.{Finding}
 use Rattle.fsck_list.specs.Kept.{IsListed}
-use Rattle.fsck_core.specs.Wants.{as_found}
-use Rattle.fsck_core.specs.Judged.{Judged, AddsUnmet}
-use Rattle.fsck_core.specs.Rows.{row_of, rows_of, IsBrokenCount}
+use Rattle.fsck_core.specs.Judged.{Judged}
+use Rattle.fsck_core.specs.Rows.{row_of, rows_of}
 use Rattle.fsck_core.specs.declared.rows.Row.{Row}
-use Rattle.fsck_core.proofs.WantLaws.{both_true}
 use Rattle.fsck_core.proofs.RowLaws.{below_true}
 
 by_each : {X : Type 0} (P : X → Type 0) (xs : List X) → AllByRecursion P xs → (x : X) → Contains xs x → P x
@@ -149,50 +144,3 @@ stays (f ∷ rest) new still some = by (still f (inl (at_front f rest)))
     by : IsListed new f → 0 < length new
     by (inl stands) = omega (arith, stands.1)
     by (inr full) = omega (arith, full.0)
-
-false_parts : (a b c : Bool) → (c && (b && a)) ≡ false → (a ≡ false) ⊎ ((b ≡ false) ⊎ (c ≡ false))
-false_parts a b false is = inr (inr refl)
-false_parts a false true is = inr (inl refl)
-false_parts false true true is = inl refl
-false_parts true true true is = absurd (subst T is tt)
-
-module _ (head : VolumeHeader) (pairs : List Pair) (first second third last : List Finding) (valences counts ids all : Bool) (all_is : all ≡ (ids && (counts && valences)))
-    (of_valences : Judged 11 (flat_map (valence_wants (entries_of (placed_in pairs))) (entries_of (placed_in pairs))) first second valences)
-    (of_counts : Judged 12 (count_wants head (entries_of (placed_in pairs))) second third counts)
-    (of_ids : Judged 15 (flat_map (id_wants head.next_catalog_id (entries_of (placed_in pairs))) (entries_of (placed_in pairs))) third last ids)
-  where
-    -- the three rules together
-    pub entries_told : AreThreaded pairs → AreRooted (entries_of (placed_in pairs)) → IsTrue all ↔ AreEntries head pairs
-    entries_told threads rooted = (
-      (λ is.
-          let parts = both_true ids (counts && valences) (sym all_is ∙ is) in
-          let rest = both_true counts valences parts.1 in
-          entries_hold head pairs threads rooted (of_valences.tells.0 rest.1) (of_counts.tells.0 rest.0) (of_ids.tells.0 parts.0)),
-      (λ are.
-          let met = entries_met head pairs are in
-          all_is ∙ (λ i. of_ids.tells.1 met.2 i && (of_counts.tells.1 met.1 i && of_valences.tells.1 met.0 i))),
-    )
-
-    -- where one of them fails, something is listed
-    pub entries_found : all ≡ false → 0 < length last
-    entries_found fails = elim (false_parts valences counts ids (sym all_is ∙ fails)) [
-      | inl is ↦ stays third last of_ids.still (stays second third of_counts.still (judged_found 11 _ first second valences of_valences is))
-      | inr (inl is) ↦ stays third last of_ids.still (judged_found 12 _ second third counts of_counts is)
-      | inr (inr is) ↦ judged_found 15 _ third last ids of_ids is
-    ]
-
--- what each of the three adds breaks one of them
-pub broken_valences : (head : VolumeHeader) (entries : List Placed) (old new : List Finding) → AddsUnmet 11 (flat_map (valence_wants entries) entries) old new → (f : Finding) → Contains new f → Contains old f ⊎ IsBrokenCount head entries (as_found f)
-broken_valences head entries old new each f stands = ⊎_elim (λ (before : Contains old f). inl before) (λ (unmet : IsUnmet 11 (as_found f) (flat_map (valence_wants entries) entries)). inr (inl unmet)) (each f stands)
-
-pub broken_counts : (head : VolumeHeader) (entries : List Placed) (old new : List Finding) → AddsUnmet 12 (count_wants head entries) old new → (f : Finding) → Contains new f → Contains old f ⊎ IsBrokenCount head entries (as_found f)
-broken_counts head entries old new each f stands = ⊎_elim (λ (before : Contains old f). inl before) (λ (unmet : IsUnmet 12 (as_found f) (count_wants head entries)). inr (inr (inl unmet))) (each f stands)
-
-pub broken_ids : (head : VolumeHeader) (entries : List Placed) (old new : List Finding) → AddsUnmet 15 (flat_map (id_wants head.next_catalog_id entries) entries) old new → (f : Finding) → Contains new f
-    → Contains old f ⊎ IsBrokenCount head entries (as_found f)
-broken_ids head entries old new each f stands =
-    ⊎_elim (λ (before : Contains old f). inl before) (λ (unmet : IsUnmet 15 (as_found f) (flat_map (id_wants head.next_catalog_id entries) entries)). inr (inr (inr unmet))) (each f stands)
-
--- one after the other
-pub added_both : (P : Finding → Type 0) (old mid new : List Finding) → ((f : Finding) → Contains mid f → Contains old f ⊎ P f) → ((f : Finding) → Contains new f → Contains mid f ⊎ P f) → (f : Finding) → Contains new f → Contains old f ⊎ P f
-added_both P old mid new first second f stands = ⊎_elim (λ (before : Contains mid f). first f before) (λ (holds : P f). inr holds) (second f stands)

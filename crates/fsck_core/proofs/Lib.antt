@@ -36,3 +36,4 @@ pub mod CheckLaws
 pub mod BitsLaws
 pub mod UsedLists
 pub mod StretchLaws
+pub mod RecordBytes

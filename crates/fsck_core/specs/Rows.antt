@@ -1,9 +1,8 @@
 -- The entries of a catalog, as the rules on counts and ids look at them.
-use Rattle.std.specs.Prelude.{◌==◌, ◌&&◌, ◌⊎◌, ℕ, false, Bool, List, [], ◌∷◌, map, slice_index_or, count_by, if◌then◌else◌}
+use Rattle.std.specs.Prelude.{◌==◌, ◌&&◌, ℕ, false, Bool, List, [], ◌∷◌, map, slice_index_or, count_by, if◌then◌else◌}
 use Rattle.hfs_volume.specs.Records.{Placed, id_of, valence_in, special_of, is_folder, is_file, is_link}
-use Rattle.hfs_volume.specs.Broken.{Finding, Want, want, id_wanted, IsUnmet, valence_wants, count_wants, id_wants}
-use Rattle.volume_header.specs.declared.header.VolumeHeader.{VolumeHeader}
-use Rattle.std.specs.List.{flat_map, list_all}
+use Rattle.hfs_volume.specs.Broken.{Want, want, id_wanted}
+use Rattle.std.specs.List.{list_all}
 use Rattle.hx_bytes.specs.declared.extents.ForkRecord.{ForkRecord}
 use Rattle.cat_records.specs.declared.record.CatRecord.{CatRecord}
 use Rattle.cat_records.specs.declared.record.CatRecord.TheVariants.{Folder, File, Thread}
@@ -54,8 +53,3 @@ valence_of rows row = if row.folder then want row.id row.valence (rows_under row
 -- a row's id, and the one that is wanted there
 abbrev pub given_id : ℕ → Row → List Want
 given_id next row = want row.id row.id (id_wanted next row.id) ∷ []
-
--- one of the rules on the counts and ids of entries is broken: 11, 12 or 15
-abbrev pub IsBrokenCount : VolumeHeader → List Placed → Finding → Type 0
-IsBrokenCount head entries finding =
-    IsUnmet 11 finding (flat_map (valence_wants entries) entries) ⊎ (IsUnmet 12 finding (count_wants head entries) ⊎ IsUnmet 15 finding (flat_map (id_wants head.next_catalog_id entries) entries))

@@ -1,16 +1,11 @@
 //! The counts and ids of a catalog's entries (rules 11, 12 and 15).
-ghost use Rattle.std.specs.Prelude.{◌≡◌, ◌⊎◌, ◌↔◌, ◌<◌, ◌≤◌, ◌==◌, ◌&&◌, ℕ, List, false, count_by, length, Contains, IsTrue, IfOk};
-ghost use Rattle.btree_node.specs.Levels.{Pair};
-ghost use Rattle.fsck_list.specs.declared.finding.Finding.{Finding as Listed};
-ghost use Rattle.hfs_volume.specs.Changes.{AreSorted};
-ghost use Rattle.hfs_volume.specs.Entries.{AreThreaded, AreRooted, AreEntries};
-ghost use Rattle.fsck_core.specs.Wants.{as_found};
+ghost use Rattle.std.specs.Prelude.{◌≡◌, ◌<◌, ◌≤◌, ◌==◌, ℕ, List, count_by, IfOk};
 ghost use Rattle.std.specs.List.{flat_map};
 ghost use Rattle.std.specs.List.Sorted.{IsNonDecreasingBy};
-ghost use Rattle.hfs_volume.specs.Records.{Placed, placed_in, entries_of, id_of};
+ghost use Rattle.hfs_volume.specs.Records.{Placed, id_of};
 ghost use Rattle.hfs_volume.specs.Broken.{count_wants, valence_wants, id_wants, id_wanted as wanted_id};
 ghost use Rattle.fsck_core.specs.Judged.{Judged, AddsUnmet};
-ghost use Rattle.fsck_core.specs.Rows.{rows_of, valence_of, given_id, IsBrokenCount};
+ghost use Rattle.fsck_core.specs.Rows.{rows_of, valence_of, given_id};
 
 use crate::rows::{Row, count_files, count_folders, count_under};
 use crate::want::{Want, both, judge_wants};
@@ -123,30 +118,4 @@ pub fn judge_ids(next: u32, rows: &[Row], out: &mut Findings) -> Result<bool, Ou
         met = both(one, met);
     }
     Ok(met)
-}
-
-/// Whether all three are so.
-fn all_of(valences: bool, counts: bool, ids: bool) -> bool
-    ensures { result ≡ (ids && (counts && valences)) }
-{
-    ids && (counts && valences)
-}
-
-/// Judges the counts and ids of a catalog's entries, where its records keep rules 8 to 10 and stand in the order of their keys: together with
-/// these the rules make the entries those of a volume.
-pub fn judge_entries(
-    head: &VolumeHeader,
-    rows: &[Row],
-    out: &mut Findings,
-) -> Result<bool, OutOfMemory>
-    ensures met { (pairs : List Pair) → rows.now ≡ rows_of (entries_of (placed_in pairs)) → AreSorted pairs → AreThreaded pairs → AreRooted (entries_of (placed_in pairs))
-        → IfOk result (λ met. IsTrue met ↔ AreEntries head.now pairs) }
-    ensures found { (pairs : List Pair) → rows.now ≡ rows_of (entries_of (placed_in pairs)) → AreSorted pairs → AreThreaded pairs → IfOk result (λ met. met ≡ false → 0 < length out.new) }
-    ensures each { (pairs : List Pair) → rows.now ≡ rows_of (entries_of (placed_in pairs)) → AreSorted pairs → AreThreaded pairs
-        → (finding : Listed) → Contains out.new finding → Contains out.old finding ⊎ IsBrokenCount head.now (entries_of (placed_in pairs)) (as_found finding) }
-{
-    let valences = judge_valences(rows, out)?;
-    let counts = judge_counts(head, rows, out)?;
-    let ids = judge_ids(head.next_catalog_id, rows, out)?;
-    Ok(all_of(valences, counts, ids))
 }

@@ -39,9 +39,8 @@ mod want;
 
 pub use attributes::judge_attributes;
 pub use behind::count_behind;
-pub use blocks::judge_blocks;
 pub use checking::{Verdict, check};
-pub use entries::{judge_counts, judge_entries, judge_ids, judge_valences};
+pub use entries::{judge_counts, judge_ids, judge_valences};
 pub use flags::{judge_bits, judge_free};
 pub use follow::{OwnedFork, follow_fork};
 pub use forks::judge_forks;

@@ -1,7 +1,8 @@
 //! The threads of a catalog, which match its entries one to one (rule 9).
-ghost use Rattle.std.specs.Prelude.{◌≡◌, ◌↔◌, ◌<◌, ◌≤◌, ◌+◌, ℕ, true, length, slice_set, Some, IsTrue, IfSome, IfOk, OnOk};
+ghost use Rattle.std.specs.Prelude.{◌≡◌, ◌↔◌, ◌⊎◌, ◌<◌, ◌≤◌, ◌+◌, ℕ, true, false, length, slice_set, Contains, Some, IsTrue, IfSome, IfOk, OnOk};
 ghost use Rattle.btree_node.specs.Keys.{catalog_units};
 ghost use Rattle.cat_records.specs.Records.{is_catalog};
+ghost use Rattle.fsck_list.specs.declared.finding.Finding.{Finding as Listed};
 ghost use Rattle.hfs_volume.specs.Broken.{IsFailed, FailsThread};
 ghost use Rattle.hfs_volume.specs.Entries.{AreSpelled, AreThreaded};
 ghost use Rattle.hfs_volume.specs.Records.{placed_in, placed_of};
@@ -38,6 +39,37 @@ fn pairs_below(pairs: &Pairs, parent: u32) -> usize
         }
     }
     low
+}
+
+/// Whether the pairs before a place are those whose parent is below this one.
+fn splits_at(pairs: &Pairs, parent: u32, at: usize) -> bool
+    ensures inside { IsTrue result → at ≤ length pairs.now }
+    ensures split { IsCatalog pairs.now → IsTrue result → IsSplit pairs.now parent at }
+{
+    if at == 0 {
+        return false;
+    }
+    if at >= pairs.len() {
+        return false;
+    }
+    if parent_of(pairs.key(at - 1)) >= parent {
+        return false;
+    }
+    if parent_of(pairs.key(at)) < parent {
+        return false;
+    }
+    true
+}
+
+/// How many pairs stand before the first whose parent isn't below this one. Where it is this place, that is seen at once.
+fn pairs_before(pairs: &Pairs, parent: u32, near: usize) -> usize
+    ensures inside { result ≤ length pairs.now }
+    ensures split { IsCatalog pairs.now → IsSplit pairs.now parent result }
+{
+    if splits_at(pairs, parent, near) {
+        return near;
+    }
+    pairs_below(pairs, parent)
 }
 
 /// Whether two kinds are the same.
@@ -84,18 +116,19 @@ fn is_its_thread(
     Ok(tells(&rec, row, key))
 }
 
-/// The place of the thread of a row with this key, if it has one.
+/// The place of the thread of a row with this key, if it has one. It is looked for at one place first.
 fn find_thread(
     alloc: Global,
     pairs: &Pairs,
     row: Row,
     key: &[u8],
+    near: usize,
 ) -> Result<Option<usize>, OutOfMemory>
     requires { AreSpelled pairs.now }
     ensures inside { IfOk result (λ found. IfSome found (λ at. at < length pairs.now)) }
     ensures is { IsCatalog pairs.now → IfOk result (λ found. (at : ℕ) → found ≡ Some at ↔ IsThreadAt pairs.now row (catalog_units key.now) at) }
 {
-    let at = pairs_below(pairs, row.id);
+    let at = pairs_before(pairs, row.id, near);
     if at >= pairs.len() {
         return Ok(None);
     }
@@ -113,28 +146,29 @@ fn mark(marks: &mut Vec<bool>, at: usize)
     marks[at] = true;
 }
 
-/// Marks an entry and its thread, where it has one.
+/// Marks an entry and its thread, where it has one. Answers the place behind the thread, at which that of the next entry stands mostly.
 fn match_entry(
     alloc: Global,
     pairs: &Pairs,
     at: usize,
+    near: usize,
     marks: &mut Vec<bool>,
-) -> Result<(), OutOfMemory>
+) -> Result<usize, OutOfMemory>
     requires spelled { AreSpelled pairs.now }
     requires inside { at < length pairs.now }
     requires long { length marks.old.items ≡ length pairs.now }
     ensures long { length marks.new.items ≡ length pairs.now }
     ensures matched { IsCatalog pairs.now → AreMatched pairs.now marks.old.items at → OnOk result (AreMatched pairs.now marks.new.items (at + 1)) }
 {
-    let Some(row) = read_row(alloc, pairs.key(at), pairs.value(at))? else {
-        return Ok(());
+    let Some(row) = read_row(pairs.key(at), pairs.value(at)) else {
+        return Ok(near);
     };
-    let Some(thread) = find_thread(alloc, pairs, row, pairs.key(at))? else {
-        return Ok(());
+    let Some(thread) = find_thread(alloc, pairs, row, pairs.key(at), near)? else {
+        return Ok(near);
     };
     mark(marks, at);
     mark(marks, thread);
-    Ok(())
+    Ok(thread.saturating_add(1))
 }
 
 /// Which entries have a thread, and which threads an entry.
@@ -144,30 +178,40 @@ fn match_pairs(alloc: Global, pairs: &Pairs) -> Result<Vec<bool>, OutOfMemory>
     ensures matched { IsCatalog pairs.now → IfOk result (λ marks. AreMatched pairs.now marks.items (length pairs.now)) }
 {
     let mut marks = vec![in alloc; false; pairs.len()]?;
+    let mut near = 0;
     for at in 0..pairs.len() {
-        match_entry(alloc, pairs, at, &mut marks)?;
+        near = match_entry(alloc, pairs, at, near, &mut marks)?;
     }
     Ok(marks)
 }
 
 /// The CNID of an entry, and that of the entry whose thread a pair is.
-fn place_of(alloc: Global, key: &[u8], value: &[u8]) -> Result<u32, OutOfMemory>
+fn place_of(key: &[u8], value: &[u8]) -> u32
     requires { IsTrue (is_catalog value.now) }
-    ensures { 8 ≤ length key.now → IfOk result (λ place. place ≡ place_of (placed_of (key.now, value.now))) }
+    ensures { 8 ≤ length key.now → result ≡ place_of (placed_of (key.now, value.now)) }
 {
-    let Some(row) = read_row(alloc, key, value)? else {
-        return Ok(parent_of(key));
+    let Some(row) = read_row(key, value) else {
+        return parent_of(key);
     };
-    Ok(row.id)
+    row.id
+}
+
+/// Adds a finding where a pair isn't marked, and says whether it is. Its place is told only there.
+fn judge_mark(mark: bool, key: &[u8], value: &[u8], out: &mut Findings) -> Result<bool, OutOfMemory>
+    requires { IsTrue (is_catalog value.now) }
+    ensures met { IfOk result (λ met. met ≡ mark) }
+    ensures found { IfOk result (λ met. met ≡ false → 0 < length out.new) }
+    ensures still { 0 < length out.old → 0 < length out.new }
+    ensures each { 8 ≤ length key.now → (finding : Listed) → Contains out.new finding → Contains out.old finding ⊎ ((mark ≡ false) × (finding ≡ record { rule = 9; place = place_of (placed_of (key.now, value.now)); found = 0; wanted = 1 })) }
+{
+    if mark {
+        return Ok(true);
+    }
+    add_unless(9, mark, place_of(key, value), out)
 }
 
 /// Judges that each pair is marked.
-fn judge_marks(
-    alloc: Global,
-    pairs: &Pairs,
-    marks: &[bool],
-    out: &mut Findings,
-) -> Result<bool, OutOfMemory>
+fn judge_marks(pairs: &Pairs, marks: &[bool], out: &mut Findings) -> Result<bool, OutOfMemory>
     requires spelled { AreSpelled pairs.now }
     requires long { length marks.now ≡ length pairs.now }
     ensures decided { IsCatalog pairs.now → IfOk result (λ met. Decided (IsMissed 9 (marked marks.now) (λ k. place_of (placed_at pairs.now k)) (length pairs.now)) (AllPass (marked marks.now) (length pairs.now)) out.old out.new met) }
@@ -175,8 +219,7 @@ fn judge_marks(
 {
     let mut met = true;
     for at in 0..pairs.len() {
-        let place = place_of(alloc, pairs.key(at), pairs.value(at))?;
-        let one = add_unless(9, marks[at], place, out)?;
+        let one = judge_mark(marks[at], pairs.key(at), pairs.value(at), out)?;
         met = both(one, met);
     }
     Ok(met)
@@ -190,5 +233,5 @@ pub fn judge_threads(alloc: Global, pairs: &Pairs, out: &mut Findings) -> Result
     ensures each { IsCatalog pairs.now → Adds (λ finding. IsFailed 9 finding (FailsThread (placed_in pairs.now))) out.old out.new }
 {
     let marks = match_pairs(alloc, pairs)?;
-    judge_marks(alloc, pairs, &marks, out)
+    judge_marks(pairs, &marks, out)
 }

@@ -28,7 +28,7 @@ use Rattle.jnl_store.specs.Lists.{IsCapacity}
 use Rattle.jnl_store.specs.Overlay.{overlay}
 use Rattle.jnl_store.specs.Plan.{IsCapacityOf, form_of, rested, span_of}
 use Rattle.jnl_store.specs.Spaces.{found, over}
-use Rattle.jnl_store.specs.Store.{HasNoList, IsLive, Keeps, KeepsOn, SameButBatch, content_over, durable_of, faults_of, plan_of, puts_of, spare_of}
+use Rattle.jnl_store.specs.Store.{HasNoList, IsLive, Keeps, KeepsOn, SameButBatch, content_over, durable_of, faults_of, plan_of, puts_of, room_of, spare_of}
 use Rattle.jnl_store.specs.declared.form.ListForm.{ListForm}
 use Rattle.jnl_store.specs.declared.puts.Put.{Put}
 use Rattle.jnl_store.specs.declared.store.Store.{Store}
@@ -188,11 +188,11 @@ module _ (store : Store) (plan : Plan) (disk : State) (attached : IsAttached sto
 -- whatever the disk tells, a commit may rest on the two
 pub in_service : (store : Store) (plan : Plan) (disk : State) → IsAttached store plan disk → IsDisk disk → (IsTrue disk.tells → (now : Content) × IsReady plan now disk × IsSound now) → (capacity : ℕ) → IsCapacityOf (plan_of store) capacity → IsInService store disk capacity
 in_service store plan disk attached is ready capacity holds =
-    record { fits = attached.fits; holds = holds; keeps = λ tells. let there = ready tells in keeps_on store plan disk attached is tells there.0 there.1 }
+    record { fits = attached.fits; holds = holds; room = attached.no_more capacity holds; keeps = λ tells. let there = ready tells in keeps_on store plan disk attached is tells there.0 there.1 }
 
 -- what a store that was attached keeps once it took the memory for a transaction
 module _ (store begun : Store) (plan : Plan) (disk : State) (is : IsDisk disk) (plan_is : plan_of store ≡ rested plan) (same : SameButBatch store begun) (puts : puts_of begun ≡ puts_of store) (nothing : puts_of store ≡ []) (no_list : HasNoList store) (no_fault : faults_of store ≡ 0)
-    (fits : FitsPlan disk.sectors (plan_of store)) (fits_plan : FitsPlan disk.sectors plan) (durable : (content : Content) → durable_of store content ≡ content) (capacity : ℕ) (holds : IsCapacityOf (plan_of store) capacity) (room : capacity ≤ spare_of begun)
+    (fits : FitsPlan disk.sectors (plan_of store)) (fits_plan : FitsPlan disk.sectors plan) (durable : (content : Content) → durable_of store content ≡ content) (capacity : ℕ) (holds : IsCapacityOf (plan_of store) capacity) (room : capacity ≤ spare_of begun) (no_more : room_of begun ≤ capacity)
     (keeps : (sectors : ℕ) (content : Content) → FitsPlan sectors plan → length content ≡ sectors → AreWhole content → IsPlan content plan → Keeps store sectors (only (after_replay plan content)))
     (still : (sectors : ℕ) (candidates : Candidates) → Keeps store sectors candidates → Keeps begun sectors candidates) where
   durable_same : (x : Content) → durable_of begun x ≡ durable_of store x
@@ -208,5 +208,6 @@ module _ (store begun : Store) (plan : Plan) (disk : State) (is : IsDisk disk) (
     no_fault = same.faults ∙ no_fault;
     durable = durable_same (content disk) ∙ durable (content disk);
     room = λ most most_is. subst (λ n. n ≤ spare_of begun) (capacity_one (span_of (plan_of store)) (form_of (plan_of store)) capacity most holds (subst (λ (q : Plan). IsCapacityOf q most) same.plan most_is)) room;
+    no_more = λ most most_is. subst (λ n. room_of begun ≤ n) (capacity_one (span_of (plan_of store)) (form_of (plan_of store)) capacity most holds (subst (λ (q : Plan). IsCapacityOf q most) same.plan most_is)) no_more;
     keeps = λ tells now ready. still disk.sectors (only (after_replay plan (content disk))) (keeps disk.sectors (content disk) fits_plan (length-content disk is tells) (content_whole disk is) ready.plan_is);
   }

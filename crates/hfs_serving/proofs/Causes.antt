@@ -158,6 +158,13 @@ module _ {a b : ℕ} {x y : Space} (counts : CountsFaults a x b y) where
         source = λ is. rose_later first mid now later (cause.rose (at stop.Source is));
       }
 
+-- one call behind another, which answers a fault where its count rose
+pub faults_behind : {T : Type 0} (failed mid_failed new_failed : ℕ) (old mid new : Space) (r : Result T Trouble) → CountsFaults failed old mid_failed mid → CountsFaults mid_failed mid new_failed new → (mid_failed ≡ 0 → Rose mid.faults new.faults) → Faults failed old new_failed new r
+faults_behind failed mid_failed new_failed old mid new r first second cause = record {
+  counts = counts_both first second;
+  disk = λ is none. ⊎_elim (λ same. rose_later old.faults mid.faults new.faults first.later (cause (same ∙ none))) (λ rose. rose_still old.faults mid.faults new.faults rose second.later) first.counted;
+}
+
 -- ---- a store's commit
 
 pub commit_counted : {A : Type 0} (X Y Z : Type 0) (r : Result A StoreFault) (store new : Store) (before now : ℕ) → OnOk r (X × Y × Z × (faults_of new ≡ faults_of store)) → (IsErrOf r fault.Disk → Rose before now) → (faults_of store ≢ 0 → new ≡ store) → (faults_of store ≡ 0 → (n : ℕ) → r ≢ Err (fault.Failed n))
@@ -165,6 +172,13 @@ pub commit_counted : {A : Type 0} (X Y Z : Type 0) (r : Result A StoreFault) (st
 commit_counted X Y Z (Ok x) store new before now ok disk failed not_failed = inl ok.3
 commit_counted X Y Z (Err fault.Disk) store new before now ok disk failed not_failed = inr (disk refl)
 commit_counted X Y Z (Err (fault.Failed n)) store new before now ok disk failed not_failed =
+    ⊎_elim (λ none. absurd (not_failed none n refl)) (λ other. inl (ap faults_of (failed other))) (cases_eq (faults_of store) 0)
+
+pub rest_counted : {A : Type 0} (X : Type 0) (r : Result A StoreFault) (store new : Store) (before now : ℕ) → OnOk r (X × (faults_of new ≡ faults_of store)) → (IsErrOf r fault.Disk → Rose before now) → (faults_of store ≢ 0 → new ≡ store) → (faults_of store ≡ 0 → (n : ℕ) → r ≢ Err (fault.Failed n))
+    → (faults_of new ≡ faults_of store) ⊎ Rose before now
+rest_counted X (Ok x) store new before now ok disk failed not_failed = inl ok.1
+rest_counted X (Err fault.Disk) store new before now ok disk failed not_failed = inr (disk refl)
+rest_counted X (Err (fault.Failed n)) store new before now ok disk failed not_failed =
     ⊎_elim (λ none. absurd (not_failed none n refl)) (λ other. inl (ap faults_of (failed other))) (cases_eq (faults_of store) 0)
 
 pub commit_cause : {A : Type 0} (r : Result A StoreFault) (store : Store) (before now : ℕ) → (IsErrOf r fault.Disk → Rose before now) → (faults_of store ≡ 0 → (n : ℕ) → r ≢ Err (fault.Failed n)) → OnErr r (faults_of store ≡ 0 → Rose before now)

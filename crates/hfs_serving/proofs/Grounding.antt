@@ -1,20 +1,21 @@
 -- What a store that keeps what it has to keep leaves to a crash, and what a commit of it does.
-use Rattle.std.proofs.Common.{◌≡◌, ◌≢◌, ◌≤◌, ◌/◌, ◌^◌, ℕ, [], inl, ⊎_elim, length, refl, sym, ◌∙◌, ap, subst, arith}
+use Rattle.std.proofs.Common.{◌≡◌, ◌≢◌, ◌≤◌, ◌/◌, ◌*◌, ◌^◌, ℕ, List, [], inl, ⊎_elim, length, refl, sym, ◌∙◌, ap, subst, arith}
 use Rattle.std.specs.Prelude.{IsTrue, IsErrOf, OnOk, Result, Ok, Err, Bool, true, false, ◌&&◌}
 use Rattle.std.proofs.lemmas.Bool.{and_from, and_parts, cases_eq}
-use Rattle.sector_disk.specs.Disk.{Candidates, CrashesLeave, IsDisk, IsImage, SameSink, State, Untouched, content}
+use Rattle.sector_disk.specs.Disk.{Candidates, CrashesLeave, IsDisk, IsImage, SameDisk, SameSink, State, Untouched, content}
 use Rattle.sector_disk.specs.Lists.{sector}
 use Rattle.sector_disk.specs.Space.{AgreesOutside, Space}
 use Rattle.volume_header.specs.Header.{header_of}
 use Rattle.volume_header.specs.Refusal.{header_refusal}
 use Rattle.volume_header.specs.declared.header.VolumeHeader.{VolumeHeader}
-use Rattle.jnl_format.specs.Keeping.{IsSame}
-use Rattle.jnl_format.specs.Recovery.{Content, header_of_volume}
+use Rattle.jnl_format.specs.Keeping.{IsSame, KeepsHeader}
+use Rattle.jnl_format.specs.Recovery.{Content, header_of_volume, info_sector_of}
+use Rattle.jnl_format.specs.declared.structures.Info.{Info}
 use Rattle.jnl_replay.specs.Plan.{FitsPlan}
 use Rattle.jnl_store.specs.Spaces.{found, over}
 use Rattle.jnl_store.specs.SpaceLaws.{length-durable, length-overlay}
-use Rattle.jnl_store.specs.Standing.{MakesDurable, StandsForEither}
-use Rattle.jnl_store.specs.Store.{Keeps, KeepsOn, SameJournal, content_over, durable_of, faults_of, is_kept, plan_of, puts_of}
+use Rattle.jnl_store.specs.Standing.{MakesDurable, StandsFor, StandsForEither}
+use Rattle.jnl_store.specs.Store.{Keeps, KeepsOn, KeepsRingOn, SameJournal, content_over, durable_of, faults_of, is_kept, plan_of, puts_of, room_of}
 use Rattle.jnl_store.specs.declared.store.Store.{Store}
 use Rattle.jnl_store.specs.declared.store.StoreFault.{StoreFault}
 use Rattle.jnl_store.specs.declared.store.StoreFault.TheVariants as fault
@@ -25,14 +26,20 @@ use Rattle.jnl_ring.specs.declared.span.Span.{Span}
 use Rattle.jnl_store.specs.Lists.{IsCapacity}
 use Rattle.jnl_store.specs.Plan.{form_of, span_of, IsCapacityOf}
 use Rattle.jnl_store.specs.declared.form.ListForm.{ListForm}
-use Rattle.hfs_serving.specs.Grounds.{IsInService, KeepsHeading, anchor_of}
+use Rattle.hfs_volume.specs.Content.{JournalPlace, journal_place}
+use Rattle.hfs_serving.specs.Grounds.{IsInService, KeepsHeading, RigAnchor, ShowsJournal, anchor_of, rig_of}
 use Rattle.hfs_serving.specs.Outside.{Outside, outside_of}
 use Rattle.hfs_serving.specs.Serving.{Commits, IsAsDurable, MayCommit, Touches, TouchesSpace}
 use Rattle.hfs_serving.proofs.Bridging.{commit_seen, found_same}
 use Rattle.hfs_serving.proofs.Committing.{commits_seen, leaves_seen}
 use Rattle.jnl_replay.specs.declared.plan.Plan.{Plan}
 use Rattle.jnl_store.specs.Following.{SpaceFollows}
+use Rattle.hfs_serving.proofs.Recoveries.{recovery_parts}
 use Rattle.hfs_serving.proofs.Touching.{touches_seen}
+use Rattle.jnl_ring.proofs.Bytes.{content_whole}
+use Rattle.jnl_store.proofs.Images.{closed_info}
+use Rattle.jnl_store.proofs.RingHome.{own_stands}
+use Rattle.jnl_store.proofs.Slots.{own_over}
 
 -- a plan that fits a disk has no more than 2 ^ 40 bytes of journal
 small_plan : (store : Store) (sectors : ℕ) → FitsPlan sectors (plan_of store) → (plan_of store).info.size ≤ 2 ^ 40
@@ -126,11 +133,11 @@ heads_on old before new after size_content heads commits =
     head_same a b same = ap header_of same
 
 -- what a commit leaves is in service
-pub serves_after : (store new : Store) (disk after : State) (capacity : ℕ) → IsInService store disk capacity → SameJournal store new → FitsPlan after.sectors (plan_of new) → (IsTrue after.tells → KeepsOn new after) → IsInService new after capacity
-serves_after store new disk after capacity serves journal fits keeps =
+pub serves_after : (store new : Store) (disk after : State) (capacity : ℕ) → IsInService store disk capacity → room_of new ≡ room_of store → SameJournal store new → FitsPlan after.sectors (plan_of new) → (IsTrue after.tells → KeepsOn new after) → IsInService new after capacity
+serves_after store new disk after capacity serves room journal fits keeps =
     let span : span_of (plan_of store) ≡ span_of (plan_of new) = λ i. record { base = (sym journal.info i).offset / 512; size = (sym journal.info i).size } in
     let form : form_of (plan_of store) ≡ form_of (plan_of new) = λ i. record { order = sym journal.order i; blhdr = sym journal.blhdr i } in
-    record { fits = fits; holds = subst (λ (f : ListForm). IsCapacity (span_of (plan_of new)) f capacity) form (subst (λ (s : Span). IsCapacity s (form_of (plan_of store)) capacity) span serves.holds); keeps = keeps }
+    record { fits = fits; holds = subst (λ (f : ListForm). IsCapacity (span_of (plan_of new)) f capacity) form (subst (λ (s : Span). IsCapacity s (form_of (plan_of store)) capacity) span serves.holds); room = omega (arith, room, serves.room); keeps = keeps }
 
 -- ---- what a commit needs, and what it gives
 
@@ -189,6 +196,7 @@ pub serves_still : (store : Store) (disk : State) (after : Store) (now : State) 
 serves_still store disk after now capacity follows serves = record {
   fits = subst (λ (n : ℕ). FitsPlan n (plan_of after)) (sym follows.same.sectors) (subst (λ (p : Plan). FitsPlan disk.sectors p) (sym follows.plan) serves.fits);
   holds = subst (λ (p : Plan). IsCapacityOf p capacity) (sym follows.plan) serves.holds;
+  room = omega (arith, follows.room, serves.room);
   keeps = λ tells. follows.keeps (serves.keeps (subst (λ t. IsTrue t) follows.same.tells tells));
 }
 
@@ -207,3 +215,46 @@ seen_outside committed a b c d store after disk now capacity is follows serves t
 -- the same of a journal is looked at by a mount
 pub same_anchor : (old new : Store) → SameJournal old new → anchor_of (plan_of new) ≡ anchor_of (plan_of old)
 same_anchor old new journal = λ i. record { place = journal.place i; info = journal.info i; blhdr = journal.blhdr i }
+
+-- reads of the journal's own sectors give what the disk has there
+module _ (a b : ℕ) (store : Store) (disk : State) (capacity : ℕ) (is : IsDisk disk) (serves : IsInService store disk capacity) (tells : IsTrue (over a b store disk).tells) where
+  kept_on : KeepsOn store disk
+  kept_on = serves.keeps (told_disk a b store disk tells)
+
+  ring_on : KeepsRingOn store disk
+  ring_on = (kept_on.0, kept_on.1.ring)
+
+  own_holds : HoldsJournal (plan_of store) (content disk)
+  own_holds = (lists_of store disk ring_on).text.journal.holds
+
+  -- the header of what is durable is one of the same volume as the disk's
+  durable_header : KeepsHeader (content disk) (durable_of store (content disk))
+  unfolding durable_of
+  durable_header = (recovery_parts (content disk) (durable_of store (content disk)) (own_stands store.plan store.rest disk is (lists_of store disk ring_on).text).stands).header own_holds.place.accepted
+
+  pub shows_journal : KeepsHeading (over a b store disk) → ShowsJournal (anchor_of (plan_of store)) (over a b store disk)
+  shows_journal heads =
+      let read = content_over store (content disk) in
+      let at = (plan_of store).place.info_sector in
+      let one = durable_header.same in
+      let two = heads.header.same in
+      let where_it_is : info_sector_of (header_of_volume read) ≡ at =
+      ap (λ n. n * ((header_of_volume read).block_size / 512)) (two.info_block ∙ one.info_block)
+      ∙ ap (λ n. (header_of_volume (content disk)).journal_info_block * (n / 512)) (two.block_size ∙ one.block_size) ∙ sym own_holds.place.info_sector in
+      record {
+        whole = λ s closed inside. ap (λ (l : List ℕ). length l) (own_over store disk ring_on is s closed) ∙ content_whole disk is s (omega (arith, inside, length-overlay (puts_of store) (durable_of store (content disk)), length-durable store (content disk)));
+        names = ap (λ n. journal_place (sector read n)) where_it_is ∙ ap journal_place (own_over store disk ring_on is at (closed_info (plan_of store) at refl)) ∙ ap place_in own_holds.info;
+      }
+    where
+      place_in : Info → JournalPlace
+      place_in info = record { offset = info.offset; size = info.size }
+
+-- and of a rig
+pub same_rig : {old new : State} → SameDisk old new → rig_of new ≡ rig_of old
+same_rig same = λ i. record { tells = same.tells i; tells_left = same.tells_left i; names = same.names i; sectors = same.sectors i }
+
+pub same_disk : {old new : State} → rig_of new ≡ rig_of old → SameDisk old new
+same_disk same = record { tells = ap (λ (r : RigAnchor). r.tells) same; tells_left = ap (λ (r : RigAnchor). r.tells_left) same; names = ap (λ (r : RigAnchor). r.names) same; sectors = ap (λ (r : RigAnchor). r.sectors) same }
+
+pub disks_both : {old mid new : State} → SameDisk old mid → SameDisk mid new → SameDisk old new
+disks_both first second = record { tells = second.tells ∙ first.tells; tells_left = second.tells_left ∙ first.tells_left; names = second.names ∙ first.names; sectors = second.sectors ∙ first.sectors }

@@ -37,4 +37,10 @@ pub mod Peeks
 pub mod Judging
 pub mod Replayed
 pub mod Causes
+pub mod Folding
+pub mod ContentBytes
 pub mod Numbering
+pub mod Rested
+pub mod PutAway
+pub mod Answering
+pub mod Finals

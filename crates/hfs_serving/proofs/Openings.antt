@@ -1,7 +1,9 @@
 -- What is opened of an image, and why an image isn't.
-use Rattle.std.proofs.Common.{◌≡◌, ◌≤◌, ℕ, Result, refl, sym, ◌∙◌, ap, subst, length}
-use Rattle.std.specs.Prelude.{IfOk, IfErr, Ok, Err, None, false}
-use Rattle.volume_header.specs.Refusal.{header_refusal, is_locked}
+use Rattle.std.proofs.Common.{◌≡◌, ◌≤◌, ℕ, Bool, not, Result, refl, sym, ◌∙◌, ap, subst, length}
+use Rattle.std.specs.Prelude.{IfOk, IfErr, Ok, Err, Option, None, Some, false, true, if◌then◌else◌}
+use Rattle.volume_header.specs.Refusal.{header_refusal, is_locked, is_volume_size}
+use Rattle.volume_header.specs.declared.refusal.HeaderRefusal.{HeaderRefusal}
+use Rattle.volume_header.specs.declared.refusal.HeaderRefusal.TheVariants.{LimitSectors}
 use Rattle.volume_header.specs.declared.header.VolumeHeader.{VolumeHeader}
 use Rattle.jnl_format.specs.Recovery.{Content, header_of_volume, journal_in, recovery, replayed}
 use Rattle.jnl_replay.specs.Plan.{FitsPlan, IsPlan, journal_of}
@@ -46,3 +48,16 @@ module _ (c : Content) (plan : Plan) (sectors : ℕ) (is_open : IsOpen c) (fits 
   pub plan_refused : (r : Result Plan OpenRefusal) → IfErr r (RefusesPlan plan) → IfErr r (RefusesImage c)
   plan_refused (Ok large) refused = tt
   plan_refused (Err why) refused = refuses why refused
+
+not_refused : (b : Bool) (why : HeaderRefusal) (rest : Option HeaderRefusal) → (if not b then Some why else rest) ≡ None → b ≡ true
+not_refused true why rest is = refl
+not_refused false why rest is = absurd (cc is)
+
+-- a header is accepted on volumes of their sizes alone
+pub size_accepted : (head : VolumeHeader) (sectors : ℕ) → header_refusal head sectors ≡ None → is_volume_size sectors ≡ true
+size_accepted head sectors accepted = not_refused (is_volume_size sectors) (LimitSectors sectors) _ accepted
+
+-- what holds anyway holds of a result
+pub always : {A E : Type 0} {P : Type 0} (r : Result A E) → P → IfOk r (λ _. P)
+always (Ok x) is = is
+always (Err e) is = tt

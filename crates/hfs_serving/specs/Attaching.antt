@@ -8,7 +8,7 @@ use Rattle.jnl_replay.specs.Homing.{after_replay}
 use Rattle.jnl_replay.specs.Plan.{FitsPlan}
 use Rattle.jnl_replay.specs.declared.plan.Plan.{Plan}
 use Rattle.jnl_store.specs.Plan.{IsCapacityOf, rested}
-use Rattle.jnl_store.specs.Store.{HasNoList, Keeps, durable_of, faults_of, plan_of, puts_of, spare_of}
+use Rattle.jnl_store.specs.Store.{HasNoList, Keeps, durable_of, faults_of, plan_of, puts_of, room_of, spare_of}
 use Rattle.jnl_store.specs.declared.store.Store.{Store}
 use Rattle.hfs_volume.specs.Content.{volume_of}
 use Rattle.hfs_volume.specs.Sound.{IsSound}
@@ -37,7 +37,7 @@ pub record MayAttach (now : Content) (space : Space) (outside : Outside) : Type 
 abbrev pub SomeAttach : Space → Outside → Type 0
 SomeAttach space outside = (now : Content) × MayAttach now space outside
 
--- The store was attached to a disk with this plan: its journal is the plan's, nothing is put, no list is live, and there is room for a whole
+-- The store was attached to a disk with this plan: its journal is the plan's, nothing is put, no list is live, and there is room for just one
 -- transaction. Where the disk is ready with the plan, the store keeps on it what it has to keep.
 pub record IsAttached (store : Store) (plan : Plan) (disk : State) : Type 0 where
   pub plan_is : plan_of store ≡ rested plan
@@ -47,4 +47,5 @@ pub record IsAttached (store : Store) (plan : Plan) (disk : State) : Type 0 wher
   pub no_fault : faults_of store ≡ 0
   pub durable : durable_of store (content disk) ≡ content disk
   pub room : (capacity : ℕ) → IsCapacityOf (plan_of store) capacity → capacity ≤ spare_of store
+  pub no_more : (capacity : ℕ) → IsCapacityOf (plan_of store) capacity → room_of store ≤ capacity
   pub keeps : IsTrue disk.tells → (now : Content) → IsReady plan now disk → Keeps store disk.sectors (only (after_replay plan (content disk)))

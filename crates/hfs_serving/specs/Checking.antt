@@ -1,9 +1,13 @@
 -- What a mount finds of a volume before it writes anything, and why it refuses one.
-use Rattle.std.specs.Prelude.{ℕ, List, Contains, Result, Ok, Err}
-use Rattle.jnl_format.specs.Recovery.{Content, replayed}
+use Rattle.std.specs.Prelude.{◌≡◌, ℕ, List, [], Contains, None, Result, Ok, Err, length}
+use Rattle.volume_header.specs.Refusal.{header_refusal}
+use Rattle.jnl_format.specs.Recovery.{Content, header_of_volume, replayed}
 use Rattle.jnl_replay.specs.Plan.{journal_of}
 use Rattle.jnl_replay.specs.declared.plan.Plan.{Plan}
 use Rattle.hfs_volume.specs.Broken.{Finding, IsBroken}
+use Rattle.btree_node.specs.TreeFile.{TreeFile}
+use Rattle.hfs_volume.specs.Content.{block_limit, sectors_in, tree_of_fork}
+use Rattle.hfs_volume.specs.Forks.{catalog_id, data_kind, extents_of}
 use Rattle.hfs_volume.specs.Mount.{FoldsCase}
 use Rattle.hfs_volume.specs.Sound.{IsSound}
 use Rattle.hfs_serving.specs.Opening.{Opens}
@@ -13,9 +17,17 @@ use Rattle.hfs_serving.specs.declared.checking.MountRefusal.TheVariants as refus
 use Rattle.hfs_serving.specs.declared.checking.Verdict.{Verdict}
 use Rattle.hfs_serving.specs.declared.checking.Verdict.TheVariants as verdict
 
+-- the catalog file, by the extents in the header alone
+abbrev pub catalog_begun : Content → TreeFile
+catalog_begun content = tree_of_fork content (block_limit content) (sectors_in content (extents_of [] catalog_id data_kind (header_of_volume content).catalog_fork))
+
+-- The header is accepted, and the catalog, which begins in its extents, compares keys with letter case folded.
+abbrev pub FoldsFirst : Content → Type 0
+FoldsFirst content = (header_refusal (header_of_volume content) (length content) ≡ None) × ((catalog_begun content).head.compare ≡ 0xCF)
+
 -- a content that isn't sound and doesn't fold case, and each finding is one of it
 pub record IsUnsound (content : Content) (findings : List Finding) : Type 0 where
-  pub keeps_case : ¬ FoldsCase content
+  pub keeps_case : ¬ FoldsFirst content
   pub unsound : ¬ IsSound content
   pub broken : (finding : Finding) → Contains findings finding → IsBroken content finding
 

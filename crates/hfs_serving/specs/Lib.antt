@@ -16,4 +16,6 @@ pub mod Taking
 pub mod Readying
 pub mod Attaching
 pub mod Checking
+pub mod Ending
+pub mod Resting
 pub mod Faults

@@ -3,7 +3,7 @@ ghost use Rattle.std.specs.Prelude.{◌≡◌, ◌≤◌, ◌+◌, ℕ, IsTrue, 
 ghost use Rattle.jnl_format.specs.Recovery.{Content};
 ghost use Rattle.sector_disk.specs.Cause.{Rose};
 ghost use Rattle.hfs_serving.specs.Faults.{CountsFaults};
-ghost use Rattle.hfs_serving.specs.Grounds.{Anchor, KeepsHeading};
+ghost use Rattle.hfs_serving.specs.Grounds.{Anchor, KeepsHeading, ShowsJournal};
 ghost use Rattle.hfs_serving.specs.Outside.{Outside};
 ghost use Rattle.hfs_serving.specs.Serving.{Commits, IsAsDurable, MayCommit, Touches, TouchesSpace};
 
@@ -55,8 +55,11 @@ pub trait Ground: SectorSpace {
     fn look(&self)
         ensures still { (capacity : ℕ) (first : Self) → Self.follows first self.now → serves first capacity → serves self.now capacity }
         ensures room { (first : Self) → Self.follows first self.now → room self.now ≡ room first }
+        // No more is put than a transaction holds.
+        ensures most { (capacity : ℕ) → serves self.now capacity → taken self.now ≤ capacity }
         ensures counts { (first : Self) → Self.follows first self.now → (Self.space self.now).sink_faults ≡ (Self.space first).sink_faults → CountsFaults (failed first) (Self.space first) (failed self.now) (Self.space self.now) }
         ensures anchor { (first : Self) → Self.follows first self.now → (Self.space self.now).names ≡ (Self.space first).names → anchor self.now ≡ anchor first }
+        ensures shows { (capacity : ℕ) → serves self.now capacity → IsTrue (Self.space self.now).tells → KeepsHeading (Self.space self.now) → ShowsJournal (anchor self.now).journal (Self.space self.now) }
         // A crash leaves what is durable, but in what was spilled and in the journal itself.
         ensures rests { (capacity : ℕ) → serves self.now capacity → IsTrue (Self.space self.now).tells → (recovered : Content) → (outside self.now).leaves recovered → IsAsDurable (Self.space self.now) recovered }
         ensures sees { (capacity : ℕ) (committed : Content) (first : Self) → Self.follows first self.now → serves first capacity → IsTrue (Self.space first).tells → TouchesSpace committed (Self.space first) (Self.space self.now)

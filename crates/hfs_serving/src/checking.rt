@@ -1,5 +1,5 @@
 //! What a mount finds of a volume before it writes anything.
-ghost use Rattle.std.specs.Prelude.{◌≡◌, ℕ, List, IsTrue, IfOk, IfErr};
+ghost use Rattle.std.specs.Prelude.{◌≡◌, ℕ, List, IsTrue, IfOk, IfErr, true};
 ghost use Rattle.hx_bytes.specs.declared.faults.Trouble.TheVariants as trouble;
 ghost use Rattle.sector_disk.specs.Disk.{OnlyReads, content};
 ghost use Rattle.jnl_format.specs.Recovery.{replayed};
@@ -7,6 +7,8 @@ ghost use Rattle.jnl_replay.specs.Plan.{FitsPlan, IsPlan, journal_of};
 ghost use Rattle.jnl_replay.specs.Viewing.{shown};
 ghost use Rattle.line_source.specs.Cause.{IsCause};
 ghost use Rattle.hfs_volume.specs.Broken.{Finding};
+ghost use Rattle.hfs_volume.specs.Findings.{HasBytes};
+ghost use Rattle.volume_header.specs.Refusal.{is_volume_size};
 ghost use Rattle.hfs_serving.specs.Checking.{IsFound, IsVerdict, RefusesMount, judged};
 ghost use Rattle.hfs_serving.specs.Refusing.{IsOpened};
 
@@ -33,6 +35,8 @@ pub trait Checker {
 
     /// Judges the content that a view shows. It only reads.
     fn check<W: SectorView>(&mut self, alloc: Global, view: &mut W) -> Result<Verdict, Trouble>
+        requires size { is_volume_size (W.space view.old).sectors ≡ true }
+        requires bytes { IsTrue (W.space view.old).tells → HasBytes (W.space view.old).content }
         ensures verdict { IsTrue (W.space view.old).tells → IfOk result (IsVerdict (W.space view.old).content (findings self.new)) }
         ensures below { W.follows view.old view.new }
         ensures names { (W.space view.new).names ≡ (W.space view.old).names }
@@ -76,6 +80,7 @@ fn judge_image<C: Checker, D: SectorDisk>(
     disk: &mut D,
     plan: Plan,
 ) -> Result<Result<Plan, MountRefusal>, Trouble>
+    requires size { is_volume_size (D.state disk.old).sectors ≡ true }
     requires fits { FitsPlan (D.state disk.old).sectors plan }
     requires opened { IsTrue (D.state disk.old).tells → IsOpened (content (D.state disk.old)) plan }
     ensures found { IsTrue (D.state disk.old).tells → IfOk result (λ answer. IfOk answer (IsFound (content (D.state disk.old)))) }
@@ -106,6 +111,7 @@ fn check_image<C: Checker, D: SectorDisk>(
     disk: &mut D,
     plan: &Plan,
 ) -> Result<Verdict, Trouble>
+    requires size { is_volume_size (D.state disk.old).sectors ≡ true }
     requires fits { FitsPlan (D.state disk.old).sectors plan.now }
     requires plan { IsTrue (D.state disk.old).tells → IsPlan (content (D.state disk.old)) plan.now }
     ensures verdict { IsTrue (D.state disk.old).tells → IfOk result (IsVerdict (replayed (journal_of plan.now) (content (D.state disk.old))) (C.findings checker.new)) }
@@ -123,6 +129,8 @@ fn check_peek<C: Checker, D: SectorDisk>(
     disk: &mut D,
     peek: &Peek,
 ) -> Result<Verdict, Trouble>
+    requires size { is_volume_size (D.state disk.old).sectors ≡ true }
+    requires bytes { IsTrue (D.state disk.old).tells → HasBytes (shown peek.now (D.state disk.old).sectors (content (D.state disk.old))) }
     ensures verdict { IsTrue (D.state disk.old).tells → IfOk result (IsVerdict (shown peek.now (D.state disk.old).sectors (content (D.state disk.old))) (C.findings checker.new)) }
     ensures reads { OnlyReads (D.state disk.old) (D.state disk.new) }
     ensures cause { IsCause trouble.Disk (D.state disk.old).faults (D.state disk.new).faults result }

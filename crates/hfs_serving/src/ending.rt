@@ -4,6 +4,8 @@ ghost use Rattle.jnl_format.specs.Recovery.{Content};
 ghost use Rattle.hfs_serving.specs.Faults.{Faults};
 ghost use Rattle.hfs_serving.specs.Closing.{Finishes, MayFinish};
 ghost use Rattle.hfs_serving.specs.Going.{Stands};
+ghost use Rattle.hfs_serving.specs.Grounds.{KeepsHeading};
+ghost use Rattle.hfs_serving.specs.Serving.{IsServing};
 ghost use Rattle.hfs_serving.specs.Steps.{SomeWhole};
 
 use crate::basis::Ground;
@@ -18,7 +20,10 @@ pub fn end_run<V: Volume, G: Ground>(volume: &mut V, base: &mut G) -> Result<(),
     ensures crash { IsTrue (G.space base.old).tells → (capacity : ℕ) (now : Content) (shrunk : Option ℕ) → Stands (V.knows volume.old (G.space base.old) capacity) now now shrunk (G.space base.old) (G.outside base.old)
         → MayFinish now (G.outside base.old) (G.outside base.new) }
     ensures done { IsTrue (G.space base.old).tells → (capacity : ℕ) (now : Content) (shrunk : Option ℕ) → Stands (V.knows volume.old (G.space base.old) capacity) now now shrunk (G.space base.old) (G.outside base.old)
-        → OnOk result (Finishes now (G.outside base.old) (G.outside base.new)) }
+        → OnOk result ((finishes : Finishes now (G.outside base.old) (G.outside base.new)) × IsServing finishes.ended (G.space base.new) (G.outside base.new)) }
+    ensures heads { IsTrue (G.space base.old).tells → OnOk result (KeepsHeading (G.space base.new)) }
+    ensures still { (capacity : ℕ) → G.serves base.old capacity → G.taken base.old ≤ capacity → OnOk result (G.serves base.new capacity × (G.taken base.new ≡ 0)) }
+    ensures tells { OnOk result ((G.space base.new).tells ≡ (G.space base.old).tells) }
     ensures anchor { G.anchor base.new ≡ G.anchor base.old }
     ensures faults { Faults (G.failed base.old) (G.space base.old) (G.failed base.new) (G.space base.new) result }
 {

@@ -1,9 +1,9 @@
 //! What a mount makes of an image before it looks into the volume: its header, its journal, and how many sectors a transaction holds. Nothing is
 //! written.
-ghost use Rattle.std.specs.Prelude.{◌≡◌, ◌<◌, ◌≤◌, ℕ, IsTrue, IfOk, IfErr, Some, None, Ok, false};
+ghost use Rattle.std.specs.Prelude.{◌≡◌, ◌<◌, ◌≤◌, ℕ, IsTrue, IfOk, IfErr, Some, None, Ok, false, true};
 ghost use Rattle.sector_disk.specs.Cause.{HasCause};
 ghost use Rattle.sector_disk.specs.Disk.{OnlyReads, content};
-ghost use Rattle.volume_header.specs.Refusal.{header_refusal, is_locked};
+ghost use Rattle.volume_header.specs.Refusal.{header_refusal, is_locked, is_volume_size};
 ghost use Rattle.jnl_format.specs.Recovery.{header_of_volume, info_sector_of};
 ghost use Rattle.jnl_replay.specs.Plan.{FitsPlan, IsPlan, journal_of};
 ghost use Rattle.jnl_format.specs.Recovery.{recovery, replayed};
@@ -42,6 +42,7 @@ pub fn open_image<D: SectorDisk>(disk: &mut D) -> Result<Result<Plan, OpenRefusa
     ensures opened { IsTrue (D.state disk.old).tells → IfOk result (λ answer. IfOk answer (IsOpened (content (D.state disk.old)))) }
     ensures refused { IsTrue (D.state disk.old).tells → IfOk result (λ answer. IfErr answer (RefusesImage (content (D.state disk.old)))) }
     ensures fits { IfOk result (λ answer. IfOk answer (FitsPlan (D.state disk.old).sectors)) }
+    ensures size { IfOk result (λ answer. IfOk answer (λ _. is_volume_size (D.state disk.new).sectors ≡ true)) }
     ensures reads { OnlyReads (D.state disk.old) (D.state disk.new) }
     ensures cause { HasCause (D.state disk.old).faults (D.state disk.new).faults result }
 {
@@ -78,6 +79,7 @@ fn open_header<D: SectorDisk>(
     ensures opened { IsTrue (D.state disk.old).tells → IfOk result (λ answer. IfOk answer (IsOpened (content (D.state disk.old)))) }
     ensures refused { IsTrue (D.state disk.old).tells → IfOk result (λ answer. IfErr answer (RefusesImage (content (D.state disk.old)))) }
     ensures fits { IfOk result (λ answer. IfOk answer (FitsPlan (D.state disk.old).sectors)) }
+    ensures size { IfOk result (λ answer. IfOk answer (λ _. is_volume_size (D.state disk.new).sectors ≡ true)) }
     ensures reads { OnlyReads (D.state disk.old) (D.state disk.new) }
     ensures cause { HasCause (D.state disk.old).faults (D.state disk.new).faults result }
 {

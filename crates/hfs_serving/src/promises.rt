@@ -1,21 +1,23 @@
 //! A run over a journal's store and its rig.
-ghost use Rattle.std.specs.Prelude.{◌≡◌, ◌≤◌, ◌<◌, ◌∷◌, [], ℕ, List, None, IsErrOf, IsTrue, OnOk, length};
+ghost use Rattle.std.specs.Prelude.{◌≡◌, ◌≤◌, ◌<◌, ◌∷◌, [], ℕ, List, None, Some, IsErrOf, IsTrue, OnOk, length};
 ghost use Rattle.jnl_format.specs.Recovery.{Content};
 ghost use Rattle.jnl_store.specs.Seen.{seen};
 ghost use Rattle.jnl_store.specs.Store.{faults_of, plan_of, puts_of};
 ghost use Rattle.hfs_volume.specs.Sound.{IsSound};
 ghost use Rattle.sector_disk.specs.Cause.{Rose};
+ghost use Rattle.sector_disk.specs.Disk.{SameDisk};
 ghost use Rattle.hfs_language.specs.Lines.{lines};
 ghost use Rattle.hfs_serving.specs.Faults.{StopFaults};
 ghost use Rattle.hfs_serving.specs.Going.{Stands};
 ghost use Rattle.hfs_serving.specs.Grounds.{IsInService};
 ghost use Rattle.hfs_serving.specs.Opening.{MayServe};
 ghost use Rattle.hfs_serving.specs.Outside.{outside_of};
+ghost use Rattle.hfs_serving.specs.Ending.{AnswersStep, EndsTaking, IsFinal, IsPutAway, stop_in};
 ghost use Rattle.hfs_serving.specs.Steps.{CrashesStep, EndsRun, KeepsRun, SomeWhole};
 ghost use Rattle.hfs_serving.specs.Taking.{HasTaken};
 ghost use Rattle.line_source.specs.Input.{SameSource};
 
-use crate::ending::end_run;
+use crate::resting::finish;
 use crate::taking::serve_source;
 use crate::telling::Stop;
 use crate::volume::Volume;
@@ -50,6 +52,14 @@ pub fn run<V: Volume, R: Rig, S: Source>(
     // At Ok all lines of the source were served and answered, and a crash leaves what they left, with bit 8 of the header's attributes set.
     ensures done { IsTrue (seen R.state base.old).tells → (capacity : ℕ) (start : Content) → Stands (V.knows volume.old (seen R.state base.old) capacity) start start None (seen R.state base.old) (outside_of (plan_of base.old.store.now) (R.state base.old.disk.now))
         → OnOk result (EndsRun capacity start (outside_of (plan_of base.old.store.now) (R.state base.old.disk.now)) (S.stream source.old) (outside_of (plan_of base.new.store.now) (R.state base.new.disk.now))) }
+    // Where the source ended the run, each line that was taken was answered.
+    ensures answers { IsFinal (stop_in result) → (texts : List (List ℕ)) × (IsTrue (S.stream source.old).tells → HasTaken [] (S.stream source.old) texts (S.stream source.new) × EndsTaking (stop_in result) [] (S.stream source.old) texts (S.stream source.new))
+        × (stop_in result ≡ Some Stop.TooMany → length texts ≡ 4294967295)
+        × (IsTrue (seen R.state base.old).tells → (capacity : ℕ) (start : Content)
+        → Stands (V.knows volume.old (seen R.state base.old) capacity) start start None (seen R.state base.old) (outside_of (plan_of base.old.store.now) (R.state base.old.disk.now))
+        → AnswersStep capacity start None (outside_of (plan_of base.old.store.now) (R.state base.old.disk.now)) texts (outside_of (plan_of base.old.store.now) (R.state base.new.disk.now))) }
+    // At Ok bit 8 of the header's attributes is set, the journal is empty, and nothing is pending.
+    ensures away { IsTrue (seen R.state base.old).tells → OnOk result (IsPutAway (R.state base.new.disk.now)) }
     ensures end { IsTrue (S.stream source.old).tells → OnOk result ((S.stream source.new).left ≡ []) }
     // There are too many lines exactly where there is one more than have a number.
     ensures few { IsTrue (S.stream source.old).tells → OnOk result (length (lines (S.stream source.old).left) ≤ 4294967295) }
@@ -57,6 +67,7 @@ pub fn run<V: Volume, R: Rig, S: Source>(
     // Each answer other than Ok comes of a fault whose count rose, but for memory and steps.
     ensures faults { StopFaults (faults_of base.old.store.now) (seen R.state base.old) (faults_of base.new.store.now) (seen R.state base.new) (Rose (S.stream source.old).faults (S.stream source.new).faults) result }
     ensures later { (S.stream source.old).faults ≤ (S.stream source.new).faults }
+    ensures same { SameDisk (R.state base.old.disk.now) (R.state base.new.disk.now) }
     // It holds the same references.
     ensures names { base.new.store.ghost_name ∷ base.new.disk.ghost_name ∷ [] ≡ base.old.store.ghost_name ∷ base.old.disk.ghost_name ∷ [] }
     ensures same_source { SameSource (S.stream source.old) (S.stream source.new) }
@@ -64,6 +75,6 @@ pub fn run<V: Volume, R: Rig, S: Source>(
     aside_is_free();
     let mut input = Input::new(alloc)?;
     serve_source(alloc, volume, base, watchers, &mut input, source)?;
-    end_run(volume, base)?;
+    finish(volume, base)?;
     Ok(())
 }

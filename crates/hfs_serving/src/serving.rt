@@ -1,15 +1,16 @@
 //! An image served: it is found, made ready, attached to, and its source's lines are served to their end.
-ghost use Rattle.std.specs.Prelude.{◌≡◌, ◌≤◌, ◌<◌, [], ℕ, List, None, IsErrOf, IsTrue, IfOk, IfErr, OnOk, length};
-ghost use Rattle.sector_disk.specs.Disk.{HasNothingPending, OnlyReads, content};
+ghost use Rattle.std.specs.Prelude.{◌≡◌, ◌⊎◌, ◌≤◌, ◌<◌, [], ℕ, List, None, Some, IsErrOf, IsTrue, IfOk, IfErr, OnOk, length};
+ghost use Rattle.sector_disk.specs.Disk.{HasNothingPending, OnlyReads, SameDisk, content};
 ghost use Rattle.jnl_format.specs.Recovery.{Content, replayed};
 ghost use Rattle.jnl_replay.specs.Plan.{FitsPlan, journal_of};
 ghost use Rattle.jnl_store.specs.Plan.{IsCapacityOf};
 ghost use Rattle.hfs_language.specs.Lines.{lines};
-ghost use Rattle.hfs_volume.specs.Mount.{Mounts};
+ghost use Rattle.hfs_volume.specs.Mount.{IsMountable, Mounts};
 ghost use Rattle.hfs_volume.specs.Sound.{IsSound};
 ghost use Rattle.line_source.specs.Input.{SameSource};
 ghost use Rattle.hfs_serving.specs.Attaching.{IsAttached};
 ghost use Rattle.sector_disk.specs.Cause.{Rose};
+ghost use Rattle.hfs_serving.specs.Ending.{AnswersRig, AnswersRun, AnswersStep, AnswersToTheLast, EndsTaking, FinishesRun, IsFinal, IsPutAway, stop_in};
 ghost use Rattle.hfs_serving.specs.Faults.{RigFaults};
 ghost use Rattle.hfs_serving.specs.Checking.{IsFound, RefusesMount};
 ghost use Rattle.hfs_serving.specs.Outside.{outside_of};
@@ -55,9 +56,20 @@ pub fn serve_image<V: Volume, C: Checker, R: Rig, S: Source>(
     // There are too many lines exactly where there is one more than have a number.
     ensures few { IsTrue (S.stream source.old).tells → IfOk result (λ answer. OnOk answer (length (lines (S.stream source.old).left) ≤ 4294967295)) }
     ensures many { IsTrue (S.stream source.old).tells → IsErrOf result Stop.TooMany → 4294967295 < length (lines (S.stream source.old).left) }
+    // At the end of the source all its lines were served and answered, and the volume is unmounted.
+    ensures done { IsTrue (R.state rig.old).tells → HasNothingPending (R.state rig.old) → (capacity : ℕ) (start : Content) → Mounts (content (R.state rig.old)) capacity start
+        → IfOk result (λ answer. OnOk answer (FinishesRun capacity start (R.state rig.old) (S.stream source.old) (R.state rig.new) (S.stream source.new))) }
+    // Where the source fails, each whole line that was taken has its reply told, and where it has too many lines, each before the last.
+    ensures stopped { IsTrue (R.state rig.old).tells → HasNothingPending (R.state rig.old) → (capacity : ℕ) (start : Content) → Mounts (content (R.state rig.old)) capacity start → IsErrOf result Stop.Source
+        → AnswersRun capacity start (R.state rig.old) (S.stream source.old) (R.state rig.new) (S.stream source.new) }
+    ensures to_the_last { IsTrue (R.state rig.old).tells → HasNothingPending (R.state rig.old) → (capacity : ℕ) (start : Content) → Mounts (content (R.state rig.old)) capacity start → IsErrOf result Stop.TooMany
+        → AnswersToTheLast capacity start (R.state rig.old) (S.stream source.old) (R.state rig.new) (S.stream source.new) }
+    // An image that can't be mounted is refused, unless it can't be read or memory is short.
+    ensures unfound { IsTrue (R.state rig.old).tells → ¬ IsMountable (content (R.state rig.old)) → IfErr result (λ stop. (stop ≡ Stop.Disk) ⊎ (stop ≡ Stop.Memory)) }
     // Each fault that is answered is one of a device whose count rose.
     ensures faults { RigFaults (R.state rig.old) (R.state rig.new) (Rose (S.stream source.old).faults (S.stream source.new).faults) result }
     ensures later { (S.stream source.old).faults ≤ (S.stream source.new).faults }
+    ensures same { SameDisk (R.state rig.old) (R.state rig.new) }
     ensures same_source { SameSource (S.stream source.old) (S.stream source.new) }
 {
     match find_image(alloc, checker, rig)? {
@@ -83,11 +95,18 @@ fn serve_found<V: Volume, R: Rig, S: Source>(
     // Its promises begin at any moment since which the rig was only read.
     ensures promises { IsTrue (R.state rig.old).tells → HasNothingPending (R.state rig.old) → (capacity : ℕ) → IsCapacityOf plan capacity → (first : R) → OnlyReads (R.state first) (R.state rig.old)
         → KeepsRun capacity (replayed (journal_of plan) (content (R.state rig.old))) (R.state first) (S.stream source.old) (R.state rig.new) (S.stream source.new) }
+    // Where the source ended the run, each line that was taken was answered.
+    ensures answers { IsFinal (stop_in result) → (texts : List (List ℕ)) × (IsTrue (S.stream source.old).tells → HasTaken [] (S.stream source.old) texts (S.stream source.new) × EndsTaking (stop_in result) [] (S.stream source.old) texts (S.stream source.new))
+        × (stop_in result ≡ Some Stop.TooMany → length texts ≡ 4294967295)
+        × (IsTrue (R.state rig.old).tells → HasNothingPending (R.state rig.old) → (capacity : ℕ) → IsCapacityOf plan capacity → (first : R) → OnlyReads (R.state first) (R.state rig.old)
+        → AnswersRig capacity (replayed (journal_of plan) (content (R.state rig.old))) (R.state first) (S.stream source.old) texts (R.state rig.new) (S.stream source.new)) }
+    ensures away { IsTrue (R.state rig.old).tells → OnOk result (IsPutAway (R.state rig.new)) }
     ensures end { IsTrue (S.stream source.old).tells → OnOk result ((S.stream source.new).left ≡ []) }
     ensures few { IsTrue (S.stream source.old).tells → OnOk result (length (lines (S.stream source.old).left) ≤ 4294967295) }
     ensures many { IsTrue (S.stream source.old).tells → IsErrOf result Stop.TooMany → 4294967295 < length (lines (S.stream source.old).left) }
     ensures faults { RigFaults (R.state rig.old) (R.state rig.new) (Rose (S.stream source.old).faults (S.stream source.new).faults) result }
     ensures later { (S.stream source.old).faults ≤ (S.stream source.new).faults }
+    ensures same { SameDisk (R.state rig.old) (R.state rig.new) }
     ensures same_source { SameSource (S.stream source.old) (S.stream source.new) }
 {
     aside_is_free();
@@ -110,11 +129,18 @@ fn serve_ready<V: Volume, R: Rig, S: Source>(
     ensures stretch { (texts : List (List ℕ)) × (IsTrue (S.stream source.old).tells → HasTaken [] (S.stream source.old) texts (S.stream source.new))
         × (IsTrue (R.state rig.old).tells → (capacity : ℕ) → IsCapacityOf plan.now capacity → (start now : Content) (first : R) → IsVersioned start now → KeepsPlace start now → IsReady plan.now now (R.state rig.old) → IsSound now
         → Turns start now (outside_of plan.now (R.state first)) (outside_of plan.now (R.state rig.old)) → CrashesStep capacity start None (outside_of plan.now (R.state first)) texts (outside_of plan.now (R.state rig.new))) }
+    // Where the source ended the run, each line that was taken was answered.
+    ensures answers { IsFinal (stop_in result) → (texts : List (List ℕ)) × (IsTrue (S.stream source.old).tells → HasTaken [] (S.stream source.old) texts (S.stream source.new) × EndsTaking (stop_in result) [] (S.stream source.old) texts (S.stream source.new))
+        × (stop_in result ≡ Some Stop.TooMany → length texts ≡ 4294967295)
+        × (IsTrue (R.state rig.old).tells → (capacity : ℕ) → IsCapacityOf plan.now capacity → (start now : Content) (first : R) → IsVersioned start now → KeepsPlace start now → IsReady plan.now now (R.state rig.old) → IsSound now
+        → Turns start now (outside_of plan.now (R.state first)) (outside_of plan.now (R.state rig.old)) → AnswersStep capacity start None (outside_of plan.now (R.state first)) texts (outside_of plan.now (R.state rig.new))) }
+    ensures away { IsTrue (R.state rig.old).tells → OnOk result (IsPutAway (R.state rig.new)) }
     ensures end { IsTrue (S.stream source.old).tells → OnOk result ((S.stream source.new).left ≡ []) }
     ensures few { IsTrue (S.stream source.old).tells → OnOk result (length (lines (S.stream source.old).left) ≤ 4294967295) }
     ensures many { IsTrue (S.stream source.old).tells → IsErrOf result Stop.TooMany → 4294967295 < length (lines (S.stream source.old).left) }
     ensures faults { RigFaults (R.state rig.old) (R.state rig.new) (Rose (S.stream source.old).faults (S.stream source.new).faults) result }
     ensures later { (S.stream source.old).faults ≤ (S.stream source.new).faults }
+    ensures same { SameDisk (R.state rig.old) (R.state rig.new) }
     ensures same_source { SameSource (S.stream source.old) (S.stream source.new) }
 {
     aside_is_free();

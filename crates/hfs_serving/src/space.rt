@@ -1,7 +1,7 @@
 //! A journal's store over a rig, as a ground to serve on.
 ghost use Rattle.std.specs.Prelude.{◌∷◌, [], length};
 ghost use Rattle.jnl_store.specs.Store.{faults_of, plan_of, puts_of, room_of};
-ghost use Rattle.hfs_serving.specs.Grounds.{IsInService, anchor_of};
+ghost use Rattle.hfs_serving.specs.Grounds.{IsInService, anchor_of, rig_of};
 ghost use Rattle.hfs_serving.specs.Outside.{outside_of};
 
 use crate::basis::Ground;
@@ -15,7 +15,7 @@ impl<R: Rig> Ground for Space<'_, '_, R> {
 
     ghost serves = { λ s capacity. IsInService s.store.now (R.state s.disk.now) capacity };
 
-    ghost anchor = { λ s. record { journal = anchor_of (plan_of s.store.now); names = s.store.ghost_name ∷ s.disk.ghost_name ∷ [] } };
+    ghost anchor = { λ s. record { journal = anchor_of (plan_of s.store.now); rig = rig_of (R.state s.disk.now); names = s.store.ghost_name ∷ s.disk.ghost_name ∷ [] } };
 
     ghost failed = { λ s. faults_of s.store.now };
 
@@ -34,7 +34,9 @@ impl<R: Rig> Ground for Space<'_, '_, R> {
         }
     }
 
-    fn look(&self) {}
+    fn look(&self) {
+        let _pending = self.store.pending();
+    }
 }
 
 impl<R: Rig> Teller for Space<'_, '_, R> {

@@ -1,10 +1,11 @@
 //! The lines of a source, batch after batch.
-ghost use Rattle.std.specs.Prelude.{◌≡◌, ◌≢◌, ◌≤◌, ◌<◌, ◌++◌, [], ℕ, List, Option, IsErrOf, IsTrue, OnOk, OnErr, false, length};
+ghost use Rattle.std.specs.Prelude.{◌≡◌, ◌≢◌, ◌≤◌, ◌<◌, ◌++◌, [], ℕ, List, Option, Some, IsErrOf, IsTrue, OnOk, OnErr, false, length};
 ghost use Rattle.std.specs.List.{AllByRecursion};
 ghost use Rattle.jnl_format.specs.Recovery.{Content};
 ghost use Rattle.sector_disk.specs.Cause.{Rose};
-ghost use Rattle.hfs_language.specs.Lines.{lines};
+ghost use Rattle.hfs_language.specs.Lines.{HasNoNewline, lines};
 ghost use Rattle.hfs_language.specs.declared.reply.Change.{Change};
+ghost use Rattle.hfs_serving.specs.Ending.{AnswersStep, EndsTaking, IsFinal, stop_in};
 ghost use Rattle.hfs_serving.specs.Faults.{StopFaults};
 ghost use Rattle.hfs_serving.specs.Going.{Stands};
 ghost use Rattle.hfs_serving.specs.Steps.{CrashesStep, ServesStep, SomeWhole};
@@ -52,6 +53,12 @@ pub fn serve_source<V: Volume, G: Teller, S: Source>(
         × (IsTrue (S.stream source.old).tells → HasTaken input.old (S.stream source.old) texts (S.stream source.new))
         × (IsTrue (G.space base.old).tells → (capacity : ℕ) (start : Content) (shrunk : Option ℕ) → Stands (V.knows volume.old (G.space base.old) capacity) start start shrunk (G.space base.old) (G.outside base.old)
         → CrashesStep capacity start shrunk (G.outside base.old) texts (G.outside base.new))) }
+    // Where the source fails or has too many lines, each line that was taken was answered.
+    ensures answers { OnErr result (IsFinal (stop_in result) → (texts : List (List ℕ))
+        × (IsTrue (S.stream source.old).tells → HasTaken input.old (S.stream source.old) texts (S.stream source.new) × EndsTaking (stop_in result) input.old (S.stream source.old) texts (S.stream source.new))
+        × (stop_in result ≡ Some Stop.TooMany → length texts ≡ 4294967295)
+        × (IsTrue (G.space base.old).tells → (capacity : ℕ) (start : Content) (shrunk : Option ℕ) → Stands (V.knows volume.old (G.space base.old) capacity) start start shrunk (G.space base.old) (G.outside base.old)
+        → AnswersStep capacity start shrunk (G.outside base.old) texts (G.outside base.new))) }
     // Whatever ended it, watchers are told what some of the lines changed that were taken, each change once, and each crash leaves these lines.
     ensures watched { (heard : List Change) × (AllByRecursion (λ w. leaves w ≡ false) watchers.old.items → AreTold (λ w. told w) (λ w. leaves w) heard watchers.old.items watchers.new.items)
         × (texts : List (List ℕ)) × (IsTrue (S.stream source.old).tells → HasTaken input.old (S.stream source.old) texts (S.stream source.new))
@@ -107,6 +114,8 @@ fn take_lines<S: Source>(
     ensures end { IsTrue (S.stream source.old).tells → OnOk result (pending.new.items ≡ [] → (ahead input.old (S.stream source.old) ≡ []) × (ahead input.new (S.stream source.new) ≡ [])) }
     // Whatever it answers, the bytes that were taken stood first.
     ensures gone { IsTrue (S.stream source.old).tells → (gone : List ℕ) × (ahead input.old (S.stream source.old) ≡ gone ++ (S.stream source.new).left) }
+    // Where the source fails no line is in memory, and what is gone ends no line.
+    ensures begun { IsTrue (S.stream source.old).tells → IsErrOf result Stop.Source → (pending.old.items ≡ []) × (begun : List ℕ) × HasNoNewline begun × (ahead input.old (S.stream source.old) ≡ begun ++ (S.stream source.new).left) }
     ensures many { IsErrOf result Stop.TooMany → (left ≡ 0) × (IsTrue (S.stream source.old).tells → lines (ahead input.old (S.stream source.old)) ≢ []) }
     ensures cause { IsCause Stop.Source (S.stream source.old).faults (S.stream source.new).faults result }
     ensures no_disk { IsErrOf result Stop.Disk → ⊥ }
@@ -114,8 +123,11 @@ fn take_lines<S: Source>(
     ensures same { SameSource (S.stream source.old) (S.stream source.new) }
 {
     if left > 0 {
-        let most = if left < MOST_LINES { left } else { MOST_LINES };
-        input.read_lines(alloc, source, LONGEST_LINE, most, pending)?;
+        // (behind others only lines are read that were taken already)
+        if pending.is_empty() || input.has_line() {
+            let most = if left < MOST_LINES { left } else { MOST_LINES };
+            input.read_lines(alloc, source, LONGEST_LINE, most, pending)?;
+        }
         return Ok(());
     }
     match input.next_line(alloc, source, LONGEST_LINE)? {

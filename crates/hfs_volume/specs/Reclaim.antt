@@ -1,5 +1,5 @@
 -- Housekeeping: steps that give blocks, attributes and entries back which no name leads to any more.
-use Rattle.std.specs.Prelude.{◌≡◌, ◌≢◌, ◌⊎◌, ◌<◌, ◌≤◌, ℕ, ◌+◌, ◌-◌, ◌*◌, ◌/◌, ◌%◌, ◌^◌, ◌==◌, ◌&&◌, nat_lt, Bool, false, not, List, [], ◌∷◌, length, take, find, slice_index, Option, Some, None, if◌then◌else◌}
+use Rattle.std.specs.Prelude.{◌≡◌, ◌≢◌, ◌⊎◌, ◌<◌, ◌≤◌, ℕ, ◌+◌, ◌-◌, ◌*◌, ◌/◌, ◌%◌, ◌^◌, ◌==◌, ◌&&◌, nat_lt, Bool, false, not, List, [], ◌∷◌, length, take, find, slice_index, Option, Some, None, IsTrue, true, if◌then◌else◌}
 use Rattle.std.specs.Str.{bytes_eq}
 use Rattle.jnl_format.specs.Recovery.{Content}
 use Rattle.volume_header.specs.declared.header.VolumeHeader.{VolumeHeader}
@@ -206,10 +206,19 @@ pub data Tidies (capacity : ℕ) (shrunk : Option ℕ) : Content → Content →
 
 -- ---- at rest
 
--- nothing is left to reclaim, or something is missing for the next step
+-- the steps that aren't built yet, by which what was left is kept as it is
+abbrev pub is_left : Reclaim → Bool
+is_left (CutShrunk id) = true
+is_left (CutOrphan id kind) = true
+is_left (DropAttribute id name) = true
+is_left (DropOrphan id) = true
+
+-- Nothing is left to reclaim, or something is missing for the next step, or that step is still to come.
 abbrev pub IsAtRest : ℕ → Option ℕ → VolumeState → Type 0
 IsAtRest capacity shrunk volume =
-    (next_reclaim volume shrunk ≡ None) ⊎ ((step : Reclaim) × (why : Refusal) × (next_reclaim volume shrunk ≡ Some step) × (reclaim_cost capacity volume step ≡ cost.Refused why))
+    (next_reclaim volume shrunk ≡ None)
+    ⊎ (((step : Reclaim) × (why : Refusal) × (next_reclaim volume shrunk ≡ Some step) × (reclaim_cost capacity volume step ≡ cost.Refused why))
+    ⊎ ((step : Reclaim) × (next_reclaim volume shrunk ≡ Some step) × IsTrue (is_left step)))
 
 -- Housekeeping from one content to another, which comes to rest on the way.
 pub record Rests (capacity : ℕ) (shrunk : Option ℕ) (old new : Content) : Type 0 where

@@ -1,5 +1,5 @@
 -- Runs: lines, each with its reply and the contents before and after it.
-use Rattle.std.specs.Prelude.{◌≡◌, ◌≢◌, ◌⊎◌, ◌<◌, ℕ, ◌+◌, nat_lt, Bool, true, false, List, [], ◌∷◌, ◌++◌, length, map, take, drop, All, Option, Some, None, Result, Ok, Err, IsTrue, if◌then◌else◌}
+use Rattle.std.specs.Prelude.{◌≡◌, ◌≢◌, ◌⊎◌, ◌<◌, ℕ, ◌+◌, nat_lt, Bool, true, false, List, [], ◌∷◌, ◌++◌, length, map, take, drop, sum, All, Option, Some, None, Result, Ok, Err, IsTrue, if◌then◌else◌}
 use Rattle.jnl_format.specs.Recovery.{Content}
 use Rattle.alloc_bitmap.specs.Apart.{AreApart}
 use Rattle.hfs_language.specs.Language.{command_of}
@@ -18,7 +18,7 @@ use Rattle.hfs_volume.specs.Forks.{data_kind}
 use Rattle.hfs_volume.specs.Content.{VolumeState, volume_of, is_set}
 use Rattle.hfs_volume.specs.Sound.{IsSound}
 use Rattle.hfs_volume.specs.TreeOf.{tree_of}
-use Rattle.hfs_volume.specs.Weight.{Data, data_of, weight, gauge, needs_cut, first_block, new_blocks_of, old_blocks_of}
+use Rattle.hfs_volume.specs.Weight.{Data, data_of, weight, gauge, edits_of, needs_cut, first_block, new_blocks_of, old_blocks_of}
 use Rattle.hfs_volume.specs.Reclaim.{GrowsTrees, IsTreeFork, blocks_at, Rests}
 
 -- ---- entries
@@ -97,11 +97,39 @@ pub record LacksMemory (capacity : ℕ) (entry : Entry) : Type 0 where
   pub tree : tree_of entry.after ≡ tree_of entry.before
   pub same_gauge : gauge capacity (volume_of entry.after) ≡ gauge capacity (volume_of entry.before)
 
+-- ---- what is still to come
+
+-- the commands that aren't built yet
+abbrev pub is_to_come : Command → Bool
+is_to_come (command.Rm path) = true
+is_to_come (command.Ln from to) = true
+is_to_come (command.Write path from value) = true
+is_to_come (command.Trunc path size) = true
+is_to_come _ = false
+
+-- how many attributes a command removes or sets
+abbrev pub attribute_edits : PlainTree → Command → ℕ
+attribute_edits tree asked = (edits_of tree asked).attributes
+
+-- The step doesn't refuse the command, but it asks for more than is built: it removes more than eleven attributes, or a tree has to grow for it.
+pub record AsksMore (capacity : ℕ) (asked : Command) (content : Content) : Type 0 where
+  pub no_refusal : refuses (tree_of content) (Ok asked) ≡ false
+  pub more : (11 < attribute_edits (tree_of content) asked)
+      ⊎ ((load : ℕ) × (grow : List ℕ) × (weight capacity (volume_of content) (tree_of content) asked ≡ cost.Load load grow) × (0 < sum grow))
+
+-- The command is still to come, and nothing was changed.
+pub record IsToCome (capacity : ℕ) (entry : Entry) : Type 0 where
+  pub asked : Command
+  pub is_asked : asked_by entry ≡ Ok asked
+  pub waits : IsTrue (is_to_come asked) ⊎ AsksMore capacity asked entry.before
+  pub reply_is : entry.reply ≡ reply.No refusal.NotBuilt
+  pub same : entry.after ≡ entry.before
+
 -- what an entry of a run may be
 pub record IsServed (capacity : ℕ) (entry : Entry) : Type 0 where
   pub sound_before : IsSound entry.before
   pub sound_after : IsSound entry.after
-  pub is : IsAnswered capacity entry ⊎ (LacksResource capacity entry ⊎ LacksMemory capacity entry)
+  pub is : IsAnswered capacity entry ⊎ (LacksResource capacity entry ⊎ (LacksMemory capacity entry ⊎ IsToCome capacity entry))
 
 -- ---- runs
 

@@ -62,6 +62,7 @@ fn work(rt: &HostRuntime, words: &[String]) -> u8 {
     };
     let mut rig = FileRig::new(store, rt.stdout());
     let mut source = StdinSource::new(rt.stdin());
+    // Nobody watches.
     let status = hfsx(rt.alloc(), words, &mut rig, &mut source);
     match status {
         Status::Disk => match rig.failure() {

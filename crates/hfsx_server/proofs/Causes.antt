@@ -3,15 +3,11 @@ use Rattle.std.proofs.Common.{◌≡◌, ◌≤◌, ℕ, Result, Ok, Err, refl, 
 use Rattle.std.specs.Prelude.{IsErrOf}
 use Rattle.hx_bytes.specs.declared.faults.Trouble.{Trouble}
 use Rattle.hx_bytes.specs.declared.faults.Trouble.TheVariants.{Disk, Memory}
-use Rattle.hfsx_server.specs.declared.faults.ServeFault.TheVariants.{Source, TooMany}
-use Rattle.hfsx_server.specs.declared.faults.ServeFault.TheVariants as serve
 use Rattle.hfsx_server.specs.Cause.{IsCause}
-use Rattle.hfsx_server.specs.declared.faults.MountFault.{MountFault}
-use Rattle.hfsx_server.specs.declared.faults.MountFault.TheVariants as mount
+use Rattle.hfsx_server.specs.declared.faults.CheckFault.{CheckFault}
+use Rattle.hfsx_server.specs.declared.faults.CheckFault.TheVariants as fault
 use Rattle.sector_disk.specs.Cause.{HasCause, Rose}
-use Rattle.jnl_store.specs.declared.store.StoreFault.{StoreFault}
-use Rattle.jnl_store.specs.declared.store.StoreFault.TheVariants as store
-use Rattle.hfsx_server.specs.Faults.{fault_of_trouble, mount_fault_of}
+use Rattle.hfsx_server.specs.Faults.{fault_of_trouble}
 
 pub same_fault : {T E : Type 0} (y fault : E) → ◌≡◌ {A = Result T E} (Err y) (Err fault) → y ≡ fault
 same_fault y fault same = cc same
@@ -28,21 +24,6 @@ cause_other fault y before now r same other later = record { later = later; rose
 pub err_is : {T E : Type 0} (e f : E) → e ≡ f → IsErrOf {T = T} (Err e) f
 err_is {T} {E} e f same = subst (λ (x : E). IsErrOf {T = T} (Err e) x) same refl
 
--- no trouble of the volume is one of the source
-pub not_source : (trouble : Trouble) → fault_of_trouble trouble ≡ Source → ⊥
-not_source Disk is = absurd (cc is)
-not_source Memory is = absurd (cc is)
-
--- nor one of too many lines
-pub not_many : (trouble : Trouble) → fault_of_trouble trouble ≡ TooMany → ⊥
-not_many Disk is = absurd (cc is)
-not_many Memory is = absurd (cc is)
-
--- trouble that is answered as want of memory is that
-pub memory_trouble : (trouble : Trouble) → fault_of_trouble trouble ≡ serve.Memory → trouble ≡ Memory
-memory_trouble Disk is = absurd (cc is)
-memory_trouble Memory is = refl
-
 -- a fault handed on after calls that failed at nothing
 pub cause_on : {T U E : Type 0} (fault e y : E) (before mid now : ℕ) (r : Result T E) (q : Result U E) → before ≤ mid → IsCause fault mid now r → r ≡ Err e → q ≡ Err y → y ≡ e → IsCause fault before now q
 cause_on fault e y before mid now r q later cause is given same = record {
@@ -52,21 +33,15 @@ cause_on fault e y before mid now r q later cause is given same = record {
       omega (arith, later, cause.rose (subst (λ x. r ≡ Err x) there is));
 }
 
-disk_trouble : (t : Trouble) → mount_fault_of t ≡ mount.Disk → t ≡ Disk
+disk_trouble : (t : Trouble) → fault_of_trouble t ≡ fault.Disk → t ≡ Disk
 disk_trouble Disk is = refl
 disk_trouble Memory is = absurd (cc is)
 
--- trouble of a mount is a fault of it
-pub cause_troubled : {T U : Type 0} (t : Trouble) (y : MountFault) (before mid now : ℕ) (q : Result U MountFault) → q ≡ Err y → y ≡ mount_fault_of t → before ≤ mid → IsCause {T = T} Disk mid now (Err t) → IsCause mount.Disk before now q
+-- trouble of a check is a fault of it
+pub cause_troubled : {T U : Type 0} (t : Trouble) (y : CheckFault) (before mid now : ℕ) (q : Result U CheckFault) → q ≡ Err y → y ≡ fault_of_trouble t → before ≤ mid → IsCause {T = T} Disk mid now (Err t) → IsCause fault.Disk before now q
 cause_troubled {T} {U} t y before mid now q given same later cause = record {
   later = omega (arith, later, cause.later);
   rose = λ f.
-      let there : t ≡ Disk = disk_trouble t (sym same ∙ same_fault y mount.Disk (sym given ∙ f)) in
+      let there : t ≡ Disk = disk_trouble t (sym same ∙ same_fault y fault.Disk (sym given ∙ f)) in
       omega (arith, later, cause.rose (subst (λ x. ◌≡◌ {A = Result T Trouble} (Err t) (Err x)) there refl));
 }
-
--- a store on which no call had failed
-pub store_cause : {T : Type 0} (r : Result T StoreFault) (before mid now : ℕ) → before ≤ mid → mid ≤ now → (IsErrOf r store.Disk → Rose mid now) → ((n : ℕ) → r ≡ Err (store.Failed n) → ⊥) → HasCause before now r
-store_cause (Ok x) before mid now first second rose none = record { later = omega (arith, first, second); failed = tt }
-store_cause (Err store.Disk) before mid now first second rose none = record { later = omega (arith, first, second); failed = omega (arith, first, rose refl) }
-store_cause (Err (store.Failed n)) before mid now first second rose none = absurd (none n refl)

@@ -15,45 +15,20 @@ use Rattle.hfs_volume.specs.Broken.{IsBroken}
 use Rattle.hfs_volume.specs.Content.{volume_of}
 use Rattle.fsck_core.specs.declared.checking.Verdict.{Verdict}
 use Rattle.fsck_core.specs.declared.checking.Verdict.TheVariants as verdict
-use Rattle.hfsx_server.specs.Checking.{IsCheckFault, IsSoundImage, Judges, JudgesImage, RefusesCheck, StandsFor, ToldBroken, ToldSound}
+use Rattle.hfsx_server.specs.Checking.{IsSoundImage, Judges, JudgesImage, RefusesCheck, StandsFor, ToldBroken, ToldSound}
 use Rattle.hfsx_server.specs.Telling.{ToldUnlessFailed, clean_text, findings_text}
-use Rattle.hfsx_server.specs.Volume.{IsFault, IsOpen, IsRefusal, Refuses}
-use Rattle.hfsx_server.specs.declared.faults.MountFault.{MountFault}
-use Rattle.hfsx_server.specs.declared.faults.MountFault.TheVariants as fault
+use Rattle.hfs_serving.specs.declared.opening.OpenRefusal.{OpenRefusal}
+use Rattle.hfs_serving.specs.declared.opening.OpenRefusal.TheVariants as opening
 use Rattle.hfsx_server.proofs.Finding.{same_recovered}
 use Rattle.hfsx_server.proofs.Telling.{told_from}
 
--- ---- faults
+-- ---- refusals
 
-refuses_of : (c : Content) (why : MountFault) → IsOpen c → RefusesCheck c why → Refuses c why
-refuses_of c (fault.Header why) is_open is = is
-refuses_of c (fault.Journal why) is_open is = (is_open, is.1)
-refuses_of c fault.SoftwareLocked is_open is = absurd is
-refuses_of c (fault.JournalTooSmall need has) is_open is = absurd is
-refuses_of c (fault.NotYet part) is_open is = absurd is
-refuses_of c fault.Disk is_open is = absurd is
-refuses_of c fault.Memory is_open is = absurd is
-
--- why an open image isn't checked, it isn't mounted
-pub fault_of_check : (c : Content) (why : MountFault) → IsOpen c → IsCheckFault c why → IsFault c why
-fault_of_check c why is_open is =
-    ⊎_elim (λ (disk : why ≡ fault.Disk). inl disk)
-    (λ (rest : (why ≡ fault.Memory) ⊎ RefusesCheck c why). inr (⊎_elim (λ (memory : why ≡ fault.Memory). inl memory) (λ (refuses : RefusesCheck c why). inr (refuses_of c why is_open refuses)) rest)) is
-
--- a fault that is a refusal refuses the image
-pub refusal_of_check : (c : Content) (why : MountFault) → IsCheckFault c why → IsRefusal why → RefusesCheck c why
-refusal_of_check c why is refusal =
-    ⊎_elim (λ (disk : why ≡ fault.Disk). absurd (refusal.0 disk))
-    (λ (rest : (why ≡ fault.Memory) ⊎ RefusesCheck c why). ⊎_elim (λ (memory : why ≡ fault.Memory). absurd (refusal.1 memory)) (λ (refuses : RefusesCheck c why). refuses) rest) is
-
-pub refused_unsound : (c : Content) (why : MountFault) → RefusesCheck c why → ¬ IsSoundImage c
-refused_unsound c (fault.Header why) is sound = absurd (cc (is, sound.1.accepted))
-refused_unsound c (fault.Journal why) is sound = absurd (cc (is.1, sound.1.recovers))
-refused_unsound c fault.SoftwareLocked is sound = is
-refused_unsound c (fault.JournalTooSmall need has) is sound = is
-refused_unsound c (fault.NotYet part) is sound = is
-refused_unsound c fault.Disk is sound = is
-refused_unsound c fault.Memory is sound = is
+pub refused_unsound : (c : Content) (why : OpenRefusal) → RefusesCheck c why → ¬ IsSoundImage c
+refused_unsound c (opening.Header why) is sound = absurd (cc (is, sound.1.accepted))
+refused_unsound c (opening.Journal why) is sound = absurd (cc (is.1, sound.1.recovers))
+refused_unsound c opening.SoftwareLocked is sound = is
+refused_unsound c (opening.JournalTooSmall need has) is sound = is
 
 -- ---- verdicts
 

@@ -1,5 +1,5 @@
 -- What a check says of an image.
-use Rattle.std.specs.Prelude.{◌≡◌, ◌⊎◌, ◌↔◌, ◌<◌, ◌≤◌, ◌++◌, ℕ, List, length, Contains, IsTrue, Ok, Err, Some}
+use Rattle.std.specs.Prelude.{◌≡◌, ◌⊎◌, ◌↔◌, ◌<◌, ◌≤◌, ◌++◌, ℕ, List, length, Contains, IsTrue, Ok, Err, None, Some}
 use Rattle.sector_disk.specs.Disk.{State, content}
 use Rattle.volume_header.specs.Refusal.{header_refusal}
 use Rattle.jnl_format.specs.Recovery.{Content, header_of_volume, recovery}
@@ -12,10 +12,15 @@ use Rattle.fsck_list.specs.declared.finding.Finding.{Finding}
 use Rattle.fsck_core.specs.Verdicts.{HasNumbers, IsCounted, KeepsEarly, findings_in, is_clean}
 use Rattle.fsck_core.specs.Wants.{as_found}
 use Rattle.fsck_core.specs.declared.checking.Verdict.{Verdict}
-use Rattle.hfsx_server.specs.Telling.{ToldUnlessFailed, clean_text, fault_text, findings_text}
-use Rattle.hfsx_server.specs.Volume.{IsAccepted}
-use Rattle.hfsx_server.specs.declared.faults.MountFault.{MountFault}
-use Rattle.hfsx_server.specs.declared.faults.MountFault.TheVariants as fault
+use Rattle.hfs_serving.specs.declared.opening.OpenRefusal.{OpenRefusal}
+use Rattle.hfs_serving.specs.declared.opening.OpenRefusal.TheVariants as opening
+use Rattle.hfsx_server.specs.Telling.{ToldUnlessFailed, clean_text, findings_text, open_text}
+use Rattle.hfsx_server.specs.declared.faults.CheckFault.{CheckFault}
+use Rattle.hfsx_server.specs.declared.faults.CheckFault.TheVariants as fault
+
+-- the volume header is accepted
+abbrev pub IsAccepted : Content → Type 0
+IsAccepted image = header_refusal (header_of_volume image) (length image) ≡ None
 
 -- the header of the image is accepted, and with its journal replayed it has this content
 pub record StandsFor (image recovered : Content) : Type 0 where
@@ -27,18 +32,17 @@ abbrev pub IsSoundImage : Content → Type 0
 IsSoundImage image = (recovered : Content) × StandsFor image recovered × IsSound recovered
 
 -- The image stands for no content, and this is why. Bit 15 and the size of the journal are looked at by a mount alone.
-abbrev pub RefusesCheck : Content → MountFault → Type 0
-RefusesCheck image (fault.Header why) = header_refusal (header_of_volume image) (length image) ≡ Some why
-RefusesCheck image (fault.Journal why) = IsAccepted image × (recovery image ≡ Err why)
-RefusesCheck image fault.SoftwareLocked = ⊥
-RefusesCheck image (fault.JournalTooSmall need has) = ⊥
-RefusesCheck image (fault.NotYet part) = ⊥
-RefusesCheck image fault.Disk = ⊥
-RefusesCheck image fault.Memory = ⊥
+abbrev pub RefusesCheck : Content → OpenRefusal → Type 0
+RefusesCheck image (opening.Header why) = header_refusal (header_of_volume image) (length image) ≡ Some why
+RefusesCheck image (opening.Journal why) = IsAccepted image × (recovery image ≡ Err why)
+RefusesCheck image opening.SoftwareLocked = ⊥
+RefusesCheck image (opening.JournalTooSmall need has) = ⊥
 
 -- a fault of a check: a refusal that stands, or a fault of the disk or of memory
-abbrev pub IsCheckFault : Content → MountFault → Type 0
-IsCheckFault image why = (why ≡ fault.Disk) ⊎ ((why ≡ fault.Memory) ⊎ RefusesCheck image why)
+abbrev pub IsCheckFault : Content → CheckFault → Type 0
+IsCheckFault image (fault.Refused why) = RefusesCheck image why
+IsCheckFault image fault.Disk = Unit {0}
+IsCheckFault image fault.Memory = Unit {0}
 
 -- what a verdict says of the content that an image stands for
 pub record Judges (recovered : Content) (verdict : Verdict) : Type 0 where
@@ -74,4 +78,4 @@ pub record ToldBroken (old new : State) : Type 0 where
 
 -- a refusal of a check stands, and its line was told
 abbrev pub ToldCheckRefusal : State → State → Type 0
-ToldCheckRefusal old new = (why : MountFault) × RefusesCheck (content old) why × ToldUnlessFailed old new (fault_text why)
+ToldCheckRefusal old new = (why : OpenRefusal) × RefusesCheck (content old) why × ToldUnlessFailed old new (open_text why)

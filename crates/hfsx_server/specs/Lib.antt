@@ -1,12 +1,7 @@
 pub mod Cause
 pub mod Checking
 pub mod Faults
-pub mod Finding
 pub mod Made
-pub mod Serving
-pub mod Session
 pub mod Status
 pub mod Telling
-pub mod Volume
-pub mod Headline
 pub mod Words

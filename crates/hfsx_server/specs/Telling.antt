@@ -1,5 +1,5 @@
 -- Lines that are told before the program ends.
-use Rattle.std.specs.Prelude.{◌≡◌, ◌⊎◌, ◌≤◌, ◌++◌, ℕ, List, [], ◌∷◌, IsTrue, Result, OnOk, codes, decimal, length, nat_lt, if◌then◌else◌}
+use Rattle.std.specs.Prelude.{◌≡◌, ◌⊎◌, ◌≤◌, ◌++◌, ℕ, List, [], ◌∷◌, IsTrue, Result, OnOk, codes, decimal, length, map, nat_lt, if◌then◌else◌}
 use Rattle.std.specs.List.{flat_map}
 use Rattle.sector_disk.specs.Cause.{Rose, HasCause}
 use Rattle.sector_disk.specs.Disk.{State, SameDisk, ToldPrefix, content}
@@ -12,9 +12,12 @@ use Rattle.jnl_format.specs.declared.structures.JnlRefusal.TheVariants as jnl
 use Rattle.hfs_language.specs.Text.{field, fields}
 use Rattle.hfs_volume.specs.declared.summary.Summary.{Summary}
 use Rattle.fsck_list.specs.declared.finding.Finding.{Finding}
-use Rattle.hfsx_server.specs.Volume.{Refuses}
-use Rattle.hfsx_server.specs.declared.faults.MountFault.{MountFault}
-use Rattle.hfsx_server.specs.declared.faults.MountFault.TheVariants as fault
+use Rattle.fsck_core.specs.Wants.{as_found}
+use Rattle.hfs_serving.specs.Checking.{RefusesMount}
+use Rattle.hfs_serving.specs.declared.checking.MountRefusal.{MountRefusal}
+use Rattle.hfs_serving.specs.declared.checking.MountRefusal.TheVariants as mount
+use Rattle.hfs_serving.specs.declared.opening.OpenRefusal.{OpenRefusal}
+use Rattle.hfs_serving.specs.declared.opening.OpenRefusal.TheVariants as opening
 
 -- how the program is called
 abbrev pub usage_text : List ℕ
@@ -45,15 +48,16 @@ journal_text (jnl.BadHeader offset) = refused_text (codes "BadHeader") (offset �
 journal_text (jnl.BadList offset) = refused_text (codes "BadList") (offset ∷ [])
 journal_text (jnl.ForeignJournal version) = refused_text (codes "ForeignJournal") (version ∷ [])
 
--- an image that isn't served
-abbrev pub fault_text : MountFault → List ℕ
-fault_text (fault.Header why) = header_text why
-fault_text fault.SoftwareLocked = refused_text (codes "SoftwareLocked") []
-fault_text (fault.Journal why) = journal_text why
-fault_text (fault.JournalTooSmall need has) = refused_text (codes "JournalTooSmall") (need ∷ has ∷ [])
-fault_text (fault.NotYet part) = refused_text (codes "NotYet") (part ∷ [])
-fault_text fault.Disk = refused_text (codes "Disk") []
-fault_text fault.Memory = refused_text (codes "Memory") []
+-- an image that isn't opened
+abbrev pub open_text : OpenRefusal → List ℕ
+open_text (opening.Header why) = header_text why
+open_text opening.SoftwareLocked = refused_text (codes "SoftwareLocked") []
+open_text (opening.Journal why) = journal_text why
+open_text (opening.JournalTooSmall need has) = refused_text (codes "JournalTooSmall") (need ∷ has ∷ [])
+
+-- a volume that folds the case of letters
+abbrev pub case_text : List ℕ
+case_text = refused_text (codes "CaseFolding") []
 
 -- why an image of so many sectors isn't formatted
 abbrev pub size_refusal : ℕ → SizeRefusal
@@ -74,6 +78,12 @@ finding_text f = codes "S" ++ decimal f.rule ++ fields (f.place ∷ f.found ∷ 
 -- what is told of a volume that isn't sound: each finding, and how many there are
 abbrev pub findings_text : List Finding → List ℕ
 findings_text list = flat_map finding_text list ++ (codes "findings" ++ field (length list) ++ codes "\n")
+
+-- what is told of an image that isn't served: its refusal, or what is found of its volume
+abbrev pub mount_text : List Finding → MountRefusal → List ℕ
+mount_text list (mount.Image why) = open_text why
+mount_text list mount.CaseFolding = case_text
+mount_text list mount.Unsound = findings_text list
 
 -- the text was told, or the sink failed after a front of it
 abbrev pub ToldUnlessFailed : State → State → List ℕ → Type 0
@@ -98,6 +108,6 @@ pub record Tells (old new : State) (text : List ℕ) : Type 0 where
   pub sink : old.sink_faults ≤ new.sink_faults
   pub same : SameDisk old new
 
--- a refusal of the image stands, and its line was told
+-- a refusal of the image stands, and its line was told, or what is found of its volume
 abbrev pub ToldRefusal : State → State → Type 0
-ToldRefusal old new = (why : MountFault) × Refuses (content old) why × ToldUnlessFailed old new (fault_text why)
+ToldRefusal old new = (list : List Finding) × (why : MountRefusal) × RefusesMount (content old) (map as_found list) why × ToldUnlessFailed old new (mount_text list why)

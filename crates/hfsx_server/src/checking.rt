@@ -7,9 +7,10 @@ ghost use Rattle.jnl_replay.specs.Viewing.{shown};
 ghost use Rattle.hfsx_server.specs.Cause.{IsCause, IsCauseOf};
 ghost use Rattle.hfsx_server.specs.Checking.{IsCheckFault, IsSoundImage, Judges, JudgesImage, ToldBroken, ToldCheckRefusal, ToldSound};
 
-use crate::mounting::{find_header, find_journal};
+use crate::faults::CheckFault;
+use crate::header::{find_header, find_journal};
 use crate::reports::{tell_clean, tell_findings};
-use crate::{MountFault, Status, tell_fault};
+use crate::{Status, tell_open};
 use fsck_core::Verdict;
 use hx_bytes::{Failed, Trouble};
 use jnl_replay::{Peek, PeekView};
@@ -40,22 +41,21 @@ pub fn check<R: Rig>(alloc: Global, rig: &mut R) -> Status
             tell_findings(rig, findings.as_slice());
             Status::Refused
         }
-        Err(fault) => {
-            if fault.is_refusal() {
-                tell_fault(rig, fault);
-                return Status::Refused;
-            }
-            fault.status()
+        Err(CheckFault::Refused(why)) => {
+            tell_open(rig, why);
+            Status::Refused
         }
+        Err(CheckFault::Disk) => Status::Disk,
+        Err(CheckFault::Memory) => Status::Memory,
     }
 }
 
 // The verdict on what an image stands for.
-fn judge<D: SectorDisk>(alloc: Global, disk: &mut D) -> Result<Verdict, MountFault>
+fn judge<D: SectorDisk>(alloc: Global, disk: &mut D) -> Result<Verdict, CheckFault>
     ensures judged { IsTrue (D.state disk.old).tells → IfOk result (JudgesImage (content (D.state disk.old))) }
     ensures refused { IsTrue (D.state disk.old).tells → IfErr result (IsCheckFault (content (D.state disk.old))) }
     ensures reads { OnlyReads (D.state disk.old) (D.state disk.new) }
-    ensures cause { IsCause MountFault.Disk (D.state disk.old).faults (D.state disk.new).faults result }
+    ensures cause { IsCause CheckFault.Disk (D.state disk.old).faults (D.state disk.new).faults result }
 {
     let header = find_header(disk)?;
     let plan = find_journal(disk, &header)?;

@@ -1,19 +1,16 @@
 // A volume that is formatted.
-ghost use Rattle.std.specs.Prelude.{◌≡◌, ◌≢◌, ◌≤◌, ◌⊎◌, ◌↔◌, ◌++◌, [], IsTrue, IfOk, OnOk, None};
-ghost use Rattle.sector_disk.specs.Cause.{HasCause, Rose};
-ghost use Rattle.sector_disk.specs.Disk.{SameDisk, SameSink, content};
-ghost use Rattle.hfs_model.specs.Parts.{parts_of};
-ghost use Rattle.hfs_model.specs.Thin.{AreFresh};
+ghost use Rattle.std.specs.Prelude.{◌≡◌, ◌≢◌, ◌≤◌, ◌↔◌, ◌++◌, IsTrue, IfOk, OnOk, None};
+ghost use Rattle.sector_disk.specs.Cause.{Rose};
+ghost use Rattle.sector_disk.specs.Disk.{SameDisk, SameSink};
 ghost use Rattle.volume_make.specs.Layout.{free_of};
 ghost use Rattle.volume_make.specs.Refusal.{as_refusal};
 ghost use Rattle.hfsx_server.specs.Cause.{IsCause};
 ghost use Rattle.hfsx_server.specs.Made.{HasBlocks, IsMade, IsNoSize, journal_sectors, made_layout};
 ghost use Rattle.hfsx_server.specs.Telling.{Tells, refusal_text, size_refusal, formatted_text};
-ghost use Rattle.hfsx_server.specs.Volume.{IsUnmounted, MountsTo};
 
 use crate::reports::tell_formatted;
-use crate::{SizeRefusal, Status, VOLUME_SECTORS, tell_refusal, write_parts};
-use hfs_model::{ascii, fresh_parts};
+use crate::{SizeRefusal, Status, tell_refusal};
+use hfs_model::ascii;
 use hx_bytes::{Failed, Trouble};
 use sector_disk::{Rig, SectorDisk};
 use std::alloc::Global;
@@ -33,31 +30,12 @@ const MOST_JOURNAL: u64 = 65_536;
 /// The volume's name.
 const NAME: &str = "untitled";
 
-/// The sectors behind the journal header, in which its lists go round.
-const RING: u64 = 25;
-
-const RING_END: u64 = 2_072;
-
-/// What a thin volume without folders has.
-const THIN: Summary = Summary {
-    files: 2,
-    folders: 0,
-    blocks: 2_048,
-    free: 1_692,
-};
-
 /// Formats an image, and tells its blocks and those that are free: blocks of 4,096 bytes, a journal of an eighth of the
 /// image, the name `untitled`. An image of fewer than 16,384 or more than 2,147,483,648 sectors is refused and isn't written.
-/// One of 16,384 sectors becomes a thin volume, which `run` serves.
 pub fn format<R: Rig>(alloc: Global, rig: &mut R) -> Status
     ensures refused { (result ≡ Status.Refused) ↔ IsNoSize (R.state rig.old).sectors }
     ensures refusal { result ≡ Status.Refused → Tells (R.state rig.old) (R.state rig.new) (refusal_text (size_refusal (R.state rig.old).sectors)) }
-    ensures made { IsTrue (R.state rig.old).tells → result ≡ Status.Done → (R.state rig.old).sectors ≢ VOLUME_SECTORS → IsMade (R.state rig.old) (R.state rig.new) }
-    ensures unmounted { IsTrue (R.state rig.old).tells → result ≡ Status.Done → (R.state rig.old).sectors ≡ VOLUME_SECTORS → IsUnmounted (R.state rig.new) [] }
-    // Also where a volume leaves it open its parts are as they are formatted: write count 0, and a journal that begins at its
-    // second sector and is empty.
-    ensures fresh { IsTrue (R.state rig.old).tells → result ≡ Status.Done → (R.state rig.old).sectors ≡ VOLUME_SECTORS → AreFresh (parts_of (content (R.state rig.new))) }
-    ensures mounts { IsTrue (R.state rig.old).tells → result ≡ Status.Done → (R.state rig.old).sectors ≡ VOLUME_SECTORS → MountsTo (content (R.state rig.new)) [] }
+    ensures made { IsTrue (R.state rig.old).tells → result ≡ Status.Done → IsMade (R.state rig.old) (R.state rig.new) }
     ensures told { IsTrue (R.state rig.old).tells → result ≡ Status.Done → (R.state rig.new).told ≡ (R.state rig.old).told ++ formatted_text (made_layout (R.state rig.old).sectors).total (free_of (made_layout (R.state rig.old).sectors)) }
     ensures no_usage { result ≢ Status.Usage }
     ensures no_source { result ≢ Status.Source }
@@ -85,28 +63,8 @@ pub fn format<R: Rig>(alloc: Global, rig: &mut R) -> Status
     }
 }
 
-// Writes a volume without folders: the thin one where it has its size.
+// Writes an empty volume.
 fn make_volume<D: SectorDisk>(alloc: Global, disk: &mut D) -> Result<Summary, Trouble>
-    requires fewest { FEWEST ≤ (D.state disk.old).sectors }
-    requires most { (D.state disk.old).sectors ≤ MOST }
-    ensures blocks { IfOk result (HasBlocks (D.state disk.old).sectors) }
-    ensures made { IsTrue (D.state disk.old).tells → OnOk result ((D.state disk.old).sectors ≢ VOLUME_SECTORS → IsMade (D.state disk.old) (D.state disk.new)) }
-    ensures unmounted { IsTrue (D.state disk.old).tells → OnOk result ((D.state disk.old).sectors ≡ VOLUME_SECTORS → IsUnmounted (D.state disk.new) []) }
-    ensures fresh { IsTrue (D.state disk.old).tells → OnOk result ((D.state disk.old).sectors ≡ VOLUME_SECTORS → AreFresh (parts_of (content (D.state disk.new)))) }
-    ensures same { SameDisk (D.state disk.old) (D.state disk.new) }
-    ensures sink { SameSink (D.state disk.old) (D.state disk.new) }
-    ensures cause { IsCause Trouble.Disk (D.state disk.old).faults (D.state disk.new).faults result }
-{
-    if disk.sectors() == VOLUME_SECTORS {
-        make_thin(alloc, disk)?;
-        Ok(THIN)
-    } else {
-        make_other(alloc, disk)
-    }
-}
-
-// Writes a volume of any size.
-fn make_other<D: SectorDisk>(alloc: Global, disk: &mut D) -> Result<Summary, Trouble>
     requires fewest { FEWEST ≤ (D.state disk.old).sectors }
     requires most { (D.state disk.old).sectors ≤ MOST }
     ensures blocks { IfOk result (HasBlocks (D.state disk.old).sectors) }
@@ -139,32 +97,4 @@ fn trouble_of(fault: FormatFault) -> Trouble
         FormatFault::Disk => Trouble::Disk,
         _ => Trouble::Memory,
     }
-}
-
-// Writes a thin volume without folders.
-fn make_thin<D: SectorDisk>(alloc: Global, disk: &mut D) -> Result<(), Trouble>
-    requires { (D.state disk.old).sectors ≡ VOLUME_SECTORS }
-    ensures unmounted { IsTrue (D.state disk.old).tells → OnOk result (IsUnmounted (D.state disk.new) []) }
-    ensures fresh { IsTrue (D.state disk.old).tells → OnOk result (AreFresh (parts_of (content (D.state disk.new)))) }
-    ensures same { SameDisk (D.state disk.old) (D.state disk.new) }
-    ensures sink { SameSink (D.state disk.old) (D.state disk.new) }
-    ensures cause { IsCause Trouble.Disk (D.state disk.old).faults (D.state disk.new).faults result }
-{
-    let parts = fresh_parts(alloc)?;
-    clear_ring(disk)?;
-    write_parts(disk, &parts)?;
-    Ok(())
-}
-
-// Writes zeros where the lists of the journal go: a sparse image has room for them from then on, and no commit has to allocate it.
-fn clear_ring<D: SectorDisk>(disk: &mut D) -> Result<(), Failed>
-    requires { (D.state disk.old).sectors ≡ VOLUME_SECTORS }
-    ensures same { SameDisk (D.state disk.old) (D.state disk.new) }
-    ensures sink { SameSink (D.state disk.old) (D.state disk.new) }
-    ensures cause { HasCause (D.state disk.old).faults (D.state disk.new).faults result }
-{
-    for at in RING..RING_END {
-        disk.write(at, &[0; 512])?;
-    }
-    Ok(())
 }

@@ -1,9 +1,11 @@
 // Refusals of an image or a size, and lines that are told before the program ends.
 ghost use Rattle.std.specs.Prelude.{◌++◌, decimal};
 ghost use Rattle.hfs_language.specs.Text.{field, fields};
-ghost use Rattle.hfsx_server.specs.Telling.{Tells, Telling, fault_text, header_text, journal_text, refusal_text, refused_text, usage_text};
+ghost use Rattle.hfsx_server.specs.Telling.{Tells, Telling, case_text, header_text, journal_text, mount_text, open_text, refusal_text, refused_text, usage_text};
 
-use crate::MountFault;
+use crate::reports::tell_findings;
+use fsck_list::Finding;
+use hfs_serving::{MountRefusal, OpenRefusal};
 use hx_bytes::Failed;
 use itoa::Buffer;
 use jnl_format::JnlRefusal;
@@ -39,21 +41,36 @@ pub fn tell_refusal<R: Rig>(rig: &mut R, refusal: SizeRefusal)
     };
 }
 
-/// Tells why an image isn't served. A sink that fails is left at that.
-pub fn tell_fault<R: Rig>(rig: &mut R, fault: MountFault)
-    ensures { Tells (R.state rig.old) (R.state rig.new) (fault_text fault) }
+/// Tells why an image isn't served: its refusal, or what a check finds of it. A sink that fails is left at that.
+pub fn tell_mount<R: Rig>(rig: &mut R, refusal: MountRefusal, findings: &[Finding])
+    ensures { Tells (R.state rig.old) (R.state rig.new) (mount_text findings.now refusal) }
 {
-    let _ = match fault {
-        MountFault::Header(why) => tell_header(rig, why),
-        MountFault::SoftwareLocked => tell_refused(rig, b"SoftwareLocked", &[]),
-        MountFault::Journal(why) => tell_journal(rig, why),
-        MountFault::JournalTooSmall { need, has } => {
+    match refusal {
+        MountRefusal::Image(why) => tell_open(rig, why),
+        MountRefusal::CaseFolding => tell_case(rig),
+        MountRefusal::Unsound => tell_findings(rig, findings),
+    }
+}
+
+/// Tells why an image isn't opened. A sink that fails is left at that.
+pub fn tell_open<R: Rig>(rig: &mut R, refusal: OpenRefusal)
+    ensures { Tells (R.state rig.old) (R.state rig.new) (open_text refusal) }
+{
+    let _ = match refusal {
+        OpenRefusal::Header(why) => tell_header(rig, why),
+        OpenRefusal::SoftwareLocked => tell_refused(rig, b"SoftwareLocked", &[]),
+        OpenRefusal::Journal(why) => tell_journal(rig, why),
+        OpenRefusal::JournalTooSmall { need, has } => {
             tell_refused(rig, b"JournalTooSmall", &[need, has])
         }
-        MountFault::NotYet(part) => tell_refused(rig, b"NotYet", &[u64::from(part)]),
-        MountFault::Disk => tell_refused(rig, b"Disk", &[]),
-        MountFault::Memory => tell_refused(rig, b"Memory", &[]),
     };
+}
+
+// Tells that the volume folds the case of letters.
+fn tell_case<R: Rig>(rig: &mut R)
+    ensures { Tells (R.state rig.old) (R.state rig.new) case_text }
+{
+    let _ = tell_refused(rig, b"CaseFolding", &[]);
 }
 
 // A volume header that isn't accepted.

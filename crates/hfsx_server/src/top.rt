@@ -1,16 +1,16 @@
 // The top call of the program.
-ghost use Rattle.std.specs.Prelude.{◌≡◌, ◌≢◌, ◌⊎◌, ◌↔◌, ◌++◌, ◌<◌, ◌≤◌, [], ℕ, List, IsTrue, length};
+ghost use Rattle.std.specs.Prelude.{◌≡◌, ◌⊎◌, ◌↔◌, ◌++◌, ◌<◌, ◌≤◌, [], ℕ, IsTrue, length};
 ghost use Rattle.sector_disk.specs.Cause.{Rose};
 ghost use Rattle.sector_disk.specs.Disk.{SameDisk, HasNothingPending, content};
+ghost use Rattle.jnl_format.specs.Recovery.{Content};
 ghost use Rattle.hfs_language.specs.Lines.{lines};
-ghost use Rattle.hfs_model.specs.Parts.{parts_of};
-ghost use Rattle.hfs_model.specs.Thin.{AreFresh};
-ghost use Rattle.hfsx_server.specs.Headline.{Entry, Headline, IsAnswered, IsAnsweredToTheLast, IsFinished};
+ghost use Rattle.hfs_volume.specs.Mount.{IsMountable, Mounts};
+ghost use Rattle.hfs_serving.specs.Ending.{AnswersRun, AnswersToTheLast, FinishesRun};
+ghost use Rattle.hfs_serving.specs.Steps.{KeepsRun};
 ghost use Rattle.volume_make.specs.Layout.{free_of};
 ghost use Rattle.hfsx_server.specs.Checking.{IsSoundImage, ToldBroken, ToldCheckRefusal, ToldSound};
 ghost use Rattle.hfsx_server.specs.Made.{IsMade, IsNoSize, made_layout};
 ghost use Rattle.hfsx_server.specs.Telling.{ToldRefusal, ToldUnlessFailed, refusal_text, size_refusal, usage_text, formatted_text};
-ghost use Rattle.hfsx_server.specs.Volume.{Tree, IsMountable, IsUnmounted, MountsTo};
 ghost use Rattle.hfsx_server.specs.Words.{texts, AreRun, AreCheck, AreFormat, AreInUse};
 
 use crate::{Status, Work, check, format, read_words, run, tell_usage};
@@ -38,39 +38,31 @@ pub fn hfsx<R: Rig, S: Source>(
     // Status 0 means that its line was told, with its blocks and those that are free.
     ensures format_told { AreFormat (texts words.now) (R.state rig.old).sectors → IsTrue (R.state rig.old).tells → result ≡ Status.Done
         → (R.state rig.new).told ≡ (R.state rig.old).told ++ formatted_text (made_layout (R.state rig.old).sectors).total (free_of (made_layout (R.state rig.old).sectors)) }
-    // With 16,384 sectors it means that the image is a volume without folders, unmounted and with nothing pending, and that it
-    // mounts to the tree without folders.
-    ensures formatted { AreFormat (texts words.now) (R.state rig.old).sectors → IsTrue (R.state rig.old).tells → result ≡ Status.Done → (R.state rig.old).sectors ≡ 16384
-        → IsUnmounted (R.state rig.new) [] × MountsTo (content (R.state rig.new)) [] }
-    // Its parts are as they are formatted, also where a volume leaves it open: write count 0, and a journal that begins at its
-    // second sector and is empty.
-    ensures format_fresh { AreFormat (texts words.now) (R.state rig.old).sectors → IsTrue (R.state rig.old).tells → result ≡ Status.Done → (R.state rig.old).sectors ≡ 16384
-        → AreFresh (parts_of (content (R.state rig.new))) }
-    // With any other number of sectors it means that each part of the volume has its text, and that nothing is pending.
-    ensures format_made { AreFormat (texts words.now) (R.state rig.old).sectors → IsTrue (R.state rig.old).tells → result ≡ Status.Done → (R.state rig.old).sectors ≢ 16384
-        → IsMade (R.state rig.old) (R.state rig.new) }
+    // It means that each part of the volume has its text, that nothing is pending, and that what the image has is a sound volume of the
+    // root alone, which can be mounted.
+    ensures format_made { AreFormat (texts words.now) (R.state rig.old).sectors → IsTrue (R.state rig.old).tells → result ≡ Status.Done → IsMade (R.state rig.old) (R.state rig.new) }
 
     // `run`: status 1 stands exactly where the image isn't mountable, unless it couldn't be read, and then the first refusal
     // that stands is told.
     ensures run_refused { AreRun (texts words.now) → IsTrue (R.state rig.old).tells → result ≡ Status.Refused → ToldRefusal (R.state rig.old) (R.state rig.new) × ¬ IsMountable (content (R.state rig.old)) }
     ensures run_refuses { AreRun (texts words.now) → IsTrue (R.state rig.old).tells → ¬ IsMountable (content (R.state rig.old))
         → (result ≡ Status.Refused) ⊎ ((result ≡ Status.Disk) ⊎ (result ≡ Status.Memory)) }
-    // From a mountable image with nothing pending, whatever ends the run and whenever power fails: there is one run, so
-    // that each image that a crash may leave mounts to the tree after some of its lines, which has each line whose reply
-    // was told by then. Status 0 means that all lines of the source were answered and that the volume is unmounted.
-    ensures headline { AreRun (texts words.now) → IsTrue (R.state rig.old).tells → HasNothingPending (R.state rig.old) → (start : Tree) → MountsTo (content (R.state rig.old)) start → (run : List Entry)
-        × Headline start (R.state rig.old) (S.stream source.old) run (R.state rig.new) (S.stream source.new)
-        × (result ≡ Status.Done → IsFinished start (R.state rig.old) (S.stream source.old) run (R.state rig.new) (S.stream source.new)) }
+    // From a mountable image with nothing pending, whatever ends the run and whenever power fails: there is one run, so that each
+    // image that a crash may leave mounts to the tree after some of its lines, which has each line whose reply was told by then.
+    ensures headline { AreRun (texts words.now) → IsTrue (R.state rig.old).tells → HasNothingPending (R.state rig.old) → (capacity : ℕ) (start : Content) → Mounts (content (R.state rig.old)) capacity start
+        → KeepsRun capacity start (R.state rig.old) (S.stream source.old) (R.state rig.new) (S.stream source.new) }
+    // Status 0 means that all lines of the source were answered and told, and that the volume is unmounted.
+    ensures finished { AreRun (texts words.now) → IsTrue (R.state rig.old).tells → HasNothingPending (R.state rig.old) → (capacity : ℕ) (start : Content) → Mounts (content (R.state rig.old)) capacity start → result ≡ Status.Done
+        → FinishesRun capacity start (R.state rig.old) (S.stream source.old) (R.state rig.new) (S.stream source.new) }
     // Status 4: each whole line that was taken has its reply told. Status 7: each line before the one too many.
-    ensures source_stopped { AreRun (texts words.now) → IsTrue (R.state rig.old).tells → (start : Tree) → MountsTo (content (R.state rig.old)) start → result ≡ Status.Source
-        → (run : List Entry) × IsAnswered start (R.state rig.old) (S.stream source.old) run (R.state rig.new) (S.stream source.new) }
-    ensures many_stopped { AreRun (texts words.now) → IsTrue (R.state rig.old).tells → (start : Tree) → MountsTo (content (R.state rig.old)) start → result ≡ Status.TooMany
-        → (run : List Entry) × IsAnsweredToTheLast start (R.state rig.old) (S.stream source.old) run (R.state rig.new) (S.stream source.new) }
+    ensures source_stopped { AreRun (texts words.now) → IsTrue (R.state rig.old).tells → HasNothingPending (R.state rig.old) → (capacity : ℕ) (start : Content) → Mounts (content (R.state rig.old)) capacity start → result ≡ Status.Source
+        → AnswersRun capacity start (R.state rig.old) (S.stream source.old) (R.state rig.new) (S.stream source.new) }
+    ensures many_stopped { AreRun (texts words.now) → IsTrue (R.state rig.old).tells → HasNothingPending (R.state rig.old) → (capacity : ℕ) (start : Content) → Mounts (content (R.state rig.old)) capacity start → result ≡ Status.TooMany
+        → AnswersToTheLast capacity start (R.state rig.old) (S.stream source.old) (R.state rig.new) (S.stream source.new) }
     ensures end { AreRun (texts words.now) → IsTrue (S.stream source.old).tells → result ≡ Status.Done → (S.stream source.new).left ≡ [] }
     // Status 7 stands exactly where line number 4,294,967,295 is read.
-    ensures many { IsTrue (S.stream source.old).tells → IsTrue (R.state rig.old).tells → result ≡ Status.TooMany → 4294967295 < length (lines (S.stream source.old).left) }
-    ensures few { AreRun (texts words.now) → IsTrue (S.stream source.old).tells → IsTrue (R.state rig.old).tells → HasNothingPending (R.state rig.old) → IsMountable (content (R.state rig.old)) → result ≡ Status.Done
-        → length (lines (S.stream source.old).left) ≤ 4294967295 }
+    ensures many { IsTrue (S.stream source.old).tells → result ≡ Status.TooMany → 4294967295 < length (lines (S.stream source.old).left) }
+    ensures few { AreRun (texts words.now) → IsTrue (S.stream source.old).tells → result ≡ Status.Done → length (lines (S.stream source.old).left) ≤ 4294967295 }
 
     // `check`: status 0 stands only where the image, with its journal replayed, is a sound volume, and the line with its numbers was
     // told. Status 1 stands exactly where it isn't, unless it couldn't be read: the first refusal was told, or findings of which each

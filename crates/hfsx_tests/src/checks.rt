@@ -56,8 +56,13 @@ fn a_volume_of_another_size_is_clean(rt: HostRuntime) -> Result<(), Fail> {
 fn folders_are_counted(rt: HostRuntime) -> Result<(), Fail> {
     let alloc = rt.alloc();
     let mut rig = fresh_rig(alloc)?;
-    run_on(alloc, "run v.img", &mut rig, b"mkdir /a\nmkdir /b\n")?;
-    let told = "clean files 2 folders 2 blocks 2048 free 1692\n";
+    run_on(
+        alloc,
+        "run v.img",
+        &mut rig,
+        b"mkdir /a\nmkdir /a/b\ncreate /a/b/c\n",
+    )?;
+    let told = "clean files 3 folders 2 blocks 2048 free 1692\n";
     assert!(rt; finds(alloc, &mut rig, Status::Done, told)?);
     Ok(())
 }

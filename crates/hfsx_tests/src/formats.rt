@@ -60,12 +60,12 @@ fn a_format_clears_the_lists_of_the_journal(rt: HostRuntime) -> Result<(), Fail>
         assert_eq!(rt; sector_of(&mut rig, at), [0; 512]);
     }
     // A sector that belongs to no structure stays as it was.
-    assert_eq!(rt; sector_of(&mut rig, 2_400), [0xA5; 512]);
+    assert_eq!(rt; sector_of(&mut rig, 2_840), [0xA5; 512]);
     Ok(())
 }
 
 #[test]
-fn a_volume_of_another_size_is_made_and_not_served(rt: HostRuntime) -> Result<(), Fail> {
+fn a_volume_of_another_size_is_made_and_served(rt: HostRuntime) -> Result<(), Fail> {
     let alloc = rt.alloc();
     let mut rig = MemRig::new(alloc, 20_000)?;
     for at in 0..20_000 {
@@ -91,7 +91,9 @@ fn a_volume_of_another_size_is_made_and_not_served(rt: HostRuntime) -> Result<()
     assert_eq!(rt; sector_of(&mut rig, 3_288), [0xA5; 512]);
     let image = rig.image(alloc, 1)?;
     let mut made = MemRig::from_image(alloc, &image)?;
-    assert!(rt; is_refused(alloc, &mut made, "refused NotYet 0\n")?);
+    let ended = run_on(alloc, "run v.img", &mut made, b"mkdir /x\nls /\n")?;
+    assert_eq!(rt; ended, Status::Done);
+    assert_eq!(rt; made.told(), b"ok\nok 1 x/\n".as_slice());
     Ok(())
 }
 

@@ -13,3 +13,5 @@ mod faults;
 mod formats;
 #[cfg(test)]
 mod lines;
+#[cfg(test)]
+mod watching;

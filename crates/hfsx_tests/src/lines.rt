@@ -1,38 +1,55 @@
 // Lines and their replies.
+use hfs_model::ascii;
 use hfsx_server::Status;
+use hx_bytes::OutOfMemory;
 use mem_disk::MemRig;
 use std::alloc::{AllocError, Global};
 use std::test::Fail;
-use test_kit::{fresh_rig, run_on};
+use test_kit::{fresh_rig, run_on, sector_of};
+
+// Whether a run on a new volume tells this.
+fn tells(alloc: Global, input: &[u8], told: &[u8]) -> Result<bool, OutOfMemory> {
+    let mut rig = fresh_rig(alloc)?;
+    let ended = run_on(alloc, "run v.img", &mut rig, input)?;
+    Ok(ended == Status::Done && rig.told() == told)
+}
 
 #[test]
 fn lines_are_answered(rt: HostRuntime) -> Result<(), Fail> {
-    let alloc = rt.alloc();
     for (input, told) in [
         // A folder is made and listed; the journal's files aren't.
         ("mkdir /x\nls /\n", "ok\nok 1 x/\n"),
-        // An empty stream has no line.
-        ("", ""),
         // An empty line is one, and so is a last one without its newline.
         ("mkdir /a\n\nls /", "ok\nno BadCommand\nok 1 a/\n"),
-        // Names in unit order, digits first; a name only once.
+        // Composed and decomposed letters are one name; letters of two cases are two.
         (
-            "mkdir /b\nmkdir /ab\nmkdir /0\nmkdir /b\nls /\n",
-            "ok\nok\nok\nno Exists\nok 3 0/ ab/ b/\n",
+            "create /\u{E9}\ncreate /e\u{301}\ncreate /A\ncreate /a\nls /\n",
+            "ok\nno Exists\nok\nok\nok 3 A a e\u{301}\n",
         ),
-        // Twelve folders, and no more; a name that is there comes before that.
+        // Names with a zero, a space and a percent sign.
         (
-            "mkdir /a\nmkdir /b\nmkdir /c\nmkdir /d\nmkdir /e\nmkdir /f\nmkdir /g\nmkdir /h\nmkdir /i\nmkdir /j\nmkdir /k\nmkdir /l\nmkdir /m\nmkdir /a\nls /\n",
-            "ok\nok\nok\nok\nok\nok\nok\nok\nok\nok\nok\nok\nno NoRoom 12\nno Exists\nok 12 a/ b/ c/ d/ e/ f/ g/ h/ i/ j/ k/ l/\n",
+            "create /%u0000a%u0020b\nls /\ncreate /50%%\nstat /50%%\n",
+            "ok\nok 1 %u0000a%u0020b\nok\nok file 19 0 1 0644 0 0 0\n",
         ),
-        // What is built, and what isn't: other commands, other folders and other names.
+        // What a folder and its entries refuse.
         (
-            "mkdir /a\ncreate /f\nmkdir /a/b\nsync\n",
-            "ok\nno NotBuilt\nno NotBuilt\nok\n",
+            "mkdir /a\nmv /a /a/b\ncreate /a/f\nrmdir /a\nls /a/f\nstat /z\nmkdir /.journal\n",
+            "ok\nno Inside\nok\nno NotEmpty\nno NotFolder\nno NotFound\nno Private\n",
         ),
+        // Moments, modes and reads of an empty file.
         (
-            "mkdir /aaaaaaaaaaaaaaaaaaaaaaaaaaaaaaa\nmkdir /aaaaaaaaaaaaaaaaaaaaaaaaaaaaaaaa\nmkdir /A\nls /a\n",
-            "ok\nno NotBuilt\nno NotBuilt\nno NotBuilt\n",
+            "at 100\ncreate /a\nat 200\nchmod /a 600\nstat /a\nread /a 1 5\nread /a 0 65537\n",
+            "ok\nok\nok\nok\nok file 18 0 1 0600 100 100 200\nok =\nno TooLarge\n",
+        ),
+        // An entry gets another place and another name.
+        (
+            "mkdir /a\nmkdir /b\ncreate /a/f\nmv /a/f /b/g\nls /a\nls /b\nrmdir /a\nls /\nmv /b /c\nstat /c/g\n",
+            "ok\nok\nok\nok\nok 0\nok 1 g\nok\nok 1 b/\nok\nok file 20 0 1 0644 0 0 0\n",
+        ),
+        // Room: block size, blocks, free blocks, longest run, capacity, and depth, nodes and free nodes of the three trees.
+        (
+            "sync\ndf\n",
+            "ok\nok 4096 2048 1692 1692 1982 0 16 15 1 64 62 0 16 15\n",
         ),
         // Words, spaces and paths that no command has.
         (
@@ -43,40 +60,68 @@ fn lines_are_answered(rt: HostRuntime) -> Result<(), Fail> {
             "mkdir /a/\nls //\nmv /% x\nmv /% /x\n",
             "no BadName\nno BadName\nno BadCommand\nno BadName\n",
         ),
-        // The volume's own names come before what isn't built, in either path.
+        // The volume's own names, in either path.
         (
-            "mkdir /.journal\nls /.journal_info_block\nstat /%u0000%u0000%u0000%u0000HFS+%u0020Private%u0020Data/x\nmv /a /.journal\nmv /.journal /a\nmkdir /a/.journal\nmkdir /.journa\n",
-            "no Private\nno Private\nno Private\nno Private\nno Private\nno NotBuilt\nno NotBuilt\n",
+            "mkdir /.journal\nls /.journal_info_block\nstat /%u0000%u0000%u0000%u0000HFS+%u0020Private%u0020Data/x\nmv /a /.journal\nmv /.journal /a\nmkdir /a\nmkdir /a/.journal\nmkdir /.journa\n",
+            "no Private\nno Private\nno Private\nno Private\nno Private\nok\nok\nok\n",
+        ),
+        // What is still to come changes nothing.
+        (
+            "create /f\nwrite /f 0 =x\ntrunc /f 5\nln /f /g\nrm /f\nstat /f\n",
+            "ok\nno NotBuilt\nno NotBuilt\nno NotBuilt\nno NotBuilt\nok file 18 0 1 0644 0 0 0\n",
         ),
     ] {
-        let mut rig = fresh_rig(alloc)?;
-        let ended = run_on(alloc, "run v.img", &mut rig, input.as_bytes())?;
-        assert_eq!(rt; ended, Status::Done);
-        assert_eq!(rt; rig.told(), told.as_bytes());
+        assert!(rt;
+            tells(rt.alloc(), input.as_bytes(), told.as_bytes())?,
+            "{input}"
+        );
     }
+    Ok(())
+}
+
+// An empty stream: no reply, and the volume is unmounted again, with bit 8 set.
+#[test]
+fn an_empty_stream_has_no_line(rt: HostRuntime) -> Result<(), Fail> {
+    let alloc = rt.alloc();
+    let mut rig = fresh_rig(alloc)?;
+    assert_eq!(rt; run_on(alloc, "run v.img", &mut rig, b"")?, Status::Done);
+    assert_eq!(rt; rig.told(), b"".as_slice());
+    assert_eq!(rt; &sector_of(&mut rig, 2)[4..8], [0, 0, 0x21, 0].as_slice());
     Ok(())
 }
 
 #[test]
-fn folders_are_there_in_a_second_run(rt: HostRuntime) -> Result<(), Fail> {
+fn entries_are_there_in_a_second_run(rt: HostRuntime) -> Result<(), Fail> {
     let alloc = rt.alloc();
     let mut rig = fresh_rig(alloc)?;
-    run_on(alloc, "run v.img", &mut rig, b"mkdir /x\nmkdir /y\n")?;
+    run_on(
+        alloc,
+        "run v.img",
+        &mut rig,
+        b"mkdir /x\ncreate /x/y\nsetattr /x k =v\n",
+    )?;
     // The newest values and the oldest: nothing is pending.
     for choice in [0, 1] {
         let image = rig.image(alloc, choice)?;
         let mut again = MemRig::from_image(alloc, &image)?;
-        run_on(alloc, "run v.img", &mut again, b"mkdir /a\nls /\n")?;
-        assert_eq!(rt; again.told(), b"ok\nok 3 a/ x/ y/\n".as_slice());
+        run_on(
+            alloc,
+            "run v.img",
+            &mut again,
+            b"mkdir /a\nls /\nls /x\ngetattr /x k\n",
+        )?;
+        assert_eq!(rt; again.told(), b"ok\nok 2 a/ x/\nok 1 y\nok =v\n".as_slice());
     }
     Ok(())
 }
 
-// The bytes of `mkdir /`, so many letters, and a newline.
-fn long_line(alloc: Global, letters: usize) -> Result<Vec<u8>, AllocError> {
-    let mut line = Vec::from_slice(alloc, b"mkdir /")?;
-    for _letter in 0..letters {
-        line.push(b'a')?;
+// ---- long names and values
+
+// A text, a letter so many times, and a newline.
+fn long_line(alloc: Global, front: &[u8], letter: u8, count: usize) -> Result<Vec<u8>, AllocError> {
+    let mut line = Vec::from_slice(alloc, front)?;
+    for _letter in 0..count {
+        line.push(letter)?;
     }
     line.push(b'\n')?;
     Ok(line)
@@ -92,12 +137,63 @@ fn a_long_line_is_refused_and_the_next_one_served(rt: HostRuntime) -> Result<(),
         // 140,001 bytes.
         (139_994, "no TooLong\nok 0\n"),
     ] {
-        let mut rig = fresh_rig(alloc)?;
-        let mut input = long_line(alloc, letters)?;
+        let mut input = long_line(alloc, b"mkdir /", b'a', letters)?;
         input.extend_from_slice(b"ls /\n")?;
-        let ended = run_on(alloc, "run v.img", &mut rig, &input)?;
-        assert_eq!(rt; ended, Status::Done);
-        assert_eq!(rt; rig.told(), told.as_bytes());
+        assert!(rt; tells(alloc, &input, told.as_bytes())?);
     }
+    let longest = long_line(alloc, b"mkdir /", b'a', 255)?;
+    assert!(rt; tells(alloc, &longest, b"ok\n")?);
+    Ok(())
+}
+
+#[test]
+fn attributes_have_1_700_bytes_at_most(rt: HostRuntime) -> Result<(), Fail> {
+    let alloc = rt.alloc();
+    let mut input = Vec::from_slice(alloc, b"create /a\n")?;
+    input.extend_from_slice(&long_line(alloc, b"setattr /a k =", b'x', 1_700)?)?;
+    input.extend_from_slice(&long_line(alloc, b"setattr /a k =", b'x', 1_701)?)?;
+    input.extend_from_slice(
+        b"setattr /a e =\ngetattr /a e\nlsattr /a\ndelattr /a k\ngetattr /a k\n",
+    )?;
+    let told = b"ok\nok\nno AttributeTooLarge\nok\nok =\nok 2 e k\nok\nno NoAttribute\n".as_slice();
+    assert!(rt; tells(alloc, &input, told)?);
+    Ok(())
+}
+
+// Twenty names, each of 255 times one letter, which fill more than one node, and go again.
+#[test]
+fn long_names_come_and_go(rt: HostRuntime) -> Result<(), Fail> {
+    let alloc = rt.alloc();
+    let mut input = Vec::new(alloc);
+    let mut told = Vec::new(alloc);
+    for verb in [b"mkdir /".as_slice(), b"rmdir /".as_slice()] {
+        for letter in b'a'..b'u' {
+            input.extend_from_slice(&long_line(alloc, verb, letter, 255)?)?;
+            told.extend_from_slice(b"ok\n")?;
+        }
+    }
+    input.extend_from_slice(b"ls /\nstat /\n")?;
+    told.extend_from_slice(b"ok 0\nok folder 2 0 0755 0 0 0\n")?;
+    assert!(rt; tells(alloc, &input, &told)?);
+    Ok(())
+}
+
+// On a journal of 512 sectors, whose ring the transactions go round more than once.
+#[test]
+fn a_small_ring_is_gone_round(rt: HostRuntime) -> Result<(), Fail> {
+    let alloc = rt.alloc();
+    let mut made = MemRig::new(alloc, 16_384)?;
+    let name = ascii(alloc, "untitled")?;
+    assert!(rt; volume_make::format(alloc, &mut made, 4_096, 512, &name).is_ok());
+    let image = made.image(alloc, 1)?;
+    let mut rig = MemRig::from_image(alloc, &image)?;
+    let mut input = Vec::new(alloc);
+    let mut told = Vec::new(alloc);
+    for _pair in 0..100 {
+        input.extend_from_slice(b"chmod / 700\nsync\nchmod / 755\nsync\n")?;
+        told.extend_from_slice(b"ok\nok\nok\nok\n")?;
+    }
+    assert_eq!(rt; run_on(alloc, "run v.img", &mut rig, &input)?, Status::Done);
+    assert_eq!(rt; rig.told(), told.as_slice());
     Ok(())
 }

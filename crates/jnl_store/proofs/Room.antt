@@ -1,12 +1,14 @@
 -- Room in the ring for what was put.
-use Rattle.std.proofs.Common.{◌≡◌, ℕ, ◌+◌, ◌-◌, ◌*◌, ◌/◌, ◌%◌, ◌≤◌, inl, inr, List, length, ◌∙◌, ap, arith}
+use Rattle.std.proofs.Common.{◌≡◌, ℕ, ◌+◌, ◌-◌, ◌*◌, ◌/◌, ◌%◌, ◌<◌, ◌≤◌, inl, inr, List, length, sym, ◌∙◌, ap, arith}
 use Rattle.std.specs.Prelude.{Result, Ok, Err, OnOk}
+use Rattle.jnl_format.specs.Ring.{distance, offset_after}
+use Rattle.jnl_format.specs.declared.blocks.Home.{Home}
 use Rattle.jnl_format.specs.declared.structures.Info.{Info}
-use Rattle.jnl_ring.proofs.Wrap.{distance_ahead, offset_after_header, offset_before, offset_behind, offset_inside}
+use Rattle.jnl_ring.proofs.Wrap.{distance_after, distance_ahead, distance_reaches, distance_whole, offset_after_header, offset_before, offset_behind, offset_inside, offset_sum}
 use Rattle.std.proofs.lemmas.Bool.{cases_lt}
 use Rattle.jnl_store.specs.Appending.{longer}
 use Rattle.jnl_replay.specs.declared.plan.Plan.{Plan}
-use Rattle.jnl_store.specs.InUse.{IsInUse, used_of}
+use Rattle.jnl_store.specs.InUse.{HasPlaces, IsInUse, used_of}
 use Rattle.jnl_store.specs.Lists.{IsCapacity, IsForm, text_sectors}
 use Rattle.jnl_store.specs.Plan.{form_of, span_of}
 use Rattle.jnl_store.specs.Store.{SameJournal}
@@ -57,3 +59,24 @@ longer_rest plan puts rest room =
       whole = rest.whole;
       old = rest.old;
     }
+
+-- its text is longer by theirs
+longer_used : (plan : Plan) (puts : List Put) → IsInUse plan → used_of plan / 512 + text_sectors plan.header.blhdr (length puts) ≤ plan.info.size / 512 - 2 → used_of (longer plan puts) ≡ used_of plan + 512 * text_sectors plan.header.blhdr (length puts)
+longer_used plan puts rest room =
+    let size = plan.info.size in
+    let start = plan.header.start in
+    let used = used_of plan in
+    let more = 512 * text_sectors plan.header.blhdr (length puts) in
+    let even : used % 512 ≡ 0 = distance_whole size start plan.header.end rest.whole rest.header.start_whole rest.header.end_whole rest.header.end_low rest.header.start_high in
+    let short : used + more < size - 512 = omega (arith, room, even, rest.whole, rest.least) in
+    ap (λ n. distance size start (offset_after size n more)) (sym (distance_reaches size start plan.header.end rest.header.end_low rest.header.start_high rest.header.end_high))
+    ∙ ap (distance size start) (offset_sum size start used more rest.header.start_low rest.header.start_high (omega (arith, short)))
+    ∙ distance_after size start (used + more) rest.header.start_low rest.header.start_high short
+
+-- the places of what was live and of these puts
+pub longer_places : (plan : Plan) (puts : List Put) (old new : List Home) (most : ℕ) → IsInUse plan → used_of plan / 512 + text_sectors plan.header.blhdr (length puts) ≤ plan.info.size / 512 - 2 → HasPlaces plan old most
+    → length new ≤ length old + length puts → HasPlaces (longer plan puts) new most
+longer_places plan puts old new most rest room places few = record {
+  few = omega (arith, longer_used plan puts rest room, places.few, few);
+  enough = places.enough;
+}

@@ -165,7 +165,7 @@ unfolding durable_of
 same_durable a b c e = ap (λ (p : Plan). replayed (journal_of p) c) e
 
 -- what a begin leaves of the lists
-pub begun_batch : {T E : Type 0} (result : Result T E) (a b : Staged) → OnOk result (b ≡ record { all = a.all; kept = a.all; live = a.live; room = b.room }) → OnErr result (b ≡ a) → (b.live ≡ a.live) × (b.all ≡ a.all) × ((b.kept ≡ a.all) ⊎ (b.kept ≡ a.kept))
+pub begun_batch : {T E : Type 0} (result : Result T E) (a b : Staged) → OnOk result (b ≡ record { all = a.all; kept = a.all; live = a.live; room = b.room; most = a.most }) → OnErr result (b ≡ a) → (b.live ≡ a.live) × (b.all ≡ a.all) × ((b.kept ≡ a.all) ⊎ (b.kept ≡ a.kept))
 begun_batch (Ok x) a b kept same = (ap (λ (s : Staged). s.live) kept, ap (λ (s : Staged). s.all) kept, inl (ap (λ (s : Staged). s.kept) kept))
 begun_batch (Err e) a b kept same = (ap (λ (s : Staged). s.live) same, ap (λ (s : Staged). s.all) same, inr (ap (λ (s : Staged). s.kept) same))
 

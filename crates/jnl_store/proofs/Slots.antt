@@ -123,7 +123,7 @@ never_put plan sectors puts s free shut = elim (cases_Bool (names puts s)) [
 ]
 
 -- reads give of the journal's own sectors what the disk has there
-own_over : (store : Store) (disk : State) → KeepsRingOn store disk → IsDisk disk → (s : ℕ) → IsClosed store.plan s → sector (content_over store (content disk)) s ≡ sector (content disk) s
+pub own_over : (store : Store) (disk : State) → KeepsRingOn store disk → IsDisk disk → (s : ℕ) → IsClosed store.plan s → sector (content_over store (content disk)) s ≡ sector (content disk) s
 unfolding durable_of
 own_over store disk k is s shut =
     let stands = own_stands store.plan store.rest disk is (lists_of store disk k).text in

@@ -4,12 +4,13 @@ use Rattle.jnl_format.specs.declared.blocks.Home.{Home}
 use Rattle.jnl_store.specs.declared.puts.Put.{Put}
 
 -- what was put since the last commit, the same at the last keep, each sector that a live list names with the place of
--- its newest bytes, and how many sectors there is memory for
+-- its newest bytes, how many sectors may be put, and how many may be live beside them
 pub record Staged : Type 0 where
   pub all : List Put
   pub kept : List Put
   pub live : List Home
   pub room : ℕ
+  pub most : ℕ
 
 -- one of these puts is of this sector
 abbrev pub names : List Put → ℕ → Bool
@@ -43,10 +44,10 @@ is_same (Some a) (Some b) = bytes_eq a b
 abbrev pub is_dropped : List Put → List Put → ℕ → Bool
 is_dropped all kept at = not (is_same (bytes_of all at) (bytes_of kept at))
 
--- there is memory for the room, in each list, and for what is live beside it
-pub record IsBatch (all kept : List Put) (live : List Home) (room memory more most : ℕ) : Type 0 where
+-- there is memory for the room, in each list, and for what may be live beside it
+pub record IsBatch (all kept : List Put) (room most memory more of_live : ℕ) : Type 0 where
   pub some : length all ≤ room
   pub kept_some : length kept ≤ length all
   pub enough : room ≤ memory
   pub enough_kept : room ≤ more
-  pub enough_live : length live + room ≤ most
+  pub enough_live : most + room ≤ of_live

@@ -1,5 +1,5 @@
 //! The puts since the last commit and the sectors that are live, in memory that was found before them.
-ghost use Rattle.std.specs.Prelude.{◌≡◌, ◌⊎◌, ◌<◌, ◌≤◌, ◌+◌, ◌^◌, ◌==◌, ◌||◌, ℕ, [], Bool, IsTrue, length, slice_set, if◌then◌else◌, MatchOption, OnOk, OnErr};
+ghost use Rattle.std.specs.Prelude.{◌≡◌, ◌⊎◌, ◌<◌, ◌≤◌, ◌+◌, ◌^◌, ◌==◌, ◌||◌, ℕ, [], Bool, IsTrue, length, slice_set, if◌then◌else◌, MatchOption, IfOk, OnOk, OnErr};
 ghost use Rattle.sector_disk.specs.Lists.{Content, sector};
 ghost use Rattle.jnl_store.specs.Batch.{AreOnce, is_dropped, names};
 ghost use Rattle.jnl_store.specs.Lists.{IsForm, lists_homes};
@@ -23,6 +23,8 @@ pub struct Batch {
     kept: PutTable,
     live: LiveTable,
     room: usize,
+    /// How many sectors may be live.
+    most: usize,
 }
 
 impl Model for Batch {
@@ -30,22 +32,25 @@ impl Model for Batch {
 
     ghost Value = { Staged };
 
-    ghost view = { λ b. record { all = b.puts.items; kept = b.kept.items; live = b.live.homes; room = b.room } };
+    ghost view = { λ b. record { all = b.puts.items; kept = b.kept.items; live = b.live.homes; room = b.room; most = b.most } };
 
-    ghost invariant = { λ b. IsBatch b.puts.items b.kept.items b.live.homes b.room b.puts.memory b.kept.memory b.live.memory };
+    ghost invariant = { λ b. IsBatch b.puts.items b.kept.items b.room b.most b.puts.memory b.kept.memory b.live.memory };
 }
 
 impl Batch {
-    /// Nothing was put, and there is no room.
-    pub fn new(alloc: Global) -> Batch
-        ensures { result ≡ record { all = []; kept = []; live = []; room = 0 } }
+    /// Nothing was put, and there is no room. There is memory for so many live sectors.
+    pub fn new(alloc: Global, most: usize) -> Result<Batch, OutOfMemory>
+        ensures { IfOk result (λ batch. batch ≡ record { all = []; kept = []; live = []; room = 0; most = most }) }
     {
-        Batch {
+        let mut live = LiveTable::new(alloc);
+        live.hold(most)?;
+        Ok(Batch {
             puts: PutTable::new(alloc),
             kept: PutTable::new(alloc),
-            live: LiveTable::new(alloc),
+            live,
             room: 0,
-        }
+            most,
+        })
     }
 
     /// How many sectors were put.
@@ -108,6 +113,7 @@ impl Batch {
         ensures room { self.new.room ≡ self.old.room }
         ensures kept { self.new.kept ≡ self.old.kept }
         ensures live { self.new.live ≡ self.old.live }
+        ensures most { self.new.most ≡ self.old.most }
     {
         let put = Put { at, bytes: *from };
         self.puts.put(&put);
@@ -116,8 +122,9 @@ impl Batch {
     /// Finds memory for so many sectors more, and keeps what was put so far.
     pub fn begin(&mut self, sectors: u64) -> Result<(), OutOfMemory>
         ensures room { OnOk result (length self.new.all + sectors ≤ self.new.room) }
-        ensures kept { OnOk result (self.new ≡ record { all = self.old.all; kept = self.old.all; live = self.old.live; room = self.new.room }) }
+        ensures kept { OnOk result (self.new ≡ record { all = self.old.all; kept = self.old.all; live = self.old.live; room = self.new.room; most = self.old.most }) }
         ensures more { self.old.room ≤ self.new.room }
+        ensures within { (limit : ℕ) → self.old.room ≤ limit → length self.old.all + sectors ≤ limit → self.new.room ≤ limit }
         ensures same { OnErr result (self.new ≡ self.old) }
     {
         let sectors = sectors as usize;
@@ -125,7 +132,10 @@ impl Batch {
         let room = self.puts.len() + sectors;
         self.kept.reserve(room.saturating_sub(self.kept.len()))?;
         let room = self.room.max(room);
-        self.live.reserve(room)?;
+        let Some(all) = self.most.checked_add(room) else {
+            return Err(OutOfMemory);
+        };
+        self.live.hold(all)?;
         self.room = room;
         self.keep();
         Ok(())
@@ -149,24 +159,25 @@ impl Batch {
 
     /// Nothing is put any more.
     pub fn clear(&mut self)
-        ensures { self.new ≡ record { all = []; kept = []; live = self.old.live; room = self.old.room } }
+        ensures { self.new ≡ record { all = []; kept = []; live = self.old.live; room = self.old.room; most = self.old.most } }
     {
         self.puts.clear();
         self.kept.clear();
     }
 
-    /// What was put is live from now on, in lists that begin at this place of the text. It leaves as much room as there
-    /// was.
+    /// What was put is live from now on, in lists that begin at this place of the text.
     pub fn make_live(&mut self, form: &ListForm, from: u64)
         requires form { IsForm form.now }
         requires from { from ≤ 2 ^ 40 }
         requires few { length self.old.all ≤ 2 ^ 40 }
+        requires most { length self.old.live + length self.old.all ≤ self.old.most }
         ensures newest { (s : ℕ) → newest self.new.live s ≡ or_later (newest (lists_homes form.now.blhdr from 0 self.old.all) s) (newest self.old.live s) }
         ensures nothing { (self.new.all ≡ []) × (self.new.kept ≡ []) }
-        ensures room { self.new.room + length self.old.all ≡ self.old.room }
+        ensures few { length self.new.live ≤ length self.old.live + length self.old.all }
+        ensures room { self.new.room ≡ self.old.room }
+        ensures most { self.new.most ≡ self.old.most }
     {
         self.live.put_lists(form, from, self.puts.as_slice());
-        self.room -= self.puts.len();
         self.puts.clear();
         self.kept.clear();
     }

@@ -23,7 +23,8 @@ use std::alloc::Global;
 
 impl Store {
     /// The store of the disk that a replay of this plan leaves. `cache` is the number of slots that keep sectors of the
-    /// content; they are empty, and all their memory is taken here. It may be made before the replay.
+    /// content; they are empty, and all their memory is taken here, as is that for the places of as many live sectors as the
+    /// ring has. It may be made before the replay.
     pub fn attach(alloc: Global, plan: &Plan, cache: u32) -> Result<Store, OutOfMemory>
         requires fits { (sectors : ℕ) × FitsPlan sectors plan.now }
         ensures plan { IfOk result (λ store. plan_of store ≡ rested plan.now) }
@@ -40,7 +41,7 @@ impl Store {
         ensures durable { (content : Content) → IfOk result (λ store. durable_of store content ≡ content) }
     {
         let cache = Cache::new(alloc, cache)?;
-        let batch = Batch::new(alloc);
+        let batch = Batch::new(alloc, (plan.info.size / 512) as usize)?;
         Ok(Store {
             plan: rest(plan),
             batch,
@@ -88,6 +89,8 @@ impl Store {
     pub fn begin(&mut self, alloc: Global, sectors: u64) -> Result<(), OutOfMemory>
         ensures room { OnOk result (sectors ≤ spare_of self.new) }
         ensures spare { spare_of self.old ≤ spare_of self.new }
+        // There is room for no more than was asked for, now or before.
+        ensures within { (limit : ℕ) → room_of self.old ≤ limit → length (puts_of self.old) + sectors ≤ limit → room_of self.new ≤ limit }
         ensures puts { puts_of self.new ≡ puts_of self.old }
         ensures kept { OnOk result (kept_of self.new ≡ puts_of self.old) }
         ensures slots { slots_of self.new ≡ slots_of self.old }

@@ -10,7 +10,7 @@ ghost use Rattle.jnl_store.specs.Lists.{IsCapacity, text_sectors};
 ghost use Rattle.jnl_store.specs.Plan.{form_of, span_of};
 ghost use Rattle.jnl_store.specs.Cache.{AreRead, EachReread};
 ghost use Rattle.jnl_store.specs.Standing.{Checkpoints, MakesDurable, RingCheckpoints, RingDurable, StandsForDurable, StandsForEither};
-ghost use Rattle.jnl_store.specs.Store.{FitsTransaction, HasNoList, HasRoom, Keeps, KeepsRing, KeepsRingOn, SameJournal, content_over, durable_of, faults_of, has_spilled, kept_of, plan_of, puts_of, slots_of, spare_of};
+ghost use Rattle.jnl_store.specs.Store.{FitsTransaction, HasNoList, HasRoom, Keeps, KeepsRing, KeepsRingOn, SameJournal, content_over, durable_of, faults_of, has_spilled, kept_of, plan_of, puts_of, room_of, slots_of, spare_of};
 ghost use Rattle.jnl_store.specs.declared.store.StoreFault.TheVariants.{Disk, Failed};
 
 use crate::appending::append;
@@ -49,6 +49,8 @@ impl Store {
 
         ensures nothing { OnOk result ((puts_of self.new ≡ []) × (kept_of self.new ≡ []) × (has_spilled self.new ≡ Bool.false) × (faults_of self.new ≡ faults_of self.old)) }
         ensures spare { spare_of self.old ≤ spare_of self.new }
+        // As much may be put between two commits as before.
+        ensures room { room_of self.new ≡ room_of self.old }
         // Each slot names what it named.
         ensures slots { EachReread (plan_of self.old) (slots_of self.old) (slots_of self.new) }
         ensures journal { SameJournal self.old self.new }
@@ -91,6 +93,7 @@ impl Store {
 
         ensures puts { (puts_of self.new ≡ puts_of self.old) × (kept_of self.new ≡ kept_of self.old) }
         ensures spare { spare_of self.old ≤ spare_of self.new }
+        ensures room { room_of self.new ≡ room_of self.old }
         ensures settled { OnOk result ((has_spilled self.new ≡ Bool.false) × (faults_of self.new ≡ faults_of self.old)) }
         // Each slot names what it named.
         ensures slots { EachReread (plan_of self.old) (slots_of self.old) (slots_of self.new) }
@@ -123,7 +126,8 @@ impl Store {
         ensures crash { IsTrue (D.state disk.old).tells → CrashesLeave (D.state disk.old) (D.state disk.new) (StandsForEither self.old (D.state disk.old)) }
         ensures idle { self.old.batch.all ≡ [] → self.old.unsettled ≡ Bool.false → Untouched (D.state disk.old) (D.state disk.new) }
         ensures nothing { OnOk result ((self.new.batch.all ≡ []) × (self.new.batch.kept ≡ []) × (self.new.unsettled ≡ Bool.false)) }
-        ensures room { spare_of self.old ≤ spare_of self.new }
+        ensures few { length self.new.batch.all ≤ length self.old.batch.all }
+        ensures room { self.new.batch.room ≡ self.old.batch.room }
         ensures faults { self.new.faults ≡ self.old.faults }
         ensures slots { EachReread self.old.plan self.old.cache self.new.cache }
         ensures journal { SameJournal self.old self.new }

@@ -67,6 +67,17 @@ impl LiveTable {
         Ok(())
     }
 
+    /// Finds memory for so many sectors in all.
+    pub fn hold(&mut self, all: usize) -> Result<(), OutOfMemory>
+        ensures room { OnOk result (all ≤ self.new.memory) }
+        ensures homes { self.new.homes ≡ self.old.homes }
+        ensures memory { self.old.memory ≤ self.new.memory }
+        ensures same { OnErr result (self.new ≡ self.old) }
+    {
+        let settled = self.older.len();
+        self.reserve(all.saturating_sub(settled))
+    }
+
     /// The place of a sector's newest bytes.
     pub fn find(&self, at: u64) -> Option<u64>
         ensures { result ≡ newest self.now.homes at }

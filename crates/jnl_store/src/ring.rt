@@ -62,7 +62,7 @@ impl Store {
         ensures crash { IsTrue (D.state disk.old).tells → CrashesLeave (D.state disk.old) (D.state disk.new) (StandsForEither self.old (D.state disk.old)) }
         ensures idle { self.old.batch.all ≡ [] → self.old.unsettled ≡ Bool.false → Untouched (D.state disk.old) (D.state disk.new) }
         ensures nothing { OnOk result ((self.new.batch.all ≡ []) × (self.new.batch.kept ≡ []) × (self.new.unsettled ≡ Bool.false)) }
-        ensures room { spare_of self.old ≤ spare_of self.new }
+        ensures room { self.new.batch.room ≡ self.old.batch.room }
         ensures few { length self.new.batch.all ≤ length self.old.batch.all }
         ensures faults { self.new.faults ≡ self.old.faults }
         ensures slots { self.new.cache ≡ self.old.cache }
@@ -90,7 +90,7 @@ impl Store {
         ensures done { IsTrue (D.state disk.old).tells → OnOk result (RingDurable self.old self.new (D.state disk.old) (D.state disk.new) (content_over self.old (content (D.state disk.old)))) }
         ensures crash { IsTrue (D.state disk.old).tells → CrashesLeave (D.state disk.old) (D.state disk.new) (StandsForEither self.old (D.state disk.old)) }
         ensures nothing { OnOk result ((self.new.batch.all ≡ []) × (self.new.batch.kept ≡ []) × (self.new.unsettled ≡ Bool.false)) }
-        ensures room { spare_of self.old ≤ spare_of self.new }
+        ensures room { self.new.batch.room ≡ self.old.batch.room }
         ensures few { length self.new.batch.all ≤ length self.old.batch.all }
         ensures faults { self.new.faults ≡ self.old.faults }
         ensures slots { self.new.cache ≡ self.old.cache }

@@ -1,5 +1,5 @@
 //! A store: what was put and isn't committed, and where its journal lies.
-ghost use Rattle.jnl_store.specs.InUse.{IsInUse};
+ghost use Rattle.jnl_store.specs.InUse.{HasPlaces, IsInUse};
 
 use crate::batch::Batch;
 use crate::cache::Cache;
@@ -17,6 +17,7 @@ pub struct Store {
     /// Sectors of the content that were read or changed last.
     pub(crate) cache: Cache,
     ghost rest: { IsInUse plan },
+    ghost places: { HasPlaces plan batch.live batch.most },
 }
 
 /// Why a transaction isn't known to be stable.

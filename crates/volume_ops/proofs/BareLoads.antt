@@ -12,7 +12,6 @@ use Rattle.btree_file.specs.Standing.{pairs_in}
 use Rattle.btree_file.specs.State.{sectors_of_tree}
 use Rattle.hfs_language.specs.declared.command.Command.TheVariants as command
 use Rattle.hfs_language.specs.declared.refusal.Refusal.{Refusal}
-use Rattle.hfs_language.specs.declared.reply.ListedName.{ListedName}
 use Rattle.hfs_model.specs.Plain.{is_node, node_at}
 use Rattle.hfs_model.specs.Sorted.{kept}
 use Rattle.hfs_model.specs.Step.{to_rmdir}
@@ -36,7 +35,6 @@ use Rattle.hfs_volume.proofs.Reaching.{seen_stands}
 use Rattle.volume_ops.specs.Lists.{lists_of}
 use Rattle.volume_ops.specs.Looking.{ReadsVolume}
 use Rattle.volume_ops.specs.Making.{catalog_cost, entry_load}
-use Rattle.volume_ops.specs.Owning.{attributes_in, listed_name}
 use Rattle.volume_ops.specs.Removing.{IsLeaving, bare_load, folder_at, remove_load}
 use Rattle.volume_ops.specs.Standing.{IsSettled, IsStanding}
 use Rattle.volume_ops.specs.declared.removing.Leaving.{Leaving}
@@ -59,11 +57,10 @@ counted_map id (pair ∷ pairs) = by ((attribute_of pair).id == id) (counted_map
     by true rest = omega (arith, rest)
     by false rest = omega (arith, rest)
 
--- as many as are listed
-pub listed_count : (id : ℕ) (pairs : List Pair) (list : List ListedName) → list ≡ attributes_in pairs id → length list ≡ count_of id pairs
-listed_count id pairs list listed =
-    ap (λ (l : List ListedName). length l) listed ∙ length-map (names_of id pairs) listed_name
-    ∙ length-map (kept (λ (a : Attribute). a.id == id) (map attribute_of pairs)) (λ (a : Attribute). a.name) ∙ counted_map id pairs
+-- as many as have names
+pub named_count : (id : ℕ) (pairs : List Pair) (owned : List (List ℕ)) → owned ≡ names_of id pairs → length owned ≡ count_of id pairs
+named_count id pairs owned listed =
+    ap (λ (l : List (List ℕ)). length l) listed ∙ length-map (kept (λ (a : Attribute). a.id == id) (map attribute_of pairs)) (λ (a : Attribute). a.name) ∙ counted_map id pairs
 
 nodes_are : (content : Content) (n : PlainNode) → Contains (tree_of content).nodes n → n.attributes ≡ plain_attributes (attributes_of (volume_of content)) n.id
 unfolding tree_of tree_in
@@ -181,6 +178,9 @@ module _ (law : SoundHasPlainTree) (v : Volume) (a : Space) (was : IsStanding v 
 
 pub bare_load_still : (v w : Volume) (a b : Space) → ReadsVolume v w a b → IsTrue a.tells → (many : ℕ) → bare_load w many ≡ bare_load v many
 bare_load_still v w a b reads tells many = ap (λ (l : VolumeState). tree_load attributes_key (cost_of_tree l.attributes_tree 0) many 0) (lists_still v w a b reads tells)
+
+pub names_still : (v w : Volume) (a b : Space) → ReadsVolume v w a b → IsTrue a.tells → (id : ℕ) → names_of id (lists_of w b.content).attribute_pairs ≡ names_of id (lists_of v a.content).attribute_pairs
+names_still v w a b reads tells id = ap (λ (l : VolumeState). names_of id l.attribute_pairs) (lists_still v w a b reads tells)
 
 pub count_still : (v w : Volume) (a b : Space) → ReadsVolume v w a b → IsTrue a.tells → (id : ℕ) → count_of id (lists_of w b.content).attribute_pairs ≡ count_of id (lists_of v a.content).attribute_pairs
 count_still v w a b reads tells id = ap (λ (l : VolumeState). count_of id l.attribute_pairs) (lists_still v w a b reads tells)

@@ -26,7 +26,8 @@ use Rattle.hfs_model.specs.declared.plain.PlainEntry.{PlainEntry}
 use Rattle.hfs_model.specs.declared.plain.PlainNode.{PlainNode}
 use Rattle.hfs_model.specs.declared.plain.PlainTree.{PlainTree}
 use Rattle.hfs_volume.specs.Attributes.{IsAttribute}
-use Rattle.hfs_volume.specs.Changes.{AreSortedAttributes}
+use Rattle.volume_header.specs.declared.header.VolumeHeader.{VolumeHeader}
+use Rattle.hfs_volume.specs.Changes.{AreSortedAttributes, InAttributes}
 use Rattle.hfs_volume.specs.Commands.{DropsAttributes}
 use Rattle.hfs_volume.specs.Content.{VolumeState, TreeFacts, volume_of, records_of, has_attributes}
 use Rattle.hfs_volume.specs.Links.{private_id}
@@ -210,6 +211,23 @@ module _ (v w : Volume) (a b : Space) (id : ℕ) (bares : ChangesAttributes (Dro
 
   pub settled_bared : IsSettled w b.content
   settled_bared = settles_again v w a b bares.changes settled was stands headed (facts_on w.attributes.file) (λ _. refl) sound (ap (λ (l : List Pair). private_id (placed_in l)) bares.catalog)
+
+  -- the lists of the content, behind the removal
+  lists_now : volume_of b.content ≡ record (volume_of a.content) { attribute_pairs = (lists_of w b.content).attribute_pairs; attributes_tree = facts_on w.attributes.file }
+  lists_now =
+      let there : IsTrue (has_attributes w.header) = subst (λ (h : VolumeHeader). IsTrue (has_attributes h)) (sym (ap (λ (x : Volume). x.header) bares.rest)) has in
+      settled_bared.lists ∙ (λ i. record (lists_of w b.content) { attributes_tree = settled_bared.attributes there i }) ∙ lists_are
+
+  pub attributes_bared : InAttributes (DropsAttributes id) (volume_of a.content) (volume_of b.content)
+  attributes_bared = record {
+    changes = ap (λ (l : VolumeState). l.attribute_pairs) lists_now ∙ drops;
+    nodes = record {
+      total = ap (λ (l : VolumeState). l.attributes_tree.shape.total) lists_now ∙ bares.changes.attributes.total ∙ sym (ap (λ (t : TreeFacts). t.shape.total) (settled.attributes has));
+      size = ap (λ (l : VolumeState). l.attributes_tree.shape.node_size) lists_now ∙ bares.changes.attributes.node_size ∙ sym (ap (λ (t : TreeFacts). t.shape.node_size) (settled.attributes has));
+    };
+    rest = lists_now
+        ∙ (λ i. record (volume_of a.content) { attribute_pairs = sym (ap (λ (l : VolumeState). l.attribute_pairs) lists_now) i; attributes_tree = sym (ap (λ (l : VolumeState). l.attributes_tree) lists_now) i });
+  }
 
   abbrev bared : VolumeState
   bared = record (volume_of a.content) { attribute_pairs = kept (λ pair. not ((attribute_of pair).id == id)) (volume_of a.content).attribute_pairs }

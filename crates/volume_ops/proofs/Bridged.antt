@@ -1,5 +1,5 @@
 -- The file of a tree over a content, read as a special file of a volume: the way back of Bridging.
-use Rattle.std.proofs.Common.{◌≡◌, ◌≤◌, ◌<◌, ℕ, zero, suc, ◌+◌, ◌*◌, ◌/◌, List, length, refl, sym, ◌∙◌, ap, arith, inl, inr}
+use Rattle.std.proofs.Common.{◌≡◌, ◌≤◌, ◌<◌, ℕ, zero, suc, ◌+◌, ◌*◌, ◌/◌, List, length, refl, sym, ◌∙◌, ap, subst, arith, inl, inr}
 use Rattle.std.specs.Prelude.{Contains}
 use Rattle.std.specs.declared.cmp.Ordering.{Ordering}
 use Rattle.sector_disk.specs.Lists.{Content, sector}
@@ -12,9 +12,10 @@ use Rattle.btree_file.specs.Standing.{HoldsTree, pairs_in}
 use Rattle.btree_file.specs.State.{nodes_on, sectors_of_tree}
 use Rattle.btree_file.specs.declared.tree.TreeFile.{TreeFile as File}
 use Rattle.btree_file.proofs.Rooms.{whole_node}
+use Rattle.btree_file.proofs.StandingLaws.{head_is}
 use Rattle.hfs_volume.specs.Content.{node_of_fork, tree_of_fork, facts_of}
 use Rattle.volume_ops.specs.Lists.{facts_on}
-use Rattle.volume_ops.proofs.Alike.{map_is, pairs_alike}
+use Rattle.volume_ops.proofs.Alike.{file_alike, map_is, pairs_alike}
 use Rattle.volume_ops.proofs.Bridging.{node_same, whole_size}
 use Rattle.volume_ops.proofs.Facts.{size_is, total_is, facts_stand}
 
@@ -66,6 +67,14 @@ module _ (content : Content) (limit : ℕ) (xs : List ℕ) (each : (at : ℕ) �
         ∙ ap (λ (m : List ℕ). record { shape = shape_of (tree_head (nodes_on xs 512 content 0)); map_bits = 8 * length m })
         (map_is form is_key is_value cmp (tree_head (nodes_on xs 512 content 0)) (nodes_on xs (tree_head (nodes_on xs 512 content 0)).node_size content) (node_of_fork content limit xs (tree_head (nodes_on xs 512 content 0)).node_size) nodes_same tree)
 
+    -- it is the file of a tree, with the same header record
+    pub file_back : IsTreeFile form is_key is_value cmp (tree_of_fork content limit xs)
+    file_back = subst (λ (f : TreeFile). IsTreeFile form is_key is_value cmp f) (sym in_between)
+        (file_alike form is_key is_value cmp (tree_head (nodes_on xs 512 content 0)) (nodes_on xs (tree_head (nodes_on xs 512 content 0)).node_size content) (node_of_fork content limit xs (tree_head (nodes_on xs 512 content 0)).node_size) nodes_same tree)
+
+    pub head_back : (tree_of_fork content limit xs).head ≡ (file_in xs content).head
+    head_back = ap (λ (f : TreeFile). f.head) in_between
+
 -- a tree file that holds its tree, whose sectors lie in blocks
 module _ (content : Content) (limit : ℕ) (form : TreeForm) (is_key is_value : List ℕ → Type 0) (cmp : List ℕ → List ℕ → Ordering) (tree : File) (each : (at : ℕ) → Contains (sectors_of_tree tree) at → (at < limit) × (length (sector content at) ≡ 512))
     (holds : HoldsTree form is_key is_value cmp tree content)
@@ -78,3 +87,9 @@ module _ (content : Content) (limit : ℕ) (form : TreeForm) (is_key is_value : 
 
     pub facts_read : facts_of (tree_of_fork content limit (sectors_of_tree tree)) ≡ facts_on tree
     facts_read = facts_back content limit (sectors_of_tree tree) each form is_key is_value cmp holds.file whole ∙ sym (facts_stand tree content holds.stands)
+
+    pub file_read : IsTreeFile form is_key is_value cmp (tree_of_fork content limit (sectors_of_tree tree))
+    file_read = file_back content limit (sectors_of_tree tree) each form is_key is_value cmp holds.file whole
+
+    pub head_read : (tree_of_fork content limit (sectors_of_tree tree)).head ≡ tree_head tree.header
+    head_read = head_back content limit (sectors_of_tree tree) each form is_key is_value cmp holds.file whole ∙ head_is tree content holds.stands

@@ -43,11 +43,13 @@ use Rattle.hfs_volume.proofs.Seeing.{entries_added, private_kept, same_number}
 use Rattle.hfs_volume.proofs.Swapping.{Splits, private_same}
 use Rattle.volume_ops.specs.Changing.{ChangesCatalog, HasFolder, TouchesFolder}
 use Rattle.volume_ops.specs.Lists.{lists_of, facts_on}
-use Rattle.volume_ops.specs.Removing.{DropsFolder, HasNoAttributes, IsLeaving, folder_at}
+use Rattle.volume_ops.specs.Removing.{DropsFolder, HasNoAttributes, IsLeaving, TakesFolder, folder_at}
 use Rattle.volume_ops.specs.Standing.{IsStanding, IsSettled}
 use Rattle.volume_ops.specs.declared.removing.Leaving.{Leaving}
 use Rattle.volume_ops.specs.declared.volume.Volume.{Volume}
 use Rattle.volume_ops.proofs.Counted.{counts_low}
+use Rattle.volume_ops.proofs.ListsAgain.{lists_again}
+use Rattle.volume_ops.proofs.Taken.{bares_none}
 use Rattle.volume_ops.proofs.ListsAfter.{changes_both}
 use Rattle.volume_ops.proofs.NodeIs.{elsewhere}
 use Rattle.volume_ops.proofs.Recounting.{no_thread}
@@ -279,7 +281,7 @@ module _ (v : Volume) (a : Space) (was : IsStanding v a) (settled : IsSettled v 
         rest = dropped_is ∙ (λ i. record (volume_of a.content) { head = with_folder_removed (volume_of a.content).head; attribute_pairs = sym attributes_same i; catalog_pairs = (lists_of w b.content).catalog_pairs; catalog_tree = facts_on w.catalog.file });
       }
 
-      removes : RemovesFolder at.id (volume_of a.content) (lists_then a.content u c.content)
+      abbrev removes : RemovesFolder at.id (volume_of a.content) (lists_then a.content u c.content)
       removes = record {
         entry = drops.removes.entry;
         stands = it.stands;
@@ -326,3 +328,10 @@ module _ (v : Volume) (a : Space) (was : IsStanding v a) (settled : IsSettled v 
           settles_again v u a c changes settled was stands headed does.0 private,
           tree_again v u a c changes settled was stands headed does.0 ∙ does.1,
         )
+
+        -- in the lists of the content
+        takes_then : TakesFolder at.id (volume_of a.content) (lists_then a.content u c.content)
+        takes_then = record { bared = volume_of a.content; bares = bares_none at.id (volume_of a.content) bare; removes = removes; folder = is_a }
+
+        pub emptied_takes : TakesFolder at.id (volume_of a.content) (volume_of c.content)
+        emptied_takes = subst (λ (l : VolumeState). TakesFolder at.id (volume_of a.content) l) (sym (lists_again v u a c changes settled was emptied_does.0)) takes_then

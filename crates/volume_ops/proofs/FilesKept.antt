@@ -12,7 +12,7 @@ use Rattle.cat_records.specs.declared.record.CatRecord.TheVariants.{File}
 use Rattle.hfs_volume.specs.Blocks.{forks_of}
 use Rattle.hfs_volume.specs.Content.{VolumeState, volume_of, records_of, overflow_in_volume, block_bytes}
 use Rattle.hfs_volume.specs.Entries.{IsUserId}
-use Rattle.hfs_volume.specs.Forks.{Owned, per_block_of, parts_for, data_kind, catalog_id, attributes_id, extents_of, blocks_owned, reserved_blocks}
+use Rattle.hfs_volume.specs.Forks.{Owned, per_block_of, parts_for, data_kind, allocation_id, catalog_id, attributes_id, extents_of, blocks_owned, reserved_blocks}
 use Rattle.hfs_volume.specs.Records.{Placed, entries_of, overflow_of, id_of, id_in}
 use Rattle.hfs_volume.specs.Sound.{IsSoundVolume}
 use Rattle.hfs_volume.specs.TreeOf.{tree_in, file_bytes}
@@ -38,6 +38,10 @@ catalog_sectors lists = sectors_of (per_block_of lists.head) (blocks_of (extents
 abbrev pub attributes_sectors : VolumeState → List ℕ
 attributes_sectors lists = sectors_of (per_block_of lists.head) (blocks_of (extents_of (overflow_in_volume lists) attributes_id data_kind lists.head.attributes_fork))
 
+-- and those of the bitmap's file
+abbrev pub allocation_sectors : VolumeState → List ℕ
+allocation_sectors lists = sectors_of (per_block_of lists.head) (blocks_of (extents_of (overflow_in_volume lists) allocation_id data_kind lists.head.allocation_fork))
+
 module _ (lists : VolumeState) (sound : IsSoundVolume lists) where
   whole : HasWholeBlocks lists.sectors lists.head
   whole = whole_blocks lists.sectors lists.head sound.blocks.header.accepted
@@ -50,6 +54,9 @@ module _ (lists : VolumeState) (sound : IsSoundVolume lists) where
 
   abbrev attributes_owned : Owned
   attributes_owned = record { id = attributes_id; kind = data_kind; fork = lists.head.attributes_fork }
+
+  abbrev allocation_owned : Owned
+  allocation_owned = record { id = allocation_id; kind = data_kind; fork = lists.head.allocation_fork }
 
   abbrev blocks_by : Owned → List ℕ
   blocks_by owned = blocks_owned (overflow_in_volume lists) owned
@@ -71,6 +78,11 @@ module _ (lists : VolumeState) (sound : IsSoundVolume lists) where
         (λ same. absurd (omega (arith, ap (λ (o : Owned). o.id) same))) (in_block per (blocks_by catalog_owned) at whole.some there) (in_block per (blocks_by attributes_owned) at whole.some has),
   )
 
+  -- nor is it one of the bitmap's file
+  pub attributes_off_map : (at : ℕ) → Contains (attributes_sectors lists) at → Contains (allocation_sectors lists) at → ⊥
+  attributes_off_map at has there = not_in_both lists sound.blocks.forks allocation_owned attributes_owned (at / per) (special_stands lists allocation_owned (2, omega arith, refl)) (special_stands lists attributes_owned (4, omega arith, refl))
+      (λ same. absurd (omega (arith, ap (λ (o : Owned). o.id) same))) (in_block per (blocks_by allocation_owned) at whole.some there) (in_block per (blocks_by attributes_owned) at whole.some has)
+
   module _ (p : Placed) (file : FileRecord) (stands : Contains (entries_of (records_of lists)) p) (is : p.value ≡ File file) where
     abbrev file_sectors : List ℕ
     file_sectors = sectors_of per (blocks_by (data_fork_of file))
@@ -89,18 +101,21 @@ module _ (lists : VolumeState) (sound : IsSoundVolume lists) where
         by (inl two) = differs (ap (λ (o : Owned). o.id) same ∙ two)
         by (inr user) = omega (arith, user.0, low, ap (λ (o : Owned). o.id) same)
 
-    not_2 : (at : ℕ) → Contains file_sectors at → at ≢ 2
+    pub not_2 : (at : ℕ) → Contains file_sectors at → at ≢ 2
     not_2 at has two = no_header (data_fork_of file) (λ kept_back inside. not_reserved lists sound.blocks.forks (data_fork_of file) (2 / per) kept_back fork_there inside) (subst (λ n. Contains file_sectors n) two has)
 
     not_in : (owned : Owned) → Contains (forks_of lists) owned → owned ≢ data_fork_of file → (at : ℕ) → Contains file_sectors at → Contains (sectors_of per (blocks_by owned)) at → ⊥
     not_in owned stands_too differs at has there = not_in_both lists sound.blocks.forks owned (data_fork_of file) (at / per) stands_too fork_there differs
         (in_block per (blocks_by owned) at whole.some there) (in_block per (blocks_by (data_fork_of file)) at whole.some has)
 
-    not_in_catalog : (at : ℕ) → Contains file_sectors at → Contains (catalog_sectors lists) at → ⊥
+    pub not_in_catalog : (at : ℕ) → Contains file_sectors at → Contains (catalog_sectors lists) at → ⊥
     not_in_catalog at has there = not_in catalog_owned (special_stands lists catalog_owned (1, omega arith, refl)) (not_special catalog_owned (λ two. absurd (omega (arith, two))) (omega arith)) at has there
 
     not_in_attributes : (at : ℕ) → Contains file_sectors at → Contains (attributes_sectors lists) at → ⊥
     not_in_attributes at has there = not_in attributes_owned (special_stands lists attributes_owned (4, omega arith, refl)) (not_special attributes_owned (λ two. absurd (omega (arith, two))) (omega arith)) at has there
+
+    pub not_in_map : (at : ℕ) → Contains file_sectors at → Contains (allocation_sectors lists) at → ⊥
+    not_in_map at has there = not_in allocation_owned (special_stands lists allocation_owned (2, omega arith, refl)) (not_special allocation_owned (λ two. absurd (omega (arith, two))) (omega arith)) at has there
 
     -- the bytes by the lists
     by_lists : (content : Content) → ReadsAs content lists → file_bytes content file ≡ take file.data_fork.logical_size (block_bytes content (lists.head.total_blocks * per) file_sectors)
@@ -111,6 +126,13 @@ module _ (lists : VolumeState) (sound : IsSoundVolume lists) where
     module _ (a b : Content) (reads_a : ReadsAs a lists) (reads_b : ReadsAs b lists) (agrees : (at : ℕ) → at ≢ 2 → (Contains (catalog_sectors lists) at → ⊥) → (Contains (attributes_sectors lists) at → ⊥) → sector b at ≡ sector a at) where
       bytes_stay : file_bytes b file ≡ file_bytes a file
       bytes_stay = by_lists b reads_b ∙ ap (λ (l : List ℕ). take file.data_fork.logical_size l) (same_bytes a b (lists.head.total_blocks * per) file_sectors (λ at has. agrees at (not_2 at has) (not_in_catalog at has) (not_in_attributes at has))) ∙ sym (by_lists a reads_a)
+
+  -- so is the tree of the lists, where neither header nor catalog nor bitmap is looked at
+  pub tree_stays_but : (a b : Content) → ReadsAs a lists → ReadsAs b lists → ((at : ℕ) → at ≢ 2 → (Contains (catalog_sectors lists) at → ⊥) → (Contains (allocation_sectors lists) at → ⊥) → sector b at ≡ sector a at) → tree_in lists (file_bytes b) ≡ tree_in lists (file_bytes a)
+  tree_stays_but a b reads_a reads_b agrees = same_bytes_same_tree lists (file_bytes b) (file_bytes a) (λ p file stands is.
+      by_lists p file stands is b reads_b
+      ∙ ap (λ (l : List ℕ). take file.data_fork.logical_size l) (same_bytes a b (lists.head.total_blocks * per) (file_sectors p file stands is) (λ at has. agrees at (not_2 p file stands is at has) (not_in_catalog p file stands is at has) (not_in_map p file stands is at has)))
+      ∙ sym (by_lists p file stands is a reads_a))
 
   -- so the tree of the lists is the same by both
   pub tree_stays : (a b : Content) → ReadsAs a lists → ReadsAs b lists → ((at : ℕ) → at ≢ 2 → (Contains (catalog_sectors lists) at → ⊥) → (Contains (attributes_sectors lists) at → ⊥) → sector b at ≡ sector a at) → tree_in lists (file_bytes b) ≡ tree_in lists (file_bytes a)

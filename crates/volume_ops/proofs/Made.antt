@@ -52,6 +52,7 @@ use Rattle.volume_ops.specs.declared.volume.Volume.{Volume}
 use Rattle.volume_ops.proofs.Counted.{counts_low}
 use Rattle.volume_ops.proofs.Entered.{at_place}
 use Rattle.volume_ops.proofs.ListsAfter.{changes_both}
+use Rattle.volume_ops.proofs.ListsAgain.{lists_again}
 use Rattle.volume_ops.proofs.Rising.{settled_sorted}
 use Rattle.volume_ops.proofs.Settling.{lists_then, settles_again, tree_again}
 
@@ -336,6 +337,11 @@ module _ (v : Volume) (a : Space) (settled : IsSettled v a.content) where
             ap (option_map (λ (p : Placed). p.value))
             (at_place (lists_of u c.content).catalog_pairs (subst AreThreaded same settled_now.sound.entries.threads) (subst AreSorted same (settled_sorted u c.content stands.trees settled_now)) entry entry_stays)
 
-        pub made_does : IsSettled u c.content × (tree_of c.content ≡ made folder (free_place id name) (tree_of a.content)) × (value_at (lists_of u c.content).catalog_pairs id name ≡ Some (new_value folder v.header.next_catalog_id v.header.modify_date))
+        pub made_does : IsSettled u c.content × (tree_of c.content ≡ made folder (free_place id name) (tree_of a.content)) × (value_at (lists_of u c.content).catalog_pairs id name ≡ Some (new_value folder v.header.next_catalog_id v.header.modify_date)) × MakesEntry folder (free_place id name) (volume_of a.content) (volume_of c.content)
         unfolding tree_of
-        made_does = (settled_now, tree_again v u a c changes settled was stands headed does.0 ∙ does.1, found_now)
+        made_does = (
+          settled_now,
+          tree_again v u a c changes settled was stands headed does.0 ∙ does.1,
+          found_now,
+          subst (λ (l : VolumeState). MakesEntry folder (free_place id name) (volume_of a.content) l) (sym (lists_again v u a c changes settled was settled_now)) makes,
+        )

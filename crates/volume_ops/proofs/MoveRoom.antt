@@ -1,11 +1,10 @@
 -- The room for a move: for its edits of the catalog, and behind them for three records.
 use Rattle.std.proofs.Common.{◌≡◌, ◌<◌, ◌≤◌, ℕ, ◌+◌, ◌-◌, ◌*◌, ◌/◌, ◌^◌, Bool, true, false, List, [], refl, sym, ◌∙◌, ap, subst, arith}
 use Rattle.std.specs.Prelude.{nat_le, nat_lt, IsTrue}
-use Rattle.std.proofs.Math.Nat.{mul-le-mul_right}
 use Rattle.std.proofs.lemmas.Bool.{ltb-false, true≢false}
 use Rattle.sector_disk.specs.Space.{Space}
 use Rattle.btree_edit.specs.Editing.{CostsAtMost, edit_writes}
-use Rattle.btree_edit.specs.Edits.{EditRoom, TakesAtMost, TakesEdits}
+use Rattle.btree_edit.specs.Edits.{EditRoom, TakesAtMost}
 use Rattle.btree_file.specs.FrameLaws.{state_well_formed}
 use Rattle.btree_file.specs.State.{state_of}
 use Rattle.volume_header.specs.declared.header.VolumeHeader.{VolumeHeader}
@@ -15,14 +14,14 @@ use Rattle.hfs_volume.specs.Weight.{cost_of_tree}
 use Rattle.hfs_volume.specs.Cost.{catalog_key, depth_of, growth, is_too_deep, node_sectors, rises, tree_load}
 use Rattle.hfs_volume.specs.declared.cost.TreeCost.{TreeCost}
 use Rattle.tree_weights.specs.Weights.{EditsHaveRoom, EditsTakeTheirLoad, HasGrown, IsWrittenByGrowth}
-use Rattle.volume_ops.specs.Changing.{HasRoomToUpdates, catalog_node}
+use Rattle.volume_ops.specs.Changing.{catalog_node}
 use Rattle.volume_ops.specs.Lists.{facts_on}
 use Rattle.volume_ops.specs.Looking.{ReadsVolume}
 use Rattle.volume_ops.specs.Making.{catalog_cost}
 use Rattle.volume_ops.specs.Moving.{HasRoomToMove, move_load}
 use Rattle.volume_ops.specs.declared.volume.Volume.{Volume}
 use Rattle.volume_ops.proofs.Still.{lists_still}
-use Rattle.volume_ops.proofs.MakeRoom.{fewer_fit, grown, least_low, many_fit, spent_nodes, third_low, written}
+use Rattle.volume_ops.proofs.MakeRoom.{grown, least_low, many_fit, third_low, written}
 
 low : (tree : TreeCost) → is_too_deep catalog_key tree 3 ≡ false → tree.records < 2 ^ 32
 low tree is = omega (arith, ltb-false 4294967295 (tree.records + 3) (third_low (nat_le 8 tree.depth) (nat_lt 11 (depth_of tree + 1 + rises catalog_key tree 3)) (nat_lt 4294967295 (tree.records + 3)) is))
@@ -48,7 +47,7 @@ room_to_move law v a room large names = by a.tells refl
           free = omega (arith, it.2);
           writes = least_low (3 * edit_writes (v.catalog.file.shape.depth + 3)) (state_of names v.catalog.file a).unwritten (a.spare / (v.catalog.file.shape.node_size / 512))
               (many_fit (3 * edit_writes (v.catalog.file.shape.depth + 3)) (v.catalog.file.shape.node_size / 512) a.spare some
-              (fewer_fit (3 * edit_writes (v.catalog.file.shape.depth + 3)) (6 * edit_writes (v.catalog.file.shape.depth + 6)) (v.catalog.file.shape.node_size / 512) a.spare (omega arith) it.3));
+              it.3);
         }
 
 module _ (law : EditsHaveRoom) (takes_law : EditsTakeTheirLoad) (v w : Volume) (a b : Space) (room : HasRoomToMove v a) (large : 4096 ≤ v.catalog.file.shape.node_size) (takes : TakesAtMost 3 516 (state_of [] v.catalog.file a) (state_of [] w.catalog.file b)) where
@@ -67,25 +66,6 @@ module _ (law : EditsHaveRoom) (takes_law : EditsTakeTheirLoad) (v w : Volume) (
       let it = takes_law catalog_key 3 0 0 (catalog_cost v) (state_of [] v.catalog.file a) (state_of [] w.catalog.file b) tells size (grown v [] a) (written v [] a) costs.same takes in
       omega (arith, it)
 
-  pub room_moved : b.tells ≡ a.tells → TakesEdits 3 516 (state_of [] v.catalog.file a) (state_of [] w.catalog.file b) → HasRoomToUpdates 3 w b
-  room_moved later edits = record {
-    told = λ tells. omega (arith, spent_move (sym later ∙ tells), (room.told (sym later ∙ tells)).0, node_moved);
-    untold = λ silent.
-        let it = room.untold (sym later ∙ silent) in
-        let paid = takes (v.catalog.file.shape.depth + 3) (record { told = λ tells. absurd (true≢false (sym tells ∙ sym later ∙ silent)); untold = λ _. omega arith }) in
-        let out = spent_nodes v w a b (3 * edit_writes (v.catalog.file.shape.depth + 3)) (3 * (v.catalog.file.shape.depth + 3 + 1)) paid in
-        let both : (3 * edit_writes (v.catalog.file.shape.depth + 3) + 3 * edit_writes (w.catalog.file.shape.depth + 3)) * catalog_node v ≤ 6 * edit_writes (v.catalog.file.shape.depth + 6) * catalog_node v =
-        mul-le-mul_right {m = 3 * edit_writes (v.catalog.file.shape.depth + 3) + 3 * edit_writes (w.catalog.file.shape.depth + 3)} {n = 6 * edit_writes (v.catalog.file.shape.depth + 6)} (catalog_node v) (omega (arith, edits.depth)) in
-        let parts : (3 * edit_writes (v.catalog.file.shape.depth + 3) + 3 * edit_writes (w.catalog.file.shape.depth + 3)) * catalog_node v
-        ≡ 3 * edit_writes (v.catalog.file.shape.depth + 3) * catalog_node v + 3 * edit_writes (w.catalog.file.shape.depth + 3) * catalog_node v = omega arith in
-        let here : 3 * edit_writes (w.catalog.file.shape.depth + 3) * catalog_node w ≡ 3 * edit_writes (w.catalog.file.shape.depth + 3) * catalog_node v = ap (λ n. 3 * edit_writes (w.catalog.file.shape.depth + 3) * n) node_moved in (
-          omega (arith, it.0, edits.depth),
-          omega (arith, it.1, edits.records),
-          omega (arith, it.2, paid.free, edits.depth),
-          omega (arith, out, both, parts, here, it.3),
-        );
-  }
-
 -- ---- reads leave the room
 
 module _ (v w : Volume) (a b : Space) (reads : ReadsVolume v w a b) where
@@ -101,6 +81,6 @@ module _ (v w : Volume) (a b : Space) (reads : ReadsVolume v w a b) where
         subst (λ (k : TreeFacts × VolumeHeader × ℕ). (tree_load catalog_key (cost_of_tree k.0 0) 3 0 + k.0.shape.node_size / 512 + 2 * (k.0.shape.node_size / 512) ≤ k.2) × (is_too_deep catalog_key (cost_of_tree k.0 0) 3 ≡ false) × (growth k.1.block_size catalog_key (cost_of_tree k.0 0) 3 ≡ 0))
         {x = (facts_on v.catalog.file, v.header, a.spare)} {y = (facts_on w.catalog.file, w.header, b.spare)} (λ i. (sym (facts_read (sym reads.looks.same.tells ∙ tells)) i, sym reads.keeps.header i, sym reads.looks.spare i)) (was.told (sym reads.looks.same.tells ∙ tells));
     untold = λ silent.
-        subst (λ (k : TreeShape × ℕ). (k.0.depth + 6 ≤ 11) × (k.0.leaf_records + 6 ≤ 2 ^ 32 - 1) × (6 * (k.0.depth + 7) ≤ k.0.free) × (6 * edit_writes (k.0.depth + 6) * (k.0.node_size / 512) ≤ k.1))
+        subst (λ (k : TreeShape × ℕ). (k.0.depth + 3 ≤ 11) × (k.0.leaf_records + 3 ≤ 2 ^ 32 - 1) × (3 * (k.0.depth + 4) ≤ k.0.free) × (3 * edit_writes (k.0.depth + 3) * (k.0.node_size / 512) ≤ k.1))
         {x = (v.catalog.file.shape, a.spare)} {y = (w.catalog.file.shape, b.spare)} (λ i. (sym reads.keeps.catalog.file.shape i, sym reads.looks.spare i)) (was.untold (sym reads.looks.same.tells ∙ silent));
   }

@@ -53,6 +53,7 @@ use Rattle.volume_ops.proofs.Carried.{AreCarried, both_carry, fields_carry, fiel
 use Rattle.volume_ops.proofs.Counted.{counts_lower}
 use Rattle.volume_ops.proofs.Listed.{nodes_are}
 use Rattle.volume_ops.proofs.CatalogEdited.{catalog_same}
+use Rattle.volume_ops.proofs.ListsAgain.{lists_again}
 use Rattle.volume_ops.proofs.ListsAfter.{catalog_changes, changes_both, header_stays}
 use Rattle.volume_ops.proofs.Made.{third_false}
 use Rattle.volume_ops.proofs.Rising.{settled_sorted}
@@ -340,9 +341,13 @@ module _ (v : Volume) (a : Space) (settled : IsSettled v a.content) (was : IsSta
               ((λ i. (parent_is i == 2) && bytes_eq (name_is i) private_name) ∙ third_false (parent == 2) (bytes_eq old journal_name) (bytes_eq old journal_info_name) (bytes_eq old private_name) from_not_own))
               ∙ ap (λ (l : List Pair). private_id (placed_in l)) pairs_are
 
-          pub moved_does : IsSettled u e.content × (tree_of e.content ≡ (step (tree_of a.content) (command.Mv from to)).1)
+          settled_now : IsSettled u e.content
+          settled_now = settles_again v u a e changes settled was stands_u headed does.0 private
+
+          pub moved_does : IsSettled u e.content × (tree_of e.content ≡ (step (tree_of a.content) (command.Mv from to)).1) × MovesName at (free_place folder name) (volume_of a.content) (volume_of e.content)
           unfolding tree_of
           moved_does = (
-            settles_again v u a e changes settled was stands_u headed does.0 private,
+            settled_now,
             tree_again v u a e changes settled was stands_u headed does.0 ∙ does.1,
+            subst (λ (l : VolumeState). MovesName at (free_place folder name) (volume_of a.content) l) (sym (lists_again v u a e changes settled was settled_now)) moves_name,
           )

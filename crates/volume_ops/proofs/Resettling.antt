@@ -15,7 +15,7 @@ use Rattle.fork_map.specs.Blocks.{blocks_of, sectors_of}
 use Rattle.btree_node.specs.Levels.{Pair}
 use Rattle.btree_node.specs.Tree.{pairs_of}
 use Rattle.btree_node.specs.Keys.{IsCatalogKey, IsExtentKey, IsAttrKey, catalog_cmp, extent_cmp, attr_cmp, is_eight_extents, anything}
-use Rattle.btree_node.specs.TreeFile.{TreeFile as File, store_of, extents_form, catalog_form, attributes_form}
+use Rattle.btree_node.specs.TreeFile.{TreeFile as File, TreeHead, IsTreeFile, store_of, extents_form, catalog_form, attributes_form}
 use Rattle.btree_file.specs.Standing.{pairs_in}
 use Rattle.btree_file.specs.State.{sectors_of_tree}
 use Rattle.hfs_volume.specs.Content.{VolumeState, TreeFacts, volume_of, records_of, overflow_in_volume, overflow_of_content, extents_file, catalog_file, attributes_file, facts_of, has_attributes, bit_in, bit_of_sector, bitmap_sectors, block_limit, block_sector, sectors_in, journal_place, tree_of_fork}
@@ -29,7 +29,8 @@ use Rattle.hfs_volume.proofs.Rereading.{same_block_sector}
 use Rattle.volume_ops.specs.Lists.{lists_of, facts_on, bits_on}
 use Rattle.volume_ops.specs.Standing.{IsStanding, IsSettled, attribute_sectors, map_sectors, file_sectors, blocks_end, with_attributes_tree}
 use Rattle.volume_ops.specs.declared.volume.Volume.{Volume}
-use Rattle.volume_ops.proofs.Bridged.{pairs_read, facts_read}
+use Rattle.hfs_volume.specs.Nodes.{HasTrees}
+use Rattle.volume_ops.proofs.Bridged.{pairs_read, facts_read, file_read, head_read}
 use Rattle.volume_ops.proofs.CatalogEdited.{there_is}
 
 -- the numbers of the attributes' tree mean nothing where there is no such tree
@@ -139,6 +140,20 @@ module _ (volume : Volume) (space : Space) (stands : IsStanding volume space) (h
   attributes_facts : IsTrue (has_attributes volume.header) → facts_of (attributes_file space.content) ≡ facts_on volume.attributes.file
   attributes_facts there = ap facts_of (attributes_is there)
       ∙ facts_read space.content limit attributes_form IsAttrKey anything attr_cmp volume.attributes.file (λ at has. each at (in_attributes there at has)) (stands.trees.attributes there)
+
+  -- they are trees in their files
+  pub trees_here : HasTrees space.content
+  trees_here = record {
+    extents = subst (λ (f : File). IsTreeFile extents_form IsExtentKey is_eight_extents extent_cmp f) (sym extents_is)
+        (file_read space.content limit extents_form IsExtentKey is_eight_extents extent_cmp volume.extents.file (λ at has. each at (in_extents at has)) stands.trees.extents);
+    catalog = subst (λ (f : File). IsTreeFile catalog_form IsCatalogKey anything catalog_cmp f) (sym catalog_is)
+        (file_read space.content limit catalog_form IsCatalogKey anything catalog_cmp volume.catalog.file (λ at has. each at (in_catalog at has)) stands.trees.catalog);
+    compare = ap (λ (f : File). f.head.compare) catalog_is
+        ∙ ap (λ (h : TreeHead). h.compare) (head_read space.content limit catalog_form IsCatalogKey anything catalog_cmp volume.catalog.file (λ at has. each at (in_catalog at has)) stands.trees.catalog) ∙ stands.trees.compare;
+    attributes = λ there_is_one. let there = subst (λ (h : VolumeHeader). IsTrue (has_attributes h)) headed there_is_one in
+        subst (λ (f : File). IsTreeFile attributes_form IsAttrKey anything attr_cmp f) (sym (attributes_is there))
+        (file_read space.content limit attributes_form IsAttrKey anything attr_cmp volume.attributes.file (λ at has. each at (in_attributes there at has)) (stands.trees.attributes there));
+  }
 
   -- ---- the bitmap
 

@@ -2,11 +2,9 @@
 use Rattle.std.proofs.Common.{◌≡◌, ◌≤◌, ℕ, ◌+◌, ◌-◌, ◌*◌, ◌/◌, ◌^◌, Bool, true, false, not, List, [], ◌∷◌, ◌++◌, length, map, refl, sym, ◌∙◌, ap, subst, arith}
 use Rattle.std.specs.Prelude.{◌==◌, IsTrue, if◌then◌else◌}
 use Rattle.std.proofs.lemmas.Bool.{true≢false}
-use Rattle.std.proofs.lemmas.List.{length-map}
 use Rattle.sector_disk.specs.Lists.{Content}
 use Rattle.attributes.specs.Owned.{names_of}
 use Rattle.btree_node.specs.Levels.{Pair}
-use Rattle.hfs_language.specs.declared.reply.ListedName.{ListedName}
 use Rattle.hfs_model.specs.Sorted.{kept}
 use Rattle.hfs_volume.specs.Commands.{DropsAttributes}
 use Rattle.hfs_volume.specs.Records.{Attribute, attribute_of}
@@ -24,7 +22,6 @@ use Rattle.volume_ops.specs.Changing.{HasRoomToUpdate}
 use Rattle.volume_ops.specs.Lists.{facts_on, lists_of}
 use Rattle.volume_ops.specs.Looking.{ReadsVolume}
 use Rattle.volume_ops.specs.Making.{HasRoomToMake, entry_load}
-use Rattle.volume_ops.specs.Owning.{attributes_in, listed_name}
 use Rattle.volume_ops.specs.Removing.{HasNoAttributes, HasRoomToRemove, remove_load}
 use Rattle.volume_ops.specs.Standing.{IsSettled}
 use Rattle.volume_ops.specs.declared.volume.Volume.{Volume}
@@ -85,12 +82,11 @@ kept_whole id (pair ∷ pairs) none = by ((attribute_of pair).id == id) (kept_wh
     by true others listed = absurd (true≢false (sym (ap is_nil listed)))
     by false others listed = ap (λ (l : List Pair). pair ∷ l) (others listed)
 
-pub none_owned : (v : Volume) (content : Content) → IsSettled v content → (id : ℕ) (list : List ListedName) → list ≡ attributes_in (lists_of v content).attribute_pairs id → length list ≡ 0 → HasNoAttributes id (volume_of content).attribute_pairs
-none_owned v content settled id list listed none =
+pub none_named : (v : Volume) (content : Content) → IsSettled v content → (id : ℕ) (owned : List (List ℕ)) → owned ≡ names_of id (lists_of v content).attribute_pairs → length owned ≡ 0 → HasNoAttributes id (volume_of content).attribute_pairs
+none_named v content settled id owned listed none =
     let same = ap (λ (l : VolumeState). l.attribute_pairs) settled.lists in
     subst (λ (l : List Pair). DropsAttributes id l l) (sym same)
-    (kept_whole id (lists_of v content).attribute_pairs
-    (empty_list (names_of id (lists_of v content).attribute_pairs) (sym (length-map (names_of id (lists_of v content).attribute_pairs) listed_name) ∙ ap (λ (l : List ListedName). length l) (sym listed) ∙ none)))
+    (kept_whole id (lists_of v content).attribute_pairs (empty_list (names_of id (lists_of v content).attribute_pairs) (ap (λ (l : List (List ℕ)). length l) (sym listed) ∙ none)))
   where
     empty_list : (l : List (List ℕ)) → length l ≡ 0 → l ≡ []
     empty_list [] is = refl

@@ -105,7 +105,7 @@ plain_or other (Ok e) = e
 plain_or other (Err why) = other
 
 -- what a name in a folder stands for is in it, under that name
-child_is : (tree : PlainTree) (e at : PlainEntry) (name : List ℕ) → child tree e name ≡ Ok at → (e.folder ≡ true) × (at.parent ≡ e.id) × (at.name ≡ name)
+pub child_is : (tree : PlainTree) (e at : PlainEntry) (name : List ℕ) → child tree e name ≡ Ok at → (e.folder ≡ true) × (at.parent ≡ e.id) × (at.name ≡ name)
 child_is tree e at name is = by e.folder refl (entry_at tree e.id name) refl is
   where
     by : (b : Bool) → e.folder ≡ b → (o : Option PlainEntry) → entry_at tree e.id name ≡ o → (if b then ok_or o refusal.NotFound else Err refusal.NotFolder) ≡ Ok at → (e.folder ≡ true) × (at.parent ≡ e.id) × (at.name ≡ name)

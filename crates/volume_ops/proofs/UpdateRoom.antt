@@ -1,5 +1,5 @@
 -- The room for several records that are updated one after another.
-use Rattle.std.proofs.Common.{◌≡◌, ◌<◌, ◌≤◌, ℕ, ◌+◌, ◌-◌, ◌*◌, ◌/◌, ◌^◌, [], sym, ◌∙◌, ap, subst, arith}
+use Rattle.std.proofs.Common.{◌≡◌, ◌≤◌, ℕ, ◌+◌, ◌-◌, ◌*◌, ◌/◌, ◌^◌, [], sym, ◌∙◌, ap, subst, arith}
 use Rattle.std.specs.Prelude.{IsTrue, Result, Ok, Err, OnOk}
 use Rattle.std.proofs.Math.Nat.{mul-le-mul_right}
 use Rattle.std.proofs.lemmas.Bool.{true≢false}
@@ -9,11 +9,11 @@ use Rattle.btree_node.specs.declared.store.TreeShape.{TreeShape}
 use Rattle.btree_edit.specs.Editing.{CostsAtMost, edit_writes}
 use Rattle.btree_file.specs.State.{state_of}
 use Rattle.catalog.specs.Rooms.{TakesUpdates}
-use Rattle.volume_ops.specs.Changing.{HasRoomToUpdate, HasRoomToUpdates, catalog_node}
+use Rattle.volume_ops.specs.Changing.{HasRoomToUpdates, catalog_node}
 use Rattle.volume_ops.specs.Looking.{ReadsVolume}
 use Rattle.volume_ops.specs.declared.volume.Volume.{Volume}
 use Rattle.volume_ops.proofs.FoundEntry.{node_still}
-use Rattle.volume_ops.proofs.MakeRoom.{many_fit, spent_nodes}
+use Rattle.volume_ops.proofs.MakeRoom.{spent_nodes}
 use Rattle.volume_ops.proofs.Replaced.{spent_node}
 
 -- ---- products
@@ -38,28 +38,6 @@ nodes_left many depth later free left deeper had took =
     omega (arith, first, grown, whole, parts, had, took)
 
 -- ---- rooms
-
-pub room_one : (many : ℕ) (v : Volume) (a : Space) → 4096 ≤ v.catalog.file.shape.node_size → HasRoomToUpdates (many + 1) v a → HasRoomToUpdate v a
-room_one many v a large room = record {
-  told = λ tells. let whole : (many + 1) * catalog_node v ≡ many * catalog_node v + catalog_node v = omega arith in omega (arith, whole, room.told tells);
-  untold = λ silent.
-      let it = room.untold silent in
-      let some : 0 < v.catalog.file.shape.node_size / 512 = omega (arith, large) in
-      let nodes : (many + 1) * (v.catalog.file.shape.depth + (many + 1) + 1) ≡ many * (v.catalog.file.shape.depth + (many + 1) + 1) + (v.catalog.file.shape.depth + (many + 1) + 1) = omega arith in
-      let low : edit_writes (v.catalog.file.shape.depth + 1) ≤ edit_writes (v.catalog.file.shape.depth + (many + 1)) = omega arith in
-      let writes : edit_writes (v.catalog.file.shape.depth + 1) * catalog_node v ≤ edit_writes (v.catalog.file.shape.depth + (many + 1)) * catalog_node v =
-      mul-le-mul_right {m = edit_writes (v.catalog.file.shape.depth + 1)} {n = edit_writes (v.catalog.file.shape.depth + (many + 1))} (catalog_node v) low in
-      let more : edit_writes (v.catalog.file.shape.depth + (many + 1)) * catalog_node v ≤ (many + 1) * edit_writes (v.catalog.file.shape.depth + (many + 1)) * catalog_node v =
-      mul-le-mul_right {m = edit_writes (v.catalog.file.shape.depth + (many + 1))} {n = (many + 1) * edit_writes (v.catalog.file.shape.depth + (many + 1))} (catalog_node v) (at_least many (edit_writes (v.catalog.file.shape.depth + (many + 1)))) in (
-        omega (arith, it.0),
-        omega (arith, it.1),
-        omega (arith, it.2, nodes),
-        many_fit (edit_writes (v.catalog.file.shape.depth + 1)) (v.catalog.file.shape.node_size / 512) a.spare some (omega (arith, writes, more, it.3)),
-      );
-}
-  where
-    at_least : (k n : ℕ) → n ≤ (k + 1) * n
-    at_least k n = let whole : (k + 1) * n ≡ k * n + n = omega arith in omega (arith, whole)
 
 -- what is left behind an update
 pub room_after : (many : ℕ) (v w : Volume) (a b : Space) → b.tells ≡ a.tells → (IsTrue a.tells → CostsAtMost 1 0 (state_of [] v.catalog.file a) (state_of [] w.catalog.file b)) → TakesUpdates 0 1 516 (state_of [] v.catalog.file a) (state_of [] w.catalog.file b)

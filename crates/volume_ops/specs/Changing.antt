@@ -29,6 +29,12 @@ pub record ChangesCatalog (old new : Volume) (before after : Content) : Type 0 w
   pub nodes : (new.catalog.file.shape.total ≡ old.catalog.file.shape.total) × (new.catalog.file.shape.node_size ≡ old.catalog.file.shape.node_size)
   pub outside : AgreesOutside (λ s. (s ≡ 2) ⊎ Contains (sectors_of_tree old.catalog.file) s) before after
 
+-- The blocks in use, the file shrunk last and the capacity are as they were.
+pub record KeepsBlocks (old new : Volume) : Type 0 where
+  pub map : new.map ≡ old.map
+  pub shrunk : new.shrunk ≡ old.shrunk
+  pub capacity : new.capacity ≡ old.capacity
+
 -- The header was put: the content has it, and the volume's lists over it are as they were.
 pub record PutsHeader (volume : Volume) (before after : Content) : Type 0 where
   pub headed : header_of_volume after ≡ volume.header

@@ -3,6 +3,10 @@ use Rattle.std.specs.Prelude.{◌≡◌, ℕ, Option, length}
 use Rattle.alloc_bitmap.specs.Map.{none}
 use Rattle.volume_ops.specs.declared.volume.Volume.{Volume}
 
+-- the file that was shrunk last
+abbrev pub shrunk_of : Volume → Option ℕ
+shrunk_of volume = volume.shrunk
+
 -- The volume stands as it did: header, trees, used blocks and their file, private folder, the file shrunk last, capacity.
 pub record SameStanding (old new : Volume) : Type 0 where
   pub header : new.header ≡ old.header

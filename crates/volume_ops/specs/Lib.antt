@@ -1,6 +1,9 @@
 pub mod Attributing
 pub mod Changing
+pub mod Dropping
 pub mod Entering
+pub mod Fitting
+pub mod Growing
 pub mod Keeping
 pub mod Listing
 pub mod Lists
@@ -21,4 +24,5 @@ pub mod Standing
 pub mod Stating
 pub mod Touching
 pub mod Trees
+pub mod Watching
 pub mod Weighing

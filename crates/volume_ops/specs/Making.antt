@@ -18,9 +18,11 @@ use Rattle.hfs_language.specs.declared.refusal.Refusal.TheVariants as refusal
 use Rattle.hfs_model.specs.Step.{Place, then_, unless, is_root, front, last_name, is_private_path, to_make}
 use Rattle.hfs_model.specs.declared.plain.PlainTree.{PlainTree}
 use Rattle.hfs_volume.specs.Changes.{AddsEntry}
-use Rattle.hfs_volume.specs.Commands.{entry_in, with_made}
+use Rattle.hfs_volume.specs.Commands.{MakesEntry, entry_in, with_made}
+use Rattle.hfs_volume.specs.Content.{volume_of}
 use Rattle.hfs_volume.specs.Cost.{catalog_key, growth, is_too_deep, tree_load}
 use Rattle.hfs_volume.specs.Records.{is_empty}
+use Rattle.hfs_volume.specs.TreeOf.{tree_of}
 use Rattle.hfs_volume.specs.Weight.{cost_of_tree}
 use Rattle.hfs_volume.specs.declared.cost.TreeCost.{TreeCost}
 use Rattle.volume_ops.specs.Changing.{ChangesCatalog, catalog_node}
@@ -135,3 +137,10 @@ pub record AddsNew (folder : Bool) (id : ℕ) (name : List ℕ) (old new : Volum
 pub record HasNew (folder : Bool) (path : List (List ℕ)) (head : VolumeHeader) (pairs : List Pair) : Type 0 where
   pub parent : ℕ
   pub stands : value_at pairs parent (last_name path) ≡ Some (new_value folder head.next_catalog_id head.modify_date)
+
+-- A folder (true) or file was made where a path names a place for it, in the lists of the content.
+pub record Makes (folder : Bool) (path : List (List ℕ)) (before after : Content) : Type 0 where
+  pub place : Place
+  pub allowed : to_make (tree_of before) path ≡ Ok place
+  pub named : is_empty place.name ≡ false
+  pub makes : MakesEntry folder place (volume_of before) (volume_of after)

@@ -7,12 +7,15 @@ use Rattle.btree_node.specs.Levels.{Pair}
 use Rattle.btree_edit.specs.Editing.{edit_writes}
 use Rattle.catalog.specs.Entries.{RelocatesEntry}
 use Rattle.hfs_language.specs.declared.refusal.Refusal.{Refusal}
-use Rattle.hfs_model.specs.Step.{front, is_private_path, is_root, last_name, reached, then_, to_make, to_mv, to_node}
+use Rattle.hfs_model.specs.Step.{Place, front, is_private_path, is_root, last_name, reached, then_, to_make, to_mv, to_node}
 use Rattle.hfs_model.specs.declared.plain.PlainEntry.{PlainEntry}
 use Rattle.hfs_model.specs.declared.plain.PlainNode.{PlainNode}
 use Rattle.hfs_model.specs.declared.plain.PlainTree.{PlainTree}
+use Rattle.hfs_volume.specs.Content.{volume_of}
 use Rattle.hfs_volume.specs.Cost.{catalog_key, growth, is_too_deep, tree_load}
+use Rattle.hfs_volume.specs.Naming.{MovesName}
 use Rattle.hfs_volume.specs.Records.{is_empty}
+use Rattle.hfs_volume.specs.TreeOf.{tree_of}
 use Rattle.volume_ops.specs.Changing.{ChangesCatalog, DatesEntry, TouchesFolder, catalog_node}
 use Rattle.volume_ops.specs.Lists.{lists_of}
 use Rattle.volume_ops.specs.Making.{catalog_cost, free_place, site_under}
@@ -28,6 +31,10 @@ use Rattle.volume_ops.specs.declared.volume.Volume.{Volume}
 abbrev pub route_in : List Pair → Option ℕ → List (List ℕ) → List (List ℕ) → List (List ℕ) → List ℕ → Result Route Refusal
 route_in pairs private from above under name =
     then_ (owner_in pairs private from) (λ id. then_ (folder_in pairs above) (λ parent. then_ (site_under pairs under name) (λ folder. Ok (record { id = id; parent = parent; folder = folder }))))
+
+-- on a tree, what the first path stands for may be moved to the place that the second one names
+abbrev pub MayMove : PlainTree → List (List ℕ) → List (List ℕ) → PlainEntry × Place → Type 0
+MayMove tree from to pair = to_mv tree from to ≡ Ok pair
 
 -- A move is allowed on a tree: from this name in this folder, of this folder or file, to a name in another folder, or in the same one.
 pub record IsMove (tree : PlainTree) (from to : List (List ℕ)) (at : PlainEntry) (parent : ℕ) (old : List ℕ) (id folder : ℕ) (name : List ℕ) : Type 0 where
@@ -60,12 +67,12 @@ abbrev pub move_load : Volume → ℕ
 move_load volume = leave_load volume + 2 * catalog_node volume
 
 -- There is room to move a folder or file; where the space tells, the catalog needn't grow before. Where the space tells nothing, there is room for
--- six edits of it.
+-- three edits of it.
 pub record HasRoomToMove (volume : Volume) (space : Space) : Type 0 where
   pub told : IsTrue space.tells → (move_load volume ≤ space.spare) × (is_too_deep catalog_key (catalog_cost volume) 3 ≡ false) × (growth volume.header.block_size catalog_key (catalog_cost volume) 3 ≡ 0)
   pub untold : space.tells ≡ false
-      → (volume.catalog.file.shape.depth + 6 ≤ 11) × (volume.catalog.file.shape.leaf_records + 6 ≤ 2 ^ 32 - 1) × (6 * (volume.catalog.file.shape.depth + 7) ≤ volume.catalog.file.shape.free)
-      × (6 * edit_writes (volume.catalog.file.shape.depth + 6) * catalog_node volume ≤ space.spare)
+      → (volume.catalog.file.shape.depth + 3 ≤ 11) × (volume.catalog.file.shape.leaf_records + 3 ≤ 2 ^ 32 - 1) × (3 * (volume.catalog.file.shape.depth + 4) ≤ volume.catalog.file.shape.free)
+      × (3 * edit_writes (volume.catalog.file.shape.depth + 3) * catalog_node volume ≤ space.spare)
 
 -- ---- the change
 
@@ -91,3 +98,11 @@ pub record Arrives (folder id : ℕ) (from to : Volume) (before after : Content)
   pub content : Content
   pub gains : TouchesFolder folder 1 0 from middle before content
   pub dates : DatesEntry id middle to content after
+
+-- What a path stands for was moved where another path names a place for it, in the lists of the content.
+pub record HasMoved (from to : List (List ℕ)) (before after : Content) : Type 0 where
+  pub entry : PlainEntry
+  pub place : Place
+  pub allowed : to_mv (tree_of before) from to ≡ Ok (entry, place)
+  pub named : is_empty place.name ≡ false
+  pub moves : MovesName entry place (volume_of before) (volume_of after)

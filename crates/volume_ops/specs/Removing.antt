@@ -4,7 +4,6 @@ use Rattle.sector_disk.specs.Lists.{Content}
 use Rattle.sector_disk.specs.Space.{Space}
 use Rattle.jnl_format.specs.Recovery.{header_of_volume}
 use Rattle.btree_node.specs.Levels.{Pair}
-use Rattle.btree_node.specs.declared.store.TreeShape.{TreeShape}
 use Rattle.btree_edit.specs.Editing.{edit_writes}
 use Rattle.catalog.specs.Entries.{RemovesEntry}
 use Rattle.catalog.specs.Pairs.{value_at}
@@ -15,8 +14,12 @@ use Rattle.hfs_model.specs.Sorted.{kept}
 use Rattle.hfs_model.specs.Step.{then_, unless, is_root, front, last_name, to_rmdir}
 use Rattle.hfs_model.specs.declared.plain.PlainEntry.{PlainEntry}
 use Rattle.hfs_model.specs.declared.plain.PlainTree.{PlainTree}
-use Rattle.hfs_volume.specs.Commands.{DropsAttributes, with_folder_removed}
+use Rattle.hfs_volume.specs.Changes.{InAttributes}
+use Rattle.hfs_volume.specs.Commands.{DropsAttributes, RemovesFolder, with_folder_removed}
+use Rattle.hfs_volume.specs.Content.{VolumeState, volume_of}
 use Rattle.hfs_volume.specs.Cost.{attributes_key, catalog_key, growth, is_too_deep, tree_load}
+use Rattle.hfs_volume.specs.Records.{is_folder}
+use Rattle.hfs_volume.specs.TreeOf.{tree_of}
 use Rattle.volume_ops.specs.Attributing.{attributes_cost}
 use Rattle.volume_ops.specs.Changing.{ChangesCatalog, catalog_node}
 use Rattle.volume_ops.specs.Lists.{lists_of}
@@ -46,6 +49,10 @@ leaving_in pairs path = then_ (unless (is_root path) refusal.Root path) (λ some
 -- its entry on a tree
 abbrev pub folder_at : Leaving → List ℕ → PlainEntry
 folder_at at name = record { parent = at.parent; name = name; folder = true; id = at.id }
+
+-- on a tree, what a path stands for is this folder, and it may be removed
+abbrev pub MayRemove : PlainTree → List (List ℕ) → PlainEntry → Type 0
+MayRemove tree path entry = to_rmdir tree path ≡ Ok entry
 
 -- A path names this folder on a tree, and it may be removed.
 pub record IsLeaving (tree : PlainTree) (at : Leaving) (name : List ℕ) : Type 0 where
@@ -80,19 +87,6 @@ pub record HasRoomToRemove (volume : Volume) (space : Space) : Type 0 where
 abbrev pub bare_load : Volume → ℕ → ℕ
 bare_load volume many = tree_load attributes_key (attributes_cost volume) many 0
 
--- So many attributes can be removed with this room from a file with these numbers, whatever its tree is like, and it leaves enough to
--- remove a folder from a catalog with those.
-pub record FitsToBare (many : ℕ) (owned catalog : TreeShape) (spare : ℕ) : Type 0 where
-  pub size : 4096 ≤ owned.node_size
-  pub depth : owned.depth + many ≤ 11
-  pub records : owned.leaf_records + many ≤ 2 ^ 32 - 1
-  pub free : many * (owned.depth + many + 1) ≤ owned.free
-  pub writes : many * edit_writes (owned.depth + many) * (owned.node_size / 512) + (3 * edit_writes (catalog.depth + 3) * (catalog.node_size / 512) + 1) ≤ spare
-
--- the same of a volume's files
-abbrev pub HasRoomToBare : ℕ → Volume → ℕ → Type 0
-HasRoomToBare many volume spare = FitsToBare many volume.attributes.file.shape volume.catalog.file.shape spare
-
 -- ---- the change
 
 -- The entry of a name in a folder isn't there any more, nor is its thread; the header counts a folder less and was put.
@@ -101,3 +95,18 @@ pub record DropsFolder (parent : ℕ) (name : List ℕ) (old new : Volume) (befo
   pub changes : ChangesCatalog old new before after
   pub header : new.header ≡ with_folder_removed old.header
   pub headed : header_of_volume after ≡ new.header
+
+-- ---- in the lists of the content
+
+-- The folder of this CNID was removed, behind its attributes.
+pub record TakesFolder (id : ℕ) (old new : VolumeState) : Type 0 where
+  pub bared : VolumeState
+  pub bares : InAttributes (DropsAttributes id) old bared
+  pub removes : RemovesFolder id bared new
+  pub folder : is_folder removes.entry.value ≡ true
+
+-- The folder that a path stands for was removed, in the lists of the content.
+pub record HasRemoved (path : List (List ℕ)) (before after : Content) : Type 0 where
+  pub entry : PlainEntry
+  pub allowed : to_rmdir (tree_of before) path ≡ Ok entry
+  pub takes : TakesFolder entry.id (volume_of before) (volume_of after)

@@ -35,11 +35,11 @@ is_measured room = is_block room.block && (nat_le (room.total * room.block) 1099
 -- ---- what is answered
 
 -- What all free blocks cost, and what those cost that may be taken, together: a refusal counts by all of them, and the load by those that may
--- be taken. Where these refuse, or the extents file would grow otherwise, a commit comes first.
+-- be taken. Where these refuse, or the extents file would grow otherwise, a commit comes first. With a load go the nodes by which each tree grows.
 abbrev pub joined : Cost → Cost → Weight
 joined (cost.Refused why) other = answer.Refused why
 joined (cost.Load sectors grow) (cost.Refused why) = answer.CommitFirst
-joined (cost.Load sectors grow) (cost.Load taken more) = if slice_index grow 0 == slice_index more 0 then answer.Load taken else answer.CommitFirst
+joined (cost.Load sectors grow) (cost.Load taken more) = if slice_index grow 0 == slice_index more 0 then answer.Load taken grow else answer.CommitFirst
 
 -- what edits weigh on a volume with these lists, where these blocks may be taken
 abbrev pub edits_weighed : ℕ → List Bool → VolumeState → Edits → Weight

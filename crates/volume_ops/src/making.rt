@@ -11,14 +11,14 @@ ghost use Rattle.hfs_language.specs.declared.command.Command.TheVariants as comm
 ghost use Rattle.hfs_language.specs.declared.reply.Reply.TheVariants as reply;
 ghost use Rattle.hfs_model.specs.Step.{is_private_path, is_refusal, made, step_line};
 ghost use Rattle.hfs_volume.specs.Changes.{with_numbers};
-ghost use Rattle.hfs_volume.specs.Commands.{with_made};
+ghost use Rattle.hfs_volume.specs.Commands.{MakesEntry, with_made};
 ghost use Rattle.hfs_volume.specs.Content.{volume_of};
 ghost use Rattle.hfs_volume.specs.TreeOf.{tree_of};
 ghost use Rattle.hfs_volume.specs.Weight.{weight};
 ghost use Rattle.hfs_volume.specs.declared.cost.Cost.TheVariants as cost;
-ghost use Rattle.volume_ops.specs.Changing.{HasRoomToUpdate, PutsHeader};
+ghost use Rattle.volume_ops.specs.Changing.{HasRoomToUpdate, KeepsBlocks, PutsHeader};
 ghost use Rattle.volume_ops.specs.Lists.{lists_of};
-ghost use Rattle.volume_ops.specs.Making.{AddsNew, HasNew, HasRoomToMake, IsSite, entry_load, free_place, make_load, making, new_value, path_to};
+ghost use Rattle.volume_ops.specs.Making.{AddsNew, HasNew, HasRoomToMake, IsSite, Makes, entry_load, free_place, make_load, making, new_value, path_to};
 ghost use Rattle.volume_ops.specs.Room.{capacity_of};
 ghost use Rattle.volume_ops.specs.Service.{IsInService};
 ghost use Rattle.volume_ops.specs.Standing.{IsSettled, StandsOver, own_sectors};
@@ -73,6 +73,7 @@ impl Volume {
         ensures adds { IsTrue (P.SectorView.space space.old).tells → OnOk result (AddsNew folder id name.now self.old self.new (P.SectorView.space space.old).content (P.SectorView.space space.new).content) }
         ensures room { OnOk result (HasRoomToUpdate self.new (P.SectorView.space space.new)) }
         ensures own { own_sectors self.new ≡ own_sectors self.old }
+        ensures blocks { KeepsBlocks self.old self.new }
         ensures touches { (committed : Content) → Touches committed (λ s. Contains (own_sectors self.old) s) (P.SectorView.space space.old) (P.SectorView.space space.new) }
         ensures spent { IsTrue (P.SectorView.space space.old).tells → (P.SectorView.space space.old).spare ≤ (P.SectorView.space space.new).spare + (1 + entry_load self.old) }
         ensures below { P.SectorView.follows space.old space.new }
@@ -105,7 +106,9 @@ impl Volume {
         ensures service { IsInService self.new (P.SectorView.space space.new) }
         ensures does { IsTrue (P.SectorView.space space.old).tells
             → OnOk result (IsSettled self.new (P.SectorView.space space.new).content × (tree_of (P.SectorView.space space.new).content ≡ made folder (free_place id name.now) (tree_of (P.SectorView.space space.old).content))
-            × (value_at (lists_of self.new (P.SectorView.space space.new).content).catalog_pairs id name.now ≡ Some (new_value folder self.old.header.next_catalog_id self.old.header.modify_date))) }
+            × (value_at (lists_of self.new (P.SectorView.space space.new).content).catalog_pairs id name.now ≡ Some (new_value folder self.old.header.next_catalog_id self.old.header.modify_date))
+            × MakesEntry folder (free_place id name.now) (volume_of (P.SectorView.space space.old).content) (volume_of (P.SectorView.space space.new).content)) }
+        ensures blocks { KeepsBlocks self.old self.new }
         ensures touches { (committed : Content) → Touches committed (λ s. Contains (own_sectors self.old) s) (P.SectorView.space space.old) (P.SectorView.space space.new) }
         ensures spent { IsTrue (P.SectorView.space space.old).tells → (P.SectorView.space space.old).spare ≤ (P.SectorView.space space.new).spare + make_load self.old }
         ensures below { P.SectorView.follows space.old space.new }
@@ -139,9 +142,11 @@ impl Volume {
         ensures tree { IsTrue (P.SectorView.space space.old).tells → OnOk result (tree_of (P.SectorView.space space.new).content ≡ (step_line (tree_of (P.SectorView.space space.old).content) (Ok (making folder (path_to above.now name.now)))).1) }
         ensures refused { IsTrue (P.SectorView.space space.old).tells → IfOk result (λ reply. is_refusal reply ≡ true → (P.SectorView.space space.new).content ≡ (P.SectorView.space space.old).content) }
         ensures entry { IsTrue (P.SectorView.space space.old).tells → IfOk result (λ said. said ≡ reply.Ok → HasNew folder (path_to above.now name.now) self.old.header (lists_of self.new (P.SectorView.space space.new).content).catalog_pairs) }
+        ensures lists { IsTrue (P.SectorView.space space.old).tells → IfOk result (λ said. said ≡ reply.Ok → Makes folder (path_to above.now name.now) (P.SectorView.space space.old).content (P.SectorView.space space.new).content) }
         ensures stands { OnOk result (StandsOver self.new (P.SectorView.space space.new)) }
         ensures settled { IsTrue (P.SectorView.space space.old).tells → OnOk result (IsSettled self.new (P.SectorView.space space.new).content) }
         ensures service { IsInService self.new (P.SectorView.space space.new) }
+        ensures blocks { KeepsBlocks self.old self.new }
         ensures touches { (committed : Content) → Touches committed (λ s. Contains (own_sectors self.old) s) (P.SectorView.space space.old) (P.SectorView.space space.new) }
         ensures spent { IsTrue (P.SectorView.space space.old).tells → (P.SectorView.space space.old).spare ≤ (P.SectorView.space space.new).spare + make_load self.old }
         ensures below { P.SectorView.follows space.old space.new }
@@ -173,9 +178,11 @@ impl Volume {
         ensures tree { IsTrue (P.SectorView.space space.old).tells → OnOk result (tree_of (P.SectorView.space space.new).content ≡ (step_line (tree_of (P.SectorView.space space.old).content) (Ok (making folder path.now))).1) }
         ensures refused { IsTrue (P.SectorView.space space.old).tells → IfOk result (λ reply. is_refusal reply ≡ true → (P.SectorView.space space.new).content ≡ (P.SectorView.space space.old).content) }
         ensures entry { IsTrue (P.SectorView.space space.old).tells → IfOk result (λ said. said ≡ reply.Ok → HasNew folder path.now self.old.header (lists_of self.new (P.SectorView.space space.new).content).catalog_pairs) }
+        ensures lists { IsTrue (P.SectorView.space space.old).tells → IfOk result (λ said. said ≡ reply.Ok → Makes folder path.now (P.SectorView.space space.old).content (P.SectorView.space space.new).content) }
         ensures stands { OnOk result (StandsOver self.new (P.SectorView.space space.new)) }
         ensures settled { IsTrue (P.SectorView.space space.old).tells → OnOk result (IsSettled self.new (P.SectorView.space space.new).content) }
         ensures service { IsInService self.new (P.SectorView.space space.new) }
+        ensures blocks { KeepsBlocks self.old self.new }
         ensures touches { (committed : Content) → Touches committed (λ s. Contains (own_sectors self.old) s) (P.SectorView.space space.old) (P.SectorView.space space.new) }
         ensures spent { IsTrue (P.SectorView.space space.old).tells → (P.SectorView.space space.old).spare ≤ (P.SectorView.space space.new).spare + make_load self.old }
         ensures below { P.SectorView.follows space.old space.new }
@@ -210,9 +217,13 @@ impl Volume {
         ensures refused { IsTrue (P.SectorView.space space.old).tells → IfOk result (λ reply. is_refusal reply ≡ true → (P.SectorView.space space.new).content ≡ (P.SectorView.space space.old).content) }
         // Behind `Ok` its record stands in the catalog, as new ones are.
         ensures entry { IsTrue (P.SectorView.space space.old).tells → IfOk result (λ said. said ≡ reply.Ok → HasNew true path.now self.old.header (lists_of self.new (P.SectorView.space space.new).content).catalog_pairs) }
+        // The content's lists have its entry with its thread, one entry more in the folder above, and the header's numbers; nothing else of them is changed.
+        ensures lists { IsTrue (P.SectorView.space space.old).tells → IfOk result (λ said. said ≡ reply.Ok → Makes true path.now (P.SectorView.space space.old).content (P.SectorView.space space.new).content) }
         ensures stands { OnOk result (StandsOver self.new (P.SectorView.space space.new)) }
         ensures settled { IsTrue (P.SectorView.space space.old).tells → OnOk result (IsSettled self.new (P.SectorView.space space.new).content) }
         ensures service { IsInService self.new (P.SectorView.space space.new) }
+        // The blocks in use are as they were, and so are the file shrunk last and the capacity.
+        ensures blocks { KeepsBlocks self.old self.new }
         // On a fault too, it puts sectors of its own alone, whatever was committed last.
         ensures touches { (committed : Content) → Touches committed (λ s. Contains (own_sectors self.old) s) (P.SectorView.space space.old) (P.SectorView.space space.new) }
         ensures spent { IsTrue (P.SectorView.space space.old).tells → (P.SectorView.space space.old).spare ≤ (P.SectorView.space space.new).spare + make_load self.old }
@@ -245,9 +256,13 @@ impl Volume {
         ensures refused { IsTrue (P.SectorView.space space.old).tells → IfOk result (λ reply. is_refusal reply ≡ true → (P.SectorView.space space.new).content ≡ (P.SectorView.space space.old).content) }
         // Behind `Ok` its record stands in the catalog, as new ones are.
         ensures entry { IsTrue (P.SectorView.space space.old).tells → IfOk result (λ said. said ≡ reply.Ok → HasNew false path.now self.old.header (lists_of self.new (P.SectorView.space space.new).content).catalog_pairs) }
+        // The content's lists have its entry with its thread, one entry more in the folder above, and the header's numbers; nothing else of them is changed.
+        ensures lists { IsTrue (P.SectorView.space space.old).tells → IfOk result (λ said. said ≡ reply.Ok → Makes false path.now (P.SectorView.space space.old).content (P.SectorView.space space.new).content) }
         ensures stands { OnOk result (StandsOver self.new (P.SectorView.space space.new)) }
         ensures settled { IsTrue (P.SectorView.space space.old).tells → OnOk result (IsSettled self.new (P.SectorView.space space.new).content) }
         ensures service { IsInService self.new (P.SectorView.space space.new) }
+        // The blocks in use are as they were, and so are the file shrunk last and the capacity.
+        ensures blocks { KeepsBlocks self.old self.new }
         // On a fault too, it puts sectors of its own alone, whatever was committed last.
         ensures touches { (committed : Content) → Touches committed (λ s. Contains (own_sectors self.old) s) (P.SectorView.space space.old) (P.SectorView.space space.new) }
         ensures spent { IsTrue (P.SectorView.space space.old).tells → (P.SectorView.space space.old).spare ≤ (P.SectorView.space space.new).spare + make_load self.old }

@@ -7,18 +7,20 @@ ghost use Rattle.btree_file.specs.Standing.{numbers_of, pairs_in};
 ghost use Rattle.btree_file.specs.State.{sectors_of_tree};
 ghost use Rattle.hfs_language.specs.Written.{FitsPath};
 ghost use Rattle.hfs_language.specs.declared.command.Command.TheVariants as command;
+ghost use Rattle.hfs_language.specs.declared.reply.Reply.TheVariants as reply;
 ghost use Rattle.hfs_model.specs.Step.{is_below, is_private_path, is_refusal, step, step_line};
 ghost use Rattle.hfs_model.specs.declared.plain.PlainEntry.{PlainEntry};
 ghost use Rattle.hfs_volume.specs.Content.{volume_of};
 ghost use Rattle.hfs_volume.specs.Entries.{AreThreaded};
+ghost use Rattle.hfs_volume.specs.Naming.{MovesName};
 ghost use Rattle.hfs_volume.specs.TreeOf.{tree_of};
 ghost use Rattle.hfs_volume.specs.Weight.{weight};
 ghost use Rattle.hfs_volume.specs.declared.cost.Cost.TheVariants as cost;
-ghost use Rattle.volume_ops.specs.Changing.{HasEntry, HasFolder, HasRoomToUpdates, catalog_node};
+ghost use Rattle.volume_ops.specs.Changing.{HasEntry, HasFolder, KeepsBlocks, catalog_node};
 ghost use Rattle.volume_ops.specs.Lists.{lists_of};
 ghost use Rattle.volume_ops.specs.Looking.{IsCatalogOver, ReadsTree, ReadsVolume};
-ghost use Rattle.volume_ops.specs.Making.{path_to};
-ghost use Rattle.volume_ops.specs.Moving.{Arrives, HasRoomToMove, IsMove, Leaves, leave_load, move_load, route_in};
+ghost use Rattle.volume_ops.specs.Making.{free_place, path_to};
+ghost use Rattle.volume_ops.specs.Moving.{Arrives, HasMoved, HasRoomToMove, IsMove, Leaves, leave_load, move_load, route_in};
 ghost use Rattle.volume_ops.specs.Room.{capacity_of};
 ghost use Rattle.volume_ops.specs.Service.{IsInService};
 ghost use Rattle.volume_ops.specs.Standing.{IsSettled, StandsOver, own_sectors};
@@ -135,7 +137,8 @@ impl Volume {
         )
     }
 
-    /// Moves a folder or file, and lets its old folder count it no more.
+    /// Moves a folder or file, and lets its old folder count it no more. `Memory` is answered too where the room that is left
+    /// doesn't suffice for the folder's record, by numbers alone.
     fn leave<P: SectorSpace>(
         &mut self,
         alloc: Global,
@@ -156,8 +159,8 @@ impl Volume {
         ensures stands { OnOk result (StandsOver self.new (P.SectorView.space space.new)) }
         ensures service { IsInService self.new (P.SectorView.space space.new) }
         ensures leaves { IsTrue (P.SectorView.space space.old).tells → OnOk result (Leaves way.now.parent old.now way.now.folder name.now self.old self.new (P.SectorView.space space.old).content (P.SectorView.space space.new).content) }
-        ensures room { OnOk result (HasRoomToUpdates 2 self.new (P.SectorView.space space.new)) }
         ensures own { own_sectors self.new ≡ own_sectors self.old }
+        ensures blocks { KeepsBlocks self.old self.new }
         ensures touches { (committed : Content) → Touches committed (λ s. Contains (own_sectors self.old) s) (P.SectorView.space space.old) (P.SectorView.space space.new) }
         ensures spent { IsTrue (P.SectorView.space space.old).tells → (P.SectorView.space space.old).spare ≤ (P.SectorView.space space.new).spare + leave_load self.old }
         ensures size { OnOk result ((numbers_of self.new.catalog.file).node_size ≡ (numbers_of self.old.catalog.file).node_size) }
@@ -167,10 +170,14 @@ impl Volume {
         edits_have_room();
         edits_take_their_load();
         self.relocate(alloc, space, way.parent, old, way.folder, name)?;
+        if !self.fits_update(space) {
+            return Err(Trouble::Memory);
+        }
         self.touch(alloc, space, way.parent, 0, 1)
     }
 
-    /// Lets the folder to which something was moved count it, and dates what was moved.
+    /// Lets the folder to which something was moved count it, and dates what was moved. `Memory` is answered too where the room
+    /// that is left doesn't suffice for the next of these records, by numbers alone.
     fn arrive<P: SectorSpace>(
         &mut self,
         alloc: Global,
@@ -182,16 +189,22 @@ impl Volume {
         requires threads { IsTrue (P.SectorView.space space.old).tells → AreThreaded (lists_of self.old (P.SectorView.space space.old).content).catalog_pairs }
         requires goal { IsTrue (P.SectorView.space space.old).tells → HasFolder way.now.folder 1 (lists_of self.old (P.SectorView.space space.old).content).catalog_pairs }
         requires there { IsTrue (P.SectorView.space space.old).tells → HasEntry way.now.id (lists_of self.old (P.SectorView.space space.old).content).catalog_pairs }
-        requires room { HasRoomToUpdates 2 self.old (P.SectorView.space space.old) }
         ensures stands { OnOk result (StandsOver self.new (P.SectorView.space space.new)) }
         ensures service { IsInService self.new (P.SectorView.space space.new) }
         ensures arrives { IsTrue (P.SectorView.space space.old).tells → OnOk result (Arrives way.now.folder way.now.id self.old self.new (P.SectorView.space space.old).content (P.SectorView.space space.new).content) }
+        ensures blocks { KeepsBlocks self.old self.new }
         ensures touches { (committed : Content) → Touches committed (λ s. Contains (own_sectors self.old) s) (P.SectorView.space space.old) (P.SectorView.space space.new) }
         ensures spent { IsTrue (P.SectorView.space space.old).tells → (P.SectorView.space space.old).spare ≤ (P.SectorView.space space.new).spare + 2 * catalog_node self.old }
         ensures below { P.SectorView.follows space.old space.new }
         ensures cause { HasTroubleCause (P.SectorView.space space.old).faults (P.SectorView.space space.new).faults result }
     {
+        if !self.fits_update(space) {
+            return Err(Trouble::Memory);
+        }
         self.touch(alloc, space, way.folder, 1, 0)?;
+        if !self.fits_update(space) {
+            return Err(Trouble::Memory);
+        }
         self.date(alloc, space, way.id)
     }
 
@@ -215,7 +228,9 @@ impl Volume {
         ensures stands { OnOk result (StandsOver self.new (P.SectorView.space space.new)) }
         ensures service { IsInService self.new (P.SectorView.space space.new) }
         ensures does { IsTrue (P.SectorView.space space.old).tells → (from to : List (List ℕ)) (at : PlainEntry) → IsMove (tree_of (P.SectorView.space space.old).content) from to at way.now.parent old.now way.now.id way.now.folder name.now
-            → OnOk result (IsSettled self.new (P.SectorView.space space.new).content × (tree_of (P.SectorView.space space.new).content ≡ (step (tree_of (P.SectorView.space space.old).content) (command.Mv from to)).1)) }
+            → OnOk result (IsSettled self.new (P.SectorView.space space.new).content × (tree_of (P.SectorView.space space.new).content ≡ (step (tree_of (P.SectorView.space space.old).content) (command.Mv from to)).1)
+            × MovesName at (free_place way.now.folder name.now) (volume_of (P.SectorView.space space.old).content) (volume_of (P.SectorView.space space.new).content)) }
+        ensures blocks { KeepsBlocks self.old self.new }
         ensures touches { (committed : Content) → Touches committed (λ s. Contains (own_sectors self.old) s) (P.SectorView.space space.old) (P.SectorView.space space.new) }
         ensures spent { IsTrue (P.SectorView.space space.old).tells → (P.SectorView.space space.old).spare ≤ (P.SectorView.space space.new).spare + move_load self.old }
         ensures below { P.SectorView.follows space.old space.new }
@@ -254,9 +269,11 @@ impl Volume {
         ensures reply { IsTrue (P.SectorView.space space.old).tells → IfOk result (λ reply. reply ≡ (step_line (tree_of (P.SectorView.space space.old).content) (Ok (command.Mv from.now to.now))).0) }
         ensures tree { IsTrue (P.SectorView.space space.old).tells → OnOk result (tree_of (P.SectorView.space space.new).content ≡ (step_line (tree_of (P.SectorView.space space.old).content) (Ok (command.Mv from.now to.now))).1) }
         ensures refused { IsTrue (P.SectorView.space space.old).tells → IfOk result (λ reply. is_refusal reply ≡ true → (P.SectorView.space space.new).content ≡ (P.SectorView.space space.old).content) }
+        ensures lists { IsTrue (P.SectorView.space space.old).tells → IfOk result (λ said. said ≡ reply.Ok → HasMoved from.now to.now (P.SectorView.space space.old).content (P.SectorView.space space.new).content) }
         ensures stands { OnOk result (StandsOver self.new (P.SectorView.space space.new)) }
         ensures settled { IsTrue (P.SectorView.space space.old).tells → OnOk result (IsSettled self.new (P.SectorView.space space.new).content) }
         ensures service { IsInService self.new (P.SectorView.space space.new) }
+        ensures blocks { KeepsBlocks self.old self.new }
         ensures touches { (committed : Content) → Touches committed (λ s. Contains (own_sectors self.old) s) (P.SectorView.space space.old) (P.SectorView.space space.new) }
         ensures spent { IsTrue (P.SectorView.space space.old).tells → (P.SectorView.space space.old).spare ≤ (P.SectorView.space space.new).spare + move_load self.old }
         ensures below { P.SectorView.follows space.old space.new }
@@ -277,7 +294,8 @@ impl Volume {
 
     /// `mv`: gives what a path stands for another place and name, where nothing is yet, and dates it and both folders by
     /// the volume's moment; or tells the first reason against it. A path that begins with a name of the volume's own is
-    /// refused. A refused command changes nothing. `Memory` comes where memory is wanting, `Disk` where a read failed.
+    /// refused. A refused command changes nothing. `Memory` comes where memory is wanting, and where what is left of the room behind
+    /// an edit doesn't suffice for the next one by numbers alone; `Disk` where a read failed.
     pub fn mv<P: SectorSpace>(
         &mut self,
         alloc: Global,
@@ -295,9 +313,13 @@ impl Volume {
         ensures reply { IsTrue (P.SectorView.space space.old).tells → IfOk result (λ reply. reply ≡ (step_line (tree_of (P.SectorView.space space.old).content) (Ok (command.Mv from.now to.now))).0) }
         ensures tree { IsTrue (P.SectorView.space space.old).tells → OnOk result (tree_of (P.SectorView.space space.new).content ≡ (step_line (tree_of (P.SectorView.space space.old).content) (Ok (command.Mv from.now to.now))).1) }
         ensures refused { IsTrue (P.SectorView.space space.old).tells → IfOk result (λ reply. is_refusal reply ≡ true → (P.SectorView.space space.new).content ≡ (P.SectorView.space space.old).content) }
+        // The content's lists have it at its new place, both folders' counts, and its date; nothing else of them is changed.
+        ensures lists { IsTrue (P.SectorView.space space.old).tells → IfOk result (λ said. said ≡ reply.Ok → HasMoved from.now to.now (P.SectorView.space space.old).content (P.SectorView.space space.new).content) }
         ensures stands { OnOk result (StandsOver self.new (P.SectorView.space space.new)) }
         ensures settled { IsTrue (P.SectorView.space space.old).tells → OnOk result (IsSettled self.new (P.SectorView.space space.new).content) }
         ensures service { IsInService self.new (P.SectorView.space space.new) }
+        // The blocks in use are as they were, and so are the file shrunk last and the capacity.
+        ensures blocks { KeepsBlocks self.old self.new }
         // On a fault too, it puts sectors of its own alone, whatever was committed last.
         ensures touches { (committed : Content) → Touches committed (λ s. Contains (own_sectors self.old) s) (P.SectorView.space space.old) (P.SectorView.space space.new) }
         ensures spent { IsTrue (P.SectorView.space space.old).tells → (P.SectorView.space space.old).spare ≤ (P.SectorView.space space.new).spare + move_load self.old }

@@ -2,13 +2,14 @@
 ghost use Rattle.std.specs.Prelude.{◌≡◌, ◌≤◌, ◌+◌, ◌∷◌, ℕ, List, [], Ok, false, true, IsTrue, IfOk, length, OnOk};
 ghost use Rattle.std.specs.List.{All, Contains};
 ghost use Rattle.sector_disk.specs.Lists.{Content};
-ghost use Rattle.attributes.specs.Owned.{count_of};
+ghost use Rattle.attributes.specs.Owned.{count_of, names_of};
 ghost use Rattle.btree_edit.specs.Causes.{HasTroubleCause};
 ghost use Rattle.btree_file.specs.Frame.{PutsWithin};
 ghost use Rattle.btree_file.specs.Standing.{numbers_of, pairs_in};
 ghost use Rattle.btree_file.specs.State.{sectors_of_tree};
 ghost use Rattle.hfs_language.specs.Written.{FitsPath};
 ghost use Rattle.hfs_language.specs.declared.command.Command.TheVariants as command;
+ghost use Rattle.hfs_language.specs.declared.reply.Reply.TheVariants as reply;
 ghost use Rattle.hfs_model.specs.Step.{is_private_path, is_refusal, removed_folder, step_line, then_};
 ghost use Rattle.volume_header.specs.Header.{FitsHeader};
 ghost use Rattle.hfs_volume.specs.Changes.{with_numbers};
@@ -17,11 +18,11 @@ ghost use Rattle.hfs_volume.specs.Content.{volume_of};
 ghost use Rattle.hfs_volume.specs.TreeOf.{tree_of};
 ghost use Rattle.hfs_volume.specs.Weight.{weight};
 ghost use Rattle.hfs_volume.specs.declared.cost.Cost.TheVariants as cost;
-ghost use Rattle.volume_ops.specs.Changing.{HasRoomToUpdate, PutsHeader};
+ghost use Rattle.volume_ops.specs.Changing.{HasRoomToUpdate, KeepsBlocks, PutsHeader};
 ghost use Rattle.volume_ops.specs.Lists.{lists_of};
 ghost use Rattle.volume_ops.specs.Looking.{IsCatalogOver, ReadsTree, ReadsVolume};
 ghost use Rattle.volume_ops.specs.Making.{entry_load, path_to};
-ghost use Rattle.volume_ops.specs.Removing.{DropsFolder, HasNoAttributes, HasRoomToRemove, IsLeaving, bare_load, folder_at, leaving_under, remove_load, to_leave};
+ghost use Rattle.volume_ops.specs.Removing.{DropsFolder, HasNoAttributes, HasRemoved, HasRoomToRemove, IsLeaving, TakesFolder, bare_load, folder_at, leaving_under, remove_load, to_leave};
 ghost use Rattle.volume_ops.specs.Room.{capacity_of};
 ghost use Rattle.volume_ops.specs.Service.{IsInService};
 ghost use Rattle.volume_ops.specs.Standing.{IsSettled, StandsOver, own_sectors};
@@ -141,6 +142,7 @@ impl Volume {
         requires room { HasRoomToRemove self.old (P.SectorView.space space.old) }
         ensures stands { OnOk result (StandsOver self.new (P.SectorView.space space.new)) }
         ensures service { IsInService self.new (P.SectorView.space space.new) }
+        ensures blocks { KeepsBlocks self.old self.new }
         ensures drops { IsTrue (P.SectorView.space space.old).tells → OnOk result (DropsFolder at.parent name.now self.old self.new (P.SectorView.space space.old).content (P.SectorView.space space.new).content) }
         ensures room { OnOk result (HasRoomToUpdate self.new (P.SectorView.space space.new)) }
         ensures own { own_sectors self.new ≡ own_sectors self.old }
@@ -174,6 +176,8 @@ impl Volume {
         requires room { HasRoomToRemove self.old (P.SectorView.space space.old) }
         ensures stands { OnOk result (StandsOver self.new (P.SectorView.space space.new)) }
         ensures service { IsInService self.new (P.SectorView.space space.new) }
+        ensures takes { IsTrue (P.SectorView.space space.old).tells → OnOk result (TakesFolder at.id (volume_of (P.SectorView.space space.old).content) (volume_of (P.SectorView.space space.new).content)) }
+        ensures blocks { KeepsBlocks self.old self.new }
         ensures does { IsTrue (P.SectorView.space space.old).tells
             → OnOk result (IsSettled self.new (P.SectorView.space space.new).content × (tree_of (P.SectorView.space space.new).content ≡ removed_folder (folder_at at name.now) (tree_of (P.SectorView.space space.old).content))) }
         ensures touches { (committed : Content) → Touches committed (λ s. Contains (own_sectors self.old) s) (P.SectorView.space space.old) (P.SectorView.space space.new) }
@@ -191,29 +195,31 @@ impl Volume {
         self.touch(alloc, space, at.parent, 0, 1)
     }
 
-    /// Removes a folder without entries, after its attributes, of which there are at most `most`. Where the room doesn't suffice
-    /// for these by numbers alone, `Memory` is answered before anything was put.
+    /// Removes a folder without entries, after its attributes, whose names these are. `Memory` is answered too where the room that
+    /// is left doesn't suffice for the next of them, or for the folder behind them, by numbers alone.
     fn remove_owner<P: SectorSpace>(
         &mut self,
         alloc: Global,
         space: &mut P,
         at: Leaving,
         name: &Units,
-        most: u32,
+        owned: &[Units],
     ) -> Result<(), Trouble>
         requires stands { StandsOver self.old (P.SectorView.space space.old) }
         requires settled { IsTrue (P.SectorView.space space.old).tells → IsSettled self.old (P.SectorView.space space.old).content }
         requires some { 1 ≤ length name.now }
         requires name { length name.now ≤ 255 }
         requires leaving { IsTrue (P.SectorView.space space.old).tells → IsLeaving (tree_of (P.SectorView.space space.old).content) at name.now }
-        requires few { IsTrue (P.SectorView.space space.old).tells → count_of at.id (lists_of self.old (P.SectorView.space space.old).content).attribute_pairs ≤ most }
+        requires listed { IsTrue (P.SectorView.space space.old).tells → owned.now ≡ names_of at.id (lists_of self.old (P.SectorView.space space.old).content).attribute_pairs }
         requires room { HasRoomToRemove self.old (P.SectorView.space space.old) }
         ensures stands { OnOk result (StandsOver self.new (P.SectorView.space space.new)) }
         ensures service { IsInService self.new (P.SectorView.space space.new) }
+        ensures takes { IsTrue (P.SectorView.space space.old).tells → OnOk result (TakesFolder at.id (volume_of (P.SectorView.space space.old).content) (volume_of (P.SectorView.space space.new).content)) }
+        ensures blocks { KeepsBlocks self.old self.new }
         ensures does { IsTrue (P.SectorView.space space.old).tells
             → OnOk result (IsSettled self.new (P.SectorView.space space.new).content × (tree_of (P.SectorView.space space.new).content ≡ removed_folder (folder_at at name.now) (tree_of (P.SectorView.space space.old).content))) }
         ensures touches { (committed : Content) → Touches committed (λ s. Contains (own_sectors self.old) s) (P.SectorView.space space.old) (P.SectorView.space space.new) }
-        ensures spent { IsTrue (P.SectorView.space space.old).tells → (P.SectorView.space space.old).spare ≤ (P.SectorView.space space.new).spare + (remove_load self.old + bare_load self.old most) }
+        ensures spent { IsTrue (P.SectorView.space space.old).tells → (P.SectorView.space space.old).spare ≤ (P.SectorView.space space.new).spare + (remove_load self.old + bare_load self.old (length owned.now)) }
         ensures below { P.SectorView.follows space.old space.new }
         ensures cause { HasTroubleCause (P.SectorView.space space.old).faults (P.SectorView.space space.new).faults result }
     {
@@ -221,15 +227,14 @@ impl Volume {
         if self.header.attributes_fork.logical_size == 0 {
             return Err(Trouble::Memory);
         }
-        if !self.can_bare(space.spare(), most) {
+        self.bare(alloc, space, at.id, owned)?;
+        if !self.can_leave(space.spare()) {
             return Err(Trouble::Memory);
         }
-        self.bare(alloc, space, at.id, most)?;
         self.remove_folder(alloc, space, at, name)
     }
 
-    /// Removes a folder without entries, with its attributes. Where it has more than eleven, or the room doesn't suffice for them
-    /// by numbers alone, `Memory` is answered before anything was put.
+    /// Removes a folder without entries, with its attributes.
     fn remove_bare<P: SectorSpace>(
         &mut self,
         alloc: Global,
@@ -245,6 +250,8 @@ impl Volume {
         requires room { HasRoomToRemove self.old (P.SectorView.space space.old) }
         ensures stands { OnOk result (StandsOver self.new (P.SectorView.space space.new)) }
         ensures service { IsInService self.new (P.SectorView.space space.new) }
+        ensures takes { IsTrue (P.SectorView.space space.old).tells → OnOk result (TakesFolder at.id (volume_of (P.SectorView.space space.old).content) (volume_of (P.SectorView.space space.new).content)) }
+        ensures blocks { KeepsBlocks self.old self.new }
         ensures does { IsTrue (P.SectorView.space space.old).tells
             → OnOk result (IsSettled self.new (P.SectorView.space space.new).content × (tree_of (P.SectorView.space space.new).content ≡ removed_folder (folder_at at name.now) (tree_of (P.SectorView.space space.old).content))) }
         ensures touches { (committed : Content) → Touches committed (λ s. Contains (own_sectors self.old) s) (P.SectorView.space space.old) (P.SectorView.space space.new) }
@@ -252,18 +259,15 @@ impl Volume {
         ensures below { P.SectorView.follows space.old space.new }
         ensures cause { HasTroubleCause (P.SectorView.space space.old).faults (P.SectorView.space space.new).faults result }
     {
-        let owned = self.tell_attributes(alloc, space, at.id)?;
+        let owned = self.list_attributes(alloc, space, at.id)?;
         if owned.is_empty() {
             return self.remove_folder(alloc, space, at, name);
         }
-        if owned.len() > 11 {
-            return Err(Trouble::Memory);
-        }
-        self.remove_owner(alloc, space, at, name, owned.len() as u32)
+        self.remove_owner(alloc, space, at, name, owned.as_slice())
     }
 
     /// The folder of this name in the folder that a path reaches, if it may be removed; or the first reason against it.
-    fn leaving<P: SectorSpace>(
+    pub(crate) fn leaving<P: SectorSpace>(
         &mut self,
         alloc: Global,
         space: &mut P,
@@ -307,9 +311,11 @@ impl Volume {
         ensures reply { IsTrue (P.SectorView.space space.old).tells → IfOk result (λ reply. reply ≡ (step_line (tree_of (P.SectorView.space space.old).content) (Ok (command.Rmdir (path_to above.now name.now)))).0) }
         ensures tree { IsTrue (P.SectorView.space space.old).tells → OnOk result (tree_of (P.SectorView.space space.new).content ≡ (step_line (tree_of (P.SectorView.space space.old).content) (Ok (command.Rmdir (path_to above.now name.now)))).1) }
         ensures refused { IsTrue (P.SectorView.space space.old).tells → IfOk result (λ reply. is_refusal reply ≡ true → (P.SectorView.space space.new).content ≡ (P.SectorView.space space.old).content) }
+        ensures lists { IsTrue (P.SectorView.space space.old).tells → IfOk result (λ said. said ≡ reply.Ok → HasRemoved (path_to above.now name.now) (P.SectorView.space space.old).content (P.SectorView.space space.new).content) }
         ensures stands { OnOk result (StandsOver self.new (P.SectorView.space space.new)) }
         ensures settled { IsTrue (P.SectorView.space space.old).tells → OnOk result (IsSettled self.new (P.SectorView.space space.new).content) }
         ensures service { IsInService self.new (P.SectorView.space space.new) }
+        ensures blocks { KeepsBlocks self.old self.new }
         ensures touches { (committed : Content) → Touches committed (λ s. Contains (own_sectors self.old) s) (P.SectorView.space space.old) (P.SectorView.space space.new) }
         ensures loads { IsTrue (P.SectorView.space space.old).tells → (n : ℕ) (grow : List ℕ) → weight (capacity_of self.old) (volume_of (P.SectorView.space space.old).content) (tree_of (P.SectorView.space space.old).content) (command.Rmdir (path_to above.now name.now)) ≡ cost.Load n grow
             → (P.SectorView.space space.old).spare ≤ (P.SectorView.space space.new).spare + n }
@@ -327,9 +333,10 @@ impl Volume {
     }
 
     /// `rmdir`: removes the folder at a path, which has no entries; or tells the first reason against it. A path that begins
-    /// with a name of the volume's own is refused. A refused command changes nothing. Its attributes go before it, up to eleven:
-    /// where it has more, or an edit of each that made their tree deeper had no room, `Memory` is answered and nothing was put.
-    /// `Memory` comes too where memory is wanting, `Disk` where a read failed.
+    /// with a name of the volume's own is refused. A refused command changes nothing. Its attributes go before it, one after
+    /// another: where what is left of the room doesn't suffice for the next of them if it made their tree deeper and put each node
+    /// that an edit may, or for the folder behind them if each of its edits did, `Memory` is answered. It comes too where memory
+    /// is wanting, `Disk` where a read failed.
     pub fn rmdir<P: SectorSpace>(
         &mut self,
         alloc: Global,
@@ -345,9 +352,14 @@ impl Volume {
         ensures reply { IsTrue (P.SectorView.space space.old).tells → IfOk result (λ reply. reply ≡ (step_line (tree_of (P.SectorView.space space.old).content) (Ok (command.Rmdir path.now))).0) }
         ensures tree { IsTrue (P.SectorView.space space.old).tells → OnOk result (tree_of (P.SectorView.space space.new).content ≡ (step_line (tree_of (P.SectorView.space space.old).content) (Ok (command.Rmdir path.now))).1) }
         ensures refused { IsTrue (P.SectorView.space space.old).tells → IfOk result (λ reply. is_refusal reply ≡ true → (P.SectorView.space space.new).content ≡ (P.SectorView.space space.old).content) }
+        // The content's lists are without its attributes and its entry, with one entry less in the folder above, and the header's numbers;
+        // nothing else of them is changed.
+        ensures lists { IsTrue (P.SectorView.space space.old).tells → IfOk result (λ said. said ≡ reply.Ok → HasRemoved path.now (P.SectorView.space space.old).content (P.SectorView.space space.new).content) }
         ensures stands { OnOk result (StandsOver self.new (P.SectorView.space space.new)) }
         ensures settled { IsTrue (P.SectorView.space space.old).tells → OnOk result (IsSettled self.new (P.SectorView.space space.new).content) }
         ensures service { IsInService self.new (P.SectorView.space space.new) }
+        // The blocks in use are as they were, and so are the file shrunk last and the capacity.
+        ensures blocks { KeepsBlocks self.old self.new }
         // On a fault too, it puts sectors of its own alone, whatever was committed last.
         ensures touches { (committed : Content) → Touches committed (λ s. Contains (own_sectors self.old) s) (P.SectorView.space space.old) (P.SectorView.space space.new) }
         // What its load names bounds the sectors that it puts.

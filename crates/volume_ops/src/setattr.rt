@@ -19,6 +19,7 @@ ghost use Rattle.hfs_volume.specs.TreeOf.{tree_of};
 ghost use Rattle.hfs_volume.specs.Weight.{weight};
 ghost use Rattle.hfs_volume.specs.declared.cost.Cost.TheVariants as cost;
 ghost use Rattle.volume_ops.specs.Attributing.{ChangesOwned, HasRoomToMark, mark_load, set_answer};
+ghost use Rattle.volume_ops.specs.Keeping.{shrunk_of};
 ghost use Rattle.volume_ops.specs.Lists.{lists_of};
 ghost use Rattle.volume_ops.specs.Room.{capacity_of};
 ghost use Rattle.volume_ops.specs.Service.{IsInService};
@@ -61,6 +62,8 @@ impl Volume {
         ensures service { IsInService self.new (P.SectorView.space space.new) }
         ensures header { self.new.header ≡ self.old.header }
         ensures map { self.new.map ≡ self.old.map }
+        ensures capacity { capacity_of self.new ≡ capacity_of self.old }
+        ensures shrunk { shrunk_of self.new ≡ shrunk_of self.old }
         ensures sets { IsTrue (P.SectorView.space space.old).tells → is_thread entry.now.rec ≡ false
             → OnOk result (ChangesOwned (SetsValue id name.now value.now) true entry.now self.old self.new (P.SectorView.space space.old).content (P.SectorView.space space.new).content) }
         ensures touches { (committed : Content) → Touches committed (λ s. Contains (own_sectors self.old) s) (P.SectorView.space space.old) (P.SectorView.space space.new) }
@@ -99,6 +102,8 @@ impl Volume {
         ensures service { IsInService self.new (P.SectorView.space space.new) }
         ensures header { self.new.header ≡ self.old.header }
         ensures map { self.new.map ≡ self.old.map }
+        ensures capacity { capacity_of self.new ≡ capacity_of self.old }
+        ensures shrunk { shrunk_of self.new ≡ shrunk_of self.old }
         ensures does { IsTrue (P.SectorView.space space.old).tells → (path : List (List ℕ)) (node : PlainNode) → to_node (tree_of (P.SectorView.space space.old).content) path ≡ Ok node → node.id ≡ id
             → OnOk result (IsSettled self.new (P.SectorView.space space.new).content × (tree_of (P.SectorView.space space.new).content ≡ (step (tree_of (P.SectorView.space space.old).content) (command.SetAttr path name.now value.now)).1)
             × SetsAttribute id name.now value.now (volume_of (P.SectorView.space space.old).content) (volume_of (P.SectorView.space space.new).content)) }
@@ -145,6 +150,8 @@ impl Volume {
         // The header and the blocks in use are as they were.
         ensures header { self.new.header ≡ self.old.header }
         ensures map { self.new.map ≡ self.old.map }
+        ensures capacity { capacity_of self.new ≡ capacity_of self.old }
+        ensures shrunk { shrunk_of self.new ≡ shrunk_of self.old }
         ensures stands { OnOk result (StandsOver self.new (P.SectorView.space space.new)) }
         ensures settled { IsTrue (P.SectorView.space space.old).tells → OnOk result (IsSettled self.new (P.SectorView.space space.new).content) }
         ensures service { IsInService self.new (P.SectorView.space space.new) }

@@ -18,6 +18,7 @@ ghost use Rattle.hfs_volume.specs.TreeOf.{tree_of};
 ghost use Rattle.hfs_volume.specs.Weight.{weight};
 ghost use Rattle.hfs_volume.specs.declared.cost.Cost.TheVariants as cost;
 ghost use Rattle.volume_ops.specs.Changing.{HasRoomToUpdate, SetsRights, catalog_node};
+ghost use Rattle.volume_ops.specs.Keeping.{shrunk_of};
 ghost use Rattle.volume_ops.specs.Lists.{lists_of};
 ghost use Rattle.volume_ops.specs.Room.{capacity_of};
 ghost use Rattle.volume_ops.specs.Service.{IsInService};
@@ -122,6 +123,8 @@ impl Volume {
         // The header and the blocks in use are as they were.
         ensures header { self.new.header ≡ self.old.header }
         ensures map { self.new.map ≡ self.old.map }
+        ensures capacity { capacity_of self.new ≡ capacity_of self.old }
+        ensures shrunk { shrunk_of self.new ≡ shrunk_of self.old }
         ensures stands { OnOk result (StandsOver self.new (P.SectorView.space space.new)) }
         ensures settled { IsTrue (P.SectorView.space space.old).tells → OnOk result (IsSettled self.new (P.SectorView.space space.new).content) }
         ensures service { IsInService self.new (P.SectorView.space space.new) }

@@ -8,7 +8,7 @@ ghost use Rattle.catalog.specs.Pairs.{value_at};
 ghost use Rattle.cat_records.specs.Fits.{FitsRecord};
 ghost use Rattle.hfs_volume.specs.Entries.{AreSpelled, AreThreaded};
 ghost use Rattle.hfs_volume.specs.Records.{id_in, is_folder, is_thread, valence_in};
-ghost use Rattle.volume_ops.specs.Changing.{HasFolder, HasRoomToUpdate, HasRoomToUpdates, TouchesFolder, catalog_node};
+ghost use Rattle.volume_ops.specs.Changing.{HasFolder, HasRoomToUpdate, HasRoomToUpdates, KeepsBlocks, TouchesFolder, catalog_node};
 ghost use Rattle.volume_ops.specs.Lists.{lists_of};
 ghost use Rattle.volume_ops.specs.Service.{IsInService};
 ghost use Rattle.volume_ops.specs.Standing.{StandsOver, own_sectors};
@@ -41,6 +41,7 @@ impl Volume {
         ensures service { IsInService self.new (P.SectorView.space space.new) }
         ensures counts { IsTrue (P.SectorView.space space.old).tells → is_folder entry.now.rec ≡ true → valence_in entry.now.rec + up < 2 ^ 32
             → OnOk result (TouchesFolder (id_in entry.now.rec) up down self.old self.new (P.SectorView.space space.old).content (P.SectorView.space space.new).content) }
+        ensures blocks { KeepsBlocks self.old self.new }
         ensures touches { (committed : Content) → Touches committed (λ s. Contains (own_sectors self.old) s) (P.SectorView.space space.old) (P.SectorView.space space.new) }
         ensures spent { IsTrue (P.SectorView.space space.old).tells → (P.SectorView.space space.old).spare ≤ (P.SectorView.space space.new).spare + catalog_node self.old }
         // What is left of the room for so many updates suffices for the others.
@@ -73,6 +74,7 @@ impl Volume {
         ensures stands { OnOk result (StandsOver self.new (P.SectorView.space space.new)) }
         ensures service { IsInService self.new (P.SectorView.space space.new) }
         ensures counts { IsTrue (P.SectorView.space space.old).tells → OnOk result (TouchesFolder id up down self.old self.new (P.SectorView.space space.old).content (P.SectorView.space space.new).content) }
+        ensures blocks { KeepsBlocks self.old self.new }
         // On a fault too, it puts sectors of its own alone, whatever was committed last; those of one node at most.
         ensures touches { (committed : Content) → Touches committed (λ s. Contains (own_sectors self.old) s) (P.SectorView.space space.old) (P.SectorView.space space.new) }
         ensures spent { IsTrue (P.SectorView.space space.old).tells → (P.SectorView.space space.old).spare ≤ (P.SectorView.space space.new).spare + catalog_node self.old }

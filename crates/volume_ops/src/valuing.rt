@@ -4,7 +4,7 @@ ghost use Rattle.btree_node.specs.Keys.{IsAttrKey, attr_cmp, anything};
 ghost use Rattle.btree_node.specs.TreeFile.{attributes_form};
 ghost use Rattle.btree_edit.specs.Causes.{HasTroubleCause};
 ghost use Rattle.btree_edit.specs.Desk.{IsDeskOf};
-ghost use Rattle.btree_edit.specs.Edits.{EditRoom, TakesAtMost};
+ghost use Rattle.btree_edit.specs.Edits.{EditRoom, TakesAtMost, TakesEdits};
 ghost use Rattle.btree_file.specs.Frame.{FollowsOn};
 ghost use Rattle.btree_file.specs.Standing.{HoldsTree, LiesInside, LiesOpen, numbers_of, pairs_in};
 ghost use Rattle.btree_file.specs.State.{sectors_of_tree, state_of};
@@ -75,6 +75,7 @@ pub(crate) fn delete_value<P: SectorSpace>(
     ensures holds { IsTrue (P.SectorView.space space.old).tells → OnOk result (HoldsTree attributes_form IsAttrKey anything attr_cmp tree.new (P.SectorView.space space.new).content) }
     ensures frame { FollowsOn tree.old tree.new (P.SectorView.space space.old) (P.SectorView.space space.new) }
     // At most one edit was made, on a fault too.
+    ensures edits { (names : List ℕ) → OnOk result (TakesEdits 1 266 (state_of names tree.old (P.SectorView.space space.old)) (state_of names tree.new (P.SectorView.space space.new))) }
     ensures takes { (names : List ℕ) → TakesAtMost 1 266 (state_of names tree.old (P.SectorView.space space.old)) (state_of names tree.new (P.SectorView.space space.new)) }
     ensures desk { IsDeskOf (numbers_of tree.new).node_size desk.new }
     ensures below { P.SectorView.follows space.old space.new }

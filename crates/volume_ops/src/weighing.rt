@@ -33,8 +33,8 @@ pub enum Weight {
     Refused(Refusal),
     /// Blocks that were given back are free behind the next commit alone.
     CommitFirst,
-    /// Its step puts so many sectors at most.
-    Load(u64),
+    /// Its step puts so many sectors at most, after each tree has grown by so many nodes.
+    Load { sectors: u64, grow: [u32; 3] },
 }
 
 /// What all free blocks cost, and what those cost that may be taken, together.
@@ -50,7 +50,7 @@ fn joined(all: Cost, takable: Cost) -> Weight
                 grow: more,
             } => {
                 if grow[0] == more[0] {
-                    Weight::Load(sectors)
+                    Weight::Load { sectors, grow }
                 } else {
                     Weight::CommitFirst
                 }

@@ -263,9 +263,9 @@ impl Volume {
     }
 
     /// What a command needs before its step: that it is refused, by its step or for want of a resource; that a commit comes
-    /// first; or how many sectors it puts at most. It changes nothing. `at`, `chmod`, `setattr`, `delattr`, `mkdir`, `create`
-    /// and `mv` are weighed, and no others yet: of these nothing is told. `Memory` comes where memory is wanting, `Disk` where
-    /// a read failed.
+    /// first; or how many sectors it puts at most, and by how much the trees grow before. It changes nothing. `at`, `chmod`,
+    /// `setattr`, `delattr`, `mkdir`, `create`, `rmdir` and `mv` are weighed, and no others yet: of these nothing is told.
+    /// `Memory` comes where memory is wanting, `Disk` where a read failed.
     pub fn weigh<P: SectorSpace>(
         &mut self,
         alloc: Global,
@@ -295,9 +295,9 @@ impl Volume {
             }
             Command::Mkdir(path) => Ok(Some(self.weigh_mkdir(alloc, space, path)?)),
             Command::Create(path) => Ok(Some(self.weigh_create(alloc, space, path)?)),
+            Command::Rmdir(path) => Ok(Some(self.weigh_rmdir(alloc, space, path)?)),
             Command::Mv(from, to) => Ok(Some(self.weigh_mv(alloc, space, from, to)?)),
             Command::Rm(_)
-            | Command::Rmdir(_)
             | Command::Ln(_, _)
             | Command::Write { .. }
             | Command::Read { .. }

@@ -1,18 +1,15 @@
-use Rattle.std.proofs.Common.{◌≡◌, ◌<◌, ◌≤◌, ◌+◌, ℕ, IsTrue, List, [], length, take, sym, ◌∙◌, ap, subst, arith}
-use Rattle.std.specs.Prelude.{Option}
+use Rattle.std.proofs.Common.{◌<◌, ◌≤◌, ℕ, IsTrue, List, [], length, sym, ◌∙◌, ap, subst, arith}
 use Rattle.std.proofs.lemmas.List.{take_all}
 use Rattle.btree_node.specs.Levels.{Pair}
 use Rattle.cat_records.specs.Records.{is_catalog}
 use Rattle.hfs_volume.specs.Records.{placed_of, placed_in, entries_of}
 use Rattle.fsck_core.specs.Kinds.{row_in}
 use Rattle.fsck_core.specs.Rows.{rows_of}
-use Rattle.fsck_core.specs.declared.rows.Row.{Row}
-use Rattle.fsck_core.proofs.KindLaws.{pair_at}
 use Rattle.fsck_core.proofs.ListingLaws.{rows_more}
 use Rattle.fsck_core.proofs.listing.read_rows.Goals as goal
 
-pub read_row-requires : goal.read_row-requires
-read_row-requires c = subst (λ (v : List ℕ). IsTrue (is_catalog v)) (sym c.value.ensures) (c.requires c.loop-i.i ([], []) (omega (arith, c.loop-i-test.true, c.len-i-end.ensures)))
+pub read_row-row-requires : goal.read_row-row-requires
+read_row-row-requires c = subst (λ (v : List ℕ). IsTrue (is_catalog v)) (sym c.value.ensures) (c.requires c.loop-i.i ([], []) (omega (arith, c.loop-i-test.true, c.len-i-end.ensures)))
 
 pub loop-i-preserved : goal.loop-i-preserved
 loop-i-preserved c =
@@ -20,8 +17,8 @@ loop-i-preserved c =
     let k : ℕ = c.loop-i.i in
     let inside : k < length pairs = omega (arith, c.loop-i-test.true, c.len-i-end.ensures) in
     record {
-      rows = λ long. rows_more pairs k c.loop-i.rows.items c.add_row.new.rows.items c.in_ok-row.row inside (c.loop-i.invariant.rows long)
-          (c.in_ok-row.ensures (subst (λ (b : List ℕ). 8 ≤ length b) (sym c.key.ensures) (long k ([], []) inside)) ∙ ap (λ (p : Pair). row_in (placed_of p)) (λ i. (c.key.ensures i, c.value.ensures i))) c.in_ok-add_row.ensures;
+      rows = λ long. rows_more pairs k c.loop-i.rows.items c.add_row.new.rows.items c.read_row-row.result inside (c.loop-i.invariant.rows long)
+          (c.read_row-row.ensures (subst (λ (b : List ℕ). 8 ≤ length b) (sym c.key.ensures) (long k ([], []) inside)) ∙ ap (λ (p : Pair). row_in (placed_of p)) (λ i. (c.key.ensures i, c.value.ensures i))) c.in_ok-add_row.ensures;
     }
 
 pub returns : goal.returns

@@ -1,4 +1,4 @@
-use Rattle.std.proofs.Common.{◌≡◌, Bool, List, length, sym, ap, ◌∙◌, subst}
+use Rattle.std.proofs.Common.{Bool, List, length, sym, ap, ◌∙◌, subst}
 use Rattle.btree_node.specs.Levels.{Pair}
 use Rattle.hfs_volume.specs.Records.{placed_in}
 use Rattle.hfs_volume.specs.Entries.{AreThreaded}

@@ -1,4 +1,4 @@
-use Rattle.std.proofs.Common.{◌≡◌, ◌<◌, ◌≤◌, ◌+◌, ℕ, Bool, true, List, length, set, sym, ◌∙◌, subst, ap}
+use Rattle.std.proofs.Common.{◌≤◌, ℕ, Bool, true, List, length, set, sym, ◌∙◌, subst, ap}
 use Rattle.btree_node.specs.Levels.{Pair}
 use Rattle.btree_node.specs.Keys.{catalog_units}
 use Rattle.fsck_core.specs.Rows.{no_row}
@@ -12,14 +12,14 @@ returns-in_default-clause-matched c catalog are =
     let pairs : List Pair = c.args.pairs.now in
     let at : ℕ = c.args.at in
     let long : 8 ≤ length c.key.result.now = key_long pairs at c.key.result.now catalog c.requires.inside c.key.ensures in
-    match_not pairs c.args.marks.now.items at are (no_match pairs at no_row c.key.result.now c.value.result.now c.key.ensures c.value.ensures (sym c.in_default.is ∙ c.in_ok-row.ensures long))
+    match_not pairs c.args.marks.now.items at are (no_match pairs at no_row c.key.result.now c.value.result.now c.key.ensures c.value.ensures (sym c.in_default.is ∙ c.read_row.ensures long))
 
 pub returns-in_default-2-clause-matched : goal.returns-in_default-2-clause-matched
 returns-in_default-2-clause-matched c catalog are =
     let pairs : List Pair = c.args.pairs.now in
     let at : ℕ = c.args.at in
     let long : 8 ≤ length c.key.result.now = key_long pairs at c.key.result.now catalog c.requires.inside c.key.ensures in
-    let is = sym c.in-Some.is ∙ c.in_ok-row.ensures long in
+    let is = sym c.in-Some.is ∙ c.read_row.ensures long in
     match_not pairs c.args.marks.now.items at are (λ thread match. c.in_default-2.not-Some thread ((c.in_ok-thread.ensures.is catalog thread).1
     (subst (λ (k : List ℕ). IsThreadAt pairs c.in-Some.row (catalog_units k) thread) (c.key.ensures ∙ sym c.key-2.ensures) (match_thread pairs at c.in-Some.row c.key.result.now c.value.result.now c.key.ensures c.value.ensures is thread match))))
 
@@ -28,7 +28,7 @@ returns-clause-matched c catalog are =
     let pairs : List Pair = c.args.pairs.now in
     let at : ℕ = c.args.at in
     let long : 8 ≤ length c.key.result.now = key_long pairs at c.key.result.now catalog c.requires.inside c.key.ensures in
-    let is = sym c.in-Some.is ∙ c.in_ok-row.ensures long in
+    let is = sym c.in-Some.is ∙ c.read_row.ensures long in
     let row : Row = c.in-Some.row in
     let found : IsThreadAt pairs row (catalog_units c.key.result.now) c.in-Some-2.thread =
     subst (λ (k : List ℕ). IsThreadAt pairs row (catalog_units k) c.in-Some-2.thread) (c.key-2.ensures ∙ sym c.key.ensures) ((c.in_ok-thread.ensures.is catalog c.in-Some-2.thread).0 c.in-Some-2.is) in

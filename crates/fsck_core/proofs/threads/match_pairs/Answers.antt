@@ -1,4 +1,4 @@
-use Rattle.std.proofs.Common.{◌≡◌, ◌<◌, ◌≤◌, ◌+◌, ℕ, Bool, false, List, length, replicate, ap, ◌∙◌, subst, arith}
+use Rattle.std.proofs.Common.{◌≡◌, Bool, false, List, length, replicate, ap, ◌∙◌, subst, arith}
 use Rattle.std.proofs.lemmas.List.{length-replicate}
 use Rattle.fsck_core.specs.Parents.{marked}
 use Rattle.fsck_core.specs.Threads.{AreMatched}
@@ -22,7 +22,7 @@ pub loop-at-preserved : goal.loop-at-preserved
 loop-at-preserved c = record {
   long = c.match_entry.ensures.long;
   most = omega (arith, c.loop-at-test.true, c.len-at-end.ensures);
-  matched = λ catalog. c.in_ok-match_entry.ensures.matched catalog (c.loop-at.invariant.matched catalog);
+  matched = λ catalog. c.in_ok-near.ensures.matched catalog (c.loop-at.invariant.matched catalog);
 }
 
 pub returns-clause-matched : goal.returns-clause-matched

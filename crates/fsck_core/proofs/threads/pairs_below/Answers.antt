@@ -1,6 +1,5 @@
-use Rattle.std.proofs.Common.{◌≡◌, ◌<◌, ◌≤◌, ◌+◌, ◌-◌, ◌/◌, ℕ, List, length, arith, subst}
+use Rattle.std.proofs.Common.{◌<◌, ◌+◌, ◌-◌, ◌/◌, ℕ, List, length, arith}
 use Rattle.btree_node.specs.Levels.{Pair}
-use Rattle.fsck_core.specs.Threads.{placed_at}
 use Rattle.fsck_core.proofs.ThreadLaws.{split_more, split_less, parent_at, key_long}
 use Rattle.fsck_core.proofs.threads.pairs_below.Goals as goal
 

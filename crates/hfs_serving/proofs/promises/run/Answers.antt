@@ -17,6 +17,10 @@ use Rattle.line_source.specs.Input.{ahead}
 use Rattle.std.specs.Prelude.{◌≤◌, ◌<◌}
 use Rattle.hfs_language.specs.Lines.{lines}
 use Rattle.hfs_serving.proofs.Numbering.{no_memory, no_trouble, too_many}
+use Rattle.std.specs.Prelude.{Some}
+use Rattle.hfs_serving.specs.Ending.{EndsTaking}
+use Rattle.hfs_serving.proofs.Grounding.{disks_both, same_disk}
+use Rattle.hfs_serving.proofs.Answering.{answers_finish, answers_seen, handed_answers, no_end_of_memory, no_end_of_trouble}
 use Rattle.hfs_serving.proofs.promises.run.Goals as goal
 
 pub returns-in_err-input-clause-promises : goal.returns-in_err-input-clause-promises
@@ -47,21 +51,21 @@ returns-in_err-serve_source-clause-promises g c tells capacity start stands soun
     crash_keeps c.aside_is_free.ensures capacity start plan (plan_of mid.store.now) old (g.R.SectorDisk.state mid.disk.now) stopped.0 knows space (ap (λ (a : Anchor). a.journal) c.serve_source.ensures.anchor) (g.met.R.SectorDisk.only_now base.disk.now) stands sound may source source_new
     (λ told. subst (λ (l : List ℕ). HasTaken l source stopped.0 source_new) c.in_ok-input.ensures (stopped.1 told)) (stopped.2 tells capacity start None stands)
 
-pub end_run-requires-clause-serves : goal.end_run-requires-clause-serves
-end_run-requires-clause-serves g c =
+pub finish-requires-clause-serves : goal.finish-requires-clause-serves
+finish-requires-clause-serves g c =
     let there = c.requires.serves in
     let none = ap length there.2 in
     (there.0, (c.in_ok-serve_source.ensures.still there.0 there.1 (omega (arith, none))).0, c.in_ok-serve_source.ensures.nothing there.0 there.1 none)
 
-pub end_run-requires-clause-stands : goal.end_run-requires-clause-stands
-end_run-requires-clause-stands g c tells_mid =
+pub finish-requires-clause-stands : goal.finish-requires-clause-stands
+finish-requires-clause-stands g c tells_mid =
     let tells = subst (λ t. IsTrue t) c.in_ok-serve_source.ensures.tells tells_mid in
     let there = c.requires.stands tells in
     let step = c.in_ok-serve_source.ensures.serves.2 tells there.0 there.1 there.2 there.3 in
     (there.0, step.now, shrunk_in there.2 step.run, step.stands)
 
-pub returns-in_err-end_run-clause-promises : goal.returns-in_err-end_run-clause-promises
-returns-in_err-end_run-clause-promises g c tells capacity start stands sound may =
+pub returns-in_err-finish-clause-promises : goal.returns-in_err-finish-clause-promises
+returns-in_err-finish-clause-promises g c tells capacity start stands sound may =
     let base = c.args.base.now in
     let plan = plan_of base.store.now in
     let old = g.R.SectorDisk.state base.disk.now in
@@ -70,7 +74,7 @@ returns-in_err-end_run-clause-promises g c tells capacity start stands sound may
     let source = g.S.Source.stream c.args.source.now in
     let mid = c.serve_source.new.base in
     let source_new = g.S.Source.stream c.serve_source.new.source in
-    let end = c.end_run.new.base in
+    let end = c.finish.new.base in
     let space_mid = seen g.R.SectorDisk.state mid in
     let out_mid = outside_of (plan_of mid.store.now) (g.R.SectorDisk.state mid.disk.now) in
     let out_end = outside_of (plan_of end.store.now) (g.R.SectorDisk.state end.disk.now) in
@@ -79,9 +83,9 @@ returns-in_err-end_run-clause-promises g c tells capacity start stands sound may
     let step = served.2 tells capacity start None stands in
     let tells_mid = subst (λ t. IsTrue t) (sym c.in_ok-serve_source.ensures.tells) tells in
     let takes = λ (told : IsTrue source.tells). subst (λ (l : List ℕ). TakesLines l source served.0 c.serve_source.new.input source_new) c.in_ok-input.ensures (served.1 told).0 in
-    crash_keeps c.aside_is_free.ensures capacity start plan (plan_of end.store.now) old (g.R.SectorDisk.state end.disk.now) served.0 knows space (ap (λ (a : Anchor). a.journal) (c.end_run.ensures.anchor ∙ c.serve_source.ensures.anchor)) (g.met.R.SectorDisk.only_now base.disk.now) stands sound may source source_new
+    crash_keeps c.aside_is_free.ensures capacity start plan (plan_of end.store.now) old (g.R.SectorDisk.state end.disk.now) served.0 knows space (c.finish.ensures.anchor ∙ ap (λ (a : Anchor). a.journal) c.serve_source.ensures.anchor) (g.met.R.SectorDisk.only_now base.disk.now) stands sound may source source_new
     (λ told. has_all source source_new served.0 c.serve_source.new.input (takes told))
-    (finish_crashes capacity start (outside_of plan old) out_mid out_end served.0 (length served.0) knows_mid space_mid step (c.end_run.ensures.crash tells_mid capacity step.now (shrunk_in None step.run) step.stands))
+    (finish_crashes capacity start (outside_of plan old) out_mid out_end served.0 (length served.0) knows_mid space_mid step (c.finish.ensures.crash tells_mid capacity step.now (shrunk_in None step.run) step.stands))
 
 pub returns-clause-promises : goal.returns-clause-promises
 returns-clause-promises g c tells capacity start stands sound may =
@@ -93,7 +97,7 @@ returns-clause-promises g c tells capacity start stands sound may =
     let source = g.S.Source.stream c.args.source.now in
     let mid = c.serve_source.new.base in
     let source_new = g.S.Source.stream c.serve_source.new.source in
-    let end = c.end_run.new.base in
+    let end = c.finish.new.base in
     let space_mid = seen g.R.SectorDisk.state mid in
     let out_mid = outside_of (plan_of mid.store.now) (g.R.SectorDisk.state mid.disk.now) in
     let out_end = outside_of (plan_of end.store.now) (g.R.SectorDisk.state end.disk.now) in
@@ -102,9 +106,9 @@ returns-clause-promises g c tells capacity start stands sound may =
     let step = served.2 tells capacity start None stands in
     let tells_mid = subst (λ t. IsTrue t) (sym c.in_ok-serve_source.ensures.tells) tells in
     let takes = λ (told : IsTrue source.tells). subst (λ (l : List ℕ). TakesLines l source served.0 c.serve_source.new.input source_new) c.in_ok-input.ensures (served.1 told).0 in
-    crash_keeps c.aside_is_free.ensures capacity start plan (plan_of end.store.now) old (g.R.SectorDisk.state end.disk.now) served.0 knows space (ap (λ (a : Anchor). a.journal) (c.end_run.ensures.anchor ∙ c.serve_source.ensures.anchor)) (g.met.R.SectorDisk.only_now base.disk.now) stands sound may source source_new
+    crash_keeps c.aside_is_free.ensures capacity start plan (plan_of end.store.now) old (g.R.SectorDisk.state end.disk.now) served.0 knows space (c.finish.ensures.anchor ∙ ap (λ (a : Anchor). a.journal) c.serve_source.ensures.anchor) (g.met.R.SectorDisk.only_now base.disk.now) stands sound may source source_new
     (λ told. has_all source source_new served.0 c.serve_source.new.input (takes told))
-    (finish_crashes capacity start (outside_of plan old) out_mid out_end served.0 (length served.0) knows_mid space_mid step (c.end_run.ensures.crash tells_mid capacity step.now (shrunk_in None step.run) step.stands))
+    (finish_crashes capacity start (outside_of plan old) out_mid out_end served.0 (length served.0) knows_mid space_mid step (c.finish.ensures.crash tells_mid capacity step.now (shrunk_in None step.run) step.stands))
 
 pub returns-clause-done : goal.returns-clause-done
 returns-clause-done g c tells capacity start stands =
@@ -114,7 +118,7 @@ returns-clause-done g c tells capacity start stands =
     let source = g.S.Source.stream c.args.source.now in
     let mid = c.serve_source.new.base in
     let source_new = g.S.Source.stream c.serve_source.new.source in
-    let end = c.end_run.new.base in
+    let end = c.finish.new.base in
     let space_mid = seen g.R.SectorDisk.state mid in
     let out_mid = outside_of (plan_of mid.store.now) (g.R.SectorDisk.state mid.disk.now) in
     let out_end = outside_of (plan_of end.store.now) (g.R.SectorDisk.state end.disk.now) in
@@ -124,7 +128,7 @@ returns-clause-done g c tells capacity start stands =
     let tells_mid = subst (λ t. IsTrue t) (sym c.in_ok-serve_source.ensures.tells) tells in
     let takes = λ (told : IsTrue source.tells). subst (λ (l : List ℕ). TakesLines l source served.0 c.serve_source.new.input source_new) c.in_ok-input.ensures (served.1 told).0 in
     finish_ends capacity start (outside_of plan old) out_mid out_end served.0 knows_mid space_mid source (λ told. all_taken source served.0 c.serve_source.new.input source_new (takes told) (served.1 told).1) step
-    (c.in_ok-end_run.ensures.done tells_mid capacity step.now (shrunk_in None step.run) step.stands)
+    (c.in_ok-finish.ensures.done tells_mid capacity step.now (shrunk_in None step.run) step.stands)
 
 pub returns-clause-end : goal.returns-clause-end
 returns-clause-end g c told = none_behind c.serve_source.new.input (g.S.Source.stream c.serve_source.new.source) (c.in_ok-serve_source.ensures.serves.1 told).1
@@ -157,15 +161,15 @@ returns-in_err-serve_source-clause-stretch g c =
       λ tells capacity start stands. crash_seen capacity start plan (plan_of mid.store.now) (outside_of plan old) (g.R.SectorDisk.state mid.disk.now) stopped.0 (ap (λ (a : Anchor). a.journal) c.serve_source.ensures.anchor) (stopped.2 tells capacity start None stands),
     )
 
-pub returns-in_err-end_run-clause-stretch : goal.returns-in_err-end_run-clause-stretch
-returns-in_err-end_run-clause-stretch g c =
+pub returns-in_err-finish-clause-stretch : goal.returns-in_err-finish-clause-stretch
+returns-in_err-finish-clause-stretch g c =
     let base = c.args.base.now in
     let plan = plan_of base.store.now in
     let old = g.R.SectorDisk.state base.disk.now in
     let source = g.S.Source.stream c.args.source.now in
     let mid = c.serve_source.new.base in
     let source_new = g.S.Source.stream c.serve_source.new.source in
-    let end = c.end_run.new.base in
+    let end = c.finish.new.base in
     let space_mid = seen g.R.SectorDisk.state mid in
     let out_mid = outside_of (plan_of mid.store.now) (g.R.SectorDisk.state mid.disk.now) in
     let out_end = outside_of (plan_of end.store.now) (g.R.SectorDisk.state end.disk.now) in
@@ -176,8 +180,8 @@ returns-in_err-end_run-clause-stretch g c =
           let knows_mid = g.V.Volume.knows c.serve_source.new.volume space_mid capacity in
           let step = served.2 tells capacity start None stands in
           let tells_mid = subst (λ t. IsTrue t) (sym c.in_ok-serve_source.ensures.tells) tells in
-          crash_seen capacity start plan (plan_of end.store.now) (outside_of plan old) (g.R.SectorDisk.state end.disk.now) served.0 (ap (λ (a : Anchor). a.journal) (c.end_run.ensures.anchor ∙ c.serve_source.ensures.anchor))
-          (finish_crashes capacity start (outside_of plan old) out_mid out_end served.0 (length served.0) knows_mid space_mid step (c.end_run.ensures.crash tells_mid capacity step.now (shrunk_in None step.run) step.stands)),
+          crash_seen capacity start plan (plan_of end.store.now) (outside_of plan old) (g.R.SectorDisk.state end.disk.now) served.0 (c.finish.ensures.anchor ∙ ap (λ (a : Anchor). a.journal) c.serve_source.ensures.anchor)
+          (finish_crashes capacity start (outside_of plan old) out_mid out_end served.0 (length served.0) knows_mid space_mid step (c.finish.ensures.crash tells_mid capacity step.now (shrunk_in None step.run) step.stands)),
     )
 
 pub returns-clause-stretch : goal.returns-clause-stretch
@@ -188,7 +192,7 @@ returns-clause-stretch g c =
     let source = g.S.Source.stream c.args.source.now in
     let mid = c.serve_source.new.base in
     let source_new = g.S.Source.stream c.serve_source.new.source in
-    let end = c.end_run.new.base in
+    let end = c.finish.new.base in
     let space_mid = seen g.R.SectorDisk.state mid in
     let out_mid = outside_of (plan_of mid.store.now) (g.R.SectorDisk.state mid.disk.now) in
     let out_end = outside_of (plan_of end.store.now) (g.R.SectorDisk.state end.disk.now) in
@@ -199,18 +203,18 @@ returns-clause-stretch g c =
           let knows_mid = g.V.Volume.knows c.serve_source.new.volume space_mid capacity in
           let step = served.2 tells capacity start None stands in
           let tells_mid = subst (λ t. IsTrue t) (sym c.in_ok-serve_source.ensures.tells) tells in
-          crash_seen capacity start plan (plan_of end.store.now) (outside_of plan old) (g.R.SectorDisk.state end.disk.now) served.0 (ap (λ (a : Anchor). a.journal) (c.end_run.ensures.anchor ∙ c.serve_source.ensures.anchor))
-          (finish_crashes capacity start (outside_of plan old) out_mid out_end served.0 (length served.0) knows_mid space_mid step (c.end_run.ensures.crash tells_mid capacity step.now (shrunk_in None step.run) step.stands)),
+          crash_seen capacity start plan (plan_of end.store.now) (outside_of plan old) (g.R.SectorDisk.state end.disk.now) served.0 (c.finish.ensures.anchor ∙ ap (λ (a : Anchor). a.journal) c.serve_source.ensures.anchor)
+          (finish_crashes capacity start (outside_of plan old) out_mid out_end served.0 (length served.0) knows_mid space_mid step (c.finish.ensures.crash tells_mid capacity step.now (shrunk_in None step.run) step.stands)),
     )
 
 pub returns-in_err-serve_source-clause-names : goal.returns-in_err-serve_source-clause-names
 returns-in_err-serve_source-clause-names g c = ap (λ (a : Anchor). a.names) c.serve_source.ensures.anchor
 
-pub returns-in_err-end_run-clause-names : goal.returns-in_err-end_run-clause-names
-returns-in_err-end_run-clause-names g c = ap (λ (a : Anchor). a.names) (c.end_run.ensures.anchor ∙ c.serve_source.ensures.anchor)
+pub returns-in_err-finish-clause-names : goal.returns-in_err-finish-clause-names
+returns-in_err-finish-clause-names g c = c.finish.ensures.names ∙ ap (λ (a : Anchor). a.names) c.serve_source.ensures.anchor
 
 pub returns-clause-names : goal.returns-clause-names
-returns-clause-names g c = ap (λ (a : Anchor). a.names) (c.end_run.ensures.anchor ∙ c.serve_source.ensures.anchor)
+returns-clause-names g c = c.finish.ensures.names ∙ ap (λ (a : Anchor). a.names) c.serve_source.ensures.anchor
 
 pub returns-in_err-input-clause-faults : goal.returns-in_err-input-clause-faults
 returns-in_err-input-clause-faults g c =
@@ -223,14 +227,14 @@ returns-in_err-serve_source-clause-faults g c =
     let p = err_from_is_err_and c.from_residual-in_err-serve_source.result c.from_residual-in_err-serve_source.ensures.1 in
     handed_on (counts_none _ _) (Rose (g.S.Source.stream c.args.source.now).faults (g.S.Source.stream c.serve_source.new.source).faults) (Rose (g.S.Source.stream c.args.source.now).faults (g.S.Source.stream c.serve_source.new.source).faults) _ p.0 c.from_residual-in_err-serve_source.result (λ rose. rose) c.in_err-serve_source.ensures.faults p.1 p.2
 
-pub returns-in_err-end_run-clause-faults : goal.returns-in_err-end_run-clause-faults
-returns-in_err-end_run-clause-faults g c =
-    let p = err_from_is_err_and c.from_residual-in_err-end_run.result c.from_residual-in_err-end_run.ensures.1 in
-    handed_stop (c.serve_source.ensures.faults.counts) (Rose (g.S.Source.stream c.args.source.now).faults (g.S.Source.stream c.serve_source.new.source).faults) _ p.0 c.from_residual-in_err-end_run.result c.in_err-end_run.ensures.faults p.1 p.2
+pub returns-in_err-finish-clause-faults : goal.returns-in_err-finish-clause-faults
+returns-in_err-finish-clause-faults g c =
+    let p = err_from_is_err_and c.from_residual-in_err-finish.result c.from_residual-in_err-finish.ensures.1 in
+    handed_stop (c.serve_source.ensures.faults.counts) (Rose (g.S.Source.stream c.args.source.now).faults (g.S.Source.stream c.serve_source.new.source).faults) _ p.0 c.from_residual-in_err-finish.result c.in_err-finish.ensures.faults p.1 p.2
 
 pub returns-clause-faults : goal.returns-clause-faults
 returns-clause-faults g c =
-    fine_stop (counts_both c.serve_source.ensures.faults.counts c.end_run.ensures.faults.counts) (Rose (g.S.Source.stream c.args.source.now).faults (g.S.Source.stream c.serve_source.new.source).faults) _
+    fine_stop (counts_both c.serve_source.ensures.faults.counts c.finish.ensures.faults.counts) (Rose (g.S.Source.stream c.args.source.now).faults (g.S.Source.stream c.serve_source.new.source).faults) _
 
 pub returns-in_err-input-clause-many : goal.returns-in_err-input-clause-many
 returns-in_err-input-clause-many g c told is =
@@ -243,10 +247,10 @@ returns-in_err-serve_source-clause-many g c told is =
     subst (λ (l : List ℕ). 4294967295 < length (lines (ahead l (g.S.Source.stream c.args.source.now)))) c.in_ok-input.ensures
     (c.in_err-serve_source.ensures.many told (too_many _ p.0 c.from_residual-in_err-serve_source.result p.1 p.2 is))
 
-pub returns-in_err-end_run-clause-many : goal.returns-in_err-end_run-clause-many
-returns-in_err-end_run-clause-many g c told is =
-    let p = err_from_is_err_and c.from_residual-in_err-end_run.result c.from_residual-in_err-end_run.ensures.1 in
-    absurd (no_trouble _ p.0 c.from_residual-in_err-end_run.result p.1 p.2 is)
+pub returns-in_err-finish-clause-many : goal.returns-in_err-finish-clause-many
+returns-in_err-finish-clause-many g c told is =
+    let p = err_from_is_err_and c.from_residual-in_err-finish.result c.from_residual-in_err-finish.ensures.1 in
+    absurd (no_trouble _ p.0 c.from_residual-in_err-finish.result p.1 p.2 is)
 
 pub returns-clause-few : goal.returns-clause-few
 returns-clause-few g c told =
@@ -254,3 +258,74 @@ returns-clause-few g c told =
 
 pub returns-clause-many : goal.returns-clause-many
 returns-clause-many g c told is = absurd (cc is)
+
+pub returns-in_err-input-clause-answers : goal.returns-in_err-input-clause-answers
+returns-in_err-input-clause-answers g c final =
+    let p = err_from_is_err_and c.from_residual.result c.from_residual.ensures.1 in
+    absurd (no_end_of_memory p.0 c.from_residual.result p.1 p.2 final)
+
+pub returns-in_err-serve_source-clause-answers : goal.returns-in_err-serve_source-clause-answers
+returns-in_err-serve_source-clause-answers g c =
+    let base = c.args.base.now in
+    let plan = plan_of base.store.now in
+    let old = g.R.SectorDisk.state base.disk.now in
+    let source = g.S.Source.stream c.args.source.now in
+    let mid = c.serve_source.new.base in
+    let source_new = g.S.Source.stream c.serve_source.new.source in
+    let p = err_from_is_err_and c.from_residual-in_err-serve_source.result c.from_residual-in_err-serve_source.ensures.1 in
+    handed_answers c.in_err-serve_source.field-0.0 p.0 c.from_residual-in_err-serve_source.result _ [] source source_new p.1 p.2
+    (λ final.
+    let there = c.in_err-serve_source.ensures.answers final in (
+      there.0,
+      λ told.
+          let took = there.1 told in
+          (subst (λ (l : List ℕ). HasTaken l source there.0 source_new) c.in_ok-input.ensures took.0, subst (λ (l : List ℕ). EndsTaking (Some c.in_err-serve_source.field-0.0) l source there.0 source_new) c.in_ok-input.ensures took.1),
+      there.2,
+      λ tells capacity start stands.
+          answers_seen capacity start plan (plan_of mid.store.now) (outside_of plan old) (g.R.SectorDisk.state mid.disk.now) there.0 (ap (λ (a : Anchor). a.journal) c.serve_source.ensures.anchor) (there.3 tells capacity start None stands),
+    ))
+
+pub returns-in_err-finish-clause-answers : goal.returns-in_err-finish-clause-answers
+returns-in_err-finish-clause-answers g c final =
+    let p = err_from_is_err_and c.from_residual-in_err-finish.result c.from_residual-in_err-finish.ensures.1 in
+    absurd (no_end_of_trouble _ p.0 c.from_residual-in_err-finish.result p.1 p.2 final)
+
+pub returns-clause-answers : goal.returns-clause-answers
+returns-clause-answers g c final =
+    let base = c.args.base.now in
+    let plan = plan_of base.store.now in
+    let old = g.R.SectorDisk.state base.disk.now in
+    let source = g.S.Source.stream c.args.source.now in
+    let mid = c.serve_source.new.base in
+    let source_new = g.S.Source.stream c.serve_source.new.source in
+    let end = c.finish.new.base in
+    let space_mid = seen g.R.SectorDisk.state mid in
+    let out_mid = outside_of (plan_of mid.store.now) (g.R.SectorDisk.state mid.disk.now) in
+    let out_end = outside_of (plan_of end.store.now) (g.R.SectorDisk.state end.disk.now) in
+    let served = c.in_ok-serve_source.ensures.serves in
+    let takes = λ (told : IsTrue source.tells). subst (λ (l : List ℕ). TakesLines l source served.0 c.serve_source.new.input source_new) c.in_ok-input.ensures (served.1 told).0 in (
+      served.0,
+      λ told. (has_all source source_new served.0 c.serve_source.new.input (takes told), all_taken source served.0 c.serve_source.new.input source_new (takes told) (served.1 told).1),
+      λ many. absurd (cc many),
+      λ tells capacity start stands.
+          let knows_mid = g.V.Volume.knows c.serve_source.new.volume space_mid capacity in
+          let step = served.2 tells capacity start None stands in
+          let tells_mid = subst (λ t. IsTrue t) (sym c.in_ok-serve_source.ensures.tells) tells in
+          answers_seen capacity start plan (plan_of end.store.now) (outside_of plan old) (g.R.SectorDisk.state end.disk.now) served.0 (c.finish.ensures.anchor ∙ ap (λ (a : Anchor). a.journal) c.serve_source.ensures.anchor)
+          (answers_finish capacity start (outside_of plan old) out_mid out_end served.0 knows_mid space_mid step (c.finish.ensures.crash tells_mid capacity step.now (shrunk_in None step.run) step.stands)),
+    )
+
+pub returns-clause-away : goal.returns-clause-away
+returns-clause-away g c tells = c.in_ok-finish.ensures.away (subst (λ t. IsTrue t) (sym c.in_ok-serve_source.ensures.tells) tells)
+
+pub returns-in_err-input-clause-same : goal.returns-in_err-input-clause-same
+returns-in_err-input-clause-same g c = record { tells = refl; tells_left = refl; names = refl; sectors = refl }
+
+pub returns-in_err-serve_source-clause-same : goal.returns-in_err-serve_source-clause-same
+returns-in_err-serve_source-clause-same g c = same_disk (ap (λ (a : Anchor). a.rig) c.serve_source.ensures.anchor)
+
+pub returns-in_err-finish-clause-same : goal.returns-in_err-finish-clause-same
+returns-in_err-finish-clause-same g c = disks_both (same_disk (ap (λ (a : Anchor). a.rig) c.serve_source.ensures.anchor)) c.finish.ensures.same
+
+pub returns-clause-same : goal.returns-clause-same
+returns-clause-same g c = disks_both (same_disk (ap (λ (a : Anchor). a.rig) c.serve_source.ensures.anchor)) c.finish.ensures.same

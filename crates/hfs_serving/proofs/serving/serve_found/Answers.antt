@@ -15,6 +15,8 @@ use Rattle.hx_bytes.specs.declared.faults.Trouble.TheVariants as trouble
 use Rattle.sector_disk.specs.Cause.{Rose}
 use Rattle.hfs_serving.proofs.Causes.{rig_behind, rig_trouble}
 use Rattle.hfs_serving.proofs.Numbering.{no_trouble}
+use Rattle.hfs_serving.proofs.Answering.{answers_from, answers_rig, no_end_of_trouble}
+use Rattle.hfs_serving.proofs.Grounding.{disks_both}
 use Rattle.hfs_serving.proofs.serving.serve_found.Goals as goal
 
 pub returns-in_err-ready-clause-promises : goal.returns-in_err-ready-clause-promises
@@ -85,3 +87,44 @@ pub returns-in_err-ready-clause-many : goal.returns-in_err-ready-clause-many
 returns-in_err-ready-clause-many g c told is =
     let p = err_from_is_err_and c.from_residual.result c.from_residual.ensures.1 in
     absurd (no_trouble trouble.Disk p.0 c.from_residual.result p.1 p.2 is)
+
+pub returns-in_err-ready-clause-answers : goal.returns-in_err-ready-clause-answers
+returns-in_err-ready-clause-answers g c final =
+    let p = err_from_is_err_and c.from_residual.result c.from_residual.ensures.1 in
+    absurd (no_end_of_trouble trouble.Disk p.0 c.from_residual.result p.1 p.2 final)
+
+pub returns-clause-answers : goal.returns-clause-answers
+returns-clause-answers g c final =
+    let answers = c.serve_ready.ensures.answers final in (
+      answers.0,
+      answers.1,
+      answers.2,
+      λ tells settled capacity holds first reads.
+          let s = g.R.SectorDisk.state first in
+          let s0 = g.R.SectorDisk.state c.args.rig.now in
+          let s1 = g.R.SectorDisk.state c.ready_image.new.disk in
+          let s2 = g.R.SectorDisk.state c.serve_ready.new.rig in
+          let plan = c.args.plan in
+          let ready = c.in_ok-ready.ready in
+          let image = content s0 in
+          let found = c.requires.found tells in
+          let start = replayed (journal_of plan) image in
+          let source = g.S.Source.stream c.args.source.now in
+          let source_new = g.S.Source.stream c.serve_ready.new.source in
+          let fits = c.requires.fits in
+          let stands = start_found image plan s0.sectors fits found.opened in
+          let done = c.in_ok-ready.ensures.ready tells settled start found.opened.opens.0.recovers refl found.sound in
+          let turns = turns_on start done.made.now (outside_of plan s) (outside_of plan s0) (outside_of plan s1) (reads_turn plan start s s0 reads (stands s0.candidates settled)) done.turns in
+          let tells_mid = subst (λ t. IsTrue t) (sym c.ready_image.ensures.same.tells) tells in
+          answers_rig c.aside_is_free.ensures capacity start plan s s2 answers.0 (g.met.R.SectorDisk.only_now first) (stands s.candidates (sym reads.candidates ∙ settled)) found.sound
+          (may_serve image plan s0.sectors fits found.opened capacity holds) source source_new (λ told. (answers.1 told).0)
+          (answers_from plan ready c.in_ok-ready.ensures.plan capacity start done.made.now s s1 s2 answers.0 turns
+          (answers.3 tells_mid capacity (subst (λ (q : Plan). IsCapacityOf q capacity) (sym c.in_ok-ready.ensures.plan) (capacity_mounted plan capacity holds)) start done.made.now first done.made.versioned done.made.place done.made.is_ready
+          (versioned_sound start done.made.now done.made.versioned found.sound))),
+    )
+
+pub returns-clause-away : goal.returns-clause-away
+returns-clause-away g c tells = c.serve_ready.ensures.away (subst (λ t. IsTrue t) (sym c.ready_image.ensures.same.tells) tells)
+
+pub returns-clause-same : goal.returns-clause-same
+returns-clause-same g c = disks_both c.ready_image.ensures.same c.serve_ready.ensures.same

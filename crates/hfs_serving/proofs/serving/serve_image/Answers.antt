@@ -13,6 +13,12 @@ use Rattle.std.proofs.lemmas.Result.{err_from_is_err_and}
 use Rattle.sector_disk.specs.Cause.{Rose}
 use Rattle.hfs_serving.proofs.Causes.{rig_fine, rig_handed, rig_trouble}
 use Rattle.hfs_serving.proofs.Numbering.{no_trouble, too_many}
+use Rattle.std.proofs.Common.{◌≡◌, [], Some}
+use Rattle.hfs_serving.specs.Ending.{AnswersRig, EndsTaking, IsFinal, stop_in}
+use Rattle.hfs_serving.specs.declared.telling.Stop.{Stop}
+use Rattle.hfs_serving.specs.declared.telling.Stop.TheVariants as stop
+use Rattle.hfs_serving.proofs.Answering.{answers_of, finishes_of, no_end_of_trouble, own_image, the_stop, to_last_of, trouble_stops}
+use Rattle.hfs_serving.proofs.Grounding.{disks_both}
 use Rattle.hfs_serving.proofs.serving.serve_image.Goals as goal
 
 pub returns-in_err-plan-clause-promises : goal.returns-in_err-plan-clause-promises
@@ -97,3 +103,104 @@ pub returns-in_err-serve_found-in-Ok-clause-many : goal.returns-in_err-serve_fou
 returns-in_err-serve_found-in-Ok-clause-many g c told is =
     let p = err_from_is_err_and c.from_residual-in_err-serve_found-in-Ok.result c.from_residual-in_err-serve_found-in-Ok.ensures.1 in
     c.in_err-serve_found-in-Ok.ensures.many told (too_many _ p.0 c.from_residual-in_err-serve_found-in-Ok.result p.1 p.2 is)
+
+pub returns-in_ok-serve_found-in-Ok-clause-done : goal.returns-in_ok-serve_found-in-Ok-clause-done
+returns-in_ok-serve_found-in-Ok-clause-done g c tells settled capacity start mounts =
+    let s0 = g.R.SectorDisk.state c.args.rig.now in
+    let s1 = g.R.SectorDisk.state c.find_image.new.disk in
+    let s2 = g.R.SectorDisk.state c.serve_found.new.rig in
+    let image = content s0 in
+    let plan = c.in-Ok.plan in
+    let reads = c.find_image.ensures.reads in
+    let source = g.S.Source.stream c.args.source.now in
+    let source_new = g.S.Source.stream c.serve_found.new.source in
+    let found = subst (λ (r : Result Plan MountRefusal). IfOk r (IsFound image)) c.in-Ok.is (c.in_ok-plan.ensures.found tells) in
+    let fits = subst (λ (r : Result Plan MountRefusal). IfOk r (FitsPlan s0.sectors)) c.in-Ok.is c.in_ok-plan.ensures.fits in
+    let one = mounts_one image plan s0.sectors fits found.opened capacity start mounts in
+    let tells_mid = reads.same.tells ∙ tells in
+    let answers = c.serve_found.ensures.answers (subst (λ (r : Result (Unit {0}) Stop). IsFinal (stop_in r)) (sym c.in_ok-serve_found-in-Ok.was) tt) in
+    let rig =
+    subst (λ (x : Content). AnswersRig capacity x s0 source answers.0 s2 source_new) (ap (replayed (journal_of plan)) (reads_content s0 s1 reads) ∙ sym one.0)
+    (answers.3 tells_mid (reads_settled s0 s1 reads settled) capacity one.1 c.args.rig.now reads) in
+    finishes_of capacity start s0 source answers.0 s2 source_new (own_image s2 (g.met.R.SectorDisk.well_formed c.serve_found.new.rig))
+    (λ told. subst (λ (r : Result (Unit {0}) Stop). EndsTaking (stop_in r) [] source answers.0 source_new) c.in_ok-serve_found-in-Ok.was (answers.1 told).1) (c.in_ok-serve_found-in-Ok.ensures.away tells_mid) rig
+
+pub returns-in_err-plan-clause-stopped : goal.returns-in_err-plan-clause-stopped
+returns-in_err-plan-clause-stopped g c tells settled capacity start mounts is =
+    let p = err_from_is_err_and c.from_residual.result c.from_residual.ensures.1 in
+    absurd (no_end_of_trouble _ p.0 c.from_residual.result p.1 p.2 (subst (λ (r : Result (Result (Unit {0}) MountRefusal) Stop). IsFinal (stop_in r)) (sym is) tt))
+
+pub returns-in_err-plan-clause-to_the_last : goal.returns-in_err-plan-clause-to_the_last
+returns-in_err-plan-clause-to_the_last g c tells settled capacity start mounts is =
+    let p = err_from_is_err_and c.from_residual.result c.from_residual.ensures.1 in
+    absurd (no_end_of_trouble _ p.0 c.from_residual.result p.1 p.2 (subst (λ (r : Result (Result (Unit {0}) MountRefusal) Stop). IsFinal (stop_in r)) (sym is) tt))
+
+pub returns-in_err-serve_found-in-Ok-clause-stopped : goal.returns-in_err-serve_found-in-Ok-clause-stopped
+returns-in_err-serve_found-in-Ok-clause-stopped g c tells settled capacity start mounts is =
+    let s0 = g.R.SectorDisk.state c.args.rig.now in
+    let s1 = g.R.SectorDisk.state c.find_image.new.disk in
+    let s2 = g.R.SectorDisk.state c.serve_found.new.rig in
+    let image = content s0 in
+    let plan = c.in-Ok.plan in
+    let reads = c.find_image.ensures.reads in
+    let source = g.S.Source.stream c.args.source.now in
+    let source_new = g.S.Source.stream c.serve_found.new.source in
+    let found = subst (λ (r : Result Plan MountRefusal). IfOk r (IsFound image)) c.in-Ok.is (c.in_ok-plan.ensures.found tells) in
+    let fits = subst (λ (r : Result Plan MountRefusal). IfOk r (FitsPlan s0.sectors)) c.in-Ok.is c.in_ok-plan.ensures.fits in
+    let one = mounts_one image plan s0.sectors fits found.opened capacity start mounts in
+    let tells_mid = reads.same.tells ∙ tells in
+    let p = err_from_is_err_and c.from_residual-in_err-serve_found-in-Ok.result c.from_residual-in_err-serve_found-in-Ok.ensures.1 in
+    let why = the_stop c.in_err-serve_found-in-Ok.field-0.0 p.0 c.from_residual-in_err-serve_found-in-Ok.result stop.Source p.1 p.2 is in
+    let at : stop_in c.serve_found.result ≡ Some stop.Source = ap stop_in c.in_err-serve_found-in-Ok.was ∙ ap Some why in
+    let answers = c.serve_found.ensures.answers (subst IsFinal (sym at) tt) in
+    answers_of capacity start s0 source answers.0 s2 source_new (λ told. subst (λ s. EndsTaking s [] source answers.0 source_new) at (answers.1 told).1)
+    (subst (λ (x : Content). AnswersRig capacity x s0 source answers.0 s2 source_new) (ap (replayed (journal_of plan)) (reads_content s0 s1 reads) ∙ sym one.0)
+    (answers.3 tells_mid (reads_settled s0 s1 reads settled) capacity one.1 c.args.rig.now reads))
+
+pub returns-in_err-serve_found-in-Ok-clause-to_the_last : goal.returns-in_err-serve_found-in-Ok-clause-to_the_last
+returns-in_err-serve_found-in-Ok-clause-to_the_last g c tells settled capacity start mounts is =
+    let s0 = g.R.SectorDisk.state c.args.rig.now in
+    let s1 = g.R.SectorDisk.state c.find_image.new.disk in
+    let s2 = g.R.SectorDisk.state c.serve_found.new.rig in
+    let image = content s0 in
+    let plan = c.in-Ok.plan in
+    let reads = c.find_image.ensures.reads in
+    let source = g.S.Source.stream c.args.source.now in
+    let source_new = g.S.Source.stream c.serve_found.new.source in
+    let found = subst (λ (r : Result Plan MountRefusal). IfOk r (IsFound image)) c.in-Ok.is (c.in_ok-plan.ensures.found tells) in
+    let fits = subst (λ (r : Result Plan MountRefusal). IfOk r (FitsPlan s0.sectors)) c.in-Ok.is c.in_ok-plan.ensures.fits in
+    let one = mounts_one image plan s0.sectors fits found.opened capacity start mounts in
+    let tells_mid = reads.same.tells ∙ tells in
+    let p = err_from_is_err_and c.from_residual-in_err-serve_found-in-Ok.result c.from_residual-in_err-serve_found-in-Ok.ensures.1 in
+    let why = the_stop c.in_err-serve_found-in-Ok.field-0.0 p.0 c.from_residual-in_err-serve_found-in-Ok.result stop.TooMany p.1 p.2 is in
+    let at : stop_in c.serve_found.result ≡ Some stop.TooMany = ap stop_in c.in_err-serve_found-in-Ok.was ∙ ap Some why in
+    let answers = c.serve_found.ensures.answers (subst IsFinal (sym at) tt) in
+    to_last_of capacity start s0 source answers.0 s2 source_new (answers.2 at)
+    (subst (λ (x : Content). AnswersRig capacity x s0 source answers.0 s2 source_new) (ap (replayed (journal_of plan)) (reads_content s0 s1 reads) ∙ sym one.0)
+    (answers.3 tells_mid (reads_settled s0 s1 reads settled) capacity one.1 c.args.rig.now reads))
+
+pub returns-in_err-plan-clause-unfound : goal.returns-in_err-plan-clause-unfound
+returns-in_err-plan-clause-unfound g c tells none =
+    let p = err_from_is_err_and c.from_residual.result c.from_residual.ensures.1 in
+    trouble_stops _ p.0 c.from_residual.result p.1 p.2
+
+pub returns-in_err-serve_found-in-Ok-clause-unfound : goal.returns-in_err-serve_found-in-Ok-clause-unfound
+returns-in_err-serve_found-in-Ok-clause-unfound g c tells none =
+    let s0 = g.R.SectorDisk.state c.args.rig.now in
+    let image = content s0 in
+    let plan = c.in-Ok.plan in
+    let found = subst (λ (r : Result Plan MountRefusal). IfOk r (IsFound image)) c.in-Ok.is (c.in_ok-plan.ensures.found tells) in
+    let fits = subst (λ (r : Result Plan MountRefusal). IfOk r (FitsPlan s0.sectors)) c.in-Ok.is c.in_ok-plan.ensures.fits in
+    absurd (none (found.opened.capacity, replayed (journal_of plan) image, found_mounts image plan s0.sectors fits found.opened found.sound))
+
+pub returns-in_err-plan-clause-same : goal.returns-in_err-plan-clause-same
+returns-in_err-plan-clause-same g c = c.find_image.ensures.reads.same
+
+pub returns-in-Err-clause-same : goal.returns-in-Err-clause-same
+returns-in-Err-clause-same g c = c.find_image.ensures.reads.same
+
+pub returns-in_err-serve_found-in-Ok-clause-same : goal.returns-in_err-serve_found-in-Ok-clause-same
+returns-in_err-serve_found-in-Ok-clause-same g c = disks_both c.find_image.ensures.reads.same c.serve_found.ensures.same
+
+pub returns-in_ok-serve_found-in-Ok-clause-same : goal.returns-in_ok-serve_found-in-Ok-clause-same
+returns-in_ok-serve_found-in-Ok-clause-same g c = disks_both c.find_image.ensures.reads.same c.serve_found.ensures.same

@@ -16,6 +16,11 @@ use Rattle.jnl_store.specs.Spaces.{over}
 use Rattle.hfs_serving.specs.Faults.{RigFaults}
 use Rattle.hfs_serving.proofs.Causes.{behind_stop, counts_none, handed_stop, rig_from, rig_memory}
 use Rattle.hfs_serving.proofs.Numbering.{no_memory, no_trouble}
+use Rattle.std.specs.Prelude.{OnOk}
+use Rattle.hfs_serving.specs.Ending.{AnswersStep, IsPutAway}
+use Rattle.sector_disk.specs.Disk.{SameDisk}
+use Rattle.hfs_serving.proofs.Grounding.{disks_both, same_disk}
+use Rattle.hfs_serving.proofs.Answering.{begun_answers, no_end_of_memory, no_end_of_trouble}
 use Rattle.hfs_serving.proofs.serving.serve_ready.Goals as goal
 
 pub returns-in_err-store-clause-stretch : goal.returns-in_err-store-clause-stretch
@@ -154,3 +159,72 @@ pub returns-in_err-volume-clause-many : goal.returns-in_err-volume-clause-many
 returns-in_err-volume-clause-many g c told is =
     let p = err_from_is_err_and c.from_residual-in_err-volume.result c.from_residual-in_err-volume.ensures.1 in
     absurd (no_trouble _ p.0 c.from_residual-in_err-volume.result p.1 p.2 is)
+
+pub returns-in_err-store-clause-answers : goal.returns-in_err-store-clause-answers
+returns-in_err-store-clause-answers g c final =
+    let p = err_from_is_err_and c.from_residual.result c.from_residual.ensures.1 in
+    absurd (no_end_of_memory p.0 c.from_residual.result p.1 p.2 final)
+
+pub returns-in_err-volume-clause-answers : goal.returns-in_err-volume-clause-answers
+returns-in_err-volume-clause-answers g c final =
+    let p = err_from_is_err_and c.from_residual-in_err-volume.result c.from_residual-in_err-volume.ensures.1 in
+    absurd (no_end_of_trouble _ p.0 c.from_residual-in_err-volume.result p.1 p.2 final)
+
+pub returns-clause-answers : goal.returns-clause-answers
+returns-clause-answers g c final =
+    let disk = c.args.rig.now in
+    let d0 = g.R.SectorDisk.state disk in
+    let plan = c.args.plan.now in
+    let store = c.in_ok-store.store in
+    let attached = c.in_ok-store.ensures disk c.requires.fits in
+    let base = c.attach_volume.new.base in
+    let last = c.run.new.base in
+    let names = c.run.ensures.names ∙ ap (λ (a : Anchor). a.names) c.attach_volume.ensures.anchor in
+    let rig_is = c.rig-2-1.given.1 (sym (ap (λ (l : List ℕ). get_or l 1 0) names)) in
+    let answers = c.run.ensures.answers final in (
+      answers.0,
+      answers.1,
+      answers.2,
+      λ tells capacity most start now first versioned place ready sound turns.
+          let is = g.met.R.SectorDisk.well_formed disk in
+          let mine = c.capacity-capacity.result in
+          let may = may_attach store plan d0 attached is tells now ready c.aside_is_free.ensures sound c.store-3-1.given.0 c.base-1.given in
+          let space_tells = tells_space store plan d0 attached is tells now ready c.store-3-1.given.0 c.base-1.given in
+          let begins = c.in_ok-volume.ensures.begins space_tells now may in
+          let base_tells = subst (λ t. IsTrue t) (sym c.in_ok-volume.ensures.tells) space_tells in
+          let space = seen g.R.SectorDisk.state base in
+          subst (λ (r : g.row.R.Denot). AnswersStep capacity start None (outside_of plan (g.R.SectorDisk.state first)) answers.0 (outside_of plan (g.R.SectorDisk.state r))) (sym rig_is)
+          (subst (λ n. AnswersStep n start None (outside_of plan (g.R.SectorDisk.state first)) answers.0 (outside_of plan (g.R.SectorDisk.state last.disk.now))) (capacity_ready store plan d0 attached capacity mine most c.capacity-capacity.ensures)
+          (begun_answers mine start now plan (g.R.SectorDisk.state first) d0 versioned place turns (plan_of store) (plan_of base.store.now) (finds_ready store plan d0 attached) (ap (λ (a : Anchor). a.journal) c.attach_volume.ensures.anchor)
+          (g.R.SectorDisk.state base.disk.now) (g.R.SectorDisk.state last.disk.now) answers.0 (g.V.Volume.knows c.in_ok-volume.volume space mine) space begins (answers.3 base_tells mine begins.begun begins.stands))),
+    )
+
+pub returns-clause-away : goal.returns-clause-away
+returns-clause-away g c tells =
+    let disk = c.args.rig.now in
+    let d0 = g.R.SectorDisk.state disk in
+    let store = c.in_ok-store.store in
+    let attached = c.in_ok-store.ensures disk c.requires.fits in
+    let last = c.run.new.base in
+    let there = c.requires.ready tells in
+    let names = c.run.ensures.names ∙ ap (λ (a : Anchor). a.names) c.attach_volume.ensures.anchor in
+    let rig_is = c.rig-2-1.given.1 (sym (ap (λ (l : List ℕ). get_or l 1 0) names)) in
+    let space_tells = tells_space store c.args.plan.now d0 attached (g.met.R.SectorDisk.well_formed disk) tells there.0 there.1 c.store-3-1.given.0 c.base-1.given in
+    subst (λ (r : g.row.R.Denot). OnOk c.run.result (IsPutAway (g.R.SectorDisk.state r))) (sym rig_is) (c.run.ensures.away (subst (λ t. IsTrue t) (sym c.in_ok-volume.ensures.tells) space_tells))
+
+pub returns-in_err-store-clause-same : goal.returns-in_err-store-clause-same
+returns-in_err-store-clause-same g c = record { tells = refl; tells_left = refl; names = refl; sectors = refl }
+
+pub returns-in_err-volume-clause-same : goal.returns-in_err-volume-clause-same
+returns-in_err-volume-clause-same g c =
+    let d0 = g.R.SectorDisk.state c.args.rig.now in
+    let names = ap (λ (a : Anchor). a.names) c.attach_volume.ensures.anchor in
+    let rig_is = c.in_err-volume.rig-1-own.given.1 (sym (ap (λ (l : List ℕ). get_or l 1 0) names)) in
+    subst (λ (r : g.row.R.Denot). SameDisk d0 (g.R.SectorDisk.state r)) (sym rig_is) (same_disk (ap (λ (a : Anchor). a.rig) c.attach_volume.ensures.anchor))
+
+pub returns-clause-same : goal.returns-clause-same
+returns-clause-same g c =
+    let d0 = g.R.SectorDisk.state c.args.rig.now in
+    let names = c.run.ensures.names ∙ ap (λ (a : Anchor). a.names) c.attach_volume.ensures.anchor in
+    let rig_is = c.rig-2-1.given.1 (sym (ap (λ (l : List ℕ). get_or l 1 0) names)) in
+    subst (λ (r : g.row.R.Denot). SameDisk d0 (g.R.SectorDisk.state r)) (sym rig_is) (disks_both (same_disk (ap (λ (a : Anchor). a.rig) c.attach_volume.ensures.anchor)) c.run.ensures.same)

@@ -19,6 +19,9 @@ use Rattle.std.proofs.lemmas.Bool.Decides.{nat_tests}
 use Rattle.std.proofs.lemmas.List.{length-map}
 use Rattle.hfs_language.specs.Language.{most_bytes}
 use Rattle.line_source.specs.Batch.{held}
+use Rattle.std.proofs.Common.{Err}
+use Rattle.hfs_serving.proofs.Answering.{answers_front, final_of, handed_answers}
+use Rattle.hfs_serving.proofs.Finals.{no_final, on_final}
 use Rattle.hfs_serving.proofs.taking.serve_source.Goals as goal
 
 pub loop-lines-init : goal.loop-lines-init
@@ -390,3 +393,30 @@ returns-then-count-eq0-clause-watched g c =
 pub serve_step-requires-clause-numbers : goal.serve_step-requires-clause-numbers
 serve_step-requires-clause-numbers g c =
     omega (arith, c.loop-lines.invariant.bound, c.in_ok-take_lines.ensures.left, ap (λ (l : List (List ℕ)). length l) c.as_slice.ensures.value)
+
+pub returns-in_err-take_lines-clause-answers : goal.returns-in_err-take_lines-clause-answers
+returns-in_err-take_lines-clause-answers g c =
+    let source = g.S.Source.stream c.args.source.now in
+    let now = g.S.Source.stream c.loop-lines.source in
+    let new = g.S.Source.stream c.take_lines.new.source in
+    let same = c.loop-lines.invariant.same in
+    let p = err_from_is_err_and c.from_residual.result c.from_residual.ensures.1 in
+    let on = c.loop-lines.invariant.on.2 in
+    let took = c.in_err-take_lines.ensures in
+    on_err c.from_residual.result
+    (handed_answers _ p.0 c.from_residual.result _ c.args.input.now source new p.1 p.2
+    (λ final.
+    let ends =
+    on_final c.args.input.now source c.loop-lines.lines.items c.loop-lines.input now _ on new _ (λ tells. c.take_lines.ensures.gone (subst IsTrue (sym same.tells) tells))
+    (λ is tells. took.begun (subst IsTrue (sym same.tells) tells) (ap Err is)) (λ is. omega (arith, (took.many (ap Err is)).0, on.1.0)) final in (
+      take on.0.count on.0.texts,
+      ends.0,
+      ends.1,
+      λ tells capacity start shrunk stands. answers_front on.0.count capacity shrunk start (g.G.Ground.outside c.args.base.now) on.0.texts _ _ _ (on.1.1 tells capacity start shrunk stands).0,
+    )))
+
+pub returns-in_err-count-clause-answers : goal.returns-in_err-count-clause-answers
+returns-in_err-count-clause-answers g c =
+    let p = err_from_is_err_and c.from_residual-in_err-count.result c.from_residual-in_err-count.ensures.1 in
+    on_err c.from_residual-in_err-count.result
+    (λ final. absurd (no_final _ c.in_err-count.ensures.faults.source c.in_err-count.ensures.no_many (final_of _ p.0 c.from_residual-in_err-count.result p.1 p.2 final)))

@@ -1,21 +1,15 @@
 use Rattle.std.proofs.Common.{◌≡◌, ◌∙◌, List, IsTrue, inr, ⊎_elim, sym, subst}
 use Rattle.sector_disk.specs.Disk.{content}
 use Rattle.fsck_list.specs.declared.finding.Finding.{Finding}
-use Rattle.hfsx_server.specs.Checking.{JudgesImage}
+use Rattle.hfsx_server.specs.Checking.{IsCheckFault, JudgesImage}
 use Rattle.hfsx_server.specs.Telling.{ToldUnlessFailed, findings_text}
-use Rattle.hfsx_server.proofs.Checked.{refusal_of_check, refused_unsound, told_broken, told_sound}
-use Rattle.hfsx_server.proofs.Statuses.{stopped_status}
+use Rattle.hfsx_server.proofs.Checked.{refused_unsound, told_broken, told_sound}
 use Rattle.hfsx_server.proofs.checking.check.Goals as goal
 
-pub returns-then-is_refusal-clause-unsound : goal.returns-then-is_refusal-clause-unsound
-returns-then-is_refusal-clause-unsound g c tells _ =
+pub returns-in-Err-Refused-clause-unsound : goal.returns-in-Err-Refused-clause-unsound
+returns-in-Err-Refused-clause-unsound g c tells _ =
     let c0 = content (g.R.SectorDisk.state c.args.rig.now) in
-    refused_unsound c0 c.in-Err.fault (refusal_of_check c0 c.in-Err.fault (c.in-Err.ensures.refused tells) (c.is_refusal.ensures.0 c.if-is_refusal.true))
-
-pub returns-else-is_refusal-clause-unsound : goal.returns-else-is_refusal-clause-unsound
-returns-else-is_refusal-clause-unsound g c tells is _ =
-    let stop = stopped_status c.in-Err.fault (λ is_refusal. absurd (cc (c.is_refusal.ensures.1 is_refusal, c.if-is_refusal.false))) in
-    ⊎_elim (λ d. absurd (cc (d.1, c.status.ensures, is))) (λ m. absurd (cc (m.1, c.status.ensures, is))) stop
+    refused_unsound c0 c.in-Err-Refused.why (subst (IsCheckFault c0) c.in-Err-Refused.field-0-is (c.in-Err-Refused.ensures.refused tells))
 
 pub returns-in-Ok-clause-sound : goal.returns-in-Ok-clause-sound
 returns-in-Ok-clause-sound g c tells _ =

@@ -2,10 +2,9 @@ use Rattle.std.proofs.Common.{◌≡◌, ◌<◌, ◌∙◌, ◌++◌, [], ℕ, 
 use Rattle.volume_make.specs.Layout.{free_of}
 use Rattle.hfsx_server.specs.Made.{made_layout}
 use Rattle.hfsx_server.specs.Telling.{Tells, refusal_text, size_refusal, formatted_text}
-use Rattle.hfsx_server.proofs.Formatted.{fresh_told, made_told, unmounted_told}
+use Rattle.hfsx_server.proofs.Formatted.{made_told}
 use Rattle.hfsx_server.proofs.MadeSizes.{no_size}
 use Rattle.hfsx_server.proofs.Telling.{too_small, too_large}
-use Rattle.hfsx_server.proofs.ThinMounts.{unmounted_mounts}
 use Rattle.hfsx_server.proofs.formatting.format.Goals as goal
 
 pub returns-then-sectors-lt-FEWEST-clause-refusal : goal.returns-then-sectors-lt-FEWEST-clause-refusal
@@ -39,12 +38,8 @@ returns-in-Err-clause-refused g c = (
 )
 
 pub returns-in-Ok-tell_formatted-clause-made : goal.returns-in-Ok-tell_formatted-clause-made
-returns-in-Ok-tell_formatted-clause-made g c tells _ other =
-    made_told (g.R.SectorDisk.state c.args.rig.now) (g.R.SectorDisk.state c.make_volume.new.disk) (g.R.SectorDisk.state c.tell_formatted.new.rig) c.tell_formatted.ensures.candidates (c.in-Ok.ensures.made tells other)
-
-pub returns-in-Ok-tell_formatted-clause-unmounted : goal.returns-in-Ok-tell_formatted-clause-unmounted
-returns-in-Ok-tell_formatted-clause-unmounted g c tells _ usual =
-    unmounted_told (g.R.SectorDisk.state c.make_volume.new.disk) (g.R.SectorDisk.state c.tell_formatted.new.rig) [] c.tell_formatted.ensures.candidates (c.in-Ok.ensures.unmounted tells usual)
+returns-in-Ok-tell_formatted-clause-made g c tells _ =
+    made_told (g.R.SectorDisk.state c.args.rig.now) (g.R.SectorDisk.state c.make_volume.new.disk) (g.R.SectorDisk.state c.tell_formatted.new.rig) c.tell_formatted.ensures.candidates (c.in-Ok.ensures.made tells)
 
 pub returns-in-Ok-tell_formatted-clause-told : goal.returns-in-Ok-tell_formatted-clause-told
 returns-in-Ok-tell_formatted-clause-told g c tells _ =
@@ -55,12 +50,3 @@ returns-in-Ok-tell_formatted-clause-told g c tells _ =
     subst (λ (n : ℕ). new.told ≡ old.told ++ formatted_text n (free_of (made_layout old.sectors))) blocks.blocks
     (subst (λ (n : ℕ). new.told ≡ old.told ++ formatted_text c.in-Ok.summary.blocks n) blocks.free
     (c.in-Ok-tell_formatted.ensures.told still ∙ ap (λ (l : List ℕ). l ++ formatted_text c.in-Ok.summary.blocks c.in-Ok.summary.free) c.make_volume.ensures.sink.told))
-
-pub returns-in-Ok-tell_formatted-clause-mounts : goal.returns-in-Ok-tell_formatted-clause-mounts
-returns-in-Ok-tell_formatted-clause-mounts g c tells _ usual =
-    let new = g.R.SectorDisk.state c.tell_formatted.new.rig in
-    unmounted_mounts new [] (unmounted_told (g.R.SectorDisk.state c.make_volume.new.disk) new [] c.tell_formatted.ensures.candidates (c.in-Ok.ensures.unmounted tells usual))
-
-pub returns-in-Ok-tell_formatted-clause-fresh : goal.returns-in-Ok-tell_formatted-clause-fresh
-returns-in-Ok-tell_formatted-clause-fresh g c tells _ usual =
-    fresh_told (g.R.SectorDisk.state c.make_volume.new.disk) (g.R.SectorDisk.state c.tell_formatted.new.rig) c.tell_formatted.ensures.candidates (c.in-Ok.ensures.fresh tells usual)

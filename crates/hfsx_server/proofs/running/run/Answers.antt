@@ -1,124 +1,136 @@
-use Rattle.std.proofs.Common.{◌≡◌, ◌≤◌, ◌∙◌, [], ⊎_elim, subst, arith}
-use Rattle.sector_disk.specs.Disk.{content}
-use Rattle.sector_disk.proofs.Writing.{same_after}
-use Rattle.hfsx_server.specs.Headline.{IsAnswered, IsAnsweredToTheLast, IsFinished}
-use Rattle.hfsx_server.specs.Serving.{RunSoFar}
-use Rattle.hfsx_server.specs.Volume.{IsRefusal, Refuses, Tree}
-use Rattle.hfsx_server.proofs.Finding.{refused_image}
-use Rattle.hfsx_server.proofs.Mounted.{one_tree}
-use Rattle.hfsx_server.proofs.Ran.{answered_before, few_lines, finished_before, headline_of, last_before, mounted_crashes, none_crashes, none_taken, refusal_of, rests_start}
-use Rattle.hfsx_server.proofs.Statuses.{rose_later, stopped_status}
+use Rattle.std.proofs.Common.{◌≡◌, ◌⊎◌, ◌∙◌, List, IsTrue, Result, Ok, Err, map, inl, inr, ⊎_elim, refl, sym, ap, subst, arith}
+use Rattle.std.specs.Prelude.{IfErr, IfOk, OnOk}
+use Rattle.sector_disk.specs.Disk.{OnlyReads, content}
+use Rattle.fsck_list.specs.declared.finding.Finding.{Finding}
+use Rattle.fsck_core.specs.Wants.{as_found}
+use Rattle.hfs_volume.specs.Mount.{IsMountable}
+use Rattle.hfs_serving.specs.Checking.{RefusesMount}
+use Rattle.hfs_serving.specs.Ending.{FinishesRun}
+use Rattle.hfs_serving.specs.declared.checking.MountRefusal.{MountRefusal}
+use Rattle.hfs_serving.specs.declared.telling.Stop.TheVariants as stop
+use Rattle.hfsx_server.specs.Telling.{ToldUnlessFailed, mount_text}
+use Rattle.hfsx_server.proofs.Finding.{unmounted}
+use Rattle.hfsx_server.proofs.Statuses.{is_disk, is_many, is_sink, is_source, no_done, no_refused, no_usage, stopped_status}
+use Rattle.hfsx_server.proofs.Telling.{told_from}
 use Rattle.hfsx_server.proofs.running.run.Goals as goal
 
-pub returns-in-Ok-clause-refused : goal.returns-in-Ok-clause-refused
-returns-in-Ok-clause-refused g c tells is = absurd (c.serve.ensures.no_refused is)
+-- ---- refused
 
-pub returns-in-Ok-clause-refuses : goal.returns-in-Ok-clause-refuses
-returns-in-Ok-clause-refuses g c tells none = absurd (none (c.in-Ok.server.names, c.in-Ok.ensures.found tells))
-
-pub returns-in-Ok-clause-unwritten : goal.returns-in-Ok-clause-unwritten
-returns-in-Ok-clause-unwritten g c is = absurd (c.serve.ensures.no_refused is)
-
-pub returns-in-Ok-clause-headline : goal.returns-in-Ok-clause-headline
-returns-in-Ok-clause-headline g c tells settled start mounts =
+pub returns-in-Ok-Err-clause-refused : goal.returns-in-Ok-Err-clause-refused
+returns-in-Ok-Err-clause-refused g c tells _ =
     let s0 = g.R.SectorDisk.state c.args.rig.now in
-    let s1 = g.R.SectorDisk.state c.mount.new.rig in
-    let s2 = g.R.SectorDisk.state c.serve.new.rig in
-    let c0 = g.S.Source.stream c.args.source.now in
-    let c2 = g.S.Source.stream c.serve.new.source in
-    let same : c.in-Ok.server.names ≡ start = one_tree (content s0) c.in-Ok.server.names start (c.in-Ok.ensures.found tells) mounts in
-    let served = c.serve.ensures.served (c.mount.ensures.same.tells ∙ tells) in
-    let run = served.0 in
-    let crashes = mounted_crashes start s0 s1 s2 run (c.mount.ensures.crash tells settled start mounts) c.mount.ensures.sink (subst (λ (t : Tree). RunSoFar t s1 run s2) same served.1) in (
-      run,
-      headline_of start s0 c0 run s2 c2 (rests_start s0 start settled mounts) (g.met.R.SectorDisk.only_now c.args.rig.now) crashes served.2,
-      λ done. finished_before start s0 s1 c0 run s2 c2 c.mount.ensures.sink.told (subst (λ (t : Tree). IsFinished t s1 c0 run s2 c2) same (served.3 done).0),
+    let s1 = g.R.SectorDisk.state c.serve_image.new.rig in
+    let s2 = g.R.SectorDisk.state c.tell_mount.new.rig in
+    let found = c.serve_image.new.checker.found in
+    let why = c.in-Ok-Err.why in
+    let refuses = subst (λ (a : Result (Unit {0}) MountRefusal). IfErr a (RefusesMount (content s0) (map as_found found))) c.in-Ok-Err.field-0-is (c.in-Ok-Err.ensures.refused tells) in
+    let reads = subst (λ (a : Result (Unit {0}) MountRefusal). IfErr a (λ _. OnlyReads s0 s1)) c.in-Ok-Err.field-0-is c.in-Ok-Err.ensures.unwritten in (
+      found,
+      why,
+      refuses,
+      told_from s0 s1 s2 (mount_text found why) reads.sink.told reads.sink.faults (subst (λ (l : List Finding). ToldUnlessFailed s1 s2 (mount_text l why)) c.as_slice.ensures.items (c.tell_mount.ensures.told (reads.same.tells ∙ tells))),
     )
 
-pub returns-in-Ok-clause-few : goal.returns-in-Ok-clause-few
-returns-in-Ok-clause-few g c told tells settled mountable done =
-    let served = c.serve.ensures.served (c.mount.ensures.same.tells ∙ tells) in
-    let all = served.3 done in
-    few_lines (g.S.Source.stream c.args.source.now) served.0 (all.0.all told) all.1
-
-pub returns-in-Ok-clause-many : goal.returns-in-Ok-clause-many
-returns-in-Ok-clause-many g c told tells is = c.serve.ensures.many (c.mount.ensures.same.tells ∙ tells) told is
-
-pub returns-in-Ok-clause-disk : goal.returns-in-Ok-clause-disk
-returns-in-Ok-clause-disk g c = record {
-  later = omega (arith, c.mount.ensures.cause.later, c.serve.ensures.disk.later);
-  rose = λ is. rose_later _ _ _ c.mount.ensures.cause.later (c.serve.ensures.disk.rose is);
-}
-
-pub returns-in-Ok-clause-sink : goal.returns-in-Ok-clause-sink
-returns-in-Ok-clause-sink g c =
+pub returns-in-Ok-Err-clause-unwritten : goal.returns-in-Ok-Err-clause-unwritten
+returns-in-Ok-Err-clause-unwritten g c _ =
     let s0 = g.R.SectorDisk.state c.args.rig.now in
-    let s1 = g.R.SectorDisk.state c.mount.new.rig in
-    let s2 = g.R.SectorDisk.state c.serve.new.rig in
-    let later : s0.sink_faults ≤ s1.sink_faults = omega (arith, c.mount.ensures.sink.faults) in
-    record {
-      later = omega (arith, later, c.serve.ensures.sink.later);
-      rose = λ is. rose_later s0.sink_faults s1.sink_faults s2.sink_faults later (c.serve.ensures.sink.rose is);
-    }
+    let s1 = g.R.SectorDisk.state c.serve_image.new.rig in
+    let reads = subst (λ (a : Result (Unit {0}) MountRefusal). IfErr a (λ _. OnlyReads s0 s1)) c.in-Ok-Err.field-0-is c.in-Ok-Err.ensures.unwritten in
+    c.tell_mount.ensures.candidates ∙ reads.candidates
 
-pub returns-in-Ok-clause-same : goal.returns-in-Ok-clause-same
-returns-in-Ok-clause-same g c = same_after (g.R.SectorDisk.state c.args.rig.now) (g.R.SectorDisk.state c.mount.new.rig) (g.R.SectorDisk.state c.serve.new.rig) c.mount.ensures.same c.serve.ensures.same
+pub returns-in-Ok-Err-clause-headline : goal.returns-in-Ok-Err-clause-headline
+returns-in-Ok-Err-clause-headline g c tells settled capacity start mounts =
+    let c0 = content (g.R.SectorDisk.state c.args.rig.now) in
+    let found = map as_found c.serve_image.new.checker.found in
+    let refuses = subst (λ (a : Result (Unit {0}) MountRefusal). IfErr a (RefusesMount c0 found)) c.in-Ok-Err.field-0-is (c.in-Ok-Err.ensures.refused tells) in
+    absurd (unmounted c0 found c.in-Ok-Err.why refuses (capacity, start, mounts))
 
-pub returns-then-is_refusal-clause-headline : goal.returns-then-is_refusal-clause-headline
-returns-then-is_refusal-clause-headline g c tells settled start mounts =
-    let s0 = g.R.SectorDisk.state c.args.rig.now in
-    let s1 = g.R.SectorDisk.state c.mount.new.rig in
-    let s2 = g.R.SectorDisk.state c.tell_fault.new.rig in
-    let fault = c.in-Err.fault in
-    let is_refusal : IsRefusal fault = c.is_refusal.ensures.0 c.if-is_refusal.true in
-    let refuses : Refuses (content s0) fault = refusal_of (content s0) fault (c.in-Err.ensures.refused tells) is_refusal in
-    absurd (refused_image (content s0) fault refuses (start, mounts))
+pub returns-in-Ok-Err-clause-disk : goal.returns-in-Ok-Err-clause-disk
+returns-in-Ok-Err-clause-disk g c =
+    let faults = c.tell_mount.ensures.faults in
+    record { later = omega (arith, c.serve_image.ensures.faults.later, faults); rose = λ is. absurd (cc is) }
 
-pub returns-else-is_refusal-clause-few : goal.returns-else-is_refusal-clause-few
-returns-else-is_refusal-clause-few g c told tells settled mountable is =
-    let stop = stopped_status c.in-Err.fault (λ is_refusal. absurd (cc (c.is_refusal.ensures.1 is_refusal, c.if-is_refusal.false))) in
-    ⊎_elim (λ d. absurd (cc (d.1, c.status.ensures, is))) (λ m. absurd (cc (m.1, c.status.ensures, is))) stop
+pub returns-in-Ok-Err-clause-sink : goal.returns-in-Ok-Err-clause-sink
+returns-in-Ok-Err-clause-sink g c = record { later = omega (arith, c.serve_image.ensures.faults.sink_later, c.tell_mount.ensures.sink); rose = λ is. absurd (cc is) }
 
-pub returns-else-is_refusal-clause-headline : goal.returns-else-is_refusal-clause-headline
-returns-else-is_refusal-clause-headline g c tells settled start mounts =
-    let stop = stopped_status c.in-Err.fault (λ is_refusal. absurd (cc (c.is_refusal.ensures.1 is_refusal, c.if-is_refusal.false))) in
-    let s0 = g.R.SectorDisk.state c.args.rig.now in
-    let s1 = g.R.SectorDisk.state c.mount.new.rig in
-    let c0 = g.S.Source.stream c.args.source.now in (
-      [],
-      headline_of start s0 c0 [] s1 c0 (rests_start s0 start settled mounts) (g.met.R.SectorDisk.only_now c.args.rig.now)
-          (none_crashes start s0 s1 (c.mount.ensures.crash tells settled start mounts) c.mount.ensures.sink) (λ told. none_taken c0),
-      λ is. ⊎_elim (λ d. absurd (cc (d.1, c.status.ensures, is))) (λ m. absurd (cc (m.1, c.status.ensures, is))) stop,
-    )
+pub returns-in-Ok-Err-clause-source : goal.returns-in-Ok-Err-clause-source
+returns-in-Ok-Err-clause-source g c = record { later = c.serve_image.ensures.later; rose = λ is. absurd (cc is) }
 
-pub returns-in-Ok-clause-source_stopped : goal.returns-in-Ok-clause-source_stopped
-returns-in-Ok-clause-source_stopped g c tells start mounts is =
-    let s0 = g.R.SectorDisk.state c.args.rig.now in
-    let s1 = g.R.SectorDisk.state c.mount.new.rig in
-    let s2 = g.R.SectorDisk.state c.serve.new.rig in
-    let c0 = g.S.Source.stream c.args.source.now in
-    let c2 = g.S.Source.stream c.serve.new.source in
-    let same : c.in-Ok.server.names ≡ start = one_tree (content s0) c.in-Ok.server.names start (c.in-Ok.ensures.found tells) mounts in
-    let answered = c.serve.ensures.source_stopped (c.mount.ensures.same.tells ∙ tells) is in
-    (answered.0, answered_before start s0 s1 c0 answered.0 s2 c2 c.mount.ensures.sink.told (subst (λ (t : Tree). IsAnswered t s1 c0 answered.0 s2 c2) same answered.1))
+pub returns-in-Ok-Err-clause-same : goal.returns-in-Ok-Err-clause-same
+returns-in-Ok-Err-clause-same g c =
+    let first = c.serve_image.ensures.same in
+    let second = c.tell_mount.ensures.same in
+    record { tells = second.tells ∙ first.tells; tells_left = second.tells_left ∙ first.tells_left; names = second.names ∙ first.names; sectors = second.sectors ∙ first.sectors }
 
-pub returns-else-is_refusal-clause-source_stopped : goal.returns-else-is_refusal-clause-source_stopped
-returns-else-is_refusal-clause-source_stopped g c tells start mounts is =
-    let stop = stopped_status c.in-Err.fault (λ is_refusal. absurd (cc (c.is_refusal.ensures.1 is_refusal, c.if-is_refusal.false))) in
-    ⊎_elim (λ d. absurd (cc (d.1, c.status.ensures, is))) (λ m. absurd (cc (m.1, c.status.ensures, is))) stop
+-- ---- served to the end
 
-pub returns-in-Ok-clause-many_stopped : goal.returns-in-Ok-clause-many_stopped
-returns-in-Ok-clause-many_stopped g c tells start mounts is =
-    let s0 = g.R.SectorDisk.state c.args.rig.now in
-    let s1 = g.R.SectorDisk.state c.mount.new.rig in
-    let s2 = g.R.SectorDisk.state c.serve.new.rig in
-    let c0 = g.S.Source.stream c.args.source.now in
-    let c2 = g.S.Source.stream c.serve.new.source in
-    let same : c.in-Ok.server.names ≡ start = one_tree (content s0) c.in-Ok.server.names start (c.in-Ok.ensures.found tells) mounts in
-    let answered = c.serve.ensures.many_stopped (c.mount.ensures.same.tells ∙ tells) is in
-    (answered.0, last_before start s0 s1 c0 answered.0 s2 c2 c.mount.ensures.sink.told (subst (λ (t : Tree). IsAnsweredToTheLast t s1 c0 answered.0 s2 c2) same answered.1))
+pub returns-in-Ok-Ok-clause-refuses : goal.returns-in-Ok-Ok-clause-refuses
+returns-in-Ok-Ok-clause-refuses g c tells none =
+    let c0 = content (g.R.SectorDisk.state c.args.rig.now) in
+    absurd (none (subst (λ (a : Result (Unit {0}) MountRefusal). OnOk a (IsMountable c0)) c.in-Ok-Ok.field-0-is (c.in-Ok-Ok.ensures.served tells)))
 
-pub returns-else-is_refusal-clause-many_stopped : goal.returns-else-is_refusal-clause-many_stopped
-returns-else-is_refusal-clause-many_stopped g c tells start mounts is =
-    let stop = stopped_status c.in-Err.fault (λ is_refusal. absurd (cc (c.is_refusal.ensures.1 is_refusal, c.if-is_refusal.false))) in
-    ⊎_elim (λ d. absurd (cc (d.1, c.status.ensures, is))) (λ m. absurd (cc (m.1, c.status.ensures, is))) stop
+pub returns-in-Ok-Ok-clause-headline : goal.returns-in-Ok-Ok-clause-headline
+returns-in-Ok-Ok-clause-headline g c tells settled capacity start mounts = c.serve_image.ensures.promises tells settled capacity start mounts
+
+pub returns-in-Ok-Ok-clause-finished : goal.returns-in-Ok-Ok-clause-finished
+returns-in-Ok-Ok-clause-finished g c tells settled capacity start mounts _ =
+    let r0 = g.R.SectorDisk.state c.args.rig.now in
+    let r1 = g.R.SectorDisk.state c.serve_image.new.rig in
+    let s0 = g.S.Source.stream c.args.source.now in
+    let s1 = g.S.Source.stream c.serve_image.new.source in
+    subst (λ (a : Result (Unit {0}) MountRefusal). OnOk a (FinishesRun capacity start r0 s0 r1 s1)) c.in-Ok-Ok.field-0-is (c.in-Ok-Ok.ensures.done tells settled capacity start mounts)
+
+pub returns-in-Ok-Ok-clause-disk : goal.returns-in-Ok-Ok-clause-disk
+returns-in-Ok-Ok-clause-disk g c = record { later = c.serve_image.ensures.faults.later; rose = λ is. absurd (cc is) }
+
+pub returns-in-Ok-Ok-clause-sink : goal.returns-in-Ok-Ok-clause-sink
+returns-in-Ok-Ok-clause-sink g c = record { later = c.serve_image.ensures.faults.sink_later; rose = λ is. absurd (cc is) }
+
+pub returns-in-Ok-Ok-clause-source : goal.returns-in-Ok-Ok-clause-source
+returns-in-Ok-Ok-clause-source g c = record { later = c.serve_image.ensures.later; rose = λ is. absurd (cc is) }
+
+-- ---- ended before
+
+pub returns-clause-refused : goal.returns-clause-refused
+returns-clause-refused g c tells is = absurd (no_refused c.in-Err.stop (sym c.status_of.ensures ∙ is))
+
+pub returns-clause-refuses : goal.returns-clause-refuses
+returns-clause-refuses g c tells none = ⊎_elim (λ disk. inr (inl (c.status_of.ensures ∙ stopped_status c.in-Err.stop stop.Disk disk))) (λ memory. inr (inr (c.status_of.ensures ∙ stopped_status c.in-Err.stop stop.Memory memory))) (c.in-Err.ensures.unfound tells none)
+
+pub returns-clause-unwritten : goal.returns-clause-unwritten
+returns-clause-unwritten g c is = absurd (no_refused c.in-Err.stop (sym c.status_of.ensures ∙ is))
+
+pub returns-clause-headline : goal.returns-clause-headline
+returns-clause-headline g c tells settled capacity start mounts = c.serve_image.ensures.promises tells settled capacity start mounts
+
+pub returns-clause-finished : goal.returns-clause-finished
+returns-clause-finished g c tells settled capacity start mounts is = absurd (no_done c.in-Err.stop (sym c.status_of.ensures ∙ is))
+
+pub returns-clause-source_stopped : goal.returns-clause-source_stopped
+returns-clause-source_stopped g c tells settled capacity start mounts is =
+    c.serve_image.ensures.stopped tells settled capacity start mounts (c.in-Err.is ∙ ap Err (is_source c.in-Err.stop (sym c.status_of.ensures ∙ is)))
+
+pub returns-clause-many_stopped : goal.returns-clause-many_stopped
+returns-clause-many_stopped g c tells settled capacity start mounts is =
+    c.serve_image.ensures.to_the_last tells settled capacity start mounts (c.in-Err.is ∙ ap Err (is_many c.in-Err.stop (sym c.status_of.ensures ∙ is)))
+
+pub returns-clause-end : goal.returns-clause-end
+returns-clause-end g c told is = absurd (no_done c.in-Err.stop (sym c.status_of.ensures ∙ is))
+
+pub returns-clause-few : goal.returns-clause-few
+returns-clause-few g c told is = absurd (no_done c.in-Err.stop (sym c.status_of.ensures ∙ is))
+
+pub returns-clause-many : goal.returns-clause-many
+returns-clause-many g c told is = c.serve_image.ensures.many told (c.in-Err.is ∙ ap Err (is_many c.in-Err.stop (sym c.status_of.ensures ∙ is)))
+
+pub returns-clause-no_usage : goal.returns-clause-no_usage
+returns-clause-no_usage g c is = no_usage c.in-Err.stop (sym c.status_of.ensures ∙ is)
+
+pub returns-clause-disk : goal.returns-clause-disk
+returns-clause-disk g c = record { later = c.serve_image.ensures.faults.later; rose = λ is. c.serve_image.ensures.faults.disk (c.in-Err.is ∙ ap Err (is_disk c.in-Err.stop (sym c.status_of.ensures ∙ is))) }
+
+pub returns-clause-sink : goal.returns-clause-sink
+returns-clause-sink g c = record { later = c.serve_image.ensures.faults.sink_later; rose = λ is. c.serve_image.ensures.faults.sink (c.in-Err.is ∙ ap Err (is_sink c.in-Err.stop (sym c.status_of.ensures ∙ is))) }
+
+pub returns-clause-source : goal.returns-clause-source
+returns-clause-source g c = record { later = c.serve_image.ensures.later; rose = λ is. c.serve_image.ensures.faults.source (c.in-Err.is ∙ ap Err (is_source c.in-Err.stop (sym c.status_of.ensures ∙ is))) }

@@ -1,12 +1,10 @@
-use Rattle.std.proofs.Common.{◌∙◌, ⊎_elim, refl, sym}
+use Rattle.std.proofs.Common.{◌∙◌, map, ⊎_elim, refl, sym}
 use Rattle.sector_disk.specs.Disk.{content}
-use Rattle.hfsx_server.proofs.Finding.{refused_image}
+use Rattle.fsck_core.specs.Wants.{as_found}
+use Rattle.hfsx_server.proofs.Finding.{unmounted}
 use Rattle.hfsx_server.specs.Words.{texts}
 use Rattle.hfsx_server.proofs.Usage.{no_check, no_format, not_both, same_sectors}
 use Rattle.hfsx_server.proofs.top.hfsx.Goals as goal
-
-pub returns-then-sectors-clause-formatted : goal.returns-then-sectors-clause-formatted
-returns-then-sectors-clause-formatted g c words tells is usual = (c.format.ensures.unmounted tells is usual, c.format.ensures.mounts tells is usual)
 
 pub returns-else-sectors-clause-usage : goal.returns-else-sectors-clause-usage
 returns-else-sectors-clause-usage g c =
@@ -37,13 +35,16 @@ pub returns-then-sectors-clause-run_refuses : goal.returns-then-sectors-clause-r
 returns-then-sectors-clause-run_refuses g c run tells none = absurd (not_both (texts c.args.words.now) c.in-Format.sectors run c.in-Format.ensures)
 
 pub returns-then-sectors-clause-headline : goal.returns-then-sectors-clause-headline
-returns-then-sectors-clause-headline g c run tells settled start mounts = absurd (not_both (texts c.args.words.now) c.in-Format.sectors run c.in-Format.ensures)
+returns-then-sectors-clause-headline g c run tells settled capacity start mounts = absurd (not_both (texts c.args.words.now) c.in-Format.sectors run c.in-Format.ensures)
+
+pub returns-then-sectors-clause-finished : goal.returns-then-sectors-clause-finished
+returns-then-sectors-clause-finished g c run tells settled capacity start mounts is = absurd (not_both (texts c.args.words.now) c.in-Format.sectors run c.in-Format.ensures)
 
 pub returns-then-sectors-clause-end : goal.returns-then-sectors-clause-end
 returns-then-sectors-clause-end g c run told is = absurd (not_both (texts c.args.words.now) c.in-Format.sectors run c.in-Format.ensures)
 
 pub returns-then-sectors-clause-few : goal.returns-then-sectors-clause-few
-returns-then-sectors-clause-few g c run told tells settled mountable is = absurd (not_both (texts c.args.words.now) c.in-Format.sectors run c.in-Format.ensures)
+returns-then-sectors-clause-few g c run told is = absurd (not_both (texts c.args.words.now) c.in-Format.sectors run c.in-Format.ensures)
 
 pub returns-else-sectors-clause-run_refuses : goal.returns-else-sectors-clause-run_refuses
 returns-else-sectors-clause-run_refuses g c run tells none = absurd (not_both (texts c.args.words.now) c.in-Format.sectors run c.in-Format.ensures)
@@ -52,20 +53,26 @@ pub returns-in-Wrong-clause-run_refuses : goal.returns-in-Wrong-clause-run_refus
 returns-in-Wrong-clause-run_refuses g c run tells none = absurd (c.in-Wrong.ensures.0 run)
 
 pub returns-else-sectors-clause-headline : goal.returns-else-sectors-clause-headline
-returns-else-sectors-clause-headline g c run tells settled start mounts = absurd (not_both (texts c.args.words.now) c.in-Format.sectors run c.in-Format.ensures)
+returns-else-sectors-clause-headline g c run tells settled capacity start mounts = absurd (not_both (texts c.args.words.now) c.in-Format.sectors run c.in-Format.ensures)
+
+pub returns-else-sectors-clause-finished : goal.returns-else-sectors-clause-finished
+returns-else-sectors-clause-finished g c run tells settled capacity start mounts is = absurd (not_both (texts c.args.words.now) c.in-Format.sectors run c.in-Format.ensures)
 
 pub returns-in-Wrong-clause-headline : goal.returns-in-Wrong-clause-headline
-returns-in-Wrong-clause-headline g c run tells settled start mounts = absurd (c.in-Wrong.ensures.0 run)
+returns-in-Wrong-clause-headline g c run tells settled capacity start mounts = absurd (c.in-Wrong.ensures.0 run)
+
+pub returns-in-Wrong-clause-finished : goal.returns-in-Wrong-clause-finished
+returns-in-Wrong-clause-finished g c run tells settled capacity start mounts is = absurd (c.in-Wrong.ensures.0 run)
 
 pub returns-in-Run-clause-run_refused : goal.returns-in-Run-clause-run_refused
 returns-in-Run-clause-run_refused g c run tells is =
-    let told = c.run.ensures.refused tells is in (told, refused_image (content (g.R.SectorDisk.state c.args.rig.now)) told.0 told.1)
+    let told = c.run.ensures.refused tells is in (told, unmounted (content (g.R.SectorDisk.state c.args.rig.now)) (map as_found told.0) told.1 told.2)
 
 pub returns-then-sectors-clause-source_stopped : goal.returns-then-sectors-clause-source_stopped
-returns-then-sectors-clause-source_stopped g c run tells start mounts is = absurd (not_both (texts c.args.words.now) c.in-Format.sectors run c.in-Format.ensures)
+returns-then-sectors-clause-source_stopped g c run tells capacity start mounts is = absurd (not_both (texts c.args.words.now) c.in-Format.sectors run c.in-Format.ensures)
 
 pub returns-then-sectors-clause-many_stopped : goal.returns-then-sectors-clause-many_stopped
-returns-then-sectors-clause-many_stopped g c run tells start mounts is = absurd (not_both (texts c.args.words.now) c.in-Format.sectors run c.in-Format.ensures)
+returns-then-sectors-clause-many_stopped g c run tells capacity start mounts is = absurd (not_both (texts c.args.words.now) c.in-Format.sectors run c.in-Format.ensures)
 
 pub returns-then-sectors-clause-check_sound : goal.returns-then-sectors-clause-check_sound
 returns-then-sectors-clause-check_sound g c check tells is = absurd (no_format (texts c.args.words.now) c.in-Format.sectors check c.in-Format.ensures)
@@ -124,14 +131,8 @@ returns-in-Check-clause-format_refusal g c format tells is = absurd (no_format (
 pub returns-in-Check-clause-format_told : goal.returns-in-Check-clause-format_told
 returns-in-Check-clause-format_told g c format tells is = absurd (no_format (texts c.args.words.now) _ c.in-Check.ensures format)
 
-pub returns-in-Check-clause-formatted : goal.returns-in-Check-clause-formatted
-returns-in-Check-clause-formatted g c format tells is usual = absurd (no_format (texts c.args.words.now) _ c.in-Check.ensures format)
-
-pub returns-in-Check-clause-format_fresh : goal.returns-in-Check-clause-format_fresh
-returns-in-Check-clause-format_fresh g c format tells is usual = absurd (no_format (texts c.args.words.now) _ c.in-Check.ensures format)
-
 pub returns-in-Check-clause-format_made : goal.returns-in-Check-clause-format_made
-returns-in-Check-clause-format_made g c format tells is other = absurd (no_format (texts c.args.words.now) _ c.in-Check.ensures format)
+returns-in-Check-clause-format_made g c format tells is = absurd (no_format (texts c.args.words.now) _ c.in-Check.ensures format)
 
 pub returns-in-Check-clause-run_refused : goal.returns-in-Check-clause-run_refused
 returns-in-Check-clause-run_refused g c run tells is = absurd (no_check (texts c.args.words.now) run c.in-Check.ensures)
@@ -140,19 +141,22 @@ pub returns-in-Check-clause-run_refuses : goal.returns-in-Check-clause-run_refus
 returns-in-Check-clause-run_refuses g c run tells none = absurd (no_check (texts c.args.words.now) run c.in-Check.ensures)
 
 pub returns-in-Check-clause-headline : goal.returns-in-Check-clause-headline
-returns-in-Check-clause-headline g c run tells settled start mounts = absurd (no_check (texts c.args.words.now) run c.in-Check.ensures)
+returns-in-Check-clause-headline g c run tells settled capacity start mounts = absurd (no_check (texts c.args.words.now) run c.in-Check.ensures)
+
+pub returns-in-Check-clause-finished : goal.returns-in-Check-clause-finished
+returns-in-Check-clause-finished g c run tells settled capacity start mounts is = absurd (no_check (texts c.args.words.now) run c.in-Check.ensures)
 
 pub returns-in-Check-clause-source_stopped : goal.returns-in-Check-clause-source_stopped
-returns-in-Check-clause-source_stopped g c run tells start mounts is = absurd (no_check (texts c.args.words.now) run c.in-Check.ensures)
+returns-in-Check-clause-source_stopped g c run tells capacity start mounts is = absurd (no_check (texts c.args.words.now) run c.in-Check.ensures)
 
 pub returns-in-Check-clause-many_stopped : goal.returns-in-Check-clause-many_stopped
-returns-in-Check-clause-many_stopped g c run tells start mounts is = absurd (no_check (texts c.args.words.now) run c.in-Check.ensures)
+returns-in-Check-clause-many_stopped g c run tells capacity start mounts is = absurd (no_check (texts c.args.words.now) run c.in-Check.ensures)
 
 pub returns-in-Check-clause-end : goal.returns-in-Check-clause-end
 returns-in-Check-clause-end g c run told is = absurd (no_check (texts c.args.words.now) run c.in-Check.ensures)
 
 pub returns-in-Check-clause-few : goal.returns-in-Check-clause-few
-returns-in-Check-clause-few g c run told tells settled mountable is = absurd (no_check (texts c.args.words.now) run c.in-Check.ensures)
+returns-in-Check-clause-few g c run told is = absurd (no_check (texts c.args.words.now) run c.in-Check.ensures)
 
 pub returns-in-Check-clause-check_found : goal.returns-in-Check-clause-check_found
 returns-in-Check-clause-check_found g c check tells is = (c.check.ensures.unsound tells is, c.check.ensures.found tells is)

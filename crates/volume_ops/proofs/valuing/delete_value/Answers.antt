@@ -7,7 +7,7 @@ use Rattle.btree_node.specs.TreeFile.{attributes_form}
 use Rattle.btree_file.proofs.StandingLaws.{tree_held, pairs_held}
 use Rattle.hfs_volume.specs.Changes.{AreSortedAttributes, DropsAttribute}
 use Rattle.volume_ops.proofs.AttributesEdited.{holds_again}
-use Rattle.volume_ops.proofs.EditsOn.{pairs_again, takes_renamed}
+use Rattle.volume_ops.proofs.EditsOn.{edits_renamed, pairs_again, takes_renamed}
 use Rattle.volume_ops.proofs.valuing.delete_value.Goals as goal
 
 pub delete-requires-clause-tree : goal.delete-requires-clause-tree
@@ -50,6 +50,12 @@ returns-clause-takes g c names =
     let tree_is = c.tree-1.given.1 (sym (ap (λ (l : List ℕ). get_or l 0 0) c.delete.ensures.same.names)) in
     let space_is = c.space-1.given.1 (sym (ap (λ (l : List ℕ). get_or l 1 0) c.delete.ensures.same.names)) in
     rw (tree_is, space_is) (takes_renamed _ _ names c.args.tree.now c.delete.new.store.tree.now (g.P.SectorView.space c.args.space.now) (g.P.SectorView.space c.delete.new.store.space.now) 1 266 c.delete.ensures.takes)
+
+pub returns-clause-edits : goal.returns-clause-edits
+returns-clause-edits g c names =
+    let tree_is = c.tree-1.given.1 (sym (ap (λ (l : List ℕ). get_or l 0 0) c.delete.ensures.same.names)) in
+    let space_is = c.space-1.given.1 (sym (ap (λ (l : List ℕ). get_or l 1 0) c.delete.ensures.same.names)) in
+    rw (tree_is, space_is) (edits_renamed _ _ names c.args.tree.now c.delete.new.store.tree.now (g.P.SectorView.space c.args.space.now) (g.P.SectorView.space c.delete.new.store.space.now) 1 266 c.delete.result c.delete.ensures.edits)
 
 pub returns-clause-below : goal.returns-clause-below
 returns-clause-below g c =

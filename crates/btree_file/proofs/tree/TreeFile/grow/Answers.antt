@@ -3,6 +3,7 @@ use Rattle.std.specs.Prelude.{Option, Some, None, IfSome, IsSome}
 use Rattle.std.specs.List.{All}
 use Rattle.std.proofs.lemmas.Bool.{cases_eq, true≢false}
 use Rattle.fork_map.specs.Blocks.{blocks_of, fork_sectors}
+use Rattle.fork_map.specs.Cut.{join}
 use Rattle.fork_map.proofs.Laws.{no_sectors}
 use Rattle.sector_disk.specs.Space.{Space}
 use Rattle.btree_file.specs.Frame.{PutsWithin}
@@ -164,6 +165,7 @@ returns-clause-grown g c = λ tells.
       total = c.add_nodes.ensures.total told_next ∙ goal_is;
       free = omega (arith, counts.free, c.add_nodes.ensures.map told_next, map_same, items, c.add_nodes.ensures.total told_next, goal_is, count_is);
       blocks = ap blocks_of counts.fork ∙ blocks;
+      extents = counts.fork ∙ planned (λ growth. growth.fork ≡ join tree.fork (c.args.run ∷ [])) c.in_ok-growth.field-0 c.in-Some.growth c.in-Some.is c.in_ok-growth.ensures.extents;
       per_block = counts.per_block;
       grew = record {
         more_blocks = blocks_of (c.args.run ∷ []);

@@ -21,7 +21,7 @@ gap nodes counted bits few is = omega (arith, few, is)
 pub returns-then-not-sectors_differ-clause-found : goal.returns-then-not-sectors_differ-clause-found
 returns-then-not-sectors_differ-clause-found c = λ some block apart.
     let tree : TreeFile = c.args.self.now in
-    absurd (true≢false (sym (c.if-not-sectors_differ.ensures.1 (subst (λ (b : List ℕ). AreApart (sectors_of tree.per_block b)) (sym (longer tree.fork c.in_ok-fork.fork c.as_slice.result.now c.args.run c.as_slice.ensures c.in_ok-fork.ensures)) apart))))
+    absurd (true≢false (sym (c.if-not-sectors_differ.ensures.1 (subst (λ (b : List ℕ). AreApart (sectors_of tree.per_block b)) (sym (longer tree.fork c.in_ok-fork.fork c.as_slice.result.now c.args.run c.as_slice.ensures c.in_ok-fork.ensures.blocks)) apart))))
 
 pub returns-clause-count : goal.returns-clause-count
 returns-clause-count c =

@@ -2,7 +2,7 @@ use Rattle.std.proofs.Common.{◌≡◌, ◌≢◌, ◌∷◌, [], ℕ, ⊎_elim
 use Rattle.std.specs.Prelude.{IsTrue}
 use Rattle.std.proofs.lemmas.Bool.{cases_eq}
 use Rattle.jnl_store.specs.Store.{faults_of}
-use Rattle.hfs_serving.proofs.Grounding.{commit_leaves, commit_makes, heads_on, kept_after, keeps_tells, same_anchor, serves_after, sizes_over, tells_still, told_disk}
+use Rattle.hfs_serving.proofs.Grounding.{commit_leaves, commit_makes, heads_on, kept_after, keeps_tells, same_anchor, same_rig, serves_after, sizes_over, tells_still, told_disk}
 use Rattle.std.proofs.Common.{Result, arith}
 use Rattle.std.specs.Prelude.{OnErr}
 use Rattle.sector_disk.specs.Cause.{Rose}
@@ -66,7 +66,7 @@ pub returns-in-Ok-clause-still : goal.returns-in-Ok-clause-still
 returns-in-Ok-clause-still g c capacity serves =
     let self = c.args.self.now in
     let none : faults_of self.store.now ≡ 0 = zero_is (faults_of self.store.now) (λ some. let failed = (c.commit.ensures.failed some).0 in let is = c.in-Ok.is in absurd (cc (failed, is))) in
-    serves_after self.store.now c.commit.new.self (g.R.SectorDisk.state self.disk.now) (g.R.SectorDisk.state c.commit.new.disk) capacity serves c.commit.ensures.journal c.commit.ensures.still_fits
+    serves_after self.store.now c.commit.new.self (g.R.SectorDisk.state self.disk.now) (g.R.SectorDisk.state c.commit.new.disk) capacity serves c.commit.ensures.room c.commit.ensures.journal c.commit.ensures.still_fits
     (λ tells. (c.in-Ok.ensures.done none (subst (λ t. IsTrue t) c.commit.ensures.same.tells tells)).keeps)
 
 pub returns-in-Ok-clause-tells : goal.returns-in-Ok-clause-tells
@@ -87,12 +87,12 @@ invariant_of-self g c =
 pub returns-in-Ok-clause-anchor : goal.returns-in-Ok-clause-anchor
 returns-in-Ok-clause-anchor g c =
     let same = same_anchor c.args.self.now.store.now c.commit.new.self c.commit.ensures.journal in
-    λ i. record { journal = same i; names = c.args.self.now.store.ghost_name ∷ c.args.self.now.disk.ghost_name ∷ [] }
+    λ i. record { journal = same i; rig = same_rig c.commit.ensures.same i; names = c.args.self.now.store.ghost_name ∷ c.args.self.now.disk.ghost_name ∷ [] }
 
 pub returns-in-Err-clause-anchor : goal.returns-in-Err-clause-anchor
 returns-in-Err-clause-anchor g c =
     let same = same_anchor c.args.self.now.store.now c.commit.new.self c.commit.ensures.journal in
-    λ i. record { journal = same i; names = c.args.self.now.store.ghost_name ∷ c.args.self.now.disk.ghost_name ∷ [] }
+    λ i. record { journal = same i; rig = same_rig c.commit.ensures.same i; names = c.args.self.now.store.ghost_name ∷ c.args.self.now.disk.ghost_name ∷ [] }
 
 pub returns-in-Ok-clause-counts : goal.returns-in-Ok-clause-counts
 returns-in-Ok-clause-counts g c =

@@ -1,6 +1,6 @@
 use Rattle.std.proofs.Common.{◌∷◌, [], get_or, ap}
 use Rattle.hfs_serving.specs.Grounds.{anchor_of}
-use Rattle.hfs_serving.proofs.Grounding.{rests_on_disk, seen_outside, serves_still}
+use Rattle.hfs_serving.proofs.Grounding.{rests_on_disk, same_rig, seen_outside, serves_still, shows_journal}
 use Rattle.std.proofs.Common.{arith}
 use Rattle.hfs_serving.proofs.space.SpaceGround.look.Goals as goal
 
@@ -23,8 +23,16 @@ returns-clause-sees g c capacity committed first follows serves tells touches =
     (g.met.R.SectorDisk.well_formed self.disk.now) follows serves tells touches
 
 pub returns-clause-anchor : goal.returns-clause-anchor
-returns-clause-anchor g c first follows same = λ i. record { journal = ap anchor_of follows.plan i; names = get_or (same i) 0 0 ∷ get_or (same i) 1 0 ∷ [] }
+returns-clause-anchor g c first follows same = λ i. record { journal = ap anchor_of follows.plan i; rig = same_rig follows.same i; names = get_or (same i) 0 0 ∷ get_or (same i) 1 0 ∷ [] }
 
 pub returns-clause-counts : goal.returns-clause-counts
 returns-clause-counts g c =
     λ first follows sink. record { later = follows.later; counted = follows.faults; sink = omega (arith, sink) }
+
+pub returns-clause-most : goal.returns-clause-most
+returns-clause-most g c capacity serves = omega (arith, c.pending-pending.ensures.room, serves.room)
+
+pub returns-clause-shows : goal.returns-clause-shows
+returns-clause-shows g c capacity serves tells heads =
+    let self = c.args.self.now in
+    shows_journal self.store.ghost_name self.disk.ghost_name self.store.now (g.R.SectorDisk.state self.disk.now) capacity (g.met.R.SectorDisk.well_formed self.disk.now) serves tells heads

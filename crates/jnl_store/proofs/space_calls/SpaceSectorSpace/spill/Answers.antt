@@ -45,7 +45,7 @@ invariant_of-self g c =
     let is = g.met.D.SectorDisk.well_formed c.args.self.now.disk.now in
     let now_is = g.met.D.SectorDisk.well_formed c.write.new.self in
     let s = c.write.ensures.same in
-    let unsettled : Store = record { plan = store.plan; batch = store.batch; unsettled = true; faults = store.faults; cache = store.cache; rest = store.rest } in
+    let unsettled : Store = record { plan = store.plan; batch = store.batch; unsettled = true; faults = store.faults; cache = store.cache; rest = store.rest; places = store.places } in
     let old = content_over store (content disk) in
     record {
       kept = λ none tells. let was = sym s.tells ∙ tells in
@@ -74,7 +74,7 @@ unfolding durable_of is_kept
 returns-in-Ok-clause-spills g c tells =
     let store = c.args.self.now.store.now in
     let disk = g.D.SectorDisk.state c.args.self.now.disk.now in
-    let new : Store = record { plan = store.plan; batch = store.batch; unsettled = true; faults = store.faults; cache = store.cache; rest = store.rest } in
+    let new : Store = record { plan = store.plan; batch = store.batch; unsettled = true; faults = store.faults; cache = store.cache; rest = store.rest; places = store.places } in
     let none : names store.batch.all c.args.at ≡ false = elim (cases_Bool (names store.batch.all c.args.at)) [ inl named ↦ absurd (c.requires.idle tells (inl named)) | inr none ↦ none ] in
     let p = tells_parts store disk tells in
     spills _ _ store new refl refl disk (g.D.SectorDisk.state c.write.new.self) c.args.at c.args.from.now (g.met.D.SectorDisk.well_formed c.args.self.now.disk.now)
@@ -102,7 +102,7 @@ returns-in-Ok-clause-same g c =
     let new = g.D.SectorDisk.state c.write.new.self in
     let is = g.met.D.SectorDisk.well_formed c.args.self.now.disk.now in
     let s = c.write.ensures.same in
-    let unsettled : Store = record { plan = store.plan; batch = store.batch; unsettled = true; faults = store.faults; cache = store.cache; rest = store.rest } in
+    let unsettled : Store = record { plan = store.plan; batch = store.batch; unsettled = true; faults = store.faults; cache = store.cache; rest = store.rest; places = store.places } in
     let changes = λ (t : IsTrue disk.tells). let within : c.args.at < length disk.candidates = omega (arith, is.size t, c.requires.inside) in
     subst (λ (d : Candidates). Changes c.args.at disk.candidates d) (sym c.in-Ok.ensures.written) (changes_one disk.candidates c.args.at c.args.from.now within (is.each c.args.at within)) in
     record {
@@ -128,7 +128,7 @@ returns-in-Ok-clause-keeps g c keeps open_at =
     let is = g.met.D.SectorDisk.well_formed c.args.self.now.disk.now in
     let now_is = g.met.D.SectorDisk.well_formed c.write.new.self in
     let s = c.write.ensures.same in
-    let unsettled : Store = record { plan = store.plan; batch = store.batch; unsettled = true; faults = store.faults; cache = store.cache; rest = store.rest } in
+    let unsettled : Store = record { plan = store.plan; batch = store.batch; unsettled = true; faults = store.faults; cache = store.cache; rest = store.rest; places = store.places } in
     let old = content_over store (content disk) in
     let within : c.args.at < length disk.candidates = omega (arith, is.size keeps.0, c.requires.inside) in
     let changes = subst (λ (d : Candidates). Changes c.args.at disk.candidates d) (sym c.in-Ok.ensures.written) (changes_one disk.candidates c.args.at c.args.from.now within (is.each c.args.at within)) in

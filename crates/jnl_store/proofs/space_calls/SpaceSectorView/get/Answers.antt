@@ -1,4 +1,4 @@
-use Rattle.std.proofs.Common.{refl, sym, ◌∙◌, ap, inl, length, length-set}
+use Rattle.std.proofs.Common.{refl, sym, ◌∙◌, ap, inl, inr, length, length-set}
 use Rattle.std.proofs.lemmas.Bool.{and_from}
 use Rattle.sector_disk.specs.Lists.{Content, sector}
 use Rattle.jnl_store.specs.Batch.{Staged}
@@ -65,4 +65,35 @@ returns-clause-below g c =
       keeps = λ keeps. returns-clause-keeps g c keeps;
       later = reads.faults;
       faults = inl c.in_ok-fetch.ensures.uncounted;
+    }
+
+pub returns-in_err-fetch-clause-keeps : goal.returns-in_err-fetch-clause-keeps
+unfolding durable_of is_kept
+returns-in_err-fetch-clause-keeps g c keeps =
+    let store = c.args.self.now.store.now in
+    let mid = c.fetch.new.self.store.now in
+    let s0 = g.D.SectorDisk.state c.args.self.now.disk.now in
+    let s1 = g.D.SectorDisk.state c.fetch.new.self.disk.now in
+    let k = c.fetch.ensures.keeps (keeps.0, keeps.1.ring) in
+    let told = and_from s0.tells (is_kept store s0.sectors s0.candidates) keeps.0 keeps.1.ring.kept in (
+      k.0,
+      record { ring = k.1; cached = cached_still store mid s0.candidates s1.candidates c.fetch.ensures.slots (c.fetch.ensures.sectors told).content keeps.1.cached },
+    )
+
+pub returns-in_err-fetch-clause-below : goal.returns-in_err-fetch-clause-below
+returns-in_err-fetch-clause-below g c =
+    let fetched = c.fetch.ensures.store in
+    let reads = c.fetch.ensures.reads in
+    record {
+      plan = fetched.plan;
+      live = ap (λ (b : Staged). b.live) fetched.batch;
+      kept = ap (λ (b : Staged). b.kept) fetched.batch;
+      room = ap (λ (b : Staged). b.room) fetched.batch;
+      slots = fetched.slots;
+      same = reads.same;
+      sink = reads.sink;
+      barriers = reads.barriers;
+      keeps = λ keeps. returns-in_err-fetch-clause-keeps g c keeps;
+      later = reads.faults;
+      faults = inr c.in_err-fetch.ensures.cause.failed;
     }

@@ -20,7 +20,7 @@ returns-clause-keeps c sectors content fits size whole is =
     let plan = c.args.plan.now in
     let disk = told_only (only (after_replay plan content)) in
     keeps_empty _ sectors _ c.args.cache
-    (keeps_new (rested plan) (after_replay plan content) sectors _ c.rest.ensures (ap (λ (s : Staged). s.all) c.new-batch.ensures) (ap (λ (s : Staged). s.kept) c.new-batch.ensures) (ap (λ (s : Staged). s.live) c.new-batch.ensures)
+    (keeps_new (rested plan) (after_replay plan content) sectors _ c.rest.ensures (ap (λ (s : Staged). s.all) c.in_ok-batch.ensures) (ap (λ (s : Staged). s.kept) c.in_ok-batch.ensures) (ap (λ (s : Staged). s.live) c.in_ok-batch.ensures)
     (lists_from (rested plan) [] disk (rest_lists (rested plan) (rested_rests plan sectors fits) disk (attached_holds content plan is sectors fits size whole))))
     c.in_ok-cache.ensures
 

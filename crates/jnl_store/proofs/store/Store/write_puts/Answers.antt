@@ -1,7 +1,9 @@
 use Rattle.std.proofs.Common.{List, sym, ◌∙◌, ap, subst}
 use Rattle.sector_disk.specs.Disk.{CrashesLeave, content}
 use Rattle.jnl_store.specs.Appending.{IsAppended, MayAppend, durable_by, longer}
+use Rattle.jnl_replay.specs.declared.plan.Plan.{Plan}
 use Rattle.jnl_store.specs.Batch.{AreOnce}
+use Rattle.jnl_store.specs.InUse.{HasPlaces}
 use Rattle.jnl_store.specs.Lists.{lists_homes}
 use Rattle.jnl_store.specs.Newest.{newest, or_later}
 use Rattle.jnl_store.specs.Overlay.{overlay}
@@ -10,6 +12,7 @@ use Rattle.jnl_store.specs.Store.{KeepsRingOn, durable_of, is_kept}
 use Rattle.jnl_store.specs.declared.puts.Put.{Put}
 use Rattle.jnl_store.proofs.Composed.{crash_both, keeps_mid, ready_mid, settles_both}
 use Rattle.jnl_store.proofs.Grown.{settles_grown}
+use Rattle.jnl_store.proofs.Room.{longer_places}
 use Rattle.jnl_store.proofs.Settling.{either_of, fits_still}
 use Rattle.jnl_store.proofs.store.Store.write_puts.Goals as goal
 
@@ -76,3 +79,11 @@ returns-clause-done g c tells =
     (c.in_ok-plan.ensures.plan ∙ ap (longer mid.plan) items)
     c.make_live.ensures.nothing.0 c.make_live.ensures.nothing.1
     (λ at. c.make_live.ensures.newest at ∙ ap (λ n. or_later (newest (lists_homes mid.plan.header.blhdr n 0 mid.batch.all) at) (newest mid.batch.live at)) c.live_bytes-from.ensures.value))
+
+pub invariant_of-self-2-clause-places : goal.invariant_of-self-2-clause-places
+invariant_of-self-2-clause-places g c =
+    let mid = c.make_room.new.self in
+    let live = c.make_live.new.self.live in
+    subst (λ (q : Plan). HasPlaces q live c.make_live.new.self.most) (sym (c.in_ok-plan.ensures.plan ∙ ap (longer mid.plan) c.as_slice.ensures.items))
+    (subst (λ n. HasPlaces (longer mid.plan mid.batch.all) live n) (sym c.make_live.ensures.most)
+    (longer_places mid.plan mid.batch.all mid.batch.live live mid.batch.most mid.rest c.in_ok-make_room.ensures.room mid.places c.make_live.ensures.few))

@@ -13,6 +13,7 @@ use Rattle.volume_ops.proofs.Commanding.{touches_both}
 use Rattle.volume_ops.proofs.Made.{counts_fit, free_before, unused}
 use Rattle.volume_ops.proofs.MakeRoom.{room_behind, room_for_entry, spent_entry}
 use Rattle.volume_ops.proofs.Touched.{touches_header}
+use Rattle.volume_ops.proofs.Besides.{blocks_both, blocks_edit, blocks_header}
 use Rattle.volume_ops.proofs.volume.Volume.add_new.Goals as goal
 
 pub add-requires-clause-size : goal.add-requires-clause-size
@@ -82,3 +83,9 @@ returns-clause-below g c = g.met.P.SectorView.follows_trans c.args.space.now c.d
 
 pub returns-in_err-add-clause-below : goal.returns-in_err-add-clause-below
 returns-in_err-add-clause-below g c = g.met.P.SectorView.follows_trans c.args.space.now c.draw.new.space c.add.new.space c.draw.ensures.below c.add.ensures.below
+
+pub returns-clause-blocks : goal.returns-clause-blocks
+returns-clause-blocks g c = blocks_both c.args.self.now c.draw.new.self c.add.new.self (blocks_header c.args.self.now c.draw.new.self c.draw.ensures.rest) (blocks_edit c.draw.new.self c.add.new.self c.add.ensures.rest)
+
+pub returns-in_err-add-clause-blocks : goal.returns-in_err-add-clause-blocks
+returns-in_err-add-clause-blocks g c = blocks_both c.args.self.now c.draw.new.self c.add.new.self (blocks_header c.args.self.now c.draw.new.self c.draw.ensures.rest) (blocks_edit c.draw.new.self c.add.new.self c.add.ensures.rest)

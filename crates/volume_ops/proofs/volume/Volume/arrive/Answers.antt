@@ -4,24 +4,18 @@ use Rattle.volume_ops.specs.Changing.{DatesEntry}
 use Rattle.volume_ops.specs.Moving.{Arrives}
 use Rattle.volume_ops.specs.Touching.{Touches}
 use Rattle.volume_ops.proofs.Carried.{threads_changed}
-use Rattle.volume_ops.proofs.Commanding.{touches_both}
+use Rattle.volume_ops.proofs.Commanding.{touches_both, touches_none}
 use Rattle.volume_ops.proofs.FoundEntry.{ok_so}
 use Rattle.volume_ops.proofs.Moved.{entry_carried}
-use Rattle.volume_ops.proofs.UpdateRoom.{room_one}
 use Rattle.volume_ops.specs.Lists.{lists_of}
+use Rattle.volume_ops.proofs.Besides.{blocks_both, blocks_none}
 use Rattle.volume_ops.proofs.volume.Volume.arrive.Goals as goal
-
-pub touch-requires-clause-room : goal.touch-requires-clause-room
-touch-requires-clause-room g c = room_one 1 c.args.self.now (g.P.SectorView.space c.args.space.now) c.requires.size c.requires.room
 
 pub date-requires-clause-threads : goal.date-requires-clause-threads
 date-requires-clause-threads g c tells = threads_changed c.args.way.now.folder (lists_of c.args.self.now (g.P.SectorView.space c.args.space.now).content) (lists_of c.touch.new.self (g.P.SectorView.space c.touch.new.space).content) (c.in_ok-touch.ensures.counts (sym (c.touch.ensures.touches (g.P.SectorView.space c.args.space.now).content).same.tells ∙ tells)).counts (c.requires.threads (sym (c.touch.ensures.touches (g.P.SectorView.space c.args.space.now).content).same.tells ∙ tells))
 
 pub date-requires-clause-there : goal.date-requires-clause-there
 date-requires-clause-there g c tells = entry_carried c.args.way.now.folder c.args.way.now.id c.args.self.now c.touch.new.self (g.P.SectorView.space c.args.space.now).content (g.P.SectorView.space c.touch.new.space).content (c.in_ok-touch.ensures.counts (sym (c.touch.ensures.touches (g.P.SectorView.space c.args.space.now).content).same.tells ∙ tells)) (c.requires.threads (sym (c.touch.ensures.touches (g.P.SectorView.space c.args.space.now).content).same.tells ∙ tells)) (c.requires.there (sym (c.touch.ensures.touches (g.P.SectorView.space c.args.space.now).content).same.tells ∙ tells))
-
-pub date-requires-clause-room : goal.date-requires-clause-room
-date-requires-clause-room g c = room_one 0 c.touch.new.self (g.P.SectorView.space c.touch.new.space) (omega (arith, c.requires.size, c.touch.ensures.size)) (c.in_ok-touch.ensures.room 1 c.requires.room)
 
 pub returns-clause-arrives : goal.returns-clause-arrives
 returns-clause-arrives g c tells =
@@ -41,3 +35,27 @@ returns-clause-spent g c tells = omega (arith, c.touch.ensures.spent tells, c.da
 
 pub returns-in_err-touch-clause-spent : goal.returns-in_err-touch-clause-spent
 returns-in_err-touch-clause-spent g c tells = omega (arith, c.touch.ensures.spent tells)
+
+pub returns-clause-blocks : goal.returns-clause-blocks
+returns-clause-blocks g c = blocks_both c.args.self.now c.touch.new.self c.date.new.self c.touch.ensures.blocks c.date.ensures.blocks
+
+pub touch-requires-clause-room : goal.touch-requires-clause-room
+touch-requires-clause-room g c = c.fits_update.ensures c.if-not-fits_update.false
+
+pub date-requires-clause-room : goal.date-requires-clause-room
+date-requires-clause-room g c = c.fits_update-2.ensures c.if-not-fits_update-2.false
+
+pub returns-then-not-fits_update-clause-touches : goal.returns-then-not-fits_update-clause-touches
+returns-then-not-fits_update-clause-touches g c committed = touches_none committed _ (g.P.SectorView.space c.args.space.now)
+
+pub returns-then-not-fits_update-clause-service : goal.returns-then-not-fits_update-clause-service
+returns-then-not-fits_update-clause-service g c = c.requires.stands.service
+
+pub returns-then-not-fits_update-clause-blocks : goal.returns-then-not-fits_update-clause-blocks
+returns-then-not-fits_update-clause-blocks g c = blocks_none c.args.self.now
+
+pub returns-then-not-fits_update-2-clause-spent : goal.returns-then-not-fits_update-2-clause-spent
+returns-then-not-fits_update-2-clause-spent g c tells = omega (arith, c.touch.ensures.spent tells)
+
+pub returns-then-not-fits_update-2-clause-touches : goal.returns-then-not-fits_update-2-clause-touches
+returns-then-not-fits_update-2-clause-touches g c committed = c.touch.ensures.touches committed

@@ -1,6 +1,5 @@
-use Rattle.std.proofs.Common.{◌≤◌, List, subst}
-use Rattle.btree_node.specs.Levels.{Pair}
-use Rattle.attributes.specs.Owned.{count_of}
+use Rattle.std.proofs.Common.{◌∙◌, ap, subst}
+use Rattle.attributes.specs.Owned.{names_of}
 use Rattle.attributes.specs.Values.{AreInline}
 use Rattle.volume_ops.proofs.AttributesEdited.{attributes_open, pairs_where, serves_edited, stands_again, touches_attributes}
 use Rattle.volume_ops.proofs.Bared.{bares_all}
@@ -18,11 +17,11 @@ drop_owned-requires-clause-open g c = attributes_open c.args.self.now (g.P.Secto
 pub drop_owned-requires-clause-holds : goal.drop_owned-requires-clause-holds
 drop_owned-requires-clause-holds g c tells = (c.requires.stands.stands tells).trees.attributes c.requires.has
 
-pub drop_owned-requires-clause-form : goal.drop_owned-requires-clause-form
-drop_owned-requires-clause-form g c tells = subst AreInline (pairs_where c.args.self.now (g.P.SectorView.space c.args.space.now).content c.requires.has) (c.requires.inline tells)
+pub drop_owned-requires-clause-inline : goal.drop_owned-requires-clause-inline
+drop_owned-requires-clause-inline g c tells = subst AreInline (pairs_where c.args.self.now (g.P.SectorView.space c.args.space.now).content c.requires.has) (c.requires.inline tells)
 
-pub drop_owned-requires-clause-few : goal.drop_owned-requires-clause-few
-drop_owned-requires-clause-few g c tells = subst (λ (l : List Pair). count_of c.args.id l ≤ c.args.most) (pairs_where c.args.self.now (g.P.SectorView.space c.args.space.now).content c.requires.has) (c.requires.few tells)
+pub drop_owned-requires-clause-listed : goal.drop_owned-requires-clause-listed
+drop_owned-requires-clause-listed g c tells = c.requires.listed tells ∙ ap (names_of c.args.id) (pairs_where c.args.self.now (g.P.SectorView.space c.args.space.now).content c.requires.has)
 
 pub returns-clause-stands : goal.returns-clause-stands
 returns-clause-stands g c = stands_again c.args.self.now (g.P.SectorView.space c.args.space.now) (g.P.SectorView.space c.drop_owned.new.space) (record { file = c.drop_owned.new.tree; desk = c.drop_owned.new.desk }) c.drop_owned.result c.requires.has c.requires.stands c.drop_owned.ensures.frame c.drop_owned.ensures.desk c.drop_owned.ensures.holds

@@ -14,6 +14,7 @@ use Rattle.volume_ops.proofs.FoundEntry.{room_still, node_still, ok_so}
 use Rattle.volume_ops.proofs.Redating.{one_there, one_not_none, dates_read}
 use Rattle.volume_ops.proofs.Still.{lists_still, own_still}
 use Rattle.volume_ops.proofs.UpdateRoom.{room_less, updates_still}
+use Rattle.volume_ops.proofs.Besides.{blocks_both, blocks_edit}
 use Rattle.volume_ops.proofs.volume.Volume.date.Goals as goal
 
 pub entry-requires-clause-spelled : goal.entry-requires-clause-spelled
@@ -88,3 +89,12 @@ returns-in-Some-clause-room g c many room = c.put_dated.ensures.room many (updat
 
 pub returns-in-None-clause-room : goal.returns-in-None-clause-room
 returns-in-None-clause-room g c many room = room_less many c.entry.new.self (g.P.SectorView.space c.entry.new.space) (updates_still (many + 1) c.args.self.now c.entry.new.self (g.P.SectorView.space c.args.space.now) (g.P.SectorView.space c.entry.new.space) c.entry.ensures.reads room)
+
+pub returns-in-Some-clause-blocks : goal.returns-in-Some-clause-blocks
+returns-in-Some-clause-blocks g c = blocks_both c.args.self.now c.entry.new.self c.put_dated.new.self (blocks_edit c.args.self.now c.entry.new.self c.entry.ensures.rest) c.put_dated.ensures.blocks
+
+pub returns-in-None-clause-blocks : goal.returns-in-None-clause-blocks
+returns-in-None-clause-blocks g c = blocks_edit c.args.self.now c.entry.new.self c.entry.ensures.rest
+
+pub returns-in_err-entry-clause-blocks : goal.returns-in_err-entry-clause-blocks
+returns-in_err-entry-clause-blocks g c = blocks_edit c.args.self.now c.entry.new.self c.entry.ensures.rest

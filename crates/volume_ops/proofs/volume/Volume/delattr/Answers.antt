@@ -230,3 +230,27 @@ returns-in_err-others-in-Ok-clause-header g c = (volume_both c.args.self.now c.o
 
 pub returns-in_err-others-in-Ok-clause-map : goal.returns-in_err-others-in-Ok-clause-map
 returns-in_err-others-in-Ok-clause-map g c = (volume_both c.args.self.now c.owner.new.self c.owned.new.self (g.P.SectorView.space c.args.space.now) (g.P.SectorView.space c.owner.new.space) (g.P.SectorView.space c.owned.new.space) c.owner.ensures.reads c.owned.ensures.reads).keeps.map
+
+pub returns-in_ok-delete_from-in-Some-clause-capacity : goal.returns-in_ok-delete_from-in-Some-clause-capacity
+returns-in_ok-delete_from-in-Some-clause-capacity g c = c.delete_from.ensures.capacity ∙ (volume_both c.args.self.now c.owner.new.self c.owned.new.self (g.P.SectorView.space c.args.space.now) (g.P.SectorView.space c.owner.new.space) (g.P.SectorView.space c.owned.new.space) c.owner.ensures.reads c.owned.ensures.reads).keeps.capacity
+
+pub returns-in_ok-delete_from-in-Some-clause-shrunk : goal.returns-in_ok-delete_from-in-Some-clause-shrunk
+returns-in_ok-delete_from-in-Some-clause-shrunk g c = c.delete_from.ensures.shrunk ∙ (volume_both c.args.self.now c.owner.new.self c.owned.new.self (g.P.SectorView.space c.args.space.now) (g.P.SectorView.space c.owner.new.space) (g.P.SectorView.space c.owned.new.space) c.owner.ensures.reads c.owned.ensures.reads).keeps.shrunk
+
+pub returns-in_err-delete_from-in-Some-clause-capacity : goal.returns-in_err-delete_from-in-Some-clause-capacity
+returns-in_err-delete_from-in-Some-clause-capacity g c = c.delete_from.ensures.capacity ∙ (volume_both c.args.self.now c.owner.new.self c.owned.new.self (g.P.SectorView.space c.args.space.now) (g.P.SectorView.space c.owner.new.space) (g.P.SectorView.space c.owned.new.space) c.owner.ensures.reads c.owned.ensures.reads).keeps.capacity
+
+pub returns-in_err-delete_from-in-Some-clause-shrunk : goal.returns-in_err-delete_from-in-Some-clause-shrunk
+returns-in_err-delete_from-in-Some-clause-shrunk g c = c.delete_from.ensures.shrunk ∙ (volume_both c.args.self.now c.owner.new.self c.owned.new.self (g.P.SectorView.space c.args.space.now) (g.P.SectorView.space c.owner.new.space) (g.P.SectorView.space c.owned.new.space) c.owner.ensures.reads c.owned.ensures.reads).keeps.shrunk
+
+pub returns-in-None-clause-capacity : goal.returns-in-None-clause-capacity
+returns-in-None-clause-capacity g c = (volume_both c.args.self.now c.owner.new.self c.owned.new.self (g.P.SectorView.space c.args.space.now) (g.P.SectorView.space c.owner.new.space) (g.P.SectorView.space c.owned.new.space) c.owner.ensures.reads c.owned.ensures.reads).keeps.capacity
+
+pub returns-in-None-clause-shrunk : goal.returns-in-None-clause-shrunk
+returns-in-None-clause-shrunk g c = (volume_both c.args.self.now c.owner.new.self c.owned.new.self (g.P.SectorView.space c.args.space.now) (g.P.SectorView.space c.owner.new.space) (g.P.SectorView.space c.owned.new.space) c.owner.ensures.reads c.owned.ensures.reads).keeps.shrunk
+
+pub returns-in_err-others-in-Ok-clause-capacity : goal.returns-in_err-others-in-Ok-clause-capacity
+returns-in_err-others-in-Ok-clause-capacity g c = (volume_both c.args.self.now c.owner.new.self c.owned.new.self (g.P.SectorView.space c.args.space.now) (g.P.SectorView.space c.owner.new.space) (g.P.SectorView.space c.owned.new.space) c.owner.ensures.reads c.owned.ensures.reads).keeps.capacity
+
+pub returns-in_err-others-in-Ok-clause-shrunk : goal.returns-in_err-others-in-Ok-clause-shrunk
+returns-in_err-others-in-Ok-clause-shrunk g c = (volume_both c.args.self.now c.owner.new.self c.owned.new.self (g.P.SectorView.space c.args.space.now) (g.P.SectorView.space c.owner.new.space) (g.P.SectorView.space c.owned.new.space) c.owner.ensures.reads c.owned.ensures.reads).keeps.shrunk

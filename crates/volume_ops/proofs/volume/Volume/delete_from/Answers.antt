@@ -102,3 +102,9 @@ returns-in-Some-clause-header g c = c.remove_value.ensures.header ∙ c.entry.en
 
 pub returns-in-Some-clause-map : goal.returns-in-Some-clause-map
 returns-in-Some-clause-map g c = c.remove_value.ensures.map ∙ c.entry.ensures.reads.keeps.map
+
+pub returns-in-Some-clause-capacity : goal.returns-in-Some-clause-capacity
+returns-in-Some-clause-capacity g c = c.remove_value.ensures.capacity ∙ c.entry.ensures.reads.keeps.capacity
+
+pub returns-in-Some-clause-shrunk : goal.returns-in-Some-clause-shrunk
+returns-in-Some-clause-shrunk g c = c.remove_value.ensures.shrunk ∙ c.entry.ensures.reads.keeps.shrunk

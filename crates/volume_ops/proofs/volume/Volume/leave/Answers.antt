@@ -6,9 +6,9 @@ use Rattle.volume_ops.specs.Touching.{Touches}
 use Rattle.volume_ops.proofs.Added.{own_edited}
 use Rattle.volume_ops.proofs.Commanding.{touches_both}
 use Rattle.volume_ops.proofs.FoundEntry.{ok_so, ok_true, settled_threads}
-use Rattle.volume_ops.proofs.MoveRoom.{large_moved, node_moved, room_moved, room_to_move, spent_move}
+use Rattle.volume_ops.proofs.MoveRoom.{node_moved, room_to_move, spent_move}
 use Rattle.volume_ops.proofs.Moved.{from_after, goal_free, replaced_move, source_stands, threads_moved}
-use Rattle.volume_ops.proofs.UpdateRoom.{room_one}
+use Rattle.volume_ops.proofs.Besides.{blocks_both, blocks_edit}
 use Rattle.volume_ops.proofs.volume.Volume.leave.Goals as goal
 
 pub relocate-requires-clause-threads : goal.relocate-requires-clause-threads
@@ -26,12 +26,6 @@ pub touch-requires-clause-there : goal.touch-requires-clause-there
 touch-requires-clause-there g c tells =
     from_after c.args.self.now (g.P.SectorView.space c.args.space.now) (c.requires.settled (sym c.relocate.ensures.frame.space.same.tells ∙ tells)) (c.requires.stands.stands (sym c.relocate.ensures.frame.space.same.tells ∙ tells)) (c.requires.moves (sym c.relocate.ensures.frame.space.same.tells ∙ tells)).0 (c.requires.moves (sym c.relocate.ensures.frame.space.same.tells ∙ tells)).1 (c.requires.moves (sym c.relocate.ensures.frame.space.same.tells ∙ tells)).2 c.args.way.now.parent c.args.old.now c.args.way.now.id c.args.way.now.folder c.args.name.now (c.requires.moves (sym c.relocate.ensures.frame.space.same.tells ∙ tells)).3 c.requires.stands.service.fits.next_catalog_id c.relocate.new.self (g.P.SectorView.space c.relocate.new.space).content
     (replaced_move c.args.self.now c.relocate.new.self (g.P.SectorView.space c.args.space.now) (g.P.SectorView.space c.relocate.new.space) c.args.way.now.parent c.args.old.now c.args.way.now.folder c.args.name.now (c.requires.stands.stands (sym c.relocate.ensures.frame.space.same.tells ∙ tells)) (sym c.relocate.ensures.frame.space.same.tells ∙ tells) c.relocate.ensures.frame c.relocate.ensures.rest (c.in_ok-relocate.ensures.stands.stands (c.relocate.ensures.frame.space.same.tells ∙ (sym c.relocate.ensures.frame.space.same.tells ∙ tells))) (source_stands c.args.self.now (g.P.SectorView.space c.args.space.now) (c.requires.settled (sym c.relocate.ensures.frame.space.same.tells ∙ tells)) (c.requires.stands.stands (sym c.relocate.ensures.frame.space.same.tells ∙ tells)) (c.requires.moves (sym c.relocate.ensures.frame.space.same.tells ∙ tells)).0 (c.requires.moves (sym c.relocate.ensures.frame.space.same.tells ∙ tells)).1 (c.requires.moves (sym c.relocate.ensures.frame.space.same.tells ∙ tells)).2 c.args.way.now.parent c.args.old.now c.args.way.now.id c.args.way.now.folder c.args.name.now (c.requires.moves (sym c.relocate.ensures.frame.space.same.tells ∙ tells)).3 c.requires.stands.service.fits.next_catalog_id) (goal_free c.args.self.now (g.P.SectorView.space c.args.space.now) (c.requires.settled (sym c.relocate.ensures.frame.space.same.tells ∙ tells)) (c.requires.stands.stands (sym c.relocate.ensures.frame.space.same.tells ∙ tells)) (c.requires.moves (sym c.relocate.ensures.frame.space.same.tells ∙ tells)).0 (c.requires.moves (sym c.relocate.ensures.frame.space.same.tells ∙ tells)).1 (c.requires.moves (sym c.relocate.ensures.frame.space.same.tells ∙ tells)).2 c.args.way.now.parent c.args.old.now c.args.way.now.id c.args.way.now.folder c.args.name.now (c.requires.moves (sym c.relocate.ensures.frame.space.same.tells ∙ tells)).3 c.requires.stands.service.fits.next_catalog_id) c.in_ok-relocate.field-0 (c.in_ok-relocate.ensures.answer (sym c.relocate.ensures.frame.space.same.tells ∙ tells)) (c.in_ok-relocate.ensures.moved (sym c.relocate.ensures.frame.space.same.tells ∙ tells))) (c.in_ok-relocate.ensures.stands.stands (c.relocate.ensures.frame.space.same.tells ∙ (sym c.relocate.ensures.frame.space.same.tells ∙ tells))).trees
-
-pub touch-requires-clause-room : goal.touch-requires-clause-room
-touch-requires-clause-room g c = room_one 2 c.relocate.new.self (g.P.SectorView.space c.relocate.new.space) (large_moved c.edits_have_room.ensures c.edits_take_their_load.ensures c.args.self.now c.relocate.new.self (g.P.SectorView.space c.args.space.now) (g.P.SectorView.space c.relocate.new.space) c.requires.room c.requires.size (c.relocate.ensures.takes [])) (room_moved c.edits_have_room.ensures c.edits_take_their_load.ensures c.args.self.now c.relocate.new.self (g.P.SectorView.space c.args.space.now) (g.P.SectorView.space c.relocate.new.space) c.requires.room c.requires.size (c.relocate.ensures.takes []) c.relocate.ensures.frame.space.same.tells (c.in_ok-relocate.ensures.edits []))
-
-pub returns-clause-room : goal.returns-clause-room
-returns-clause-room g c = c.touch.ensures.room 2 (room_moved c.edits_have_room.ensures c.edits_take_their_load.ensures c.args.self.now c.relocate.new.self (g.P.SectorView.space c.args.space.now) (g.P.SectorView.space c.relocate.new.space) c.requires.room c.requires.size (c.relocate.ensures.takes []) c.relocate.ensures.frame.space.same.tells (c.in_ok-relocate.ensures.edits []))
 
 pub returns-clause-leaves : goal.returns-clause-leaves
 returns-clause-leaves g c tells =
@@ -62,3 +56,24 @@ returns-clause-own g c = c.touch.ensures.own ∙ own_edited c.args.self.now c.re
 
 pub returns-in_err-relocate-clause-own : goal.returns-in_err-relocate-clause-own
 returns-in_err-relocate-clause-own g c = own_edited c.args.self.now c.relocate.new.self (g.P.SectorView.space c.args.space.now) (g.P.SectorView.space c.relocate.new.space) c.relocate.ensures.frame c.relocate.ensures.rest
+
+pub returns-clause-blocks : goal.returns-clause-blocks
+returns-clause-blocks g c = blocks_both c.args.self.now c.relocate.new.self c.touch.new.self (blocks_edit c.args.self.now c.relocate.new.self c.relocate.ensures.rest) c.touch.ensures.blocks
+
+pub returns-in_err-relocate-clause-blocks : goal.returns-in_err-relocate-clause-blocks
+returns-in_err-relocate-clause-blocks g c = blocks_edit c.args.self.now c.relocate.new.self c.relocate.ensures.rest
+
+pub touch-requires-clause-room : goal.touch-requires-clause-room
+touch-requires-clause-room g c = c.fits_update.ensures c.if-not-fits_update.false
+
+pub returns-then-not-fits_update-clause-touches : goal.returns-then-not-fits_update-clause-touches
+returns-then-not-fits_update-clause-touches g c committed = c.relocate.ensures.touches committed
+
+pub returns-then-not-fits_update-clause-spent : goal.returns-then-not-fits_update-clause-spent
+returns-then-not-fits_update-clause-spent g c tells = omega (arith, spent_move c.edits_have_room.ensures c.edits_take_their_load.ensures c.args.self.now c.relocate.new.self (g.P.SectorView.space c.args.space.now) (g.P.SectorView.space c.relocate.new.space) c.requires.room c.requires.size (c.relocate.ensures.takes []) tells)
+
+pub returns-then-not-fits_update-clause-own : goal.returns-then-not-fits_update-clause-own
+returns-then-not-fits_update-clause-own g c = own_edited c.args.self.now c.relocate.new.self (g.P.SectorView.space c.args.space.now) (g.P.SectorView.space c.relocate.new.space) c.relocate.ensures.frame c.relocate.ensures.rest
+
+pub returns-then-not-fits_update-clause-blocks : goal.returns-then-not-fits_update-clause-blocks
+returns-then-not-fits_update-clause-blocks g c = blocks_edit c.args.self.now c.relocate.new.self c.relocate.ensures.rest

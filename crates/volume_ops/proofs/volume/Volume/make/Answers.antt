@@ -6,9 +6,10 @@ use Rattle.hfs_language.specs.declared.reply.Reply.TheVariants as reply
 use Rattle.hfs_model.specs.Step.{is_private_path, step_line}
 use Rattle.hfs_volume.specs.TreeOf.{tree_of}
 use Rattle.volume_ops.specs.Lists.{lists_of}
-use Rattle.volume_ops.specs.Making.{HasNew, making}
+use Rattle.volume_ops.specs.Making.{HasNew, Makes, making}
 use Rattle.volume_ops.proofs.Commanding.{touches_none}
 use Rattle.volume_ops.proofs.Sited.{private_line, root_line}
+use Rattle.volume_ops.proofs.Besides.{blocks_none}
 use Rattle.volume_ops.proofs.volume.Volume.make.Goals as goal
 
 pub make_under-requires-clause-fits : goal.make_under-requires-clause-fits
@@ -65,3 +66,20 @@ returns-in-None-clause-entry g c tells is = absurd (cc is)
 
 pub returns-then-is_private_path-clause-entry : goal.returns-then-is_private_path-clause-entry
 returns-then-is_private_path-clause-entry g c tells is = absurd (cc is)
+
+pub returns-in-Some-clause-lists : goal.returns-in-Some-clause-lists
+returns-in-Some-clause-lists g c tells =
+    subst (λ (p : List (List ℕ)). IfOk c.make_under.result (λ (said : Reply). said ≡ reply.Ok → Makes c.args.folder p (g.P.SectorView.space c.args.space.now).content (g.P.SectorView.space c.make_under.new.space).content))
+    (sym c.in-Some.ensures.cases.0 ∙ c.as_slice.ensures) (c.make_under.ensures.lists tells)
+
+pub returns-in-None-clause-lists : goal.returns-in-None-clause-lists
+returns-in-None-clause-lists g c tells is = absurd (cc is)
+
+pub returns-then-is_private_path-clause-lists : goal.returns-then-is_private_path-clause-lists
+returns-then-is_private_path-clause-lists g c tells is = absurd (cc is)
+
+pub returns-in-None-clause-blocks : goal.returns-in-None-clause-blocks
+returns-in-None-clause-blocks g c = blocks_none c.args.self.now
+
+pub returns-then-is_private_path-clause-blocks : goal.returns-then-is_private_path-clause-blocks
+returns-then-is_private_path-clause-blocks g c = blocks_none c.args.self.now

@@ -3,6 +3,8 @@ use Rattle.std.specs.Prelude.{Some}
 use Rattle.std.specs.List.{Contains}
 use Rattle.btree_node.specs.declared.store.TreeShape.{TreeShape}
 use Rattle.hfs_model.specs.Step.{made}
+use Rattle.hfs_volume.specs.Commands.{MakesEntry}
+use Rattle.hfs_volume.specs.Content.{volume_of}
 use Rattle.hfs_volume.specs.TreeOf.{tree_of}
 use Rattle.volume_ops.specs.Changing.{TouchesFolder}
 use Rattle.catalog.specs.Pairs.{value_at}
@@ -14,6 +16,7 @@ use Rattle.volume_ops.proofs.Commanding.{touches_both, touches_none}
 use Rattle.volume_ops.proofs.FoundEntry.{ok_both}
 use Rattle.volume_ops.proofs.Made.{folder_after, made_does, makes_both, threads_after}
 use Rattle.volume_ops.proofs.Replaced.{node_large}
+use Rattle.volume_ops.proofs.Besides.{blocks_both, blocks_none}
 use Rattle.volume_ops.proofs.volume.Volume.make_in.Goals as goal
 
 pub add_new-requires-clause-size : goal.add_new-requires-clause-size
@@ -36,7 +39,8 @@ returns-clause-does g c tells =
     let last = (c.touch.ensures.touches (g.P.SectorView.space c.args.space.now).content).same.tells ∙ later in
     ok_both (StandsOver c.touch.new.self (g.P.SectorView.space c.touch.new.space)) (TouchesFolder c.args.id 1 0 c.add_new.new.self c.touch.new.self (g.P.SectorView.space c.add_new.new.space).content (g.P.SectorView.space c.touch.new.space).content)
     (IsSettled c.touch.new.self (g.P.SectorView.space c.touch.new.space).content × (tree_of (g.P.SectorView.space c.touch.new.space).content ≡ made c.args.folder (free_place c.args.id c.args.name.now) (tree_of (g.P.SectorView.space c.args.space.now).content))
-    × (value_at (lists_of c.touch.new.self (g.P.SectorView.space c.touch.new.space).content).catalog_pairs c.args.id c.args.name.now ≡ Some (new_value c.args.folder c.args.self.now.header.next_catalog_id c.args.self.now.header.modify_date)))
+    × (value_at (lists_of c.touch.new.self (g.P.SectorView.space c.touch.new.space).content).catalog_pairs c.args.id c.args.name.now ≡ Some (new_value c.args.folder c.args.self.now.header.next_catalog_id c.args.self.now.header.modify_date))
+    × MakesEntry c.args.folder (free_place c.args.id c.args.name.now) (volume_of (g.P.SectorView.space c.args.space.now).content) (volume_of (g.P.SectorView.space c.touch.new.space).content))
     c.touch.result c.touch.ensures.stands (c.touch.ensures.counts later)
     (λ stands t. made_does c.args.self.now (g.P.SectorView.space c.args.space.now) (c.requires.settled tells) c.args.id c.args.name.now (c.requires.site tells) c.add_new.new.self (g.P.SectorView.space c.add_new.new.space) c.args.folder (c.in_ok-add_new.ensures.adds tells)
     (c.requires.stands.stands tells) (c.in_ok-add_new.ensures.stands.stands later) c.touch.new.self (g.P.SectorView.space c.touch.new.space) (stands.stands last) t (makes_both c.mkdir_does_its_step.ensures c.create_does_its_step.ensures c.args.folder))
@@ -63,3 +67,9 @@ returns-then-shape-lt4096-clause-touches g c committed = touches_none committed 
 
 pub returns-then-shape-lt4096-clause-service : goal.returns-then-shape-lt4096-clause-service
 returns-then-shape-lt4096-clause-service g c = c.requires.stands.service
+
+pub returns-clause-blocks : goal.returns-clause-blocks
+returns-clause-blocks g c = blocks_both c.args.self.now c.add_new.new.self c.touch.new.self c.add_new.ensures.blocks c.touch.ensures.blocks
+
+pub returns-then-shape-lt4096-clause-blocks : goal.returns-then-shape-lt4096-clause-blocks
+returns-then-shape-lt4096-clause-blocks g c = blocks_none c.args.self.now

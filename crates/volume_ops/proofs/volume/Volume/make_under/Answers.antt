@@ -7,14 +7,17 @@ use Rattle.catalog.specs.Pairs.{value_at}
 use Rattle.hfs_model.specs.Step.{made}
 use Rattle.hfs_model.proofs.Below.{last_name-last}
 use Rattle.volume_header.specs.declared.header.VolumeHeader.{VolumeHeader}
+use Rattle.hfs_volume.specs.Commands.{MakesEntry}
+use Rattle.hfs_volume.specs.Content.{volume_of}
 use Rattle.hfs_volume.specs.TreeOf.{tree_of}
 use Rattle.volume_ops.specs.Lists.{lists_of}
 use Rattle.volume_ops.specs.Making.{IsSite, free_place, new_value, path_to}
 use Rattle.volume_ops.specs.Touching.{Touches}
 use Rattle.volume_ops.proofs.Commanding.{touches_looks, touches_both}
 use Rattle.volume_ops.proofs.MakeRoom.{load_still, make_room_still}
-use Rattle.volume_ops.proofs.Sited.{fits_above, fits_name, is_site, made_line, refused_line, site_refused, site_told}
+use Rattle.volume_ops.proofs.Sited.{fits_above, fits_name, is_site, made_line, refused_line, site_refused, site_told, some_name}
 use Rattle.volume_ops.proofs.Still.{own_still}
+use Rattle.volume_ops.proofs.Besides.{blocks_both, blocks_read}
 use Rattle.volume_ops.proofs.volume.Volume.make_under.Goals as goal
 
 pub site-requires-clause-fits : goal.site-requires-clause-fits
@@ -119,3 +122,27 @@ returns-in_ok-make_in-in-Ok-clause-entry g c tells is = record {
 
 pub returns-in-Err-clause-entry : goal.returns-in-Err-clause-entry
 returns-in-Err-clause-entry g c tells is = absurd (cc is)
+
+pub returns-in_ok-make_in-in-Ok-clause-lists : goal.returns-in_ok-make_in-in-Ok-clause-lists
+returns-in_ok-make_in-in-Ok-clause-lists g c tells is = record {
+  place = free_place c.in-Ok.id c.args.name.now;
+  allowed = site_told c.sound_has_plain_tree.ensures c.args.self.now (g.P.SectorView.space c.args.space.now).content (c.requires.stands.stands tells).trees (c.requires.settled tells) (path_to c.args.above.now c.args.name.now) c.args.above.now c.args.name.now refl c.requires.not_own c.requires.fits c.in_ok-id.field-0 (c.in_ok-id.ensures.found tells) c.in-Ok.id c.in-Ok.is;
+  named = some_name c.args.name.now (fits_name c.args.above.now c.args.name.now c.requires.fits).some;
+  makes = subst (λ (k : Content). MakesEntry c.args.folder (free_place c.in-Ok.id c.args.name.now) (volume_of k) (volume_of (g.P.SectorView.space c.make_in.new.space).content)) (c.site.ensures.reads.looks.content tells)
+      (c.in_ok-make_in-in-Ok.ensures.does (c.site.ensures.reads.looks.same.tells ∙ tells)).3;
+}
+
+pub returns-in-Err-clause-lists : goal.returns-in-Err-clause-lists
+returns-in-Err-clause-lists g c tells is = absurd (cc is)
+
+pub returns-in_ok-make_in-in-Ok-clause-blocks : goal.returns-in_ok-make_in-in-Ok-clause-blocks
+returns-in_ok-make_in-in-Ok-clause-blocks g c = blocks_both c.args.self.now c.site.new.self c.make_in.new.self (blocks_read c.args.self.now c.site.new.self (g.P.SectorView.space c.args.space.now) (g.P.SectorView.space c.site.new.space) c.site.ensures.reads) c.make_in.ensures.blocks
+
+pub returns-in_err-make_in-in-Ok-clause-blocks : goal.returns-in_err-make_in-in-Ok-clause-blocks
+returns-in_err-make_in-in-Ok-clause-blocks g c = blocks_both c.args.self.now c.site.new.self c.make_in.new.self (blocks_read c.args.self.now c.site.new.self (g.P.SectorView.space c.args.space.now) (g.P.SectorView.space c.site.new.space) c.site.ensures.reads) c.make_in.ensures.blocks
+
+pub returns-in-Err-clause-blocks : goal.returns-in-Err-clause-blocks
+returns-in-Err-clause-blocks g c = blocks_read c.args.self.now c.site.new.self (g.P.SectorView.space c.args.space.now) (g.P.SectorView.space c.site.new.space) c.site.ensures.reads
+
+pub returns-in_err-id-clause-blocks : goal.returns-in_err-id-clause-blocks
+returns-in_err-id-clause-blocks g c = blocks_read c.args.self.now c.site.new.self (g.P.SectorView.space c.args.space.now) (g.P.SectorView.space c.site.new.space) c.site.ensures.reads

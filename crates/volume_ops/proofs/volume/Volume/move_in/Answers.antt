@@ -3,7 +3,10 @@ use Rattle.std.specs.List.{Contains}
 use Rattle.btree_node.specs.declared.store.TreeShape.{TreeShape}
 use Rattle.hfs_language.specs.declared.command.Command.TheVariants as command
 use Rattle.hfs_model.specs.Step.{step}
+use Rattle.hfs_volume.specs.Content.{volume_of}
+use Rattle.hfs_volume.specs.Naming.{MovesName}
 use Rattle.hfs_volume.specs.TreeOf.{tree_of}
+use Rattle.volume_ops.specs.Making.{free_place}
 use Rattle.volume_ops.specs.Moving.{Arrives}
 use Rattle.volume_ops.specs.Standing.{IsSettled, StandsOver}
 use Rattle.volume_ops.specs.Touching.{Touches}
@@ -11,6 +14,7 @@ use Rattle.volume_ops.proofs.Commanding.{touches_both, touches_none}
 use Rattle.volume_ops.proofs.FoundEntry.{ok_both}
 use Rattle.volume_ops.proofs.Moved.{entry_after, goal_after, moved_does, threads_first}
 use Rattle.volume_ops.proofs.Replaced.{node_large}
+use Rattle.volume_ops.proofs.Besides.{blocks_both, blocks_none}
 use Rattle.volume_ops.proofs.volume.Volume.move_in.Goals as goal
 
 pub leave-requires-clause-size : goal.leave-requires-clause-size
@@ -39,7 +43,8 @@ returns-clause-does g c tells from to at move =
     let later = (c.leave.ensures.touches (g.P.SectorView.space c.args.space.now).content).same.tells ∙ tells in
     let last = (c.arrive.ensures.touches (g.P.SectorView.space c.args.space.now).content).same.tells ∙ later in
     ok_both (StandsOver c.arrive.new.self (g.P.SectorView.space c.arrive.new.space)) (Arrives c.args.way.now.folder c.args.way.now.id c.leave.new.self c.arrive.new.self (g.P.SectorView.space c.leave.new.space).content (g.P.SectorView.space c.arrive.new.space).content)
-    (IsSettled c.arrive.new.self (g.P.SectorView.space c.arrive.new.space).content × (tree_of (g.P.SectorView.space c.arrive.new.space).content ≡ (step (tree_of (g.P.SectorView.space c.args.space.now).content) (command.Mv from to)).1))
+    (IsSettled c.arrive.new.self (g.P.SectorView.space c.arrive.new.space).content × (tree_of (g.P.SectorView.space c.arrive.new.space).content ≡ (step (tree_of (g.P.SectorView.space c.args.space.now).content) (command.Mv from to)).1)
+    × MovesName at (free_place c.args.way.now.folder c.args.name.now) (volume_of (g.P.SectorView.space c.args.space.now).content) (volume_of (g.P.SectorView.space c.arrive.new.space).content))
     c.arrive.result c.arrive.ensures.stands (c.arrive.ensures.arrives later)
     (λ stands t. moved_does c.args.self.now (g.P.SectorView.space c.args.space.now) (c.requires.settled tells) (c.requires.stands.stands tells) from to at c.args.way.now.parent c.args.old.now c.args.way.now.id c.args.way.now.folder c.args.name.now move c.requires.stands.service.fits.next_catalog_id
     (c.in_ok-leave.ensures.leaves tells).middle (c.in_ok-leave.ensures.leaves tells).content (c.in_ok-leave.ensures.leaves tells).moves (c.in_ok-leave.ensures.leaves tells).holds c.leave.new.self (g.P.SectorView.space c.leave.new.space).content (c.in_ok-leave.ensures.leaves tells).loses t.middle t.content t.gains c.arrive.new.self (g.P.SectorView.space c.arrive.new.space) t.dates (stands.stands last) c.mv_does_its_step.ensures)
@@ -66,3 +71,9 @@ returns-then-shape-lt4096-clause-touches g c committed = touches_none committed 
 
 pub returns-then-shape-lt4096-clause-service : goal.returns-then-shape-lt4096-clause-service
 returns-then-shape-lt4096-clause-service g c = c.requires.stands.service
+
+pub returns-clause-blocks : goal.returns-clause-blocks
+returns-clause-blocks g c = blocks_both c.args.self.now c.leave.new.self c.arrive.new.self c.leave.ensures.blocks c.arrive.ensures.blocks
+
+pub returns-then-shape-lt4096-clause-blocks : goal.returns-then-shape-lt4096-clause-blocks
+returns-then-shape-lt4096-clause-blocks g c = blocks_none c.args.self.now

@@ -5,6 +5,8 @@ use Rattle.hfs_language.specs.Written.{FitsPath}
 use Rattle.hfs_language.specs.declared.command.Command.TheVariants as command
 use Rattle.hfs_language.specs.declared.refusal.Refusal.TheVariants as refusal
 use Rattle.hfs_model.specs.Step.{is_below, step}
+use Rattle.hfs_volume.specs.Content.{volume_of}
+use Rattle.hfs_volume.specs.Naming.{MovesName}
 use Rattle.hfs_volume.specs.TreeOf.{tree_of}
 use Rattle.volume_ops.specs.Making.{free_place}
 use Rattle.volume_ops.specs.Lists.{lists_of}
@@ -13,8 +15,9 @@ use Rattle.volume_ops.specs.Touching.{Touches}
 use Rattle.volume_ops.proofs.Commanding.{touches_looks, touches_both}
 use Rattle.volume_ops.proofs.MoveRoom.{move_load_still, move_room_still}
 use Rattle.volume_ops.proofs.Routed.{goes_inside, may_go, moved_line, mv_refused_line, way_refused, way_told}
-use Rattle.volume_ops.proofs.Sited.{fits_above, fits_name}
+use Rattle.volume_ops.proofs.Sited.{fits_above, fits_name, some_name}
 use Rattle.volume_ops.proofs.Still.{own_still}
+use Rattle.volume_ops.proofs.Besides.{blocks_both, blocks_read}
 use Rattle.volume_ops.proofs.volume.Volume.mv_under.Goals as goal
 
 pub route-requires-clause-from_fits : goal.route-requires-clause-from_fits
@@ -116,3 +119,34 @@ returns-then-is_below-clause-touches g c committed = touches_looks committed _ (
 
 pub returns-in_err-way-clause-touches : goal.returns-in_err-way-clause-touches
 returns-in_err-way-clause-touches g c committed = touches_looks committed _ (g.P.SectorView.space c.args.space.now) (g.P.SectorView.space c.route.new.space) c.route.ensures.reads.looks
+
+pub returns-in_ok-move_in-in-Ok-clause-blocks : goal.returns-in_ok-move_in-in-Ok-clause-blocks
+returns-in_ok-move_in-in-Ok-clause-blocks g c = blocks_both c.args.self.now c.route.new.self c.move_in.new.self (blocks_read c.args.self.now c.route.new.self (g.P.SectorView.space c.args.space.now) (g.P.SectorView.space c.route.new.space) c.route.ensures.reads) c.move_in.ensures.blocks
+
+pub returns-in_err-move_in-in-Ok-clause-blocks : goal.returns-in_err-move_in-in-Ok-clause-blocks
+returns-in_err-move_in-in-Ok-clause-blocks g c = blocks_both c.args.self.now c.route.new.self c.move_in.new.self (blocks_read c.args.self.now c.route.new.self (g.P.SectorView.space c.args.space.now) (g.P.SectorView.space c.route.new.space) c.route.ensures.reads) c.move_in.ensures.blocks
+
+pub returns-in-Err-clause-blocks : goal.returns-in-Err-clause-blocks
+returns-in-Err-clause-blocks g c = blocks_read c.args.self.now c.route.new.self (g.P.SectorView.space c.args.space.now) (g.P.SectorView.space c.route.new.space) c.route.ensures.reads
+
+pub returns-in_err-way-clause-blocks : goal.returns-in_err-way-clause-blocks
+returns-in_err-way-clause-blocks g c = blocks_read c.args.self.now c.route.new.self (g.P.SectorView.space c.args.space.now) (g.P.SectorView.space c.route.new.space) c.route.ensures.reads
+
+pub returns-then-is_below-clause-blocks : goal.returns-then-is_below-clause-blocks
+returns-then-is_below-clause-blocks g c = blocks_read c.args.self.now c.route.new.self (g.P.SectorView.space c.args.space.now) (g.P.SectorView.space c.route.new.space) c.route.ensures.reads
+
+pub returns-in_ok-move_in-in-Ok-clause-lists : goal.returns-in_ok-move_in-in-Ok-clause-lists
+returns-in_ok-move_in-in-Ok-clause-lists g c tells is = record {
+  entry = (way_told c.sound_has_plain_tree.ensures c.args.self.now (g.P.SectorView.space c.args.space.now).content (c.requires.stands.stands tells).trees (c.requires.settled tells) c.args.from.now c.args.to.now c.args.above.now c.args.under.now c.args.old.now c.args.name.now c.requires.split c.requires.goal_split c.requires.not_own c.requires.goal_not_own c.requires.from_fits c.requires.to_fits c.in_ok-way.field-0 (subst (λ (p : List (List ℕ)). c.in_ok-way.field-0 ≡ route_in (lists_of c.args.self.now (g.P.SectorView.space c.args.space.now).content).catalog_pairs c.args.self.now.private p c.args.above.now c.args.under.now c.args.name.now) c.as_slice.ensures (c.in_ok-way.ensures.found tells)) c.in-Ok.way c.in-Ok.is).at;
+  place = free_place c.in-Ok.way.folder c.args.name.now;
+  allowed = (may_go c.sound_has_plain_tree.ensures c.args.self.now (g.P.SectorView.space c.args.space.now).content (c.requires.stands.stands tells).trees (c.requires.settled tells) c.args.from.now c.args.to.now c.args.above.now c.args.under.now c.args.old.now c.args.name.now c.requires.split c.requires.goal_split c.requires.not_own c.requires.goal_not_own c.requires.from_fits c.requires.to_fits c.in_ok-way.field-0 (subst (λ (p : List (List ℕ)). c.in_ok-way.field-0 ≡ route_in (lists_of c.args.self.now (g.P.SectorView.space c.args.space.now).content).catalog_pairs c.args.self.now.private p c.args.above.now c.args.under.now c.args.name.now) c.as_slice.ensures (c.in_ok-way.ensures.found tells)) c.in-Ok.way c.in-Ok.is ((λ i. is_below (sym c.as_slice-in-Ok.ensures i) (sym c.as_slice-in-Ok-2.ensures i)) ∙ sym c.is_below.ensures ∙ c.if-is_below.false)).allowed;
+  named = some_name c.args.name.now (fits_name c.args.under.now c.args.name.now (subst FitsPath c.requires.goal_split c.requires.to_fits)).some;
+  moves = subst (λ (k : Content). MovesName (way_told c.sound_has_plain_tree.ensures c.args.self.now (g.P.SectorView.space c.args.space.now).content (c.requires.stands.stands tells).trees (c.requires.settled tells) c.args.from.now c.args.to.now c.args.above.now c.args.under.now c.args.old.now c.args.name.now c.requires.split c.requires.goal_split c.requires.not_own c.requires.goal_not_own c.requires.from_fits c.requires.to_fits c.in_ok-way.field-0 (subst (λ (p : List (List ℕ)). c.in_ok-way.field-0 ≡ route_in (lists_of c.args.self.now (g.P.SectorView.space c.args.space.now).content).catalog_pairs c.args.self.now.private p c.args.above.now c.args.under.now c.args.name.now) c.as_slice.ensures (c.in_ok-way.ensures.found tells)) c.in-Ok.way c.in-Ok.is).at (free_place c.in-Ok.way.folder c.args.name.now) (volume_of k) (volume_of (g.P.SectorView.space c.move_in.new.space).content)) (c.route.ensures.reads.looks.content tells)
+      (c.in_ok-move_in-in-Ok.ensures.does (c.route.ensures.reads.looks.same.tells ∙ tells) c.args.from.now c.args.to.now (way_told c.sound_has_plain_tree.ensures c.args.self.now (g.P.SectorView.space c.args.space.now).content (c.requires.stands.stands tells).trees (c.requires.settled tells) c.args.from.now c.args.to.now c.args.above.now c.args.under.now c.args.old.now c.args.name.now c.requires.split c.requires.goal_split c.requires.not_own c.requires.goal_not_own c.requires.from_fits c.requires.to_fits c.in_ok-way.field-0 (subst (λ (p : List (List ℕ)). c.in_ok-way.field-0 ≡ route_in (lists_of c.args.self.now (g.P.SectorView.space c.args.space.now).content).catalog_pairs c.args.self.now.private p c.args.above.now c.args.under.now c.args.name.now) c.as_slice.ensures (c.in_ok-way.ensures.found tells)) c.in-Ok.way c.in-Ok.is).at (subst (λ (k : Content). IsMove (tree_of k) c.args.from.now c.args.to.now (way_told c.sound_has_plain_tree.ensures c.args.self.now (g.P.SectorView.space c.args.space.now).content (c.requires.stands.stands tells).trees (c.requires.settled tells) c.args.from.now c.args.to.now c.args.above.now c.args.under.now c.args.old.now c.args.name.now c.requires.split c.requires.goal_split c.requires.not_own c.requires.goal_not_own c.requires.from_fits c.requires.to_fits c.in_ok-way.field-0 (subst (λ (p : List (List ℕ)). c.in_ok-way.field-0 ≡ route_in (lists_of c.args.self.now (g.P.SectorView.space c.args.space.now).content).catalog_pairs c.args.self.now.private p c.args.above.now c.args.under.now c.args.name.now) c.as_slice.ensures (c.in_ok-way.ensures.found tells)) c.in-Ok.way c.in-Ok.is).at c.in-Ok.way.parent c.args.old.now c.in-Ok.way.id c.in-Ok.way.folder c.args.name.now) (sym (c.route.ensures.reads.looks.content tells)) (may_go c.sound_has_plain_tree.ensures c.args.self.now (g.P.SectorView.space c.args.space.now).content (c.requires.stands.stands tells).trees (c.requires.settled tells) c.args.from.now c.args.to.now c.args.above.now c.args.under.now c.args.old.now c.args.name.now c.requires.split c.requires.goal_split c.requires.not_own c.requires.goal_not_own c.requires.from_fits c.requires.to_fits c.in_ok-way.field-0 (subst (λ (p : List (List ℕ)). c.in_ok-way.field-0 ≡ route_in (lists_of c.args.self.now (g.P.SectorView.space c.args.space.now).content).catalog_pairs c.args.self.now.private p c.args.above.now c.args.under.now c.args.name.now) c.as_slice.ensures (c.in_ok-way.ensures.found tells)) c.in-Ok.way c.in-Ok.is ((λ i. is_below (sym c.as_slice-in-Ok.ensures i) (sym c.as_slice-in-Ok-2.ensures i)) ∙ sym c.is_below.ensures ∙ c.if-is_below.false)))).2;
+}
+
+pub returns-in-Err-clause-lists : goal.returns-in-Err-clause-lists
+returns-in-Err-clause-lists g c tells is = absurd (cc is)
+
+pub returns-then-is_below-clause-lists : goal.returns-then-is_below-clause-lists
+returns-then-is_below-clause-lists g c tells is = absurd (cc is)

@@ -9,6 +9,7 @@ use Rattle.volume_ops.proofs.Commanding.{touches_none}
 use Rattle.volume_ops.proofs.FoundEntry.{ok_so}
 use Rattle.volume_ops.proofs.Redating.{dated_some, dates_entry}
 use Rattle.volume_ops.proofs.UpdateRoom.{room_less}
+use Rattle.volume_ops.proofs.Besides.{blocks_edit, blocks_none}
 use Rattle.volume_ops.proofs.volume.Volume.put_dated.Goals as goal
 
 pub replace-requires-clause-kind : goal.replace-requires-clause-kind
@@ -39,3 +40,9 @@ returns-in_default-clause-service g c = c.requires.stands.service
 
 pub returns-in_default-clause-room : goal.returns-in_default-clause-room
 returns-in_default-clause-room g c many room = room_less many c.args.self.now (g.P.SectorView.space c.args.space.now) room
+
+pub returns-clause-blocks : goal.returns-clause-blocks
+returns-clause-blocks g c = blocks_edit c.args.self.now c.replace.new.self c.replace.ensures.rest
+
+pub returns-in_default-clause-blocks : goal.returns-in_default-clause-blocks
+returns-in_default-clause-blocks g c = blocks_none c.args.self.now

@@ -88,3 +88,15 @@ returns-clause-map g c = ap (λ (x : Volume). x.map) c.put_mark.ensures.rest ∙
 
 pub returns-in_err-set-clause-map : goal.returns-in_err-set-clause-map
 returns-in_err-set-clause-map g c = ap (λ (x : Volume). x.map) c.set.ensures.rest
+
+pub returns-clause-capacity : goal.returns-clause-capacity
+returns-clause-capacity g c = ap (λ (x : Volume). x.capacity) c.put_mark.ensures.rest ∙ ap (λ (x : Volume). x.capacity) c.set.ensures.rest
+
+pub returns-clause-shrunk : goal.returns-clause-shrunk
+returns-clause-shrunk g c = ap (λ (x : Volume). x.shrunk) c.put_mark.ensures.rest ∙ ap (λ (x : Volume). x.shrunk) c.set.ensures.rest
+
+pub returns-in_err-set-clause-capacity : goal.returns-in_err-set-clause-capacity
+returns-in_err-set-clause-capacity g c = ap (λ (x : Volume). x.capacity) c.set.ensures.rest
+
+pub returns-in_err-set-clause-shrunk : goal.returns-in_err-set-clause-shrunk
+returns-in_err-set-clause-shrunk g c = ap (λ (x : Volume). x.shrunk) c.set.ensures.rest

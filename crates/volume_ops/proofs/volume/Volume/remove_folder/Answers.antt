@@ -2,16 +2,18 @@ use Rattle.std.proofs.Common.{◌≡◌, ◌/◌, ℕ, List, sym, ◌∙◌, ap,
 use Rattle.std.specs.List.{Contains}
 use Rattle.btree_node.specs.declared.store.TreeShape.{TreeShape}
 use Rattle.hfs_model.specs.Step.{removed_folder}
+use Rattle.hfs_volume.specs.Content.{volume_of}
 use Rattle.hfs_volume.specs.TreeOf.{tree_of}
 use Rattle.volume_ops.specs.Changing.{TouchesFolder}
-use Rattle.volume_ops.specs.Removing.{folder_at}
+use Rattle.volume_ops.specs.Removing.{TakesFolder, folder_at}
 use Rattle.volume_ops.specs.Standing.{IsSettled, StandsOver}
 use Rattle.volume_ops.specs.Touching.{Touches}
 use Rattle.volume_ops.proofs.Commanding.{touches_both, touches_none}
-use Rattle.volume_ops.proofs.Emptied.{emptied_does, folder_after, has_name, threads_after}
+use Rattle.volume_ops.proofs.Emptied.{emptied_does, emptied_takes, folder_after, has_name, threads_after}
 use Rattle.volume_ops.proofs.FoundEntry.{ok_both}
 use Rattle.volume_ops.proofs.Leaving.{removed_step}
 use Rattle.volume_ops.proofs.Replaced.{node_large}
+use Rattle.volume_ops.proofs.Besides.{blocks_both, blocks_none}
 use Rattle.volume_ops.proofs.volume.Volume.remove_folder.Goals as goal
 
 pub take_off-requires-clause-size : goal.take_off-requires-clause-size
@@ -69,3 +71,25 @@ returns-then-shape-lt4096-clause-touches g c committed = touches_none committed 
 
 pub returns-then-shape-lt4096-clause-service : goal.returns-then-shape-lt4096-clause-service
 returns-then-shape-lt4096-clause-service g c = c.requires.stands.service
+
+pub returns-clause-takes : goal.returns-clause-takes
+returns-clause-takes g c tells =
+    let later = (c.take_off.ensures.touches (g.P.SectorView.space c.args.space.now).content).same.tells ∙ tells in
+    let last = (c.touch.ensures.touches (g.P.SectorView.space c.args.space.now).content).same.tells ∙ later in
+    ok_both (StandsOver c.touch.new.self (g.P.SectorView.space c.touch.new.space)) (TouchesFolder c.args.at.parent 0 1 c.take_off.new.self c.touch.new.self (g.P.SectorView.space c.take_off.new.space).content (g.P.SectorView.space c.touch.new.space).content)
+    (TakesFolder c.args.at.id (volume_of (g.P.SectorView.space c.args.space.now).content) (volume_of (g.P.SectorView.space c.touch.new.space).content)) c.touch.result c.touch.ensures.stands (c.touch.ensures.counts later)
+    (λ stands t. emptied_takes c.args.self.now (g.P.SectorView.space c.args.space.now) (c.requires.stands.stands tells) (c.requires.settled tells) c.args.at c.args.name.now (c.requires.leaving tells) c.take_off.new.self (g.P.SectorView.space c.take_off.new.space)
+    (has_name c.args.self.now (g.P.SectorView.space c.args.space.now) (c.requires.stands.stands tells) (c.requires.settled tells) c.args.at c.args.name.now (c.requires.leaving tells)) (c.in_ok-take_off.ensures.drops tells)
+    (c.requires.bare tells) c.touch.new.self (g.P.SectorView.space c.touch.new.space) (stands.stands last) t c.rmdir_does_its_step.ensures
+    (threads_after c.args.self.now (g.P.SectorView.space c.args.space.now) (c.requires.stands.stands tells) (c.requires.settled tells) c.args.at c.args.name.now (c.requires.leaving tells) c.take_off.new.self (g.P.SectorView.space c.take_off.new.space)
+    (has_name c.args.self.now (g.P.SectorView.space c.args.space.now) (c.requires.stands.stands tells) (c.requires.settled tells) c.args.at c.args.name.now (c.requires.leaving tells)) (c.in_ok-take_off.ensures.drops tells) c.sound_has_plain_tree.ensures))
+
+pub returns-then-shape-lt4096-clause-takes : goal.returns-then-shape-lt4096-clause-takes
+returns-then-shape-lt4096-clause-takes g c tells =
+    absurd (omega (arith, c.if-shape-lt4096.true, ap (λ (s : TreeShape). s.node_size) c.shape.ensures, node_large c.args.self.now (g.P.SectorView.space c.args.space.now) c.requires.stands tells))
+
+pub returns-clause-blocks : goal.returns-clause-blocks
+returns-clause-blocks g c = blocks_both c.args.self.now c.take_off.new.self c.touch.new.self c.take_off.ensures.blocks c.touch.ensures.blocks
+
+pub returns-then-shape-lt4096-clause-blocks : goal.returns-then-shape-lt4096-clause-blocks
+returns-then-shape-lt4096-clause-blocks g c = blocks_none c.args.self.now

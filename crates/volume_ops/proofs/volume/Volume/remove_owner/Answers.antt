@@ -1,30 +1,29 @@
-use Rattle.std.proofs.Common.{◌≡◌, ℕ, List, [], sym, ◌∙◌, ap, subst, arith}
+use Rattle.std.proofs.Common.{◌≡◌, ℕ, List, [], length, sym, ◌∙◌, ap, subst, arith}
 use Rattle.std.specs.Prelude.{OnOk}
 use Rattle.std.specs.List.{Contains}
+use Rattle.hfs_volume.specs.Content.{volume_of}
 use Rattle.hfs_volume.specs.TreeOf.{tree_of}
-use Rattle.volume_ops.specs.Removing.{HasRoomToBare, remove_load}
+use Rattle.volume_ops.specs.Dropping.{FitsToLeave}
+use Rattle.volume_ops.specs.Removing.{TakesFolder, remove_load}
 use Rattle.volume_ops.specs.Standing.{IsSettled}
 use Rattle.volume_ops.specs.Touching.{Touches}
-use Rattle.volume_ops.proofs.AttributesEdited.{own_then}
-use Rattle.volume_ops.proofs.BareRoom.{room_for_folder, room_to_bare, spent_bare, spent_counted}
-use Rattle.volume_ops.proofs.Bared.{leaving_still, node_alone, none_left, removed_same, settled_bared}
+use Rattle.volume_ops.proofs.AttributesEdited.{attributes_large, own_then}
+use Rattle.volume_ops.proofs.BareRoom.{room_for_folder, spent_counted}
+use Rattle.volume_ops.proofs.Bared.{attributes_bared, leaving_still, node_alone, none_left, removed_same, settled_bared}
 use Rattle.volume_ops.proofs.Commanding.{touches_both, touches_none}
 use Rattle.volume_ops.proofs.OwnedChange.{settled_inline}
 use Rattle.volume_ops.proofs.Seeing.{cause_since}
 use Rattle.volume_ops.proofs.Still.{has_them}
+use Rattle.volume_ops.proofs.Besides.{blocks_both, blocks_none, blocks_owned}
+use Rattle.volume_ops.proofs.FoundEntry.{ok_so}
+use Rattle.volume_ops.proofs.Taken.{takes_behind}
 use Rattle.volume_ops.proofs.volume.Volume.remove_owner.Goals as goal
 
 pub bare-requires-clause-has : goal.bare-requires-clause-has
 bare-requires-clause-has g c = has_them c.args.self.now.header c.if-self-eq0.false
 
-pub bare-requires-clause-size : goal.bare-requires-clause-size
-bare-requires-clause-size g c = (subst (λ n. HasRoomToBare c.args.most c.args.self.now n) c.spare.ensures (c.can_bare.ensures c.if-not-can_bare.false)).size
-
 pub bare-requires-clause-inline : goal.bare-requires-clause-inline
 bare-requires-clause-inline g c tells = settled_inline c.args.self.now (g.P.SectorView.space c.args.space.now).content (c.requires.settled tells)
-
-pub bare-requires-clause-room : goal.bare-requires-clause-room
-bare-requires-clause-room g c = room_to_bare c.args.most c.args.self.now (g.P.SectorView.space c.args.space.now) (subst (λ n. HasRoomToBare c.args.most c.args.self.now n) c.spare.ensures (c.can_bare.ensures c.if-not-can_bare.false))
 
 pub remove_folder-requires-clause-settled : goal.remove_folder-requires-clause-settled
 remove_folder-requires-clause-settled g c later =
@@ -44,8 +43,8 @@ remove_folder-requires-clause-bare g c later =
 
 pub remove_folder-requires-clause-room : goal.remove_folder-requires-clause-room
 remove_folder-requires-clause-room g c =
-    room_for_folder c.args.most c.args.self.now c.bare.new.self (g.P.SectorView.space c.args.space.now) (g.P.SectorView.space c.bare.new.space) c.bare.ensures.rest c.bare.ensures.frame.space.same.tells c.requires.room (subst (λ n. HasRoomToBare c.args.most c.args.self.now n) c.spare.ensures (c.can_bare.ensures c.if-not-can_bare.false))
-    (spent_bare c.args.most c.args.self.now c.bare.new.self (g.P.SectorView.space c.args.space.now) (g.P.SectorView.space c.bare.new.space) (subst (λ n. HasRoomToBare c.args.most c.args.self.now n) c.spare.ensures (c.can_bare.ensures c.if-not-can_bare.false)) (c.bare.ensures.takes []))
+    room_for_folder c.args.self.now c.bare.new.self (g.P.SectorView.space c.args.space.now) (g.P.SectorView.space c.bare.new.space) c.bare.ensures.rest c.bare.ensures.frame.space.same.tells c.requires.room
+    (subst (λ n. FitsToLeave c.bare.new.self.catalog.file.shape n) c.spare.ensures (c.can_leave.ensures c.if-not-can_leave.false))
 
 pub returns-clause-does : goal.returns-clause-does
 returns-clause-does g c tells =
@@ -65,14 +64,14 @@ returns-clause-spent g c tells =
     let later = c.bare.ensures.frame.space.same.tells ∙ tells in
     omega (
       arith,
-      spent_counted c.edits_take_their_load.ensures c.args.most c.args.self.now c.bare.new.self (g.P.SectorView.space c.args.space.now) (g.P.SectorView.space c.bare.new.space) tells (subst (λ n. HasRoomToBare c.args.most c.args.self.now n) c.spare.ensures (c.can_bare.ensures c.if-not-can_bare.false)).size (c.bare.ensures.takes []),
+      spent_counted c.edits_take_their_load.ensures (length c.args.owned.now) c.args.self.now c.bare.new.self (g.P.SectorView.space c.args.space.now) (g.P.SectorView.space c.bare.new.space) tells (attributes_large c.args.self.now (g.P.SectorView.space c.args.space.now) c.requires.stands (has_them c.args.self.now.header c.if-self-eq0.false) tells) (c.bare.ensures.takes []),
       c.remove_folder.ensures.spent later,
       ap remove_load c.bare.ensures.rest,
     )
 
 pub returns-in_err-bare-clause-spent : goal.returns-in_err-bare-clause-spent
 returns-in_err-bare-clause-spent g c tells =
-    omega (arith, spent_counted c.edits_take_their_load.ensures c.args.most c.args.self.now c.bare.new.self (g.P.SectorView.space c.args.space.now) (g.P.SectorView.space c.bare.new.space) tells (subst (λ n. HasRoomToBare c.args.most c.args.self.now n) c.spare.ensures (c.can_bare.ensures c.if-not-can_bare.false)).size (c.bare.ensures.takes []))
+    omega (arith, spent_counted c.edits_take_their_load.ensures (length c.args.owned.now) c.args.self.now c.bare.new.self (g.P.SectorView.space c.args.space.now) (g.P.SectorView.space c.bare.new.space) tells (attributes_large c.args.self.now (g.P.SectorView.space c.args.space.now) c.requires.stands (has_them c.args.self.now.header c.if-self-eq0.false) tells) (c.bare.ensures.takes []))
 
 pub returns-clause-below : goal.returns-clause-below
 returns-clause-below g c = g.met.P.SectorView.follows_trans c.args.space.now c.bare.new.space c.remove_folder.new.space c.bare.ensures.below c.remove_folder.ensures.below
@@ -86,8 +85,29 @@ returns-then-self-eq0-clause-touches g c committed = touches_none committed _ (g
 pub returns-then-self-eq0-clause-service : goal.returns-then-self-eq0-clause-service
 returns-then-self-eq0-clause-service g c = c.requires.stands.service
 
-pub returns-then-not-can_bare-clause-touches : goal.returns-then-not-can_bare-clause-touches
-returns-then-not-can_bare-clause-touches g c committed = touches_none committed _ (g.P.SectorView.space c.args.space.now)
+pub returns-then-not-can_leave-clause-touches : goal.returns-then-not-can_leave-clause-touches
+returns-then-not-can_leave-clause-touches g c committed = c.bare.ensures.touches committed
 
-pub returns-then-not-can_bare-clause-service : goal.returns-then-not-can_bare-clause-service
-returns-then-not-can_bare-clause-service g c = c.requires.stands.service
+pub returns-then-not-can_leave-clause-spent : goal.returns-then-not-can_leave-clause-spent
+returns-then-not-can_leave-clause-spent g c tells =
+    omega (arith, spent_counted c.edits_take_their_load.ensures (length c.args.owned.now) c.args.self.now c.bare.new.self (g.P.SectorView.space c.args.space.now) (g.P.SectorView.space c.bare.new.space) tells (attributes_large c.args.self.now (g.P.SectorView.space c.args.space.now) c.requires.stands (has_them c.args.self.now.header c.if-self-eq0.false) tells) (c.bare.ensures.takes []))
+
+pub returns-clause-takes : goal.returns-clause-takes
+returns-clause-takes g c tells =
+    let later = c.bare.ensures.frame.space.same.tells ∙ tells in
+    ok_so (TakesFolder c.args.at.id (volume_of (g.P.SectorView.space c.bare.new.space).content) (volume_of (g.P.SectorView.space c.remove_folder.new.space).content)) (TakesFolder c.args.at.id (volume_of (g.P.SectorView.space c.args.space.now).content) (volume_of (g.P.SectorView.space c.remove_folder.new.space).content)) c.remove_folder.result (c.remove_folder.ensures.takes later)
+    (λ takes. takes_behind c.args.at.id (volume_of (g.P.SectorView.space c.args.space.now).content) (volume_of (g.P.SectorView.space c.bare.new.space).content) (volume_of (g.P.SectorView.space c.remove_folder.new.space).content)
+    (attributes_bared c.args.self.now c.bare.new.self (g.P.SectorView.space c.args.space.now) (g.P.SectorView.space c.bare.new.space) c.args.at.id (c.in_ok-bare.ensures.bares tells) (c.requires.settled tells) (c.requires.stands.stands tells) (c.in_ok-bare.ensures.stands.stands later) (has_them c.args.self.now.header c.if-self-eq0.false))
+    (none_left c.args.self.now c.bare.new.self (g.P.SectorView.space c.args.space.now) (g.P.SectorView.space c.bare.new.space) c.args.at.id (c.in_ok-bare.ensures.bares tells) (c.requires.settled tells) (c.requires.stands.stands tells) (c.in_ok-bare.ensures.stands.stands later) (has_them c.args.self.now.header c.if-self-eq0.false)) takes)
+
+pub returns-clause-blocks : goal.returns-clause-blocks
+returns-clause-blocks g c = blocks_both c.args.self.now c.bare.new.self c.remove_folder.new.self (blocks_owned c.args.self.now c.bare.new.self c.bare.ensures.rest) c.remove_folder.ensures.blocks
+
+pub returns-in_err-bare-clause-blocks : goal.returns-in_err-bare-clause-blocks
+returns-in_err-bare-clause-blocks g c = blocks_owned c.args.self.now c.bare.new.self c.bare.ensures.rest
+
+pub returns-then-self-eq0-clause-blocks : goal.returns-then-self-eq0-clause-blocks
+returns-then-self-eq0-clause-blocks g c = blocks_none c.args.self.now
+
+pub returns-then-not-can_leave-clause-blocks : goal.returns-then-not-can_leave-clause-blocks
+returns-then-not-can_leave-clause-blocks g c = blocks_owned c.args.self.now c.bare.new.self c.bare.ensures.rest

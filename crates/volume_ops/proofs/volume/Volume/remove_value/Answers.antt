@@ -88,3 +88,15 @@ returns-clause-map g c = ap (λ (x : Volume). x.map) c.put_mark.ensures.rest ∙
 
 pub returns-in_err-delete-clause-map : goal.returns-in_err-delete-clause-map
 returns-in_err-delete-clause-map g c = ap (λ (x : Volume). x.map) c.delete.ensures.rest
+
+pub returns-clause-capacity : goal.returns-clause-capacity
+returns-clause-capacity g c = ap (λ (x : Volume). x.capacity) c.put_mark.ensures.rest ∙ ap (λ (x : Volume). x.capacity) c.delete.ensures.rest
+
+pub returns-clause-shrunk : goal.returns-clause-shrunk
+returns-clause-shrunk g c = ap (λ (x : Volume). x.shrunk) c.put_mark.ensures.rest ∙ ap (λ (x : Volume). x.shrunk) c.delete.ensures.rest
+
+pub returns-in_err-delete-clause-capacity : goal.returns-in_err-delete-clause-capacity
+returns-in_err-delete-clause-capacity g c = ap (λ (x : Volume). x.capacity) c.delete.ensures.rest
+
+pub returns-in_err-delete-clause-shrunk : goal.returns-in_err-delete-clause-shrunk
+returns-in_err-delete-clause-shrunk g c = ap (λ (x : Volume). x.shrunk) c.delete.ensures.rest

@@ -3,6 +3,7 @@ use Rattle.std.specs.Prelude.{IfOk, OnOk, Ok}
 use Rattle.hfs_language.specs.Written.{FitsPath}
 use Rattle.hfs_language.specs.declared.command.Command.TheVariants as command
 use Rattle.hfs_language.specs.declared.reply.Reply.{Reply}
+use Rattle.hfs_language.specs.declared.reply.Reply.TheVariants as reply
 use Rattle.hfs_model.specs.Step.{is_private_path, step_line}
 use Rattle.hfs_volume.specs.Content.{volume_of}
 use Rattle.hfs_volume.specs.TreeOf.{tree_of}
@@ -10,6 +11,8 @@ use Rattle.hfs_volume.specs.Weight.{weight}
 use Rattle.hfs_volume.specs.declared.cost.Cost.TheVariants as cost
 use Rattle.volume_ops.proofs.Commanding.{touches_none}
 use Rattle.volume_ops.proofs.Leaving.{private_line, root_line}
+use Rattle.volume_ops.specs.Removing.{HasRemoved}
+use Rattle.volume_ops.proofs.Besides.{blocks_none}
 use Rattle.volume_ops.proofs.volume.Volume.rmdir.Goals as goal
 
 pub rmdir_under-requires-clause-fits : goal.rmdir_under-requires-clause-fits
@@ -60,3 +63,20 @@ pub returns-in-Some-clause-loads : goal.returns-in-Some-clause-loads
 returns-in-Some-clause-loads g c tells n grow =
     subst (λ (p : List (List ℕ)). weight c.args.self.now.capacity (volume_of (g.P.SectorView.space c.args.space.now).content) (tree_of (g.P.SectorView.space c.args.space.now).content) (command.Rmdir p) ≡ cost.Load n grow
     → (g.P.SectorView.space c.args.space.now).spare ≤ (g.P.SectorView.space c.rmdir_under.new.space).spare + n) (sym c.in-Some.ensures.cases.0 ∙ c.as_slice.ensures) (c.rmdir_under.ensures.loads tells n grow)
+
+pub returns-in-Some-clause-lists : goal.returns-in-Some-clause-lists
+returns-in-Some-clause-lists g c tells =
+    subst (λ (p : List (List ℕ)). IfOk c.rmdir_under.result (λ (said : Reply). said ≡ reply.Ok → HasRemoved p (g.P.SectorView.space c.args.space.now).content (g.P.SectorView.space c.rmdir_under.new.space).content))
+    (sym c.in-Some.ensures.cases.0 ∙ c.as_slice.ensures) (c.rmdir_under.ensures.lists tells)
+
+pub returns-in-None-clause-lists : goal.returns-in-None-clause-lists
+returns-in-None-clause-lists g c tells is = absurd (cc is)
+
+pub returns-then-is_private_path-clause-lists : goal.returns-then-is_private_path-clause-lists
+returns-then-is_private_path-clause-lists g c tells is = absurd (cc is)
+
+pub returns-in-None-clause-blocks : goal.returns-in-None-clause-blocks
+returns-in-None-clause-blocks g c = blocks_none c.args.self.now
+
+pub returns-then-is_private_path-clause-blocks : goal.returns-then-is_private_path-clause-blocks
+returns-then-is_private_path-clause-blocks g c = blocks_none c.args.self.now

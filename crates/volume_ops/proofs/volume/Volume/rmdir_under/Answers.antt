@@ -4,11 +4,11 @@ use Rattle.std.proofs.lemmas.Bool.{true≢false}
 use Rattle.sector_disk.specs.Lists.{Content}
 use Rattle.hfs_model.specs.Step.{removed_folder}
 use Rattle.attributes.specs.Owned.{count_of}
-use Rattle.hfs_volume.specs.Content.{VolumeState}
+use Rattle.hfs_volume.specs.Content.{VolumeState, volume_of}
 use Rattle.hfs_volume.specs.TreeOf.{tree_of}
 use Rattle.volume_ops.specs.Lists.{lists_of}
 use Rattle.volume_ops.specs.Making.{path_to}
-use Rattle.volume_ops.specs.Removing.{IsLeaving, bare_load, folder_at}
+use Rattle.volume_ops.specs.Removing.{IsLeaving, TakesFolder, bare_load, folder_at}
 use Rattle.volume_ops.specs.Touching.{Touches}
 use Rattle.volume_ops.proofs.BareLoads.{bare_load_still, count_still, remove_all_told}
 use Rattle.volume_ops.proofs.Commanding.{touches_looks, touches_both}
@@ -16,6 +16,7 @@ use Rattle.volume_ops.proofs.Leaving.{is_leaving, leaving_refused, leaving_told,
 use Rattle.volume_ops.proofs.RoomToRemove.{remove_load_still, remove_room_still}
 use Rattle.volume_ops.proofs.Sited.{fits_above, fits_name}
 use Rattle.volume_ops.proofs.Still.{own_still}
+use Rattle.volume_ops.proofs.Besides.{blocks_both, blocks_read}
 use Rattle.volume_ops.proofs.volume.Volume.rmdir_under.Goals as goal
 
 pub leaving-requires-clause-fits : goal.leaving-requires-clause-fits
@@ -137,3 +138,26 @@ returns-in-Err-clause-loads g c tells n grow is = omega (arith, c.leaving.ensure
 
 pub returns-in_err-at-clause-loads : goal.returns-in_err-at-clause-loads
 returns-in_err-at-clause-loads g c tells n grow is = omega (arith, c.leaving.ensures.reads.looks.spare)
+
+pub returns-in_ok-remove_bare-in-Ok-clause-lists : goal.returns-in_ok-remove_bare-in-Ok-clause-lists
+returns-in_ok-remove_bare-in-Ok-clause-lists g c tells is = record {
+  entry = folder_at c.in-Ok.at c.args.name.now;
+  allowed = leaving_told c.sound_has_plain_tree.ensures c.args.self.now (g.P.SectorView.space c.args.space.now).content (c.requires.stands.stands tells).trees (c.requires.settled tells) c.args.above.now c.args.name.now c.requires.not_own c.requires.fits c.in_ok-at.field-0 (c.in_ok-at.ensures.found tells) c.in-Ok.at c.in-Ok.is;
+  takes = subst (λ (k : Content). TakesFolder c.in-Ok.at.id (volume_of k) (volume_of (g.P.SectorView.space c.remove_bare.new.space).content)) (c.leaving.ensures.reads.looks.content tells)
+      (c.in_ok-remove_bare-in-Ok.ensures.takes (c.leaving.ensures.reads.looks.same.tells ∙ tells));
+}
+
+pub returns-in-Err-clause-lists : goal.returns-in-Err-clause-lists
+returns-in-Err-clause-lists g c tells is = absurd (cc is)
+
+pub returns-in_ok-remove_bare-in-Ok-clause-blocks : goal.returns-in_ok-remove_bare-in-Ok-clause-blocks
+returns-in_ok-remove_bare-in-Ok-clause-blocks g c = blocks_both c.args.self.now c.leaving.new.self c.remove_bare.new.self (blocks_read c.args.self.now c.leaving.new.self (g.P.SectorView.space c.args.space.now) (g.P.SectorView.space c.leaving.new.space) c.leaving.ensures.reads) c.remove_bare.ensures.blocks
+
+pub returns-in_err-remove_bare-in-Ok-clause-blocks : goal.returns-in_err-remove_bare-in-Ok-clause-blocks
+returns-in_err-remove_bare-in-Ok-clause-blocks g c = blocks_both c.args.self.now c.leaving.new.self c.remove_bare.new.self (blocks_read c.args.self.now c.leaving.new.self (g.P.SectorView.space c.args.space.now) (g.P.SectorView.space c.leaving.new.space) c.leaving.ensures.reads) c.remove_bare.ensures.blocks
+
+pub returns-in-Err-clause-blocks : goal.returns-in-Err-clause-blocks
+returns-in-Err-clause-blocks g c = blocks_read c.args.self.now c.leaving.new.self (g.P.SectorView.space c.args.space.now) (g.P.SectorView.space c.leaving.new.space) c.leaving.ensures.reads
+
+pub returns-in_err-at-clause-blocks : goal.returns-in_err-at-clause-blocks
+returns-in_err-at-clause-blocks g c = blocks_read c.args.self.now c.leaving.new.self (g.P.SectorView.space c.args.space.now) (g.P.SectorView.space c.leaving.new.space) c.leaving.ensures.reads

@@ -215,3 +215,15 @@ returns-in_err-set_value_of-in-Ok-clause-header g c = c.set_value_of.ensures.hea
 
 pub returns-in_err-set_value_of-in-Ok-clause-map : goal.returns-in_err-set_value_of-in-Ok-clause-map
 returns-in_err-set_value_of-in-Ok-clause-map g c = c.set_value_of.ensures.map ∙ c.owner.ensures.reads.keeps.map
+
+pub returns-in_ok-set_value_of-in-Ok-clause-capacity : goal.returns-in_ok-set_value_of-in-Ok-clause-capacity
+returns-in_ok-set_value_of-in-Ok-clause-capacity g c = c.set_value_of.ensures.capacity ∙ c.owner.ensures.reads.keeps.capacity
+
+pub returns-in_ok-set_value_of-in-Ok-clause-shrunk : goal.returns-in_ok-set_value_of-in-Ok-clause-shrunk
+returns-in_ok-set_value_of-in-Ok-clause-shrunk g c = c.set_value_of.ensures.shrunk ∙ c.owner.ensures.reads.keeps.shrunk
+
+pub returns-in_err-set_value_of-in-Ok-clause-capacity : goal.returns-in_err-set_value_of-in-Ok-clause-capacity
+returns-in_err-set_value_of-in-Ok-clause-capacity g c = c.set_value_of.ensures.capacity ∙ c.owner.ensures.reads.keeps.capacity
+
+pub returns-in_err-set_value_of-in-Ok-clause-shrunk : goal.returns-in_err-set_value_of-in-Ok-clause-shrunk
+returns-in_err-set_value_of-in-Ok-clause-shrunk g c = c.set_value_of.ensures.shrunk ∙ c.owner.ensures.reads.keeps.shrunk

@@ -12,6 +12,7 @@ use Rattle.volume_ops.proofs.Emptied.{stands_there}
 use Rattle.volume_ops.proofs.RoomToRemove.{room_behind_removal, room_to_remove, spent_removal}
 use Rattle.volume_ops.proofs.TakenOff.{drops_folder, threads_drawn}
 use Rattle.volume_ops.proofs.Touched.{touches_header}
+use Rattle.volume_ops.proofs.Besides.{blocks_both, blocks_edit, blocks_header}
 use Rattle.volume_ops.proofs.volume.Volume.take_off.Goals as goal
 
 pub remove-requires-clause-size : goal.remove-requires-clause-size
@@ -79,3 +80,9 @@ returns-clause-below g c = g.met.P.SectorView.follows_trans c.args.space.now c.c
 
 pub returns-in_err-remove-clause-below : goal.returns-in_err-remove-clause-below
 returns-in_err-remove-clause-below g c = g.met.P.SectorView.follows_trans c.args.space.now c.count_off.new.space c.remove.new.space c.count_off.ensures.below c.remove.ensures.below
+
+pub returns-clause-blocks : goal.returns-clause-blocks
+returns-clause-blocks g c = blocks_both c.args.self.now c.count_off.new.self c.remove.new.self (blocks_header c.args.self.now c.count_off.new.self c.count_off.ensures.rest) (blocks_edit c.count_off.new.self c.remove.new.self c.remove.ensures.rest)
+
+pub returns-in_err-remove-clause-blocks : goal.returns-in_err-remove-clause-blocks
+returns-in_err-remove-clause-blocks g c = blocks_both c.args.self.now c.count_off.new.self c.remove.new.self (blocks_header c.args.self.now c.count_off.new.self c.count_off.ensures.rest) (blocks_edit c.count_off.new.self c.remove.new.self c.remove.ensures.rest)

@@ -14,6 +14,7 @@ use Rattle.volume_ops.proofs.FoundEntry.{room_still, node_still, ok_so}
 use Rattle.volume_ops.proofs.Recounting.{folder_there, folder_not_none, touches_read}
 use Rattle.volume_ops.proofs.Still.{lists_still, own_still}
 use Rattle.volume_ops.proofs.UpdateRoom.{room_less, updates_still}
+use Rattle.volume_ops.proofs.Besides.{blocks_both, blocks_edit}
 use Rattle.volume_ops.proofs.volume.Volume.touch.Goals as goal
 
 pub entry-requires-clause-spelled : goal.entry-requires-clause-spelled
@@ -106,3 +107,12 @@ returns-in-None-clause-size g c = c.entry.ensures.reads.keeps.catalog.file.file.
 
 pub returns-in_err-entry-clause-size : goal.returns-in_err-entry-clause-size
 returns-in_err-entry-clause-size g c = c.entry.ensures.reads.keeps.catalog.file.file.node_size
+
+pub returns-in-Some-clause-blocks : goal.returns-in-Some-clause-blocks
+returns-in-Some-clause-blocks g c = blocks_both c.args.self.now c.entry.new.self c.put_touched.new.self (blocks_edit c.args.self.now c.entry.new.self c.entry.ensures.rest) c.put_touched.ensures.blocks
+
+pub returns-in-None-clause-blocks : goal.returns-in-None-clause-blocks
+returns-in-None-clause-blocks g c = blocks_edit c.args.self.now c.entry.new.self c.entry.ensures.rest
+
+pub returns-in_err-entry-clause-blocks : goal.returns-in_err-entry-clause-blocks
+returns-in_err-entry-clause-blocks g c = blocks_edit c.args.self.now c.entry.new.self c.entry.ensures.rest

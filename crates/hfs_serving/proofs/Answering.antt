@@ -1,0 +1,212 @@
+-- Stretches of which each line was answered, from batch to batch and from stage to stage.
+use Rattle.std.proofs.Common.{◌≡◌, ◌⊎◌, inl, inr, ⊎_elim, ◌+◌, ◌≤◌, ◌++◌, [], ℕ, List, length, take, drop, Result, Ok, Err, refl, sym, ◌∙◌, ap, subst, arith, append_assoc}
+use Rattle.std.specs.Prelude.{IfErr, IsErrOf, IsTrue, None, Option, Some}
+use Rattle.std.proofs.lemmas.List.{append-nil, length-map, take_all}
+use Rattle.hx_bytes.specs.declared.faults.Trouble.{Trouble}
+use Rattle.hx_bytes.specs.declared.faults.Trouble.TheVariants as trouble
+use Rattle.sector_disk.specs.Disk.{IsDisk, IsImage, LeftNow, State, content}
+use Rattle.sector_disk.specs.Source.{Stream}
+use Rattle.sector_disk.specs.Space.{Space}
+use Rattle.hfs_language.specs.Lines.{lines}
+use Rattle.jnl_format.specs.Recovery.{Content}
+use Rattle.jnl_replay.specs.declared.plan.Plan.{Plan}
+use Rattle.jnl_replay.proofs.Repeated.{newest}
+use Rattle.jnl_store.specs.Spaces.{found}
+use Rattle.hfs_volume.specs.Aside.{AsideIsFree}
+use Rattle.hfs_volume.specs.Mount.{MountsTo}
+use Rattle.hfs_volume.specs.Run.{Entry, lines_of, replies_of, shrunk_in, tree_after}
+use Rattle.hfs_volume.specs.Sound.{IsSound}
+use Rattle.hfs_serving.specs.Beginning.{BeginsRun}
+use Rattle.hfs_serving.specs.Closing.{MayFinish}
+use Rattle.hfs_serving.specs.Ending.{AnswersRig, AnswersRun, AnswersStep, AnswersToTheLast, BeginsMore, EndsTaking, FinishesRun, IsFinal, IsPutAway, stop_in}
+use Rattle.hfs_serving.specs.Going.{Knowing}
+use Rattle.hfs_serving.specs.Grounds.{anchor_of}
+use Rattle.hfs_serving.specs.Opening.{MayServe}
+use Rattle.hfs_serving.specs.Outside.{Outside, outside_of}
+use Rattle.hfs_serving.specs.Readying.{IsVersioned, mounted_plan}
+use Rattle.hfs_serving.specs.Runs.{Crashes, KeepsPlace, Serves, StandsAs}
+use Rattle.hfs_serving.specs.Stages.{Turns}
+use Rattle.hfs_serving.specs.Steps.{ServesStep, stop_of}
+use Rattle.hfs_serving.specs.Taking.{HasTaken}
+use Rattle.hfs_serving.specs.Top.{AreTaken, KnowsTo}
+use Rattle.hfs_serving.specs.declared.telling.Stop.{Stop}
+use Rattle.hfs_serving.specs.declared.telling.Stop.TheVariants as stop
+use Rattle.hfs_serving.proofs.Attached.{mount_serves}
+use Rattle.hfs_serving.proofs.Causes.{the_fault}
+use Rattle.hfs_serving.proofs.Grounding.{outside_by}
+use Rattle.hfs_serving.proofs.Lists.{replies_of-none, shrunk_in-none}
+use Rattle.hfs_serving.proofs.Mounting.{keeps_promises, promises_all}
+use Rattle.hfs_serving.proofs.Promising.{finds_by}
+use Rattle.hfs_serving.proofs.Served.{finds_mounted}
+use Rattle.hfs_serving.proofs.Staging.{mark_stage_crashes}
+use Rattle.hfs_serving.proofs.Stretches.{crashes_both, serves_crashes}
+
+-- ---- which ends are final
+
+pub final_of : {U : Type 0} (e f : Stop) (r : Result U Stop) → r ≡ Err f → f ≡ e → IsFinal (stop_in r) → IsFinal (Some e)
+final_of {U} e f r given same final = subst (λ (s : Stop). IsFinal (Some s)) same (subst (λ (q : Result U Stop). IsFinal (stop_in q)) given final)
+
+pub stop_is : {U : Type 0} (e f : Stop) (r : Result U Stop) → r ≡ Err f → f ≡ e → stop_in r ≡ Some e
+stop_is e f r given same = ap stop_in given ∙ ap Some same
+
+pub no_end_of_memory : {U : Type 0} (f : Stop) (r : Result U Stop) → r ≡ Err f → f ≡ stop.Memory → IsFinal (stop_in r) → ⊥
+no_end_of_memory f r given same final = final_of stop.Memory f r given same final
+
+trouble_ends : (t : Trouble) → IsFinal (Some (stop_of t)) → ⊥
+trouble_ends trouble.Disk final = final
+trouble_ends trouble.Memory final = final
+
+pub no_end_of_trouble : {U : Type 0} (e : Trouble) (f : Stop) (r : Result U Stop) → r ≡ Err f → f ≡ stop_of e → IsFinal (stop_in r) → ⊥
+no_end_of_trouble e f r given same final = trouble_ends e (final_of (stop_of e) f r given same final)
+
+-- the fault that was answered is the one that was given
+pub the_stop : {U : Type 0} (e f : Stop) (r : Result U Stop) (why : Stop) → r ≡ Err f → f ≡ e → IsErrOf r why → e ≡ why
+the_stop e f r why given same is = sym same ∙ the_fault r f why given is
+
+trouble_is : (t : Trouble) → (stop_of t ≡ stop.Disk) ⊎ (stop_of t ≡ stop.Memory)
+trouble_is trouble.Disk = inl refl
+trouble_is trouble.Memory = inr refl
+
+pub trouble_stops : {U : Type 0} (e : Trouble) (f : Stop) (r : Result U Stop) → r ≡ Err f → f ≡ stop_of e → IfErr r (λ s. (s ≡ stop.Disk) ⊎ (s ≡ stop.Memory))
+trouble_stops {U} e f r given same = subst (λ (q : Result U Stop). IfErr q (λ s. (s ≡ stop.Disk) ⊎ (s ≡ stop.Memory))) (sym given) (⊎_elim (λ disk. inl (same ∙ disk)) (λ memory. inr (same ∙ memory)) (trouble_is e))
+
+-- what a disk reads is an image of it
+pub own_image : (disk : State) → IsDisk disk → IsImage disk.candidates (content disk)
+own_image disk is = newest disk is
+
+-- what another call answered is handed on
+pub handed_answers : {U : Type 0} (e f : Stop) (r : Result U Stop) (P : List (List ℕ) → Type 0) (taken : List ℕ) (source source_new : Stream) → r ≡ Err f → f ≡ e
+    → (IsFinal (Some e) → (texts : List (List ℕ)) × (IsTrue source.tells → HasTaken taken source texts source_new × EndsTaking (Some e) taken source texts source_new) × (Some e ≡ Some stop.TooMany → length texts ≡ 4294967295) × P texts)
+    → IsFinal (stop_in r) → (texts : List (List ℕ)) × (IsTrue source.tells → HasTaken taken source texts source_new × EndsTaking (stop_in r) taken source texts source_new) × (stop_in r ≡ Some stop.TooMany → length texts ≡ 4294967295) × P texts
+handed_answers e f r P taken source source_new given same answers final =
+    let is = stop_is e f r given same in
+    let there = answers (final_of e f r given same final) in (
+      there.0,
+      λ tells. let took = there.1 tells in (took.0, subst (λ (s : Option Stop). EndsTaking s taken source there.0 source_new) (sym is) took.1),
+      λ many. there.2 (sym is ∙ many),
+      there.3,
+    )
+
+-- ---- joining
+
+-- served to the end
+pub answers_ends : (capacity : ℕ) (shrunk : Option ℕ) (start : Content) (old : Outside) (texts : List (List ℕ)) (knows : Knowing) (space : Space) (new : Outside) → ServesStep (length texts) capacity knows start shrunk old texts space new → AnswersStep capacity start shrunk old texts new
+answers_ends capacity shrunk start old texts knows space new step = record {
+  run = step.run;
+  crashes = serves_crashes capacity shrunk start old new step.run step.now step.serves;
+  asked = step.asked ∙ take_all (length texts) texts (omega arith);
+  told = step.serves.told;
+}
+
+-- the first of some lines were
+pub answers_front : (count capacity : ℕ) (shrunk : Option ℕ) (start : Content) (old : Outside) (texts : List (List ℕ)) (knows : Knowing) (space : Space) (new : Outside) → ServesStep count capacity knows start shrunk old texts space new → AnswersStep capacity start shrunk old (take count texts) new
+answers_front count capacity shrunk start old texts knows space new step =
+    record { run = step.run; crashes = serves_crashes capacity shrunk start old new step.run step.now step.serves; asked = step.asked; told = step.serves.told }
+
+-- the end behind the last batch
+pub answers_finish : (capacity : ℕ) (start : Content) (old mid new : Outside) (texts : List (List ℕ)) (knows : Knowing) (space : Space) (step : ServesStep (length texts) capacity knows start None old texts space mid) → MayFinish step.now mid new → AnswersStep capacity start None old texts new
+answers_finish capacity start old mid new texts knows space step may = record {
+  run = step.run;
+  crashes =
+      let no_more : length step.run + 0 ≡ length step.run = omega arith in
+      subst (λ (n : ℕ). Crashes capacity None start old step.run n new) no_more
+      (subst (λ (r : List Entry). Crashes capacity None start old r (length step.run + 0) new) (append-nil step.run)
+      (crashes_both capacity None start old mid new step.run [] step.now step.serves 0 (mark_stage_crashes capacity (shrunk_in None step.run) step.now may.ended mid new may.may may.marked may.place)));
+  asked = step.asked ∙ take_all (length texts) texts (omega arith);
+  told = may.may.told ∙ step.serves.told;
+}
+
+-- seen by the plan of its start
+pub answers_seen : (capacity : ℕ) (start : Content) (plan plan_new : Plan) (before : Outside) (new : State) (texts : List (List ℕ)) → anchor_of plan_new ≡ anchor_of plan → AnswersStep capacity start None before texts (outside_of plan_new new)
+    → AnswersStep capacity start None before texts (outside_of plan new)
+answers_seen capacity start plan plan_new before new texts same step = subst (λ (f : Content → Content). AnswersStep capacity start None before texts (outside_by f new)) (finds_by plan_new plan same) step
+
+-- a mount before it
+pub answers_joins : (capacity : ℕ) (start now : Content) (texts : List (List ℕ)) (before mid after : Outside) → Serves capacity None start before [] now mid → AnswersStep capacity now None mid texts after → AnswersStep capacity start None before texts after
+answers_joins capacity start now texts before mid after mounts step = record {
+  run = step.run;
+  crashes =
+      let no_more : 0 + length step.run ≡ length step.run = omega arith in
+      subst (λ (n : ℕ). Crashes capacity None start before step.run n after) no_more
+      (crashes_both capacity None start before mid after [] step.run now mounts (length step.run) (subst (λ (s : Option ℕ). Crashes capacity s now mid step.run (length step.run) after) (sym (shrunk_in-none None)) step.crashes));
+  asked = step.asked;
+  told = step.told ∙ ap (λ (l : List ℕ). l ++ replies_of step.run) (mounts.told ∙ ap (λ (l : List ℕ). before.told ++ l) replies_of-none ∙ append-nil before.told);
+}
+
+-- behind a run that was begun
+module _ (capacity : ℕ) (start now : Content) (plan : Plan) (first disk : State) (versioned : IsVersioned start now) (place : KeepsPlace start now) (turns : Turns start now (outside_of plan first) (outside_of plan disk)) (mid new : Plan) (same : found mid ≡ found plan) (anchor : anchor_of new ≡ anchor_of mid)
+    (after last : State) (texts : List (List ℕ)) (knows : Knowing) (space : Space) where
+  same_new : found new ≡ found plan
+  same_new = finds_by new mid anchor ∙ same
+
+  abbrev GoesOnBy : (Content → Content) → (Content → Content) → Type 0
+  GoesOnBy f g =
+      (begins : BeginsRun capacity knows now None (outside_by f disk) space (outside_by g after)) → AnswersStep capacity begins.begun None (outside_by g after) texts (outside_by g last) → AnswersStep capacity start None (outside_of plan first) texts (outside_of plan last)
+
+  by_plan : GoesOnBy (found plan) (found plan)
+  by_plan begins step =
+      answers_joins capacity start begins.begun texts (outside_of plan first) (outside_of plan after) (outside_of plan last)
+      (mount_serves capacity start now (outside_of plan first) (outside_of plan disk) place turns knows space (outside_of plan after) begins versioned) step
+
+  pub begun_answers : (begins : BeginsRun capacity knows now None (outside_of mid disk) space (outside_of new after)) → AnswersStep capacity begins.begun None (outside_of new after) texts (outside_of new last) → AnswersStep capacity start None (outside_of plan first) texts (outside_of plan last)
+  begun_answers = subst (λ (g : Content → Content). GoesOnBy (found mid) g) (sym same_new) (subst (λ (f : Content → Content). GoesOnBy f (found plan)) (sym same) by_plan)
+
+-- by the plan of the image
+pub answers_from : (plan ready : Plan) → ready ≡ mounted_plan plan → (capacity : ℕ) (start now : Content) (old mid new : State) (texts : List (List ℕ)) → Turns start now (outside_of plan old) (outside_of plan mid)
+    → (Turns start now (outside_of ready old) (outside_of ready mid) → AnswersStep capacity start None (outside_of ready old) texts (outside_of ready new)) → AnswersStep capacity start None (outside_of plan old) texts (outside_of plan new)
+answers_from plan ready is capacity start now old mid new texts turns goes =
+    let same : found ready ≡ found plan = ap found is ∙ finds_mounted plan in
+    subst (λ (f : Content → Content). AnswersStep capacity start None (outside_by f old) texts (outside_by f new)) same
+    (goes (subst (λ (f : Content → Content). Turns start now (outside_by f old) (outside_by f mid)) (sym same) turns))
+
+-- ---- over a rig
+
+taken_all : (source source_new : Stream) (texts : List (List ℕ)) (run : List Entry) → lines_of run ≡ texts → HasTaken [] source texts source_new → AreTaken source run source_new
+taken_all source source_new texts run asked has =
+    record { taken = has.used; left = has.bytes; first = (has.first.0, has.first.1 ∙ ap (λ (l : List (List ℕ)). l ++ has.first.0) (sym asked)) }
+
+pub answers_rig : (law : AsideIsFree) (capacity : ℕ) (start : Content) (plan : Plan) (old new : State) (texts : List (List ℕ)) → ((image : Content) (told : List ℕ) → old.clock.left old.clock.moment image told → LeftNow old image told)
+    → ((image : Content) → IsImage old.candidates image → StandsAs start (found plan image)) → IsSound start → MayServe plan capacity start → (source source_new : Stream) → (IsTrue source.tells → HasTaken [] source texts source_new)
+    → AnswersStep capacity start None (outside_of plan old) texts (outside_of plan new) → AnswersRig capacity start old source texts new source_new
+answers_rig law capacity start plan old new texts only_now starts sound may source source_new taken step = record {
+  run = step.run;
+  keeps =
+      keeps_promises law capacity start old source step.run (length step.run) new source_new sound
+      (promises_all law plan capacity start old new step.run (length step.run) step.crashes starts only_now sound may source source_new (λ tells. taken_all source source_new texts step.run step.asked (taken tells)));
+  asked = step.asked;
+  told = step.told;
+}
+
+-- ---- as users read it
+
+all_known : (start : Content) (run : List Entry) (image : Content) → KnowsTo start run (length run) image → MountsTo image (tree_after start run)
+all_known start run image knows =
+    let all : knows.count ≡ length run = omega (arith, knows.many, knows.some) in
+    subst (λ (r : List Entry). MountsTo image (tree_after start r)) (ap (λ (n : ℕ). take n run) all ∙ take_all (length run) run (omega arith)) knows.mounts
+
+pub finishes_of : (capacity : ℕ) (start : Content) (old : State) (source : Stream) (texts : List (List ℕ)) (new : State) (source_new : Stream) → IsImage new.candidates (content new) → (IsTrue source.tells → texts ≡ lines source.left) → IsPutAway new
+    → AnswersRig capacity start old source texts new source_new → FinishesRun capacity start old source new source_new
+finishes_of capacity start old source texts new source_new is all away rig = record {
+  run = rig.run;
+  keeps = rig.keeps;
+  all = λ tells. rig.asked ∙ all tells;
+  told = rig.told;
+  unmounted = record { mounts = all_known start rig.run (content new) (rig.keeps.knows (content new) is); away = away };
+}
+
+pub answers_of : (capacity : ℕ) (start : Content) (old : State) (source : Stream) (texts : List (List ℕ)) (new : State) (source_new : Stream) → (IsTrue source.tells → BeginsMore [] source texts source_new) → AnswersRig capacity start old source texts new source_new → AnswersRun capacity start old source new source_new
+answers_of capacity start old source texts new source_new taken rig = record {
+  run = rig.run;
+  run_is = rig.keeps.run_is;
+  told = rig.told;
+  lines_are = λ tells. subst (λ (l : List (List ℕ)). BeginsMore [] source l source_new) (sym rig.asked) (taken tells);
+}
+
+pub to_last_of : (capacity : ℕ) (start : Content) (old : State) (source : Stream) (texts : List (List ℕ)) (new : State) (source_new : Stream) → length texts ≡ 4294967295 → AnswersRig capacity start old source texts new source_new → AnswersToTheLast capacity start old source new source_new
+to_last_of capacity start old source texts new source_new many rig = record {
+  run = rig.run;
+  run_is = rig.keeps.run_is;
+  told = rig.told;
+  count = omega (arith, many, ap (λ (l : List (List ℕ)). length l) rig.asked, length-map rig.run (λ (e : Entry). e.line));
+  lines_are = rig.keeps.lines_are;
+}

@@ -1,0 +1,102 @@
+-- How a run of a source's lines ends: with all of them answered and the volume unmounted, or by a source that failed or has too many.
+use Rattle.std.specs.Prelude.{◌≡◌, ℕ, List, [], ◌++◌, length, IsTrue, true, Option, None, Some, Result, Ok, Err}
+use Rattle.sector_disk.specs.Disk.{State, HasNothingPending, content}
+use Rattle.sector_disk.specs.Source.{Stream}
+use Rattle.volume_header.specs.Refusal.{is_unmounted}
+use Rattle.jnl_format.specs.Recovery.{Content, Journal, header_of_volume}
+use Rattle.hfs_language.specs.Lines.{lines, HasNoNewline}
+use Rattle.hfs_model.specs.declared.plain.PlainTree.{PlainTree}
+use Rattle.hfs_volume.specs.Mount.{HasJournal, MountsTo}
+use Rattle.hfs_volume.specs.Run.{Entry, IsRun, lines_of, replies_of, tree_after}
+use Rattle.hfs_serving.specs.Outside.{Outside}
+use Rattle.hfs_serving.specs.Runs.{Crashes}
+use Rattle.hfs_serving.specs.declared.telling.Stop.{Stop}
+use Rattle.hfs_serving.specs.declared.telling.Stop.TheVariants as stop
+use Rattle.line_source.specs.Input.{SplitsIntoLines, ahead}
+use Rattle.hfs_serving.specs.Top.{AreTaken, KeepsPromises}
+
+-- ---- stretches of which each line was answered
+
+-- Each of these lines was served and answered, and no crash leaves less from then on.
+pub record AnswersStep (capacity : ℕ) (start : Content) (shrunk : Option ℕ) (old : Outside) (lines : List (List ℕ)) (new : Outside) : Type 0 where
+  pub run : List Entry
+  pub crashes : Crashes capacity shrunk start old run (length run) new
+  pub asked : lines_of run ≡ lines
+  pub told : new.told ≡ old.told ++ replies_of run
+
+-- why a run ended, if something ended it
+abbrev pub stop_in : {A : Type 0} → Result A Stop → Option Stop
+stop_in (Ok done) = None
+stop_in (Err why) = Some why
+
+-- Its source ended the run: it is at its end, it failed, or it has too many lines.
+abbrev pub IsFinal : Option Stop → Type 0
+IsFinal None = Unit {0}
+IsFinal (Some stop.Source) = Unit {0}
+IsFinal (Some stop.TooMany) = Unit {0}
+IsFinal (Some stop.Disk) = ⊥
+IsFinal (Some stop.Memory) = ⊥
+IsFinal (Some stop.Sink) = ⊥
+IsFinal (Some stop.Steps) = ⊥
+
+-- These lines were taken, and behind them the begin of a line without its newline.
+pub record BeginsMore (taken : List ℕ) (source : Stream) (texts : List (List ℕ)) (source_new : Stream) : Type 0 where
+  pub used : List ℕ
+  pub begun : List ℕ
+  pub bytes : ahead taken source ≡ used ++ begun ++ source_new.left
+  pub whole : SplitsIntoLines used texts (begun ++ source_new.left)
+  pub no_newline : HasNoNewline begun
+
+-- what was taken of the source that ended the run: all of its lines, all whole lines before the fault, or lines before one too many
+abbrev pub EndsTaking : Option Stop → List ℕ → Stream → List (List ℕ) → Stream → Type 0
+EndsTaking None taken source texts source_new = texts ≡ lines (ahead taken source)
+EndsTaking (Some stop.Source) taken source texts source_new = BeginsMore taken source texts source_new
+EndsTaking (Some stop.TooMany) taken source texts source_new = length texts ≡ 4294967295
+EndsTaking (Some stop.Disk) taken source texts source_new = ⊥
+EndsTaking (Some stop.Memory) taken source texts source_new = ⊥
+EndsTaking (Some stop.Sink) taken source texts source_new = ⊥
+EndsTaking (Some stop.Steps) taken source texts source_new = ⊥
+
+-- ---- the end
+
+-- Nothing is left of a run: its mark is set, its journal is empty, and nothing is pending.
+pub record IsPutAway (disk : State) : Type 0 where
+  pub clean : is_unmounted (header_of_volume (content disk)).attributes ≡ true
+  pub empty : (journal : Journal) × HasJournal (content disk) journal × (journal.header.start ≡ journal.header.end)
+  pub settled : HasNothingPending disk
+
+-- The volume was unmounted, and a mount finds this tree.
+pub record IsUnmounted (disk : State) (tree : PlainTree) : Type 0 where
+  pub mounts : MountsTo (content disk) tree
+  pub away : IsPutAway disk
+
+-- Over a rig: of what was taken of the source each of these lines was served and answered, and the run keeps its promises.
+pub record AnswersRig (capacity : ℕ) (start : Content) (old : State) (source : Stream) (texts : List (List ℕ)) (new : State) (source_new : Stream) : Type 0 where
+  pub run : List Entry
+  pub keeps : KeepsPromises capacity start old source run (length run) new source_new
+  pub asked : lines_of run ≡ texts
+  pub told : new.told ≡ old.told ++ replies_of run
+
+-- A run that came to its end keeps its promises: all lines of the source were served, all their replies were told, and the volume is unmounted
+-- with the tree after them.
+pub record FinishesRun (capacity : ℕ) (start : Content) (old : State) (source : Stream) (new : State) (source_new : Stream) : Type 0 where
+  pub run : List Entry
+  pub keeps : KeepsPromises capacity start old source run (length run) new source_new
+  pub all : IsTrue source.tells → lines_of run ≡ lines source.left
+  pub told : new.told ≡ old.told ++ replies_of run
+  pub unmounted : IsUnmounted new (tree_after start run)
+
+-- A run that the source ended by a fault: each whole line that was taken has its reply told.
+pub record AnswersRun (capacity : ℕ) (start : Content) (old : State) (source : Stream) (new : State) (source_new : Stream) : Type 0 where
+  pub run : List Entry
+  pub run_is : IsRun capacity start run
+  pub told : new.told ≡ old.told ++ replies_of run
+  pub lines_are : IsTrue source.tells → BeginsMore [] source (lines_of run) source_new
+
+-- A run that ended at line number 4,294,967,295: each line before that one has its reply told.
+pub record AnswersToTheLast (capacity : ℕ) (start : Content) (old : State) (source : Stream) (new : State) (source_new : Stream) : Type 0 where
+  pub run : List Entry
+  pub run_is : IsRun capacity start run
+  pub told : new.told ≡ old.told ++ replies_of run
+  pub count : length run ≡ 4294967295
+  pub lines_are : IsTrue source.tells → AreTaken source run source_new

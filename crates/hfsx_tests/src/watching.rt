@@ -1,0 +1,99 @@
+// Watchers are told what the lines changed, once it is durable.
+ghost use Rattle.std.specs.Prelude.{◌≡◌, IfOk};
+
+use hfs_language::{Change, Changes};
+use hfs_serving::serve_image;
+use hx_bytes::{OutOfMemory, Units};
+use mem_disk::{MemRig, MemSource};
+use served_volume::{ServedVolume, VolumeChecker};
+use std::alloc::Global;
+use std::test::Fail;
+use test_kit::fresh_rig;
+use watchers::{Keep, Watcher};
+
+/// Stays as long as the changes that it is told are those of these lines.
+#[derive(Drop)]
+struct Expecting {
+    alloc: Global,
+    lines: [u64; 2],
+    heard: Changes,
+    gone: bool,
+}
+
+impl Expecting {
+    fn new(alloc: Global, lines: [u64; 2]) -> Expecting {
+        Expecting {
+            alloc,
+            lines,
+            heard: Changes::new(alloc),
+            gone: false,
+        }
+    }
+
+    // Whether the next change is to be one of this line.
+    fn is_next(&self, line: u64) -> bool {
+        match self.lines.as_slice().get(self.heard.len()) {
+            Some(next) => *next == line,
+            None => false,
+        }
+    }
+}
+
+impl Watcher for Expecting {
+    ghost told = { λ watcher. watcher.heard };
+
+    ghost leaves = { λ watcher. watcher.gone };
+
+    fn tell(&mut self, change: &Change) -> Keep {
+        self.gone = true;
+        if !self.is_next(change.line) {
+            return Keep::Leave;
+        }
+        let Ok(heard) = copied(self.alloc, change) else {
+            return Keep::Leave;
+        };
+        match self.heard.push(heard) {
+            Ok(()) => {
+                self.gone = false;
+                Keep::Stay
+            }
+            Err(_) => Keep::Leave,
+        }
+    }
+}
+
+fn copied(alloc: Global, change: &Change) -> Result<Change, OutOfMemory>
+    ensures { IfOk result (λ copy. copy ≡ change.now) }
+{
+    Ok(Change {
+        line: change.line,
+        kind: change.kind,
+        id: change.id,
+        parent: change.parent,
+        name: Units::from_vec(Vec::from_slice(alloc, change.name.as_slice())?),
+    })
+}
+
+// The first stays, since it is told the changes of lines 0 and 2. The second leaves at the first change, and the third at that of line 2.
+#[test]
+fn watchers_are_told_changes_in_order(rt: HostRuntime) -> Result<(), Fail> {
+    let alloc = rt.alloc();
+    let mut rig = fresh_rig(alloc)?;
+    let mut source = MemSource::new(alloc, b"mkdir /a\nls /\nmkdir /b\n", 64, None)?;
+    let mut checker = VolumeChecker::new(alloc);
+    let mut watchers: Vec<Box<dyn Watcher>> = Vec::new(alloc);
+    for lines in [[0, 2], [9, 9], [0, 9]] {
+        watchers.push(Box::new(alloc, Expecting::new(alloc, lines))?)?;
+    }
+    let ended = serve_image::<ServedVolume, VolumeChecker, MemRig, MemSource>(
+        alloc,
+        &mut checker,
+        16,
+        &mut rig,
+        &mut watchers,
+        &mut source,
+    );
+    assert!(rt; matches!(&ended, Ok(Ok(()))));
+    assert_eq!(rt; watchers.len(), 1);
+    Ok(())
+}

@@ -1,0 +1,64 @@
+-- Lines that are refused.
+use Rattle.std.proofs.Common.{◌≡◌, ◌⊎◌, ℕ, Bool, true, false, List, [], inl, inr, ⊎_elim, refl, sym, ap, subst}
+use Rattle.std.specs.Prelude.{Result, Ok, Err}
+use Rattle.jnl_format.specs.Keeping.{IsSame}
+use Rattle.jnl_format.specs.Recovery.{Content, header_of_volume}
+use Rattle.volume_header.specs.declared.header.VolumeHeader.{VolumeHeader}
+use Rattle.hfs_language.specs.Language.{command_of}
+use Rattle.hfs_language.specs.declared.command.Command.{Command}
+use Rattle.hfs_language.specs.declared.refusal.Refusal.{Refusal}
+use Rattle.hfs_language.specs.declared.refusal.Refusal.TheVariants as refusal
+use Rattle.hfs_language.specs.declared.reply.Reply.TheVariants as reply
+use Rattle.hfs_model.specs.Step.{step_line}
+use Rattle.hfs_volume.specs.Run.{DoesLine, Entry, IsAnswered, LacksMemory, reply_to}
+use Rattle.hfs_volume.specs.Sound.{IsSound}
+use Rattle.hfs_volume.specs.TreeOf.{tree_of}
+use Rattle.volume_step.specs.Steps.{IsServedAs, KeepsJournal, StepsTo}
+use Rattle.volume_step.specs.declared.outcome.Outcome.{Outcome}
+use Rattle.volume_step.specs.declared.outcome.Outcome.TheVariants as outcome
+use Rattle.served_volume.specs.Answering.{AnswersAs, IsRefusedAs, unless_short}
+
+module _ (capacity number : ℕ) (line : List ℕ) (content : Content) (sound : IsSound content) where
+  abbrev entry : Refusal → Entry
+  entry why = record { line = line; reply = reply.No why; before = content; after = content }
+
+  answered : (why : Refusal) → command_of line ≡ Err why → IsAnswered capacity (entry why)
+  answered why bad = record {
+    reply_is = subst (λ (r : Result Command Refusal). reply.No why ≡ reply_to capacity content r) (sym bad) refl;
+    tree = subst (λ (r : Result Command Refusal). tree_of content ≡ (step_line (tree_of content) r).1) (sym bad) refl;
+    does = subst (λ (r : Result Command Refusal). DoesLine capacity r content content) (sym bad) refl;
+  }
+
+  memory : (why : Refusal) → why ≡ refusal.OutOfMemory → LacksMemory capacity (entry why)
+  memory why short = record { reply_is = ap reply.No short; tree = refl; same_gauge = refl }
+
+  pub refused_entry : (why : Refusal) → IsRefusedAs line why → IsServedAs capacity number [] (entry why)
+  refused_entry why is = record {
+    served = record { sound_before = sound; sound_after = sound; is = ⊎_elim (λ bad. inl (answered why bad)) (λ short. inr (inr (inl (memory why short)))) is };
+    told = refl;
+  }
+
+-- what a step came to
+pub shortened : (capacity number : ℕ) (line : List ℕ) (asked : Command) (before after : Content) → IsSound before → command_of line ≡ Ok asked → (fresh : Bool) (o : Outcome) → StepsTo o capacity number asked before after → AnswersAs (unless_short fresh o) capacity number line before after
+shortened capacity number line asked before after sound spelled true (outcome.Answered said changes) was = was line spelled
+shortened capacity number line asked before after sound spelled false (outcome.Answered said changes) was = was line spelled
+shortened capacity number line asked before after sound spelled true outcome.CommitFirst was =
+    subst (λ (c : Content). IsServedAs capacity number [] (record { line = line; reply = reply.No refusal.OutOfMemory; before = before; after = c })) (sym was) (refused_entry capacity number line before sound refusal.OutOfMemory (inr refl))
+shortened capacity number line asked before after sound spelled false outcome.CommitFirst was = was
+
+header_self : (head : VolumeHeader) → IsSame head head
+header_self head = record {
+  signature = refl;
+  version = refl;
+  last_mounted = refl;
+  info_block = refl;
+  block_size = refl;
+  total_blocks = refl;
+  bit_12 = refl;
+  bit_13 = refl;
+  bit_15 = refl;
+}
+
+-- where nothing was changed the journal lies where it lay
+pub keeps_self : (content : Content) → KeepsJournal content content
+keeps_self content = record { journal = refl; locked = refl; heading = header_self (header_of_volume content) }

@@ -1,0 +1,47 @@
+-- A volume over a space in which nothing was changed that it knows.
+use Rattle.std.proofs.Common.{◌≡◌, ◌⊎◌, ◌≤◌, ◌<◌, ◌-◌, ℕ, length, sym, ◌∙◌, subst}
+use Rattle.std.specs.Prelude.{IsTrue}
+use Rattle.jnl_format.specs.Recovery.{info_sector_of}
+use Rattle.sector_disk.specs.Lists.{Content}
+use Rattle.sector_disk.specs.Space.{Space}
+use Rattle.volume_ops.specs.Standing.{AreWhole, HoldsTrees, HasItsForks, IsStanding, IsSettled, StandsOver, blocks_end}
+use Rattle.volume_ops.specs.declared.volume.Volume.{Volume}
+use Rattle.served_volume.specs.Knowing.{IsAlike, Knows}
+use Rattle.served_volume.proofs.Service.{service_on}
+
+-- the content is the same, and so are the sectors; no more are closed or live
+pub record IsSame (a b : Space) : Type 0 where
+  pub tells : b.tells ≡ a.tells
+  pub sectors : b.sectors ≡ a.sectors
+  pub content : b.content ≡ a.content
+  pub closed : (s : ℕ) → b.closed s → a.closed s
+  pub live : (s : ℕ) → b.live s → a.live s
+
+module _ (v : Volume) (a b : Space) (same : IsSame a b) where
+  standing_same : IsStanding v a → IsStanding v b
+  standing_same was = record {
+    trees = subst (λ (c : Content). HoldsTrees v c) (sym same.content) was.trees;
+    forks = subst (λ (c : Content). HasItsForks v c) (sym same.content) was.forks;
+    whole = subst (λ (c : Content). AreWhole c) (sym same.content) was.whole;
+    apart = was.apart;
+    blocks = was.blocks;
+    closed = λ s shut has. was.closed s (same.closed s shut) has;
+    aside = λ s is has. was.aside s (subst (λ (c : Content). (s ≡ length c - 2) ⊎ (s ≡ info_sector_of v.header)) same.content is) has;
+    large = subst (λ (c : Content). 2 < length c) (sym same.content) was.large;
+    inside = was.inside;
+    fit = subst (λ (c : Content). blocks_end v ≤ length c) (sym same.content) was.fit;
+    live = λ s l. was.live s (same.live s l);
+  }
+
+  pub stands_same : StandsOver v a → StandsOver v b
+  stands_same was = record { service = service_on v a b same.sectors was.service; stands = λ tells. standing_same (was.stands (sym same.tells ∙ tells)) }
+
+  pub knows_same : (capacity : ℕ) (committed now : Content) → Knows v capacity committed now a → Knows v capacity committed now b
+  knows_same capacity committed now was = record {
+    stands = stands_same was.stands;
+    settled = subst (λ (c : Content). IsSettled v c) (sym same.content) was.settled;
+    holds = was.holds;
+    was_sound = was.was_sound;
+    capacity_is = was.capacity_is;
+    alike = subst (λ (c : Content). IsAlike now c) (sym same.content) was.alike;
+  }

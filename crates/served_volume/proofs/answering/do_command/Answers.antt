@@ -1,0 +1,14 @@
+use Rattle.std.proofs.Common.{sym, subst}
+use Rattle.volume_ops.specs.Room.{capacity_of}
+use Rattle.volume_step.specs.declared.outcome.Outcome.{Outcome}
+use Rattle.served_volume.specs.Answering.{AnswersAs}
+use Rattle.served_volume.proofs.Refusing.{shortened}
+use Rattle.served_volume.proofs.answering.do_command.Goals as goal
+
+pub returns-clause-answered : goal.returns-clause-answered
+returns-clause-answered g c tells =
+    let before = (g.P.SectorView.space c.args.space.now).content in
+    let after = (g.P.SectorView.space c.step.new.space).content in
+    let capacity = capacity_of c.args.volume.now in
+    subst (λ (o : Outcome). AnswersAs o capacity c.args.number c.args.line.now before after) (sym c.unless_short.ensures)
+    (shortened capacity c.args.number c.args.line.now c.args.command.now before after (c.requires.sound tells) c.requires.spelled c.args.fresh c.in_ok-outcome.outcome (c.in_ok-outcome.ensures.answered tells))

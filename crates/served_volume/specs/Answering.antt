@@ -1,0 +1,47 @@
+-- What a line on a volume in service came to.
+use Rattle.std.specs.Prelude.{◌≡◌, ◌⊎◌, ℕ, Err, Bool, true, false, List, []}
+use Rattle.cmd_lang.specs.declared.fault.LineFault.{LineFault}
+use Rattle.cmd_lang.specs.declared.fault.LineFault.TheVariants as fault
+use Rattle.jnl_format.specs.Recovery.{Content}
+use Rattle.hfs_language.specs.Language.{command_of}
+use Rattle.hfs_language.specs.declared.refusal.Refusal.{Refusal}
+use Rattle.hfs_language.specs.declared.refusal.Refusal.TheVariants as refusal
+use Rattle.hfs_language.specs.declared.reply.Reply.TheVariants as reply
+use Rattle.hfs_language.specs.Text.{reply_text}
+use Rattle.hfs_serving.specs.Said.{joined}
+use Rattle.hfs_serving.specs.declared.volume.Step.{Step}
+use Rattle.hfs_serving.specs.declared.volume.Step.TheVariants as step
+use Rattle.hfs_serving.specs.declared.volume.ToTell.{ToTell}
+use Rattle.volume_step.specs.Steps.{IsServedAs}
+use Rattle.volume_step.specs.declared.outcome.Outcome.{Outcome}
+use Rattle.volume_step.specs.declared.outcome.Outcome.TheVariants as outcome
+
+-- the line's entry is one of a run, and this is what it tells watchers; or nothing was changed
+abbrev pub AnswersAs : Outcome → ℕ → ℕ → List ℕ → Content → Content → Type 0
+AnswersAs (outcome.Answered said changes) capacity number line before after = IsServedAs capacity number changes (record { line = line; reply = said; before = before; after = after })
+AnswersAs outcome.CommitFirst capacity number line before after = after ≡ before
+
+-- a refusal
+abbrev pub refused : Refusal → Outcome
+refused why = outcome.Answered (reply.No why) []
+
+-- why a line that was read to no command is refused
+abbrev pub refusal_of : LineFault → Refusal
+refusal_of (fault.No why) = why
+refusal_of fault.Memory = refusal.OutOfMemory
+
+-- what a step came to; where it wants a commit, though nothing was put since the last one, memory is missing
+abbrev pub unless_short : Bool → Outcome → Outcome
+unless_short true outcome.CommitFirst = refused refusal.OutOfMemory
+unless_short false outcome.CommitFirst = outcome.CommitFirst
+unless_short fresh (outcome.Answered said changes) = outcome.Answered said changes
+
+-- what is to be told was added where a line was answered
+abbrev pub TellsAs : Step → Outcome → ToTell → ToTell → Type 0
+TellsAs step.Answered (outcome.Answered said changes) before after = after ≡ joined before (record { replies = reply_text said; changes = changes })
+TellsAs step.CommitFirst outcome.CommitFirst before after = after ≡ before
+TellsAs _ _ before after = ⊥
+
+-- the line spells no command for this reason, or memory is missing
+abbrev pub IsRefusedAs : List ℕ → Refusal → Type 0
+IsRefusedAs line why = (command_of line ≡ Err why) ⊎ (why ≡ refusal.OutOfMemory)

@@ -1,0 +1,137 @@
+//! A line on a volume in service.
+ghost use Rattle.std.specs.Prelude.{◌≡◌, IsTrue, IfErr, IfOk, Ok, OnOk};
+ghost use Rattle.std.specs.List.{Contains};
+ghost use Rattle.jnl_format.specs.Recovery.{Content};
+ghost use Rattle.btree_edit.specs.Causes.{HasTroubleCause};
+ghost use Rattle.hfs_language.specs.Language.{command_of};
+ghost use Rattle.hfs_language.specs.Written.{FitsCommand};
+ghost use Rattle.hfs_volume.specs.Sound.{IsSound};
+ghost use Rattle.volume_ops.specs.Room.{capacity_of};
+ghost use Rattle.volume_ops.specs.Service.{IsInService};
+ghost use Rattle.volume_ops.specs.Standing.{HoldsOn, IsSettled, StandsOver, own_sectors};
+ghost use Rattle.volume_ops.specs.Touching.{Touches};
+ghost use Rattle.volume_step.specs.Steps.{KeepsJournal};
+ghost use Rattle.served_volume.specs.Answering.{AnswersAs, IsRefusedAs, refusal_of, refused, unless_short};
+
+use crate::fitting::fits_command;
+use cmd_lang::{LineFault, read_line};
+use hfs_language::{Changes, Command, Refusal, Reply};
+use hx_bytes::Trouble;
+use sector_disk::SectorSpace;
+use std::alloc::Global;
+use volume_ops::Volume;
+use volume_step::{Outcome, step};
+
+/// A refusal, by which nothing was changed.
+fn refused(alloc: Global, why: Refusal) -> Outcome
+    ensures { result ≡ refused why }
+{
+    Outcome::Answered {
+        reply: Reply::No(why),
+        changes: Changes::new(alloc),
+    }
+}
+
+/// Why a line that was read to no command is refused.
+fn refusal_of(fault: LineFault) -> Refusal
+    ensures { result ≡ refusal_of fault }
+{
+    match fault {
+        LineFault::No(why) => why,
+        LineFault::Memory => Refusal::OutOfMemory,
+    }
+}
+
+/// What a step came to; where it wants a commit, though nothing was put since the last one, memory is missing for its puts.
+fn unless_short(alloc: Global, fresh: bool, outcome: Outcome) -> Outcome
+    ensures { result ≡ unless_short fresh outcome }
+{
+    match outcome {
+        Outcome::Answered { reply, changes } => Outcome::Answered { reply, changes },
+        Outcome::CommitFirst => {
+            if fresh {
+                refused(alloc, Refusal::OutOfMemory)
+            } else {
+                Outcome::CommitFirst
+            }
+        }
+    }
+}
+
+/// The command that a line spells, or why it is refused.
+fn read_command(alloc: Global, line: &[u8]) -> Result<Command, Refusal>
+    ensures command { IfOk result (λ command. command_of line.now ≡ Ok command) }
+    ensures fits { IfOk result FitsCommand }
+    // It is refused for what is wrong with it, or because memory is missing.
+    ensures refused { IfErr result (IsRefusedAs line.now) }
+{
+    match read_line(alloc, line) {
+        Ok(command) => {
+            if !fits_command(&command) {
+                return Err(Refusal::OutOfMemory);
+            }
+            Ok(command)
+        }
+        Err(fault) => Err(refusal_of(fault)),
+    }
+}
+
+/// Answers the line of this number, where `fresh` says that nothing was put since the last commit.
+pub(crate) fn answer_line<P: SectorSpace>(
+    alloc: Global,
+    volume: &mut Volume,
+    space: &mut P,
+    fresh: bool,
+    number: u64,
+    line: &[u8],
+) -> Result<Outcome, Trouble>
+    requires stands { StandsOver volume.old (P.SectorView.space space.old) }
+    requires settled { IsTrue (P.SectorView.space space.old).tells → IsSettled volume.old (P.SectorView.space space.old).content }
+    requires sound { IsTrue (P.SectorView.space space.old).tells → IsSound (P.SectorView.space space.old).content }
+    // Told, the line's entry is one of a run, with what it changed for watchers; or a commit is wanted first.
+    ensures answered { IsTrue (P.SectorView.space space.old).tells → IfOk result (λ outcome. AnswersAs outcome (capacity_of volume.old) number line.now (P.SectorView.space space.old).content (P.SectorView.space space.new).content) }
+    ensures place { IsTrue (P.SectorView.space space.old).tells → OnOk result (KeepsJournal (P.SectorView.space space.old).content (P.SectorView.space space.new).content) }
+    ensures stands { OnOk result (StandsOver volume.new (P.SectorView.space space.new)) }
+    ensures settled { IsTrue (P.SectorView.space space.old).tells → OnOk result (IsSettled volume.new (P.SectorView.space space.new).content) }
+    ensures service { IsInService volume.new (P.SectorView.space space.new) }
+    ensures holds { (committed : Content) → HoldsOn committed volume.old → OnOk result (HoldsOn committed volume.new) }
+    ensures capacity { capacity_of volume.new ≡ capacity_of volume.old }
+    ensures touches { (committed : Content) → Touches committed (λ s. Contains (own_sectors volume.old) s) (P.SectorView.space space.old) (P.SectorView.space space.new) }
+    ensures below { P.SectorView.follows space.old space.new }
+    ensures cause { HasTroubleCause (P.SectorView.space space.old).faults (P.SectorView.space space.new).faults result }
+{
+    match read_command(alloc, line) {
+        Ok(command) => do_command(alloc, volume, space, fresh, number, line, &command),
+        Err(why) => Ok(refused(alloc, why)),
+    }
+}
+
+// Does the command that a line spells.
+fn do_command<P: SectorSpace>(
+    alloc: Global,
+    volume: &mut Volume,
+    space: &mut P,
+    fresh: bool,
+    number: u64,
+    line: &[u8],
+    command: &Command,
+) -> Result<Outcome, Trouble>
+    requires stands { StandsOver volume.old (P.SectorView.space space.old) }
+    requires settled { IsTrue (P.SectorView.space space.old).tells → IsSettled volume.old (P.SectorView.space space.old).content }
+    requires sound { IsTrue (P.SectorView.space space.old).tells → IsSound (P.SectorView.space space.old).content }
+    requires spelled { command_of line.now ≡ Ok command.now }
+    requires fits { FitsCommand command.now }
+    ensures answered { IsTrue (P.SectorView.space space.old).tells → IfOk result (λ outcome. AnswersAs outcome (capacity_of volume.old) number line.now (P.SectorView.space space.old).content (P.SectorView.space space.new).content) }
+    ensures place { IsTrue (P.SectorView.space space.old).tells → OnOk result (KeepsJournal (P.SectorView.space space.old).content (P.SectorView.space space.new).content) }
+    ensures stands { OnOk result (StandsOver volume.new (P.SectorView.space space.new)) }
+    ensures settled { IsTrue (P.SectorView.space space.old).tells → OnOk result (IsSettled volume.new (P.SectorView.space space.new).content) }
+    ensures service { IsInService volume.new (P.SectorView.space space.new) }
+    ensures holds { (committed : Content) → HoldsOn committed volume.old → OnOk result (HoldsOn committed volume.new) }
+    ensures capacity { capacity_of volume.new ≡ capacity_of volume.old }
+    ensures touches { (committed : Content) → Touches committed (λ s. Contains (own_sectors volume.old) s) (P.SectorView.space space.old) (P.SectorView.space space.new) }
+    ensures below { P.SectorView.follows space.old space.new }
+    ensures cause { HasTroubleCause (P.SectorView.space space.old).faults (P.SectorView.space space.new).faults result }
+{
+    let outcome = step(alloc, volume, space, number, command)?;
+    Ok(unless_short(alloc, fresh, outcome))
+}

@@ -1,0 +1,76 @@
+//! A whole volume, served within batches.
+ghost use Rattle.served_volume.specs.Knowing.{Knows};
+
+use crate::answering::answer_line;
+use crate::served::ServedVolume;
+use crate::told::tell;
+use hfs_serving::{Ground, Next, Step, ToTell, Volume};
+use hfs_volume::aside_is_free;
+use hx_bytes::Trouble;
+use std::alloc::Global;
+
+impl Volume for ServedVolume {
+    ghost knows = { λ served space capacity committed now shrunk. Knows served.volume capacity committed now space };
+
+    fn attach<G: Ground>(alloc: Global, base: &mut G, capacity: u64) -> Result<Self, Trouble> {
+        let _before = base.pending();
+        let found = volume_ops::Volume::attach(alloc, base, capacity);
+        let _after = base.pending();
+        base.look();
+        let sectors = base.sectors();
+        match found {
+            Ok(volume) => Ok(ServedVolume {
+                volume,
+                alloc,
+                sectors,
+            }),
+            Err(trouble) => Err(trouble),
+        }
+    }
+
+    fn tidy_step<G: Ground>(&mut self, _: &mut G) -> Result<Next, Trouble> {
+        Ok(Next::Rest)
+    }
+
+    fn answer<G: Ground>(
+        &mut self,
+        base: &mut G,
+        number: u64,
+        line: &[u8],
+        told: &mut ToTell,
+    ) -> Result<Step, Trouble> {
+        if self.is_elsewhere(base) {
+            return Err(Trouble::Memory);
+        }
+        let fresh = base.pending() == 0;
+        let outcome = answer_line(self.alloc, &mut self.volume, base, fresh, number, line);
+        base.look();
+        match outcome {
+            Ok(outcome) => tell(self.alloc, outcome, told),
+            Err(trouble) => Err(trouble),
+        }
+    }
+
+    fn mark_mounted<G: Ground>(&mut self, base: &mut G) -> Result<(), Trouble> {
+        self.put_mark(base, true)
+    }
+
+    fn close<G: Ground>(&mut self, base: &mut G) -> Result<(), Trouble> {
+        self.put_mark(base, false)
+    }
+
+    fn commit<G: Ground>(&mut self, base: &mut G) -> Result<(), Trouble> {
+        aside_is_free();
+        base.look();
+        match base.commit() {
+            Ok(()) => {
+                self.volume.settle();
+                base.look();
+                Ok(())
+            }
+            Err(_) => Err(Trouble::Disk),
+        }
+    }
+
+    fn look<G: Ground>(&self, _base: &G) {}
+}

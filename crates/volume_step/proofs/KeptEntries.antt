@@ -1,0 +1,245 @@
+-- What commands that make, move or remove an entry keep of a volume.
+use Rattle.std.proofs.Common.{◌≡◌, ◌≢◌, ◌≤◌, ℕ, ◌+◌, Bool, true, false, List, [], ◌∷◌, ◌++◌, length, inl, inr, refl, sym, ◌∙◌, ap, subst, arith}
+use Rattle.std.specs.Prelude.{Contains, ◌==◌, not}
+use Rattle.std.proofs.lemmas.Bool.{true≢false}
+use Rattle.std.proofs.lemmas.List.Elements.{Contains-append_left, Contains-append_right}
+use Rattle.cat_records.specs.declared.record.EntryFields.{EntryFields}
+use Rattle.cat_records.specs.declared.record.CatRecord.{CatRecord}
+use Rattle.cat_records.specs.declared.record.CatRecord.TheVariants.{Folder, File, Thread}
+use Rattle.hfs_model.specs.Step.{Place}
+use Rattle.hfs_model.specs.declared.plain.PlainEntry.{PlainEntry}
+use Rattle.hfs_volume.specs.Blocks.{HasSizes, forks_of}
+use Rattle.hfs_volume.specs.Changes.{ChangesValue}
+use Rattle.hfs_volume.specs.Commands.{ChangesFields, DropsAttributes, IsMarkedAlone, IsNewValue, IsTouched, MakesEntry, RemovesFolder, entry_in, with_fields, with_folder_removed, with_made, without_attributes}
+use Rattle.hfs_volume.specs.Content.{VolumeState, overflow_in_volume, records_of}
+use Rattle.hfs_volume.specs.Entries.{IsUserId}
+use Rattle.hfs_volume.specs.Forks.{Owned, all_forks, blocks_owned, data_kind, file_forks, forks_in, resource_kind, special_forks}
+use Rattle.hfs_volume.specs.Laws.{one_if}
+use Rattle.hfs_volume.specs.Naming.{MovesName}
+use Rattle.hfs_volume.specs.Reclaim.{blocks_at, blocks_found}
+use Rattle.hfs_volume.specs.Records.{Overflow, Placed, entries_of, id_in, id_of, is_empty, is_folder, placed_in}
+use Rattle.hfs_volume.specs.Sound.{IsSoundVolume}
+use Rattle.hfs_volume.proofs.Fitting.{differs, not_same}
+use Rattle.hfs_volume.proofs.Making.{placed_splits}
+use Rattle.hfs_volume.proofs.Members.{each_of, first_or_later, in_one, kept_cases}
+use Rattle.hfs_volume.proofs.Seeing.{same_number}
+use Rattle.hfs_volume.proofs.Flat.{Pieces, flat_none, flat_pieces}
+use Rattle.hfs_volume.proofs.Hiding.{one_there}
+use Rattle.hfs_volume.proofs.Sides.{OneMore, count_more, entries_more, entry_cases, one_more}
+use Rattle.hfs_volume.proofs.Swapping.{Splits}
+use Rattle.volume_step.proofs.Forks.{forks_swapped, found_more, found_moved}
+use Rattle.volume_step.proofs.Kept.{Keeps, attributes_keep, catalog_keeps, fields_keep, forks_are, keeps_both}
+
+-- ---- other numbers in the header
+
+made_blocks : (folder : Bool) (old : VolumeState) (id kind : ℕ) → blocks_at (record old { head = with_made folder old.head }) id kind ≡ blocks_at old id kind
+unfolding all_forks
+made_blocks folder old id kind = refl
+
+made_head : (folder : Bool) (old : VolumeState) → Keeps old (record old { head = with_made folder old.head })
+made_head folder old = record {
+  blocks = λ id kind. made_blocks folder old id kind;
+  extents = refl;
+  catalog = refl;
+  attributes = refl;
+  journal = refl;
+  flags = refl;
+  same = record { signature = refl; version = refl; last_mounted = refl; info_block = refl; block_size = refl; total_blocks = refl; bit_12 = refl; bit_13 = refl; bit_15 = refl };
+}
+
+-- ---- a new folder or file
+
+new_number : (folder : Bool) (drawn moment : ℕ) (value : CatRecord) → IsNewValue folder drawn moment value → id_in value ≡ drawn
+new_number true drawn moment (Folder f) is = is.id
+new_number true drawn moment (File f) never = absurd never
+new_number true drawn moment (Thread t) never = absurd never
+new_number false drawn moment (Folder f) never = absurd never
+new_number false drawn moment (File f) is = is.0.id
+new_number false drawn moment (Thread t) never = absurd never
+
+-- it has no blocks
+new_empty : (folder : Bool) (drawn moment : ℕ) (value : CatRecord) → IsNewValue folder drawn moment value → (owned : Owned) → Contains (forks_in value) owned → owned.fork.total_blocks ≡ 0
+new_empty true drawn moment (Folder f) is owned stands = absurd (omega (arith, stands.1))
+new_empty true drawn moment (File f) never owned stands = absurd never
+new_empty true drawn moment (Thread t) never owned stands = absurd never
+new_empty false drawn moment (Folder f) never owned stands = absurd never
+new_empty false drawn moment (File f) is owned stands =
+    let one : Owned = record { id = f.fields.id; kind = data_kind; fork = f.data_fork } in
+    let two : Owned = record { id = f.fields.id; kind = resource_kind; fork = f.resource_fork } in
+    elim (first_or_later one owned (two ∷ []) stands) [
+      | inl same ↦ ap (λ (o : Owned). o.fork.total_blocks) same ∙ is.2.blocks
+      | inr later ↦ ap (λ (o : Owned). o.fork.total_blocks) (in_one two owned later) ∙ is.3.blocks
+    ]
+new_empty false drawn moment (Thread t) never owned stands = absurd never
+
+no_items : (xs : List ℕ) → length xs ≡ 0 → xs ≡ []
+no_items [] none = refl
+no_items (x ∷ xs) none = absurd (omega (arith, none))
+
+-- other fields leave the forks as they were
+pub fields_forks : (id : ℕ) (Changes : EntryFields → EntryFields → Type 0) (old new : VolumeState) → ChangesFields id Changes old new → file_forks (records_of new) ≡ file_forks (records_of old)
+fields_forks id Changes old new does =
+    let value : CatRecord = with_fields (λ _. does.after) does.entry.value in
+    let change : ChangesValue does.entry (with_fields (λ _. does.after) does.entry.value) old.catalog_pairs new.catalog_pairs = does.changes.changes in
+    let parts : Splits does.entry (record does.entry { value = with_fields (λ _. does.after) does.entry.value }) (records_of old) (records_of new) = placed_splits does.entry (with_fields (λ _. does.after) does.entry.value) old.catalog_pairs new.catalog_pairs does.changes.changes in
+    ap file_forks parts.is ∙ forks_swapped does.entry (with_fields (λ _. does.after) does.entry.value) does.changes.changes.forks parts.front parts.back ∙ sym (ap file_forks parts.was)
+
+module _ (folder : Bool) (at : Place) (old new : VolumeState) (sound : IsSoundVolume old) (after : IsSoundVolume new) (named : is_empty at.name ≡ false) (does : MakesEntry folder at old new) where
+  abbrev begun : VolumeState
+  begun = record old { head = with_made folder old.head }
+
+  abbrev entry : Placed
+  entry = entry_in at does.value
+
+  number : id_of entry ≡ old.head.next_catalog_id
+  number = new_number folder old.head.next_catalog_id old.head.modify_date does.value does.is_new
+
+  side : OneMore entry (records_of old) (records_of does.added)
+  side = one_more does.adds.changes named
+
+  fresh : (p : Placed) → Contains (entries_of (records_of old)) p → (id_of p == id_of entry) ≡ false
+  fresh p stands = differs (id_of p) (id_of entry) (λ same. elim (each_of (λ (q : Placed). IsUserId old.head.next_catalog_id (id_of q)) (entries_of (records_of old)) sound.entries.ids.each p stands) [
+    | inl two ↦ omega (arith, two, same, number, sound.blocks.header.next_id)
+    | inr user ↦ omega (arith, user.1, same, number)
+  ])
+
+  overflow_same : overflow_in_volume new ≡ overflow_in_volume old
+  overflow_same = ap (λ (v : VolumeState). overflow_in_volume v) does.counts.changes.rest ∙ ap (λ (v : VolumeState). overflow_in_volume v) does.adds.rest
+
+  head_same : new.head ≡ with_made folder old.head
+  head_same = ap (λ (v : VolumeState). v.head) does.counts.changes.rest ∙ ap (λ (v : VolumeState). v.head) does.adds.rest
+
+  -- the new entry's forks are forks of the volume
+  new_there : (owned : Owned) → Contains (file_forks (records_of does.added)) owned → Contains (forks_of new) owned
+  unfolding all_forks
+  new_there owned stands = Contains-append_right (special_forks new.head) (file_forks (records_of new)) owned (subst (λ l. Contains l owned) (sym (fields_forks at.folder (IsTouched old.head.modify_date 1 0) does.added new does.counts)) stands)
+
+  pieces : Pieces (λ (p : Placed). forks_in p.value) (entry_in at does.value) (entries_of (records_of old)) (entries_of (records_of does.added))
+  pieces = flat_pieces (λ (p : Placed). forks_in p.value) (entry_in at does.value) (entries_of (records_of old)) (entries_of (records_of does.added)) (entries_more side)
+
+  among : (owned : Owned) → Contains (forks_in does.value) owned → Contains (file_forks (records_of does.added)) owned
+  among owned stands = subst (λ l. Contains l owned) (sym pieces.is) (Contains-append_right pieces.front (forks_in does.value ++ pieces.back) owned (Contains-append_left (forks_in does.value) pieces.back owned stands))
+
+  no_blocks : (owned : Owned) → Contains (forks_in does.value) owned → blocks_owned (overflow_in_volume old) owned ≡ []
+  no_blocks owned stands =
+      let sizes = each_of (HasSizes new.head (overflow_in_volume new)) (forks_of new) after.blocks.forks.sizes owned (new_there owned (among owned stands)) in
+      no_items (blocks_owned (overflow_in_volume old) owned)
+      (ap (λ (l : List Overflow). length (blocks_owned l owned)) (sym overflow_same) ∙ sizes.blocks ∙ new_empty folder old.head.next_catalog_id old.head.modify_date does.value does.is_new owned stands)
+
+  added_blocks : (id kind : ℕ) → blocks_at does.added id kind ≡ blocks_at begun id kind
+  added_blocks id kind =
+      ap (λ (v : VolumeState). blocks_at v id kind) does.adds.rest
+      ∙ found_more side (omega (arith, number, sound.blocks.header.next_id)) fresh (with_made folder old.head) (overflow_in_volume old) no_blocks id kind
+
+  pub made_keeps : Keeps old new
+  made_keeps =
+      keeps_both old begun new (made_head folder old)
+      (keeps_both begun does.added new (catalog_keeps begun does.added does.adds.rest does.adds.nodes added_blocks) (fields_keep at.folder (IsTouched old.head.modify_date 1 0) does.added new does.counts))
+
+-- ---- a folder or file at another place
+
+named_entry : (records : List Placed) (p : Placed) → Contains (entries_of records) p → is_empty p.name ≡ false
+named_entry records p stands = by (is_empty p.name) (kept_cases (λ (q : Placed). not (is_empty q.name)) records p stands).1
+  where
+    by : (b : Bool) → not b ≡ true → b ≡ false
+    by true is = absurd (true≢false (sym is))
+    by false is = refl
+
+-- where a value has no forks, the forks are those without it
+none_more : {entry : Placed} {less more : List Placed} → OneMore entry less more → forks_in entry.value ≡ [] → file_forks more ≡ file_forks less
+none_more {entry} {less} {more} one none = flat_none (λ (p : Placed). forks_in p.value) entry (entries_of less) (entries_of more) (entries_more one) none
+
+module _ (at : PlainEntry) (to : Place) (old new : VolumeState) (sound : IsSoundVolume old) (named : is_empty to.name ≡ false) (does : MovesName at to old new) where
+  abbrev between : List Placed
+  between = placed_in does.moves.changes.between
+
+  out : OneMore does.entry (placed_in does.moves.changes.between) (records_of old)
+  out = one_more does.moves.changes.out (named_entry (records_of old) does.entry does.stands)
+
+  back : OneMore (record does.entry { parent = to.folder; name = to.name }) (placed_in does.moves.changes.between) (records_of does.moved)
+  back = one_more does.moves.changes.back named
+
+  alone : (p : Placed) → Contains (entries_of (placed_in does.moves.changes.between)) p → (id_of p == id_of does.entry) ≡ false
+  alone p stands = by (id_of p == id_of does.entry) refl
+    where
+      by : (t : Bool) → (id_of p == id_of does.entry) ≡ t → t ≡ false
+      by false is = refl
+      by true is = absurd (omega (
+        arith,
+        sound.entries.ids.distinct (id_of does.entry),
+        count_more out (λ (q : Placed). id_of q == id_of does.entry),
+        ap one_if (same_number (id_of does.entry)),
+        one_there (λ (q : Placed). id_of q == id_of does.entry) (entries_of (placed_in does.moves.changes.between)) p stands is,
+      ))
+
+  -- a file isn't the root
+  high : is_folder does.entry.value ≡ false → 16 ≤ id_of does.entry
+  high isnt = elim (each_of (λ (q : Placed). IsUserId old.head.next_catalog_id (id_of q)) (entries_of (records_of old)) sound.entries.ids.each does.entry does.stands) [
+    | inl two ↦
+        let root = sound.entries.rooted.root in
+        elim (entry_cases out root.0 root.1) [
+          | inl same ↦ absurd (true≢false (sym root.2.folder ∙ ap (λ (p : Placed). is_folder p.value) same ∙ isnt))
+          | inr there ↦ absurd (not_same (id_of root.0) (id_of does.entry) (alone root.0 there) (root.2.id ∙ sym two))
+        ]
+    | inr user ↦ user.0
+  ]
+
+  moved_blocks : (id kind : ℕ) → blocks_at does.moved id kind ≡ blocks_at old id kind
+  unfolding all_forks
+  moved_blocks id kind = by does.entry.value refl
+    where
+      empty : forks_in does.entry.value ≡ [] → blocks_at does.moved id kind ≡ blocks_at old id kind
+      empty none = forks_are old does.moved does.moves.rest (none_more back none ∙ sym (none_more out none)) id kind
+
+      by : (value : CatRecord) → does.entry.value ≡ value → blocks_at does.moved id kind ≡ blocks_at old id kind
+      by (Folder f) is = empty (ap forks_in is)
+      by (Thread t) is = empty (ap forks_in is)
+      by (File f) is =
+          ap (λ (v : VolumeState). blocks_at v id kind) does.moves.rest
+          ∙ ap (blocks_found (overflow_in_volume old)) (found_moved out back (high (ap is_folder is)) alone old.head id kind)
+
+  pub moved_keeps : Keeps old new
+  moved_keeps =
+      keeps_both old does.moved new (catalog_keeps old does.moved does.moves.rest does.moves.nodes moved_blocks)
+      (keeps_both does.moved does.lost new (fields_keep at.parent (IsTouched old.head.modify_date 0 1) does.moved does.lost does.loses)
+      (keeps_both does.lost does.gained new (fields_keep to.folder (IsTouched old.head.modify_date 1 0) does.lost does.gained does.gains)
+      (fields_keep at.id (IsMarkedAlone old.head.modify_date) does.gained new does.marks)))
+
+-- ---- a folder less
+
+removed_blocks : (old : VolumeState) (id kind : ℕ) → blocks_at (record old { head = with_folder_removed old.head }) id kind ≡ blocks_at old id kind
+unfolding all_forks
+removed_blocks old id kind = refl
+
+removed_head : (old : VolumeState) → Keeps old (record old { head = with_folder_removed old.head })
+removed_head old = record {
+  blocks = λ id kind. removed_blocks old id kind;
+  extents = refl;
+  catalog = refl;
+  attributes = refl;
+  journal = refl;
+  flags = refl;
+  same = record { signature = refl; version = refl; last_mounted = refl; info_block = refl; block_size = refl; total_blocks = refl; bit_12 = refl; bit_13 = refl; bit_15 = refl };
+}
+
+folder_forks : (value : CatRecord) → is_folder value ≡ true → forks_in value ≡ []
+folder_forks (Folder f) is = refl
+folder_forks (File f) is = absurd (true≢false (sym is))
+folder_forks (Thread t) is = refl
+
+module _ (id : ℕ) (old new : VolumeState) (does : RemovesFolder id old new) (folder : is_folder does.entry.value ≡ true) where
+  abbrev bared : VolumeState
+  bared = without_attributes old new
+
+  gone : OneMore does.entry (records_of does.dropped) (records_of bared)
+  gone = one_more does.drops.changes (named_entry (records_of old) does.entry does.stands)
+
+  dropped_blocks : (n kind : ℕ) → blocks_at does.dropped n kind ≡ blocks_at bared n kind
+  dropped_blocks n kind = forks_are bared does.dropped does.drops.rest (sym (none_more gone (folder_forks does.entry.value folder))) n kind
+
+  pub removed_keeps : Keeps old new
+  removed_keeps =
+      keeps_both old (record old { head = with_folder_removed old.head }) new (removed_head old)
+      (keeps_both (record old { head = with_folder_removed old.head }) bared new (attributes_keep (DropsAttributes id) (record old { head = with_folder_removed old.head }) bared does.bares)
+      (keeps_both bared does.dropped new (catalog_keeps bared does.dropped does.drops.rest does.drops.nodes dropped_blocks)
+      (fields_keep does.entry.parent (IsTouched old.head.modify_date 0 1) does.dropped new does.counts)))

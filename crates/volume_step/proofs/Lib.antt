@@ -1,0 +1,6 @@
+pub mod Done
+pub mod Forks
+pub mod Judged
+pub mod Kept
+pub mod KeptEntries
+pub mod Served

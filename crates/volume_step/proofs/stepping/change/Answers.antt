@@ -1,0 +1,62 @@
+use Rattle.std.proofs.Common.{ℕ, List, inr, sym, ◌∙◌, subst}
+use Rattle.std.specs.List.{Contains}
+use Rattle.std.specs.Prelude.{IfOk, OnOk}
+use Rattle.sector_disk.specs.Lists.{Content}
+use Rattle.volume_ops.specs.Room.{capacity_of}
+use Rattle.volume_ops.specs.Touching.{Touches}
+use Rattle.volume_ops.proofs.Commanding.{touches_both, touches_looks}
+use Rattle.volume_ops.proofs.Sounding.{sound_here}
+use Rattle.volume_ops.proofs.Still.{own_still}
+use Rattle.volume_step.specs.Steps.{Affords, IsJudged, KeepsJournal, StepsTo}
+use Rattle.volume_step.specs.declared.judging.Verdict.{Verdict}
+use Rattle.volume_step.specs.declared.outcome.Outcome.{Outcome}
+use Rattle.volume_step.proofs.Done.{holds_kept, refused_steps, same_place, waits_steps}
+use Rattle.volume_step.proofs.stepping.change.Goals as goal
+
+pub perform-requires-clause-affords : goal.perform-requires-clause-affords
+perform-requires-clause-affords g c told =
+    let tells = sym c.judge.ensures.reads.looks.same.tells ∙ told in
+    subst (λ (k : ℕ × Content). Affords k.0 c.args.command.now k.1) {x = ((capacity_of c.args.volume.now), (g.P.SectorView.space c.args.space.now).content)} {y = (capacity_of c.judge.new.volume, (g.P.SectorView.space c.judge.new.space).content)} (λ i. (sym c.judge.ensures.reads.keeps.capacity i, sym (c.judge.ensures.reads.looks.content (sym c.judge.ensures.reads.looks.same.tells ∙ told)) i))
+    (subst (λ (v : Verdict). IsJudged v (capacity_of c.args.volume.now) c.args.command.now (g.P.SectorView.space c.args.space.now).content) c.in-Fits.is (c.in_ok-why.ensures.judged (sym c.judge.ensures.reads.looks.same.tells ∙ told)))
+
+pub returns-in-Refused-clause-answered : goal.returns-in-Refused-clause-answered
+returns-in-Refused-clause-answered g c tells =
+    refused_steps (capacity_of c.args.volume.now) c.args.number c.args.command.now (g.P.SectorView.space c.args.space.now).content (g.P.SectorView.space c.judge.new.space).content (c.judge.ensures.reads.looks.content tells) (sound_here c.args.volume.now (g.P.SectorView.space c.args.space.now) (c.requires.stands.stands tells) (c.requires.settled tells)) c.requires.changes c.in-Refused.why
+    (subst (λ (v : Verdict). IsJudged v (capacity_of c.args.volume.now) c.args.command.now (g.P.SectorView.space c.args.space.now).content) c.in-Refused.is (c.in_ok-why.ensures.judged tells)) c.refusal.result c.refusal.ensures
+
+pub returns-in-ToCome-clause-answered : goal.returns-in-ToCome-clause-answered
+returns-in-ToCome-clause-answered g c tells =
+    waits_steps (capacity_of c.args.volume.now) c.args.number c.args.command.now (g.P.SectorView.space c.args.space.now).content (g.P.SectorView.space c.judge.new.space).content (c.judge.ensures.reads.looks.content tells) (sound_here c.args.volume.now (g.P.SectorView.space c.args.space.now) (c.requires.stands.stands tells) (c.requires.settled tells)) (inr (subst (λ (v : Verdict). IsJudged v (capacity_of c.args.volume.now) c.args.command.now (g.P.SectorView.space c.args.space.now).content) c.in-ToCome.is (c.in_ok-why.ensures.judged tells))) c.refusal-in-ToCome.result c.refusal-in-ToCome.ensures
+
+pub returns-in-Fits-clause-answered : goal.returns-in-Fits-clause-answered
+returns-in-Fits-clause-answered g c tells =
+    subst (λ (k : ℕ × Content). IfOk c.perform.result (λ (o : Outcome). StepsTo o k.0 c.args.number c.args.command.now k.1 (g.P.SectorView.space c.perform.new.space).content)) {x = (capacity_of c.judge.new.volume, (g.P.SectorView.space c.judge.new.space).content)} {y = ((capacity_of c.args.volume.now), (g.P.SectorView.space c.args.space.now).content)} (λ i. (c.judge.ensures.reads.keeps.capacity i, c.judge.ensures.reads.looks.content tells i)) (c.perform.ensures.answered (c.judge.ensures.reads.looks.same.tells ∙ tells))
+
+pub returns-in-Fits-clause-place : goal.returns-in-Fits-clause-place
+returns-in-Fits-clause-place g c tells = subst (λ (k : Content). OnOk c.perform.result (KeepsJournal k (g.P.SectorView.space c.perform.new.space).content)) (c.judge.ensures.reads.looks.content tells) (c.perform.ensures.place (c.judge.ensures.reads.looks.same.tells ∙ tells))
+
+pub returns-in-Fits-clause-holds : goal.returns-in-Fits-clause-holds
+returns-in-Fits-clause-holds g c committed was = c.perform.ensures.holds committed (holds_kept committed c.args.volume.now c.judge.new.volume c.judge.ensures.reads.keeps.map was)
+
+pub returns-in-Fits-clause-touches : goal.returns-in-Fits-clause-touches
+returns-in-Fits-clause-touches g c committed =
+    touches_both committed _ (g.P.SectorView.space c.args.space.now) (g.P.SectorView.space c.judge.new.space) (g.P.SectorView.space c.perform.new.space) (touches_looks committed _ (g.P.SectorView.space c.args.space.now) (g.P.SectorView.space c.judge.new.space) c.judge.ensures.reads.looks)
+    (subst (λ (l : List ℕ). Touches committed (λ s. Contains l s) (g.P.SectorView.space c.judge.new.space) (g.P.SectorView.space c.perform.new.space)) (own_still c.args.volume.now c.judge.new.volume (g.P.SectorView.space c.args.space.now) (g.P.SectorView.space c.judge.new.space) c.judge.ensures.reads) (c.perform.ensures.touches committed))
+
+pub returns-in-Refused-clause-place : goal.returns-in-Refused-clause-place
+returns-in-Refused-clause-place g c tells = same_place (g.P.SectorView.space c.args.space.now).content (g.P.SectorView.space c.judge.new.space).content (c.judge.ensures.reads.looks.content tells)
+
+pub returns-in-ToCome-clause-place : goal.returns-in-ToCome-clause-place
+returns-in-ToCome-clause-place g c tells = same_place (g.P.SectorView.space c.args.space.now).content (g.P.SectorView.space c.judge.new.space).content (c.judge.ensures.reads.looks.content tells)
+
+pub returns-in_err-why-clause-touches : goal.returns-in_err-why-clause-touches
+returns-in_err-why-clause-touches g c committed = touches_looks committed _ (g.P.SectorView.space c.args.space.now) (g.P.SectorView.space c.judge.new.space) c.judge.ensures.reads.looks
+
+pub returns-in-Refused-clause-touches : goal.returns-in-Refused-clause-touches
+returns-in-Refused-clause-touches g c committed = touches_looks committed _ (g.P.SectorView.space c.args.space.now) (g.P.SectorView.space c.judge.new.space) c.judge.ensures.reads.looks
+
+pub returns-in-ToCome-clause-touches : goal.returns-in-ToCome-clause-touches
+returns-in-ToCome-clause-touches g c committed = touches_looks committed _ (g.P.SectorView.space c.args.space.now) (g.P.SectorView.space c.judge.new.space) c.judge.ensures.reads.looks
+
+pub returns-in-CommitFirst-clause-touches : goal.returns-in-CommitFirst-clause-touches
+returns-in-CommitFirst-clause-touches g c committed = touches_looks committed _ (g.P.SectorView.space c.args.space.now) (g.P.SectorView.space c.judge.new.space) c.judge.ensures.reads.looks

@@ -1,0 +1,76 @@
+//! A command judged before its step: by its weight, and by the room that there is.
+ghost use Rattle.std.specs.Prelude.{◌≡◌, IsTrue, IfOk};
+ghost use Rattle.btree_edit.specs.Causes.{HasTroubleCause};
+ghost use Rattle.hfs_language.specs.Written.{FitsCommand};
+ghost use Rattle.volume_ops.specs.Looking.{ReadsVolume};
+ghost use Rattle.volume_ops.specs.Room.{capacity_of};
+ghost use Rattle.volume_ops.specs.Standing.{IsSettled, StandsOver};
+ghost use Rattle.volume_step.specs.Steps.{IsJudged, grows_in, verdict_of};
+
+use hfs_language::{Command, Refusal};
+use hx_bytes::Trouble;
+use sector_disk::SectorSpace;
+use std::alloc::Global;
+use volume_ops::{Volume, Weight};
+
+/// Whether a command may be done now.
+#[derive(Clone, Copy)]
+pub(crate) enum Verdict {
+    /// Its step refuses it, or a resource is missing.
+    Refused(Refusal),
+    /// A tree has to grow for it, which is still to come.
+    ToCome,
+    /// It wants a commit before it.
+    CommitFirst,
+    /// Nothing stands in its way.
+    Fits,
+}
+
+/// Whether a tree has to grow.
+fn grows(grow: [u32; 3]) -> bool
+    ensures { result ≡ grows_in grow }
+{
+    grow[0] != 0 || (grow[1] != 0 || grow[2] != 0)
+}
+
+/// What a weight comes to, where so many sectors may be put.
+fn verdict_of(weight: Weight, spare: u64) -> Verdict
+    ensures { result ≡ verdict_of weight spare }
+{
+    match weight {
+        Weight::Refused(why) => Verdict::Refused(why),
+        Weight::CommitFirst => Verdict::CommitFirst,
+        Weight::Load { sectors, grow } => {
+            if grows(grow) {
+                Verdict::ToCome
+            } else if spare < sectors {
+                Verdict::CommitFirst
+            } else {
+                Verdict::Fits
+            }
+        }
+    }
+}
+
+/// Judges a command. One that isn't weighed yet waits.
+pub(crate) fn judge<P: SectorSpace>(
+    alloc: Global,
+    volume: &mut Volume,
+    space: &mut P,
+    command: &Command,
+) -> Result<Verdict, Trouble>
+    requires stands { StandsOver volume.old (P.SectorView.space space.old) }
+    requires settled { IsTrue (P.SectorView.space space.old).tells → IsSettled volume.old (P.SectorView.space space.old).content }
+    requires fits { FitsCommand command.now }
+    ensures judged { IsTrue (P.SectorView.space space.old).tells → IfOk result (λ verdict. IsJudged verdict (capacity_of volume.old) command.now (P.SectorView.space space.old).content) }
+    ensures reads { ReadsVolume volume.old volume.new (P.SectorView.space space.old) (P.SectorView.space space.new) }
+    ensures stands { StandsOver volume.new (P.SectorView.space space.new) }
+    ensures settled { IsTrue (P.SectorView.space space.old).tells → IsSettled volume.new (P.SectorView.space space.new).content }
+    ensures below { P.SectorView.follows space.old space.new }
+    ensures cause { HasTroubleCause (P.SectorView.space space.old).faults (P.SectorView.space space.new).faults result }
+{
+    match volume.weigh(alloc, space, command)? {
+        Some(weight) => Ok(verdict_of(weight, space.spare())),
+        None => Ok(Verdict::CommitFirst),
+    }
+}

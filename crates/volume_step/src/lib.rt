@@ -1,0 +1,14 @@
+//! A command on a volume in service, weighed and done.
+#![tactic(auto)]
+
+mod answering;
+mod judging;
+mod making;
+mod marking;
+mod outcome;
+mod owning;
+mod removing;
+mod stepping;
+
+pub use outcome::Outcome;
+pub use stepping::step;

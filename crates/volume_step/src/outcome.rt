@@ -1,0 +1,13 @@
+//! What a command came to.
+
+use hfs_language::{Changes, Reply};
+
+/// What a command came to.
+#[derive(Drop)]
+pub enum Outcome {
+    /// Its reply, and what it changed, for watchers.
+    Answered { reply: Reply, changes: Changes },
+    /// It wants a commit before it, and nothing was changed: there is too little room for what it puts, or the blocks that it needs
+    /// are held until then.
+    CommitFirst,
+}

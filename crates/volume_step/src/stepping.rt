@@ -1,0 +1,148 @@
+//! A command on a volume in service, weighed and done.
+ghost use Rattle.std.specs.Prelude.{◌≡◌, false, IsTrue, IfOk, OnOk};
+ghost use Rattle.std.specs.List.{Contains};
+ghost use Rattle.sector_disk.specs.Lists.{Content};
+ghost use Rattle.btree_edit.specs.Causes.{HasTroubleCause};
+ghost use Rattle.hfs_language.specs.Written.{FitsCommand};
+ghost use Rattle.hfs_model.specs.Step.{only_reads};
+ghost use Rattle.volume_ops.specs.Keeping.{shrunk_of};
+ghost use Rattle.volume_ops.specs.Room.{capacity_of};
+ghost use Rattle.volume_ops.specs.Service.{IsInService};
+ghost use Rattle.volume_ops.specs.Standing.{HoldsOn, IsSettled, StandsOver, own_sectors};
+ghost use Rattle.volume_ops.specs.Touching.{Touches};
+ghost use Rattle.volume_step.specs.Steps.{Affords, KeepsJournal, StepsTo};
+
+use crate::answering::{answer, is_to_come, only_reads, refusal};
+use crate::judging::{Verdict, judge};
+use crate::making::{make_file, make_folder, move_entry};
+use crate::marking::{date, set_mode};
+use crate::outcome::Outcome;
+use crate::owning::{delete_attribute, set_attribute};
+use crate::removing::remove_folder;
+use hfs_language::{Command, Refusal};
+use hx_bytes::Trouble;
+use sector_disk::SectorSpace;
+use std::alloc::Global;
+use volume_ops::Volume;
+
+/// Does a command for which nothing is missing. One that isn't done here yet waits.
+fn perform<P: SectorSpace>(
+    alloc: Global,
+    volume: &mut Volume,
+    space: &mut P,
+    number: u64,
+    command: &Command,
+) -> Result<Outcome, Trouble>
+    requires stands { StandsOver volume.old (P.SectorView.space space.old) }
+    requires settled { IsTrue (P.SectorView.space space.old).tells → IsSettled volume.old (P.SectorView.space space.old).content }
+    requires fits { FitsCommand command.now }
+    requires affords { IsTrue (P.SectorView.space space.old).tells → Affords (capacity_of volume.old) command.now (P.SectorView.space space.old).content }
+    ensures answered { IsTrue (P.SectorView.space space.old).tells → IfOk result (λ outcome. StepsTo outcome (capacity_of volume.old) number command.now (P.SectorView.space space.old).content (P.SectorView.space space.new).content) }
+    ensures place { IsTrue (P.SectorView.space space.old).tells → OnOk result (KeepsJournal (P.SectorView.space space.old).content (P.SectorView.space space.new).content) }
+    ensures stands { OnOk result (StandsOver volume.new (P.SectorView.space space.new)) }
+    ensures settled { IsTrue (P.SectorView.space space.old).tells → OnOk result (IsSettled volume.new (P.SectorView.space space.new).content) }
+    ensures service { IsInService volume.new (P.SectorView.space space.new) }
+    ensures holds { (committed : Content) → HoldsOn committed volume.old → OnOk result (HoldsOn committed volume.new) }
+    ensures capacity { capacity_of volume.new ≡ capacity_of volume.old }
+    ensures shrunk { shrunk_of volume.new ≡ shrunk_of volume.old }
+    ensures touches { (committed : Content) → Touches committed (λ s. Contains (own_sectors volume.old) s) (P.SectorView.space space.old) (P.SectorView.space space.new) }
+    ensures below { P.SectorView.follows space.old space.new }
+    ensures cause { HasTroubleCause (P.SectorView.space space.old).faults (P.SectorView.space space.new).faults result }
+{
+    match command {
+        Command::At(moment) => date(alloc, volume, space, number, *moment),
+        Command::Chmod { path, mode } => set_mode(alloc, volume, space, number, path, *mode),
+        Command::SetAttr { path, name, value } => {
+            set_attribute(alloc, volume, space, number, path, name, value.as_slice())
+        }
+        Command::DelAttr { path, name } => {
+            delete_attribute(alloc, volume, space, number, path, name)
+        }
+        Command::Mkdir(path) => make_folder(alloc, volume, space, number, path),
+        Command::Create(path) => make_file(alloc, volume, space, number, path),
+        Command::Mv(from, to) => move_entry(alloc, volume, space, number, from, to),
+        Command::Rmdir(path) => remove_folder(alloc, volume, space, number, path),
+        Command::Rm(_)
+        | Command::Ln(_, _)
+        | Command::Write { .. }
+        | Command::Read { .. }
+        | Command::Trunc { .. }
+        | Command::Ls(_)
+        | Command::Stat(_)
+        | Command::GetAttr { .. }
+        | Command::LsAttr(_)
+        | Command::Df
+        | Command::Sync => Ok(Outcome::CommitFirst),
+    }
+}
+
+/// Judges a command that changes the volume, and does it where nothing is missing for it.
+fn change<P: SectorSpace>(
+    alloc: Global,
+    volume: &mut Volume,
+    space: &mut P,
+    number: u64,
+    command: &Command,
+) -> Result<Outcome, Trouble>
+    requires stands { StandsOver volume.old (P.SectorView.space space.old) }
+    requires settled { IsTrue (P.SectorView.space space.old).tells → IsSettled volume.old (P.SectorView.space space.old).content }
+    requires fits { FitsCommand command.now }
+    requires changes { only_reads command.now ≡ false }
+    ensures answered { IsTrue (P.SectorView.space space.old).tells → IfOk result (λ outcome. StepsTo outcome (capacity_of volume.old) number command.now (P.SectorView.space space.old).content (P.SectorView.space space.new).content) }
+    ensures place { IsTrue (P.SectorView.space space.old).tells → OnOk result (KeepsJournal (P.SectorView.space space.old).content (P.SectorView.space space.new).content) }
+    ensures stands { OnOk result (StandsOver volume.new (P.SectorView.space space.new)) }
+    ensures settled { IsTrue (P.SectorView.space space.old).tells → OnOk result (IsSettled volume.new (P.SectorView.space space.new).content) }
+    ensures service { IsInService volume.new (P.SectorView.space space.new) }
+    ensures holds { (committed : Content) → HoldsOn committed volume.old → OnOk result (HoldsOn committed volume.new) }
+    ensures capacity { capacity_of volume.new ≡ capacity_of volume.old }
+    ensures shrunk { shrunk_of volume.new ≡ shrunk_of volume.old }
+    ensures touches { (committed : Content) → Touches committed (λ s. Contains (own_sectors volume.old) s) (P.SectorView.space space.old) (P.SectorView.space space.new) }
+    ensures below { P.SectorView.follows space.old space.new }
+    ensures cause { HasTroubleCause (P.SectorView.space space.old).faults (P.SectorView.space space.new).faults result }
+{
+    match judge(alloc, volume, space, command)? {
+        Verdict::Refused(why) => Ok(refusal(alloc, why)),
+        Verdict::ToCome => Ok(refusal(alloc, Refusal::NotBuilt)),
+        Verdict::CommitFirst => Ok(Outcome::CommitFirst),
+        Verdict::Fits => perform(alloc, volume, space, number, command),
+    }
+}
+
+/// Weighs a command, whose line has this number, and does it: what it came to is that of the plain tree's step, or a refusal for
+/// want of a resource, or that it is still to come; or a commit is wanted before it, and nothing was changed. So it is where its
+/// load is more than may be put, and where the edits that its load allows could take more by the numbers of the trees alone,
+/// whatever their nodes hold. `Memory` comes where memory is wanting, `Disk` where a read failed.
+pub fn step<P: SectorSpace>(
+    alloc: Global,
+    volume: &mut Volume,
+    space: &mut P,
+    number: u64,
+    command: &Command,
+) -> Result<Outcome, Trouble>
+    requires stands { StandsOver volume.old (P.SectorView.space space.old) }
+    requires settled { IsTrue (P.SectorView.space space.old).tells → IsSettled volume.old (P.SectorView.space space.old).content }
+    requires fits { FitsCommand command.now }
+    // Told, the line's entry is one of a run, with what it changed for watchers.
+    ensures answered { IsTrue (P.SectorView.space space.old).tells → IfOk result (λ outcome. StepsTo outcome (capacity_of volume.old) number command.now (P.SectorView.space space.old).content (P.SectorView.space space.new).content) }
+    // The journal lies where it lay, and the header is one of the same volume.
+    ensures place { IsTrue (P.SectorView.space space.old).tells → OnOk result (KeepsJournal (P.SectorView.space space.old).content (P.SectorView.space space.new).content) }
+    ensures stands { OnOk result (StandsOver volume.new (P.SectorView.space space.new)) }
+    ensures settled { IsTrue (P.SectorView.space space.old).tells → OnOk result (IsSettled volume.new (P.SectorView.space space.new).content) }
+    ensures service { IsInService volume.new (P.SectorView.space space.new) }
+    // No block that a content has in use is lost.
+    ensures holds { (committed : Content) → HoldsOn committed volume.old → OnOk result (HoldsOn committed volume.new) }
+    ensures capacity { capacity_of volume.new ≡ capacity_of volume.old }
+    ensures shrunk { shrunk_of volume.new ≡ shrunk_of volume.old }
+    // On a fault too, it puts sectors of its own alone, whatever was committed last.
+    ensures touches { (committed : Content) → Touches committed (λ s. Contains (own_sectors volume.old) s) (P.SectorView.space space.old) (P.SectorView.space space.new) }
+    ensures below { P.SectorView.follows space.old space.new }
+    ensures cause { HasTroubleCause (P.SectorView.space space.old).faults (P.SectorView.space space.new).faults result }
+{
+    if only_reads(command) {
+        return answer(alloc, volume, space, number, command);
+    }
+    if is_to_come(command) {
+        return Ok(refusal(alloc, Refusal::NotBuilt));
+    }
+    change(alloc, volume, space, number, command)
+}
