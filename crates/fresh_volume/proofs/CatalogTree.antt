@@ -23,7 +23,7 @@ use Rattle.btree_node.specs.Store.{Store}
 use Rattle.btree_node.specs.Tree.{IsTree, IsTreeNode, IsReached, pairs_of}
 use Rattle.btree_node.specs.TreeFile.{TreeFile, TreeHead, IsTreeFile, catalog_form, shape_of, store_of}
 use Rattle.btree_node.specs.declared.codec.TreeHeader.{TreeHeader}
-use Rattle.hfs_model.specs.Thin.{catalog_tree, catalog_item, new_folder, new_thread}
+use Rattle.hfs_model.specs.Fresh.{catalog_tree, catalog_item, new_folder, new_thread}
 use Rattle.hfs_model.proofs.Lengths.{length-thread}
 use Rattle.volume_make.specs.declared.layout.Layout.{Layout}
 use Rattle.volume_make.specs.Texts.{new_file, leaf_items}

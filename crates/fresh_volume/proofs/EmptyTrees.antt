@@ -14,7 +14,7 @@ use Rattle.btree_node.specs.Mem.{IsBare}
 use Rattle.btree_node.specs.MemLaws.{bare_tree, legal_size}
 use Rattle.btree_node.specs.TreeFile.{TreeFile, TreeHead, TreeForm, HasForm, HasMapNodes, IsMapNode, IsTreeFile, store_of, is_reserved_in}
 use Rattle.btree_node.specs.declared.codec.TreeHeader.{TreeHeader}
-use Rattle.hfs_model.specs.Thin.{empty_tree}
+use Rattle.hfs_model.specs.Fresh.{empty_tree}
 use Rattle.fresh_volume.specs.Fresh.{IsFreshTree}
 use Rattle.fresh_volume.proofs.Trees.{no_pairs}
 

@@ -9,7 +9,7 @@ use Rattle.hx_bytes.specs.declared.extents.Extent.{Extent}
 use Rattle.fork_map.specs.Blocks.{blocks_of}
 use Rattle.alloc_bitmap.specs.Apart.{times}
 use Rattle.alloc_bitmap.proofs.ApartLaws.{times-append}
-use Rattle.hfs_model.specs.Thin.{one_run, no_fork}
+use Rattle.hfs_model.specs.Fresh.{one_run, no_fork}
 use Rattle.hfs_volume.specs.Forks.{Owned, all_forks, blocks_owned, extents_of, in_use, used_blocks, parts_for, extents_id, catalog_id, allocation_id, startup_id, attributes_id, data_kind, resource_kind}
 use Rattle.hfs_volume.specs.Blocks.{HasSizes, GoesOn}
 use Rattle.volume_make.specs.declared.layout.Layout.{Layout}

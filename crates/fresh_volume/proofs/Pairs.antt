@@ -11,7 +11,7 @@ use Rattle.btree_node.specs.Node.{items}
 use Rattle.btree_node.specs.Levels.{Nodes, key_of, value_of, pair_of, leaves}
 use Rattle.btree_node.specs.TreeFile.{TreeFile, TreeHead}
 use Rattle.jnl_format.specs.Recovery.{Content}
-use Rattle.hfs_model.specs.Thin.{catalog_item, new_folder, new_thread}
+use Rattle.hfs_model.specs.Fresh.{catalog_item, new_folder, new_thread}
 use Rattle.hfs_volume.specs.Content.{catalog_file}
 use Rattle.volume_make.specs.declared.layout.Layout.{Layout}
 use Rattle.volume_make.specs.Layout.{CanBe, layout_of}

@@ -7,7 +7,7 @@ use Rattle.cat_records.specs.declared.record.ThreadRecord.{ThreadRecord}
 use Rattle.cat_records.specs.declared.record.CatRecord.{CatRecord}
 use Rattle.cat_records.specs.declared.record.CatRecord.TheVariants.{Folder, File, Thread}
 use Rattle.btree_node.specs.Levels.{Pair}
-use Rattle.hfs_model.specs.Thin.{new_folder, new_thread}
+use Rattle.hfs_model.specs.Fresh.{new_folder, new_thread}
 use Rattle.hfs_volume.specs.Records.{Placed, placed_in, entries_of, is_folder, is_file, is_thread, is_empty, id_of, valence_in}
 use Rattle.hfs_volume.specs.Entries.{LiesIn, is_it, IsRoot, IsThreadOf, HasThread, IsUserId, AreSpelled, AreRooted, HaveIds, AreCounted, AreEntries, count_in}
 use Rattle.volume_make.specs.declared.layout.Layout.{Layout}

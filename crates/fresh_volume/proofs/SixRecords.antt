@@ -10,7 +10,7 @@ use Rattle.cat_records.specs.Records.{catalog_bytes, is_catalog}
 use Rattle.btree_node.specs.Levels.{Pair}
 use Rattle.catalog.proofs.Keys.{key_reads, record_spelled}
 use Rattle.jnl_format.specs.Recovery.{Content, header_of_volume}
-use Rattle.hfs_model.specs.Thin.{new_entry, new_folder, new_thread}
+use Rattle.hfs_model.specs.Fresh.{new_entry, new_folder, new_thread}
 use Rattle.hfs_volume.specs.Records.{placed_in, overflow_of, attribute_of}
 use Rattle.hfs_volume.specs.Changes.{Spells}
 use Rattle.hfs_volume.specs.Content.{volume_of, has_attributes}

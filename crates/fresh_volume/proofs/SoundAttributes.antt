@@ -9,7 +9,7 @@ use Rattle.jnl_format.specs.Info.{info_of}
 use Rattle.jnl_format.specs.Recovery.{Content, sector, info_sector_of, header_of_volume}
 use Rattle.jnl_format.specs.declared.structures.Info.{Info}
 use Rattle.hfs_model.specs.Step.{journal_name, journal_info_name}
-use Rattle.hfs_model.specs.Thin.{new_entry, no_fork}
+use Rattle.hfs_model.specs.Fresh.{new_entry, no_fork}
 use Rattle.hfs_volume.specs.Records.{Placed, Overflow}
 use Rattle.hfs_volume.specs.Forks.{extents_of, data_kind, parts_for}
 use Rattle.hfs_volume.specs.Content.{JournalPlace, volume_of, records_of, overflow_in_volume, has_attributes}

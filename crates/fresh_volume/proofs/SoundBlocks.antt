@@ -13,7 +13,7 @@ use Rattle.btree_node.specs.Codec.{head_of}
 use Rattle.btree_node.specs.TreeFile.{TreeFile, TreeHead}
 use Rattle.btree_node.specs.declared.codec.TreeHeader.{TreeHeader}
 use Rattle.jnl_format.specs.Recovery.{Content, sector, header_of_volume}
-use Rattle.hfs_model.specs.Thin.{empty_tree, catalog_tree}
+use Rattle.hfs_model.specs.Fresh.{empty_tree, catalog_tree}
 use Rattle.hfs_volume.specs.Records.{Overflow}
 use Rattle.hfs_volume.specs.Forks.{Owned, used_blocks, all_forks}
 use Rattle.hfs_volume.specs.Content.{volume_of, overflow_in_volume, is_set, bit_in, bitmap_sectors, facts_of, extents_file, catalog_file, attributes_file}

@@ -14,7 +14,7 @@ use Rattle.btree_node.specs.Codec.{HeaderReadsBack, ReadsBack, leaf_head}
 use Rattle.btree_node.specs.TreeFile.{TreeFile, TreeHead}
 use Rattle.jnl_format.specs.Recovery.{Content, header_of_volume}
 use Rattle.volume_header.specs.Header.{header_of}
-use Rattle.hfs_model.specs.Thin.{one_run, empty_tree, catalog_tree}
+use Rattle.hfs_model.specs.Fresh.{one_run, empty_tree, catalog_tree}
 use Rattle.hfs_volume.specs.Records.{Overflow, overflow_of}
 use Rattle.hfs_model.specs.Sorted.{kept}
 use Rattle.hfs_volume.specs.Forks.{extents_of, in_use, overflow_in, is_of, extents_id, catalog_id, attributes_id, data_kind, per_block_of}

@@ -12,7 +12,7 @@ use Rattle.cat_records.specs.Keys.{catalog_key_bytes}
 use Rattle.cat_records.specs.Records.{catalog_bytes}
 use Rattle.jnl_format.specs.Recovery.{Content, Journal, recovery}
 use Rattle.hfs_model.specs.Plain.{fresh_tree}
-use Rattle.hfs_model.specs.Thin.{empty_tree, catalog_tree, new_folder, new_thread}
+use Rattle.hfs_model.specs.Fresh.{empty_tree, catalog_tree, new_folder, new_thread}
 use Rattle.hfs_volume.specs.Content.{extents_file, catalog_file, attributes_file, bit_in, bitmap_sectors, volume_of, records_of, overflow_in_volume, attributes_of}
 use Rattle.hfs_volume.specs.Records.{Placed}
 use Rattle.hfs_volume.specs.Entries.{AreSpelled, AreEntries}

@@ -1,7 +1,4 @@
-pub mod Names
-pub mod Parts
-pub mod Thin
-pub mod Reading
+pub mod Fresh
 pub mod Sorted
 pub mod Plain
 pub mod Step

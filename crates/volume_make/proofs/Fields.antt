@@ -7,7 +7,7 @@ use Rattle.hx_bytes.specs.Fork.{FitsExtent, FitsExtents, FitsFork}
 use Rattle.hx_bytes.specs.declared.extents.Extent.{Extent}
 use Rattle.volume_header.specs.Header.{header_of, FitsHeader}
 use Rattle.volume_header.proofs.ReadBack.{header_of-header_bytes}
-use Rattle.hfs_model.specs.Thin.{one_run}
+use Rattle.hfs_model.specs.Fresh.{one_run}
 use Rattle.volume_make.specs.Refusal.{is_block_size}
 use Rattle.volume_make.specs.Layout.{CanBe, layout_of}
 use Rattle.volume_make.specs.Texts.{special_fork, fresh_header, header_text}

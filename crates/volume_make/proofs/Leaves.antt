@@ -12,7 +12,7 @@ use Rattle.hx_bytes.specs.declared.fields.Order.TheVariants.{Big}
 use Rattle.hx_bytes.proofs.Laws.{length-number_bytes}
 use Rattle.cat_records.specs.Records.{entry_bytes}
 use Rattle.cat_records.specs.Keys.{catalog_key_bytes}
-use Rattle.hfs_model.specs.Thin.{catalog_item, new_entry, new_folder, new_thread, no_fork, one_run, journal_threads}
+use Rattle.hfs_model.specs.Fresh.{catalog_item, new_entry, new_folder, new_thread, no_fork, one_run, journal_threads}
 use Rattle.hfs_model.proofs.Lengths.{length-units_bytes, length-thread}
 use Rattle.volume_make.specs.declared.layout.Layout.{Layout}
 use Rattle.volume_make.specs.Refusal.{is_name}

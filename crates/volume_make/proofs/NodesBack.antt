@@ -7,7 +7,7 @@ use Rattle.btree_node.specs.Codec.{IsPacked, IsHeaderOf, FitsNodeHead, FitsTreeH
 use Rattle.btree_node.specs.declared.codec.TreeHeader.{TreeHeader}
 use Rattle.btree_node.proofs.Printing.{node_over_is, header_items_room}
 use Rattle.btree_node.proofs.ReadingBack.{reads_back, header_reads_back}
-use Rattle.hfs_model.specs.Thin.{empty_tree, catalog_tree}
+use Rattle.hfs_model.specs.Fresh.{empty_tree, catalog_tree}
 use Rattle.volume_make.specs.declared.layout.Layout.{Layout}
 use Rattle.volume_make.specs.Refusal.{is_name}
 use Rattle.volume_make.specs.Texts.{header_node, catalog_text, leaf_text, leaf_items}

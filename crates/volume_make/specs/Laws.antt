@@ -1,5 +1,5 @@
 -- The places worked out for some sizes, and what a reader finds in the texts.
-use Rattle.std.specs.Prelude.{◌≡◌, ℕ, ◌*◌, List, [], ◌∷◌, take, drop, codes, IsTrue, false, None, Ok}
+use Rattle.std.specs.Prelude.{◌≡◌, ℕ, ◌*◌, List, [], ◌∷◌, take, drop, IsTrue, false, None, Ok}
 use Rattle.hx_bytes.specs.declared.extents.Extent.{Extent}
 use Rattle.hx_bytes.specs.declared.fields.Order.TheVariants.{Little}
 use Rattle.jnl_format.specs.declared.structures.Info.{Info}
@@ -8,7 +8,7 @@ use Rattle.jnl_format.specs.Info.{info_of, info_fault}
 use Rattle.jnl_format.specs.Header.{header_read}
 use Rattle.volume_header.specs.Header.{header_of}
 use Rattle.volume_header.specs.Refusal.{header_refusal}
-use Rattle.hfs_model.specs.Thin as thin
+use Rattle.hfs_model.specs.Fresh.{empty_tree, catalog_tree}
 use Rattle.volume_make.specs.declared.layout.Layout.{Layout}
 use Rattle.flag_rows.specs.Bitmap.{is_marked, nowhere}
 use Rattle.btree_node.specs.Codec.{HeaderReadsBack, ReadsBack, leaf_head}
@@ -37,16 +37,6 @@ pub record IsWorked (sectors block length : ℕ) (parts : List Extent) (blocks :
 abbrev pub HeaderAccepted : Type 0
 HeaderAccepted = (sectors block length : ℕ) → CanBe sectors block length → header_refusal (fresh_header (layout_of sectors block length)) sectors ≡ None
 
--- With 16,384 sectors, blocks of 4,096 bytes, a journal of 2,048 sectors and the name `untitled` the records, the trees and the
--- journal are those of the thin volume.
-pub record IsThinVolume (layout : Layout) : Type 0 where
-  pub info : info_text layout ≡ thin.info_text
-  pub journal : journal_text layout ≡ thin.journal_text 512 512
-  pub extents : thin.empty_tree layout.block 10 2 ≡ thin.extents_tree
-  pub attributes : thin.empty_tree layout.block 266 6 ≡ thin.attributes_tree
-  pub catalog : thin.catalog_tree layout.block 0 ≡ thin.catalog_tree 4096 0
-  pub leaf : leaf_items layout (codes "untitled") ≡ thin.leaf_items []
-
 -- the fields of the journal info block, and the journal's header
 abbrev pub fresh_info : Layout → Info
 fresh_info layout = record { flags = 1; offset = layout.journal.start * layout.block; size = layout.journal.count * layout.block }
@@ -72,9 +62,9 @@ HeaderReadBack = (sectors block length : ℕ) → CanBe sectors block length →
 -- The nodes of a volume that is made are read as they were made: of each tree the header node, with its header record and its map,
 -- and of the catalog the leaf, with its six records.
 pub record NodesReadBack (layout : Layout) (name : List ℕ) : Type 0 where
-  pub extents : HeaderReadsBack (extents_text layout) (thin.empty_tree layout.block 10 2) (is_marked 1 nowhere)
-  pub attributes : HeaderReadsBack (attributes_text layout) (thin.empty_tree layout.block 266 6) (is_marked 1 nowhere)
-  pub catalog : HeaderReadsBack (take 4096 (catalog_text layout name)) (thin.catalog_tree layout.block 0) (is_marked 2 nowhere)
+  pub extents : HeaderReadsBack (extents_text layout) (empty_tree layout.block 10 2) (is_marked 1 nowhere)
+  pub attributes : HeaderReadsBack (attributes_text layout) (empty_tree layout.block 266 6) (is_marked 1 nowhere)
+  pub catalog : HeaderReadsBack (take 4096 (catalog_text layout name)) (catalog_tree layout.block 0) (is_marked 2 nowhere)
   pub leaf : ReadsBack (drop 4096 (catalog_text layout name)) leaf_head (leaf_items layout name)
 
 -- so they are with every layout and name

@@ -12,7 +12,7 @@ use Rattle.cat_records.specs.declared.record.CatRecord.TheVariants.{File}
 use Rattle.btree_node.specs.declared.codec.TreeHeader.{TreeHeader}
 use Rattle.flag_rows.specs.Bitmap.{is_marked, nowhere, bits_bytes}
 use Rattle.btree_node.specs.Codec.{node_over, header_head, leaf_head, header_items}
-use Rattle.hfs_model.specs.Thin.{one_run, no_fork, empty_tree, catalog_tree, new_entry, new_folder, new_thread, catalog_item, journal_threads}
+use Rattle.hfs_model.specs.Fresh.{one_run, no_fork, empty_tree, catalog_tree, new_entry, new_folder, new_thread, catalog_item, journal_threads}
 use Rattle.volume_make.specs.declared.layout.Layout.{Layout}
 use Rattle.volume_make.specs.Layout.{end_of, free_of, is_used}
 

@@ -1,7 +1,6 @@
 //! Laws of the layout, each as a function without a body.
 ghost use Rattle.std.specs.Prelude.{[], ◌∷◌};
-ghost use Rattle.volume_make.specs.Layout.{layout_of};
-ghost use Rattle.volume_make.specs.Laws.{run, IsWorked, HeaderAccepted, HeaderReadBack, IsThinVolume, JournalsFound, NodesAreReadBack};
+ghost use Rattle.volume_make.specs.Laws.{run, IsWorked, HeaderAccepted, HeaderReadBack, JournalsFound, NodesAreReadBack};
 
 /// The parts of some volumes, in blocks: each with its first one and their number, from the bitmap to the catalog, then the last
 /// blocks; then the number of blocks, the first free one, and the number of free ones. The sizes are the least and the greatest
@@ -20,11 +19,6 @@ pub fn places_are_worked()
 pub fn fresh_header_is_accepted()
     ensures accepted { HeaderAccepted }
     ensures read_back { HeaderReadBack }
-{}
-
-/// The usual volume of 16,384 sectors is the thin one.
-pub fn usual_volume_is_thin()
-    ensures { IsThinVolume (layout_of 16384 4096 2048) }
 {}
 
 /// The journal of a volume that is made is found by a reader, and is empty.

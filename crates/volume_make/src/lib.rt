@@ -16,7 +16,6 @@ pub use formatting::format;
 pub use hfs_volume::Summary;
 pub use laws::{
     fresh_header_is_accepted, fresh_journal_is_found, fresh_nodes_are_read_back, places_are_worked,
-    usual_volume_is_thin,
 };
 pub use layout::{Layout, layout_of};
 pub use refusing::format_refusal;

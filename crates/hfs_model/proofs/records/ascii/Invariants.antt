@@ -1,5 +1,5 @@
 use Rattle.std.proofs.Common.{◌≡◌, take}
-use Rattle.hfs_model.proofs.leaf.ascii.Given as goal
+use Rattle.hfs_model.proofs.records.ascii.Given as goal
 
 abbrev pub invariant-loop-byte : goal.invariant-loop-byte
 invariant-loop-byte l = l.units.items ≡ take l.byte-index l.byte-items
