@@ -5,7 +5,7 @@ ghost use Rattle.jnl_store.specs.Store.{plan_of};
 
 use crate::volume::{PLACE, SECTORS};
 use hx_bytes::OutOfMemory;
-use jnl_replay::{replay, validate};
+use jnl_replay::{Plan, replay, validate};
 use jnl_store::{Space, Store};
 use sector_disk::{SectorDisk, SectorSpace, SectorView};
 use std::alloc::Global;
@@ -38,8 +38,16 @@ impl Mounted {
             Ok(()) => {}
             Err(_) => return Ok(None),
         }
-        let store = Store::attach(alloc, &plan, slots)?;
-        Ok(Some(Mounted { store }))
+        let mounted = Mounted::attach(alloc, &plan, slots)?;
+        Ok(Some(mounted))
+    }
+
+    // The store of a volume whose journal was replayed.
+    fn attach(alloc: Global, plan: &Plan, slots: u32) -> Result<Mounted, OutOfMemory>
+        requires { FitsPlan 524288 plan.now }
+    {
+        let store = Store::attach(alloc, plan, slots)?;
+        Ok(Mounted { store })
     }
 
     /// Begins a transaction that puts so many sectors.
