@@ -8,6 +8,9 @@ import struct
 
 PRIVATE = "\0\0\0\0HFS+ Private Data"
 
+# The eight bits of each byte, the highest first, a byte for each.
+BITS = [bytes(byte >> (7 - place) & 1 for place in range(8)) for byte in range(256)]
+
 
 class Broken(Exception):
     """A rule that doesn't hold, as text."""
@@ -213,7 +216,7 @@ class Reading:
             else:
                 named = entries
                 level = [number(it, len(key_of(it)), 4) for it in entries]
-        used = {at for at in range(8 * len(bits)) if bits[at // 8] >> (7 - at % 8) & 1}
+        used = {8 * at + place for at, byte in enumerate(bits) if byte for place, bit in enumerate(BITS[byte]) if bit}
         want(used == reached | {0} | set(chain), 7, f"the map of {owner}")
         want(free + len(used) == total, 4, f"the free nodes of {owner}")
         return leaves
@@ -332,7 +335,7 @@ class Reading:
         bits = head.allocation.size * 8
         want(head.total <= bits, 3, "the length of the bitmap")
         data = self.fork_bytes(self.whole(6, 0, head.allocation), 0, min(head.allocation.size, len(self.image)))
-        found = bytearray(number >> (7 - bit) & 1 for number in data for bit in range(8))
+        found = b"".join(BITS[byte] for byte in data)
         found += bytes(max(0, head.total - len(found)))
         want(not any(found[head.total :]), 3, "bits behind those of blocks")
         want(found[: head.total] == marks, 13, "a bit of the bitmap")

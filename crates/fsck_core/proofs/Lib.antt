@@ -25,6 +25,7 @@ pub mod DecidedLaws
 pub mod SharedLaws
 pub mod LinkLaws
 pub mod ThreadLaws
+pub mod ThreadUnits
 pub mod AttributeLaws
 pub mod AllForkLaws
 pub mod Joining

@@ -1,7 +1,10 @@
 //! The threads of a catalog, which match its entries one to one (rule 9).
-ghost use Rattle.std.specs.Prelude.{◌≡◌, ◌↔◌, ◌⊎◌, ◌<◌, ◌≤◌, ◌+◌, ℕ, true, false, length, slice_set, Contains, Some, IsTrue, IfSome, IfOk, OnOk};
-ghost use Rattle.btree_node.specs.Keys.{catalog_units};
-ghost use Rattle.cat_records.specs.Records.{is_catalog};
+ghost use Rattle.std.specs.Prelude.{◌≡◌, ◌↔◌, ◌⊎◌, ◌<◌, ◌≤◌, ◌+◌, ◌*◌, ℕ, true, false, length, drop, slice_set, Contains, Some, IsTrue, IfSome, IfOk};
+ghost use Rattle.std.specs.Str.{bytes_eq};
+ghost use Rattle.hx_bytes.specs.Field.{big_at};
+ghost use Rattle.btree_node.specs.Keys.{units, catalog_units};
+ghost use Rattle.cat_records.specs.Records.{is_catalog, catalog_of, thread_of};
+ghost use Rattle.cat_records.specs.declared.record.CatRecord.TheVariants.{Thread};
 ghost use Rattle.fsck_list.specs.declared.finding.Finding.{Finding as Listed};
 ghost use Rattle.hfs_volume.specs.Broken.{IsFailed, FailsThread};
 ghost use Rattle.hfs_volume.specs.Entries.{AreSpelled, AreThreaded};
@@ -14,14 +17,19 @@ ghost use Rattle.fsck_core.specs.Threads.{placed_at, IsSplit, same_bit, is_threa
 use crate::decided::add_unless;
 use crate::kinds::{has_no_name, parent_of};
 use crate::listing::read_row;
-use crate::names::has_name;
 use crate::rows::Row;
 use crate::want::both;
-use cat_records::{CatRecord, read_catalog};
 use fsck_list::Findings;
 use fsck_scan::Pairs;
-use hx_bytes::OutOfMemory;
+use hx_bytes::{OutOfMemory, read_be16, read_be32};
 use std::alloc::Global;
+
+/// The types of records (TN1150, "Catalog Data Record Types").
+const FOLDER: u16 = 1;
+
+const FILE: u16 = 2;
+
+const FILE_THREAD: u16 = 4;
 
 /// How many pairs stand before the first whose parent isn't below this one, found by halves.
 fn pairs_below(pairs: &Pairs, parent: u32) -> usize
@@ -79,64 +87,85 @@ fn same_kind(one: bool, other: bool) -> bool
     if one { other } else { !other }
 }
 
-/// Whether a record is a thread that tells this row's place and kind, and the name in its key.
-fn tells(rec: &CatRecord, row: Row, key: &[u8]) -> bool
-    ensures { result ≡ is_thread_of rec.now row (catalog_units key.now) }
+/// Whether the units from one place of some bytes on are those from a place of others on.
+fn same_units(one: &[u8], from: usize, other: &[u8], there: usize) -> bool
+    requires from { from ≤ 16 }
+    requires there { there ≤ 16 }
+    ensures { result ≡ bytes_eq (units (drop from one.now)) (units (drop there other.now)) }
 {
-    match rec {
-        CatRecord::Thread(thread) => {
-            thread.parent == row.parent
-                && same_kind(thread.of_file, row.file)
-                && has_name(key, thread.name.as_slice())
+    let mut at = from;
+    let mut place = there;
+    while at + 2 <= one.len() {
+        if place + 2 > other.len() {
+            return false;
         }
-        _ => false,
+        if read_be16(one, at) != read_be16(other, place) {
+            return false;
+        }
+        at += 2;
+        place += 2;
     }
+    place + 2 > other.len()
+}
+
+/// Whether a thread tells this row's place and kind, and the name in its key. Both names are read where they stand.
+fn tells_place(value: &[u8], row: Row, key: &[u8]) -> bool
+    requires { 10 ≤ length value.now }
+    ensures { length value.now ≡ 10 + 2 * big_at 2 value.now 8 → result ≡ is_thread_of (Thread (thread_of value.now)) row (catalog_units key.now) }
+{
+    if read_be32(value, 4) != row.parent {
+        return false;
+    }
+    if !same_kind(read_be16(value, 0) == FILE_THREAD, row.file) {
+        return false;
+    }
+    same_units(key, 8, value, 10)
+}
+
+/// Whether a record is a thread that tells this row's place and kind, and the name in its key.
+fn tells(value: &[u8], row: Row, key: &[u8]) -> bool
+    requires { IsTrue (is_catalog value.now) }
+    ensures { result ≡ is_thread_of (catalog_of value.now) row (catalog_units key.now) }
+{
+    let kind = read_be16(value, 0);
+    if kind == FOLDER {
+        return false;
+    }
+    if kind == FILE {
+        return false;
+    }
+    tells_place(value, row, key)
 }
 
 /// Whether a pair is the thread of a row with this key.
-fn is_its_thread(
-    alloc: Global,
-    row: Row,
-    key: &[u8],
-    other: &[u8],
-    value: &[u8],
-) -> Result<bool, OutOfMemory>
+fn is_its_thread(row: Row, key: &[u8], other: &[u8], value: &[u8]) -> bool
     requires { IsTrue (is_catalog value.now) }
-    ensures { 8 ≤ length other.now → IfOk result (λ is. IsTrue is ↔ IsItsThread row (catalog_units key.now) (placed_of (other.now, value.now))) }
+    ensures { 8 ≤ length other.now → IsTrue result ↔ IsItsThread row (catalog_units key.now) (placed_of (other.now, value.now)) }
 {
     if parent_of(other) != row.id {
-        return Ok(false);
+        return false;
     }
     if !has_no_name(other) {
-        return Ok(false);
+        return false;
     }
-    let Ok(rec) = read_catalog(alloc, value) else {
-        return Err(OutOfMemory);
-    };
-    Ok(tells(&rec, row, key))
+    tells(value, row, key)
 }
 
 /// The place of the thread of a row with this key, if it has one. It is looked for at one place first.
-fn find_thread(
-    alloc: Global,
-    pairs: &Pairs,
-    row: Row,
-    key: &[u8],
-    near: usize,
-) -> Result<Option<usize>, OutOfMemory>
+fn find_thread(pairs: &Pairs, row: Row, key: &[u8], near: usize) -> Option<usize>
     requires { AreSpelled pairs.now }
-    ensures inside { IfOk result (λ found. IfSome found (λ at. at < length pairs.now)) }
-    ensures is { IsCatalog pairs.now → IfOk result (λ found. (at : ℕ) → found ≡ Some at ↔ IsThreadAt pairs.now row (catalog_units key.now) at) }
+    ensures inside { IfSome result (λ at. at < length pairs.now) }
+    ensures is { IsCatalog pairs.now → (at : ℕ) → result ≡ Some at ↔ IsThreadAt pairs.now row (catalog_units key.now) at }
 {
     let at = pairs_before(pairs, row.id, near);
     if at >= pairs.len() {
-        return Ok(None);
+        return None;
     }
-    let its = is_its_thread(alloc, row, key, pairs.key(at), pairs.value(at))?;
+    let its = is_its_thread(row, key, pairs.key(at), pairs.value(at));
     if its {
-        return Ok(Some(at));
+        return Some(at);
     }
-    Ok(None)
+    None
 }
 
 fn mark(marks: &mut Vec<bool>, at: usize)
@@ -147,28 +176,22 @@ fn mark(marks: &mut Vec<bool>, at: usize)
 }
 
 /// Marks an entry and its thread, where it has one. Answers the place behind the thread, at which that of the next entry stands mostly.
-fn match_entry(
-    alloc: Global,
-    pairs: &Pairs,
-    at: usize,
-    near: usize,
-    marks: &mut Vec<bool>,
-) -> Result<usize, OutOfMemory>
+fn match_entry(pairs: &Pairs, at: usize, near: usize, marks: &mut Vec<bool>) -> usize
     requires spelled { AreSpelled pairs.now }
     requires inside { at < length pairs.now }
     requires long { length marks.old.items ≡ length pairs.now }
     ensures long { length marks.new.items ≡ length pairs.now }
-    ensures matched { IsCatalog pairs.now → AreMatched pairs.now marks.old.items at → OnOk result (AreMatched pairs.now marks.new.items (at + 1)) }
+    ensures matched { IsCatalog pairs.now → AreMatched pairs.now marks.old.items at → AreMatched pairs.now marks.new.items (at + 1) }
 {
     let Some(row) = read_row(pairs.key(at), pairs.value(at)) else {
-        return Ok(near);
+        return near;
     };
-    let Some(thread) = find_thread(alloc, pairs, row, pairs.key(at), near)? else {
-        return Ok(near);
+    let Some(thread) = find_thread(pairs, row, pairs.key(at), near) else {
+        return near;
     };
     mark(marks, at);
     mark(marks, thread);
-    Ok(thread.saturating_add(1))
+    thread.saturating_add(1)
 }
 
 /// Which entries have a thread, and which threads an entry.
@@ -180,7 +203,7 @@ fn match_pairs(alloc: Global, pairs: &Pairs) -> Result<Vec<bool>, OutOfMemory>
     let mut marks = vec![in alloc; false; pairs.len()]?;
     let mut near = 0;
     for at in 0..pairs.len() {
-        near = match_entry(alloc, pairs, at, near, &mut marks)?;
+        near = match_entry(pairs, at, near, &mut marks);
     }
     Ok(marks)
 }

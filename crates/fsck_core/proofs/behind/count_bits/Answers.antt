@@ -1,5 +1,4 @@
-use Rattle.std.proofs.Common.{◌≡◌, ◌<◌, ◌≤◌, ℕ, ◌+◌, ◌-◌, Bool, true, false, cond, List, sym, ◌∙◌, ap, arith}
-use Rattle.std.specs.List.{count_by, range_with_len}
+use Rattle.std.proofs.Common.{◌≡◌, ℕ, ◌+◌, true, false, sym, ◌∙◌, arith}
 use Rattle.flag_rows.specs.Bits.{bit_of}
 use Rattle.fsck_core.proofs.BehindLaws.{bit_more}
 use Rattle.fsck_core.proofs.behind.count_bits.Goals.{then-bit, else-bit}

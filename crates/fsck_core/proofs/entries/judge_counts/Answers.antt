@@ -1,9 +1,6 @@
-use Rattle.std.proofs.Common.{◌≡◌, ◌-◌, List, [], ◌∷◌, ◌∙◌, ap}
+use Rattle.std.proofs.Common.{◌-◌, List, [], ◌∷◌, ◌∙◌, ap}
 use Rattle.std.specs.List.{count_by}
 use Rattle.hfs_volume.specs.Broken.{count_wants}
-use Rattle.hfs_volume.specs.Records.{Placed}
-use Rattle.fsck_core.specs.Wants.{wants_in}
-use Rattle.fsck_core.specs.Rows.{rows_of}
 use Rattle.fsck_core.specs.declared.rows.Row.{Row}
 use Rattle.fsck_core.specs.declared.want.Want.{Want}
 use Rattle.fsck_core.proofs.JudgedLaws.{ok_judged, adds_as}

@@ -1,10 +1,9 @@
-use Rattle.std.proofs.Common.{◌≡◌, ◌<◌, ◌≤◌, ℕ, List, length, subst, sym, ap, arith, ◌∙◌}
+use Rattle.std.proofs.Common.{List, subst, ap, arith, ◌∙◌}
 use Rattle.std.specs.List.{flat_map}
 use Rattle.hfs_volume.specs.Broken as broken
 use Rattle.hfs_volume.specs.Broken.{id_wants}
 use Rattle.fsck_core.specs.Judged.{Judged, AddsUnmet}
-use Rattle.fsck_core.specs.Rows.{rows_of, no_row, given_id}
-use Rattle.fsck_core.specs.declared.rows.Row.{Row}
+use Rattle.fsck_core.specs.Rows.{no_row, given_id}
 use Rattle.fsck_core.proofs.JudgedLaws.{judged_none, judged_more, judged_all, judged_as, adds_more, adds_of}
 use Rattle.fsck_core.proofs.RowLaws.{ids_are, given_wants, given_stands, others_met}
 use Rattle.fsck_core.proofs.entries.judge_ids.Goals as goal

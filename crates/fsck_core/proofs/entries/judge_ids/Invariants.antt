@@ -2,7 +2,6 @@ use Rattle.std.proofs.Common.{take}
 use Rattle.std.specs.List.{flat_map}
 use Rattle.fsck_core.specs.Judged.{Judged}
 use Rattle.fsck_core.specs.Rows.{given_id}
-use Rattle.fsck_core.specs.declared.rows.Row.{Row}
 use Rattle.fsck_core.proofs.entries.judge_ids.Given as goal
 
 abbrev pub invariant-loop-row : goal.invariant-loop-row

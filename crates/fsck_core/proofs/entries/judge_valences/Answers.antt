@@ -1,10 +1,9 @@
-use Rattle.std.proofs.Common.{◌≡◌, ◌<◌, ◌≤◌, ℕ, List, length, subst, sym, ap, arith}
+use Rattle.std.proofs.Common.{◌≡◌, List, subst, sym, arith}
 use Rattle.std.specs.List.{flat_map}
-use Rattle.std.specs.List.Sorted.{IsNonDecreasingBy}
 use Rattle.hfs_volume.specs.Broken as broken
 use Rattle.hfs_volume.specs.Broken.{valence_wants}
 use Rattle.fsck_core.specs.Judged.{Judged, AddsUnmet}
-use Rattle.fsck_core.specs.Rows.{rows_of, row_at, no_row, valence_of}
+use Rattle.fsck_core.specs.Rows.{rows_of, no_row, valence_of}
 use Rattle.fsck_core.specs.declared.rows.Row.{Row}
 use Rattle.fsck_core.proofs.JudgedLaws.{judged_none, judged_more, judged_all, adds_more}
 use Rattle.fsck_core.proofs.RowLaws.{valences_are}

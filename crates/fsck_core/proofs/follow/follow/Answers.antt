@@ -1,5 +1,4 @@
-use Rattle.std.proofs.Common.{◌≡◌, ◌<◌, ◌≤◌, ℕ, ◌+◌, List, drop, length, sym, ◌∙◌, ap, arith}
-use Rattle.std.specs.Prelude.{Option, Some, None}
+use Rattle.std.proofs.Common.{◌+◌, drop, sym, ◌∙◌, ap}
 use Rattle.fsck_core.specs.Owners.{follow}
 use Rattle.fsck_core.proofs.OwnerLaws.{follow_none, follow_more}
 use Rattle.fsck_core.proofs.follow.follow.Goals as goal

@@ -1,4 +1,3 @@
-use Rattle.std.proofs.Common.{◌≡◌, ℕ, List, sym, ◌∙◌, arith}
 use Rattle.std.proofs.lemmas.Bool.{eq-eqb, ne_eqb}
 use Rattle.fsck_core.specs.Overflows.{overflows_in}
 use Rattle.fsck_core.specs.Owners.{owned_in}

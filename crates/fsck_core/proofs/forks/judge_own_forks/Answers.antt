@@ -1,22 +1,8 @@
-use Rattle.std.proofs.Common.{◌≡◌, ◌<◌, ◌≤◌, ℕ, ◌+◌, ◌*◌, ◌++◌, Bool, true, false, not, ◌==◌, min, List, [], ◌∷◌, length, get_or, take, refl, sym, ◌∙◌, ap, subst, arith, if◌then◌else◌}
-use Rattle.std.specs.Prelude.{All, Contains, IfOk}
-use Rattle.std.specs.List.{flat_map}
-use Rattle.std.proofs.lemmas.Bool.{eq-eqb, ne_eqb}
-use Rattle.std.proofs.lemmas.List.Elements.{Contains-append_left, Contains-append_right}
-use Rattle.hx_bytes.specs.declared.extents.Extent.{Extent}
-use Rattle.hfs_volume.specs.Broken.{Want, want, extent_wants, fork_wants, overflow_wants}
-use Rattle.hfs_volume.specs.Forks.{blocks_owned}
-use Rattle.hfs_volume.specs.Blocks.{GoesOn, forks_of}
-use Rattle.hfs_volume.specs.Content.{VolumeState, overflow_in_volume}
-use Rattle.fsck_core.specs.Judged.{Judged, AddsUnmet}
+use Rattle.std.proofs.Common.{[], arith}
 use Rattle.fsck_core.specs.Overflows.{overflows_in}
-use Rattle.fsck_core.specs.Owners.{owned_in, owned_all, extent_want, number_wants, own_wants, row_wants}
-use Rattle.fsck_core.specs.Wants.{wants_in}
-use Rattle.fsck_core.specs.declared.want.Want.{Want as Number}
+use Rattle.fsck_core.specs.Owners.{owned_in, own_wants}
 use Rattle.fsck_core.specs.declared.follow.OwnedFork.{OwnedFork}
-use Rattle.fsck_core.specs.declared.overflow.OverflowRow.{OverflowRow}
-use Rattle.fsck_core.proofs.JudgedLaws.{judged_none, judged_more, judged_all, judged_both, adds_more, adds_both, adds_of, ok_judged, adds_as}
-use Rattle.fsck_core.proofs.ForkWants.{extents_are, forks_are, each_goes_on, forks_tell}
+use Rattle.fsck_core.proofs.JudgedLaws.{judged_none, judged_more, judged_all, adds_more}
 use Rattle.fsck_core.proofs.forks.judge_own_forks.Goals as goal
 
 pub loop-owned-init : goal.loop-owned-init

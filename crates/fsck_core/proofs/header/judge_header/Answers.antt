@@ -1,12 +1,11 @@
-use Rattle.std.proofs.Common.{◌≡◌, ◌⊎◌, ◌↔◌, ◌-◌, ◌∙◌, min, ap, Bool, List, [], ◌∷◌, subst, sym}
+use Rattle.std.proofs.Common.{◌≡◌, ◌⊎◌, ◌↔◌, ◌-◌, ◌∙◌, min, ap, List, [], ◌∷◌, subst}
 use Rattle.std.specs.Prelude.{IsTrue, IfOk, Contains}
 use Rattle.fsck_list.specs.declared.finding.Finding.{Finding}
 use Rattle.fsck_list.specs.Kept.{IsListed}
-use Rattle.hfs_volume.specs.Blocks.{IsGoodHeader, AgreesWith}
+use Rattle.hfs_volume.specs.Blocks.{IsGoodHeader}
 use Rattle.hfs_volume.specs.Broken.{AllMet, IsUnmet, want, header_wants, alternate_wants}
 use Rattle.hfs_volume.specs.Broken as broken
 use Rattle.hfs_volume.proofs.HeaderWants.{header_holds, header_met}
-use Rattle.hfs_volume.proofs.BlockWants.{alternate_holds, alternate_met}
 use Rattle.fsck_core.specs.Wants.{as_found, wants_in}
 use Rattle.fsck_core.specs.declared.want.Want.{Want}
 use Rattle.fsck_core.proofs.WantLaws.{ok_map, told_by}

@@ -1,4 +1,4 @@
-use Rattle.std.proofs.Common.{◌≡◌, ◌==◌, ◌||◌, not, ◌∙◌, ap}
+use Rattle.std.proofs.Common.{◌==◌, ◌||◌, not, ◌∙◌, ap}
 use Rattle.fsck_core.proofs.KindLaws.{kind_of_type}
 use Rattle.fsck_core.proofs.kinds.is_thread_record.Goals as goal
 

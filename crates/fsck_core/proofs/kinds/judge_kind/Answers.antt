@@ -1,11 +1,6 @@
-use Rattle.std.proofs.Common.{◌≡◌, ◌⊎◌, ℕ, List, [], ◌∷◌, inl, inr, refl, sym, ◌∙◌, ap, subst, true, false, T}
-use Rattle.std.specs.Prelude.{Contains, IsTrue}
-use Rattle.btree_node.specs.Keys.{catalog_parent}
+use Rattle.std.proofs.Common.{[], ◌∷◌, refl, sym, ◌∙◌, subst, T}
 use Rattle.hfs_volume.specs.Broken.{IsFailed, FailsKind}
 use Rattle.hfs_volume.specs.Broken as broken
-use Rattle.fsck_list.specs.declared.finding.Finding.{Finding}
-use Rattle.fsck_core.specs.Wants.{as_found}
-use Rattle.fsck_core.specs.Kinds.{IsOfKind}
 use Rattle.fsck_scan.proofs.TreeLaws.{one_more}
 use Rattle.fsck_core.proofs.KindLaws.{kind_fails, still_some}
 use Rattle.fsck_core.proofs.kinds.judge_kind.Goals as goal

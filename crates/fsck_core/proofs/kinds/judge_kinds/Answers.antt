@@ -1,9 +1,6 @@
-use Rattle.std.proofs.Common.{◌≡◌, ◌⊎◌, ◌<◌, ◌≤◌, ◌↔◌, ℕ, true, false, List, [], ◌∷◌, length, inl, inr, subst, sym, arith, ⊎_elim, T}
-use Rattle.std.specs.Prelude.{All, Contains, IsTrue}
+use Rattle.std.proofs.Common.{◌↔◌, ℕ, List, inl, subst, arith, T}
+use Rattle.std.specs.Prelude.{IsTrue}
 use Rattle.btree_node.specs.Levels.{Pair}
-use Rattle.hfs_volume.specs.Broken.{IsFailed, FailsKind}
-use Rattle.fsck_list.specs.declared.finding.Finding.{Finding}
-use Rattle.fsck_core.specs.Wants.{as_found}
 use Rattle.fsck_core.specs.Kinds.{IsOfKind}
 use Rattle.fsck_core.proofs.KindLaws.{pair_at, kinds_more, kind_missed, found_more, kinds_tell, each_kind}
 use Rattle.fsck_core.proofs.kinds.judge_kinds.Goals as goal

@@ -1,4 +1,4 @@
-use Rattle.std.proofs.Common.{◌≡◌, ◌⊎◌, ◌<◌, ◌≤◌, ℕ, false, length, inl, inr}
+use Rattle.std.proofs.Common.{◌≡◌, ◌⊎◌, ◌<◌, ◌≤◌, ℕ, false, length}
 use Rattle.std.specs.Prelude.{All, IsTrue, Contains}
 use Rattle.btree_node.specs.Levels.{Pair}
 use Rattle.fsck_list.specs.declared.finding.Finding.{Finding}

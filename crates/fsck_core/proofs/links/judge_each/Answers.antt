@@ -1,4 +1,4 @@
-use Rattle.std.proofs.Common.{◌≡◌, ◌<◌, ◌≤◌, ◌+◌, ℕ, Bool, List, length, refl, arith}
+use Rattle.std.proofs.Common.{ℕ, List, length, refl, arith}
 use Rattle.fsck_core.specs.Rows.{row_at}
 use Rattle.fsck_core.specs.Links.{fine_at}
 use Rattle.fsck_core.specs.declared.rows.Row.{Row}

@@ -1,4 +1,4 @@
-use Rattle.std.proofs.Common.{◌≡◌, ◌≤◌, ℕ, length}
+use Rattle.std.proofs.Common.{◌≤◌, length}
 use Rattle.std.specs.List.Sorted.{IsNonDecreasing}
 use Rattle.fsck_core.specs.Decided.{Decided, AllPass, IsMissed}
 use Rattle.fsck_core.specs.Rows.{row_at}

@@ -1,4 +1,4 @@
-use Rattle.std.proofs.Common.{◌≡◌, ◌<◌, ◌≤◌, ◌+◌, ℕ, if◌then◌else◌, sym, ◌∙◌, ap, arith}
+use Rattle.std.proofs.Common.{◌+◌, if◌then◌else◌, sym, ◌∙◌, ap, arith}
 use Rattle.std.proofs.lemmas.List.{take_all}
 use Rattle.fsck_core.specs.Rows.{no_row, row_at}
 use Rattle.fsck_core.specs.Links.{links_here, link_count}

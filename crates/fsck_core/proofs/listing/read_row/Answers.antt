@@ -1,4 +1,4 @@
-use Rattle.std.proofs.Common.{true, false, refl, sym, ◌∙◌}
+use Rattle.std.proofs.Common.{refl, sym, ◌∙◌}
 use Rattle.cat_records.specs.Records.{catalog_of}
 use Rattle.fsck_core.proofs.ListingLaws.{no_row_in, row_is}
 use Rattle.fsck_core.proofs.listing.read_row.Goals as goal

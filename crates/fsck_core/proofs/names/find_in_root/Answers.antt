@@ -1,4 +1,4 @@
-use Rattle.std.proofs.Common.{◌≡◌, ◌<◌, ◌≤◌, ℕ, List, [], length, sym, ◌∙◌, subst, arith}
+use Rattle.std.proofs.Common.{◌<◌, ◌≤◌, ℕ, List, [], length, sym, ◌∙◌, subst, arith}
 use Rattle.btree_node.specs.Levels.{Pair}
 use Rattle.fsck_core.proofs.NameLaws.{stands_here, none_more, root_found, root_none}
 use Rattle.fsck_core.proofs.names.find_in_root.Goals as goal

@@ -1,4 +1,4 @@
-use Rattle.std.proofs.Common.{◌≡◌, ◌<◌, ◌≤◌, ◌+◌, ℕ, List, get_or, refl, sym, ◌∙◌, arith}
+use Rattle.std.proofs.Common.{get_or, refl, sym, ◌∙◌, arith}
 use Rattle.fsck_core.proofs.NameLaws.{unit_same, unit_differs, key_ends, name_ends}
 use Rattle.fsck_core.proofs.names.has_name.Goals as goal
 

@@ -1,4 +1,4 @@
-use Rattle.std.proofs.Common.{◌≡◌, ◌≤◌, ◌+◌, ◌*◌, length, drop}
+use Rattle.std.proofs.Common.{◌≡◌, ◌≤◌, ◌+◌, length, drop}
 use Rattle.std.specs.Str.{bytes_eq}
 use Rattle.btree_node.specs.Keys.{units}
 use Rattle.fsck_core.proofs.names.has_name.Given as goal

@@ -1,6 +1,5 @@
-use Rattle.std.proofs.Common.{◌≡◌, ◌≤◌, ◌<◌, ◌+◌, ◌++◌, ◌∷◌, [], length, drop, sym, ◌∙◌, ap, arith, append_assoc}
+use Rattle.std.proofs.Common.{◌+◌, ◌++◌, ◌∷◌, [], drop, sym, ◌∙◌, ap, arith, append_assoc}
 use Rattle.std.proofs.lemmas.List.{append-nil}
-use Rattle.hx_bytes.specs.Field.{big_at}
 use Rattle.btree_node.specs.Keys.{units}
 use Rattle.btree_node.proofs.Units.{units_at, units_end}
 use Rattle.fsck_core.proofs.names.key_units.Goals as goal

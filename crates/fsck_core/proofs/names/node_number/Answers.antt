@@ -1,4 +1,4 @@
-use Rattle.std.proofs.Common.{◌≡◌, sym, ◌∙◌}
+use Rattle.std.proofs.Common.{sym, ◌∙◌}
 use Rattle.std.proofs.lemmas.Bool.{true≢false}
 use Rattle.btree_node.specs.Keys.{catalog_units}
 use Rattle.fsck_core.proofs.NameLaws.{node_is, digits_are}

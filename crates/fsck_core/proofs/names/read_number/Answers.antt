@@ -1,4 +1,4 @@
-use Rattle.std.proofs.Common.{◌≡◌, ◌≤◌, ◌+◌, ◌-◌, ◌*◌, ℕ, min, get_or, ap, ◌∙◌, arith}
+use Rattle.std.proofs.Common.{◌+◌, min, ◌∙◌, arith}
 use Rattle.fsck_core.proofs.NameLaws.{digit_more, number_read}
 use Rattle.fsck_core.proofs.names.read_number.Goals as goal
 

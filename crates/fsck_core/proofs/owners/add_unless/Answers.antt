@@ -1,6 +1,5 @@
-use Rattle.std.proofs.Common.{◌≡◌, ◌⊎◌, false, List, inl, inr, ⊎_elim}
+use Rattle.std.proofs.Common.{◌≡◌, inl, inr, ⊎_elim}
 use Rattle.std.specs.Prelude.{Contains}
-use Rattle.fsck_list.specs.declared.finding.Finding.{Finding}
 use Rattle.fsck_core.proofs.KindLaws.{still_some}
 use Rattle.fsck_core.proofs.owners.add_unless.Goals as goal
 

@@ -1,4 +1,4 @@
-use Rattle.std.proofs.Common.{◌≡◌, ◌<◌, ◌≤◌, ◌+◌, ℕ, [], get_or, if◌then◌else◌, sym, ◌∙◌, ap, arith}
+use Rattle.std.proofs.Common.{◌+◌, [], get_or, if◌then◌else◌, sym, ◌∙◌, ap, arith}
 use Rattle.std.specs.List.{count_by}
 use Rattle.std.proofs.lemmas.List.{take_all}
 use Rattle.fsck_core.specs.Owned.{takes_id}

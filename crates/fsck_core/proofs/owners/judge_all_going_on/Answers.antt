@@ -1,16 +1,10 @@
-use Rattle.std.proofs.Common.{◌≡◌, ◌<◌, ◌≤◌, ℕ, ◌+◌, Bool, true, false, List, [], ◌∷◌, length, map, get_or, take, inl, inr, refl, sym, ◌∙◌, ap, subst, arith}
-use Rattle.std.specs.Prelude.{All, Contains, IfOk}
-use Rattle.fork_map.specs.Blocks.{blocks_of}
-use Rattle.hfs_volume.specs.Forks.{Owned, blocks_owned, bad_blocks_id}
-use Rattle.hfs_volume.specs.Records.{Overflow}
-use Rattle.hfs_volume.specs.Blocks.{GoOn, GoesOn, GoOnBad, HasFork}
-use Rattle.fsck_core.specs.Overflows.{overflow_in, overflows_in}
+use Rattle.std.proofs.Common.{[], arith}
+use Rattle.hfs_volume.specs.Forks.{Owned}
+use Rattle.hfs_volume.specs.Blocks.{GoesOn}
+use Rattle.fsck_core.specs.Overflows.{overflows_in}
 use Rattle.fsck_core.specs.Owners.{owned_in, owned_all}
-use Rattle.fsck_core.specs.Owned.{FailsIn, AddsFailed, Tested}
-use Rattle.fsck_core.specs.declared.follow.OwnedFork.{OwnedFork}
-use Rattle.fsck_core.specs.declared.overflow.OverflowRow.{OverflowRow}
-use Rattle.fsck_core.proofs.OwnerLaws.{mine}
-use Rattle.fsck_core.proofs.TestedLaws.{adds_two, adds_of_test, tested_both, tested_test, tested_more, tested_begin, tested_all, stands_at, some_told, bad_told, both_told, owner_tells}
+use Rattle.fsck_core.specs.Owned.{FailsIn}
+use Rattle.fsck_core.proofs.TestedLaws.{adds_two, tested_more, tested_begin, tested_all, stands_at}
 use Rattle.fsck_core.proofs.owners.judge_all_going_on.Goals as goal
 
 pub loop-owned-init : goal.loop-owned-init

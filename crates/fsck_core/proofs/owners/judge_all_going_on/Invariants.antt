@@ -1,7 +1,7 @@
 use Rattle.std.proofs.Common.{map, take}
 use Rattle.std.specs.Prelude.{All}
-use Rattle.hfs_volume.specs.Blocks.{GoesOn, HasFork}
-use Rattle.fsck_core.specs.Overflows.{overflow_in, overflows_in}
+use Rattle.hfs_volume.specs.Blocks.{GoesOn}
+use Rattle.fsck_core.specs.Overflows.{overflows_in}
 use Rattle.fsck_core.specs.Owners.{owned_in, owned_all}
 use Rattle.fsck_core.specs.Owned.{FailsIn, Tested}
 use Rattle.fsck_core.proofs.owners.judge_all_going_on.Given as goal

@@ -1,8 +1,8 @@
 use Rattle.std.proofs.Common.{map, take}
 use Rattle.std.specs.Prelude.{All}
-use Rattle.hfs_volume.specs.Blocks.{GoesOn, HasFork}
+use Rattle.hfs_volume.specs.Blocks.{HasFork}
 use Rattle.fsck_core.specs.Overflows.{overflow_in, overflows_in}
-use Rattle.fsck_core.specs.Owners.{owned_in, owned_all}
+use Rattle.fsck_core.specs.Owners.{owned_all}
 use Rattle.fsck_core.specs.Owned.{FailsIn, Tested}
 use Rattle.fsck_core.proofs.owners.judge_owners.Given as goal
 

@@ -1,4 +1,4 @@
-use Rattle.std.proofs.Common.{◌≡◌, ◌<◌, ◌≤◌, ℕ, Bool, List, ◌++◌, length, set, true, subst, sym, ◌∙◌, arith}
+use Rattle.std.proofs.Common.{◌≡◌, ◌<◌, ℕ, Bool, List, ◌++◌, length, set, true, subst, sym, ◌∙◌, arith}
 use Rattle.fsck_core.specs.Rows.{row_at}
 use Rattle.fsck_core.specs.Parents.{IsBelow, folder_of, marked}
 use Rattle.fsck_core.specs.declared.rows.Row.{Row}

@@ -1,4 +1,4 @@
-use Rattle.std.proofs.Common.{◌≡◌, ◌<◌, ◌≤◌, ℕ, Bool, List, length, inl, subst, arith, T}
+use Rattle.std.proofs.Common.{ℕ, Bool, List, length, inl, subst, arith, T}
 use Rattle.fsck_core.specs.Rows.{row_at}
 use Rattle.fsck_core.specs.Parents.{is_reached, marked}
 use Rattle.fsck_core.specs.declared.rows.Row.{Row}

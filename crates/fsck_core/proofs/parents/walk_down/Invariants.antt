@@ -1,4 +1,4 @@
-use Rattle.std.proofs.Common.{◌≡◌, ◌≤◌, ◌<◌, ◌+◌, ◌-◌, length}
+use Rattle.std.proofs.Common.{◌≡◌, ◌≤◌, ◌+◌, ◌-◌, length}
 use Rattle.std.specs.List.Sorted.{IsNonDecreasingBy}
 use Rattle.flag_rows.specs.Bits.{count_set}
 use Rattle.fsck_core.specs.Parents.{IsWalking}

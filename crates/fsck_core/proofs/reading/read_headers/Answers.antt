@@ -1,4 +1,4 @@
-use Rattle.std.proofs.Common.{◌≡◌, ℕ, ◌-◌, IsTrue, length, sym, ◌∙◌}
+use Rattle.std.proofs.Common.{◌≡◌, ◌-◌, IsTrue, length, sym, ◌∙◌}
 use Rattle.sector_disk.specs.Space.{Space}
 use Rattle.jnl_format.specs.Recovery.{sector}
 use Rattle.volume_header.specs.Header.{header_of}

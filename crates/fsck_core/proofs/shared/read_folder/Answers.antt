@@ -1,7 +1,7 @@
 use Rattle.hfs_volume.specs.Links.{is_shared}
 use Rattle.hfs_volume.specs.Records.{placed_of}
 use Rattle.fsck_core.specs.Names.{pair_at, IsSharedAs, AreShared}
-use Rattle.std.proofs.Common.{◌≡◌, true, ◌<◌, ◌≤◌, ◌+◌, ℕ, IsTrue, List, [], length, sym, ◌∙◌, ap, subst, arith}
+use Rattle.std.proofs.Common.{◌≡◌, true, ◌<◌, ◌≤◌, ℕ, IsTrue, List, [], length, sym, subst, arith}
 use Rattle.std.specs.Prelude.{Some}
 use Rattle.btree_node.specs.Levels.{Pair}
 use Rattle.cat_records.specs.Records.{is_catalog}

@@ -1,4 +1,4 @@
-use Rattle.std.proofs.Common.{◌≡◌, sym, ◌∙◌, true, false}
+use Rattle.std.proofs.Common.{sym, ◌∙◌}
 use Rattle.fsck_core.proofs.SharedLaws.{other_folder, its_number, its_shared, some_shared}
 use Rattle.fsck_core.proofs.shared.shared_file.Goals as goal
 

@@ -1,14 +1,12 @@
-use Rattle.std.proofs.Common.{◌≡◌, ◌++◌, Bool, true, false, not, ◌==◌, List, [], ◌∷◌, refl, sym, ◌∙◌, ap, subst, if◌then◌else◌}
-use Rattle.std.specs.Prelude.{Contains, IfOk}
-use Rattle.std.proofs.lemmas.List.Elements.{Contains-append_left, Contains-append_right}
+use Rattle.std.proofs.Common.{◌≡◌, true, not, List, [], sym, ap, subst, if◌then◌else◌}
+use Rattle.std.specs.Prelude.{IfOk}
 use Rattle.std.proofs.lemmas.Bool.{eq-eqb, ne_eqb}
-use Rattle.jnl_format.specs.Recovery.{Content}
-use Rattle.hfs_volume.specs.Broken.{Want, size_wants, file_wants}
-use Rattle.hfs_volume.specs.Content.{facts_of, volume_of, extents_file, catalog_file, attributes_file}
-use Rattle.hfs_volume.specs.Forks.{extents_id, catalog_id, attributes_id}
-use Rattle.fsck_core.specs.Files.{attributes_wants, bitmap_wants}
+use Rattle.hfs_volume.specs.Broken.{Want, size_wants}
+use Rattle.hfs_volume.specs.Content.{facts_of}
+use Rattle.hfs_volume.specs.Forks.{attributes_id}
+use Rattle.fsck_core.specs.Files.{attributes_wants}
 use Rattle.fsck_core.specs.Judged.{Judged, AddsUnmet}
-use Rattle.fsck_core.proofs.JudgedLaws.{judged_none, judged_both, adds_both, adds_of}
+use Rattle.fsck_core.proofs.JudgedLaws.{judged_none}
 use Rattle.fsck_core.proofs.sizes.judge_attributes_size.Goals as goal
 
 pub returns-then-head-eq0-clause-judged : goal.returns-then-head-eq0-clause-judged

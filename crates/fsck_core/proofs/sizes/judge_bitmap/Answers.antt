@@ -1,4 +1,4 @@
-use Rattle.std.proofs.Common.{◌≡◌, ◌-◌, ◌+◌, ◌/◌, max, List, [], ◌∷◌, refl, sym, ◌∙◌, ap, arith}
+use Rattle.std.proofs.Common.{◌≡◌, ◌-◌, ◌+◌, ◌/◌, max, List, [], ◌∷◌, ◌∙◌, ap, arith}
 use Rattle.hfs_volume.specs.Broken.{want}
 use Rattle.hfs_volume.specs.Forks.{allocation_id, parts_for}
 use Rattle.fsck_core.specs.Wants.{wants_in}

@@ -1,13 +1,11 @@
-use Rattle.std.proofs.Common.{◌≡◌, ◌++◌, Bool, true, false, not, ◌==◌, List, [], ◌∷◌, refl, sym, ◌∙◌, ap, subst, if◌then◌else◌}
-use Rattle.std.specs.Prelude.{Contains}
+use Rattle.std.proofs.Common.{◌++◌, List, subst}
 use Rattle.std.proofs.lemmas.List.Elements.{Contains-append_left, Contains-append_right}
-use Rattle.jnl_format.specs.Recovery.{Content}
-use Rattle.hfs_volume.specs.Broken.{Want, size_wants, file_wants}
-use Rattle.hfs_volume.specs.Content.{facts_of, volume_of, extents_file, catalog_file, attributes_file}
-use Rattle.hfs_volume.specs.Forks.{extents_id, catalog_id, attributes_id}
+use Rattle.hfs_volume.specs.Broken.{Want, size_wants}
+use Rattle.hfs_volume.specs.Content.{facts_of, extents_file, catalog_file, attributes_file}
+use Rattle.hfs_volume.specs.Forks.{extents_id, catalog_id}
 use Rattle.fsck_core.specs.Files.{attributes_wants, bitmap_wants}
 use Rattle.fsck_core.specs.Judged.{Judged, AddsUnmet}
-use Rattle.fsck_core.proofs.JudgedLaws.{judged_none, judged_both, adds_both, adds_of}
+use Rattle.fsck_core.proofs.JudgedLaws.{judged_both, adds_both, adds_of}
 use Rattle.fsck_core.proofs.SizeLaws.{files_are}
 use Rattle.fsck_core.proofs.sizes.judge_files.Goals as goal
 

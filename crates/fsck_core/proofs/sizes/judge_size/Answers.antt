@@ -1,8 +1,6 @@
-use Rattle.std.proofs.Common.{◌≡◌, List, [], ◌∷◌}
+use Rattle.std.proofs.Common.{List, [], ◌∷◌}
 use Rattle.hfs_volume.specs.Broken.{size_wants}
-use Rattle.hfs_volume.specs.Broken as broken
 use Rattle.hfs_volume.specs.Content.{facts_of}
-use Rattle.fsck_core.specs.Wants.{wants_in}
 use Rattle.fsck_core.specs.declared.want.Want.{Want}
 use Rattle.fsck_core.proofs.JudgedLaws.{ok_judged, adds_as}
 use Rattle.fsck_core.proofs.SizeLaws.{sizes_are}

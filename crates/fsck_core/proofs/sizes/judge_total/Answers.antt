@@ -1,7 +1,5 @@
-use Rattle.std.proofs.Common.{◌≡◌, List, [], ◌∷◌}
+use Rattle.std.proofs.Common.{List, [], ◌∷◌}
 use Rattle.hfs_volume.specs.Broken.{total_wants}
-use Rattle.hfs_volume.specs.Broken as broken
-use Rattle.fsck_core.specs.Wants.{wants_in}
 use Rattle.fsck_core.specs.declared.want.Want.{Want}
 use Rattle.fsck_core.proofs.JudgedLaws.{ok_judged, adds_as}
 use Rattle.fsck_core.proofs.SizeLaws.{total_is}

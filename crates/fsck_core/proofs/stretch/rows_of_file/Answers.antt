@@ -1,4 +1,4 @@
-use Rattle.std.proofs.Common.{◌≤◌, refl, arith}
+use Rattle.std.proofs.Common.{refl, arith}
 use Rattle.fsck_core.proofs.StretchLaws.{stretch_keeps_all}
 use Rattle.fsck_core.proofs.stretch.rows_of_file.Goals as goal
 

@@ -1,4 +1,4 @@
-use Rattle.std.proofs.Common.{◌≡◌, ◌<◌, ℕ, List, length, sym, ◌∙◌, subst, arith, true, false}
+use Rattle.std.proofs.Common.{◌≡◌, ◌<◌, ℕ, List, length, sym, ◌∙◌, subst, arith}
 use Rattle.std.proofs.lemmas.Bool.{true≢false}
 use Rattle.btree_node.specs.Levels.{Pair}
 use Rattle.btree_node.specs.Keys.{catalog_units}
@@ -16,7 +16,7 @@ returns-then-its-clause-is c catalog at =
     let here : (c.key.result.now, c.value.result.now) ≡ pair_at pairs place = λ i. (c.key.ensures i, c.value.ensures i) in
     found_at pairs c.args.row (catalog_units c.args.key.now) place catalog.order (c.pairs_before-at.ensures.split catalog) (record {
       inside = inside;
-      is = subst (λ (p : Pair). IsItsThread c.args.row (catalog_units c.args.key.now) (placed_of p)) here ((c.in_ok-its.ensures (key_long pairs place c.key.result.now catalog inside c.key.ensures)).0 c.if-its.true);
+      is = subst (λ (p : Pair). IsItsThread c.args.row (catalog_units c.args.key.now) (placed_of p)) here ((c.is_its_thread-its.ensures (key_long pairs place c.key.result.now catalog inside c.key.ensures)).0 c.if-its.true);
     }) at
 
 pub returns-clause-is : goal.returns-clause-is
@@ -26,5 +26,5 @@ returns-clause-is c catalog at =
     let inside : place < length pairs = omega (arith, c.if-at-len.false, c.len.ensures) in
     let here : (c.key.result.now, c.value.result.now) ≡ pair_at pairs place = λ i. (c.key.ensures i, c.value.ensures i) in
     not_found pairs c.args.row (catalog_units c.args.key.now) place catalog.order (c.pairs_before-at.ensures.split catalog) (λ thread.
-    true≢false (sym ((c.in_ok-its.ensures (key_long pairs place c.key.result.now catalog inside c.key.ensures)).1
+    true≢false (sym ((c.is_its_thread-its.ensures (key_long pairs place c.key.result.now catalog inside c.key.ensures)).1
     (subst (λ (p : Pair). IsItsThread c.args.row (catalog_units c.args.key.now) (placed_of p)) (sym here) thread.is)) ∙ c.if-its.false)) at

@@ -1,4 +1,4 @@
-use Rattle.std.proofs.Common.{◌≡◌, ◌≤◌, ℕ, length}
+use Rattle.std.proofs.Common.{◌≤◌, length}
 use Rattle.fsck_core.specs.Catalogs.{IsCatalog}
 use Rattle.fsck_core.specs.Decided.{Decided, AllPass, IsMissed}
 use Rattle.fsck_core.specs.Parents.{marked}

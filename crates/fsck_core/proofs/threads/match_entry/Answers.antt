@@ -14,13 +14,13 @@ returns-in_default-clause-matched c catalog are =
     let long : 8 ≤ length c.key.result.now = key_long pairs at c.key.result.now catalog c.requires.inside c.key.ensures in
     match_not pairs c.args.marks.now.items at are (no_match pairs at no_row c.key.result.now c.value.result.now c.key.ensures c.value.ensures (sym c.in_default.is ∙ c.read_row.ensures long))
 
-pub returns-in_default-2-clause-matched : goal.returns-in_default-2-clause-matched
-returns-in_default-2-clause-matched c catalog are =
+pub returns-in_default-find_thread-clause-matched : goal.returns-in_default-find_thread-clause-matched
+returns-in_default-find_thread-clause-matched c catalog are =
     let pairs : List Pair = c.args.pairs.now in
     let at : ℕ = c.args.at in
     let long : 8 ≤ length c.key.result.now = key_long pairs at c.key.result.now catalog c.requires.inside c.key.ensures in
     let is = sym c.in-Some.is ∙ c.read_row.ensures long in
-    match_not pairs c.args.marks.now.items at are (λ thread match. c.in_default-2.not-Some thread ((c.in_ok-thread.ensures.is catalog thread).1
+    match_not pairs c.args.marks.now.items at are (λ thread match. c.in_default-find_thread.not-Some thread ((c.find_thread.ensures.is catalog thread).1
     (subst (λ (k : List ℕ). IsThreadAt pairs c.in-Some.row (catalog_units k) thread) (c.key.ensures ∙ sym c.key-2.ensures) (match_thread pairs at c.in-Some.row c.key.result.now c.value.result.now c.key.ensures c.value.ensures is thread match))))
 
 pub returns-clause-matched : goal.returns-clause-matched
@@ -30,10 +30,10 @@ returns-clause-matched c catalog are =
     let long : 8 ≤ length c.key.result.now = key_long pairs at c.key.result.now catalog c.requires.inside c.key.ensures in
     let is = sym c.in-Some.is ∙ c.read_row.ensures long in
     let row : Row = c.in-Some.row in
-    let found : IsThreadAt pairs row (catalog_units c.key.result.now) c.in-Some-2.thread =
-    subst (λ (k : List ℕ). IsThreadAt pairs row (catalog_units k) c.in-Some-2.thread) (c.key-2.ensures ∙ sym c.key.ensures) ((c.in_ok-thread.ensures.is catalog c.in-Some-2.thread).0 c.in-Some-2.is) in
-    match_more pairs c.args.marks.now.items at are c.in-Some-2.thread c.mark-2.new.marks.items c.requires.long
-    (thread_match pairs at row c.key.result.now c.value.result.now c.key.ensures c.value.ensures c.requires.inside is c.in-Some-2.thread found)
-    (λ other match. one_thread c.in_ok-thread.field-0 other c.in-Some-2.thread ((c.in_ok-thread.ensures.is catalog other).1
-    (subst (λ (k : List ℕ). IsThreadAt pairs row (catalog_units k) other) (c.key.ensures ∙ sym c.key-2.ensures) (match_thread pairs at row c.key.result.now c.value.result.now c.key.ensures c.value.ensures is other match))) c.in-Some-2.is)
-    (c.mark-2.ensures ∙ ap (λ (l : List Bool). set l c.in-Some-2.thread true) c.mark.ensures)
+    let found : IsThreadAt pairs row (catalog_units c.key.result.now) c.in-Some-find_thread.thread =
+    subst (λ (k : List ℕ). IsThreadAt pairs row (catalog_units k) c.in-Some-find_thread.thread) (c.key-2.ensures ∙ sym c.key.ensures) ((c.find_thread.ensures.is catalog c.in-Some-find_thread.thread).0 c.in-Some-find_thread.is) in
+    match_more pairs c.args.marks.now.items at are c.in-Some-find_thread.thread c.mark-2.new.marks.items c.requires.long
+    (thread_match pairs at row c.key.result.now c.value.result.now c.key.ensures c.value.ensures c.requires.inside is c.in-Some-find_thread.thread found)
+    (λ other match. one_thread c.find_thread.result other c.in-Some-find_thread.thread ((c.find_thread.ensures.is catalog other).1
+    (subst (λ (k : List ℕ). IsThreadAt pairs row (catalog_units k) other) (c.key.ensures ∙ sym c.key-2.ensures) (match_thread pairs at row c.key.result.now c.value.result.now c.key.ensures c.value.ensures is other match))) c.in-Some-find_thread.is)
+    (c.mark-2.ensures ∙ ap (λ (l : List Bool). set l c.in-Some-find_thread.thread true) c.mark.ensures)

@@ -1,4 +1,4 @@
-use Rattle.std.proofs.Common.{◌≡◌, ◌<◌, ◌≤◌, ◌-◌, ℕ, length}
+use Rattle.std.proofs.Common.{◌<◌, ◌≤◌, ◌-◌, ℕ, length}
 use Rattle.fsck_core.specs.Catalogs.{IsCatalog}
 use Rattle.fsck_core.specs.Threads.{placed_at}
 use Rattle.fsck_core.proofs.threads.pairs_below.Given as goal

@@ -1,5 +1,4 @@
-use Rattle.std.proofs.Common.{◌≡◌, ◌<◌, ◌≤◌, ℕ, List, [], length, sym, ◌∙◌, ap, subst, arith}
-use Rattle.std.specs.Prelude.{Contains}
+use Rattle.std.proofs.Common.{◌≡◌, [], length, sym, ◌∙◌, subst}
 use Rattle.sector_disk.specs.Space.{Space}
 use Rattle.jnl_format.specs.Recovery.{header_of_volume}
 use Rattle.volume_header.specs.declared.header.VolumeHeader.{VolumeHeader}
@@ -7,11 +6,8 @@ use Rattle.btree_node.specs.Keys.{IsExtentKey, extent_cmp, is_eight_extents}
 use Rattle.btree_node.specs.TreeFile.{TreeFile, IsTreeFile, extents_form}
 use Rattle.hfs_volume.specs.Blocks.{IsGoodHeader}
 use Rattle.hfs_volume.specs.Broken.{IsBrokenTree}
-use Rattle.hfs_volume.specs.Content.{extents_file, overflow_of_content}
+use Rattle.hfs_volume.specs.Content.{extents_file}
 use Rattle.hfs_volume.specs.Forks.{extents_id, data_kind, extents_of}
-use Rattle.hfs_volume.specs.Records.{Overflow}
-use Rattle.hx_bytes.specs.declared.extents.Extent.{Extent}
-use Rattle.fsck_list.specs.declared.finding.Finding.{Finding}
 use Rattle.fsck_scan.specs.Form.{tree_in}
 use Rattle.fsck_core.specs.Wants.{as_found}
 use Rattle.fsck_core.proofs.Limits.{block_range, extents_lie}

@@ -1,10 +1,7 @@
-use Rattle.std.proofs.Common.{◌≡◌, ◌⊎◌, ◌<◌, ◌≤◌, ℕ, List, [], length, inl, inr, sym, ◌∙◌, ap, subst, arith}
-use Rattle.std.specs.Prelude.{IsTrue, Contains}
-use Rattle.sector_disk.specs.Space.{Space}
+use Rattle.std.proofs.Common.{arith}
 use Rattle.btree_node.specs.Tree.{pairs_of}
-use Rattle.btree_node.specs.TreeFile.{TreeFile, IsTreeFile, store_of}
+use Rattle.btree_node.specs.TreeFile.{IsTreeFile, store_of}
 use Rattle.hfs_volume.specs.Broken.{IsBrokenTree}
-use Rattle.fsck_list.specs.declared.finding.Finding.{Finding}
 use Rattle.fsck_scan.specs.Form.{form_in, form_named, tree_in}
 use Rattle.fsck_core.specs.Wants.{as_found}
 use Rattle.fsck_core.proofs.ScanLaws.{found_tree, only_new}

@@ -1,4 +1,4 @@
-use Rattle.std.proofs.Common.{◌≡◌, ◌≤◌, ◌+◌, List, length, sym, ◌∙◌, ap, arith}
+use Rattle.std.proofs.Common.{◌+◌, List, sym, ◌∙◌, ap, arith}
 use Rattle.std.proofs.lemmas.List.{take_all}
 use Rattle.hx_bytes.specs.declared.extents.Extent.{Extent}
 use Rattle.hfs_volume.specs.Broken.{bit}

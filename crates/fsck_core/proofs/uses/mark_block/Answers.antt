@@ -1,4 +1,3 @@
-use Rattle.std.proofs.Common.{◌≡◌}
 use Rattle.fsck_core.proofs.UseLaws.{mark_is}
 use Rattle.fsck_core.proofs.uses.mark_block.Goals as goal
 

@@ -1,4 +1,4 @@
-use Rattle.std.proofs.Common.{◌≡◌, ◌<◌, ◌≤◌, ℕ, ◌+◌, ◌-◌, List, length, take, get_or, sym, ◌∙◌, subst, arith}
+use Rattle.std.proofs.Common.{◌<◌, ℕ, ◌+◌, ◌-◌, List, length, take, get_or, ◌∙◌, subst, arith}
 use Rattle.std.proofs.lemmas.List.{take_all}
 use Rattle.hx_bytes.specs.declared.extents.Extent.{Extent}
 use Rattle.fork_map.specs.Blocks.{blocks_of}

@@ -1,4 +1,4 @@
-use Rattle.std.proofs.Common.{◌≡◌, ◌≢◌, ◌<◌, List, [], ◌∷◌, length, refl, sym, ◌∙◌}
+use Rattle.std.proofs.Common.{[], ◌∷◌, refl, sym, ◌∙◌}
 use Rattle.fork_map.specs.Blocks.{blocks_of}
 use Rattle.hfs_volume.specs.Broken.{want}
 use Rattle.hfs_volume.proofs.Members.{at_front}

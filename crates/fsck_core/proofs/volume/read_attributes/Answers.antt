@@ -1,4 +1,3 @@
-use Rattle.std.proofs.Common.{true, false}
 use Rattle.sector_disk.specs.Space.{Space}
 use Rattle.fsck_core.proofs.ShownLaws.{bytes_back, head_back, overflow_back, attributes_found, no_attributes_held, attributes_found_early, none_early, has_them, has_none}
 use Rattle.fsck_core.specs.Overflows.{overflows_in}

@@ -1,4 +1,3 @@
-use Rattle.std.proofs.Common.{inl, inr}
 use Rattle.fsck_core.proofs.WantLaws.{kept_each}
 use Rattle.fsck_core.proofs.want.judge_want.Goals as goal
 

@@ -1,6 +1,4 @@
-use Rattle.std.proofs.Common.{◌≡◌, ◌≢◌, ◌⊎◌, ◌<◌, ◌≤◌, ℕ, true, false, List, length, inl, inr, sym, arith}
-use Rattle.fsck_list.specs.declared.finding.Finding.{Finding}
-use Rattle.fsck_core.specs.Wants.{want_at}
+use Rattle.std.proofs.Common.{◌≡◌, ◌<◌, ℕ, true, false, List, length, inl, arith}
 use Rattle.fsck_core.specs.declared.want.Want.{Want}
 use Rattle.fsck_core.proofs.WantLaws.{met_more, unmet_more, listed_more, each_more, met_tells, listed_all, listed_unmet}
 use Rattle.fsck_core.proofs.want.judge_wants.Goals as goal
