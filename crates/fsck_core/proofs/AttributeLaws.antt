@@ -1,8 +1,7 @@
 -- Attributes and the files of the journal: what was told of bytes is what rule 20 says of records.
-use Rattle.std.proofs.Common.{◌≡◌, ◌≢◌, ◌⊎◌, ◌↔◌, ◌<◌, ◌≤◌, ℕ, zero, suc, ◌+◌, ◌%◌, Bool, true, false, not, ◌&&◌, ◌==◌, nat_lt, nat_le, if◌then◌else◌, List, [], ◌∷◌, length, take, drop, get_or, inl, inr, refl, sym, ◌∙◌, ap, subst, arith, ⊎_elim}
+use Rattle.std.proofs.Common.{◌≡◌, ◌≢◌, ◌↔◌, ◌<◌, ◌≤◌, ℕ, zero, suc, ◌+◌, ◌%◌, Bool, true, false, not, ◌&&◌, ◌==◌, nat_le, if◌then◌else◌, List, [], ◌∷◌, length, take, drop, inl, inr, refl, sym, ◌∙◌, ap, subst, arith, ⊎_elim}
 use Rattle.std.specs.Prelude.{All, Contains, IsTrue, Option, Some, None, Result, Ok, Err, IfOk}
 use Rattle.std.specs.List.{count_by}
-use Rattle.std.specs.List.Sorted.{IsNonDecreasing}
 use Rattle.std.proofs.lemmas.Bool.{true≢false, eqb-true, eq-eqb, ne_eqb, and_parts, leb-true, cases_lt}
 use Rattle.std.proofs.lemmas.List.{get_or_default}
 use Rattle.hx_bytes.specs.Field.{big_at}
@@ -12,7 +11,7 @@ use Rattle.alloc_bitmap.specs.Apart.{times}
 use Rattle.volume_header.specs.declared.header.VolumeHeader.{VolumeHeader}
 use Rattle.jnl_format.specs.declared.structures.Info.{Info}
 use Rattle.btree_node.specs.Levels.{Pair}
-use Rattle.btree_node.specs.Keys.{units, attr_file, attr_start, attr_units}
+use Rattle.btree_node.specs.Keys.{attr_file, attr_start, attr_units}
 use Rattle.btree_node.proofs.Units.{units_at, units_end}
 use Rattle.cat_records.specs.Attributes.{is_attr, attr_of, has_inline_length}
 use Rattle.cat_records.specs.declared.attribute.AttrRecord.TheVariants as attribute
@@ -36,7 +35,7 @@ use Rattle.fsck_core.specs.Names.{pair_at, value_found, id_found}
 use Rattle.fsck_core.specs.Rows.{row_of, rows_of}
 use Rattle.fsck_core.specs.declared.rows.Row.{Row}
 use Rattle.fsck_core.proofs.RowLaws.{count_map, not_below, true_below}
-use Rattle.fsck_core.proofs.DecidedLaws.{adds_two, adds_so, decided_both, decided_as, adds_unless, decided_one, Unless}
+use Rattle.fsck_core.proofs.DecidedLaws.{adds_two, adds_so, decided_both, decided_as, adds_unless, Unless}
 
 -- ---- owners
 

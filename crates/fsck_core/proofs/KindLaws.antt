@@ -1,19 +1,18 @@
 -- Records of a catalog, judged one by one.
-use Rattle.std.proofs.Common.{◌≡◌, ◌≢◌, ◌⊎◌, ◌↔◌, ◌<◌, ◌≤◌, ℕ, suc, zero, ◌+◌, ◌-◌, Bool, true, false, not, ◌||◌, ◌&&◌, ◌==◌, nat_lt, if◌then◌else◌, List, [], ◌∷◌, length, map, drop, get_or, inl, inr, refl, sym, ◌∙◌, ap, subst, arith, ⊎_elim, T}
+use Rattle.std.proofs.Common.{◌≡◌, ◌⊎◌, ◌↔◌, ◌<◌, ◌≤◌, ℕ, ◌+◌, Bool, true, false, not, ◌||◌, ◌&&◌, ◌==◌, nat_lt, if◌then◌else◌, List, [], ◌∷◌, length, drop, inl, inr, refl, sym, ◌∙◌, subst, arith, ⊎_elim, T}
 use Rattle.std.specs.Prelude.{Contains, All, IsTrue, slice_index_or}
 use Rattle.std.proofs.lemmas.Bool.{cases_lt}
 use Rattle.std.proofs.lemmas.List.{length-drop, length-map, get_or-map, get_or_default}
 use Rattle.hx_bytes.specs.Field.{big_at}
 use Rattle.btree_node.specs.Keys.{units, catalog_parent, catalog_units}
 use Rattle.btree_node.specs.Levels.{Pair}
-use Rattle.cat_records.specs.declared.record.CatRecord.{CatRecord}
 use Rattle.cat_records.specs.declared.record.CatRecord.TheVariants.{Folder, File, Thread}
 use Rattle.cat_records.specs.Records.{is_catalog, catalog_of, entry_of, thread_of}
 use Rattle.hx_bytes.specs.Fork.{fork_at}
 use Rattle.hfs_volume.specs.Records.{Placed, placed_of, placed_in, is_thread, is_empty}
 use Rattle.hfs_volume.specs.Entries.{AreSpelled}
 use Rattle.hfs_volume.specs.Broken.{IsFailed, FailsKind}
-use Rattle.hfs_volume.proofs.Members.{all_of, each_of, in_one, at_front}
+use Rattle.hfs_volume.proofs.Members.{each_of, in_one, at_front}
 use Rattle.fsck_list.specs.declared.finding.Finding.{Finding}
 use Rattle.fsck_list.specs.Kept.{IsListed, Keeps}
 use Rattle.fsck_core.specs.Wants.{as_found}

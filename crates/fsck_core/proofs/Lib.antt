@@ -16,6 +16,7 @@ pub mod SweepLaws
 pub mod UsedLaws
 pub mod BehindLaws
 pub mod BehindSkips
+pub mod BehindSums
 pub mod OwnerLaws
 pub mod ForkWants
 pub mod TestedLaws

@@ -1,15 +1,14 @@
 -- Links and the files that they name: what was told of rows is what rule 19 says of records.
-use Rattle.std.proofs.Common.{◌≡◌, ◌≢◌, ◌⊎◌, ◌↔◌, ◌<◌, ◌≤◌, ℕ, zero, suc, ◌+◌, ◌^◌, nat_lt, Bool, true, false, not, ◌&&◌, ◌==◌, if◌then◌else◌, T, List, [], ◌∷◌, ◌++◌, length, inl, inr, refl, sym, ◌∙◌, ap, subst, arith, ⊎_elim}
-use Rattle.std.specs.Prelude.{All, Contains, IsTrue, Option, Some, None}
+use Rattle.std.proofs.Common.{◌≡◌, ◌≢◌, ◌<◌, ◌≤◌, ℕ, zero, suc, ◌+◌, ◌^◌, nat_lt, Bool, true, false, not, ◌&&◌, ◌==◌, if◌then◌else◌, List, [], ◌∷◌, ◌++◌, length, inl, inr, refl, sym, ◌∙◌, ap, subst, arith, ⊎_elim}
+use Rattle.std.specs.Prelude.{All, Contains, Option, Some, None}
 use Rattle.std.specs.List.{flat_map, list_all, count_by, range_with_len}
 use Rattle.std.proofs.lemmas.Bool.{true≢false, eqb-true, eq-eqb, ne_eqb, and_parts}
 use Rattle.std.proofs.lemmas.List.{get_or_default, length-append}
 use Rattle.std.proofs.lemmas.List.FromFn.{length-range_with_len}
-use Rattle.std.proofs.lemmas.List.Elements.{Contains-append_left, Contains-append_right}
+use Rattle.std.proofs.lemmas.List.Elements.{Contains-append_right}
 use Rattle.std.proofs.lemmas.Slice.Eq.{bytes_eq-Decides}
 use Rattle.hx_bytes.specs.Fork.{fork_at, extents_at}
 use Rattle.hx_bytes.specs.declared.extents.Extent.{Extent}
-use Rattle.hx_bytes.specs.declared.extents.ForkRecord.{ForkRecord}
 use Rattle.fork_map.specs.Blocks.{blocks_of}
 use Rattle.alloc_bitmap.specs.Apart.{times}
 use Rattle.btree_node.specs.Levels.{Pair}
@@ -20,14 +19,13 @@ use Rattle.cat_records.specs.declared.record.CatRecord.TheVariants.{Folder, File
 use Rattle.cat_records.specs.declared.record.FileRecord.{FileRecord}
 use Rattle.hfs_model.specs.Step.{private_name}
 use Rattle.hfs_volume.specs.Records.{Placed, Overflow, placed_of, placed_in, entries_of, record_at, is_folder, is_file, is_link, is_empty, id_in, id_of, special_of}
-use Rattle.hfs_volume.specs.Forks.{Owned, in_use, is_full, is_of, overflow_in, extents_of, extents_id, fork_blocks, blocks_owned, forks_in, file_forks, special_forks, all_forks}
+use Rattle.hfs_volume.specs.Forks.{Owned, in_use, is_full, overflow_in, extents_of, blocks_owned, forks_in, file_forks, special_forks, all_forks}
 use Rattle.hfs_volume.specs.Blocks.{GoOn, GoesOn, forks_of}
-use Rattle.hfs_volume.specs.Entries.{LiesIn}
 use Rattle.hfs_volume.specs.Content.{VolumeState, records_of, overflow_in_volume}
 use Rattle.std.specs.Str.{bytes_eq}
-use Rattle.hfs_volume.specs.Links.{folder_id, is_in, private_id, is_shared, is_shared_file, is_link_to, links_to, node_name, reference_of, IsHidden, IsGoodLink, AreGoodLinks, HaveLinkCounts, AreLinks}
+use Rattle.hfs_volume.specs.Links.{folder_id, is_in, private_id, is_shared, is_shared_file, is_link_to, links_to, node_name, reference_of, IsGoodLink, HaveLinkCounts, AreLinks}
 use Rattle.hfs_volume.specs.Broken.{Want, want, AllMet, IsUnmet, IsFailed, link_wants, FailsLink}
-use Rattle.hfs_volume.proofs.Members.{in_one, at_front, all_of, each_of, map_cases, map_stands}
+use Rattle.hfs_volume.proofs.Members.{in_one, at_front, each_of, map_cases, map_stands}
 use Rattle.hfs_volume.proofs.Wants.{first_met, met_each}
 use Rattle.hfs_volume.proofs.EntryWants.{met_at, met_of, flat_cases, counted, none_or_one}
 use Rattle.hfs_volume.proofs.TreeWants.{stands_flat}
@@ -47,7 +45,7 @@ use Rattle.fsck_core.specs.declared.rows.Row.{Row}
 use Rattle.fsck_core.specs.declared.shared.SharedFile.{SharedFile}
 use Rattle.fsck_core.proofs.RowLaws.{count_map}
 use Rattle.fsck_core.proofs.ParentLaws.{is_below, lies_in}
-use Rattle.std.specs.List.Sorted.{IsNonDecreasing, IsNonDecreasingBy}
+use Rattle.std.specs.List.Sorted.{IsNonDecreasingBy}
 use Rattle.fsck_core.proofs.EntryLaws.{entries_rise}
 use Rattle.fsck_core.proofs.DecidedLaws.{adds_two, adds_so, decided_both, decided_as, decided_numbers, adds_unless, decided_one, Unless}
 

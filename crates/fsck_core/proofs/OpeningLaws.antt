@@ -1,5 +1,5 @@
 -- The volume header and its alternate, judged one after the other.
-use Rattle.std.proofs.Common.{◌≡◌, ◌⊎◌, ◌↔◌, ◌<◌, ℕ, ◌-◌, Bool, true, false, List, [], length, inl, inr, refl, sym, ◌∙◌, subst, arith, ⊎_elim, IsTrue}
+use Rattle.std.proofs.Common.{◌≡◌, ◌↔◌, ◌<◌, ℕ, ◌-◌, Bool, true, false, List, [], length, inl, inr, refl, sym, ◌∙◌, subst, arith, ⊎_elim, IsTrue}
 use Rattle.std.specs.Prelude.{Contains}
 use Rattle.volume_header.specs.Refusal.{is_volume_size}
 use Rattle.volume_header.specs.declared.header.VolumeHeader.{VolumeHeader}

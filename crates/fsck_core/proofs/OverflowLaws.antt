@@ -1,5 +1,5 @@
 -- The extents of a fork, by rows.
-use Rattle.std.proofs.Common.{◌≡◌, ◌<◌, ℕ, ◌+◌, Bool, true, false, ◌==◌, ◌&&◌, List, [], ◌∷◌, ◌++◌, length, map, take, get_or, refl, sym, ◌∙◌, ap, subst, arith, if◌then◌else◌, append-nil, append_assoc}
+use Rattle.std.proofs.Common.{◌≡◌, ℕ, Bool, true, false, ◌==◌, List, [], ◌∷◌, ◌++◌, refl, sym, ◌∙◌, ap, if◌then◌else◌, append-nil}
 use Rattle.std.specs.List.{flat_map}
 use Rattle.std.proofs.lemmas.List.Concat.{flat_map-append}
 use Rattle.hx_bytes.specs.declared.extents.Extent.{Extent}
@@ -7,7 +7,6 @@ use Rattle.hx_bytes.specs.declared.extents.ForkRecord.{ForkRecord}
 use Rattle.hfs_model.specs.Sorted.{kept}
 use Rattle.hfs_volume.specs.Records.{Overflow}
 use Rattle.hfs_volume.specs.Forks.{in_use, is_of, extents_of, extents_id}
-use Rattle.hfs_volume.specs.Forks as forks
 use Rattle.fsck_core.specs.Overflows.{overflow_in, overflows_in, extents_for}
 use Rattle.fsck_core.specs.declared.overflow.OverflowRow.{OverflowRow}
 

@@ -1,5 +1,5 @@
 -- Overflow records that go on behind each other.
-use Rattle.std.proofs.Common.{◌≡◌, ◌≢◌, ◌<◌, ◌≤◌, ℕ, ◌+◌, Bool, true, false, not, ◌==◌, List, [], ◌∷◌, ◌++◌, length, get_or, drop, refl, sym, ◌∙◌, ap, subst, arith, if◌then◌else◌}
+use Rattle.std.proofs.Common.{◌≡◌, ◌<◌, ℕ, ◌+◌, Bool, true, false, not, ◌==◌, List, [], ◌∷◌, ◌++◌, length, get_or, drop, refl, sym, ◌∙◌, ap, subst, arith, if◌then◌else◌}
 use Rattle.std.specs.Prelude.{Option, Some, None, MatchOption}
 use Rattle.std.specs.List.{flat_map, range_with_len}
 use Rattle.std.proofs.lemmas.Bool.{eqb-true, true≢false, eq-eqb}
@@ -12,7 +12,7 @@ use Rattle.hfs_volume.specs.Records.{Overflow}
 use Rattle.hfs_volume.specs.Forks.{Owned, in_use, is_of, is_full, extents_of, extents_id, overflow_in as overflow_of_fork, blocks_owned}
 use Rattle.hfs_volume.specs.Blocks.{GoOn, GoesOn}
 use Rattle.fsck_core.specs.Overflows.{overflow_in, overflows_in}
-use Rattle.fsck_core.specs.Owners.{next_front, step, follow}
+use Rattle.fsck_core.specs.Owners.{next_front, follow}
 use Rattle.fsck_core.specs.declared.overflow.OverflowRow.{OverflowRow}
 use Rattle.fsck_core.specs.declared.follow.Front.{Front}
 

@@ -1,5 +1,5 @@
 -- The bytes of a catalog's record: how many there are, and what row they make.
-use Rattle.std.proofs.Common.{◌≡◌, ◌≢◌, ◌≤◌, ℕ, ◌+◌, ◌*◌, ◌&&◌, nat_le, Bool, true, false, ◌==◌, ◌||◌, nat_lt, List, [], length, refl, sym, ◌∙◌, ap, arith, if◌then◌else◌}
+use Rattle.std.proofs.Common.{◌≡◌, ◌≢◌, ◌≤◌, ℕ, ◌+◌, ◌*◌, nat_le, Bool, true, false, ◌==◌, ◌||◌, nat_lt, List, [], length, refl, sym, ◌∙◌, ap, arith, if◌then◌else◌}
 use Rattle.std.specs.Prelude.{IsTrue}
 use Rattle.std.proofs.lemmas.Bool.{true≢false, eqb-true, ne_eqb, and_parts}
 use Rattle.hx_bytes.specs.Field.{big_at}

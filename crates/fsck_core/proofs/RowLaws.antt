@@ -13,7 +13,6 @@ use Rattle.hfs_volume.proofs.Members.{behind, in_one, first_or_later}
 use Rattle.hfs_volume.proofs.EntryWants.{flat_cases, counted}
 use Rattle.hfs_volume.proofs.TreeWants.{stands_flat}
 use Rattle.std.proofs.lemmas.Bool.{eq-eqb}
-use Rattle.std.proofs.lemmas.List.Elements.{Contains-append_left}
 use Rattle.volume_header.specs.declared.header.VolumeHeader.{VolumeHeader}
 use Rattle.fsck_core.specs.declared.rows.Row.{Row}
 use Rattle.fsck_core.specs.Rows.{row_of, rows_of, rows_under, valence_of, given_id}

@@ -1,5 +1,5 @@
 -- Files with several names, read pair by pair.
-use Rattle.std.proofs.Common.{◌≡◌, ◌≢◌, ◌⊎◌, ◌<◌, ◌≤◌, ◌^◌, ℕ, suc, ◌+◌, Bool, true, false, ◌&&◌, ◌==◌, nat_lt, List, [], ◌∷◌, ◌++◌, length, map, take, inl, inr, refl, sym, ◌∙◌, ap, subst, arith, ⊎_elim}
+use Rattle.std.proofs.Common.{◌≡◌, ◌≢◌, ◌<◌, ◌≤◌, ◌^◌, ℕ, ◌+◌, true, ◌&&◌, nat_lt, List, [], ◌∷◌, ◌++◌, length, take, refl, sym, ◌∙◌, ap, subst, arith, ⊎_elim}
 use Rattle.std.specs.Prelude.{Contains, Option, Some, None, is_some}
 use Rattle.std.specs.Str.{bytes_eq}
 use Rattle.std.proofs.lemmas.Bool.{true≢false, eqb-true, eq-eqb, and_parts}
@@ -11,7 +11,7 @@ use Rattle.btree_node.specs.Keys.{catalog_parent, catalog_units}
 use Rattle.cat_records.specs.Records.{catalog_of}
 use Rattle.cat_records.specs.declared.record.CatRecord.{CatRecord}
 use Rattle.cat_records.specs.declared.record.CatRecord.TheVariants.{Folder, File, Thread}
-use Rattle.hfs_volume.specs.Records.{Placed, placed_of, placed_in, is_file, id_in, id_of, special_of}
+use Rattle.hfs_volume.specs.Records.{Placed, placed_of, placed_in, is_file, id_in, special_of}
 use Rattle.hfs_volume.specs.Links.{is_in, is_shared, node_name}
 use Rattle.hfs_volume.proofs.Members.{in_one, at_front}
 use Rattle.fsck_core.specs.Names.{pair_at, shared_found, shared_some, IsSharedAs, AreShared}

@@ -1,10 +1,10 @@
 -- The numbers of special files, as they are judged.
-use Rattle.std.proofs.Common.{◌≡◌, ℕ, ◌-◌, ◌*◌, ◌/◌, ◌^◌, min, List, [], ◌∷◌, ◌++◌, ◌∙◌, ap, sym}
+use Rattle.std.proofs.Common.{◌≡◌, ℕ, ◌-◌, ◌*◌, ◌^◌, min, [], ◌∷◌, ◌++◌, ◌∙◌, ap}
 use Rattle.jnl_format.specs.Recovery.{Content, header_of_volume}
 use Rattle.hx_bytes.specs.declared.extents.ForkRecord.{ForkRecord}
 use Rattle.volume_header.specs.declared.header.VolumeHeader.{VolumeHeader}
 use Rattle.btree_node.specs.TreeFile.{TreeFile, TreeHead}
-use Rattle.hfs_volume.specs.Broken.{Want, want, node_place, total_wants, size_wants, file_wants, bits_behind}
+use Rattle.hfs_volume.specs.Broken.{want, node_place, size_wants, file_wants, bits_behind}
 use Rattle.hfs_volume.specs.Content.{facts_of, volume_of, extents_file, catalog_file, attributes_file}
 use Rattle.hfs_volume.specs.Forks.{extents_id, catalog_id}
 use Rattle.fsck_scan.specs.Form.{head_in}
@@ -13,10 +13,6 @@ use Rattle.fsck_core.specs.Files.{attributes_wants, bitmap_wants}
 use Rattle.fsck_scan.specs.declared.form.Head.{Head}
 
 module _ (head : Head) (file : TreeFile) (same : head_in head ≡ file.head) where
-  pub total_is : (id : ℕ) (fork : ForkRecord) (place wanted : ℕ) → place ≡ node_place id 0 → wanted ≡ fork.logical_size / head.shape.node_size → (want place head.shape.total wanted ∷ []) ≡ total_wants id fork file
-  total_is id fork place wanted place_is wanted_is =
-      (λ i. want (place_is i) head.shape.total (wanted_is i) ∷ []) ∙ ap (λ (h : TreeHead). want (node_place id 0) h.total (fork.logical_size / h.node_size) ∷ []) same
-
   pub compare_is : (want (node_place catalog_id 0) head.compare 0xBC ∷ []) ≡ (want (node_place catalog_id 0) file.head.compare 0xBC ∷ [])
   compare_is = ap (λ (h : TreeHead). want (node_place catalog_id 0) h.compare 0xBC ∷ []) same
 

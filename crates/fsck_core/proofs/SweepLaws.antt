@@ -1,16 +1,15 @@
 -- Extents in the order of their starts, which are looked at one after the other.
-use Rattle.std.proofs.Common.{◌≡◌, ◌≢◌, ◌⊎◌, ◌↔◌, ◌<◌, ◌≤◌, ℕ, ◌+◌, ◌-◌, max, Bool, true, false, not, cond, ◌||◌, ◌==◌, if◌then◌else◌, T, List, [], ◌∷◌, ◌++◌, length, replicate, take, get_or, inl, inr, refl, sym, ◌∙◌, ap, subst, arith, ⊎_elim, append-nil}
-use Rattle.std.specs.Prelude.{Contains, IsTrue}
-use Rattle.std.specs.List.{flat_map, sum_by, range_with_len}
+use Rattle.std.proofs.Common.{◌≡◌, ◌≢◌, ◌⊎◌, ◌<◌, ◌≤◌, ℕ, ◌+◌, ◌-◌, max, Bool, true, false, cond, ◌||◌, ◌==◌, if◌then◌else◌, List, [], ◌∷◌, ◌++◌, length, replicate, get_or, inl, inr, refl, sym, ◌∙◌, ap, subst, arith, ⊎_elim, append-nil}
+use Rattle.std.specs.Prelude.{Contains}
+use Rattle.std.specs.List.{sum_by, range_with_len}
 use Rattle.std.specs.List.Sorted.{IsPermutation, IsNonDecreasingBy}
-use Rattle.std.proofs.lemmas.Bool.{cases_lt, cases_eq, true≢false}
+use Rattle.std.proofs.lemmas.Bool.{cases_lt, true≢false}
 use Rattle.std.proofs.lemmas.List.{get_or_past}
 use Rattle.std.proofs.lemmas.List.Sorted.{sum_by-IsPermutation}
 use Rattle.std.proofs.lemmas.List.Sums.{sum_by-cons}
-use Rattle.flag_rows.specs.Bits.{has}
 use Rattle.hx_bytes.specs.declared.extents.Extent.{Extent}
 use Rattle.fork_map.specs.Blocks.{blocks_of}
-use Rattle.alloc_bitmap.specs.Apart.{times, AreApart}
+use Rattle.alloc_bitmap.specs.Apart.{times}
 use Rattle.alloc_bitmap.proofs.ApartLaws.{times-append, times-cons, times_range}
 use Rattle.alloc_bitmap.proofs.HoldLaws.{has_in, has_below, has_above}
 use Rattle.fsck_list.specs.declared.finding.Finding.{Finding}

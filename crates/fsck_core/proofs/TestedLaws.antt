@@ -6,9 +6,8 @@ use Rattle.std.proofs.lemmas.List.Sums.{sum_by-cons}
 use Rattle.std.proofs.lemmas.Bool.{true≢false, eqb-true, eq-eqb, ne_eqb, or_cases, or_right}
 use Rattle.std.proofs.lemmas.List.{take_more, take_all, get_or_default}
 use Rattle.std.proofs.lemmas.List.Elements.{Contains-append_left, Contains-append_right, Contains-append_cases}
-use Rattle.hfs_volume.specs.Records.{Overflow}
 use Rattle.hfs_volume.specs.Forks.{Owned, is_of, extents_id, bad_blocks_id}
-use Rattle.hfs_volume.specs.Blocks.{GoOn, GoesOn, HasFork}
+use Rattle.hfs_volume.specs.Blocks.{GoOn, HasFork}
 use Rattle.hfs_volume.proofs.Members.{all_of, each_of, map_cases, map_stands, at_front, behind, first_or_later, in_one}
 use Rattle.fsck_list.specs.declared.finding.Finding.{Finding}
 use Rattle.fsck_core.specs.Overflows.{overflow_in}

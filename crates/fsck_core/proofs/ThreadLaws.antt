@@ -1,13 +1,12 @@
 -- Entries and their threads, by the places of their pairs.
-use Rattle.std.proofs.Common.{◌≡◌, ◌≢◌, ◌⊎◌, ◌↔◌, ◌<◌, ◌≤◌, ℕ, zero, suc, ◌+◌, Bool, true, false, not, ◌&&◌, ◌==◌, nat_lt, cond, if◌then◌else◌, T, List, [], ◌∷◌, length, map, get_or, set, inl, inr, refl, sym, ◌∙◌, ap, subst, arith, ⊎_elim, length-set, get_or-set_same, get_or-set_other}
-use Rattle.std.specs.Prelude.{All, Contains, IsTrue, Option, Some, None}
+use Rattle.std.proofs.Common.{◌≡◌, ◌≢◌, ◌↔◌, ◌<◌, ◌≤◌, ℕ, zero, suc, ◌+◌, Bool, true, false, not, ◌&&◌, ◌==◌, cond, if◌then◌else◌, List, [], ◌∷◌, length, get_or, set, inl, inr, refl, sym, ◌∙◌, ap, subst, arith, ⊎_elim, length-set, get_or-set_same}
+use Rattle.std.specs.Prelude.{Contains, IsTrue, Option, Some, None}
 use Rattle.std.specs.Str.{bytes_eq}
 use Rattle.std.specs.Ordering.{is_lt, nat_cmp, ordering_then}
 use Rattle.std.specs.Cmp.Lexicographic.{slice_cmp}
 use Rattle.std.specs.declared.cmp.Ordering.TheVariants.{Less, Equal, Greater}
 use Rattle.std.proofs.lemmas.Bool.{true≢false, eqb-true, eq-eqb, and_parts, cases_lt, cases_eq}
-use Rattle.std.proofs.lemmas.List.{get_or_default, get_or-map, length-map, get_or_past}
-use Rattle.std.proofs.lemmas.List.Elements.{All-contains_itself}
+use Rattle.std.proofs.lemmas.List.{get_or-map, length-map}
 use Rattle.std.proofs.lemmas.Slice.Eq.{bytes_eq-Decides}
 use Rattle.btree_node.specs.Levels.{Pair}
 use Rattle.btree_node.specs.Keys.{catalog_parent, catalog_units}
@@ -21,7 +20,7 @@ use Rattle.hfs_volume.specs.Changes.{AreSorted}
 use Rattle.hfs_volume.specs.Entries.{AreThreaded, HasThread, IsThreadOf}
 use Rattle.hfs_volume.specs.Broken as broken
 use Rattle.hfs_volume.specs.Broken.{IsFailed, FailsThread}
-use Rattle.hfs_volume.proofs.Members.{all_of, each_of, map_stands, map_cases}
+use Rattle.hfs_volume.proofs.Members.{all_of, each_of}
 use Rattle.hfs_volume.proofs.Sides.{is_entry_of, entry_is_record, entry_is_named}
 use Rattle.fsck_list.specs.declared.finding.Finding.{Finding}
 use Rattle.fsck_core.specs.Decided.{Adds, Decided, AllPass, IsMissed}

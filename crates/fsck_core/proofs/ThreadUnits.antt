@@ -1,12 +1,12 @@
 -- The name in a thread beside that in a key, unit by unit.
-use Rattle.std.proofs.Common.{◌≡◌, ◌≢◌, ◌<◌, ◌≤◌, ℕ, zero, suc, ◌+◌, ◌*◌, Bool, true, false, ◌==◌, ◌&&◌, ◌||◌, nat_lt, List, [], ◌∷◌, length, drop, refl, sym, ◌∙◌, ap, if◌then◌else◌, arith, ⊎_elim}
+use Rattle.std.proofs.Common.{◌≡◌, ◌≢◌, ◌<◌, ◌≤◌, ℕ, zero, suc, ◌+◌, ◌*◌, Bool, true, false, ◌==◌, ◌&&◌, nat_lt, List, ◌∷◌, length, drop, refl, sym, ◌∙◌, ap, arith, ⊎_elim}
 use Rattle.std.specs.Prelude.{IsTrue}
 use Rattle.std.specs.Str.{bytes_eq}
-use Rattle.std.proofs.lemmas.Bool.{true≢false, eq-eqb, ne_eqb, cases_lt}
+use Rattle.std.proofs.lemmas.Bool.{eq-eqb, ne_eqb, cases_lt}
 use Rattle.hx_bytes.specs.Field.{big_at}
 use Rattle.btree_node.specs.Keys.{units}
 use Rattle.btree_node.proofs.Units as pairs
-use Rattle.cat_records.specs.Records.{is_catalog, catalog_of, thread_of, has_thread_length, units_at}
+use Rattle.cat_records.specs.Records.{is_catalog, catalog_of, thread_of, units_at}
 use Rattle.cat_records.specs.declared.record.CatRecord.{CatRecord}
 use Rattle.cat_records.specs.declared.record.CatRecord.TheVariants.{Thread}
 use Rattle.fsck_core.specs.Threads.{is_thread_of, same_bit}

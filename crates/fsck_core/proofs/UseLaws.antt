@@ -1,34 +1,25 @@
 -- Blocks that are marked one by one, and those that stand twice.
-use Rattle.std.proofs.Common.{◌≡◌, ◌≢◌, ◌⊎◌, ◌↔◌, ◌<◌, ◌≤◌, ℕ, zero, suc, ◌+◌, ◌-◌, ◌^◌, Bool, true, false, not, cond, ◌&&◌, ◌||◌, ◌==◌, if◌then◌else◌, List, [], ◌∷◌, ◌++◌, length, map, replicate, take, drop, get_or, set, inl, inr, refl, sym, ◌∙◌, ap, subst, arith, ⊎_elim, T, length-set, get_or-set_same, get_or-set_other, append-nil, append_assoc}
+use Rattle.std.proofs.Common.{◌≡◌, ◌↔◌, ◌<◌, ◌≤◌, ℕ, ◌+◌, Bool, true, false, not, ◌==◌, if◌then◌else◌, List, [], ◌++◌, length, replicate, take, drop, get_or, set, inl, refl, sym, ◌∙◌, ap, subst, arith, ⊎_elim, T, length-set, get_or-set_same, get_or-set_other}
 use Rattle.std.specs.Prelude.{Contains, IsTrue}
-use Rattle.std.specs.List.{flat_map, list_any, range_with_len, count_by}
-use Rattle.std.proofs.lemmas.Bool.{cases_lt, cases_eq, eqb-true, eq-eqb, ne_eqb}
-use Rattle.std.proofs.lemmas.List.{get_or_default, get_or_past, length-replicate, get_or-replicate, take_all, take-append-drop}
+use Rattle.std.specs.List.{range_with_len}
+use Rattle.std.proofs.lemmas.Bool.{eqb-true}
+use Rattle.std.proofs.lemmas.List.{get_or_default, get_or_past, length-replicate, get_or-replicate, take-append-drop}
 use Rattle.std.proofs.lemmas.List.FromFn.{fill_by_all}
 use Rattle.std.proofs.lemmas.List.Concat.{flat_map-append}
-use Rattle.std.proofs.lemmas.List.Folds.{list_any-append, list_any_at}
+use Rattle.std.proofs.lemmas.List.Folds.{list_any_at}
 use Rattle.flag_rows.specs.Bits.{has}
 use Rattle.hx_bytes.specs.declared.extents.Extent.{Extent}
 use Rattle.fork_map.specs.Blocks.{blocks_of}
 use Rattle.alloc_bitmap.specs.Apart.{times, AreApart}
-use Rattle.alloc_bitmap.proofs.ApartLaws.{times-append, times-cons, times_range}
-use Rattle.alloc_bitmap.proofs.HoldLaws.{has_in, has_above}
+use Rattle.alloc_bitmap.proofs.ApartLaws.{times-append, times_range}
 use Rattle.fsck_list.specs.declared.finding.Finding.{Finding}
 use Rattle.hfs_volume.specs.Content.{VolumeState}
 use Rattle.hfs_volume.specs.Blocks.{is_among, used_in}
-use Rattle.hfs_volume.specs.Broken.{Want, bit, AllMet}
-use Rattle.hfs_volume.proofs.Members.{in_one, map_stands}
-use Rattle.hfs_volume.proofs.Wants.{first_met}
-use Rattle.hfs_volume.proofs.BlockWants.{none_met, cons_met}
-use Rattle.hfs_volume.proofs.EntryWants.{counted, none_or_one}
-use Rattle.fsck_core.specs.Judged.{AddsUnmet}
-use Rattle.fsck_core.specs.Wants.{want_in, wants_in}
-use Rattle.fsck_core.specs.declared.want.Want.{Want as Number}
+use Rattle.hfs_volume.specs.Broken.{bit}
+use Rattle.hfs_volume.proofs.EntryWants.{none_or_one}
 use Rattle.fsck_core.specs.Flags.{AreUsed}
-use Rattle.fsck_core.specs.Uses.{use_want, uses_of, mark_at, HasMarked}
-use Rattle.fsck_core.proofs.WantLaws.{both_true, one_false}
-use Rattle.fsck_core.proofs.KindLaws.{found_more}
-use Rattle.fsck_core.proofs.JudgedLaws.{adds_both, flat_more}
+use Rattle.fsck_core.specs.Uses.{mark_at, HasMarked}
+use Rattle.fsck_core.proofs.JudgedLaws.{flat_more}
 
 -- ---- counts and marks
 

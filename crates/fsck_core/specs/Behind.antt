@@ -1,6 +1,8 @@
 -- The bits of a fork's bytes, and how many are set behind a place.
-use Rattle.std.specs.Prelude.{ℕ, ◌-◌, ◌*◌, ◌/◌, ◌%◌, min, max, Bool, List, slice_get}
+use Rattle.std.specs.Prelude.{◌≡◌, ◌<◌, ◌≤◌, ℕ, ◌+◌, ◌-◌, ◌*◌, ◌/◌, ◌%◌, ◌^◌, min, max, Bool, List, [], ◌∷◌, length, take, slice_get, slice_index, slice_index_or}
 use Rattle.std.specs.List.{count_by, range_with_len}
+use Rattle.hx_bytes.specs.declared.extents.Extent.{Extent}
+use Rattle.fork_map.specs.Blocks.{blocks_of, fork_sectors}
 use Rattle.jnl_format.specs.Recovery.{Content}
 use Rattle.flag_rows.specs.Bits.{bit_of}
 use Rattle.fsck_scan.specs.Read.{sector_or_zeros}
@@ -20,3 +22,30 @@ reached from to at = min to (max from (at * 4096))
 -- how many are set from a place on up to another, in the sectors before one
 abbrev pub set_up_to : Content → ℕ → List ℕ → ℕ → ℕ → ℕ → ℕ
 set_up_to content limit sectors from to at = count_by (fork_bit content limit sectors) (range_with_len from (reached from to at - from))
+
+-- the blocks of a volume of so many, one behind the other
+abbrev pub all_blocks : ℕ → List Extent
+all_blocks total = record { start = 0; count = total } ∷ []
+
+-- how many bits are set in so many of a volume's first blocks, where a block has so many sectors
+abbrev pub set_before : Content → ℕ → ℕ → ℕ → ℕ → ℕ
+set_before content limit total per blocks = set_up_to content limit (fork_sectors (all_blocks total) per) 0 (8 * (total * per * 512)) (blocks * per)
+
+-- These are the numbers of bits set before each of the first blocks, one after the other.
+abbrev pub HasSums : Content → ℕ → ℕ → ℕ → List ℕ → Type 0
+HasSums content limit total per sums = (i : ℕ) → i < length sums → slice_index sums i ≡ min (set_before content limit total per i) (2 ^ 64 - 1)
+
+-- The blocks of an extent that lie in the volume are whole sectors of what is counted, from a place of the fork up to another, and there are numbers for them.
+pub record IsWhole (total per size start inside front at upto long : ℕ) : Type 0 where
+  pub begins : at ≡ front * per
+  pub ends : upto ≡ (front + inside) * per
+  pub first : total ≤ at * 4096
+  pub last : upto * 512 ≤ size
+  pub told : start + inside < long
+
+-- An extent stands at a place of a fork, behind so many blocks of it, and so many of its own lie in the volume.
+pub record IsExtentAt (extents : List Extent) (index total start inside front : ℕ) : Type 0 where
+  pub within : index < length extents
+  pub start_is : start ≡ (slice_index_or extents index (record { start = 0; count = 0 })).start
+  pub inside_is : inside ≡ min (slice_index_or extents index (record { start = 0; count = 0 })).count (total - start)
+  pub front_is : front ≡ length (blocks_of (take index extents))

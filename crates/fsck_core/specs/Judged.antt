@@ -1,5 +1,5 @@
 -- What a pass over the numbers of a rule has done to the findings.
-use Rattle.std.specs.Prelude.{◌≢◌, ◌⊎◌, ◌↔◌, ℕ, Bool, List, Contains, IsTrue}
+use Rattle.std.specs.Prelude.{◌⊎◌, ◌↔◌, ℕ, Bool, List, Contains, IsTrue}
 use Rattle.hfs_volume.specs.Broken.{Want, AllMet, IsUnmet}
 use Rattle.fsck_list.specs.declared.finding.Finding.{Finding}
 use Rattle.fsck_list.specs.Kept.{IsListed}

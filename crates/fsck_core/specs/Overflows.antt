@@ -1,5 +1,5 @@
 -- The overflow records of a volume as rows.
-use Rattle.std.specs.Prelude.{◌≡◌, ℕ, Bool, List, [], length, map, if◌then◌else◌}
+use Rattle.std.specs.Prelude.{◌≡◌, ℕ, List, [], length, map, if◌then◌else◌}
 use Rattle.hx_bytes.specs.declared.extents.Extent.{Extent}
 use Rattle.btree_node.specs.Levels.{Pair}
 use Rattle.hfs_volume.specs.Records.{Overflow, overflow_of}

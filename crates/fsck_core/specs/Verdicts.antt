@@ -1,5 +1,5 @@
 -- What a check of a volume says, and what it has found on its way.
-use Rattle.std.specs.Prelude.{◌≡◌, ◌⊎◌, ◌<◌, ◌≤◌, ◌+◌, nat_lt, Bool, true, false, List, [], length, Contains, All, count_by, Option, Some, None, MatchOption, if◌then◌else◌}
+use Rattle.std.specs.Prelude.{◌≡◌, ◌⊎◌, ◌<◌, ◌≤◌, ◌+◌, nat_lt, Bool, true, false, List, [], length, Contains, count_by, Option, Some, None, MatchOption, if◌then◌else◌}
 use Rattle.jnl_format.specs.Recovery.{Content, header_of_volume}
 use Rattle.volume_header.specs.declared.header.VolumeHeader.{VolumeHeader}
 use Rattle.fsck_list.specs.declared.finding.Finding.{Finding as Listed}

@@ -1,5 +1,5 @@
 //! The bits of the allocation file behind those of blocks (rule 3).
-ghost use Rattle.std.specs.Prelude.{◌≡◌, ◌<◌, ◌≤◌, ◌-◌, ◌*◌, ◌/◌, ◌^◌, ◌+◌, min, max, IsTrue, IfOk, IsErrOf};
+ghost use Rattle.std.specs.Prelude.{◌≡◌, ◌<◌, ◌≤◌, ◌-◌, ◌*◌, ◌/◌, ◌^◌, ◌+◌, ◌++◌, ◌∷◌, ℕ, [], min, max, length, slice_index, IsTrue, IfOk, OnOk, IsErrOf};
 ghost use Rattle.std.specs.List.{count_by, range_with_len};
 ghost use Rattle.hx_bytes.specs.declared.faults.Trouble.TheVariants.{Disk};
 ghost use Rattle.sector_disk.specs.Cause.{HasCause, Rose};
@@ -10,14 +10,14 @@ ghost use Rattle.btree_file.specs.Frame.{ReadsSpace};
 ghost use Rattle.hfs_volume.specs.Blocks.{IsGoodHeader};
 ghost use Rattle.hfs_volume.specs.Broken.{bits_behind};
 ghost use Rattle.hfs_volume.specs.Content.{volume_of, overflow_of_content};
-ghost use Rattle.fsck_core.specs.Behind.{set_between, set_up_to};
+ghost use Rattle.fsck_core.specs.Behind.{set_between, set_up_to, all_blocks, HasSums, IsWhole, IsExtentAt};
 ghost use Rattle.fsck_core.specs.Overflows.{overflows_in};
 
 use crate::overflow::{OverflowRow, fork_extents};
 use flag_rows::bytes::bit;
-use fork_map::SummedFork;
+use fork_map::{ExtentList, SummedFork};
 use fsck_scan::{Fork, read_sector};
-use hx_bytes::{Extent, Failed, Sector, Trouble};
+use hx_bytes::{Extent, Failed, OutOfMemory, Sector, Trouble};
 use sector_disk::SectorView;
 use std::alloc::Global;
 use volume_header::VolumeHeader;
@@ -110,6 +110,169 @@ fn place_behind(blocks: u128, per_block: u32, end: u64) -> u64
     (blocks * per_block as u128).min(end as u128) as u64
 }
 
+/// Whether the blocks of an extent that lie in the volume are whole sectors of what is counted, and there are so many numbers of bits.
+fn is_whole(
+    total: u32,
+    per_block: u32,
+    size: u64,
+    start: u32,
+    inside: u32,
+    front: u128,
+    at: u64,
+    upto: u64,
+    long: usize,
+) -> bool
+    requires { front < 2 ^ 95 }
+    ensures { IsTrue result → IsWhole total per_block size start inside front at upto long }
+{
+    if at as u128 != front * per_block as u128 {
+        return false;
+    }
+    if upto as u128 != (front + inside as u128) * per_block as u128 {
+        return false;
+    }
+    if at < total.div_ceil(4096) as u64 {
+        return false;
+    }
+    if upto > size / 512 {
+        return false;
+    }
+    if start as u64 + inside as u64 >= long as u64 {
+        return false;
+    }
+    true
+}
+
+/// How many bits are set in blocks of a volume, by the numbers of those before each block.
+fn sums_between(sums: &[u64], start: u32, inside: u32) -> u64
+    requires { start + inside < length sums.now }
+    ensures { result ≡ slice_index sums.now (start + inside) - slice_index sums.now start }
+{
+    let end = sums[start as usize + inside as usize];
+    end.saturating_sub(sums[start as usize])
+}
+
+/// Adds to a count how many bits are set in the blocks of an extent that lie in the volume. Where there are the numbers of bits before each
+/// block, these tell it, and no sector is read.
+fn count_extent<V: SectorView>(
+    view: &mut V,
+    fork: &Fork,
+    total: u32,
+    size: u64,
+    sums: &[u64],
+    start: u32,
+    inside: u32,
+    front: u128,
+    at: u64,
+    upto: u64,
+    before: u64,
+) -> Result<u64, Failed>
+    requires per_block { fork.now.per_block ≤ 128 }
+    requires some { 0 < fork.now.per_block }
+    requires first { total / 4096 ≤ at }
+    requires end { upto ≤ (size + 511) / 512 }
+    requires front { front < 2 ^ 95 }
+    ensures value { IsTrue (V.space view.old).tells → (index : ℕ) → IsExtentAt fork.now.extents.now index total start inside front
+        → HasSums (V.space view.old).content fork.now.limit total fork.now.per_block sums.now
+        → before ≡ min (set_up_to (V.space view.old).content fork.now.limit (fork_sectors fork.now.extents.now fork.now.per_block) total (8 * size) at) (2 ^ 64 - 1)
+        → IfOk result (λ count. count ≡ min (set_up_to (V.space view.old).content fork.now.limit (fork_sectors fork.now.extents.now fork.now.per_block) total (8 * size) (max at upto)) (2 ^ 64 - 1)) }
+    ensures reads { ReadsSpace (V.space view.old) (V.space view.new) }
+    ensures below { V.follows view.old view.new }
+    ensures cause { HasCause (V.space view.old).faults (V.space view.new).faults result }
+{
+    if is_whole(
+        total,
+        fork.per_block,
+        size,
+        start,
+        inside,
+        front,
+        at,
+        upto,
+        sums.len(),
+    ) {
+        return Ok(before.saturating_add(sums_between(sums, start, inside)));
+    }
+    count_stretch(view, fork, total, size, at, upto, before)
+}
+
+/// The numbers of bits that are set before each block of a volume, and before its end.
+fn sum_bits<V: SectorView>(
+    alloc: Global,
+    view: &mut V,
+    whole: &Fork,
+    total: u32,
+) -> Result<Vec<u64>, Trouble>
+    requires few { whole.now.per_block ≤ 128 }
+    ensures value { IsTrue (V.space view.old).tells → whole.now.extents.now ≡ all_blocks total → IfOk result (λ sums. HasSums (V.space view.old).content whole.now.limit total whole.now.per_block sums.items) }
+    ensures reads { ReadsSpace (V.space view.old) (V.space view.new) }
+    ensures below { V.follows view.old view.new }
+    ensures disk { IsErrOf result Disk → Rose (V.space view.old).faults (V.space view.new).faults }
+{
+    let size = total as u64 * whole.per_block as u64 * 512;
+    let mut sums = Vec::new(alloc);
+    let mut count = 0;
+    push_sum(&mut sums, count)?;
+    for block in 0..total {
+        let at = block as u64 * whole.per_block as u64;
+        let upto = at + whole.per_block as u64;
+        count = count_stretch(view, whole, 0, size, at, upto, count)?;
+        push_sum(&mut sums, count)?;
+    }
+    Ok(sums)
+}
+
+fn push_sum(sums: &mut Vec<u64>, sum: u64) -> Result<(), OutOfMemory>
+    ensures { OnOk result (sums.new.items ≡ sums.old.items ++ sum ∷ []) }
+{
+    sums.push(sum)?;
+    Ok(())
+}
+
+/// Whether extents have no more blocks in a volume than it has, so that reading them all reads it once at most.
+fn have_few(extents: &[Extent], total: u32) -> bool {
+    let mut left = total;
+    for extent in extents {
+        let inside = blocks_inside(*extent, total);
+        if inside > left {
+            return false;
+        }
+        left -= inside;
+    }
+    true
+}
+
+/// The numbers of bits that are set before each block of a volume, where the extents of a fork have more blocks than the volume; none for any
+/// other fork, of which each sector is read.
+fn read_sums<V: SectorView>(
+    alloc: Global,
+    view: &mut V,
+    fork: &Fork,
+    total: u32,
+) -> Result<Vec<u64>, Trouble>
+    requires few { fork.now.per_block ≤ 128 }
+    ensures value { IsTrue (V.space view.old).tells → IfOk result (λ sums. HasSums (V.space view.old).content fork.now.limit total fork.now.per_block sums.items) }
+    ensures reads { ReadsSpace (V.space view.old) (V.space view.new) }
+    ensures below { V.follows view.old view.new }
+    ensures disk { IsErrOf result Disk → Rose (V.space view.old).faults (V.space view.new).faults }
+{
+    if have_few(fork.extents.as_slice(), total) {
+        return Ok(Vec::new(alloc));
+    }
+    let mut list = ExtentList::new(alloc);
+    list.push(Extent {
+        start: 0,
+        count: total,
+    })?;
+    let extents = SummedFork::from_list(alloc, list)?;
+    let whole = Fork {
+        extents: &extents,
+        per_block: fork.per_block,
+        limit: fork.limit,
+    };
+    sum_bits(alloc, view, &whole, total)
+}
+
 /// How many of a fork's bits are set behind so many, up to the end of so many bytes; no more than the largest number is told. Blocks outside
 /// the volume are zeros, and aren't looked at one by one.
 fn count_past<V: SectorView>(
@@ -117,11 +280,12 @@ fn count_past<V: SectorView>(
     fork: &Fork,
     total: u32,
     size: u64,
+    sums: &[u64],
 ) -> Result<u64, Failed>
-    requires few { fork.now.per_block ≤ 2 ^ 23 }
+    requires few { fork.now.per_block ≤ 128 }
     requires some { 0 < fork.now.per_block }
     requires limit { fork.now.limit ≡ total * fork.now.per_block }
-    ensures value { IsTrue (V.space view.old).tells → IfOk result (λ count. count ≡ min (set_between (V.space view.old).content fork.now.limit (fork_sectors fork.now.extents.now fork.now.per_block) total (8 * size)) (2 ^ 64 - 1)) }
+    ensures value { IsTrue (V.space view.old).tells → HasSums (V.space view.old).content fork.now.limit total fork.now.per_block sums.now → IfOk result (λ count. count ≡ min (set_between (V.space view.old).content fork.now.limit (fork_sectors fork.now.extents.now fork.now.per_block) total (8 * size)) (2 ^ 64 - 1)) }
     ensures reads { ReadsSpace (V.space view.old) (V.space view.new) }
     ensures below { V.follows view.old view.new }
     ensures cause { HasCause (V.space view.old).faults (V.space view.new).faults result }
@@ -131,9 +295,21 @@ fn count_past<V: SectorView>(
     let mut count = 0;
     let mut front: u128 = 0;
     for extent in fork.extents.as_slice() {
-        let inside = front + blocks_inside(*extent, total) as u128;
-        let upto = place_behind(inside, fork.per_block, end);
-        count = count_stretch(view, fork, total, size, at, upto, count)?;
+        let inside = blocks_inside(*extent, total);
+        let upto = place_behind(front + inside as u128, fork.per_block, end);
+        count = count_extent(
+            view,
+            fork,
+            total,
+            size,
+            sums,
+            extent.start,
+            inside,
+            front,
+            at,
+            upto,
+            count,
+        )?;
         front += extent.count as u128;
         at = at.max(upto).max(place_behind(front, fork.per_block, end));
     }
@@ -163,11 +339,13 @@ pub fn count_behind<V: SectorView>(
         per_block,
         limit: head.total_blocks as u64 * per_block as u64,
     };
+    let sums = read_sums(alloc, view, &fork, head.total_blocks)?;
     let count = count_past(
         view,
         &fork,
         head.total_blocks,
         head.allocation_fork.logical_size,
+        &sums,
     )?;
     Ok(count)
 }

@@ -54,7 +54,7 @@ pub use owners::judge_overflow;
 pub use parents::judge_parents;
 pub use reading::{Headers, read_headers};
 pub use rows::Row;
-pub use sizes::{judge_compare, judge_files, judge_size, judge_total};
+pub use sizes::{judge_compare, judge_files, judge_size};
 pub use threads::judge_threads;
 pub use trees::{scan_attributes, scan_catalog, scan_extents};
 pub use used::read_used;

@@ -1,8 +1,8 @@
-//! What the special files are like: the sizes of their forks (rule 3), and the numbers of their trees that the forks say (rule 4).
+//! What the special files are like: the sizes of their forks (rule 3), and how the catalog compares keys (rule 4).
 ghost use Rattle.std.specs.Prelude.{◌≡◌, ◌<◌, ◌-◌, ◌*◌, ◌/◌, ◌^◌, ◌∷◌, ◌++◌, [], min, IfOk};
 ghost use Rattle.jnl_format.specs.Recovery.{Content};
 ghost use Rattle.btree_node.specs.TreeFile.{TreeFile};
-ghost use Rattle.hfs_volume.specs.Broken.{want, node_place, total_wants, size_wants, file_wants, bits_behind};
+ghost use Rattle.hfs_volume.specs.Broken.{want, node_place, size_wants, file_wants, bits_behind};
 ghost use Rattle.hfs_volume.specs.Content.{facts_of, volume_of};
 ghost use Rattle.hfs_volume.specs.Forks.{catalog_id};
 ghost use Rattle.fsck_scan.specs.Form.{head_in};
@@ -30,52 +30,10 @@ const CATALOG_HEADER: u64 = 17_179_869_184;
 /// Keys of the catalog are compared unit by unit (TN1150, "HFSX", `kHFSBinaryCompare`).
 const BINARY_COMPARE: u64 = 0xBC;
 
-/// The place of the header record of a tree.
-fn header_place(id: u32) -> u64
-    requires { id < 2 ^ 16 }
-    ensures { result ≡ node_place id 0 }
-{
-    id as u64 * 4_294_967_296
-}
-
-/// How many nodes of a size so many bytes have; where a node has no bytes, none.
-fn nodes_in(size: u64, node: u32) -> u64
-    ensures { result ≡ size / node }
-{
-    if node == 0 {
-        return 0;
-    }
-    size / node as u64
-}
-
 fn product(one: u32, other: u32) -> u64
     ensures { result ≡ one * other }
 {
     one as u64 * other as u64
-}
-
-/// Judges the number of nodes in a tree's header record: those that its fork has.
-pub fn judge_total(
-    id: u32,
-    fork: &ForkRecord,
-    tree: &Head,
-    out: &mut Findings,
-) -> Result<bool, OutOfMemory>
-    requires { id < 2 ^ 16 }
-    ensures judged { (file : TreeFile) → head_in tree.now ≡ file.head → IfOk result (λ met. Judged 4 (total_wants id fork.now file) out.old out.new met) }
-    ensures each { (file : TreeFile) → head_in tree.now ≡ file.head → AddsUnmet 4 (total_wants id fork.now file) out.old out.new }
-{
-    let place = header_place(id);
-    let wanted = nodes_in(fork.logical_size, tree.shape.node_size);
-    judge_wants(
-        4,
-        &[Want {
-            place,
-            found: tree.shape.total as u64,
-            wanted,
-        }],
-        out,
-    )
 }
 
 /// Judges how the catalog compares keys: unit by unit, as `HX` volumes do.
