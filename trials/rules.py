@@ -192,6 +192,7 @@ class Reading:
         level, named = [root], None
         for below in range(depth):
             height, entries, firsts = depth - below, [], []
+            want(level, 5, f"an index of {owner} that names no node")
             want(len(level) <= total, 6, f"more nodes than {owner} has")
             for place, at in enumerate(level):
                 want(at < total and at not in reached and at != 0 and at not in chain, 6, f"a node of {owner} twice or outside")

@@ -214,9 +214,13 @@ const FILE: usize = 10;
 
 const LINK: usize = 11;
 
+const NODE_THREAD: usize = 12;
+
 const FILE_THREAD: usize = 13;
 
 const LINK_THREAD: usize = 14;
+
+const PRIVATE_THREAD: usize = 16;
 
 const NODE: usize = 17;
 
@@ -330,7 +334,7 @@ struct Damage {
     finds: &'static [Numbers],
 }
 
-const THREADS: [Damage; 4] = [
+const THREADS: [Damage; 5] = [
     Damage {
         shows: "an entry without its thread",
         changes: &[Change::Gone(FILE_THREAD)],
@@ -372,6 +376,22 @@ const THREADS: [Damage; 4] = [
         ],
         patches: &[],
         finds: &[(10, 18, 0, 1), (10, 20, 0, 1), (10, 21, 0, 1)],
+    },
+    Damage {
+        shows: "an entry in a file",
+        changes: &[
+            Change::Under(LINK, 20),
+            Change::Value(
+                LINK_THREAD,
+                Value::Thread {
+                    of_file: true,
+                    parent: 20,
+                    name: b"l",
+                },
+            ),
+        ],
+        patches: &[],
+        finds: &[(10, 21, 0, 1)],
     },
 ];
 
@@ -443,7 +463,7 @@ const BLOCKS: [Damage; 2] = [
     },
 ];
 
-const LINKS: [Damage; 5] = [
+const LINKS: [Damage; 6] = [
     Damage {
         shows: "another number of links",
         changes: &[Change::Value(
@@ -550,9 +570,43 @@ const LINKS: [Damage; 5] = [
         patches: &[],
         finds: &[(19, 21, 0, 1), (19, 22, 0, 1)],
     },
+    Damage {
+        shows: "a file of the private folder's name",
+        changes: &[
+            Change::Value(
+                PRIVATE_FOLDER,
+                Value::File {
+                    id: 23,
+                    special: 0,
+                    link: false,
+                    data: NO_BLOCKS,
+                },
+            ),
+            Change::Value(
+                PRIVATE_THREAD,
+                Value::Thread {
+                    of_file: true,
+                    parent: 2,
+                    name: PRIVATE,
+                },
+            ),
+            Change::Under(NODE, 18),
+            Change::Value(
+                NODE_THREAD,
+                Value::Thread {
+                    of_file: true,
+                    parent: 18,
+                    name: b"iNode19",
+                },
+            ),
+            Change::Value(FOLDER, Value::Folder { id: 18, valence: 3 }),
+        ],
+        patches: &[(HEAD + 32, &[0, 0, 0, 7, 0, 0, 0, 1])],
+        finds: &[(19, 21, 0, 1), (19, 22, 0, 1), (19, 23, 0, 1)],
+    },
 ];
 
-const ATTRS: [Damage; 5] = [
+const ATTRS: [Damage; 6] = [
     Damage {
         shows: "an attribute of no file",
         changes: &[],
@@ -581,6 +635,21 @@ const ATTRS: [Damage; 5] = [
         shows: "an attribute that is longer than its record",
         changes: &[],
         patches: &[(ATTRIBUTES + 4_141, &[9])],
+        finds: &[(20, 20, 0, 1)],
+    },
+    Damage {
+        shows: "an attribute without a name",
+        changes: &[],
+        patches: &[
+            (
+                ATTRIBUTES + 4_110,
+                &[
+                    0, 12, 0, 0, 0, 0, 0, 20, 0, 0, 0, 0, 0, 0, 0, 0, 0, 0x10, 0, 0, 0, 0, 0, 0, 0,
+                    0, 0, 0, 0, 1, 0x76, 0,
+                ],
+            ),
+            (ATTRIBUTES + 8_188, &[0, 46]),
+        ],
         finds: &[(20, 20, 0, 1)],
     },
 ];
