@@ -16,6 +16,7 @@ ghost use Rattle.btree_edit.specs.declared.edits.Removed.TheVariants as Removed;
 use crate::climbing::{begin, rebuild};
 use crate::desk::Desk;
 use crate::finding::{Found, find};
+use crate::room::{fits_insert, fits_removal};
 use crate::search::read_node;
 use crate::tracing::find_path;
 use btree_node::{KeyOrder, NodeStore, TreeShape};
@@ -134,10 +135,11 @@ pub fn insert<N: NodeStore, K: KeyOrder>(
     requires wide { IsTrue (N.state store.old).tells → 3 * (K.MAX + 8) ≤ node_room (N.state store.old).shape.node_size }
     requires short { length key.now + length value.now ≤ (N.state store.old).shape.node_size / 2 - 10 }
     requires value { IsTrue (N.state store.old).tells → K.is_value value.now }
-    requires records { (N.state store.old).shape.leaf_records < 2 ^ 32 - 1 }
-    requires depth { (N.state store.old).shape.depth ≤ 11 }
-    requires free { (N.state store.old).shape.depth + 1 ≤ (N.state store.old).shape.free }
-    requires room { HasRoom (edit_writes (N.state store.old).shape.depth) (N.state store.old) }
+    // Where the store tells its nodes there is room; where it doesn't, the call fails for want of it.
+    requires records { IsTrue (N.state store.old).tells → (N.state store.old).shape.leaf_records < 2 ^ 32 - 1 }
+    requires depth { IsTrue (N.state store.old).tells → (N.state store.old).shape.depth ≤ 11 }
+    requires free { IsTrue (N.state store.old).tells → (N.state store.old).shape.depth + 1 ≤ (N.state store.old).shape.free }
+    requires room { IsTrue (N.state store.old).tells → HasRoom (edit_writes (N.state store.old).shape.depth) (N.state store.old) }
     // Exists exactly where the tree has the key.
     ensures answer { IsTrue (N.state store.old).tells → IfOk result (λ answer. AnswersInsert K.cmp key.now (N.state store.old) answer) }
     // The pairs are the sorted list with that one pair added.
@@ -169,6 +171,9 @@ pub fn insert<N: NodeStore, K: KeyOrder>(
     match find::<N, K>(store, desk, key)? {
         Found::At { .. } => Ok(Inserted::Exists),
         Found::Absent => {
+            if !fits_insert(store) {
+                return Err(store.fail());
+            }
             desk.first.put(key, value);
             add::<N, K>(store, desk, key)?;
             Ok(Inserted::Done)
@@ -231,9 +236,10 @@ pub fn remove<N: NodeStore, K: KeyOrder>(
     requires tree { IsTrue (N.state store.old).tells → IsTree K.is_key K.cmp (N.state store.old) }
     // The node size is one that the format allows the tree: three index records with the longest keys fit.
     requires wide { IsTrue (N.state store.old).tells → 3 * (K.MAX + 8) ≤ node_room (N.state store.old).shape.node_size }
-    requires depth { K.FIXED ≡ false → (N.state store.old).shape.depth ≤ 11 }
-    requires free { K.FIXED ≡ false → (N.state store.old).shape.depth + 1 ≤ (N.state store.old).shape.free }
-    requires room { HasRoom (edit_writes (N.state store.old).shape.depth) (N.state store.old) }
+    // Where the store tells its nodes there is room; where it doesn't, the call fails for want of it.
+    requires depth { IsTrue (N.state store.old).tells → K.FIXED ≡ false → (N.state store.old).shape.depth ≤ 11 }
+    requires free { IsTrue (N.state store.old).tells → K.FIXED ≡ false → (N.state store.old).shape.depth + 1 ≤ (N.state store.old).shape.free }
+    requires room { IsTrue (N.state store.old).tells → HasRoom (edit_writes (N.state store.old).shape.depth) (N.state store.old) }
     // Absent exactly where the tree doesn't have the key.
     ensures answer { IsTrue (N.state store.old).tells → IfOk result (λ answer. AnswersRemove K.cmp key.now (N.state store.old) answer) }
     // The pairs are the sorted list without that one pair.
@@ -265,6 +271,9 @@ pub fn remove<N: NodeStore, K: KeyOrder>(
     let _total = total_of(&shape);
     match find::<N, K>(store, desk, key)? {
         Found::At { .. } => {
+            if !fits_removal(store, K::FIXED) {
+                return Err(store.fail());
+            }
             drop_pair::<N, K>(store, desk, key, K::FIXED)?;
             Ok(Removed::Done)
         }

@@ -8,6 +8,7 @@ mod finding;
 mod following;
 mod levels;
 mod replacing;
+mod room;
 mod roots;
 mod search;
 mod splitting;

@@ -14,6 +14,7 @@ ghost use Rattle.btree_edit.specs.Answers.{AnswersRemove};
 use crate::desk::Desk;
 use crate::edits::{Removed, change_pair, total_of};
 use crate::finding::{Found, find};
+use crate::room::fits_value;
 use crate::search::read_node;
 use btree_node::{KeyOrder, NodeStore};
 use hx_bytes::Failed;
@@ -32,10 +33,11 @@ pub fn replace<N: NodeStore, K: KeyOrder>(
     requires wide { IsTrue (N.state store.old).tells → 3 * (K.MAX + 8) ≤ node_room (N.state store.old).shape.node_size }
     requires short { length key.now + length value.now ≤ (N.state store.old).shape.node_size / 2 - 10 }
     requires value { IsTrue (N.state store.old).tells → K.is_value value.now }
-    // A value of the length of the old one wants no free node, and one write at most.
-    requires depth { HasValueOf K.cmp key.now (length value.now) (N.state store.old) ⊎ ((N.state store.old).shape.depth ≤ 11) }
-    requires free { HasValueOf K.cmp key.now (length value.now) (N.state store.old) ⊎ ((N.state store.old).shape.depth + 1 ≤ (N.state store.old).shape.free) }
-    requires room { (HasValueOf K.cmp key.now (length value.now) (N.state store.old) × (HasRoom 1 (N.state store.old) ⊎ IsLeafWritten K.cmp key.now (N.state store.old)))
+    // Where the store tells its nodes there is room; where it doesn't, the call fails for want of it. A value of the length of the old one
+    // wants no free node, and one write at most.
+    requires depth { IsTrue (N.state store.old).tells → HasValueOf K.cmp key.now (length value.now) (N.state store.old) ⊎ ((N.state store.old).shape.depth ≤ 11) }
+    requires free { IsTrue (N.state store.old).tells → HasValueOf K.cmp key.now (length value.now) (N.state store.old) ⊎ ((N.state store.old).shape.depth + 1 ≤ (N.state store.old).shape.free) }
+    requires room { IsTrue (N.state store.old).tells → (HasValueOf K.cmp key.now (length value.now) (N.state store.old) × (HasRoom 1 (N.state store.old) ⊎ IsLeafWritten K.cmp key.now (N.state store.old)))
         ⊎ HasRoom (edit_writes (N.state store.old).shape.depth) (N.state store.old) }
     // Absent exactly where the tree doesn't have the key.
     ensures answer { IsTrue (N.state store.old).tells → IfOk result (λ answer. AnswersRemove K.cmp key.now (N.state store.old) answer) }
@@ -69,11 +71,22 @@ pub fn replace<N: NodeStore, K: KeyOrder>(
     let _total = total_of(&shape);
     match find::<N, K>(store, desk, key)? {
         Found::At { node, index } => {
+            if !fits_value(store, has_length(desk, value), node) {
+                return Err(store.fail());
+            }
             give_value::<N, K>(store, desk, key, value, node, index)?;
             Ok(Removed::Done)
         }
         Found::Absent => Ok(Removed::Absent),
     }
+}
+
+/// Whether the value of the pair that was found has the length of another.
+fn has_length(desk: &Desk, value: &[u8]) -> bool
+    ensures same { IsTrue result → length value.now ≡ length desk.now.held.value }
+    ensures surely { length value.now ≡ length desk.now.held.value → IsTrue result }
+{
+    value.len() == desk.value().len()
 }
 
 /// Keeps the key of the pair that was found, with another value.

@@ -33,7 +33,7 @@ none_unput put (x ∷ xs) all =
     sum_by-cons (λ (s : ℕ). cond (not (put s)) 1 0) x xs ∙ rw parts.0 (omega (arith, none_unput put xs parts.1))
 
 -- ---- counts over numbers
-count_step : (p : ℕ → Bool) (a n : ℕ) → count_by p (range_with_len a (suc n)) ≡ cond (p a) 1 0 + count_by p (range_with_len (a + 1) n)
+pub count_step : (p : ℕ → Bool) (a n : ℕ) → count_by p (range_with_len a (suc n)) ≡ cond (p a) 1 0 + count_by p (range_with_len (a + 1) n)
 count_step p a n = sum_by-cons (λ (k : ℕ). cond (p k) 1 0) a (range_with_len (a + 1) n)
 
 pub count_same : (p q : ℕ → Bool) (a n : ℕ) → ((k : ℕ) → a ≤ k → k < a + n → q k ≡ p k) → count_by q (range_with_len a n) ≡ count_by p (range_with_len a n)

@@ -13,6 +13,7 @@ mod putting;
 mod reading;
 mod refreshing;
 mod tree;
+mod written;
 
 pub use on::TreeOn;
 pub use tree::{Stretch, TreeFile};

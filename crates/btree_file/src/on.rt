@@ -6,6 +6,7 @@ ghost use Rattle.btree_file.specs.State.{Agrees};
 use crate::marking::{find_bit, find_clear, is_reserved, mark};
 use crate::putting::{get_node, put_node};
 use crate::tree::TreeFile;
+use crate::written::{are_few, is_written};
 use btree_node::{Node, NodeStore, TreeShape};
 use hx_bytes::Failed;
 use sector_disk::SectorSpace;
@@ -134,5 +135,36 @@ impl<P: SectorSpace> NodeStore for TreeOn<'_, '_, P> {
             false,
         );
         Ok(())
+    }
+
+    /// Only where so many writes have no room the nodes that aren't written yet are counted.
+    fn has_room(&self, many: u64) -> bool {
+        let tree = &*self.tree;
+        let space = &*self.space;
+        let per_node = tree.shape.node_size / 512;
+        let left = space.spare() / per_node as u64;
+        if many <= left {
+            return true;
+        }
+        are_few(
+            space,
+            &tree.fork,
+            tree.per_block,
+            per_node,
+            tree.shape.total,
+            left,
+        )
+    }
+
+    fn is_written(&self, node: u32) -> bool {
+        let tree = &*self.tree;
+        let space = &*self.space;
+        let per_node = tree.shape.node_size / 512;
+        is_written(space, &tree.fork, tree.per_block, per_node, node)
+    }
+
+    fn fail(&mut self) -> Failed {
+        let space = &mut *self.space;
+        space.fail()
     }
 }

@@ -93,13 +93,6 @@ impl MemNodes {
         self.used[node as usize]
     }
 
-    /// Whether so many nodes, or all that aren't written yet, may be written before the next commit.
-    pub fn has_room(&self, many: u32) -> bool
-        ensures { IsTrue result ↔ HasRoom many (mem_state self.now) }
-    {
-        many <= self.writes_left || self.unwritten <= self.writes_left
-    }
-
     /// How many nodes were written since the last commit.
     pub fn count_written(&self) -> u32
         ensures { result + (mem_state self.now).unwritten ≡ (mem_state self.now).shape.total }
@@ -192,5 +185,17 @@ impl NodeStore for MemNodes {
             self.note(0);
         }
         Ok(())
+    }
+
+    fn has_room(&self, many: u64) -> bool {
+        many <= self.writes_left as u64 || self.unwritten <= self.writes_left
+    }
+
+    fn is_written(&self, node: u32) -> bool {
+        self.written[node as usize]
+    }
+
+    fn fail(&mut self) -> Failed {
+        Failed
     }
 }

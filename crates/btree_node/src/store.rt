@@ -1,5 +1,5 @@
 //! A store of the nodes of one tree.
-ghost use Rattle.std.specs.Prelude.{◌≡◌, ◌<◌, ◌≤◌, ◌+◌, ◌-◌, ◌⊎◌, ℕ, true, false, List, IsTrue, length, min, OnOk, OnErr, IfOk, ◌^◌};
+ghost use Rattle.std.specs.Prelude.{◌≡◌, ◌<◌, ◌≤◌, ◌+◌, ◌-◌, ◌⊎◌, ◌↔◌, ℕ, true, false, List, IsTrue, length, min, OnOk, OnErr, IfOk, ◌^◌};
 ghost use Rattle.btree_node.specs.Store.{Store, IsWellFormed, HasRoom, HasCause, SameStore, SameNodes, SameRoom, ChangesOnly, MapsOnly, ShapesOnly, Writes, next_count, with_free};
 
 use crate::node::Node;
@@ -104,6 +104,26 @@ pub trait NodeStore {
         ensures cause { HasCause (state self.old).faults (state self.new).faults result }
         ensures same { SameStore (state self.old) (state self.new) }
         ensures below { follows self.old self.new };
+
+    /// Whether there is room to write so many nodes, or all that aren't written yet.
+    fn has_room(&self, many: u64) -> bool
+        ensures { IsTrue result ↔ HasRoom many (state self.now) };
+
+    /// Whether a node was written since the last commit.
+    fn is_written(&self, node: u32) -> bool
+        requires { node < (state self.now).shape.total }
+        ensures { result ≡ (state self.now).written node };
+
+    /// Counts a fault, where the store doesn't tell what it has: its numbers leave no room for what is asked. Nothing else is done.
+    fn fail(&mut self) -> Failed
+        requires hidden { (state self.old).tells ≡ false }
+        ensures shape { (state self.new).shape ≡ (state self.old).shape }
+        ensures loads { (state self.new).loads ≡ (state self.old).loads }
+        ensures room { SameRoom (state self.old) (state self.new) }
+        ensures same { SameStore (state self.old) (state self.new) }
+        ensures below { follows self.old self.new }
+        ensures later { (state self.old).faults ≤ (state self.new).faults }
+        ensures faults { next_count (state self.old).faults ≤ (state self.new).faults };
 
     ghost well_formed: { (store : Self) → IsWellFormed (state store) };
 

@@ -117,6 +117,11 @@ impl SectorDisk for Few {
             }
         }
     }
+
+    fn fail(&mut self) -> Failed {
+        self.faults = self.faults.saturating_add(1);
+        Failed
+    }
 }
 
 impl Rig for Few {

@@ -94,6 +94,11 @@ impl<'a, K: Write + Drop> SectorDisk for FileRig<'a, K> {
             }
         }
     }
+
+    fn fail(&mut self) -> Failed {
+        self.faults = self.faults.saturating_add(1);
+        Failed
+    }
 }
 
 impl<'a, K: Write + Drop> Rig for FileRig<'a, K> {

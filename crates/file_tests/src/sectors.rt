@@ -41,6 +41,10 @@ impl SectorSpace for Sectors {
         0
     }
 
+    fn is_put(&self, _at: u64) -> bool {
+        true
+    }
+
     fn put(&mut self, at: u64, from: &Sector) {
         self.list[at as usize].copy_from_slice(from);
     }
@@ -54,5 +58,10 @@ impl SectorSpace for Sectors {
         self.spills_left -= 1;
         self.list[at as usize].copy_from_slice(from);
         Ok(())
+    }
+
+    fn fail(&mut self) -> Failed {
+        self.faults = self.faults.saturating_add(1);
+        Failed
     }
 }

@@ -49,6 +49,10 @@ impl SectorDisk for Counting {
             Err(failed) => Err(failed),
         }
     }
+
+    fn fail(&mut self) -> Failed {
+        self.rig.fail()
+    }
 }
 
 impl Rig for Counting {

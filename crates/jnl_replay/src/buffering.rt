@@ -43,6 +43,10 @@ impl<D: SectorDisk> SectorDisk for BufferedDisk<'_, D> {
     fn barrier(&mut self) -> Result<(), Failed> {
         self.disk.barrier()
     }
+
+    fn fail(&mut self) -> Failed {
+        self.disk.fail()
+    }
 }
 
 // Reads a sector, without the disk where it is one of these.

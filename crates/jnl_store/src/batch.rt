@@ -75,6 +75,13 @@ impl Batch {
         self.puts.as_slice()
     }
 
+    /// Whether a sector was put.
+    pub fn has(&self, at: u64) -> bool
+        ensures { result ≡ names self.now.all at }
+    {
+        self.puts.has(at)
+    }
+
     /// The bytes that were put into a sector.
     pub fn get(&self, at: u64) -> Option<Sector>
         ensures { (c : Content) → at < length c → MatchOption result (sector (overlay self.now.all c) at ≡ sector c at) (λ bytes. bytes ≡ sector (overlay self.now.all c) at) }

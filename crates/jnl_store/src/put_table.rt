@@ -81,6 +81,16 @@ impl PutTable {
         }
     }
 
+    /// Whether a sector was put.
+    pub fn has(&self, at: u64) -> bool
+        ensures { result ≡ names self.now.items at }
+    {
+        match self.find(at) {
+            Some(_place) => true,
+            None => false,
+        }
+    }
+
     /// The bytes that were put into a sector.
     pub fn get(&self, at: u64) -> Option<Sector>
         ensures value { (c : Content) → at < length c → MatchOption result (sector (overlay self.now.items c) at ≡ sector c at) (λ bytes. bytes ≡ sector (overlay self.now.items c) at) }

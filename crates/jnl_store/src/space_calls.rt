@@ -78,6 +78,11 @@ impl<D: SectorDisk> SectorSpace for Space<'_, '_, D> {
         store.batch.spare() as u64
     }
 
+    fn is_put(&self, at: u64) -> bool {
+        let store = &*self.store;
+        store.batch.has(at)
+    }
+
     /// Notes the sector for the next commit. The disk isn't called.
     fn put(&mut self, at: u64, from: &Sector)
         requires inside { at < (seen D.state self.old).sectors }
@@ -140,6 +145,13 @@ impl<D: SectorDisk> SectorSpace for Space<'_, '_, D> {
                 Err(failed)
             }
         }
+    }
+
+    /// Counts a fault in the store and on the disk.
+    fn fail(&mut self) -> Failed {
+        let store = &mut *self.store;
+        store.count_fault();
+        self.disk.fail()
     }
 }
 

@@ -51,7 +51,7 @@ impl Untold {
         if shape.free < edits * 12 {
             return false;
         }
-        self.nodes.has_room(edits * 52)
+        self.nodes.has_room(edits as u64 * 52)
     }
 }
 
@@ -92,5 +92,17 @@ impl NodeStore for Untold {
 
     fn give_node(&mut self, node: u32) -> Result<(), Failed> {
         self.nodes.give_node(node)
+    }
+
+    fn has_room(&self, many: u64) -> bool {
+        self.nodes.has_room(many)
+    }
+
+    fn is_written(&self, node: u32) -> bool {
+        self.nodes.is_written(node)
+    }
+
+    fn fail(&mut self) -> Failed {
+        Failed
     }
 }

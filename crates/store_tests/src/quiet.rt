@@ -51,4 +51,8 @@ impl SectorDisk for Quiet {
             }
         }
     }
+
+    fn fail(&mut self) -> Failed {
+        self.rig.fail()
+    }
 }

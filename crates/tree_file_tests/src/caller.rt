@@ -33,10 +33,10 @@ pub fn insert_pair<P: SectorSpace, K: KeyOrder>(
     requires value { IsTrue (P.SectorView.space space.old).tells → K.is_value value.now }
     requires wide { IsTrue (P.SectorView.space space.old).tells → 3 * (K.MAX + 8) ≤ node_room (numbers_of tree.old).node_size }
     requires short { length key.now + length value.now ≤ (numbers_of tree.old).node_size / 2 - 10 }
-    requires records { (numbers_of tree.old).leaf_records < 2 ^ 32 - 1 }
-    requires depth { (numbers_of tree.old).depth ≤ 11 }
-    requires free { (numbers_of tree.old).depth + 1 ≤ (numbers_of tree.old).free }
-    requires room { (names : List ℕ) → HasRoom (edit_writes (numbers_of tree.old).depth) (state_of names tree.old (P.SectorView.space space.old)) }
+    requires records { IsTrue (P.SectorView.space space.old).tells → (numbers_of tree.old).leaf_records < 2 ^ 32 - 1 }
+    requires depth { IsTrue (P.SectorView.space space.old).tells → (numbers_of tree.old).depth ≤ 11 }
+    requires free { IsTrue (P.SectorView.space space.old).tells → (numbers_of tree.old).depth + 1 ≤ (numbers_of tree.old).free }
+    requires room { IsTrue (P.SectorView.space space.old).tells → (names : List ℕ) → HasRoom (edit_writes (numbers_of tree.old).depth) (state_of names tree.old (P.SectorView.space space.old)) }
     // The content has a tree of the same form again.
     ensures holds { IsTrue (P.SectorView.space space.old).tells → (form : TreeForm) → HoldsTree form K.is_key K.is_value K.cmp tree.old (P.SectorView.space space.old).content
         → OnOk result (HoldsTree form K.is_key K.is_value K.cmp tree.new (P.SectorView.space space.new).content) }

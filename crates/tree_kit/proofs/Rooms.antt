@@ -1,24 +1,15 @@
--- There is room for all in sectors that tell nothing, of which each counts as put.
+-- There is room to lengthen a fork in sectors that tell nothing, of which each counts as put.
 use Rattle.std.proofs.Common.{◌≡◌, ℕ, ◌+◌, ◌*◌, ◌/◌, ◌≤◌, true, not, List, inr, refl, ap, arith}
 use Rattle.std.specs.List.{list_all}
 use Rattle.hx_bytes.specs.declared.extents.Extent.{Extent}
 use Rattle.btree_node.specs.MemLaws.{count_none}
-use Rattle.btree_node.specs.Store.{HasRoom}
 use Rattle.btree_file.specs.Growth.{HasRoomToGrow, nodes_with, sectors_with, unwritten_in}
 use Rattle.btree_file.specs.Place.{sectors_at}
-use Rattle.btree_file.specs.State.{sectors_of_tree, per_node, is_written, state_of}
+use Rattle.btree_file.specs.State.{per_node}
 use Rattle.btree_file.specs.declared.tree.TreeFile.{TreeFile}
 use Rattle.btree_file.proofs.RoomLaws.{all_from}
 use Rattle.alloc_bitmap.specs.Untold.{told_none}
 
--- to write any node of a tree
-pub untold_room : (names : List ℕ) (tree : TreeFile) (sectors most : ℕ) → HasRoom most (state_of names tree (told_none sectors))
-untold_room names tree sectors most =
-    let none : (state_of names tree (told_none sectors)).unwritten ≡ 0 =
-    count_none (λ n. not (is_written tree (told_none sectors).put n)) 0 tree.shape.total (λ k low high. ap not (all_from (λ _. true) (sectors_at (sectors_of_tree tree) (per_node tree.shape) k) (λ s c. refl))) in
-    omega (arith, none)
-
--- to lengthen its fork
 pub untold_growth : (tree : TreeFile) (run : Extent) (sectors : ℕ) → HasRoomToGrow tree run (told_none sectors)
 untold_growth tree run sectors =
     let none : unwritten_in (sectors_with tree run) (per_node tree.shape) (nodes_with tree run) (λ _. true) ≡ 0 =

@@ -25,9 +25,6 @@ pub fn add<K: KeyOrder>(
     requires inside { LiesInside tree.old (told_none (length space.old.list.items)) }
     requires key { K.is_key key.now }
     requires short { length key.now + length value.now ≤ (numbers_of tree.old).node_size / 2 - 10 }
-    requires records { (numbers_of tree.old).leaf_records < 2 ^ 32 - 1 }
-    requires depth { (numbers_of tree.old).depth ≤ 11 }
-    requires free { (numbers_of tree.old).depth + 1 ≤ (numbers_of tree.old).free }
     ensures file { SameFile tree.old tree.new }
     ensures sectors { length space.new.list.items ≡ length space.old.list.items }
     ensures desk { IsDeskOf (numbers_of tree.old).node_size desk.new }
@@ -46,8 +43,6 @@ pub fn take_out<K: KeyOrder>(
     requires desk { IsDeskOf (numbers_of tree.old).node_size desk.old }
     requires inside { LiesInside tree.old (told_none (length space.old.list.items)) }
     requires key { K.is_key key.now }
-    requires depth { (numbers_of tree.old).depth ≤ 11 }
-    requires free { (numbers_of tree.old).depth + 1 ≤ (numbers_of tree.old).free }
     ensures file { SameFile tree.old tree.new }
     ensures sectors { length space.new.list.items ≡ length space.old.list.items }
     ensures desk { IsDeskOf (numbers_of tree.old).node_size desk.new }
@@ -68,8 +63,6 @@ pub fn change<K: KeyOrder>(
     requires inside { LiesInside tree.old (told_none (length space.old.list.items)) }
     requires key { K.is_key key.now }
     requires short { length key.now + length value.now ≤ (numbers_of tree.old).node_size / 2 - 10 }
-    requires depth { (numbers_of tree.old).depth ≤ 11 }
-    requires free { (numbers_of tree.old).depth + 1 ≤ (numbers_of tree.old).free }
     ensures file { SameFile tree.old tree.new }
     ensures sectors { length space.new.list.items ≡ length space.old.list.items }
     ensures desk { IsDeskOf (numbers_of tree.old).node_size desk.new }

@@ -103,25 +103,16 @@ impl Plot {
         self.tree.map_bits()
     }
 
-    /// Whether a pair may be added.
-    fn has_room(&self, key: &[u8], value: &[u8]) -> bool
-        ensures short { IsTrue result → length key.now + length value.now ≤ (numbers_of self.now.tree).node_size / 2 - 10 }
-        ensures records { IsTrue result → (numbers_of self.now.tree).leaf_records < 4294967295 }
-        ensures depth { IsTrue result → (numbers_of self.now.tree).depth ≤ 11 }
-        ensures free { IsTrue result → (numbers_of self.now.tree).depth + 1 ≤ (numbers_of self.now.tree).free }
+    /// Whether a pair may stand in a leaf.
+    fn is_short(&self, key: &[u8], value: &[u8]) -> bool
+        ensures { IsTrue result → length key.now + length value.now ≤ (numbers_of self.now.tree).node_size / 2 - 10 }
     {
         let shape = self.shape();
         let most = (shape.node_size / 2).saturating_sub(10) as usize;
         if key.len() > most {
             return false;
         }
-        if value.len() > most - key.len() {
-            return false;
-        }
-        if shape.depth > 11 || shape.leaf_records == u32::MAX {
-            return false;
-        }
-        u32::from(shape.depth) < shape.free
+        value.len() <= most - key.len()
     }
 
     /// Adds a pair; none where it mustn't be asked for, or where that failed.
@@ -129,7 +120,7 @@ impl Plot {
         if !K::valid(key) {
             return None;
         }
-        if !self.has_room(key, value) {
+        if !self.is_short(key, value) {
             return None;
         }
         add::<K>(&mut self.tree, &mut self.space, &mut self.desk, key, value).ok()
@@ -140,9 +131,6 @@ impl Plot {
         if !K::valid(key) {
             return None;
         }
-        if !self.has_room(key, &[]) {
-            return None;
-        }
         take_out::<K>(&mut self.tree, &mut self.space, &mut self.desk, key).ok()
     }
 
@@ -151,7 +139,7 @@ impl Plot {
         if !K::valid(key) {
             return None;
         }
-        if !self.has_room(key, value) {
+        if !self.is_short(key, value) {
             return None;
         }
         change::<K>(&mut self.tree, &mut self.space, &mut self.desk, key, value).ok()

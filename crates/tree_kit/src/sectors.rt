@@ -38,6 +38,10 @@ impl SectorSpace for Sectors {
         0
     }
 
+    fn is_put(&self, _at: u64) -> bool {
+        true
+    }
+
     fn put(&mut self, at: u64, from: &Sector) {
         self.list[at as usize] = *from;
     }
@@ -45,5 +49,9 @@ impl SectorSpace for Sectors {
     fn spill(&mut self, at: u64, from: &Sector) -> Result<(), Failed> {
         self.list[at as usize] = *from;
         Ok(())
+    }
+
+    fn fail(&mut self) -> Failed {
+        Failed
     }
 }

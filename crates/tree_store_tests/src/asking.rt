@@ -2,9 +2,7 @@
 ghost use Rattle.std.specs.Prelude.{◌≡◌, ◌≤◌, ◌<◌, ◌+◌, ◌-◌, ◌*◌, ◌/◌, ◌^◌, ℕ, IsTrue, length, IfOk};
 ghost use Rattle.sector_disk.specs.Space.{SameSpace};
 ghost use Rattle.btree_edit.specs.Desk.{IsDeskOf};
-ghost use Rattle.btree_edit.specs.Editing.{edit_writes};
 ghost use Rattle.btree_file.specs.Standing.{numbers_of, LiesInside};
-ghost use Rattle.btree_file.specs.State.{per_node};
 
 use crate::flaw::Flaw;
 use btree_edit::{Desk, Found, Inserted, Removed, find, insert, remove};
@@ -36,10 +34,6 @@ fn insert_in<P: SectorSpace, K: KeyOrder>(
     requires inside { LiesInside tree.old (P.SectorView.space space.old) }
     requires key { K.is_key key.now }
     requires short { length key.now + length value.now ≤ (numbers_of tree.old).node_size / 2 - 10 }
-    requires records { (numbers_of tree.old).leaf_records < 2 ^ 32 - 1 }
-    requires depth { (numbers_of tree.old).depth ≤ 11 }
-    requires free { (numbers_of tree.old).depth + 1 ≤ (numbers_of tree.old).free }
-    requires room { edit_writes (numbers_of tree.old).depth ≤ (P.SectorView.space space.old).spare / per_node (numbers_of tree.old) }
     ensures same { SameSpace (P.SectorView.space space.old) (P.SectorView.space space.new) }
     ensures below { P.SectorView.follows space.old space.new }
 {
@@ -57,9 +51,6 @@ fn remove_in<P: SectorSpace, K: KeyOrder>(
     requires desk { IsDeskOf (numbers_of tree.old).node_size desk.old }
     requires inside { LiesInside tree.old (P.SectorView.space space.old) }
     requires key { K.is_key key.now }
-    requires depth { (numbers_of tree.old).depth ≤ 11 }
-    requires free { (numbers_of tree.old).depth + 1 ≤ (numbers_of tree.old).free }
-    requires room { edit_writes (numbers_of tree.old).depth ≤ (P.SectorView.space space.old).spare / per_node (numbers_of tree.old) }
     ensures same { SameSpace (P.SectorView.space space.old) (P.SectorView.space space.new) }
     ensures below { P.SectorView.follows space.old space.new }
 {
@@ -108,33 +99,16 @@ fn attach_in<P: SectorSpace>(
     }
 }
 
-/// Whether a pair may be added or removed with room for so many puts.
-fn may_edit(tree: &TreeFile, spare: u64, key: &[u8], value: &[u8]) -> bool
-    ensures short { IsTrue result → length key.now + length value.now ≤ (numbers_of tree.now).node_size / 2 - 10 }
-    ensures records { IsTrue result → (numbers_of tree.now).leaf_records < 2 ^ 32 - 1 }
-    ensures depth { IsTrue result → (numbers_of tree.now).depth ≤ 11 }
-    ensures free { IsTrue result → (numbers_of tree.now).depth + 1 ≤ (numbers_of tree.now).free }
-    ensures room { IsTrue result → edit_writes (numbers_of tree.now).depth ≤ spare / per_node (numbers_of tree.now) }
+/// Whether a pair may stand in a leaf of a tree.
+fn is_short(tree: &TreeFile, key: &[u8], value: &[u8]) -> bool
+    ensures { IsTrue result → length key.now + length value.now ≤ (numbers_of tree.now).node_size / 2 - 10 }
 {
     let shape = tree.shape();
     let most = (shape.node_size / 2).saturating_sub(10) as usize;
     if key.len() > most {
         return false;
     }
-    if value.len() > most - key.len() {
-        return false;
-    }
-    if shape.depth > 11 || shape.leaf_records == u32::MAX {
-        return false;
-    }
-    if u32::from(shape.depth) >= shape.free {
-        return false;
-    }
-    let per = u64::from(shape.node_size / 512);
-    if per == 0 {
-        return false;
-    }
-    4 * (u64::from(shape.depth) + 1) + 4 <= spare / per
+    value.len() <= most - key.len()
 }
 
 fn add_pair<P: SectorSpace, K: KeyOrder>(
@@ -154,7 +128,7 @@ fn add_pair<P: SectorSpace, K: KeyOrder>(
     if !K::valid(key) {
         return Ok(false);
     }
-    if !may_edit(&tree, space.spare(), key, value) {
+    if !is_short(&tree, key, value) {
         return Ok(false);
     }
     let answer = insert_in::<P, K>(&mut tree, space, &mut desk, key, value);
@@ -175,9 +149,6 @@ fn take_pair<P: SectorSpace, K: KeyOrder>(
     let mut tree = attach_in::<P>(alloc, space, fork, block)?;
     let mut desk = Desk::new(alloc, tree.shape().node_size)?;
     if !K::valid(key) {
-        return Ok(false);
-    }
-    if !may_edit(&tree, space.spare(), key, &[]) {
         return Ok(false);
     }
     let answer = remove_in::<P, K>(&mut tree, space, &mut desk, key);

@@ -36,4 +36,8 @@ impl SectorDisk for Quiet {
     fn barrier(&mut self) -> Result<(), Failed> {
         self.rig.barrier()
     }
+
+    fn fail(&mut self) -> Failed {
+        self.rig.fail()
+    }
 }

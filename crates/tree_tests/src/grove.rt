@@ -2,9 +2,7 @@
 ghost use Rattle.std.specs.Prelude.{◌≡◌, ◌≤◌, ◌<◌, ◌+◌, ◌*◌, ◌/◌, ◌-◌, IsTrue, length};
 ghost use Rattle.btree_node.specs.Node.{IsNodeSize};
 ghost use Rattle.btree_node.specs.Mem.{mem_state};
-ghost use Rattle.btree_node.specs.Store.{HasRoom};
 ghost use Rattle.btree_edit.specs.Desk.{IsDeskOf};
-ghost use Rattle.node_kit.specs.Untold.{untold};
 
 use btree_edit::{Desk, Found, Inserted, Removed, find, insert, next, remove, replace};
 use btree_node::{KeyOrder, Node, NodeStore, TreeShape};
@@ -46,21 +44,6 @@ impl Grove {
         self.store.shape()
     }
 
-    /// Whether any edit may be asked for.
-    fn has_room(&self) -> bool
-        ensures depth { IsTrue result → (mem_state self.now.store.nodes).shape.depth ≤ 10 }
-        ensures free { IsTrue result → (mem_state self.now.store.nodes).shape.depth + 1 ≤ (mem_state self.now.store.nodes).shape.free }
-        ensures records { IsTrue result → (mem_state self.now.store.nodes).shape.leaf_records < 4294967295 }
-        ensures room { IsTrue result → HasRoom (4 * ((mem_state self.now.store.nodes).shape.depth + 1) + 4) (untold (mem_state self.now.store.nodes)) }
-    {
-        let shape = self.store.shape();
-        if shape.depth > 10 || shape.leaf_records == u32::MAX {
-            return false;
-        }
-        let depth = u32::from(shape.depth);
-        depth < shape.free && self.store.nodes.has_room(4 * (depth + 1) + 4)
-    }
-
     /// Whether a pair may stand in a leaf.
     fn is_short(&self, key: &[u8], value: &[u8]) -> bool
         ensures { IsTrue result → length key.now + length value.now ≤ (mem_state self.now.store.nodes).shape.node_size / 2 - 10 }
@@ -71,7 +54,7 @@ impl Grove {
 
     /// Adds a pair; none where it mustn't be asked for, or where the store failed.
     pub fn add<K: KeyOrder>(&mut self, key: &[u8], value: &[u8]) -> Option<Inserted> {
-        if !K::valid(key) || !self.is_short(key, value) || !self.has_room() {
+        if !K::valid(key) || !self.is_short(key, value) {
             return None;
         }
         insert::<Untold, K>(&mut self.store, &mut self.desk, key, value).ok()
@@ -79,7 +62,7 @@ impl Grove {
 
     /// Removes a pair.
     pub fn take_out<K: KeyOrder>(&mut self, key: &[u8]) -> Option<Removed> {
-        if !K::valid(key) || !self.has_room() {
+        if !K::valid(key) {
             return None;
         }
         remove::<Untold, K>(&mut self.store, &mut self.desk, key).ok()
@@ -87,7 +70,7 @@ impl Grove {
 
     /// Gives a pair another value.
     pub fn change<K: KeyOrder>(&mut self, key: &[u8], value: &[u8]) -> Option<Removed> {
-        if !K::valid(key) || !self.is_short(key, value) || !self.has_room() {
+        if !K::valid(key) || !self.is_short(key, value) {
             return None;
         }
         replace::<Untold, K>(&mut self.store, &mut self.desk, key, value).ok()

@@ -1,15 +1,16 @@
-use Rattle.std.proofs.Common.{◌≡◌, ◌≤◌, ◌<◌, ◌+◌, ◌*◌, ◌^◌, ◌++◌, ◌-◌, ◌/◌, List, [], get_or, refl, IsTrue, length, inl, inr, ap, sym, ◌∙◌, subst, arith}
+use Rattle.std.proofs.Common.{◌≡◌, ◌⊎◌, ◌≤◌, ◌<◌, ◌+◌, true, false, ⊎_elim, ◌*◌, ◌^◌, ◌++◌, ◌-◌, ◌/◌, List, [], get_or, refl, IsTrue, length, inl, inr, ap, sym, ◌∙◌, subst, arith}
 use Rattle.std.specs.declared.cmp.Ordering.TheVariants.{Equal}
-use Rattle.std.proofs.lemmas.Bool.{cases_eq}
+use Rattle.std.proofs.lemmas.Bool.{cases_eq, cases_Bool, true≢false}
 use Rattle.std.proofs.lemmas.List.{length-append}
 use Rattle.std.proofs.lemmas.List.Elements.{All-same}
 use Rattle.btree_node.specs.Levels.{Pair}
+use Rattle.btree_node.specs.Store.{HasRoom}
 use Rattle.btree_node.specs.Tree.{pairs_of}
 use Rattle.btree_edit.specs.LevelEdit.{node_room}
 use Rattle.btree_edit.specs.Rising.{BoundsRoot, RootHasTwoChildren}
 use Rattle.btree_edit.specs.Sorted.{ChangesPair, EditsTree}
 use Rattle.btree_edit.specs.Editing.{CostsAtMost, edit_writes}
-use Rattle.btree_edit.specs.Swapping.{SwapsRecord}
+use Rattle.btree_edit.specs.Swapping.{HasValueOf, SwapsRecord}
 use Rattle.btree_edit.proofs.Crowning.{tree_kept}
 use Rattle.btree_edit.proofs.Doing.{does_both, does_read}
 use Rattle.btree_edit.proofs.Swaps.{bounds_swapped, thick_swapped, thick_read, is_found, found_key, found_size, has_record, value_swapped}
@@ -28,80 +29,44 @@ give_value-requires-clause-tree g c = λ told.
     let small : m.shape.total ≤ 2 ^ 32 = omega (arith, reads.same.total, ap (λ h. h.total) c.shape-shape.ensures, c.total_of-total.ensures, c.total_of-total.type_inv) in
     tree_kept g.met.K.KeyOrder.key_length s m (c.requires.tree tells) small reads.shape (reads.tree tells).nodes (reads.tree tells).used reads.same.reserved
 
-pub give_value-requires-clause-depth : goal.give_value-requires-clause-depth
-give_value-requires-clause-depth g c = λ other.
+pub fail-requires : goal.fail-requires
+fail-requires g c =
     let s = g.N.NodeStore.state c.args.store.now in
     let m = g.N.NodeStore.state c.find.new.store in
     let reads = c.find.ensures.reads in
     let cmp = g.K.KeyOrder.cmp in
     let key = c.args.key.now in
     let size = length c.args.value.now in
-    elim c.requires.depth [
-      | inl has ↦
-          let tells = has.tells in
+    let refused : c.fits_value.result ≡ false = c.if-not-fits_value.true in
+    record {
+      hidden = ⊎_elim (λ (told : m.tells ≡ true).
+          let tells : IsTrue s.tells = sym reads.same.tells ∙ told in
           let tree = c.requires.tree tells in
           let found = is_found cmp key s c.find.new.desk c.in-At.node c.in-At.index c.in_ok-node.field-0 c.in-At.is (c.in_ok-node.ensures.found tells) (c.in_ok-node.ensures.place tells) in
-          let same : size ≡ length c.find.new.desk.held.value = found_size g.met.K.KeyOrder.total g.met.K.KeyOrder.key_length s tree key found.stands.some size has c.find.new.desk found.k found.holds found.equal in
-          absurd (other same)
-      | inr depth ↦ omega (arith, depth, ap (λ h. h.depth) reads.shape)
-    ]
+          let long : HasValueOf cmp key size s → size ≡ length c.find.new.desk.held.value = λ has. found_size g.met.K.KeyOrder.total g.met.K.KeyOrder.key_length s tree key found.stands.some size has c.find.new.desk found.k found.holds found.equal in
+          ⊎_elim (λ (yes : c.has_length.result ≡ true).
+          let here = has_record g.met.K.KeyOrder.total g.met.K.KeyOrder.key_length s c.find.new.desk c.in-At.node c.in-At.index found.k key c.args.value.now tree found.stands found.holds found.item (c.has_length.ensures.same yes) m reads.same ((reads.tree tells).nodes c.in-At.node) in
+          let once : HasRoom 1 m ⊎ IsTrue (m.written c.in-At.node) = elim (c.requires.room tells) [
+            | inl (has, room) ↦ elim room [
+              | inl one ↦ inl (omega (arith, one, reads.room.unwritten, reads.room.writes_left))
+              | inr written ↦ inr (subst (λ b. IsTrue b) (sym (reads.room.written c.in-At.node)) (written c.in-At.node c.in-At.index found.k found.stands (ap (λ l. cmp l key) (sym found.holds.key) ∙ found.equal)))
+            ]
+            | inr room ↦ inl (omega (arith, room, reads.room.unwritten, reads.room.writes_left))
+          ] in
+          absurd (true≢false (sym (c.fits_value.ensures.surely_one here.is_node.inside yes once) ∙ refused)))
+          (λ (no : c.has_length.result ≡ false).
+          let other : HasValueOf cmp key size s → ⊥ = λ has. true≢false (sym (c.has_length.ensures.surely (long has)) ∙ no) in
+          let depth : m.shape.depth ≤ 11 = ⊎_elim (λ has. absurd (other has)) (λ low. omega (arith, low, ap (λ h. h.depth) reads.shape)) (c.requires.depth tells) in
+          let free : m.shape.depth + 1 ≤ m.shape.free = ⊎_elim (λ has. absurd (other has)) (λ free. omega (arith, free, ap (λ h. h.depth) reads.shape, ap (λ h. h.free) reads.shape)) (c.requires.free tells) in
+          let room : HasRoom (edit_writes m.shape.depth) m = ⊎_elim (λ has. absurd (other has.0)) (λ room. omega (arith, room, ap (λ h. h.depth) reads.shape, reads.room.unwritten, reads.room.writes_left)) (c.requires.room tells) in
+          absurd (true≢false (sym (c.fits_value.ensures.surely no depth free room) ∙ refused)))
+          (cases_Bool c.has_length.result))
+          (λ hidden. hidden)
+          (cases_Bool m.tells);
+    }
 
-pub give_value-requires-clause-free : goal.give_value-requires-clause-free
-give_value-requires-clause-free g c = λ other.
-    let s = g.N.NodeStore.state c.args.store.now in
-    let m = g.N.NodeStore.state c.find.new.store in
-    let reads = c.find.ensures.reads in
-    let cmp = g.K.KeyOrder.cmp in
-    let key = c.args.key.now in
-    let size = length c.args.value.now in
-    elim c.requires.free [
-      | inl has ↦
-          let tells = has.tells in
-          let tree = c.requires.tree tells in
-          let found = is_found cmp key s c.find.new.desk c.in-At.node c.in-At.index c.in_ok-node.field-0 c.in-At.is (c.in_ok-node.ensures.found tells) (c.in_ok-node.ensures.place tells) in
-          let same : size ≡ length c.find.new.desk.held.value = found_size g.met.K.KeyOrder.total g.met.K.KeyOrder.key_length s tree key found.stands.some size has c.find.new.desk found.k found.holds found.equal in
-          absurd (other same)
-      | inr free ↦ omega (arith, free, ap (λ h. h.depth) reads.shape, ap (λ h. h.free) reads.shape)
-    ]
-
-pub give_value-requires-clause-once : goal.give_value-requires-clause-once
-give_value-requires-clause-once g c = λ is.
-    let s = g.N.NodeStore.state c.args.store.now in
-    let m = g.N.NodeStore.state c.find.new.store in
-    let reads = c.find.ensures.reads in
-    let cmp = g.K.KeyOrder.cmp in
-    let key = c.args.key.now in
-    let size = length c.args.value.now in
-    elim c.requires.room [
-      | inl (has, room) ↦ elim room [
-        | inl one ↦ inl (omega (arith, one, reads.room.unwritten, reads.room.writes_left))
-        | inr written ↦
-            let tells = has.tells in
-            let tree = c.requires.tree tells in
-            let found = is_found cmp key s c.find.new.desk c.in-At.node c.in-At.index c.in_ok-node.field-0 c.in-At.is (c.in_ok-node.ensures.found tells) (c.in_ok-node.ensures.place tells) in
-            let same : size ≡ length c.find.new.desk.held.value = found_size g.met.K.KeyOrder.total g.met.K.KeyOrder.key_length s tree key found.stands.some size has c.find.new.desk found.k found.holds found.equal in
-            inr (subst (λ b. IsTrue b) (sym (reads.room.written c.in-At.node)) (written c.in-At.node c.in-At.index found.k found.stands (ap (λ l. cmp l key) (sym found.holds.key) ∙ found.equal)))
-      ]
-      | inr room ↦ inl (omega (arith, room, reads.room.unwritten, reads.room.writes_left))
-    ]
-
-pub give_value-requires-clause-room : goal.give_value-requires-clause-room
-give_value-requires-clause-room g c = λ other.
-    let s = g.N.NodeStore.state c.args.store.now in
-    let m = g.N.NodeStore.state c.find.new.store in
-    let reads = c.find.ensures.reads in
-    let cmp = g.K.KeyOrder.cmp in
-    let key = c.args.key.now in
-    let size = length c.args.value.now in
-    elim c.requires.room [
-      | inl (has, room) ↦
-          let tells = has.tells in
-          let tree = c.requires.tree tells in
-          let found = is_found cmp key s c.find.new.desk c.in-At.node c.in-At.index c.in_ok-node.field-0 c.in-At.is (c.in_ok-node.ensures.found tells) (c.in_ok-node.ensures.place tells) in
-          let same : size ≡ length c.find.new.desk.held.value = found_size g.met.K.KeyOrder.total g.met.K.KeyOrder.key_length s tree key found.stands.some size has c.find.new.desk found.k found.holds found.equal in
-          absurd (other same)
-      | inr room ↦ omega (arith, room, ap (λ h. h.depth) reads.shape, reads.room.unwritten, reads.room.writes_left)
-    ]
+pub returns-in_err-give_value-in-At-clause-below : goal.returns-in_err-give_value-in-At-clause-below
+returns-in_err-give_value-in-At-clause-below g c = g.met.N.NodeStore.follows_trans c.args.store.now c.find.new.store c.give_value.new.store c.find.ensures.below c.give_value.ensures.below
 
 pub returns-in_err-give_value-in-At-clause-once : goal.returns-in_err-give_value-in-At-clause-once
 returns-in_err-give_value-in-At-clause-once g c = λ has.

@@ -10,7 +10,7 @@ insert-requires-clause-tree g c tells =
     tree_held has.0 g.K.KeyOrder.is_key g.K.KeyOrder.is_value g.K.KeyOrder.cmp _ c.args.tree.now (g.P.SectorView.space c.args.space.now) has.1
 
 pub insert-requires-clause-room : goal.insert-requires-clause-room
-insert-requires-clause-room g c = c.requires.room []
+insert-requires-clause-room g c = λ tells. c.requires.room tells []
 
 pub returns-clause-frame : goal.returns-clause-frame
 returns-clause-frame g c =

@@ -1,9 +1,5 @@
-use Rattle.std.proofs.Common.{◌≡◌, ℕ, List, ◌∷◌, [], length, get_or, inr, sym, ap}
-use Rattle.tree_kit.proofs.Rooms.{untold_room}
+use Rattle.std.proofs.Common.{◌≡◌, ℕ, List, ◌∷◌, [], length, get_or, sym, ap}
 use Rattle.tree_kit.proofs.calls.add.Goals as goal
-
-pub insert-requires-clause-room : goal.insert-requires-clause-room
-insert-requires-clause-room g c = untold_room [] c.args.tree.now (length c.args.space.now.list.items) _
 
 pub returns-clause-file : goal.returns-clause-file
 returns-clause-file g c =

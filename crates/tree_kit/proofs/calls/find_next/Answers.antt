@@ -1,5 +1,4 @@
-use Rattle.std.proofs.Common.{◌≡◌, ℕ, List, ◌∷◌, [], length, get_or, inr, sym, ap}
-use Rattle.tree_kit.proofs.Rooms.{untold_room}
+use Rattle.std.proofs.Common.{◌≡◌, ℕ, List, ◌∷◌, [], length, get_or, sym, ap}
 use Rattle.tree_kit.proofs.calls.find_next.Goals as goal
 
 pub returns-clause-file : goal.returns-clause-file

@@ -1,9 +1,5 @@
-use Rattle.std.proofs.Common.{◌≡◌, ℕ, List, ◌∷◌, [], length, get_or, inr, sym, ap}
-use Rattle.tree_kit.proofs.Rooms.{untold_room}
+use Rattle.std.proofs.Common.{◌≡◌, ℕ, List, ◌∷◌, [], length, get_or, sym, ap}
 use Rattle.tree_kit.proofs.calls.take_out.Goals as goal
-
-pub remove-requires-clause-room : goal.remove-requires-clause-room
-remove-requires-clause-room g c = untold_room [] c.args.tree.now (length c.args.space.now.list.items) _
 
 pub returns-clause-file : goal.returns-clause-file
 returns-clause-file g c =

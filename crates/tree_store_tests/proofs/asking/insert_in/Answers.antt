@@ -1,8 +1,5 @@
-use Rattle.std.proofs.Common.{◌≡◌, ℕ, List, ◌∷◌, [], get_or, sym, ap, arith}
+use Rattle.std.proofs.Common.{◌≡◌, ℕ, List, ◌∷◌, [], get_or, sym, ap}
 use Rattle.tree_store_tests.proofs.asking.insert_in.Goals as goal
-
-pub insert-requires-clause-room : goal.insert-requires-clause-room
-insert-requires-clause-room g c = omega (arith, c.requires.room)
 
 pub returns-clause-same : goal.returns-clause-same
 returns-clause-same g c =

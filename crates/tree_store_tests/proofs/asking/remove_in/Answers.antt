@@ -1,8 +1,5 @@
-use Rattle.std.proofs.Common.{◌≡◌, ℕ, List, ◌∷◌, [], get_or, sym, ap, arith}
+use Rattle.std.proofs.Common.{◌≡◌, ℕ, List, ◌∷◌, [], get_or, sym, ap}
 use Rattle.tree_store_tests.proofs.asking.remove_in.Goals as goal
-
-pub remove-requires-clause-room : goal.remove-requires-clause-room
-remove-requires-clause-room g c = omega (arith, c.requires.room)
 
 pub returns-clause-same : goal.returns-clause-same
 returns-clause-same g c =
