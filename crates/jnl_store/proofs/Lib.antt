@@ -39,3 +39,4 @@ pub mod Homed
 pub mod Grown
 pub mod Room
 pub mod Composed
+pub mod BroughtHome

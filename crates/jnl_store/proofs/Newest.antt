@@ -3,7 +3,7 @@ use Rattle.std.proofs.Common.{◌≡◌, ◌⊎◌, ◌<◌, ◌≤◌, ◌+◌,
 use Rattle.std.specs.Prelude.{Option, None, Some}
 use Rattle.std.proofs.lemmas.Bool.{eqb-true, eq-eqb, true≢false}
 use Rattle.sector_disk.specs.Lists.{Content, sector}
-use Rattle.jnl_format.specs.Named.{Each, IsGoodHome}
+use Rattle.jnl_format.specs.Named.{Each, IsGoodHome, IsHomeOf}
 use Rattle.jnl_format.specs.Recovery.{with_homes}
 use Rattle.jnl_format.specs.Text.{bytes_at}
 use Rattle.jnl_format.specs.declared.blocks.Home.{Home}
@@ -94,4 +94,16 @@ newest_inside volume text (h ∷ hs) at p all some = elim (place_or (newest hs a
       let e : Some later.0 ≡ Some p = ap (λ (x : Option ℕ). or_later x (own h at)) (sym later.1) ∙ some in
       let same : later.0 ≡ p = cc e in
       omega (arith, newest_inside volume text hs at later.0 all.1 later.1, same)
+]
+
+-- and they are those of one of its homes
+pub newest_of : (text : List ℕ) (homes : List Home) (at p : ℕ) → newest homes at ≡ Some p → IsHomeOf text homes at (bytes_at text p 512)
+newest_of text [] at p some = absurd (cc some)
+newest_of text (h ∷ hs) at p some = elim (place_or (newest hs at)) [
+  | inl none ↦
+      let o = own_some (eqb at h.sector) h.place p (ap (λ (x : Option ℕ). or_later x (own h at)) (sym none) ∙ some) in
+      inl (sym (eqb-true at h.sector o.0), ap (λ n. bytes_at text n 512) (sym o.1))
+  | inr later ↦
+      let e : Some later.0 ≡ Some p = ap (λ (x : Option ℕ). or_later x (own h at)) (sym later.1) ∙ some in
+      inr (newest_of text hs at p (later.1 ∙ e))
 ]

@@ -16,3 +16,4 @@ pub mod Standing
 pub mod Store
 pub mod InUse
 pub mod Appending
+pub mod Bringing

@@ -189,6 +189,13 @@ impl Batch {
         self.kept.clear();
     }
 
+    /// The live sectors.
+    pub fn live(&self) -> &LiveTable
+        ensures { result.now.homes ≡ self.now.live }
+    {
+        &self.live
+    }
+
     /// Nothing is live any more.
     pub fn forget(&mut self)
         ensures { self.new ≡ record self.old { live = [] } }

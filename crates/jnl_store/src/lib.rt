@@ -3,6 +3,7 @@
 
 mod appending;
 mod batch;
+mod bringing;
 mod cache;
 mod calls;
 mod commit;

@@ -1,5 +1,6 @@
 //! The places of the sectors that are live, in two tables: those that joined last, and those before them.
-ghost use Rattle.std.specs.Prelude.{◌≡◌, ◌<◌, ◌≤◌, ◌+◌, ◌^◌, ◌==◌, ◌-◌, ◌++◌, ℕ, [], Some, length, if◌then◌else◌, OnOk, OnErr};
+ghost use Rattle.std.specs.Prelude.{◌≡◌, ◌<◌, ◌≤◌, ◌+◌, ◌^◌, ◌==◌, ◌-◌, ◌++◌, ℕ, [], Some, length, slice_index_or, if◌then◌else◌, OnOk, OnErr};
+ghost use Rattle.jnl_format.specs.declared.blocks.Home.{Home};
 ghost use Rattle.jnl_store.specs.Lists.{IsForm, lists_homes, most_puts};
 ghost use Rattle.jnl_store.specs.Newest.{newest, or_later};
 
@@ -7,6 +8,7 @@ use crate::form::{ListForm, puts_at_most};
 use crate::place_table::PlaceTable;
 use crate::puts::Put;
 use hx_bytes::OutOfMemory;
+use jnl_format::Home;
 use std::alloc::Global;
 use std::marker::Model;
 use std::mem::swap;
@@ -85,6 +87,35 @@ impl LiveTable {
         match self.recent.find(at) {
             Some(place) => Some(place),
             None => self.older.find(at),
+        }
+    }
+
+    /// How many homes there are. A sector may have two of them.
+    pub fn len(&self) -> usize
+        ensures { result ≡ length self.now.homes }
+    {
+        let _most = self.memory;
+        self.older.len() + self.recent.len()
+    }
+
+    /// The sector of one of the homes, with the place of its newest bytes.
+    pub fn home(&self, k: usize) -> Home
+        requires { k < length self.now.homes }
+        ensures sector { (none : Home) → (slice_index_or self.now.homes k none).sector ≡ result.sector }
+        ensures newest { newest self.now.homes result.sector ≡ Some result.place }
+    {
+        let before = self.older.len();
+        if k < before {
+            let home = self.older.home(k);
+            match self.recent.find(home.sector) {
+                Some(place) => Home {
+                    sector: home.sector,
+                    place,
+                },
+                None => home,
+            }
+        } else {
+            self.recent.home(k - before)
         }
     }
 

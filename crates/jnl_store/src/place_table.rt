@@ -1,10 +1,12 @@
 //! The places of sectors in a journal's text, each sector once, found by its number in logarithmic time, in memory that was
 //! found before.
-ghost use Rattle.std.specs.Prelude.{◌≡◌, ◌<◌, ◌≤◌, ◌+◌, ◌^◌, ◌==◌, ◌-◌, ℕ, [], Option, None, Some, length, take, if◌then◌else◌, MatchResult, OnOk, OnErr};
+ghost use Rattle.std.specs.Prelude.{◌≡◌, ◌<◌, ◌≤◌, ◌+◌, ◌^◌, ◌==◌, ◌-◌, ℕ, [], Option, None, Some, length, slice_index_or, take, if◌then◌else◌, MatchResult, OnOk, OnErr};
+ghost use Rattle.jnl_format.specs.declared.blocks.Home.{Home};
 ghost use Rattle.jnl_store.specs.Newest.{newest, or_later};
 ghost use Rattle.jnl_store.specs.Placed.{IsMissing, IsThere, Rising};
 
 use hx_bytes::OutOfMemory;
+use jnl_format::Home;
 use std::alloc::Global;
 use std::marker::Model;
 
@@ -66,6 +68,18 @@ impl PlaceTable {
         match self.sectors.binary_search(&at) {
             Ok(k) => Some(self.places[k]),
             Err(_) => None,
+        }
+    }
+
+    /// One of the sectors, counted in rising order, with the place of its newest bytes.
+    pub fn home(&self, k: usize) -> Home
+        requires { k < length self.now.homes }
+        ensures is { (none : Home) → slice_index_or self.now.homes k none ≡ result }
+        ensures newest { newest self.now.homes result.sector ≡ Some result.place }
+    {
+        Home {
+            sector: self.sectors[k],
+            place: self.places[k],
         }
     }
 

@@ -165,7 +165,7 @@ impl Store {
         ensures sink { SameSink (D.state disk.old) (D.state disk.new) }
         ensures cause { HasCause (D.state disk.old).faults (D.state disk.new).faults result }
     {
-        write_home(disk, &self.plan)?;
+        write_home(disk, &self.plan, self.batch.live())?;
         self.plan = rest(&self.plan);
         self.batch.forget();
         self.unsettled = false;

@@ -1,83 +1,72 @@
-use Rattle.std.proofs.Common.{◌≡◌, ℕ, IsTrue, List, ◌∙◌, ap, subst}
+use Rattle.std.proofs.Common.{◌≡◌, IsTrue, ◌∙◌, ap}
 use Rattle.sector_disk.specs.Lists.{Content}
-use Rattle.sector_disk.specs.Disk.{CrashesLeave, content, only}
+use Rattle.sector_disk.specs.Disk.{content, only}
 use Rattle.sector_disk.proofs.Writing.{sink_after}
-use Rattle.jnl_format.specs.Recovery.{homes_of, replayed, volume_of, with_homes}
+use Rattle.jnl_format.specs.Recovery.{replayed}
 use Rattle.jnl_ring.proofs.RingLaws.{barrier_leaves}
-use Rattle.jnl_replay.specs.Homing.{IsHomeMix, with_empty_header}
+use Rattle.jnl_replay.specs.Homing.{with_empty_header}
 use Rattle.jnl_replay.specs.Plan.{journal_of}
-use Rattle.jnl_replay.proofs.Checks.{length-content}
 use Rattle.jnl_replay.proofs.Common.{on_ok}
-use Rattle.jnl_replay.proofs.Stages.{homes_of_plan, words_of_plan}
 use Rattle.jnl_replay.proofs.Stretches.{settled_content}
 use Rattle.jnl_store.specs.Appending.{StandsStill}
 use Rattle.jnl_store.proofs.RingHome.{stage_emptied, stage_homes}
 use Rattle.jnl_store.proofs.RingKept.{lists_parts}
-use Rattle.jnl_store.proofs.RingStages.{content_plan}
 use Rattle.jnl_store.proofs.homing.write_home.Goals as goal
 
-pub returns-in_err-write_homes-clause-crash : goal.returns-in_err-write_homes-clause-crash
-returns-in_err-write_homes-clause-crash g c tells =
+pub returns-in_err-bring_newest-clause-crash : goal.returns-in_err-bring_newest-clause-crash
+returns-in_err-bring_newest-clause-crash g c tells =
     let s0 = g.D.SectorDisk.state c.args.disk.now in
-    let s1 = g.D.SectorDisk.state c.write_homes.new.disk in
+    let s1 = g.D.SectorDisk.state c.bring_newest.new.disk in
     let plan = c.args.plan.now in
     let j = journal_of plan in
     let is = g.met.D.SectorDisk.well_formed c.args.disk.now in
-    let k = (lists_parts plan (c.requires.keeps tells).0 s0 (c.requires.keeps tells).1).text in
-    let t = c.text_of-text.result in
-    let a = homes_of_plan (content s0) plan t s0.sectors (content_plan plan c.requires.rest s0 is k) c.text_of-text.ensures.is (length-content s0 is tells) in
+    let k = (lists_parts plan c.args.live.now.homes s0 (c.requires.keeps tells)).text in
     stage_homes plan c.requires.rest s0 is k s1
-    (subst (λ (w : List ℕ). CrashesLeave s0 s1 (IsHomeMix w (homes_of j (content s0)) s0.candidates)) (words_of_plan (content s0) plan t c.text_of-text.ensures.is) (c.write_homes.ensures.crash tells (volume_of plan.place.info_sector j (content s0)) (homes_of j (content s0)) a))
+    (c.bring_newest.ensures.crash tells)
 
 pub returns-in_err-barrier-clause-crash : goal.returns-in_err-barrier-clause-crash
 returns-in_err-barrier-clause-crash g c tells =
     let s0 = g.D.SectorDisk.state c.args.disk.now in
-    let s1 = g.D.SectorDisk.state c.write_homes.new.disk in
+    let s1 = g.D.SectorDisk.state c.bring_newest.new.disk in
     let s2 = g.D.SectorDisk.state c.barrier.new.self in
     let plan = c.args.plan.now in
     let j = journal_of plan in
     let is = g.met.D.SectorDisk.well_formed c.args.disk.now in
-    let k = (lists_parts plan (c.requires.keeps tells).0 s0 (c.requires.keeps tells).1).text in
-    let t = c.text_of-text.result in
-    let a = homes_of_plan (content s0) plan t s0.sectors (content_plan plan c.requires.rest s0 is k) c.text_of-text.ensures.is (length-content s0 is tells) in
+    let k = (lists_parts plan c.args.live.now.homes s0 (c.requires.keeps tells)).text in
     let first = stage_homes plan c.requires.rest s0 is k s1
-    (subst (λ (w : List ℕ). CrashesLeave s0 s1 (IsHomeMix w (homes_of j (content s0)) s0.candidates)) (words_of_plan (content s0) plan t c.text_of-text.ensures.is) (c.write_homes.ensures.crash tells (volume_of plan.place.info_sector j (content s0)) (homes_of j (content s0)) a)) in
-    barrier_leaves c.barrier.result s0 s1 s2 (StandsStill plan s0) (g.met.D.SectorDisk.well_formed c.write_homes.new.disk) first c.write_homes.ensures.sink c.barrier.ensures.sink c.barrier.ensures.settled c.barrier.ensures.failed c.barrier.ensures.time
+    (c.bring_newest.ensures.crash tells) in
+    barrier_leaves c.barrier.result s0 s1 s2 (StandsStill plan s0) (g.met.D.SectorDisk.well_formed c.bring_newest.new.disk) first c.bring_newest.ensures.sink c.barrier.ensures.sink c.barrier.ensures.settled c.barrier.ensures.failed c.barrier.ensures.time
 
 pub returns-clause-crash : goal.returns-clause-crash
 returns-clause-crash g c tells =
     let s0 = g.D.SectorDisk.state c.args.disk.now in
-    let s1 = g.D.SectorDisk.state c.write_homes.new.disk in
+    let s1 = g.D.SectorDisk.state c.bring_newest.new.disk in
     let s2 = g.D.SectorDisk.state c.barrier.new.self in
     let s3 = g.D.SectorDisk.state c.empty_journal.new.disk in
     let plan = c.args.plan.now in
     let j = journal_of plan in
     let is = g.met.D.SectorDisk.well_formed c.args.disk.now in
-    let k = (lists_parts plan (c.requires.keeps tells).0 s0 (c.requires.keeps tells).1).text in
-    let t = c.text_of-text.result in
-    let a = homes_of_plan (content s0) plan t s0.sectors (content_plan plan c.requires.rest s0 is k) c.text_of-text.ensures.is (length-content s0 is tells) in
+    let k = (lists_parts plan c.args.live.now.homes s0 (c.requires.keeps tells)).text in
     let first = stage_homes plan c.requires.rest s0 is k s1
-    (subst (λ (w : List ℕ). CrashesLeave s0 s1 (IsHomeMix w (homes_of j (content s0)) s0.candidates)) (words_of_plan (content s0) plan t c.text_of-text.ensures.is) (c.write_homes.ensures.crash tells (volume_of plan.place.info_sector j (content s0)) (homes_of j (content s0)) a)) in
-    let second = barrier_leaves c.barrier.result s0 s1 s2 (StandsStill plan s0) (g.met.D.SectorDisk.well_formed c.write_homes.new.disk) first c.write_homes.ensures.sink c.barrier.ensures.sink c.barrier.ensures.settled c.barrier.ensures.failed c.barrier.ensures.time in
+    (c.bring_newest.ensures.crash tells) in
+    let second = barrier_leaves c.barrier.result s0 s1 s2 (StandsStill plan s0) (g.met.D.SectorDisk.well_formed c.bring_newest.new.disk) first c.bring_newest.ensures.sink c.barrier.ensures.sink c.barrier.ensures.settled c.barrier.ensures.failed c.barrier.ensures.time in
     let home : content s1 ≡ replayed j (content s0) =
-    c.in_ok-write_homes.ensures.written tells (volume_of plan.place.info_sector j (content s0)) (homes_of j (content s0)) a ∙ ap (λ (w : List ℕ). with_homes w (homes_of j (content s0)) (content s0)) (words_of_plan (content s0) plan t c.text_of-text.ensures.is) in
-    let t2 : IsTrue s2.tells = c.barrier.ensures.same.tells ∙ c.write_homes.ensures.same.tells ∙ tells in
-    stage_emptied plan c.requires.rest s0 is k c.requires.fits tells s2 s3 second (sink_after s0 s1 s2 c.write_homes.ensures.sink c.barrier.ensures.sink)
+    c.in_ok-bring_newest.ensures.brought tells in
+    let t2 : IsTrue s2.tells = c.barrier.ensures.same.tells ∙ c.bring_newest.ensures.same.tells ∙ tells in
+    stage_emptied plan c.requires.rest s0 is k c.requires.fits tells s2 s3 second (sink_after s0 s1 s2 c.bring_newest.ensures.sink c.barrier.ensures.sink)
     (c.in_ok-barrier.ensures.settled ∙ ap only home) (settled_content s1 s2 c.in_ok-barrier.ensures.settled ∙ home) (c.empty_journal.ensures.crash t2)
 
 pub returns-clause-home : goal.returns-clause-home
 returns-clause-home g c tells =
     let s0 = g.D.SectorDisk.state c.args.disk.now in
-    let s1 = g.D.SectorDisk.state c.write_homes.new.disk in
+    let s1 = g.D.SectorDisk.state c.bring_newest.new.disk in
     let s2 = g.D.SectorDisk.state c.barrier.new.self in
     let plan = c.args.plan.now in
     let j = journal_of plan in
     let is = g.met.D.SectorDisk.well_formed c.args.disk.now in
-    let k = (lists_parts plan (c.requires.keeps tells).0 s0 (c.requires.keeps tells).1).text in
-    let t = c.text_of-text.result in
-    let a = homes_of_plan (content s0) plan t s0.sectors (content_plan plan c.requires.rest s0 is k) c.text_of-text.ensures.is (length-content s0 is tells) in
+    let k = (lists_parts plan c.args.live.now.homes s0 (c.requires.keeps tells)).text in
     let home : content s1 ≡ replayed j (content s0) =
-    c.in_ok-write_homes.ensures.written tells (volume_of plan.place.info_sector j (content s0)) (homes_of j (content s0)) a ∙ ap (λ (w : List ℕ). with_homes w (homes_of j (content s0)) (content s0)) (words_of_plan (content s0) plan t c.text_of-text.ensures.is) in
-    let t2 : IsTrue s2.tells = c.barrier.ensures.same.tells ∙ c.write_homes.ensures.same.tells ∙ tells in
+    c.in_ok-bring_newest.ensures.brought tells in
+    let t2 : IsTrue s2.tells = c.barrier.ensures.same.tells ∙ c.bring_newest.ensures.same.tells ∙ tells in
     let now : content s2 ≡ replayed j (content s0) = settled_content s1 s2 c.in_ok-barrier.ensures.settled ∙ home in
     on_ok _ _ c.empty_journal.result (λ e. e ∙ ap (λ (d : Content). only (with_empty_header plan d)) now) (c.empty_journal.ensures.settled t2)

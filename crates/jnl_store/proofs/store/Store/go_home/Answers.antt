@@ -1,3 +1,7 @@
+use Rattle.std.proofs.Common.{List, sym, subst}
+use Rattle.std.specs.Prelude.{IsTrue}
+use Rattle.jnl_format.specs.declared.blocks.Home.{Home}
+use Rattle.jnl_store.specs.InUse.{keeps_lists}
 use Rattle.jnl_store.proofs.Homed.{settles_home}
 use Rattle.jnl_store.proofs.Settling.{kept_parts}
 use Rattle.jnl_store.specs.Store.{durable_of}
@@ -6,7 +10,7 @@ use Rattle.jnl_store.proofs.store.Store.go_home.Goals as goal
 pub write_home-requires-clause-keeps : goal.write_home-requires-clause-keeps
 write_home-requires-clause-keeps g c tells =
     let s0 = g.D.SectorDisk.state c.args.disk.now in
-    (c.args.self.now.batch.live, (kept_parts c.args.self.now s0.sectors s0.candidates (c.requires.keeps tells).kept).0)
+    subst (λ (live : List Home). IsTrue (keeps_lists c.args.self.now.plan s0.candidates live)) (sym c.live.ensures) (kept_parts c.args.self.now s0.sectors s0.candidates (c.requires.keeps tells).kept).0
 
 pub returns-clause-done : goal.returns-clause-done
 returns-clause-done g c tells =
