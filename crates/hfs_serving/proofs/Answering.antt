@@ -1,5 +1,5 @@
 -- Stretches of which each line was answered, from batch to batch and from stage to stage.
-use Rattle.std.proofs.Common.{◌≡◌, ◌⊎◌, inl, inr, ⊎_elim, ◌+◌, ◌≤◌, ◌++◌, [], ℕ, List, length, take, drop, Result, Ok, Err, refl, sym, ◌∙◌, ap, subst, arith, append_assoc}
+use Rattle.std.proofs.Common.{◌≡◌, ◌⊎◌, inl, inr, ⊎_elim, ◌+◌, ◌++◌, [], ℕ, List, length, take, Result, Err, refl, sym, ◌∙◌, ap, subst, arith}
 use Rattle.std.specs.Prelude.{IfErr, IsErrOf, IsTrue, None, Option, Some}
 use Rattle.std.proofs.lemmas.List.{append-nil, length-map, take_all}
 use Rattle.hx_bytes.specs.declared.faults.Trouble.{Trouble}
@@ -26,7 +26,9 @@ use Rattle.hfs_serving.specs.Outside.{Outside, outside_of}
 use Rattle.hfs_serving.specs.Readying.{IsVersioned, mounted_plan}
 use Rattle.hfs_serving.specs.Runs.{Crashes, KeepsPlace, Serves, StandsAs}
 use Rattle.hfs_serving.specs.Stages.{Turns}
+use Rattle.hfs_language.specs.declared.reply.Change.{Change}
 use Rattle.hfs_serving.specs.Steps.{ServesStep, stop_of}
+use Rattle.hfs_serving.specs.Watching.{AnswersHeard, AnswersRigHeard, FinishesHeard, LastHeard, ServesHeard, StopsHeard}
 use Rattle.hfs_serving.specs.Taking.{HasTaken}
 use Rattle.hfs_serving.specs.Top.{AreTaken, KnowsTo}
 use Rattle.hfs_serving.specs.declared.telling.Stop.{Stop}
@@ -103,6 +105,10 @@ pub answers_front : (count capacity : ℕ) (shrunk : Option ℕ) (start : Conten
 answers_front count capacity shrunk start old texts knows space new step =
     record { run = step.run; crashes = serves_crashes capacity shrunk start old new step.run step.now step.serves; asked = step.asked; told = step.serves.told }
 
+pub front_heard : (heard : List Change) (count capacity : ℕ) (shrunk : Option ℕ) (start : Content) (old : Outside) (texts : List (List ℕ)) (knows : Knowing) (space : Space) (new : Outside) → ServesHeard 0 heard count capacity knows start shrunk old texts space new → AnswersHeard heard capacity start shrunk old (take count texts) new
+unfolding answers_front
+front_heard heard count capacity shrunk start old texts knows space new step = (answers_front count capacity shrunk start old texts knows space new step.0, step.1)
+
 -- the end behind the last batch
 pub answers_finish : (capacity : ℕ) (start : Content) (old mid new : Outside) (texts : List (List ℕ)) (knows : Knowing) (space : Space) (step : ServesStep (length texts) capacity knows start None old texts space mid) → MayFinish step.now mid new → AnswersStep capacity start None old texts new
 answers_finish capacity start old mid new texts knows space step may = record {
@@ -116,10 +122,14 @@ answers_finish capacity start old mid new texts knows space step may = record {
   told = may.may.told ∙ step.serves.told;
 }
 
+pub all_heard : (heard : List Change) (capacity : ℕ) (start : Content) (old mid new : Outside) (texts : List (List ℕ)) (knows : Knowing) (space : Space) (step : ServesHeard 0 heard (length texts) capacity knows start None old texts space mid) → MayFinish step.0.now mid new → AnswersHeard heard capacity start None old texts new
+unfolding answers_finish
+all_heard heard capacity start old mid new texts knows space step may = (answers_finish capacity start old mid new texts knows space step.0 may, step.1)
+
 -- seen by the plan of its start
-pub answers_seen : (capacity : ℕ) (start : Content) (plan plan_new : Plan) (before : Outside) (new : State) (texts : List (List ℕ)) → anchor_of plan_new ≡ anchor_of plan → AnswersStep capacity start None before texts (outside_of plan_new new)
-    → AnswersStep capacity start None before texts (outside_of plan new)
-answers_seen capacity start plan plan_new before new texts same step = subst (λ (f : Content → Content). AnswersStep capacity start None before texts (outside_by f new)) (finds_by plan_new plan same) step
+pub answers_seen : {heard : List Change} (capacity : ℕ) (start : Content) (plan plan_new : Plan) (before : Outside) (new : State) (texts : List (List ℕ)) → anchor_of plan_new ≡ anchor_of plan → AnswersHeard heard capacity start None before texts (outside_of plan_new new)
+    → AnswersHeard heard capacity start None before texts (outside_of plan new)
+answers_seen {heard} capacity start plan plan_new before new texts same step = subst (λ (f : Content → Content). AnswersHeard heard capacity start None before texts (outside_by f new)) (finds_by plan_new plan same) step
 
 -- a mount before it
 pub answers_joins : (capacity : ℕ) (start now : Content) (texts : List (List ℕ)) (before mid after : Outside) → Serves capacity None start before [] now mid → AnswersStep capacity now None mid texts after → AnswersStep capacity start None before texts after
@@ -133,30 +143,34 @@ answers_joins capacity start now texts before mid after mounts step = record {
   told = step.told ∙ ap (λ (l : List ℕ). l ++ replies_of step.run) (mounts.told ∙ ap (λ (l : List ℕ). before.told ++ l) replies_of-none ∙ append-nil before.told);
 }
 
+joins_heard : {heard : List Change} (capacity : ℕ) (start now : Content) (texts : List (List ℕ)) (before mid after : Outside) → Serves capacity None start before [] now mid → AnswersHeard heard capacity now None mid texts after → AnswersHeard heard capacity start None before texts after
+unfolding answers_joins
+joins_heard capacity start now texts before mid after mounts step = (answers_joins capacity start now texts before mid after mounts step.0, step.1)
+
 -- behind a run that was begun
-module _ (capacity : ℕ) (start now : Content) (plan : Plan) (first disk : State) (versioned : IsVersioned start now) (place : KeepsPlace start now) (turns : Turns start now (outside_of plan first) (outside_of plan disk)) (mid new : Plan) (same : found mid ≡ found plan) (anchor : anchor_of new ≡ anchor_of mid)
+module _ (heard : List Change) (capacity : ℕ) (start now : Content) (plan : Plan) (first disk : State) (versioned : IsVersioned start now) (place : KeepsPlace start now) (turns : Turns start now (outside_of plan first) (outside_of plan disk)) (mid new : Plan) (same : found mid ≡ found plan) (anchor : anchor_of new ≡ anchor_of mid)
     (after last : State) (texts : List (List ℕ)) (knows : Knowing) (space : Space) where
   same_new : found new ≡ found plan
   same_new = finds_by new mid anchor ∙ same
 
   abbrev GoesOnBy : (Content → Content) → (Content → Content) → Type 0
   GoesOnBy f g =
-      (begins : BeginsRun capacity knows now None (outside_by f disk) space (outside_by g after)) → AnswersStep capacity begins.begun None (outside_by g after) texts (outside_by g last) → AnswersStep capacity start None (outside_of plan first) texts (outside_of plan last)
+      (begins : BeginsRun capacity knows now None (outside_by f disk) space (outside_by g after)) → AnswersHeard heard capacity begins.begun None (outside_by g after) texts (outside_by g last) → AnswersHeard heard capacity start None (outside_of plan first) texts (outside_of plan last)
 
   by_plan : GoesOnBy (found plan) (found plan)
   by_plan begins step =
-      answers_joins capacity start begins.begun texts (outside_of plan first) (outside_of plan after) (outside_of plan last)
+      joins_heard capacity start begins.begun texts (outside_of plan first) (outside_of plan after) (outside_of plan last)
       (mount_serves capacity start now (outside_of plan first) (outside_of plan disk) place turns knows space (outside_of plan after) begins versioned) step
 
-  pub begun_answers : (begins : BeginsRun capacity knows now None (outside_of mid disk) space (outside_of new after)) → AnswersStep capacity begins.begun None (outside_of new after) texts (outside_of new last) → AnswersStep capacity start None (outside_of plan first) texts (outside_of plan last)
+  pub begun_answers : (begins : BeginsRun capacity knows now None (outside_of mid disk) space (outside_of new after)) → AnswersHeard heard capacity begins.begun None (outside_of new after) texts (outside_of new last) → AnswersHeard heard capacity start None (outside_of plan first) texts (outside_of plan last)
   begun_answers = subst (λ (g : Content → Content). GoesOnBy (found mid) g) (sym same_new) (subst (λ (f : Content → Content). GoesOnBy f (found plan)) (sym same) by_plan)
 
 -- by the plan of the image
-pub answers_from : (plan ready : Plan) → ready ≡ mounted_plan plan → (capacity : ℕ) (start now : Content) (old mid new : State) (texts : List (List ℕ)) → Turns start now (outside_of plan old) (outside_of plan mid)
-    → (Turns start now (outside_of ready old) (outside_of ready mid) → AnswersStep capacity start None (outside_of ready old) texts (outside_of ready new)) → AnswersStep capacity start None (outside_of plan old) texts (outside_of plan new)
-answers_from plan ready is capacity start now old mid new texts turns goes =
+pub answers_from : {heard : List Change} (plan ready : Plan) → ready ≡ mounted_plan plan → (capacity : ℕ) (start now : Content) (old mid new : State) (texts : List (List ℕ)) → Turns start now (outside_of plan old) (outside_of plan mid)
+    → (Turns start now (outside_of ready old) (outside_of ready mid) → AnswersHeard heard capacity start None (outside_of ready old) texts (outside_of ready new)) → AnswersHeard heard capacity start None (outside_of plan old) texts (outside_of plan new)
+answers_from {heard} plan ready is capacity start now old mid new texts turns goes =
     let same : found ready ≡ found plan = ap found is ∙ finds_mounted plan in
-    subst (λ (f : Content → Content). AnswersStep capacity start None (outside_by f old) texts (outside_by f new)) same
+    subst (λ (f : Content → Content). AnswersHeard heard capacity start None (outside_by f old) texts (outside_by f new)) same
     (goes (subst (λ (f : Content → Content). Turns start now (outside_by f old) (outside_by f mid)) (sym same) turns))
 
 -- ---- over a rig
@@ -177,6 +191,12 @@ answers_rig law capacity start plan old new texts only_now starts sound may sour
   told = step.told;
 }
 
+pub rig_heard : {heard : List Change} (law : AsideIsFree) (capacity : ℕ) (start : Content) (plan : Plan) (old new : State) (texts : List (List ℕ)) → ((image : Content) (told : List ℕ) → old.clock.left old.clock.moment image told → LeftNow old image told)
+    → ((image : Content) → IsImage old.candidates image → StandsAs start (found plan image)) → IsSound start → MayServe plan capacity start → (source source_new : Stream) → (IsTrue source.tells → HasTaken [] source texts source_new)
+    → AnswersHeard heard capacity start None (outside_of plan old) texts (outside_of plan new) → AnswersRigHeard heard capacity start old source texts new source_new
+unfolding answers_rig
+rig_heard law capacity start plan old new texts only_now starts sound may source source_new taken step = (answers_rig law capacity start plan old new texts only_now starts sound may source source_new taken step.0, step.1)
+
 -- ---- as users read it
 
 all_known : (start : Content) (run : List Entry) (image : Content) → KnowsTo start run (length run) image → MountsTo image (tree_after start run)
@@ -194,6 +214,11 @@ finishes_of capacity start old source texts new source_new is all away rig = rec
   unmounted = record { mounts = all_known start rig.run (content new) (rig.keeps.knows (content new) is); away = away };
 }
 
+pub finish_of : {heard : List Change} (capacity : ℕ) (start : Content) (old : State) (source : Stream) (texts : List (List ℕ)) (new : State) (source_new : Stream) → IsImage new.candidates (content new) → (IsTrue source.tells → texts ≡ lines source.left) → IsPutAway new
+    → AnswersRigHeard heard capacity start old source texts new source_new → FinishesHeard heard capacity start old source new source_new
+unfolding finishes_of
+finish_of capacity start old source texts new source_new is all away rig = (finishes_of capacity start old source texts new source_new is all away rig.0, rig.1)
+
 pub answers_of : (capacity : ℕ) (start : Content) (old : State) (source : Stream) (texts : List (List ℕ)) (new : State) (source_new : Stream) → (IsTrue source.tells → BeginsMore [] source texts source_new) → AnswersRig capacity start old source texts new source_new → AnswersRun capacity start old source new source_new
 answers_of capacity start old source texts new source_new taken rig = record {
   run = rig.run;
@@ -210,3 +235,11 @@ to_last_of capacity start old source texts new source_new many rig = record {
   count = omega (arith, many, ap (λ (l : List (List ℕ)). length l) rig.asked, length-map rig.run (λ (e : Entry). e.line));
   lines_are = rig.keeps.lines_are;
 }
+
+pub stop_heard : {heard : List Change} (capacity : ℕ) (start : Content) (old : State) (source : Stream) (texts : List (List ℕ)) (new : State) (source_new : Stream) → (IsTrue source.tells → BeginsMore [] source texts source_new) → AnswersRigHeard heard capacity start old source texts new source_new → StopsHeard heard capacity start old source new source_new
+unfolding answers_of
+stop_heard capacity start old source texts new source_new taken rig = (answers_of capacity start old source texts new source_new taken rig.0, rig.1)
+
+pub last_heard : {heard : List Change} (capacity : ℕ) (start : Content) (old : State) (source : Stream) (texts : List (List ℕ)) (new : State) (source_new : Stream) → length texts ≡ 4294967295 → AnswersRigHeard heard capacity start old source texts new source_new → LastHeard heard capacity start old source new source_new
+unfolding to_last_of
+last_heard capacity start old source texts new source_new many rig = (to_last_of capacity start old source texts new source_new many rig.0, rig.1)

@@ -1,6 +1,6 @@
 -- Runs that their source ended.
-use Rattle.std.proofs.Common.{◌≡◌, ◌≤◌, ◌+◌, ◌++◌, [], ℕ, List, IsTrue, length, length-drop, take, drop, Result, Ok, Err, refl, sym, ◌∙◌, ap, subst, arith, append_assoc}
-use Rattle.std.specs.Prelude.{IsErrOf, None, Option, Some}
+use Rattle.std.proofs.Common.{◌≡◌, ◌+◌, ◌++◌, [], ℕ, List, IsTrue, length, length-drop, take, drop, Result, Err, refl, sym, ◌∙◌, ap, subst, arith, append_assoc}
+use Rattle.std.specs.Prelude.{IsErrOf, Some}
 use Rattle.std.proofs.lemmas.List.{length-map, length-take-le, take-append-drop, take_all}
 use Rattle.sector_disk.specs.Source.{Stream}
 use Rattle.hfs_language.specs.Language.{most_bytes}
@@ -14,8 +14,7 @@ use Rattle.hfs_serving.proofs.Causes.{the_fault}
 use Rattle.hfs_serving.specs.declared.telling.Stop.{Stop}
 use Rattle.hfs_serving.specs.declared.telling.Stop.TheVariants as stop
 use Rattle.hfs_serving.proofs.Pending.{On}
-use Rattle.line_source.specs.Batch.{held}
-use Rattle.line_source.specs.Input.{ahead, SplitsIntoLines, TakesLines}
+use Rattle.line_source.specs.Input.{ahead, SplitsIntoLines}
 use Rattle.line_source.proofs.Cuts.{front_cut}
 
 source_input : (e : InputFault) → stop_of_input e ≡ stop.Source → e ≡ input.Source

@@ -1,12 +1,11 @@
 -- How the catalog compares keys is said by its first sector, wherever the fork goes on.
-use Rattle.std.proofs.Common.{◌≡◌, ◌<◌, ℕ, ◌*◌, ◌++◌, List, [], ◌∷◌, get_or, replicate, refl, sym, ◌∙◌, ap, subst, arith}
+use Rattle.std.proofs.Common.{◌≡◌, ℕ, ◌*◌, ◌++◌, List, [], ◌∷◌, get_or, replicate, refl, sym, ◌∙◌, ap, subst, arith}
 use Rattle.std.specs.List.{flat_map, range_with_len}
 use Rattle.std.proofs.lemmas.Grind.{flat_map-append}
 use Rattle.std.proofs.lemmas.List.{append-nil, get_or-replicate}
 use Rattle.hx_bytes.specs.declared.extents.Extent.{Extent}
 use Rattle.hx_bytes.specs.declared.extents.ForkRecord.{ForkRecord}
 use Rattle.jnl_format.specs.Recovery.{Content, header_of_volume}
-use Rattle.fork_map.specs.Blocks.{blocks_of, sectors_of}
 use Rattle.hfs_volume.specs.Content.{block_bytes, block_limit, catalog_file, node_of_fork, overflow_of_content, sectors_in, tree_of_fork}
 use Rattle.hfs_volume.specs.Forks.{catalog_id, data_kind, extents_of, in_use, overflow_in, per_block_of}
 use Rattle.hfs_volume.specs.Mount.{FoldsCase}

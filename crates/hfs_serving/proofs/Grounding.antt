@@ -14,7 +14,7 @@ use Rattle.jnl_format.specs.declared.structures.Info.{Info}
 use Rattle.jnl_replay.specs.Plan.{FitsPlan}
 use Rattle.jnl_store.specs.Spaces.{found, over}
 use Rattle.jnl_store.specs.SpaceLaws.{length-durable, length-overlay}
-use Rattle.jnl_store.specs.Standing.{MakesDurable, StandsFor, StandsForEither}
+use Rattle.jnl_store.specs.Standing.{MakesDurable, StandsForEither}
 use Rattle.jnl_store.specs.Store.{Keeps, KeepsOn, KeepsRingOn, SameJournal, content_over, durable_of, faults_of, is_kept, plan_of, puts_of, room_of}
 use Rattle.jnl_store.specs.declared.store.Store.{Store}
 use Rattle.jnl_store.specs.declared.store.StoreFault.{StoreFault}

@@ -7,15 +7,16 @@ use Rattle.sector_disk.specs.Source.{Stream}
 use Rattle.sector_disk.specs.Space.{Space}
 use Rattle.jnl_format.specs.Recovery.{Content}
 use Rattle.hfs_language.specs.Language.{most_bytes}
-use Rattle.hfs_volume.specs.Run.{Entry, lines_of}
+use Rattle.hfs_volume.specs.Run.{Entry, lines_of, replies_of}
 use Rattle.hfs_serving.specs.Going.{Knowing, Stands}
 use Rattle.hfs_serving.specs.Outside.{Outside}
+use Rattle.hfs_serving.specs.Runs.{IsPrefix}
 use Rattle.hfs_serving.specs.Steps.{CrashesStep, ServesStep}
 use Rattle.hfs_serving.specs.Watching.{CrashesHeard, ServesHeard}
 use Rattle.hfs_language.specs.declared.reply.Change.{Change}
 use Rattle.hfs_volume.specs.Told.{changes_in}
 use Rattle.hfs_serving.specs.Taking.{HasTaken}
-use Rattle.hfs_serving.proofs.Relabelling.{Holds, crashes_text, holds_take, relabel, relabel_changes, relabel_take, relabel_lines, relabel_shrunk, serves_text}
+use Rattle.hfs_serving.proofs.Relabelling.{Holds, crashes_text, holds_take, relabel, relabel_changes, relabel_take, relabel_lines, relabel_replies, relabel_shrunk, serves_text}
 use Rattle.line_source.specs.Batch.{AddsLines, held}
 use Rattle.line_source.specs.Input.{ahead, SplitsIntoLines, TakesLines}
 use Rattle.line_source.proofs.Cuts.{front_cut, takes_both, takes_none}
@@ -63,7 +64,15 @@ module _ (capacity : ℕ) (start : Content) (shrunk : Option ℕ) (old : Outside
       let known = step.0.known in
       let holds = asked_held step.0.count run step.0.asked in (
         crash_texts new step.0,
-        ap (λ (r : List Entry). changes_in number r) (relabel_take known run some) ∙ relabel_changes number (take known run) (take known some) (holds_take known run some holds) ∙ step.1,
+        record {
+          changes = ap (λ (r : List Entry). changes_in number r) (relabel_take known run some) ∙ relabel_changes number (take known run) (take known some) (holds_take known run some holds) ∙ step.1.changes;
+          behind = (
+            step.1.behind.0,
+            subst (λ (l : List ℕ). IsPrefix step.1.behind.0 l)
+                (sym (ap (λ (r : List Entry). replies_of r) (relabel_take known run some) ∙ relabel_replies (take known run) (take known some) (holds_take known run some holds))) step.1.behind.1,
+            step.1.behind.2,
+          );
+        },
       )
 
   -- more lines were read

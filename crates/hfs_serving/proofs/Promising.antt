@@ -17,7 +17,9 @@ use Rattle.hfs_serving.specs.Grounds.{anchor_of}
 use Rattle.hfs_serving.specs.Opening.{MayServe}
 use Rattle.hfs_serving.specs.Outside.{Outside, outside_of}
 use Rattle.hfs_serving.specs.Runs.{Crashes, Serves, StandsAs}
+use Rattle.hfs_language.specs.declared.reply.Change.{Change}
 use Rattle.hfs_serving.specs.Steps.{CrashesStep, EndsRun, KeepsRun, ServesStep}
+use Rattle.hfs_serving.specs.Watching.{CrashesHeard, HeardOf, KeepsHeard, ServesHeard}
 use Rattle.hfs_serving.specs.Taking.{HasTaken}
 use Rattle.hfs_serving.specs.Top.{AreTaken}
 use Rattle.hfs_language.specs.Lines.{lines}
@@ -26,9 +28,10 @@ use Rattle.line_source.proofs.Cuts.{front_cut, none_left}
 use Rattle.hfs_serving.proofs.Agreeing.{stands_durable}
 use Rattle.hfs_serving.proofs.Bridging.{found_by}
 use Rattle.hfs_serving.proofs.Grounding.{outside_by}
-use Rattle.hfs_serving.proofs.Lists.{shrunk_in-none}
+use Rattle.hfs_serving.proofs.Lists.{replies_of-none, shrunk_in-none}
 use Rattle.hfs_serving.proofs.Mounting.{keeps_promises, promises_all}
 use Rattle.hfs_serving.proofs.Staging.{mark_stage_crashes}
+use Rattle.hfs_serving.proofs.Stepping.{whole_heard}
 use Rattle.hfs_serving.proofs.Stretches.{crashes_both}
 
 -- what a mount finds hangs on the anchor alone
@@ -72,17 +75,23 @@ keeps_from law capacity start plan old new texts only_now starts sound may sourc
       (λ tells. are_taken source source_new texts step.run step.count step.asked (taken tells)));
 }
 
--- what a mount finds hangs on the anchor alone, so the stretch is one by the plan of its start
-pub crash_seen : (capacity : ℕ) (start : Content) (plan plan_new : Plan) (before : Outside) (new : State) (texts : List (List ℕ)) → anchor_of plan_new ≡ anchor_of plan → CrashesStep capacity start None before texts (outside_of plan_new new)
-    → CrashesStep capacity start None before texts (outside_of plan new)
-crash_seen capacity start plan plan_new before new texts same step = subst (λ (f : Content → Content). CrashesStep capacity start None before texts (outside_by f new)) (finds_by plan_new plan same) step
+pub keeps_heard : {heard : List Change} (law : AsideIsFree) (capacity : ℕ) (start : Content) (plan : Plan) (old new : State) (texts : List (List ℕ)) → ((image : Content) (told : List ℕ) → old.clock.left old.clock.moment image told → LeftNow old image told)
+    → ((image : Content) → IsImage old.candidates image → StandsAs start (found plan image)) → IsSound start → MayServe plan capacity start → (source source_new : Stream) → (IsTrue source.tells → HasTaken [] source texts source_new)
+    → CrashesHeard 0 heard capacity start None (outside_of plan old) texts (outside_of plan new) → KeepsHeard heard capacity start old source new source_new
+unfolding keeps_from
+keeps_heard law capacity start plan old new texts only_now starts sound may source source_new taken step = (keeps_from law capacity start plan old new texts only_now starts sound may source source_new taken step.0, step.1)
 
-pub crash_keeps : (law : AsideIsFree) (capacity : ℕ) (start : Content) (plan plan_new : Plan) (old new : State) (texts : List (List ℕ)) (knows : Knowing) (space : Space) → anchor_of plan_new ≡ anchor_of plan
+-- what a mount finds hangs on the anchor alone, so the stretch is one by the plan of its start
+pub crash_seen : {heard : List Change} (capacity : ℕ) (start : Content) (plan plan_new : Plan) (before : Outside) (new : State) (texts : List (List ℕ)) → anchor_of plan_new ≡ anchor_of plan → CrashesHeard 0 heard capacity start None before texts (outside_of plan_new new)
+    → CrashesHeard 0 heard capacity start None before texts (outside_of plan new)
+crash_seen {heard} capacity start plan plan_new before new texts same step = subst (λ (f : Content → Content). CrashesHeard 0 heard capacity start None before texts (outside_by f new)) (finds_by plan_new plan same) step
+
+pub crash_keeps : {heard : List Change} (law : AsideIsFree) (capacity : ℕ) (start : Content) (plan plan_new : Plan) (old new : State) (texts : List (List ℕ)) (knows : Knowing) (space : Space) → anchor_of plan_new ≡ anchor_of plan
     → ((image : Content) (told : List ℕ) → old.clock.left old.clock.moment image told → LeftNow old image told) → Stands knows start start None space (outside_of plan old) → IsSound start → MayServe plan capacity start
     → (source source_new : Stream) → (IsTrue source.tells → HasTaken [] source texts source_new)
-    → CrashesStep capacity start None (outside_of plan old) texts (outside_of plan_new new) → KeepsRun capacity start old source new source_new
+    → CrashesHeard 0 heard capacity start None (outside_of plan old) texts (outside_of plan_new new) → KeepsHeard heard capacity start old source new source_new
 crash_keeps law capacity start plan plan_new old new texts knows space same only_now stands sound may source source_new taken step =
-    keeps_from law capacity start plan old new texts only_now (λ image is. stands_durable start space stands.below (found plan image) (stands.leaves (found plan image) (image, is, refl))) sound may source source_new taken
+    keeps_heard law capacity start plan old new texts only_now (λ image is. stands_durable start space stands.below (found plan image) (stands.leaves (found plan image) (image, is, refl))) sound may source source_new taken
     (crash_seen capacity start plan plan_new (outside_of plan old) new texts same step)
 
 -- a mount before the run
@@ -98,6 +107,14 @@ mount_joins capacity start now texts before mid after mounts step = record {
   asked = step.asked;
 }
 
+pub mount_heard : {heard : List Change} (capacity : ℕ) (start now : Content) (texts : List (List ℕ)) (before mid after : Outside) → Serves capacity None start before [] now mid → CrashesHeard 0 heard capacity now None mid texts after
+    → CrashesHeard 0 heard capacity start None before texts after
+unfolding mount_joins
+mount_heard {heard} capacity start now texts before mid after mounts step = (
+  mount_joins capacity start now texts before mid after mounts step.0,
+  subst (λ (t : List ℕ). HeardOf 0 heard step.0.run step.0.known t after.told) (mounts.told ∙ ap (λ (l : List ℕ). before.told ++ l) replies_of-none ∙ append-nil before.told) step.1,
+)
+
 -- the end behind the last batch, whatever ended it
 pub finish_crashes : (capacity : ℕ) (start : Content) (old mid new : Outside) (lines : List (List ℕ)) (count : ℕ) (knows : Knowing) (space : Space) (step : ServesStep count capacity knows start None old lines space mid) → MayFinish step.now mid new → CrashesStep capacity start None old lines new
 finish_crashes capacity start old mid new lines count knows space step may = record {
@@ -111,6 +128,13 @@ finish_crashes capacity start old mid new lines count knows space step may = rec
       (crashes_both capacity None start old mid new step.run [] step.now step.serves 0 (mark_stage_crashes capacity (shrunk_in None step.run) step.now may.ended mid new may.may may.marked may.place)));
   asked = step.asked;
 }
+
+pub finish_heard : (heard : List Change) (capacity : ℕ) (start : Content) (old mid new : Outside) (lines : List (List ℕ)) (count : ℕ) (knows : Knowing) (space : Space) (step : ServesHeard 0 heard count capacity knows start None old lines space mid) → MayFinish step.0.now mid new
+    → CrashesHeard 0 heard capacity start None old lines new
+unfolding finish_crashes
+finish_heard heard capacity start old mid new lines count knows space step may =
+    let ends = finish_crashes capacity start old mid new lines count knows space step.0 may in
+    (ends, whole_heard 0 heard step.0.run old.told new.told step.1 ends.crashes.told)
 
 pub finish_ends : (capacity : ℕ) (start : Content) (old mid new : Outside) (texts : List (List ℕ)) (knows : Knowing) (space : Space) (source : Stream) → (IsTrue source.tells → texts ≡ lines source.left)
     → (step : ServesStep (length texts) capacity knows start None old texts space mid) → Finishes step.now mid new → EndsRun capacity start old source new

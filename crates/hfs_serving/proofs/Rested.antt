@@ -1,11 +1,11 @@
 -- A journal that is emptied behind its run, as a commit of nothing.
-use Rattle.std.proofs.Common.{◌≡◌, ◌≢◌, ◌⊎◌, ◌∷◌, [], ℕ, List, inl, inr, ⊎_elim, length, refl, sym, ◌∙◌, ap, subst, arith}
+use Rattle.std.proofs.Common.{◌≡◌, ◌≢◌, ◌∷◌, [], ℕ, List, ⊎_elim, length, refl, sym, ◌∙◌, ap, subst, arith}
 use Rattle.std.specs.Prelude.{IsErrOf, IsTrue, OnOk, Result, Ok, Err}
 use Rattle.std.proofs.lemmas.Bool.{cases_eq}
-use Rattle.sector_disk.specs.Cause.{Rose, next_count}
+use Rattle.sector_disk.specs.Cause.{next_count}
 use Rattle.sector_disk.specs.Disk.{CrashesLeave, IsDisk, SameSink, State, Untouched, content}
 use Rattle.jnl_format.specs.Recovery.{Content, journal_in}
-use Rattle.jnl_replay.specs.Plan.{FitsPlan, journal_of}
+use Rattle.jnl_replay.specs.Plan.{journal_of}
 use Rattle.jnl_store.specs.Overlay.{overlay}
 use Rattle.jnl_store.specs.Spaces.{over}
 use Rattle.jnl_store.specs.Standing.{Checkpoints, MakesDurable, StandsForDurable}

@@ -1,11 +1,12 @@
 -- A batch whose replies are told.
-use Rattle.std.proofs.Common.{◌≡◌, ◌⊎◌, ◌≤◌, ◌+◌, ◌++◌, [], ℕ, List, length, take, drop, take-add, inl, inr, ⊎_elim, refl, sym, ◌∙◌, ap, arith, subst}
-use Rattle.std.proofs.lemmas.List.{length-map, length-take-le, take_all}
+use Rattle.std.proofs.Common.{◌≡◌, ◌⊎◌, ◌≤◌, ◌+◌, ◌++◌, [], ℕ, List, length, take, drop, take-add, inl, inr, ⊎_elim, refl, sym, ◌∙◌, ap, append_assoc, arith, subst}
+use Rattle.std.proofs.lemmas.List.{append-nil, length-map, length-take-le, take_all}
 use Rattle.std.proofs.Math.Seq.{take-append-add}
 use Rattle.hfs_language.specs.declared.reply.Change.{Change}
 use Rattle.hfs_volume.specs.Told.{changes_in}
 use Rattle.hfs_serving.specs.Said.{untold}
-use Rattle.hfs_serving.specs.Watching.{CrashesHeard, ServesHeard}
+use Rattle.hfs_serving.specs.Runs.{IsPrefix}
+use Rattle.hfs_serving.specs.Watching.{CrashesHeard, HeardOf, ServesHeard}
 use Rattle.hfs_serving.specs.declared.volume.ToTell.{ToTell}
 use Rattle.hfs_serving.proofs.Saying.{changes_in-append, changes_in-none}
 use Rattle.std.specs.Prelude.{Option}
@@ -19,9 +20,15 @@ use Rattle.hfs_serving.specs.Outside.{Outside}
 use Rattle.hfs_serving.specs.Serving.{TellsOut}
 use Rattle.hfs_serving.specs.Steps.{CrashesStep, IsStill, ServesStep}
 use Rattle.hfs_serving.proofs.Agreeing.{agrees_more, stands_durable}
-use Rattle.hfs_serving.proofs.Lists.{lines_of-append, shrunk_in-append, shrunk_in-none}
+use Rattle.hfs_serving.proofs.Lists.{lines_of-append, replies_of-append, shrunk_in-append, shrunk_in-none}
 use Rattle.hfs_serving.proofs.Stretches.{crashes_both, serves_both, serves_crashes, serves_none}
 use Rattle.hfs_serving.proofs.Batches.{stops_crashes, batch_tells_partly, batch_ends}
+
+-- all of a run is known
+pub whole_heard : (number : ℕ) (heard : List Change) (run : List Entry) (before told : List ℕ) → changes_in number run ≡ heard → (w : List ℕ) × IsPrefix w (replies_of run) × (told ≡ before ++ w) → HeardOf number heard run (length run) before told
+whole_heard number heard run before told changes tells =
+    let all : take (length run) run ≡ run = take_all (length run) run (omega arith) in
+    record { changes = ap (changes_in number) all ∙ changes; behind = (tells.0, subst (λ (r : List Entry). IsPrefix tells.0 (replies_of r)) (sym all) tells.1, tells.2) }
 
 -- where only bytes were told, it stands there still
 pub still_stands : (knows knows_new : Knowing) (committed now : Content) (shrunk : Option ℕ) (space new : Space) (mid after : Outside) → Stands knows committed now shrunk space mid → IsStill space new → (knows committed now shrunk → knows_new committed now shrunk)
@@ -87,7 +94,7 @@ module _ (count capacity : ℕ) (shrunk : Option ℕ) (start : Content) (old : O
 
   pub partly_heard : CrashesHeard number told.changes capacity start shrunk old lines after
   unfolding step_tells_partly
-  partly_heard = (step_tells_partly, ap (λ (r : List Entry). changes_in number r) (take_all (length batch.whole.run) batch.whole.run (omega arith)) ∙ changes_are)
+  partly_heard = (step_tells_partly, whole_heard number told.changes batch.whole.run old.told after.told changes_are step_tells_partly.crashes.told)
 
 pub step_stops : (capacity : ℕ) (shrunk : Option ℕ) (start : Content) (old : Outside) (lines : List (List ℕ)) (after : Outside) → StopsLines capacity start start shrunk old lines after → CrashesStep capacity start shrunk old lines after
 step_stops capacity shrunk start old lines after stopped = record {
@@ -100,7 +107,10 @@ step_stops capacity shrunk start old lines after stopped = record {
 
 pub stops_heard : (number capacity : ℕ) (shrunk : Option ℕ) (start : Content) (old : Outside) (lines : List (List ℕ)) (after : Outside) → StopsLines capacity start start shrunk old lines after → CrashesHeard number [] capacity start shrunk old lines after
 unfolding step_stops
-stops_heard number capacity shrunk start old lines after stopped = (step_stops capacity shrunk start old lines after stopped, changes_in-none number)
+stops_heard number capacity shrunk start old lines after stopped = (
+  step_stops capacity shrunk start old lines after stopped,
+  record { changes = changes_in-none number; behind = ([], (replies_of (take 0 stopped.stops.more), refl), stopped.stops.stops.told ∙ sym (append-nil old.told)) },
+)
 
 -- ---- batch after batch
 
@@ -130,7 +140,9 @@ module _ (capacity : ℕ) (shrunk : Option ℕ) (start : Content) (old : Outside
 
   pub ends_heard : (number : ℕ) (heard : List Change) (count : ℕ) (knows : Knowing) (space : Space) (new : Outside) → ServesHeard number heard count capacity knows start shrunk old lines space new → CrashesHeard number heard capacity start shrunk old lines new
   unfolding step_ends
-  ends_heard number heard count knows space new step = (step_ends count knows space new step.0, ap (λ (r : List Entry). changes_in number r) (take_all (length step.0.run) step.0.run (omega arith)) ∙ step.1)
+  ends_heard number heard count knows space new step =
+      let ends = step_ends count knows space new step.0 in
+      (ends, whole_heard number heard step.0.run old.told new.told step.1 ends.crashes.told)
 
   module _ (at : ℕ) (knows : Knowing) (space : Space) (mid : Outside) (first : ServesStep at capacity knows start shrunk old lines space mid) where
     asked_both : (run : List Entry) (count : ℕ) → lines_of run ≡ take count (drop at lines) → lines_of (first.run ++ run) ≡ take (at + count) lines
@@ -169,8 +181,22 @@ module _ (capacity : ℕ) (shrunk : Option ℕ) (start : Content) (old : Outside
 
       pub crash_both_heard : (more : List Change) (after : Outside) → CrashesHeard at more capacity first.now (shrunk_in shrunk first.run) mid (drop at lines) after → CrashesHeard 0 (heard ++ more) capacity start shrunk old lines after
       unfolding step_crash
-      crash_both_heard more after second = (
-        step_crash after second.0,
-        ap (λ (r : List Entry). changes_in 0 r) (take-append-add first.run second.0.run second.0.known) ∙ changes_in-append 0 first.run (take second.0.known second.0.run)
-            ∙ ap (λ (n : ℕ). changes_in 0 first.run ++ changes_in n (take second.0.known second.0.run)) at_is ∙ ap (λ (l : List Change). l ++ changes_in at (take second.0.known second.0.run)) is ∙ ap (λ (l : List Change). heard ++ l) second.1,
-      )
+      crash_both_heard more after second =
+          let behind = take second.0.known second.0.run in
+          let both : take (length first.run + second.0.known) (first.run ++ second.0.run) ≡ first.run ++ behind = take-append-add first.run second.0.run second.0.known in
+          let w = second.1.behind in (
+            step_crash after second.0,
+            record {
+              changes =
+                  ap (λ (r : List Entry). changes_in 0 r) both ∙ changes_in-append 0 first.run behind ∙ ap (λ (n : ℕ). changes_in 0 first.run ++ changes_in n behind) at_is ∙ ap (λ (l : List Change). l ++ changes_in at behind) is
+                  ∙ ap (λ (l : List Change). heard ++ l) second.1.changes;
+              behind = (
+                replies_of first.run ++ w.0,
+                (
+                  w.1.0,
+                  ap replies_of both ∙ replies_of-append first.run behind ∙ ap (λ (l : List ℕ). replies_of first.run ++ l) w.1.1 ∙ sym (append_assoc (replies_of first.run) w.0 w.1.0),
+                ),
+                w.2 ∙ ap (λ (l : List ℕ). l ++ w.0) first.serves.told ∙ append_assoc old.told (replies_of first.run) w.0,
+              );
+            },
+          )

@@ -1,5 +1,5 @@
 //! A run over a journal's store and its rig.
-ghost use Rattle.std.specs.Prelude.{◌≡◌, ◌≤◌, ◌<◌, ◌∷◌, [], ℕ, List, None, Some, IsErrOf, IsTrue, OnOk, length};
+ghost use Rattle.std.specs.Prelude.{◌≡◌, ◌≤◌, ◌<◌, ◌∷◌, [], ℕ, List, None, Some, IsErrOf, IsTrue, OnOk, false, length};
 ghost use Rattle.jnl_format.specs.Recovery.{Content};
 ghost use Rattle.jnl_store.specs.Seen.{seen};
 ghost use Rattle.jnl_store.specs.Store.{faults_of, plan_of, puts_of};
@@ -12,9 +12,13 @@ ghost use Rattle.hfs_serving.specs.Going.{Stands};
 ghost use Rattle.hfs_serving.specs.Grounds.{IsInService};
 ghost use Rattle.hfs_serving.specs.Opening.{MayServe};
 ghost use Rattle.hfs_serving.specs.Outside.{outside_of};
-ghost use Rattle.hfs_serving.specs.Ending.{AnswersStep, EndsTaking, IsFinal, IsPutAway, stop_in};
-ghost use Rattle.hfs_serving.specs.Steps.{CrashesStep, EndsRun, KeepsRun, SomeWhole};
+ghost use Rattle.hfs_serving.specs.Ending.{EndsTaking, IsFinal, IsPutAway, stop_in};
+ghost use Rattle.hfs_serving.specs.Steps.{EndsRun, SomeWhole};
 ghost use Rattle.hfs_serving.specs.Taking.{HasTaken};
+ghost use Rattle.hfs_serving.specs.Watching.{AnswersHeard, CrashesHeard, KeepsHeard};
+ghost use Rattle.hfs_language.specs.declared.reply.Change.{Change};
+ghost use Rattle.watchers.specs.Told.{AreTold};
+ghost use Rattle.std.specs.List.{AllByRecursion};
 ghost use Rattle.line_source.specs.Input.{SameSource};
 
 use crate::resting::finish;
@@ -39,25 +43,28 @@ pub fn run<V: Volume, R: Rig, S: Source>(
     requires serves { (capacity : ℕ) × IsInService base.old.store.now (R.state base.old.disk.now) capacity × (puts_of base.old.store.now ≡ []) }
     requires stands { IsTrue (seen R.state base.old).tells → SomeWhole (V.knows volume.old (seen R.state base.old)) (seen R.state base.old) (outside_of (plan_of base.old.store.now) (R.state base.old.disk.now)) }
     // Where the volume stands for a sound content, each image that a crash leaves mounts to the tree after some of the lines, and each line whose
-    // reply was told is among them. The lines are the first that the bytes which were taken of the source are cut into.
-    ensures promises { IsTrue (seen R.state base.old).tells → (capacity : ℕ) (start : Content)
-        → Stands (V.knows volume.old (seen R.state base.old) capacity) start start None (seen R.state base.old) (outside_of (plan_of base.old.store.now) (R.state base.old.disk.now))
-        → IsSound start → MayServe (plan_of base.old.store.now) capacity start
-        → KeepsRun capacity start (R.state base.old.disk.now) (S.stream source.old) (R.state base.new.disk.now) (S.stream source.new) }
-    // The same as a stretch, which may go on from a mount.
-    ensures stretch { (texts : List (List ℕ)) × (IsTrue (S.stream source.old).tells → HasTaken [] (S.stream source.old) texts (S.stream source.new))
+    // reply was told is among them. The lines are the first that the bytes which were taken of the source are cut into. Watchers that stay are told
+    // what the first of these lines changed, in order and once, whose changes each crash at the end leaves; no reply is told before its changes.
+    ensures promises { (heard : List Change) × (AllByRecursion (λ w. leaves w ≡ false) watchers.old.items → AreTold (λ w. told w) (λ w. leaves w) heard watchers.old.items watchers.new.items)
         × (IsTrue (seen R.state base.old).tells → (capacity : ℕ) (start : Content)
         → Stands (V.knows volume.old (seen R.state base.old) capacity) start start None (seen R.state base.old) (outside_of (plan_of base.old.store.now) (R.state base.old.disk.now))
-        → CrashesStep capacity start None (outside_of (plan_of base.old.store.now) (R.state base.old.disk.now)) texts (outside_of (plan_of base.old.store.now) (R.state base.new.disk.now))) }
-    // At Ok all lines of the source were served and answered, and a crash leaves what they left, with bit 8 of the header's attributes set.
-    ensures done { IsTrue (seen R.state base.old).tells → (capacity : ℕ) (start : Content) → Stands (V.knows volume.old (seen R.state base.old) capacity) start start None (seen R.state base.old) (outside_of (plan_of base.old.store.now) (R.state base.old.disk.now))
-        → OnOk result (EndsRun capacity start (outside_of (plan_of base.old.store.now) (R.state base.old.disk.now)) (S.stream source.old) (outside_of (plan_of base.new.store.now) (R.state base.new.disk.now))) }
-    // Where the source ended the run, each line that was taken was answered.
-    ensures answers { IsFinal (stop_in result) → (texts : List (List ℕ)) × (IsTrue (S.stream source.old).tells → HasTaken [] (S.stream source.old) texts (S.stream source.new) × EndsTaking (stop_in result) [] (S.stream source.old) texts (S.stream source.new))
+        → IsSound start → MayServe (plan_of base.old.store.now) capacity start
+        → KeepsHeard heard capacity start (R.state base.old.disk.now) (S.stream source.old) (R.state base.new.disk.now) (S.stream source.new)) }
+    // The same as a stretch, which may go on from a mount. Where the source ended the run, each line that was taken was answered, and watchers were
+    // told all that they changed.
+    ensures stretch { (heard : List Change) × (AllByRecursion (λ w. leaves w ≡ false) watchers.old.items → AreTold (λ w. told w) (λ w. leaves w) heard watchers.old.items watchers.new.items)
+        × ((texts : List (List ℕ)) × (IsTrue (S.stream source.old).tells → HasTaken [] (S.stream source.old) texts (S.stream source.new))
+        × (IsTrue (seen R.state base.old).tells → (capacity : ℕ) (start : Content)
+        → Stands (V.knows volume.old (seen R.state base.old) capacity) start start None (seen R.state base.old) (outside_of (plan_of base.old.store.now) (R.state base.old.disk.now))
+        → CrashesHeard 0 heard capacity start None (outside_of (plan_of base.old.store.now) (R.state base.old.disk.now)) texts (outside_of (plan_of base.old.store.now) (R.state base.new.disk.now))))
+        × (IsFinal (stop_in result) → (texts : List (List ℕ)) × (IsTrue (S.stream source.old).tells → HasTaken [] (S.stream source.old) texts (S.stream source.new) × EndsTaking (stop_in result) [] (S.stream source.old) texts (S.stream source.new))
         × (stop_in result ≡ Some Stop.TooMany → length texts ≡ 4294967295)
         × (IsTrue (seen R.state base.old).tells → (capacity : ℕ) (start : Content)
         → Stands (V.knows volume.old (seen R.state base.old) capacity) start start None (seen R.state base.old) (outside_of (plan_of base.old.store.now) (R.state base.old.disk.now))
-        → AnswersStep capacity start None (outside_of (plan_of base.old.store.now) (R.state base.old.disk.now)) texts (outside_of (plan_of base.old.store.now) (R.state base.new.disk.now))) }
+        → AnswersHeard heard capacity start None (outside_of (plan_of base.old.store.now) (R.state base.old.disk.now)) texts (outside_of (plan_of base.old.store.now) (R.state base.new.disk.now)))) }
+    // At Ok all lines of the source were served and answered, and a crash leaves what they left, with bit 8 of the header's attributes set.
+    ensures done { IsTrue (seen R.state base.old).tells → (capacity : ℕ) (start : Content) → Stands (V.knows volume.old (seen R.state base.old) capacity) start start None (seen R.state base.old) (outside_of (plan_of base.old.store.now) (R.state base.old.disk.now))
+        → OnOk result (EndsRun capacity start (outside_of (plan_of base.old.store.now) (R.state base.old.disk.now)) (S.stream source.old) (outside_of (plan_of base.new.store.now) (R.state base.new.disk.now))) }
     // At Ok bit 8 of the header's attributes is set, the journal is empty, and nothing is pending.
     ensures away { IsTrue (seen R.state base.old).tells → OnOk result (IsPutAway (R.state base.new.disk.now)) }
     ensures end { IsTrue (S.stream source.old).tells → OnOk result ((S.stream source.new).left ≡ []) }

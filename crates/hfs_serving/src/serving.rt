@@ -1,5 +1,5 @@
 //! An image served: it is found, made ready, attached to, and its source's lines are served to their end.
-ghost use Rattle.std.specs.Prelude.{◌≡◌, ◌⊎◌, ◌≤◌, ◌<◌, [], ℕ, List, None, Some, IsErrOf, IsTrue, IfOk, IfErr, OnOk, length};
+ghost use Rattle.std.specs.Prelude.{◌≡◌, ◌⊎◌, ◌≤◌, ◌<◌, [], ℕ, List, None, Some, IsErrOf, IsTrue, IfOk, IfErr, OnOk, false, length};
 ghost use Rattle.sector_disk.specs.Disk.{HasNothingPending, OnlyReads, SameDisk, content};
 ghost use Rattle.jnl_format.specs.Recovery.{Content, replayed};
 ghost use Rattle.jnl_replay.specs.Plan.{FitsPlan, journal_of};
@@ -10,15 +10,19 @@ ghost use Rattle.hfs_volume.specs.Sound.{IsSound};
 ghost use Rattle.line_source.specs.Input.{SameSource};
 ghost use Rattle.hfs_serving.specs.Attaching.{IsAttached};
 ghost use Rattle.sector_disk.specs.Cause.{Rose};
-ghost use Rattle.hfs_serving.specs.Ending.{AnswersRig, AnswersRun, AnswersStep, AnswersToTheLast, EndsTaking, FinishesRun, IsFinal, IsPutAway, stop_in};
+ghost use Rattle.hfs_serving.specs.Ending.{AnswersRun, AnswersToTheLast, EndsTaking, FinishesRun, IsFinal, IsPutAway, stop_in};
 ghost use Rattle.hfs_serving.specs.Faults.{RigFaults};
 ghost use Rattle.hfs_serving.specs.Checking.{IsFound, RefusesMount};
 ghost use Rattle.hfs_serving.specs.Outside.{outside_of};
 ghost use Rattle.hfs_serving.specs.Readying.{IsReady, IsVersioned};
 ghost use Rattle.hfs_serving.specs.Runs.{KeepsPlace};
 ghost use Rattle.hfs_serving.specs.Stages.{Turns};
-ghost use Rattle.hfs_serving.specs.Steps.{CrashesStep, KeepsRun};
+ghost use Rattle.hfs_serving.specs.Steps.{KeepsRun};
 ghost use Rattle.hfs_serving.specs.Taking.{HasTaken};
+ghost use Rattle.hfs_serving.specs.Watching.{AnswersHeard, AnswersRigHeard, CrashesHeard, FinishesHeard, KeepsHeard, LastHeard, StopsHeard};
+ghost use Rattle.hfs_language.specs.declared.reply.Change.{Change};
+ghost use Rattle.watchers.specs.Told.{AreTold};
+ghost use Rattle.std.specs.List.{AllByRecursion};
 
 use crate::attaching::attach_volume;
 use crate::checking::{Checker, MountRefusal, find_image};
@@ -48,6 +52,15 @@ pub fn serve_image<V: Volume, C: Checker, R: Rig, S: Source>(
     // the run, from what the image stood for.
     ensures promises { IsTrue (R.state rig.old).tells → HasNothingPending (R.state rig.old) → (capacity : ℕ) (start : Content) → Mounts (content (R.state rig.old)) capacity start
         → KeepsRun capacity start (R.state rig.old) (S.stream source.old) (R.state rig.new) (S.stream source.new) }
+    // Watchers that stay are told, in order and once, what the first lines of such a run changed, whose changes each crash at the end leaves. No reply
+    // is told before its changes. At the end of the source they are told what all of its lines changed; where it fails or has too many, what all
+    // lines did that were answered.
+    ensures watched { (heard : List Change) × (AllByRecursion (λ w. leaves w ≡ false) watchers.old.items → AreTold (λ w. told w) (λ w. leaves w) heard watchers.old.items watchers.new.items)
+        × (IsTrue (R.state rig.old).tells → HasNothingPending (R.state rig.old) → (capacity : ℕ) (start : Content) → Mounts (content (R.state rig.old)) capacity start
+        → KeepsHeard heard capacity start (R.state rig.old) (S.stream source.old) (R.state rig.new) (S.stream source.new)
+        × IfOk result (λ answer. OnOk answer (FinishesHeard heard capacity start (R.state rig.old) (S.stream source.old) (R.state rig.new) (S.stream source.new)))
+        × (IsErrOf result Stop.Source → StopsHeard heard capacity start (R.state rig.old) (S.stream source.old) (R.state rig.new) (S.stream source.new))
+        × (IsErrOf result Stop.TooMany → LastHeard heard capacity start (R.state rig.old) (S.stream source.old) (R.state rig.new) (S.stream source.new))) }
     // A refusal is the first that stands, so an image that can be mounted has none.
     ensures refused { IsTrue (R.state rig.old).tells → IfOk result (λ answer. IfErr answer (RefusesMount (content (R.state rig.old)) (C.findings checker.new))) }
     ensures served { IsTrue (R.state rig.old).tells → IfOk result (λ answer. OnOk answer ((capacity : ℕ) × (start : Content) × Mounts (content (R.state rig.old)) capacity start)) }
@@ -92,14 +105,15 @@ fn serve_found<V: Volume, R: Rig, S: Source>(
 ) -> Result<(), Stop>
     requires fits { FitsPlan (R.state rig.old).sectors plan }
     requires found { IsTrue (R.state rig.old).tells → IsFound (content (R.state rig.old)) plan }
-    // Its promises begin at any moment since which the rig was only read.
-    ensures promises { IsTrue (R.state rig.old).tells → HasNothingPending (R.state rig.old) → (capacity : ℕ) → IsCapacityOf plan capacity → (first : R) → OnlyReads (R.state first) (R.state rig.old)
-        → KeepsRun capacity (replayed (journal_of plan) (content (R.state rig.old))) (R.state first) (S.stream source.old) (R.state rig.new) (S.stream source.new) }
-    // Where the source ended the run, each line that was taken was answered.
-    ensures answers { IsFinal (stop_in result) → (texts : List (List ℕ)) × (IsTrue (S.stream source.old).tells → HasTaken [] (S.stream source.old) texts (S.stream source.new) × EndsTaking (stop_in result) [] (S.stream source.old) texts (S.stream source.new))
+    // Its promises begin at any moment since which the rig was only read. Where the source ended the run, each line that was taken was answered, and
+    // watchers were told all that they changed.
+    ensures promises { (heard : List Change) × (AllByRecursion (λ w. leaves w ≡ false) watchers.old.items → AreTold (λ w. told w) (λ w. leaves w) heard watchers.old.items watchers.new.items)
+        × (IsTrue (R.state rig.old).tells → HasNothingPending (R.state rig.old) → (capacity : ℕ) → IsCapacityOf plan capacity → (first : R) → OnlyReads (R.state first) (R.state rig.old)
+        → KeepsHeard heard capacity (replayed (journal_of plan) (content (R.state rig.old))) (R.state first) (S.stream source.old) (R.state rig.new) (S.stream source.new))
+        × (IsFinal (stop_in result) → (texts : List (List ℕ)) × (IsTrue (S.stream source.old).tells → HasTaken [] (S.stream source.old) texts (S.stream source.new) × EndsTaking (stop_in result) [] (S.stream source.old) texts (S.stream source.new))
         × (stop_in result ≡ Some Stop.TooMany → length texts ≡ 4294967295)
         × (IsTrue (R.state rig.old).tells → HasNothingPending (R.state rig.old) → (capacity : ℕ) → IsCapacityOf plan capacity → (first : R) → OnlyReads (R.state first) (R.state rig.old)
-        → AnswersRig capacity (replayed (journal_of plan) (content (R.state rig.old))) (R.state first) (S.stream source.old) texts (R.state rig.new) (S.stream source.new)) }
+        → AnswersRigHeard heard capacity (replayed (journal_of plan) (content (R.state rig.old))) (R.state first) (S.stream source.old) texts (R.state rig.new) (S.stream source.new))) }
     ensures away { IsTrue (R.state rig.old).tells → OnOk result (IsPutAway (R.state rig.new)) }
     ensures end { IsTrue (S.stream source.old).tells → OnOk result ((S.stream source.new).left ≡ []) }
     ensures few { IsTrue (S.stream source.old).tells → OnOk result (length (lines (S.stream source.old).left) ≤ 4294967295) }
@@ -125,15 +139,16 @@ fn serve_ready<V: Volume, R: Rig, S: Source>(
 ) -> Result<(), Stop>
     requires fits { FitsPlan (R.state rig.old).sectors plan.now }
     requires ready { IsTrue (R.state rig.old).tells → (now : Content) × IsReady plan.now now (R.state rig.old) × IsSound now }
-    // A stretch from what it stood for before it was made ready.
-    ensures stretch { (texts : List (List ℕ)) × (IsTrue (S.stream source.old).tells → HasTaken [] (S.stream source.old) texts (S.stream source.new))
+    // A stretch from what it stood for before it was made ready. Where the source ended the run, each line that was taken was answered, and watchers
+    // were told all that they changed.
+    ensures stretch { (heard : List Change) × (AllByRecursion (λ w. leaves w ≡ false) watchers.old.items → AreTold (λ w. told w) (λ w. leaves w) heard watchers.old.items watchers.new.items)
+        × ((texts : List (List ℕ)) × (IsTrue (S.stream source.old).tells → HasTaken [] (S.stream source.old) texts (S.stream source.new))
         × (IsTrue (R.state rig.old).tells → (capacity : ℕ) → IsCapacityOf plan.now capacity → (start now : Content) (first : R) → IsVersioned start now → KeepsPlace start now → IsReady plan.now now (R.state rig.old) → IsSound now
-        → Turns start now (outside_of plan.now (R.state first)) (outside_of plan.now (R.state rig.old)) → CrashesStep capacity start None (outside_of plan.now (R.state first)) texts (outside_of plan.now (R.state rig.new))) }
-    // Where the source ended the run, each line that was taken was answered.
-    ensures answers { IsFinal (stop_in result) → (texts : List (List ℕ)) × (IsTrue (S.stream source.old).tells → HasTaken [] (S.stream source.old) texts (S.stream source.new) × EndsTaking (stop_in result) [] (S.stream source.old) texts (S.stream source.new))
+        → Turns start now (outside_of plan.now (R.state first)) (outside_of plan.now (R.state rig.old)) → CrashesHeard 0 heard capacity start None (outside_of plan.now (R.state first)) texts (outside_of plan.now (R.state rig.new))))
+        × (IsFinal (stop_in result) → (texts : List (List ℕ)) × (IsTrue (S.stream source.old).tells → HasTaken [] (S.stream source.old) texts (S.stream source.new) × EndsTaking (stop_in result) [] (S.stream source.old) texts (S.stream source.new))
         × (stop_in result ≡ Some Stop.TooMany → length texts ≡ 4294967295)
         × (IsTrue (R.state rig.old).tells → (capacity : ℕ) → IsCapacityOf plan.now capacity → (start now : Content) (first : R) → IsVersioned start now → KeepsPlace start now → IsReady plan.now now (R.state rig.old) → IsSound now
-        → Turns start now (outside_of plan.now (R.state first)) (outside_of plan.now (R.state rig.old)) → AnswersStep capacity start None (outside_of plan.now (R.state first)) texts (outside_of plan.now (R.state rig.new))) }
+        → Turns start now (outside_of plan.now (R.state first)) (outside_of plan.now (R.state rig.old)) → AnswersHeard heard capacity start None (outside_of plan.now (R.state first)) texts (outside_of plan.now (R.state rig.new)))) }
     ensures away { IsTrue (R.state rig.old).tells → OnOk result (IsPutAway (R.state rig.new)) }
     ensures end { IsTrue (S.stream source.old).tells → OnOk result ((S.stream source.new).left ≡ []) }
     ensures few { IsTrue (S.stream source.old).tells → OnOk result (length (lines (S.stream source.old).left) ≤ 4294967295) }

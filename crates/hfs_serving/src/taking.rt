@@ -5,12 +5,12 @@ ghost use Rattle.jnl_format.specs.Recovery.{Content};
 ghost use Rattle.sector_disk.specs.Cause.{Rose};
 ghost use Rattle.hfs_language.specs.Lines.{HasNoNewline, lines};
 ghost use Rattle.hfs_language.specs.declared.reply.Change.{Change};
-ghost use Rattle.hfs_serving.specs.Ending.{AnswersStep, EndsTaking, IsFinal, stop_in};
+ghost use Rattle.hfs_serving.specs.Ending.{EndsTaking, IsFinal, stop_in};
 ghost use Rattle.hfs_serving.specs.Faults.{StopFaults};
 ghost use Rattle.hfs_serving.specs.Going.{Stands};
 ghost use Rattle.hfs_serving.specs.Steps.{CrashesStep, ServesStep, SomeWhole};
 ghost use Rattle.hfs_serving.specs.Taking.{HasTaken};
-ghost use Rattle.hfs_serving.specs.Watching.{CrashesHeard};
+ghost use Rattle.hfs_serving.specs.Watching.{AnswersHeard, CrashesHeard, ServesHeard};
 ghost use Rattle.watchers.specs.Told.{AreTold};
 ghost use Rattle.line_source.specs.Batch.{AddsLines};
 ghost use Rattle.line_source.specs.Cause.{IsCause};
@@ -53,17 +53,21 @@ pub fn serve_source<V: Volume, G: Teller, S: Source>(
         × (IsTrue (S.stream source.old).tells → HasTaken input.old (S.stream source.old) texts (S.stream source.new))
         × (IsTrue (G.space base.old).tells → (capacity : ℕ) (start : Content) (shrunk : Option ℕ) → Stands (V.knows volume.old (G.space base.old) capacity) start start shrunk (G.space base.old) (G.outside base.old)
         → CrashesStep capacity start shrunk (G.outside base.old) texts (G.outside base.new))) }
-    // Where the source fails or has too many lines, each line that was taken was answered.
-    ensures answers { OnErr result (IsFinal (stop_in result) → (texts : List (List ℕ))
+    // Whatever ended it, watchers are told what some of the lines changed that were taken, each change once, and each crash leaves these lines. At
+    // Ok, and where the source fails or has too many lines, these are all lines that were taken.
+    ensures watched { (heard : List Change) × (AllByRecursion (λ w. leaves w ≡ false) watchers.old.items → AreTold (λ w. told w) (λ w. leaves w) heard watchers.old.items watchers.new.items)
+        × ((texts : List (List ℕ)) × (IsTrue (S.stream source.old).tells → HasTaken input.old (S.stream source.old) texts (S.stream source.new))
+        × (IsTrue (G.space base.old).tells → (capacity : ℕ) (start : Content) (shrunk : Option ℕ) → Stands (V.knows volume.old (G.space base.old) capacity) start start shrunk (G.space base.old) (G.outside base.old)
+        → CrashesHeard 0 heard capacity start shrunk (G.outside base.old) texts (G.outside base.new)))
+        × OnOk result ((texts : List (List ℕ))
+        × (IsTrue (S.stream source.old).tells → TakesLines input.old (S.stream source.old) texts input.new (S.stream source.new) × (ahead input.new (S.stream source.new) ≡ []))
+        × (IsTrue (G.space base.old).tells → (capacity : ℕ) (start : Content) (shrunk : Option ℕ) → Stands (V.knows volume.old (G.space base.old) capacity) start start shrunk (G.space base.old) (G.outside base.old)
+        → ServesHeard 0 heard (length texts) capacity (V.knows volume.new (G.space base.new) capacity) start shrunk (G.outside base.old) texts (G.space base.new) (G.outside base.new)))
+        × OnErr result (IsFinal (stop_in result) → (texts : List (List ℕ))
         × (IsTrue (S.stream source.old).tells → HasTaken input.old (S.stream source.old) texts (S.stream source.new) × EndsTaking (stop_in result) input.old (S.stream source.old) texts (S.stream source.new))
         × (stop_in result ≡ Some Stop.TooMany → length texts ≡ 4294967295)
         × (IsTrue (G.space base.old).tells → (capacity : ℕ) (start : Content) (shrunk : Option ℕ) → Stands (V.knows volume.old (G.space base.old) capacity) start start shrunk (G.space base.old) (G.outside base.old)
-        → AnswersStep capacity start shrunk (G.outside base.old) texts (G.outside base.new))) }
-    // Whatever ended it, watchers are told what some of the lines changed that were taken, each change once, and each crash leaves these lines.
-    ensures watched { (heard : List Change) × (AllByRecursion (λ w. leaves w ≡ false) watchers.old.items → AreTold (λ w. told w) (λ w. leaves w) heard watchers.old.items watchers.new.items)
-        × (texts : List (List ℕ)) × (IsTrue (S.stream source.old).tells → HasTaken input.old (S.stream source.old) texts (S.stream source.new))
-        × (IsTrue (G.space base.old).tells → (capacity : ℕ) (start : Content) (shrunk : Option ℕ) → Stands (V.knows volume.old (G.space base.old) capacity) start start shrunk (G.space base.old) (G.outside base.old)
-        → CrashesHeard 0 heard capacity start shrunk (G.outside base.old) texts (G.outside base.new)) }
+        → AnswersHeard heard capacity start shrunk (G.outside base.old) texts (G.outside base.new))) }
     ensures still { (capacity : ℕ) → G.serves base.old capacity → G.taken base.old ≤ capacity → OnOk result (G.serves base.new capacity × (G.taken base.new ≤ capacity)) }
     ensures nothing { (capacity : ℕ) → G.serves base.old capacity → G.taken base.old ≡ 0 → OnOk result (G.taken base.new ≡ 0) }
     ensures tells { OnOk result ((G.space base.new).tells ≡ (G.space base.old).tells) }

@@ -6,8 +6,9 @@ use Rattle.hfs_volume.specs.Run.{shrunk_in}
 use Rattle.hfs_serving.specs.Grounds.{Anchor}
 use Rattle.hfs_serving.specs.Outside.{outside_of}
 use Rattle.hfs_serving.specs.Taking.{HasTaken}
-use Rattle.hfs_serving.proofs.Promising.{crash_keeps, crash_seen, finish_crashes, finish_ends, has_all, has_none, none_behind}
-use Rattle.hfs_serving.proofs.Stepping.{step_ends, step_none}
+use Rattle.hfs_serving.proofs.Promising.{crash_keeps, crash_seen, finish_ends, finish_heard, has_all, has_none, none_behind}
+use Rattle.hfs_serving.proofs.Stepping.{ends_heard, none_heard}
+use Rattle.watchers.proofs.Tellings.{told_nothing}
 use Rattle.line_source.specs.Input.{TakesLines}
 use Rattle.line_source.proofs.Cuts.{all_taken}
 use Rattle.std.proofs.lemmas.Result.{err_from_is_err_and}
@@ -20,36 +21,44 @@ use Rattle.hfs_serving.proofs.Numbering.{no_memory, no_trouble, too_many}
 use Rattle.std.specs.Prelude.{Some}
 use Rattle.hfs_serving.specs.Ending.{EndsTaking}
 use Rattle.hfs_serving.proofs.Grounding.{disks_both, same_disk}
-use Rattle.hfs_serving.proofs.Answering.{answers_finish, answers_seen, handed_answers, no_end_of_memory, no_end_of_trouble}
+use Rattle.hfs_serving.proofs.Answering.{all_heard, answers_seen, handed_answers, no_end_of_memory, no_end_of_trouble}
 use Rattle.hfs_serving.proofs.promises.run.Goals as goal
 
 pub returns-in_err-input-clause-promises : goal.returns-in_err-input-clause-promises
-returns-in_err-input-clause-promises g c tells capacity start stands sound may =
-    let base = c.args.base.now in
-    let plan = plan_of base.store.now in
-    let old = g.R.SectorDisk.state base.disk.now in
-    let space = seen g.R.SectorDisk.state base in
-    let knows = g.V.Volume.knows c.args.volume.now space capacity in
-    let source = g.S.Source.stream c.args.source.now in
-    crash_keeps c.aside_is_free.ensures capacity start plan (plan_of base.store.now) old (g.R.SectorDisk.state base.disk.now) [] knows space refl (g.met.R.SectorDisk.only_now base.disk.now) stands sound may source source
-    (λ told. has_none source) (step_ends capacity None start (outside_of plan old) [] 0 knows space (outside_of plan old) (step_none capacity None start (outside_of plan old) [] knows space stands))
+returns-in_err-input-clause-promises g c = (
+  [],
+  λ stay. told_nothing _ _ c.args.watchers.now.items stay,
+  λ tells capacity start stands sound may.
+      let base = c.args.base.now in
+      let plan = plan_of base.store.now in
+      let old = g.R.SectorDisk.state base.disk.now in
+      let space = seen g.R.SectorDisk.state base in
+      let knows = g.V.Volume.knows c.args.volume.now space capacity in
+      let source = g.S.Source.stream c.args.source.now in
+      crash_keeps c.aside_is_free.ensures capacity start plan (plan_of base.store.now) old (g.R.SectorDisk.state base.disk.now) [] knows space refl (g.met.R.SectorDisk.only_now base.disk.now) stands sound may source source
+      (λ told. has_none source) (ends_heard capacity None start (outside_of plan old) [] 0 [] 0 knows space (outside_of plan old) (none_heard capacity None start (outside_of plan old) [] knows space stands)),
+)
 
 pub serve_source-requires-clause-serves : goal.serve_source-requires-clause-serves
 serve_source-requires-clause-serves g c = let there = c.requires.serves in let none = ap length there.2 in (there.0, there.1, omega (arith, none))
 
 pub returns-in_err-serve_source-clause-promises : goal.returns-in_err-serve_source-clause-promises
-returns-in_err-serve_source-clause-promises g c tells capacity start stands sound may =
-    let base = c.args.base.now in
-    let plan = plan_of base.store.now in
-    let old = g.R.SectorDisk.state base.disk.now in
-    let space = seen g.R.SectorDisk.state base in
-    let knows = g.V.Volume.knows c.args.volume.now space capacity in
-    let source = g.S.Source.stream c.args.source.now in
-    let mid = c.serve_source.new.base in
-    let source_new = g.S.Source.stream c.serve_source.new.source in
-    let stopped = c.in_err-serve_source.ensures.stops in
-    crash_keeps c.aside_is_free.ensures capacity start plan (plan_of mid.store.now) old (g.R.SectorDisk.state mid.disk.now) stopped.0 knows space (ap (λ (a : Anchor). a.journal) c.serve_source.ensures.anchor) (g.met.R.SectorDisk.only_now base.disk.now) stands sound may source source_new
-    (λ told. subst (λ (l : List ℕ). HasTaken l source stopped.0 source_new) c.in_ok-input.ensures (stopped.1 told)) (stopped.2 tells capacity start None stands)
+returns-in_err-serve_source-clause-promises g c = (
+  c.in_err-serve_source.ensures.watched.0,
+  c.in_err-serve_source.ensures.watched.1,
+  λ tells capacity start stands sound may.
+      let base = c.args.base.now in
+      let plan = plan_of base.store.now in
+      let old = g.R.SectorDisk.state base.disk.now in
+      let space = seen g.R.SectorDisk.state base in
+      let knows = g.V.Volume.knows c.args.volume.now space capacity in
+      let source = g.S.Source.stream c.args.source.now in
+      let mid = c.serve_source.new.base in
+      let source_new = g.S.Source.stream c.serve_source.new.source in
+      let stopped = c.in_err-serve_source.ensures.watched.2 in
+      crash_keeps c.aside_is_free.ensures capacity start plan (plan_of mid.store.now) old (g.R.SectorDisk.state mid.disk.now) stopped.0 knows space (ap (λ (a : Anchor). a.journal) c.serve_source.ensures.anchor) (g.met.R.SectorDisk.only_now base.disk.now) stands sound may source source_new
+      (λ told. subst (λ (l : List ℕ). HasTaken l source stopped.0 source_new) c.in_ok-input.ensures (stopped.1 told)) (stopped.2 tells capacity start None stands),
+)
 
 pub finish-requires-clause-serves : goal.finish-requires-clause-serves
 finish-requires-clause-serves g c =
@@ -65,50 +74,58 @@ finish-requires-clause-stands g c tells_mid =
     (there.0, step.now, shrunk_in there.2 step.run, step.stands)
 
 pub returns-in_err-finish-clause-promises : goal.returns-in_err-finish-clause-promises
-returns-in_err-finish-clause-promises g c tells capacity start stands sound may =
-    let base = c.args.base.now in
-    let plan = plan_of base.store.now in
-    let old = g.R.SectorDisk.state base.disk.now in
-    let space = seen g.R.SectorDisk.state base in
-    let knows = g.V.Volume.knows c.args.volume.now space capacity in
-    let source = g.S.Source.stream c.args.source.now in
-    let mid = c.serve_source.new.base in
-    let source_new = g.S.Source.stream c.serve_source.new.source in
-    let end = c.finish.new.base in
-    let space_mid = seen g.R.SectorDisk.state mid in
-    let out_mid = outside_of (plan_of mid.store.now) (g.R.SectorDisk.state mid.disk.now) in
-    let out_end = outside_of (plan_of end.store.now) (g.R.SectorDisk.state end.disk.now) in
-    let knows_mid = g.V.Volume.knows c.serve_source.new.volume space_mid capacity in
-    let served = c.in_ok-serve_source.ensures.serves in
-    let step = served.2 tells capacity start None stands in
-    let tells_mid = subst (λ t. IsTrue t) (sym c.in_ok-serve_source.ensures.tells) tells in
-    let takes = λ (told : IsTrue source.tells). subst (λ (l : List ℕ). TakesLines l source served.0 c.serve_source.new.input source_new) c.in_ok-input.ensures (served.1 told).0 in
-    crash_keeps c.aside_is_free.ensures capacity start plan (plan_of end.store.now) old (g.R.SectorDisk.state end.disk.now) served.0 knows space (c.finish.ensures.anchor ∙ ap (λ (a : Anchor). a.journal) c.serve_source.ensures.anchor) (g.met.R.SectorDisk.only_now base.disk.now) stands sound may source source_new
-    (λ told. has_all source source_new served.0 c.serve_source.new.input (takes told))
-    (finish_crashes capacity start (outside_of plan old) out_mid out_end served.0 (length served.0) knows_mid space_mid step (c.finish.ensures.crash tells_mid capacity step.now (shrunk_in None step.run) step.stands))
+returns-in_err-finish-clause-promises g c = (
+  c.in_ok-serve_source.ensures.watched.0,
+  c.in_ok-serve_source.ensures.watched.1,
+  λ tells capacity start stands sound may.
+      let base = c.args.base.now in
+      let plan = plan_of base.store.now in
+      let old = g.R.SectorDisk.state base.disk.now in
+      let space = seen g.R.SectorDisk.state base in
+      let knows = g.V.Volume.knows c.args.volume.now space capacity in
+      let source = g.S.Source.stream c.args.source.now in
+      let mid = c.serve_source.new.base in
+      let source_new = g.S.Source.stream c.serve_source.new.source in
+      let end = c.finish.new.base in
+      let space_mid = seen g.R.SectorDisk.state mid in
+      let out_mid = outside_of (plan_of mid.store.now) (g.R.SectorDisk.state mid.disk.now) in
+      let out_end = outside_of (plan_of end.store.now) (g.R.SectorDisk.state end.disk.now) in
+      let knows_mid = g.V.Volume.knows c.serve_source.new.volume space_mid capacity in
+      let served = c.in_ok-serve_source.ensures.watched.3 in
+      let step = served.2 tells capacity start None stands in
+      let tells_mid = subst (λ t. IsTrue t) (sym c.in_ok-serve_source.ensures.tells) tells in
+      let takes = λ (told : IsTrue source.tells). subst (λ (l : List ℕ). TakesLines l source served.0 c.serve_source.new.input source_new) c.in_ok-input.ensures (served.1 told).0 in
+      crash_keeps c.aside_is_free.ensures capacity start plan (plan_of end.store.now) old (g.R.SectorDisk.state end.disk.now) served.0 knows space (c.finish.ensures.anchor ∙ ap (λ (a : Anchor). a.journal) c.serve_source.ensures.anchor) (g.met.R.SectorDisk.only_now base.disk.now) stands sound may source source_new
+      (λ told. has_all source source_new served.0 c.serve_source.new.input (takes told))
+      (finish_heard c.in_ok-serve_source.ensures.watched.0 capacity start (outside_of plan old) out_mid out_end served.0 (length served.0) knows_mid space_mid step (c.finish.ensures.crash tells_mid capacity step.0.now (shrunk_in None step.0.run) step.0.stands)),
+)
 
 pub returns-clause-promises : goal.returns-clause-promises
-returns-clause-promises g c tells capacity start stands sound may =
-    let base = c.args.base.now in
-    let plan = plan_of base.store.now in
-    let old = g.R.SectorDisk.state base.disk.now in
-    let space = seen g.R.SectorDisk.state base in
-    let knows = g.V.Volume.knows c.args.volume.now space capacity in
-    let source = g.S.Source.stream c.args.source.now in
-    let mid = c.serve_source.new.base in
-    let source_new = g.S.Source.stream c.serve_source.new.source in
-    let end = c.finish.new.base in
-    let space_mid = seen g.R.SectorDisk.state mid in
-    let out_mid = outside_of (plan_of mid.store.now) (g.R.SectorDisk.state mid.disk.now) in
-    let out_end = outside_of (plan_of end.store.now) (g.R.SectorDisk.state end.disk.now) in
-    let knows_mid = g.V.Volume.knows c.serve_source.new.volume space_mid capacity in
-    let served = c.in_ok-serve_source.ensures.serves in
-    let step = served.2 tells capacity start None stands in
-    let tells_mid = subst (λ t. IsTrue t) (sym c.in_ok-serve_source.ensures.tells) tells in
-    let takes = λ (told : IsTrue source.tells). subst (λ (l : List ℕ). TakesLines l source served.0 c.serve_source.new.input source_new) c.in_ok-input.ensures (served.1 told).0 in
-    crash_keeps c.aside_is_free.ensures capacity start plan (plan_of end.store.now) old (g.R.SectorDisk.state end.disk.now) served.0 knows space (c.finish.ensures.anchor ∙ ap (λ (a : Anchor). a.journal) c.serve_source.ensures.anchor) (g.met.R.SectorDisk.only_now base.disk.now) stands sound may source source_new
-    (λ told. has_all source source_new served.0 c.serve_source.new.input (takes told))
-    (finish_crashes capacity start (outside_of plan old) out_mid out_end served.0 (length served.0) knows_mid space_mid step (c.finish.ensures.crash tells_mid capacity step.now (shrunk_in None step.run) step.stands))
+returns-clause-promises g c = (
+  c.in_ok-serve_source.ensures.watched.0,
+  c.in_ok-serve_source.ensures.watched.1,
+  λ tells capacity start stands sound may.
+      let base = c.args.base.now in
+      let plan = plan_of base.store.now in
+      let old = g.R.SectorDisk.state base.disk.now in
+      let space = seen g.R.SectorDisk.state base in
+      let knows = g.V.Volume.knows c.args.volume.now space capacity in
+      let source = g.S.Source.stream c.args.source.now in
+      let mid = c.serve_source.new.base in
+      let source_new = g.S.Source.stream c.serve_source.new.source in
+      let end = c.finish.new.base in
+      let space_mid = seen g.R.SectorDisk.state mid in
+      let out_mid = outside_of (plan_of mid.store.now) (g.R.SectorDisk.state mid.disk.now) in
+      let out_end = outside_of (plan_of end.store.now) (g.R.SectorDisk.state end.disk.now) in
+      let knows_mid = g.V.Volume.knows c.serve_source.new.volume space_mid capacity in
+      let served = c.in_ok-serve_source.ensures.watched.3 in
+      let step = served.2 tells capacity start None stands in
+      let tells_mid = subst (λ t. IsTrue t) (sym c.in_ok-serve_source.ensures.tells) tells in
+      let takes = λ (told : IsTrue source.tells). subst (λ (l : List ℕ). TakesLines l source served.0 c.serve_source.new.input source_new) c.in_ok-input.ensures (served.1 told).0 in
+      crash_keeps c.aside_is_free.ensures capacity start plan (plan_of end.store.now) old (g.R.SectorDisk.state end.disk.now) served.0 knows space (c.finish.ensures.anchor ∙ ap (λ (a : Anchor). a.journal) c.serve_source.ensures.anchor) (g.met.R.SectorDisk.only_now base.disk.now) stands sound may source source_new
+      (λ told. has_all source source_new served.0 c.serve_source.new.input (takes told))
+      (finish_heard c.in_ok-serve_source.ensures.watched.0 capacity start (outside_of plan old) out_mid out_end served.0 (length served.0) knows_mid space_mid step (c.finish.ensures.crash tells_mid capacity step.0.now (shrunk_in None step.0.run) step.0.stands)),
+)
 
 pub returns-clause-done : goal.returns-clause-done
 returns-clause-done g c tells capacity start stands =
@@ -139,12 +156,18 @@ returns-in_err-input-clause-stretch g c =
     let plan = plan_of base.store.now in
     let old = g.R.SectorDisk.state base.disk.now in
     let space = seen g.R.SectorDisk.state base in
-    let source = g.S.Source.stream c.args.source.now in (
+    let source = g.S.Source.stream c.args.source.now in
+    let p = err_from_is_err_and c.from_residual.result c.from_residual.ensures.1 in (
       [],
-      λ told. has_none source,
-      λ tells capacity start stands.
-          let knows = g.V.Volume.knows c.args.volume.now space capacity in
-          step_ends capacity None start (outside_of plan old) [] 0 knows space (outside_of plan old) (step_none capacity None start (outside_of plan old) [] knows space stands),
+      λ stay. told_nothing _ _ c.args.watchers.now.items stay,
+      (
+        [],
+        λ told. has_none source,
+        λ tells capacity start stands.
+            let knows = g.V.Volume.knows c.args.volume.now space capacity in
+            ends_heard capacity None start (outside_of plan old) [] 0 [] 0 knows space (outside_of plan old) (none_heard capacity None start (outside_of plan old) [] knows space stands),
+      ),
+      λ final. absurd (no_end_of_memory p.0 c.from_residual.result p.1 p.2 final),
     )
 
 pub returns-in_err-serve_source-clause-stretch : goal.returns-in_err-serve_source-clause-stretch
@@ -155,10 +178,26 @@ returns-in_err-serve_source-clause-stretch g c =
     let source = g.S.Source.stream c.args.source.now in
     let mid = c.serve_source.new.base in
     let source_new = g.S.Source.stream c.serve_source.new.source in
-    let stopped = c.in_err-serve_source.ensures.stops in (
-      stopped.0,
-      λ told. subst (λ (l : List ℕ). HasTaken l source stopped.0 source_new) c.in_ok-input.ensures (stopped.1 told),
-      λ tells capacity start stands. crash_seen capacity start plan (plan_of mid.store.now) (outside_of plan old) (g.R.SectorDisk.state mid.disk.now) stopped.0 (ap (λ (a : Anchor). a.journal) c.serve_source.ensures.anchor) (stopped.2 tells capacity start None stands),
+    let stopped = c.in_err-serve_source.ensures.watched.2 in
+    let p = err_from_is_err_and c.from_residual-in_err-serve_source.result c.from_residual-in_err-serve_source.ensures.1 in (
+      c.in_err-serve_source.ensures.watched.0,
+      c.in_err-serve_source.ensures.watched.1,
+      (
+        stopped.0,
+        λ told. subst (λ (l : List ℕ). HasTaken l source stopped.0 source_new) c.in_ok-input.ensures (stopped.1 told),
+        λ tells capacity start stands. crash_seen capacity start plan (plan_of mid.store.now) (outside_of plan old) (g.R.SectorDisk.state mid.disk.now) stopped.0 (ap (λ (a : Anchor). a.journal) c.serve_source.ensures.anchor) (stopped.2 tells capacity start None stands),
+      ),
+      handed_answers c.in_err-serve_source.field-0.0 p.0 c.from_residual-in_err-serve_source.result _ [] source source_new p.1 p.2
+          (λ final.
+          let there = c.in_err-serve_source.ensures.watched.4 final in (
+            there.0,
+            λ told.
+                let took = there.1 told in
+                (subst (λ (l : List ℕ). HasTaken l source there.0 source_new) c.in_ok-input.ensures took.0, subst (λ (l : List ℕ). EndsTaking (Some c.in_err-serve_source.field-0.0) l source there.0 source_new) c.in_ok-input.ensures took.1),
+            there.2,
+            λ tells capacity start stands.
+                answers_seen capacity start plan (plan_of mid.store.now) (outside_of plan old) (g.R.SectorDisk.state mid.disk.now) there.0 (ap (λ (a : Anchor). a.journal) c.serve_source.ensures.anchor) (there.3 tells capacity start None stands),
+          )),
     )
 
 pub returns-in_err-finish-clause-stretch : goal.returns-in_err-finish-clause-stretch
@@ -173,15 +212,21 @@ returns-in_err-finish-clause-stretch g c =
     let space_mid = seen g.R.SectorDisk.state mid in
     let out_mid = outside_of (plan_of mid.store.now) (g.R.SectorDisk.state mid.disk.now) in
     let out_end = outside_of (plan_of end.store.now) (g.R.SectorDisk.state end.disk.now) in
-    let served = c.in_ok-serve_source.ensures.serves in (
-      served.0,
-      λ told. has_all source source_new served.0 c.serve_source.new.input (subst (λ (l : List ℕ). TakesLines l source served.0 c.serve_source.new.input source_new) c.in_ok-input.ensures (served.1 told).0),
-      λ tells capacity start stands.
-          let knows_mid = g.V.Volume.knows c.serve_source.new.volume space_mid capacity in
-          let step = served.2 tells capacity start None stands in
-          let tells_mid = subst (λ t. IsTrue t) (sym c.in_ok-serve_source.ensures.tells) tells in
-          crash_seen capacity start plan (plan_of end.store.now) (outside_of plan old) (g.R.SectorDisk.state end.disk.now) served.0 (c.finish.ensures.anchor ∙ ap (λ (a : Anchor). a.journal) c.serve_source.ensures.anchor)
-          (finish_crashes capacity start (outside_of plan old) out_mid out_end served.0 (length served.0) knows_mid space_mid step (c.finish.ensures.crash tells_mid capacity step.now (shrunk_in None step.run) step.stands)),
+    let served = c.in_ok-serve_source.ensures.watched.3 in
+    let p = err_from_is_err_and c.from_residual-in_err-finish.result c.from_residual-in_err-finish.ensures.1 in (
+      c.in_ok-serve_source.ensures.watched.0,
+      c.in_ok-serve_source.ensures.watched.1,
+      (
+        served.0,
+        λ told. has_all source source_new served.0 c.serve_source.new.input (subst (λ (l : List ℕ). TakesLines l source served.0 c.serve_source.new.input source_new) c.in_ok-input.ensures (served.1 told).0),
+        λ tells capacity start stands.
+            let knows_mid = g.V.Volume.knows c.serve_source.new.volume space_mid capacity in
+            let step = served.2 tells capacity start None stands in
+            let tells_mid = subst (λ t. IsTrue t) (sym c.in_ok-serve_source.ensures.tells) tells in
+            crash_seen capacity start plan (plan_of end.store.now) (outside_of plan old) (g.R.SectorDisk.state end.disk.now) served.0 (c.finish.ensures.anchor ∙ ap (λ (a : Anchor). a.journal) c.serve_source.ensures.anchor)
+            (finish_heard c.in_ok-serve_source.ensures.watched.0 capacity start (outside_of plan old) out_mid out_end served.0 (length served.0) knows_mid space_mid step (c.finish.ensures.crash tells_mid capacity step.0.now (shrunk_in None step.0.run) step.0.stands)),
+      ),
+      λ final. absurd (no_end_of_trouble _ p.0 c.from_residual-in_err-finish.result p.1 p.2 final),
     )
 
 pub returns-clause-stretch : goal.returns-clause-stretch
@@ -196,15 +241,31 @@ returns-clause-stretch g c =
     let space_mid = seen g.R.SectorDisk.state mid in
     let out_mid = outside_of (plan_of mid.store.now) (g.R.SectorDisk.state mid.disk.now) in
     let out_end = outside_of (plan_of end.store.now) (g.R.SectorDisk.state end.disk.now) in
-    let served = c.in_ok-serve_source.ensures.serves in (
-      served.0,
-      λ told. has_all source source_new served.0 c.serve_source.new.input (subst (λ (l : List ℕ). TakesLines l source served.0 c.serve_source.new.input source_new) c.in_ok-input.ensures (served.1 told).0),
-      λ tells capacity start stands.
-          let knows_mid = g.V.Volume.knows c.serve_source.new.volume space_mid capacity in
-          let step = served.2 tells capacity start None stands in
-          let tells_mid = subst (λ t. IsTrue t) (sym c.in_ok-serve_source.ensures.tells) tells in
-          crash_seen capacity start plan (plan_of end.store.now) (outside_of plan old) (g.R.SectorDisk.state end.disk.now) served.0 (c.finish.ensures.anchor ∙ ap (λ (a : Anchor). a.journal) c.serve_source.ensures.anchor)
-          (finish_crashes capacity start (outside_of plan old) out_mid out_end served.0 (length served.0) knows_mid space_mid step (c.finish.ensures.crash tells_mid capacity step.now (shrunk_in None step.run) step.stands)),
+    let served = c.in_ok-serve_source.ensures.watched.3 in
+    let takes = λ (told : IsTrue source.tells). subst (λ (l : List ℕ). TakesLines l source served.0 c.serve_source.new.input source_new) c.in_ok-input.ensures (served.1 told).0 in (
+      c.in_ok-serve_source.ensures.watched.0,
+      c.in_ok-serve_source.ensures.watched.1,
+      (
+        served.0,
+        λ told. has_all source source_new served.0 c.serve_source.new.input (subst (λ (l : List ℕ). TakesLines l source served.0 c.serve_source.new.input source_new) c.in_ok-input.ensures (served.1 told).0),
+        λ tells capacity start stands.
+            let knows_mid = g.V.Volume.knows c.serve_source.new.volume space_mid capacity in
+            let step = served.2 tells capacity start None stands in
+            let tells_mid = subst (λ t. IsTrue t) (sym c.in_ok-serve_source.ensures.tells) tells in
+            crash_seen capacity start plan (plan_of end.store.now) (outside_of plan old) (g.R.SectorDisk.state end.disk.now) served.0 (c.finish.ensures.anchor ∙ ap (λ (a : Anchor). a.journal) c.serve_source.ensures.anchor)
+            (finish_heard c.in_ok-serve_source.ensures.watched.0 capacity start (outside_of plan old) out_mid out_end served.0 (length served.0) knows_mid space_mid step (c.finish.ensures.crash tells_mid capacity step.0.now (shrunk_in None step.0.run) step.0.stands)),
+      ),
+      λ final. (
+        served.0,
+        λ told. (has_all source source_new served.0 c.serve_source.new.input (takes told), all_taken source served.0 c.serve_source.new.input source_new (takes told) (served.1 told).1),
+        λ many. absurd (cc many),
+        λ tells capacity start stands.
+            let knows_mid = g.V.Volume.knows c.serve_source.new.volume space_mid capacity in
+            let step = served.2 tells capacity start None stands in
+            let tells_mid = subst (λ t. IsTrue t) (sym c.in_ok-serve_source.ensures.tells) tells in
+            answers_seen capacity start plan (plan_of end.store.now) (outside_of plan old) (g.R.SectorDisk.state end.disk.now) served.0 (c.finish.ensures.anchor ∙ ap (λ (a : Anchor). a.journal) c.serve_source.ensures.anchor)
+            (all_heard c.in_ok-serve_source.ensures.watched.0 capacity start (outside_of plan old) out_mid out_end served.0 knows_mid space_mid step (c.finish.ensures.crash tells_mid capacity step.0.now (shrunk_in None step.0.run) step.0.stands)),
+      ),
     )
 
 pub returns-in_err-serve_source-clause-names : goal.returns-in_err-serve_source-clause-names
@@ -258,62 +319,6 @@ returns-clause-few g c told =
 
 pub returns-clause-many : goal.returns-clause-many
 returns-clause-many g c told is = absurd (cc is)
-
-pub returns-in_err-input-clause-answers : goal.returns-in_err-input-clause-answers
-returns-in_err-input-clause-answers g c final =
-    let p = err_from_is_err_and c.from_residual.result c.from_residual.ensures.1 in
-    absurd (no_end_of_memory p.0 c.from_residual.result p.1 p.2 final)
-
-pub returns-in_err-serve_source-clause-answers : goal.returns-in_err-serve_source-clause-answers
-returns-in_err-serve_source-clause-answers g c =
-    let base = c.args.base.now in
-    let plan = plan_of base.store.now in
-    let old = g.R.SectorDisk.state base.disk.now in
-    let source = g.S.Source.stream c.args.source.now in
-    let mid = c.serve_source.new.base in
-    let source_new = g.S.Source.stream c.serve_source.new.source in
-    let p = err_from_is_err_and c.from_residual-in_err-serve_source.result c.from_residual-in_err-serve_source.ensures.1 in
-    handed_answers c.in_err-serve_source.field-0.0 p.0 c.from_residual-in_err-serve_source.result _ [] source source_new p.1 p.2
-    (λ final.
-    let there = c.in_err-serve_source.ensures.answers final in (
-      there.0,
-      λ told.
-          let took = there.1 told in
-          (subst (λ (l : List ℕ). HasTaken l source there.0 source_new) c.in_ok-input.ensures took.0, subst (λ (l : List ℕ). EndsTaking (Some c.in_err-serve_source.field-0.0) l source there.0 source_new) c.in_ok-input.ensures took.1),
-      there.2,
-      λ tells capacity start stands.
-          answers_seen capacity start plan (plan_of mid.store.now) (outside_of plan old) (g.R.SectorDisk.state mid.disk.now) there.0 (ap (λ (a : Anchor). a.journal) c.serve_source.ensures.anchor) (there.3 tells capacity start None stands),
-    ))
-
-pub returns-in_err-finish-clause-answers : goal.returns-in_err-finish-clause-answers
-returns-in_err-finish-clause-answers g c final =
-    let p = err_from_is_err_and c.from_residual-in_err-finish.result c.from_residual-in_err-finish.ensures.1 in
-    absurd (no_end_of_trouble _ p.0 c.from_residual-in_err-finish.result p.1 p.2 final)
-
-pub returns-clause-answers : goal.returns-clause-answers
-returns-clause-answers g c final =
-    let base = c.args.base.now in
-    let plan = plan_of base.store.now in
-    let old = g.R.SectorDisk.state base.disk.now in
-    let source = g.S.Source.stream c.args.source.now in
-    let mid = c.serve_source.new.base in
-    let source_new = g.S.Source.stream c.serve_source.new.source in
-    let end = c.finish.new.base in
-    let space_mid = seen g.R.SectorDisk.state mid in
-    let out_mid = outside_of (plan_of mid.store.now) (g.R.SectorDisk.state mid.disk.now) in
-    let out_end = outside_of (plan_of end.store.now) (g.R.SectorDisk.state end.disk.now) in
-    let served = c.in_ok-serve_source.ensures.serves in
-    let takes = λ (told : IsTrue source.tells). subst (λ (l : List ℕ). TakesLines l source served.0 c.serve_source.new.input source_new) c.in_ok-input.ensures (served.1 told).0 in (
-      served.0,
-      λ told. (has_all source source_new served.0 c.serve_source.new.input (takes told), all_taken source served.0 c.serve_source.new.input source_new (takes told) (served.1 told).1),
-      λ many. absurd (cc many),
-      λ tells capacity start stands.
-          let knows_mid = g.V.Volume.knows c.serve_source.new.volume space_mid capacity in
-          let step = served.2 tells capacity start None stands in
-          let tells_mid = subst (λ t. IsTrue t) (sym c.in_ok-serve_source.ensures.tells) tells in
-          answers_seen capacity start plan (plan_of end.store.now) (outside_of plan old) (g.R.SectorDisk.state end.disk.now) served.0 (c.finish.ensures.anchor ∙ ap (λ (a : Anchor). a.journal) c.serve_source.ensures.anchor)
-          (answers_finish capacity start (outside_of plan old) out_mid out_end served.0 knows_mid space_mid step (c.finish.ensures.crash tells_mid capacity step.now (shrunk_in None step.run) step.stands)),
-    )
 
 pub returns-clause-away : goal.returns-clause-away
 returns-clause-away g c tells = c.in_ok-finish.ensures.away (subst (λ t. IsTrue t) (sym c.in_ok-serve_source.ensures.tells) tells)

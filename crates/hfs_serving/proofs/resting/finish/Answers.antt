@@ -1,8 +1,8 @@
-use Rattle.std.proofs.Common.{ℕ, sym, ◌∙◌, ap, subst, arith}
+use Rattle.std.proofs.Common.{sym, ◌∙◌, ap, subst, arith}
 use Rattle.std.specs.Prelude.{IsTrue}
 use Rattle.std.proofs.lemmas.Result.{err_from_is_err_and}
 use Rattle.jnl_store.specs.Seen.{seen}
-use Rattle.jnl_store.specs.Store.{faults_of, plan_of}
+use Rattle.jnl_store.specs.Store.{plan_of}
 use Rattle.hfs_serving.specs.Grounds.{Anchor}
 use Rattle.hfs_serving.specs.Outside.{outside_of}
 use Rattle.hfs_serving.proofs.Causes.{counts_both, counts_none, faults_behind, fine, handed}

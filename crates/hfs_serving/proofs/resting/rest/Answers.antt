@@ -1,5 +1,5 @@
-use Rattle.std.proofs.Common.{◌≡◌, ◌≢◌, ◌∷◌, [], ℕ, ⊎_elim, ap, subst, arith, Result}
-use Rattle.std.specs.Prelude.{IsTrue, OnErr}
+use Rattle.std.proofs.Common.{◌≡◌, ◌≢◌, ℕ, ⊎_elim, subst, arith, Result}
+use Rattle.std.specs.Prelude.{OnErr}
 use Rattle.std.proofs.lemmas.Bool.{cases_eq}
 use Rattle.sector_disk.specs.Cause.{Rose}
 use Rattle.jnl_store.specs.Store.{faults_of, puts_of}

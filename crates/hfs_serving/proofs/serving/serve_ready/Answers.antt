@@ -4,7 +4,8 @@ use Rattle.jnl_store.specs.Seen.{seen}
 use Rattle.jnl_store.specs.Store.{plan_of}
 use Rattle.hfs_serving.specs.Grounds.{Anchor}
 use Rattle.hfs_serving.specs.Outside.{outside_of}
-use Rattle.hfs_serving.specs.Steps.{CrashesStep}
+use Rattle.hfs_serving.specs.Watching.{AnswersHeard, CrashesHeard}
+use Rattle.watchers.proofs.Tellings.{told_nothing}
 use Rattle.hfs_serving.proofs.Attachable.{capacity_ready, finds_ready, in_service, keeps_on, may_attach, tells_space}
 use Rattle.hfs_serving.proofs.Grounding.{told_disk}
 use Rattle.hfs_serving.proofs.Promising.{has_none}
@@ -17,18 +18,24 @@ use Rattle.hfs_serving.specs.Faults.{RigFaults}
 use Rattle.hfs_serving.proofs.Causes.{behind_stop, counts_none, handed_stop, rig_from, rig_memory}
 use Rattle.hfs_serving.proofs.Numbering.{no_memory, no_trouble}
 use Rattle.std.specs.Prelude.{OnOk}
-use Rattle.hfs_serving.specs.Ending.{AnswersStep, IsPutAway}
+use Rattle.hfs_serving.specs.Ending.{IsPutAway}
 use Rattle.sector_disk.specs.Disk.{SameDisk}
 use Rattle.hfs_serving.proofs.Grounding.{disks_both, same_disk}
 use Rattle.hfs_serving.proofs.Answering.{begun_answers, no_end_of_memory, no_end_of_trouble}
 use Rattle.hfs_serving.proofs.serving.serve_ready.Goals as goal
 
 pub returns-in_err-store-clause-stretch : goal.returns-in_err-store-clause-stretch
-returns-in_err-store-clause-stretch g c = (
-  [],
-  λ told. has_none (g.S.Source.stream c.args.source.now),
-  λ tells capacity most start now first versioned place ready sound turns. nothing_more capacity start now c.args.plan.now (g.R.SectorDisk.state first) (g.R.SectorDisk.state c.args.rig.now) versioned place turns,
-)
+returns-in_err-store-clause-stretch g c =
+    let p = err_from_is_err_and c.from_residual.result c.from_residual.ensures.1 in (
+      [],
+      λ stay. told_nothing _ _ c.args.watchers.now.items stay,
+      (
+        [],
+        λ told. has_none (g.S.Source.stream c.args.source.now),
+        λ tells capacity most start now first versioned place ready sound turns. nothing_more capacity start now c.args.plan.now (g.R.SectorDisk.state first) (g.R.SectorDisk.state c.args.rig.now) versioned place turns,
+      ),
+      λ final. absurd (no_end_of_memory p.0 c.from_residual.result p.1 p.2 final),
+    )
 
 pub invariant_of-base : goal.invariant_of-base
 invariant_of-base g c =
@@ -66,16 +73,22 @@ returns-in_err-volume-clause-stretch g c =
     let attached = c.in_ok-store.ensures disk c.requires.fits in
     let base = c.attach_volume.new.base in
     let names = ap (λ (a : Anchor). a.names) c.attach_volume.ensures.anchor in
-    let rig_is = c.in_err-volume.rig-1-own.given.1 (sym (ap (λ (l : List ℕ). get_or l 1 0) names)) in (
+    let rig_is = c.in_err-volume.rig-1-own.given.1 (sym (ap (λ (l : List ℕ). get_or l 1 0) names)) in
+    let p = err_from_is_err_and c.from_residual-in_err-volume.result c.from_residual-in_err-volume.ensures.1 in (
       [],
-      λ told. has_none (g.S.Source.stream c.args.source.now),
-      λ tells capacity most start now first versioned place ready sound turns.
-          let is = g.met.R.SectorDisk.well_formed disk in
-          let may = may_attach store plan d0 attached is tells now ready c.aside_is_free.ensures sound c.store-3-1.given.0 c.base-1.given in
-          let space_tells = tells_space store plan d0 attached is tells now ready c.store-3-1.given.0 c.base-1.given in
-          subst (λ (r : g.row.R.Denot). CrashesStep capacity start None (outside_of plan (g.R.SectorDisk.state first)) [] (outside_of plan (g.R.SectorDisk.state r))) (sym rig_is)
-          (begin_stopped capacity start now plan (g.R.SectorDisk.state first) d0 versioned place turns (plan_of store) (plan_of base.store.now) (finds_ready store plan d0 attached) (ap (λ (a : Anchor). a.journal) c.attach_volume.ensures.anchor) (g.R.SectorDisk.state base.disk.now)
-          (c.attach_volume.ensures.may space_tells now may)),
+      λ stay. told_nothing _ _ c.args.watchers.now.items stay,
+      (
+        [],
+        λ told. has_none (g.S.Source.stream c.args.source.now),
+        λ tells capacity most start now first versioned place ready sound turns.
+            let is = g.met.R.SectorDisk.well_formed disk in
+            let may = may_attach store plan d0 attached is tells now ready c.aside_is_free.ensures sound c.store-3-1.given.0 c.base-1.given in
+            let space_tells = tells_space store plan d0 attached is tells now ready c.store-3-1.given.0 c.base-1.given in
+            subst (λ (r : g.row.R.Denot). CrashesHeard 0 [] capacity start None (outside_of plan (g.R.SectorDisk.state first)) [] (outside_of plan (g.R.SectorDisk.state r))) (sym rig_is)
+            (begin_stopped capacity start now plan (g.R.SectorDisk.state first) d0 versioned place turns (plan_of store) (plan_of base.store.now) (finds_ready store plan d0 attached) (ap (λ (a : Anchor). a.journal) c.attach_volume.ensures.anchor) (g.R.SectorDisk.state base.disk.now)
+            (c.attach_volume.ensures.may space_tells now may)),
+      ),
+      λ final. absurd (no_end_of_trouble _ p.0 c.from_residual-in_err-volume.result p.1 p.2 final),
     )
 
 pub run-requires-clause-stands : goal.run-requires-clause-stands
@@ -102,21 +115,44 @@ returns-clause-stretch g c =
     let last = c.run.new.base in
     let names = c.run.ensures.names ∙ ap (λ (a : Anchor). a.names) c.attach_volume.ensures.anchor in
     let rig_is = c.rig-2-1.given.1 (sym (ap (λ (l : List ℕ). get_or l 1 0) names)) in
-    let stretch = c.run.ensures.stretch in (
-      stretch.0,
-      stretch.1,
-      λ tells capacity most start now first versioned place ready sound turns.
-          let is = g.met.R.SectorDisk.well_formed disk in
-          let mine = c.capacity-capacity.result in
-          let may = may_attach store plan d0 attached is tells now ready c.aside_is_free.ensures sound c.store-3-1.given.0 c.base-1.given in
-          let space_tells = tells_space store plan d0 attached is tells now ready c.store-3-1.given.0 c.base-1.given in
-          let begins = c.in_ok-volume.ensures.begins space_tells now may in
-          let base_tells = subst (λ t. IsTrue t) (sym c.in_ok-volume.ensures.tells) space_tells in
-          let space = seen g.R.SectorDisk.state base in
-          subst (λ (r : g.row.R.Denot). CrashesStep capacity start None (outside_of plan (g.R.SectorDisk.state first)) stretch.0 (outside_of plan (g.R.SectorDisk.state r))) (sym rig_is)
-          (subst (λ n. CrashesStep n start None (outside_of plan (g.R.SectorDisk.state first)) stretch.0 (outside_of plan (g.R.SectorDisk.state last.disk.now))) (capacity_ready store plan d0 attached capacity mine most c.capacity-capacity.ensures)
-          (begun_goes_on mine start now plan (g.R.SectorDisk.state first) d0 versioned place turns (plan_of store) (plan_of base.store.now) (finds_ready store plan d0 attached) (ap (λ (a : Anchor). a.journal) c.attach_volume.ensures.anchor)
-          (g.R.SectorDisk.state base.disk.now) (g.R.SectorDisk.state last.disk.now) stretch.0 (g.V.Volume.knows c.in_ok-volume.volume space mine) space begins (stretch.2 base_tells mine begins.begun begins.stands))),
+    let heard = c.run.ensures.stretch.0 in
+    let stretch = c.run.ensures.stretch.2 in (
+      heard,
+      c.run.ensures.stretch.1,
+      (
+        stretch.0,
+        stretch.1,
+        λ tells capacity most start now first versioned place ready sound turns.
+            let is = g.met.R.SectorDisk.well_formed disk in
+            let mine = c.capacity-capacity.result in
+            let may = may_attach store plan d0 attached is tells now ready c.aside_is_free.ensures sound c.store-3-1.given.0 c.base-1.given in
+            let space_tells = tells_space store plan d0 attached is tells now ready c.store-3-1.given.0 c.base-1.given in
+            let begins = c.in_ok-volume.ensures.begins space_tells now may in
+            let base_tells = subst (λ t. IsTrue t) (sym c.in_ok-volume.ensures.tells) space_tells in
+            let space = seen g.R.SectorDisk.state base in
+            subst (λ (r : g.row.R.Denot). CrashesHeard 0 heard capacity start None (outside_of plan (g.R.SectorDisk.state first)) stretch.0 (outside_of plan (g.R.SectorDisk.state r))) (sym rig_is)
+            (subst (λ n. CrashesHeard 0 heard n start None (outside_of plan (g.R.SectorDisk.state first)) stretch.0 (outside_of plan (g.R.SectorDisk.state last.disk.now))) (capacity_ready store plan d0 attached capacity mine most c.capacity-capacity.ensures)
+            (begun_goes_on mine start now plan (g.R.SectorDisk.state first) d0 versioned place turns (plan_of store) (plan_of base.store.now) (finds_ready store plan d0 attached) (ap (λ (a : Anchor). a.journal) c.attach_volume.ensures.anchor) heard
+            (g.R.SectorDisk.state base.disk.now) (g.R.SectorDisk.state last.disk.now) stretch.0 (g.V.Volume.knows c.in_ok-volume.volume space mine) space begins (stretch.2 base_tells mine begins.begun begins.stands))),
+      ),
+      λ final.
+          let answers = c.run.ensures.stretch.3 final in (
+            answers.0,
+            answers.1,
+            answers.2,
+            λ tells capacity most start now first versioned place ready sound turns.
+                let is = g.met.R.SectorDisk.well_formed disk in
+                let mine = c.capacity-capacity.result in
+                let may = may_attach store plan d0 attached is tells now ready c.aside_is_free.ensures sound c.store-3-1.given.0 c.base-1.given in
+                let space_tells = tells_space store plan d0 attached is tells now ready c.store-3-1.given.0 c.base-1.given in
+                let begins = c.in_ok-volume.ensures.begins space_tells now may in
+                let base_tells = subst (λ t. IsTrue t) (sym c.in_ok-volume.ensures.tells) space_tells in
+                let space = seen g.R.SectorDisk.state base in
+                subst (λ (r : g.row.R.Denot). AnswersHeard heard capacity start None (outside_of plan (g.R.SectorDisk.state first)) answers.0 (outside_of plan (g.R.SectorDisk.state r))) (sym rig_is)
+                (subst (λ n. AnswersHeard heard n start None (outside_of plan (g.R.SectorDisk.state first)) answers.0 (outside_of plan (g.R.SectorDisk.state last.disk.now))) (capacity_ready store plan d0 attached capacity mine most c.capacity-capacity.ensures)
+                (begun_answers heard mine start now plan (g.R.SectorDisk.state first) d0 versioned place turns (plan_of store) (plan_of base.store.now) (finds_ready store plan d0 attached) (ap (λ (a : Anchor). a.journal) c.attach_volume.ensures.anchor)
+                (g.R.SectorDisk.state base.disk.now) (g.R.SectorDisk.state last.disk.now) answers.0 (g.V.Volume.knows c.in_ok-volume.volume space mine) space begins (answers.3 base_tells mine begins.begun begins.stands))),
+          ),
     )
 
 pub returns-in_err-store-clause-faults : goal.returns-in_err-store-clause-faults
@@ -159,45 +195,6 @@ pub returns-in_err-volume-clause-many : goal.returns-in_err-volume-clause-many
 returns-in_err-volume-clause-many g c told is =
     let p = err_from_is_err_and c.from_residual-in_err-volume.result c.from_residual-in_err-volume.ensures.1 in
     absurd (no_trouble _ p.0 c.from_residual-in_err-volume.result p.1 p.2 is)
-
-pub returns-in_err-store-clause-answers : goal.returns-in_err-store-clause-answers
-returns-in_err-store-clause-answers g c final =
-    let p = err_from_is_err_and c.from_residual.result c.from_residual.ensures.1 in
-    absurd (no_end_of_memory p.0 c.from_residual.result p.1 p.2 final)
-
-pub returns-in_err-volume-clause-answers : goal.returns-in_err-volume-clause-answers
-returns-in_err-volume-clause-answers g c final =
-    let p = err_from_is_err_and c.from_residual-in_err-volume.result c.from_residual-in_err-volume.ensures.1 in
-    absurd (no_end_of_trouble _ p.0 c.from_residual-in_err-volume.result p.1 p.2 final)
-
-pub returns-clause-answers : goal.returns-clause-answers
-returns-clause-answers g c final =
-    let disk = c.args.rig.now in
-    let d0 = g.R.SectorDisk.state disk in
-    let plan = c.args.plan.now in
-    let store = c.in_ok-store.store in
-    let attached = c.in_ok-store.ensures disk c.requires.fits in
-    let base = c.attach_volume.new.base in
-    let last = c.run.new.base in
-    let names = c.run.ensures.names ∙ ap (λ (a : Anchor). a.names) c.attach_volume.ensures.anchor in
-    let rig_is = c.rig-2-1.given.1 (sym (ap (λ (l : List ℕ). get_or l 1 0) names)) in
-    let answers = c.run.ensures.answers final in (
-      answers.0,
-      answers.1,
-      answers.2,
-      λ tells capacity most start now first versioned place ready sound turns.
-          let is = g.met.R.SectorDisk.well_formed disk in
-          let mine = c.capacity-capacity.result in
-          let may = may_attach store plan d0 attached is tells now ready c.aside_is_free.ensures sound c.store-3-1.given.0 c.base-1.given in
-          let space_tells = tells_space store plan d0 attached is tells now ready c.store-3-1.given.0 c.base-1.given in
-          let begins = c.in_ok-volume.ensures.begins space_tells now may in
-          let base_tells = subst (λ t. IsTrue t) (sym c.in_ok-volume.ensures.tells) space_tells in
-          let space = seen g.R.SectorDisk.state base in
-          subst (λ (r : g.row.R.Denot). AnswersStep capacity start None (outside_of plan (g.R.SectorDisk.state first)) answers.0 (outside_of plan (g.R.SectorDisk.state r))) (sym rig_is)
-          (subst (λ n. AnswersStep n start None (outside_of plan (g.R.SectorDisk.state first)) answers.0 (outside_of plan (g.R.SectorDisk.state last.disk.now))) (capacity_ready store plan d0 attached capacity mine most c.capacity-capacity.ensures)
-          (begun_answers mine start now plan (g.R.SectorDisk.state first) d0 versioned place turns (plan_of store) (plan_of base.store.now) (finds_ready store plan d0 attached) (ap (λ (a : Anchor). a.journal) c.attach_volume.ensures.anchor)
-          (g.R.SectorDisk.state base.disk.now) (g.R.SectorDisk.state last.disk.now) answers.0 (g.V.Volume.knows c.in_ok-volume.volume space mine) space begins (answers.3 base_tells mine begins.begun begins.stands))),
-    )
 
 pub returns-clause-away : goal.returns-clause-away
 returns-clause-away g c tells =

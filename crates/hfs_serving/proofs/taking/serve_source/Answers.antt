@@ -13,14 +13,14 @@ use Rattle.sector_disk.specs.Cause.{Rose}
 use Rattle.hfs_serving.proofs.Numbering.{all_lines, counted, more_lines, too_many}
 use Rattle.std.proofs.Common.{◌-◌, ◌++◌}
 use Rattle.hfs_serving.specs.Watching.{CrashesHeard, ServesHeard}
-use Rattle.hfs_serving.proofs.Hearing.{all_stay}
+use Rattle.hfs_serving.proofs.Hearing.{all_stay, no_ok_on}
 use Rattle.watchers.proofs.Tellings.{told_both, told_nothing}
 use Rattle.std.proofs.lemmas.Bool.Decides.{nat_tests}
 use Rattle.std.proofs.lemmas.List.{length-map}
 use Rattle.hfs_language.specs.Language.{most_bytes}
 use Rattle.line_source.specs.Batch.{held}
 use Rattle.std.proofs.Common.{Err}
-use Rattle.hfs_serving.proofs.Answering.{answers_front, final_of, handed_answers}
+use Rattle.hfs_serving.proofs.Answering.{final_of, front_heard, handed_answers}
 use Rattle.hfs_serving.proofs.Finals.{no_final, on_final}
 use Rattle.hfs_serving.proofs.taking.serve_source.Goals as goal
 
@@ -288,7 +288,26 @@ returns-in_err-take_lines-clause-watched g c =
     → Stands (g.V.Volume.knows c.args.volume.now (g.G.SectorView.space c.args.base.now) capacity) start start shrunk (g.G.SectorView.space c.args.base.now) (g.G.Ground.outside c.args.base.now)
     → CrashesHeard 0 c.loop-lines.invariant.on.0 capacity start shrunk (g.G.Ground.outside c.args.base.now) texts (g.G.Ground.outside c.loop-lines.base)) new (λ tells. c.take_lines.ensures.gone (subst IsTrue (sym c.loop-lines.invariant.same.tells) tells))
     (λ count texts inside are served tells capacity start shrunk stands. ends_heard capacity shrunk start (g.G.Ground.outside c.args.base.now) texts 0 c.loop-lines.invariant.on.0 count _ _ _ (served.1 tells capacity start shrunk stands)) in
-    (c.loop-lines.invariant.on.0, c.loop-lines.invariant.on.1, stops.0, stops.1, stops.2)
+    let p = err_from_is_err_and c.from_residual.result c.from_residual.ensures.1 in
+    let on = c.loop-lines.invariant.on.2 in
+    let took = c.in_err-take_lines.ensures in
+    let same = c.loop-lines.invariant.same in (
+      c.loop-lines.invariant.on.0,
+      c.loop-lines.invariant.on.1,
+      stops,
+      no_ok_on _ c.from_residual.result p.0 p.1,
+      on_err c.from_residual.result
+          (handed_answers _ p.0 c.from_residual.result _ c.args.input.now source new p.1 p.2
+          (λ final.
+          let ends =
+          on_final c.args.input.now source c.loop-lines.lines.items c.loop-lines.input now _ on new _ (λ tells. c.take_lines.ensures.gone (subst IsTrue (sym same.tells) tells))
+          (λ is tells. took.begun (subst IsTrue (sym same.tells) tells) (ap Err is)) (λ is. omega (arith, (took.many (ap Err is)).0, on.1.0)) final in (
+            take on.0.count on.0.texts,
+            ends.0,
+            ends.1,
+            λ tells capacity start shrunk stands. front_heard c.loop-lines.invariant.on.0 on.0.count capacity shrunk start (g.G.Ground.outside c.args.base.now) on.0.texts _ _ _ (on.1.1 tells capacity start shrunk stands),
+          ))),
+    )
 
 pub returns-then-is_empty-clause-watched : goal.returns-then-is_empty-clause-watched
 returns-then-is_empty-clause-watched g c =
@@ -301,7 +320,15 @@ returns-then-is_empty-clause-watched g c =
     → Stands (g.V.Volume.knows c.args.volume.now (g.G.SectorView.space c.args.base.now) capacity) start start shrunk (g.G.SectorView.space c.args.base.now) (g.G.Ground.outside c.args.base.now)
     → CrashesHeard 0 c.loop-lines.invariant.on.0 capacity start shrunk (g.G.Ground.outside c.args.base.now) texts (g.G.Ground.outside c.loop-lines.base)) new (λ tells. c.take_lines.ensures.gone (subst IsTrue (sym c.loop-lines.invariant.same.tells) tells))
     (λ count texts inside are served tells capacity start shrunk stands. ends_heard capacity shrunk start (g.G.Ground.outside c.args.base.now) texts 0 c.loop-lines.invariant.on.0 count _ _ _ (served.1 tells capacity start shrunk stands)) in
-    (c.loop-lines.invariant.on.0, c.loop-lines.invariant.on.1, stops.0, stops.1, stops.2)
+    let pending = c.take_lines.new.pending.items in
+    let same = c.loop-lines.invariant.same in
+    let old = g.G.Ground.outside c.args.base.now in
+    let read =
+    on_add c.args.input.now source c.loop-lines.lines.items c.loop-lines.input now _ c.loop-lines.invariant.on.2 pending c.take_lines.new.input new same.tells c.in_ok-take_lines.ensures.lines
+    (λ count texts more inside served. (served.0, λ tells capacity start shrunk stands. more_heard capacity start shrunk old texts 0 c.loop-lines.invariant.on.0 more count _ _ _ inside (served.1 tells capacity start shrunk stands))) in
+    let none = no_items pending c.take_lines.new.pending.len c.is_empty.result c.take_lines.new.pending.ok.0 c.is_empty.ensures c.if-is_empty.true in
+    let ends = on_ends c.args.input.now source pending c.take_lines.new.input new _ read none (λ tells. (c.in_ok-take_lines.ensures.end (subst IsTrue (sym same.tells) tells) none).1) in
+    (c.loop-lines.invariant.on.0, c.loop-lines.invariant.on.1, stops, (ends.0, ends.1, ends.2.1), tt)
 
 pub returns-in_err-count-clause-watched : goal.returns-in_err-count-clause-watched
 returns-in_err-count-clause-watched g c =
@@ -312,6 +339,7 @@ returns-in_err-count-clause-watched g c =
     let pending = c.take_lines.new.pending.items in
     let same = c.loop-lines.invariant.same in
     let before = c.loop-lines.invariant.on.0 in
+    let p = err_from_is_err_and c.from_residual-in_err-count.result c.from_residual-in_err-count.ensures.1 in
     let read =
     on_add c.args.input.now source c.loop-lines.lines.items c.loop-lines.input now _ c.loop-lines.invariant.on.2 pending c.take_lines.new.input new same.tells c.in_ok-take_lines.ensures.lines
     (λ count texts more inside served. (served.0, λ tells capacity start shrunk stands. more_heard capacity start shrunk old texts 0 before more count _ _ _ inside (served.1 tells capacity start shrunk stands))) in
@@ -340,9 +368,10 @@ returns-in_err-count-clause-watched g c =
       λ stay.
           let there = c.loop-lines.invariant.on.1 stay in
           told_both _ _ before heard _ _ _ there (c.in_err-count.ensures.watched.1 (all_stay _ _ before _ _ there)),
-      stops.0,
-      stops.1,
-      stops.2,
+      stops,
+      no_ok_on _ c.from_residual-in_err-count.result p.0 p.1,
+      on_err c.from_residual-in_err-count.result
+          (λ final. absurd (no_final _ c.in_err-count.ensures.faults.source c.in_err-count.ensures.no_many (final_of _ p.0 c.from_residual-in_err-count.result p.1 p.2 final))),
     )
 
 pub returns-then-count-eq0-clause-watched : goal.returns-then-count-eq0-clause-watched
@@ -385,38 +414,11 @@ returns-then-count-eq0-clause-watched g c =
       λ stay.
           let there = c.loop-lines.invariant.on.1 stay in
           told_both _ _ before heard _ _ _ there (c.in_ok-count.ensures.watched.1 (all_stay _ _ before _ _ there)),
-      stops.0,
-      stops.1,
-      stops.2,
+      stops,
+      tt,
+      λ final. absurd final,
     )
 
 pub serve_step-requires-clause-numbers : goal.serve_step-requires-clause-numbers
 serve_step-requires-clause-numbers g c =
     omega (arith, c.loop-lines.invariant.bound, c.in_ok-take_lines.ensures.left, ap (λ (l : List (List ℕ)). length l) c.as_slice.ensures.value)
-
-pub returns-in_err-take_lines-clause-answers : goal.returns-in_err-take_lines-clause-answers
-returns-in_err-take_lines-clause-answers g c =
-    let source = g.S.Source.stream c.args.source.now in
-    let now = g.S.Source.stream c.loop-lines.source in
-    let new = g.S.Source.stream c.take_lines.new.source in
-    let same = c.loop-lines.invariant.same in
-    let p = err_from_is_err_and c.from_residual.result c.from_residual.ensures.1 in
-    let on = c.loop-lines.invariant.on.2 in
-    let took = c.in_err-take_lines.ensures in
-    on_err c.from_residual.result
-    (handed_answers _ p.0 c.from_residual.result _ c.args.input.now source new p.1 p.2
-    (λ final.
-    let ends =
-    on_final c.args.input.now source c.loop-lines.lines.items c.loop-lines.input now _ on new _ (λ tells. c.take_lines.ensures.gone (subst IsTrue (sym same.tells) tells))
-    (λ is tells. took.begun (subst IsTrue (sym same.tells) tells) (ap Err is)) (λ is. omega (arith, (took.many (ap Err is)).0, on.1.0)) final in (
-      take on.0.count on.0.texts,
-      ends.0,
-      ends.1,
-      λ tells capacity start shrunk stands. answers_front on.0.count capacity shrunk start (g.G.Ground.outside c.args.base.now) on.0.texts _ _ _ (on.1.1 tells capacity start shrunk stands).0,
-    )))
-
-pub returns-in_err-count-clause-answers : goal.returns-in_err-count-clause-answers
-returns-in_err-count-clause-answers g c =
-    let p = err_from_is_err_and c.from_residual-in_err-count.result c.from_residual-in_err-count.ensures.1 in
-    on_err c.from_residual-in_err-count.result
-    (λ final. absurd (no_final _ c.in_err-count.ensures.faults.source c.in_err-count.ensures.no_many (final_of _ p.0 c.from_residual-in_err-count.result p.1 p.2 final)))
