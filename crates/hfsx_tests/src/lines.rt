@@ -70,6 +70,11 @@ fn lines_are_answered(rt: HostRuntime) -> Result<(), Fail> {
             "create /f\nwrite /f 0 =x\ntrunc /f 5\nln /f /g\nrm /f\nstat /f\n",
             "ok\nno NotBuilt\nno NotBuilt\nno NotBuilt\nno NotBuilt\nok file 18 0 1 0644 0 0 0\n",
         ),
+        // But its refusals are told.
+        (
+            "create /f\nrm /\nrm /g\nrm /f/g\nln /f /f\nln / /g\nwrite / 0 =x\nwrite /f 2000000 =x\ntrunc /g 5\ntrunc /f 1099511627777\n",
+            "ok\nno Root\nno NotFound\nno NotFolder\nno Exists\nno Root\nno IsFolder\nno GrowLimit\nno NotFound\nno TooLarge\n",
+        ),
     ] {
         assert!(rt;
             tells(rt.alloc(), input.as_bytes(), told.as_bytes())?,

@@ -71,6 +71,7 @@ pub mod Recounting
 pub mod Redating
 pub mod Refielded
 pub mod RemoveWeight
+pub mod Refused
 pub mod Replaced
 pub mod Resettling
 pub mod Righting

@@ -17,6 +17,7 @@ pub mod Opening
 pub mod Owning
 pub mod Reaching
 pub mod Reading
+pub mod Refusing
 pub mod Removing
 pub mod Room
 pub mod Service

@@ -34,6 +34,7 @@ mod opening;
 mod owning;
 mod reaching;
 mod reading;
+mod refusing;
 mod relocating;
 mod remove_room;
 mod remove_weight;

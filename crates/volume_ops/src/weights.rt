@@ -1,10 +1,11 @@
 //! `weigh`: what a command needs before its step.
-ghost use Rattle.std.specs.Prelude.{◌≡◌, ◌≤◌, ℕ, Bool, false, List, IsTrue, IfOk, IfSome, length};
+ghost use Rattle.std.specs.Prelude.{◌≡◌, ◌≤◌, ℕ, Bool, false, true, is_some, List, Ok, IsTrue, IfOk, IfSome, length};
 ghost use Rattle.btree_edit.specs.Causes.{HasTroubleCause};
 ghost use Rattle.hfs_language.specs.Written.{FitsCommand, FitsPath};
 ghost use Rattle.hfs_language.specs.declared.command.Command.TheVariants as command;
-ghost use Rattle.hfs_model.specs.Step.{is_private_path};
+ghost use Rattle.hfs_model.specs.Step.{is_private_path, only_reads, refuses};
 ghost use Rattle.hfs_volume.specs.Content.{volume_of};
+ghost use Rattle.hfs_volume.specs.Run.{is_to_come};
 ghost use Rattle.hfs_volume.specs.TreeOf.{tree_of};
 ghost use Rattle.volume_ops.specs.Looking.{ReadsVolume};
 ghost use Rattle.volume_ops.specs.Making.{making, path_to};
@@ -263,9 +264,9 @@ impl Volume {
     }
 
     /// What a command needs before its step: that it is refused, by its step or for want of a resource; that a commit comes
-    /// first; or how many sectors it puts at most, and by how much the trees grow before. It changes nothing. `at`, `chmod`,
-    /// `setattr`, `delattr`, `mkdir`, `create`, `rmdir` and `mv` are weighed, and no others yet: of these nothing is told.
-    /// `Memory` comes where memory is wanting, `Disk` where a read failed.
+    /// first; or how many sectors it puts at most, and by how much the trees grow before. It changes nothing. Of a command that
+    /// only reads nothing is told, nor of `rm`, `ln`, `write` and `trunc`, which are still to come, where their steps don't refuse
+    /// them. `Memory` comes where memory is wanting, `Disk` where a read failed.
     pub fn weigh<P: SectorSpace>(
         &mut self,
         alloc: Global,
@@ -278,6 +279,9 @@ impl Volume {
         // Where the space tells, it is what the command weighs on this content.
         ensures answer { IsTrue (P.SectorView.space space.old).tells
             → IfOk result (λ said. IfSome said (λ weighs. weighs ≡ weighed (capacity_of self.old) (free_in blocks.Takable self.old.map) (volume_of (P.SectorView.space space.old).content) (tree_of (P.SectorView.space space.old).content) command.now)) }
+        // Nothing is told of a command that only reads, or of one that is still to come and that its step doesn't refuse.
+        ensures waits { IsTrue (P.SectorView.space space.old).tells → only_reads command.now ≡ false
+            → IfOk result (λ said. is_some said ≡ false → (is_to_come command.now ≡ true) × (refuses (tree_of (P.SectorView.space space.old).content) (Ok command.now) ≡ false)) }
         ensures reads { ReadsVolume self.old self.new (P.SectorView.space space.old) (P.SectorView.space space.new) }
         ensures stands { StandsOver self.new (P.SectorView.space space.new) }
         ensures settled { IsTrue (P.SectorView.space space.old).tells → IsSettled self.new (P.SectorView.space space.new).content }
@@ -297,11 +301,11 @@ impl Volume {
             Command::Create(path) => Ok(Some(self.weigh_create(alloc, space, path)?)),
             Command::Rmdir(path) => Ok(Some(self.weigh_rmdir(alloc, space, path)?)),
             Command::Mv(from, to) => Ok(Some(self.weigh_mv(alloc, space, from, to)?)),
-            Command::Rm(_)
-            | Command::Ln(_, _)
-            | Command::Write { .. }
-            | Command::Read { .. }
-            | Command::Trunc { .. }
+            Command::Rm(_path) => self.weigh_refused(alloc, space, command),
+            Command::Ln(_from, _to) => self.weigh_refused(alloc, space, command),
+            Command::Write { path: _path, .. } => self.weigh_refused(alloc, space, command),
+            Command::Trunc { path: _path, .. } => self.weigh_refused(alloc, space, command),
+            Command::Read { .. }
             | Command::Ls(_)
             | Command::Stat(_)
             | Command::GetAttr { .. }

@@ -1,6 +1,6 @@
 -- A verdict stands by what the command weighs.
 use Rattle.std.proofs.Common.{◌≡◌, ◌<◌, ◌≤◌, ℕ, zero, suc, ◌+◌, Bool, true, false, List, [], ◌∷◌, inl, inr, refl, sym, ◌∙◌, ap, subst, arith}
-use Rattle.std.specs.Prelude.{◌==◌, ◌||◌, nat_lt, not, IfSome, Option, None, Some, Ok, sum, slice_index, if◌then◌else◌}
+use Rattle.std.specs.Prelude.{◌==◌, ◌||◌, nat_lt, not, is_some, IfSome, Option, None, Some, Ok, sum, slice_index, if◌then◌else◌}
 use Rattle.std.proofs.lemmas.Bool.{eqb-true, true≢false}
 use Rattle.jnl_format.specs.Recovery.{Content}
 use Rattle.hfs_language.specs.declared.command.Command.{Command}
@@ -85,6 +85,10 @@ grows_no a b c is = by (a == 0) (b == 0) (c == 0) refl refl refl is
 pub weight_found : (said : Option Weight) (found is : Weight) → said ≡ Some found → IfSome said (λ weighs. weighs ≡ is) → found ≡ is
 weight_found said found is same told = subst (λ (o : Option Weight). IfSome o (λ weighs. weighs ≡ is)) same told
 
+-- nothing was told of its weight
+pub not_weighed : {P : Type 0} (said : Option Weight) → said ≡ None → (is_some said ≡ false → P) → P
+not_weighed said none told = told (ap is_some none)
+
 -- ---- the verdict
 
 module _ (capacity : ℕ) (takable : List Bool) (content : Content) (asked : Command) (spare : ℕ) where
@@ -99,7 +103,7 @@ module _ (capacity : ℕ) (takable : List Bool) (content : Content) (asked : Com
       by_spare false none = record { no_refusal = fine; load = s; affords = is ∙ ap (cost.Load s) (is_three ∙ grows_no (slice_index grow 0) (slice_index grow 1) (slice_index grow 2) none) }
 
       by_grow : (b : Bool) → grows_in grow ≡ b → IsJudged (if b then verdict.ToCome else if nat_lt spare t then verdict.CommitFirst else verdict.Fits) capacity asked content
-      by_grow true any = record { no_refusal = fine; more = inr (s, grow, is, subst (λ (l : List ℕ). 0 < sum l) (sym is_three) (grows_some (slice_index grow 0) (slice_index grow 1) (slice_index grow 2) any)) }
+      by_grow true any = inr (record { no_refusal = fine; more = inr (s, grow, is, subst (λ (l : List ℕ). 0 < sum l) (sym is_three) (grows_some (slice_index grow 0) (slice_index grow 1) (slice_index grow 2) any)) })
       by_grow false none = by_spare (nat_lt spare t) none
 
   of_costs : refuses (tree_of content) (Ok asked) ≡ false → (one other : Cost) → weight capacity (volume_of content) (tree_of content) asked ≡ one → IsJudged (verdict_of (joined one other) spare) capacity asked content

@@ -1,5 +1,5 @@
 -- What a command on a volume in service came to.
-use Rattle.std.specs.Prelude.{◌≡◌, ◌⊎◌, ℕ, ◌==◌, ◌||◌, nat_lt, not, slice_index, Bool, false, List, [], ◌∷◌, Ok, if◌then◌else◌}
+use Rattle.std.specs.Prelude.{◌≡◌, ◌⊎◌, ℕ, ◌==◌, ◌||◌, nat_lt, not, slice_index, Bool, false, IsTrue, List, [], ◌∷◌, Ok, if◌then◌else◌}
 use Rattle.jnl_format.specs.Keeping.{IsSame}
 use Rattle.jnl_format.specs.Recovery.{Content, header_of_volume}
 use Rattle.volume_header.specs.Refusal.{is_locked}
@@ -10,7 +10,7 @@ use Rattle.hfs_language.specs.declared.reply.Reply.{Reply}
 use Rattle.hfs_language.specs.declared.reply.Reply.TheVariants as reply
 use Rattle.hfs_model.specs.Step.{refuses, step_line}
 use Rattle.hfs_volume.specs.Content.{volume_of}
-use Rattle.hfs_volume.specs.Run.{AsksMore, Entry, IsServed}
+use Rattle.hfs_volume.specs.Run.{AsksMore, Entry, IsServed, is_to_come}
 use Rattle.hfs_volume.specs.Told.{changes_by}
 use Rattle.hfs_volume.specs.TreeOf.{tree_of}
 use Rattle.hfs_volume.specs.Weight.{weight}
@@ -57,10 +57,14 @@ pub record Affords (capacity : ℕ) (asked : Command) (content : Content) : Type
   pub load : ℕ
   pub affords : weight capacity (volume_of content) (tree_of content) asked ≡ cost.Load load (0 ∷ 0 ∷ 0 ∷ [])
 
+-- the step doesn't refuse the command, but it is still to come, or asks for more than is built
+abbrev pub Waits : ℕ → Command → Content → Type 0
+Waits capacity asked content = (IsTrue (is_to_come asked) × (refuses (tree_of content) (Ok asked) ≡ false)) ⊎ AsksMore capacity asked content
+
 -- the verdict stands
 abbrev pub IsJudged : Verdict → ℕ → Command → Content → Type 0
 IsJudged (verdict.Refused why) capacity asked content =
     (reply.No why ≡ (step_line (tree_of content) (Ok asked)).0) ⊎ ((refuses (tree_of content) (Ok asked) ≡ false) × (weight capacity (volume_of content) (tree_of content) asked ≡ cost.Refused why))
-IsJudged verdict.ToCome capacity asked content = AsksMore capacity asked content
+IsJudged verdict.ToCome capacity asked content = Waits capacity asked content
 IsJudged verdict.CommitFirst capacity asked content = Unit {0}
 IsJudged verdict.Fits capacity asked content = Affords capacity asked content

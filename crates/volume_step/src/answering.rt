@@ -6,7 +6,6 @@ ghost use Rattle.btree_edit.specs.Causes.{HasTroubleCause};
 ghost use Rattle.hfs_language.specs.Written.{FitsCommand};
 ghost use Rattle.hfs_language.specs.declared.reply.Reply.TheVariants as reply;
 ghost use Rattle.hfs_model.specs.Step.{only_reads};
-ghost use Rattle.hfs_volume.specs.Run.{is_to_come};
 ghost use Rattle.volume_ops.specs.Keeping.{shrunk_of};
 ghost use Rattle.volume_ops.specs.Room.{capacity_of};
 ghost use Rattle.volume_ops.specs.Service.{IsInService};
@@ -34,19 +33,6 @@ pub(crate) fn only_reads(command: &Command) -> bool
         Command::LsAttr(_path) => true,
         Command::Df => true,
         Command::Sync => true,
-        _ => false,
-    }
-}
-
-/// Whether a command is still to come.
-pub(crate) fn is_to_come(command: &Command) -> bool
-    ensures { result ≡ is_to_come command.now }
-{
-    match command {
-        Command::Rm(_path) => true,
-        Command::Ln(_from, _to) => true,
-        Command::Write { .. } => true,
-        Command::Trunc { .. } => true,
         _ => false,
     }
 }

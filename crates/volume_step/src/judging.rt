@@ -1,7 +1,8 @@
 //! A command judged before its step: by its weight, and by the room that there is.
-ghost use Rattle.std.specs.Prelude.{◌≡◌, IsTrue, IfOk};
+ghost use Rattle.std.specs.Prelude.{◌≡◌, false, IsTrue, IfOk};
 ghost use Rattle.btree_edit.specs.Causes.{HasTroubleCause};
 ghost use Rattle.hfs_language.specs.Written.{FitsCommand};
+ghost use Rattle.hfs_model.specs.Step.{only_reads};
 ghost use Rattle.volume_ops.specs.Looking.{ReadsVolume};
 ghost use Rattle.volume_ops.specs.Room.{capacity_of};
 ghost use Rattle.volume_ops.specs.Standing.{IsSettled, StandsOver};
@@ -18,7 +19,7 @@ use volume_ops::{Volume, Weight};
 pub(crate) enum Verdict {
     /// Its step refuses it, or a resource is missing.
     Refused(Refusal),
-    /// A tree has to grow for it, which is still to come.
+    /// It is still to come, or a tree has to grow for it, which is still to come.
     ToCome,
     /// It wants a commit before it.
     CommitFirst,
@@ -52,7 +53,7 @@ fn verdict_of(weight: Weight, spare: u64) -> Verdict
     }
 }
 
-/// Judges a command. One that isn't weighed yet waits.
+/// Judges a command that changes the volume. One that isn't weighed is still to come.
 pub(crate) fn judge<P: SectorSpace>(
     alloc: Global,
     volume: &mut Volume,
@@ -62,6 +63,7 @@ pub(crate) fn judge<P: SectorSpace>(
     requires stands { StandsOver volume.old (P.SectorView.space space.old) }
     requires settled { IsTrue (P.SectorView.space space.old).tells → IsSettled volume.old (P.SectorView.space space.old).content }
     requires fits { FitsCommand command.now }
+    requires changes { only_reads command.now ≡ false }
     ensures judged { IsTrue (P.SectorView.space space.old).tells → IfOk result (λ verdict. IsJudged verdict (capacity_of volume.old) command.now (P.SectorView.space space.old).content) }
     ensures reads { ReadsVolume volume.old volume.new (P.SectorView.space space.old) (P.SectorView.space space.new) }
     ensures stands { StandsOver volume.new (P.SectorView.space space.new) }
@@ -71,6 +73,6 @@ pub(crate) fn judge<P: SectorSpace>(
 {
     match volume.weigh(alloc, space, command)? {
         Some(weight) => Ok(verdict_of(weight, space.spare())),
-        None => Ok(Verdict::CommitFirst),
+        None => Ok(Verdict::ToCome),
     }
 }

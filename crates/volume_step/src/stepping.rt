@@ -12,7 +12,7 @@ ghost use Rattle.volume_ops.specs.Standing.{HoldsOn, IsSettled, StandsOver, own_
 ghost use Rattle.volume_ops.specs.Touching.{Touches};
 ghost use Rattle.volume_step.specs.Steps.{Affords, KeepsJournal, StepsTo};
 
-use crate::answering::{answer, is_to_come, only_reads, refusal};
+use crate::answering::{answer, only_reads, refusal};
 use crate::judging::{Verdict, judge};
 use crate::making::{make_file, make_folder, move_entry};
 use crate::marking::{date, set_mode};
@@ -140,9 +140,6 @@ pub fn step<P: SectorSpace>(
 {
     if only_reads(command) {
         return answer(alloc, volume, space, number, command);
-    }
-    if is_to_come(command) {
-        return Ok(refusal(alloc, Refusal::NotBuilt));
     }
     change(alloc, volume, space, number, command)
 }

@@ -1,4 +1,4 @@
-use Rattle.std.proofs.Common.{ℕ, List, inr, sym, ◌∙◌, subst}
+use Rattle.std.proofs.Common.{ℕ, List, sym, ◌∙◌, subst}
 use Rattle.std.specs.List.{Contains}
 use Rattle.std.specs.Prelude.{IfOk, OnOk}
 use Rattle.sector_disk.specs.Lists.{Content}
@@ -26,7 +26,7 @@ returns-in-Refused-clause-answered g c tells =
 
 pub returns-in-ToCome-clause-answered : goal.returns-in-ToCome-clause-answered
 returns-in-ToCome-clause-answered g c tells =
-    waits_steps (capacity_of c.args.volume.now) c.args.number c.args.command.now (g.P.SectorView.space c.args.space.now).content (g.P.SectorView.space c.judge.new.space).content (c.judge.ensures.reads.looks.content tells) (sound_here c.args.volume.now (g.P.SectorView.space c.args.space.now) (c.requires.stands.stands tells) (c.requires.settled tells)) (inr (subst (λ (v : Verdict). IsJudged v (capacity_of c.args.volume.now) c.args.command.now (g.P.SectorView.space c.args.space.now).content) c.in-ToCome.is (c.in_ok-why.ensures.judged tells))) c.refusal-in-ToCome.result c.refusal-in-ToCome.ensures
+    waits_steps (capacity_of c.args.volume.now) c.args.number c.args.command.now (g.P.SectorView.space c.args.space.now).content (g.P.SectorView.space c.judge.new.space).content (c.judge.ensures.reads.looks.content tells) (sound_here c.args.volume.now (g.P.SectorView.space c.args.space.now) (c.requires.stands.stands tells) (c.requires.settled tells)) (subst (λ (v : Verdict). IsJudged v (capacity_of c.args.volume.now) c.args.command.now (g.P.SectorView.space c.args.space.now).content) c.in-ToCome.is (c.in_ok-why.ensures.judged tells)) c.refusal-in-ToCome.result c.refusal-in-ToCome.ensures
 
 pub returns-in-Fits-clause-answered : goal.returns-in-Fits-clause-answered
 returns-in-Fits-clause-answered g c tells =

@@ -1,11 +1,16 @@
-use Rattle.std.proofs.Common.{◌≡◌, ℕ, List, sym, ◌∙◌, ap}
+use Rattle.std.proofs.Common.{◌≡◌, ℕ, true, false, List, sym, ◌∙◌, ap}
+use Rattle.std.specs.Prelude.{is_some, Option, Ok}
 use Rattle.hfs_language.specs.declared.command.Command.{Command}
 use Rattle.hfs_language.specs.declared.command.Command.TheVariants as command
+use Rattle.hfs_model.specs.Step.{refuses}
 use Rattle.hfs_volume.specs.Content.{volume_of}
+use Rattle.hfs_volume.specs.Run.{is_to_come}
 use Rattle.hfs_volume.specs.TreeOf.{tree_of}
 use Rattle.volume_ops.specs.Room.{free_in}
 use Rattle.volume_ops.specs.Weighing.{weighed}
 use Rattle.volume_ops.specs.declared.room.FreeBlocks.TheVariants as blocks
+use Rattle.volume_ops.specs.declared.weighing.Weight.{Weight}
+use Rattle.volume_ops.proofs.Seeing.{if_so}
 use Rattle.volume_ops.proofs.volume.Volume.weigh.Goals as goal
 
 pub returns-in_ok-weigh_chmod-in-Chmod-clause-answer : goal.returns-in_ok-weigh_chmod-in-Chmod-clause-answer
@@ -17,3 +22,27 @@ returns-in_ok-weigh_setattr-in-SetAttr-clause-answer g c tells =
     c.in_ok-weigh_setattr-in-SetAttr.ensures.answer tells c.in-SetAttr.name
     ∙ ap (λ (value : List ℕ). weighed c.args.self.now.capacity (free_in blocks.Takable c.args.self.now.map) (volume_of (g.P.SectorView.space c.args.space.now).content) (tree_of (g.P.SectorView.space c.args.space.now).content) (command.SetAttr c.in-SetAttr.path c.in-SetAttr.name value)) c.as_slice.ensures
     ∙ ap (λ (k : Command). weighed c.args.self.now.capacity (free_in blocks.Takable c.args.self.now.map) (volume_of (g.P.SectorView.space c.args.space.now).content) (tree_of (g.P.SectorView.space c.args.space.now).content) k) (sym c.in-SetAttr.is)
+
+pub returns-in-Rm-clause-waits : goal.returns-in-Rm-clause-waits
+returns-in-Rm-clause-waits g c tells unread =
+    if_so (λ (said : Option Weight). is_some said ≡ false → refuses (tree_of (g.P.SectorView.space c.args.space.now).content) (Ok c.args.command.now) ≡ false)
+    (λ (said : Option Weight). is_some said ≡ false → (is_to_come c.args.command.now ≡ true) × (refuses (tree_of (g.P.SectorView.space c.args.space.now).content) (Ok c.args.command.now) ≡ false)) c.weigh_refused.result
+    (λ said it none. (ap is_to_come c.in-Rm.is, it none)) (c.weigh_refused.ensures.waits tells)
+
+pub returns-in-Ln-clause-waits : goal.returns-in-Ln-clause-waits
+returns-in-Ln-clause-waits g c tells unread =
+    if_so (λ (said : Option Weight). is_some said ≡ false → refuses (tree_of (g.P.SectorView.space c.args.space.now).content) (Ok c.args.command.now) ≡ false)
+    (λ (said : Option Weight). is_some said ≡ false → (is_to_come c.args.command.now ≡ true) × (refuses (tree_of (g.P.SectorView.space c.args.space.now).content) (Ok c.args.command.now) ≡ false)) c.weigh_refused-in-Ln.result
+    (λ said it none. (ap is_to_come c.in-Ln.is, it none)) (c.weigh_refused-in-Ln.ensures.waits tells)
+
+pub returns-in-Write-clause-waits : goal.returns-in-Write-clause-waits
+returns-in-Write-clause-waits g c tells unread =
+    if_so (λ (said : Option Weight). is_some said ≡ false → refuses (tree_of (g.P.SectorView.space c.args.space.now).content) (Ok c.args.command.now) ≡ false)
+    (λ (said : Option Weight). is_some said ≡ false → (is_to_come c.args.command.now ≡ true) × (refuses (tree_of (g.P.SectorView.space c.args.space.now).content) (Ok c.args.command.now) ≡ false)) c.weigh_refused-in-Write.result
+    (λ said it none. (ap is_to_come c.in-Write.is, it none)) (c.weigh_refused-in-Write.ensures.waits tells)
+
+pub returns-in-Trunc-clause-waits : goal.returns-in-Trunc-clause-waits
+returns-in-Trunc-clause-waits g c tells unread =
+    if_so (λ (said : Option Weight). is_some said ≡ false → refuses (tree_of (g.P.SectorView.space c.args.space.now).content) (Ok c.args.command.now) ≡ false)
+    (λ (said : Option Weight). is_some said ≡ false → (is_to_come c.args.command.now ≡ true) × (refuses (tree_of (g.P.SectorView.space c.args.space.now).content) (Ok c.args.command.now) ≡ false)) c.weigh_refused-in-Trunc.result
+    (λ said it none. (ap is_to_come c.in-Trunc.is, it none)) (c.weigh_refused-in-Trunc.ensures.waits tells)

@@ -1,0 +1,17 @@
+use Rattle.std.proofs.Common.{sym, ◌∙◌, ap}
+use Rattle.std.specs.Prelude.{Result, Ok, Err}
+use Rattle.hfs_language.specs.declared.refusal.Refusal.{Refusal}
+use Rattle.hfs_language.specs.declared.reply.Facts.{Facts}
+use Rattle.hfs_volume.specs.TreeOf.{tree_of}
+use Rattle.volume_ops.proofs.Refused.{rm_refusal, unrooted, root_kept}
+use Rattle.volume_ops.proofs.Rising.{settled_is_plain}
+use Rattle.volume_ops.proofs.volume.Volume.refused_rm.Goals as goal
+
+pub returns-in-Ok-clause-told : goal.returns-in-Ok-clause-told
+returns-in-Ok-clause-told g c tells = c.against_removal.ensures ∙ rm_refusal (tree_of (g.P.SectorView.space c.args.space.now).content) (settled_is_plain c.sound_has_plain_tree.ensures c.args.self.now (g.P.SectorView.space c.args.space.now).content (c.requires.stands.stands tells).trees (c.requires.settled tells)) c.args.path.now (unrooted c.args.path.now (sym c.is_empty.ensures ∙ c.if-is_empty.false)) (Ok c.in-Ok.told) (sym c.in-Ok.is ∙ c.in_ok-told.ensures.told tells)
+
+pub returns-in-Err-clause-told : goal.returns-in-Err-clause-told
+returns-in-Err-clause-told g c tells = rm_refusal (tree_of (g.P.SectorView.space c.args.space.now).content) (settled_is_plain c.sound_has_plain_tree.ensures c.args.self.now (g.P.SectorView.space c.args.space.now).content (c.requires.stands.stands tells).trees (c.requires.settled tells)) c.args.path.now (unrooted c.args.path.now (sym c.is_empty.ensures ∙ c.if-is_empty.false)) (Err c.in-Err.why) (sym c.in-Err.is ∙ c.in_ok-told.ensures.told tells)
+
+pub returns-then-is_empty-clause-told : goal.returns-then-is_empty-clause-told
+returns-then-is_empty-clause-told g c tells = root_kept (tree_of (g.P.SectorView.space c.args.space.now).content) c.args.path.now (sym c.is_empty.ensures ∙ c.if-is_empty.true)
