@@ -21,7 +21,7 @@ pairs_read most a b reads tells small tree = read_pairs (λ _ key. key.size) mos
 -- reads are no edit
 pub reads_edit_nothing : (most longest : ℕ) (a b : Store) → ReadsNodes most a b → a.faults ≤ b.faults → TakesEdits 0 longest a b
 reads_edit_nothing most longest a b reads later = record {
-  takes = λ deepest deep.
+  takes = λ tells deepest deep.
       let costs = does_read most reads later in
       does_both 0 0 0 0 (0 * edit_writes deepest) (0 * (deepest + 1)) costs (does_read 0 (reads_none b) (omega arith)) (omega arith) (omega arith);
   top = λ tells. record {
@@ -31,6 +31,5 @@ reads_edit_nothing most longest a b reads later = record {
         let items_are : length (items (b.nodes b.shape.root)) ≡ length (items (a.nodes a.shape.root)) = ap (λ n. length (items (b.nodes n))) root ∙ ap (λ (l : List ℕ). length (items l)) ((reads.tree tells).nodes a.shape.root) in
         omega (arith, ap (λ n. max 1 n) items_are);
   };
-  depth = omega (arith, ap (λ h. h.depth) reads.shape);
-  records = omega (arith, ap (λ h. h.leaf_records) reads.shape);
+  records = λ tells. omega (arith, ap (λ h. h.leaf_records) reads.shape);
 }

@@ -33,7 +33,7 @@ pub fn drop_all<N: NodeStore>(
     requires tree { IsTrue (N.state store.old).tells → IsTree IsAttrKey attr_cmp (N.state store.old) }
     requires form { IsTrue (N.state store.old).tells → AreInline (pairs_of (N.state store.old)) }
     requires few { IsTrue (N.state store.old).tells → count_of id (pairs_of (N.state store.old)) ≤ most }
-    requires room { EditRoom most 266 (N.state store.old) }
+    requires room { IsTrue (N.state store.old).tells → EditRoom most 266 (N.state store.old) }
     // It answers how many attributes the folder or file had.
     ensures counted { IsTrue (N.state store.old).tells → IfOk result (λ dropped. dropped ≡ count_of id (pairs_of (N.state store.old))) }
     // They aren't there any more, and all others are as they were.
@@ -70,7 +70,7 @@ fn drop_each<N: NodeStore>(
     requires few { IsTrue (N.state store.old).tells → count_of id (pairs_of (N.state store.old)) ≤ most }
     requires start { IsAttrKey start.now }
     requires before { (attr_file start.now ≡ id) × (attr_units start.now ≡ []) }
-    requires room { EditRoom most 266 (N.state store.old) }
+    requires room { IsTrue (N.state store.old).tells → EditRoom most 266 (N.state store.old) }
     ensures counted { IsTrue (N.state store.old).tells → IfOk result (λ dropped. dropped ≡ count_of id (pairs_of (N.state store.old))) }
     ensures dropped { IsTrue (N.state store.old).tells → OnOk result (DropsAttributes id (pairs_of (N.state store.old)) (pairs_of (N.state store.new))) }
     ensures form { IsTrue (N.state store.old).tells → OnOk result (AreInline (pairs_of (N.state store.new))) }
@@ -105,7 +105,7 @@ fn drop_first<N: NodeStore>(
     requires form { IsTrue (N.state store.old).tells → AreInline (pairs_of (N.state store.old)) }
     requires start { IsAttrKey start.now }
     requires before { (attr_file start.now ≡ id) × (attr_units start.now ≡ []) }
-    requires room { EditRoom 1 266 (N.state store.old) }
+    requires room { IsTrue (N.state store.old).tells → EditRoom 1 266 (N.state store.old) }
     ensures dropped { IsTrue (N.state store.old).tells → IfOk result (λ some. DropsFirst id (pairs_of (N.state store.old)) (pairs_of (N.state store.new)) some) }
     ensures form { IsTrue (N.state store.old).tells → OnOk result (AreInline (pairs_of (N.state store.new))) }
     ensures tree { IsTrue (N.state store.old).tells → OnOk result (IsTree IsAttrKey attr_cmp (N.state store.new)) }

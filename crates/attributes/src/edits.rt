@@ -26,7 +26,7 @@ pub(crate) fn insert_pair<N: NodeStore>(
     requires tree { IsTrue (N.state store.old).tells → IsTree IsAttrKey attr_cmp (N.state store.old) }
     requires key { IsAttrKey pair.now.key }
     requires short { length pair.now.key + length pair.now.value ≤ 2038 }
-    requires room { EditRoom 1 266 (N.state store.old) }
+    requires room { IsTrue (N.state store.old).tells → EditRoom 1 266 (N.state store.old) }
     ensures answer { IsTrue (N.state store.old).tells → IfOk result (λ answer. AnswersInsert attr_cmp pair.now.key (N.state store.old) answer) }
     ensures pairs { IsTrue (N.state store.old).tells → IfOk result (λ answer. InsertsPair attr_cmp pair.now.key pair.now.value (pairs_of (N.state store.old)) (pairs_of (N.state store.new)) answer) }
     ensures tree { IsTrue (N.state store.old).tells → OnOk result (IsTree IsAttrKey attr_cmp (N.state store.new)) }
@@ -51,7 +51,7 @@ pub(crate) fn remove_key<N: NodeStore>(
     requires size { 4096 ≤ (N.state store.old).shape.node_size }
     requires tree { IsTrue (N.state store.old).tells → IsTree IsAttrKey attr_cmp (N.state store.old) }
     requires key { IsAttrKey key.now }
-    requires room { EditRoom 1 266 (N.state store.old) }
+    requires room { IsTrue (N.state store.old).tells → EditRoom 1 266 (N.state store.old) }
     ensures answer { IsTrue (N.state store.old).tells → IfOk result (λ answer. AnswersRemove attr_cmp key.now (N.state store.old) answer) }
     ensures pairs { IsTrue (N.state store.old).tells → IfOk result (λ answer. RemovesPair attr_cmp key.now (pairs_of (N.state store.old)) (pairs_of (N.state store.new)) answer) }
     ensures dropped { IsTrue (N.state store.old).tells → AreInline (pairs_of (N.state store.old)) → attr_start key.now ≡ 0

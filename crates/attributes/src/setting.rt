@@ -38,7 +38,7 @@ pub fn set<N: NodeStore>(
     requires form { IsTrue (N.state store.old).tells → AreInline (pairs_of (N.state store.old)) }
     requires some { 1 ≤ length name.now }
     requires name { length name.now ≤ 127 }
-    requires room { EditRoom 2 266 (N.state store.old) }
+    requires room { IsTrue (N.state store.old).tells → EditRoom 2 266 (N.state store.old) }
     // AttributeTooLarge exactly where the value has over 1,700 bytes; else Done.
     ensures answer { IfOk result (λ answer. AnswersSet (length value.now) answer) }
     ensures large { 1700 < length value.now → result ≡ Ok AttributeTooLarge }
@@ -76,7 +76,7 @@ fn put_pair<N: NodeStore>(
     requires key { IsAttrKey pair.now.key }
     requires spells { SpellsInline pair.now.key pair.now.value }
     requires short { length pair.now.key + length pair.now.value ≤ 2038 }
-    requires room { EditRoom 2 266 (N.state store.old) }
+    requires room { IsTrue (N.state store.old).tells → EditRoom 2 266 (N.state store.old) }
     ensures pairs { IsTrue (N.state store.old).tells → OnOk result (PutsPair pair.now.key pair.now.value (pairs_of (N.state store.old)) (pairs_of (N.state store.new))) }
     ensures form { IsTrue (N.state store.old).tells → OnOk result (AreInline (pairs_of (N.state store.new))) }
     ensures tree { IsTrue (N.state store.old).tells → OnOk result (IsTree IsAttrKey attr_cmp (N.state store.new)) }
@@ -107,7 +107,7 @@ pub fn delete<N: NodeStore>(
     requires tree { IsTrue (N.state store.old).tells → IsTree IsAttrKey attr_cmp (N.state store.old) }
     requires form { IsTrue (N.state store.old).tells → AreInline (pairs_of (N.state store.old)) }
     requires name { length name.now ≤ 127 }
-    requires room { EditRoom 1 266 (N.state store.old) }
+    requires room { IsTrue (N.state store.old).tells → EditRoom 1 266 (N.state store.old) }
     // NoAttribute exactly where there is none of the name; else Done.
     ensures answer { IsTrue (N.state store.old).tells → IfOk result (λ answer. AnswersDelete (value_at (pairs_of (N.state store.old)) id name.now) answer) }
     // The attribute isn't there any more, and all others are as they were.

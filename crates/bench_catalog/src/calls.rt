@@ -32,9 +32,6 @@ pub fn add_entry(
     requires name { length name.now ≤ 255 }
     requires kind { is_thread rec.now ≡ false }
     requires fits { FitsRecord rec.now }
-    requires depth { (numbers_of tree.old).depth + 2 ≤ 11 }
-    requires records { (numbers_of tree.old).leaf_records + 2 ≤ 4294967295 }
-    requires free { 2 * 12 ≤ (numbers_of tree.old).free }
     ensures file { SameFile tree.old tree.new }
     ensures sectors { length space.new.list.items ≡ length space.old.list.items }
     ensures desk { IsDeskOf (numbers_of tree.old).node_size desk.new }
@@ -57,9 +54,6 @@ pub fn remove_entry(
     requires size { 4096 ≤ (numbers_of tree.old).node_size }
     requires some { 1 ≤ length name.now }
     requires name { length name.now ≤ 255 }
-    requires depth { (numbers_of tree.old).depth + 2 ≤ 11 }
-    requires records { (numbers_of tree.old).leaf_records + 2 ≤ 4294967295 }
-    requires free { 2 * 12 ≤ (numbers_of tree.old).free }
     ensures file { SameFile tree.old tree.new }
     ensures sectors { length space.new.list.items ≡ length space.old.list.items }
     ensures desk { IsDeskOf (numbers_of tree.old).node_size desk.new }

@@ -63,21 +63,11 @@ impl Filed {
         self.space.reads / u64::from(PER_NODE)
     }
 
-    /// Whether a call of two edits may be made.
-    fn has_room(&self) -> bool
-        ensures size { IsTrue result → 4096 ≤ (numbers_of self.now.tree).node_size }
-        ensures depth { IsTrue result → (numbers_of self.now.tree).depth + 2 ≤ 11 }
-        ensures records { IsTrue result → (numbers_of self.now.tree).leaf_records + 2 ≤ 4294967295 }
-        ensures free { IsTrue result → 2 * 12 ≤ (numbers_of self.now.tree).free }
+    /// Whether nodes have a size that the format allows the catalog.
+    fn is_wide(&self) -> bool
+        ensures { IsTrue result → 4096 ≤ (numbers_of self.now.tree).node_size }
     {
-        let shape = self.shape();
-        if shape.node_size < 4096 || shape.depth > 9 {
-            return false;
-        }
-        if shape.leaf_records > u32::MAX - 2 {
-            return false;
-        }
-        shape.free >= 24
+        self.shape().node_size >= 4096
     }
 
     /// Adds the entry with a CNID.
@@ -88,7 +78,7 @@ impl Filed {
         name: &Units,
         id: u32,
     ) -> Result<Inserted, Stop> {
-        if !is_name(name) || !self.has_room() {
+        if !is_name(name) || !self.is_wide() {
             return Err(Stop::Room);
         }
         let rec = entry(id, 0);
@@ -106,7 +96,7 @@ impl Filed {
 
     /// Removes an entry.
     pub fn remove(&mut self, alloc: Global, parent: u32, name: &Units) -> Result<Removed, Stop> {
-        if !is_name(name) || !self.has_room() {
+        if !is_name(name) || !self.is_wide() {
             return Err(Stop::Room);
         }
         let answer = remove_entry(

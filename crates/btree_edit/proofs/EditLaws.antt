@@ -170,7 +170,8 @@ top_of_one longest old new depth bounds = by_depth old.shape.depth refl
                 let wider = mul-le-mul_left {m = length (items (old.nodes old.shape.root)) + 1} {n = (top_of old).records + 1} (longest + 8) (omega arith) in
                 omega (arith, full_now, wider)
 
-costs_more : {a b : Store} (m t n u : ℕ) → CostsAtMost m t a b → m ≤ n → t ≤ u → CostsAtMost n u a b
+-- what costs little costs no more than that
+pub costs_more : {a b : Store} (m t n u : ℕ) → CostsAtMost m t a b → m ≤ n → t ≤ u → CostsAtMost n u a b
 costs_more m t n u p most takes = record {
   fewer = p.fewer;
   some = omega (arith, p.some, most);
@@ -183,17 +184,13 @@ costs_more m t n u p most takes = record {
 
 -- a tree isn't deeper than it may become
 pub depth_below : (edits longest deepest : ℕ) (store : Store) → GoesNoDeeper edits longest deepest store → store.shape.depth ≤ deepest
-depth_below edits longest deepest store deep = by_tells store.tells refl
-  where
-    by_tells : (tells : Bool) → store.tells ≡ tells → store.shape.depth ≤ deepest
-    by_tells true is =
-        let grows = tops_grow (node_room store.shape.node_size) (longest + 8) edits (top_of store) in
-        omega (arith, grows, deep.told is)
-    by_tells false is = omega (arith, deep.untold is)
+depth_below edits longest deepest store deep =
+    let grows = tops_grow (node_room store.shape.node_size) (longest + 8) edits (top_of store) in
+    omega (arith, grows, deep)
 
 -- an edit, made or not, takes at most what one does
 pub takes_one : (longest : ℕ) (old new : Store) → CostsAtMost (edit_writes old.shape.depth) (old.shape.depth + 1) old new → TakesAtMost 1 longest old new
-takes_one longest old new costs deepest deep =
+takes_one longest old new costs tells deepest deep =
     let low = depth_below 1 longest deepest old deep in
     costs_more (edit_writes old.shape.depth) (old.shape.depth + 1) (1 * edit_writes deepest) (1 * (deepest + 1)) costs (omega (arith, low)) (omega (arith, low))
 
@@ -202,46 +199,34 @@ pub edits_one : (longest : ℕ) (old new : Store) → CostsAtMost (edit_writes o
 edits_one longest old new costs depth records bounds = record {
   takes = takes_one longest old new costs;
   top = λ tells. top_of_one longest old new depth (bounds tells);
-  depth = depth;
-  records = records;
+  records = λ tells. records;
 }
 
 -- ---- several edits
 
 -- the first of several edits go no deeper than all
-deep_first : (first others longest deepest : ℕ) (store : Store) → GoesNoDeeper (first + others) longest deepest store → GoesNoDeeper first longest deepest store
-deep_first first others longest deepest store deep = record {
-  told = λ tells.
-      let room = node_room store.shape.node_size in
-      let grows = tops_grow room (longest + 8) others (tops room (longest + 8) first (top_of store)) in
-      let all = deep.told tells in
-      let sum = ap (λ (top : TreeTop). top.depth) (tops_add room (longest + 8) first others (top_of store)) in
-      omega (arith, grows, all, sum);
-  untold = λ hidden. omega (arith, deep.untold hidden);
-}
+pub deep_first : (first others longest deepest : ℕ) (store : Store) → GoesNoDeeper (first + others) longest deepest store → GoesNoDeeper first longest deepest store
+deep_first first others longest deepest store deep =
+    let room = node_room store.shape.node_size in
+    let grows = tops_grow room (longest + 8) others (tops room (longest + 8) first (top_of store)) in
+    let sum = ap (λ (top : TreeTop). top.depth) (tops_add room (longest + 8) first others (top_of store)) in
+    omega (arith, grows, deep, sum)
 
 -- those that follow go no deeper either
-pub deep_then : (first others longest deepest : ℕ) (a b : Store) → SameStore a b → TakesEdits first longest a b → GoesNoDeeper (first + others) longest deepest a → GoesNoDeeper others longest deepest b
-deep_then first others longest deepest a b same takes deep = record {
-  told = λ tells.
-      let tells_a : IsTrue a.tells = subst IsTrue same.tells tells in
-      let room = node_room a.shape.node_size in
-      let low = tops_keep room (longest + 8) others (top_of b) (tops room (longest + 8) first (top_of a)) (tops_count room (longest + 8) first (top_of a) (omega arith)) (takes.top tells_a) in
-      let all = deep.told tells_a in
-      let sum = ap (λ (top : TreeTop). top.depth) (tops_add room (longest + 8) first others (top_of a)) in
-      let size = ap (λ n. (tops (node_room n) (longest + 8) others (top_of b)).depth) same.node_size in
-      omega (arith, low.depth, all, sum, size);
-  untold = λ hidden. omega (arith, takes.depth, deep.untold (sym same.tells ∙ hidden));
-}
-
-same_of : (edits longest : ℕ) (a b : Store) → TakesAtMost edits longest a b → (deepest : ℕ) → GoesNoDeeper edits longest deepest a → SameStore a b
-same_of edits longest a b takes deepest deep = (takes deepest deep).same
+pub deep_then : (first others longest deepest : ℕ) (a b : Store) → SameStore a b → IsNoHigher (top_of b) (tops (node_room a.shape.node_size) (longest + 8) first (top_of a))
+    → GoesNoDeeper (first + others) longest deepest a → GoesNoDeeper others longest deepest b
+deep_then first others longest deepest a b same top deep =
+    let room = node_room a.shape.node_size in
+    let low = tops_keep room (longest + 8) others (top_of b) (tops room (longest + 8) first (top_of a)) (tops_count room (longest + 8) first (top_of a) (omega arith)) top in
+    let sum = ap (λ (t : TreeTop). t.depth) (tops_add room (longest + 8) first others (top_of a)) in
+    let size = ap (λ n. (tops (node_room n) (longest + 8) others (top_of b)).depth) same.node_size in
+    omega (arith, low.depth, deep, sum, size)
 
 -- what calls take adds up
 pub takes_both : (first others longest : ℕ) (a b c : Store) → SameStore a b → TakesEdits first longest a b → TakesAtMost others longest b c → TakesAtMost (first + others) longest a c
-takes_both first others longest a b c same p q deepest deep =
+takes_both first others longest a b c same p q tells deepest deep =
     does_both (first * edit_writes deepest) (first * (deepest + 1)) (others * edit_writes deepest) (others * (deepest + 1)) ((first + others) * edit_writes deepest) ((first + others) * (deepest + 1))
-    (p.takes deepest (deep_first first others longest deepest a deep)) (q deepest (deep_then first others longest deepest a b same p deep)) (omega arith) (omega arith)
+    (p.takes tells deepest (deep_first first others longest deepest a deep)) (q (same.tells ∙ tells) deepest (deep_then first others longest deepest a b same (p.top tells) deep)) (omega arith) (omega arith)
 
 pub edits_add : (first others longest : ℕ) (a b c : Store) → SameStore a b → TakesEdits first longest a b → TakesEdits others longest b c → TakesEdits (first + others) longest a c
 edits_add first others longest a b c same p q = record {
@@ -251,14 +236,13 @@ edits_add first others longest a b c same p q = record {
       let next = subst (λ n. IsNoHigher (top_of c) (tops (node_room n) (longest + 8) others (top_of b))) same.node_size (q.top (subst IsTrue (sym same.tells) tells)) in
       let low = tops_keep room (longest + 8) others (top_of b) (tops room (longest + 8) first (top_of a)) (tops_count room (longest + 8) first (top_of a) (omega arith)) (p.top tells) in
       subst (λ top. IsNoHigher (top_of c) top) (sym (tops_add room (longest + 8) first others (top_of a))) (no_higher_trans next low);
-  depth = omega (arith, p.depth, q.depth);
-  records = omega (arith, p.records, q.records);
+  records = λ tells. omega (arith, p.records tells, q.records (same.tells ∙ tells));
 }
 
 -- edits that weren't made take nothing
 pub takes_fewer : (made others longest : ℕ) (a b : Store) → TakesAtMost made longest a b → TakesAtMost (made + others) longest a b
-takes_fewer made others longest a b p deepest deep =
-    costs_more (made * edit_writes deepest) (made * (deepest + 1)) ((made + others) * edit_writes deepest) ((made + others) * (deepest + 1)) (p deepest (deep_first made others longest deepest a deep)) (omega arith) (omega arith)
+takes_fewer made others longest a b p tells deepest deep =
+    costs_more (made * edit_writes deepest) (made * (deepest + 1)) ((made + others) * edit_writes deepest) ((made + others) * (deepest + 1)) (p tells deepest (deep_first made others longest deepest a deep)) (omega arith) (omega arith)
 
 pub edits_fewer : (made others longest : ℕ) (a b : Store) → TakesEdits made longest a b → TakesEdits (made + others) longest a b
 edits_fewer made others longest a b p = record {
@@ -267,19 +251,20 @@ edits_fewer made others longest a b p = record {
       let room = node_room a.shape.node_size in
       let more = subst (λ top. IsNoHigher (tops room (longest + 8) made (top_of a)) top) (sym (tops_add room (longest + 8) made others (top_of a))) (tops_no_lower room (longest + 8) others (tops room (longest + 8) made (top_of a))) in
       no_higher_trans (p.top tells) more;
-  depth = omega (arith, p.depth);
-  records = omega (arith, p.records);
+  records = λ tells. omega (arith, p.records tells);
 }
 
 -- the room that the edits made leave to the others
-pub room_then : (first others longest : ℕ) (a b : Store) → SameStore a b → TakesEdits first longest a b → EditRoom (first + others) longest a → EditRoom others longest b
-room_then first others longest a b same takes room =
-    let costs = takes.takes room.deepest (deep_first first others longest room.deepest a room.deep) in
+pub room_then : (first others longest : ℕ) (a b : Store) → SameStore a b → TakesEdits first longest a b → (IsTrue a.tells → EditRoom (first + others) longest a) → IsTrue b.tells → EditRoom others longest b
+room_then first others longest a b same takes has tells_now =
+    let tells : IsTrue a.tells = sym same.tells ∙ tells_now in
+    let room = has tells in
+    let costs = takes.takes tells room.deepest (deep_first first others longest room.deepest a room.deep) in
     record {
       deepest = room.deepest;
-      deep = deep_then first others longest room.deepest a b same takes room.deep;
+      deep = deep_then first others longest room.deepest a b same (takes.top tells) room.deep;
       depth = λ some. room.depth (omega (arith, some));
-      records = omega (arith, takes.records, room.records);
+      records = omega (arith, takes.records tells, room.records);
       free = omega (arith, room.free, costs.free);
       writes = writes_then (first * edit_writes room.deepest) (others * edit_writes room.deepest) ((first + others) * edit_writes room.deepest) a b (omega arith) costs.fewer costs.some costs.left room.writes;
     }
@@ -296,8 +281,9 @@ pub record EditNeeds (store : Store) : Type 0 where
   pub records : store.shape.leaf_records < 2 ^ 32 - 1
 
 -- an edit has what it needs, where there is room for one and perhaps for others
-pub room_for_one : (others longest : ℕ) (store : Store) → EditRoom (1 + others) longest store → EditNeeds store
-room_for_one others longest store room =
+pub room_for_one : (others longest : ℕ) (store : Store) → (IsTrue store.tells → EditRoom (1 + others) longest store) → IsTrue store.tells → EditNeeds store
+room_for_one others longest store has tells =
+    let room = has tells in
     let low = depth_below (1 + others) longest room.deepest store room.deep in
     let free = room.free in
     let writes = room.writes in
@@ -311,22 +297,24 @@ room_for_one others longest store room =
     }
 
 -- room for several edits is room for the first of them
-pub room_first : (first others longest : ℕ) (store : Store) → EditRoom (first + others) longest store → EditRoom first longest store
-room_first first others longest store room = record {
-  deepest = room.deepest;
-  deep = deep_first first others longest room.deepest store room.deep;
-  depth = λ some. room.depth (omega (arith, some));
-  records = omega (arith, room.records);
-  free = omega (arith, room.free);
-  writes = writes_first (first * edit_writes room.deepest) ((first + others) * edit_writes room.deepest) store (omega arith) room.writes;
-}
+pub room_first : (first others longest : ℕ) (store : Store) → (IsTrue store.tells → EditRoom (first + others) longest store) → IsTrue store.tells → EditRoom first longest store
+room_first first others longest store has tells =
+    let room = has tells in
+    record {
+      deepest = room.deepest;
+      deep = deep_first first others longest room.deepest store room.deep;
+      depth = λ some. room.depth (omega (arith, some));
+      records = omega (arith, room.records);
+      free = omega (arith, room.free);
+      writes = writes_first (first * edit_writes room.deepest) ((first + others) * edit_writes room.deepest) store (omega arith) room.writes;
+    }
   where
     writes_first : (few all : ℕ) (store : Store) → few ≤ all → HasRoom all store → HasRoom few store
     writes_first few all store less has = omega (arith, less, has)
 
 -- a call that didn't begin took nothing
 pub takes_none : (edits longest : ℕ) (store : Store) → TakesAtMost edits longest store store
-takes_none edits longest store deepest deep = record {
+takes_none edits longest store tells deepest deep = record {
   fewer = omega arith;
   some = omega arith;
   left = omega arith;

@@ -1,5 +1,5 @@
 -- Calls of several edits of one tree: the room that they need, and what they take.
-use Rattle.std.specs.Prelude.{◌≡◌, ◌⊎◌, ◌<◌, ◌≤◌, ℕ, zero, suc, ◌+◌, ◌-◌, ◌*◌, ◌^◌, false, IsTrue, nat_lt, max, length, if◌then◌else◌}
+use Rattle.std.specs.Prelude.{◌≡◌, ◌⊎◌, ◌<◌, ◌≤◌, ℕ, zero, suc, ◌+◌, ◌-◌, ◌*◌, ◌^◌, IsTrue, nat_lt, max, length, if◌then◌else◌}
 use Rattle.btree_node.specs.Node.{items}
 use Rattle.btree_node.specs.Store.{Store, HasRoom}
 use Rattle.btree_edit.specs.Editing.{CostsAtMost, edit_writes}
@@ -32,12 +32,11 @@ pub record IsNoHigher (one other : TreeTop) : Type 0 where
   pub depth : one.depth ≤ other.depth
   pub records : one.depth ≡ other.depth → 2 ≤ one.depth → one.records ≤ other.records
 
--- So many edits of a tree with keys of at most so many bytes make it no deeper than this. Where the store doesn't tell its nodes, each edit may.
-pub record GoesNoDeeper (edits longest deepest : ℕ) (store : Store) : Type 0 where
-  pub told : IsTrue store.tells → (tops (node_room store.shape.node_size) (longest + 8) edits (top_of store)).depth ≤ deepest
-  pub untold : store.tells ≡ false → store.shape.depth + edits ≤ deepest
+-- So many edits of a tree with keys of at most so many bytes make it no deeper than this.
+abbrev pub GoesNoDeeper : (edits longest deepest : ℕ) → Store → Type 0
+GoesNoDeeper edits longest deepest store = (tops (node_room store.shape.node_size) (longest + 8) edits (top_of store)).depth ≤ deepest
 
--- There is room for so many edits: for the depth, the records, the free nodes and the writes that they may come to.
+-- There is room for so many edits of a store that tells its nodes: for the depth, the records, the free nodes and the writes that they may come to.
 pub record EditRoom (edits longest : ℕ) (store : Store) : Type 0 where
   pub deepest : ℕ
   pub deep : GoesNoDeeper edits longest deepest store
@@ -46,13 +45,12 @@ pub record EditRoom (edits longest : ℕ) (store : Store) : Type 0 where
   pub free : edits * (deepest + 1) ≤ store.shape.free
   pub writes : HasRoom (edits * edit_writes deepest) store
 
--- So many edits take at most their nodes and writes, whether or not they were all made.
+-- So many edits take at most their nodes and writes, whether or not they were all made; what they take of a store that doesn't tell its nodes isn't told.
 abbrev pub TakesAtMost : ℕ → ℕ → Store → Store → Type 0
-TakesAtMost edits longest old new = (deepest : ℕ) → GoesNoDeeper edits longest deepest old → CostsAtMost (edits * edit_writes deepest) (edits * (deepest + 1)) old new
+TakesAtMost edits longest old new = IsTrue old.tells → (deepest : ℕ) → GoesNoDeeper edits longest deepest old → CostsAtMost (edits * edit_writes deepest) (edits * (deepest + 1)) old new
 
--- At most so many edits were made.
+-- At most so many edits were made, where the store tells its nodes.
 pub record TakesEdits (edits longest : ℕ) (old new : Store) : Type 0 where
   pub takes : TakesAtMost edits longest old new
   pub top : IsTrue old.tells → IsNoHigher (top_of new) (tops (node_room old.shape.node_size) (longest + 8) edits (top_of old))
-  pub depth : new.shape.depth ≤ old.shape.depth + edits
-  pub records : new.shape.leaf_records ≤ old.shape.leaf_records + edits
+  pub records : IsTrue old.tells → new.shape.leaf_records ≤ old.shape.leaf_records + edits

@@ -11,13 +11,10 @@ use Rattle.btree_edit.specs.Answers.{AnswersRemove}
 use Rattle.btree_edit.specs.Sorted.{ReplacesPair, ChangesPair}
 use Rattle.btree_edit.specs.Desk.{HasKey, HoldsPair}
 use Rattle.btree_edit.specs.Editing.{CostsAtMost}
-use Rattle.btree_edit.specs.Edits.{EditRoom}
 use Rattle.btree_edit.specs.Reading.{ReadsNodes}
 use Rattle.btree_edit.specs.Swapping.{HasValueOf}
 use Rattle.btree_edit.specs.declared.desk.Desk.{Desk}
 use Rattle.btree_edit.proofs.Doing.{does_read, does_both}
-use Rattle.btree_edit.proofs.EditLaws.{EditNeeds, room_for_one, room_then}
-use Rattle.catalog.proofs.BeforeEdits.{reads_edit_nothing}
 use Rattle.btree_edit.specs.declared.edits.Removed.{Removed}
 use Rattle.btree_edit.specs.declared.edits.Removed.TheVariants as removed
 use Rattle.cat_records.specs.Records.{catalog_of, catalog_bytes, is_catalog}
@@ -88,10 +85,6 @@ answer_read s read key removed.Done same answers = subst (λ l. HasKey catalog_c
 -- the search, and one write
 pub read_and_written : (most : ℕ) (s read new : Store) → ReadsNodes most s read → s.faults ≤ read.faults → CostsAtMost 1 0 read new → CostsAtMost 1 0 s new
 read_and_written most s read new reads later costs = does_both 0 0 1 0 1 0 (does_read most reads later) costs (omega arith) (omega arith)
-
--- what an edit needs, over the search before
-pub needs_read : (most : ℕ) (s read : Store) → ReadsNodes most s read → s.faults ≤ read.faults → EditRoom 1 516 s → EditNeeds read
-needs_read most s read reads later room = room_for_one 0 516 read (room_then 0 1 516 s read reads.same (reads_edit_nothing most 516 s read reads later) room)
 
 pub room_read : (most : ℕ) (s read : Store) → ReadsNodes most s read → HasRoom 1 s → HasRoom 1 read
 room_read most s read reads room = omega (arith, room, reads.room.unwritten, reads.room.writes_left)

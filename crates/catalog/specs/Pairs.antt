@@ -1,7 +1,5 @@
 -- What the calls do to the pairs of the catalog's tree.
-use Rattle.btree_node.specs.Store.{Store, HasRoom}
-use Rattle.btree_edit.specs.Edits.{EditRoom}
-use Rattle.std.specs.Prelude.{◌⊎◌, IsTrue, ◌≡◌, ◌≤◌, ℕ, ℤ, pos, ◌+◌, ◌*◌, List, length, Option, None, Some, []}
+use Rattle.std.specs.Prelude.{◌≡◌, ◌≤◌, ℕ, ℤ, pos, ◌+◌, ◌*◌, List, length, Option, None, Some, []}
 use Rattle.std.specs.Option.{option_map}
 use Rattle.btree_node.specs.Levels.{Pair}
 use Rattle.btree_node.specs.Keys.{IsCatalogKey, catalog_cmp, catalog_parent, catalog_units}
@@ -65,10 +63,6 @@ pub record DropsBoth (first second : List ℕ) (old new : List Pair) : Type 0 wh
   pub between : List Pair
   pub one : DropsPair catalog_cmp first old between
   pub both : DropsPair catalog_cmp second between new
-
--- Room for an update in place: for one write, where the store tells its nodes; else for an edit.
-abbrev pub HasUpdateRoom : Store → Type 0
-HasUpdateRoom store = (IsTrue store.tells × HasRoom 1 store) ⊎ EditRoom 1 516 store
 
 -- the pair with one key has another value, the pair with a second key is gone, and a pair with a third key is there
 pub record ShiftsPair (thread_key thread_value key new_key new_value : List ℕ) (old new : List Pair) : Type 0 where

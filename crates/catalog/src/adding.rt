@@ -39,7 +39,7 @@ pub fn add<N: NodeStore>(
     requires kind { is_thread rec.now ≡ false }
     requires fits { FitsRecord rec.now }
     requires unused { IsTrue (N.state store.old).tells → record_at (placed_in (pairs_of (N.state store.old))) (id_in rec.now) [] ≡ None }
-    requires room { EditRoom 2 516 (N.state store.old) }
+    requires room { IsTrue (N.state store.old).tells → EditRoom 2 516 (N.state store.old) }
     // Exists exactly where the folder has the name.
     ensures answer { IsTrue (N.state store.old).tells → IfOk result (λ answer. AnswersAdd (record_at (placed_in (pairs_of (N.state store.old))) parent name.now) answer) }
     // Done: the entry and its thread are there, and nothing else is changed. Exists: nothing is.
@@ -73,7 +73,7 @@ pub(crate) fn insert_both<N: NodeStore>(
     requires thread { IsCatalogPair thread.now }
     requires apart { catalog_cmp entry.now.key thread.now.key ≢ Equal }
     requires unused { IsTrue (N.state store.old).tells → HasKey catalog_cmp thread.now.key (pairs_of (N.state store.old)) → ⊥ }
-    requires room { EditRoom 2 516 (N.state store.old) }
+    requires room { IsTrue (N.state store.old).tells → EditRoom 2 516 (N.state store.old) }
     ensures answer { IsTrue (N.state store.old).tells → IfOk result (λ answer. AnswersInsert catalog_cmp entry.now.key (N.state store.old) answer) }
     ensures pairs { IsTrue (N.state store.old).tells → IfOk result (λ answer. AddsBoth entry.now thread.now (pairs_of (N.state store.old)) (pairs_of (N.state store.new)) answer) }
     ensures tree { IsTrue (N.state store.old).tells → OnOk result (IsTree IsCatalogKey catalog_cmp (N.state store.new)) }

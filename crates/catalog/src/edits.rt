@@ -24,7 +24,7 @@ pub(crate) fn insert_pair<N: NodeStore>(
     requires size { 4096 ≤ (N.state store.old).shape.node_size }
     requires tree { IsTrue (N.state store.old).tells → IsTree IsCatalogKey catalog_cmp (N.state store.old) }
     requires pair { IsCatalogPair pair.now }
-    requires room { EditRoom 1 516 (N.state store.old) }
+    requires room { IsTrue (N.state store.old).tells → EditRoom 1 516 (N.state store.old) }
     ensures answer { IsTrue (N.state store.old).tells → IfOk result (λ answer. AnswersInsert catalog_cmp pair.now.key (N.state store.old) answer) }
     ensures pairs { IsTrue (N.state store.old).tells → IfOk result (λ answer. InsertsPair catalog_cmp pair.now.key pair.now.value (pairs_of (N.state store.old)) (pairs_of (N.state store.new)) answer) }
     ensures tree { IsTrue (N.state store.old).tells → OnOk result (IsTree IsCatalogKey catalog_cmp (N.state store.new)) }
@@ -49,7 +49,7 @@ pub(crate) fn remove_key<N: NodeStore>(
     requires size { 4096 ≤ (N.state store.old).shape.node_size }
     requires tree { IsTrue (N.state store.old).tells → IsTree IsCatalogKey catalog_cmp (N.state store.old) }
     requires key { IsCatalogKey key.now }
-    requires room { EditRoom 1 516 (N.state store.old) }
+    requires room { IsTrue (N.state store.old).tells → EditRoom 1 516 (N.state store.old) }
     ensures answer { IsTrue (N.state store.old).tells → IfOk result (λ answer. AnswersRemove catalog_cmp key.now (N.state store.old) answer) }
     ensures pairs { IsTrue (N.state store.old).tells → IfOk result (λ answer. RemovesPair catalog_cmp key.now (pairs_of (N.state store.old)) (pairs_of (N.state store.new)) answer) }
     ensures tree { IsTrue (N.state store.old).tells → OnOk result (IsTree IsCatalogKey catalog_cmp (N.state store.new)) }
@@ -74,7 +74,7 @@ pub(crate) fn replace_pair<N: NodeStore>(
     requires size { 4096 ≤ (N.state store.old).shape.node_size }
     requires tree { IsTrue (N.state store.old).tells → IsTree IsCatalogKey catalog_cmp (N.state store.old) }
     requires pair { IsCatalogPair pair.now }
-    requires room { EditRoom 1 516 (N.state store.old) }
+    requires room { IsTrue (N.state store.old).tells → EditRoom 1 516 (N.state store.old) }
     ensures answer { IsTrue (N.state store.old).tells → IfOk result (λ answer. AnswersRemove catalog_cmp pair.now.key (N.state store.old) answer) }
     ensures pairs { IsTrue (N.state store.old).tells → IfOk result (λ answer. ReplacesPair catalog_cmp pair.now.key pair.now.value (pairs_of (N.state store.old)) (pairs_of (N.state store.new)) answer) }
     ensures tree { IsTrue (N.state store.old).tells → OnOk result (IsTree IsCatalogKey catalog_cmp (N.state store.new)) }

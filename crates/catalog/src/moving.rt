@@ -48,7 +48,7 @@ pub fn move_entry<N: NodeStore>(
     requires old_name { length old.now ≤ 255 }
     requires some_new { 1 ≤ length new.now }
     requires new_name { length new.now ≤ 255 }
-    requires room { EditRoom 3 516 (N.state store.old) }
+    requires room { IsTrue (N.state store.old).tells → EditRoom 3 516 (N.state store.old) }
     // Absent exactly where the old name isn't there, Exists exactly where it is there and the new one is there too.
     ensures answer { IsTrue (N.state store.old).tells
         → IfOk result (λ answer. AnswersMove (record_at (placed_in (pairs_of (N.state store.old))) from old.now) (record_at (placed_in (pairs_of (N.state store.old))) to new.now) answer) }
@@ -108,7 +108,7 @@ fn relocate<N: NodeStore>(
     requires fits { FitsRecord rec.now }
     requires stands { IsTrue (N.state store.old).tells → value_at (pairs_of (N.state store.old)) from old.now ≡ Some rec.now }
     requires vacant { IsTrue (N.state store.old).tells → record_at (placed_in (pairs_of (N.state store.old))) to new.now ≡ None }
-    requires room { EditRoom 3 516 (N.state store.old) }
+    requires room { IsTrue (N.state store.old).tells → EditRoom 3 516 (N.state store.old) }
     ensures moved { IsTrue (N.state store.old).tells → OnOk result (RelocatesEntry from old.now to new.now (pairs_of (N.state store.old)) (pairs_of (N.state store.new))) }
     ensures tree { IsTrue (N.state store.old).tells → OnOk result (IsTree IsCatalogKey catalog_cmp (N.state store.new)) }
     ensures desk { IsDeskOf (N.state store.old).shape.node_size desk.new }
@@ -142,7 +142,7 @@ fn shift<N: NodeStore>(
     requires key { IsCatalogKey key.now }
     requires entry { IsCatalogPair entry.now }
     requires thread { IsCatalogPair thread.now }
-    requires room { EditRoom 3 516 (N.state store.old) }
+    requires room { IsTrue (N.state store.old).tells → EditRoom 3 516 (N.state store.old) }
     ensures pairs { IsTrue (N.state store.old).tells → HasKey catalog_cmp thread.now.key (pairs_of (N.state store.old)) → HasKey catalog_cmp key.now (pairs_of (N.state store.old))
         → (HasKey catalog_cmp entry.now.key (pairs_of (N.state store.old)) → ⊥)
         → OnOk result (ShiftsPair thread.now.key thread.now.value key.now entry.now.key entry.now.value (pairs_of (N.state store.old)) (pairs_of (N.state store.new))) }

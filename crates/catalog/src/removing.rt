@@ -35,7 +35,7 @@ pub fn remove<N: NodeStore>(
     requires threads { IsTrue (N.state store.old).tells → AreThreaded (pairs_of (N.state store.old)) }
     requires some { 1 ≤ length name.now }
     requires name { length name.now ≤ 255 }
-    requires room { EditRoom 2 516 (N.state store.old) }
+    requires room { IsTrue (N.state store.old).tells → EditRoom 2 516 (N.state store.old) }
     // Absent exactly where the folder doesn't have the name.
     ensures answer { IsTrue (N.state store.old).tells → IfOk result (λ answer. AnswersRemoval (record_at (placed_in (pairs_of (N.state store.old))) parent name.now) answer) }
     // Done: the entry and its thread are gone, and nothing else is changed. Absent: nothing is.
@@ -70,7 +70,7 @@ fn remove_both<N: NodeStore>(
     requires tree { IsTrue (N.state store.old).tells → IsTree IsCatalogKey catalog_cmp (N.state store.old) }
     requires first { IsCatalogKey first.now }
     requires second { IsCatalogKey second.now }
-    requires room { EditRoom 2 516 (N.state store.old) }
+    requires room { IsTrue (N.state store.old).tells → EditRoom 2 516 (N.state store.old) }
     ensures pairs { IsTrue (N.state store.old).tells → HasKey catalog_cmp first.now (pairs_of (N.state store.old)) → HasKey catalog_cmp second.now (pairs_of (N.state store.old))
         → catalog_cmp first.now second.now ≢ Equal → OnOk result (DropsBoth first.now second.now (pairs_of (N.state store.old)) (pairs_of (N.state store.new))) }
     ensures tree { IsTrue (N.state store.old).tells → OnOk result (IsTree IsCatalogKey catalog_cmp (N.state store.new)) }

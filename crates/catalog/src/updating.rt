@@ -2,7 +2,7 @@
 ghost use Rattle.std.specs.Prelude.{◌≡◌, ◌≤◌, ◌<◌, ◌+◌, ℕ, [], false, Some, IsTrue, length, OnOk, IfOk, slice_index_or};
 ghost use Rattle.std.specs.declared.cmp.Ordering.TheVariants.{Equal};
 ghost use Rattle.btree_node.specs.Keys.{IsCatalogKey, catalog_cmp};
-ghost use Rattle.btree_node.specs.Store.{HasCause, SameStore};
+ghost use Rattle.btree_node.specs.Store.{HasCause, HasRoom, SameStore};
 ghost use Rattle.btree_node.specs.Tree.{IsTree, pairs_of};
 ghost use Rattle.btree_edit.specs.Answers.{AnswersRemove};
 ghost use Rattle.btree_edit.specs.Causes.{HasTroubleCause};
@@ -12,7 +12,6 @@ ghost use Rattle.btree_edit.specs.Sorted.{ReplacesPair};
 ghost use Rattle.cat_records.specs.Fits.{FitsRecord};
 ghost use Rattle.hfs_volume.specs.Entries.{AreSpelled};
 ghost use Rattle.hfs_volume.specs.Records.{Placed, placed_in, record_at, is_thread};
-ghost use Rattle.catalog.specs.Pairs.{HasUpdateRoom};
 ghost use Rattle.catalog.specs.Rooms.{TakesUpdates, UpdatesAtMost};
 ghost use Rattle.catalog.specs.Entries.{AnswersRemoval, Updating, IsOfKind};
 
@@ -41,7 +40,7 @@ pub fn update<N: NodeStore>(
     requires kind { is_thread rec.now ≡ false }
     requires fits { FitsRecord rec.now }
     requires same_kind { IsTrue (N.state store.old).tells → (entry : Placed) → record_at (placed_in (pairs_of (N.state store.old))) parent name.now ≡ Some entry → IsOfKind rec.now entry.value }
-    requires room { HasUpdateRoom (N.state store.old) }
+    requires room { IsTrue (N.state store.old).tells → HasRoom 1 (N.state store.old) }
     // Absent exactly where the folder doesn't have the name.
     ensures answer { IsTrue (N.state store.old).tells → IfOk result (λ answer. AnswersRemoval (record_at (placed_in (pairs_of (N.state store.old))) parent name.now) answer) }
     // Done: the entry has the record, and nothing else is changed. Absent: nothing is.
@@ -77,7 +76,7 @@ fn swap_value<N: NodeStore>(
     requires short { length key.now + length value.now ≤ 766 }
     requires long { IsTrue (N.state store.old).tells → (k : ℕ) → k < length (pairs_of (N.state store.old)) → catalog_cmp (slice_index_or (pairs_of (N.state store.old)) k ([], [])).0 key.now ≡ Equal
         → length (slice_index_or (pairs_of (N.state store.old)) k ([], [])).1 ≡ length value.now }
-    requires room { HasUpdateRoom (N.state store.old) }
+    requires room { IsTrue (N.state store.old).tells → HasRoom 1 (N.state store.old) }
     ensures answer { IsTrue (N.state store.old).tells → IfOk result (λ answer. AnswersRemove catalog_cmp key.now (N.state store.old) answer) }
     ensures pairs { IsTrue (N.state store.old).tells → IfOk result (λ answer. ReplacesPair catalog_cmp key.now value.now (pairs_of (N.state store.old)) (pairs_of (N.state store.new)) answer) }
     ensures tree { IsTrue (N.state store.old).tells → OnOk result (IsTree IsCatalogKey catalog_cmp (N.state store.new)) }

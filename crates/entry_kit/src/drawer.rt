@@ -2,8 +2,6 @@
 ghost use Rattle.std.specs.Prelude.{◌≡◌, ◌≤◌, ℕ, IsTrue, length};
 ghost use Rattle.btree_node.specs.Mem.{mem_state};
 ghost use Rattle.btree_edit.specs.Desk.{IsDeskOf};
-ghost use Rattle.btree_edit.specs.Edits.{EditRoom};
-ghost use Rattle.node_kit.specs.Untold.{untold};
 
 use crate::stop::Stop;
 use attributes::{SetAnswer, delete, drop_all, get, list, set};
@@ -46,15 +44,11 @@ impl Drawer {
         self.store.count_loads()
     }
 
-    /// Whether a call of so many edits may be made.
-    fn has_room(&self, edits: u32) -> bool
-        ensures size { IsTrue result → 4096 ≤ (mem_state self.now.store.nodes).shape.node_size }
-        ensures room { IsTrue result → (longest : ℕ) → EditRoom edits longest (untold (mem_state self.now.store.nodes)) }
+    /// Whether nodes have a size that the format allows the tree.
+    fn is_wide(&self) -> bool
+        ensures { IsTrue result → 4096 ≤ (mem_state self.now.store.nodes).shape.node_size }
     {
-        if self.store.shape().node_size < 4096 {
-            return false;
-        }
-        self.store.has_room_for(edits)
+        self.store.shape().node_size >= 4096
     }
 
     /// Gives an attribute a value.
@@ -65,7 +59,7 @@ impl Drawer {
         name: &Units,
         value: &[u8],
     ) -> Result<SetAnswer, Stop> {
-        if !is_name(name) || !self.has_room(2) {
+        if !is_name(name) || !self.is_wide() {
             return Err(Stop::Room);
         }
         let answer = set(alloc, &mut self.store, &mut self.desk, id, name, value)?;
@@ -74,7 +68,7 @@ impl Drawer {
 
     /// Removes an attribute.
     pub fn delete(&mut self, alloc: Global, id: u32, name: &Units) -> Result<SetAnswer, Stop> {
-        if !is_name(name) || !self.has_room(1) {
+        if !is_name(name) || !self.is_wide() {
             return Err(Stop::Room);
         }
         let answer = delete(alloc, &mut self.store, &mut self.desk, id, name)?;
@@ -98,7 +92,7 @@ impl Drawer {
 
     /// Removes the attributes of a folder or file, so many at most, and answers how many there were.
     pub fn drop_all(&mut self, alloc: Global, id: u32, most: u32) -> Result<u32, Stop> {
-        if !self.has_room(most) {
+        if !self.is_wide() {
             return Err(Stop::Room);
         }
         let dropped = drop_all(alloc, &mut self.store, &mut self.desk, id, most)?;

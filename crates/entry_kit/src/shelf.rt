@@ -2,8 +2,6 @@
 ghost use Rattle.std.specs.Prelude.{◌≡◌, ◌≤◌, ℕ, IsTrue, length};
 ghost use Rattle.btree_node.specs.Mem.{mem_state};
 ghost use Rattle.btree_edit.specs.Desk.{IsDeskOf};
-ghost use Rattle.btree_edit.specs.Edits.{EditRoom};
-ghost use Rattle.node_kit.specs.Untold.{untold};
 
 use crate::records::entry;
 use crate::stop::Stop;
@@ -41,15 +39,11 @@ impl Shelf {
         self.store.count_loads()
     }
 
-    /// Whether a call of so many edits may be made.
-    fn has_room(&self, edits: u32) -> bool
-        ensures size { IsTrue result → 4096 ≤ (mem_state self.now.store.nodes).shape.node_size }
-        ensures room { IsTrue result → (longest : ℕ) → EditRoom edits longest (untold (mem_state self.now.store.nodes)) }
+    /// Whether nodes have a size that the format allows the tree.
+    fn is_wide(&self) -> bool
+        ensures { IsTrue result → 4096 ≤ (mem_state self.now.store.nodes).shape.node_size }
     {
-        if self.store.shape().node_size < 4096 {
-            return false;
-        }
-        self.store.has_room_for(edits)
+        self.store.shape().node_size >= 4096
     }
 
     /// Adds the entry with a CNID and the number 0.
@@ -60,7 +54,7 @@ impl Shelf {
         name: &Units,
         id: u32,
     ) -> Result<Inserted, Stop> {
-        if !is_name(name) || !self.has_room(2) {
+        if !is_name(name) || !self.is_wide() {
             return Err(Stop::Room);
         }
         let rec = entry(id, 0);
@@ -77,7 +71,7 @@ impl Shelf {
         id: u32,
         count: u32,
     ) -> Result<Removed, Stop> {
-        if !is_name(name) || !self.has_room(1) {
+        if !is_name(name) || !self.is_wide() {
             return Err(Stop::Room);
         }
         let rec = entry(id, count);
@@ -87,7 +81,7 @@ impl Shelf {
 
     /// Removes an entry.
     pub fn remove(&mut self, alloc: Global, parent: u32, name: &Units) -> Result<Removed, Stop> {
-        if !is_name(name) || !self.has_room(2) {
+        if !is_name(name) || !self.is_wide() {
             return Err(Stop::Room);
         }
         let answer = remove(alloc, &mut self.store, &mut self.desk, parent, name)?;
@@ -103,7 +97,7 @@ impl Shelf {
         to: u32,
         new: &Units,
     ) -> Result<Moved, Stop> {
-        if !is_name(old) || !is_name(new) || !self.has_room(3) {
+        if !is_name(old) || !is_name(new) || !self.is_wide() {
             return Err(Stop::Room);
         }
         let answer = move_entry(alloc, &mut self.store, &mut self.desk, from, old, to, new)?;

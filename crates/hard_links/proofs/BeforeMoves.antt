@@ -9,7 +9,7 @@ use Rattle.btree_edit.specs.Reading.{ReadsNodes}
 use Rattle.btree_edit.proofs.Repeated.{reads_both, reads_none}
 use Rattle.catalog.proofs.BeforeEdits.{tree_read, pairs_read, reads_edit_nothing}
 use Rattle.catalog.specs.Rooms.{UpdateRoom, TakesUpdates, UpdatesAtMost}
-use Rattle.catalog.proofs.RoomLaws.{reads_update_nothing, room_left, updates_add, updates_fewer, most_both, most_made}
+use Rattle.catalog.proofs.RoomLaws.{reads_update_nothing, room_left, updates_add, updates_fewer, most_both}
 use Rattle.hard_links.specs.Numbers.{OnlyReads}
 
 pub no_reads : (a : Store) → OnlyReads a a
@@ -41,10 +41,10 @@ module _ (a b : Store) (only : OnlyReads a b) where
   nothing = reads_update_nothing only.most 516 a b only.reads only.later
 
   -- the room, and what is taken, with updates
-  pub room_as : (edits updates : ℕ) → UpdateRoom edits updates 516 a → UpdateRoom edits updates 516 b
+  pub room_as : (edits updates : ℕ) → (IsTrue a.tells → UpdateRoom edits updates 516 a) → IsTrue b.tells → UpdateRoom edits updates 516 b
   room_as edits updates room =
       room_left 0 0 edits updates 516 a b only.reads.same nothing
-      (subst (λ n. UpdateRoom n (0 + updates) 516 a) (sym (zero-add edits)) (subst (λ n. UpdateRoom edits n 516 a) (sym (zero-add updates)) room))
+      (λ tells. subst (λ n. UpdateRoom n (0 + updates) 516 a) (sym (zero-add edits)) (subst (λ n. UpdateRoom edits n 516 a) (sym (zero-add updates)) (room tells)))
 
   pub takes_as : (edits updates : ℕ) (c : Store) → TakesUpdates edits updates 516 b c → TakesUpdates edits updates 516 a c
   takes_as edits updates c takes =
@@ -61,4 +61,4 @@ module _ (a b : Store) (only : OnlyReads a b) where
       subst (λ n. TakesUpdates n updates 516 a b) (zero-add edits) (subst (λ n. TakesUpdates (0 + edits) n 516 a b) (zero-add updates) (updates_fewer 0 0 edits updates 516 a b nothing))
 
   pub most_nothing : (edits updates : ℕ) → UpdatesAtMost edits updates 516 a b
-  most_nothing edits updates = most_made edits updates 516 a b (takes_nothing edits updates)
+  most_nothing edits updates = (takes_nothing edits updates).takes

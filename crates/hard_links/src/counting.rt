@@ -1,13 +1,13 @@
 //! How many links a shared file says that it has.
 ghost use Rattle.std.specs.Prelude.{◌≡◌, ◌≤◌, false, Some, IsTrue, length, OnOk};
 ghost use Rattle.btree_node.specs.Keys.{IsCatalogKey, catalog_cmp};
-ghost use Rattle.btree_node.specs.Store.{SameStore};
+ghost use Rattle.btree_node.specs.Store.{HasRoom, SameStore};
 ghost use Rattle.btree_node.specs.Tree.{IsTree, pairs_of};
 ghost use Rattle.btree_edit.specs.Causes.{HasTroubleCause};
 ghost use Rattle.btree_edit.specs.Desk.{IsDeskOf};
 ghost use Rattle.cat_records.specs.Fits.{FitsFile};
 ghost use Rattle.cat_records.specs.declared.record.CatRecord.TheVariants.{File};
-ghost use Rattle.catalog.specs.Pairs.{HasUpdateRoom, value_at};
+ghost use Rattle.catalog.specs.Pairs.{value_at};
 ghost use Rattle.catalog.specs.Rooms.{TakesUpdates, UpdatesAtMost};
 ghost use Rattle.hfs_volume.specs.Entries.{AreSpelled};
 ghost use Rattle.hfs_volume.specs.Records.{is_link_type};
@@ -39,7 +39,7 @@ pub(crate) fn count_links<N: NodeStore>(
     requires fits { FitsFile file.now }
     requires plain { IsTrue (N.state store.old).tells → is_link_type file.now.fields ≡ false }
     requires stands { IsTrue (N.state store.old).tells → value_at (pairs_of (N.state store.old)) private name.now ≡ Some (File file.now) }
-    requires room { HasUpdateRoom (N.state store.old) }
+    requires room { IsTrue (N.state store.old).tells → HasRoom 1 (N.state store.old) }
     ensures counts { IsTrue (N.state store.old).tells → OnOk result (CountsLinks private name.now links (pairs_of (N.state store.old)) (pairs_of (N.state store.new))) }
     ensures tree { IsTrue (N.state store.old).tells → OnOk result (IsTree IsCatalogKey catalog_cmp (N.state store.new)) }
     ensures header { IsTrue (N.state store.old).tells → (N.state store.old).header ≡ (N.state store.old).shape → OnOk result ((N.state store.new).header ≡ (N.state store.new).shape) }

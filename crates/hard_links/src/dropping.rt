@@ -1,13 +1,13 @@
 //! Links dropped.
 ghost use Rattle.std.specs.Prelude.{◌≡◌, ◌≤◌, ◌-◌, ◌<◌, false, None, Some, List, IsTrue, length, OnOk, IfOk};
 ghost use Rattle.btree_node.specs.Keys.{IsCatalogKey, catalog_cmp};
-ghost use Rattle.btree_node.specs.Store.{SameStore};
+ghost use Rattle.btree_node.specs.Store.{HasRoom, SameStore};
 ghost use Rattle.btree_node.specs.Tree.{IsTree, pairs_of};
 ghost use Rattle.btree_edit.specs.Causes.{HasTroubleCause};
 ghost use Rattle.btree_edit.specs.Desk.{IsDeskOf};
 ghost use Rattle.cat_records.specs.Fits.{FitsFile};
 ghost use Rattle.cat_records.specs.declared.record.CatRecord.TheVariants.{File};
-ghost use Rattle.catalog.specs.Pairs.{HasUpdateRoom, value_at};
+ghost use Rattle.catalog.specs.Pairs.{value_at};
 ghost use Rattle.catalog.specs.Rooms.{UpdateRoom, TakesUpdates, UpdatesAtMost};
 ghost use Rattle.hfs_volume.specs.Entries.{AreSpelled, AreThreaded};
 ghost use Rattle.hfs_volume.specs.Links.{AreLinks, node_name};
@@ -43,7 +43,7 @@ pub fn drop_link<N: NodeStore>(
     requires some { 1 ≤ length at.now.name }
     requires name { length at.now.name ≤ 255 }
     requires link { IsTrue (N.state store.old).tells → NamesLink at.now (pairs_of (N.state store.old)) }
-    requires room { UpdateRoom 2 1 516 (N.state store.old) }
+    requires room { IsTrue (N.state store.old).tells → UpdateRoom 2 1 516 (N.state store.old) }
     // The link and its thread are gone, the file's record says how many links are left where some are, and nothing else is changed.
     ensures dropped { IsTrue (N.state store.old).tells → IfOk result (λ left. DropsLink private at.now left (pairs_of (N.state store.old)) (pairs_of (N.state store.new))) }
     // The links keep their rules, and each file with links has their number; a file without one is still to be put aside.
@@ -83,7 +83,7 @@ fn drop_counted<N: NodeStore>(
     requires short { length shared.now.name ≤ 255 }
     requires fits { FitsFile shared.now.file }
     requires shares { IsTrue (N.state store.old).tells → SharedBy private at.now shared.now (pairs_of (N.state store.old)) }
-    requires room { UpdateRoom 2 1 516 (N.state store.old) }
+    requires room { IsTrue (N.state store.old).tells → UpdateRoom 2 1 516 (N.state store.old) }
     ensures dropped { IsTrue (N.state store.old).tells → IfOk result (λ left. DropsLink private at.now left (pairs_of (N.state store.old)) (pairs_of (N.state store.new))) }
     ensures tree { IsTrue (N.state store.old).tells → OnOk result (IsTree IsCatalogKey catalog_cmp (N.state store.new)) }
     ensures desk { IsDeskOf (N.state store.old).shape.node_size desk.new }
@@ -126,7 +126,7 @@ fn say_left<N: NodeStore>(
     requires fits { FitsFile file.now }
     requires plain { IsTrue (N.state store.old).tells → is_link_type file.now.fields ≡ false }
     requires stands { IsTrue (N.state store.old).tells → value_at (pairs_of (N.state store.old)) private name.now ≡ Some (File file.now) }
-    requires room { HasUpdateRoom (N.state store.old) }
+    requires room { IsTrue (N.state store.old).tells → HasRoom 1 (N.state store.old) }
     ensures left { IsTrue (N.state store.old).tells → OnOk result (SaysLeft private name.now left (pairs_of (N.state store.old)) (pairs_of (N.state store.new))) }
     ensures tree { IsTrue (N.state store.old).tells → OnOk result (IsTree IsCatalogKey catalog_cmp (N.state store.new)) }
     ensures header { IsTrue (N.state store.old).tells → (N.state store.old).header ≡ (N.state store.old).shape → OnOk result ((N.state store.new).header ≡ (N.state store.new).shape) }

@@ -50,7 +50,7 @@ pub(crate) fn make_first<N: NodeStore>(
     requires value { IsTrue (N.state store.old).tells → value_at (pairs_of (N.state store.old)) from.now.parent from.now.name ≡ Some (File file.now) }
     requires plain { IsTrue (N.state store.old).tells → is_link_type file.now.fields ≡ false }
     requires fits { FitsFile file.now }
-    requires room { UpdateRoom 7 1 516 (N.state store.old) }
+    requires room { IsTrue (N.state store.old).tells → UpdateRoom 7 1 516 (N.state store.old) }
     ensures linked { IsTrue (N.state store.old).tells → OnOk result (MakesFirst private from.now to.now ids.0 ids.1 (pairs_of (N.state store.old)) (pairs_of (N.state store.new))) }
     ensures tree { IsTrue (N.state store.old).tells → OnOk result (IsTree IsCatalogKey catalog_cmp (N.state store.new)) }
     ensures desk { IsDeskOf (N.state store.old).shape.node_size desk.new }
@@ -80,7 +80,7 @@ fn new_target<N: NodeStore>(
     requires desk { IsDeskOf (N.state store.old).shape.node_size desk.old }
     requires tree { IsTrue (N.state store.old).tells → IsTree IsCatalogKey catalog_cmp (N.state store.old) }
     requires spelled { IsTrue (N.state store.old).tells → AreSpelled (pairs_of (N.state store.old)) }
-    requires few { (N.state store.old).shape.leaf_records < 2 ^ 32 - 1 }
+    requires few { IsTrue (N.state store.old).tells → (N.state store.old).shape.leaf_records < 2 ^ 32 - 1 }
     ensures target { IsTrue (N.state store.old).tells → IfOk result (λ target. IsNewTarget private own (pairs_of (N.state store.old)) target) }
     ensures reads { OnlyReads (N.state store.old) (N.state store.new) }
     ensures desk { IsDeskOf (N.state store.old).shape.node_size desk.new }
@@ -120,7 +120,7 @@ fn share<N: NodeStore>(
     requires named { name.now ≡ node_name target.reference }
     requires some { 1 ≤ length name.now }
     requires short { length name.now ≤ 255 }
-    requires room { UpdateRoom 7 1 516 (N.state store.old) }
+    requires room { IsTrue (N.state store.old).tells → UpdateRoom 7 1 516 (N.state store.old) }
     ensures linked { IsTrue (N.state store.old).tells → OnOk result (MakesFirst private from.now to.now ids.0 ids.1 (pairs_of (N.state store.old)) (pairs_of (N.state store.new))) }
     ensures tree { IsTrue (N.state store.old).tells → OnOk result (IsTree IsCatalogKey catalog_cmp (N.state store.new)) }
     ensures desk { IsDeskOf (N.state store.old).shape.node_size desk.new }
@@ -155,7 +155,7 @@ fn put_links<N: NodeStore>(
     requires some_new { 1 ≤ length to.now.name }
     requires new_name { length to.now.name ≤ 255 }
     requires may { IsTrue (N.state store.old).tells → MayPut from.now to.now ids.0 ids.1 (pairs_of (N.state store.old)) }
-    requires room { EditRoom 4 516 (N.state store.old) }
+    requires room { IsTrue (N.state store.old).tells → EditRoom 4 516 (N.state store.old) }
     ensures puts { IsTrue (N.state store.old).tells
         → OnOk result (PutsLinks from.now to.now ids.0 ids.1 target.reference target.created (pairs_of (N.state store.old)) (pairs_of (N.state store.new))) }
     ensures tree { IsTrue (N.state store.old).tells → OnOk result (IsTree IsCatalogKey catalog_cmp (N.state store.new)) }

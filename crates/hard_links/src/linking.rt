@@ -55,7 +55,7 @@ pub fn make_link<N: NodeStore>(
     requires new_name { length to.now.name ≤ 255 }
     requires may { IsTrue (N.state store.old).tells → MayLink private from.now to.now ids.0 ids.1 (pairs_of (N.state store.old)) }
     // Room for seven edits and an update, and where the old name is a link for two and an update.
-    requires room { (IsTrue (N.state store.old).tells → NamesLink from.now (pairs_of (N.state store.old)) → ⊥) → UpdateRoom 7 1 516 (N.state store.old) }
+    requires room { IsTrue (N.state store.old).tells → (NamesLink from.now (pairs_of (N.state store.old)) → ⊥) → UpdateRoom 7 1 516 (N.state store.old) }
     requires room_more { IsTrue (N.state store.old).tells → NamesLink from.now (pairs_of (N.state store.old)) → UpdateRoom 2 1 516 (N.state store.old) }
     // TooManyLinks exactly where the file has 32,767 names or more, and then nothing is changed. Done: it has one more, and nothing else is changed.
     ensures linked { IsTrue (N.state store.old).tells → IfOk result (λ answer. MakesLink private from.now to.now ids.0 ids.1 (pairs_of (N.state store.old)) (pairs_of (N.state store.new)) answer) }
@@ -101,7 +101,7 @@ fn link_file<N: NodeStore>(
     requires may { IsTrue (N.state store.old).tells → MayLink private from.now to.now ids.0 ids.1 (pairs_of (N.state store.old)) }
     requires value { IsTrue (N.state store.old).tells → value_at (pairs_of (N.state store.old)) from.now.parent from.now.name ≡ Some (File file.now) }
     requires fits { FitsFile file.now }
-    requires room { (IsTrue (N.state store.old).tells → is_link_type file.now.fields ≡ false) → UpdateRoom 7 1 516 (N.state store.old) }
+    requires room { IsTrue (N.state store.old).tells → is_link_type file.now.fields ≡ false → UpdateRoom 7 1 516 (N.state store.old) }
     requires room_more { IsTrue (N.state store.old).tells → is_link_type file.now.fields ≡ true → UpdateRoom 2 1 516 (N.state store.old) }
     ensures linked { IsTrue (N.state store.old).tells → IfOk result (λ answer. MakesLink private from.now to.now ids.0 ids.1 (pairs_of (N.state store.old)) (pairs_of (N.state store.new)) answer) }
     ensures tree { IsTrue (N.state store.old).tells → OnOk result (IsTree IsCatalogKey catalog_cmp (N.state store.new)) }

@@ -47,7 +47,7 @@ pub(crate) fn make_more<N: NodeStore>(
     requires new_name { length to.now.name ≤ 255 }
     requires may { IsTrue (N.state store.old).tells → MayLink private from.now to.now ids.0 ids.1 (pairs_of (N.state store.old)) }
     requires link { IsTrue (N.state store.old).tells → NamesLink from.now (pairs_of (N.state store.old)) }
-    requires room { UpdateRoom 2 1 516 (N.state store.old) }
+    requires room { IsTrue (N.state store.old).tells → UpdateRoom 2 1 516 (N.state store.old) }
     ensures linked { IsTrue (N.state store.old).tells → IfOk result (λ answer. MakesLink private from.now to.now ids.0 ids.1 (pairs_of (N.state store.old)) (pairs_of (N.state store.new)) answer) }
     ensures tree { IsTrue (N.state store.old).tells → OnOk result (IsTree IsCatalogKey catalog_cmp (N.state store.new)) }
     ensures desk { IsDeskOf (N.state store.old).shape.node_size desk.new }
@@ -86,7 +86,7 @@ fn add_more<N: NodeStore>(
     requires named { shared.now.name ≡ node_name shared.now.reference }
     requires short { length shared.now.name ≤ 255 }
     requires fits { FitsFile shared.now.file }
-    requires room { UpdateRoom 2 1 516 (N.state store.old) }
+    requires room { IsTrue (N.state store.old).tells → UpdateRoom 2 1 516 (N.state store.old) }
     ensures linked { IsTrue (N.state store.old).tells → IfOk result (λ answer. MakesLink private from.now to.now ids.0 ids.1 (pairs_of (N.state store.old)) (pairs_of (N.state store.new)) answer) }
     ensures tree { IsTrue (N.state store.old).tells → OnOk result (IsTree IsCatalogKey catalog_cmp (N.state store.new)) }
     ensures desk { IsDeskOf (N.state store.old).shape.node_size desk.new }
@@ -131,7 +131,7 @@ fn put_link<N: NodeStore>(
     requires few { shared.now.file.fields.special < 32767 }
     requires plain { IsTrue (N.state store.old).tells → is_link_type shared.now.file.fields ≡ false }
     requires stands { IsTrue (N.state store.old).tells → value_at (pairs_of (N.state store.old)) private shared.now.name ≡ Some (File shared.now.file) }
-    requires room { UpdateRoom 2 1 516 (N.state store.old) }
+    requires room { IsTrue (N.state store.old).tells → UpdateRoom 2 1 516 (N.state store.old) }
     ensures adds { IsTrue (N.state store.old).tells
         → OnOk result (AddsLink private to.now id shared.now.reference created (shared.now.file.fields.special + 1) (pairs_of (N.state store.old)) (pairs_of (N.state store.new))) }
     ensures tree { IsTrue (N.state store.old).tells → OnOk result (IsTree IsCatalogKey catalog_cmp (N.state store.new)) }

@@ -29,7 +29,7 @@ pub(crate) fn free_number<N: NodeStore>(
     requires spelled { IsTrue (N.state store.old).tells → AreSpelled (pairs_of (N.state store.old)) }
     requires word { length word.now ≤ 5 }
     // The catalog has fewer records than there are numbers.
-    requires few { (N.state store.old).shape.leaf_records < 2 ^ 32 - 1 }
+    requires few { IsTrue (N.state store.old).tells → (N.state store.old).shape.leaf_records < 2 ^ 32 - 1 }
     ensures first { IsTrue (N.state store.old).tells → IfOk result (λ number. IsFirstFree (pairs_of (N.state store.old)) private word.now own number) }
     ensures reads { OnlyReads (N.state store.old) (N.state store.new) }
     ensures desk { IsDeskOf (N.state store.old).shape.node_size desk.new }
@@ -54,7 +54,7 @@ fn free_of_all<N: NodeStore>(
     requires tree { IsTrue (N.state store.old).tells → IsTree IsCatalogKey catalog_cmp (N.state store.old) }
     requires spelled { IsTrue (N.state store.old).tells → AreSpelled (pairs_of (N.state store.old)) }
     requires word { length word.now ≤ 5 }
-    requires few { (N.state store.old).shape.leaf_records < 2 ^ 32 - 1 }
+    requires few { IsTrue (N.state store.old).tells → (N.state store.old).shape.leaf_records < 2 ^ 32 - 1 }
     ensures first { IsTrue (N.state store.old).tells → IfOk result (λ number. IsFreeFrom (pairs_of (N.state store.old)) private word.now 1 number) }
     ensures reads { OnlyReads (N.state store.old) (N.state store.new) }
     ensures desk { IsDeskOf (N.state store.old).shape.node_size desk.new }

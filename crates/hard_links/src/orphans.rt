@@ -40,7 +40,7 @@ pub fn orphan<N: NodeStore>(
     requires some { 1 ≤ length at.now.name }
     requires name { length at.now.name ≤ 255 }
     requires file { IsTrue (N.state store.old).tells → NamesFile at.now (pairs_of (N.state store.old)) }
-    requires room { EditRoom 3 516 (N.state store.old) }
+    requires room { IsTrue (N.state store.old).tells → EditRoom 3 516 (N.state store.old) }
     // The file and what its thread tells are moved to the first free number from its CNID on, and nothing else is changed.
     ensures moved { IsTrue (N.state store.old).tells → OnOk result (MakesOrphan private at.now (pairs_of (N.state store.old)) (pairs_of (N.state store.new))) }
     // Where no link names the file, and it is none itself, the links keep their rules, whatever it counted.
@@ -74,7 +74,7 @@ fn orphan_number<N: NodeStore>(
     requires spelled { IsTrue (N.state store.old).tells → AreSpelled (pairs_of (N.state store.old)) }
     requires name { length at.now.name ≤ 255 }
     requires file { IsTrue (N.state store.old).tells → NamesFile at.now (pairs_of (N.state store.old)) }
-    requires few { (N.state store.old).shape.leaf_records < 2 ^ 32 - 1 }
+    requires few { IsTrue (N.state store.old).tells → (N.state store.old).shape.leaf_records < 2 ^ 32 - 1 }
     ensures number { IsTrue (N.state store.old).tells → IfOk result (λ number. IsOrphanNumber private at.now (pairs_of (N.state store.old)) number) }
     ensures reads { OnlyReads (N.state store.old) (N.state store.new) }
     ensures desk { IsDeskOf (N.state store.old).shape.node_size desk.new }
@@ -119,7 +119,7 @@ fn put_aside<N: NodeStore>(
     requires new_name { length name.now ≤ 255 }
     requires file { IsTrue (N.state store.old).tells → NamesFile at.now (pairs_of (N.state store.old)) }
     requires vacant { IsTrue (N.state store.old).tells → record_at (placed_in (pairs_of (N.state store.old))) private name.now ≡ None }
-    requires room { EditRoom 3 516 (N.state store.old) }
+    requires room { IsTrue (N.state store.old).tells → EditRoom 3 516 (N.state store.old) }
     ensures moved { IsTrue (N.state store.old).tells → OnOk result (RelocatesEntry at.now.parent at.now.name private name.now (pairs_of (N.state store.old)) (pairs_of (N.state store.new))) }
     ensures tree { IsTrue (N.state store.old).tells → OnOk result (IsTree IsCatalogKey catalog_cmp (N.state store.new)) }
     ensures desk { IsDeskOf (N.state store.old).shape.node_size desk.new }

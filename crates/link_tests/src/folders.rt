@@ -2,11 +2,8 @@
 ghost use Rattle.std.specs.Prelude.{◌≡◌, ◌≤◌, ◌+◌, ℕ, false, IfOk, IfSome, OnOk, length};
 ghost use Rattle.btree_node.specs.Mem.{mem_state};
 ghost use Rattle.btree_edit.specs.Desk.{IsDeskOf};
-ghost use Rattle.btree_edit.specs.Edits.{EditRoom};
-ghost use Rattle.catalog.specs.Rooms.{UpdateRoom};
 ghost use Rattle.cat_records.specs.Fits.{FitsFile, FitsRecord};
 ghost use Rattle.hfs_volume.specs.Records.{is_thread};
-ghost use Rattle.node_kit.specs.Untold.{untold};
 
 use crate::places::{PRIVATE, Place};
 use crate::records::{file, link_to, private_folder};
@@ -46,26 +43,20 @@ impl Folders {
         }
     }
 
-    /// Refuses a call of so many edits for which there is no room.
-    fn takes(&self, edits: u32) -> Result<(), Stop>
-        ensures size { OnOk result (4096 ≤ (mem_state self.now.store.nodes).shape.node_size) }
-        ensures room { OnOk result ((longest : ℕ) → EditRoom edits longest (untold (mem_state self.now.store.nodes))) }
-        ensures beside { OnOk result ((most updates longest : ℕ) → most + updates ≡ edits → UpdateRoom most updates longest (untold (mem_state self.now.store.nodes))) }
+    /// Refuses a catalog with nodes smaller than the format allows it.
+    fn is_wide(&self) -> Result<(), Stop>
+        ensures { OnOk result (4096 ≤ (mem_state self.now.store.nodes).shape.node_size) }
     {
         if self.store.shape().node_size < 4096 {
             return Err(Stop::Room);
         }
-        if self.store.has_room_for(edits) {
-            Ok(())
-        } else {
-            Err(Stop::Room)
-        }
+        Ok(())
     }
 
     /// Adds a file with a CNID.
     pub fn add_file(&mut self, alloc: Global, at: &EntryAt, id: u32) -> Result<Inserted, Stop> {
         takes_name(&at.name)?;
-        self.takes(2)?;
+        self.is_wide()?;
         let rec = file(id, 0);
         let answer = add(
             alloc,
@@ -81,7 +72,7 @@ impl Folders {
     /// Adds the private folder.
     fn add_private(&mut self, alloc: Global, at: &EntryAt) -> Result<Inserted, Stop> {
         takes_name(&at.name)?;
-        self.takes(2)?;
+        self.is_wide()?;
         let rec = private_folder(PRIVATE);
         let answer = add(
             alloc,
@@ -122,7 +113,7 @@ impl Folders {
         requires kind { is_thread rec.now ≡ false }
         requires fits { FitsRecord rec.now }
     {
-        self.takes(1)?;
+        self.is_wide()?;
         let answer = update(
             alloc,
             &mut self.store,
@@ -138,7 +129,7 @@ impl Folders {
     pub fn move_on(&mut self, alloc: Global, from: &EntryAt, to: &EntryAt) -> Result<Moved, Stop> {
         takes_name(&from.name)?;
         takes_name(&to.name)?;
-        self.takes(3)?;
+        self.is_wide()?;
         let answer = move_entry(
             alloc,
             &mut self.store,
@@ -161,7 +152,7 @@ impl Folders {
     ) -> Result<Linked, Stop> {
         takes_name(&from.name)?;
         takes_name(&to.name)?;
-        self.takes(8)?;
+        self.is_wide()?;
         let answer = make_link(
             alloc,
             &mut self.store,
@@ -177,7 +168,7 @@ impl Folders {
     /// Removes a link, and answers how many names are left.
     pub fn drop_link(&mut self, alloc: Global, at: &EntryAt) -> Result<u32, Stop> {
         takes_name(&at.name)?;
-        self.takes(3)?;
+        self.is_wide()?;
         let left = drop_link(alloc, &mut self.store, &mut self.desk, PRIVATE, at)?;
         Ok(left)
     }
@@ -185,7 +176,7 @@ impl Folders {
     /// Has a file without a name wait to be removed.
     pub fn orphan(&mut self, alloc: Global, at: &EntryAt) -> Result<(), Stop> {
         takes_name(&at.name)?;
-        self.takes(3)?;
+        self.is_wide()?;
         orphan(alloc, &mut self.store, &mut self.desk, PRIVATE, at)?;
         Ok(())
     }

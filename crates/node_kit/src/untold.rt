@@ -4,8 +4,6 @@
 ghost use Rattle.std.specs.Prelude.{◌≡◌, ◌<◌, ℕ, IsTrue, IfOk};
 ghost use Rattle.btree_node.specs.Mem.{mem_state, IsBare};
 ghost use Rattle.btree_node.specs.Node.{IsNodeSize};
-ghost use Rattle.btree_edit.specs.Edits.{EditRoom};
-ghost use Rattle.node_kit.specs.Untold.{untold};
 
 use btree_node::{MemNodes, Node, NodeStore, TreeShape};
 use hx_bytes::{Failed, OutOfMemory};
@@ -32,26 +30,6 @@ impl Untold {
     /// How many nodes were read.
     pub fn count_loads(&self) -> u64 {
         self.loads
-    }
-
-    /// Whether there is room for so many edits, however deep each of them makes the tree.
-    pub fn has_room_for(&self, edits: u32) -> bool
-        ensures { IsTrue result → (longest : ℕ) → EditRoom edits longest (untold (mem_state self.now.nodes)) }
-    {
-        let shape = self.nodes.shape();
-        if edits > 11 {
-            return false;
-        }
-        if u32::from(shape.depth) > 11 - edits {
-            return false;
-        }
-        if shape.leaf_records > u32::MAX - edits {
-            return false;
-        }
-        if shape.free < edits * 12 {
-            return false;
-        }
-        self.nodes.has_room(edits as u64 * 52)
     }
 }
 

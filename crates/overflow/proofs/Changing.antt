@@ -2,7 +2,7 @@
 use Rattle.std.proofs.Common.{◌≡◌, ℕ, suc, ◌+◌, ◌<◌, ◌≤◌, Bool, true, false, List, [], ◌∷◌, ◌++◌, length, map, refl, sym, ◌∙◌, ap, subst, arith, append_assoc}
 use Rattle.std.specs.Prelude.{◌==◌, ◌&&◌, ◌||◌, nat_lt, if◌then◌else◌}
 use Rattle.std.proofs.lemmas.Bool.{ne_eqb, ltb-true, ltb-false, eqb-true, eqb-false, and_parts, both_ways}
-use Rattle.std.proofs.lemmas.List.{map-append, append-nil, length-append, length-map}
+use Rattle.std.proofs.lemmas.List.{map-append, append-nil}
 use Rattle.hx_bytes.specs.declared.extents.Extent.{Extent}
 use Rattle.hfs_volume.specs.Records.{Overflow}
 use Rattle.overflow.specs.Changes.{same_list, same_extents, front_before, behind_front, change_at, past, changes_to, changed, all_changed}
@@ -236,33 +236,3 @@ module _ (id kind : ℕ) where
       let all = makes_both id kind (map Insert front) (change_at one rest ++ changes_to more (past one.start rest)) (done ++ placed (one ∷ more)) (here ++ placed (one ∷ more)) (step.after ++ placed (past one.start rest)) inserts both in
       subst (λ l. Makes id kind (changes_to (one ∷ more) wanted) (done ++ placed (one ∷ more)) l)
       (step.is ∙ append_assoc done (placed front) (placed rest) ∙ ap (λ l. done ++ l) (sym (map-append (under id kind) front rest) ∙ ap placed (front_and_rest one.start wanted))) all
-
--- ---- how many there are
-
-behind_few : (start : ℕ) (xs : List OverflowRecord) → length (front_before start xs) + length (behind_front start xs) ≡ length xs
-behind_few start xs = sym (length-append (front_before start xs) (behind_front start xs)) ∙ ap length (front_and_rest start xs)
-
-change_few : (one : OverflowRecord) (wanted : List OverflowRecord) → length (change_at one wanted) + length (past one.start wanted) ≤ 1 + length wanted
-change_few one [] = omega arith
-change_few one (first ∷ others) = by_test (first.start == one.start) (same_extents one.extents first.extents)
-  where
-    by_test : (b same : Bool) → length (if b then (if same then [] else Replace first ∷ []) else Remove one.start ∷ []) + length (if b then others else first ∷ others) ≤ 1 + length (first ∷ others)
-    by_test true true = omega arith
-    by_test true false = omega arith
-    by_test false same = omega arith
-
--- at most one for each record and each that is wanted
-pub changes_few : (records wanted : List OverflowRecord) → length (changes_to records wanted) ≤ length records + length wanted
-changes_few [] wanted = omega (arith, length-map wanted Insert)
-changes_few (one ∷ more) wanted =
-    let front = front_before one.start wanted in
-    let rest = behind_front one.start wanted in
-    omega (
-      arith,
-      length-append (map Insert front) (change_at one rest ++ changes_to more (past one.start rest)),
-      length-append (change_at one rest) (changes_to more (past one.start rest)),
-      length-map front Insert,
-      behind_few one.start wanted,
-      change_few one rest,
-      changes_few more (past one.start rest),
-    )

@@ -29,7 +29,7 @@ same_read a b (most, reads) = reads.same
 -- reads are no edit
 pub reads_edit_nothing : (a b : Store) → OnlyReads a b → a.faults ≤ b.faults → TakesEdits 0 10 a b
 reads_edit_nothing a b (most, reads) later = record {
-  takes = λ deepest deep.
+  takes = λ tells deepest deep.
       let costs = does_read most reads later in
       does_both 0 0 0 0 (0 * edit_writes deepest) (0 * (deepest + 1)) costs (does_read 0 (reads_none b) (omega arith)) (omega arith) (omega arith);
   top = λ tells. record {
@@ -39,14 +39,14 @@ reads_edit_nothing a b (most, reads) later = record {
         let items_are : length (items (b.nodes b.shape.root)) ≡ length (items (a.nodes a.shape.root)) = ap (λ n. length (items (b.nodes n))) root ∙ ap (λ (l : List ℕ). length (items l)) ((reads.tree tells).nodes a.shape.root) in
         omega (arith, ap (λ n. max 1 n) items_are);
   };
-  depth = omega (arith, ap (λ h. h.depth) reads.shape);
-  records = omega (arith, ap (λ h. h.leaf_records) reads.shape);
+  records = λ tells. omega (arith, ap (λ h. h.leaf_records) reads.shape);
 }
 
-pub room_after : (few all : ℕ) (a b : Store) → few ≤ all → OnlyReads a b → a.faults ≤ b.faults → EditRoom all 10 a → EditRoom few 10 b
+pub room_after : (few all : ℕ) (a b : Store) → few ≤ all → OnlyReads a b → a.faults ≤ b.faults → (IsTrue a.tells → EditRoom all 10 a) → IsTrue b.tells → EditRoom few 10 b
 room_after few all a b less reads later room =
-    let now : EditRoom all 10 b = room_then 0 all 10 a b (same_read a b reads) (reads_edit_nothing a b reads later) (subst (λ n. EditRoom n 10 a) {x = all} {y = 0 + all} (omega arith) room) in
-    room_first few (all - few) 10 b (subst (λ n. EditRoom n 10 b) {x = all} {y = few + (all - few)} (omega (arith, less)) now)
+    let now : IsTrue b.tells → EditRoom all 10 b =
+    room_then 0 all 10 a b (same_read a b reads) (reads_edit_nothing a b reads later) (λ tells. subst (λ n. EditRoom n 10 a) {x = all} {y = 0 + all} (omega arith) (room tells)) in
+    room_first few (all - few) 10 b (λ tells. subst (λ n. EditRoom n 10 b) {x = all} {y = few + (all - few)} (omega (arith, less)) (now tells))
 
 pub takes_after : (few all : ℕ) (a b c : Store) → few ≤ all → OnlyReads a b → a.faults ≤ b.faults → TakesAtMost few 10 b c → TakesAtMost all 10 a c
 takes_after few all a b c less reads later takes =
@@ -72,7 +72,6 @@ costs_after n a b c (most, reads) later costs =
 
 pub light_room_after : (changes : List Change) (a b : Store) → OnlyReads a b → HasLightRoom changes a → HasLightRoom changes b
 light_room_after changes a b (most, reads) room = record {
-  tells = subst IsTrue (sym reads.same.tells) room.tells;
   light = room.light;
   writes =
       let here : HasRoom (length changes * edit_writes a.shape.depth) b = same_room (length changes * edit_writes a.shape.depth) reads.room.unwritten reads.room.writes_left room.writes in
@@ -101,20 +100,24 @@ pub record HasMade (changes : List Change) (made : ℕ) (a b : Store) : Type 0 w
   pub edits : TakesEdits made 10 a b
   pub light : IsTrue a.tells → are_light changes ≡ true → CostsAtMost (made * edit_writes a.shape.depth) 0 a b × (b.shape.depth ≤ a.shape.depth)
 
-pub change_room : (changes : List Change) (made : ℕ) (other : Change) (a b : Store) → made < length changes → HasMade changes made a b → EditRoom (length changes) 10 a ⊎ HasLightRoom changes a → ChangeRoom (slice_index_or changes made other) b
-change_room changes made other a b inside has room = elim room [
+pub change_room : (changes : List Change) (made : ℕ) (other : Change) (a b : Store) → made < length changes → HasMade changes made a b → (IsTrue a.tells → EditRoom (length changes) 10 a ⊎ HasLightRoom changes a)
+    → IsTrue b.tells → ChangeRoom (slice_index_or changes made other) b
+change_room changes made other a b inside has room tells_now = elim (room tells) [
   | inl edits ↦
       let n = length changes - made in
-      let now : EditRoom n 10 b = room_then made n 10 a b has.same has.edits (subst (λ k. EditRoom k 10 a) {x = length changes} {y = made + n} (omega (arith, inside)) edits) in
-      inl (room_first 1 (n - 1) 10 b (subst (λ k. EditRoom k 10 b) {x = n} {y = 1 + (n - 1)} (omega (arith, inside)) now))
+      let now : IsTrue b.tells → EditRoom n 10 b = room_then made n 10 a b has.same has.edits (λ _. subst (λ k. EditRoom k 10 a) {x = length changes} {y = made + n} (omega (arith, inside)) edits) in
+      inl (room_first 1 (n - 1) 10 b (λ told. subst (λ k. EditRoom k 10 b) {x = n} {y = 1 + (n - 1)} (omega (arith, inside)) (now told)) tells_now)
   | inr light ↦
-      let costs = has.light light.tells light.light in
+      let costs = has.light tells light.light in
       let w = edit_writes a.shape.depth in
       let n = length changes - made - 1 in
       let left : HasRoom ((n + 1) * w) b = writes_then (made * w) ((n + 1) * w) (length changes * w) a b (ap (λ k. k * w) {x = length changes} {y = made + (n + 1)} (omega (arith, inside)) ∙ omega arith) costs.0 light.writes in
       let one : HasRoom w b = writes_fewer w ((n + 1) * w) b (omega arith) left in
-      inr ((subst IsTrue (sym has.same.tells) light.tells, light_at changes made other light.light inside), writes_fewer (edit_writes b.shape.depth) w b (omega (arith, costs.1)) one)
+      inr (light_at changes made other light.light inside, writes_fewer (edit_writes b.shape.depth) w b (omega (arith, costs.1)) one)
 ]
+  where
+    tells : IsTrue a.tells
+    tells = sym has.same.tells ∙ tells_now
 
 pub one_more_made : (changes : List Change) (made : ℕ) (other : Change) (a b c : Store) → made < length changes → HasMade changes made a b → SameStore b c → TakesEdits 1 10 b c
     → (IsTrue b.tells → is_light (slice_index_or changes made other) ≡ true → CostsAtMost (edit_writes b.shape.depth) 0 b c) → (IsTrue b.tells → is_light (slice_index_or changes made other) ≡ true → c.shape.depth ≤ b.shape.depth)

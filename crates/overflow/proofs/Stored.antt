@@ -18,8 +18,8 @@ use Rattle.overflow.specs.Records.{under, record_of, records_for}
 use Rattle.overflow.specs.Room.{changes_for, edits_for, HasLightRoom, HasStoreRoom}
 use Rattle.overflow.specs.declared.changes.Change.{Change}
 use Rattle.overflow.specs.declared.record.OverflowRecord.{OverflowRecord}
-use Rattle.overflow.proofs.Changing.{Makes, changes_few}
-use Rattle.overflow.proofs.Costs.{room_after, takes_after, edits_after, costs_after, light_room_after}
+use Rattle.overflow.proofs.Changing.{Makes}
+use Rattle.overflow.proofs.Costs.{room_after, takes_after, edits_after, costs_after, light_room_after, same_read}
 use Rattle.overflow.proofs.Cutting.{in_use_used}
 use Rattle.overflow.proofs.Gathering.{tree_rises}
 use Rattle.overflow.proofs.Whole.{back_under, changes_make}
@@ -35,38 +35,40 @@ blocks_stay (x ∷ xs) = by_test (x.count == 0) refl (blocks_stay xs)
 pub blocks_used : (xs : List Extent) → length (blocks_of (in_use xs)) ≡ length (blocks_of xs)
 blocks_used xs = ap length (blocks_stay xs)
 
-module _ (s now : Store) (id kind : ℕ) (old new : List Extent) (have : List OverflowRecord) (changes : List Change)
-    (made : changes ≡ changes_to have (records_for (in_use new))) (few : length have ≤ length old / 8) (read : IsTrue s.tells → map (under id kind) have ≡ fork_records id kind s)
+module _ (s now : Store) (id kind : ℕ) (new : List Extent) (have : List OverflowRecord) (changes : List Change)
+    (made : changes ≡ changes_to have (records_for (in_use new))) (read : IsTrue s.tells → map (under id kind) have ≡ fork_records id kind s)
     (reads : OnlyReads s now) (later : s.faults ≤ now.faults)
   where
     -- the changes are those for the tree
     pub changes_are : IsTrue s.tells → changes ≡ changes_for s id kind new
     changes_are tells = made ∙ ap (λ l. changes_to l (records_for (in_use new))) (sym (back_under id kind have) ∙ ap (map record_of) (read tells))
 
-    few_edits : length changes ≤ edits_for s id kind old new
-    few_edits = by_tells s.tells refl
-      where
-        by_tells : (b : Bool) → s.tells ≡ b → length changes ≤ (if b then length (changes_for s id kind new) else length old / 8 + length (records_for (in_use new)))
-        by_tells true tells = omega (arith, ap length (changes_are tells))
-        by_tells false hidden = omega (arith, ap length made, changes_few have (records_for (in_use new)), few)
+    as_many : IsTrue s.tells → edits_for s id kind new ≡ length changes
+    as_many tells = ap length (sym (changes_are tells))
 
-    as_many : IsTrue s.tells → edits_for s id kind old new ≡ length changes
-    as_many tells = ap (λ b. if b then length (changes_for s id kind new) else length old / 8 + length (records_for (in_use new))) tells ∙ ap length (sym (changes_are tells))
+    few_edits : IsTrue s.tells → length changes ≤ edits_for s id kind new
+    few_edits tells = omega (arith, as_many tells)
 
-    pub changes_room : HasStoreRoom s id kind old new → EditRoom (length changes) 10 now ⊎ HasLightRoom changes now
-    changes_room room = elim room [
-      | inl edits ↦ inl (room_after (length changes) (edits_for s id kind old new) s now few_edits reads later edits)
-      | inr light ↦ inr (light_room_after changes s now reads (subst (λ l. HasLightRoom l s) (sym (changes_are light.tells)) light))
+    pub changes_room : (IsTrue s.tells → HasStoreRoom s id kind new) → IsTrue now.tells → EditRoom (length changes) 10 now ⊎ HasLightRoom changes now
+    changes_room room tells_now = elim (room tells) [
+      | inl edits ↦ inl (room_after (length changes) (edits_for s id kind new) s now (few_edits tells) reads later (λ _. edits) tells_now)
+      | inr light ↦ inr (light_room_after changes s now reads (subst (λ l. HasLightRoom l s) (sym (changes_are tells)) light))
     ]
+      where
+        tells : IsTrue s.tells
+        tells = sym (same_read s now reads).tells ∙ tells_now
 
-    pub all_takes : (c : Store) → TakesAtMost (length changes) 10 now c → TakesAtMost (edits_for s id kind old new) 10 s c
-    all_takes c takes = takes_after (length changes) (edits_for s id kind old new) s now c few_edits reads later takes
+    pub all_takes : (c : Store) → TakesAtMost (length changes) 10 now c → TakesAtMost (edits_for s id kind new) 10 s c
+    all_takes c takes tells = takes_after (length changes) (edits_for s id kind new) s now c (few_edits tells) reads later takes tells
 
-    pub all_edits : (c : Store) → TakesEdits (length changes) 10 now c → TakesEdits (edits_for s id kind old new) 10 s c
-    all_edits c edits = edits_after (length changes) (edits_for s id kind old new) s now c few_edits reads later edits
+    pub all_edits : (c : Store) → TakesEdits (length changes) 10 now c → TakesEdits (edits_for s id kind new) 10 s c
+    all_edits c edits = record { takes = λ tells. (all tells).takes tells; top = λ tells. (all tells).top tells; records = λ tells. (all tells).records tells }
+      where
+        all : IsTrue s.tells → TakesEdits (edits_for s id kind new) 10 s c
+        all tells = edits_after (length changes) (edits_for s id kind new) s now c (few_edits tells) reads later edits
 
     pub all_light : (c : Store) → IsTrue s.tells → are_light (changes_for s id kind new) ≡ true → (IsTrue now.tells → are_light changes ≡ true → CostsAtMost (length changes * edit_writes now.shape.depth) 0 now c)
-        → CostsAtMost (edits_for s id kind old new * edit_writes s.shape.depth) 0 s c
+        → CostsAtMost (edits_for s id kind new * edit_writes s.shape.depth) 0 s c
     all_light c tells light costs =
         let tells_now : IsTrue now.tells = subst IsTrue (sym reads.1.same.tells) tells in
         subst (λ n. CostsAtMost (n * edit_writes s.shape.depth) 0 s c) (sym (as_many tells))

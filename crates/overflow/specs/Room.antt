@@ -1,5 +1,5 @@
 -- The room that storing a fork needs in the extents tree.
-use Rattle.std.specs.Prelude.{◌≡◌, ◌⊎◌, ℕ, ◌+◌, ◌*◌, ◌/◌, true, IsTrue, List, length, map, if◌then◌else◌}
+use Rattle.std.specs.Prelude.{◌≡◌, ◌⊎◌, ℕ, ◌*◌, true, List, length, map}
 use Rattle.hx_bytes.specs.declared.extents.Extent.{Extent}
 use Rattle.btree_node.specs.Store.{Store, HasRoom}
 use Rattle.btree_edit.specs.Editing.{edit_writes}
@@ -14,21 +14,19 @@ use Rattle.overflow.specs.declared.changes.Change.{Change}
 abbrev pub changes_for : Store → ℕ → ℕ → List Extent → List Change
 changes_for store id kind new = changes_to (map record_of (fork_records id kind store)) (records_for (in_use new))
 
--- How many edits those are: one for each start at which the records of the tree and those wanted differ. Where the store doesn't tell its
--- nodes, they may be as many as a fork with the old extents has records, and as are wanted.
-abbrev pub edits_for : Store → ℕ → ℕ → (old new : List Extent) → ℕ
-edits_for store id kind old new = if store.tells then length (changes_for store id kind new) else length old / 8 + length (records_for (in_use new))
+-- how many edits those are: one for each start at which the records of the tree and those wanted differ
+abbrev pub edits_for : Store → ℕ → ℕ → List Extent → ℕ
+edits_for store id kind new = length (changes_for store id kind new)
 
 -- records are only removed and replaced, and there is room to write what that writes
 pub record HasLightRoom (changes : List Change) (store : Store) : Type 0 where
-  pub tells : IsTrue store.tells
   pub light : are_light changes ≡ true
   pub writes : HasRoom (length changes * edit_writes store.shape.depth) store
 
 -- room for the changes of a fork's records
-abbrev pub HasStoreRoom : Store → ℕ → ℕ → (old new : List Extent) → Type 0
-HasStoreRoom store id kind old new = EditRoom (edits_for store id kind old new) 10 store ⊎ HasLightRoom (changes_for store id kind new) store
+abbrev pub HasStoreRoom : Store → ℕ → ℕ → List Extent → Type 0
+HasStoreRoom store id kind new = EditRoom (edits_for store id kind new) 10 store ⊎ HasLightRoom (changes_for store id kind new) store
 
 -- room for one change: for an edit, or to remove or replace a record for what that writes
 abbrev pub ChangeRoom : Change → Store → Type 0
-ChangeRoom change store = EditRoom 1 10 store ⊎ ((IsTrue store.tells × (is_light change ≡ true)) × HasRoom (edit_writes store.shape.depth) store)
+ChangeRoom change store = EditRoom 1 10 store ⊎ ((is_light change ≡ true) × HasRoom (edit_writes store.shape.depth) store)

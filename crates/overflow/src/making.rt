@@ -33,7 +33,7 @@ pub(crate) fn make_change<N: NodeStore>(
     requires tree { IsTrue (N.state store.old).tells → IsTree IsExtentKey extent_cmp (N.state store.old) }
     requires values { IsTrue (N.state store.old).tells → HasValues is_eight_extents (N.state store.old) }
     requires fits { IsTrue (N.state store.old).tells → CanMake id fork change.now (fork_records id fork (N.state store.old)) }
-    requires room { ChangeRoom change.now (N.state store.old) }
+    requires room { IsTrue (N.state store.old).tells → ChangeRoom change.now (N.state store.old) }
     ensures records { IsTrue (N.state store.old).tells → OnOk result (fork_records id fork (N.state store.new) ≡ changed id fork change.now (fork_records id fork (N.state store.old))) }
     ensures others { IsTrue (N.state store.old).tells → OnOk result (kept (λ more. not (is_of id fork more)) (overflow_in_store (N.state store.new)) ≡ kept (λ more. not (is_of id fork more)) (overflow_in_store (N.state store.old))) }
     ensures tree { IsTrue (N.state store.old).tells → OnOk result (IsTree IsExtentKey extent_cmp (N.state store.new)) }
@@ -67,7 +67,7 @@ fn remove_record<N: NodeStore>(
     requires kind { (fork ≡ 0) ⊎ (fork ≡ 255) }
     requires tree { IsTrue (N.state store.old).tells → IsTree IsExtentKey extent_cmp (N.state store.old) }
     requires values { IsTrue (N.state store.old).tells → HasValues is_eight_extents (N.state store.old) }
-    requires room { HasRoom (edit_writes (N.state store.old).shape.depth) (N.state store.old) }
+    requires room { IsTrue (N.state store.old).tells → HasRoom (edit_writes (N.state store.old).shape.depth) (N.state store.old) }
     ensures records { IsTrue (N.state store.old).tells → OnOk result (fork_records id fork (N.state store.new) ≡ changed id fork (Remove start) (fork_records id fork (N.state store.old))) }
     ensures others { IsTrue (N.state store.old).tells → OnOk result (kept (λ more. not (is_of id fork more)) (overflow_in_store (N.state store.new)) ≡ kept (λ more. not (is_of id fork more)) (overflow_in_store (N.state store.old))) }
     ensures tree { IsTrue (N.state store.old).tells → OnOk result (IsTree IsExtentKey extent_cmp (N.state store.new)) }
@@ -100,7 +100,7 @@ fn insert_record<N: NodeStore>(
     requires tree { IsTrue (N.state store.old).tells → IsTree IsExtentKey extent_cmp (N.state store.old) }
     requires values { IsTrue (N.state store.old).tells → HasValues is_eight_extents (N.state store.old) }
     requires fits { IsTrue (N.state store.old).tells → has_start one.start (fork_records id fork (N.state store.old)) ≡ false }
-    requires room { EditRoom 1 10 (N.state store.old) }
+    requires room { IsTrue (N.state store.old).tells → EditRoom 1 10 (N.state store.old) }
     ensures records { IsTrue (N.state store.old).tells → OnOk result (fork_records id fork (N.state store.new) ≡ changed id fork (Insert one) (fork_records id fork (N.state store.old))) }
     ensures others { IsTrue (N.state store.old).tells → OnOk result (kept (λ more. not (is_of id fork more)) (overflow_in_store (N.state store.new)) ≡ kept (λ more. not (is_of id fork more)) (overflow_in_store (N.state store.old))) }
     ensures tree { IsTrue (N.state store.old).tells → OnOk result (IsTree IsExtentKey extent_cmp (N.state store.new)) }
@@ -132,7 +132,7 @@ fn replace_record<N: NodeStore>(
     requires tree { IsTrue (N.state store.old).tells → IsTree IsExtentKey extent_cmp (N.state store.old) }
     requires values { IsTrue (N.state store.old).tells → HasValues is_eight_extents (N.state store.old) }
     requires fits { IsTrue (N.state store.old).tells → has_start one.start (fork_records id fork (N.state store.old)) ≡ true }
-    requires room { EditRoom 1 10 (N.state store.old) ⊎ (IsTrue (N.state store.old).tells × HasRoom (edit_writes (N.state store.old).shape.depth) (N.state store.old)) }
+    requires room { IsTrue (N.state store.old).tells → EditRoom 1 10 (N.state store.old) ⊎ HasRoom (edit_writes (N.state store.old).shape.depth) (N.state store.old) }
     ensures records { IsTrue (N.state store.old).tells → OnOk result (fork_records id fork (N.state store.new) ≡ changed id fork (Replace one) (fork_records id fork (N.state store.old))) }
     ensures others { IsTrue (N.state store.old).tells → OnOk result (kept (λ more. not (is_of id fork more)) (overflow_in_store (N.state store.new)) ≡ kept (λ more. not (is_of id fork more)) (overflow_in_store (N.state store.old))) }
     ensures tree { IsTrue (N.state store.old).tells → OnOk result (IsTree IsExtentKey extent_cmp (N.state store.new)) }

@@ -47,7 +47,7 @@ pub fn store_fork<N: NodeStore>(
     // The fork has the old extents.
     requires holds { IsTrue (N.state store.old).tells → HasExtents (overflow_in_store (N.state store.old)) id fork old.now }
     requires few { length (blocks_of new.now) < 2 ^ 32 }
-    requires room { HasStoreRoom (N.state store.old) id fork old.now new.now }
+    requires room { IsTrue (N.state store.old).tells → HasStoreRoom (N.state store.old) id fork new.now }
     ensures front { IfOk result (λ rec. rec ≡ front_record (in_use new.now)) }
     // The records are those for the new extents, and with the front record they give these.
     ensures records { IsTrue (N.state store.old).tells → OnOk result (fork_records id fork (N.state store.new) ≡ map (under id fork) (records_for (in_use new.now))) }
@@ -59,11 +59,11 @@ pub fn store_fork<N: NodeStore>(
     ensures values { IsTrue (N.state store.old).tells → OnOk result (HasValues is_eight_extents (N.state store.new)) }
     ensures desk { IsDeskOf (N.state store.old).shape.node_size desk.new }
     ensures header { IsTrue (N.state store.old).tells → (N.state store.old).header ≡ (N.state store.old).shape → OnOk result ((N.state store.new).header ≡ (N.state store.new).shape) }
-    ensures edits { OnOk result (TakesEdits (edits_for (N.state store.old) id fork old.now new.now) 10 (N.state store.old) (N.state store.new)) }
-    ensures takes { TakesAtMost (edits_for (N.state store.old) id fork old.now new.now) 10 (N.state store.old) (N.state store.new) }
+    ensures edits { OnOk result (TakesEdits (edits_for (N.state store.old) id fork new.now) 10 (N.state store.old) (N.state store.new)) }
+    ensures takes { TakesAtMost (edits_for (N.state store.old) id fork new.now) 10 (N.state store.old) (N.state store.new) }
     // Where records are only removed and replaced, no free node is taken.
     ensures light { IsTrue (N.state store.old).tells → are_light (changes_for (N.state store.old) id fork new.now) ≡ true
-        → CostsAtMost (edits_for (N.state store.old) id fork old.now new.now * edit_writes (N.state store.old).shape.depth) 0 (N.state store.old) (N.state store.new) }
+        → CostsAtMost (edits_for (N.state store.old) id fork new.now * edit_writes (N.state store.old).shape.depth) 0 (N.state store.old) (N.state store.new) }
     ensures same { SameStore (N.state store.old) (N.state store.new) }
     ensures cause { HasTroubleCause (N.state store.old).faults (N.state store.new).faults result }
     ensures below { N.follows store.old store.new }
@@ -112,7 +112,7 @@ fn make_changes<N: NodeStore>(
     requires tree { IsTrue (N.state store.old).tells → IsTree IsExtentKey extent_cmp (N.state store.old) }
     requires values { IsTrue (N.state store.old).tells → HasValues is_eight_extents (N.state store.old) }
     requires fits { IsTrue (N.state store.old).tells → CanMakeAll id fork changes.now (fork_records id fork (N.state store.old)) }
-    requires room { EditRoom (length changes.now) 10 (N.state store.old) ⊎ HasLightRoom changes.now (N.state store.old) }
+    requires room { IsTrue (N.state store.old).tells → EditRoom (length changes.now) 10 (N.state store.old) ⊎ HasLightRoom changes.now (N.state store.old) }
     ensures records { IsTrue (N.state store.old).tells → OnOk result (fork_records id fork (N.state store.new) ≡ all_changed id fork changes.now (fork_records id fork (N.state store.old))) }
     ensures others { IsTrue (N.state store.old).tells → OnOk result (kept (λ more. not (is_of id fork more)) (overflow_in_store (N.state store.new)) ≡ kept (λ more. not (is_of id fork more)) (overflow_in_store (N.state store.old))) }
     ensures tree { IsTrue (N.state store.old).tells → OnOk result (IsTree IsExtentKey extent_cmp (N.state store.new)) }

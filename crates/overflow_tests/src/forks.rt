@@ -2,8 +2,6 @@
 ghost use Rattle.std.specs.Prelude.{◌≡◌, ◌≤◌, ◌+◌, ◌/◌, ℕ, IsTrue, length};
 ghost use Rattle.btree_node.specs.Mem.{mem_state};
 ghost use Rattle.btree_edit.specs.Desk.{IsDeskOf};
-ghost use Rattle.overflow.specs.Room.{HasStoreRoom};
-ghost use Rattle.node_kit.specs.Untold.{untold};
 
 use crate::flaw::Flaw;
 use crate::fork::Fork;
@@ -44,17 +42,6 @@ impl Forks {
         self.store.shape()
     }
 
-    /// Whether a fork may be given another list.
-    fn has_room(&self, old: &ExtentList, new: &ExtentList) -> bool
-        ensures { IsTrue result → (id kind : ℕ) → HasStoreRoom (untold (mem_state self.now.store.nodes)) id kind old.now new.now }
-    {
-        let edits = old.len() / 8 + new.len() / 8;
-        if edits > 11 {
-            return false;
-        }
-        self.store.has_room_for(edits as u32)
-    }
-
     /// Gives a fork another list, and gives its record.
     pub fn store(
         &mut self,
@@ -63,9 +50,6 @@ impl Forks {
         new: &ExtentList,
     ) -> Result<ForkRecord, Flaw> {
         if fork.id == 3 || !has_few_blocks(new) {
-            return Err(Flaw::Room);
-        }
-        if !self.has_room(&fork.list, new) {
             return Err(Flaw::Room);
         }
         let kind = kind_of(fork.of_resources);

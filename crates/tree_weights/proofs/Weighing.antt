@@ -40,12 +40,10 @@ either_false false b is = inr is
 -- ---- one tree
 
 pub as_deep_law : GoAsDeepAsCounted
-as_deep_law key edits more tree store tells holds grown = record {
-  told = λ _. subst (λ n. (tops (node_room store.shape.node_size) (key + 8) edits (top_of store)).depth ≤ max n 1 + 1 + edits / ((tree.node_size - 16) / (key + 8) - 2)) grown.depth
-      (subst (λ n. (tops (node_room store.shape.node_size) (key + 8) edits (top_of store)).depth ≤ max store.shape.depth 1 + 1 + edits / ((n - 16) / (key + 8) - 2)) grown.node_size
-      (low (node_room store.shape.node_size) (key + 8) (omega arith) (subst (λ n. 3 * (key + 8) ≤ n - 16) (sym grown.node_size) holds) edits store.shape.depth (max 1 (length (items (store.nodes store.shape.root))))));
-  untold = λ silent. absurd (true≢false (sym tells ∙ silent));
-}
+as_deep_law key edits more tree store tells holds grown =
+    subst (λ n. (tops (node_room store.shape.node_size) (key + 8) edits (top_of store)).depth ≤ max n 1 + 1 + edits / ((tree.node_size - 16) / (key + 8) - 2)) grown.depth
+    (subst (λ n. (tops (node_room store.shape.node_size) (key + 8) edits (top_of store)).depth ≤ max store.shape.depth 1 + 1 + edits / ((n - 16) / (key + 8) - 2)) grown.node_size
+    (low (node_room store.shape.node_size) (key + 8) (omega arith) (subst (λ n. 3 * (key + 8) ≤ n - 16) (sym grown.node_size) holds) edits store.shape.depth (max 1 (length (items (store.nodes store.shape.root))))))
 
 pub grows_law : GrowsByEnough
 grows_law block key edits tree holds = by_test (missing key tree edits == 0) refl
@@ -122,7 +120,7 @@ room_law block key edits written tree store tells formed holds low_records not_d
 pub load_law : EditsTakeTheirLoad
 unfolding unwritten_sectors
 load_law key edits more written tree old new tells holds grown by_growth same takes =
-    let costs = takes (deepest_of key tree edits) (as_deep_law key edits more tree old tells holds grown) in
+    let costs = takes tells (deepest_of key tree edits) (as_deep_law key edits more tree old tells holds grown) in
     let it = counted key edits more (old.unwritten - new.unwritten) written tree (omega (arith, costs.some)) (omega (arith, by_growth.others)) by_growth.few in
     let old_size = ap (λ n. old.unwritten * (n / 512)) grown.node_size in
     let new_size = ap (λ n. new.unwritten * (n / 512)) (same.node_size ∙ grown.node_size) in

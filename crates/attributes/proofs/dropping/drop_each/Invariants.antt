@@ -17,7 +17,7 @@ invariant-loop-dropped g l = let before = g.N.NodeStore.state l.fn.store in let 
   form : IsTrue before.tells → AreInline (pairs_of now);
   drops : IsTrue before.tells → DropsSome l.id l.dropped (pairs_of before) (pairs_of now);
   header : IsTrue before.tells → before.header ≡ before.shape → now.header ≡ now.shape;
-  room : EditRoom (l.most - l.dropped) 266 now;
+  room : IsTrue now.tells → EditRoom (l.most - l.dropped) 266 now;
   edits : TakesEdits l.dropped 266 before now;
   same : SameStore before now;
   later : before.faults ≤ now.faults;

@@ -1,8 +1,17 @@
 use Rattle.std.proofs.Common.{◌≤◌, arith}
 use Rattle.btree_node.specs.Tree.{pairs_of}
-use Rattle.btree_edit.proofs.EditLaws.{takes_one}
+use Rattle.btree_edit.proofs.EditLaws.{room_for_one, takes_one}
 use Rattle.attributes.proofs.SingleEdits.{one_edit, removal_drops, removal_inline}
 use Rattle.attributes.proofs.edits.remove_key.Goals as goal
+
+pub remove-requires-clause-depth : goal.remove-requires-clause-depth
+remove-requires-clause-depth g c tells varying = (room_for_one 0 266 (g.N.NodeStore.state c.args.store.now) c.requires.room tells).depth
+
+pub remove-requires-clause-free : goal.remove-requires-clause-free
+remove-requires-clause-free g c tells varying = (room_for_one 0 266 (g.N.NodeStore.state c.args.store.now) c.requires.room tells).free
+
+pub remove-requires-clause-room : goal.remove-requires-clause-room
+remove-requires-clause-room g c tells = (room_for_one 0 266 (g.N.NodeStore.state c.args.store.now) c.requires.room tells).room
 
 pub returns-clause-dropped : goal.returns-clause-dropped
 returns-clause-dropped g c tells inline start =

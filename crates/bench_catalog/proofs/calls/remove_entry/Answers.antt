@@ -1,9 +1,5 @@
 use Rattle.std.proofs.Common.{◌≡◌, ℕ, List, ◌∷◌, [], length, get_or, sym, ap}
-use Rattle.bench_catalog.proofs.Rooms.{untold_edits}
 use Rattle.bench_catalog.proofs.calls.remove_entry.Goals as goal
-
-pub remove-requires-clause-room : goal.remove-requires-clause-room
-remove-requires-clause-room c = untold_edits _ c.args.tree.now (length c.args.space.now.list.items) 2 516 c.requires.depth c.requires.records c.requires.free
 
 pub returns-clause-file : goal.returns-clause-file
 returns-clause-file c =

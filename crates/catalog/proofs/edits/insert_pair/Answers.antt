@@ -1,7 +1,19 @@
 use Rattle.std.proofs.Common.{◌≡◌, ◌≤◌, ◌+◌, arith}
-use Rattle.btree_edit.proofs.EditLaws.{takes_one}
+use Rattle.btree_edit.proofs.EditLaws.{room_for_one, takes_one}
 use Rattle.catalog.proofs.SingleEdits.{one_edit}
 use Rattle.catalog.proofs.edits.insert_pair.Goals as goal
+
+pub insert-requires-clause-records : goal.insert-requires-clause-records
+insert-requires-clause-records g c tells = (room_for_one 0 516 (g.N.NodeStore.state c.args.store.now) c.requires.room tells).records
+
+pub insert-requires-clause-depth : goal.insert-requires-clause-depth
+insert-requires-clause-depth g c tells = (room_for_one 0 516 (g.N.NodeStore.state c.args.store.now) c.requires.room tells).depth
+
+pub insert-requires-clause-free : goal.insert-requires-clause-free
+insert-requires-clause-free g c tells = (room_for_one 0 516 (g.N.NodeStore.state c.args.store.now) c.requires.room tells).free
+
+pub insert-requires-clause-room : goal.insert-requires-clause-room
+insert-requires-clause-room g c tells = (room_for_one 0 516 (g.N.NodeStore.state c.args.store.now) c.requires.room tells).room
 
 pub returns-clause-takes : goal.returns-clause-takes
 returns-clause-takes g c = takes_one 516 (g.N.NodeStore.state c.args.store.now) (g.N.NodeStore.state c.insert.new.store) c.insert.ensures.does

@@ -1,7 +1,16 @@
 use Rattle.std.proofs.Common.{◌≤◌, arith}
-use Rattle.btree_edit.proofs.EditLaws.{takes_one}
+use Rattle.btree_edit.proofs.EditLaws.{room_for_one, takes_one}
 use Rattle.catalog.proofs.SingleEdits.{one_edit}
 use Rattle.catalog.proofs.edits.remove_key.Goals as goal
+
+pub remove-requires-clause-depth : goal.remove-requires-clause-depth
+remove-requires-clause-depth g c tells varying = (room_for_one 0 516 (g.N.NodeStore.state c.args.store.now) c.requires.room tells).depth
+
+pub remove-requires-clause-free : goal.remove-requires-clause-free
+remove-requires-clause-free g c tells varying = (room_for_one 0 516 (g.N.NodeStore.state c.args.store.now) c.requires.room tells).free
+
+pub remove-requires-clause-room : goal.remove-requires-clause-room
+remove-requires-clause-room g c tells = (room_for_one 0 516 (g.N.NodeStore.state c.args.store.now) c.requires.room tells).room
 
 pub returns-clause-takes : goal.returns-clause-takes
 returns-clause-takes g c = takes_one 516 (g.N.NodeStore.state c.args.store.now) (g.N.NodeStore.state c.remove.new.store) c.remove.ensures.does

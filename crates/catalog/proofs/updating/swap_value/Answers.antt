@@ -8,7 +8,7 @@ use Rattle.btree_edit.specs.Swapping.{HasValueOf}
 use Rattle.catalog.proofs.BeforeEdits.{tree_read, pairs_read}
 use Rattle.catalog.proofs.InPlace.{absent_takes, absent_most, header_read, replaced_most, replaced_takes}
 use Rattle.catalog.proofs.RoomLaws.{top_stays}
-use Rattle.catalog.proofs.Updates.{has_value, answer_read, read_and_written, needs_read, room_read}
+use Rattle.catalog.proofs.Updates.{has_value, answer_read, read_and_written, room_read}
 use Rattle.catalog.proofs.updating.swap_value.Goals as goal
 
 pub replace-requires-clause-tree : goal.replace-requires-clause-tree
@@ -18,40 +18,28 @@ replace-requires-clause-tree g c tells_read =
     tree_read s.shape.depth s (g.N.NodeStore.state c.find.new.store) c.find.ensures.reads tells (g.met.N.NodeStore.well_formed c.args.store.now).total (c.requires.tree tells)
 
 pub replace-requires-clause-depth : goal.replace-requires-clause-depth
-replace-requires-clause-depth g c =
+replace-requires-clause-depth g c tells_read =
     let s = g.N.NodeStore.state c.args.store.now in
     let read = g.N.NodeStore.state c.find.new.store in
-    elim c.requires.room [
-      | inl told ↦
-          let finds = subst (λ found. Finds catalog_cmp c.args.key.now s c.find.new.desk found) c.in-At.is (c.in_ok-find.ensures.found told.0) in
-          inl (has_value s read c.find.new.desk c.args.key.now c.args.value.now (c.find.ensures.reads.same.tells ∙ told.0) (pairs_read s.shape.depth s read c.find.ensures.reads told.0 (g.met.N.NodeStore.well_formed c.args.store.now).total (c.requires.tree told.0)) finds.0 finds.1.0 finds.1.1 (c.requires.long told.0))
-      | inr edit ↦ inr (needs_read s.shape.depth s read c.find.ensures.reads c.find.ensures.cause.later edit).depth
-    ]
+    let tells : IsTrue s.tells = sym c.find.ensures.reads.same.tells ∙ tells_read in
+    let finds = subst (λ found. Finds catalog_cmp c.args.key.now s c.find.new.desk found) c.in-At.is (c.in_ok-find.ensures.found tells) in
+    inl (has_value s read c.find.new.desk c.args.key.now c.args.value.now tells_read (pairs_read s.shape.depth s read c.find.ensures.reads tells (g.met.N.NodeStore.well_formed c.args.store.now).total (c.requires.tree tells)) finds.0 finds.1.0 finds.1.1 (c.requires.long tells))
 
 pub replace-requires-clause-free : goal.replace-requires-clause-free
-replace-requires-clause-free g c =
+replace-requires-clause-free g c tells_read =
     let s = g.N.NodeStore.state c.args.store.now in
     let read = g.N.NodeStore.state c.find.new.store in
-    elim c.requires.room [
-      | inl told ↦
-          let finds = subst (λ found. Finds catalog_cmp c.args.key.now s c.find.new.desk found) c.in-At.is (c.in_ok-find.ensures.found told.0) in
-          inl (has_value s read c.find.new.desk c.args.key.now c.args.value.now (c.find.ensures.reads.same.tells ∙ told.0) (pairs_read s.shape.depth s read c.find.ensures.reads told.0 (g.met.N.NodeStore.well_formed c.args.store.now).total (c.requires.tree told.0)) finds.0 finds.1.0 finds.1.1 (c.requires.long told.0))
-      | inr edit ↦ inr (needs_read s.shape.depth s read c.find.ensures.reads c.find.ensures.cause.later edit).free
-    ]
+    let tells : IsTrue s.tells = sym c.find.ensures.reads.same.tells ∙ tells_read in
+    let finds = subst (λ found. Finds catalog_cmp c.args.key.now s c.find.new.desk found) c.in-At.is (c.in_ok-find.ensures.found tells) in
+    inl (has_value s read c.find.new.desk c.args.key.now c.args.value.now tells_read (pairs_read s.shape.depth s read c.find.ensures.reads tells (g.met.N.NodeStore.well_formed c.args.store.now).total (c.requires.tree tells)) finds.0 finds.1.0 finds.1.1 (c.requires.long tells))
 
 pub replace-requires-clause-room : goal.replace-requires-clause-room
-replace-requires-clause-room g c =
+replace-requires-clause-room g c tells_read =
     let s = g.N.NodeStore.state c.args.store.now in
     let read = g.N.NodeStore.state c.find.new.store in
-    elim c.requires.room [
-      | inl told ↦
-          let finds = subst (λ found. Finds catalog_cmp c.args.key.now s c.find.new.desk found) c.in-At.is (c.in_ok-find.ensures.found told.0) in
-          inl (
-            has_value s read c.find.new.desk c.args.key.now c.args.value.now (c.find.ensures.reads.same.tells ∙ told.0) (pairs_read s.shape.depth s read c.find.ensures.reads told.0 (g.met.N.NodeStore.well_formed c.args.store.now).total (c.requires.tree told.0)) finds.0 finds.1.0 finds.1.1 (c.requires.long told.0),
-            inl (room_read s.shape.depth s read c.find.ensures.reads told.1),
-          )
-      | inr edit ↦ inr (needs_read s.shape.depth s read c.find.ensures.reads c.find.ensures.cause.later edit).room
-    ]
+    let tells : IsTrue s.tells = sym c.find.ensures.reads.same.tells ∙ tells_read in
+    let finds = subst (λ found. Finds catalog_cmp c.args.key.now s c.find.new.desk found) c.in-At.is (c.in_ok-find.ensures.found tells) in
+    inl (has_value s read c.find.new.desk c.args.key.now c.args.value.now tells_read (pairs_read s.shape.depth s read c.find.ensures.reads tells (g.met.N.NodeStore.well_formed c.args.store.now).total (c.requires.tree tells)) finds.0 finds.1.0 finds.1.1 (c.requires.long tells), inl (room_read s.shape.depth s read c.find.ensures.reads (c.requires.room tells)))
 
 pub returns-in_err-answer-in-At-clause-takes : goal.returns-in_err-answer-in-At-clause-takes
 returns-in_err-answer-in-At-clause-takes g c tells =
@@ -116,7 +104,7 @@ returns-in_err-answer-in-At-clause-most g c =
     let has = λ (tells : IsTrue s.tells).
     let finds = subst (λ found. Finds catalog_cmp c.args.key.now s c.find.new.desk found) c.in-At.is (c.in_ok-find.ensures.found tells) in
     has_value s read c.find.new.desk c.args.key.now c.args.value.now (c.find.ensures.reads.same.tells ∙ tells) (pairs_read s.shape.depth s read c.find.ensures.reads tells (g.met.N.NodeStore.well_formed c.args.store.now).total (c.requires.tree tells)) finds.0 finds.1.0 finds.1.1 (c.requires.long tells) in
-    replaced_most s.shape.depth s read c.find.ensures.reads c.find.ensures.cause.later new c.replace.ensures.does (λ tells. c.replace.ensures.once (has tells))
+    replaced_most s.shape.depth s read c.find.ensures.reads c.find.ensures.cause.later new (λ tells. c.replace.ensures.once (has tells))
 
 pub returns-in-Absent-clause-edits : goal.returns-in-Absent-clause-edits
 returns-in-Absent-clause-edits g c =
@@ -143,8 +131,8 @@ returns-in_ok-answer-in-At-clause-edits g c =
     has_value s read c.find.new.desk c.args.key.now c.args.value.now (c.find.ensures.reads.same.tells ∙ tells) (pairs_read s.shape.depth s read c.find.ensures.reads tells (g.met.N.NodeStore.well_formed c.args.store.now).total (c.requires.tree tells)) finds.0 finds.1.0 finds.1.1 (c.requires.long tells) in
     let tree_of = λ (tells : IsTrue s.tells). tree_read s.shape.depth s read c.find.ensures.reads tells (g.met.N.NodeStore.well_formed c.args.store.now).total (c.requires.tree tells) in
     let answer = c.in_ok-answer-in-At.ensures in
-    replaced_takes s.shape.depth s read c.find.ensures.reads c.find.ensures.cause.later new c.replace.ensures.does (λ tells. c.replace.ensures.once (has tells))
-    answer.depth answer.records answer.roots (λ tells. c.replace.ensures.kept (has tells)) (λ tells. top_stays c.args.key.now read new (tree_of tells) (c.replace.ensures.kept (has tells)) (answer.alone (has tells)))
+    replaced_takes s.shape.depth s read c.find.ensures.reads c.find.ensures.cause.later new (λ tells. c.replace.ensures.once (has tells))
+    answer.records (λ tells. top_stays c.args.key.now read new (tree_of tells) (c.replace.ensures.kept (has tells)) (answer.alone (has tells)))
 
 pub returns-in_ok-answer-in-At-clause-most : goal.returns-in_ok-answer-in-At-clause-most
 returns-in_ok-answer-in-At-clause-most g c =
@@ -154,7 +142,7 @@ returns-in_ok-answer-in-At-clause-most g c =
     let has = λ (tells : IsTrue s.tells).
     let finds = subst (λ found. Finds catalog_cmp c.args.key.now s c.find.new.desk found) c.in-At.is (c.in_ok-find.ensures.found tells) in
     has_value s read c.find.new.desk c.args.key.now c.args.value.now (c.find.ensures.reads.same.tells ∙ tells) (pairs_read s.shape.depth s read c.find.ensures.reads tells (g.met.N.NodeStore.well_formed c.args.store.now).total (c.requires.tree tells)) finds.0 finds.1.0 finds.1.1 (c.requires.long tells) in
-    replaced_most s.shape.depth s read c.find.ensures.reads c.find.ensures.cause.later new c.replace.ensures.does (λ tells. c.replace.ensures.once (has tells))
+    replaced_most s.shape.depth s read c.find.ensures.reads c.find.ensures.cause.later new (λ tells. c.replace.ensures.once (has tells))
 
 pub returns-in_ok-answer-in-At-clause-header : goal.returns-in_ok-answer-in-At-clause-header
 returns-in_ok-answer-in-At-clause-header g c tells same =

@@ -12,7 +12,7 @@ pub new_target-requires-clause-spelled : goal.new_target-requires-clause-spelled
 new_target-requires-clause-spelled g c tells = (c.requires.may tells).threads.spelled
 
 pub new_target-requires-clause-few : goal.new_target-requires-clause-few
-new_target-requires-clause-few g c = let room = edits_room 7 1 516 (g.N.NodeStore.state c.args.store.now) c.requires.room in omega (arith, room.records)
+new_target-requires-clause-few g c tells = let room = edits_room 7 1 516 (g.N.NodeStore.state c.args.store.now) c.requires.room tells in omega (arith, room.records)
 
 pub returns-in_err-target-clause-takes : goal.returns-in_err-target-clause-takes
 returns-in_err-target-clause-takes g c = most_nothing (g.N.NodeStore.state c.args.store.now) (g.N.NodeStore.state c.new_target.new.store) c.new_target.ensures.reads 7 1

@@ -3,7 +3,7 @@ use Rattle.std.specs.Prelude.{IsTrue}
 use Rattle.std.proofs.lemmas.Bool.{true≢false}
 use Rattle.btree_node.specs.Tree.{pairs_of}
 use Rattle.catalog.specs.Rooms.{TakesUpdates}
-use Rattle.catalog.proofs.RoomLaws.{most_fewer, room_before, updates_fewer}
+use Rattle.catalog.proofs.RoomLaws.{most_fewer, updates_fewer}
 use Rattle.hard_links.proofs.Asides.{on_ok_so}
 use Rattle.hard_links.proofs.Puts.{first_of, names_link}
 use Rattle.hard_links.proofs.linking.link_file.Goals as goal
@@ -14,13 +14,7 @@ make_more-requires-clause-link g c tells =
     names_link c.args.from.now c.args.file.now (pairs_of (g.N.NodeStore.state c.args.store.now)) may.file.entry may.file.found (c.requires.value tells) (sym c.is_link_type.ensures ∙ c.if-is_link_type.true)
 
 pub make_more-requires-clause-room : goal.make_more-requires-clause-room
-make_more-requires-clause-room g c =
-    let s = g.N.NodeStore.state c.args.store.now in
-    let is = sym c.is_link_type.ensures ∙ c.if-is_link_type.true in
-    record {
-      told = λ tells. (c.requires.room_more tells is).told tells;
-      untold = λ hidden. (room_before 2 1 5 0 516 s (c.requires.room (λ tells. absurd (true≢false (sym tells ∙ hidden))))).untold hidden;
-    }
+make_more-requires-clause-room g c tells = c.requires.room_more tells (sym c.is_link_type.ensures ∙ c.if-is_link_type.true)
 
 pub returns-then-is_link_type-clause-edits : goal.returns-then-is_link_type-clause-edits
 returns-then-is_link_type-clause-edits g c =
@@ -37,7 +31,7 @@ pub make_first-requires-clause-plain : goal.make_first-requires-clause-plain
 make_first-requires-clause-plain g c tells = sym c.is_link_type.ensures ∙ c.if-is_link_type.false
 
 pub make_first-requires-clause-room : goal.make_first-requires-clause-room
-make_first-requires-clause-room g c = c.requires.room (λ tells. sym c.is_link_type.ensures ∙ c.if-is_link_type.false)
+make_first-requires-clause-room g c tells = c.requires.room tells (sym c.is_link_type.ensures ∙ c.if-is_link_type.false)
 
 pub returns-clause-linked : goal.returns-clause-linked
 returns-clause-linked g c tells =

@@ -95,12 +95,12 @@ pub link_file-requires-clause-fits : goal.link_file-requires-clause-fits
 link_file-requires-clause-fits g c = file_fits c.in_ok-lookup.field-0 c.in-Some.file (sym c.in-Some.is ∙ c.file_in.ensures) c.in_ok-lookup.ensures.fits
 
 pub link_file-requires-clause-room : goal.link_file-requires-clause-room
-link_file-requires-clause-room g c plain =
+link_file-requires-clause-room g c tells_read plain =
     let s = g.N.NodeStore.state c.args.store.now in
     let read = g.N.NodeStore.state c.lookup.new.store in
     let only = one_read s.shape.depth s read c.lookup.ensures.reads c.lookup.ensures.cause.later in
     let value = λ (tells : IsTrue s.tells). sym (c.in_ok-lookup.ensures.found tells) ∙ file_value c.in_ok-lookup.field-0 c.in-Some.file (sym c.in-Some.is ∙ c.file_in.ensures) in
-    room_as s read only 7 1 (c.requires.room (λ tells names. is_no_link c.args.from.now c.in-Some.file (pairs_of s) (value tells) (plain (c.lookup.ensures.reads.same.tells ∙ tells)) names))
+    room_as s read only 7 1 (λ tells. c.requires.room tells (λ names. is_no_link c.args.from.now c.in-Some.file (pairs_of s) (value tells) plain names)) tells_read
 
 pub link_file-requires-clause-room_more : goal.link_file-requires-clause-room_more
 link_file-requires-clause-room_more g c tells_read is =
@@ -110,7 +110,7 @@ link_file-requires-clause-room_more g c tells_read is =
     let tells = tells_as s read only tells_read in
     let value = sym (c.in_ok-lookup.ensures.found tells) ∙ file_value c.in_ok-lookup.field-0 c.in-Some.file (sym c.in-Some.is ∙ c.file_in.ensures) in
     let file = (c.requires.may tells).file in
-    room_as s read only 2 1 (c.requires.room_more tells (names_link c.args.from.now c.in-Some.file (pairs_of s) file.entry file.found value is))
+    room_as s read only 2 1 (λ _. c.requires.room_more tells (names_link c.args.from.now c.in-Some.file (pairs_of s) file.entry file.found value is)) tells_read
 
 pub returns-in-Some-clause-linked : goal.returns-in-Some-clause-linked
 returns-in-Some-clause-linked g c tells =

@@ -1,8 +1,20 @@
 use Rattle.std.proofs.Common.{refl}
 use Rattle.btree_node.specs.Tree.{pairs_of}
-use Rattle.btree_edit.proofs.EditLaws.{takes_one, edits_one}
+use Rattle.btree_edit.proofs.EditLaws.{room_for_one, takes_one, edits_one}
 use Rattle.overflow.proofs.Editing.{inserted_records, inserted_others}
 use Rattle.overflow.proofs.making.insert_record.Goals as goal
+
+pub insert-requires-clause-records : goal.insert-requires-clause-records
+insert-requires-clause-records g c tells = (room_for_one 0 10 (g.N.NodeStore.state c.args.store.now) c.requires.room tells).records
+
+pub insert-requires-clause-depth : goal.insert-requires-clause-depth
+insert-requires-clause-depth g c tells = (room_for_one 0 10 (g.N.NodeStore.state c.args.store.now) c.requires.room tells).depth
+
+pub insert-requires-clause-free : goal.insert-requires-clause-free
+insert-requires-clause-free g c tells = (room_for_one 0 10 (g.N.NodeStore.state c.args.store.now) c.requires.room tells).free
+
+pub insert-requires-clause-room : goal.insert-requires-clause-room
+insert-requires-clause-room g c tells = (room_for_one 0 10 (g.N.NodeStore.state c.args.store.now) c.requires.room tells).room
 
 pub returns-clause-records : goal.returns-clause-records
 returns-clause-records g c tells =

@@ -5,27 +5,21 @@ use Rattle.overflow.proofs.Editing.{replaced_records, replaced_all_others, has_v
 use Rattle.overflow.proofs.making.replace_record.Goals as goal
 
 pub replace-requires-clause-depth : goal.replace-requires-clause-depth
-replace-requires-clause-depth g c =
+replace-requires-clause-depth g c tells =
     let s = g.N.NodeStore.state c.args.store.now in
-    elim c.requires.room [
-      | inl edit ↦ inr (room_for_one 0 10 s edit).depth
-      | inr light ↦ inl (has_value c.args.id c.args.fork c.args.one.start c.key_of-key.result c.key_of-key.ensures s (c.requires.tree light.0) (pairs_of s) c.value_of-value.result c.value_of-value.ensures.long light.0 (c.requires.values light.0) (c.requires.fits light.0))
-    ]
+    inl (has_value c.args.id c.args.fork c.args.one.start c.key_of-key.result c.key_of-key.ensures s (c.requires.tree tells) (pairs_of s) c.value_of-value.result c.value_of-value.ensures.long tells (c.requires.values tells) (c.requires.fits tells))
 
 pub replace-requires-clause-free : goal.replace-requires-clause-free
-replace-requires-clause-free g c =
+replace-requires-clause-free g c tells =
     let s = g.N.NodeStore.state c.args.store.now in
-    elim c.requires.room [
-      | inl edit ↦ inr (room_for_one 0 10 s edit).free
-      | inr light ↦ inl (has_value c.args.id c.args.fork c.args.one.start c.key_of-key.result c.key_of-key.ensures s (c.requires.tree light.0) (pairs_of s) c.value_of-value.result c.value_of-value.ensures.long light.0 (c.requires.values light.0) (c.requires.fits light.0))
-    ]
+    inl (has_value c.args.id c.args.fork c.args.one.start c.key_of-key.result c.key_of-key.ensures s (c.requires.tree tells) (pairs_of s) c.value_of-value.result c.value_of-value.ensures.long tells (c.requires.values tells) (c.requires.fits tells))
 
 pub replace-requires-clause-room : goal.replace-requires-clause-room
-replace-requires-clause-room g c =
+replace-requires-clause-room g c tells =
     let s = g.N.NodeStore.state c.args.store.now in
-    elim c.requires.room [
-      | inl edit ↦ inr (room_for_one 0 10 s edit).room
-      | inr light ↦ inr light.1
+    elim (c.requires.room tells) [
+      | inl edit ↦ inr (room_for_one 0 10 s (λ _. edit) tells).room
+      | inr light ↦ inr light
     ]
 
 pub returns-in_err-replace-clause-light : goal.returns-in_err-replace-clause-light

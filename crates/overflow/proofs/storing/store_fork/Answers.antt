@@ -37,9 +37,8 @@ make_changes-requires-clause-fits g c tells_now =
     let s = g.N.NodeStore.state c.args.store.now in
     let now = g.N.NodeStore.state c.read_records.new.store in
     let tells : IsTrue s.tells = subst IsTrue c.read_records.ensures.reads.1.same.tells tells_now in
-    changes_fit s now c.args.id c.args.fork c.args.old.now c.args.new.now c.in_ok-records.records.items c.deref-3.result.now
+    changes_fit s now c.args.id c.args.fork c.args.new.now c.in_ok-records.records.items c.deref-3.result.now
     (c.deref-3.ensures.value ∙ c.in_ok-changes.ensures ∙ (λ i. changes_to (c.deref.ensures.value i) ((c.deref-2.ensures.value ∙ c.in_ok-wanted.ensures ∙ ap records_for (c.as_slice.ensures ∙ c.in_ok-used.ensures)) i)))
-    (omega (arith, c.in_ok-records.ensures.few, c.count_most-most.ensures, ap length c.as_slice-2.ensures))
     (λ tells. read_is_all c.args.id c.args.fork c.count_most-most.result c.shape-leaf_records.result.leaf_records (pairs_of s) c.args.old.now c.in_ok-records.records.items c.requires.file (c.requires.holds tells)
     (c.count_most-most.ensures ∙ ap (λ l. min (length l / 8) c.shape-leaf_records.result.leaf_records) c.as_slice-2.ensures)
     (omega (arith, (c.requires.tree tells).header.leaf_records, ap (λ h. h.leaf_records) c.shape-leaf_records.ensures)) (c.in_ok-records.ensures.records tells))
@@ -50,9 +49,8 @@ pub make_changes-requires-clause-room : goal.make_changes-requires-clause-room
 make_changes-requires-clause-room g c =
     let s = g.N.NodeStore.state c.args.store.now in
     let now = g.N.NodeStore.state c.read_records.new.store in
-    changes_room s now c.args.id c.args.fork c.args.old.now c.args.new.now c.in_ok-records.records.items c.deref-3.result.now
+    changes_room s now c.args.id c.args.fork c.args.new.now c.in_ok-records.records.items c.deref-3.result.now
     (c.deref-3.ensures.value ∙ c.in_ok-changes.ensures ∙ (λ i. changes_to (c.deref.ensures.value i) ((c.deref-2.ensures.value ∙ c.in_ok-wanted.ensures ∙ ap records_for (c.as_slice.ensures ∙ c.in_ok-used.ensures)) i)))
-    (omega (arith, c.in_ok-records.ensures.few, c.count_most-most.ensures, ap length c.as_slice-2.ensures))
     (λ tells. read_is_all c.args.id c.args.fork c.count_most-most.result c.shape-leaf_records.result.leaf_records (pairs_of s) c.args.old.now c.in_ok-records.records.items c.requires.file (c.requires.holds tells)
     (c.count_most-most.ensures ∙ ap (λ l. min (length l / 8) c.shape-leaf_records.result.leaf_records) c.as_slice-2.ensures)
     (omega (arith, (c.requires.tree tells).header.leaf_records, ap (λ h. h.leaf_records) c.shape-leaf_records.ensures)) (c.in_ok-records.ensures.records tells))
@@ -62,9 +60,8 @@ pub returns-in_err-make_changes-clause-takes : goal.returns-in_err-make_changes-
 returns-in_err-make_changes-clause-takes g c =
     let s = g.N.NodeStore.state c.args.store.now in
     let now = g.N.NodeStore.state c.read_records.new.store in
-    all_takes s now c.args.id c.args.fork c.args.old.now c.args.new.now c.in_ok-records.records.items c.deref-3.result.now
+    all_takes s now c.args.id c.args.fork c.args.new.now c.in_ok-records.records.items c.deref-3.result.now
     (c.deref-3.ensures.value ∙ c.in_ok-changes.ensures ∙ (λ i. changes_to (c.deref.ensures.value i) ((c.deref-2.ensures.value ∙ c.in_ok-wanted.ensures ∙ ap records_for (c.as_slice.ensures ∙ c.in_ok-used.ensures)) i)))
-    (omega (arith, c.in_ok-records.ensures.few, c.count_most-most.ensures, ap length c.as_slice-2.ensures))
     (λ tells. read_is_all c.args.id c.args.fork c.count_most-most.result c.shape-leaf_records.result.leaf_records (pairs_of s) c.args.old.now c.in_ok-records.records.items c.requires.file (c.requires.holds tells)
     (c.count_most-most.ensures ∙ ap (λ l. min (length l / 8) c.shape-leaf_records.result.leaf_records) c.as_slice-2.ensures)
     (omega (arith, (c.requires.tree tells).header.leaf_records, ap (λ h. h.leaf_records) c.shape-leaf_records.ensures)) (c.in_ok-records.ensures.records tells))
@@ -74,9 +71,8 @@ pub returns-in_err-make_changes-clause-light : goal.returns-in_err-make_changes-
 returns-in_err-make_changes-clause-light g c tells light =
     let s = g.N.NodeStore.state c.args.store.now in
     let now = g.N.NodeStore.state c.read_records.new.store in
-    all_light s now c.args.id c.args.fork c.args.old.now c.args.new.now c.in_ok-records.records.items c.deref-3.result.now
+    all_light s now c.args.id c.args.fork c.args.new.now c.in_ok-records.records.items c.deref-3.result.now
     (c.deref-3.ensures.value ∙ c.in_ok-changes.ensures ∙ (λ i. changes_to (c.deref.ensures.value i) ((c.deref-2.ensures.value ∙ c.in_ok-wanted.ensures ∙ ap records_for (c.as_slice.ensures ∙ c.in_ok-used.ensures)) i)))
-    (omega (arith, c.in_ok-records.ensures.few, c.count_most-most.ensures, ap length c.as_slice-2.ensures))
     (λ tells. read_is_all c.args.id c.args.fork c.count_most-most.result c.shape-leaf_records.result.leaf_records (pairs_of s) c.args.old.now c.in_ok-records.records.items c.requires.file (c.requires.holds tells)
     (c.count_most-most.ensures ∙ ap (λ l. min (length l / 8) c.shape-leaf_records.result.leaf_records) c.as_slice-2.ensures)
     (omega (arith, (c.requires.tree tells).header.leaf_records, ap (λ h. h.leaf_records) c.shape-leaf_records.ensures)) (c.in_ok-records.ensures.records tells))
@@ -93,9 +89,8 @@ returns-clause-records g c tells =
     let s = g.N.NodeStore.state c.args.store.now in
     let now = g.N.NodeStore.state c.read_records.new.store in
     let tells_now : IsTrue now.tells = subst IsTrue (sym c.read_records.ensures.reads.1.same.tells) tells in
-    changes_are_made s now c.args.id c.args.fork c.args.old.now c.args.new.now c.in_ok-records.records.items c.deref-3.result.now
+    changes_are_made s now c.args.id c.args.fork c.args.new.now c.in_ok-records.records.items c.deref-3.result.now
     (c.deref-3.ensures.value ∙ c.in_ok-changes.ensures ∙ (λ i. changes_to (c.deref.ensures.value i) ((c.deref-2.ensures.value ∙ c.in_ok-wanted.ensures ∙ ap records_for (c.as_slice.ensures ∙ c.in_ok-used.ensures)) i)))
-    (omega (arith, c.in_ok-records.ensures.few, c.count_most-most.ensures, ap length c.as_slice-2.ensures))
     (λ tells. read_is_all c.args.id c.args.fork c.count_most-most.result c.shape-leaf_records.result.leaf_records (pairs_of s) c.args.old.now c.in_ok-records.records.items c.requires.file (c.requires.holds tells)
     (c.count_most-most.ensures ∙ ap (λ l. min (length l / 8) c.shape-leaf_records.result.leaf_records) c.as_slice-2.ensures)
     (omega (arith, (c.requires.tree tells).header.leaf_records, ap (λ h. h.leaf_records) c.shape-leaf_records.ensures)) (c.in_ok-records.ensures.records tells))
@@ -109,9 +104,8 @@ returns-clause-extents g c tells =
     let now = g.N.NodeStore.state c.read_records.new.store in
     let tells_now : IsTrue now.tells = subst IsTrue (sym c.read_records.ensures.reads.1.same.tells) tells in
     stored_gives (overflow_in_store (g.N.NodeStore.state c.make_changes.new.store)) c.args.id c.args.fork (in_use c.args.new.now) c.requires.file (in_use_used c.args.new.now)
-    (changes_are_made s now c.args.id c.args.fork c.args.old.now c.args.new.now c.in_ok-records.records.items c.deref-3.result.now
+    (changes_are_made s now c.args.id c.args.fork c.args.new.now c.in_ok-records.records.items c.deref-3.result.now
     (c.deref-3.ensures.value ∙ c.in_ok-changes.ensures ∙ (λ i. changes_to (c.deref.ensures.value i) ((c.deref-2.ensures.value ∙ c.in_ok-wanted.ensures ∙ ap records_for (c.as_slice.ensures ∙ c.in_ok-used.ensures)) i)))
-    (omega (arith, c.in_ok-records.ensures.few, c.count_most-most.ensures, ap length c.as_slice-2.ensures))
     (λ tells. read_is_all c.args.id c.args.fork c.count_most-most.result c.shape-leaf_records.result.leaf_records (pairs_of s) c.args.old.now c.in_ok-records.records.items c.requires.file (c.requires.holds tells)
     (c.count_most-most.ensures ∙ ap (λ l. min (length l / 8) c.shape-leaf_records.result.leaf_records) c.as_slice-2.ensures)
     (omega (arith, (c.requires.tree tells).header.leaf_records, ap (λ h. h.leaf_records) c.shape-leaf_records.ensures)) (c.in_ok-records.ensures.records tells))
@@ -125,9 +119,8 @@ returns-clause-goes_on g c tells =
     let now = g.N.NodeStore.state c.read_records.new.store in
     let tells_now : IsTrue now.tells = subst IsTrue (sym c.read_records.ensures.reads.1.same.tells) tells in
     stored_goes_on (overflow_in_store (g.N.NodeStore.state c.make_changes.new.store)) c.args.id c.args.fork (in_use c.args.new.now) c.requires.file (in_use_used c.args.new.now)
-    (changes_are_made s now c.args.id c.args.fork c.args.old.now c.args.new.now c.in_ok-records.records.items c.deref-3.result.now
+    (changes_are_made s now c.args.id c.args.fork c.args.new.now c.in_ok-records.records.items c.deref-3.result.now
     (c.deref-3.ensures.value ∙ c.in_ok-changes.ensures ∙ (λ i. changes_to (c.deref.ensures.value i) ((c.deref-2.ensures.value ∙ c.in_ok-wanted.ensures ∙ ap records_for (c.as_slice.ensures ∙ c.in_ok-used.ensures)) i)))
-    (omega (arith, c.in_ok-records.ensures.few, c.count_most-most.ensures, ap length c.as_slice-2.ensures))
     (λ tells. read_is_all c.args.id c.args.fork c.count_most-most.result c.shape-leaf_records.result.leaf_records (pairs_of s) c.args.old.now c.in_ok-records.records.items c.requires.file (c.requires.holds tells)
     (c.count_most-most.ensures ∙ ap (λ l. min (length l / 8) c.shape-leaf_records.result.leaf_records) c.as_slice-2.ensures)
     (omega (arith, (c.requires.tree tells).header.leaf_records, ap (λ h. h.leaf_records) c.shape-leaf_records.ensures)) (c.in_ok-records.ensures.records tells))
@@ -160,9 +153,8 @@ pub returns-clause-edits : goal.returns-clause-edits
 returns-clause-edits g c =
     let s = g.N.NodeStore.state c.args.store.now in
     let now = g.N.NodeStore.state c.read_records.new.store in
-    all_edits s now c.args.id c.args.fork c.args.old.now c.args.new.now c.in_ok-records.records.items c.deref-3.result.now
+    all_edits s now c.args.id c.args.fork c.args.new.now c.in_ok-records.records.items c.deref-3.result.now
     (c.deref-3.ensures.value ∙ c.in_ok-changes.ensures ∙ (λ i. changes_to (c.deref.ensures.value i) ((c.deref-2.ensures.value ∙ c.in_ok-wanted.ensures ∙ ap records_for (c.as_slice.ensures ∙ c.in_ok-used.ensures)) i)))
-    (omega (arith, c.in_ok-records.ensures.few, c.count_most-most.ensures, ap length c.as_slice-2.ensures))
     (λ tells. read_is_all c.args.id c.args.fork c.count_most-most.result c.shape-leaf_records.result.leaf_records (pairs_of s) c.args.old.now c.in_ok-records.records.items c.requires.file (c.requires.holds tells)
     (c.count_most-most.ensures ∙ ap (λ l. min (length l / 8) c.shape-leaf_records.result.leaf_records) c.as_slice-2.ensures)
     (omega (arith, (c.requires.tree tells).header.leaf_records, ap (λ h. h.leaf_records) c.shape-leaf_records.ensures)) (c.in_ok-records.ensures.records tells))
@@ -172,9 +164,8 @@ pub returns-clause-takes : goal.returns-clause-takes
 returns-clause-takes g c =
     let s = g.N.NodeStore.state c.args.store.now in
     let now = g.N.NodeStore.state c.read_records.new.store in
-    all_takes s now c.args.id c.args.fork c.args.old.now c.args.new.now c.in_ok-records.records.items c.deref-3.result.now
+    all_takes s now c.args.id c.args.fork c.args.new.now c.in_ok-records.records.items c.deref-3.result.now
     (c.deref-3.ensures.value ∙ c.in_ok-changes.ensures ∙ (λ i. changes_to (c.deref.ensures.value i) ((c.deref-2.ensures.value ∙ c.in_ok-wanted.ensures ∙ ap records_for (c.as_slice.ensures ∙ c.in_ok-used.ensures)) i)))
-    (omega (arith, c.in_ok-records.ensures.few, c.count_most-most.ensures, ap length c.as_slice-2.ensures))
     (λ tells. read_is_all c.args.id c.args.fork c.count_most-most.result c.shape-leaf_records.result.leaf_records (pairs_of s) c.args.old.now c.in_ok-records.records.items c.requires.file (c.requires.holds tells)
     (c.count_most-most.ensures ∙ ap (λ l. min (length l / 8) c.shape-leaf_records.result.leaf_records) c.as_slice-2.ensures)
     (omega (arith, (c.requires.tree tells).header.leaf_records, ap (λ h. h.leaf_records) c.shape-leaf_records.ensures)) (c.in_ok-records.ensures.records tells))
@@ -184,9 +175,8 @@ pub returns-clause-light : goal.returns-clause-light
 returns-clause-light g c tells light =
     let s = g.N.NodeStore.state c.args.store.now in
     let now = g.N.NodeStore.state c.read_records.new.store in
-    all_light s now c.args.id c.args.fork c.args.old.now c.args.new.now c.in_ok-records.records.items c.deref-3.result.now
+    all_light s now c.args.id c.args.fork c.args.new.now c.in_ok-records.records.items c.deref-3.result.now
     (c.deref-3.ensures.value ∙ c.in_ok-changes.ensures ∙ (λ i. changes_to (c.deref.ensures.value i) ((c.deref-2.ensures.value ∙ c.in_ok-wanted.ensures ∙ ap records_for (c.as_slice.ensures ∙ c.in_ok-used.ensures)) i)))
-    (omega (arith, c.in_ok-records.ensures.few, c.count_most-most.ensures, ap length c.as_slice-2.ensures))
     (λ tells. read_is_all c.args.id c.args.fork c.count_most-most.result c.shape-leaf_records.result.leaf_records (pairs_of s) c.args.old.now c.in_ok-records.records.items c.requires.file (c.requires.holds tells)
     (c.count_most-most.ensures ∙ ap (λ l. min (length l / 8) c.shape-leaf_records.result.leaf_records) c.as_slice-2.ensures)
     (omega (arith, (c.requires.tree tells).header.leaf_records, ap (λ h. h.leaf_records) c.shape-leaf_records.ensures)) (c.in_ok-records.ensures.records tells))
