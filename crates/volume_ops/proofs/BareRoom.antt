@@ -1,5 +1,5 @@
 -- What the removal of attributes takes, and the room behind it to remove their folder.
-use Rattle.std.proofs.Common.{◌≡◌, ◌<◌, ◌≤◌, ℕ, zero, suc, ◌+◌, ◌-◌, ◌*◌, ◌/◌, Bool, true, false, List, [], min, max, refl, sym, ◌∙◌, ap, subst, arith}
+use Rattle.std.proofs.Common.{◌≡◌, ◌≤◌, ℕ, zero, suc, ◌+◌, ◌-◌, ◌*◌, ◌/◌, [], min, max, refl, sym, ◌∙◌, subst, arith}
 use Rattle.std.specs.Prelude.{IsTrue, not}
 use Rattle.std.specs.List.{range_with_len}
 use Rattle.std.proofs.lemmas.List.FromFn.{length-range_with_len}
@@ -47,14 +47,13 @@ room_for_folder v w a b rest same was fits =
     (record {
       some = omega (arith, room.writes);
       told = λ tells. let it = was.told (sym same ∙ tells) in (omega (arith, load_low v, room.writes), it.1, it.2);
-      untold = λ silent. let it = was.untold (sym same ∙ silent) in (it.0, it.1, it.2, room.writes);
     })
 
 -- told, the edits take what is counted
 pub spent_counted : EditsTakeTheirLoad → (many : ℕ) (v w : Volume) (a b : Space) → IsTrue a.tells → 4096 ≤ v.attributes.file.shape.node_size → TakesAtMost many 266 (state_of [] v.attributes.file a) (state_of [] w.attributes.file b) → a.spare ≤ b.spare + bare_load v many
 spent_counted law many v w a b tells large takes =
     let size : 3 * (266 + 8) ≤ v.attributes.file.shape.node_size - 16 = omega (arith, large) in
-    let costs = takes (v.attributes.file.shape.depth + many) (record { told = λ told. tops_rise _ _ many _; untold = λ silent. omega arith }) in
+    let costs = takes tells (v.attributes.file.shape.depth + many) (tops_rise _ _ many _) in
     let grown : HasGrown (attributes_cost v) 0 (state_of [] v.attributes.file a) = record { node_size = refl; depth = refl; records = refl; total = omega arith; free = omega arith } in
     let written : IsWrittenByGrowth (attributes_cost v) 0 0 (state_of [] v.attributes.file a) = record {
       few = omega arith;

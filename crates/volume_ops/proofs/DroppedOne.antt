@@ -1,6 +1,6 @@
 -- Attributes dropped one after another, by their names: what is left, and the room for the next.
-use Rattle.std.proofs.Common.{◌≡◌, ◌⊎◌, inl, inr, ◌<◌, ◌≤◌, ℕ, zero, suc, ◌+◌, ◌-◌, ◌*◌, ◌/◌, Bool, true, false, List, [], ◌∷◌, ◌++◌, length, map, get_or, min, refl, sym, ◌∙◌, ap, subst, arith}
-use Rattle.std.specs.Prelude.{slice_index, slice_index_or, IsTrue, All, Contains, ◌==◌, ◌&&◌, not, OnOk, Result, Ok, Err, if◌then◌else◌}
+use Rattle.std.proofs.Common.{◌≡◌, ◌⊎◌, inl, inr, ◌<◌, ◌≤◌, ℕ, zero, suc, ◌+◌, ◌-◌, ◌/◌, Bool, true, false, List, [], ◌∷◌, ◌++◌, length, map, get_or, min, refl, sym, ◌∙◌, ap, subst, arith}
+use Rattle.std.specs.Prelude.{slice_index, slice_index_or, IsTrue, Contains, ◌==◌, ◌&&◌, not, if◌then◌else◌}
 use Rattle.std.specs.Str.{bytes_eq}
 use Rattle.std.specs.List.{range_with_len}
 use Rattle.std.proofs.lemmas.Bool.{cases_eq, true≢false}
@@ -9,7 +9,6 @@ use Rattle.std.proofs.lemmas.List.FromFn.{length-range_with_len}
 use Rattle.std.proofs.lemmas.List.Sums.{count_by-le-length}
 use Rattle.std.proofs.lemmas.Slice.Eq.{bytes_eq-Decides}
 use Rattle.std.proofs.Math.Nat.{le-div_iff_mul-le}
-use Rattle.sector_disk.specs.Lists.{Content}
 use Rattle.sector_disk.specs.Space.{Space}
 use Rattle.btree_node.specs.Keys.{IsAttrKey, attr_cmp, anything}
 use Rattle.btree_node.specs.Levels.{Pair}
@@ -23,6 +22,7 @@ use Rattle.btree_file.specs.Frame.{FollowsOn}
 use Rattle.btree_file.specs.FrameLaws.{same_sectors}
 use Rattle.btree_file.specs.Standing.{HoldsTree, LiesInside, LiesOpen, pairs_in}
 use Rattle.btree_file.specs.State.{is_written, sectors_of_tree, state_of}
+use Rattle.btree_file.specs.Map.{is_reserved}
 use Rattle.btree_file.specs.declared.tree.TreeFile.{TreeFile}
 use Rattle.btree_file.proofs.StandingLaws.{pairs_held, tree_held}
 use Rattle.attributes.specs.Owned.{is_of, names_of}
@@ -139,6 +139,16 @@ module _ (v w : TreeFile) (a b : Space) (follows : FollowsOn v w a b) where
       subst (λ (l : List ℕ). IsTrue b.tells → (k : ℕ) → k < length l → b.closed (slice_index l k) → ⊥) (sym (same_sectors v w follows.file))
       (λ tells k low closed. let told : IsTrue a.tells = sym follows.space.same.tells ∙ tells in was told k low ((follows.space.closed told (slice_index (sectors_of_tree v) k)).0 closed))
 
+  -- it is the same store
+  pub same_then : (names : List ℕ) → SameStore (state_of names v a) (state_of names w b)
+  same_then names = record {
+    tells = follows.space.same.tells;
+    names = refl;
+    node_size = follows.file.node_size;
+    total = follows.file.total;
+    reserved = λ n. ap (λ l. is_reserved l n) follows.file.map;
+  }
+
 -- the pairs of a tree of attributes are sorted
 pub sorted_held : (tree : TreeFile) (space : Space) → HoldsTree attributes_form IsAttrKey anything attr_cmp tree space.content → AreSortedAttributes (pairs_in (sectors_of_tree tree) space.content)
 sorted_held tree space holds =
@@ -155,29 +165,25 @@ room_for_drop names tree space fits =
     (le-div_iff_mul-le {k = tree.shape.node_size / 512} {x = min (edit_writes (tree.shape.depth + 1)) tree.shape.total} {y = space.spare} some).1 fits.writes in
     record {
       deepest = tree.shape.depth + 1;
-      deep = record { told = λ tells. tops_rise _ _ 1 _; untold = λ silent. omega arith };
+      deep = tops_rise _ _ 1 _;
       depth = λ any. fits.depth;
       records = fits.records;
       free = omega (arith, fits.free);
       writes = omega (arith, few, fit);
     }
 
-pub same_taken : (many : ℕ) (a b : Store) → TakesAtMost many 266 a b → SameStore a b
-same_taken many a b takes = (takes (a.shape.depth + many) (record { told = λ tells. tops_rise _ _ many _; untold = λ silent. omega arith })).same
-
 pub edits_none : (store : Store) → TakesEdits 0 266 store store
 edits_none store = record {
   takes = takes_none 0 266 store;
   top = λ tells. record { depth = omega arith; records = λ same deep. omega arith };
-  depth = omega arith;
-  records = omega arith;
+  records = λ tells. omega arith;
 }
 
-pub edits_more : (made : ℕ) (a b c : Store) → TakesEdits made 266 a b → TakesEdits 1 266 b c → TakesEdits (made + 1) 266 a c
-edits_more made a b c first second = edits_add made 1 266 a b c (same_taken made a b first.takes) first second
+pub edits_more : (made : ℕ) (a b c : Store) → SameStore a b → TakesEdits made 266 a b → TakesEdits 1 266 b c → TakesEdits (made + 1) 266 a c
+edits_more made a b c same first second = edits_add made 1 266 a b c same first second
 
-pub takes_more : (made most : ℕ) (a b c : Store) → made < most → TakesEdits made 266 a b → TakesAtMost 1 266 b c → TakesAtMost most 266 a c
-takes_more made most a b c less first second = takes_up (made + 1) most a c (omega (arith, less)) (takes_both made 1 266 a b c (same_taken made a b first.takes) first second)
+pub takes_more : (made most : ℕ) (a b c : Store) → made < most → SameStore a b → TakesEdits made 266 a b → TakesAtMost 1 266 b c → TakesAtMost most 266 a c
+takes_more made most a b c less same first second = takes_up (made + 1) most a c (omega (arith, less)) (takes_both made 1 266 a b c same first second)
   where
     takes_up : (few many : ℕ) (x y : Store) → few ≤ many → TakesAtMost few 266 x y → TakesAtMost many 266 x y
     takes_up few many x y low takes = subst (λ n. TakesAtMost n 266 x y) (omega (arith, low)) (takes_fewer few (many - few) 266 x y takes)

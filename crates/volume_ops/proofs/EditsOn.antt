@@ -1,5 +1,5 @@
 -- Edits of the catalog's tree over a space: what a caller gets back.
-use Rattle.std.proofs.Common.{◌≡◌, ℕ, ◌+◌, IsTrue, List, refl, sym, ◌∙◌, ap, subst}
+use Rattle.std.proofs.Common.{◌≡◌, ℕ, IsTrue, List, refl, ◌∙◌, ap, subst}
 use Rattle.std.specs.Prelude.{Result, Ok, Err, IfOk, OnOk}
 use Rattle.hx_bytes.specs.declared.faults.Trouble.{Trouble}
 use Rattle.btree_node.specs.Keys.{IsCatalogKey, catalog_cmp, anything}
@@ -8,7 +8,7 @@ use Rattle.btree_node.specs.Store.{unwritten_sectors}
 use Rattle.btree_node.specs.Tree.{IsTree, pairs_of}
 use Rattle.btree_node.specs.TreeFile.{catalog_form, tree_head, shape_of}
 use Rattle.btree_edit.specs.Editing.{CostsAtMost}
-use Rattle.btree_edit.specs.Edits.{GoesNoDeeper, TakesAtMost, TakesEdits}
+use Rattle.btree_edit.specs.Edits.{TakesAtMost, TakesEdits}
 use Rattle.catalog.specs.Rooms.{TakesUpdates}
 use Rattle.sector_disk.specs.Space.{Space}
 use Rattle.btree_file.specs.Frame.{FollowsOn}
@@ -52,15 +52,14 @@ costs_renamed first later names before after old new most takes was = record {
 }
 
 pub takes_renamed : (first later names : List ℕ) (before after : TreeFile) (old new : Space) (edits longest : ℕ) → TakesAtMost edits longest (state_of first before old) (state_of later after new) → TakesAtMost edits longest (state_of names before old) (state_of names after new)
-takes_renamed first later names before after old new edits longest was deepest deep =
-    costs_renamed first later names before after old new _ _ (was deepest (record { told = deep.told; untold = deep.untold }))
+takes_renamed first later names before after old new edits longest was tells deepest deep =
+    costs_renamed first later names before after old new _ _ (was tells deepest deep)
 
 pub edits_renamed : (first later names : List ℕ) (before after : TreeFile) (old new : Space) (edits longest : ℕ) {A : Type 0} (result : Result A Trouble)
     → OnOk result (TakesEdits edits longest (state_of first before old) (state_of later after new)) → OnOk result (TakesEdits edits longest (state_of names before old) (state_of names after new))
 edits_renamed first later names before after old new edits longest (Ok answer) was = record {
   takes = takes_renamed first later names before after old new edits longest was.takes;
   top = was.top;
-  depth = was.depth;
   records = was.records;
 }
 edits_renamed first later names before after old new edits longest (Err why) was = was
@@ -68,12 +67,8 @@ edits_renamed first later names before after old new edits longest (Err why) was
 pub updates_renamed : (first later names : List ℕ) (before after : TreeFile) (old new : Space) (edits updates longest : ℕ) {A : Type 0} (result : Result A Trouble)
     → OnOk result (TakesUpdates edits updates longest (state_of first before old) (state_of later after new)) → OnOk result (TakesUpdates edits updates longest (state_of names before old) (state_of names after new))
 updates_renamed first later names before after old new edits updates longest (Ok answer) was = record {
-  takes = λ tells deepest deep. costs_renamed first later names before after old new _ _ (was.takes tells deepest (record { told = deep.told; untold = deep.untold }));
+  takes = λ tells deepest deep. costs_renamed first later names before after old new _ _ (was.takes tells deepest deep);
   top = was.top;
-  depth = was.depth;
   records = was.records;
-  untold = λ silent.
-      let it = was.untold silent in
-      record { takes = takes_renamed first later names before after old new (edits + updates) longest (was.untold silent).takes; top = it.top; depth = it.depth; records = it.records };
 }
 updates_renamed first later names before after old new edits updates longest (Err why) was = was

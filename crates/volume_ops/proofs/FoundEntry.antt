@@ -1,10 +1,9 @@
 -- The entry that was found by the CNID of a folder or file of the tree is where that stands; and reads leave the room for an update.
-use Rattle.std.proofs.Common.{◌≡◌, ◌≤◌, ℕ, ◌+◌, ◌/◌, ◌^◌, ◌-◌, Bool, false, List, refl, sym, ◌∙◌, ap, subst}
+use Rattle.std.proofs.Common.{◌≡◌, ◌≤◌, ℕ, ◌/◌, ◌-◌, false, List, refl, sym, ◌∙◌, ap, subst}
 use Rattle.std.specs.Prelude.{Contains, IsTrue, Option, None, Some, Result, Ok, Err, OnOk}
 use Rattle.std.specs.Option.{option_map}
 use Rattle.sector_disk.specs.Lists.{Content}
 use Rattle.sector_disk.specs.Space.{Space}
-use Rattle.btree_edit.specs.Editing.{edit_writes}
 use Rattle.btree_node.specs.Keys.{IsCatalogKey, catalog_cmp}
 use Rattle.btree_node.specs.Levels.{Pair}
 use Rattle.btree_node.specs.TreeFile.{store_of}
@@ -12,13 +11,11 @@ use Rattle.btree_node.specs.declared.store.TreeShape.{TreeShape}
 use Rattle.btree_file.specs.Held.{file_in}
 use Rattle.btree_file.specs.Standing.{pairs_in}
 use Rattle.btree_file.specs.State.{sectors_of_tree}
-use Rattle.cat_records.specs.declared.record.CatRecord.{CatRecord}
 use Rattle.catalog.specs.Pairs.{value_at}
 use Rattle.hfs_model.specs.declared.plain.PlainNode.{PlainNode}
-use Rattle.hfs_volume.specs.Changes.{AreSorted}
 use Rattle.hfs_volume.specs.Content.{VolumeState, volume_of, records_of, attributes_of}
 use Rattle.hfs_volume.specs.Entries.{AreSpelled, AreThreaded}
-use Rattle.hfs_volume.specs.Records.{Placed, placed_in, entries_of, id_of, id_in, is_thread, is_empty}
+use Rattle.hfs_volume.specs.Records.{Placed, entries_of, id_of, id_in, is_thread, is_empty}
 use Rattle.hfs_volume.specs.TreeOf.{tree_of, file_bytes}
 use Rattle.hfs_volume.proofs.Members.{each_of}
 use Rattle.hfs_volume.proofs.NodesOf.{IsNodeOf, nodes_from}
@@ -106,8 +103,6 @@ node_still v w a b reads = ap (λ (s : TreeShape). s.node_size / 512) reads.keep
 pub room_still : (v w : Volume) (a b : Space) → ReadsVolume v w a b → HasRoomToUpdate v a → HasRoomToUpdate w b
 room_still v w a b reads was = record {
   told = λ tells. subst (λ (k : ℕ × ℕ). k.0 ≤ k.1) {x = (catalog_node v, a.spare)} {y = (catalog_node w, b.spare)} (λ i. (sym (node_still v w a b reads) i, sym reads.looks.spare i)) (was.told (sym reads.looks.same.tells ∙ tells));
-  untold = λ untold. subst (λ (k : TreeShape × ℕ). (k.0.depth + 1 ≤ 11) × (k.0.leaf_records + 1 ≤ 2 ^ 32 - 1) × (k.0.depth + 2 ≤ k.0.free) × (edit_writes (k.0.depth + 1) ≤ k.1 / (k.0.node_size / 512)))
-      {x = (v.catalog.file.shape, a.spare)} {y = (w.catalog.file.shape, b.spare)} (λ i. (sym reads.keeps.catalog.file.shape i, sym reads.looks.spare i)) (was.untold (sym reads.looks.same.tells ∙ untold));
 }
 
 -- ---- results

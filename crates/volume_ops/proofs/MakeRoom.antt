@@ -1,16 +1,13 @@
 -- The room for a new folder or file: for its edits of the catalog, and behind them for the folder above.
-use Rattle.std.proofs.Common.{◌≡◌, ◌<◌, ◌≤◌, ℕ, ◌+◌, ◌-◌, ◌*◌, ◌/◌, ◌^◌, Bool, true, false, List, [], ◌∷◌, length, min, refl, sym, ◌∙◌, ap, subst, arith}
+use Rattle.std.proofs.Common.{◌≡◌, ◌<◌, ◌≤◌, ℕ, ◌+◌, ◌-◌, ◌*◌, ◌/◌, ◌^◌, Bool, true, false, List, [], ◌∷◌, length, refl, sym, ◌∙◌, ap, subst, arith}
 use Rattle.std.specs.Prelude.{◌||◌, not, nat_le, nat_lt, IsTrue, count_by}
 use Rattle.std.specs.List.{range_with_len}
-use Rattle.std.proofs.Math.Nat.{le-div_iff_mul-le, mul-le-mul_right, min-le_left}
 use Rattle.std.proofs.lemmas.Bool.{ltb-false, true≢false}
 use Rattle.std.proofs.lemmas.List.FromFn.{length-range_with_len}
 use Rattle.sector_disk.specs.Space.{Space}
-use Rattle.btree_node.specs.Store.{unwritten_sectors}
 use Rattle.volume_header.specs.declared.header.VolumeHeader.{VolumeHeader}
-use Rattle.btree_node.specs.declared.store.TreeShape.{TreeShape}
 use Rattle.btree_edit.specs.Editing.{CostsAtMost, edit_writes}
-use Rattle.btree_edit.specs.Edits.{EditRoom, TakesAtMost, TakesEdits}
+use Rattle.btree_edit.specs.Edits.{EditRoom, TakesAtMost}
 use Rattle.btree_file.specs.FrameLaws.{state_well_formed}
 use Rattle.btree_file.specs.State.{is_written, state_of}
 use Rattle.hfs_volume.specs.Cost.{catalog_key, depth_of, growth, is_too_deep, node_sectors, rises, tree_load}
@@ -57,86 +54,37 @@ module _ (v : Volume) (names : List ℕ) (m : Space) where
 
 -- ---- edits
 
-pub many_fit : (k n spare : ℕ) → 0 < n → k * n ≤ spare → k ≤ spare / n
-many_fit k n spare some fits = (le-div_iff_mul-le {k = n} {x = k} {y = spare} some).1 fits
-
-pub least_low : (m x y : ℕ) → m ≤ y → min m x ≤ y
-least_low m x y low = omega (arith, low, min-le_left m x)
-
-pub fewer_fit : (few many n spare : ℕ) → few ≤ many → many * n ≤ spare → few * n ≤ spare
-fewer_fit few many n spare less fits = omega (arith, fits, mul-le-mul_right {m = few} {n = many} n less)
-
 -- the header is put before
-pub room_for_entry : EditsHaveRoom → (v : Volume) (a m : Space) → HasRoomToMake v a → 4096 ≤ v.catalog.file.shape.node_size → m.tells ≡ a.tells → a.spare ≤ m.spare + 1 → (names : List ℕ) → EditRoom 2 516 (state_of names v.catalog.file m)
-room_for_entry law v a m room large same spent names = by a.tells refl
-  where
-    by : (b : Bool) → a.tells ≡ b → EditRoom 2 516 (state_of names v.catalog.file m)
-    by true tells =
-        let told = room.told tells in
-        let size : 3 * (516 + 8) ≤ v.catalog.file.shape.node_size - 16 = omega (arith, large) in
-        law v.header.block_size catalog_key 2 0 (catalog_cost v) (state_of names v.catalog.file m) (same ∙ tells) (state_well_formed names v.catalog.file m) size (records_low (catalog_cost v) told.1) told.1
-        (subst (λ g. HasGrown (catalog_cost v) g (state_of names v.catalog.file m)) (sym told.2) (grown v names m)) (subst (λ g. IsWrittenByGrowth (catalog_cost v) g 0 (state_of names v.catalog.file m)) (sym told.2) (written v names m))
-        (subst (λ g. tree_load catalog_key (catalog_cost v) 2 g ≤ m.spare + 0 * node_sectors (catalog_cost v)) (sym told.2) (omega (arith, told.0, spent)))
-    by false silent =
-        let it = room.untold silent in
-        let node = v.catalog.file.shape.node_size / 512 in
-        let some : 0 < v.catalog.file.shape.node_size / 512 = omega (arith, large) in
-        record {
-          deepest = v.catalog.file.shape.depth + 2;
-          deep = record { told = λ tells. absurd (true≢false (sym tells ∙ same ∙ silent)); untold = λ _. omega arith };
-          depth = λ _. omega (arith, it.0);
-          records = omega (arith, it.1);
-          free = omega (arith, it.2);
-          writes = least_low (2 * edit_writes (v.catalog.file.shape.depth + 2)) (state_of names v.catalog.file m).unwritten (m.spare / (v.catalog.file.shape.node_size / 512))
-              (many_fit (2 * edit_writes (v.catalog.file.shape.depth + 2)) (v.catalog.file.shape.node_size / 512) m.spare some
-              (fewer_fit (2 * edit_writes (v.catalog.file.shape.depth + 2)) (3 * edit_writes (v.catalog.file.shape.depth + 3)) (v.catalog.file.shape.node_size / 512) m.spare (omega arith) (omega (arith, it.3, spent))));
-        }
-
--- what so many writes take
-pub spent_nodes : (v w : Volume) (m b : Space) (most takes : ℕ) → CostsAtMost most takes (state_of [] v.catalog.file m) (state_of [] w.catalog.file b) → m.spare ≤ b.spare + most * catalog_node v
-unfolding unwritten_sectors
-spent_nodes v w m b most takes costs =
-    let grown : (state_of [] v.catalog.file m).unwritten * catalog_node v ≤ ((state_of [] w.catalog.file b).unwritten + most) * catalog_node v =
-    mul-le-mul_right {m = (state_of [] v.catalog.file m).unwritten} {n = (state_of [] w.catalog.file b).unwritten + most} (catalog_node v) costs.some in
-    let parts : ((state_of [] w.catalog.file b).unwritten + most) * catalog_node v ≡ (state_of [] w.catalog.file b).unwritten * catalog_node v + most * catalog_node v = omega arith in
-    let size : (state_of [] w.catalog.file b).unwritten * (w.catalog.file.shape.node_size / 512) ≡ (state_of [] w.catalog.file b).unwritten * catalog_node v = ap (λ n. (state_of [] w.catalog.file b).unwritten * (n / 512)) costs.same.node_size in
-    omega (arith, costs.sectors, grown, parts, size)
+pub room_for_entry : EditsHaveRoom → (v : Volume) (a m : Space) → HasRoomToMake v a → 4096 ≤ v.catalog.file.shape.node_size → m.tells ≡ a.tells → a.spare ≤ m.spare + 1 → (names : List ℕ) → IsTrue m.tells → EditRoom 2 516 (state_of names v.catalog.file m)
+room_for_entry law v a m room large same spent names tells_now =
+    let told = room.told (sym same ∙ tells_now) in
+    let size : 3 * (516 + 8) ≤ v.catalog.file.shape.node_size - 16 = omega (arith, large) in
+    law v.header.block_size catalog_key 2 0 (catalog_cost v) (state_of names v.catalog.file m) tells_now (state_well_formed names v.catalog.file m) size (records_low (catalog_cost v) told.1) told.1
+    (subst (λ g. HasGrown (catalog_cost v) g (state_of names v.catalog.file m)) (sym told.2) (grown v names m)) (subst (λ g. IsWrittenByGrowth (catalog_cost v) g 0 (state_of names v.catalog.file m)) (sym told.2) (written v names m))
+    (subst (λ g. tree_load catalog_key (catalog_cost v) 2 g ≤ m.spare + 0 * node_sectors (catalog_cost v)) (sym told.2) (omega (arith, told.0, spent)))
 
 module _ (law : EditsHaveRoom) (takes_law : EditsTakeTheirLoad) (v w : Volume) (a m b : Space) (room : HasRoomToMake v a) (large : 4096 ≤ v.catalog.file.shape.node_size) (same : m.tells ≡ a.tells) (spent : a.spare ≤ m.spare + 1)
     (takes : TakesAtMost 2 516 (state_of [] v.catalog.file m) (state_of [] w.catalog.file b))
   where
-    costs : CostsAtMost (2 * edit_writes (room_for_entry law v a m room large same spent []).deepest) (2 * ((room_for_entry law v a m room large same spent []).deepest + 1)) (state_of [] v.catalog.file m) (state_of [] w.catalog.file b)
-    costs = takes (room_for_entry law v a m room large same spent []).deepest (room_for_entry law v a m room large same spent []).deep
-
-    node_same : catalog_node w ≡ catalog_node v
-    node_same = ap (λ n. n / 512) costs.same.node_size
+    costs : (tells : IsTrue m.tells)
+        → CostsAtMost (2 * edit_writes (room_for_entry law v a m room large same spent [] tells).deepest) (2 * ((room_for_entry law v a m room large same spent [] tells).deepest + 1)) (state_of [] v.catalog.file m) (state_of [] w.catalog.file b)
+    costs tells = takes tells (room_for_entry law v a m room large same spent [] tells).deepest (room_for_entry law v a m room large same spent [] tells).deep
 
     told_after : IsTrue a.tells → m.spare ≤ b.spare + entry_load v
     told_after tells =
         let size : 3 * (516 + 8) ≤ v.catalog.file.shape.node_size - 16 = omega (arith, large) in
-        let it = takes_law catalog_key 2 0 0 (catalog_cost v) (state_of [] v.catalog.file m) (state_of [] w.catalog.file b) (same ∙ tells) size (grown v [] m) (written v [] m) costs.same takes in
+        let it = takes_law catalog_key 2 0 0 (catalog_cost v) (state_of [] v.catalog.file m) (state_of [] w.catalog.file b) (same ∙ tells) size (grown v [] m) (written v [] m) (costs (same ∙ tells)).same takes in
         omega (arith, it)
 
     pub spent_entry : IsTrue a.tells → a.spare ≤ b.spare + (1 + entry_load v)
     spent_entry tells = omega (arith, told_after tells, spent)
 
-    pub room_behind : b.tells ≡ m.tells → TakesEdits 2 516 (state_of [] v.catalog.file m) (state_of [] w.catalog.file b) → HasRoomToUpdate w b
-    room_behind later edits = record {
-      told = λ tells. let before = sym same ∙ sym later ∙ tells in omega (arith, told_after (sym same ∙ sym later ∙ tells), spent, (room.told (sym same ∙ sym later ∙ tells)).0, node_same);
-      untold = λ silent.
-          let it = room.untold (sym same ∙ sym later ∙ silent) in
-          let paid = takes (v.catalog.file.shape.depth + 2) (record { told = λ tells. absurd (true≢false (sym tells ∙ sym later ∙ silent)); untold = λ _. omega arith }) in
-          let out = spent_nodes v w m b (2 * edit_writes (v.catalog.file.shape.depth + 2)) (2 * (v.catalog.file.shape.depth + 2 + 1)) paid in
-          let some : 0 < w.catalog.file.shape.node_size / 512 = omega (arith, large, costs.same.node_size) in
-          let both : (2 * edit_writes (v.catalog.file.shape.depth + 2) + edit_writes (w.catalog.file.shape.depth + 1)) * catalog_node v ≤ 3 * edit_writes (v.catalog.file.shape.depth + 3) * catalog_node v =
-          mul-le-mul_right {m = 2 * edit_writes (v.catalog.file.shape.depth + 2) + edit_writes (w.catalog.file.shape.depth + 1)} {n = 3 * edit_writes (v.catalog.file.shape.depth + 3)} (catalog_node v) (omega (arith, edits.depth)) in
-          let parts : (2 * edit_writes (v.catalog.file.shape.depth + 2) + edit_writes (w.catalog.file.shape.depth + 1)) * catalog_node v ≡ 2 * edit_writes (v.catalog.file.shape.depth + 2) * catalog_node v + edit_writes (w.catalog.file.shape.depth + 1) * catalog_node v = omega arith in
-          let here : edit_writes (w.catalog.file.shape.depth + 1) * catalog_node w ≡ edit_writes (w.catalog.file.shape.depth + 1) * catalog_node v = ap (λ n. edit_writes (w.catalog.file.shape.depth + 1) * n) node_same in (
-            omega (arith, it.0, edits.depth),
-            omega (arith, it.1, edits.records),
-            omega (arith, it.2, paid.free, edits.depth),
-            many_fit (edit_writes (w.catalog.file.shape.depth + 1)) (w.catalog.file.shape.node_size / 512) b.spare some (omega (arith, out, both, parts, here, it.3, spent)),
-          );
+    pub room_behind : b.tells ≡ m.tells → HasRoomToUpdate w b
+    room_behind later = record {
+      told = λ tells_now.
+          let tells : IsTrue a.tells = sym same ∙ sym later ∙ tells_now in
+          let node_same : catalog_node w ≡ catalog_node v = ap (λ n. n / 512) (costs (same ∙ tells)).same.node_size in
+          omega (arith, told_after tells, spent, (room.told tells).0, node_same);
     }
 
 -- ---- reads leave the room
@@ -155,7 +103,4 @@ module _ (v w : Volume) (a b : Space) (reads : ReadsVolume v w a b) where
     told = λ tells.
         subst (λ (k : TreeFacts × VolumeHeader × ℕ). (1 + k.0.shape.node_size / 512 + tree_load catalog_key (cost_of_tree k.0 0) 2 0 ≤ k.2) × (is_too_deep catalog_key (cost_of_tree k.0 0) 2 ≡ false) × (growth k.1.block_size catalog_key (cost_of_tree k.0 0) 2 ≡ 0))
         {x = (facts_on v.catalog.file, v.header, a.spare)} {y = (facts_on w.catalog.file, w.header, b.spare)} (λ i. (sym (facts_read (sym reads.looks.same.tells ∙ tells)) i, sym reads.keeps.header i, sym reads.looks.spare i)) (was.told (sym reads.looks.same.tells ∙ tells));
-    untold = λ silent.
-        subst (λ (k : TreeShape × ℕ). (k.0.depth + 3 ≤ 11) × (k.0.leaf_records + 3 ≤ 2 ^ 32 - 1) × (3 * (k.0.depth + 4) ≤ k.0.free) × (3 * edit_writes (k.0.depth + 3) * (k.0.node_size / 512) + 1 ≤ k.1))
-        {x = (v.catalog.file.shape, a.spare)} {y = (w.catalog.file.shape, b.spare)} (λ i. (sym reads.keeps.catalog.file.shape i, sym reads.looks.spare i)) (was.untold (sym reads.looks.same.tells ∙ silent));
   }

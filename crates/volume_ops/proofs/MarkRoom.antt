@@ -1,17 +1,15 @@
 -- The room for edits of the attributes file and for the record of their owner, and what they take of it.
-use Rattle.std.proofs.Common.{◌≡◌, ◌⊎◌, ◌<◌, ◌≤◌, ℕ, ◌+◌, ◌-◌, ◌*◌, ◌/◌, ◌^◌, Bool, true, false, List, [], length, min, refl, sym, ◌∙◌, ap, subst, arith, inl, inr}
+use Rattle.std.proofs.Common.{◌≡◌, ◌<◌, ◌≤◌, ℕ, ◌+◌, ◌-◌, ◌*◌, ◌/◌, ◌^◌, Bool, true, false, List, [], refl, sym, ◌∙◌, ap, subst, arith, inl, inr}
 use Rattle.std.specs.Prelude.{◌==◌, ◌&&◌, ◌||◌, not, nat_le, nat_lt, IsTrue}
-use Rattle.std.specs.List.{count_by, range_with_len}
-use Rattle.std.proofs.Math.Nat.{le-div_iff_mul-le, mul-le-mul_right, min-le_left}
+use Rattle.std.specs.List.{range_with_len}
 use Rattle.std.proofs.lemmas.Bool.{ltb-false, true≢false}
 use Rattle.std.proofs.lemmas.List.FromFn.{length-range_with_len}
 use Rattle.std.proofs.lemmas.List.Sums.{count_by-le-length}
 use Rattle.sector_disk.specs.Space.{Space}
 use Rattle.btree_node.specs.Node.{IsNodeSize}
-use Rattle.btree_node.specs.Store.{Store, unwritten_sectors}
 use Rattle.btree_node.specs.declared.store.TreeShape.{TreeShape}
 use Rattle.btree_edit.specs.Editing.{CostsAtMost, edit_writes}
-use Rattle.btree_edit.specs.Edits.{EditRoom, GoesNoDeeper, TakesAtMost}
+use Rattle.btree_edit.specs.Edits.{EditRoom, TakesAtMost}
 use Rattle.btree_file.specs.FrameLaws.{state_well_formed}
 use Rattle.btree_file.specs.State.{is_written, state_of}
 use Rattle.btree_file.specs.declared.tree.TreeFile.{TreeFile}
@@ -22,7 +20,7 @@ use Rattle.hfs_volume.specs.declared.cost.TreeCost.{TreeCost}
 use Rattle.tree_weights.specs.Weights.{EditsHaveRoom, EditsTakeTheirLoad, HasGrown, IsWrittenByGrowth}
 use Rattle.volume_header.specs.declared.header.VolumeHeader.{VolumeHeader}
 use Rattle.volume_ops.specs.Attributing.{HasRoomToMark, attributes_cost, mark_load}
-use Rattle.volume_ops.specs.Changing.{HasRoomToUpdate, catalog_node}
+use Rattle.volume_ops.specs.Changing.{HasRoomToUpdate}
 use Rattle.volume_ops.specs.Lists.{facts_on}
 use Rattle.volume_ops.specs.Looking.{ReadsVolume}
 use Rattle.volume_ops.specs.declared.volume.Tree.{Tree}
@@ -43,12 +41,6 @@ some_sector size (inr (inr (inr (inr (inr (inr is)))))) = omega (arith, is)
 
 pub some_node : (tree : TreeFile) (space : Space) → 0 < tree.shape.node_size / 512
 some_node tree space = some_sector tree.shape.node_size (state_well_formed [] tree space).node_size
-
-least_low : (m x y : ℕ) → m ≤ y → min m x ≤ y
-least_low m x y low = omega (arith, low, min-le_left m x)
-
-many_fit : (k n spare : ℕ) → 0 < n → k * n ≤ spare → k ≤ spare / n
-many_fit k n spare some fits = (le-div_iff_mul-le {k = n} {x = k} {y = spare} some).1 fits
 
 third_false : (a b c : Bool) → (a || b || c) ≡ false → c ≡ false
 third_false true b c is = absurd (true≢false is)
@@ -78,67 +70,31 @@ module _ (edits : ℕ) (some : (edits == 0) ≡ false) where
     }
 
   -- there is room for them
-  pub room_for_edits : EditsHaveRoom → (v : Volume) (a : Space) → HasRoomToMark edits v a → IsTrue (has_attributes v.header) → 4096 ≤ v.attributes.file.shape.node_size → (names : List ℕ) → EditRoom edits 266 (state_of names v.attributes.file a)
-  room_for_edits law v a room has large names = by a.tells refl
-    where
-      by : (b : Bool) → a.tells ≡ b → EditRoom edits 266 (state_of names v.attributes.file a)
-      by true tells =
-          let told = room.told tells has in
-          let size : 3 * (266 + 8) ≤ v.attributes.file.shape.node_size - 16 = omega (arith, large) in
-          law v.header.block_size attributes_key edits 0 (attributes_cost v) (state_of names v.attributes.file a) tells (state_well_formed names v.attributes.file a) size (records_low (attributes_cost v) told.1) told.1
-          (subst (λ g. HasGrown (attributes_cost v) g (state_of names v.attributes.file a)) (sym told.2) (grown v names a)) (subst (λ g. IsWrittenByGrowth (attributes_cost v) g 0 (state_of names v.attributes.file a)) (sym told.2) (written v names a))
-          (subst (λ g. tree_load attributes_key (attributes_cost v) edits g ≤ a.spare + 0 * node_sectors (attributes_cost v)) (sym told.2) (omega (arith, told.0)))
-      by false silent =
-          let it = room.untold silent has in
-          record {
-            deepest = v.attributes.file.shape.depth + edits;
-            deep = record { told = λ tells. absurd (true≢false (sym tells ∙ silent)); untold = λ _. omega arith };
-            depth = λ _. omega (arith, it.0);
-            records = omega (arith, it.1);
-            free = omega (arith, it.2);
-            writes = least_low (edits * edit_writes (v.attributes.file.shape.depth + edits)) (state_of names v.attributes.file a).unwritten (a.spare / (v.attributes.file.shape.node_size / 512))
-                (many_fit (edits * edit_writes (v.attributes.file.shape.depth + edits)) (v.attributes.file.shape.node_size / 512) a.spare (some_node v.attributes.file a) (omega (arith, it.3)));
-          }
-
-  -- what so many writes take
-  spent_nodes : (v w : Volume) (a c : Space) (most takes : ℕ) → CostsAtMost most takes (state_of [] v.attributes.file a) (state_of [] w.attributes.file c) → a.spare ≤ c.spare + most * (v.attributes.file.shape.node_size / 512)
-  unfolding unwritten_sectors
-  spent_nodes v w a c most takes costs =
-      let node = v.attributes.file.shape.node_size / 512 in
-      let grown_by : (state_of [] v.attributes.file a).unwritten * (v.attributes.file.shape.node_size / 512) ≤ ((state_of [] w.attributes.file c).unwritten + most) * (v.attributes.file.shape.node_size / 512) =
-      mul-le-mul_right {m = (state_of [] v.attributes.file a).unwritten} {n = (state_of [] w.attributes.file c).unwritten + most} (v.attributes.file.shape.node_size / 512) costs.some in
-      let parts : ((state_of [] w.attributes.file c).unwritten + most) * (v.attributes.file.shape.node_size / 512) ≡ (state_of [] w.attributes.file c).unwritten * (v.attributes.file.shape.node_size / 512) + most * (v.attributes.file.shape.node_size / 512) = omega arith in
-      let size : (state_of [] w.attributes.file c).unwritten * (w.attributes.file.shape.node_size / 512) ≡ (state_of [] w.attributes.file c).unwritten * (v.attributes.file.shape.node_size / 512) =
-      ap (λ n. (state_of [] w.attributes.file c).unwritten * (n / 512)) costs.same.node_size in
-      omega (arith, costs.sectors, grown_by, parts, size)
+  pub room_for_edits : EditsHaveRoom → (v : Volume) (a : Space) → HasRoomToMark edits v a → IsTrue (has_attributes v.header) → 4096 ≤ v.attributes.file.shape.node_size → (names : List ℕ) → IsTrue a.tells → EditRoom edits 266 (state_of names v.attributes.file a)
+  room_for_edits law v a room has large names tells =
+      let told = room.told tells has in
+      let size : 3 * (266 + 8) ≤ v.attributes.file.shape.node_size - 16 = omega (arith, large) in
+      law v.header.block_size attributes_key edits 0 (attributes_cost v) (state_of names v.attributes.file a) tells (state_well_formed names v.attributes.file a) size (records_low (attributes_cost v) told.1) told.1
+      (subst (λ g. HasGrown (attributes_cost v) g (state_of names v.attributes.file a)) (sym told.2) (grown v names a)) (subst (λ g. IsWrittenByGrowth (attributes_cost v) g 0 (state_of names v.attributes.file a)) (sym told.2) (written v names a))
+      (subst (λ g. tree_load attributes_key (attributes_cost v) edits g ≤ a.spare + 0 * node_sectors (attributes_cost v)) (sym told.2) (omega (arith, told.0)))
 
   module _ (law : EditsHaveRoom) (takes_law : EditsTakeTheirLoad) (v w : Volume) (a c : Space) (room : HasRoomToMark edits v a) (has : IsTrue (has_attributes v.header)) (large : 4096 ≤ v.attributes.file.shape.node_size)
       (takes : TakesAtMost edits 266 (state_of [] v.attributes.file a) (state_of [] w.attributes.file c))
     where
-      low : EditRoom edits 266 (state_of [] v.attributes.file a)
-      low = room_for_edits law v a room has large []
-
-      costs : CostsAtMost (edits * edit_writes (room_for_edits law v a room has large []).deepest) (edits * ((room_for_edits law v a room has large []).deepest + 1)) (state_of [] v.attributes.file a) (state_of [] w.attributes.file c)
-      costs = takes (room_for_edits law v a room has large []).deepest (room_for_edits law v a room has large []).deep
+      costs : (tells : IsTrue a.tells)
+          → CostsAtMost (edits * edit_writes (room_for_edits law v a room has large [] tells).deepest) (edits * ((room_for_edits law v a room has large [] tells).deepest + 1)) (state_of [] v.attributes.file a) (state_of [] w.attributes.file c)
+      costs tells = takes tells (room_for_edits law v a room has large [] tells).deepest (room_for_edits law v a room has large [] tells).deep
 
       -- told, they take what is counted
       pub spent_edits : IsTrue a.tells → a.spare ≤ c.spare + tree_load attributes_key (attributes_cost v) edits 0
       spent_edits tells =
           let size : 3 * (266 + 8) ≤ v.attributes.file.shape.node_size - 16 = omega (arith, large) in
-          omega (arith, takes_law attributes_key edits 0 0 (attributes_cost v) (state_of [] v.attributes.file a) (state_of [] w.attributes.file c) tells size (grown v [] a) (written v [] a) costs.same takes)
+          omega (arith, takes_law attributes_key edits 0 0 (attributes_cost v) (state_of [] v.attributes.file a) (state_of [] w.attributes.file c) tells size (grown v [] a) (written v [] a) (costs tells).same takes)
 
       -- and the owner's record can be put
       pub room_behind_edits : w.catalog ≡ v.catalog → c.tells ≡ a.tells → HasRoomToUpdate w c
       room_behind_edits catalog same = record {
         told = λ tells. omega (arith, ap (λ (t : Tree). t.file.shape.node_size / 512) catalog, (room.told (sym same ∙ tells) has).0, spent_edits (sym same ∙ tells));
-        untold = λ silent.
-            let it = room.untold (sym same ∙ silent) has in
-            let was = room.update.untold (sym same ∙ silent) in
-            let paid = takes (v.attributes.file.shape.depth + edits) (record { told = λ tells. absurd (true≢false (sym tells ∙ sym same ∙ silent)); untold = λ _. omega arith }) in
-            let out = spent_nodes v w a c (edits * edit_writes (v.attributes.file.shape.depth + edits)) (edits * (v.attributes.file.shape.depth + edits + 1)) paid in
-            subst (λ (t : Tree). (t.file.shape.depth + 1 ≤ 11) × (t.file.shape.leaf_records + 1 ≤ 2 ^ 32 - 1) × (t.file.shape.depth + 2 ≤ t.file.shape.free) × (edit_writes (t.file.shape.depth + 1) ≤ c.spare / (t.file.shape.node_size / 512)))
-            (sym catalog)
-            (was.0, was.1, was.2, many_fit (edit_writes (v.catalog.file.shape.depth + 1)) (catalog_node v) c.spare (some_node v.catalog.file a) (omega (arith, it.3, out)));
       }
 
   -- ---- reads leave the room
@@ -158,9 +114,4 @@ module _ (edits : ℕ) (some : (edits == 0) ≡ false) where
           {x = (facts_on v.attributes.file, v.catalog.file.shape, v.header, a.spare)} {y = (facts_on w.attributes.file, w.catalog.file.shape, w.header, b.spare)}
           (λ i. (sym (facts_read (sym reads.looks.same.tells ∙ tells)) i, sym reads.keeps.catalog.file.shape i, sym reads.keeps.header i, sym reads.looks.spare i))
           (was.told (sym reads.looks.same.tells ∙ tells) (subst (λ (h : VolumeHeader). IsTrue (has_attributes h)) reads.keeps.header has));
-      untold = λ silent has.
-          subst (λ (k : TreeShape × TreeShape × ℕ). (k.0.depth + edits ≤ 11) × (k.0.leaf_records + edits ≤ 2 ^ 32 - 1) × (edits * (k.0.depth + edits + 1) ≤ k.0.free)
-          × (edits * edit_writes (k.0.depth + edits) * (k.0.node_size / 512) + edit_writes (k.1.depth + 1) * (k.1.node_size / 512) ≤ k.2))
-          {x = (v.attributes.file.shape, v.catalog.file.shape, a.spare)} {y = (w.attributes.file.shape, w.catalog.file.shape, b.spare)} (λ i. (sym reads.keeps.attributes.file.shape i, sym reads.keeps.catalog.file.shape i, sym reads.looks.spare i))
-          (was.untold (sym reads.looks.same.tells ∙ silent) (subst (λ (h : VolumeHeader). IsTrue (has_attributes h)) reads.keeps.header has));
     }

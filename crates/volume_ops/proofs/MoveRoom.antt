@@ -1,14 +1,13 @@
 -- The room for a move: for its edits of the catalog, and behind them for three records.
-use Rattle.std.proofs.Common.{◌≡◌, ◌<◌, ◌≤◌, ℕ, ◌+◌, ◌-◌, ◌*◌, ◌/◌, ◌^◌, Bool, true, false, List, [], refl, sym, ◌∙◌, ap, subst, arith}
+use Rattle.std.proofs.Common.{◌≡◌, ◌<◌, ◌≤◌, ℕ, ◌+◌, ◌-◌, ◌*◌, ◌/◌, ◌^◌, false, List, [], sym, ◌∙◌, ap, subst, arith}
 use Rattle.std.specs.Prelude.{nat_le, nat_lt, IsTrue}
-use Rattle.std.proofs.lemmas.Bool.{ltb-false, true≢false}
+use Rattle.std.proofs.lemmas.Bool.{ltb-false}
 use Rattle.sector_disk.specs.Space.{Space}
 use Rattle.btree_edit.specs.Editing.{CostsAtMost, edit_writes}
 use Rattle.btree_edit.specs.Edits.{EditRoom, TakesAtMost}
 use Rattle.btree_file.specs.FrameLaws.{state_well_formed}
 use Rattle.btree_file.specs.State.{state_of}
 use Rattle.volume_header.specs.declared.header.VolumeHeader.{VolumeHeader}
-use Rattle.btree_node.specs.declared.store.TreeShape.{TreeShape}
 use Rattle.hfs_volume.specs.Content.{TreeFacts, VolumeState}
 use Rattle.hfs_volume.specs.Weight.{cost_of_tree}
 use Rattle.hfs_volume.specs.Cost.{catalog_key, depth_of, growth, is_too_deep, node_sectors, rises, tree_load}
@@ -21,49 +20,31 @@ use Rattle.volume_ops.specs.Making.{catalog_cost}
 use Rattle.volume_ops.specs.Moving.{HasRoomToMove, move_load}
 use Rattle.volume_ops.specs.declared.volume.Volume.{Volume}
 use Rattle.volume_ops.proofs.Still.{lists_still}
-use Rattle.volume_ops.proofs.MakeRoom.{grown, least_low, many_fit, third_low, written}
+use Rattle.volume_ops.proofs.MakeRoom.{grown, third_low, written}
 
 low : (tree : TreeCost) → is_too_deep catalog_key tree 3 ≡ false → tree.records < 2 ^ 32
 low tree is = omega (arith, ltb-false 4294967295 (tree.records + 3) (third_low (nat_le 8 tree.depth) (nat_lt 11 (depth_of tree + 1 + rises catalog_key tree 3)) (nat_lt 4294967295 (tree.records + 3)) is))
 
-pub room_to_move : EditsHaveRoom → (v : Volume) (a : Space) → HasRoomToMove v a → 4096 ≤ v.catalog.file.shape.node_size → (names : List ℕ) → EditRoom 3 516 (state_of names v.catalog.file a)
-room_to_move law v a room large names = by a.tells refl
-  where
-    by : (b : Bool) → a.tells ≡ b → EditRoom 3 516 (state_of names v.catalog.file a)
-    by true tells =
-        let told = room.told tells in
-        let size : 3 * (516 + 8) ≤ v.catalog.file.shape.node_size - 16 = omega (arith, large) in
-        law v.header.block_size catalog_key 3 0 (catalog_cost v) (state_of names v.catalog.file a) tells (state_well_formed names v.catalog.file a) size (low (catalog_cost v) told.1) told.1
-        (subst (λ g. HasGrown (catalog_cost v) g (state_of names v.catalog.file a)) (sym told.2) (grown v names a)) (subst (λ g. IsWrittenByGrowth (catalog_cost v) g 0 (state_of names v.catalog.file a)) (sym told.2) (written v names a))
-        (subst (λ g. tree_load catalog_key (catalog_cost v) 3 g ≤ a.spare + 0 * node_sectors (catalog_cost v)) (sym told.2) (omega (arith, told.0)))
-    by false silent =
-        let it = room.untold silent in
-        let some : 0 < v.catalog.file.shape.node_size / 512 = omega (arith, large) in
-        record {
-          deepest = v.catalog.file.shape.depth + 3;
-          deep = record { told = λ tells. absurd (true≢false (sym tells ∙ silent)); untold = λ _. omega arith };
-          depth = λ _. omega (arith, it.0);
-          records = omega (arith, it.1);
-          free = omega (arith, it.2);
-          writes = least_low (3 * edit_writes (v.catalog.file.shape.depth + 3)) (state_of names v.catalog.file a).unwritten (a.spare / (v.catalog.file.shape.node_size / 512))
-              (many_fit (3 * edit_writes (v.catalog.file.shape.depth + 3)) (v.catalog.file.shape.node_size / 512) a.spare some
-              it.3);
-        }
+pub room_to_move : EditsHaveRoom → (v : Volume) (a : Space) → HasRoomToMove v a → 4096 ≤ v.catalog.file.shape.node_size → (names : List ℕ) → IsTrue a.tells → EditRoom 3 516 (state_of names v.catalog.file a)
+room_to_move law v a room large names tells =
+    let told = room.told tells in
+    let size : 3 * (516 + 8) ≤ v.catalog.file.shape.node_size - 16 = omega (arith, large) in
+    law v.header.block_size catalog_key 3 0 (catalog_cost v) (state_of names v.catalog.file a) tells (state_well_formed names v.catalog.file a) size (low (catalog_cost v) told.1) told.1
+    (subst (λ g. HasGrown (catalog_cost v) g (state_of names v.catalog.file a)) (sym told.2) (grown v names a)) (subst (λ g. IsWrittenByGrowth (catalog_cost v) g 0 (state_of names v.catalog.file a)) (sym told.2) (written v names a))
+    (subst (λ g. tree_load catalog_key (catalog_cost v) 3 g ≤ a.spare + 0 * node_sectors (catalog_cost v)) (sym told.2) (omega (arith, told.0)))
 
 module _ (law : EditsHaveRoom) (takes_law : EditsTakeTheirLoad) (v w : Volume) (a b : Space) (room : HasRoomToMove v a) (large : 4096 ≤ v.catalog.file.shape.node_size) (takes : TakesAtMost 3 516 (state_of [] v.catalog.file a) (state_of [] w.catalog.file b)) where
-  costs : CostsAtMost (3 * edit_writes (room_to_move law v a room large []).deepest) (3 * ((room_to_move law v a room large []).deepest + 1)) (state_of [] v.catalog.file a) (state_of [] w.catalog.file b)
-  costs = takes (room_to_move law v a room large []).deepest (room_to_move law v a room large []).deep
+  costs : (tells : IsTrue a.tells)
+      → CostsAtMost (3 * edit_writes (room_to_move law v a room large [] tells).deepest) (3 * ((room_to_move law v a room large [] tells).deepest + 1)) (state_of [] v.catalog.file a) (state_of [] w.catalog.file b)
+  costs tells = takes tells (room_to_move law v a room large [] tells).deepest (room_to_move law v a room large [] tells).deep
 
-  pub node_moved : catalog_node w ≡ catalog_node v
-  node_moved = ap (λ n. n / 512) costs.same.node_size
-
-  pub large_moved : 4096 ≤ w.catalog.file.shape.node_size
-  large_moved = omega (arith, large, costs.same.node_size)
+  pub node_moved : IsTrue a.tells → catalog_node w ≡ catalog_node v
+  node_moved tells = ap (λ n. n / 512) (costs tells).same.node_size
 
   pub spent_move : IsTrue a.tells → a.spare ≤ b.spare + tree_load catalog_key (catalog_cost v) 3 0
   spent_move tells =
       let size : 3 * (516 + 8) ≤ v.catalog.file.shape.node_size - 16 = omega (arith, large) in
-      let it = takes_law catalog_key 3 0 0 (catalog_cost v) (state_of [] v.catalog.file a) (state_of [] w.catalog.file b) tells size (grown v [] a) (written v [] a) costs.same takes in
+      let it = takes_law catalog_key 3 0 0 (catalog_cost v) (state_of [] v.catalog.file a) (state_of [] w.catalog.file b) tells size (grown v [] a) (written v [] a) (costs tells).same takes in
       omega (arith, it)
 
 -- ---- reads leave the room
@@ -80,7 +61,4 @@ module _ (v w : Volume) (a b : Space) (reads : ReadsVolume v w a b) where
     told = λ tells.
         subst (λ (k : TreeFacts × VolumeHeader × ℕ). (tree_load catalog_key (cost_of_tree k.0 0) 3 0 + k.0.shape.node_size / 512 + 2 * (k.0.shape.node_size / 512) ≤ k.2) × (is_too_deep catalog_key (cost_of_tree k.0 0) 3 ≡ false) × (growth k.1.block_size catalog_key (cost_of_tree k.0 0) 3 ≡ 0))
         {x = (facts_on v.catalog.file, v.header, a.spare)} {y = (facts_on w.catalog.file, w.header, b.spare)} (λ i. (sym (facts_read (sym reads.looks.same.tells ∙ tells)) i, sym reads.keeps.header i, sym reads.looks.spare i)) (was.told (sym reads.looks.same.tells ∙ tells));
-    untold = λ silent.
-        subst (λ (k : TreeShape × ℕ). (k.0.depth + 3 ≤ 11) × (k.0.leaf_records + 3 ≤ 2 ^ 32 - 1) × (3 * (k.0.depth + 4) ≤ k.0.free) × (3 * edit_writes (k.0.depth + 3) * (k.0.node_size / 512) ≤ k.1))
-        {x = (v.catalog.file.shape, a.spare)} {y = (w.catalog.file.shape, b.spare)} (λ i. (sym reads.keeps.catalog.file.shape i, sym reads.looks.spare i)) (was.untold (sym reads.looks.same.tells ∙ silent));
   }

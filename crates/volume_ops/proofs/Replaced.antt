@@ -1,22 +1,20 @@
 -- Another record in the place of one: the room for it, and what it leaves of the volume.
-use Rattle.std.proofs.Common.{◌≡◌, ◌⊎◌, ◌<◌, ◌≤◌, ℕ, suc, ◌+◌, ◌*◌, ◌/◌, Bool, true, false, List, [], min, refl, sym, ◌∙◌, ap, subst, arith, inl, inr}
+use Rattle.std.proofs.Common.{◌≡◌, ◌<◌, ◌≤◌, ℕ, suc, ◌+◌, ◌*◌, ◌/◌, List, [], min, sym, ◌∙◌, ap, subst, arith}
 use Rattle.std.specs.Prelude.{IsTrue, Option, None, Some, Result, Ok, Err, IfOk, OnOk}
 use Rattle.std.specs.Option.{option_map}
 use Rattle.std.proofs.Math.Nat.{le-div_iff_mul-le, mul-le-mul_right, min-le_left}
-use Rattle.std.proofs.lemmas.Bool.{true≢false}
 use Rattle.hx_bytes.specs.declared.faults.Trouble.{Trouble}
-use Rattle.sector_disk.specs.Lists.{Content}
 use Rattle.sector_disk.specs.Space.{Space}
 use Rattle.btree_node.specs.Levels.{Pair}
-use Rattle.btree_node.specs.Store.{unwritten_sectors}
-use Rattle.btree_edit.specs.Editing.{CostsAtMost, edit_writes}
+use Rattle.btree_node.specs.Store.{HasRoom, unwritten_sectors}
+use Rattle.btree_edit.specs.Editing.{CostsAtMost}
 use Rattle.btree_edit.specs.declared.edits.Removed.{Removed}
 use Rattle.btree_edit.specs.declared.edits.Removed.TheVariants as removed
 use Rattle.btree_file.specs.Frame.{FollowsOn}
-use Rattle.btree_file.specs.Standing.{HoldsTree, pairs_in}
+use Rattle.btree_file.specs.Standing.{pairs_in}
 use Rattle.btree_file.specs.State.{sectors_of_tree, state_of}
 use Rattle.catalog.specs.Entries.{AnswersRemoval, Updating, UpdatesEntry, IsOfKind}
-use Rattle.catalog.specs.Pairs.{HasUpdateRoom, value_at}
+use Rattle.catalog.specs.Pairs.{value_at}
 use Rattle.cat_records.specs.declared.record.CatRecord.{CatRecord}
 use Rattle.hfs_volume.specs.Records.{Placed, placed_in, record_at}
 use Rattle.volume_ops.specs.Changing.{ChangesCatalog, HasRoomToUpdate, ReplacesRecord, catalog_node}
@@ -35,21 +33,8 @@ one_fits n spare some fits = (le-div_iff_mul-le {k = n} {x = 1} {y = spare} some
 least_low : (m x y : ℕ) → m ≤ y → min m x ≤ y
 least_low m x y low = omega (arith, low, min-le_left m x)
 
-pub update_room : (v : Volume) (a : Space) → 4096 ≤ v.catalog.file.shape.node_size → HasRoomToUpdate v a → (names : List ℕ) → HasUpdateRoom (state_of names v.catalog.file a)
-update_room v a large room names = by a.tells refl
-  where
-    by : (b : Bool) → a.tells ≡ b → HasUpdateRoom (state_of names v.catalog.file a)
-    by true told = inl (told, least_low 1 (state_of names v.catalog.file a).unwritten (a.spare / catalog_node v) (one_fits (catalog_node v) a.spare (omega (arith, large)) (room.told told)))
-    by false untold =
-        let has = room.untold untold in
-        inr (record {
-          deepest = v.catalog.file.shape.depth + 1;
-          deep = record { told = λ told. absurd (true≢false (sym told ∙ untold)); untold = λ _. omega arith };
-          depth = λ _. has.0;
-          records = has.1;
-          free = omega (arith, has.2);
-          writes = least_low (1 * edit_writes (v.catalog.file.shape.depth + 1)) (state_of names v.catalog.file a).unwritten (a.spare / catalog_node v) (omega (arith, has.3));
-        })
+pub update_room : (v : Volume) (a : Space) → 4096 ≤ v.catalog.file.shape.node_size → HasRoomToUpdate v a → (names : List ℕ) → IsTrue a.tells → HasRoom 1 (state_of names v.catalog.file a)
+update_room v a large room names tells = least_low 1 (state_of names v.catalog.file a).unwritten (a.spare / catalog_node v) (one_fits (catalog_node v) a.spare (omega (arith, large)) (room.told tells))
 
 pub spent_node : (v w : Volume) (a b : Space) → CostsAtMost 1 0 (state_of [] v.catalog.file a) (state_of [] w.catalog.file b) → a.spare ≤ b.spare + catalog_node v
 unfolding unwritten_sectors

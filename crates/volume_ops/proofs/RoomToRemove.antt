@@ -1,5 +1,5 @@
 -- The room for a folder that is removed: for its edits of the catalog, and behind them for the folder above.
-use Rattle.std.proofs.Common.{◌≡◌, ◌≤◌, ℕ, ◌+◌, ◌-◌, ◌*◌, ◌/◌, ◌^◌, Bool, true, false, not, List, [], ◌∷◌, ◌++◌, length, map, refl, sym, ◌∙◌, ap, subst, arith}
+use Rattle.std.proofs.Common.{◌≡◌, ◌≤◌, ℕ, ◌+◌, ◌-◌, ◌/◌, Bool, true, false, not, List, [], ◌∷◌, ◌++◌, length, map, refl, sym, ◌∙◌, ap, subst, arith}
 use Rattle.std.specs.Prelude.{◌==◌, IsTrue, if◌then◌else◌}
 use Rattle.std.proofs.lemmas.Bool.{true≢false}
 use Rattle.sector_disk.specs.Lists.{Content}
@@ -10,9 +10,7 @@ use Rattle.hfs_volume.specs.Commands.{DropsAttributes}
 use Rattle.hfs_volume.specs.Records.{Attribute, attribute_of}
 use Rattle.sector_disk.specs.Space.{Space}
 use Rattle.volume_header.specs.declared.header.VolumeHeader.{VolumeHeader}
-use Rattle.btree_node.specs.declared.store.TreeShape.{TreeShape}
-use Rattle.btree_edit.specs.Editing.{edit_writes}
-use Rattle.btree_edit.specs.Edits.{EditRoom, TakesAtMost, TakesEdits}
+use Rattle.btree_edit.specs.Edits.{EditRoom, TakesAtMost}
 use Rattle.btree_file.specs.State.{state_of}
 use Rattle.hfs_volume.specs.Cost.{catalog_key, growth, is_too_deep, tree_load}
 use Rattle.hfs_volume.specs.Content.{TreeFacts, VolumeState, volume_of}
@@ -33,9 +31,9 @@ abbrev with_ids : Volume → Volume
 with_ids v = record v { header = record v.header { next_catalog_id = 0 } }
 
 as_making : (v : Volume) (a : Space) → HasRoomToRemove v a → HasRoomToMake (with_ids v) a
-as_making v a room = record { ids = omega arith; some = room.some; told = room.told; untold = room.untold }
+as_making v a room = record { ids = omega arith; some = room.some; told = room.told }
 
-pub room_to_remove : EditsHaveRoom → (v : Volume) (a m : Space) → HasRoomToRemove v a → 4096 ≤ v.catalog.file.shape.node_size → m.tells ≡ a.tells → a.spare ≤ m.spare + 1 → (names : List ℕ) → EditRoom 2 516 (state_of names v.catalog.file m)
+pub room_to_remove : EditsHaveRoom → (v : Volume) (a m : Space) → HasRoomToRemove v a → 4096 ≤ v.catalog.file.shape.node_size → m.tells ≡ a.tells → a.spare ≤ m.spare + 1 → (names : List ℕ) → IsTrue m.tells → EditRoom 2 516 (state_of names v.catalog.file m)
 room_to_remove law v a m room large same spent names = room_for_entry law (with_ids v) a m (as_making v a room) large same spent names
 
 module _ (law : EditsHaveRoom) (takes_law : EditsTakeTheirLoad) (v w : Volume) (a m b : Space) (room : HasRoomToRemove v a) (large : 4096 ≤ v.catalog.file.shape.node_size) (same : m.tells ≡ a.tells) (spent : a.spare ≤ m.spare + 1)
@@ -44,8 +42,8 @@ module _ (law : EditsHaveRoom) (takes_law : EditsTakeTheirLoad) (v w : Volume) (
     pub spent_removal : IsTrue a.tells → a.spare ≤ b.spare + (1 + entry_load v)
     spent_removal tells = spent_entry law takes_law (with_ids v) w a m b (as_making v a room) large same spent takes tells
 
-    pub room_behind_removal : b.tells ≡ m.tells → TakesEdits 2 516 (state_of [] v.catalog.file m) (state_of [] w.catalog.file b) → HasRoomToUpdate w b
-    room_behind_removal later edits = room_behind law takes_law (with_ids v) w a m b (as_making v a room) large same spent takes later edits
+    pub room_behind_removal : b.tells ≡ m.tells → HasRoomToUpdate w b
+    room_behind_removal later = room_behind law takes_law (with_ids v) w a m b (as_making v a room) large same spent takes later
 
 -- ---- reads leave the room
 
@@ -62,9 +60,6 @@ module _ (v w : Volume) (a b : Space) (reads : ReadsVolume v w a b) where
     told = λ tells.
         subst (λ (k : TreeFacts × VolumeHeader × ℕ). (1 + k.0.shape.node_size / 512 + tree_load catalog_key (cost_of_tree k.0 0) 2 0 ≤ k.2) × (is_too_deep catalog_key (cost_of_tree k.0 0) 2 ≡ false) × (growth k.1.block_size catalog_key (cost_of_tree k.0 0) 2 ≡ 0))
         {x = (facts_on v.catalog.file, v.header, a.spare)} {y = (facts_on w.catalog.file, w.header, b.spare)} (λ i. (sym (facts_read (sym reads.looks.same.tells ∙ tells)) i, sym reads.keeps.header i, sym reads.looks.spare i)) (was.told (sym reads.looks.same.tells ∙ tells));
-    untold = λ silent.
-        subst (λ (k : TreeShape × ℕ). (k.0.depth + 3 ≤ 11) × (k.0.leaf_records + 3 ≤ 2 ^ 32 - 1) × (3 * (k.0.depth + 4) ≤ k.0.free) × (3 * edit_writes (k.0.depth + 3) * (k.0.node_size / 512) + 1 ≤ k.1))
-        {x = (v.catalog.file.shape, a.spare)} {y = (w.catalog.file.shape, b.spare)} (λ i. (sym reads.keeps.catalog.file.shape i, sym reads.looks.spare i)) (was.untold (sym reads.looks.same.tells ∙ silent));
   }
 
 -- ---- a folder of whose attributes none is listed has none

@@ -80,14 +80,12 @@ attributes_cost volume = cost_of_tree (facts_on volume.attributes.file) 0
 abbrev pub mark_load : ℕ → Volume → ℕ
 mark_load edits volume = catalog_node volume + tree_load attributes_key (attributes_cost volume) edits 0
 
--- There is room to mark a folder or file; and where there is an attributes file, for so many edits of it before, which needn't grow for them.
+-- Where the space tells, there is room to mark a folder or file; and where there is an attributes file, for so many edits of it before, which needn't grow
+-- for them.
 pub record HasRoomToMark (edits : ℕ) (volume : Volume) (space : Space) : Type 0 where
   pub update : HasRoomToUpdate volume space
   pub told : IsTrue space.tells → IsTrue (has_attributes volume.header)
       → (mark_load edits volume ≤ space.spare) × (is_too_deep attributes_key (attributes_cost volume) edits ≡ false) × (growth volume.header.block_size attributes_key (attributes_cost volume) edits ≡ 0)
-  pub untold : space.tells ≡ false → IsTrue (has_attributes volume.header)
-      → (volume.attributes.file.shape.depth + edits ≤ 11) × (volume.attributes.file.shape.leaf_records + edits ≤ 2 ^ 32 - 1) × (edits * (volume.attributes.file.shape.depth + edits + 1) ≤ volume.attributes.file.shape.free)
-      × (edits * edit_writes (volume.attributes.file.shape.depth + edits) * (volume.attributes.file.shape.node_size / 512) + edit_writes (volume.catalog.file.shape.depth + 1) * catalog_node volume ≤ space.spare)
 
 -- ---- what is answered
 

@@ -45,19 +45,13 @@ pub record PutsHeader (volume : Volume) (before after : Content) : Type 0 where
 abbrev pub catalog_node : Volume → ℕ
 catalog_node volume = volume.catalog.file.shape.node_size / 512
 
--- There is room to put a node of the catalog; where the space tells nothing, for an edit of it.
+-- Where the space tells, there is room to put a node of the catalog.
 pub record HasRoomToUpdate (volume : Volume) (space : Space) : Type 0 where
   pub told : IsTrue space.tells → catalog_node volume ≤ space.spare
-  pub untold : space.tells ≡ false
-      → (volume.catalog.file.shape.depth + 1 ≤ 11) × (volume.catalog.file.shape.leaf_records + 1 ≤ 2 ^ 32 - 1) × (volume.catalog.file.shape.depth + 2 ≤ volume.catalog.file.shape.free)
-      × (edit_writes (volume.catalog.file.shape.depth + 1) ≤ space.spare / catalog_node volume)
 
--- There is room to update so many records in place, one after another; where the space tells nothing, for as many edits.
+-- Where the space tells, there is room to update so many records in place, one after another.
 pub record HasRoomToUpdates (many : ℕ) (volume : Volume) (space : Space) : Type 0 where
   pub told : IsTrue space.tells → many * catalog_node volume ≤ space.spare
-  pub untold : space.tells ≡ false
-      → (volume.catalog.file.shape.depth + many ≤ 11) × (volume.catalog.file.shape.leaf_records + many ≤ 2 ^ 32 - 1) × (many * (volume.catalog.file.shape.depth + many + 1) ≤ volume.catalog.file.shape.free)
-      × (many * edit_writes (volume.catalog.file.shape.depth + many) * catalog_node volume ≤ space.spare)
 
 -- A folder or file has another record where it stands, and nothing else of the volume is changed; the header wasn't put.
 pub record ReplacesRecord (entry : Entry) (rec : CatRecord) (old new : Volume) (before after : Content) : Type 0 where

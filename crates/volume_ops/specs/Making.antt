@@ -80,15 +80,12 @@ entry_load volume = tree_load catalog_key (catalog_cost volume) 2 0
 abbrev pub make_load : Volume → ℕ
 make_load volume = 1 + catalog_node volume + entry_load volume
 
--- There is a CNID for a new folder or file, and room to put it; where the space tells, the catalog needn't grow before. Where the space tells
--- nothing, there is room for three edits of it.
+-- There is a CNID for a new folder or file and room to put the header; where the space tells, there is room to put it, and the catalog needn't grow
+-- before.
 pub record HasRoomToMake (volume : Volume) (space : Space) : Type 0 where
   pub ids : volume.header.next_catalog_id + 1 < 2 ^ 32
   pub some : 1 ≤ space.spare
   pub told : IsTrue space.tells → (make_load volume ≤ space.spare) × (is_too_deep catalog_key (catalog_cost volume) 2 ≡ false) × (growth volume.header.block_size catalog_key (catalog_cost volume) 2 ≡ 0)
-  pub untold : space.tells ≡ false
-      → (volume.catalog.file.shape.depth + 3 ≤ 11) × (volume.catalog.file.shape.leaf_records + 3 ≤ 2 ^ 32 - 1) × (3 * (volume.catalog.file.shape.depth + 4) ≤ volume.catalog.file.shape.free)
-      × (3 * edit_writes (volume.catalog.file.shape.depth + 3) * catalog_node volume + 1 ≤ space.spare)
 
 -- ---- the record
 

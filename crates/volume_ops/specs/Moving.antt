@@ -66,13 +66,9 @@ leave_load volume = tree_load catalog_key (catalog_cost volume) 3 0 + catalog_no
 abbrev pub move_load : Volume → ℕ
 move_load volume = leave_load volume + 2 * catalog_node volume
 
--- There is room to move a folder or file; where the space tells, the catalog needn't grow before. Where the space tells nothing, there is room for
--- three edits of it.
+-- Where the space tells, there is room to move a folder or file, and the catalog needn't grow before.
 pub record HasRoomToMove (volume : Volume) (space : Space) : Type 0 where
   pub told : IsTrue space.tells → (move_load volume ≤ space.spare) × (is_too_deep catalog_key (catalog_cost volume) 3 ≡ false) × (growth volume.header.block_size catalog_key (catalog_cost volume) 3 ≡ 0)
-  pub untold : space.tells ≡ false
-      → (volume.catalog.file.shape.depth + 3 ≤ 11) × (volume.catalog.file.shape.leaf_records + 3 ≤ 2 ^ 32 - 1) × (3 * (volume.catalog.file.shape.depth + 4) ≤ volume.catalog.file.shape.free)
-      × (3 * edit_writes (volume.catalog.file.shape.depth + 3) * catalog_node volume ≤ space.spare)
 
 -- ---- the change
 

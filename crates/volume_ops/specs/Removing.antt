@@ -74,14 +74,10 @@ pub record ChangesNodeAlone (id : ℕ) (old new : PlainTree) : Type 0 where
 abbrev pub remove_load : Volume → ℕ
 remove_load volume = 1 + catalog_node volume + entry_load volume
 
--- There is room to remove a folder; where the space tells, the catalog needn't grow before. Where the space tells nothing, there is room for
--- three edits of it.
+-- There is room to put the header; where the space tells, there is room to remove a folder, and the catalog needn't grow before.
 pub record HasRoomToRemove (volume : Volume) (space : Space) : Type 0 where
   pub some : 1 ≤ space.spare
   pub told : IsTrue space.tells → (remove_load volume ≤ space.spare) × (is_too_deep catalog_key (catalog_cost volume) 2 ≡ false) × (growth volume.header.block_size catalog_key (catalog_cost volume) 2 ≡ 0)
-  pub untold : space.tells ≡ false
-      → (volume.catalog.file.shape.depth + 3 ≤ 11) × (volume.catalog.file.shape.leaf_records + 3 ≤ 2 ^ 32 - 1) × (3 * (volume.catalog.file.shape.depth + 4) ≤ volume.catalog.file.shape.free)
-      × (3 * edit_writes (volume.catalog.file.shape.depth + 3) * catalog_node volume + 1 ≤ space.spare)
 
 -- the sectors that the removal of so many attributes takes at most
 abbrev pub bare_load : Volume → ℕ → ℕ

@@ -40,7 +40,7 @@ impl Volume {
         requires some { 1 ≤ length name.now }
         requires name { length name.now ≤ 127 }
         requires long { length value.now ≤ 1700 }
-        requires room { (names : List ℕ) → EditRoom 2 266 (state_of names self.old.attributes.file (P.SectorView.space space.old)) }
+        requires room { (names : List ℕ) → IsTrue (P.SectorView.space space.old).tells → EditRoom 2 266 (state_of names self.old.attributes.file (P.SectorView.space space.old)) }
         // Behind an answer it stands, and behind a fault it is in service.
         ensures stands { OnOk result (StandsOver self.new (P.SectorView.space space.new)) }
         ensures service { IsInService self.new (P.SectorView.space space.new) }
@@ -78,7 +78,7 @@ impl Volume {
         requires size { 4096 ≤ (numbers_of self.old.attributes.file).node_size }
         requires inline { IsTrue (P.SectorView.space space.old).tells → AreInline (lists_of self.old (P.SectorView.space space.old).content).attribute_pairs }
         requires name { length name.now ≤ 127 }
-        requires room { (names : List ℕ) → EditRoom 1 266 (state_of names self.old.attributes.file (P.SectorView.space space.old)) }
+        requires room { (names : List ℕ) → IsTrue (P.SectorView.space space.old).tells → EditRoom 1 266 (state_of names self.old.attributes.file (P.SectorView.space space.old)) }
         // Behind an answer it stands, and behind a fault it is in service.
         ensures stands { OnOk result (StandsOver self.new (P.SectorView.space space.new)) }
         ensures service { IsInService self.new (P.SectorView.space space.new) }

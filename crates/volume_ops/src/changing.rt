@@ -2,6 +2,7 @@
 ghost use Rattle.std.specs.Prelude.{◌≡◌, ◌≤◌, ◌/◌, ℕ, List, [], None, Some, false, IsTrue, length, OnOk, IfOk};
 ghost use Rattle.std.specs.List.{Contains};
 ghost use Rattle.sector_disk.specs.Lists.{Content};
+ghost use Rattle.btree_node.specs.Store.{HasRoom};
 ghost use Rattle.btree_edit.specs.Causes.{HasTroubleCause};
 ghost use Rattle.btree_edit.specs.Editing.{CostsAtMost};
 ghost use Rattle.btree_edit.specs.Edits.{EditRoom, TakesAtMost, TakesEdits};
@@ -9,7 +10,6 @@ ghost use Rattle.btree_file.specs.Frame.{FollowsOn};
 ghost use Rattle.btree_file.specs.Standing.{numbers_of, pairs_in};
 ghost use Rattle.btree_file.specs.State.{sectors_of_tree, state_of};
 ghost use Rattle.catalog.specs.Entries.{AnswersAdd, Adding, AnswersRemoval, Removing, Updating, IsOfKind};
-ghost use Rattle.catalog.specs.Pairs.{HasUpdateRoom};
 ghost use Rattle.catalog.specs.Rooms.{TakesUpdates};
 ghost use Rattle.cat_records.specs.Fits.{FitsRecord};
 ghost use Rattle.hfs_volume.specs.Entries.{AreSpelled, AreThreaded};
@@ -43,7 +43,7 @@ impl Volume {
         requires kind { is_thread rec.now ≡ false }
         requires fits { FitsRecord rec.now }
         requires same_kind { IsTrue (P.SectorView.space space.old).tells → (entry : Placed) → record_at (placed_in (pairs_in (sectors_of_tree self.old.catalog.file) (P.SectorView.space space.old).content)) parent name.now ≡ Some entry → IsOfKind rec.now entry.value }
-        requires room { (names : List ℕ) → HasUpdateRoom (state_of names self.old.catalog.file (P.SectorView.space space.old)) }
+        requires room { (names : List ℕ) → IsTrue (P.SectorView.space space.old).tells → HasRoom 1 (state_of names self.old.catalog.file (P.SectorView.space space.old)) }
         // Behind an answer it stands, and behind a fault it is in service.
         ensures stands { OnOk result (StandsOver self.new (P.SectorView.space space.new)) }
         ensures service { IsInService self.new (P.SectorView.space space.new) }
@@ -86,7 +86,7 @@ impl Volume {
         requires kind { is_thread rec.now ≡ false }
         requires fits { FitsRecord rec.now }
         requires unused { IsTrue (P.SectorView.space space.old).tells → record_at (placed_in (pairs_in (sectors_of_tree self.old.catalog.file) (P.SectorView.space space.old).content)) (id_in rec.now) [] ≡ None }
-        requires room { (names : List ℕ) → EditRoom 2 516 (state_of names self.old.catalog.file (P.SectorView.space space.old)) }
+        requires room { (names : List ℕ) → IsTrue (P.SectorView.space space.old).tells → EditRoom 2 516 (state_of names self.old.catalog.file (P.SectorView.space space.old)) }
         // Behind an answer it stands, and behind a fault it is in service.
         ensures stands { OnOk result (StandsOver self.new (P.SectorView.space space.new)) }
         ensures service { IsInService self.new (P.SectorView.space space.new) }
@@ -126,7 +126,7 @@ impl Volume {
         requires threads { IsTrue (P.SectorView.space space.old).tells → AreThreaded (pairs_in (sectors_of_tree self.old.catalog.file) (P.SectorView.space space.old).content) }
         requires some { 1 ≤ length name.now }
         requires name { length name.now ≤ 255 }
-        requires room { (names : List ℕ) → EditRoom 2 516 (state_of names self.old.catalog.file (P.SectorView.space space.old)) }
+        requires room { (names : List ℕ) → IsTrue (P.SectorView.space space.old).tells → EditRoom 2 516 (state_of names self.old.catalog.file (P.SectorView.space space.old)) }
         // Behind an answer it stands, and behind a fault it is in service.
         ensures stands { OnOk result (StandsOver self.new (P.SectorView.space space.new)) }
         ensures service { IsInService self.new (P.SectorView.space space.new) }

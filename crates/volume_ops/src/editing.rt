@@ -2,6 +2,7 @@
 ghost use Rattle.std.specs.Prelude.{◌≡◌, ◌≤◌, ◌<◌, ◌+◌, ◌*◌, ◌/◌, ℕ, List, [], None, Some, false, IsTrue, length, OnOk, IfOk};
 ghost use Rattle.btree_node.specs.Keys.{IsCatalogKey, catalog_cmp, anything};
 ghost use Rattle.btree_node.specs.TreeFile.{catalog_form};
+ghost use Rattle.btree_node.specs.Store.{HasRoom};
 ghost use Rattle.btree_edit.specs.Causes.{HasTroubleCause};
 ghost use Rattle.btree_edit.specs.Desk.{IsDeskOf};
 ghost use Rattle.btree_edit.specs.Editing.{CostsAtMost};
@@ -10,7 +11,6 @@ ghost use Rattle.btree_file.specs.Frame.{FollowsOn};
 ghost use Rattle.btree_file.specs.Standing.{HoldsTree, LiesInside, LiesOpen, numbers_of, pairs_in};
 ghost use Rattle.btree_file.specs.State.{sectors_of_tree, state_of};
 ghost use Rattle.catalog.specs.Entries.{AnswersAdd, Adding, AnswersRemoval, Removing, Updating, IsOfKind};
-ghost use Rattle.catalog.specs.Pairs.{HasUpdateRoom};
 ghost use Rattle.catalog.specs.Rooms.{TakesUpdates};
 ghost use Rattle.cat_records.specs.Fits.{FitsRecord};
 ghost use Rattle.hfs_volume.specs.Entries.{AreSpelled, AreThreaded};
@@ -43,7 +43,7 @@ pub(crate) fn add_entry<P: SectorSpace>(
     requires kind { is_thread rec.now ≡ false }
     requires fits { FitsRecord rec.now }
     requires unused { IsTrue (P.SectorView.space space.old).tells → record_at (placed_in (pairs_in (sectors_of_tree tree.old) (P.SectorView.space space.old).content)) (id_in rec.now) [] ≡ None }
-    requires room { (names : List ℕ) → EditRoom 2 516 (state_of names tree.old (P.SectorView.space space.old)) }
+    requires room { (names : List ℕ) → IsTrue (P.SectorView.space space.old).tells → EditRoom 2 516 (state_of names tree.old (P.SectorView.space space.old)) }
     ensures answer { IsTrue (P.SectorView.space space.old).tells → IfOk result (λ answer. AnswersAdd (record_at (placed_in (pairs_in (sectors_of_tree tree.old) (P.SectorView.space space.old).content)) parent name.now) answer) }
     ensures added { IsTrue (P.SectorView.space space.old).tells → IfOk result (λ answer. Adding (record { parent = parent; name = name.now; value = rec.now }) (pairs_in (sectors_of_tree tree.old) (P.SectorView.space space.old).content) (pairs_in (sectors_of_tree tree.old) (P.SectorView.space space.new).content) answer) }
     ensures holds { IsTrue (P.SectorView.space space.old).tells → OnOk result (HoldsTree catalog_form IsCatalogKey anything catalog_cmp tree.new (P.SectorView.space space.new).content) }
@@ -76,7 +76,7 @@ pub(crate) fn remove_entry<P: SectorSpace>(
     requires threads { IsTrue (P.SectorView.space space.old).tells → AreThreaded (pairs_in (sectors_of_tree tree.old) (P.SectorView.space space.old).content) }
     requires some { 1 ≤ length name.now }
     requires name { length name.now ≤ 255 }
-    requires room { (names : List ℕ) → EditRoom 2 516 (state_of names tree.old (P.SectorView.space space.old)) }
+    requires room { (names : List ℕ) → IsTrue (P.SectorView.space space.old).tells → EditRoom 2 516 (state_of names tree.old (P.SectorView.space space.old)) }
     ensures answer { IsTrue (P.SectorView.space space.old).tells → IfOk result (λ answer. AnswersRemoval (record_at (placed_in (pairs_in (sectors_of_tree tree.old) (P.SectorView.space space.old).content)) parent name.now) answer) }
     ensures removed { IsTrue (P.SectorView.space space.old).tells → IfOk result (λ answer. Removing parent name.now (pairs_in (sectors_of_tree tree.old) (P.SectorView.space space.old).content) (pairs_in (sectors_of_tree tree.old) (P.SectorView.space space.new).content) answer) }
     ensures holds { IsTrue (P.SectorView.space space.old).tells → OnOk result (HoldsTree catalog_form IsCatalogKey anything catalog_cmp tree.new (P.SectorView.space space.new).content) }
@@ -112,7 +112,7 @@ pub(crate) fn update_entry<P: SectorSpace>(
     requires kind { is_thread rec.now ≡ false }
     requires fits { FitsRecord rec.now }
     requires same_kind { IsTrue (P.SectorView.space space.old).tells → (entry : Placed) → record_at (placed_in (pairs_in (sectors_of_tree tree.old) (P.SectorView.space space.old).content)) parent name.now ≡ Some entry → IsOfKind rec.now entry.value }
-    requires room { (names : List ℕ) → HasUpdateRoom (state_of names tree.old (P.SectorView.space space.old)) }
+    requires room { (names : List ℕ) → IsTrue (P.SectorView.space space.old).tells → HasRoom 1 (state_of names tree.old (P.SectorView.space space.old)) }
     ensures answer { IsTrue (P.SectorView.space space.old).tells → IfOk result (λ answer. AnswersRemoval (record_at (placed_in (pairs_in (sectors_of_tree tree.old) (P.SectorView.space space.old).content)) parent name.now) answer) }
     ensures updated { IsTrue (P.SectorView.space space.old).tells → IfOk result (λ answer. Updating parent name.now rec.now (pairs_in (sectors_of_tree tree.old) (P.SectorView.space space.old).content) (pairs_in (sectors_of_tree tree.old) (P.SectorView.space space.new).content) answer) }
     ensures holds { IsTrue (P.SectorView.space space.old).tells → OnOk result (HoldsTree catalog_form IsCatalogKey anything catalog_cmp tree.new (P.SectorView.space space.new).content) }

@@ -138,7 +138,7 @@ impl Volume {
     }
 
     /// Moves a folder or file, and lets its old folder count it no more. `Memory` is answered too where the room that is left
-    /// doesn't suffice for the folder's record, by numbers alone.
+    /// doesn't suffice for the folder's record.
     fn leave<P: SectorSpace>(
         &mut self,
         alloc: Global,
@@ -177,7 +177,7 @@ impl Volume {
     }
 
     /// Lets the folder to which something was moved count it, and dates what was moved. `Memory` is answered too where the room
-    /// that is left doesn't suffice for the next of these records, by numbers alone.
+    /// that is left doesn't suffice for the next of these records.
     fn arrive<P: SectorSpace>(
         &mut self,
         alloc: Global,

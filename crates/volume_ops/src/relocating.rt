@@ -46,7 +46,7 @@ fn relocate_entry<P: SectorSpace>(
     requires old_name { length old.now ≤ 255 }
     requires some_new { 1 ≤ length name.now }
     requires name { length name.now ≤ 255 }
-    requires room { (names : List ℕ) → EditRoom 3 516 (state_of names tree.old (P.SectorView.space space.old)) }
+    requires room { (names : List ℕ) → IsTrue (P.SectorView.space space.old).tells → EditRoom 3 516 (state_of names tree.old (P.SectorView.space space.old)) }
     ensures answer { IsTrue (P.SectorView.space space.old).tells
         → IfOk result (λ answer. AnswersMove (record_at (placed_in (pairs_in (sectors_of_tree tree.old) (P.SectorView.space space.old).content)) from old.now) (record_at (placed_in (pairs_in (sectors_of_tree tree.old) (P.SectorView.space space.old).content)) to name.now) answer) }
     ensures moved { IsTrue (P.SectorView.space space.old).tells → IfOk result (λ answer. Moving from old.now to name.now (pairs_in (sectors_of_tree tree.old) (P.SectorView.space space.old).content) (pairs_in (sectors_of_tree tree.old) (P.SectorView.space space.new).content) answer) }
@@ -82,7 +82,7 @@ impl Volume {
         requires old_name { length old.now ≤ 255 }
         requires some_new { 1 ≤ length name.now }
         requires name { length name.now ≤ 255 }
-        requires room { (names : List ℕ) → EditRoom 3 516 (state_of names self.old.catalog.file (P.SectorView.space space.old)) }
+        requires room { (names : List ℕ) → IsTrue (P.SectorView.space space.old).tells → EditRoom 3 516 (state_of names self.old.catalog.file (P.SectorView.space space.old)) }
         // Behind an answer it stands, and behind a fault it is in service.
         ensures stands { OnOk result (StandsOver self.new (P.SectorView.space space.new)) }
         ensures service { IsInService self.new (P.SectorView.space space.new) }

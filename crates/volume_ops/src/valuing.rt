@@ -36,7 +36,7 @@ pub(crate) fn set_value<P: SectorSpace>(
     requires inline { IsTrue (P.SectorView.space space.old).tells → AreInline (pairs_in (sectors_of_tree tree.old) (P.SectorView.space space.old).content) }
     requires some { 1 ≤ length name.now }
     requires name { length name.now ≤ 127 }
-    requires room { (names : List ℕ) → EditRoom 2 266 (state_of names tree.old (P.SectorView.space space.old)) }
+    requires room { (names : List ℕ) → IsTrue (P.SectorView.space space.old).tells → EditRoom 2 266 (state_of names tree.old (P.SectorView.space space.old)) }
     ensures answer { IfOk result (λ answer. AnswersSet (length value.now) answer) }
     ensures set { IsTrue (P.SectorView.space space.old).tells → IfOk result (λ answer. Setting id name.now value.now (pairs_in (sectors_of_tree tree.old) (P.SectorView.space space.old).content) (pairs_in (sectors_of_tree tree.old) (P.SectorView.space space.new).content) answer) }
     ensures sorted { IsTrue (P.SectorView.space space.old).tells → OnOk result (AreSortedAttributes (pairs_in (sectors_of_tree tree.old) (P.SectorView.space space.new).content)) }
@@ -68,7 +68,7 @@ pub(crate) fn delete_value<P: SectorSpace>(
     requires holds { IsTrue (P.SectorView.space space.old).tells → HoldsTree attributes_form IsAttrKey anything attr_cmp tree.old (P.SectorView.space space.old).content }
     requires inline { IsTrue (P.SectorView.space space.old).tells → AreInline (pairs_in (sectors_of_tree tree.old) (P.SectorView.space space.old).content) }
     requires name { length name.now ≤ 127 }
-    requires room { (names : List ℕ) → EditRoom 1 266 (state_of names tree.old (P.SectorView.space space.old)) }
+    requires room { (names : List ℕ) → IsTrue (P.SectorView.space space.old).tells → EditRoom 1 266 (state_of names tree.old (P.SectorView.space space.old)) }
     ensures answer { IsTrue (P.SectorView.space space.old).tells → IfOk result (λ answer. AnswersDelete (value_at (pairs_in (sectors_of_tree tree.old) (P.SectorView.space space.old).content) id name.now) answer) }
     ensures deleted { IsTrue (P.SectorView.space space.old).tells → OnOk result (DropsAttribute id name.now (pairs_in (sectors_of_tree tree.old) (P.SectorView.space space.old).content) (pairs_in (sectors_of_tree tree.old) (P.SectorView.space space.new).content)) }
     ensures sorted { IsTrue (P.SectorView.space space.old).tells → OnOk result (AreSortedAttributes (pairs_in (sectors_of_tree tree.old) (P.SectorView.space space.new).content)) }

@@ -19,7 +19,7 @@ use sector_disk::SectorSpace;
 use std::alloc::Global;
 use volume_ops::Volume;
 
-/// Makes a folder. Where the room doesn't suffice by numbers alone, a commit comes first.
+/// Makes a folder. Where the room that there is doesn't suffice, a commit comes first.
 pub(crate) fn make_folder<P: SectorSpace>(
     alloc: Global,
     volume: &mut Volume,
@@ -51,7 +51,7 @@ pub(crate) fn make_folder<P: SectorSpace>(
     Ok(Outcome::Answered { reply, changes })
 }
 
-/// Makes an empty file. Where the room doesn't suffice by numbers alone, a commit comes first.
+/// Makes an empty file. Where the room that there is doesn't suffice, a commit comes first.
 pub(crate) fn make_file<P: SectorSpace>(
     alloc: Global,
     volume: &mut Volume,
@@ -83,7 +83,7 @@ pub(crate) fn make_file<P: SectorSpace>(
     Ok(Outcome::Answered { reply, changes })
 }
 
-/// Moves a folder or file. Where the room doesn't suffice by numbers alone, a commit comes first.
+/// Moves a folder or file. Where the room that there is doesn't suffice, a commit comes first.
 pub(crate) fn move_entry<P: SectorSpace>(
     alloc: Global,
     volume: &mut Volume,

@@ -52,7 +52,7 @@ pub(crate) fn date<P: SectorSpace>(
     })
 }
 
-/// Gives a folder or file other rights. Where the room doesn't suffice by numbers alone, a commit comes first.
+/// Gives a folder or file other rights. Where the room that there is doesn't suffice, a commit comes first.
 pub(crate) fn set_mode<P: SectorSpace>(
     alloc: Global,
     volume: &mut Volume,

@@ -19,7 +19,7 @@ use sector_disk::SectorSpace;
 use std::alloc::Global;
 use volume_ops::Volume;
 
-/// Gives a folder or file an attribute. Where the room doesn't suffice by numbers alone, a commit comes first.
+/// Gives a folder or file an attribute. Where the room that there is doesn't suffice, a commit comes first.
 pub(crate) fn set_attribute<P: SectorSpace>(
     alloc: Global,
     volume: &mut Volume,
@@ -54,7 +54,7 @@ pub(crate) fn set_attribute<P: SectorSpace>(
     Ok(Outcome::Answered { reply, changes })
 }
 
-/// Deletes an attribute of a folder or file. Where the room doesn't suffice by numbers alone, a commit comes first.
+/// Deletes an attribute of a folder or file. Where the room that there is doesn't suffice, a commit comes first.
 pub(crate) fn delete_attribute<P: SectorSpace>(
     alloc: Global,
     volume: &mut Volume,

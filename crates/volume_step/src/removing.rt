@@ -19,7 +19,7 @@ use sector_disk::SectorSpace;
 use std::alloc::Global;
 use volume_ops::Volume;
 
-/// Removes a folder with so many attributes. Where the room doesn't suffice by numbers alone, a commit comes first.
+/// Removes a folder with so many attributes. Where the room that there is doesn't suffice, a commit comes first.
 fn remove_with<P: SectorSpace>(
     alloc: Global,
     volume: &mut Volume,

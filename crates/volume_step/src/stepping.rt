@@ -110,8 +110,7 @@ fn change<P: SectorSpace>(
 
 /// Weighs a command, whose line has this number, and does it: what it came to is that of the plain tree's step, or a refusal for
 /// want of a resource, or that it is still to come; or a commit is wanted before it, and nothing was changed. So it is where its
-/// load is more than may be put, and where the edits that its load allows could take more by the numbers of the trees alone,
-/// whatever their nodes hold. `Memory` comes where memory is wanting, `Disk` where a read failed.
+/// load is more than may be put. `Memory` comes where memory is wanting, `Disk` where a read failed.
 pub fn step<P: SectorSpace>(
     alloc: Global,
     volume: &mut Volume,

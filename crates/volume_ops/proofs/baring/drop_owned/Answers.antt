@@ -9,7 +9,7 @@ use Rattle.btree_node.specs.Levels.{Pair}
 use Rattle.hfs_volume.specs.Changes.{AreSortedAttributes, DropsAttribute}
 use Rattle.hfs_volume.specs.Commands.{DropsAttributes}
 use Rattle.volume_ops.specs.Dropping.{LeavesNamed}
-use Rattle.volume_ops.proofs.DroppedOne.{edits_more, edits_none, inline_less, inside_then, leaves_all, leaves_less, leaves_none, open_then, sorted_held, takes_all, takes_more}
+use Rattle.volume_ops.proofs.DroppedOne.{edits_more, edits_none, inline_less, inside_then, leaves_all, leaves_less, leaves_none, open_then, same_then, sorted_held, takes_all, takes_more}
 use Rattle.volume_ops.proofs.Seeing.{cause_since}
 use Rattle.volume_ops.proofs.baring.drop_owned.Goals as goal
 
@@ -57,7 +57,7 @@ loop-at-preserved g c =
           (leaves_less c.args.id c.loop-at.at c.args.owned.now _ (pairs_in (sectors_of_tree c.args.tree.now) first.content) (pairs_in (sectors_of_tree c.loop-at.tree) now.content) (pairs_in (sectors_of_tree c.loop-at.tree) new.content)
           (omega (arith, c.loop-at-test.true)) c.index-owned-at.is (known.leaves tells) (done.dropped (known.frame.space.same.tells ∙ tells)));
       frame = follows_both c.args.tree.now c.loop-at.tree c.drop_value.new.tree first now new known.frame c.drop_value.ensures.frame;
-      edits = λ names. edits_more c.loop-at.at (state_of names c.args.tree.now first) (state_of names c.loop-at.tree now) (state_of names c.drop_value.new.tree new) (known.edits names) (done.edits names);
+      edits = λ names. edits_more c.loop-at.at (state_of names c.args.tree.now first) (state_of names c.loop-at.tree now) (state_of names c.drop_value.new.tree new) (same_then c.args.tree.now c.loop-at.tree first now known.frame names) (known.edits names) (done.edits names);
       below = g.met.P.SectorView.follows_trans c.args.space.now c.loop-at.space c.drop_value.new.space known.below c.drop_value.ensures.below;
     }
 
@@ -68,7 +68,7 @@ returns-in_err-drop_value-clause-frame g c =
 pub returns-in_err-drop_value-clause-takes : goal.returns-in_err-drop_value-clause-takes
 returns-in_err-drop_value-clause-takes g c names =
     takes_more c.loop-at.at (length c.args.owned.now) (state_of names c.args.tree.now (g.P.SectorView.space c.args.space.now)) (state_of names c.loop-at.tree (g.P.SectorView.space c.loop-at.space)) (state_of names c.drop_value.new.tree (g.P.SectorView.space c.drop_value.new.space))
-    (omega (arith, c.loop-at-test.true)) (c.loop-at.invariant.edits names) (c.drop_value.ensures.takes names)
+    (omega (arith, c.loop-at-test.true)) (same_then c.args.tree.now c.loop-at.tree (g.P.SectorView.space c.args.space.now) (g.P.SectorView.space c.loop-at.space) c.loop-at.invariant.frame names) (c.loop-at.invariant.edits names) (c.drop_value.ensures.takes names)
 
 pub returns-in_err-drop_value-clause-below : goal.returns-in_err-drop_value-clause-below
 returns-in_err-drop_value-clause-below g c = g.met.P.SectorView.follows_trans c.args.space.now c.loop-at.space c.drop_value.new.space c.loop-at.invariant.below c.drop_value.ensures.below

@@ -12,7 +12,7 @@ delete_value-requires-clause-size g c =
     (subst (λ (k : TreeShape × ℕ). FitsToDrop k.0 k.1) (λ i. (c.shape.ensures i, c.spare.ensures i)) (c.room_to_drop.ensures c.if-not-room_to_drop.false)).size
 
 pub delete_value-requires-clause-room : goal.delete_value-requires-clause-room
-delete_value-requires-clause-room g c names =
+delete_value-requires-clause-room g c names tells =
     room_for_drop names c.args.tree.now (g.P.SectorView.space c.args.space.now)
     (subst (λ (k : TreeShape × ℕ). FitsToDrop k.0 k.1) (λ i. (c.shape.ensures i, c.spare.ensures i)) (c.room_to_drop.ensures c.if-not-room_to_drop.false))
 

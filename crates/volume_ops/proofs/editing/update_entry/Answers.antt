@@ -22,7 +22,7 @@ update-requires-clause-same_kind g c tells =
     subst (λ (l : List Pair). (entry : Placed) → record_at (placed_in l) c.args.parent c.args.name.now ≡ Some entry → IsOfKind c.args.rec.now entry.value) (sym (pairs_held catalog_form IsCatalogKey anything catalog_cmp [] c.args.tree.now (g.P.SectorView.space c.args.space.now) (c.requires.holds tells))) (c.requires.same_kind tells)
 
 pub update-requires-clause-room : goal.update-requires-clause-room
-update-requires-clause-room g c = c.requires.room _
+update-requires-clause-room g c = c.requires.room []
 
 pub returns-clause-answer : goal.returns-clause-answer
 returns-clause-answer g c tells =

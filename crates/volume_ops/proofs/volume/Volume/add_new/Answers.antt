@@ -26,9 +26,9 @@ add-requires-clause-unused g c tells =
     ∙ unused c.args.self.now (g.P.SectorView.space c.args.space.now) (c.requires.settled (sym c.draw.ensures.within.same.tells ∙ tells)) c.new_record-rec.result c.new_record-rec.ensures.id
 
 pub add-requires-clause-room : goal.add-requires-clause-room
-add-requires-clause-room g c names =
+add-requires-clause-room g c names tells =
     subst (λ (t : Tree). EditRoom 2 516 (state_of names t.file (g.P.SectorView.space c.draw.new.space))) (sym (ap (λ (x : Volume). x.catalog) c.draw.ensures.rest))
-    (room_for_entry c.edits_have_room.ensures c.args.self.now (g.P.SectorView.space c.args.space.now) (g.P.SectorView.space c.draw.new.space) c.requires.room c.requires.size c.draw.ensures.within.same.tells c.draw.ensures.spent names)
+    (room_for_entry c.edits_have_room.ensures c.args.self.now (g.P.SectorView.space c.args.space.now) (g.P.SectorView.space c.draw.new.space) c.requires.room c.requires.size c.draw.ensures.within.same.tells c.draw.ensures.spent names tells)
 
 pub returns-clause-adds : goal.returns-clause-adds
 returns-clause-adds g c tells =
@@ -46,7 +46,6 @@ returns-clause-room g c =
     c.draw.ensures.within.same.tells c.draw.ensures.spent
     (subst (λ (t : Tree). TakesAtMost 2 516 (state_of [] t.file (g.P.SectorView.space c.draw.new.space)) (state_of [] c.add.new.self.catalog.file (g.P.SectorView.space c.add.new.space))) (ap (λ (x : Volume). x.catalog) c.draw.ensures.rest) (c.add.ensures.takes []))
     c.add.ensures.frame.space.same.tells
-    (subst (λ (t : Tree). TakesEdits 2 516 (state_of [] t.file (g.P.SectorView.space c.draw.new.space)) (state_of [] c.add.new.self.catalog.file (g.P.SectorView.space c.add.new.space))) (ap (λ (x : Volume). x.catalog) c.draw.ensures.rest) (c.in_ok-add.ensures.edits []))
 
 pub returns-clause-own : goal.returns-clause-own
 returns-clause-own g c = own_added c.args.self.now c.draw.new.self c.add.new.self (g.P.SectorView.space c.draw.new.space) (g.P.SectorView.space c.add.new.space) c.draw.ensures.rest c.add.ensures.frame c.add.ensures.rest

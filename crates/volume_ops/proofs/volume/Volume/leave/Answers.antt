@@ -43,7 +43,7 @@ pub returns-clause-below : goal.returns-clause-below
 returns-clause-below g c = g.met.P.SectorView.follows_trans c.args.space.now c.relocate.new.space c.touch.new.space c.relocate.ensures.below c.touch.ensures.below
 
 pub returns-clause-spent : goal.returns-clause-spent
-returns-clause-spent g c tells = omega (arith, spent_move c.edits_have_room.ensures c.edits_take_their_load.ensures c.args.self.now c.relocate.new.self (g.P.SectorView.space c.args.space.now) (g.P.SectorView.space c.relocate.new.space) c.requires.room c.requires.size (c.relocate.ensures.takes []) tells, c.touch.ensures.spent (c.relocate.ensures.frame.space.same.tells ∙ tells), node_moved c.edits_have_room.ensures c.edits_take_their_load.ensures c.args.self.now c.relocate.new.self (g.P.SectorView.space c.args.space.now) (g.P.SectorView.space c.relocate.new.space) c.requires.room c.requires.size (c.relocate.ensures.takes []))
+returns-clause-spent g c tells = omega (arith, spent_move c.edits_have_room.ensures c.edits_take_their_load.ensures c.args.self.now c.relocate.new.self (g.P.SectorView.space c.args.space.now) (g.P.SectorView.space c.relocate.new.space) c.requires.room c.requires.size (c.relocate.ensures.takes []) tells, c.touch.ensures.spent (c.relocate.ensures.frame.space.same.tells ∙ tells), node_moved c.edits_have_room.ensures c.edits_take_their_load.ensures c.args.self.now c.relocate.new.self (g.P.SectorView.space c.args.space.now) (g.P.SectorView.space c.relocate.new.space) c.requires.room c.requires.size (c.relocate.ensures.takes []) tells)
 
 pub returns-in_err-relocate-clause-spent : goal.returns-in_err-relocate-clause-spent
 returns-in_err-relocate-clause-spent g c tells = omega (arith, spent_move c.edits_have_room.ensures c.edits_take_their_load.ensures c.args.self.now c.relocate.new.self (g.P.SectorView.space c.args.space.now) (g.P.SectorView.space c.relocate.new.space) c.requires.room c.requires.size (c.relocate.ensures.takes []) tells)

@@ -38,7 +38,7 @@ returns-then-shape-lt4096-clause-touches g c committed = touches_none committed 
 
 pub returns-clause-room : goal.returns-clause-room
 returns-clause-room g c many room =
-    room_after many c.args.self.now c.update.new.self (g.P.SectorView.space c.args.space.now) (g.P.SectorView.space c.update.new.space) c.update.ensures.frame.space.same.tells (λ tells. c.update.ensures.takes [] tells) (c.in_ok-update.ensures.edits []) room
+    room_after many c.args.self.now c.update.new.self (g.P.SectorView.space c.args.space.now) (g.P.SectorView.space c.update.new.space) c.update.ensures.frame.space.same.tells (λ tells. c.update.ensures.takes [] tells) room
 
 pub returns-then-shape-lt4096-clause-room : goal.returns-then-shape-lt4096-clause-room
 returns-then-shape-lt4096-clause-room g c many room = room_less many c.args.self.now (g.P.SectorView.space c.args.space.now) room

@@ -24,9 +24,9 @@ remove-requires-clause-threads g c tells =
     threads_drawn c.args.self.now c.count_off.new.self (g.P.SectorView.space c.args.space.now) (g.P.SectorView.space c.count_off.new.space) c.count_off.ensures.rest (c.count_off.ensures.put (sym c.count_off.ensures.within.same.tells ∙ tells)) (c.requires.settled (sym c.count_off.ensures.within.same.tells ∙ tells))
 
 pub remove-requires-clause-room : goal.remove-requires-clause-room
-remove-requires-clause-room g c names =
+remove-requires-clause-room g c names tells =
     subst (λ (t : Tree). EditRoom 2 516 (state_of names t.file (g.P.SectorView.space c.count_off.new.space))) (sym (ap (λ (x : Volume). x.catalog) c.count_off.ensures.rest))
-    (room_to_remove c.edits_have_room.ensures c.args.self.now (g.P.SectorView.space c.args.space.now) (g.P.SectorView.space c.count_off.new.space) c.requires.room c.requires.size c.count_off.ensures.within.same.tells c.count_off.ensures.spent names)
+    (room_to_remove c.edits_have_room.ensures c.args.self.now (g.P.SectorView.space c.args.space.now) (g.P.SectorView.space c.count_off.new.space) c.requires.room c.requires.size c.count_off.ensures.within.same.tells c.count_off.ensures.spent names tells)
 
 pub returns-clause-drops : goal.returns-clause-drops
 returns-clause-drops g c tells =
@@ -43,7 +43,6 @@ returns-clause-room g c =
     c.count_off.ensures.within.same.tells c.count_off.ensures.spent
     (subst (λ (t : Tree). TakesAtMost 2 516 (state_of [] t.file (g.P.SectorView.space c.count_off.new.space)) (state_of [] c.remove.new.self.catalog.file (g.P.SectorView.space c.remove.new.space))) (ap (λ (x : Volume). x.catalog) c.count_off.ensures.rest) (c.remove.ensures.takes []))
     c.remove.ensures.frame.space.same.tells
-    (subst (λ (t : Tree). TakesEdits 2 516 (state_of [] t.file (g.P.SectorView.space c.count_off.new.space)) (state_of [] c.remove.new.self.catalog.file (g.P.SectorView.space c.remove.new.space))) (ap (λ (x : Volume). x.catalog) c.count_off.ensures.rest) (c.in_ok-remove.ensures.edits []))
 
 pub returns-clause-own : goal.returns-clause-own
 returns-clause-own g c = own_added c.args.self.now c.count_off.new.self c.remove.new.self (g.P.SectorView.space c.count_off.new.space) (g.P.SectorView.space c.remove.new.space) c.count_off.ensures.rest c.remove.ensures.frame c.remove.ensures.rest
