@@ -12,7 +12,7 @@ const LINES: &[u8] = b"mkdir /d\nsync\ncreate /d/f\nsync\nsetattr /d k =v\nsync\
 const READS: &[u8] = b"ls /\nls /d\nlsattr /d\n";
 
 // How many calls of a mount that wrote are passed over between two that are tried.
-const STEP: u64 = 40;
+const STEP: u64 = 35;
 
 /// What all pairs of crashes left.
 #[derive(Clone, Copy)]
