@@ -1,4 +1,4 @@
-// A tree over nodes in memory, whose edits are asked for only where their conditions hold.
+// A tree over nodes in memory that tell nothing, so that an edit without room fails.
 ghost use Rattle.std.specs.Prelude.{◌≡◌, ◌≤◌, ◌<◌, ◌+◌, ◌*◌, ◌/◌, ◌-◌, IsTrue, length};
 ghost use Rattle.btree_node.specs.Node.{IsNodeSize};
 ghost use Rattle.btree_node.specs.Mem.{mem_state};
@@ -44,6 +44,11 @@ impl Grove {
         self.store.shape()
     }
 
+    /// Begins an edit with room for so many writes.
+    pub fn limit(&mut self, writes: u32) {
+        self.store.nodes.commit(writes);
+    }
+
     /// Whether a pair may stand in a leaf.
     fn is_short(&self, key: &[u8], value: &[u8]) -> bool
         ensures { IsTrue result → length key.now + length value.now ≤ (mem_state self.now.store.nodes).shape.node_size / 2 - 10 }
@@ -52,7 +57,7 @@ impl Grove {
         key.len() <= most && value.len() <= most - key.len()
     }
 
-    /// Adds a pair; none where it mustn't be asked for, or where the store failed.
+    /// Adds a pair; none where it mustn't be asked for, or where that failed.
     pub fn add<K: KeyOrder>(&mut self, key: &[u8], value: &[u8]) -> Option<Inserted> {
         if !K::valid(key) || !self.is_short(key, value) {
             return None;

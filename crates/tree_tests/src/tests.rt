@@ -363,3 +363,97 @@ fn a_fresh_store_takes_a_pair(rt: HostRuntime) -> Result<(), Fail> {
     assert_eq!(rt; store.count_written(), 2);
     Ok(())
 }
+
+/// Adds the pair of a number with room for so many writes.
+fn add_within(
+    alloc: Global,
+    tree: &mut Grove,
+    list: &Wanted,
+    number: u32,
+    writes: u32,
+) -> Result<Option<Inserted>, OutOfMemory> {
+    let key = list.key(alloc, number)?;
+    let value = list.value(alloc, number)?;
+    tree.limit(writes);
+    Ok(tree.add::<ExtentOrder>(&key, &value))
+}
+
+/// Removes it.
+fn take_within(
+    alloc: Global,
+    tree: &mut Grove,
+    list: &Wanted,
+    number: u32,
+    writes: u32,
+) -> Result<Option<Removed>, OutOfMemory> {
+    let key = list.key(alloc, number)?;
+    tree.limit(writes);
+    Ok(tree.take_out::<ExtentOrder>(&key))
+}
+
+/// Gives it another value of the same length.
+fn change_within(
+    alloc: Global,
+    tree: &mut Grove,
+    list: &Wanted,
+    number: u32,
+    writes: u32,
+) -> Result<Option<Removed>, OutOfMemory> {
+    let key = list.key(alloc, number)?;
+    let value = turned(alloc, list, number)?;
+    tree.limit(writes);
+    Ok(tree.change::<ExtentOrder>(&key, &value))
+}
+
+/// An edit of a tree with so many levels asks for four writes a level and eight more, and one of a value of the same length for one.
+#[test]
+fn an_edit_fails_without_room_for_its_writes(rt: HostRuntime) -> Result<(), Fail> {
+    let alloc = rt.alloc();
+    let mut tree = tree_of(alloc, 512)?;
+    let list = wanted(alloc, Kind::Extents, 0, 65, 2)?;
+    for (number, writes, answer) in [
+        (0, 7, None),
+        (0, 8, Some(Inserted::Done)),
+        (1, 11, None),
+        (1, 12, Some(Inserted::Done)),
+        (1, 0, Some(Inserted::Exists)),
+    ] {
+        let added = add_within(alloc, &mut tree, &list, number, writes)?;
+        assert_eq!(rt; added, answer, "{number}, {writes}");
+    }
+    for (writes, answer) in [(0, None), (1, Some(Removed::Done))] {
+        let changed = change_within(alloc, &mut tree, &list, 0, writes)?;
+        assert_eq!(rt; changed, answer, "{writes}");
+    }
+    for (writes, answer) in [
+        (11, None),
+        (12, Some(Removed::Done)),
+        (0, Some(Removed::Absent)),
+    ] {
+        let gone = take_within(alloc, &mut tree, &list, 0, writes)?;
+        assert_eq!(rt; gone, answer, "{writes}");
+    }
+    assert_eq!(rt; tree.shape().leaf_records, 1);
+    Ok(())
+}
+
+/// The one free node takes the first pair. A second one wants two, and so does a removal where a longer key may come to the front.
+#[test]
+fn an_edit_fails_without_free_nodes(rt: HostRuntime) -> Result<(), Fail> {
+    let alloc = rt.alloc();
+    let mut tree = Grove::new(alloc, 512, 2)?;
+    let list = wanted(alloc, Kind::Extents, 0, 65, 2)?;
+    for (number, answer) in [(0, Some(Inserted::Done)), (1, None)] {
+        let added = add_within(alloc, &mut tree, &list, number, 100)?;
+        assert_eq!(rt; added, answer, "{number}");
+    }
+    let gone = take_within(alloc, &mut tree, &list, 0, 100)?;
+    assert_eq!(rt; gone, Some(Removed::Done));
+    let mut names = Grove::new(alloc, 4096, 2)?;
+    let key = named_key(alloc, 3, 5)?;
+    let added = names.add::<CatalogOrder>(&key, &[7; 20]);
+    assert_eq!(rt; added, Some(Inserted::Done));
+    assert_eq!(rt; names.take_out::<CatalogOrder>(&key), None);
+    assert!(rt; names.has::<CatalogOrder>(&key, &[7; 20]));
+    Ok(())
+}
