@@ -437,7 +437,7 @@ fn an_edit_fails_without_room_for_its_writes(rt: HostRuntime) -> Result<(), Fail
     Ok(())
 }
 
-/// The one free node takes the first pair. A second one wants two, and so does a removal where a longer key may come to the front.
+/// The one free node takes the first pair. A second one wants two, and a removal of a key of one length none.
 #[test]
 fn an_edit_fails_without_free_nodes(rt: HostRuntime) -> Result<(), Fail> {
     let alloc = rt.alloc();
@@ -449,6 +449,13 @@ fn an_edit_fails_without_free_nodes(rt: HostRuntime) -> Result<(), Fail> {
     }
     let gone = take_within(alloc, &mut tree, &list, 0, 100)?;
     assert_eq!(rt; gone, Some(Removed::Done));
+    Ok(())
+}
+
+/// A removal fails without a free node where a longer key may come to the front.
+#[test]
+fn a_removal_fails_without_free_nodes(rt: HostRuntime) -> Result<(), Fail> {
+    let alloc = rt.alloc();
     let mut names = Grove::new(alloc, 4096, 2)?;
     let key = named_key(alloc, 3, 5)?;
     let added = names.add::<CatalogOrder>(&key, &[7; 20]);
