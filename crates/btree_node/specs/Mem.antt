@@ -1,12 +1,13 @@
 -- The store in memory, as a contract sees it.
-use Rattle.std.specs.Prelude.{◌≡◌, ◌<◌, ℕ, ◌+◌, ◌*◌, ◌/◌, ◌==◌, true, [], slice_index_or}
+use Rattle.std.specs.Prelude.{◌≡◌, ◌<◌, ℕ, ◌+◌, ◌-◌, ◌*◌, ◌/◌, ◌^◌, ◌==◌, true, [], slice_index_or, if◌then◌else◌}
 use Rattle.btree_node.specs.Store.{Store}
 use Rattle.btree_node.specs.declared.mem.MemNodes.{MemNodes}
 
--- node 0 stands for the header node, and there is no map node; no call fails
+-- node 0 stands for the header node, and there is no map node; where it tells its nodes no call fails, else its count of faults stands at its
+-- last value
 abbrev pub mem_state : MemNodes → Store
 mem_state mem = record {
-  tells = true;
+  tells = mem.tells;
   names = [];
   shape = mem.shape;
   header = mem.shape;
@@ -18,7 +19,7 @@ mem_state mem = record {
   writes_left = mem.writes_left;
   sectors_left = mem.writes_left * (mem.shape.node_size / 512);
   loads = mem.loads;
-  faults = 0;
+  faults = if mem.tells then 0 else 2 ^ 64 - 1;
 }
 
 -- so many nodes of this size, of which node 0 alone is in use, and a tree without a node

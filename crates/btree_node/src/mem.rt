@@ -11,7 +11,7 @@ use crate::store::{NodeStore, TreeShape};
 use hx_bytes::{Failed, OutOfMemory};
 use std::alloc::Global;
 
-/// Nodes in memory, without a tree at first.
+/// Nodes in memory, without a tree at first. A new store tells contracts what its nodes hold.
 #[derive(Drop)]
 pub struct MemNodes {
     shape: TreeShape,
@@ -21,6 +21,7 @@ pub struct MemNodes {
     unwritten: u32,
     writes_left: u32,
     loads: u64,
+    tells: bool,
     ghost kept: { AreNodes shape nodes.items used.items written.items unwritten },
 }
 
@@ -46,6 +47,7 @@ impl MemNodes {
         requires some { 0 < total }
         ensures bare { IfOk result (λ store. IsBare node_size total (mem_state store)) }
         ensures left { IfOk result (λ store. (mem_state store).writes_left ≡ u32.MAX) }
+        ensures told { IfOk result (λ store. IsTrue (mem_state store).tells) }
     {
         let nodes = blank_nodes(alloc, node_size, total)?;
         let mut used = vec![in alloc; false; total as usize]?;
@@ -69,6 +71,7 @@ impl MemNodes {
             unwritten: total,
             writes_left: u32::MAX,
             loads: 0,
+            tells: true,
         })
     }
 
@@ -79,6 +82,7 @@ impl MemNodes {
         ensures written { (n : ℕ) → n < (mem_state self.old).shape.total → (mem_state self.new).written n ≡ false }
         ensures left { (mem_state self.new).writes_left ≡ writes_left }
         ensures loads { (mem_state self.new).loads ≡ (mem_state self.old).loads }
+        ensures tells { (mem_state self.new).tells ≡ (mem_state self.old).tells }
     {
         self.written.fill(false);
         self.unwritten = self.shape.total;
@@ -120,6 +124,7 @@ impl MemNodes {
         ensures shape { self.new.shape ≡ self.old.shape }
         ensures tree { SameNodes (mem_state self.old) (mem_state self.new) }
         ensures loads { self.new.loads ≡ self.old.loads }
+        ensures tells { self.new.tells ≡ self.old.tells }
         ensures writes { Writes 1 (mem_state self.old) (mem_state self.new) }
         ensures again { IsTrue ((mem_state self.old).written node) → SameRoom (mem_state self.old) (mem_state self.new) }
         ensures written { IsTrue ((mem_state self.new).written node) }

@@ -1,4 +1,4 @@
-use Rattle.std.proofs.Common.{◌≡◌, ℕ, ◌<◌, ◌≤◌, List, [], ◌∷◌, length, ◌∙◌, ap, arith, refl}
+use Rattle.std.proofs.Common.{◌≡◌, ℕ, ◌<◌, ◌≤◌, List, [], ◌∷◌, length, ◌∙◌, ap, arith}
 use Rattle.std.specs.declared.cmp.Ordering.{Ordering}
 use Rattle.btree_node.specs.Levels.{Pair, leaves, splice}
 use Rattle.btree_node.specs.Mem.{mem_state}
@@ -20,4 +20,4 @@ pub returns-clause-pairs : goal.returns-clause-pairs
 returns-clause-pairs g c =
     let store = mem_state c.in_ok-store.store in
     let none : pairs_of store ≡ [] = ap (λ d. leaves store.nodes store.shape.root d) c.in_ok-store.ensures.bare.depth in
-    one_pair g.K.KeyOrder.cmp c.args.key.now c.args.value.now (pairs_of store) (pairs_of (mem_state c.insert.new.store)) (rw c.in-Ok-Done.field-0-is at (c.in-Ok-Done.ensures.pairs refl)) none
+    one_pair g.K.KeyOrder.cmp c.args.key.now c.args.value.now (pairs_of store) (pairs_of (mem_state c.insert.new.store)) (rw c.in-Ok-Done.field-0-is at (c.in-Ok-Done.ensures.pairs c.in_ok-store.ensures.told)) none
