@@ -55,7 +55,7 @@ module _ (entry : Entry) (text : List ℕ) (is : entry.line ≡ take (most_bytes
       })
       go (inr (inl l)) = inr (inl (record { asked = l.asked; is_asked = sym same_command ∙ l.is_asked; no_refusal = l.no_refusal; why = l.why; weighs = l.weighs; reply_is = l.reply_is; same = l.same }))
       go (inr (inr (inl m))) = inr (inr (inl (record { reply_is = m.reply_is; tree = m.tree; same_gauge = m.same_gauge })))
-      go (inr (inr (inr t))) = inr (inr (inr (record { asked = t.asked; is_asked = sym same_command ∙ t.is_asked; waits = t.waits; reply_is = t.reply_is; same = t.same })))
+      go (inr (inr (inr t))) = inr (inr (inr (record { asked = t.asked; is_asked = sym same_command ∙ t.is_asked; no_refusal = t.no_refusal; waits = t.waits; reply_is = t.reply_is; same = t.same })))
 
   pub shrunk_text : (shrunk : Option ℕ) → shrunk_after shrunk (with_text entry text) ≡ shrunk_after shrunk entry
   unfolding with_text

@@ -117,10 +117,11 @@ pub record AsksMore (capacity : ℕ) (asked : Command) (content : Content) : Typ
   pub more : (11 < attribute_edits (tree_of content) asked)
       ⊎ ((load : ℕ) × (grow : List ℕ) × (weight capacity (volume_of content) (tree_of content) asked ≡ cost.Load load grow) × (0 < sum grow))
 
--- The command is still to come, and nothing was changed.
+-- The step doesn't refuse the command, but it is still to come, and nothing was changed.
 pub record IsToCome (capacity : ℕ) (entry : Entry) : Type 0 where
   pub asked : Command
   pub is_asked : asked_by entry ≡ Ok asked
+  pub no_refusal : refuses (tree_of entry.before) (Ok asked) ≡ false
   pub waits : IsTrue (is_to_come asked) ⊎ AsksMore capacity asked entry.before
   pub reply_is : entry.reply ≡ reply.No refusal.NotBuilt
   pub same : entry.after ≡ entry.before

@@ -118,6 +118,7 @@ module _ (capacity : ℕ) (line : List ℕ) (said : Reply) (now next old new : C
   to_come_alike was = record {
     asked = was.asked;
     is_asked = was.is_asked;
+    no_refusal = refuses_none (Ok was.asked) was.no_refusal;
     waits = ⊎_elim (λ never. inl never) (λ more. inr (more_alike was.asked more)) was.waits;
     reply_is = was.reply_is;
     same = still was.same;

@@ -230,7 +230,7 @@ module _ (capacity : ℕ) (asked : Command) (before : Content) (sound : IsSound 
     is = λ line spells. record {
       sound_before = sound;
       sound_after = sound;
-      is = inr (inr (inr (record { asked = asked; is_asked = spells; waits = ⊎_elim (λ still. inl still.0) (λ more. inr more) why; reply_is = refl; same = refl })));
+      is = inr (inr (inr (record { asked = asked; is_asked = spells; no_refusal = ⊎_elim (λ still. still.1) (λ more. more.no_refusal) why; waits = ⊎_elim (λ still. inl still.0) (λ more. inr more) why; reply_is = refl; same = refl })));
     };
   }
 
