@@ -52,6 +52,7 @@ module _ (v w : Volume) (settles : Settles v w) where
     map_inside = subst (λ (l : List ℕ). All (λ at. at < space.sectors) l) (λ i. fork_sectors (sym settles.same.fork i) (sym settles.same.per_block i)) was.map_inside;
     map_long = subst (λ (k : List Bool × List ℕ). sectors_for (length k.0) ≤ length k.1) {x = (v.map.used, fork_sectors v.map.fork v.map.per_block)} {y = (w.map.used, fork_sectors w.map.fork w.map.per_block)}
         (λ i. (sym settles.same.used i, fork_sectors (sym settles.same.fork i) (sym settles.same.per_block i))) was.map_long;
+    marks = ap (λ (l : List Bool). length l) settles.changed ∙ was.marks ∙ ap (λ (l : List Bool). sectors_for (length l)) (sym settles.same.used);
   }
 
   pub service_settled : (space : Space) → IsInService v space → IsInService w space

@@ -23,4 +23,5 @@ service_on v a b same was = record {
   most = was.most;
   map_inside = subst (λ n. All (λ at. at < n) (fork_sectors v.map.fork v.map.per_block)) (sym same) was.map_inside;
   map_long = was.map_long;
+  marks = was.marks;
 }

@@ -1,7 +1,8 @@
 -- A volume that is being read comes into service step by step: each step reads, and leaves what was read before it.
 use Rattle.std.proofs.Common.{◌≡◌, ◌<◌, ◌≤◌, ℕ, ◌*◌, ◌/◌, Bool, true, List, [], ◌∷◌, length, get_or, refl, sym, ◌∙◌, ap, subst, arith, ⊎_elim}
-use Rattle.std.specs.Prelude.{Contains, IsTrue, Option, None, slice_index}
+use Rattle.std.specs.Prelude.{Contains, false, IsTrue, Option, None, slice_index}
 use Rattle.std.specs.List.{All}
+use Rattle.std.proofs.lemmas.List.{length-replicate}
 use Rattle.flag_rows.specs.Bits.{sectors_for}
 use Rattle.alloc_bitmap.specs.Fork.{HoldsBits}
 use Rattle.fork_map.specs.Blocks.{fork_sectors}
@@ -287,9 +288,9 @@ module _ (a d e : Space) (header : VolumeHeader) (extents : Tree) (begun_so : Ha
       }
 
   pub in_service_then : (z : Space) → z.sectors ≡ e.sectors → e.sectors ≡ d.sectors → IsTreeInService first d → KeepsTree e.tells first catalog → IsTreeInService attributes d → FitsHeader header → 512 ≤ header.block_size → header.block_size ≤ 65536
-      → All (λ at. at < d.sectors) (fork_sectors map.fork map.per_block) → sectors_for (length map.used) ≤ length (fork_sectors map.fork map.per_block)
+      → All (λ at. at < d.sectors) (fork_sectors map.fork map.per_block) → sectors_for (length map.used) ≤ length (fork_sectors map.fork map.per_block) → map.changed ≡ none (sectors_for (length map.used))
       → IsInService (served header map extents catalog attributes private capacity) z
-  in_service_then z last middle one keeps other fits least most inside long = record {
+  in_service_then z last middle one keeps other fits least most inside long fresh = record {
     extents = service_later extents e z last begun_so.service;
     catalog = service_kept e.tells first catalog d z keeps (last ∙ middle) one;
     attributes = service_later attributes d z (last ∙ middle) other;
@@ -298,6 +299,7 @@ module _ (a d e : Space) (header : VolumeHeader) (extents : Tree) (begun_so : Ha
     most = most;
     map_inside = subst (λ n. All (λ at. at < n) (fork_sectors map.fork map.per_block)) (sym (last ∙ middle)) inside;
     map_long = long;
+    marks = ap (λ (l : List Bool). length l) fresh ∙ length-replicate (sectors_for (length map.used)) false;
   }
 
 -- nothing is held, and nothing was changed

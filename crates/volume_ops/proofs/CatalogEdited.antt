@@ -137,6 +137,7 @@ module _ (volume : Volume) (a b : Space) (later : Tree) where
       most = was.most;
       map_inside = subst (λ n. All (λ at. at < n) (map_sectors volume)) (sym follows.space.same.sectors) was.map_inside;
       map_long = was.map_long;
+      marks = was.marks;
     }
 
 -- the volume's own catalog lies open

@@ -135,9 +135,9 @@ module _ (v : Volume) (a : Space) (was : IsStanding v a) (settled : IsSettled v 
 
 -- ---- in service
 
-pub service_after : (v : Volume) (a b : Space) (head : VolumeHeader) (later : BlockMap) (file : TreeFile) → IsInService v a → b.sectors ≡ a.sectors → FitsHeader head → head.block_size ≡ v.header.block_size → later.fork ≡ v.map.fork → later.per_block ≡ v.map.per_block → length later.used ≡ length v.map.used
+pub service_after : (v : Volume) (a b : Space) (head : VolumeHeader) (later : BlockMap) (file : TreeFile) → IsInService v a → b.sectors ≡ a.sectors → FitsHeader head → head.block_size ≡ v.header.block_size → later.fork ≡ v.map.fork → later.per_block ≡ v.map.per_block → length later.used ≡ length v.map.used → length later.changed ≡ sectors_for (length v.map.used)
     → file.shape.node_size ≡ v.catalog.file.shape.node_size → LiesInside file b → IsInService (record v { header = head; map = later; catalog = record v.catalog { file = file } }) b
-service_after v a b head later file was sectors fits block fork per long size inside = record {
+service_after v a b head later file was sectors fits block fork per long marked size inside = record {
   extents = service_later v.extents a b sectors was.extents;
   catalog = record { desk = subst (λ n. IsDeskOf n v.catalog.desk) (sym size) was.catalog.desk; inside = inside };
   attributes = service_later v.attributes a b sectors was.attributes;
@@ -146,6 +146,7 @@ service_after v a b head later file was sectors fits block fork per long size in
   most = omega (arith, was.most, block);
   map_inside = subst (λ n. All (λ at. at < n) (fork_sectors later.fork later.per_block)) (sym sectors) (subst (λ (m : BlockMap). All (λ at. at < a.sectors) (fork_sectors m.fork m.per_block)) same was.map_inside);
   map_long = subst (λ n. sectors_for n ≤ length (fork_sectors later.fork later.per_block)) (sym long) (subst (λ (m : BlockMap). sectors_for (length v.map.used) ≤ length (fork_sectors m.fork m.per_block)) same was.map_long);
+  marks = marked ∙ sym (ap (λ n. sectors_for n) long);
 }
   where
     same : v.map ≡ record v.map { fork = later.fork; per_block = later.per_block }

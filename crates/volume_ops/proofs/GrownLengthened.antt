@@ -19,7 +19,7 @@ use Rattle.volume_ops.specs.Service.{IsInService}
 use Rattle.volume_ops.specs.Standing.{IsSettled, StandsOver, own_sectors, map_sectors}
 use Rattle.volume_ops.specs.Touching.{Touches}
 use Rattle.volume_ops.specs.declared.volume.Volume.{Volume}
-use Rattle.volume_ops.proofs.GrownBits.{map_few}
+use Rattle.volume_ops.proofs.GrownBits.{map_few, marked_long}
 use Rattle.volume_ops.proofs.GrownCalls.{bytes_are, load_is, nodes_are, own_same, run_some, service_after, touches_told}
 use Rattle.volume_ops.proofs.GrownRun.{same_fork, same_length, same_per}
 use Rattle.volume_ops.proofs.GrownStands.{own_still, put_own, stands_longer}
@@ -35,7 +35,7 @@ module _ (more : ℕ) (v : Volume) (a b : Space) (over : StandsOver v a) (settle
     pub service_then : (file : TreeFile) (head : VolumeHeader) → FitsHeader head → head.block_size ≡ v.header.block_size → file.shape.node_size ≡ v.catalog.file.shape.node_size → LiesInside file b → b.sectors ≡ a.sectors
         → IsInService (record v { header = head; map = later; catalog = record v.catalog { file = file } }) b
     service_then file head fits block size inside sectors =
-        service_after v a b head later file over.service sectors fits block (same_fork (catalog_blocks v more) run v.map later takes) (same_per (catalog_blocks v more) run v.map later takes) (same_length (catalog_blocks v more) run v.map later takes) size inside
+        service_after v a b head later file over.service sectors fits block (same_fork (catalog_blocks v more) run v.map later takes) (same_per (catalog_blocks v more) run v.map later takes) (same_length (catalog_blocks v more) run v.map later takes) (marked_long (catalog_blocks v more) run v.map later takes can.unchanged) size inside
 
     pub own_failed : (file : TreeFile) → SaysSame v.catalog.file file → own_sectors (record v { map = later; catalog = record v.catalog { file = file } }) ≡ own_sectors v
     own_failed file same = own_same v later file same.fork same.per_block (same_fork (catalog_blocks v more) run v.map later takes) (same_per (catalog_blocks v more) run v.map later takes)

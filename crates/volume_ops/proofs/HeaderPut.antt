@@ -104,6 +104,7 @@ serves_later volume a b sectors was = record {
   most = was.most;
   map_inside = subst (λ n. All (λ at. at < n) (map_sectors volume)) (sym sectors) was.map_inside;
   map_long = was.map_long;
+  marks = was.marks;
 }
 
 pub stands_behind_put : (volume : Volume) (a b : Space) (bytes : List ℕ) → StandsOver volume a → SameSpace a b → length bytes ≡ 512 → (IsTrue a.tells → Puts a 2 bytes b) → StandsOver volume b
@@ -163,6 +164,7 @@ stands_dated moment volume a low was = record {
     most = was.service.most;
     map_inside = was.service.map_inside;
     map_long = was.service.map_long;
+    marks = was.service.marks;
   };
   stands = λ tells.
       let here = was.stands tells in

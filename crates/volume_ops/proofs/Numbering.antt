@@ -21,6 +21,7 @@ stands_numbered head volume a fits was = record {
     most = was.service.most;
     map_inside = was.service.map_inside;
     map_long = was.service.map_long;
+    marks = was.service.marks;
   };
   stands = λ tells.
       let here = was.stands tells in

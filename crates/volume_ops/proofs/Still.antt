@@ -58,6 +58,7 @@ module _ (old new : Volume) (before after : Space) (reads : ReadsVolume old new 
     most = subst (λ (h : VolumeHeader). h.block_size ≤ 65536) (sym keeps.header) was.most;
     map_inside = subst (λ (k : Bitmap × ℕ). All (λ at. at < k.1) (fork_sectors k.0.fork k.0.per_block)) {x = (old.map, before.sectors)} {y = (new.map, after.sectors)} (λ i. (sym keeps.map i, sym reads.looks.same.sectors i)) was.map_inside;
     map_long = subst (λ (m : Bitmap). sectors_for (length m.used) ≤ length (fork_sectors m.fork m.per_block)) (sym keeps.map) was.map_long;
+    marks = subst (λ (m : Bitmap). length m.changed ≡ sectors_for (length m.used)) (sym keeps.map) was.marks;
   }
 
   abbrev extents_at : sectors_of_tree new.extents.file ≡ sectors_of_tree old.extents.file

@@ -28,6 +28,8 @@ pub record IsInService (volume : Volume) (space : Space) : Type 0 where
   pub most : volume.header.block_size ≤ 65536
   pub map_inside : All (λ at. at < space.sectors) (fork_sectors volume.map.fork volume.map.per_block)
   pub map_long : sectors_for (length volume.map.used) ≤ length (fork_sectors volume.map.fork volume.map.per_block)
+  -- for each sector with bits it is kept whether they were changed
+  pub marks : length volume.map.changed ≡ sectors_for (length volume.map.used)
 
 -- A tree's file is as it was: its fork, its map, and the numbers of its header record; and where the space tells, its header node.
 pub record KeepsFile (tells : Bool) (old new : TreeFile) : Type 0 where

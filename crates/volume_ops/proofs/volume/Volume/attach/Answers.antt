@@ -82,7 +82,7 @@ returns-clause-stands g c =
     (opened_then (g.P.SectorView.space c.args.space.now) (g.P.SectorView.space c.attach_trees.new.space) (g.P.SectorView.space c.load_map.new.space) c.in_ok-front.front.header c.load_map.new.extents (goes_on (g.P.SectorView.space c.args.space.now) (g.P.SectorView.space c.attach_trees.new.space) (g.P.SectorView.space c.load_map.new.space) c.in_ok-front.front.header c.attach_trees.new.extents c.load_map.new.extents (begun_on (g.P.SectorView.space c.args.space.now) (g.P.SectorView.space c.attach_front.new.space) (g.P.SectorView.space c.attach_trees.new.space) c.in_ok-front.front.header c.in_ok-front.front.extents c.attach_trees.new.extents c.in_ok-front.ensures.begun c.in_ok-trees.ensures.begun) c.load_map.ensures.looks c.load_map.ensures.keeps) (looks_on (g.P.SectorView.space c.args.space.now) (g.P.SectorView.space c.attach_front.new.space) (g.P.SectorView.space c.attach_trees.new.space) c.attach_front.ensures.looks c.attach_trees.ensures.looks) c.in_ok-map.map c.in_ok-trees.trees.catalog c.find_private.new.catalog c.in_ok-trees.trees.attributes c.in_ok-private.private c.args.capacity (file_back (g.P.SectorView.space c.args.space.now) (g.P.SectorView.space c.attach_front.new.space) c.attach_front.ensures.looks catalog_id (λ (h : VolumeHeader). h.catalog_fork) c.in_ok-trees.trees.catalog.file c.in_ok-trees.ensures.catalog) c.find_private.ensures.keeps
     (attributes_back (g.P.SectorView.space c.args.space.now) (g.P.SectorView.space c.attach_front.new.space) c.attach_front.ensures.looks c.in_ok-trees.trees.attributes.file c.in_ok-trees.ensures.attributes) c.in_ok-map.ensures.map (ap (λ (m : BlockMap). m.per_block) c.in_ok-map.ensures.rest) c.in_ok-private.ensures.private)
     (in_service_then (g.P.SectorView.space c.args.space.now) (g.P.SectorView.space c.attach_trees.new.space) (g.P.SectorView.space c.load_map.new.space) c.in_ok-front.front.header c.load_map.new.extents (goes_on (g.P.SectorView.space c.args.space.now) (g.P.SectorView.space c.attach_trees.new.space) (g.P.SectorView.space c.load_map.new.space) c.in_ok-front.front.header c.attach_trees.new.extents c.load_map.new.extents (begun_on (g.P.SectorView.space c.args.space.now) (g.P.SectorView.space c.attach_front.new.space) (g.P.SectorView.space c.attach_trees.new.space) c.in_ok-front.front.header c.in_ok-front.front.extents c.attach_trees.new.extents c.in_ok-front.ensures.begun c.in_ok-trees.ensures.begun) c.load_map.ensures.looks c.load_map.ensures.keeps) (looks_on (g.P.SectorView.space c.args.space.now) (g.P.SectorView.space c.attach_front.new.space) (g.P.SectorView.space c.attach_trees.new.space) c.attach_front.ensures.looks c.attach_trees.ensures.looks) c.in_ok-map.map c.in_ok-trees.trees.catalog c.find_private.new.catalog c.in_ok-trees.trees.attributes c.in_ok-private.private c.args.capacity (g.P.SectorView.space c.find_private.new.space) c.find_private.ensures.looks.same.sectors c.load_map.ensures.looks.same.sectors c.in_ok-trees.ensures.service.0 c.find_private.ensures.keeps c.in_ok-trees.ensures.service.1
-    c.in_ok-front.ensures.fits c.in_ok-front.ensures.least c.in_ok-front.ensures.most c.in_ok-map.ensures.inside c.in_ok-map.ensures.long)
+    c.in_ok-front.ensures.fits c.in_ok-front.ensures.least c.in_ok-front.ensures.most c.in_ok-map.ensures.inside c.in_ok-map.ensures.long (ap (λ (m : BlockMap). m.changed) c.in_ok-map.ensures.rest))
 
 pub returns-clause-settled : goal.returns-clause-settled
 returns-clause-settled g c =
