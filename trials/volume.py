@@ -100,7 +100,9 @@ class Tree:
 
 
 class Volume:
-    def __init__(self, sectors=16384, block=4096, journal=2048, node=4096, spare=16, filled=1.0, name="untitled"):
+    def __init__(self, sectors=16384, block=4096, journal=2048, node=4096, spare=16, filled=1.0, name="untitled", bare=False):
+        # A bare volume has no attributes file.
+        self.bare = bare
         self.sectors, self.block, self.journal, self.node, self.spare, self.filled = sectors, block, journal, node, spare, filled
         self.total = sectors * 512 // block
         self.next, self.entries, self.attributes, self.overflow, self.data = 16, {}, [], [], []
@@ -157,10 +159,18 @@ class Volume:
     def bad_blocks(self, count):
         self.overflow.append(((5, 0, 0), [self.take(count)]))
 
-    def link(self, parent, name, file):
-        """A further name of a file; at the first one the file goes to the private folder, and its old name becomes a link."""
+    def keep_private(self):
         if self.private is None:
             self.private = self.folder(2, "\0\0\0\0HFS+ Private Data")
+
+    def orphan(self, data, number):
+        """A file that no name leads to any more, as a loss of power leaves it."""
+        self.keep_private()
+        return self.file(self.private, f"iNode{number + 1000000}", data, pieces=3)
+
+    def link(self, parent, name, file):
+        """A further name of a file; at the first one the file goes to the private folder, and its old name becomes a link."""
+        self.keep_private()
         it = self.entries[file]
         if it["parent"] != self.private:
             old = it["parent"], it["name"]
@@ -213,7 +223,12 @@ class Volume:
             Tree(self.catalog(), self.node, 516, 6, 0xBC, self.block, spare, self.filled),
         ]
         found, forks = [], []
+        if self.bare:
+            trees[1] = None
         for tree in trees:
+            if tree is None:
+                forks.append(fork_bytes(0, 0, []))
+                continue
             # Whole blocks and whole nodes: nodes that no record reaches fill what is left.
             each = max(self.node, self.block)
             size = -(-tree.count * self.node // each) * each
