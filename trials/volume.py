@@ -100,9 +100,10 @@ class Tree:
 
 
 class Volume:
-    def __init__(self, sectors=16384, block=4096, journal=2048, node=4096, spare=16, filled=1.0, name="untitled", bare=False):
-        # A bare volume has no attributes file.
-        self.bare = bare
+    def __init__(self, sectors=16384, block=4096, journal=2048, node=4096, spare=16, filled=1.0, name="untitled", bare=False, mounted=b"HFSJ", pieces=1, moment=0):
+        # A bare volume has no attributes file. `mounted` is the version that mounted it last; one of another system wasn't unmounted cleanly,
+        # as bit 8 says. The tree files are in so many pieces, and all dates are the moment.
+        self.bare, self.mounted, self.pieces, self.moment = bare, mounted, pieces, moment
         self.sectors, self.block, self.journal, self.node, self.spare, self.filled = sectors, block, journal, node, spare, filled
         self.total = sectors * 512 // block
         self.next, self.entries, self.attributes, self.overflow, self.data = 16, {}, [], [], []
@@ -194,7 +195,7 @@ class Volume:
         for number, it in self.entries.items():
             kind = 1 if it["forks"] is None else 2
             flags, count = (0, held.get(number, 0)) if kind == 1 else (2, 0)
-            value = struct.pack(">HHII5IIIBBHI", kind, flags, count, number, 0, 0, 0, 0, 0, 0, 0, 0, 0, it["mode"], it["special"])
+            value = struct.pack(">HHII5IIIBBHI", kind, flags, count, number, *[self.moment] * 4, 0, 0, 0, 0, 0, it["mode"], it["special"])
             value += it["finder"] + bytes(8)
             for extents, size in it["forks"] or []:
                 value += fork_bytes(size, 0, extents[:8]) if size or extents else bytes(80)
@@ -237,15 +238,18 @@ class Volume:
                 number, head = tree.nodes[0]
                 total, free = struct.unpack(">II", head[36:44])
                 tree.nodes[0] = number, head[:36] + struct.pack(">II", total + more, free + more) + head[44:]
-            extent = self.take(size // self.block)
-            forks.append(fork_bytes(size, self.block, [extent]))
-            found += [(extent[0] * self.block + number * self.node, data) for number, data in tree.nodes]
+            count = size // self.block
+            pieces = min(self.pieces, count)
+            extents = [self.take(count // pieces + (it < count % pieces), 1 if pieces > 1 else 0) for it in range(pieces)]
+            forks.append(fork_bytes(size, self.block, extents))
+            for number, data in tree.nodes:
+                found += self.spread(extents, number * self.node, data)
         found += [(start * self.block, data) for start, data in self.data]
         last = (self.sectors * 512 - 1024) // self.block
         assert self.free <= last, "the volume is full"
         bits = bytearray(self.bitmap[1] * self.block)
         used = [(0, self.front), self.bitmap, self.info, self.ring, (last, self.total - last) if last < self.total else (0, 0)]
-        used += [(int.from_bytes(fork[16:20], "big"), int.from_bytes(fork[20:24], "big")) for fork in forks]
+        used += [struct.unpack(">II", fork[at : at + 8]) for fork in forks for at in range(16, 80, 8) if any(fork[at + 4 : at + 8])]
         for it in self.entries.values():
             for extents, _ in it["forks"] or []:
                 used += extents
@@ -263,12 +267,23 @@ class Volume:
         head = head[:36] + struct.pack("<I", checksum(head)) + head[40:]
         found.append((offset, head))
         files = sum(it["forks"] is not None for it in self.entries.values())
-        header = struct.pack(">HHI4sI4I", 0x4858, 5, 0x2100, b"HFSJ", self.info[0], 0, 0, 0, 0)
+        header = struct.pack(">HHI4sI4I", 0x4858, 5, 0x2100 if self.mounted == b"HFSJ" else 0x2000, self.mounted, self.info[0], self.moment, self.moment, 0, 0)
         header += struct.pack(">9I", files, len(self.entries) - files - 1, self.block, self.total, self.total - count, self.free, self.block, self.block, self.next)
         header += struct.pack(">IQ", 0, 1) + bytes(32)
         header += fork_bytes(self.bitmap[1] * self.block, self.block, [self.bitmap]) + forks[0] + forks[2] + forks[1] + fork_bytes(0, self.block, [])
         assert len(header) == 512
         found += [(1024, header), (self.sectors * 512 - 1024, header)]
+        return found
+
+    def spread(self, extents, at, data):
+        """Bytes from a place of a fork on, as they stand in its extents."""
+        found, place = [], 0
+        for start, count in extents:
+            size = count * self.block
+            one, other = max(at, place), min(at + len(data), place + size)
+            if one < other:
+                found.append((start * self.block + one - place, data[one - at : other - at]))
+            place += size
         return found
 
     def write(self, path):
