@@ -25,7 +25,7 @@ pub servable : (now : Content) (space : Space) (outside : Outside) → MayAttach
 servable now space outside may = record { sound = may.sound_read; whole = λ at inside. (may.whole at inside).size }
 
 pub attached : (v : Volume) (capacity : ℕ) (now : Content) (these : ℕ → Type 0) (a b : Space) (outside : Outside) → IsTrue a.tells → MayAttach now a outside → Looks these a b → StandsOver v b → IsSettled v b.content → IsFresh capacity v
-    → Stays (λ committed is shrunk. Knows v capacity committed is b) now now None b
+    → Stays (λ committed is shrunk. Knows v capacity committed is shrunk b) now now None b
 attached v capacity now these a b outside tells may looks stands settled fresh =
     let content : b.content ≡ a.content = looks.content tells in
     let lists : volume_of now ≡ volume_of b.content = sym may.lists ∙ sym (ap volume_of content) in
@@ -41,6 +41,7 @@ attached v capacity now these a b outside tells may looks stands settled fresh =
         holds = holds_own v b.content now lists settled;
         was_sound = may.sound;
         capacity_is = fresh.capacity_is;
+        shrunk_is = fresh.shrunk;
         alike = record { sound = may.sound; sound_other = subst IsSound (sym content) may.sound_read; lists = lists; tree = sym may.tree ∙ sym (ap tree_of content) };
       };
     }

@@ -58,7 +58,7 @@ module _ (v w : Volume) (settles : Settles v w) where
   pub service_settled : (space : Space) → IsInService v space → IsInService w space
   service_settled space was = subst (λ (u : Volume). IsInService u space) is_same (service_then space was)
 
-  module _ (law : AsideIsFree) (capacity : ℕ) (committed now : Content) (a b : Space) (known : Knows v capacity committed now a) (tells : IsTrue a.tells) (sectors : b.sectors ≡ a.sectors) (differs : DiffersInJournal a b) where
+  module _ (law : AsideIsFree) (capacity : ℕ) (committed now : Content) (shrunk : Option ℕ) (a b : Space) (known : Knows v capacity committed now shrunk a) (tells : IsTrue a.tells) (sectors : b.sectors ≡ a.sectors) (differs : DiffersInJournal a b) where
     was : IsStanding v a
     was = known.stands.stands tells
 
@@ -68,7 +68,7 @@ module _ (v w : Volume) (settles : Settles v w) where
     settled_then : IsSettled w b.content
     settled_then = subst (λ (u : Volume). IsSettled u b.content) is_same (settled_elsewhere law v a b was known.settled known.alike.sound_other differs w.map w.kept settles.same.used settles.same.fork settles.same.per_block)
 
-    pub committed_knows : Knows w capacity now now b
+    pub committed_knows : Knows w capacity now now shrunk b
     committed_knows =
         let other = as_sound law v a b was known.settled known.alike.sound_other differs in
         record {
@@ -77,6 +77,7 @@ module _ (v w : Volume) (settles : Settles v w) where
           holds = λ block set. holds_used v a.content now known.alike.lists known.settled w.map.used w.map.held settles.same.used block set;
           was_sound = known.alike.sound;
           capacity_is = settles.same.capacity ∙ known.capacity_is;
+          shrunk_is = settles.same.shrunk ∙ known.shrunk_is;
           alike = record { sound = known.alike.sound; sound_other = other.0; lists = known.alike.lists ∙ sym other.1; tree = known.alike.tree ∙ sym other.2 };
         }
 
@@ -84,10 +85,10 @@ abbrev place_at : ℕ → ℕ → JournalPlace
 place_at offset size = record { offset = offset; size = size }
 
 -- what a commit changed, but for what was put before it, lies in the journal
-pub differs : (v : Volume) (capacity : ℕ) (committed now : Content) (a b : Space) (before after : Outside) (first last : Anchor) → Knows v capacity committed now a → IsRead now a → Commits a before b after → last ≡ first → ShowsJournal first.journal a → ShowsJournal last.journal b
+pub differs : (v : Volume) (capacity : ℕ) (committed now : Content) (shrunk : Option ℕ) (a b : Space) (before after : Outside) (first last : Anchor) → Knows v capacity committed now shrunk a → IsRead now a → Commits a before b after → last ≡ first → ShowsJournal first.journal a → ShowsJournal last.journal b
     → DiffersInJournal a b
 unfolding volume_of
-differs v capacity committed now a b before after first last known reads commits same shows shows_then = record {
+differs v capacity committed now shrunk a b before after first last known reads commits same shows shows_then = record {
   agrees = commits.content;
   closed = commits.closed;
   journal = λ s shut. journal_alike now a.content (sym known.alike.lists) s (reads.closed s shut);

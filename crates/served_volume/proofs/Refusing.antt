@@ -1,6 +1,6 @@
 -- Lines that are refused.
 use Rattle.std.proofs.Common.{◌≡◌, ◌⊎◌, ℕ, Bool, true, false, List, [], inl, inr, ⊎_elim, refl, sym, ap, subst}
-use Rattle.std.specs.Prelude.{Result, Ok, Err}
+use Rattle.std.specs.Prelude.{Option, Result, Ok, Err, if◌then◌else◌}
 use Rattle.jnl_format.specs.Keeping.{IsSame}
 use Rattle.jnl_format.specs.Recovery.{Content, header_of_volume}
 use Rattle.volume_header.specs.declared.header.VolumeHeader.{VolumeHeader}
@@ -8,15 +8,16 @@ use Rattle.hfs_language.specs.Language.{command_of}
 use Rattle.hfs_language.specs.declared.command.Command.{Command}
 use Rattle.hfs_language.specs.declared.refusal.Refusal.{Refusal}
 use Rattle.hfs_language.specs.declared.refusal.Refusal.TheVariants as refusal
+use Rattle.hfs_language.specs.declared.reply.Reply.{Reply}
 use Rattle.hfs_language.specs.declared.reply.Reply.TheVariants as reply
 use Rattle.hfs_model.specs.Step.{step_line}
-use Rattle.hfs_volume.specs.Run.{DoesLine, Entry, IsAnswered, LacksMemory, reply_to}
+use Rattle.hfs_volume.specs.Run.{DoesLine, Entry, IsAnswered, LacksMemory, is_ok, or_before, reply_to, shrunk_by}
 use Rattle.hfs_volume.specs.Sound.{IsSound}
 use Rattle.hfs_volume.specs.TreeOf.{tree_of}
-use Rattle.volume_step.specs.Steps.{IsServedAs, KeepsJournal, StepsTo}
+use Rattle.volume_step.specs.Steps.{IsServedAs, KeepsJournal, ShrinksAs, StepsTo}
 use Rattle.volume_step.specs.declared.outcome.Outcome.{Outcome}
 use Rattle.volume_step.specs.declared.outcome.Outcome.TheVariants as outcome
-use Rattle.served_volume.specs.Answering.{AnswersAs, IsRefusedAs, unless_short}
+use Rattle.served_volume.specs.Answering.{AnswersAs, IsRefusedAs, ShrinksBy, unless_short}
 
 module _ (capacity number : ℕ) (line : List ℕ) (content : Content) (sound : IsSound content) where
   abbrev entry : Refusal → Entry
@@ -38,6 +39,9 @@ module _ (capacity number : ℕ) (line : List ℕ) (content : Content) (sound : 
     told = refl;
   }
 
+abbrev ShrinksTo : Reply → Result Command Refusal → Content → Option ℕ → Option ℕ → Type 0
+ShrinksTo said asked before old new = new ≡ (if is_ok said then or_before (shrunk_by (tree_of before) asked) old else old)
+
 -- what a step came to
 pub shortened : (capacity number : ℕ) (line : List ℕ) (asked : Command) (before after : Content) → IsSound before → command_of line ≡ Ok asked → (fresh : Bool) (o : Outcome) → StepsTo o capacity number asked before after → AnswersAs (unless_short fresh o) capacity number line before after
 shortened capacity number line asked before after sound spelled true (outcome.Answered said changes) was = was line spelled
@@ -45,6 +49,13 @@ shortened capacity number line asked before after sound spelled false (outcome.A
 shortened capacity number line asked before after sound spelled true outcome.CommitFirst was =
     subst (λ (c : Content). IsServedAs capacity number [] (record { line = line; reply = reply.No refusal.OutOfMemory; before = before; after = c })) (sym was) (refused_entry capacity number line before sound refusal.OutOfMemory (inr refl))
 shortened capacity number line asked before after sound spelled false outcome.CommitFirst was = was
+
+-- and the file that was shrunk last
+pub shortened_shrinks : (line : List ℕ) (asked : Command) (before : Content) (old new : Option ℕ) → command_of line ≡ Ok asked → (fresh : Bool) (o : Outcome) → ShrinksAs o asked before old new → ShrinksBy (unless_short fresh o) line before old new
+shortened_shrinks line asked before old new spelled true (outcome.Answered said changes) was = subst (λ (r : Result Command Refusal). ShrinksTo said r before old new) (sym spelled) was
+shortened_shrinks line asked before old new spelled false (outcome.Answered said changes) was = subst (λ (r : Result Command Refusal). ShrinksTo said r before old new) (sym spelled) was
+shortened_shrinks line asked before old new spelled true outcome.CommitFirst was = was
+shortened_shrinks line asked before old new spelled false outcome.CommitFirst was = was
 
 header_self : (head : VolumeHeader) → IsSame head head
 header_self head = record {

@@ -14,6 +14,7 @@ use Rattle.hfs_serving.specs.Outside.{Outside}
 use Rattle.hfs_serving.specs.Runs.{KeepsPlace}
 use Rattle.hfs_serving.specs.Serving.{IsDurable, IsRead, TouchesSpace}
 use Rattle.hfs_serving.proofs.Agreeing.{agrees_more}
+use Rattle.volume_ops.specs.Keeping.{shrunk_of}
 use Rattle.volume_ops.specs.Room.{capacity_of}
 use Rattle.volume_ops.specs.Standing.{HoldsOn, IsSettled, StandsOver}
 use Rattle.volume_ops.specs.declared.volume.Volume.{Volume}
@@ -32,7 +33,7 @@ pub record Leaves (v w : Volume) (committed : Content) (a b : Space) : Type 0 wh
   pub capacity : capacity_of w ≡ capacity_of v
   pub sound : IsSound b.content
 
-module _ (v w : Volume) (capacity : ℕ) (committed now : Content) (a b : Space) (known : Knows v capacity committed now a) (below : IsDurable committed a) (reads : IsRead now a) (heads : KeepsHeading a) (leaves : Leaves v w committed a b) where
+module _ (v w : Volume) (capacity : ℕ) (committed now : Content) (shrunk : Option ℕ) (a b : Space) (known : Knows v capacity committed now shrunk a) (below : IsDurable committed a) (reads : IsRead now a) (heads : KeepsHeading a) (leaves : Leaves v w committed a b) where
   pub follow : Follows a.closed now a.content b.content
   follow = followed a.closed now a.content b.content known.alike leaves.sound reads.same
 
@@ -60,12 +61,13 @@ module _ (v w : Volume) (capacity : ℕ) (committed now : Content) (a b : Space)
     closed = λ s shut. next_journal s (reads.closed s ((leaves.touches.closed s).0 shut));
   }
 
-  pub knows_then : Knows w capacity committed follow.next b
-  knows_then = record {
+  pub knows_then : (file : Option ℕ) → shrunk_of w ≡ file → Knows w capacity committed follow.next file b
+  knows_then file is = record {
     stands = leaves.stands;
     settled = leaves.settled;
     holds = leaves.holds known.holds;
     was_sound = known.was_sound;
     capacity_is = leaves.capacity ∙ known.capacity_is;
+    shrunk_is = is;
     alike = follow.alike;
   }

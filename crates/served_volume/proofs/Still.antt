@@ -1,6 +1,6 @@
 -- A volume over a space in which nothing was changed that it knows.
 use Rattle.std.proofs.Common.{◌≡◌, ◌⊎◌, ◌≤◌, ◌<◌, ◌-◌, ℕ, length, sym, ◌∙◌, subst}
-use Rattle.std.specs.Prelude.{IsTrue}
+use Rattle.std.specs.Prelude.{IsTrue, Option}
 use Rattle.jnl_format.specs.Recovery.{info_sector_of}
 use Rattle.sector_disk.specs.Lists.{Content}
 use Rattle.sector_disk.specs.Space.{Space}
@@ -36,12 +36,13 @@ module _ (v : Volume) (a b : Space) (same : IsSame a b) where
   pub stands_same : StandsOver v a → StandsOver v b
   stands_same was = record { service = service_on v a b same.sectors was.service; stands = λ tells. standing_same (was.stands (sym same.tells ∙ tells)) }
 
-  pub knows_same : (capacity : ℕ) (committed now : Content) → Knows v capacity committed now a → Knows v capacity committed now b
-  knows_same capacity committed now was = record {
+  pub knows_same : (capacity : ℕ) (committed now : Content) (shrunk : Option ℕ) → Knows v capacity committed now shrunk a → Knows v capacity committed now shrunk b
+  knows_same capacity committed now shrunk was = record {
     stands = stands_same was.stands;
     settled = subst (λ (c : Content). IsSettled v c) (sym same.content) was.settled;
     holds = was.holds;
     was_sound = was.was_sound;
     capacity_is = was.capacity_is;
+    shrunk_is = was.shrunk_is;
     alike = subst (λ (c : Content). IsAlike now c) (sym same.content) was.alike;
   }

@@ -1,5 +1,5 @@
 -- What a line on a volume in service came to.
-use Rattle.std.specs.Prelude.{◌≡◌, ◌⊎◌, ℕ, Err, Bool, true, false, List, []}
+use Rattle.std.specs.Prelude.{◌≡◌, ◌⊎◌, ℕ, Err, Bool, true, false, List, [], Option, if◌then◌else◌}
 use Rattle.cmd_lang.specs.declared.fault.LineFault.{LineFault}
 use Rattle.cmd_lang.specs.declared.fault.LineFault.TheVariants as fault
 use Rattle.jnl_format.specs.Recovery.{Content}
@@ -8,6 +8,8 @@ use Rattle.hfs_language.specs.declared.refusal.Refusal.{Refusal}
 use Rattle.hfs_language.specs.declared.refusal.Refusal.TheVariants as refusal
 use Rattle.hfs_language.specs.declared.reply.Reply.TheVariants as reply
 use Rattle.hfs_language.specs.Text.{reply_text}
+use Rattle.hfs_volume.specs.Run.{is_ok, or_before, shrunk_by}
+use Rattle.hfs_volume.specs.TreeOf.{tree_of}
 use Rattle.hfs_serving.specs.Said.{joined}
 use Rattle.hfs_serving.specs.declared.volume.Step.{Step}
 use Rattle.hfs_serving.specs.declared.volume.Step.TheVariants as step
@@ -20,6 +22,11 @@ use Rattle.volume_step.specs.declared.outcome.Outcome.TheVariants as outcome
 abbrev pub AnswersAs : Outcome → ℕ → ℕ → List ℕ → Content → Content → Type 0
 AnswersAs (outcome.Answered said changes) capacity number line before after = IsServedAs capacity number changes (record { line = line; reply = said; before = before; after = after })
 AnswersAs outcome.CommitFirst capacity number line before after = after ≡ before
+
+-- the file that was shrunk last, behind a line: the one that it shrank, where it was done and shrank one
+abbrev pub ShrinksBy : Outcome → List ℕ → Content → Option ℕ → Option ℕ → Type 0
+ShrinksBy (outcome.Answered said changes) line before old new = new ≡ (if is_ok said then or_before (shrunk_by (tree_of before) (command_of line)) old else old)
+ShrinksBy outcome.CommitFirst line before old new = new ≡ old
 
 -- a refusal
 abbrev pub refused : Refusal → Outcome

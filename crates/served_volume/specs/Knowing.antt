@@ -1,11 +1,12 @@
 -- What a volume that is served knows of itself.
-use Rattle.std.specs.Prelude.{◌≡◌, ℕ}
+use Rattle.std.specs.Prelude.{◌≡◌, ℕ, Option}
 use Rattle.alloc_bitmap.specs.Untold.{told_none}
 use Rattle.jnl_format.specs.Recovery.{Content}
 use Rattle.sector_disk.specs.Space.{Space}
 use Rattle.hfs_volume.specs.Content.{volume_of}
 use Rattle.hfs_volume.specs.Sound.{IsSound}
 use Rattle.hfs_volume.specs.TreeOf.{tree_of}
+use Rattle.volume_ops.specs.Keeping.{shrunk_of}
 use Rattle.volume_ops.specs.Room.{capacity_of}
 use Rattle.volume_ops.specs.Service.{IsInService}
 use Rattle.volume_ops.specs.Standing.{StandsOver, IsSettled, HoldsOn}
@@ -19,13 +20,14 @@ pub record IsAlike (content other : Content) : Type 0 where
   pub tree : tree_of content ≡ tree_of other
 
 -- The volume stands over its space, whose content is like the one that it stands for; each block that what was committed last has in use is in
--- use or held; and a transaction holds so many sectors.
-pub record Knows (volume : Volume) (capacity : ℕ) (committed now : Content) (space : Space) : Type 0 where
+-- use or held; a transaction holds so many sectors; and this is the file that was shrunk last.
+pub record Knows (volume : Volume) (capacity : ℕ) (committed now : Content) (shrunk : Option ℕ) (space : Space) : Type 0 where
   pub stands : StandsOver volume space
   pub settled : IsSettled volume space.content
   pub holds : HoldsOn committed volume
   pub was_sound : IsSound committed
   pub capacity_is : capacity_of volume ≡ capacity
+  pub shrunk_is : shrunk_of volume ≡ shrunk
   pub alike : IsAlike now space.content
 
 -- the volume is in service on each space of so many sectors

@@ -1,17 +1,17 @@
 //! A line on a volume in service.
 ghost use Rattle.std.specs.Prelude.{◌≡◌, IsTrue, IfErr, IfOk, Ok, OnOk};
-ghost use Rattle.std.specs.List.{Contains};
 ghost use Rattle.jnl_format.specs.Recovery.{Content};
 ghost use Rattle.btree_edit.specs.Causes.{HasTroubleCause};
 ghost use Rattle.hfs_language.specs.Language.{command_of};
 ghost use Rattle.hfs_language.specs.Written.{FitsCommand};
 ghost use Rattle.hfs_volume.specs.Sound.{IsSound};
+ghost use Rattle.volume_ops.specs.Keeping.{shrunk_of};
 ghost use Rattle.volume_ops.specs.Room.{capacity_of};
 ghost use Rattle.volume_ops.specs.Service.{IsInService};
-ghost use Rattle.volume_ops.specs.Standing.{HoldsOn, IsSettled, StandsOver, own_sectors};
+ghost use Rattle.volume_ops.specs.Standing.{HoldsOn, IsSettled, StandsOver};
 ghost use Rattle.volume_ops.specs.Touching.{Touches};
-ghost use Rattle.volume_step.specs.Steps.{KeepsJournal};
-ghost use Rattle.served_volume.specs.Answering.{AnswersAs, IsRefusedAs, refusal_of, refused, unless_short};
+ghost use Rattle.volume_step.specs.Steps.{KeepsJournal, OwnOf};
+ghost use Rattle.served_volume.specs.Answering.{AnswersAs, IsRefusedAs, ShrinksBy, refusal_of, refused, unless_short};
 
 use crate::fitting::fits_command;
 use cmd_lang::{LineFault, read_line};
@@ -96,7 +96,9 @@ pub(crate) fn answer_line<P: SectorSpace>(
     ensures service { IsInService volume.new (P.SectorView.space space.new) }
     ensures holds { (committed : Content) → HoldsOn committed volume.old → OnOk result (HoldsOn committed volume.new) }
     ensures capacity { capacity_of volume.new ≡ capacity_of volume.old }
-    ensures touches { (committed : Content) → Touches committed (λ s. Contains (own_sectors volume.old) s) (P.SectorView.space space.old) (P.SectorView.space space.new) }
+    // The file that was shrunk last is the one that the line shrank, where it shrank one.
+    ensures shrunk { IsTrue (P.SectorView.space space.old).tells → IfOk result (λ outcome. ShrinksBy outcome line.now (P.SectorView.space space.old).content (shrunk_of volume.old) (shrunk_of volume.new)) }
+    ensures touches { (committed : Content) → Touches committed (OwnOf volume.old volume.new) (P.SectorView.space space.old) (P.SectorView.space space.new) }
     ensures below { P.SectorView.follows space.old space.new }
     ensures cause { HasTroubleCause (P.SectorView.space space.old).faults (P.SectorView.space space.new).faults result }
 {
@@ -128,7 +130,8 @@ fn do_command<P: SectorSpace>(
     ensures service { IsInService volume.new (P.SectorView.space space.new) }
     ensures holds { (committed : Content) → HoldsOn committed volume.old → OnOk result (HoldsOn committed volume.new) }
     ensures capacity { capacity_of volume.new ≡ capacity_of volume.old }
-    ensures touches { (committed : Content) → Touches committed (λ s. Contains (own_sectors volume.old) s) (P.SectorView.space space.old) (P.SectorView.space space.new) }
+    ensures shrunk { IsTrue (P.SectorView.space space.old).tells → IfOk result (λ outcome. ShrinksBy outcome line.now (P.SectorView.space space.old).content (shrunk_of volume.old) (shrunk_of volume.new)) }
+    ensures touches { (committed : Content) → Touches committed (OwnOf volume.old volume.new) (P.SectorView.space space.old) (P.SectorView.space space.new) }
     ensures below { P.SectorView.follows space.old space.new }
     ensures cause { HasTroubleCause (P.SectorView.space space.old).faults (P.SectorView.space space.new).faults result }
 {

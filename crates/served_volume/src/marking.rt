@@ -16,10 +16,10 @@ impl ServedVolume {
     pub(crate) fn put_mark<G: Ground>(&mut self, base: &mut G, in_use: bool) -> Result<(), Trouble>
         requires serves { (capacity : ℕ) × G.serves base.old capacity × (G.taken base.old ≡ 0) }
         requires stands { IsTrue (G.space base.old).tells → SomeKnown self.old.volume (G.space base.old) (G.outside base.old) }
-        ensures touches { IsTrue (G.space base.old).tells → (capacity : ℕ) (committed now : Content) (shrunk : Option ℕ) → Stands (λ was is _. Knows self.old.volume capacity was is (G.space base.old)) committed now shrunk (G.space base.old) (G.outside base.old)
+        ensures touches { IsTrue (G.space base.old).tells → (capacity : ℕ) (committed now : Content) (shrunk : Option ℕ) → Stands (λ was is file. Knows self.old.volume capacity was is file (G.space base.old)) committed now shrunk (G.space base.old) (G.outside base.old)
             → Touches committed (G.space base.old) (G.outside base.old) (G.space base.new) (G.outside base.new) }
-        ensures marked { IsTrue (G.space base.old).tells → (capacity : ℕ) (committed now : Content) (shrunk : Option ℕ) → Stands (λ was is _. Knows self.old.volume capacity was is (G.space base.old)) committed now shrunk (G.space base.old) (G.outside base.old)
-            → OnOk result (IsMarkedAs in_use self.new.volume capacity committed now (G.space base.new)) }
+        ensures marked { IsTrue (G.space base.old).tells → (capacity : ℕ) (committed now : Content) (shrunk : Option ℕ) → Stands (λ was is file. Knows self.old.volume capacity was is file (G.space base.old)) committed now shrunk (G.space base.old) (G.outside base.old)
+            → OnOk result (IsMarkedAs in_use self.new.volume capacity committed now shrunk (G.space base.new)) }
         ensures still { (capacity : ℕ) → G.serves base.old capacity → G.taken base.old ≤ capacity → OnOk result (G.serves base.new capacity × (G.taken base.new ≤ capacity)) }
         ensures tells { (G.space base.new).tells ≡ (G.space base.old).tells }
         ensures anchor { G.anchor base.new ≡ G.anchor base.old }

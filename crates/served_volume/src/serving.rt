@@ -10,7 +10,7 @@ use hx_bytes::Trouble;
 use std::alloc::Global;
 
 impl Volume for ServedVolume {
-    ghost knows = { λ served space capacity committed now shrunk. Knows served.volume capacity committed now space };
+    ghost knows = { λ served space capacity committed now shrunk. Knows served.volume capacity committed now shrunk space };
 
     fn attach<G: Ground>(alloc: Global, base: &mut G, capacity: u64) -> Result<Self, Trouble> {
         let _before = base.pending();

@@ -4,3 +4,4 @@ pub mod Judged
 pub mod Kept
 pub mod KeptEntries
 pub mod Served
+pub mod Widening

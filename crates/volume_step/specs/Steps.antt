@@ -1,5 +1,6 @@
 -- What a command on a volume in service came to.
-use Rattle.std.specs.Prelude.{◌≡◌, ◌⊎◌, ℕ, ◌==◌, ◌||◌, nat_lt, not, slice_index, Bool, false, IsTrue, List, [], ◌∷◌, Ok, if◌then◌else◌}
+use Rattle.std.specs.Prelude.{◌≡◌, ◌⊎◌, ℕ, ◌==◌, ◌||◌, nat_lt, not, slice_index, Bool, false, IsTrue, List, [], ◌∷◌, Ok, Option, if◌then◌else◌}
+use Rattle.std.specs.List.{Contains}
 use Rattle.jnl_format.specs.Keeping.{IsSame}
 use Rattle.jnl_format.specs.Recovery.{Content, header_of_volume}
 use Rattle.volume_header.specs.Refusal.{is_locked}
@@ -10,11 +11,13 @@ use Rattle.hfs_language.specs.declared.reply.Reply.{Reply}
 use Rattle.hfs_language.specs.declared.reply.Reply.TheVariants as reply
 use Rattle.hfs_model.specs.Step.{refuses, step_line}
 use Rattle.hfs_volume.specs.Content.{volume_of}
-use Rattle.hfs_volume.specs.Run.{AsksMore, Entry, IsServed, is_to_come}
+use Rattle.hfs_volume.specs.Run.{AsksMore, Entry, IsServed, is_ok, is_to_come, or_before, shrunk_by}
 use Rattle.hfs_volume.specs.Told.{changes_by}
 use Rattle.hfs_volume.specs.TreeOf.{tree_of}
 use Rattle.hfs_volume.specs.Weight.{weight}
 use Rattle.hfs_volume.specs.declared.cost.Cost.TheVariants as cost
+use Rattle.volume_ops.specs.Standing.{own_sectors}
+use Rattle.volume_ops.specs.declared.volume.Volume.{Volume}
 use Rattle.volume_ops.specs.declared.weighing.Weight.{Weight}
 use Rattle.volume_ops.specs.declared.weighing.Weight.TheVariants as answer
 use Rattle.volume_step.specs.declared.outcome.Outcome.{Outcome}
@@ -38,6 +41,15 @@ abbrev pub StepsTo : Outcome → ℕ → ℕ → Command → Content → Content
 StepsTo (outcome.Answered reply changes) capacity number asked before after =
     (line : List ℕ) → command_of line ≡ Ok asked → IsServedAs capacity number changes (record { line = line; reply = reply; before = before; after = after })
 StepsTo outcome.CommitFirst capacity number asked before after = after ≡ before
+
+-- the file that was shrunk last, behind a command: the one that it shrank, where it was done and shrank one
+abbrev pub ShrinksAs : Outcome → Command → Content → Option ℕ → Option ℕ → Type 0
+ShrinksAs (outcome.Answered reply changes) asked before old new = new ≡ (if is_ok reply then or_before (shrunk_by (tree_of before) (Ok asked)) old else old)
+ShrinksAs outcome.CommitFirst asked before old new = new ≡ old
+
+-- the sectors that are a volume's own before a call or behind it
+abbrev pub OwnOf : Volume → Volume → ℕ → Type 0
+OwnOf old new s = Contains (own_sectors old) s ⊎ Contains (own_sectors new) s
 
 -- ---- before the step
 

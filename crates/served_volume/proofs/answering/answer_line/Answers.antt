@@ -1,8 +1,9 @@
-use Rattle.std.proofs.Common.{sym, subst}
+use Rattle.std.proofs.Common.{refl, sym, subst}
 use Rattle.volume_ops.proofs.Commanding.{touches_none}
+use Rattle.volume_ops.specs.Keeping.{shrunk_of}
 use Rattle.volume_ops.specs.Room.{capacity_of}
 use Rattle.volume_step.specs.declared.outcome.Outcome.{Outcome}
-use Rattle.served_volume.specs.Answering.{AnswersAs}
+use Rattle.served_volume.specs.Answering.{AnswersAs, ShrinksBy}
 use Rattle.served_volume.proofs.Refusing.{keeps_self, refused_entry}
 use Rattle.served_volume.proofs.answering.answer_line.Goals as goal
 
@@ -17,3 +18,8 @@ returns-in-Err-clause-place g c tells = keeps_self _
 
 pub returns-in-Err-clause-touches : goal.returns-in-Err-clause-touches
 returns-in-Err-clause-touches g c committed = touches_none committed _ _
+
+pub returns-in-Err-clause-shrunk : goal.returns-in-Err-clause-shrunk
+returns-in-Err-clause-shrunk g c tells =
+    let old = shrunk_of c.args.volume.now in
+    subst (λ (o : Outcome). ShrinksBy o c.args.line.now (g.P.SectorView.space c.args.space.now).content old old) (sym c.refused.ensures) refl

@@ -1,8 +1,9 @@
 use Rattle.std.proofs.Common.{sym, subst}
+use Rattle.volume_ops.specs.Keeping.{shrunk_of}
 use Rattle.volume_ops.specs.Room.{capacity_of}
 use Rattle.volume_step.specs.declared.outcome.Outcome.{Outcome}
-use Rattle.served_volume.specs.Answering.{AnswersAs}
-use Rattle.served_volume.proofs.Refusing.{shortened}
+use Rattle.served_volume.specs.Answering.{AnswersAs, ShrinksBy}
+use Rattle.served_volume.proofs.Refusing.{shortened, shortened_shrinks}
 use Rattle.served_volume.proofs.answering.do_command.Goals as goal
 
 pub returns-clause-answered : goal.returns-clause-answered
@@ -12,3 +13,11 @@ returns-clause-answered g c tells =
     let capacity = capacity_of c.args.volume.now in
     subst (λ (o : Outcome). AnswersAs o capacity c.args.number c.args.line.now before after) (sym c.unless_short.ensures)
     (shortened capacity c.args.number c.args.line.now c.args.command.now before after (c.requires.sound tells) c.requires.spelled c.args.fresh c.in_ok-outcome.outcome (c.in_ok-outcome.ensures.answered tells))
+
+pub returns-clause-shrunk : goal.returns-clause-shrunk
+returns-clause-shrunk g c tells =
+    let before = (g.P.SectorView.space c.args.space.now).content in
+    let old = shrunk_of c.args.volume.now in
+    let new = shrunk_of c.step.new.volume in
+    subst (λ (o : Outcome). ShrinksBy o c.args.line.now before old new) (sym c.unless_short.ensures)
+    (shortened_shrinks c.args.line.now c.args.command.now before old new c.requires.spelled c.args.fresh c.in_ok-outcome.outcome (c.in_ok-outcome.ensures.shrunk tells))

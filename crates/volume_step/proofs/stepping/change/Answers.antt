@@ -1,16 +1,15 @@
-use Rattle.std.proofs.Common.{ℕ, List, sym, ◌∙◌, subst}
-use Rattle.std.specs.List.{Contains}
-use Rattle.std.specs.Prelude.{IfOk, OnOk}
+use Rattle.std.proofs.Common.{ℕ, sym, ◌∙◌, subst}
+use Rattle.std.specs.Prelude.{IfOk, OnOk, Option}
 use Rattle.sector_disk.specs.Lists.{Content}
 use Rattle.volume_ops.specs.Room.{capacity_of}
-use Rattle.volume_ops.specs.Touching.{Touches}
-use Rattle.volume_ops.proofs.Commanding.{touches_both, touches_looks}
+use Rattle.volume_ops.specs.Keeping.{shrunk_of}
 use Rattle.volume_ops.proofs.Sounding.{sound_here}
 use Rattle.volume_ops.proofs.Still.{own_still}
-use Rattle.volume_step.specs.Steps.{Affords, IsJudged, KeepsJournal, StepsTo}
+use Rattle.volume_step.specs.Steps.{Affords, IsJudged, KeepsJournal, ShrinksAs, StepsTo}
 use Rattle.volume_step.specs.declared.judging.Verdict.{Verdict}
 use Rattle.volume_step.specs.declared.outcome.Outcome.{Outcome}
 use Rattle.volume_step.proofs.Done.{holds_kept, refused_steps, same_place, waits_steps}
+use Rattle.volume_step.proofs.Widening.{refused_shrinks, touches_behind, touches_looked}
 use Rattle.volume_step.proofs.stepping.change.Goals as goal
 
 pub perform-requires-clause-affords : goal.perform-requires-clause-affords
@@ -40,8 +39,19 @@ returns-in-Fits-clause-holds g c committed was = c.perform.ensures.holds committ
 
 pub returns-in-Fits-clause-touches : goal.returns-in-Fits-clause-touches
 returns-in-Fits-clause-touches g c committed =
-    touches_both committed _ (g.P.SectorView.space c.args.space.now) (g.P.SectorView.space c.judge.new.space) (g.P.SectorView.space c.perform.new.space) (touches_looks committed _ (g.P.SectorView.space c.args.space.now) (g.P.SectorView.space c.judge.new.space) c.judge.ensures.reads.looks)
-    (subst (λ (l : List ℕ). Touches committed (λ s. Contains l s) (g.P.SectorView.space c.judge.new.space) (g.P.SectorView.space c.perform.new.space)) (own_still c.args.volume.now c.judge.new.volume (g.P.SectorView.space c.args.space.now) (g.P.SectorView.space c.judge.new.space) c.judge.ensures.reads) (c.perform.ensures.touches committed))
+    touches_behind committed c.args.volume.now c.judge.new.volume c.perform.new.volume (g.P.SectorView.space c.args.space.now) (g.P.SectorView.space c.judge.new.space) (g.P.SectorView.space c.perform.new.space)
+    (own_still c.args.volume.now c.judge.new.volume (g.P.SectorView.space c.args.space.now) (g.P.SectorView.space c.judge.new.space) c.judge.ensures.reads) c.judge.ensures.reads.looks (c.perform.ensures.touches committed)
+
+pub returns-in-Fits-clause-shrunk : goal.returns-in-Fits-clause-shrunk
+returns-in-Fits-clause-shrunk g c tells =
+    subst (λ (k : Option ℕ × Content). IfOk c.perform.result (λ (o : Outcome). ShrinksAs o c.args.command.now k.1 k.0 (shrunk_of c.perform.new.volume))) {x = (shrunk_of c.judge.new.volume, (g.P.SectorView.space c.judge.new.space).content)} {y = (shrunk_of c.args.volume.now, (g.P.SectorView.space c.args.space.now).content)}
+    (λ i. (c.judge.ensures.reads.keeps.shrunk i, c.judge.ensures.reads.looks.content tells i)) (c.perform.ensures.shrunk (c.judge.ensures.reads.looks.same.tells ∙ tells))
+
+pub returns-in-Refused-clause-shrunk : goal.returns-in-Refused-clause-shrunk
+returns-in-Refused-clause-shrunk g c tells = refused_shrinks _ _ _ _ _ c.refusal.result c.refusal.ensures c.judge.ensures.reads.keeps.shrunk
+
+pub returns-in-ToCome-clause-shrunk : goal.returns-in-ToCome-clause-shrunk
+returns-in-ToCome-clause-shrunk g c tells = refused_shrinks _ _ _ _ _ c.refusal-in-ToCome.result c.refusal-in-ToCome.ensures c.judge.ensures.reads.keeps.shrunk
 
 pub returns-in-Refused-clause-place : goal.returns-in-Refused-clause-place
 returns-in-Refused-clause-place g c tells = same_place (g.P.SectorView.space c.args.space.now).content (g.P.SectorView.space c.judge.new.space).content (c.judge.ensures.reads.looks.content tells)
@@ -50,13 +60,13 @@ pub returns-in-ToCome-clause-place : goal.returns-in-ToCome-clause-place
 returns-in-ToCome-clause-place g c tells = same_place (g.P.SectorView.space c.args.space.now).content (g.P.SectorView.space c.judge.new.space).content (c.judge.ensures.reads.looks.content tells)
 
 pub returns-in_err-why-clause-touches : goal.returns-in_err-why-clause-touches
-returns-in_err-why-clause-touches g c committed = touches_looks committed _ (g.P.SectorView.space c.args.space.now) (g.P.SectorView.space c.judge.new.space) c.judge.ensures.reads.looks
+returns-in_err-why-clause-touches g c committed = touches_looked committed c.args.volume.now c.judge.new.volume (g.P.SectorView.space c.args.space.now) (g.P.SectorView.space c.judge.new.space) c.judge.ensures.reads.looks
 
 pub returns-in-Refused-clause-touches : goal.returns-in-Refused-clause-touches
-returns-in-Refused-clause-touches g c committed = touches_looks committed _ (g.P.SectorView.space c.args.space.now) (g.P.SectorView.space c.judge.new.space) c.judge.ensures.reads.looks
+returns-in-Refused-clause-touches g c committed = touches_looked committed c.args.volume.now c.judge.new.volume (g.P.SectorView.space c.args.space.now) (g.P.SectorView.space c.judge.new.space) c.judge.ensures.reads.looks
 
 pub returns-in-ToCome-clause-touches : goal.returns-in-ToCome-clause-touches
-returns-in-ToCome-clause-touches g c committed = touches_looks committed _ (g.P.SectorView.space c.args.space.now) (g.P.SectorView.space c.judge.new.space) c.judge.ensures.reads.looks
+returns-in-ToCome-clause-touches g c committed = touches_looked committed c.args.volume.now c.judge.new.volume (g.P.SectorView.space c.args.space.now) (g.P.SectorView.space c.judge.new.space) c.judge.ensures.reads.looks
 
 pub returns-in-CommitFirst-clause-touches : goal.returns-in-CommitFirst-clause-touches
-returns-in-CommitFirst-clause-touches g c committed = touches_looks committed _ (g.P.SectorView.space c.args.space.now) (g.P.SectorView.space c.judge.new.space) c.judge.ensures.reads.looks
+returns-in-CommitFirst-clause-touches g c committed = touches_looked committed c.args.volume.now c.judge.new.volume (g.P.SectorView.space c.args.space.now) (g.P.SectorView.space c.judge.new.space) c.judge.ensures.reads.looks

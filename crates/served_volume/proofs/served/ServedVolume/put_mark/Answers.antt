@@ -2,6 +2,7 @@ use Rattle.std.proofs.Common.{◌≡◌, [], refl, sym, ◌∙◌, ap, subst, ar
 use Rattle.alloc_bitmap.specs.Untold.{told_none}
 use Rattle.hfs_serving.proofs.Causes.{counts_none, fine}
 use Rattle.volume_ops.proofs.Sounding.{sound_here}
+use Rattle.volume_ops.specs.Keeping.{shrunk_of}
 use Rattle.volume_ops.specs.Room.{capacity_of}
 use Rattle.volume_ops.specs.Standing.{HoldsOn}
 use Rattle.volume_ops.specs.declared.volume.Volume.{Volume}
@@ -40,7 +41,7 @@ returns-clause-marked g c tells capacity committed now shrunk stands =
     let a = g.G.SectorView.space c.args.base.now in
     let b = g.G.SectorView.space c.mark.new.space in
     let lists = c.mark.ensures.lists tells in
-    marked_as c.args.in_use v w capacity committed now a b stands.known stands.below stands.reads stands.heads
+    marked_as c.args.in_use v w capacity committed now shrunk a b stands.known stands.below stands.reads stands.heads
     (record {
       touches = touches_space committed _ a b tells (c.mark.ensures.touches committed);
       keeps = marks_keep c.args.in_use a b stands.heads lists;
@@ -49,7 +50,7 @@ returns-clause-marked g c tells capacity committed now shrunk stands =
       holds = λ held. subst (λ (u : Volume). HoldsOn committed u) (sym c.mark.ensures.rest) held;
       capacity = ap capacity_of c.mark.ensures.rest;
       sound = sound_here w b (c.mark.ensures.stands.stands ((c.mark.ensures.touches committed).same.tells ∙ tells)) (c.mark.ensures.settled tells);
-    }) lists (c.mark.ensures.tree tells)
+    }) (ap shrunk_of c.mark.ensures.rest) lists (c.mark.ensures.tree tells)
 
 pub returns-clause-still : goal.returns-clause-still
 returns-clause-still g c capacity serves few = let now = c.look.ensures.still capacity c.args.base.now c.mark.ensures.below serves in (now, c.look.ensures.most capacity now)

@@ -7,11 +7,12 @@ use Rattle.hfs_serving.specs.Going.{AnswersTo}
 use Rattle.hfs_serving.specs.declared.volume.Step.{Step}
 use Rattle.hfs_serving.proofs.Causes.{counts_none, handed}
 use Rattle.volume_ops.proofs.Sounding.{sound_here}
+use Rattle.volume_ops.specs.Keeping.{shrunk_of}
 use Rattle.volume_ops.specs.Room.{capacity_of}
 use Rattle.volume_ops.specs.Standing.{HoldsOn, IsSettled, StandsOver}
 use Rattle.volume_step.specs.Steps.{KeepsJournal}
 use Rattle.volume_step.specs.declared.outcome.Outcome.{Outcome}
-use Rattle.served_volume.specs.Answering.{AnswersAs, TellsAs}
+use Rattle.served_volume.specs.Answering.{AnswersAs, ShrinksBy, TellsAs}
 use Rattle.served_volume.specs.Knowing.{Knows}
 use Rattle.served_volume.proofs.Answered.{answers, if_so}
 use Rattle.served_volume.proofs.Calls.{faults_of_call, on_any, on_value, quiet, short, value_of}
@@ -60,7 +61,8 @@ returns-in-Ok-clause-answered g c tells capacity committed now shrunk stands =
     let settled = on_value (IsSettled w b.content) r o is (c.answer_line-outcome.ensures.settled tells) in
     let tells_then = (c.answer_line-outcome.ensures.touches committed).same.tells ∙ tells in
     let was = value_of (λ (q : Outcome). AnswersAs q (capacity_of v) c.args.number c.args.line.now a.content b.content) r o is (c.answer_line-outcome.ensures.answered tells) in
-    if_so (λ (s : Step). TellsAs s o c.args.told.now c.tell.new.told) (λ (s : Step). AnswersTo s capacity (λ past here _. Knows w capacity past here b) committed now shrunk b c.args.number c.args.line.now c.args.told.now c.tell.new.told) c.tell.result
+    let shrinks = value_of (λ (q : Outcome). ShrinksBy q c.args.line.now a.content (shrunk_of v) (shrunk_of w)) r o is (c.answer_line-outcome.ensures.shrunk tells) in
+    if_so (λ (s : Step). TellsAs s o c.args.told.now c.tell.new.told) (λ (s : Step). AnswersTo s capacity (λ past here file. Knows w capacity past here file b) committed now shrunk b c.args.number c.args.line.now c.args.told.now c.tell.new.told) c.tell.result
     (λ s told. answers v w capacity committed now shrunk a b stands.known stands.below stands.reads stands.heads
     (record {
       touches = touches_space committed _ a b tells (c.answer_line-outcome.ensures.touches committed);
@@ -70,7 +72,7 @@ returns-in-Ok-clause-answered g c tells capacity committed now shrunk stands =
       holds = λ held. on_value (HoldsOn committed w) r o is (c.answer_line-outcome.ensures.holds committed held);
       capacity = c.answer_line-outcome.ensures.capacity;
       sound = sound_here w b (there.stands tells_then) settled;
-    }) c.args.number c.args.line.now c.args.told.now c.tell.new.told o s (subst (λ n. AnswersAs o n c.args.number c.args.line.now a.content b.content) stands.known.capacity_is was) told) c.tell.ensures.told
+    }) c.args.number c.args.line.now c.args.told.now c.tell.new.told o s (subst (λ n. AnswersAs o n c.args.number c.args.line.now a.content b.content) stands.known.capacity_is was) shrinks told) c.tell.ensures.told
 
 pub returns-in-Ok-clause-still : goal.returns-in-Ok-clause-still
 returns-in-Ok-clause-still g c capacity serves few =

@@ -23,12 +23,12 @@ returns-in-Ok-clause-knows g c tells capacity committed now shrunk stands =
     let shows = c.look.ensures.shows c.requires.serves.0 serves tells stands.heads in
     let tells_then = c.in-Ok.ensures.tells ∙ tells in
     let shows_then = c.look-in-Ok.ensures.shows c.requires.serves.0 (c.in-Ok.ensures.still c.requires.serves.0 serves) tells_then heads in
-    let differing = differs v capacity committed now a b before after (g.G.Ground.anchor c.args.base.now) (g.G.Ground.anchor c.commit.new.self) stands.known stands.reads commits c.commit.ensures.anchor shows shows_then in
+    let differing = differs v capacity committed now shrunk a b before after (g.G.Ground.anchor c.args.base.now) (g.G.Ground.anchor c.commit.new.self) stands.known stands.reads commits c.commit.ensures.anchor shows shows_then in
     let sectors : b.sectors ≡ a.sectors = sym (g.met.G.SectorView.well_formed c.commit.new.self tells_then) ∙ commits.content.size ∙ g.met.G.SectorView.well_formed c.args.base.now tells in
     record {
       reads = committed_reads now a before b after stands.reads commits;
       heads = heads;
-      known = committed_knows v c.settle.new.self c.settle.ensures c.aside_is_free.ensures capacity committed now a b stands.known tells sectors differing;
+      known = committed_knows v c.settle.new.self c.settle.ensures c.aside_is_free.ensures capacity committed now shrunk a b stands.known tells sectors differing;
     }
 
 pub returns-in-Ok-clause-still : goal.returns-in-Ok-clause-still
