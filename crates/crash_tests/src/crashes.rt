@@ -18,6 +18,14 @@ const COMMANDS: &[u8] =
 const READS: &[u8] =
     b"ls /\nstat /\nls /a\nstat /a\nlsattr /a\nstat /a/f\ngetattr /a/f k\nls /a/b\nstat /a/b\nstat /a/b/g\ngetattr /a/b/g k\nstat /h\nstat /g\nlsattr /g\n";
 
+/// A run in which files lose their only names; with the first of them the private folder is made.
+const REMOVALS: &[u8] =
+    b"create /a\ncreate /b\nsync\nrm /a\nmkdir /d\ncreate /d/c\nsync\nrm /d/c\nrm /b\nrmdir /d\nsync\ncreate /a\nrm /a\ncreate /e\nsync\n";
+
+/// What is read back behind it.
+const READS_OF_REMOVALS: &[u8] =
+    b"ls /\nstat /\nstat /a\nstat /b\nls /d\nstat /d\nstat /d/c\nstat /e\n";
+
 /// What all crashes of a run left.
 #[derive(Clone, Copy)]
 pub struct Tried {
@@ -30,6 +38,17 @@ pub struct Tried {
 /// All crashes of a run of all commands on a new volume.
 pub fn try_all(alloc: Global, choice: u64) -> Result<Tried, OutOfMemory> {
     try_from(alloc, &fresh_few(alloc)?, COMMANDS, READS, choice)
+}
+
+/// All crashes of a run that removes files on a new volume.
+pub fn try_removals(alloc: Global, choice: u64) -> Result<Tried, OutOfMemory> {
+    try_from(
+        alloc,
+        &fresh_few(alloc)?,
+        REMOVALS,
+        READS_OF_REMOVALS,
+        choice,
+    )
 }
 
 /// All crashes of a run on a volume of which the ring was gone round before.

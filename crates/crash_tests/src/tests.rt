@@ -1,10 +1,26 @@
 // Runs that are cut off, and runs over devices that fail; each choice of a crash's image is a test of its own.
-use crate::crashes::{try_all, try_worn, worn};
+use crate::crashes::{try_all, try_removals, try_worn, worn};
 use crate::journals::{Damage, HEADER, changed_sectors, is_refused, told_before_the_journal};
 use crate::replays::{is_replayed_after_two_stops, start_of};
 use crate::twice::try_pairs;
 use std::test::Fail;
 use test_kit::BASE;
+
+#[test]
+fn the_oldest_values_of_removals_leave_a_prefix(rt: HostRuntime) -> Result<(), Fail> {
+    let tried = try_removals(rt.alloc(), 0)?;
+    assert_eq!(rt; tried.wrong, None);
+    assert!(rt; 50 < tried.crashes);
+    Ok(())
+}
+
+#[test]
+fn the_newest_values_of_removals_leave_a_prefix(rt: HostRuntime) -> Result<(), Fail> {
+    let tried = try_removals(rt.alloc(), 1)?;
+    assert_eq!(rt; tried.wrong, None);
+    assert!(rt; 50 < tried.crashes);
+    Ok(())
+}
 
 #[test]
 fn the_oldest_values_leave_a_prefix(rt: HostRuntime) -> Result<(), Fail> {

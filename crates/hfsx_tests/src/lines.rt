@@ -46,6 +46,15 @@ fn lines_are_answered(rt: HostRuntime) -> Result<(), Fail> {
             "mkdir /a\nmkdir /b\ncreate /a/f\nmv /a/f /b/g\nls /a\nls /b\nrmdir /a\nls /\nmv /b /c\nstat /c/g\n",
             "ok\nok\nok\nok\nok 0\nok 1 g\nok\nok 1 b/\nok\nok file 20 0 1 0644 0 0 0\n",
         ),
+        // A file loses its name; with the first one the volume's own folder takes a number.
+        (
+            "create /f\nrm /f\nls /\nstat /f\nrm /f\ncreate /f\nstat /f\nrm /f\ncreate /g\nstat /g\n",
+            "ok\nok\nok 0\nno NotFound\nno NotFound\nok\nok file 20 0 1 0644 0 0 0\nok\nok\nok file 21 0 1 0644 0 0 0\n",
+        ),
+        (
+            "mkdir /a\ncreate /a/f\nrm /a\nrm /a/f\nls /a\nrmdir /a\nls /\n",
+            "ok\nok\nno IsFolder\nok\nok 0\nok\nok 0\n",
+        ),
         // Room: block size, blocks, free blocks, longest run, capacity, and depth, nodes and free nodes of the three trees.
         (
             "sync\ndf\n",
@@ -67,8 +76,8 @@ fn lines_are_answered(rt: HostRuntime) -> Result<(), Fail> {
         ),
         // What is still to come changes nothing.
         (
-            "create /f\nwrite /f 0 =x\ntrunc /f 5\nln /f /g\nrm /f\nstat /f\n",
-            "ok\nno NotBuilt\nno NotBuilt\nno NotBuilt\nno NotBuilt\nok file 18 0 1 0644 0 0 0\n",
+            "create /f\nwrite /f 0 =x\ntrunc /f 5\nln /f /g\nstat /f\n",
+            "ok\nno NotBuilt\nno NotBuilt\nno NotBuilt\nok file 18 0 1 0644 0 0 0\n",
         ),
         // But its refusals are told.
         (

@@ -5,6 +5,7 @@ pub mod Begun
 pub mod Besides
 pub mod Bridged
 pub mod Bridging
+pub mod Buried
 pub mod Carried
 pub mod CatalogEdited
 pub mod Chmod
@@ -46,6 +47,8 @@ pub mod Listed
 pub mod ListsAfter
 pub mod ListsAgain
 pub mod Loads
+pub mod LoseWeight
+pub mod Lost
 pub mod Made
 pub mod MakeRoom
 pub mod Mapped
@@ -67,6 +70,10 @@ pub mod OwnedChange
 pub mod OwnedTold
 pub mod Paths
 pub mod Placing
+pub mod PrivateLoss
+pub mod PrivateOpened
+pub mod PrivateRecount
+pub mod PrivateSound
 pub mod Recounting
 pub mod Redating
 pub mod Refielded

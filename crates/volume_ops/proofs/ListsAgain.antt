@@ -1,20 +1,19 @@
 -- The lists of a content behind a command that changed the catalog and the header's numbers are those that the law speaks of, also where there is
 -- no attributes file.
-use Rattle.std.proofs.Common.{◌≡◌, ◌≢◌, ◌⊎◌, ℕ, ◌*◌, List, refl, sym, ◌∙◌, ap, subst, ⊎_elim}
+use Rattle.std.proofs.Common.{◌≡◌, ℕ, ◌*◌, List, refl, sym, ◌∙◌, ap, subst, ⊎_elim}
 use Rattle.std.specs.Prelude.{Contains}
 use Rattle.sector_disk.specs.Lists.{Content, sector}
 use Rattle.sector_disk.specs.Space.{Space}
 use Rattle.jnl_format.specs.Recovery.{header_of_volume}
 use Rattle.volume_header.specs.declared.header.VolumeHeader.{VolumeHeader}
-use Rattle.btree_node.specs.TreeFile.{TreeFile as File}
 use Rattle.btree_file.specs.State.{sectors_of_tree}
 use Rattle.fork_map.specs.Blocks.{blocks_of, sectors_of}
-use Rattle.hfs_volume.specs.Content.{VolumeState, TreeFacts, attributes_file, block_limit, facts_of, overflow_in_volume, overflow_of_content, tree_of_fork, volume_of}
+use Rattle.hfs_volume.specs.Content.{VolumeState, attributes_file, block_limit, facts_of, overflow_in_volume, overflow_of_content, tree_of_fork, volume_of}
 use Rattle.hfs_volume.specs.Forks.{attributes_id, data_kind, extents_of, per_block_of}
 use Rattle.hfs_volume.proofs.Rereading.{same_tree}
 use Rattle.volume_ops.specs.Changing.{ChangesCatalog}
 use Rattle.volume_ops.specs.Lists.{lists_of}
-use Rattle.volume_ops.specs.Standing.{IsSettled, IsStanding}
+use Rattle.volume_ops.specs.Standing.{IsSettled, IsStanding, with_attributes_tree}
 use Rattle.volume_ops.specs.declared.volume.Volume.{Volume}
 use Rattle.volume_ops.proofs.FilesKept.{attributes_apart, attributes_sectors, catalog_sectors}
 use Rattle.volume_ops.proofs.Settling.{header_settled, lists_then}
@@ -24,13 +23,18 @@ file_is : (content : Content) → attributes_file content ≡ tree_of_fork conte
 unfolding attributes_file volume_of overflow_of_content
 file_is content = refl
 
-module _ (v w : Volume) (a b : Space) (changes : ChangesCatalog v w a.content b.content) (settled : IsSettled v a.content) (was : IsStanding v a) (later : IsSettled w b.content) where
+-- the header by the lists
+headed_by : (w : Volume) (content : Content) → volume_of content ≡ with_attributes_tree (lists_of w content) (volume_of content) → header_of_volume content ≡ w.header
+unfolding volume_of
+headed_by w content later = ap (λ (l : VolumeState). l.head) later
+
+module _ (v w : Volume) (a b : Space) (changes : ChangesCatalog v w a.content b.content) (settled : IsSettled v a.content) (was : IsStanding v a) (later : volume_of b.content ≡ with_attributes_tree (lists_of w b.content) (volume_of b.content)) where
   -- the header, but for its numbers
   heads : (volume_of b.content).head ≡ w.header
-  heads = ap (λ (l : VolumeState). l.head) later.lists
+  heads = ap (λ (l : VolumeState). l.head) later
 
   overflow_same : overflow_in_volume (volume_of b.content) ≡ overflow_in_volume (volume_of a.content)
-  overflow_same = ap overflow_in_volume later.lists ∙ ap overflow_in_volume changes.lists ∙ sym (ap overflow_in_volume settled.lists)
+  overflow_same = ap overflow_in_volume later ∙ ap overflow_in_volume changes.lists ∙ sym (ap overflow_in_volume settled.lists)
 
   sectors_same : attributes_sectors (volume_of b.content) ≡ attributes_sectors (volume_of a.content)
   sectors_same =
@@ -39,7 +43,7 @@ module _ (v w : Volume) (a b : Space) (changes : ChangesCatalog v w a.content b.
       ∙ sym (λ i. sectors_of (per_block_of (settled.lists i).head) (blocks_of (extents_of (overflow_in_volume (volume_of a.content)) attributes_id data_kind (settled.lists i).head.attributes_fork)))
 
   limit_same : block_limit b.content ≡ block_limit a.content
-  limit_same = ap (λ (h : VolumeHeader). h.total_blocks * per_block_of h) (header_settled w b.content later) ∙ ap (λ (h : VolumeHeader). h.total_blocks * per_block_of h) changes.numbers
+  limit_same = ap (λ (h : VolumeHeader). h.total_blocks * per_block_of h) (headed_by w b.content later) ∙ ap (λ (h : VolumeHeader). h.total_blocks * per_block_of h) changes.numbers
       ∙ sym (ap (λ (h : VolumeHeader). h.total_blocks * per_block_of h) (header_settled v a.content settled))
 
   catalog_is : sectors_of_tree v.catalog.file ≡ catalog_sectors (volume_of a.content)
@@ -61,5 +65,8 @@ module _ (v w : Volume) (a b : Space) (changes : ChangesCatalog v w a.content b.
       ∙ ap facts_of (same_tree a.content b.content (block_limit a.content) (attributes_sectors (volume_of a.content)) agrees)
       ∙ ap facts_of (sym (file_is a.content)) ∙ sym (facts_are a.content)
 
-  pub lists_again : volume_of b.content ≡ lists_then a.content w b.content
-  lists_again = later.lists ∙ (λ i. record (lists_of w b.content) { attributes_tree = tree_same i })
+  pub lists_told_again : volume_of b.content ≡ lists_then a.content w b.content
+  lists_told_again = later ∙ (λ i. record (lists_of w b.content) { attributes_tree = tree_same i })
+
+pub lists_again : (v w : Volume) (a b : Space) → ChangesCatalog v w a.content b.content → IsSettled v a.content → IsStanding v a → IsSettled w b.content → volume_of b.content ≡ lists_then a.content w b.content
+lists_again v w a b changes settled was later = lists_told_again v w a b changes settled was later.lists

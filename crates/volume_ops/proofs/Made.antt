@@ -73,16 +73,16 @@ makes_both mkdir create false path at old new bytes_of are sound not_own named a
 
 -- ---- the entry that was added
 
-new_kind : (folder : Bool) (id moment : ℕ) → is_thread (new_value folder id moment) ≡ false
+pub new_kind : (folder : Bool) (id moment : ℕ) → is_thread (new_value folder id moment) ≡ false
 new_kind true id moment = refl
 new_kind false id moment = refl
 
-new_id : (folder : Bool) (id moment : ℕ) → id_in (new_value folder id moment) ≡ id
+pub new_id : (folder : Bool) (id moment : ℕ) → id_in (new_value folder id moment) ≡ id
 new_id true id moment = refl
 new_id false id moment = refl
 
 -- a new record is one as new ones are
-new_is : (folder : Bool) (id moment : ℕ) → IsNewValue folder id moment (new_value folder id moment)
+pub new_is : (folder : Bool) (id moment : ℕ) → IsNewValue folder id moment (new_value folder id moment)
 unfolding number_at
 new_is true id moment = record { id = refl; count = refl; mode = refl; created = refl; changed = refl; attribute = refl }
 new_is false id moment = (

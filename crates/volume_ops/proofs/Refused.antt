@@ -1,5 +1,5 @@
 -- What `stat` tells, and the place of a new name, say why the plain tree's steps refuse commands.
-use Rattle.std.proofs.Common.{◌≡◌, ℕ, ◌+◌, Bool, true, false, List, [], ◌∷◌, ◌++◌, length, refl, sym, ◌∙◌, ap, subst, arith}
+use Rattle.std.proofs.Common.{◌≡◌, ℕ, ◌+◌, Bool, true, false, List, [], ◌∷◌, length, refl, sym, ◌∙◌, ap, subst, arith}
 use Rattle.std.specs.Prelude.{◌==◌, ◌||◌, nat_le, nat_lt, is_some, Option, Some, None, Result, Ok, Err, if◌then◌else◌}
 use Rattle.std.specs.Option.{ok_or}
 use Rattle.std.proofs.lemmas.Bool.{eqb-true, true≢false}
@@ -11,7 +11,7 @@ use Rattle.hfs_language.specs.declared.reply.Facts.{Facts}
 use Rattle.hfs_language.specs.declared.reply.Reply.{Reply}
 use Rattle.hfs_language.specs.declared.reply.Reply.TheVariants as reply
 use Rattle.hfs_model.specs.Plain.{IsPlainTree, entries_in, entry_at, is_at, is_node, names_of, node_at}
-use Rattle.hfs_model.specs.Step.{Place, Step, child, facts_of, front, is_private_path, is_refusal, is_root, last_name, linked, most_bytes, most_growth, most_links, most_size, new_place, on, place, place_in, reached, refuses, removed, resized, root_entry, size_written, step, step_line, then_, to_make, to_node, to_size, unless, walk, written}
+use Rattle.hfs_model.specs.Step.{Place, Step, child, facts_of, front, is_private_path, is_refusal, is_root, last_name, linked, most_bytes, most_growth, most_links, most_size, new_place, on, place, place_in, reached, refuses, resized, root_entry, size_written, step, step_line, then_, to_make, to_node, to_size, unless, walk, written}
 use Rattle.hfs_model.specs.declared.plain.PlainEntry.{PlainEntry}
 use Rattle.hfs_model.specs.declared.plain.PlainNode.{PlainNode}
 use Rattle.hfs_model.specs.declared.plain.PlainTree.{PlainTree}
@@ -19,7 +19,7 @@ use Rattle.hfs_volume.specs.Content.{VolumeState}
 use Rattle.hfs_volume.specs.Weight.{weight, weight_with}
 use Rattle.hfs_volume.proofs.Flat.{found_some}
 use Rattle.volume_ops.specs.Making.{free_place}
-use Rattle.volume_ops.specs.Refusing.{against, against_growth, against_link, against_removal, against_trunc, against_write, facts_or, is_exists, refusal_in}
+use Rattle.volume_ops.specs.Refusing.{against, against_growth, against_link, against_trunc, against_write, facts_or, is_exists, refusal_in}
 use Rattle.volume_ops.specs.Weighing.{joined, refused_or, weighed}
 use Rattle.volume_ops.specs.declared.weighing.Weight.TheVariants as answer
 use Rattle.volume_ops.proofs.Routed.{root_of}
@@ -81,7 +81,7 @@ module _ (tree : PlainTree) (plain : IsPlainTree tree) where
       by go (Ok next) found further = go next (child_kind from next name found) further
       by go (Err why) found further = absurd (cc further)
 
-  reached_kind : (path : List (List ℕ)) (at : PlainEntry) → reached tree path ≡ Ok at → IsKind at
+  pub reached_kind : (path : List (List ℕ)) (at : PlainEntry) → reached tree path ≡ Ok at → IsKind at
   reached_kind path at is = walk_kind path root_entry at (plain.root.0, plain.root.1, plain.root.2) is
 
   -- a walk isn't refused because a name is taken
@@ -130,29 +130,6 @@ module _ (tree : PlainTree) (plain : IsPlainTree tree) where
   is_large from value = nat_lt most_size (from + length value) || nat_lt most_bytes (length value)
 
   module _ (path : List (List ℕ)) where
-    pub rm_refusal : is_root path ≡ false → (told : Result Facts Refusal) → told ≡ said path → against told against_removal ≡ refusal_in (step_line tree (Ok (command.Rm path))).0
-    rm_refusal some told is = ap (λ (r : Result Facts Refusal). against r against_removal) is ∙ by_own (is_private_path path)
-      where
-        taken : PlainEntry → Step
-        taken at = (reply.Ok, removed at tree)
-
-        of_folder : (at : PlainEntry) (b : Bool) → (if b then Some refusal.IsFolder else None) ≡ refusal_in (on tree (if b then Err refusal.IsFolder else Ok at) taken).0
-        of_folder at true = refl
-        of_folder at false = refl
-
-        by_reached : (r : Result PlainEntry Refusal) → reached tree path ≡ r → against (told_of (node_under r)) against_removal ≡ refusal_in (on tree (then_ r (λ at. unless at.folder refusal.IsFolder at)) taken).0
-        by_reached (Err why) found = refl
-        by_reached (Ok at) found =
-            let kind = reached_kind path at found in
-            ap (λ (o : Option PlainNode). against (told_of (ok_or o refusal.NotFound)) against_removal) kind.1 ∙ ap (λ (b : Bool). if b then Some refusal.IsFolder else None) kind.2 ∙ of_folder at at.folder
-
-        by_own : (b : Bool) → against (facts_or (if b || false then (reply.No refusal.Private, tree) else step tree (command.Stat path)).0) against_removal
-            ≡ refusal_in (if b || false then (reply.No refusal.Private, tree) else step tree (command.Rm path)).0
-        by_own true = refl
-        by_own false =
-            by_reached (reached tree path) refl
-            ∙ ap (λ (b : Bool). refusal_in (on tree (then_ (if b then Err refusal.Root else Ok path) (λ named. then_ (reached tree named) (λ at. unless at.folder refusal.IsFolder at))) taken).0) (sym some)
-
     pub write_refusal : (from : ℕ) (value : List ℕ) (told : Result Facts Refusal) → told ≡ said path → against told (against_write from (length value)) ≡ refusal_in (step_line tree (Ok (command.Write path from value))).0
     write_refusal from value told is = ap (λ (r : Result Facts Refusal). against r (against_write from (length value))) is ∙ by_own (is_private_path path)
       where
@@ -316,9 +293,6 @@ rooted (name ∷ path) is = absurd (omega (arith, eqb-true (length (name ∷ pat
 pub unrooted : (path : List (List ℕ)) → (length path == 0) ≡ false → is_root path ≡ false
 unrooted [] is = absurd (true≢false is)
 unrooted (name ∷ path) is = refl
-
-pub root_kept : (tree : PlainTree) (path : List (List ℕ)) → (length path == 0) ≡ true → Some refusal.Root ≡ refusal_in (step_line tree (Ok (command.Rm path))).0
-root_kept tree path is = sym (ap (λ (p : List (List ℕ)). refusal_in (step_line tree (Ok (command.Rm p))).0) (rooted path is))
 
 module _ (tree : PlainTree) (from to : List (List ℕ)) where
   pub from_own : is_private_path from ≡ true → Some refusal.Private ≡ refusal_in (step_line tree (Ok (command.Ln from to))).0

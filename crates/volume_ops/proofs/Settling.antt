@@ -1,12 +1,11 @@
 -- A volume is settled again behind a command that changed its catalog and the numbers of its header, and its tree is that of the new lists.
-use Rattle.std.proofs.Common.{◌≡◌, refl, sym, ◌∙◌, ap, subst}
-use Rattle.std.specs.Prelude.{IsTrue}
+use Rattle.std.proofs.Common.{◌≡◌, ℕ, sym, ◌∙◌, ap, subst}
+use Rattle.std.specs.Prelude.{IsTrue, Option}
 use Rattle.sector_disk.specs.Lists.{Content}
 use Rattle.sector_disk.specs.Space.{Space}
 use Rattle.jnl_format.specs.Recovery.{header_of_volume}
 use Rattle.volume_header.specs.declared.header.VolumeHeader.{VolumeHeader}
-use Rattle.btree_file.specs.State.{sectors_of_tree}
-use Rattle.hfs_volume.specs.Content.{VolumeState, TreeFacts, volume_of, has_attributes}
+use Rattle.hfs_volume.specs.Content.{VolumeState, volume_of, has_attributes}
 use Rattle.hfs_volume.specs.Links.{private_id}
 use Rattle.hfs_volume.specs.Records.{placed_in}
 use Rattle.hfs_volume.specs.Sound.{IsSoundVolume}
@@ -40,6 +39,10 @@ module _ (v w : Volume) (a b : Space) (changes : ChangesCatalog v w a.content b.
   module _ (sound : IsSoundVolume (lists_then a.content w b.content)) where
     pub settles_again : private_id (placed_in (lists_of w b.content).catalog_pairs) ≡ private_id (placed_in (lists_of v a.content).catalog_pairs) → IsSettled w b.content
     settles_again private = trees.settles_again v w a b in_trees settled was stands headed (volume_of a.content).attributes_tree attributes_same sound private
+
+    -- with a private folder that was made
+    pub settles_private : (private : Option ℕ) → private ≡ private_id (placed_in (lists_of w b.content).catalog_pairs) → IsSettled (record w { private = private }) b.content
+    settles_private private is = trees.settles_private v w a b in_trees settled was stands headed (volume_of a.content).attributes_tree attributes_same sound private is
 
     pub tree_again : tree_of b.content ≡ tree_in (lists_then a.content w b.content) (file_bytes a.content)
     tree_again = trees.tree_again v w a b in_trees settled was stands headed (volume_of a.content).attributes_tree attributes_same sound

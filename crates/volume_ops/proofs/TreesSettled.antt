@@ -1,10 +1,9 @@
 -- A volume is settled again behind a command that changed its catalog, its attributes and the numbers of its header, and its tree is that of
 -- the new lists.
-use Rattle.std.proofs.Common.{◌≡◌, ◌≢◌, ◌⊎◌, ◌<◌, ◌≤◌, ℕ, ◌*◌, ◌/◌, ◌%◌, ◌++◌, Bool, true, false, List, [], ◌∷◌, length, map, refl, sym, ◌∙◌, ap, subst, arith, inl, inr, ⊎_elim}
+use Rattle.std.proofs.Common.{◌≡◌, ◌≢◌, ℕ, ◌*◌, ◌/◌, ◌%◌, ◌++◌, Bool, true, false, List, [], ◌∷◌, map, refl, sym, ◌∙◌, ap, subst, arith, ⊎_elim}
 use Rattle.std.specs.Prelude.{Contains, IsTrue, Option, None, Some, slice_get, if◌then◌else◌}
 use Rattle.std.specs.List.{range_with_len}
 use Rattle.std.proofs.lemmas.Option.{slice_get_within, get_or_from_slice_get}
-use Rattle.alloc_bitmap.specs.Apart.{times}
 use Rattle.alloc_bitmap.specs.Map.{BlockMap}
 use Rattle.alloc_bitmap.proofs.ApartLaws.{times-append}
 use Rattle.sector_disk.specs.Lists.{Content, sector}
@@ -25,7 +24,6 @@ use Rattle.volume_ops.specs.Lists.{lists_of, facts_on, bits_on}
 use Rattle.volume_ops.specs.Standing.{IsStanding, IsSettled, attribute_sectors, map_sectors, file_sectors}
 use Rattle.volume_ops.specs.Trees.{ChangesTrees}
 use Rattle.volume_ops.specs.declared.volume.Volume.{Volume}
-use Rattle.volume_ops.proofs.CatalogEdited.{there_is}
 use Rattle.volume_ops.proofs.FilesKept.{catalog_sectors, attributes_sectors, tree_stays}
 use Rattle.volume_ops.proofs.Placing.{stands_once}
 use Rattle.volume_ops.proofs.Resettling.{bits_at, bits_here, lists_anew, settles}
@@ -38,6 +36,31 @@ tree_without lists other bytes_of = refl
 pub header_settled : (v : Volume) (content : Content) → IsSettled v content → header_of_volume content ≡ v.header
 unfolding volume_of
 header_settled v content settled = ap (λ (l : VolumeState). l.head) settled.lists
+
+-- a volume that keeps another private folder stands as it did
+pub stands_private : (w : Volume) (b : Space) (private : Option ℕ) → IsStanding w b → IsStanding (record w { private = private }) b
+stands_private w b private stands = record {
+  trees = record { extents = stands.trees.extents; catalog = stands.trees.catalog; compare = stands.trees.compare; attributes = stands.trees.attributes };
+  forks = record {
+    extents = stands.forks.extents;
+    extents_per = stands.forks.extents_per;
+    catalog = stands.forks.catalog;
+    catalog_per = stands.forks.catalog_per;
+    attributes = stands.forks.attributes;
+    attributes_per = stands.forks.attributes_per;
+    map = stands.forks.map;
+    map_per = stands.forks.map_per;
+  };
+  whole = stands.whole;
+  apart = stands.apart;
+  blocks = stands.blocks;
+  closed = stands.closed;
+  aside = stands.aside;
+  large = stands.large;
+  inside = stands.inside;
+  fit = stands.fit;
+  live = stands.live;
+}
 
 -- the lists that a command leads to: those that the volume keeps, and where it has no attributes file, any numbers of its tree
 abbrev pub lists_with : TreeFacts → Volume → Content → VolumeState
@@ -124,6 +147,10 @@ module _ (v w : Volume) (a b : Space) (changes : ChangesTrees v w a.content b.co
       pub settles_again : private_id (placed_in (lists_of w b.content).catalog_pairs) ≡ private_id (placed_in (lists_of v a.content).catalog_pairs) → IsSettled w b.content
       settles_again private = settles w b stands headed bits_now other other_is sound
           (changes.private ∙ settled.private ∙ ap (λ (l : VolumeState). private_id (placed_in l.catalog_pairs)) settled.lists ∙ sym private)
+
+      -- settled again with a private folder that was made
+      pub settles_private : (private : Option ℕ) → private ≡ private_id (placed_in (lists_of w b.content).catalog_pairs) → IsSettled (record w { private = private }) b.content
+      settles_private private is = settles (record w { private = private }) b (stands_private w b private stands) headed bits_now other other_is sound is
 
       -- ---- its tree
 

@@ -8,6 +8,7 @@ pub mod Keeping
 pub mod Listing
 pub mod Lists
 pub mod Looking
+pub mod Losing
 pub mod Making
 pub mod Mapping
 pub mod Moving
@@ -15,6 +16,7 @@ pub mod Mounting
 pub mod Nodes
 pub mod Opening
 pub mod Owning
+pub mod PrivateFolder
 pub mod Reaching
 pub mod Reading
 pub mod Refusing

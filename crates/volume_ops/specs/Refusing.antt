@@ -1,11 +1,20 @@
 -- Why commands are refused whose steps are still to come, by what `stat` tells and by the place of a new name.
-use Rattle.std.specs.Prelude.{ℕ, ◌+◌, ◌||◌, nat_lt, nat_le, Bool, true, false, length, List, Option, None, Some, Result, Ok, Err, if◌then◌else◌}
+use Rattle.std.specs.Prelude.{ℕ, ◌+◌, ◌||◌, nat_lt, nat_le, Bool, true, false, Option, None, Some, Result, Ok, Err, if◌then◌else◌}
+use Rattle.hfs_language.specs.declared.command.Command.{Command}
+use Rattle.hfs_language.specs.declared.command.Command.TheVariants as command
 use Rattle.hfs_language.specs.declared.refusal.Refusal.{Refusal}
 use Rattle.hfs_language.specs.declared.refusal.Refusal.TheVariants as refusal
 use Rattle.hfs_language.specs.declared.reply.Facts.{Facts}
 use Rattle.hfs_language.specs.declared.reply.Reply.{Reply}
 use Rattle.hfs_language.specs.declared.reply.Reply.TheVariants as reply
 use Rattle.hfs_model.specs.Step.{most_bytes, most_growth, most_links, most_size, size_written}
+
+-- the commands that aren't weighed, but where their steps refuse them
+abbrev pub is_unweighed : Command → Bool
+is_unweighed (command.Ln from to) = true
+is_unweighed (command.Write path from value) = true
+is_unweighed (command.Trunc path size) = true
+is_unweighed _ = false
 
 -- the refusal that a reply tells, if it is one
 abbrev pub refusal_in : Reply → Option Refusal
@@ -29,9 +38,6 @@ facts_or (reply.Gauge gauge) = Err refusal.NotFound
 abbrev pub against : Result Facts Refusal → (Facts → Option Refusal) → Option Refusal
 against (Ok told) next = next told
 against (Err why) next = Some why
-
-abbrev pub against_removal : Facts → Option Refusal
-against_removal told = if told.folder then Some refusal.IsFolder else None
 
 -- a file grows by so much at most
 abbrev pub against_growth : ℕ → ℕ → Option Refusal

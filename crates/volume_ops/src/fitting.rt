@@ -6,6 +6,7 @@ ghost use Rattle.hfs_volume.specs.Weight.{room_with};
 ghost use Rattle.volume_ops.specs.Attributing.{HasRoomToMark};
 ghost use Rattle.volume_ops.specs.Changing.{HasRoomToUpdate};
 ghost use Rattle.volume_ops.specs.Fitting.{is_met};
+ghost use Rattle.volume_ops.specs.Losing.{HasRoomToLose, lose_edits};
 ghost use Rattle.volume_ops.specs.Making.{HasRoomToMake};
 ghost use Rattle.volume_ops.specs.Moving.{HasRoomToMove};
 ghost use Rattle.volume_ops.specs.Removing.{HasRoomToRemove};
@@ -138,6 +139,34 @@ impl Volume {
             updates: 3,
         };
         self.can_edit(space, edits)
+    }
+
+    /// Whether there is room to make the private folder, and then to put a file aside into it.
+    fn fits_open<P: SectorSpace>(&self, space: &P) -> bool
+        requires stands { StandsOver self.now (P.SectorView.space space.now) }
+        requires settled { IsTrue (P.SectorView.space space.now).tells → IsSettled self.now (P.SectorView.space space.now).content }
+        ensures { IsTrue result → HasRoomToMake self.now (P.SectorView.space space.now) }
+    {
+        if !self.fits_make(space) {
+            return false;
+        }
+        let edits = self.lose_edits();
+        self.can_edit(space, edits)
+    }
+
+    /// Whether there is room for a file to lose its only name: where there is no private folder, it is made before.
+    pub fn fits_lose<P: SectorSpace>(&self, space: &P) -> bool
+        requires stands { StandsOver self.now (P.SectorView.space space.now) }
+        requires settled { IsTrue (P.SectorView.space space.now).tells → IsSettled self.now (P.SectorView.space space.now).content }
+        ensures { IsTrue result → HasRoomToLose self.now (P.SectorView.space space.now) }
+    {
+        if !self.fits_move(space) {
+            return false;
+        }
+        match self.private {
+            Some(_private) => true,
+            None => self.fits_open(space),
+        }
     }
 
     /// Whether there is room to set an attribute and to mark its owner.

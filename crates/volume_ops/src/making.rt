@@ -1,5 +1,5 @@
 //! `mkdir` and `create`: a new folder or file.
-ghost use Rattle.std.specs.Prelude.{◌≡◌, ◌⊎◌, ◌<◌, ◌≤◌, ◌+◌, ◌^◌, ◌∷◌, ℕ, List, [], Ok, Some, false, true, IsTrue, IfOk, length, OnOk};
+ghost use Rattle.std.specs.Prelude.{◌≡◌, ◌⊎◌, ◌<◌, ◌≤◌, ◌+◌, ◌^◌, ◌∷◌, ℕ, List, [], Ok, None, Some, false, true, IsTrue, IfOk, length, OnOk};
 ghost use Rattle.std.specs.List.{Contains};
 ghost use Rattle.sector_disk.specs.Lists.{Content};
 ghost use Rattle.btree_edit.specs.Causes.{HasTroubleCause};
@@ -13,6 +13,7 @@ ghost use Rattle.hfs_model.specs.Step.{is_private_path, is_refusal, made, step_l
 ghost use Rattle.hfs_volume.specs.Changes.{with_numbers};
 ghost use Rattle.hfs_volume.specs.Commands.{MakesEntry, with_made};
 ghost use Rattle.hfs_volume.specs.Content.{volume_of};
+ghost use Rattle.hfs_volume.specs.Records.{placed_in, record_at};
 ghost use Rattle.hfs_volume.specs.TreeOf.{tree_of};
 ghost use Rattle.hfs_volume.specs.Weight.{weight};
 ghost use Rattle.hfs_volume.specs.declared.cost.Cost.TheVariants as cost;
@@ -53,7 +54,7 @@ impl Volume {
     }
 
     /// Adds a new folder or file to a folder, with the next CNID.
-    fn add_new<P: SectorSpace>(
+    pub(crate) fn add_new<P: SectorSpace>(
         &mut self,
         alloc: Global,
         space: &mut P,
@@ -66,7 +67,7 @@ impl Volume {
         requires size { 4096 ≤ (numbers_of self.old.catalog.file).node_size }
         requires some { 1 ≤ length name.now }
         requires name { length name.now ≤ 255 }
-        requires site { IsTrue (P.SectorView.space space.old).tells → IsSite (tree_of (P.SectorView.space space.old).content) id name.now }
+        requires free { IsTrue (P.SectorView.space space.old).tells → record_at (placed_in (lists_of self.old (P.SectorView.space space.old).content).catalog_pairs) id name.now ≡ None }
         requires room { HasRoomToMake self.old (P.SectorView.space space.old) }
         ensures stands { OnOk result (StandsOver self.new (P.SectorView.space space.new)) }
         ensures service { IsInService self.new (P.SectorView.space space.new) }

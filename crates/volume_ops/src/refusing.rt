@@ -5,11 +5,10 @@ ghost use Rattle.hfs_language.specs.Written.{FitsCommand, FitsPath};
 ghost use Rattle.hfs_language.specs.declared.command.Command.TheVariants as command;
 ghost use Rattle.hfs_model.specs.Step.{is_private_path, is_root, refuses, size_written, step_line};
 ghost use Rattle.hfs_volume.specs.Content.{volume_of};
-ghost use Rattle.hfs_volume.specs.Run.{is_to_come};
 ghost use Rattle.hfs_volume.specs.TreeOf.{tree_of};
 ghost use Rattle.volume_ops.specs.Looking.{ReadsVolume};
 ghost use Rattle.volume_ops.specs.Making.{path_to};
-ghost use Rattle.volume_ops.specs.Refusing.{against_growth, against_link, against_removal, against_trunc, against_write, facts_or, is_exists, refusal_in};
+ghost use Rattle.volume_ops.specs.Refusing.{against_growth, against_link, against_trunc, against_write, facts_or, is_exists, is_unweighed, refusal_in};
 ghost use Rattle.volume_ops.specs.Room.{capacity_of, free_in};
 ghost use Rattle.volume_ops.specs.declared.room.FreeBlocks.TheVariants as blocks;
 ghost use Rattle.volume_ops.specs.Standing.{IsSettled, StandsOver};
@@ -48,16 +47,6 @@ fn facts_or(reply: Reply) -> Result<Facts, Refusal>
         Reply::Content(_bytes) => Err(Refusal::NotFound),
         Reply::Gauge(_gauge) => Err(Refusal::NotFound),
     }
-}
-
-/// What stands against `rm` of a file of which this is told.
-fn against_removal(told: &Facts) -> Option<Refusal>
-    ensures { result ≡ against_removal told.now }
-{
-    if told.folder {
-        return Some(Refusal::IsFolder);
-    }
-    None
 }
 
 /// What stands against a file's growth to a size.
@@ -162,33 +151,6 @@ impl Volume {
     {
         let reply = self.stat(alloc, space, path)?;
         Ok(facts_or(reply))
-    }
-
-    /// Why `rm` is refused, if it is.
-    fn refused_rm<P: SectorSpace>(
-        &mut self,
-        alloc: Global,
-        space: &mut P,
-        path: &Path,
-    ) -> Result<Option<Refusal>, Trouble>
-        requires stands { StandsOver self.old (P.SectorView.space space.old) }
-        requires settled { IsTrue (P.SectorView.space space.old).tells → IsSettled self.old (P.SectorView.space space.old).content }
-        requires fits { FitsPath path.now }
-        ensures told { IsTrue (P.SectorView.space space.old).tells → IfOk result (λ said. said ≡ refusal_in (step_line (tree_of (P.SectorView.space space.old).content) (Ok (command.Rm path.now))).0) }
-        ensures reads { ReadsVolume self.old self.new (P.SectorView.space space.old) (P.SectorView.space space.new) }
-        ensures stands { StandsOver self.new (P.SectorView.space space.new) }
-        ensures settled { IsTrue (P.SectorView.space space.old).tells → IsSettled self.new (P.SectorView.space space.new).content }
-        ensures below { P.SectorView.follows space.old space.new }
-        ensures cause { HasTroubleCause (P.SectorView.space space.old).faults (P.SectorView.space space.new).faults result }
-    {
-        if path.is_empty() {
-            return Ok(Some(Refusal::Root));
-        }
-        sound_has_plain_tree();
-        match self.facts(alloc, space, path)? {
-            Ok(told) => Ok(against_removal(&told)),
-            Err(why) => Ok(Some(why)),
-        }
     }
 
     /// Why `write` of so many bytes from a place on is refused, if it is.
@@ -320,7 +282,7 @@ impl Volume {
         requires stands { StandsOver self.old (P.SectorView.space space.old) }
         requires settled { IsTrue (P.SectorView.space space.old).tells → IsSettled self.old (P.SectorView.space space.old).content }
         requires fits { FitsCommand command.now }
-        ensures told { IsTrue (P.SectorView.space space.old).tells → is_to_come command.now ≡ true → IfOk result (λ said. said ≡ refusal_in (step_line (tree_of (P.SectorView.space space.old).content) (Ok command.now)).0) }
+        ensures told { IsTrue (P.SectorView.space space.old).tells → is_unweighed command.now ≡ true → IfOk result (λ said. said ≡ refusal_in (step_line (tree_of (P.SectorView.space space.old).content) (Ok command.now)).0) }
         ensures reads { ReadsVolume self.old self.new (P.SectorView.space space.old) (P.SectorView.space space.new) }
         ensures stands { StandsOver self.new (P.SectorView.space space.new) }
         ensures settled { IsTrue (P.SectorView.space space.old).tells → IsSettled self.new (P.SectorView.space space.new).content }
@@ -328,7 +290,6 @@ impl Volume {
         ensures cause { HasTroubleCause (P.SectorView.space space.old).faults (P.SectorView.space space.new).faults result }
     {
         match command {
-            Command::Rm(path) => self.refused_rm(alloc, space, path),
             Command::Ln(from, to) => self.refused_ln(alloc, space, from, to),
             Command::Write { path, from, value } => {
                 self.refused_write(alloc, space, path, *from, value.as_slice())
@@ -336,6 +297,7 @@ impl Volume {
             Command::Trunc { path, size } => self.refused_trunc(alloc, space, path, *size),
             Command::Mkdir(_)
             | Command::Create(_)
+            | Command::Rm(_)
             | Command::Rmdir(_)
             | Command::Mv(_, _)
             | Command::Chmod { .. }
@@ -362,7 +324,7 @@ impl Volume {
         requires stands { StandsOver self.old (P.SectorView.space space.old) }
         requires settled { IsTrue (P.SectorView.space space.old).tells → IsSettled self.old (P.SectorView.space space.old).content }
         requires fits { FitsCommand command.now }
-        requires to_come { is_to_come command.now ≡ true }
+        requires to_come { is_unweighed command.now ≡ true }
         ensures answer { IsTrue (P.SectorView.space space.old).tells
             → IfOk result (λ said. IfSome said (λ weighs. weighs ≡ weighed (capacity_of self.old) (free_in blocks.Takable self.old.map) (volume_of (P.SectorView.space space.old).content) (tree_of (P.SectorView.space space.old).content) command.now)) }
         ensures waits { IsTrue (P.SectorView.space space.old).tells → IfOk result (λ said. is_some said ≡ false → refuses (tree_of (P.SectorView.space space.old).content) (Ok command.now) ≡ false) }

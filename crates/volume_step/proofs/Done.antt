@@ -14,7 +14,7 @@ use Rattle.hfs_language.specs.declared.reply.ChangeKind.TheVariants as change
 use Rattle.hfs_language.specs.declared.reply.Reply.{Reply}
 use Rattle.hfs_language.specs.declared.reply.Reply.TheVariants as reply
 use Rattle.hfs_model.specs.Plain.{attribute_at, entries_in, node_at}
-use Rattle.hfs_model.specs.Step.{Place, Step, is_private, is_private_path, is_refusal, is_root, only_reads, reached, refuses, step, step_line, then_, to_attribute, to_make, to_mv, to_node, to_rmdir, unless}
+use Rattle.hfs_model.specs.Step.{Place, Step, is_private, is_private_path, is_refusal, is_root, only_reads, reached, refuses, step, step_line, then_, to_attribute, to_make, to_mv, to_node, to_rm, to_rmdir, unless}
 use Rattle.hfs_model.specs.declared.plain.PlainAttribute.{PlainAttribute}
 use Rattle.hfs_model.specs.declared.plain.PlainEntry.{PlainEntry}
 use Rattle.hfs_model.specs.declared.plain.PlainNode.{PlainNode}
@@ -32,6 +32,7 @@ use Rattle.hfs_volume.specs.declared.cost.Cost.TheVariants as cost
 use Rattle.volume_ops.specs.Attributing.{set_answer}
 use Rattle.volume_ops.specs.Making.{Makes}
 use Rattle.volume_ops.specs.Moving.{HasMoved}
+use Rattle.volume_ops.specs.Losing.{HasLost}
 use Rattle.volume_ops.specs.Removing.{HasRemoved}
 use Rattle.volume_ops.specs.Standing.{HoldsOn, IsSettled}
 use Rattle.volume_ops.specs.declared.volume.Volume.{Volume}
@@ -40,7 +41,7 @@ use Rattle.volume_step.specs.declared.judging.Verdict.TheVariants as verdict
 use Rattle.volume_step.specs.declared.outcome.Outcome.{Outcome}
 use Rattle.volume_step.specs.declared.outcome.Outcome.TheVariants as outcome
 use Rattle.volume_step.proofs.Kept.{Keeps, attributes_keep, delete_keeps, keeps_both, keeps_none, mode_keeps, moment_keeps, set_keeps}
-use Rattle.volume_step.proofs.KeptEntries.{made_keeps, moved_keeps, removed_keeps}
+use Rattle.volume_step.proofs.KeptEntries.{lost_keeps, made_keeps, moved_keeps, opened_keeps, removed_keeps}
 use Rattle.volume_step.proofs.Served.{changes_told, done_as, journal_kept, line_is, quiet, refused, steps, tells, waits}
 
 -- ---- a volume whose bits are as they were
@@ -343,3 +344,43 @@ module _ (capacity number : ℕ) (path : List (List ℕ)) (before after : Conten
 
     pub remove_place : KeepsJournal before after
     remove_place = journal_kept before after keeps_removed
+
+-- ---- `rm`
+
+-- a file that may be removed was reached
+reached_rm : (tree : PlainTree) (path : List (List ℕ)) (entry : PlainEntry) → to_rm tree path ≡ Ok entry → reached tree path ≡ Ok entry
+reached_rm tree path entry is = by_root (is_root path) is
+  where
+    by_kind : (at : PlainEntry) (b : Bool) → unless b refusal.IsFolder at ≡ Ok entry → at ≡ entry
+    by_kind at true same = absurd (let none : Err refusal.IsFolder ≡ Ok entry = same in cc none)
+    by_kind at false same = ap (entry_or at) same
+
+    by_reached : (r : Result PlainEntry Refusal) → reached tree path ≡ r → then_ r (λ at. unless at.folder refusal.IsFolder at) ≡ Ok entry → reached tree path ≡ Ok entry
+    by_reached (Ok at) found same = found ∙ ap Ok (by_kind at at.folder same)
+    by_reached (Err why) found same = absurd (let none : Err why ≡ Ok entry = same in cc none)
+
+    by_root : (b : Bool) → then_ (unless b refusal.Root path) (λ named. then_ (reached tree named) (λ at. unless at.folder refusal.IsFolder at)) ≡ Ok entry → reached tree path ≡ Ok entry
+    by_root true same = absurd (let none : Err refusal.Root ≡ Ok entry = same in cc none)
+    by_root false same = by_reached (reached tree path) refl same
+
+module _ (capacity number : ℕ) (path : List (List ℕ)) (before after : Content) (sound_before : IsSound before) (sound_after : IsSound after) (affords : Affords capacity (command.Rm path) before)
+    (said : Reply) (reply_is : said ≡ (step_line (tree_of before) (Ok (command.Rm path))).0) (tree : tree_of after ≡ (step_line (tree_of before) (Ok (command.Rm path))).1) (lists : said ≡ reply.Ok → HasLost path before after)
+  where
+    fine_lost : said ≡ reply.Ok
+    fine_lost = said_ok capacity number (command.Rm path) before after sound_before sound_after affords said refl refl reply_is tree
+
+    keeps_lost : Keeps (volume_of before) (volume_of after)
+    keeps_lost =
+        let it = lists fine_lost in
+        keeps_both (volume_of before) it.loses.opened (volume_of after) (opened_keeps (volume_of before) it.loses.opened it.loses.opens)
+        (lost_keeps it.entry it.loses.opened (volume_of after) it.loses.sound it.loses.there it.loses.removes)
+
+    pub lose_steps : (changes : List Change) → (is_private_path path ≡ false → (entry : PlainEntry) → reached (tree_of before) path ≡ Ok entry → changes ≡ of_entry number change.Removed (Ok entry))
+        → StepsTo (outcome.Answered said changes) capacity number (command.Rm path) before after
+    lose_steps changes told =
+        let it = lists fine_lost in
+        done_steps capacity number (command.Rm path) before after sound_before sound_after affords said refl refl reply_is tree keeps_lost changes
+        (told (free_path path (line_free (tree_of before) (command.Rm path) affords.no_refusal)) it.entry (reached_rm (tree_of before) path it.entry it.allowed) ∙ ap (of_entry number change.Removed) (sym it.allowed))
+
+    pub lose_place : KeepsJournal before after
+    lose_place = journal_kept before after keeps_lost

@@ -1,21 +1,22 @@
 -- What commands that make, move or remove an entry keep of a volume.
-use Rattle.std.proofs.Common.{◌≡◌, ◌≢◌, ◌≤◌, ℕ, ◌+◌, Bool, true, false, List, [], ◌∷◌, ◌++◌, length, inl, inr, refl, sym, ◌∙◌, ap, subst, arith}
-use Rattle.std.specs.Prelude.{Contains, ◌==◌, not}
+use Rattle.std.proofs.Common.{◌≡◌, ◌≢◌, ◌⊎◌, ◌≤◌, ℕ, ◌+◌, Bool, true, false, List, [], ◌∷◌, ◌++◌, length, inl, inr, refl, sym, ◌∙◌, ap, subst, arith}
+use Rattle.std.specs.Prelude.{Contains, ◌==◌, is_some, not, Option}
 use Rattle.std.proofs.lemmas.Bool.{true≢false}
 use Rattle.std.proofs.lemmas.List.Elements.{Contains-append_left, Contains-append_right}
 use Rattle.cat_records.specs.declared.record.EntryFields.{EntryFields}
 use Rattle.cat_records.specs.declared.record.CatRecord.{CatRecord}
 use Rattle.cat_records.specs.declared.record.CatRecord.TheVariants.{Folder, File, Thread}
-use Rattle.hfs_model.specs.Step.{Place}
+use Rattle.hfs_model.specs.Step.{Place, private_name}
 use Rattle.hfs_model.specs.declared.plain.PlainEntry.{PlainEntry}
 use Rattle.hfs_volume.specs.Blocks.{HasSizes, forks_of}
-use Rattle.hfs_volume.specs.Changes.{ChangesValue}
-use Rattle.hfs_volume.specs.Commands.{ChangesFields, DropsAttributes, IsMarkedAlone, IsNewValue, IsTouched, MakesEntry, RemovesFolder, entry_in, with_fields, with_folder_removed, with_made, without_attributes}
+use Rattle.hfs_volume.specs.Changes.{ChangesValue, InCatalog, MovesEntry}
+use Rattle.hfs_volume.specs.Commands.{ChangesFields, DropsAttributes, IsMarkedAlone, IsNewValue, IsRecounted, IsRecountedAlone, IsTouched, MakesEntry, RemovesFolder, entry_in, with_counts, with_fields, with_folder_removed, with_made, without_attributes}
 use Rattle.hfs_volume.specs.Content.{VolumeState, overflow_in_volume, records_of}
 use Rattle.hfs_volume.specs.Entries.{IsUserId}
 use Rattle.hfs_volume.specs.Forks.{Owned, all_forks, blocks_owned, data_kind, file_forks, forks_in, resource_kind, special_forks}
 use Rattle.hfs_volume.specs.Laws.{one_if}
-use Rattle.hfs_volume.specs.Naming.{MovesName}
+use Rattle.hfs_volume.specs.Links.{private_id}
+use Rattle.hfs_volume.specs.Naming.{MovesName, RemovesFile, orphan_name, private_ids}
 use Rattle.hfs_volume.specs.Reclaim.{blocks_at, blocks_found}
 use Rattle.hfs_volume.specs.Records.{Overflow, Placed, entries_of, id_in, id_of, is_empty, is_folder, placed_in}
 use Rattle.hfs_volume.specs.Sound.{IsSoundVolume}
@@ -27,8 +28,9 @@ use Rattle.hfs_volume.proofs.Flat.{Pieces, flat_none, flat_pieces}
 use Rattle.hfs_volume.proofs.Hiding.{one_there}
 use Rattle.hfs_volume.proofs.Sides.{OneMore, count_more, entries_more, entry_cases, one_more}
 use Rattle.hfs_volume.proofs.Swapping.{Splits}
+use Rattle.volume_ops.specs.PrivateFolder.{OpensPrivate, with_one_folder}
 use Rattle.volume_step.proofs.Forks.{forks_swapped, found_more, found_moved}
-use Rattle.volume_step.proofs.Kept.{Keeps, attributes_keep, catalog_keeps, fields_keep, forks_are, keeps_both}
+use Rattle.volume_step.proofs.Kept.{Keeps, attributes_keep, catalog_keeps, fields_keep, forks_are, keeps_both, keeps_none}
 
 -- ---- other numbers in the header
 
@@ -243,3 +245,113 @@ module _ (id : ℕ) (old new : VolumeState) (does : RemovesFolder id old new) (f
       (keeps_both (record old { head = with_folder_removed old.head }) bared new (attributes_keep (DropsAttributes id) (record old { head = with_folder_removed old.head }) bared does.bares)
       (keeps_both bared does.dropped new (catalog_keeps bared does.dropped does.drops.rest does.drops.nodes dropped_blocks)
       (fields_keep does.entry.parent (IsTouched old.head.modify_date 0 1) does.dropped new does.counts)))
+
+-- ---- a file that loses its only name
+
+counted_blocks : (next files folders : ℕ) (old : VolumeState) (id kind : ℕ) → blocks_at (record old { head = with_counts next files folders old.head }) id kind ≡ blocks_at old id kind
+unfolding all_forks
+counted_blocks next files folders old id kind = refl
+
+counted_head : (next files folders : ℕ) (old : VolumeState) → Keeps old (record old { head = with_counts next files folders old.head })
+counted_head next files folders old = record {
+  blocks = λ id kind. counted_blocks next files folders old id kind;
+  extents = refl;
+  catalog = refl;
+  attributes = refl;
+  journal = refl;
+  flags = refl;
+  same = record { signature = refl; version = refl; last_mounted = refl; info_block = refl; block_size = refl; total_blocks = refl; bit_12 = refl; bit_13 = refl; bit_15 = refl };
+}
+
+-- a name of a numbered file isn't empty
+orphan_named : (number : ℕ) → is_empty (orphan_name number) ≡ false
+orphan_named number = refl
+
+module _ (at : PlainEntry) (old new : VolumeState) (sound : IsSoundVolume old) (here : is_some (private_id (records_of old)) ≡ true) (does : RemovesFile at old new) where
+  abbrev counted : VolumeState
+  counted = record old { head = with_counts (old.head.next_catalog_id + private_ids (records_of old)) old.head.file_count (old.head.folder_count + private_ids (records_of old)) old.head }
+
+  opened_is : does.opened ≡ counted
+  opened_is = elim does.opens [
+    | inl same ↦ same.1
+    | inr made ↦ absurd (true≢false (sym here ∙ ap (λ (o : Option ℕ). is_some o) made.1.absent))
+  ]
+
+  lost_moves : InCatalog (MovesEntry does.entry does.private (orphan_name does.number)) counted does.moved
+  lost_moves = subst (λ (v : VolumeState). InCatalog (MovesEntry does.entry does.private (orphan_name does.number)) v does.moved) opened_is does.moves
+
+  lost_out : OneMore does.entry (placed_in lost_moves.changes.between) (records_of old)
+  lost_out = one_more lost_moves.changes.out (named_entry (records_of old) does.entry does.is_entry.stands)
+
+  lost_back : OneMore (record does.entry { parent = does.private; name = orphan_name does.number }) (placed_in lost_moves.changes.between) (records_of does.moved)
+  lost_back = one_more lost_moves.changes.back (orphan_named does.number)
+
+  lost_alone : (p : Placed) → Contains (entries_of (placed_in lost_moves.changes.between)) p → (id_of p == id_of does.entry) ≡ false
+  lost_alone p stands = by (id_of p == id_of does.entry) refl
+    where
+      by : (t : Bool) → (id_of p == id_of does.entry) ≡ t → t ≡ false
+      by false is = refl
+      by true is = absurd (omega (
+        arith,
+        sound.entries.ids.distinct (id_of does.entry),
+        count_more lost_out (λ (q : Placed). id_of q == id_of does.entry),
+        ap one_if (same_number (id_of does.entry)),
+        one_there (λ (q : Placed). id_of q == id_of does.entry) (entries_of (placed_in lost_moves.changes.between)) p stands is,
+      ))
+
+  -- a file isn't the root
+  lost_high : is_folder does.entry.value ≡ false → 16 ≤ id_of does.entry
+  lost_high isnt = elim (each_of (λ (q : Placed). IsUserId old.head.next_catalog_id (id_of q)) (entries_of (records_of old)) sound.entries.ids.each does.entry does.is_entry.stands) [
+    | inl two ↦
+        let root = sound.entries.rooted.root in
+        elim (entry_cases lost_out root.0 root.1) [
+          | inl same ↦ absurd (true≢false (sym root.2.folder ∙ ap (λ (p : Placed). is_folder p.value) same ∙ isnt))
+          | inr there ↦ absurd (not_same (id_of root.0) (id_of does.entry) (lost_alone root.0 there) (root.2.id ∙ sym two))
+        ]
+    | inr user ↦ user.0
+  ]
+
+  lost_blocks : (id kind : ℕ) → blocks_at does.moved id kind ≡ blocks_at counted id kind
+  unfolding all_forks
+  lost_blocks id kind = by does.entry.value refl
+    where
+      empty : forks_in does.entry.value ≡ [] → blocks_at does.moved id kind ≡ blocks_at counted id kind
+      empty none = forks_are counted does.moved lost_moves.rest (none_more lost_back none ∙ sym (none_more lost_out none)) id kind
+
+      by : (value : CatRecord) → does.entry.value ≡ value → blocks_at does.moved id kind ≡ blocks_at counted id kind
+      by (Folder f) is = empty (ap forks_in is)
+      by (Thread t) is = empty (ap forks_in is)
+      by (File f) is =
+          ap (λ (v : VolumeState). blocks_at v id kind) lost_moves.rest
+          ∙ ap (blocks_found (overflow_in_volume old)) (found_moved lost_out lost_back (lost_high (ap is_folder is)) lost_alone counted.head id kind)
+
+  pub lost_keeps : Keeps old new
+  lost_keeps =
+      keeps_both old counted new (counted_head (old.head.next_catalog_id + private_ids (records_of old)) old.head.file_count (old.head.folder_count + private_ids (records_of old)) old)
+      (keeps_both counted does.moved new (catalog_keeps counted does.moved lost_moves.rest lost_moves.nodes lost_blocks)
+      (keeps_both does.moved does.filled new (fields_keep does.private (IsRecounted 1 0) does.moved does.filled does.fills)
+      (fields_keep at.parent (IsTouched old.head.modify_date 0 1) does.filled new does.loses)))
+
+-- ---- the private folder, made where it wasn't there
+
+new_folder : (id moment : ℕ) (value : CatRecord) → IsNewValue true id moment value → is_folder value ≡ true
+new_folder id moment (Folder f) is = refl
+new_folder id moment (File f) never = absurd never
+new_folder id moment (Thread t) never = absurd never
+
+module _ (old new : VolumeState) (made : OpensPrivate old new) where
+  private_side : OneMore (record { parent = 2; name = private_name; value = made.value }) (records_of old) (records_of made.added)
+  private_side = one_more made.adds.changes refl
+
+  private_blocks : (id kind : ℕ) → blocks_at made.added id kind ≡ blocks_at (with_one_folder old) id kind
+  private_blocks id kind =
+      forks_are (with_one_folder old) made.added made.adds.rest (none_more private_side (folder_forks made.value (new_folder old.head.next_catalog_id old.head.modify_date made.value made.is_new))) id kind
+
+  private_keeps : Keeps old new
+  private_keeps =
+      keeps_both old (with_one_folder old) new (made_head true old)
+      (keeps_both (with_one_folder old) made.added new (catalog_keeps (with_one_folder old) made.added made.adds.rest made.adds.nodes private_blocks) (fields_keep 2 (IsRecountedAlone 1 0) made.added new made.counts))
+
+pub opened_keeps : (old new : VolumeState) → (new ≡ old) ⊎ OpensPrivate old new → Keeps old new
+opened_keeps old new (inl same) = subst (λ (v : VolumeState). Keeps old v) (sym same) (keeps_none old)
+opened_keeps old new (inr made) = private_keeps old new made

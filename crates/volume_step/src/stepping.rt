@@ -17,7 +17,7 @@ use crate::making::{make_file, make_folder, move_entry};
 use crate::marking::{date, set_mode};
 use crate::outcome::Outcome;
 use crate::owning::{delete_attribute, set_attribute};
-use crate::removing::remove_folder;
+use crate::removing::{remove_file, remove_folder};
 use hfs_language::{Command, Refusal};
 use hx_bytes::Trouble;
 use sector_disk::SectorSpace;
@@ -61,8 +61,8 @@ fn perform<P: SectorSpace>(
         Command::Create(path) => make_file(alloc, volume, space, number, path),
         Command::Mv(from, to) => move_entry(alloc, volume, space, number, from, to),
         Command::Rmdir(path) => remove_folder(alloc, volume, space, number, path),
-        Command::Rm(_)
-        | Command::Ln(_, _)
+        Command::Rm(path) => remove_file(alloc, volume, space, number, path),
+        Command::Ln(_, _)
         | Command::Write { .. }
         | Command::Read { .. }
         | Command::Trunc { .. }

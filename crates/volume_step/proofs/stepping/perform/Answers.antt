@@ -54,3 +54,9 @@ returns-in-Rmdir-clause-shrunk g c tells = keeps_shrunk c.args.command.now (g.P.
 
 pub returns-in-Rmdir-clause-touches : goal.returns-in-Rmdir-clause-touches
 returns-in-Rmdir-clause-touches g c committed = touches_own committed c.args.volume.now c.remove_folder.new.volume (g.P.SectorView.space c.args.space.now) (g.P.SectorView.space c.remove_folder.new.space) (c.remove_folder.ensures.touches committed)
+
+pub returns-in-Rm-clause-shrunk : goal.returns-in-Rm-clause-shrunk
+returns-in-Rm-clause-shrunk g c tells = keeps_shrunk c.args.command.now (g.P.SectorView.space c.args.space.now).content (shrunk_of c.args.volume.now) (shrunk_of c.remove_file.new.volume) (ap (λ (k : Command). shrunk_by (tree_of (g.P.SectorView.space c.args.space.now).content) (Ok k)) c.in-Rm.is) c.remove_file.ensures.shrunk c.remove_file.result
+
+pub returns-in-Rm-clause-touches : goal.returns-in-Rm-clause-touches
+returns-in-Rm-clause-touches g c committed = touches_own committed c.args.volume.now c.remove_file.new.volume (g.P.SectorView.space c.args.space.now) (g.P.SectorView.space c.remove_file.new.space) (c.remove_file.ensures.touches committed)

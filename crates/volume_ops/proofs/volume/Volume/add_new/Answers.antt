@@ -1,7 +1,7 @@
 use Rattle.std.proofs.Common.{[], ℕ, List, sym, ◌∙◌, ap, subst, arith}
 use Rattle.std.specs.List.{Contains}
 use Rattle.btree_node.specs.Levels.{Pair}
-use Rattle.btree_edit.specs.Edits.{EditRoom, TakesAtMost, TakesEdits}
+use Rattle.btree_edit.specs.Edits.{EditRoom, TakesAtMost}
 use Rattle.btree_file.specs.Standing.{numbers_of}
 use Rattle.btree_file.specs.State.{state_of}
 use Rattle.hfs_volume.specs.Records.{id_in, placed_in, record_at}
@@ -10,7 +10,7 @@ use Rattle.volume_ops.specs.declared.volume.Tree.{Tree}
 use Rattle.volume_ops.specs.declared.volume.Volume.{Volume}
 use Rattle.volume_ops.proofs.Added.{adds_new, own_added, own_drawn, pairs_drawn}
 use Rattle.volume_ops.proofs.Commanding.{touches_both}
-use Rattle.volume_ops.proofs.Made.{counts_fit, free_before, unused}
+use Rattle.volume_ops.proofs.Made.{counts_fit, unused}
 use Rattle.volume_ops.proofs.MakeRoom.{room_behind, room_for_entry, spent_entry}
 use Rattle.volume_ops.proofs.Touched.{touches_header}
 use Rattle.volume_ops.proofs.Besides.{blocks_both, blocks_edit, blocks_header}
@@ -37,7 +37,7 @@ returns-clause-adds g c tells =
     adds_new c.args.self.now c.draw.new.self (g.P.SectorView.space c.args.space.now) (g.P.SectorView.space c.draw.new.space) c.draw.ensures.rest (c.draw.ensures.put tells) c.add.new.self (g.P.SectorView.space c.add.new.space)
     (c.draw.ensures.stands.stands (c.draw.ensures.within.same.tells ∙ tells)) (c.draw.ensures.within.same.tells ∙ tells) (c.in_ok-add.ensures.stands.stands (c.add.ensures.frame.space.same.tells ∙ c.draw.ensures.within.same.tells ∙ tells)) c.add.ensures.frame c.add.ensures.rest
     c.args.folder c.args.id c.args.name.now c.new_record-rec.result c.in_ok-add.field-0 c.new_record-rec.ensures.same (c.draw.ensures.header c.requires.room.ids fits.0 fits.1)
-    (free_before c.args.self.now (g.P.SectorView.space c.args.space.now) (c.requires.settled tells) c.args.id c.args.name.now (c.requires.site tells))
+    (c.requires.free tells)
     (c.in_ok-add.ensures.answer (c.draw.ensures.within.same.tells ∙ tells)) (c.in_ok-add.ensures.added (c.draw.ensures.within.same.tells ∙ tells))
 
 pub returns-clause-room : goal.returns-clause-room

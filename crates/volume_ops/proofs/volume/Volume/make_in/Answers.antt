@@ -14,13 +14,16 @@ use Rattle.volume_ops.specs.Standing.{IsSettled, StandsOver}
 use Rattle.volume_ops.specs.Touching.{Touches}
 use Rattle.volume_ops.proofs.Commanding.{touches_both, touches_none}
 use Rattle.volume_ops.proofs.FoundEntry.{ok_both}
-use Rattle.volume_ops.proofs.Made.{folder_after, made_does, makes_both, threads_after}
+use Rattle.volume_ops.proofs.Made.{folder_after, free_before, made_does, makes_both, threads_after}
 use Rattle.volume_ops.proofs.Replaced.{node_large}
 use Rattle.volume_ops.proofs.Besides.{blocks_both, blocks_none}
 use Rattle.volume_ops.proofs.volume.Volume.make_in.Goals as goal
 
 pub add_new-requires-clause-size : goal.add_new-requires-clause-size
 add_new-requires-clause-size g c = omega (arith, c.if-shape-lt4096.false, ap (λ (s : TreeShape). s.node_size) c.shape.ensures)
+
+pub add_new-requires-clause-free : goal.add_new-requires-clause-free
+add_new-requires-clause-free g c tells = free_before c.args.self.now (g.P.SectorView.space c.args.space.now) (c.requires.settled tells) c.args.id c.args.name.now (c.requires.site tells)
 
 pub touch-requires-clause-threads : goal.touch-requires-clause-threads
 touch-requires-clause-threads g c tells =

@@ -8,9 +8,6 @@ use Rattle.hfs_volume.specs.TreeOf.{tree_of}
 use Rattle.volume_ops.specs.Refusing.{refusal_in}
 use Rattle.volume_ops.proofs.volume.Volume.refused.Goals as goal
 
-pub returns-in-Rm-clause-told : goal.returns-in-Rm-clause-told
-returns-in-Rm-clause-told g c tells come = subst (λ (k : Command). IfOk c.refused_rm.result (λ (said : Option Refusal). said ≡ refusal_in (step_line (tree_of (g.P.SectorView.space c.args.space.now).content) (Ok k)).0)) (sym c.in-Rm.is) (c.refused_rm.ensures.told tells)
-
 pub returns-in-Ln-clause-told : goal.returns-in-Ln-clause-told
 returns-in-Ln-clause-told g c tells come = subst (λ (k : Command). IfOk c.refused_ln.result (λ (said : Option Refusal). said ≡ refusal_in (step_line (tree_of (g.P.SectorView.space c.args.space.now).content) (Ok k)).0)) (sym c.in-Ln.is) (c.refused_ln.ensures.told tells)
 

@@ -1,5 +1,5 @@
-use Rattle.std.proofs.Common.{◌≡◌, ℕ, true, false, List, sym, ◌∙◌, ap}
-use Rattle.std.specs.Prelude.{is_some, Option, Ok}
+use Rattle.std.proofs.Common.{◌≡◌, ℕ, true, false, List, sym, ◌∙◌, ap, subst}
+use Rattle.std.specs.Prelude.{is_some, IfOk, IfSome, Option, Ok}
 use Rattle.hfs_language.specs.declared.command.Command.{Command}
 use Rattle.hfs_language.specs.declared.command.Command.TheVariants as command
 use Rattle.hfs_model.specs.Step.{refuses}
@@ -25,15 +25,15 @@ returns-in_ok-weigh_setattr-in-SetAttr-clause-answer g c tells =
 
 pub returns-in-Rm-clause-waits : goal.returns-in-Rm-clause-waits
 returns-in-Rm-clause-waits g c tells unread =
-    if_so (λ (said : Option Weight). is_some said ≡ false → refuses (tree_of (g.P.SectorView.space c.args.space.now).content) (Ok c.args.command.now) ≡ false)
-    (λ (said : Option Weight). is_some said ≡ false → (is_to_come c.args.command.now ≡ true) × (refuses (tree_of (g.P.SectorView.space c.args.space.now).content) (Ok c.args.command.now) ≡ false)) c.weigh_refused.result
-    (λ said it none. (ap is_to_come c.in-Rm.is, it none)) (c.weigh_refused.ensures.waits tells)
+    if_so (λ (said : Option Weight). is_some said ≡ false → refuses (tree_of (g.P.SectorView.space c.args.space.now).content) (Ok (command.Rm c.in-Rm.path)) ≡ false)
+    (λ (said : Option Weight). is_some said ≡ false → (is_to_come c.args.command.now ≡ true) × (refuses (tree_of (g.P.SectorView.space c.args.space.now).content) (Ok c.args.command.now) ≡ false)) c.weigh_rm.result
+    (λ said it none. (ap is_to_come c.in-Rm.is, ap (λ (k : Command). refuses (tree_of (g.P.SectorView.space c.args.space.now).content) (Ok k)) c.in-Rm.is ∙ it none)) (c.weigh_rm.ensures.waits tells)
 
 pub returns-in-Ln-clause-waits : goal.returns-in-Ln-clause-waits
 returns-in-Ln-clause-waits g c tells unread =
     if_so (λ (said : Option Weight). is_some said ≡ false → refuses (tree_of (g.P.SectorView.space c.args.space.now).content) (Ok c.args.command.now) ≡ false)
-    (λ (said : Option Weight). is_some said ≡ false → (is_to_come c.args.command.now ≡ true) × (refuses (tree_of (g.P.SectorView.space c.args.space.now).content) (Ok c.args.command.now) ≡ false)) c.weigh_refused-in-Ln.result
-    (λ said it none. (ap is_to_come c.in-Ln.is, it none)) (c.weigh_refused-in-Ln.ensures.waits tells)
+    (λ (said : Option Weight). is_some said ≡ false → (is_to_come c.args.command.now ≡ true) × (refuses (tree_of (g.P.SectorView.space c.args.space.now).content) (Ok c.args.command.now) ≡ false)) c.weigh_refused.result
+    (λ said it none. (ap is_to_come c.in-Ln.is, it none)) (c.weigh_refused.ensures.waits tells)
 
 pub returns-in-Write-clause-waits : goal.returns-in-Write-clause-waits
 returns-in-Write-clause-waits g c tells unread =
@@ -46,3 +46,8 @@ returns-in-Trunc-clause-waits g c tells unread =
     if_so (λ (said : Option Weight). is_some said ≡ false → refuses (tree_of (g.P.SectorView.space c.args.space.now).content) (Ok c.args.command.now) ≡ false)
     (λ (said : Option Weight). is_some said ≡ false → (is_to_come c.args.command.now ≡ true) × (refuses (tree_of (g.P.SectorView.space c.args.space.now).content) (Ok c.args.command.now) ≡ false)) c.weigh_refused-in-Trunc.result
     (λ said it none. (ap is_to_come c.in-Trunc.is, it none)) (c.weigh_refused-in-Trunc.ensures.waits tells)
+
+pub returns-in-Rm-clause-answer : goal.returns-in-Rm-clause-answer
+returns-in-Rm-clause-answer g c tells =
+    subst (λ (k : Command). IfOk c.weigh_rm.result (λ (said : Option Weight). IfSome said (λ weighs. weighs ≡ weighed c.args.self.now.capacity (free_in blocks.Takable c.args.self.now.map) (volume_of (g.P.SectorView.space c.args.space.now).content) (tree_of (g.P.SectorView.space c.args.space.now).content) k)))
+    (sym c.in-Rm.is) (c.weigh_rm.ensures.answer tells)

@@ -1,0 +1,61 @@
+use Rattle.std.proofs.Common.{◌≡◌, ℕ, length, sym, ◌∙◌, ap, subst, arith}
+use Rattle.std.specs.Prelude.{Option, is_some}
+use Rattle.std.proofs.lemmas.Bool.{true≢false}
+use Rattle.hard_links.specs.declared.place.EntryAt.{EntryAt}
+use Rattle.hfs_language.specs.declared.command.Command.TheVariants as command
+use Rattle.hfs_model.specs.Step.{step}
+use Rattle.hfs_volume.specs.TreeOf.{tree_of}
+use Rattle.volume_ops.specs.Lists.{lists_of}
+use Rattle.volume_ops.specs.Losing.{Buries, IsLoss, IsOnlyName, Loses}
+use Rattle.volume_ops.specs.Standing.{IsSettled}
+use Rattle.volume_ops.proofs.Buried.{loses_there}
+use Rattle.volume_ops.proofs.FoundEntry.{ok_so}
+use Rattle.volume_ops.proofs.volume.Volume.lose.Goals as goal
+
+pub bury-requires-clause-some : goal.bury-requires-clause-some
+bury-requires-clause-some g c = omega (arith, c.requires.some, ap (λ (p : EntryAt). length p.name) c.in_ok-place-in-Some.ensures)
+
+pub bury-requires-clause-name : goal.bury-requires-clause-name
+bury-requires-clause-name g c = omega (arith, c.requires.name, ap (λ (p : EntryAt). length p.name) c.in_ok-place-in-Some.ensures)
+
+pub bury-requires-clause-only : goal.bury-requires-clause-only
+bury-requires-clause-only g c tells = subst (λ (p : EntryAt). IsOnlyName p (lists_of c.args.self.now (g.P.SectorView.space c.args.space.now).content).catalog_pairs) (sym c.in_ok-place-in-Some.ensures) (c.requires.only tells c.if-at.false)
+
+pub bury-requires-clause-loses : goal.bury-requires-clause-loses
+bury-requires-clause-loses g c tells =
+    let it = c.requires.loses tells in
+    (it.0, it.1, subst (λ (p : EntryAt). IsLoss (tree_of (g.P.SectorView.space c.args.space.now).content) it.0 it.1 p) (sym c.in_ok-place-in-Some.ensures) it.2)
+
+pub returns-in_ok-place-in-Some-clause-does : goal.returns-in_ok-place-in-Some-clause-does
+returns-in_ok-place-in-Some-clause-does g c tells path entry loss =
+    ok_so
+    (IsSettled c.bury.new.self (g.P.SectorView.space c.bury.new.space).content × (tree_of (g.P.SectorView.space c.bury.new.space).content ≡ (step (tree_of (g.P.SectorView.space c.args.space.now).content) (command.Rm path)).1)
+    × Buries entry (g.P.SectorView.space c.args.space.now).content (g.P.SectorView.space c.bury.new.space).content)
+    (IsSettled c.bury.new.self (g.P.SectorView.space c.bury.new.space).content × (tree_of (g.P.SectorView.space c.bury.new.space).content ≡ (step (tree_of (g.P.SectorView.space c.args.space.now).content) (command.Rm path)).1)
+    × Loses entry (g.P.SectorView.space c.args.space.now).content (g.P.SectorView.space c.bury.new.space).content)
+    c.bury.result
+    (c.bury.ensures.does tells path entry (subst (λ (p : EntryAt). IsLoss (tree_of (g.P.SectorView.space c.args.space.now).content) path entry p) (sym c.in_ok-place-in-Some.ensures) loss))
+    (λ lost. (lost.0, lost.1, loses_there entry (g.P.SectorView.space c.args.space.now).content (g.P.SectorView.space c.bury.new.space).content (c.requires.settled tells).sound lost.2))
+
+pub bury_first-requires-clause-some : goal.bury_first-requires-clause-some
+bury_first-requires-clause-some g c = omega (arith, c.requires.some, ap (λ (p : EntryAt). length p.name) c.in_ok-place-in-None.ensures)
+
+pub bury_first-requires-clause-name : goal.bury_first-requires-clause-name
+bury_first-requires-clause-name g c = omega (arith, c.requires.name, ap (λ (p : EntryAt). length p.name) c.in_ok-place-in-None.ensures)
+
+pub bury_first-requires-clause-room : goal.bury_first-requires-clause-room
+bury_first-requires-clause-room g c = c.requires.room.makes c.in-None.is
+
+pub bury_first-requires-clause-only : goal.bury_first-requires-clause-only
+bury_first-requires-clause-only g c tells = subst (λ (p : EntryAt). IsOnlyName p (lists_of c.args.self.now (g.P.SectorView.space c.args.space.now).content).catalog_pairs) (sym c.in_ok-place-in-None.ensures) (c.requires.only tells c.if-at.false)
+
+pub bury_first-requires-clause-loses : goal.bury_first-requires-clause-loses
+bury_first-requires-clause-loses g c tells =
+    let it = c.requires.loses tells in
+    (it.0, it.1, subst (λ (p : EntryAt). IsLoss (tree_of (g.P.SectorView.space c.args.space.now).content) it.0 it.1 p) (sym c.in_ok-place-in-None.ensures) it.2)
+
+pub returns-in_ok-place-in-None-clause-does : goal.returns-in_ok-place-in-None-clause-does
+returns-in_ok-place-in-None-clause-does g c tells path entry loss = c.bury_first.ensures.does tells path entry (subst (λ (p : EntryAt). IsLoss (tree_of (g.P.SectorView.space c.args.space.now).content) path entry p) (sym c.in_ok-place-in-None.ensures) loss)
+
+pub returns-in_ok-place-in-None-clause-spent : goal.returns-in_ok-place-in-None-clause-spent
+returns-in_ok-place-in-None-clause-spent g c tells here = absurd (true≢false (sym here ∙ ap (λ (o : Option ℕ). is_some o) c.in-None.is))

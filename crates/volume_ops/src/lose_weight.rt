@@ -1,0 +1,128 @@
+//! `weigh` of `rm`.
+ghost use Rattle.std.specs.Prelude.{◌≡◌, false, is_some, Ok, IsTrue, IfOk, IfSome};
+ghost use Rattle.btree_edit.specs.Causes.{HasTroubleCause};
+ghost use Rattle.hfs_language.specs.Written.{FitsPath};
+ghost use Rattle.hfs_language.specs.declared.command.Command.TheVariants as command;
+ghost use Rattle.hfs_model.specs.Step.{refuses};
+ghost use Rattle.hfs_volume.specs.Content.{volume_of};
+ghost use Rattle.hfs_volume.specs.TreeOf.{tree_of};
+ghost use Rattle.volume_ops.specs.Lists.{lists_of};
+ghost use Rattle.volume_ops.specs.Looking.{ReadsVolume};
+ghost use Rattle.volume_ops.specs.Losing.{lose_edits, loss_weighed};
+ghost use Rattle.volume_ops.specs.Nodes.{node_in};
+ghost use Rattle.volume_ops.specs.Room.{capacity_of, free_in};
+ghost use Rattle.volume_ops.specs.declared.room.FreeBlocks.TheVariants as blocks;
+ghost use Rattle.volume_ops.specs.Standing.{IsSettled, StandsOver};
+ghost use Rattle.volume_ops.specs.Weighing.{edits_weighed, weighed};
+
+use crate::names::is_private_path;
+use crate::nodes::{Node, find_node};
+use crate::volume::Volume;
+use crate::weighing::{Edits, Weight};
+use hfs_language::{Path, Refusal};
+use hfs_volume::sound_has_plain_tree;
+use hx_bytes::Trouble;
+use sector_disk::SectorSpace;
+use std::alloc::Global;
+
+impl Volume {
+    /// The folder or file that a path stands for, or the first reason against it.
+    fn node<P: SectorSpace>(
+        &mut self,
+        alloc: Global,
+        space: &mut P,
+        path: &Path,
+    ) -> Result<Result<Node, Refusal>, Trouble>
+        requires stands { StandsOver self.old (P.SectorView.space space.old) }
+        requires settled { IsTrue (P.SectorView.space space.old).tells → IsSettled self.old (P.SectorView.space space.old).content }
+        requires fits { FitsPath path.now }
+        ensures found { IsTrue (P.SectorView.space space.old).tells → IfOk result (λ said. said ≡ node_in (lists_of self.old (P.SectorView.space space.old).content).catalog_pairs self.old.private path.now) }
+        ensures reads { ReadsVolume self.old self.new (P.SectorView.space space.old) (P.SectorView.space space.new) }
+        ensures stands { StandsOver self.new (P.SectorView.space space.new) }
+        ensures settled { IsTrue (P.SectorView.space space.old).tells → IsSettled self.new (P.SectorView.space space.new).content }
+        ensures below { P.SectorView.follows space.old space.new }
+        ensures cause { HasTroubleCause (P.SectorView.space space.old).faults (P.SectorView.space space.new).faults result }
+    {
+        find_node(
+            alloc,
+            &mut self.catalog.file,
+            &mut self.catalog.desk,
+            space,
+            self.private,
+            path.as_slice(),
+        )
+    }
+
+    /// The edits by which a file loses its only name: where there is no private folder, it is made before.
+    pub(crate) fn lose_edits(&self) -> Edits
+        ensures same { result ≡ lose_edits self.now.private }
+        ensures none { result.attributes ≡ 0 }
+    {
+        match self.private {
+            Some(_private) => Edits {
+                ids: 0,
+                catalog: 3,
+                attributes: 0,
+                updates: 4,
+            },
+            None => Edits {
+                ids: 1,
+                catalog: 5,
+                attributes: 0,
+                updates: 4,
+            },
+        }
+    }
+
+    /// What the edits weigh by which a file loses its only name; nothing is told of a file with links.
+    fn weigh_loss<P: SectorSpace>(&self, space: &P, node: &Node) -> Option<Weight>
+        requires stands { StandsOver self.now (P.SectorView.space space.now) }
+        requires settled { IsTrue (P.SectorView.space space.now).tells → IsSettled self.now (P.SectorView.space space.now).content }
+        ensures exact { IsTrue (P.SectorView.space space.now).tells
+            → result ≡ loss_weighed node.now (edits_weighed (capacity_of self.now) (free_in blocks.Takable self.now.map) (volume_of (P.SectorView.space space.now).content) (lose_edits self.now.private)) }
+    {
+        match node {
+            Node::Folder(_folder) => Some(Weight::Refused(Refusal::IsFolder)),
+            Node::File(_file, linked) => {
+                if *linked {
+                    return None;
+                }
+                let edits = self.lose_edits();
+                Some(self.weigh_edits(space, edits))
+            }
+        }
+    }
+
+    /// What `rm` needs; nothing is told where it is still to come: where the file has links.
+    pub(crate) fn weigh_rm<P: SectorSpace>(
+        &mut self,
+        alloc: Global,
+        space: &mut P,
+        path: &Path,
+    ) -> Result<Option<Weight>, Trouble>
+        requires stands { StandsOver self.old (P.SectorView.space space.old) }
+        requires settled { IsTrue (P.SectorView.space space.old).tells → IsSettled self.old (P.SectorView.space space.old).content }
+        requires fits { FitsPath path.now }
+        ensures answer { IsTrue (P.SectorView.space space.old).tells
+            → IfOk result (λ said. IfSome said (λ weighs. weighs ≡ weighed (capacity_of self.old) (free_in blocks.Takable self.old.map) (volume_of (P.SectorView.space space.old).content) (tree_of (P.SectorView.space space.old).content) (command.Rm path.now))) }
+        ensures waits { IsTrue (P.SectorView.space space.old).tells
+            → IfOk result (λ said. is_some said ≡ false → refuses (tree_of (P.SectorView.space space.old).content) (Ok (command.Rm path.now)) ≡ false) }
+        ensures reads { ReadsVolume self.old self.new (P.SectorView.space space.old) (P.SectorView.space space.new) }
+        ensures stands { StandsOver self.new (P.SectorView.space space.new) }
+        ensures settled { IsTrue (P.SectorView.space space.old).tells → IsSettled self.new (P.SectorView.space space.new).content }
+        ensures below { P.SectorView.follows space.old space.new }
+        ensures cause { HasTroubleCause (P.SectorView.space space.old).faults (P.SectorView.space space.new).faults result }
+    {
+        if is_private_path(path) {
+            return Ok(Some(Weight::Refused(Refusal::Private)));
+        }
+        if path.is_empty() {
+            return Ok(Some(Weight::Refused(Refusal::Root)));
+        }
+        sound_has_plain_tree();
+        match self.node(alloc, space, path)? {
+            Ok(node) => Ok(self.weigh_loss(space, &node)),
+            Err(why) => Ok(Some(Weight::Refused(why))),
+        }
+    }
+}
