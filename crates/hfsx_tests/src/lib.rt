@@ -12,6 +12,8 @@ mod faults;
 #[cfg(test)]
 mod formats;
 #[cfg(test)]
+mod growths;
+#[cfg(test)]
 mod lines;
 #[cfg(test)]
 mod watching;

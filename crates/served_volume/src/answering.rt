@@ -1,9 +1,10 @@
 //! A line on a volume in service.
-ghost use Rattle.std.specs.Prelude.{◌≡◌, IsTrue, IfErr, IfOk, Ok, OnOk};
+ghost use Rattle.std.specs.Prelude.{◌≡◌, ℕ, IsTrue, IfErr, IfOk, Ok, OnOk};
 ghost use Rattle.jnl_format.specs.Recovery.{Content};
 ghost use Rattle.btree_edit.specs.Causes.{HasTroubleCause};
 ghost use Rattle.hfs_language.specs.Language.{command_of};
 ghost use Rattle.hfs_language.specs.Written.{FitsCommand};
+ghost use Rattle.hfs_volume.specs.Aside.{IsJournalSector};
 ghost use Rattle.hfs_volume.specs.Sound.{IsSound};
 ghost use Rattle.volume_ops.specs.Keeping.{shrunk_of};
 ghost use Rattle.volume_ops.specs.Room.{capacity_of};
@@ -88,6 +89,7 @@ pub(crate) fn answer_line<P: SectorSpace>(
     requires stands { StandsOver volume.old (P.SectorView.space space.old) }
     requires settled { IsTrue (P.SectorView.space space.old).tells → IsSettled volume.old (P.SectorView.space space.old).content }
     requires sound { IsTrue (P.SectorView.space space.old).tells → IsSound (P.SectorView.space space.old).content }
+    requires closed { IsTrue (P.SectorView.space space.old).tells → (at : ℕ) → (P.SectorView.space space.old).closed at → IsJournalSector (P.SectorView.space space.old).content at }
     // Told, the line's entry is one of a run, with what it changed for watchers; or a commit is wanted first.
     ensures answered { IsTrue (P.SectorView.space space.old).tells → IfOk result (λ outcome. AnswersAs outcome (capacity_of volume.old) number line.now (P.SectorView.space space.old).content (P.SectorView.space space.new).content) }
     ensures place { IsTrue (P.SectorView.space space.old).tells → OnOk result (KeepsJournal (P.SectorView.space space.old).content (P.SectorView.space space.new).content) }
@@ -121,6 +123,7 @@ fn do_command<P: SectorSpace>(
     requires stands { StandsOver volume.old (P.SectorView.space space.old) }
     requires settled { IsTrue (P.SectorView.space space.old).tells → IsSettled volume.old (P.SectorView.space space.old).content }
     requires sound { IsTrue (P.SectorView.space space.old).tells → IsSound (P.SectorView.space space.old).content }
+    requires closed { IsTrue (P.SectorView.space space.old).tells → (at : ℕ) → (P.SectorView.space space.old).closed at → IsJournalSector (P.SectorView.space space.old).content at }
     requires spelled { command_of line.now ≡ Ok command.now }
     requires fits { FitsCommand command.now }
     ensures answered { IsTrue (P.SectorView.space space.old).tells → IfOk result (λ outcome. AnswersAs outcome (capacity_of volume.old) number line.now (P.SectorView.space space.old).content (P.SectorView.space space.new).content) }

@@ -10,7 +10,7 @@ use Rattle.std.proofs.lemmas.List.Elements.{Contains-append_left, Contains-appen
 use Rattle.hx_bytes.specs.declared.extents.Extent.{Extent}
 use Rattle.fork_map.specs.Blocks.{blocks_of, sectors_of, fork_sectors}
 use Rattle.jnl_format.specs.Recovery.{info_sector_of}
-use Rattle.alloc_bitmap.specs.Map.{BlockMap}
+use Rattle.alloc_bitmap.specs.Map.{BlockMap, free_of}
 use Rattle.sector_disk.specs.Space.{Space}
 use Rattle.btree_file.specs.State.{sectors_of_tree}
 use Rattle.hfs_model.specs.Step.{journal_name, journal_info_name}
@@ -26,7 +26,7 @@ use Rattle.hfs_volume.proofs.Flat.{found_some}
 use Rattle.hfs_volume.proofs.Members.{first_or_later, kept_stands}
 use Rattle.hfs_volume.proofs.Sectors.{block_is, from_first, in_block, in_front, to_last}
 use Rattle.hfs_volume.proofs.Untouched.{HasWholeBlocks, data_fork_of, file_fork_stands, special_stands, whole_blocks}
-use Rattle.volume_ops.specs.Growing.{TakesRun}
+use Rattle.volume_ops.specs.Growing.{IsFreeAt, TakesRun}
 use Rattle.volume_ops.specs.Lists.{lists_of}
 use Rattle.volume_ops.specs.Standing.{IsKeptAside, IsSettled, IsStanding, attribute_sectors, map_sectors, own_sectors}
 use Rattle.volume_ops.specs.declared.volume.Volume.{Volume}
@@ -81,6 +81,10 @@ module _ (v : Volume) (a : Space) (was : IsStanding v a) (settled : IsSettled v 
   block_there at has =
       let here : Contains (sectors_of per (blocks_of (run ∷ []))) at = subst (λ n. Contains (sectors_of n (blocks_of (run ∷ []))) at) per_is has in
       range_bounds run.start run.count (at / per) (subst (λ (l : List ℕ). Contains l (at / per)) (blocks_one run) (in_block per (blocks_of (run ∷ [])) at whole.some here))
+
+  -- which is free
+  pub free_at : (at : ℕ) → Contains run_sectors at → IsFreeAt v at
+  free_at at has = let there = block_there at has in subst (λ h. get_or (free_of v.map) (at / per_block_of h) false ≡ true) head_is (takes.free (at / per) there.0 there.1)
 
   not_there : (at : ℕ) → Contains run_sectors at → Contains (used_in (volume_of a.content)) (at / per) → ⊥
   not_there at has used = let there = block_there at has in run_unused (at / per) there.0 there.1 used

@@ -13,7 +13,7 @@ use Rattle.btree_file.specs.declared.tree.TreeFile.{TreeFile}
 use Rattle.sector_disk.specs.Lists.{Content}
 use Rattle.sector_disk.specs.Space.{Space}
 use Rattle.hfs_volume.specs.Aside.{IsJournalSector}
-use Rattle.volume_ops.specs.Growing.{CanGrowCatalog, Lengthens, TakesRun, catalog_blocks, lengthened, nodes_load, run_load, with_catalog}
+use Rattle.volume_ops.specs.Growing.{CanGrowCatalog, IsOwnOrFree, Lengthens, TakesRun, catalog_blocks, lengthened, nodes_load, run_load, with_catalog}
 use Rattle.volume_ops.specs.Mapping.{HoldsUnchanged, changed_sectors}
 use Rattle.volume_ops.specs.Service.{IsInService}
 use Rattle.volume_ops.specs.Standing.{IsSettled, StandsOver, own_sectors, map_sectors}
@@ -22,7 +22,7 @@ use Rattle.volume_ops.specs.declared.volume.Volume.{Volume}
 use Rattle.volume_ops.proofs.GrownBits.{map_few, marked_long}
 use Rattle.volume_ops.proofs.GrownCalls.{bytes_are, load_is, nodes_are, own_same, run_some, service_after, touches_told}
 use Rattle.volume_ops.proofs.GrownRun.{same_fork, same_length, same_per}
-use Rattle.volume_ops.proofs.GrownStands.{own_still, put_own, stands_longer}
+use Rattle.volume_ops.proofs.GrownStands.{own_gained, own_still, put_own, stands_longer}
 use Rattle.volume_ops.proofs.GrownUnchanged.{holds_unchanged}
 
 module _ (more : ℕ) (v : Volume) (a b : Space) (over : StandsOver v a) (settled : IsTrue a.tells → IsSettled v a.content) (can : CanGrowCatalog more v a) (shut : IsTrue a.tells → (at : ℕ) → a.closed at → IsJournalSector a.content at)
@@ -65,6 +65,9 @@ module _ (more : ℕ) (v : Volume) (a b : Space) (over : StandsOver v a) (settle
 
       pub own_then : IsTrue a.tells → (s : ℕ) → Contains (own_sectors v) s → Contains (own_sectors (lengthened run.count v later file)) s
       own_then tells s has = own_still v a b (over.stands tells) (settled tells) (catalog_blocks v more) run later takes some file (grown tells) within tells s has
+
+      pub gained_then : IsTrue a.tells → (s : ℕ) → Contains (own_sectors (lengthened run.count v later file)) s → IsOwnOrFree v s
+      gained_then tells s has = own_gained v a b (over.stands tells) (settled tells) (catalog_blocks v more) run later takes some file (grown tells) within tells s has
 
       pub touches_then : (committed : Content) → Touches committed (λ s. Contains (own_sectors (lengthened run.count v later file)) s) a b
       touches_then committed = touches_told committed (sectors_with v.catalog.file run) (λ s. Contains (own_sectors (lengthened run.count v later file)) s) a b

@@ -1,6 +1,6 @@
 -- A run of free blocks that is taken: it is one extent, whose blocks were neither used nor held.
 use Rattle.std.proofs.Common.{◌≡◌, ◌<◌, ◌≤◌, ℕ, zero, suc, ◌+◌, ◌-◌, Bool, true, false, not, List, [], ◌∷◌, length, get_or, map, refl, sym, ◌∙◌, ap, subst, arith, ⊎_elim}
-use Rattle.std.specs.Prelude.{if◌then◌else◌}
+use Rattle.std.specs.Prelude.{◌&&◌, if◌then◌else◌}
 use Rattle.std.specs.List.{All, range_with_len}
 use Rattle.std.proofs.lemmas.Bool.{and_parts, cases_lt, true≢false}
 use Rattle.std.proofs.lemmas.List.{get_or_past}
@@ -143,3 +143,18 @@ module _ (count : ℕ) (run : Extent) (old new : BlockMap) (takes : TakesRun cou
       by : (b : Bool) → (if b then true else get_or old.used k false) ≡ true
       by true = refl
       by false = was
+
+  -- a block that is free now was free
+  pub free_before : (k : ℕ) → get_or (free_of new) k false ≡ true → get_or (free_of old) k false ≡ true
+  free_before k is =
+      let low : k < length new.used = free_there new.used new.held new refl k is in
+      let parts = and_parts (not (get_or new.used k true)) (not (get_or new.held k false)) (sym (get_or-open new.used new.held k false low) ∙ is) in
+      let there : k < length old.used = omega (arith, low, same_length) in
+      get_or-open old.used old.held k false there ∙ both_free (not (get_or old.used k true)) (not (get_or old.held k false)) (by (has run k) (sym (ap not (used_is k true)) ∙ parts.0)) (ap (λ (l : List Bool). not (get_or l k false)) (sym same_held) ∙ parts.1)
+    where
+      by : (b : Bool) → not (if b then true else get_or old.used k true) ≡ true → not (get_or old.used k true) ≡ true
+      by true is_not = absurd (true≢false (sym is_not))
+      by false is_not = is_not
+
+      both_free : (a b : Bool) → a ≡ true → b ≡ true → (a && b) ≡ true
+      both_free a b one two = λ i. one i && two i

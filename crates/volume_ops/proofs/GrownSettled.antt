@@ -25,7 +25,7 @@ use Rattle.hfs_volume.specs.TreeOf.{file_bytes, tree_in, tree_of}
 use Rattle.hfs_volume.specs.Writing.{GrowthKeeps}
 use Rattle.hfs_volume.proofs.Rereading.{same_tree}
 use Rattle.volume_ops.specs.Growing.{KeepsForks, TakesRun, lengthened, with_catalog}
-use Rattle.volume_ops.specs.Lists.{bits_on, lists_of}
+use Rattle.volume_ops.specs.Lists.{bits_on, facts_on, lists_of}
 use Rattle.volume_ops.specs.Mapping.{HoldsMap}
 use Rattle.volume_ops.specs.Standing.{IsSettled, IsStanding, map_sectors, with_attributes_tree}
 use Rattle.volume_ops.specs.declared.volume.Volume.{Volume}
@@ -193,3 +193,25 @@ module _ (v : Volume) (a b : Space) (was : IsStanding v a) (settled : IsSettled 
             (forks_kept attributes_id data_kind (inl (λ same. absurd (omega (arith, same)))));
       };
     }
+
+    -- ---- the numbers of the lists
+
+    pub shape_now : (volume_of d.content).catalog_tree.shape ≡ record (volume_of a.content).catalog_tree.shape { total = (volume_of d.content).catalog_tree.shape.total; free = (volume_of d.content).catalog_tree.shape.free }
+    shape_now =
+        let is : (volume_of d.content).catalog_tree.shape ≡ file.shape = ap (λ (l : VolumeState). l.catalog_tree.shape) volume_now in
+        let old : v.catalog.file.shape ≡ (volume_of a.content).catalog_tree.shape = ap (λ (l : VolumeState). l.catalog_tree.shape) (sym settled.lists) in
+        is ∙ grown.tree.numbers ∙ (λ i. record (old i) { total = (sym is i).total; free = (sym is i).free })
+
+    pub head_then : (volume_of d.content).head ≡ record (volume_of a.content).head { free_blocks = (volume_of d.content).head.free_blocks; catalog_fork = (volume_of d.content).head.catalog_fork }
+    head_then =
+        let is : (volume_of d.content).head ≡ with_catalog run.count file.fork (volume_of a.content).head = ap (λ (l : VolumeState). l.head) volume_now in
+        is ∙ (λ i. record (volume_of a.content).head { free_blocks = (sym is i).free_blocks; catalog_fork = (sym is i).catalog_fork })
+
+    pub journal_then : (volume_of d.content).journal ≡ (volume_of a.content).journal
+    journal_then = ap (λ (l : VolumeState). l.journal) volume_now
+
+    pub attributes_then : (volume_of d.content).attributes_tree ≡ (volume_of a.content).attributes_tree
+    attributes_then = attributes_tree_same
+
+    pub catalog_then : (volume_of d.content).catalog_tree ≡ facts_on file
+    catalog_then = ap (λ (l : VolumeState). l.catalog_tree) volume_now

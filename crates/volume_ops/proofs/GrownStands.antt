@@ -30,13 +30,13 @@ use Rattle.hfs_volume.proofs.Members.{each_of, first_or_later}
 use Rattle.hfs_volume.proofs.Untouched.{special_stands}
 use Rattle.volume_header.specs.Header.{header_of}
 use Rattle.overflow.specs.Records.{eight_at}
-use Rattle.volume_ops.specs.Growing.{TakesRun, lengthened, with_catalog}
+use Rattle.volume_ops.specs.Growing.{IsOwnOrFree, TakesRun, lengthened, with_catalog}
 use Rattle.volume_ops.specs.Lists.{bits_on, facts_on, lists_of}
 use Rattle.volume_ops.specs.Standing.{IsSettled, IsStanding, attribute_sectors, map_sectors, file_sectors, own_sectors}
 use Rattle.volume_ops.specs.declared.volume.Volume.{Volume}
 use Rattle.volume_ops.proofs.CatalogEdited.{there_is}
 use Rattle.volume_ops.proofs.GrownForks.{longer_is}
-use Rattle.volume_ops.proofs.GrownFree.{off_aside, off_journal, off_own, run_low, some_per}
+use Rattle.volume_ops.proofs.GrownFree.{free_at, off_aside, off_journal, off_own, run_low, some_per}
 use Rattle.volume_ops.proofs.GrownRun.{run_apart, same_fork, same_length, same_per}
 use Rattle.volume_ops.proofs.ListsAfter.{file_pairs, if_there}
 use Rattle.volume_ops.proofs.Placing.{stands_once, times_sectors}
@@ -113,6 +113,16 @@ module _ (v : Volume) (a b : Space) (was : IsStanding v a) (settled : IsSettled 
 
     pub run_own : (s : ℕ) → Contains (fork_sectors (run ∷ []) v.catalog.file.per_block) s → Contains (own_sectors w) s
     run_own s has = ⊎_elim (λ (own : Contains (own_sectors w) s). own) (λ (none : times s (own_sectors w) ≡ 0). absurd (omega (arith, none, times_now s, stands_once s runs has))) (there_or_none s (own_sectors w))
+
+    -- what is its own besides is free
+    pub own_gained : (s : ℕ) → Contains (own_sectors (lengthened run.count v later file)) s → IsOwnOrFree v s
+    own_gained s has = ⊎_elim
+        (λ (own : Contains (own_sectors v) s). inl own)
+        (λ (none : times s (own_sectors v) ≡ 0). ⊎_elim
+        (λ (there : Contains (fork_sectors (run ∷ []) v.catalog.file.per_block) s). inr (free_at v a was settled count run later takes s there))
+        (λ (nor : times s (fork_sectors (run ∷ []) v.catalog.file.per_block) ≡ 0). absurd (omega (arith, none, nor, times_now s, stands_once s (own_sectors w) has)))
+        (there_or_none s (fork_sectors (run ∷ []) v.catalog.file.per_block)))
+        (there_or_none s (own_sectors v))
 
     catalog_own : (s : ℕ) → Contains (sectors_of_tree v.catalog.file) s → Contains (own_sectors v) s
     catalog_own s has = Contains-append_right (2 ∷ sectors_of_tree v.extents.file) (sectors_of_tree v.catalog.file ++ (attribute_sectors v ++ map_sectors v)) s (Contains-append_left (sectors_of_tree v.catalog.file) (attribute_sectors v ++ map_sectors v) s has)

@@ -28,6 +28,7 @@ pub mod FoundEntry
 pub mod Gauging
 pub mod GrownCan
 pub mod GrownForks
+pub mod GrownAhead
 pub mod GrownBits
 pub mod GrownCalls
 pub mod GrownFree
@@ -104,6 +105,7 @@ pub mod TreesSettled
 pub mod UpdateRoom
 pub mod Walked
 pub mod Watched
+pub mod WhenKept
 pub mod Weighed
 pub mod Bared
 pub mod BareRoom

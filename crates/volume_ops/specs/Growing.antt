@@ -1,9 +1,11 @@
 -- The catalog of a volume in service, which gets more nodes.
 use Rattle.std.specs.Prelude.{◌≡◌, ◌≢◌, ◌⊎◌, ◌<◌, ◌≤◌, ℕ, ◌+◌, ◌-◌, ◌*◌, ◌/◌, ◌^◌, min, Bool, true, false, List, ◌∷◌, [], length, slice_index_or}
+use Rattle.std.specs.List.{Contains}
 use Rattle.flag_rows.specs.Bits.{count_set, mark, sectors_for}
 use Rattle.alloc_bitmap.specs.Map.{BlockMap, free_of, none, touched_by}
 use Rattle.hx_bytes.specs.declared.extents.Extent.{Extent}
 use Rattle.hx_bytes.specs.declared.extents.ForkRecord.{ForkRecord}
+use Rattle.sector_disk.specs.Lists.{Content}
 use Rattle.sector_disk.specs.Space.{Space}
 use Rattle.volume_header.specs.declared.header.VolumeHeader.{VolumeHeader}
 use Rattle.btree_file.specs.Frame.{PutsWithin}
@@ -11,13 +13,18 @@ use Rattle.btree_file.specs.Growth.{HasGrown, map_nodes_for, sectors_with}
 use Rattle.btree_file.specs.Map.{bits_of}
 use Rattle.btree_file.specs.declared.tree.TreeFile.{TreeFile}
 use Rattle.fork_map.specs.Cut.{join}
-use Rattle.hfs_volume.specs.Content.{VolumeState}
+use Rattle.hfs_volume.specs.Content.{VolumeState, volume_of}
 use Rattle.hfs_volume.specs.Cost.{catalog_key, growth, is_too_deep}
-use Rattle.hfs_volume.specs.Forks.{data_kind}
-use Rattle.hfs_volume.specs.Reclaim.{blocks_at}
+use Rattle.hfs_volume.specs.Forks.{catalog_id, data_kind, per_block_of}
+use Rattle.hfs_volume.specs.Reclaim.{GrowsTrees, blocks_at}
+use Rattle.hfs_volume.specs.TreeOf.{tree_of}
+use Rattle.hfs_volume.specs.Weight.{cost_of_tree}
 use Rattle.overflow.specs.Records.{eight_at}
 use Rattle.volume_ops.specs.Changing.{catalog_node}
 use Rattle.volume_ops.specs.Making.{catalog_cost}
+use Rattle.volume_ops.specs.Standing.{own_sectors}
+use Rattle.volume_ops.specs.declared.ahead.Growth.{Growth}
+use Rattle.volume_ops.specs.declared.ahead.Growth.TheVariants as growing
 use Rattle.volume_ops.specs.declared.volume.Volume.{Volume}
 
 -- So many blocks in a row are free.
@@ -139,3 +146,37 @@ abbrev pub SufficesFor : ℕ → Volume → Volume → Type 0
 SufficesFor more old new =
     (block edits : ℕ) → more ≡ growth block catalog_key (catalog_cost old) edits
     → (growth block catalog_key (catalog_cost new) edits ≡ 0) × (is_too_deep catalog_key (catalog_cost new) edits ≡ is_too_deep catalog_key (catalog_cost old) edits)
+
+-- a sector of a block that is neither used nor held
+abbrev pub IsFreeAt : Volume → ℕ → Type 0
+IsFreeAt volume s = slice_index_or (free_of volume.map) (s / per_block_of volume.header) false ≡ true
+
+-- a sector that is the volume's own, or of a block that is free
+abbrev pub IsOwnOrFree : Volume → ℕ → Type 0
+IsOwnOrFree volume s = Contains (own_sectors volume) s ⊎ IsFreeAt volume s
+
+-- ---- in the lists of the content
+
+-- What a growth of the catalog by so many nodes makes of the numbers of a content: the header counts its blocks, its tree has another number of
+-- nodes, so many that it needn't grow again for edits for which it grew; the attributes' tree and the journal's place are as they were.
+pub record GrowsLists (more : ℕ) (old new : VolumeState) : Type 0 where
+  pub head : new.head ≡ record old.head { free_blocks = new.head.free_blocks; catalog_fork = new.head.catalog_fork }
+  pub numbers : new.catalog_tree.shape ≡ record old.catalog_tree.shape { total = new.catalog_tree.shape.total; free = new.catalog_tree.shape.free }
+  pub suffices : (block edits : ℕ) → more ≡ growth block catalog_key (cost_of_tree old.catalog_tree 0) edits → growth block catalog_key (cost_of_tree new.catalog_tree 0) edits ≡ 0
+  pub attributes : new.attributes_tree ≡ old.attributes_tree
+  pub journal : new.journal ≡ old.journal
+
+-- ---- ahead of a command
+
+-- The catalog has so many nodes more: the tree that the content stands for is as it was, and so are the blocks of every other fork.
+pub record GrowsAhead (more : ℕ) (before after : Content) : Type 0 where
+  pub tree : tree_of after ≡ tree_of before
+  pub grows : GrowsTrees (0 ∷ more ∷ 0 ∷ []) (volume_of before) (volume_of after)
+  pub files : KeepsForks catalog_id (volume_of before) (volume_of after)
+  pub lists : GrowsLists more (volume_of before) (volume_of after)
+
+-- what became of a growth ahead of a command: the catalog has grown, or nothing was changed
+abbrev pub GoesAhead : Growth → ℕ → Content → Content → Type 0
+GoesAhead growing.Grown more before after = GrowsAhead more before after
+GoesAhead growing.CommitFirst more before after = after ≡ before
+GoesAhead growing.ToCome more before after = after ≡ before

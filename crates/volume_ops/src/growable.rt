@@ -43,7 +43,7 @@ impl Volume {
     }
 
     /// Whether the numbers that count the catalog's nodes, blocks and bytes have room for so many nodes more.
-    fn counts_have_room(&self, more: u32, blocks: u64) -> bool
+    pub(crate) fn counts_have_room(&self, more: u32, blocks: u64) -> bool
         requires { blocks ≡ catalog_blocks self.now more }
         ensures { IsTrue result → CountsHaveRoom more self.now }
     {
@@ -72,7 +72,7 @@ impl Volume {
     }
 
     /// How many sectors a growth of the catalog by so many nodes, in so many blocks, puts at most.
-    fn count_growth_sectors(&self, more: u32, blocks: u64) -> u64
+    pub(crate) fn count_growth_sectors(&self, more: u32, blocks: u64) -> u64
         requires blocks { blocks ≡ catalog_blocks self.now more }
         requires counts { CountsHaveRoom more self.now }
         ensures { result ≡ growth_load self.now more }

@@ -13,7 +13,7 @@ ghost use Rattle.hfs_volume.specs.Reclaim.{GrowsTrees};
 ghost use Rattle.hfs_volume.specs.TreeOf.{tree_of};
 ghost use Rattle.overflow.specs.Records.{eight_at, no_extent};
 ghost use Rattle.volume_header.specs.Header.{FitsHeader};
-ghost use Rattle.volume_ops.specs.Growing.{CanGrowCatalog, GrowsVolume, HasFreeRun, KeepsForks, Lengthens, SufficesFor, TakesRun, catalog_blocks, growth_load, longer_fork, nodes_load, run_load, with_catalog};
+ghost use Rattle.volume_ops.specs.Growing.{CanGrowCatalog, GrowsLists, GrowsVolume, HasFreeRun, IsOwnOrFree, KeepsForks, Lengthens, SufficesFor, TakesRun, catalog_blocks, growth_load, longer_fork, nodes_load, run_load, with_catalog};
 ghost use Rattle.volume_ops.specs.Mapping.{HoldsUnchanged, changed_sectors};
 ghost use Rattle.volume_ops.specs.Service.{IsInService};
 ghost use Rattle.volume_ops.specs.Standing.{HoldsOn, IsSettled, StandsOver, own_sectors};
@@ -138,6 +138,7 @@ impl Volume {
         ensures still { (k : ℕ) → slice_index_or self.old.map.used k false ≡ true → slice_index_or self.new.map.used k false ≡ true }
         ensures same { (self.new.private ≡ self.old.private) × (self.new.shrunk ≡ self.old.shrunk) × (self.new.capacity ≡ self.old.capacity) }
         ensures own { IsTrue (P.SectorView.space space.old).tells → (s : ℕ) → Contains (own_sectors self.old) s → Contains (own_sectors self.new) s }
+        ensures gained { IsTrue (P.SectorView.space space.old).tells → (s : ℕ) → Contains (own_sectors self.new) s → IsOwnOrFree self.old s }
         ensures service { IsInService self.new (P.SectorView.space space.new) }
         ensures touches { (committed : Content) → Touches committed (λ s. Contains (own_sectors self.new) s) (P.SectorView.space space.old) (P.SectorView.space space.new) }
         ensures spent { (P.SectorView.space space.old).spare ≤ (P.SectorView.space space.new).spare + nodes_load self.old more }
@@ -172,6 +173,8 @@ impl Volume {
         ensures grows { IsTrue (P.SectorView.space space.old).tells → OnOk result (GrowsTrees (0 ∷ more ∷ 0 ∷ []) (volume_of (P.SectorView.space space.old).content) (volume_of (P.SectorView.space space.new).content)) }
         // Every other fork has the blocks that it had.
         ensures files { IsTrue (P.SectorView.space space.old).tells → OnOk result (KeepsForks catalog_id (volume_of (P.SectorView.space space.old).content) (volume_of (P.SectorView.space space.new).content)) }
+        // Of the content's numbers those of the catalog alone are others.
+        ensures lists { IsTrue (P.SectorView.space space.old).tells → OnOk result (GrowsLists more (volume_of (P.SectorView.space space.old).content) (volume_of (P.SectorView.space space.new).content)) }
         // The new blocks are taken, and none is given up; the bits that were changed are put.
         ensures volume { IsTrue (P.SectorView.space space.old).tells → OnOk result (GrowsVolume more self.old self.new) }
         // The bitmap keeps for each of its file's sectors whether it was changed.
@@ -184,6 +187,8 @@ impl Volume {
         // On a fault too, it puts sectors that are the volume's own now, whatever was committed last; those that were its own still are.
         ensures touches { (committed : Content) → Touches committed (λ s. Contains (own_sectors self.new) s) (P.SectorView.space space.old) (P.SectorView.space space.new) }
         ensures own { IsTrue (P.SectorView.space space.old).tells → (s : ℕ) → Contains (own_sectors self.old) s → Contains (own_sectors self.new) s }
+        // What is its own besides lies in blocks that were free.
+        ensures gained { IsTrue (P.SectorView.space space.old).tells → (s : ℕ) → Contains (own_sectors self.new) s → IsOwnOrFree self.old s }
         ensures spent { (P.SectorView.space space.old).spare ≤ (P.SectorView.space space.new).spare + growth_load self.old more }
         ensures below { P.SectorView.follows space.old space.new }
         ensures cause { HasTroubleCause (P.SectorView.space space.old).faults (P.SectorView.space space.new).faults result }

@@ -1,6 +1,7 @@
 //! A whole volume in service, over any space of sectors.
 #![tactic(auto)]
 
+mod ahead;
 mod attach;
 mod attaching;
 mod attributing;
@@ -58,5 +59,6 @@ mod watching;
 mod weighing;
 mod weights;
 
+pub use ahead::Growth;
 pub use volume::Volume;
 pub use weighing::Weight;

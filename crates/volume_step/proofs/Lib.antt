@@ -1,7 +1,11 @@
 pub mod Done
 pub mod Forks
+pub mod GrownFirst
+pub mod GrownSteps
+pub mod Handing
 pub mod Judged
 pub mod Kept
 pub mod KeptEntries
+pub mod MetAgain
 pub mod Served
 pub mod Widening

@@ -1,7 +1,7 @@
 -- Commands that shrink no file and put the volume's own sectors, as `step` says what became of both.
-use Rattle.std.proofs.Common.{◌≡◌, ◌⊎◌, ℕ, Bool, true, false, List, [], inl, inr, ⊎_elim, refl, sym, ◌∙◌, ap, subst}
+use Rattle.std.proofs.Common.{◌≡◌, ◌⊎◌, ℕ, ◌/◌, Bool, true, false, List, [], inl, inr, ⊎_elim, refl, sym, ◌∙◌, ap, subst}
 use Rattle.std.specs.List.{Contains}
-use Rattle.std.specs.Prelude.{IfOk, Option, None, Result, Ok, Err, if◌then◌else◌}
+use Rattle.std.specs.Prelude.{slice_index_or, IfOk, Option, None, Result, Ok, Err, if◌then◌else◌}
 use Rattle.std.proofs.lemmas.Bool.{true≢false}
 use Rattle.hx_bytes.specs.declared.faults.Trouble.{Trouble}
 use Rattle.jnl_format.specs.Recovery.{Content}
@@ -14,10 +14,16 @@ use Rattle.hfs_model.specs.Step.{only_reads}
 use Rattle.hfs_model.specs.declared.plain.PlainTree.{PlainTree}
 use Rattle.hfs_volume.specs.Run.{is_ok, or_before, shrunk_by}
 use Rattle.hfs_volume.specs.TreeOf.{tree_of}
+use Rattle.alloc_bitmap.specs.Map.{BlockMap, free_of}
+use Rattle.hfs_volume.specs.Forks.{per_block_of}
+use Rattle.volume_header.specs.declared.header.VolumeHeader.{VolumeHeader}
+use Rattle.volume_ops.specs.Growing.{IsOwnOrFree}
+use Rattle.volume_ops.specs.Looking.{ReadsVolume}
 use Rattle.volume_ops.specs.Standing.{own_sectors}
 use Rattle.volume_ops.specs.Touching.{Looks, Touches}
 use Rattle.volume_ops.specs.declared.volume.Volume.{Volume}
 use Rattle.volume_ops.proofs.Commanding.{touches_both, touches_looks}
+use Rattle.volume_ops.proofs.Still.{own_still}
 use Rattle.volume_step.specs.Steps.{OwnOf, ShrinksAs}
 use Rattle.volume_step.specs.declared.outcome.Outcome.{Outcome}
 use Rattle.volume_step.specs.declared.outcome.Outcome.TheVariants as outcome
@@ -40,15 +46,22 @@ touches_wider committed these those a b wider was = record {
 
 -- those that were its own before it are among those that were before or behind it
 pub touches_own : (committed : Content) (v w : Volume) (a b : Space) → Touches committed (λ s. Contains (own_sectors v) s) a b → Touches committed (OwnOf v w) a b
-touches_own committed v w a b was = touches_wider committed (λ s. Contains (own_sectors v) s) (OwnOf v w) a b (λ s here. inl here) was
+touches_own committed v w a b was = touches_wider committed (λ s. Contains (own_sectors v) s) (OwnOf v w) a b (λ s here. inl (inl here)) was
 
 pub touches_looked : (committed : Content) (v w : Volume) (a b : Space) → Looks (λ s. Contains (own_sectors v) s) a b → Touches committed (OwnOf v w) a b
 touches_looked committed v w a b was = touches_own committed v w a b (touches_looks committed (λ s. Contains (own_sectors v) s) a b was)
 
+-- reads leave what is a volume's own, and what is free
+pub own_or_free_still : (u v : Volume) (a b : Space) → ReadsVolume u v a b → (s : ℕ) → IsOwnOrFree v s → IsOwnOrFree u s
+own_or_free_still u v a b reads s is = ⊎_elim
+    (λ own. inl (subst (λ (l : List ℕ). Contains l s) (own_still u v a b reads) own))
+    (λ free. inr (subst (λ (k : BlockMap × VolumeHeader). slice_index_or (free_of k.0) (s / per_block_of k.1) false ≡ true) {x = (v.map, v.header)} {y = (u.map, u.header)} (λ i. (reads.keeps.map i, reads.keeps.header i)) free))
+    is
+
 -- the space was read, and then the call on what was read did it
-pub touches_behind : (committed : Content) (u v w : Volume) (a b c : Space) → own_sectors v ≡ own_sectors u → Looks (λ s. Contains (own_sectors u) s) a b → Touches committed (OwnOf v w) b c → Touches committed (OwnOf u w) a c
+pub touches_behind : (committed : Content) (u v w : Volume) (a b c : Space) → ((s : ℕ) → IsOwnOrFree v s → IsOwnOrFree u s) → Looks (λ s. Contains (own_sectors u) s) a b → Touches committed (OwnOf v w) b c → Touches committed (OwnOf u w) a c
 touches_behind committed u v w a b c same looks was = touches_both committed (OwnOf u w) a b c (touches_looked committed u w a b looks)
-    (touches_wider committed (OwnOf v w) (OwnOf u w) b c (λ s here. ⊎_elim (λ before. inl (subst (λ (l : List ℕ). Contains l s) same before)) (λ behind. inr behind) here) was)
+    (touches_wider committed (OwnOf v w) (OwnOf u w) b c (λ s here. ⊎_elim (λ before. inl (same s before)) (λ behind. inr behind) here) was)
 
 -- ---- the file that was shrunk last
 

@@ -1,5 +1,5 @@
 -- What a command on a volume in service came to.
-use Rattle.std.specs.Prelude.{◌≡◌, ◌⊎◌, ℕ, ◌==◌, ◌||◌, nat_lt, not, slice_index, Bool, false, IsTrue, List, [], ◌∷◌, Ok, Option, if◌then◌else◌}
+use Rattle.std.specs.Prelude.{◌≡◌, ◌⊎◌, ◌<◌, ℕ, ◌==◌, ◌&&◌, ◌||◌, nat_lt, not, slice_index, Bool, false, IsTrue, List, [], ◌∷◌, Ok, Option, if◌then◌else◌}
 use Rattle.std.specs.List.{Contains}
 use Rattle.jnl_format.specs.Keeping.{IsSame}
 use Rattle.jnl_format.specs.Recovery.{Content, header_of_volume}
@@ -16,6 +16,7 @@ use Rattle.hfs_volume.specs.Told.{changes_by}
 use Rattle.hfs_volume.specs.TreeOf.{tree_of}
 use Rattle.hfs_volume.specs.Weight.{weight}
 use Rattle.hfs_volume.specs.declared.cost.Cost.TheVariants as cost
+use Rattle.volume_ops.specs.Growing.{IsOwnOrFree}
 use Rattle.volume_ops.specs.Standing.{own_sectors}
 use Rattle.volume_ops.specs.declared.volume.Volume.{Volume}
 use Rattle.volume_ops.specs.declared.weighing.Weight.{Weight}
@@ -47,9 +48,9 @@ abbrev pub ShrinksAs : Outcome → Command → Content → Option ℕ → Option
 ShrinksAs (outcome.Answered reply changes) asked before old new = new ≡ (if is_ok reply then or_before (shrunk_by (tree_of before) (Ok asked)) old else old)
 ShrinksAs outcome.CommitFirst asked before old new = new ≡ old
 
--- the sectors that are a volume's own before a call or behind it
+-- the sectors that are a volume's own before a call or behind it, or lie in blocks that were free before it
 abbrev pub OwnOf : Volume → Volume → ℕ → Type 0
-OwnOf old new s = Contains (own_sectors old) s ⊎ Contains (own_sectors new) s
+OwnOf old new s = IsOwnOrFree old s ⊎ Contains (own_sectors new) s
 
 -- ---- before the step
 
@@ -57,17 +58,28 @@ OwnOf old new s = Contains (own_sectors old) s ⊎ Contains (own_sectors new) s
 abbrev pub grows_in : List ℕ → Bool
 grows_in grow = not (slice_index grow 0 == 0) || (not (slice_index grow 1 == 0) || not (slice_index grow 2 == 0))
 
+-- what a growth comes to: the catalog alone grows, or that of another tree is still to come
+abbrev pub growth_of : List ℕ → ℕ → Verdict
+growth_of grow sectors = if (slice_index grow 0 == 0) && (slice_index grow 2 == 0) then verdict.Grows (slice_index grow 1) sectors else verdict.ToCome
+
 -- what a command's weight comes to, where so many sectors may be put
 abbrev pub verdict_of : Weight → ℕ → Verdict
 verdict_of (answer.Refused why) spare = verdict.Refused why
 verdict_of answer.CommitFirst spare = verdict.CommitFirst
-verdict_of (answer.Load sectors grow) spare = if grows_in grow then verdict.ToCome else if nat_lt spare sectors then verdict.CommitFirst else verdict.Fits
+verdict_of (answer.Load sectors grow) spare = if grows_in grow then growth_of grow sectors else if nat_lt spare sectors then verdict.CommitFirst else verdict.Fits
 
 -- The step doesn't refuse the command, and nothing is missing for it; no tree has to grow.
 pub record Affords (capacity : ℕ) (asked : Command) (content : Content) : Type 0 where
   pub no_refusal : refuses (tree_of content) (Ok asked) ≡ false
   pub load : ℕ
   pub affords : weight capacity (volume_of content) (tree_of content) asked ≡ cost.Load load (0 ∷ 0 ∷ 0 ∷ [])
+
+-- The step doesn't refuse the command, and nothing is missing for it, but the catalog has to grow before by so many nodes, and no other tree.
+pub record GrowsFirst (more capacity : ℕ) (asked : Command) (content : Content) : Type 0 where
+  pub no_refusal : refuses (tree_of content) (Ok asked) ≡ false
+  pub some : 0 < more
+  pub load : ℕ
+  pub weighs : weight capacity (volume_of content) (tree_of content) asked ≡ cost.Load load (0 ∷ more ∷ 0 ∷ [])
 
 -- the step doesn't refuse the command, but it is still to come, or asks for more than is built
 abbrev pub Waits : ℕ → Command → Content → Type 0
@@ -79,4 +91,12 @@ IsJudged (verdict.Refused why) capacity asked content =
     (reply.No why ≡ (step_line (tree_of content) (Ok asked)).0) ⊎ ((refuses (tree_of content) (Ok asked) ≡ false) × (weight capacity (volume_of content) (tree_of content) asked ≡ cost.Refused why))
 IsJudged verdict.ToCome capacity asked content = Waits capacity asked content
 IsJudged verdict.CommitFirst capacity asked content = Unit {0}
+IsJudged (verdict.Grows more load) capacity asked content = GrowsFirst more capacity asked content
 IsJudged verdict.Fits capacity asked content = Affords capacity asked content
+
+-- ---- behind a growth
+
+-- it was done, and answered with ok
+abbrev pub IsDoneOk : Outcome → Type 0
+IsDoneOk (outcome.Answered reply.Ok changes) = Unit {0}
+IsDoneOk _ = ⊥

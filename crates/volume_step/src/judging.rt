@@ -6,7 +6,7 @@ ghost use Rattle.hfs_model.specs.Step.{only_reads};
 ghost use Rattle.volume_ops.specs.Looking.{ReadsVolume};
 ghost use Rattle.volume_ops.specs.Room.{capacity_of};
 ghost use Rattle.volume_ops.specs.Standing.{IsSettled, StandsOver};
-ghost use Rattle.volume_step.specs.Steps.{IsJudged, grows_in, verdict_of};
+ghost use Rattle.volume_step.specs.Steps.{IsJudged, growth_of, grows_in, verdict_of};
 
 use hfs_language::{Command, Refusal};
 use hx_bytes::Trouble;
@@ -19,10 +19,12 @@ use volume_ops::{Volume, Weight};
 pub(crate) enum Verdict {
     /// Its step refuses it, or a resource is missing.
     Refused(Refusal),
-    /// It is still to come, or a tree has to grow for it, which is still to come.
+    /// It is still to come, or a tree but the catalog has to grow for it, which is still to come.
     ToCome,
     /// It wants a commit before it.
     CommitFirst,
+    /// The catalog has to grow before it, by so many nodes, and no other tree; its load is so many sectors, with the growth.
+    Grows { more: u32, load: u64 },
     /// Nothing stands in its way.
     Fits,
 }
@@ -34,6 +36,20 @@ fn grows(grow: [u32; 3]) -> bool
     grow[0] != 0 || (grow[1] != 0 || grow[2] != 0)
 }
 
+/// What a growth comes to: that of the catalog alone goes ahead of the command.
+fn growth_of(grow: [u32; 3], sectors: u64) -> Verdict
+    ensures { result ≡ growth_of grow sectors }
+{
+    if grow[0] == 0 && grow[2] == 0 {
+        Verdict::Grows {
+            more: grow[1],
+            load: sectors,
+        }
+    } else {
+        Verdict::ToCome
+    }
+}
+
 /// What a weight comes to, where so many sectors may be put.
 fn verdict_of(weight: Weight, spare: u64) -> Verdict
     ensures { result ≡ verdict_of weight spare }
@@ -43,7 +59,7 @@ fn verdict_of(weight: Weight, spare: u64) -> Verdict
         Weight::CommitFirst => Verdict::CommitFirst,
         Weight::Load { sectors, grow } => {
             if grows(grow) {
-                Verdict::ToCome
+                growth_of(grow, sectors)
             } else if spare < sectors {
                 Verdict::CommitFirst
             } else {

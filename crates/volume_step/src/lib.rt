@@ -2,6 +2,7 @@
 #![tactic(auto)]
 
 mod answering;
+mod growing;
 mod judging;
 mod making;
 mod marking;

@@ -1,17 +1,19 @@
 //! A command on a volume in service, weighed and done.
-ghost use Rattle.std.specs.Prelude.{◌≡◌, false, IsTrue, IfOk, OnOk};
+ghost use Rattle.std.specs.Prelude.{◌≡◌, ℕ, false, IsTrue, IfOk, OnOk};
 ghost use Rattle.sector_disk.specs.Lists.{Content};
 ghost use Rattle.btree_edit.specs.Causes.{HasTroubleCause};
 ghost use Rattle.hfs_language.specs.Written.{FitsCommand};
 ghost use Rattle.hfs_model.specs.Step.{only_reads};
+ghost use Rattle.hfs_volume.specs.Aside.{IsJournalSector};
 ghost use Rattle.volume_ops.specs.Keeping.{shrunk_of};
 ghost use Rattle.volume_ops.specs.Room.{capacity_of};
 ghost use Rattle.volume_ops.specs.Service.{IsInService};
 ghost use Rattle.volume_ops.specs.Standing.{HoldsOn, IsSettled, StandsOver};
 ghost use Rattle.volume_ops.specs.Touching.{Touches};
-ghost use Rattle.volume_step.specs.Steps.{Affords, KeepsJournal, OwnOf, ShrinksAs, StepsTo};
+ghost use Rattle.volume_step.specs.Steps.{Affords, GrowsFirst, IsDoneOk, KeepsJournal, OwnOf, ShrinksAs, StepsTo};
 
 use crate::answering::{answer, only_reads, refusal};
+use crate::growing::{done_or_short, edits_catalog};
 use crate::judging::{Verdict, judge};
 use crate::making::{make_file, make_folder, move_entry};
 use crate::marking::{date, set_mode};
@@ -22,7 +24,8 @@ use hfs_language::{Command, Refusal};
 use hx_bytes::Trouble;
 use sector_disk::SectorSpace;
 use std::alloc::Global;
-use volume_ops::Volume;
+use tree_weights::{a_load_is_of_parts, a_load_says_enough};
+use volume_ops::{Growth, Volume};
 
 /// Does a command for which nothing is missing. One that isn't done here yet waits.
 fn perform<P: SectorSpace>(
@@ -75,6 +78,76 @@ fn perform<P: SectorSpace>(
     }
 }
 
+/// Does a command for which nothing is missing, behind the growth of the catalog: it is answered with ok.
+fn do_grown<P: SectorSpace>(
+    alloc: Global,
+    volume: &mut Volume,
+    space: &mut P,
+    number: u64,
+    command: &Command,
+) -> Result<Outcome, Trouble>
+    requires stands { StandsOver volume.old (P.SectorView.space space.old) }
+    requires settled { IsTrue (P.SectorView.space space.old).tells → IsSettled volume.old (P.SectorView.space space.old).content }
+    requires fits { FitsCommand command.now }
+    requires affords { IsTrue (P.SectorView.space space.old).tells → Affords (capacity_of volume.old) command.now (P.SectorView.space space.old).content }
+    ensures done { IfOk result IsDoneOk }
+    ensures answered { IsTrue (P.SectorView.space space.old).tells → IfOk result (λ outcome. StepsTo outcome (capacity_of volume.old) number command.now (P.SectorView.space space.old).content (P.SectorView.space space.new).content) }
+    ensures place { IsTrue (P.SectorView.space space.old).tells → OnOk result (KeepsJournal (P.SectorView.space space.old).content (P.SectorView.space space.new).content) }
+    ensures stands { OnOk result (StandsOver volume.new (P.SectorView.space space.new)) }
+    ensures settled { IsTrue (P.SectorView.space space.old).tells → OnOk result (IsSettled volume.new (P.SectorView.space space.new).content) }
+    ensures service { IsInService volume.new (P.SectorView.space space.new) }
+    ensures holds { (committed : Content) → HoldsOn committed volume.old → OnOk result (HoldsOn committed volume.new) }
+    ensures capacity { capacity_of volume.new ≡ capacity_of volume.old }
+    ensures shrunk { IsTrue (P.SectorView.space space.old).tells → IfOk result (λ outcome. ShrinksAs outcome command.now (P.SectorView.space space.old).content (shrunk_of volume.old) (shrunk_of volume.new)) }
+    ensures touches { (committed : Content) → Touches committed (OwnOf volume.old volume.new) (P.SectorView.space space.old) (P.SectorView.space space.new) }
+    ensures below { P.SectorView.follows space.old space.new }
+    ensures cause { HasTroubleCause (P.SectorView.space space.old).faults (P.SectorView.space space.new).faults result }
+{
+    let outcome = perform(alloc, volume, space, number, command)?;
+    done_or_short(outcome)
+}
+
+/// Does a command ahead of which the catalog has to grow by so many nodes; its load is so many sectors, with the growth. Where the catalog can't
+/// grow so the command is still to come, and where there is too little room for both a commit comes first.
+fn grow_first<P: SectorSpace>(
+    alloc: Global,
+    volume: &mut Volume,
+    space: &mut P,
+    number: u64,
+    command: &Command,
+    more: u32,
+    load: u64,
+) -> Result<Outcome, Trouble>
+    requires stands { StandsOver volume.old (P.SectorView.space space.old) }
+    requires settled { IsTrue (P.SectorView.space space.old).tells → IsSettled volume.old (P.SectorView.space space.old).content }
+    requires fits { FitsCommand command.now }
+    requires changes { only_reads command.now ≡ false }
+    requires closed { IsTrue (P.SectorView.space space.old).tells → (at : ℕ) → (P.SectorView.space space.old).closed at → IsJournalSector (P.SectorView.space space.old).content at }
+    requires grows { IsTrue (P.SectorView.space space.old).tells → GrowsFirst more (capacity_of volume.old) command.now (P.SectorView.space space.old).content }
+    ensures answered { IsTrue (P.SectorView.space space.old).tells → IfOk result (λ outcome. StepsTo outcome (capacity_of volume.old) number command.now (P.SectorView.space space.old).content (P.SectorView.space space.new).content) }
+    ensures place { IsTrue (P.SectorView.space space.old).tells → OnOk result (KeepsJournal (P.SectorView.space space.old).content (P.SectorView.space space.new).content) }
+    ensures stands { OnOk result (StandsOver volume.new (P.SectorView.space space.new)) }
+    ensures settled { IsTrue (P.SectorView.space space.old).tells → OnOk result (IsSettled volume.new (P.SectorView.space space.new).content) }
+    ensures service { IsInService volume.new (P.SectorView.space space.new) }
+    ensures holds { (committed : Content) → HoldsOn committed volume.old → OnOk result (HoldsOn committed volume.new) }
+    ensures capacity { capacity_of volume.new ≡ capacity_of volume.old }
+    ensures shrunk { IsTrue (P.SectorView.space space.old).tells → IfOk result (λ outcome. ShrinksAs outcome command.now (P.SectorView.space space.old).content (shrunk_of volume.old) (shrunk_of volume.new)) }
+    ensures touches { (committed : Content) → Touches committed (OwnOf volume.old volume.new) (P.SectorView.space space.old) (P.SectorView.space space.new) }
+    ensures below { P.SectorView.follows space.old space.new }
+    ensures cause { HasTroubleCause (P.SectorView.space space.old).faults (P.SectorView.space space.new).faults result }
+{
+    a_load_says_enough();
+    a_load_is_of_parts();
+    if !edits_catalog(command) {
+        return Ok(refusal(alloc, Refusal::NotBuilt));
+    }
+    match volume.grow_ahead(alloc, space, more, load)? {
+        Growth::Grown => do_grown(alloc, volume, space, number, command),
+        Growth::CommitFirst => Ok(Outcome::CommitFirst),
+        Growth::ToCome => Ok(refusal(alloc, Refusal::NotBuilt)),
+    }
+}
+
 /// Judges a command that changes the volume, and does it where nothing is missing for it.
 fn change<P: SectorSpace>(
     alloc: Global,
@@ -86,6 +159,7 @@ fn change<P: SectorSpace>(
     requires stands { StandsOver volume.old (P.SectorView.space space.old) }
     requires settled { IsTrue (P.SectorView.space space.old).tells → IsSettled volume.old (P.SectorView.space space.old).content }
     requires fits { FitsCommand command.now }
+    requires closed { IsTrue (P.SectorView.space space.old).tells → (at : ℕ) → (P.SectorView.space space.old).closed at → IsJournalSector (P.SectorView.space space.old).content at }
     requires changes { only_reads command.now ≡ false }
     ensures answered { IsTrue (P.SectorView.space space.old).tells → IfOk result (λ outcome. StepsTo outcome (capacity_of volume.old) number command.now (P.SectorView.space space.old).content (P.SectorView.space space.new).content) }
     ensures place { IsTrue (P.SectorView.space space.old).tells → OnOk result (KeepsJournal (P.SectorView.space space.old).content (P.SectorView.space space.new).content) }
@@ -103,6 +177,9 @@ fn change<P: SectorSpace>(
         Verdict::Refused(why) => Ok(refusal(alloc, why)),
         Verdict::ToCome => Ok(refusal(alloc, Refusal::NotBuilt)),
         Verdict::CommitFirst => Ok(Outcome::CommitFirst),
+        Verdict::Grows { more, load } => {
+            grow_first(alloc, volume, space, number, command, more, load)
+        }
         Verdict::Fits => perform(alloc, volume, space, number, command),
     }
 }
@@ -120,6 +197,8 @@ pub fn step<P: SectorSpace>(
     requires stands { StandsOver volume.old (P.SectorView.space space.old) }
     requires settled { IsTrue (P.SectorView.space space.old).tells → IsSettled volume.old (P.SectorView.space space.old).content }
     requires fits { FitsCommand command.now }
+    // Only the journal's sectors are closed.
+    requires closed { IsTrue (P.SectorView.space space.old).tells → (at : ℕ) → (P.SectorView.space space.old).closed at → IsJournalSector (P.SectorView.space space.old).content at }
     // Told, the line's entry is one of a run, with what it changed for watchers.
     ensures answered { IsTrue (P.SectorView.space space.old).tells → IfOk result (λ outcome. StepsTo outcome (capacity_of volume.old) number command.now (P.SectorView.space space.old).content (P.SectorView.space space.new).content) }
     // The journal lies where it lay, and the header is one of the same volume.

@@ -1,15 +1,15 @@
 use Rattle.std.proofs.Common.{ℕ, sym, ◌∙◌, subst}
 use Rattle.std.specs.Prelude.{IfOk, OnOk, Option}
 use Rattle.sector_disk.specs.Lists.{Content}
+use Rattle.hfs_volume.specs.Aside.{IsJournalSector}
 use Rattle.volume_ops.specs.Room.{capacity_of}
 use Rattle.volume_ops.specs.Keeping.{shrunk_of}
 use Rattle.volume_ops.proofs.Sounding.{sound_here}
-use Rattle.volume_ops.proofs.Still.{own_still}
-use Rattle.volume_step.specs.Steps.{Affords, IsJudged, KeepsJournal, ShrinksAs, StepsTo}
+use Rattle.volume_step.specs.Steps.{Affords, GrowsFirst, IsJudged, KeepsJournal, ShrinksAs, StepsTo}
 use Rattle.volume_step.specs.declared.judging.Verdict.{Verdict}
 use Rattle.volume_step.specs.declared.outcome.Outcome.{Outcome}
 use Rattle.volume_step.proofs.Done.{holds_kept, refused_steps, same_place, waits_steps}
-use Rattle.volume_step.proofs.Widening.{refused_shrinks, touches_behind, touches_looked}
+use Rattle.volume_step.proofs.Widening.{own_or_free_still, refused_shrinks, touches_behind, touches_looked}
 use Rattle.volume_step.proofs.stepping.change.Goals as goal
 
 pub perform-requires-clause-affords : goal.perform-requires-clause-affords
@@ -40,7 +40,7 @@ returns-in-Fits-clause-holds g c committed was = c.perform.ensures.holds committ
 pub returns-in-Fits-clause-touches : goal.returns-in-Fits-clause-touches
 returns-in-Fits-clause-touches g c committed =
     touches_behind committed c.args.volume.now c.judge.new.volume c.perform.new.volume (g.P.SectorView.space c.args.space.now) (g.P.SectorView.space c.judge.new.space) (g.P.SectorView.space c.perform.new.space)
-    (own_still c.args.volume.now c.judge.new.volume (g.P.SectorView.space c.args.space.now) (g.P.SectorView.space c.judge.new.space) c.judge.ensures.reads) c.judge.ensures.reads.looks (c.perform.ensures.touches committed)
+    (own_or_free_still c.args.volume.now c.judge.new.volume (g.P.SectorView.space c.args.space.now) (g.P.SectorView.space c.judge.new.space) c.judge.ensures.reads) c.judge.ensures.reads.looks (c.perform.ensures.touches committed)
 
 pub returns-in-Fits-clause-shrunk : goal.returns-in-Fits-clause-shrunk
 returns-in-Fits-clause-shrunk g c tells =
@@ -56,6 +56,9 @@ returns-in-ToCome-clause-shrunk g c tells = refused_shrinks _ _ _ _ _ c.refusal-
 pub returns-in-Refused-clause-place : goal.returns-in-Refused-clause-place
 returns-in-Refused-clause-place g c tells = same_place (g.P.SectorView.space c.args.space.now).content (g.P.SectorView.space c.judge.new.space).content (c.judge.ensures.reads.looks.content tells)
 
+pub returns-in-CommitFirst-clause-place : goal.returns-in-CommitFirst-clause-place
+returns-in-CommitFirst-clause-place g c tells = same_place (g.P.SectorView.space c.args.space.now).content (g.P.SectorView.space c.judge.new.space).content (c.judge.ensures.reads.looks.content tells)
+
 pub returns-in-ToCome-clause-place : goal.returns-in-ToCome-clause-place
 returns-in-ToCome-clause-place g c tells = same_place (g.P.SectorView.space c.args.space.now).content (g.P.SectorView.space c.judge.new.space).content (c.judge.ensures.reads.looks.content tells)
 
@@ -70,3 +73,36 @@ returns-in-ToCome-clause-touches g c committed = touches_looked committed c.args
 
 pub returns-in-CommitFirst-clause-touches : goal.returns-in-CommitFirst-clause-touches
 returns-in-CommitFirst-clause-touches g c committed = touches_looked committed c.args.volume.now c.judge.new.volume (g.P.SectorView.space c.args.space.now) (g.P.SectorView.space c.judge.new.space) c.judge.ensures.reads.looks
+
+-- ---- ahead of which the catalog grows
+
+pub grow_first-requires-clause-closed : goal.grow_first-requires-clause-closed
+grow_first-requires-clause-closed g c told at shut =
+    let tells = sym c.judge.ensures.reads.looks.same.tells ∙ told in
+    subst (λ (k : Content). IsJournalSector k at) (sym (c.judge.ensures.reads.looks.content tells)) (c.requires.closed tells at ((c.judge.ensures.reads.looks.closed tells at).0 shut))
+
+pub grow_first-requires-clause-grows : goal.grow_first-requires-clause-grows
+grow_first-requires-clause-grows g c told =
+    let tells = sym c.judge.ensures.reads.looks.same.tells ∙ told in
+    subst (λ (k : ℕ × Content). GrowsFirst c.in-Grows.more k.0 c.args.command.now k.1) {x = ((capacity_of c.args.volume.now), (g.P.SectorView.space c.args.space.now).content)} {y = (capacity_of c.judge.new.volume, (g.P.SectorView.space c.judge.new.space).content)} (λ i. (sym c.judge.ensures.reads.keeps.capacity i, sym (c.judge.ensures.reads.looks.content (sym c.judge.ensures.reads.looks.same.tells ∙ told)) i))
+    (subst (λ (v : Verdict). IsJudged v (capacity_of c.args.volume.now) c.args.command.now (g.P.SectorView.space c.args.space.now).content) c.in-Grows.is (c.in_ok-why.ensures.judged tells))
+
+pub returns-in-Grows-clause-answered : goal.returns-in-Grows-clause-answered
+returns-in-Grows-clause-answered g c tells =
+    subst (λ (k : ℕ × Content). IfOk c.grow_first.result (λ (o : Outcome). StepsTo o k.0 c.args.number c.args.command.now k.1 (g.P.SectorView.space c.grow_first.new.space).content)) {x = (capacity_of c.judge.new.volume, (g.P.SectorView.space c.judge.new.space).content)} {y = ((capacity_of c.args.volume.now), (g.P.SectorView.space c.args.space.now).content)} (λ i. (c.judge.ensures.reads.keeps.capacity i, c.judge.ensures.reads.looks.content tells i)) (c.grow_first.ensures.answered (c.judge.ensures.reads.looks.same.tells ∙ tells))
+
+pub returns-in-Grows-clause-place : goal.returns-in-Grows-clause-place
+returns-in-Grows-clause-place g c tells = subst (λ (k : Content). OnOk c.grow_first.result (KeepsJournal k (g.P.SectorView.space c.grow_first.new.space).content)) (c.judge.ensures.reads.looks.content tells) (c.grow_first.ensures.place (c.judge.ensures.reads.looks.same.tells ∙ tells))
+
+pub returns-in-Grows-clause-holds : goal.returns-in-Grows-clause-holds
+returns-in-Grows-clause-holds g c committed was = c.grow_first.ensures.holds committed (holds_kept committed c.args.volume.now c.judge.new.volume c.judge.ensures.reads.keeps.map was)
+
+pub returns-in-Grows-clause-touches : goal.returns-in-Grows-clause-touches
+returns-in-Grows-clause-touches g c committed =
+    touches_behind committed c.args.volume.now c.judge.new.volume c.grow_first.new.volume (g.P.SectorView.space c.args.space.now) (g.P.SectorView.space c.judge.new.space) (g.P.SectorView.space c.grow_first.new.space)
+    (own_or_free_still c.args.volume.now c.judge.new.volume (g.P.SectorView.space c.args.space.now) (g.P.SectorView.space c.judge.new.space) c.judge.ensures.reads) c.judge.ensures.reads.looks (c.grow_first.ensures.touches committed)
+
+pub returns-in-Grows-clause-shrunk : goal.returns-in-Grows-clause-shrunk
+returns-in-Grows-clause-shrunk g c tells =
+    subst (λ (k : Option ℕ × Content). IfOk c.grow_first.result (λ (o : Outcome). ShrinksAs o c.args.command.now k.1 k.0 (shrunk_of c.grow_first.new.volume))) {x = (shrunk_of c.judge.new.volume, (g.P.SectorView.space c.judge.new.space).content)} {y = (shrunk_of c.args.volume.now, (g.P.SectorView.space c.args.space.now).content)}
+    (λ i. (c.judge.ensures.reads.keeps.shrunk i, c.judge.ensures.reads.looks.content tells i)) (c.grow_first.ensures.shrunk (c.judge.ensures.reads.looks.same.tells ∙ tells))

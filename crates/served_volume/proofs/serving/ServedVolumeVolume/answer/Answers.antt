@@ -16,6 +16,7 @@ use Rattle.served_volume.specs.Answering.{AnswersAs, ShrinksBy, TellsAs}
 use Rattle.served_volume.specs.Knowing.{Knows}
 use Rattle.served_volume.proofs.Answered.{answers, if_so}
 use Rattle.served_volume.proofs.Calls.{faults_of_call, on_any, on_value, quiet, short, value_of}
+use Rattle.served_volume.proofs.Heading.{journal_alike}
 use Rattle.served_volume.proofs.Seen.{touches_space}
 use Rattle.served_volume.proofs.Service.{service_on}
 use Rattle.served_volume.proofs.serving.ServedVolumeVolume.answer.Goals as goal
@@ -30,6 +31,11 @@ answer_line-outcome-requires-clause-stands g c =
 
 pub answer_line-outcome-requires-clause-settled : goal.answer_line-outcome-requires-clause-settled
 answer_line-outcome-requires-clause-settled g c tells = (c.requires.stands tells).4.known.settled
+
+pub answer_line-outcome-requires-clause-closed : goal.answer_line-outcome-requires-clause-closed
+answer_line-outcome-requires-clause-closed g c tells at shut =
+    let there = c.requires.stands tells in
+    journal_alike there.2 (g.G.SectorView.space c.args.base.now).content (sym there.4.known.alike.lists) at (there.4.reads.closed at shut)
 
 pub answer_line-outcome-requires-clause-sound : goal.answer_line-outcome-requires-clause-sound
 answer_line-outcome-requires-clause-sound g c tells = (c.requires.stands tells).4.known.alike.sound_other

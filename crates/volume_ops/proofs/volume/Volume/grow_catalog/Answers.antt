@@ -11,7 +11,7 @@ use Rattle.volume_ops.specs.Standing.{HoldsOn, attribute_sectors, map_sectors, o
 use Rattle.volume_ops.specs.declared.volume.Volume.{Volume}
 use Rattle.volume_ops.proofs.Commanding.{touches_both}
 use Rattle.volume_ops.proofs.GrownRoom.{suffices_for}
-use Rattle.volume_ops.proofs.GrownWhole.{files_whole, grows_whole, settled_whole, tree_whole, volume_whole}
+use Rattle.volume_ops.proofs.GrownWhole.{files_whole, grows_whole, lists_whole, settled_whole, tree_whole, volume_whole}
 use Rattle.volume_ops.proofs.Seeing.{cause_on}
 use Rattle.volume_ops.proofs.Touched.{touches_header, touches_within}
 use Rattle.volume_ops.proofs.volume.Volume.grow_catalog.Goals as goal
@@ -140,3 +140,18 @@ returns-clause-marks g c = c.in_ok-lengthen_catalog.ensures.marks
 
 pub returns-in_err-lengthen_catalog-clause-marks : goal.returns-in_err-lengthen_catalog-clause-marks
 returns-in_err-lengthen_catalog-clause-marks g c = let p = err_from_is_err_and c.from_residual.result c.from_residual.ensures.1 in off_ok _ c.from_residual.result p.0 p.1
+
+pub returns-clause-lists : goal.returns-clause-lists
+returns-clause-lists g c tells =
+    lists_whole c.args.more c.args.self.now c.lengthen_catalog.new.self (g.P.SectorView.space c.args.space.now) (g.P.SectorView.space c.lengthen_catalog.new.space) (g.P.SectorView.space c.put_map.new.space) (g.P.SectorView.space c.put_header.new.space) c.requires.stands (c.requires.settled tells) c.requires.can tells c.growth_keeps_the_tree.ensures (c.in_ok-lengthen_catalog.ensures.lengthens tells) (c.put_header.ensures.stands.stands (c.put_header.ensures.within.same.tells ∙ (c.put_map.ensures.within.same.tells ∙ ((c.lengthen_catalog.ensures.touches []).same.tells ∙ tells)))) (c.put_map.ensures.put ((c.lengthen_catalog.ensures.touches []).same.tells ∙ tells)) (c.put_header.ensures.put (c.put_map.ensures.within.same.tells ∙ ((c.lengthen_catalog.ensures.touches []).same.tells ∙ tells))) c.put_header.ensures.within (c.put_map.ensures.within.same.tells ∙ ((c.lengthen_catalog.ensures.touches []).same.tells ∙ tells))
+    (suffices_for c.args.more c.args.self.now c.lengthen_catalog.new.self (g.P.SectorView.space c.args.space.now) (c.requires.stands.stands tells) c.requires.can c.trees_grow_by_enough.ensures
+    (volume_whole c.args.more c.args.self.now c.lengthen_catalog.new.self (g.P.SectorView.space c.args.space.now) (g.P.SectorView.space c.lengthen_catalog.new.space) (g.P.SectorView.space c.put_map.new.space) (g.P.SectorView.space c.put_header.new.space) c.requires.stands (c.requires.settled tells) c.requires.can tells c.growth_keeps_the_tree.ensures (c.in_ok-lengthen_catalog.ensures.lengthens tells) (c.put_header.ensures.stands.stands (c.put_header.ensures.within.same.tells ∙ (c.put_map.ensures.within.same.tells ∙ ((c.lengthen_catalog.ensures.touches []).same.tells ∙ tells)))) (c.put_map.ensures.put ((c.lengthen_catalog.ensures.touches []).same.tells ∙ tells)) (c.put_header.ensures.put (c.put_map.ensures.within.same.tells ∙ ((c.lengthen_catalog.ensures.touches []).same.tells ∙ tells))) c.put_header.ensures.within (c.put_map.ensures.within.same.tells ∙ ((c.lengthen_catalog.ensures.touches []).same.tells ∙ tells))))
+
+pub returns-in_err-lengthen_catalog-clause-lists : goal.returns-in_err-lengthen_catalog-clause-lists
+returns-in_err-lengthen_catalog-clause-lists g c tells = let p = err_from_is_err_and c.from_residual.result c.from_residual.ensures.1 in off_ok _ c.from_residual.result p.0 p.1
+
+pub returns-clause-gained : goal.returns-clause-gained
+returns-clause-gained g c = c.lengthen_catalog.ensures.gained
+
+pub returns-in_err-lengthen_catalog-clause-gained : goal.returns-in_err-lengthen_catalog-clause-gained
+returns-in_err-lengthen_catalog-clause-gained g c = c.lengthen_catalog.ensures.gained

@@ -1,4 +1,4 @@
-use Rattle.std.proofs.Common.{◌≡◌, ◌<◌, ◌≤◌, ℕ, ◌*◌, List, length, refl, sym, ◌∙◌, ap, subst, arith}
+use Rattle.std.proofs.Common.{◌≡◌, ◌<◌, ◌≤◌, ℕ, ◌*◌, List, inl, length, refl, sym, ◌∙◌, ap, subst, arith}
 use Rattle.std.specs.Prelude.{Contains, false, slice_index_or, Result, Err, OnOk, IsErrOf}
 use Rattle.std.proofs.lemmas.Result.{err_from_is_err_and}
 use Rattle.hx_bytes.specs.declared.faults.Trouble.{Trouble}
@@ -21,7 +21,7 @@ use Rattle.volume_ops.specs.declared.volume.Volume.{Volume}
 use Rattle.volume_ops.proofs.CatalogEdited.{catalog_open}
 use Rattle.volume_ops.proofs.Commanding.{touches_none}
 use Rattle.volume_ops.proofs.GrownCalls.{few_nodes, grow_room, grown_apart, per_block_some, run_inside, run_opens, touches_reading, whole_nodes}
-use Rattle.volume_ops.proofs.GrownLengthened.{lengthens_then, map_then, nodes_spent, own_failed, own_then, service_then, stands_then, touches_then, unchanged_then}
+use Rattle.volume_ops.proofs.GrownLengthened.{gained_then, lengthens_then, map_then, nodes_spent, own_failed, own_then, service_then, stands_then, touches_then, unchanged_then}
 use Rattle.volume_ops.proofs.GrownBits.{marked_long}
 use Rattle.volume_ops.proofs.GrownRun.{same_held, same_length, used_still}
 use Rattle.volume_ops.proofs.volume.Volume.lengthen_catalog.Goals as goal
@@ -154,6 +154,16 @@ returns-clause-own g c tells s has =
     subst (λ h. Contains (own_sectors (made v c.take_run.new.map c.grow.new.self h)) s) (sym head)
     (own_then c.args.more v a b c.requires.stands c.requires.settled c.requires.can c.requires.closed c.in_ok-run.run' c.take_run.new.map takes c.grow.new.self c.in_ok-grow.ensures.grown c.grow.ensures.frame tells s has)
 
+pub returns-clause-gained : goal.returns-clause-gained
+returns-clause-gained g c tells s has =
+    let v = c.args.self.now in
+    let a : Space = g.P.SectorView.space c.args.space.now in
+    let b : Space = g.P.SectorView.space c.grow.new.space in
+    let takes = taken v c.args.more c.count_catalog_blocks-blocks.result c.in_ok-run.run' c.take_run.new.map c.count_catalog_blocks-blocks.ensures c.in_ok-run.ensures.takes in
+    let head = headed v c.in_ok-run.run' c.fork.result.now c.as_slice.result.now c.grow.new.self.fork c.with_catalog-self.result c.with_catalog-self.ensures.same c.as_slice.ensures c.fork.ensures in
+    gained_then c.args.more v a b c.requires.stands c.requires.settled c.requires.can c.requires.closed c.in_ok-run.run' c.take_run.new.map takes c.grow.new.self c.in_ok-grow.ensures.grown c.grow.ensures.frame tells s
+    (subst (λ h. Contains (own_sectors (made v c.take_run.new.map c.grow.new.self h)) s) head has)
+
 pub returns-clause-service : goal.returns-clause-service
 returns-clause-service g c =
     let v = c.args.self.now in
@@ -199,6 +209,9 @@ returns-in_err-run-clause-still g c k was = ap (λ (m : BlockMap). slice_index_o
 pub returns-in_err-run-clause-own : goal.returns-in_err-run-clause-own
 returns-in_err-run-clause-own g c tells s has = subst (λ (m : BlockMap). Contains (own_sectors (record c.args.self.now { map = m })) s) (sym c.in_err-run.ensures.same) has
 
+pub returns-in_err-run-clause-gained : goal.returns-in_err-run-clause-gained
+returns-in_err-run-clause-gained g c tells s has = inl (subst (λ (m : BlockMap). Contains (own_sectors (record c.args.self.now { map = m })) s) c.in_err-run.ensures.same has)
+
 pub returns-in_err-run-clause-service : goal.returns-in_err-run-clause-service
 returns-in_err-run-clause-service g c = subst (λ (m : BlockMap). IsInService (record c.args.self.now { map = m }) (g.P.SectorView.space c.args.space.now)) (sym c.in_err-run.ensures.same) c.requires.stands.service
 
@@ -217,6 +230,11 @@ pub returns-in_err-grow-clause-own : goal.returns-in_err-grow-clause-own
 returns-in_err-grow-clause-own g c tells s has =
     let takes = taken c.args.self.now c.args.more c.count_catalog_blocks-blocks.result c.in_ok-run.run' c.take_run.new.map c.count_catalog_blocks-blocks.ensures c.in_ok-run.ensures.takes in
     subst (λ (l : List ℕ). Contains l s) (sym (own_failed c.args.more c.args.self.now (g.P.SectorView.space c.args.space.now) (g.P.SectorView.space c.grow.new.space) c.requires.stands c.requires.settled c.requires.can c.requires.closed c.in_ok-run.run' c.take_run.new.map takes c.grow.new.self c.in_err-grow.ensures.failed)) has
+
+pub returns-in_err-grow-clause-gained : goal.returns-in_err-grow-clause-gained
+returns-in_err-grow-clause-gained g c tells s has =
+    let takes = taken c.args.self.now c.args.more c.count_catalog_blocks-blocks.result c.in_ok-run.run' c.take_run.new.map c.count_catalog_blocks-blocks.ensures c.in_ok-run.ensures.takes in
+    inl (subst (λ (l : List ℕ). Contains l s) (own_failed c.args.more c.args.self.now (g.P.SectorView.space c.args.space.now) (g.P.SectorView.space c.grow.new.space) c.requires.stands c.requires.settled c.requires.can c.requires.closed c.in_ok-run.run' c.take_run.new.map takes c.grow.new.self c.in_err-grow.ensures.failed) has)
 
 pub returns-in_err-grow-clause-service : goal.returns-in_err-grow-clause-service
 returns-in_err-grow-clause-service g c =

@@ -1,0 +1,27 @@
+use Rattle.std.proofs.Common.{ℕ}
+use Rattle.std.specs.Prelude.{Contains}
+use Rattle.volume_ops.specs.Growing.{IsOwnOrFree}
+use Rattle.volume_ops.specs.Standing.{own_sectors}
+use Rattle.volume_ops.proofs.GrownAhead.{gained_before}
+use Rattle.volume_ops.proofs.WhenKept.{touches_those}
+use Rattle.volume_ops.proofs.volume.Volume.grow_kept.Goals as goal
+
+pub returns-in_ok-grow_catalog-in-Some-clause-ahead : goal.returns-in_ok-grow_catalog-in-Some-clause-ahead
+returns-in_ok-grow_catalog-in-Some-clause-ahead g c tells = record {
+  tree = c.in_ok-grow_catalog-in-Some.ensures.tree tells;
+  grows = c.in_ok-grow_catalog-in-Some.ensures.grows tells;
+  files = c.in_ok-grow_catalog-in-Some.ensures.files tells;
+  lists = c.in_ok-grow_catalog-in-Some.ensures.lists tells;
+}
+
+pub returns-in_ok-grow_catalog-in-Some-clause-gained : goal.returns-in_ok-grow_catalog-in-Some-clause-gained
+returns-in_ok-grow_catalog-in-Some-clause-gained g c tells =
+    gained_before c.args.more c.args.self.now c.grow_catalog.new.self (c.in_ok-grow_catalog-in-Some.ensures.volume tells) (c.grow_catalog.ensures.gained tells)
+
+pub returns-in_ok-grow_catalog-in-Some-clause-touches : goal.returns-in_ok-grow_catalog-in-Some-clause-touches
+returns-in_ok-grow_catalog-in-Some-clause-touches g c committed =
+    touches_those committed (λ s. Contains (own_sectors c.grow_catalog.new.self) s) (IsOwnOrFree c.args.self.now) (g.P.SectorView.space c.args.space.now) (g.P.SectorView.space c.grow_catalog.new.space) c.grow_catalog.ensures.gained (c.grow_catalog.ensures.touches committed)
+
+pub returns-in_err-grow_catalog-in-Some-clause-touches : goal.returns-in_err-grow_catalog-in-Some-clause-touches
+returns-in_err-grow_catalog-in-Some-clause-touches g c committed =
+    touches_those committed (λ s. Contains (own_sectors c.grow_catalog.new.self) s) (IsOwnOrFree c.args.self.now) (g.P.SectorView.space c.args.space.now) (g.P.SectorView.space c.grow_catalog.new.space) c.grow_catalog.ensures.gained (c.grow_catalog.ensures.touches committed)

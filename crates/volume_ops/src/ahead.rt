@@ -1,0 +1,129 @@
+//! The catalog of a volume in service, which grows ahead of a command.
+ghost use Rattle.std.specs.Prelude.{◌≡◌, ◌≤◌, ◌+◌, ℕ, IsTrue, IfOk, IfSome, OnOk, length};
+ghost use Rattle.sector_disk.specs.Lists.{Content};
+ghost use Rattle.alloc_bitmap.specs.Map.{none};
+ghost use Rattle.flag_rows.specs.Bits.{sectors_for};
+ghost use Rattle.btree_edit.specs.Causes.{HasTroubleCause};
+ghost use Rattle.hfs_volume.specs.Aside.{IsJournalSector};
+ghost use Rattle.volume_ops.specs.Growing.{GoesAhead, IsOwnOrFree, growth_load};
+ghost use Rattle.volume_ops.specs.Service.{IsInService};
+ghost use Rattle.volume_ops.specs.Standing.{HoldsOn, IsSettled, StandsOver};
+ghost use Rattle.volume_ops.specs.Touching.{Touches};
+ghost use Rattle.volume_ops.specs.declared.ahead.Growth.TheVariants as growing;
+
+use crate::volume::Volume;
+use hx_bytes::Trouble;
+use sector_disk::SectorSpace;
+use std::alloc::Global;
+
+/// What became of a growth ahead of a command.
+#[derive(Clone, Copy)]
+pub enum Growth {
+    /// The catalog has its nodes.
+    Grown,
+    /// There is too little room now for what the growth and the command put.
+    CommitFirst,
+    /// The catalog can't grow by so many nodes in one extent more.
+    ToCome,
+}
+
+/// Whether two loads can be put one after the other.
+fn fit_both(first: u64, second: u64, spare: u64) -> bool
+    ensures { IsTrue result → first + second ≤ spare }
+{
+    match first.checked_add(second) {
+        Some(sum) => sum <= spare,
+        None => false,
+    }
+}
+
+impl Volume {
+    /// How many sectors a growth of the catalog by so many nodes puts at most; none where the numbers that count them have no room.
+    fn count_growth(&self, more: u32) -> Option<u64>
+        ensures { IfSome result (λ sectors. sectors ≡ growth_load self.now more) }
+    {
+        if self.catalog.file.per_block() == 0 {
+            return None;
+        }
+        let blocks = self.count_catalog_blocks(more);
+        if !self.counts_have_room(more, blocks) {
+            return None;
+        }
+        Some(self.count_growth_sectors(more, blocks))
+    }
+
+    /// Grows the catalog, where no bit was changed since the last keep.
+    fn grow_kept<P: SectorSpace>(
+        &mut self,
+        alloc: Global,
+        space: &mut P,
+        more: u32,
+        load: u64,
+    ) -> Result<Growth, Trouble>
+        requires stands { StandsOver self.old (P.SectorView.space space.old) }
+        requires settled { IsTrue (P.SectorView.space space.old).tells → IsSettled self.old (P.SectorView.space space.old).content }
+        requires unchanged { self.old.map.changed ≡ none (sectors_for (length self.old.map.used)) }
+        requires closed { IsTrue (P.SectorView.space space.old).tells → (at : ℕ) → (P.SectorView.space space.old).closed at → IsJournalSector (P.SectorView.space space.old).content at }
+        ensures ahead { IsTrue (P.SectorView.space space.old).tells → IfOk result (λ said. GoesAhead said more (P.SectorView.space space.old).content (P.SectorView.space space.new).content) }
+        ensures room { IfOk result (λ said. said ≡ growing.Grown → load ≤ (P.SectorView.space space.new).spare) }
+        ensures stands { OnOk result (StandsOver self.new (P.SectorView.space space.new)) }
+        ensures settled { IsTrue (P.SectorView.space space.old).tells → OnOk result (IsSettled self.new (P.SectorView.space space.new).content) }
+        ensures service { IsInService self.new (P.SectorView.space space.new) }
+        ensures holds { (committed : Content) → HoldsOn committed self.old → HoldsOn committed self.new }
+        ensures same { (self.new.private ≡ self.old.private) × (self.new.shrunk ≡ self.old.shrunk) × (self.new.capacity ≡ self.old.capacity) }
+        ensures touches { (committed : Content) → Touches committed (IsOwnOrFree self.old) (P.SectorView.space space.old) (P.SectorView.space space.new) }
+        ensures gained { IsTrue (P.SectorView.space space.old).tells → OnOk result ((s : ℕ) → IsOwnOrFree self.new s → IsOwnOrFree self.old s) }
+        ensures below { P.SectorView.follows space.old space.new }
+        ensures cause { HasTroubleCause (P.SectorView.space space.old).faults (P.SectorView.space space.new).faults result }
+    {
+        match self.count_growth(more) {
+            Some(sectors) => {
+                if !fit_both(sectors, load, space.spare()) {
+                    return Ok(Growth::CommitFirst);
+                }
+                if !self.can_grow_catalog(space, more) {
+                    return Ok(Growth::ToCome);
+                }
+                self.grow_catalog(alloc, space, more)?;
+                Ok(Growth::Grown)
+            }
+            None => Ok(Growth::ToCome),
+        }
+    }
+
+    /// Grows the catalog by so many nodes ahead of a command that puts so many sectors at most; what was done so far stays, whatever is
+    /// undone later. Where there is too little room for both nothing is changed, nor where the catalog can't grow so: its fork has eight
+    /// extents, so many blocks aren't free in a row, or a number has no room. `Memory` comes where memory is wanting, `Disk` where a
+    /// read failed.
+    pub fn grow_ahead<P: SectorSpace>(
+        &mut self,
+        alloc: Global,
+        space: &mut P,
+        more: u32,
+        load: u64,
+    ) -> Result<Growth, Trouble>
+        requires stands { StandsOver self.old (P.SectorView.space space.old) }
+        requires settled { IsTrue (P.SectorView.space space.old).tells → IsSettled self.old (P.SectorView.space space.old).content }
+        // Only the journal's sectors are closed.
+        requires closed { IsTrue (P.SectorView.space space.old).tells → (at : ℕ) → (P.SectorView.space space.old).closed at → IsJournalSector (P.SectorView.space space.old).content at }
+        // Told, the content's catalog has just these nodes more, and its tree is as it was; or nothing was changed.
+        ensures ahead { IsTrue (P.SectorView.space space.old).tells → IfOk result (λ said. GoesAhead said more (P.SectorView.space space.old).content (P.SectorView.space space.new).content) }
+        // Behind a growth so many sectors may be put as the command puts.
+        ensures room { IfOk result (λ said. said ≡ growing.Grown → load ≤ (P.SectorView.space space.new).spare) }
+        ensures stands { OnOk result (StandsOver self.new (P.SectorView.space space.new)) }
+        ensures settled { IsTrue (P.SectorView.space space.old).tells → OnOk result (IsSettled self.new (P.SectorView.space space.new).content) }
+        ensures service { IsInService self.new (P.SectorView.space space.new) }
+        // No block that a content has in use is lost.
+        ensures holds { (committed : Content) → HoldsOn committed self.old → HoldsOn committed self.new }
+        ensures same { (self.new.private ≡ self.old.private) × (self.new.shrunk ≡ self.old.shrunk) × (self.new.capacity ≡ self.old.capacity) }
+        // On a fault too, it puts sectors of its own and of blocks that were free alone, whatever was committed last.
+        ensures touches { (committed : Content) → Touches committed (IsOwnOrFree self.old) (P.SectorView.space space.old) (P.SectorView.space space.new) }
+        // What is its own now, or free, was so before.
+        ensures gained { IsTrue (P.SectorView.space space.old).tells → OnOk result ((s : ℕ) → IsOwnOrFree self.new s → IsOwnOrFree self.old s) }
+        ensures below { P.SectorView.follows space.old space.new }
+        ensures cause { HasTroubleCause (P.SectorView.space space.old).faults (P.SectorView.space space.new).faults result }
+    {
+        self.keep();
+        self.grow_kept(alloc, space, more, load)
+    }
+}

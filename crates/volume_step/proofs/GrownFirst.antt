@@ -1,0 +1,228 @@
+-- A command ahead of which the catalog grew: the entry of its line, from the content before the growth.
+use Rattle.std.proofs.Common.{◌≡◌, ◌≢◌, ◌⊎◌, ◌<◌, ℕ, ◌+◌, ◌*◌, ◌/◌, Bool, true, false, List, [], ◌∷◌, inl, inr, length, take, refl, sym, ◌∙◌, ap, subst, arith, zero-mul}
+use Rattle.std.specs.Prelude.{IsTrue, None, Result, Ok, Err, not, slice_index, if◌then◌else◌}
+use Rattle.std.proofs.Math.Nat.{zero-div}
+use Rattle.std.proofs.lemmas.Bool.{true≢false}
+use Rattle.std.proofs.lemmas.List.{take_all}
+use Rattle.jnl_format.specs.Keeping.{IsSame}
+use Rattle.jnl_format.specs.Recovery.{Content, header_of_volume}
+use Rattle.volume_header.specs.Refusal.{is_locked}
+use Rattle.volume_header.specs.declared.header.VolumeHeader.{VolumeHeader}
+use Rattle.btree_node.specs.declared.store.TreeShape.{TreeShape}
+use Rattle.hfs_language.specs.Language.{command_of}
+use Rattle.hfs_language.specs.declared.command.Command.{Command}
+use Rattle.hfs_language.specs.declared.refusal.Refusal.{Refusal}
+use Rattle.hfs_language.specs.declared.refusal.Refusal.TheVariants as refusal
+use Rattle.hfs_language.specs.declared.reply.Change.{Change}
+use Rattle.hfs_language.specs.declared.reply.Reply.{Reply}
+use Rattle.hfs_language.specs.declared.reply.Reply.TheVariants as reply
+use Rattle.hfs_model.specs.Step.{only_reads, refuses, step_line}
+use Rattle.hfs_model.specs.declared.plain.PlainTree.{PlainTree}
+use Rattle.hfs_volume.specs.Content.{TreeFacts, VolumeState, facts_at, has_attributes, volume_of}
+use Rattle.hfs_volume.specs.Cost.{attributes_key, catalog_key, cost_of, growth, growth_for, no_tree, tree_at}
+use Rattle.hfs_volume.specs.Forks.{attributes_id, catalog_id, data_kind, extents_id}
+use Rattle.hfs_volume.specs.Reclaim.{GrowsBy, GrowsTree, GrowsTrees, IsTreeFork, blocks_at}
+use Rattle.hfs_volume.specs.Run.{DoesLine, IsAnswered, IsDone, IsServed, PutsInFork, is_ok, reply_to}
+use Rattle.hfs_volume.specs.Sound.{IsSound}
+use Rattle.hfs_volume.specs.Told.{changes_of}
+use Rattle.hfs_volume.specs.TreeOf.{tree_of}
+use Rattle.hfs_volume.specs.Weight.{Edits, cost_of_tree, cut_cost, data_of, edits_of, free_blocks, lacks_tree, needs_cut, needs_for, room_with, weight, weight_with}
+use Rattle.hfs_volume.specs.declared.cost.Cost.{Cost}
+use Rattle.hfs_volume.specs.declared.cost.Cost.TheVariants as cost
+use Rattle.hfs_volume.specs.declared.cost.Room.{Room}
+use Rattle.tree_weights.specs.Weights.{IsAfforded, LoadIsOfParts, LoadSaysEnough}
+use Rattle.volume_ops.specs.Growing.{GrowsAhead, GrowsLists}
+use Rattle.volume_step.specs.Steps.{Affords, GrowsFirst, IsServedAs, KeepsJournal, StepsTo}
+use Rattle.volume_step.specs.declared.outcome.Outcome.{Outcome}
+use Rattle.volume_step.specs.declared.outcome.Outcome.TheVariants as outcome
+use Rattle.volume_step.proofs.MetAgain.{IsLarger, load_then, met_again, needs_of_edits}
+
+-- ---- what the command weighs behind the growth
+
+chosen : (a b c : Bool) (x y z w : Cost) → a ≡ false → b ≡ false → c ≡ false → (if a then x else if b then y else if c then z else w) ≡ w
+chosen a b c x y z w one two three = λ i. if one i then x else if two i then y else if three i then z else w
+
+-- neither the growth of a tree nor what is larger of it hangs on its extents
+growth_alike : (block key edits : ℕ) (tree : TreeFacts) (m n : ℕ) → growth block key (cost_of_tree tree m) edits ≡ growth block key (cost_of_tree tree n) edits
+unfolding growth_for
+growth_alike block key edits tree m n = refl
+
+growth_if : (block key edits : ℕ) (x y : Bool) (t u : TreeFacts) (m n : ℕ) → y ≡ x → u ≡ t → growth block key (if y then cost_of_tree u n else no_tree) edits ≡ growth block key (if x then cost_of_tree t m else no_tree) edits
+growth_if block key edits x y t u m n same_if same = (λ i. growth block key (if same_if i then cost_of_tree (same i) n else no_tree) edits) ∙ by x
+  where
+    by : (z : Bool) → growth block key (if z then cost_of_tree t n else no_tree) edits ≡ growth block key (if z then cost_of_tree t m else no_tree) edits
+    by true = growth_alike block key edits t n m
+    by false = refl
+
+larger_if : (x y : Bool) (t u : TreeFacts) (m n : ℕ) → y ≡ x → u ≡ t → IsLarger 0 (if x then cost_of_tree t m else no_tree) (if y then cost_of_tree u n else no_tree)
+larger_if x y t u m n same_if same = subst (λ (k : Bool × TreeFacts). IsLarger 0 (if x then cost_of_tree t m else no_tree) (if k.0 then cost_of_tree k.1 n else no_tree)) {x = (x, t)} {y = (y, u)} (λ i. (sym same_if i, sym same i)) (by x)
+  where
+    by : (z : Bool) → IsLarger 0 (if z then cost_of_tree t m else no_tree) (if z then cost_of_tree t n else no_tree)
+    by true = record { node_size = refl; depth = refl; records = refl; nodes = omega arith }
+    by false = record { node_size = refl; depth = refl; records = refl; nodes = omega arith }
+
+module _ (says : LoadSaysEnough) (of_parts : LoadIsOfParts) (capacity more : ℕ) (asked : Command) (before mid : Content) (unread : only_reads asked ≡ false) (no_put : (tree : PlainTree) → data_of tree asked ≡ None) (no_lack : (volume : VolumeState) → lacks_tree volume asked ≡ false)
+    (first : GrowsFirst more capacity asked before) (ahead : GrowsAhead more before mid)
+  where
+    abbrev old : VolumeState
+    old = volume_of before
+
+    abbrev new : VolumeState
+    new = volume_of mid
+
+    abbrev many : Edits
+    many = edits_of (tree_of before) asked
+
+    abbrev room : VolumeState → Room
+    room volume = room_with capacity (free_blocks volume) volume
+
+    weight_is : (volume : VolumeState) (tree : PlainTree) → weight capacity volume tree asked ≡ cost_of (needs_of_edits (edits_of tree asked)) (room volume)
+    unfolding weight_with
+    weight_is volume tree =
+        chosen (only_reads asked) (needs_cut volume (data_of tree asked)) (lacks_tree volume asked) (cost.Load 0 (0 ∷ 0 ∷ 0 ∷ [])) (cut_cost (room volume)) (cost.Refused refusal.NoTree) (cost_of (needs_for (free_blocks volume) volume (edits_of tree asked) (data_of tree asked)) (room volume))
+        unread (ap (needs_cut volume) (no_put tree)) (no_lack volume)
+        ∙ ap (λ d. cost_of (needs_for (free_blocks volume) volume (edits_of tree asked) d) (room volume)) (no_put tree)
+
+    afforded : IsAfforded (needs_of_edits many) (room old) first.load (0 ∷ more ∷ 0 ∷ [])
+    afforded = says (needs_of_edits many) (room old) first.load (0 ∷ more ∷ 0 ∷ []) (sym (weight_is old (tree_of before)) ∙ first.weighs)
+
+    block_is : (room new).block ≡ (room old).block
+    unfolding room_with
+    block_is = ap (λ (h : VolumeHeader). h.block_size) ahead.lists.head
+
+    ids_are : (room new).next_id ≡ (room old).next_id
+    unfolding room_with
+    ids_are = ap (λ (h : VolumeHeader). h.next_catalog_id) ahead.lists.head
+
+    capacity_is : (room new).capacity ≡ (room old).capacity
+    unfolding room_with
+    capacity_is = refl
+
+    larger : IsLarger more (tree_at (room old) 1) (tree_at (room new) 1)
+    unfolding room_with
+    larger = record {
+      node_size = ap (λ (s : TreeShape). s.node_size) ahead.lists.numbers;
+      depth = ap (λ (s : TreeShape). s.depth) ahead.lists.numbers;
+      records = ap (λ (s : TreeShape). s.leaf_records) ahead.lists.numbers;
+      nodes = ahead.grows.catalog.nodes;
+    }
+
+    same_attributes : IsLarger 0 (tree_at (room old) 2) (tree_at (room new) 2)
+    unfolding room_with
+    same_attributes = larger_if (has_attributes old.head) (has_attributes new.head) old.attributes_tree new.attributes_tree _ _ (ap (λ (h : VolumeHeader). has_attributes h) ahead.lists.head) ahead.lists.attributes
+
+    catalog_still : growth (room new).block catalog_key (tree_at (room new) 1) many.catalog ≡ 0
+    unfolding room_with growth_for
+    catalog_still = ap (λ n. growth n catalog_key (tree_at (room new) 1) many.catalog) block_is ∙ ahead.lists.suffices (room old).block many.catalog (ap (λ l. slice_index l 1) afforded.grows)
+
+    attributes_still : growth (room new).block attributes_key (tree_at (room new) 2) many.attributes ≡ 0
+    unfolding room_with
+    attributes_still =
+        ap (λ n. growth n attributes_key (tree_at (room new) 2) many.attributes) block_is
+        ∙ growth_if (room old).block attributes_key many.attributes (has_attributes old.head) (has_attributes new.head) old.attributes_tree new.attributes_tree _ _ (ap (λ (h : VolumeHeader). has_attributes h) ahead.lists.head) ahead.lists.attributes
+        ∙ sym (ap (λ l. slice_index l 2) afforded.grows)
+
+    tree_then : (P : PlainTree → Type 0) → P (tree_of before) → P (tree_of mid)
+    tree_then P was = subst P (sym ahead.tree) was
+
+    pub affords_then : Affords capacity asked mid
+    affords_then = record {
+      no_refusal = subst (λ (t : PlainTree). refuses t (Ok asked) ≡ false) (sym ahead.tree) first.no_refusal;
+      load = _;
+      affords = weight_is new (tree_of mid) ∙ ap (λ (t : PlainTree). cost_of (needs_of_edits (edits_of t asked)) (room new)) ahead.tree
+          ∙ met_again of_parts many (room old) (room new) more first.load first.some afforded capacity_is ids_are larger same_attributes catalog_still attributes_still;
+    }
+
+    -- ---- the journal's place
+
+    pub place_ahead : KeepsJournal before mid
+    unfolding volume_of
+    place_ahead = record {
+      journal = ahead.lists.journal;
+      locked = ap (λ (h : VolumeHeader). is_locked h.attributes) ahead.lists.head;
+      heading = subst (λ (h : VolumeHeader). IsSame (volume_of before).head h) (sym ahead.lists.head) (record { signature = refl; version = refl; last_mounted = refl; info_block = refl; block_size = refl; total_blocks = refl; bit_12 = refl; bit_13 = refl; bit_15 = refl });
+    }
+
+-- ---- the trees grow by as much, whatever follows that lets them as they are
+
+none_of : (size block : ℕ) → 0 * size / block ≡ 0
+none_of size block = ap (λ n. n / block) (zero-mul size) ∙ zero-div block
+
+grown_same : (more : ℕ) (a b : List ℕ) → more ≡ 0 → GrowsBy more a b → b ≡ a
+grown_same more a b none grows = sym (take_all (length a) b (omega (arith, grows.longer, none))) ∙ grows.front
+
+tree_both : (id more : ℕ) (a b c : VolumeState) → GrowsTree id more a b → GrowsTree id 0 b c → GrowsTree id more a c
+tree_both id more a b c p q = record {
+  nodes = omega (arith, q.nodes, p.nodes);
+  blocks = subst (λ (l : List ℕ). GrowsBy (more * (facts_at a id).shape.node_size / a.head.block_size) (blocks_at a id data_kind) l) (sym (grown_same _ (blocks_at b id data_kind) (blocks_at c id data_kind) (none_of (facts_at b id).shape.node_size b.head.block_size) q.blocks)) p.blocks;
+}
+
+trees_both : (more : ℕ) (a b c : VolumeState) → GrowsTrees (0 ∷ more ∷ 0 ∷ []) a b → GrowsTrees (0 ∷ 0 ∷ 0 ∷ []) b c → GrowsTrees (0 ∷ more ∷ 0 ∷ []) a c
+trees_both more a b c p q = record {
+  extents = tree_both extents_id 0 a b c p.extents q.extents;
+  catalog = tree_both catalog_id more a b c p.catalog q.catalog;
+  attributes = tree_both attributes_id 0 a b c p.attributes q.attributes;
+}
+
+-- the growths of a load
+abbrev grown_in : Cost → List ℕ
+grown_in (cost.Load load grow) = grow
+grown_in (cost.Refused why) = []
+
+-- ---- the entry
+
+module _ (capacity number more : ℕ) (asked : Command) (before mid after : Content) (unread : only_reads asked ≡ false) (no_put : (tree : PlainTree) → data_of tree asked ≡ None) (first : GrowsFirst more capacity asked before) (ahead : GrowsAhead more before mid) (affords : Affords capacity asked mid)
+    (sound : IsSound before) (reply_same : (content : Content) → reply_to capacity content (Ok asked) ≡ (step_line (tree_of content) (Ok asked)).0)
+  where
+    done_first : IsDone capacity asked mid after → IsDone capacity asked before after
+    done_first done =
+        let none : done.grow ≡ 0 ∷ 0 ∷ 0 ∷ [] = ap grown_in (sym done.affords ∙ affords.affords) in
+        record {
+          load = first.load;
+          grow = 0 ∷ more ∷ 0 ∷ [];
+          affords = first.weighs;
+          no_surplus = ap (needs_cut (volume_of before)) (no_put (tree_of before));
+          grows = trees_both more (volume_of before) (volume_of mid) (volume_of after) ahead.grows (subst (λ (l : List ℕ). GrowsTrees l (volume_of mid) (volume_of after)) none done.grows);
+          forks = subst (λ d. PutsInFork d (volume_of before) (volume_of after)) (sym (no_put (tree_of before)))
+              (λ id kind other. subst (λ d. PutsInFork d (volume_of mid) (volume_of after)) (no_put (tree_of mid)) done.forks id kind other ∙ ahead.files id kind (inl (λ same. other (inr (inl same)))));
+          reads = λ does_read. absurd (true≢false (sym does_read ∙ unread));
+        }
+
+    answered_first : (line : List ℕ) → command_of line ≡ Ok asked → IsAnswered capacity (record { line = line; reply = reply.Ok; before = mid; after = after }) → IsAnswered capacity (record { line = line; reply = reply.Ok; before = before; after = after })
+    answered_first line spells was = record {
+      reply_is =
+          was.reply_is ∙ ap (reply_to capacity mid) spells ∙ reply_same mid ∙ ap (λ (t : PlainTree). (step_line t (Ok asked)).0) ahead.tree ∙ sym (reply_same before) ∙ sym (ap (reply_to capacity before) spells);
+      tree = was.tree ∙ ap (λ (t : PlainTree). (step_line t (command_of line)).1) ahead.tree;
+      does = subst (λ r. DoesLine capacity r before after) (sym spells) (
+        λ refused_it. absurd (true≢false (sym refused_it ∙ first.no_refusal)),
+        λ not_refused. done_first ((subst (λ r. DoesLine capacity r mid after) spells was.does).1 affords.no_refusal),
+      );
+    }
+
+    served_first : (line : List ℕ) → command_of line ≡ Ok asked → IsServed capacity (record { line = line; reply = reply.Ok; before = mid; after = after }) → IsServed capacity (record { line = line; reply = reply.Ok; before = before; after = after })
+    served_first line spells was = record {
+      sound_before = sound;
+      sound_after = was.sound_after;
+      is = elim was.is [
+        | inl answered ↦ inl (answered_first line spells answered)
+        | inr other ↦ elim other [
+          | inl lacks ↦ absurd (let it : reply.Ok ≡ reply.No lacks.why = lacks.reply_is in cc it)
+          | inr rest ↦ elim rest [
+            | inl memory ↦ absurd (let it : reply.Ok ≡ reply.No refusal.OutOfMemory = memory.reply_is in cc it)
+            | inr later ↦ absurd (let it : reply.Ok ≡ reply.No refusal.NotBuilt = later.reply_is in cc it)
+          ]
+        ]
+      ];
+    }
+
+    pub steps_first : (changes : List Change) → StepsTo (outcome.Answered reply.Ok changes) capacity number asked mid after → StepsTo (outcome.Answered reply.Ok changes) capacity number asked before after
+    steps_first changes steps line spells =
+        let was = steps line spells in
+        record {
+          served = served_first line spells was.served;
+          told = was.told ∙ ap (λ (it : Result Command Refusal). told_at mid it) spells ∙ ap (λ (t : PlainTree). changes_of number t asked) ahead.tree ∙ sym (ap (λ (it : Result Command Refusal). told_at before it) spells);
+        }
+      where
+        told_at : Content → Result Command Refusal → List Change
+        told_at content (Ok it) = changes_of number (tree_of content) it
+        told_at content (Err why) = []

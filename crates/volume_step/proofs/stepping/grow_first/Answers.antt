@@ -1,0 +1,106 @@
+use Rattle.std.proofs.Common.{ℕ, [], refl, sym, ◌∙◌, subst}
+use Rattle.std.specs.Prelude.{IfOk}
+use Rattle.sector_disk.specs.Lists.{Content}
+use Rattle.hfs_model.specs.declared.plain.PlainTree.{PlainTree}
+use Rattle.hfs_volume.specs.Weight.{data_of}
+use Rattle.volume_ops.specs.Growing.{GrowsAhead}
+use Rattle.volume_ops.specs.Keeping.{shrunk_of}
+use Rattle.volume_ops.specs.Room.{capacity_of}
+use Rattle.volume_ops.specs.Standing.{HoldsOn}
+use Rattle.volume_ops.specs.declared.ahead.Growth.TheVariants as growing
+use Rattle.volume_ops.proofs.Sounding.{sound_here}
+use Rattle.volume_ops.proofs.WhenKept.{on_ok}
+use Rattle.volume_step.specs.Steps.{Affords, KeepsJournal, StepsTo}
+use Rattle.volume_step.specs.declared.outcome.Outcome.{Outcome}
+use Rattle.volume_step.proofs.Done.{same_place, waits_steps}
+use Rattle.volume_step.proofs.GrownFirst.{affords_then, place_ahead}
+use Rattle.volume_step.proofs.GrownSteps.{journal_both, result_answered, result_shrinks, touches_ahead, touches_grown, waits_grown, went}
+use Rattle.volume_step.proofs.stepping.grow_first.Goals as goal
+
+-- ---- where it isn't one that edits the catalog
+
+pub returns-then-not-edits_catalog-clause-answered : goal.returns-then-not-edits_catalog-clause-answered
+returns-then-not-edits_catalog-clause-answered g c tells =
+    waits_steps (capacity_of c.args.volume.now) c.args.number c.args.command.now (g.P.SectorView.space c.args.space.now).content (g.P.SectorView.space c.args.space.now).content refl (sound_here c.args.volume.now (g.P.SectorView.space c.args.space.now) (c.requires.stands.stands tells) (c.requires.settled tells))
+    (waits_grown c.args.more (capacity_of c.args.volume.now) c.args.command.now (g.P.SectorView.space c.args.space.now).content (c.requires.grows tells)) c.refusal.result c.refusal.ensures
+
+-- ---- the growth
+
+pub returns-in_err-grow_ahead-clause-touches : goal.returns-in_err-grow_ahead-clause-touches
+returns-in_err-grow_ahead-clause-touches g c committed = touches_ahead committed c.args.volume.now c.grow_ahead.new.self (g.P.SectorView.space c.args.space.now) (g.P.SectorView.space c.grow_ahead.new.space) (c.grow_ahead.ensures.touches committed)
+
+pub do_grown-requires-clause-settled : goal.do_grown-requires-clause-settled
+do_grown-requires-clause-settled g c told = c.in_ok-grow_ahead.ensures.settled (sym (c.grow_ahead.ensures.touches []).same.tells ∙ told)
+
+pub do_grown-requires-clause-affords : goal.do_grown-requires-clause-affords
+do_grown-requires-clause-affords g c told =
+    let tells = sym (c.grow_ahead.ensures.touches []).same.tells ∙ told in
+    let ahead = went c.args.more (g.P.SectorView.space c.args.space.now).content (g.P.SectorView.space c.grow_ahead.new.space).content c.in_ok-grow_ahead.field-0 growing.Grown c.in-Grown.is (c.in_ok-grow_ahead.ensures.ahead tells) in
+    subst (λ (n : ℕ). Affords n c.args.command.now (g.P.SectorView.space c.grow_ahead.new.space).content) (sym c.grow_ahead.ensures.same.2)
+    (affords_then c.a_load_says_enough.ensures c.a_load_is_of_parts.ensures (capacity_of c.args.volume.now) c.args.more c.args.command.now (g.P.SectorView.space c.args.space.now).content (g.P.SectorView.space c.grow_ahead.new.space).content c.requires.changes
+    (c.if-not-edits_catalog.ensures.data refl) (c.if-not-edits_catalog.ensures.tree refl) (c.requires.grows tells) ahead)
+
+-- ---- behind it
+
+pub returns-in-Grown-clause-answered : goal.returns-in-Grown-clause-answered
+returns-in-Grown-clause-answered g c tells =
+    let ahead = went c.args.more (g.P.SectorView.space c.args.space.now).content (g.P.SectorView.space c.grow_ahead.new.space).content c.in_ok-grow_ahead.field-0 growing.Grown c.in-Grown.is (c.in_ok-grow_ahead.ensures.ahead tells) in
+    result_answered (capacity_of c.args.volume.now) c.args.number c.args.more c.args.command.now (g.P.SectorView.space c.args.space.now).content (g.P.SectorView.space c.grow_ahead.new.space).content (g.P.SectorView.space c.do_grown.new.space).content c.requires.changes ahead (c.if-not-edits_catalog.ensures.data refl) (c.requires.grows tells)
+    (affords_then c.a_load_says_enough.ensures c.a_load_is_of_parts.ensures (capacity_of c.args.volume.now) c.args.more c.args.command.now (g.P.SectorView.space c.args.space.now).content (g.P.SectorView.space c.grow_ahead.new.space).content c.requires.changes
+    (c.if-not-edits_catalog.ensures.data refl) (c.if-not-edits_catalog.ensures.tree refl) (c.requires.grows tells) ahead)
+    (sound_here c.args.volume.now (g.P.SectorView.space c.args.space.now) (c.requires.stands.stands tells) (c.requires.settled tells)) c.do_grown.result c.do_grown.ensures.done
+    (subst (λ (n : ℕ). IfOk c.do_grown.result (λ (o : Outcome). StepsTo o n c.args.number c.args.command.now (g.P.SectorView.space c.grow_ahead.new.space).content (g.P.SectorView.space c.do_grown.new.space).content)) c.grow_ahead.ensures.same.2
+    (c.do_grown.ensures.answered ((c.grow_ahead.ensures.touches []).same.tells ∙ tells)))
+
+pub returns-in-Grown-clause-place : goal.returns-in-Grown-clause-place
+returns-in-Grown-clause-place g c tells =
+    let ahead = went c.args.more (g.P.SectorView.space c.args.space.now).content (g.P.SectorView.space c.grow_ahead.new.space).content c.in_ok-grow_ahead.field-0 growing.Grown c.in-Grown.is (c.in_ok-grow_ahead.ensures.ahead tells) in
+    let place = place_ahead c.a_load_says_enough.ensures c.a_load_is_of_parts.ensures (capacity_of c.args.volume.now) c.args.more c.args.command.now (g.P.SectorView.space c.args.space.now).content (g.P.SectorView.space c.grow_ahead.new.space).content c.requires.changes (c.if-not-edits_catalog.ensures.data refl) (c.if-not-edits_catalog.ensures.tree refl) (c.requires.grows tells) ahead in
+    on_ok (λ then_. journal_both (g.P.SectorView.space c.args.space.now).content (g.P.SectorView.space c.grow_ahead.new.space).content (g.P.SectorView.space c.do_grown.new.space).content place then_) c.do_grown.result (c.do_grown.ensures.place ((c.grow_ahead.ensures.touches []).same.tells ∙ tells))
+
+pub returns-in-Grown-clause-settled : goal.returns-in-Grown-clause-settled
+returns-in-Grown-clause-settled g c tells = c.do_grown.ensures.settled ((c.grow_ahead.ensures.touches []).same.tells ∙ tells)
+
+pub returns-in-Grown-clause-holds : goal.returns-in-Grown-clause-holds
+returns-in-Grown-clause-holds g c committed was = c.do_grown.ensures.holds committed (c.grow_ahead.ensures.holds committed was)
+
+pub returns-in-Grown-clause-shrunk : goal.returns-in-Grown-clause-shrunk
+returns-in-Grown-clause-shrunk g c tells =
+    let ahead = went c.args.more (g.P.SectorView.space c.args.space.now).content (g.P.SectorView.space c.grow_ahead.new.space).content c.in_ok-grow_ahead.field-0 growing.Grown c.in-Grown.is (c.in_ok-grow_ahead.ensures.ahead tells) in
+    result_shrinks (capacity_of c.args.volume.now) c.args.number c.args.more c.args.command.now (g.P.SectorView.space c.args.space.now).content (g.P.SectorView.space c.grow_ahead.new.space).content (g.P.SectorView.space c.do_grown.new.space).content c.requires.changes ahead
+    (shrunk_of c.args.volume.now) (shrunk_of c.grow_ahead.new.self) (shrunk_of c.do_grown.new.volume) c.grow_ahead.ensures.same.1 c.do_grown.result (c.do_grown.ensures.shrunk ((c.grow_ahead.ensures.touches []).same.tells ∙ tells))
+
+pub returns-in-Grown-clause-touches : goal.returns-in-Grown-clause-touches
+returns-in-Grown-clause-touches g c committed =
+    touches_grown committed c.args.volume.now c.grow_ahead.new.self c.do_grown.new.volume (g.P.SectorView.space c.args.space.now) (g.P.SectorView.space c.grow_ahead.new.space) (g.P.SectorView.space c.do_grown.new.space) c.in_ok-grow_ahead.ensures.gained (c.grow_ahead.ensures.touches committed) (c.do_grown.ensures.touches committed)
+
+pub returns-in-Grown-clause-below : goal.returns-in-Grown-clause-below
+returns-in-Grown-clause-below g c = g.met.P.SectorView.follows_trans c.args.space.now c.grow_ahead.new.space c.do_grown.new.space c.grow_ahead.ensures.below c.do_grown.ensures.below
+
+-- ---- where it didn't grow
+
+pub returns-in-CommitFirst-clause-answered : goal.returns-in-CommitFirst-clause-answered
+returns-in-CommitFirst-clause-answered g c tells = went c.args.more (g.P.SectorView.space c.args.space.now).content (g.P.SectorView.space c.grow_ahead.new.space).content c.in_ok-grow_ahead.field-0 growing.CommitFirst c.in-CommitFirst.is (c.in_ok-grow_ahead.ensures.ahead tells)
+
+pub returns-in-CommitFirst-clause-place : goal.returns-in-CommitFirst-clause-place
+returns-in-CommitFirst-clause-place g c tells =
+    same_place (g.P.SectorView.space c.args.space.now).content (g.P.SectorView.space c.grow_ahead.new.space).content
+    (went c.args.more (g.P.SectorView.space c.args.space.now).content (g.P.SectorView.space c.grow_ahead.new.space).content c.in_ok-grow_ahead.field-0 growing.CommitFirst c.in-CommitFirst.is (c.in_ok-grow_ahead.ensures.ahead tells))
+
+pub returns-in-CommitFirst-clause-touches : goal.returns-in-CommitFirst-clause-touches
+returns-in-CommitFirst-clause-touches g c committed = touches_ahead committed c.args.volume.now c.grow_ahead.new.self (g.P.SectorView.space c.args.space.now) (g.P.SectorView.space c.grow_ahead.new.space) (c.grow_ahead.ensures.touches committed)
+
+pub returns-in-ToCome-clause-answered : goal.returns-in-ToCome-clause-answered
+returns-in-ToCome-clause-answered g c tells =
+    waits_steps (capacity_of c.args.volume.now) c.args.number c.args.command.now (g.P.SectorView.space c.args.space.now).content (g.P.SectorView.space c.grow_ahead.new.space).content
+    (went c.args.more (g.P.SectorView.space c.args.space.now).content (g.P.SectorView.space c.grow_ahead.new.space).content c.in_ok-grow_ahead.field-0 growing.ToCome c.in-ToCome.is (c.in_ok-grow_ahead.ensures.ahead tells))
+    (sound_here c.args.volume.now (g.P.SectorView.space c.args.space.now) (c.requires.stands.stands tells) (c.requires.settled tells))
+    (waits_grown c.args.more (capacity_of c.args.volume.now) c.args.command.now (g.P.SectorView.space c.args.space.now).content (c.requires.grows tells)) c.refusal-in-ToCome.result c.refusal-in-ToCome.ensures
+
+pub returns-in-ToCome-clause-place : goal.returns-in-ToCome-clause-place
+returns-in-ToCome-clause-place g c tells =
+    same_place (g.P.SectorView.space c.args.space.now).content (g.P.SectorView.space c.grow_ahead.new.space).content
+    (went c.args.more (g.P.SectorView.space c.args.space.now).content (g.P.SectorView.space c.grow_ahead.new.space).content c.in_ok-grow_ahead.field-0 growing.ToCome c.in-ToCome.is (c.in_ok-grow_ahead.ensures.ahead tells))
+
+pub returns-in-ToCome-clause-touches : goal.returns-in-ToCome-clause-touches
+returns-in-ToCome-clause-touches g c committed = touches_ahead committed c.args.volume.now c.grow_ahead.new.self (g.P.SectorView.space c.args.space.now) (g.P.SectorView.space c.grow_ahead.new.space) (c.grow_ahead.ensures.touches committed)
