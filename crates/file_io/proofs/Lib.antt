@@ -4,6 +4,7 @@ pub mod SpaceLaws
 pub mod PartLaws
 pub mod SpillLaws
 pub mod GiveLaws
+pub mod KeepLaws
 pub mod CutLaws
 pub mod PlaceLaws
 pub mod AfterLaws

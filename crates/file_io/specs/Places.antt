@@ -1,5 +1,5 @@
 -- Which blocks a write makes anew.
-use Rattle.std.specs.Prelude.{ℕ, ◌+◌, ◌-◌, ◌/◌, min, if◌then◌else◌, ◌==◌, ◌≡◌, true, false, List, slice_index_or}
+use Rattle.std.specs.Prelude.{ℕ, ◌+◌, ◌-◌, ◌/◌, min, if◌then◌else◌, ◌==◌, ◌≡◌, true, false, List, length, slice_index_or}
 use Rattle.std.specs.Prelude.{map as map_list}
 use Rattle.std.specs.List.{All}
 use Rattle.flag_rows.specs.Marks.{mark_all}
@@ -50,3 +50,10 @@ taken n map = record map {
 -- each of these blocks is used
 abbrev pub AreUsed : BlockMap → List ℕ → Type 0
 AreUsed map blocks = All (λ block. slice_index_or map.used block false ≡ true) blocks
+
+-- The bitmap has as many blocks as it had, and as many sectors of which it keeps whether they were changed; and it lies in the same file.
+pub record KeepsMap (old new : BlockMap) : Type 0 where
+  pub fork : new.fork ≡ old.fork
+  pub per_block : new.per_block ≡ old.per_block
+  pub used : length new.used ≡ length old.used
+  pub changed : length new.changed ≡ length old.changed

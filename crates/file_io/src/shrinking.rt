@@ -3,7 +3,8 @@ ghost use Rattle.std.specs.Prelude.{◌≡◌, ◌<◌, ◌≤◌, ◌+◌, ◌-
 ghost use Rattle.fork_map.specs.Blocks.{blocks_of};
 ghost use Rattle.fork_map.specs.Cut.{front, back};
 ghost use Rattle.alloc_bitmap.specs.Apart.{AreApart};
-ghost use Rattle.file_io.specs.Places.{given, AreUsed};
+ghost use Rattle.flag_rows.specs.Bits.{sectors_for};
+ghost use Rattle.file_io.specs.Places.{given, AreUsed, KeepsMap};
 
 use alloc_bitmap::Bitmap;
 use fork_map::ExtentList;
@@ -13,6 +14,8 @@ use std::alloc::Global;
 /// Gives extents back whose blocks are used.
 pub fn give_all(alloc: Global, map: &mut Bitmap, list: &[Extent]) -> Result<(), OutOfMemory>
     ensures given { AreApart (blocks_of list.now) → AreUsed map.old (blocks_of list.now) → OnOk result (map.new ≡ given list.now map.old) }
+    // Also where it fails, it is a bitmap of the same volume.
+    ensures keeps { length map.old.changed ≡ sectors_for (length map.old.used) → KeepsMap map.old map.new }
 {
     for extent in list {
         if map.have(*extent, true) {
@@ -45,6 +48,8 @@ pub fn shrink_step(
     // Where extents behind the first n records have blocks, those of the first n records stay.
     ensures last_record { IfOk result (λ list. (n : ℕ) → 0 < length (blocks_of (drop (8 * n) fork.now)) → length (blocks_of (take (8 * n) fork.now)) ≤ length (blocks_of list)) }
     ensures given { AreApart (blocks_of fork.now) → IfOk result (λ list. map.new ≡ given (back (length (blocks_of list)) fork.now) map.old) }
+    // Also where it fails, it is a bitmap of the same volume.
+    ensures keeps { length map.old.changed ≡ sectors_for (length map.old.used) → KeepsMap map.old map.new }
 {
     let _total = map.total();
     let items = fork.as_slice();

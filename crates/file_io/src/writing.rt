@@ -7,11 +7,11 @@ ghost use Rattle.sector_disk.specs.Cause.{Rose};
 ghost use Rattle.sector_disk.specs.Clock.{TimePasses};
 ghost use Rattle.sector_disk.specs.Space.{SameSpace, SameRoom, LeavesDurable};
 ghost use Rattle.fork_map.specs.Blocks.{blocks_of, AreNumbers};
-ghost use Rattle.flag_rows.specs.Bits.{count_set};
+ghost use Rattle.flag_rows.specs.Bits.{count_set, sectors_for};
 ghost use Rattle.alloc_bitmap.specs.Apart.{AreApart};
 ghost use Rattle.alloc_bitmap.specs.Map.{free_of, PicksFree};
 ghost use Rattle.file_io.specs.Bytes.{IsBlockSize, sectors_in, fork_bytes, byte_in, new_byte, padded, written};
-ghost use Rattle.file_io.specs.Places.{blocks_for, first_block, new_blocks, old_end, fresh_of, middle, taken, given, AreUsed};
+ghost use Rattle.file_io.specs.Places.{blocks_for, first_block, new_blocks, old_end, fresh_of, middle, taken, given, AreUsed, KeepsMap};
 ghost use Rattle.file_io.specs.Touching.{MaySpill, IsOneOf, SpillsIn};
 
 use crate::shrinking::{blocks_in, give_all};
@@ -49,6 +49,8 @@ pub fn write<P: SectorSpace>(
     // The fresh blocks were taken, and the old ones given back and held.
     ensures map { 0 < length value.now → AreApart (blocks_of fork.now) → OnOk result (map.new ≡ given (middle (first_block block size from) (old_end block size (from + length value.now)) fork.now) (taken (new_blocks block size from (from + length value.now)) map.old)) }
     ensures nothing { length value.now ≡ 0 → IfOk result (λ list. (list ≡ fork.now) × (map.new ≡ map.old)) }
+    // Also where it fails, it is a bitmap of the same volume.
+    ensures keeps { length map.old.changed ≡ sectors_for (length map.old.used) → KeepsMap map.old map.new }
 
     // Nothing but sectors of the fresh blocks is touched, also where it fails.
     ensures touches { IsTrue (P.SectorView.space space.old).tells → SpillsIn (IsOneOf (sectors_in block (fresh_of map.old (new_blocks block size from (from + length value.now))))) (P.SectorView.space space.old) (P.SectorView.space space.new) }
@@ -93,6 +95,8 @@ pub fn grow_step<P: SectorSpace>(
     // The fresh blocks were taken, and the old ones given back and held.
     ensures map { size < to → AreApart (blocks_of fork.now) → OnOk result (map.new ≡ given (middle (first_block block size size) (old_end block size (to)) fork.now) (taken (new_blocks block size size (to)) map.old)) }
     ensures nothing { size ≡ to → IfOk result (λ list. (list ≡ fork.now) × (map.new ≡ map.old)) }
+    // Also where it fails, it is a bitmap of the same volume.
+    ensures keeps { length map.old.changed ≡ sectors_for (length map.old.used) → KeepsMap map.old map.new }
 
     // Nothing but sectors of the fresh blocks is touched, also where it fails.
     ensures touches { IsTrue (P.SectorView.space space.old).tells → SpillsIn (IsOneOf (sectors_in block (fresh_of map.old (new_blocks block size size (to))))) (P.SectorView.space space.old) (P.SectorView.space space.new) }
@@ -137,6 +141,7 @@ fn rewrite<P: SectorSpace>(
         byte_in (P.SectorView.space space.new).content (sectors_in block list) q ≡ new_byte (P.SectorView.space space.old).content (sectors_in block fork.now) size from value.now q) }
     ensures enough { IfOk result (λ list. max size end ≤ length (sectors_in block list) * 512) }
     ensures map { AreApart (blocks_of fork.now) → OnOk result (map.new ≡ given (middle (first_block block size from) (old_end block size end) fork.now) (taken (new_blocks block size from end) map.old)) }
+    ensures keeps { length map.old.changed ≡ sectors_for (length map.old.used) → KeepsMap map.old map.new }
     ensures touches { IsTrue (P.SectorView.space space.old).tells → SpillsIn (IsOneOf (sectors_in block (fresh_of map.old (new_blocks block size from end)))) (P.SectorView.space space.old) (P.SectorView.space space.new) }
     ensures time { IsTrue (P.SectorView.space space.old).tells → TimePasses (P.SectorView.space space.old).clock (P.SectorView.space space.new).clock (LeavesDurable (P.SectorView.space space.new)) }
     ensures room { SameRoom (P.SectorView.space space.old) (P.SectorView.space space.new) }
@@ -190,6 +195,7 @@ fn remake(
     ensures picks { IfOk result (λ parts. PicksFree (free_of map.old) (behind - first) parts.0) }
     ensures blocks { IfOk result (λ parts. blocks_of parts.1 ≡ take first (blocks_of fork.now) ++ blocks_of parts.0 ++ drop old_behind (blocks_of fork.now)) }
     ensures map { AreApart (blocks_of fork.now) → OnOk result (map.new ≡ given (middle first old_behind fork.now) (taken (behind - first) map.old)) }
+    ensures keeps { length map.old.changed ≡ sectors_for (length map.old.used) → KeepsMap map.old map.new }
 {
     let _total = map.total();
     let fresh = map.take(alloc, behind - first)?;

@@ -8,6 +8,7 @@ use Rattle.alloc_bitmap.specs.Apart.{AreApart}
 use Rattle.alloc_bitmap.specs.Map.{BlockMap, touched_by}
 use Rattle.file_io.specs.Places.{middle, taken, given, AreUsed}
 use Rattle.file_io.proofs.CutLaws.{numbers_free, few_used, apart_behind, apart_before}
+use Rattle.file_io.proofs.KeepLaws.{keeps_both, keeps_take, marks_then}
 use Rattle.file_io.proofs.TakenLaws.{used_taken, middle_blocks}
 use Rattle.file_io.proofs.writing.remake.Goals as goal
 
@@ -30,3 +31,19 @@ returns-clause-map c = λ apart.
     (subst (λ (l : List ℕ). AreApart l) (sym blocks) (apart_behind (take c.args.old_behind (blocks_of fork)) c.args.first (apart_before (blocks_of fork) c.args.old_behind apart)))
     (subst (λ (m : BlockMap). AreUsed m (blocks_of c.as_slice.result.now)) (sym now_is) (subst (λ (l : List ℕ). AreUsed (taken n map) l) (sym blocks) used_part))
     ∙ ap (λ (l : List Extent). given l c.take.new.self) old_is ∙ ap (λ (m : BlockMap). given part m) now_is
+
+pub returns-in_err-list-clause-keeps : goal.returns-in_err-list-clause-keeps
+returns-in_err-list-clause-keeps c = λ marks. keeps_take c.args.map.now c.take.new.self (c.args.behind - c.args.first) c.in_ok-fresh.fresh c.in_ok-fresh.ensures.rule c.in_ok-fresh.ensures.taken marks
+
+pub returns-in_err-old-clause-keeps : goal.returns-in_err-old-clause-keeps
+returns-in_err-old-clause-keeps c = λ marks. keeps_take c.args.map.now c.take.new.self (c.args.behind - c.args.first) c.in_ok-fresh.fresh c.in_ok-fresh.ensures.rule c.in_ok-fresh.ensures.taken marks
+
+pub returns-in_err-give_all-clause-keeps : goal.returns-in_err-give_all-clause-keeps
+returns-in_err-give_all-clause-keeps c = λ marks.
+    let first = keeps_take c.args.map.now c.take.new.self (c.args.behind - c.args.first) c.in_ok-fresh.fresh c.in_ok-fresh.ensures.rule c.in_ok-fresh.ensures.taken marks in
+    keeps_both c.args.map.now c.take.new.self c.give_all.new.map first (c.give_all.ensures.keeps (marks_then c.args.map.now c.take.new.self first marks))
+
+pub returns-clause-keeps : goal.returns-clause-keeps
+returns-clause-keeps c = λ marks.
+    let first = keeps_take c.args.map.now c.take.new.self (c.args.behind - c.args.first) c.in_ok-fresh.fresh c.in_ok-fresh.ensures.rule c.in_ok-fresh.ensures.taken marks in
+    keeps_both c.args.map.now c.take.new.self c.give_all.new.map first (c.give_all.ensures.keeps (marks_then c.args.map.now c.take.new.self first marks))
