@@ -12,6 +12,7 @@ pub mod Chmod
 pub mod CommandWeights
 pub mod Commanding
 pub mod CostSame
+pub mod DataWeights
 pub mod Counted
 pub mod Dating
 pub mod EditsOn
@@ -71,6 +72,7 @@ pub mod OwnedChange
 pub mod OwnedTold
 pub mod Paths
 pub mod Placing
+pub mod PlainFiles
 pub mod PrivateLoss
 pub mod PrivateOpened
 pub mod PrivateRecount
@@ -82,12 +84,15 @@ pub mod RemoveWeight
 pub mod Refused
 pub mod Replaced
 pub mod Resettling
+pub mod Resized
 pub mod Righting
 pub mod Rising
 pub mod RoomKept
 pub mod RoomToRemove
 pub mod Routed
 pub mod Seeing
+pub mod Shortened
+pub mod ShortenedCalls
 pub mod Settling
 pub mod Sited
 pub mod Siting
@@ -99,6 +104,7 @@ pub mod Taken
 pub mod TakenOff
 pub mod Tallies
 pub mod ToNode
+pub mod ToldFile
 pub mod Touched
 pub mod TreesAfter
 pub mod TreesSettled

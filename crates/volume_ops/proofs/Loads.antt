@@ -30,7 +30,7 @@ load_is None counted n grow told is = sym (ap (load_in n) is)
 load_is (Some why) counted n grow told is = absurd (let no : cost.Refused why ≡ cost.Load n told = is in cc no)
 
 -- the load of so many updates, and of nothing else
-counts : (free : List Bool) (capacity : ℕ) (volume : VolumeState) (many : Edits) (n : ℕ) (grow : List ℕ) → cost_of (needs_for free volume many None) (room_with capacity free volume) ≡ cost.Load n grow
+pub counts : (free : List Bool) (capacity : ℕ) (volume : VolumeState) (many : Edits) (n : ℕ) (grow : List ℕ) → cost_of (needs_for free volume many None) (room_with capacity free volume) ≡ cost.Load n grow
     → 1 + many.updates * (volume.catalog_tree.shape.node_size / 512) ≤ n
 unfolding cost_of load_of room_with
 counts free capacity volume many n grow is =

@@ -21,6 +21,7 @@ pub mod Reaching
 pub mod Reading
 pub mod Refusing
 pub mod Removing
+pub mod Resizing
 pub mod Room
 pub mod Service
 pub mod Standing

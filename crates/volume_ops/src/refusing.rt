@@ -70,7 +70,7 @@ fn size_written(size: u64, from: u64, long: usize) -> u128
 }
 
 /// What stands against `write` of so many bytes from a place on into a file of which this is told.
-fn against_write(from: u64, long: usize, told: &Facts) -> Option<Refusal>
+pub(crate) fn against_write(from: u64, long: usize, told: &Facts) -> Option<Refusal>
     ensures { result ≡ against_write from long told.now }
 {
     if told.folder {
@@ -83,7 +83,7 @@ fn against_write(from: u64, long: usize, told: &Facts) -> Option<Refusal>
 }
 
 /// What stands against `trunc` to a size of a file of which this is told.
-fn against_trunc(size: u64, told: &Facts) -> Option<Refusal>
+pub(crate) fn against_trunc(size: u64, told: &Facts) -> Option<Refusal>
     ensures { result ≡ against_trunc size told.now }
 {
     if told.folder {
@@ -133,7 +133,7 @@ fn against_link(site: Result<u32, Refusal>, told: &Facts) -> Option<Refusal>
 
 impl Volume {
     /// What `stat` tells of what a path stands for, or the first reason against it.
-    fn facts<P: SectorSpace>(
+    pub(crate) fn facts<P: SectorSpace>(
         &mut self,
         alloc: Global,
         space: &mut P,

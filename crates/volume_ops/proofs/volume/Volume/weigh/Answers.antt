@@ -35,17 +35,27 @@ returns-in-Ln-clause-waits g c tells unread =
     (λ (said : Option Weight). is_some said ≡ false → (is_to_come c.args.command.now ≡ true) × (refuses (tree_of (g.P.SectorView.space c.args.space.now).content) (Ok c.args.command.now) ≡ false)) c.weigh_refused.result
     (λ said it none. (ap is_to_come c.in-Ln.is, it none)) (c.weigh_refused.ensures.waits tells)
 
+pub returns-in-Write-clause-answer : goal.returns-in-Write-clause-answer
+returns-in-Write-clause-answer g c tells =
+    subst (λ (k : Command). IfOk c.weigh_write.result (λ said. IfSome said (λ weighs. weighs ≡ weighed c.args.self.now.capacity (free_in blocks.Takable c.args.self.now.map) (volume_of (g.P.SectorView.space c.args.space.now).content) (tree_of (g.P.SectorView.space c.args.space.now).content) k)))
+    (ap (λ (v : List ℕ). command.Write c.in-Write.path c.in-Write.from v) c.as_slice-in-Write.ensures ∙ sym c.in-Write.is) (c.weigh_write.ensures.answer tells)
+
 pub returns-in-Write-clause-waits : goal.returns-in-Write-clause-waits
 returns-in-Write-clause-waits g c tells unread =
-    if_so (λ (said : Option Weight). is_some said ≡ false → refuses (tree_of (g.P.SectorView.space c.args.space.now).content) (Ok c.args.command.now) ≡ false)
-    (λ (said : Option Weight). is_some said ≡ false → (is_to_come c.args.command.now ≡ true) × (refuses (tree_of (g.P.SectorView.space c.args.space.now).content) (Ok c.args.command.now) ≡ false)) c.weigh_refused-in-Write.result
-    (λ said it none. (ap is_to_come c.in-Write.is, it none)) (c.weigh_refused-in-Write.ensures.waits tells)
+    if_so (λ (said : Option Weight). is_some said ≡ false → refuses (tree_of (g.P.SectorView.space c.args.space.now).content) (Ok (command.Write c.in-Write.path c.in-Write.from c.as_slice-in-Write.result.now)) ≡ false)
+    (λ (said : Option Weight). is_some said ≡ false → (is_to_come c.args.command.now ≡ true) × (refuses (tree_of (g.P.SectorView.space c.args.space.now).content) (Ok c.args.command.now) ≡ false)) c.weigh_write.result
+    (λ said it none. (ap is_to_come c.in-Write.is, ap (λ (k : Command). refuses (tree_of (g.P.SectorView.space c.args.space.now).content) (Ok k)) (sym (ap (λ (v : List ℕ). command.Write c.in-Write.path c.in-Write.from v) c.as_slice-in-Write.ensures ∙ sym c.in-Write.is)) ∙ it none)) (c.weigh_write.ensures.waits tells)
+
+pub returns-in-Trunc-clause-answer : goal.returns-in-Trunc-clause-answer
+returns-in-Trunc-clause-answer g c tells =
+    subst (λ (k : Command). IfOk c.weigh_trunc.result (λ said. IfSome said (λ weighs. weighs ≡ weighed c.args.self.now.capacity (free_in blocks.Takable c.args.self.now.map) (volume_of (g.P.SectorView.space c.args.space.now).content) (tree_of (g.P.SectorView.space c.args.space.now).content) k)))
+    (sym c.in-Trunc.is) (c.weigh_trunc.ensures.answer tells)
 
 pub returns-in-Trunc-clause-waits : goal.returns-in-Trunc-clause-waits
 returns-in-Trunc-clause-waits g c tells unread =
-    if_so (λ (said : Option Weight). is_some said ≡ false → refuses (tree_of (g.P.SectorView.space c.args.space.now).content) (Ok c.args.command.now) ≡ false)
-    (λ (said : Option Weight). is_some said ≡ false → (is_to_come c.args.command.now ≡ true) × (refuses (tree_of (g.P.SectorView.space c.args.space.now).content) (Ok c.args.command.now) ≡ false)) c.weigh_refused-in-Trunc.result
-    (λ said it none. (ap is_to_come c.in-Trunc.is, it none)) (c.weigh_refused-in-Trunc.ensures.waits tells)
+    if_so (λ (said : Option Weight). is_some said ≡ false → refuses (tree_of (g.P.SectorView.space c.args.space.now).content) (Ok (command.Trunc c.in-Trunc.path c.in-Trunc.size)) ≡ false)
+    (λ (said : Option Weight). is_some said ≡ false → (is_to_come c.args.command.now ≡ true) × (refuses (tree_of (g.P.SectorView.space c.args.space.now).content) (Ok c.args.command.now) ≡ false)) c.weigh_trunc.result
+    (λ said it none. (ap is_to_come c.in-Trunc.is, ap (λ (k : Command). refuses (tree_of (g.P.SectorView.space c.args.space.now).content) (Ok k)) (sym (sym c.in-Trunc.is)) ∙ it none)) (c.weigh_trunc.ensures.waits tells)
 
 pub returns-in-Rm-clause-answer : goal.returns-in-Rm-clause-answer
 returns-in-Rm-clause-answer g c tells =
