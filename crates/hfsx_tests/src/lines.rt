@@ -74,6 +74,11 @@ fn lines_are_answered(rt: HostRuntime) -> Result<(), Fail> {
             "mkdir /.journal\nls /.journal_info_block\nstat /%u0000%u0000%u0000%u0000HFS+%u0020Private%u0020Data/x\nmv /a /.journal\nmv /.journal /a\nmkdir /a\nmkdir /a/.journal\nmkdir /.journa\n",
             "no Private\nno Private\nno Private\nno Private\nno Private\nok\nok\nok\n",
         ),
+        // A value of no byte changes nothing; the same size dates the file.
+        (
+            "at 100\ncreate /f\nat 200\nwrite /f 5 =\nstat /f\ntrunc /f 0\nstat /f\ntrunc / 0\nwrite /g 0 =\n",
+            "ok\nok\nok\nok\nok file 18 0 1 0644 100 100 100\nok\nok file 18 0 1 0644 100 200 200\nno IsFolder\nno NotFound\n",
+        ),
         // What is still to come changes nothing.
         (
             "create /f\nwrite /f 0 =x\ntrunc /f 5\nln /f /g\nstat /f\n",

@@ -68,7 +68,7 @@ line_free tree asked is = by (is_private asked) is
     by true same = absurd (true≢false same)
     by false same = refl
 
-or_none : (b : Bool) → (b || false) ≡ false → b ≡ false
+pub or_none : (b : Bool) → (b || false) ≡ false → b ≡ false
 or_none true is = is
 or_none false is = refl
 

@@ -8,4 +8,5 @@ pub mod Kept
 pub mod KeptEntries
 pub mod MetAgain
 pub mod Served
+pub mod Shortened
 pub mod Widening

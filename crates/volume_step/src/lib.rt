@@ -9,6 +9,7 @@ mod marking;
 mod outcome;
 mod owning;
 mod removing;
+mod resizing;
 mod stepping;
 
 pub use outcome::Outcome;

@@ -20,6 +20,7 @@ use crate::marking::{date, set_mode};
 use crate::outcome::Outcome;
 use crate::owning::{delete_attribute, set_attribute};
 use crate::removing::{remove_file, remove_folder};
+use crate::resizing::{resize, write_value};
 use hfs_language::{Command, Refusal};
 use hx_bytes::Trouble;
 use sector_disk::SectorSpace;
@@ -65,10 +66,12 @@ fn perform<P: SectorSpace>(
         Command::Mv(from, to) => move_entry(alloc, volume, space, number, from, to),
         Command::Rmdir(path) => remove_folder(alloc, volume, space, number, path),
         Command::Rm(path) => remove_file(alloc, volume, space, number, path),
+        Command::Trunc { path, size } => resize(alloc, volume, space, number, path, *size),
+        Command::Write { path, from, value } => {
+            write_value(alloc, volume, space, number, path, *from, value.as_slice())
+        }
         Command::Ln(_, _)
-        | Command::Write { .. }
         | Command::Read { .. }
-        | Command::Trunc { .. }
         | Command::Ls(_)
         | Command::Stat(_)
         | Command::GetAttr { .. }

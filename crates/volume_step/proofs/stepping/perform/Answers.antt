@@ -1,9 +1,10 @@
-use Rattle.std.proofs.Common.{ap}
-use Rattle.std.specs.Prelude.{Ok}
+use Rattle.std.proofs.Common.{ap, subst, sym}
+use Rattle.std.specs.Prelude.{IfOk, Ok}
 use Rattle.hfs_language.specs.declared.command.Command.{Command}
 use Rattle.hfs_volume.specs.Run.{shrunk_by}
 use Rattle.hfs_volume.specs.TreeOf.{tree_of}
 use Rattle.volume_ops.specs.Keeping.{shrunk_of}
+use Rattle.volume_step.specs.Steps.{ShrinksAs}
 use Rattle.volume_step.proofs.Widening.{keeps_shrunk, touches_own}
 use Rattle.volume_step.proofs.stepping.perform.Goals as goal
 
@@ -60,3 +61,15 @@ returns-in-Rm-clause-shrunk g c tells = keeps_shrunk c.args.command.now (g.P.Sec
 
 pub returns-in-Rm-clause-touches : goal.returns-in-Rm-clause-touches
 returns-in-Rm-clause-touches g c committed = touches_own committed c.args.volume.now c.remove_file.new.volume (g.P.SectorView.space c.args.space.now) (g.P.SectorView.space c.remove_file.new.space) (c.remove_file.ensures.touches committed)
+
+pub returns-in-Trunc-clause-shrunk : goal.returns-in-Trunc-clause-shrunk
+returns-in-Trunc-clause-shrunk g c tells = subst (λ (k : Command). IfOk c.resize.result (λ o. ShrinksAs o k (g.P.SectorView.space c.args.space.now).content (shrunk_of c.args.volume.now) (shrunk_of c.resize.new.volume))) (sym c.in-Trunc.is) (c.resize.ensures.shrunk tells)
+
+pub returns-in-Trunc-clause-touches : goal.returns-in-Trunc-clause-touches
+returns-in-Trunc-clause-touches g c committed = touches_own committed c.args.volume.now c.resize.new.volume (g.P.SectorView.space c.args.space.now) (g.P.SectorView.space c.resize.new.space) (c.resize.ensures.touches committed)
+
+pub returns-in-Write-clause-shrunk : goal.returns-in-Write-clause-shrunk
+returns-in-Write-clause-shrunk g c tells = keeps_shrunk c.args.command.now (g.P.SectorView.space c.args.space.now).content (shrunk_of c.args.volume.now) (shrunk_of c.write_value.new.volume) (ap (λ (k : Command). shrunk_by (tree_of (g.P.SectorView.space c.args.space.now).content) (Ok k)) c.in-Write.is) c.write_value.ensures.shrunk c.write_value.result
+
+pub returns-in-Write-clause-touches : goal.returns-in-Write-clause-touches
+returns-in-Write-clause-touches g c committed = touches_own committed c.args.volume.now c.write_value.new.volume (g.P.SectorView.space c.args.space.now) (g.P.SectorView.space c.write_value.new.space) (c.write_value.ensures.touches committed)
