@@ -1,5 +1,5 @@
 -- `trunc` where it puts no data: to the size that a file has, or to a smaller one.
-use Rattle.std.specs.Prelude.{◌≡◌, ◌≤◌, ℕ, List, [], length, Option, None, Some, Ok, if◌then◌else◌}
+use Rattle.std.specs.Prelude.{◌≡◌, ◌≤◌, ℕ, Bool, is_some, List, [], length, Option, None, Some, Ok, if◌then◌else◌}
 use Rattle.jnl_format.specs.Recovery.{Content}
 use Rattle.cat_records.specs.declared.record.CatRecord.{CatRecord}
 use Rattle.cat_records.specs.declared.record.CatRecord.TheVariants.{Folder, File, Thread}
@@ -12,6 +12,7 @@ use Rattle.hfs_volume.specs.Content.{volume_of}
 use Rattle.hfs_volume.specs.Reclaim.{blocks_at}
 use Rattle.hfs_volume.specs.Run.{is_ok, or_before, shrunk_by}
 use Rattle.hfs_volume.specs.TreeOf.{tree_of}
+use Rattle.hfs_volume.specs.Weight.{data_of}
 use Rattle.hfs_volume.specs.Writing.{RewritesFile}
 use Rattle.volume_ops.specs.Changing.{ReplacesRecord}
 use Rattle.volume_ops.specs.declared.entries.Entry.{Entry}
@@ -37,6 +38,10 @@ pub record IsShortened (path : List (List ℕ)) (size : ℕ) (before after : Con
   pub short : size ≤ length file.bytes
   pub rewrites : RewritesFile file.id 0 0 [] (volume_of before) (volume_of after)
   pub blocks : (id kind : ℕ) → blocks_at (volume_of after) id kind ≡ blocks_at (volume_of before) id kind
+
+-- whether `trunc` to this size puts data: the file is shorter
+abbrev pub puts_data : PlainTree → List (List ℕ) → ℕ → Bool
+puts_data tree path size = is_some (data_of tree (command.Trunc path size))
 
 -- the file that was shrunk last, after `trunc` was answered so; nothing is answered where the file would grow
 abbrev pub shrunk_then : PlainTree → List (List ℕ) → ℕ → Option Reply → Option ℕ → Option ℕ

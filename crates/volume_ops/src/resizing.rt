@@ -1,5 +1,5 @@
 //! `trunc` where it puts no data: to the size that a file has, or to a smaller one.
-ghost use Rattle.std.specs.Prelude.{◌≡◌, ◌<◌, ◌≤◌, ◌+◌, ℕ, List, None, Ok, Some, false, true, is_some, IsTrue, nat_lt, if◌then◌else◌, IfNone, IfOk, IfSome, length, OnOk};
+ghost use Rattle.std.specs.Prelude.{◌≡◌, ◌<◌, ◌≤◌, ◌+◌, ℕ, List, None, Ok, Some, false, true, IsTrue, nat_lt, if◌then◌else◌, IfNone, IfOk, IfSome, length, OnOk};
 ghost use Rattle.std.specs.List.{Contains};
 ghost use Rattle.sector_disk.specs.Lists.{Content};
 ghost use Rattle.btree_edit.specs.Causes.{HasTroubleCause};
@@ -15,13 +15,13 @@ ghost use Rattle.hfs_volume.specs.Content.{volume_of};
 ghost use Rattle.hfs_volume.specs.Entries.{AreSpelled};
 ghost use Rattle.hfs_volume.specs.Records.{is_file, is_thread};
 ghost use Rattle.hfs_volume.specs.TreeOf.{tree_of};
-ghost use Rattle.hfs_volume.specs.Weight.{data_of, weight};
+ghost use Rattle.hfs_volume.specs.Weight.{weight};
 ghost use Rattle.hfs_volume.specs.declared.cost.Cost.TheVariants as cost;
 ghost use Rattle.volume_ops.specs.Changing.{HasRoomToUpdate, catalog_node};
 ghost use Rattle.volume_ops.specs.Refusing.{facts_or};
 ghost use Rattle.volume_ops.specs.Keeping.{shrunk_of};
 ghost use Rattle.volume_ops.specs.Lists.{lists_of};
-ghost use Rattle.volume_ops.specs.Resizing.{IsShortened, SetsSize, shrunk_then, with_size};
+ghost use Rattle.volume_ops.specs.Resizing.{IsShortened, SetsSize, puts_data, shrunk_then, with_size};
 ghost use Rattle.volume_ops.specs.Room.{capacity_of};
 ghost use Rattle.volume_ops.specs.Service.{IsInService};
 ghost use Rattle.volume_ops.specs.Standing.{IsSettled, StandsOver, own_sectors};
@@ -156,7 +156,7 @@ impl Volume {
         ensures tree { IsTrue (P.SectorView.space space.old).tells → IfOk result (λ said. IfSome said (λ reply. tree_of (P.SectorView.space space.new).content ≡ (step_line (tree_of (P.SectorView.space space.old).content) (Ok (command.Trunc _path.now size))).1)) }
         ensures refused { IsTrue (P.SectorView.space space.old).tells → IfOk result (λ said. IfSome said (λ reply. is_refusal reply ≡ true → (P.SectorView.space space.new).content ≡ (P.SectorView.space space.old).content)) }
         ensures lists { IsTrue (P.SectorView.space space.old).tells → IfOk result (λ said. said ≡ Some reply.Ok → IsShortened _path.now size (P.SectorView.space space.old).content (P.SectorView.space space.new).content) }
-        ensures grows { IsTrue (P.SectorView.space space.old).tells → IfOk result (λ said. IfNone said ((is_some (data_of (tree_of (P.SectorView.space space.old).content) (command.Trunc _path.now size)) ≡ true) × ((P.SectorView.space space.new).content ≡ (P.SectorView.space space.old).content))) }
+        ensures grows { IsTrue (P.SectorView.space space.old).tells → IfOk result (λ said. IfNone said ((puts_data (tree_of (P.SectorView.space space.old).content) _path.now size ≡ true) × ((P.SectorView.space space.new).content ≡ (P.SectorView.space space.old).content))) }
         ensures shrunk { IsTrue (P.SectorView.space space.old).tells → IfOk result (λ said. shrunk_of self.new ≡ shrunk_then (tree_of (P.SectorView.space space.old).content) _path.now size said (shrunk_of self.old)) }
         ensures header { self.new.header ≡ self.old.header }
         ensures map { self.new.map ≡ self.old.map }
@@ -205,7 +205,7 @@ impl Volume {
         // Where it isn't refused, the file has this size in the content's lists, and nothing else of them is changed.
         ensures lists { IsTrue (P.SectorView.space space.old).tells → IfOk result (λ said. said ≡ Some reply.Ok → IsShortened path.now size (P.SectorView.space space.old).content (P.SectorView.space space.new).content) }
         // Nothing is answered exactly where the step doesn't refuse it and puts data.
-        ensures grows { IsTrue (P.SectorView.space space.old).tells → IfOk result (λ said. IfNone said ((is_some (data_of (tree_of (P.SectorView.space space.old).content) (command.Trunc path.now size)) ≡ true) × ((P.SectorView.space space.new).content ≡ (P.SectorView.space space.old).content))) }
+        ensures grows { IsTrue (P.SectorView.space space.old).tells → IfOk result (λ said. IfNone said ((puts_data (tree_of (P.SectorView.space space.old).content) path.now size ≡ true) × ((P.SectorView.space space.new).content ≡ (P.SectorView.space space.old).content))) }
         // The file that was shrunk last is this one, where it was shrunk.
         ensures shrunk { IsTrue (P.SectorView.space space.old).tells → IfOk result (λ said. shrunk_of self.new ≡ shrunk_then (tree_of (P.SectorView.space space.old).content) path.now size said (shrunk_of self.old)) }
         // The header and the blocks in use are as they were.
