@@ -8,6 +8,7 @@ mod Fits
 mod Folded
 mod Heading
 mod Holding
+mod Housekeeping
 mod Limits
 mod Marked
 mod Refusing

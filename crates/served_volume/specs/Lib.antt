@@ -1,4 +1,5 @@
 pub mod Answering
 pub mod Knowing
 pub mod Marking
+pub mod Tidying
 pub mod Verdicts

@@ -10,6 +10,7 @@ mod marking;
 mod placing;
 mod served;
 mod serving;
+mod tidied;
 mod told;
 
 pub use checker::VolumeChecker;

@@ -3,11 +3,13 @@ ghost use Rattle.served_volume.specs.Knowing.{Knows};
 
 use crate::answering::answer_line;
 use crate::served::ServedVolume;
+use crate::tidied::next_of;
 use crate::told::tell;
 use hfs_serving::{Ground, Next, Step, ToTell, Volume};
 use hfs_volume::aside_is_free;
 use hx_bytes::Trouble;
 use std::alloc::Global;
+use volume_step::tidy;
 
 impl Volume for ServedVolume {
     ghost knows = { λ served space capacity committed now shrunk. Knows served.volume capacity committed now shrunk space };
@@ -28,8 +30,17 @@ impl Volume for ServedVolume {
         }
     }
 
-    fn tidy_step<G: Ground>(&mut self, _: &mut G) -> Result<Next, Trouble> {
-        Ok(Next::Rest)
+    fn tidy_step<G: Ground>(&mut self, base: &mut G) -> Result<Next, Trouble> {
+        if self.is_elsewhere(base) {
+            return Err(Trouble::Memory);
+        }
+        let fresh = base.pending() == 0;
+        let came = tidy(self.alloc, &mut self.volume, base);
+        base.look();
+        match came {
+            Ok(came) => Ok(next_of(fresh, came)),
+            Err(trouble) => Err(trouble),
+        }
     }
 
     fn answer<G: Ground>(

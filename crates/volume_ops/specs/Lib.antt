@@ -15,6 +15,7 @@ pub mod Moving
 pub mod Mounting
 pub mod Nodes
 pub mod Opening
+pub mod Orphans
 pub mod Owning
 pub mod PrivateFolder
 pub mod Reaching

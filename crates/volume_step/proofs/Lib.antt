@@ -7,6 +7,7 @@ pub mod Judged
 pub mod Kept
 pub mod KeptEntries
 pub mod MetAgain
+pub mod Reclaimed
 pub mod Served
 pub mod Shortened
 pub mod Widening

@@ -11,6 +11,8 @@ mod owning;
 mod removing;
 mod resizing;
 mod stepping;
+mod tidying;
 
 pub use outcome::Outcome;
 pub use stepping::step;
+pub use tidying::tidy;

@@ -1,10 +1,102 @@
-use Rattle.served_volume.proofs.Calls.{quiet}
-use Rattle.served_volume.proofs.Resting.{rests}
-use Rattle.hfs_volume.specs.Content.{volume_of}
+use Rattle.std.proofs.Common.{◌≡◌, ℕ, [], refl, sym, ◌∙◌, ap, subst, arith}
+use Rattle.std.specs.Prelude.{Option, Result, Ok, Err}
+use Rattle.alloc_bitmap.specs.Untold.{told_none}
+use Rattle.hx_bytes.specs.declared.faults.Trouble.{Trouble}
+use Rattle.hfs_serving.specs.Faults.{Faults}
+use Rattle.hfs_serving.specs.Going.{TidiesTo}
+use Rattle.hfs_serving.specs.declared.volume.Next.{Next}
+use Rattle.hfs_serving.proofs.Causes.{counts_none, fine, handed}
+use Rattle.volume_ops.proofs.Sounding.{sound_here}
+use Rattle.volume_ops.specs.Keeping.{shrunk_of}
+use Rattle.volume_ops.specs.Room.{capacity_of}
+use Rattle.volume_ops.specs.Standing.{HoldsOn, IsSettled, StandsOver}
+use Rattle.volume_ops.specs.declared.tidying.Tidying.{Tidying}
+use Rattle.volume_step.specs.Steps.{KeepsJournal}
+use Rattle.volume_step.specs.Tidying.{ReclaimsAs}
+use Rattle.served_volume.specs.Knowing.{Knows}
+use Rattle.served_volume.proofs.Calls.{faults_of_call, on_value, quiet, short, value_of}
+use Rattle.served_volume.proofs.Seen.{touches_space}
+use Rattle.served_volume.proofs.Service.{service_on}
+use Rattle.served_volume.proofs.Housekeeping.{tidies}
 use Rattle.served_volume.proofs.serving.ServedVolumeVolume.tidy_step.Goals as goal
 
-pub returns-clause-touches : goal.returns-clause-touches
-returns-clause-touches g c tells capacity committed now shrunk stands = quiet committed _ _ stands.leaves
+pub tidy-came-requires-clause-stands : goal.tidy-came-requires-clause-stands
+tidy-came-requires-clause-stands g c =
+    let self = c.args.self.now in
+    record {
+      service = service_on self.volume (told_none self.sectors) (g.G.SectorView.space c.args.base.now) (c.is_elsewhere.ensures c.if-is_elsewhere.false) self.sized;
+      stands = λ tells. (c.requires.stands tells).4.known.stands.stands tells;
+    }
 
-pub returns-clause-tidied : goal.returns-clause-tidied
-returns-clause-tidied g c tells capacity committed now shrunk stands = (record { reads = stands.reads; heads = stands.heads; known = stands.known }, rests capacity shrunk (volume_of now))
+pub tidy-came-requires-clause-settled : goal.tidy-came-requires-clause-settled
+tidy-came-requires-clause-settled g c tells = (c.requires.stands tells).4.known.settled
+
+pub returns-then-is_elsewhere-clause-touches : goal.returns-then-is_elsewhere-clause-touches
+returns-then-is_elsewhere-clause-touches g c tells capacity committed now shrunk stands = quiet committed _ _ stands.leaves
+
+pub returns-then-is_elsewhere-clause-faults : goal.returns-then-is_elsewhere-clause-faults
+returns-then-is_elsewhere-clause-faults g c = short (counts_none _ _)
+
+pub returns-in-Ok-clause-touches : goal.returns-in-Ok-clause-touches
+returns-in-Ok-clause-touches g c tells capacity committed now shrunk stands =
+    c.look.ensures.sees c.requires.serves.0 committed c.args.base.now c.tidy-came.ensures.below c.requires.serves.1 tells (touches_space committed _ _ _ tells (c.tidy-came.ensures.touches committed))
+
+pub returns-in-Err-clause-touches : goal.returns-in-Err-clause-touches
+returns-in-Err-clause-touches g c tells capacity committed now shrunk stands =
+    c.look.ensures.sees c.requires.serves.0 committed c.args.base.now c.tidy-came.ensures.below c.requires.serves.1 tells (touches_space committed _ _ _ tells (c.tidy-came.ensures.touches committed))
+
+pub returns-in-Ok-clause-tidied : goal.returns-in-Ok-clause-tidied
+returns-in-Ok-clause-tidied g c tells capacity committed now shrunk stands =
+    let v = c.args.self.now.volume in
+    let w = c.tidy-came.new.volume in
+    let a = g.G.SectorView.space c.args.base.now in
+    let b = g.G.SectorView.space c.tidy-came.new.space in
+    let r = c.tidy-came.result in
+    let o = c.in-Ok.came in
+    let is = c.in-Ok.is in
+    let there = on_value (StandsOver w b) r o is c.tidy-came.ensures.stands in
+    let settled = on_value (IsSettled w b.content) r o is (c.tidy-came.ensures.settled tells) in
+    let tells_then = (c.tidy-came.ensures.touches committed).same.tells ∙ tells in
+    let was = value_of (λ (q : Tidying). ReclaimsAs q (capacity_of v) (shrunk_of v) a.content b.content) r o is (c.tidy-came.ensures.reclaims tells) in
+    subst (λ (n : Next). TidiesTo n capacity (λ past here file. Knows w capacity past here file b) committed now shrunk b) (sym c.next_of.ensures)
+    (tidies v w capacity committed now shrunk a b stands.known stands.below stands.reads stands.heads
+    (record {
+      touches = touches_space committed _ a b tells (c.tidy-came.ensures.touches committed);
+      keeps = on_value (KeepsJournal a.content b.content) r o is (c.tidy-came.ensures.place tells);
+      stands = there;
+      settled = settled;
+      holds = λ held. c.tidy-came.ensures.holds committed held;
+      capacity = c.tidy-came.ensures.capacity;
+      sound = sound_here w b (there.stands tells_then) settled;
+    }) c.tidy-came.ensures.shrunk _ o (subst (λ (k : ℕ × Option ℕ). ReclaimsAs o k.0 k.1 a.content b.content) {x = (capacity_of v, shrunk_of v)} {y = (capacity, shrunk)} (λ i. (stands.known.capacity_is i, stands.known.shrunk_is i)) was))
+
+pub returns-in-Ok-clause-still : goal.returns-in-Ok-clause-still
+returns-in-Ok-clause-still g c capacity serves few =
+    let now = c.look.ensures.still capacity c.args.base.now c.tidy-came.ensures.below serves in
+    (now, c.look.ensures.most capacity now)
+
+pub returns-in-Ok-clause-tells : goal.returns-in-Ok-clause-tells
+returns-in-Ok-clause-tells g c = (c.tidy-came.ensures.touches []).same.tells
+
+pub returns-in-Err-clause-tells : goal.returns-in-Err-clause-tells
+returns-in-Err-clause-tells g c = (c.tidy-came.ensures.touches []).same.tells
+
+pub returns-in-Ok-clause-anchor : goal.returns-in-Ok-clause-anchor
+returns-in-Ok-clause-anchor g c = c.look.ensures.anchor c.args.base.now c.tidy-came.ensures.below (c.tidy-came.ensures.touches []).same.names
+
+pub returns-in-Err-clause-anchor : goal.returns-in-Err-clause-anchor
+returns-in-Err-clause-anchor g c = c.look.ensures.anchor c.args.base.now c.tidy-came.ensures.below (c.tidy-came.ensures.touches []).same.names
+
+pub returns-in-Ok-clause-faults : goal.returns-in-Ok-clause-faults
+returns-in-Ok-clause-faults g c = fine (c.look.ensures.counts c.args.base.now c.tidy-came.ensures.below (c.tidy-came.ensures.touches []).same.sink_faults) _
+
+pub returns-in-Err-clause-faults : goal.returns-in-Err-clause-faults
+returns-in-Err-clause-faults g c =
+    let counts = c.look.ensures.counts c.args.base.now c.tidy-came.ensures.below (c.tidy-came.ensures.touches []).same.sink_faults in
+    handed (counts_none _ _) c.in-Err.trouble c.in-Err.trouble _
+    (subst (λ (r : Result Tidying Trouble). Faults (g.G.Ground.failed c.args.base.now) (g.G.SectorView.space c.args.base.now) (g.G.Ground.failed c.tidy-came.new.space) (g.G.SectorView.space c.tidy-came.new.space) r) c.in-Err.is (faults_of_call c.tidy-came.result counts c.tidy-came.ensures.cause)) refl refl
+
+pub invariant_of-self : goal.invariant_of-self
+invariant_of-self g c =
+    let sectors = (c.tidy-came.ensures.touches []).same.sectors ∙ c.is_elsewhere.ensures c.if-is_elsewhere.false in
+    record { sized = service_on c.tidy-came.new.volume (g.G.SectorView.space c.tidy-came.new.space) (told_none c.args.self.now.sectors) (sym sectors) c.tidy-came.ensures.service }

@@ -1,0 +1,65 @@
+-- A step of housekeeping, as serving sees it.
+use Rattle.std.proofs.Common.{◌≡◌, ℕ, Bool, true, false, List, inl, refl, sym, ◌∙◌, ap, subst}
+use Rattle.std.specs.Prelude.{Option, Some}
+use Rattle.jnl_format.specs.Recovery.{Content}
+use Rattle.sector_disk.specs.Space.{Space}
+use Rattle.hfs_volume.specs.Content.{VolumeState, volume_of}
+use Rattle.hfs_volume.specs.Reclaim.{Does, GrowsTrees, Reclaims, next_reclaim, reclaim_cost}
+use Rattle.hfs_volume.specs.TreeOf.{tree_of}
+use Rattle.hfs_volume.specs.declared.cost.Cost.TheVariants as cost
+use Rattle.hfs_serving.specs.Going.{Stays, Tidied, TidiesTo}
+use Rattle.hfs_serving.specs.Grounds.{KeepsHeading}
+use Rattle.hfs_serving.specs.Serving.{IsDurable, IsRead}
+use Rattle.volume_ops.specs.Keeping.{shrunk_of}
+use Rattle.volume_ops.specs.declared.tidying.Tidying.{Tidying}
+use Rattle.volume_ops.specs.declared.tidying.Tidying.TheVariants as tidying
+use Rattle.volume_ops.specs.declared.volume.Volume.{Volume}
+use Rattle.volume_step.specs.Tidying.{ReclaimsAs}
+use Rattle.served_volume.specs.Knowing.{IsAlike, Knows}
+use Rattle.served_volume.specs.Tidying.{next_of}
+use Rattle.served_volume.proofs.Resting.{rests}
+use Rattle.served_volume.proofs.Stepping.{Leaves, follow, heads_then, knows_then, place_then, reads_then}
+
+-- contents that are alike have the same step of reclaiming
+reclaims_alike : (capacity : ℕ) (shrunk : Option ℕ) (now next before after : Content) → IsAlike now before → IsAlike next after → Reclaims capacity shrunk before after → Reclaims capacity shrunk now next
+reclaims_alike capacity shrunk now next before after one two was =
+    record {
+      step = was.step;
+      next = ap (λ (l : VolumeState). next_reclaim l shrunk) one.lists ∙ was.next;
+      load = was.load;
+      grow = was.grow;
+      affords = ap (λ (l : VolumeState). reclaim_cost capacity l was.step) one.lists ∙ was.affords;
+      grows = subst (λ (k : VolumeState × VolumeState). GrowsTrees was.grow k.0 k.1) {x = (volume_of before, volume_of after)} {y = (volume_of now, volume_of next)} (λ i. (sym one.lists i, sym two.lists i)) was.grows;
+      does = subst (λ (k : VolumeState × VolumeState). Does was.step k.0 k.1) {x = (volume_of before, volume_of after)} {y = (volume_of now, volume_of next)} (λ i. (sym one.lists i, sym two.lists i)) was.does;
+      keeps = record { sound = two.sound; tree = two.tree ∙ was.keeps.tree ∙ sym one.tree };
+    }
+
+module _ (v w : Volume) (capacity : ℕ) (committed now : Content) (shrunk : Option ℕ) (a b : Space) (known : Knows v capacity committed now shrunk a) (below : IsDurable committed a) (reads : IsRead now a) (heads : KeepsHeading a) (leaves : Leaves v w committed a b) (kept : shrunk_of w ≡ shrunk_of v)
+  where
+    tidied : Reclaims capacity shrunk a.content b.content → Tidied capacity (λ was is file. Knows w capacity was is file b) committed now shrunk b
+    tidied was =
+        let f = follow v w capacity committed now shrunk a b known below reads heads leaves in
+        record {
+          next = f.next;
+          tidied = inl (reclaims_alike capacity shrunk now f.next a.content b.content known.alike f.alike was);
+          place = place_then v w capacity committed now shrunk a b known below reads heads leaves;
+          reads = reads_then v w capacity committed now shrunk a b known below reads heads leaves;
+          heads = heads_then v w capacity committed now shrunk a b known below reads heads leaves;
+          known = knows_then v w capacity committed now shrunk a b known below reads heads leaves shrunk (kept ∙ known.shrunk_is);
+        }
+
+    stays : b.content ≡ a.content → Stays (λ was is file. Knows w capacity was is file b) committed now shrunk b
+    stays same =
+        let f = follow v w capacity committed now shrunk a b known below reads heads leaves in
+        let is : f.next ≡ now = f.still same in
+        record {
+          reads = subst (λ (c : Content). IsRead c b) is (reads_then v w capacity committed now shrunk a b known below reads heads leaves);
+          heads = heads_then v w capacity committed now shrunk a b known below reads heads leaves;
+          known = subst (λ (c : Content). Knows w capacity committed c shrunk b) is (knows_then v w capacity committed now shrunk a b known below reads heads leaves shrunk (kept ∙ known.shrunk_is));
+        }
+
+    pub tidies : (fresh : Bool) (came : Tidying) → ReclaimsAs came capacity shrunk a.content b.content → TidiesTo (next_of fresh came) capacity (λ was is file. Knows w capacity was is file b) committed now shrunk b
+    tidies fresh tidying.Rest was = (stays was, rests capacity shrunk (volume_of now))
+    tidies fresh tidying.Made was = tidied was
+    tidies true tidying.CommitFirst was = (stays was, rests capacity shrunk (volume_of now))
+    tidies false tidying.CommitFirst was = stays was

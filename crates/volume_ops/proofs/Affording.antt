@@ -1,0 +1,68 @@
+-- What the drop of an entry costs, and a step that was made behind reads.
+use Rattle.std.proofs.Common.{◌≡◌, ℕ, Bool, true, false, List, [], ◌∷◌, refl, sym, ◌∙◌, ap, subst}
+use Rattle.std.specs.Prelude.{◌==◌, ◌&&◌, slice_index, IfOk, Option, None, Some, Result, Ok, Err}
+use Rattle.std.proofs.lemmas.Bool.{and_parts, eqb-true, true≢false}
+use Rattle.hx_bytes.specs.declared.faults.Trouble.{Trouble}
+use Rattle.sector_disk.specs.Lists.{Content}
+use Rattle.hfs_language.specs.declared.refusal.Refusal.{Refusal}
+use Rattle.hfs_volume.specs.Content.{volume_of}
+use Rattle.hfs_volume.specs.Cost.{cost_of, cost_or, load_of, plan_of, resource_refusal}
+use Rattle.hfs_volume.specs.Reclaim.{DropOrphan, reclaim_cost, reclaim_cost_with}
+use Rattle.hfs_volume.specs.Weight.{free_blocks, room_with}
+use Rattle.hfs_volume.specs.declared.cost.Cost.{Cost}
+use Rattle.hfs_volume.specs.declared.cost.Cost.TheVariants as cost
+use Rattle.hfs_volume.specs.declared.cost.Needs.{Needs}
+use Rattle.hfs_volume.specs.declared.cost.Room.{Room}
+use Rattle.volume_ops.specs.Orphans.{AffordsDrop, TidiesAs, grows_none}
+use Rattle.volume_ops.specs.Room.{capacity_of, free_in}
+use Rattle.volume_ops.specs.Standing.{IsSettled}
+use Rattle.volume_ops.specs.Weighing.{needs_asked}
+use Rattle.volume_ops.specs.declared.room.FreeBlocks.TheVariants as blocks
+use Rattle.volume_ops.specs.declared.tidying.Tidying.{Tidying}
+use Rattle.volume_ops.specs.declared.volume.Volume.{Volume}
+use Rattle.volume_ops.specs.declared.weighing.Edits.{Edits}
+use Rattle.volume_ops.proofs.RoomKept.{free_content}
+
+-- ---- three numbers
+
+abbrev grow_in : List ℕ → Cost → List ℕ
+grow_in other (cost.Load n grow) = grow
+grow_in other (cost.Refused why) = other
+
+abbrev IsThree : List ℕ → Type 0
+IsThree grow = grow ≡ slice_index grow 0 ∷ slice_index grow 1 ∷ slice_index grow 2 ∷ []
+
+three_or : (refused : Option Refusal) (load s : ℕ) (a b c : ℕ) (grow : List ℕ) → cost_or refused load (a ∷ b ∷ c ∷ []) ≡ cost.Load s grow → IsThree grow
+three_or None load s a b c grow is = subst IsThree (ap (grow_in grow) is) refl
+three_or (Some why) load s a b c grow is = absurd (let none : cost.Refused why ≡ cost.Load s grow = is in cc none)
+
+three_of : (needs : Needs) (room : Room) (s : ℕ) (grow : List ℕ) → cost_of needs room ≡ cost.Load s grow → IsThree grow
+unfolding cost_of
+three_of needs room s grow is = three_or (resource_refusal needs room (plan_of needs room)) (load_of needs room (plan_of needs room)) s _ _ _ grow is
+
+zeros : (grow : List ℕ) → IsThree grow → ((slice_index grow 0 == 0) && ((slice_index grow 1 == 0) && (slice_index grow 2 == 0))) ≡ true → grow ≡ 0 ∷ 0 ∷ 0 ∷ []
+zeros grow three none =
+    let first = and_parts (slice_index grow 0 == 0) ((slice_index grow 1 == 0) && (slice_index grow 2 == 0)) none in
+    let second = and_parts (slice_index grow 1 == 0) (slice_index grow 2 == 0) first.1 in
+    three ∙ (λ i. eqb-true (slice_index grow 0) 0 first.0 i ∷ eqb-true (slice_index grow 1) 0 second.0 i ∷ eqb-true (slice_index grow 2) 0 second.1 i ∷ [])
+
+-- ---- the drop of an entry
+
+abbrev drop_edits : Edits
+drop_edits = record { ids = 0; catalog = 2; attributes = 0; updates = 1 }
+
+pub affords_by : (v : Volume) (content : Content) → IsSettled v content → (found : Cost) → found ≡ cost_of (needs_asked drop_edits) (room_with (capacity_of v) (free_in blocks.All v.map) (volume_of content)) → grows_none found ≡ true → (id : ℕ) → AffordsDrop (capacity_of v) content id
+unfolding reclaim_cost_with
+affords_by v content settled (cost.Refused why) is none id = absurd (true≢false (sym none))
+affords_by v content settled (cost.Load load grow) is none id = record {
+  load = load;
+  affords = ap (λ (f : List Bool). cost_of (needs_asked drop_edits) (room_with (capacity_of v) f (volume_of content))) (sym (free_content v content settled)) ∙ sym is
+      ∙ ap (cost.Load load) (zeros grow (three_of (needs_asked drop_edits) (room_with (capacity_of v) (free_in blocks.All v.map) (volume_of content)) load grow (sym is)) none);
+}
+
+-- ---- behind reads
+
+pub tidied_behind : (before between after : Content) → between ≡ before → (capacity first : ℕ) → first ≡ capacity → (shrunk file : Option ℕ) → file ≡ shrunk → (r : Result Tidying Trouble)
+    → IfOk r (λ (came : Tidying). TidiesAs came first file between after) → IfOk r (λ (came : Tidying). TidiesAs came capacity shrunk before after)
+tidied_behind before between after same capacity first one shrunk file two r was =
+    subst (λ (k : Content × ℕ × Option ℕ). IfOk r (λ (came : Tidying). TidiesAs came k.1 k.2 k.0 after)) {x = (between, first, file)} {y = (before, capacity, shrunk)} (λ i. (same i, one i, two i)) was

@@ -1,0 +1,62 @@
+use Rattle.std.proofs.Common.{◌≤◌, length, ℕ, List, sym, ◌∙◌, ap, subst}
+use Rattle.std.specs.Prelude.{Option, IfSome}
+use Rattle.std.specs.List.{Contains}
+use Rattle.sector_disk.specs.Lists.{Content}
+use Rattle.hfs_volume.specs.Content.{records_of, volume_of}
+use Rattle.hfs_volume.specs.Links.{orphans_of}
+use Rattle.hfs_volume.specs.Reclaim.{least}
+use Rattle.volume_ops.specs.Keeping.{shrunk_of}
+use Rattle.volume_ops.specs.Orphans.{IsToDrop}
+use Rattle.volume_ops.specs.Room.{capacity_of}
+use Rattle.volume_ops.specs.Touching.{Touches}
+use Rattle.volume_ops.specs.declared.entries.Entry.{Entry}
+use Rattle.volume_ops.proofs.Affording.{tidied_behind}
+use Rattle.volume_ops.proofs.Besides.{blocks_both, blocks_none, blocks_read}
+use Rattle.volume_ops.proofs.Commanding.{touches_both, touches_looks, touches_none}
+use Rattle.volume_ops.proofs.Seeing.{cause_since}
+use Rattle.volume_ops.proofs.Still.{own_still}
+use Rattle.volume_ops.proofs.volume.Volume.tidy_waiting.Goals as goal
+
+pub tidy_entry-requires-clause-settled : goal.tidy_entry-requires-clause-settled
+tidy_entry-requires-clause-settled g c tells = c.bare_waiting.ensures.settled (sym c.bare_waiting.ensures.reads.looks.same.tells ∙ tells)
+
+pub tidy_entry-requires-clause-name : goal.tidy_entry-requires-clause-name
+tidy_entry-requires-clause-name g c = subst (λ (o : Option Entry). IfSome o (λ entry. length entry.name ≤ 255)) c.in-Some.is c.in_ok-entry.ensures.name
+
+pub tidy_entry-requires-clause-waits : goal.tidy_entry-requires-clause-waits
+tidy_entry-requires-clause-waits g c tells =
+    let before = sym c.bare_waiting.ensures.reads.looks.same.tells ∙ tells in
+    let waits = subst (λ (o : Option Entry). IfSome o (IsToDrop (shrunk_of c.args.self.now) (g.P.SectorView.space c.args.space.now).content)) c.in-Some.is (c.in_ok-entry.ensures.found before (shrunk_of c.args.self.now) c.requires.unshrunk) in
+    subst (λ (k : Option ℕ × Content). IsToDrop k.0 k.1 c.in-Some.entry) {x = (shrunk_of c.args.self.now, (g.P.SectorView.space c.args.space.now).content)} {y = (shrunk_of c.bare_waiting.new.self, (g.P.SectorView.space c.bare_waiting.new.space).content)}
+    (λ i. (sym c.bare_waiting.ensures.reads.keeps.shrunk i, sym (c.bare_waiting.ensures.reads.looks.content before) i)) waits
+
+pub returns-in-Some-clause-tidied : goal.returns-in-Some-clause-tidied
+returns-in-Some-clause-tidied g c tells =
+    tidied_behind (g.P.SectorView.space c.args.space.now).content (g.P.SectorView.space c.bare_waiting.new.space).content (g.P.SectorView.space c.tidy_entry.new.space).content (c.bare_waiting.ensures.reads.looks.content tells) (capacity_of c.args.self.now) (capacity_of c.bare_waiting.new.self) c.bare_waiting.ensures.reads.keeps.capacity (shrunk_of c.args.self.now) (shrunk_of c.bare_waiting.new.self) c.bare_waiting.ensures.reads.keeps.shrunk c.tidy_entry.result
+    (c.tidy_entry.ensures.tidied (c.bare_waiting.ensures.reads.looks.same.tells ∙ tells))
+
+pub returns-in-Some-clause-touches : goal.returns-in-Some-clause-touches
+returns-in-Some-clause-touches g c committed =
+    touches_both committed _ (g.P.SectorView.space c.args.space.now) (g.P.SectorView.space c.bare_waiting.new.space) (g.P.SectorView.space c.tidy_entry.new.space) (touches_looks committed _ (g.P.SectorView.space c.args.space.now) (g.P.SectorView.space c.bare_waiting.new.space) c.bare_waiting.ensures.reads.looks)
+    (subst (λ (l : List ℕ). Touches committed (λ s. Contains l s) (g.P.SectorView.space c.bare_waiting.new.space) (g.P.SectorView.space c.tidy_entry.new.space)) (own_still c.args.self.now c.bare_waiting.new.self (g.P.SectorView.space c.args.space.now) (g.P.SectorView.space c.bare_waiting.new.space) c.bare_waiting.ensures.reads) (c.tidy_entry.ensures.touches committed))
+
+pub returns-in-Some-clause-blocks : goal.returns-in-Some-clause-blocks
+returns-in-Some-clause-blocks g c = blocks_both c.args.self.now c.bare_waiting.new.self c.tidy_entry.new.self (blocks_read c.args.self.now c.bare_waiting.new.self (g.P.SectorView.space c.args.space.now) (g.P.SectorView.space c.bare_waiting.new.space) c.bare_waiting.ensures.reads) c.tidy_entry.ensures.blocks
+
+pub returns-in-Some-clause-below : goal.returns-in-Some-clause-below
+returns-in-Some-clause-below g c = g.met.P.SectorView.follows_trans c.args.space.now c.bare_waiting.new.space c.tidy_entry.new.space c.bare_waiting.ensures.below c.tidy_entry.ensures.below
+
+pub returns-in-Some-clause-cause : goal.returns-in-Some-clause-cause
+returns-in-Some-clause-cause g c = cause_since (g.P.SectorView.space c.args.space.now).faults (g.P.SectorView.space c.bare_waiting.new.space).faults (g.P.SectorView.space c.tidy_entry.new.space).faults c.tidy_entry.result c.bare_waiting.ensures.reads.looks.faults c.tidy_entry.ensures.cause
+
+pub returns-in-None-clause-touches : goal.returns-in-None-clause-touches
+returns-in-None-clause-touches g c committed = touches_looks committed _ (g.P.SectorView.space c.args.space.now) (g.P.SectorView.space c.bare_waiting.new.space) c.bare_waiting.ensures.reads.looks
+
+pub returns-in-None-clause-blocks : goal.returns-in-None-clause-blocks
+returns-in-None-clause-blocks g c = blocks_read c.args.self.now c.bare_waiting.new.self (g.P.SectorView.space c.args.space.now) (g.P.SectorView.space c.bare_waiting.new.space) c.bare_waiting.ensures.reads
+
+pub returns-in_err-entry-clause-touches : goal.returns-in_err-entry-clause-touches
+returns-in_err-entry-clause-touches g c committed = touches_looks committed _ (g.P.SectorView.space c.args.space.now) (g.P.SectorView.space c.bare_waiting.new.space) c.bare_waiting.ensures.reads.looks
+
+pub returns-in_err-entry-clause-blocks : goal.returns-in_err-entry-clause-blocks
+returns-in_err-entry-clause-blocks g c = blocks_read c.args.self.now c.bare_waiting.new.self (g.P.SectorView.space c.args.space.now) (g.P.SectorView.space c.bare_waiting.new.space) c.bare_waiting.ensures.reads

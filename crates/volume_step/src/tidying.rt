@@ -1,0 +1,47 @@
+//! A step of housekeeping on a volume in service.
+ghost use Rattle.std.specs.Prelude.{◌≡◌, IsTrue, IfOk, OnOk};
+ghost use Rattle.std.specs.List.{Contains};
+ghost use Rattle.sector_disk.specs.Lists.{Content};
+ghost use Rattle.btree_edit.specs.Causes.{HasTroubleCause};
+ghost use Rattle.volume_ops.specs.Keeping.{shrunk_of};
+ghost use Rattle.volume_ops.specs.Room.{capacity_of};
+ghost use Rattle.volume_ops.specs.Service.{IsInService};
+ghost use Rattle.volume_ops.specs.Standing.{HoldsOn, IsSettled, StandsOver, own_sectors};
+ghost use Rattle.volume_ops.specs.Touching.{Touches};
+ghost use Rattle.volume_step.specs.Steps.{KeepsJournal};
+ghost use Rattle.volume_step.specs.Tidying.{ReclaimsAs};
+
+use hfs_volume::soundness_has_two_halves;
+use hx_bytes::Trouble;
+use sector_disk::SectorSpace;
+use std::alloc::Global;
+use volume_ops::{Tidying, Volume};
+
+/// Makes the next step of reclaiming, where it drops the entry of a file that lost its last name and has neither blocks nor
+/// attributes any more; each other step is still to come. `Memory` comes where memory is wanting, `Disk` where a read failed.
+pub fn tidy<P: SectorSpace>(
+    alloc: Global,
+    volume: &mut Volume,
+    space: &mut P,
+) -> Result<Tidying, Trouble>
+    requires stands { StandsOver volume.old (P.SectorView.space space.old) }
+    requires settled { IsTrue (P.SectorView.space space.old).tells → IsSettled volume.old (P.SectorView.space space.old).content }
+    // Told, the next step of reclaiming was made, and nothing was missing for it; or nothing was changed.
+    ensures reclaims { IsTrue (P.SectorView.space space.old).tells → IfOk result (λ came. ReclaimsAs came (capacity_of volume.old) (shrunk_of volume.old) (P.SectorView.space space.old).content (P.SectorView.space space.new).content) }
+    // The journal lies where it lay, and the header is one of the same volume.
+    ensures place { IsTrue (P.SectorView.space space.old).tells → OnOk result (KeepsJournal (P.SectorView.space space.old).content (P.SectorView.space space.new).content) }
+    ensures stands { OnOk result (StandsOver volume.new (P.SectorView.space space.new)) }
+    ensures settled { IsTrue (P.SectorView.space space.old).tells → OnOk result (IsSettled volume.new (P.SectorView.space space.new).content) }
+    ensures service { IsInService volume.new (P.SectorView.space space.new) }
+    // No block that a content has in use is lost.
+    ensures holds { (committed : Content) → HoldsOn committed volume.old → HoldsOn committed volume.new }
+    ensures capacity { capacity_of volume.new ≡ capacity_of volume.old }
+    ensures shrunk { shrunk_of volume.new ≡ shrunk_of volume.old }
+    // On a fault too, it puts sectors of its own alone, whatever was committed last.
+    ensures touches { (committed : Content) → Touches committed (λ s. Contains (own_sectors volume.old) s) (P.SectorView.space space.old) (P.SectorView.space space.new) }
+    ensures below { P.SectorView.follows space.old space.new }
+    ensures cause { HasTroubleCause (P.SectorView.space space.old).faults (P.SectorView.space space.new).faults result }
+{
+    soundness_has_two_halves();
+    volume.tidy(alloc, space)
+}
