@@ -4,6 +4,7 @@ pub mod GrownFirst
 pub mod GrownSteps
 pub mod Handing
 pub mod Judged
+pub mod JudgedLater
 pub mod Kept
 pub mod KeptEntries
 pub mod MetAgain

@@ -62,6 +62,11 @@ grows_in grow = not (slice_index grow 0 == 0) || (not (slice_index grow 1 == 0) 
 abbrev pub growth_of : List ℕ → ℕ → Verdict
 growth_of grow sectors = if (slice_index grow 0 == 0) && (slice_index grow 2 == 0) then verdict.Grows (slice_index grow 1) sectors else verdict.ToCome
 
+-- a growth ahead of the removal of a folder with attributes is still to come
+abbrev pub growth_or_later : Verdict → ℕ → Verdict
+growth_or_later (verdict.Grows more load) attributes = if attributes == 0 then verdict.Grows more load else verdict.ToCome
+growth_or_later other attributes = other
+
 -- what a command's weight comes to, where so many sectors may be put
 abbrev pub verdict_of : Weight → ℕ → Verdict
 verdict_of (answer.Refused why) spare = verdict.Refused why
