@@ -7,13 +7,13 @@ use Rattle.sector_disk.specs.Lists.{Content}
 use Rattle.hfs_language.specs.declared.refusal.Refusal.{Refusal}
 use Rattle.hfs_volume.specs.Content.{volume_of}
 use Rattle.hfs_volume.specs.Cost.{cost_of, cost_or, load_of, plan_of, resource_refusal}
-use Rattle.hfs_volume.specs.Reclaim.{DropOrphan, reclaim_cost, reclaim_cost_with}
+use Rattle.hfs_volume.specs.Reclaim.{DropAttribute, DropOrphan, reclaim_cost, reclaim_cost_with}
 use Rattle.hfs_volume.specs.Weight.{free_blocks, room_with}
 use Rattle.hfs_volume.specs.declared.cost.Cost.{Cost}
 use Rattle.hfs_volume.specs.declared.cost.Cost.TheVariants as cost
 use Rattle.hfs_volume.specs.declared.cost.Needs.{Needs}
 use Rattle.hfs_volume.specs.declared.cost.Room.{Room}
-use Rattle.volume_ops.specs.Orphans.{AffordsDrop, TidiesAs, grows_none}
+use Rattle.volume_ops.specs.Orphans.{AffordsStep, TidiesAs, grows_none}
 use Rattle.volume_ops.specs.Room.{capacity_of, free_in}
 use Rattle.volume_ops.specs.Standing.{IsSettled}
 use Rattle.volume_ops.specs.Weighing.{needs_asked}
@@ -46,19 +46,32 @@ zeros grow three none =
     let second = and_parts (slice_index grow 1 == 0) (slice_index grow 2 == 0) first.1 in
     three ∙ (λ i. eqb-true (slice_index grow 0) 0 first.0 i ∷ eqb-true (slice_index grow 1) 0 second.0 i ∷ eqb-true (slice_index grow 2) 0 second.1 i ∷ [])
 
--- ---- the drop of an entry
+-- ---- the steps
 
 abbrev drop_edits : Edits
 drop_edits = record { ids = 0; catalog = 2; attributes = 0; updates = 1 }
 
-pub affords_by : (v : Volume) (content : Content) → IsSettled v content → (found : Cost) → found ≡ cost_of (needs_asked drop_edits) (room_with (capacity_of v) (free_in blocks.All v.map) (volume_of content)) → grows_none found ≡ true → (id : ℕ) → AffordsDrop (capacity_of v) content id
+abbrev bare_edits : Edits
+bare_edits = record { ids = 0; catalog = 0; attributes = 1; updates = 1 }
+
+module _ (v : Volume) (content : Content) (settled : IsSettled v content) (edits : Edits) where
+  load_by : (found : Cost) → found ≡ cost_of (needs_asked edits) (room_with (capacity_of v) (free_in blocks.All v.map) (volume_of content)) → grows_none found ≡ true
+      → (load : ℕ) × (cost_of (needs_asked edits) (room_with (capacity_of v) (free_blocks (volume_of content)) (volume_of content)) ≡ cost.Load load (0 ∷ 0 ∷ 0 ∷ []))
+  load_by (cost.Refused why) is none = absurd (true≢false (sym none))
+  load_by (cost.Load load grow) is none = (
+    load,
+    ap (λ (f : List Bool). cost_of (needs_asked edits) (room_with (capacity_of v) f (volume_of content))) (sym (free_content v content settled)) ∙ sym is
+        ∙ ap (cost.Load load) (zeros grow (three_of (needs_asked edits) (room_with (capacity_of v) (free_in blocks.All v.map) (volume_of content)) load grow (sym is)) none),
+  )
+
+pub affords_by : (v : Volume) (content : Content) → IsSettled v content → (found : Cost) → found ≡ cost_of (needs_asked drop_edits) (room_with (capacity_of v) (free_in blocks.All v.map) (volume_of content)) → grows_none found ≡ true → (id : ℕ) → AffordsStep (capacity_of v) content (DropOrphan id)
 unfolding reclaim_cost_with
-affords_by v content settled (cost.Refused why) is none id = absurd (true≢false (sym none))
-affords_by v content settled (cost.Load load grow) is none id = record {
-  load = load;
-  affords = ap (λ (f : List Bool). cost_of (needs_asked drop_edits) (room_with (capacity_of v) f (volume_of content))) (sym (free_content v content settled)) ∙ sym is
-      ∙ ap (cost.Load load) (zeros grow (three_of (needs_asked drop_edits) (room_with (capacity_of v) (free_in blocks.All v.map) (volume_of content)) load grow (sym is)) none);
-}
+affords_by v content settled found is none id = let it = load_by v content settled drop_edits found is none in record { load = it.0; affords = it.1 }
+
+pub affords_bare_by : (v : Volume) (content : Content) → IsSettled v content → (found : Cost) → found ≡ cost_of (needs_asked bare_edits) (room_with (capacity_of v) (free_in blocks.All v.map) (volume_of content)) → grows_none found ≡ true → (id : ℕ) (name : List ℕ)
+    → AffordsStep (capacity_of v) content (DropAttribute id name)
+unfolding reclaim_cost_with
+affords_bare_by v content settled found is none id name = let it = load_by v content settled bare_edits found is none in record { load = it.0; affords = it.1 }
 
 -- ---- behind reads
 

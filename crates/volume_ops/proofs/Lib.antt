@@ -103,6 +103,7 @@ pub mod SoundForks
 pub mod Sounding
 pub mod Still
 pub mod Stood
+pub mod Stripped
 pub mod Taken
 pub mod TakenOff
 pub mod TakenOut

@@ -1,6 +1,6 @@
 -- The next step of reclaiming is the drop of an entry, where the file of the least CNID that waits has neither blocks nor attributes.
 use Rattle.std.proofs.Common.{◌≡◌, ◌⊎◌, ℕ, ◌<◌, Bool, true, false, List, [], ◌∷◌, ◌++◌, length, map, inl, inr, refl, sym, ◌∙◌, ap, subst, arith}
-use Rattle.std.specs.Prelude.{Contains, ◌==◌, ◌&&◌, not, nat_lt, find, Option, None, Some, if◌then◌else◌}
+use Rattle.std.specs.Prelude.{Contains, ◌==◌, ◌&&◌, not, nat_lt, find, slice_index_or, Option, None, Some, if◌then◌else◌}
 use Rattle.std.proofs.lemmas.Bool.{and_parts, eqb-true, eq-eqb, true≢false}
 use Rattle.std.proofs.lemmas.List.Elements.{Contains-append_right}
 use Rattle.btree_node.specs.Levels.{Pair}
@@ -21,7 +21,7 @@ use Rattle.hfs_volume.proofs.Flat.{found_some}
 use Rattle.hfs_volume.proofs.Members.{at_front, behind, each_of, kept_cases, kept_stands}
 use Rattle.hfs_volume.proofs.NodesOf.{entry_of_is}
 use Rattle.hfs_volume.proofs.Reaching.{flat_stands}
-use Rattle.volume_ops.specs.Orphans.{is_blockless}
+use Rattle.volume_ops.specs.Orphans.{IsFirstName, is_blockless}
 
 -- ---- the orphan with the least CNID
 
@@ -111,3 +111,26 @@ next_is_drop volume sound shrunk unshrunk id lowest e stands is bare none =
     ap (λ (s : Option ℕ). next_reclaim volume s) unshrunk ∙ ap (orphan_steps volume) lowest
     ∙ ap Some ((λ i. if ap (λ n. has_blocks (file_blocks volume n data_kind)) (sym is) i then CutOrphan id data_kind else if ap (λ n. has_blocks (file_blocks volume n resource_kind)) (sym is) i then CutOrphan id resource_kind else bare_step id (first_attribute (attributes_of volume) id))
     ∙ (λ i. if blocks.0 i then CutOrphan id data_kind else if blocks.1 i then CutOrphan id resource_kind else bare_step id (no_first id (attributes_of volume) none i)))
+
+-- ---- the step, where it has attributes
+
+first_kept : (test : Attribute → Bool) (xs : List Attribute) → 0 < length (map (λ (a : Attribute). a.name) (kept test xs)) → (a : Attribute) × (find test xs ≡ Some a) × (slice_index_or (map (λ (x : Attribute). x.name) (kept test xs)) 0 [] ≡ a.name)
+first_kept test [] some = absurd (omega (arith, some))
+first_kept test (x ∷ xs) some = by (λ more. first_kept test xs more) (test x) some
+  where
+    by : (0 < length (map (λ (a : Attribute). a.name) (kept test xs)) → (a : Attribute) × (find test xs ≡ Some a) × (slice_index_or (map (λ (y : Attribute). y.name) (kept test xs)) 0 [] ≡ a.name))
+        → (b : Bool) → 0 < length (map (λ (a : Attribute). a.name) ((if b then x ∷ [] else []) ++ kept test xs))
+        → (a : Attribute) × ((if b then Some x else find test xs) ≡ Some a) × (slice_index_or (map (λ (y : Attribute). y.name) ((if b then x ∷ [] else []) ++ kept test xs)) 0 [] ≡ a.name)
+    by later true more = (x, refl, refl)
+    by later false more = later more
+
+pub next_is_bare : (volume : VolumeState) → IsSoundVolume volume → (shrunk : Option ℕ) → shrunk ≡ None → (id : ℕ) → least (orphans_of (records_of volume)) ≡ Some id → (e : Placed) → Contains (entries_of (records_of volume)) e → id_of e ≡ id
+    → is_blockless e.value ≡ true → (name : List ℕ) → IsFirstName name (map (λ (a : Attribute). a.name) (kept (λ (a : Attribute). a.id == id) (map attribute_of volume.attribute_pairs))) → next_reclaim volume shrunk ≡ Some (DropAttribute id name)
+unfolding next_reclaim
+next_is_bare volume sound shrunk unshrunk id lowest e stands is bare name first =
+    let blocks = blockless_so volume sound e stands e.value refl bare in
+    let it = first_kept (λ (a : Attribute). a.id == id) (attributes_of volume) first.0 in
+    ap (λ (s : Option ℕ). next_reclaim volume s) unshrunk ∙ ap (orphan_steps volume) lowest
+    ∙ ap Some ((λ i. if ap (λ n. has_blocks (file_blocks volume n data_kind)) (sym is) i then CutOrphan id data_kind else if ap (λ n. has_blocks (file_blocks volume n resource_kind)) (sym is) i then CutOrphan id resource_kind else bare_step id (first_attribute (attributes_of volume) id))
+    ∙ (λ i. if blocks.0 i then CutOrphan id data_kind else if blocks.1 i then CutOrphan id resource_kind else bare_step id (it.1 i))
+    ∙ ap (DropAttribute id) (sym it.2 ∙ sym first.1))

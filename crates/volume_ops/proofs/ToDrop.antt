@@ -14,7 +14,7 @@ use Rattle.catalog.specs.declared.folder.Child.{Child}
 use Rattle.cat_records.specs.declared.record.CatRecord.{CatRecord}
 use Rattle.hfs_volume.specs.Content.{VolumeState, records_of, volume_of}
 use Rattle.hfs_volume.specs.Links.{is_orphan, orphans_of, private_id}
-use Rattle.hfs_volume.specs.Reclaim.{DropOrphan, least, next_reclaim}
+use Rattle.hfs_volume.specs.Reclaim.{DropAttribute, DropOrphan, least, next_reclaim}
 use Rattle.hfs_volume.specs.Reclaiming.{DropIsOfBareOrphan, IsBareOrphan}
 use Rattle.hfs_volume.specs.Records.{Placed, entries_of, id_of, placed_in}
 use Rattle.hfs_volume.proofs.Flat.{some_same}
@@ -22,12 +22,12 @@ use Rattle.hfs_volume.proofs.Hiding.{same_entry}
 use Rattle.hfs_volume.proofs.Members.{kept_cases}
 use Rattle.volume_ops.specs.Entering.{entry_by_id}
 use Rattle.volume_ops.specs.Lists.{lists_of}
-use Rattle.volume_ops.specs.Orphans.{IsToDrop, is_blockless, least_clear, searched, unsearched}
+use Rattle.volume_ops.specs.Orphans.{IsFirstName, IsToDrop, is_blockless, least_clear, searched, unsearched}
 use Rattle.volume_ops.specs.Standing.{HoldsTrees, IsSettled}
 use Rattle.volume_ops.specs.declared.entries.Entry.{Entry}
 use Rattle.volume_ops.specs.declared.volume.Volume.{Volume}
 use Rattle.volume_ops.proofs.Entered.{entry_is, keys_are, short_names}
-use Rattle.volume_ops.proofs.NextDrop.{least_is, next_is_drop}
+use Rattle.volume_ops.proofs.NextDrop.{least_is, next_is_bare, next_is_drop}
 use Rattle.volume_ops.proofs.Rising.{settled_sorted}
 use Rattle.volume_ops.proofs.Waiting.{least_found}
 
@@ -76,6 +76,18 @@ module _ (v : Volume) (content : Content) (holds : HoldsTrees v content) (settle
         one = same_entry (volume_of content).head.next_catalog_id (entries_of (records_of (volume_of content))) settled.sound.entries.ids found.0 its.entry stands
             (kept_cases (is_orphan (records_of (volume_of content))) (entries_of (records_of (volume_of content))) its.entry its.is_orphan).0 (found.2 ∙ sym its.is_entry)
 
+    bared_next : is_blockless entry.rec ≡ true → (name : List ℕ) → IsFirstName name (names_of id (lists_of v content).attribute_pairs) → next_reclaim (volume_of content) shrunk ≡ Some (DropAttribute id name)
+    bared_next bare name first =
+        next_is_bare (volume_of content) settled.sound shrunk unshrunk id lowest found.0 stands found.2 (ap (λ (x : Entry). is_blockless x.rec) (sym same) ∙ bare) name
+        (subst (λ (l : VolumeState). IsFirstName name (names_of id l.attribute_pairs)) (sym settled.lists) first)
+
+    pub found_to_bare : (u : Volume) (later : Content) → lists_of u later ≡ lists_of v content → (r : Result (Option (List ℕ)) Trouble)
+        → IfOk r (λ (o : Option (List ℕ)). IfSome o (λ (name : List ℕ). (is_blockless entry.rec ≡ true) × IsFirstName name (names_of id (lists_of u later).attribute_pairs)))
+        → IfOk r (λ (o : Option (List ℕ)). IfSome o (λ (name : List ℕ). next_reclaim (volume_of content) shrunk ≡ Some (DropAttribute id name)))
+    found_to_bare u later lists (Ok None) told = tt
+    found_to_bare u later lists (Ok (Some name)) told = bared_next told.0 name (subst (λ (l : VolumeState). IsFirstName name (names_of id l.attribute_pairs)) lists told.1)
+    found_to_bare u later lists (Err why) told = tt
+
     pub found_to_drop : (w u : Volume) (later : Content) → lists_of u later ≡ lists_of v content → (r : Result (Option Entry) Trouble)
         → IfOk r (λ (o : Option Entry). IfSome o (λ (bare : Entry). (bare ≡ entry) × (is_blockless entry.rec ≡ true) × (length (names_of id (lists_of u later).attribute_pairs) ≡ 0))) → IfOk r (λ (o : Option Entry). IfSome o (IsToDrop shrunk content))
     found_to_drop w u later lists (Ok None) told = tt
@@ -87,3 +99,9 @@ pub named_as : (entry : Entry) → length entry.name ≤ 255 → (r : Result (Op
 named_as entry short (Ok None) told = tt
 named_as entry short (Ok (Some bare)) told = subst (λ (x : Entry). length x.name ≤ 255) (sym told) short
 named_as entry short (Err why) told = tt
+
+-- what was told of a file's first attribute
+pub first_told : (entry : Entry) → is_blockless entry.rec ≡ true → (looked names : List (List ℕ)) → looked ≡ names → (found : Option (List ℕ)) → IfSome found (λ (name : List ℕ). IsFirstName name looked)
+    → IfSome found (λ (name : List ℕ). (is_blockless entry.rec ≡ true) × IsFirstName name names)
+first_told entry bare looked names same None told = tt
+first_told entry bare looked names same (Some name) told = (bare, subst (IsFirstName name) same told)

@@ -1,5 +1,5 @@
 -- Files that lost their last name and wait in the private folder: how a step of housekeeping finds the first of them, and what it does to it.
-use Rattle.std.specs.Prelude.{◌≡◌, ◌<◌, ◌≤◌, ◌==◌, ◌&&◌, ◌||◌, nat_lt, ℕ, ◌-◌, Bool, true, false, not, List, [], ◌∷◌, length, drop, slice_index, Option, Some, None, if◌then◌else◌}
+use Rattle.std.specs.Prelude.{◌≡◌, ◌⊎◌, ◌<◌, ◌≤◌, ◌==◌, ◌&&◌, ◌||◌, nat_lt, ℕ, ◌-◌, Bool, true, false, not, List, [], ◌∷◌, length, drop, slice_index, slice_index_or, Option, Some, None, if◌then◌else◌}
 use Rattle.std.specs.List.{list_all}
 use Rattle.sector_disk.specs.Lists.{Content}
 use Rattle.jnl_format.specs.Recovery.{header_of_volume}
@@ -8,9 +8,10 @@ use Rattle.cat_records.specs.declared.record.CatRecord.TheVariants.{Folder, File
 use Rattle.catalog.specs.Entries.{RemovesEntry}
 use Rattle.catalog.specs.declared.folder.Child.{Child}
 use Rattle.volume_header.specs.declared.header.VolumeHeader.{VolumeHeader}
+use Rattle.hfs_volume.specs.Changes.{DropsAttribute, InAttributes}
 use Rattle.hfs_volume.specs.Commands.{with_counts}
 use Rattle.hfs_volume.specs.Content.{volume_of}
-use Rattle.hfs_volume.specs.Reclaim.{Does, DropOrphan, next_reclaim, reclaim_cost}
+use Rattle.hfs_volume.specs.Reclaim.{Does, DropAttribute, DropOrphan, Reclaim, next_reclaim, reclaim_cost}
 use Rattle.hfs_volume.specs.Reclaiming.{DropsOrphanEntry, IsBareOrphan}
 use Rattle.hfs_volume.specs.Records.{id_in, is_link_type}
 use Rattle.hfs_volume.specs.TreeOf.{tree_of}
@@ -117,6 +118,21 @@ pub record DropsWaiting (shrunk : Option ℕ) (before after : Content) : Type 0 
   pub does : Does (DropOrphan id) (volume_of before) (volume_of after)
   pub tree : tree_of after ≡ tree_of before
 
+-- ---- the attribute that goes
+
+-- the name is the first of these
+abbrev pub IsFirstName : List ℕ → List (List ℕ) → Type 0
+IsFirstName name names = (0 < length names) × (name ≡ slice_index_or names 0 [])
+
+-- An attribute of a file that waits goes, in the lists of the content, and the tree is as it was.
+pub record BaresWaiting (shrunk : Option ℕ) (before after : Content) : Type 0 where
+  pub id : ℕ
+  pub name : List ℕ
+  pub next : next_reclaim (volume_of before) shrunk ≡ Some (DropAttribute id name)
+  pub bares : InAttributes (DropsAttribute id name) (volume_of before) (volume_of after)
+  pub does : Does (DropAttribute id name) (volume_of before) (volume_of after)
+  pub tree : tree_of after ≡ tree_of before
+
 -- ---- what a step came to
 
 -- a load for which no tree grows
@@ -124,18 +140,23 @@ abbrev pub grows_none : Cost → Bool
 grows_none (cost.Refused why) = false
 grows_none (cost.Load load grow) = (slice_index grow 0 == 0) && ((slice_index grow 1 == 0) && (slice_index grow 2 == 0))
 
--- Nothing is missing for the drop of an entry, and no tree has to grow for it.
-pub record AffordsDrop (capacity : ℕ) (content : Content) (id : ℕ) : Type 0 where
+-- Nothing is missing for a step of reclaiming, and no tree has to grow for it.
+pub record AffordsStep (capacity : ℕ) (content : Content) (step : Reclaim) : Type 0 where
   pub load : ℕ
-  pub affords : reclaim_cost capacity (volume_of content) (DropOrphan id) ≡ cost.Load load (0 ∷ 0 ∷ 0 ∷ [])
+  pub affords : reclaim_cost capacity (volume_of content) step ≡ cost.Load load (0 ∷ 0 ∷ 0 ∷ [])
 
--- The next step of reclaiming was made.
-pub record HasTidied (capacity : ℕ) (shrunk : Option ℕ) (before after : Content) : Type 0 where
+-- The next step of reclaiming was made, and dropped an entry.
+pub record HasDropped (capacity : ℕ) (shrunk : Option ℕ) (before after : Content) : Type 0 where
   pub waiting : DropsWaiting shrunk before after
-  pub affords : AffordsDrop capacity before waiting.id
+  pub affords : AffordsStep capacity before (DropOrphan waiting.id)
+
+-- It was made, and dropped an attribute.
+pub record HasBared (capacity : ℕ) (shrunk : Option ℕ) (before after : Content) : Type 0 where
+  pub waiting : BaresWaiting shrunk before after
+  pub affords : AffordsStep capacity before (DropAttribute waiting.id waiting.name)
 
 -- the next step of reclaiming was made, or nothing was changed
 abbrev pub TidiesAs : Tidying → ℕ → Option ℕ → Content → Content → Type 0
 TidiesAs tidying.Rest capacity shrunk before after = after ≡ before
-TidiesAs tidying.Made capacity shrunk before after = HasTidied capacity shrunk before after
+TidiesAs tidying.Made capacity shrunk before after = HasDropped capacity shrunk before after ⊎ HasBared capacity shrunk before after
 TidiesAs tidying.CommitFirst capacity shrunk before after = after ≡ before

@@ -54,6 +54,7 @@ mod setting;
 mod sites;
 mod stamping;
 mod stating;
+mod stripping;
 mod telling;
 mod tidying;
 mod touching;

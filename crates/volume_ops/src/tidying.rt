@@ -1,4 +1,4 @@
-//! Housekeeping: the next step of reclaiming, where it drops the entry of a file that lost its last name.
+//! Housekeeping: the next step of reclaiming for a file that lost its last name and has no blocks.
 ghost use Rattle.std.specs.Prelude.{◌≡◌, ◌≤◌, ℕ, true, Option, Some, None, IsTrue, IfOk, IfSome, length, OnOk};
 ghost use Rattle.std.specs.List.{Contains};
 ghost use Rattle.sector_disk.specs.Lists.{Content};
@@ -7,12 +7,12 @@ ghost use Rattle.btree_edit.specs.Causes.{HasTroubleCause};
 ghost use Rattle.catalog.specs.Children.{children_in};
 ghost use Rattle.hfs_volume.specs.Content.{records_of, volume_of};
 ghost use Rattle.hfs_volume.specs.Links.{orphans_of};
-ghost use Rattle.hfs_volume.specs.Reclaim.{least};
+ghost use Rattle.hfs_volume.specs.Reclaim.{DropOrphan, least};
 ghost use Rattle.volume_ops.specs.Changing.{KeepsBlocks};
 ghost use Rattle.volume_ops.specs.Keeping.{shrunk_of};
 ghost use Rattle.volume_ops.specs.Lists.{lists_of};
 ghost use Rattle.volume_ops.specs.Looking.{ReadsVolume};
-ghost use Rattle.volume_ops.specs.Orphans.{AffordsDrop, IsToDrop, TidiesAs, grows_none, is_blockless};
+ghost use Rattle.volume_ops.specs.Orphans.{AffordsStep, IsToDrop, TidiesAs, grows_none, is_blockless};
 ghost use Rattle.volume_ops.specs.Room.{capacity_of};
 ghost use Rattle.volume_ops.specs.Service.{IsInService};
 ghost use Rattle.volume_ops.specs.Standing.{IsSettled, StandsOver, own_sectors};
@@ -41,7 +41,7 @@ pub enum Tidying {
 }
 
 /// Whether this is a load for which no tree grows.
-fn grows_none(cost: Cost) -> bool
+pub(crate) fn grows_none(cost: Cost) -> bool
     ensures { result ≡ grows_none cost }
 {
     match cost {
@@ -120,11 +120,11 @@ impl Volume {
         ensures below { P.SectorView.follows space.old space.new }
         ensures cause { HasTroubleCause (P.SectorView.space space.old).faults (P.SectorView.space space.new).faults result }
     {
-        let owned = self.list_attributes(alloc, space, id)?;
-        if !owned.is_empty() {
+        if !is_blockless(&entry.rec) {
             return Ok(None);
         }
-        if !is_blockless(&entry.rec) {
+        let owned = self.list_attributes(alloc, space, id)?;
+        if !owned.is_empty() {
             return Ok(None);
         }
         Ok(Some(entry))
@@ -159,7 +159,7 @@ impl Volume {
     fn affords_drop<P: SectorSpace>(&self, space: &P) -> bool
         requires stands { StandsOver self.now (P.SectorView.space space.now) }
         requires settled { IsTrue (P.SectorView.space space.now).tells → IsSettled self.now (P.SectorView.space space.now).content }
-        ensures { IsTrue (P.SectorView.space space.now).tells → IsTrue result → (id : ℕ) → AffordsDrop (capacity_of self.now) (P.SectorView.space space.now).content id }
+        ensures { IsTrue (P.SectorView.space space.now).tells → IsTrue result → (id : ℕ) → AffordsStep (capacity_of self.now) (P.SectorView.space space.now).content (DropOrphan id) }
     {
         let edits = Edits {
             ids: 0,
@@ -229,7 +229,7 @@ impl Volume {
     {
         match self.bare_waiting(alloc, space, id)? {
             Some(entry) => self.tidy_entry(alloc, space, &entry),
-            None => Ok(Tidying::Rest),
+            None => self.tidy_owner(alloc, space, id),
         }
     }
 
@@ -257,8 +257,8 @@ impl Volume {
         }
     }
 
-    /// Makes the next step of reclaiming, where it drops the entry of a file that lost its last name and has neither blocks nor
-    /// attributes any more. Each other step is still to come: it is left, and so is all that comes behind it. Where no file was
+    /// Makes the next step of reclaiming for a file that lost its last name and has no blocks any more: it drops the first of its
+    /// attributes, or its entry. Each other step is still to come: it is left, and so is all that comes behind it. Where no file was
     /// shrunk since the mount, and each name of the private folder that begins with `temp` has nothing but a number of nineteen digits
     /// or fewer behind it, the step is found. `Memory` comes where memory is wanting, `Disk` where a read failed.
     pub fn tidy<P: SectorSpace>(&mut self, alloc: Global, space: &mut P) -> Result<Tidying, Trouble>

@@ -1,15 +1,16 @@
 -- The drop of an entry is a step of reclaiming that grows no tree, and keeps the place of the journal.
-use Rattle.std.proofs.Common.{◌≡◌, ℕ, ◌≤◌, Bool, true, false, List, [], ◌∷◌, inl, inr, refl, sym, ◌∙◌, ap, subst, arith}
+use Rattle.std.proofs.Common.{◌≡◌, ◌⊎◌, ℕ, ◌≤◌, Bool, true, false, List, [], ◌∷◌, inl, inr, refl, sym, ◌∙◌, ap, subst, arith}
 use Rattle.std.specs.Prelude.{Contains, ◌==◌, find, IfOk, OnOk, Option, Result, Ok, Err}
 use Rattle.std.specs.List.{flat_map}
 use Rattle.std.proofs.lemmas.Bool.{true≢false}
 use Rattle.hx_bytes.specs.declared.faults.Trouble.{Trouble}
 use Rattle.jnl_format.specs.Recovery.{Content}
 use Rattle.hfs_volume.specs.Content.{VolumeState, overflow_in_volume, records_of, volume_of}
+use Rattle.hfs_volume.specs.Changes.{DropsAttribute}
 use Rattle.hfs_volume.specs.Commands.{IsRecounted}
 use Rattle.hfs_volume.specs.Forks.{Owned, all_forks, blocks_owned, forks_in}
 use Rattle.hfs_volume.specs.Naming.{one_file_less}
-use Rattle.hfs_volume.specs.Reclaim.{DropOrphan, Reclaims, blocks_at}
+use Rattle.hfs_volume.specs.Reclaim.{DropAttribute, DropOrphan, Reclaims, blocks_at}
 use Rattle.hfs_volume.specs.Reclaiming.{DropsOrphanEntry}
 use Rattle.hfs_volume.specs.Records.{Placed, entries_of, id_of}
 use Rattle.hfs_volume.specs.Sound.{IsSound, IsSoundVolume}
@@ -17,7 +18,7 @@ use Rattle.hfs_volume.proofs.Hiding.{one_there}
 use Rattle.hfs_volume.proofs.Seeing.{same_number}
 use Rattle.hfs_volume.proofs.Sides.{OneMore, count_more, entry_is_named, one_more}
 use Rattle.hfs_volume.specs.Laws.{IsShaped, SoundIsBoth, one_if}
-use Rattle.volume_ops.specs.Orphans.{HasTidied, TidiesAs}
+use Rattle.volume_ops.specs.Orphans.{HasBared, HasDropped, TidiesAs}
 use Rattle.volume_ops.proofs.OrphanFacts.{each_none, high, stands}
 use Rattle.volume_ops.specs.declared.tidying.Tidying.{Tidying}
 use Rattle.volume_ops.specs.declared.tidying.Tidying.TheVariants as tidying
@@ -25,7 +26,7 @@ use Rattle.volume_step.specs.Steps.{KeepsJournal}
 use Rattle.volume_step.specs.Tidying.{ReclaimsAs}
 use Rattle.volume_step.proofs.Done.{same_place}
 use Rattle.volume_step.proofs.Forks.{found_more}
-use Rattle.volume_step.proofs.Kept.{Keeps, catalog_keeps, fields_keep, grows_none, keeps_both}
+use Rattle.volume_step.proofs.Kept.{Keeps, attributes_keep, catalog_keeps, fields_keep, grows_none, keeps_both}
 use Rattle.volume_step.proofs.Served.{journal_kept}
 
 -- ---- what stays
@@ -78,24 +79,44 @@ module _ (id : ℕ) (old new : VolumeState) (sound : IsSoundVolume old) (shaped 
 
 -- ---- the step
 
-module _ (halves : (volume : VolumeState) → SoundIsBoth volume) (capacity : ℕ) (shrunk : Option ℕ) (before after : Content) (sound : IsSoundVolume (volume_of before)) (sound_after : IsSound after) (was : HasTidied capacity shrunk before after) where
-  keeps : Keeps (volume_of before) (volume_of after)
-  keeps = drop_keeps was.waiting.id (volume_of before) (volume_of after) sound ((halves (volume_of before)).0 sound).0 was.waiting.drops
+module _ (halves : (volume : VolumeState) → SoundIsBoth volume) (capacity : ℕ) (shrunk : Option ℕ) (before after : Content) (sound : IsSoundVolume (volume_of before)) (sound_after : IsSound after) where
+  dropped_keeps : HasDropped capacity shrunk before after → Keeps (volume_of before) (volume_of after)
+  dropped_keeps was = drop_keeps was.waiting.id (volume_of before) (volume_of after) sound ((halves (volume_of before)).0 sound).0 was.waiting.drops
 
-  reclaimed : Reclaims capacity shrunk before after
-  reclaimed = record {
+  bared_keeps : HasBared capacity shrunk before after → Keeps (volume_of before) (volume_of after)
+  bared_keeps was = attributes_keep (DropsAttribute was.waiting.id was.waiting.name) (volume_of before) (volume_of after) was.waiting.bares
+
+  dropped : HasDropped capacity shrunk before after → Reclaims capacity shrunk before after
+  dropped was = record {
     step = DropOrphan was.waiting.id;
     next = was.waiting.next;
     load = was.affords.load;
     grow = 0 ∷ 0 ∷ 0 ∷ [];
     affords = was.affords.affords;
-    grows = grows_none (volume_of before) (volume_of after) keeps;
+    grows = grows_none (volume_of before) (volume_of after) (dropped_keeps was);
     does = was.waiting.does;
     keeps = record { sound = sound_after; tree = was.waiting.tree };
   }
 
-  placed : KeepsJournal before after
-  placed = journal_kept before after keeps
+  bared : HasBared capacity shrunk before after → Reclaims capacity shrunk before after
+  bared was = record {
+    step = DropAttribute was.waiting.id was.waiting.name;
+    next = was.waiting.next;
+    load = was.affords.load;
+    grow = 0 ∷ 0 ∷ 0 ∷ [];
+    affords = was.affords.affords;
+    grows = grows_none (volume_of before) (volume_of after) (bared_keeps was);
+    does = was.waiting.does;
+    keeps = record { sound = sound_after; tree = was.waiting.tree };
+  }
+
+  reclaimed : HasDropped capacity shrunk before after ⊎ HasBared capacity shrunk before after → Reclaims capacity shrunk before after
+  reclaimed (inl was) = dropped was
+  reclaimed (inr was) = bared was
+
+  placed : HasDropped capacity shrunk before after ⊎ HasBared capacity shrunk before after → KeepsJournal before after
+  placed (inl was) = journal_kept before after (dropped_keeps was)
+  placed (inr was) = journal_kept before after (bared_keeps was)
 
 module _ (halves : (volume : VolumeState) → SoundIsBoth volume) (capacity : ℕ) (shrunk : Option ℕ) (before after : Content) (sound : IsSoundVolume (volume_of before)) where
   pub reclaims_as : (r : Result Tidying Trouble) → OnOk r (IsSound after) → IfOk r (λ (came : Tidying). TidiesAs came capacity shrunk before after) → IfOk r (λ (came : Tidying). ReclaimsAs came capacity shrunk before after)

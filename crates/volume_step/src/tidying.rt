@@ -17,8 +17,8 @@ use sector_disk::SectorSpace;
 use std::alloc::Global;
 use volume_ops::{Tidying, Volume};
 
-/// Makes the next step of reclaiming, where it drops the entry of a file that lost its last name and has neither blocks nor
-/// attributes any more; each other step is still to come. `Memory` comes where memory is wanting, `Disk` where a read failed.
+/// Makes the next step of reclaiming for a file that lost its last name and has no blocks any more: it drops the first of its
+/// attributes, or its entry; each other step is still to come. `Memory` comes where memory is wanting, `Disk` where a read failed.
 pub fn tidy<P: SectorSpace>(
     alloc: Global,
     volume: &mut Volume,

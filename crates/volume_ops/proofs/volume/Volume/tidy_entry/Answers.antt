@@ -1,4 +1,4 @@
-use Rattle.std.proofs.Common.{◌≡◌, ◌≤◌, length, sym, ◌∙◌, ap, arith}
+use Rattle.std.proofs.Common.{inl, ◌≡◌, ◌≤◌, length, sym, ◌∙◌, ap, arith}
 use Rattle.std.proofs.lemmas.Bool.{eqb-false}
 use Rattle.btree_node.specs.declared.store.TreeShape.{TreeShape}
 use Rattle.volume_ops.proofs.Besides.{blocks_none}
@@ -14,7 +14,7 @@ drop_waiting-requires-clause-room g c = c.fits_remove.ensures c.if-not-fits_remo
 pub returns-clause-tidied : goal.returns-clause-tidied
 returns-clause-tidied g c tells =
     let done = c.in_ok-drop_waiting.ensures.does tells in
-    record { waiting = done.1; affords = c.affords_drop.ensures tells c.if-not-affords_drop.false done.1.id }
+    inl (record { waiting = done.1; affords = c.affords_drop.ensures tells c.if-not-affords_drop.false done.1.id })
 
 pub returns-clause-settled : goal.returns-clause-settled
 returns-clause-settled g c tells = (c.in_ok-drop_waiting.ensures.does tells).0

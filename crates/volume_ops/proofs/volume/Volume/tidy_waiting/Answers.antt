@@ -49,11 +49,35 @@ returns-in-Some-clause-below g c = g.met.P.SectorView.follows_trans c.args.space
 pub returns-in-Some-clause-cause : goal.returns-in-Some-clause-cause
 returns-in-Some-clause-cause g c = cause_since (g.P.SectorView.space c.args.space.now).faults (g.P.SectorView.space c.bare_waiting.new.space).faults (g.P.SectorView.space c.tidy_entry.new.space).faults c.tidy_entry.result c.bare_waiting.ensures.reads.looks.faults c.tidy_entry.ensures.cause
 
+pub returns-in-None-clause-tidied : goal.returns-in-None-clause-tidied
+returns-in-None-clause-tidied g c tells =
+    tidied_behind (g.P.SectorView.space c.args.space.now).content (g.P.SectorView.space c.bare_waiting.new.space).content (g.P.SectorView.space c.tidy_owner.new.space).content (c.bare_waiting.ensures.reads.looks.content tells) (capacity_of c.args.self.now) (capacity_of c.bare_waiting.new.self) c.bare_waiting.ensures.reads.keeps.capacity (shrunk_of c.args.self.now) (shrunk_of c.bare_waiting.new.self) c.bare_waiting.ensures.reads.keeps.shrunk c.tidy_owner.result
+    (c.tidy_owner.ensures.tidied (c.bare_waiting.ensures.reads.looks.same.tells ∙ tells))
+
 pub returns-in-None-clause-touches : goal.returns-in-None-clause-touches
-returns-in-None-clause-touches g c committed = touches_looks committed _ (g.P.SectorView.space c.args.space.now) (g.P.SectorView.space c.bare_waiting.new.space) c.bare_waiting.ensures.reads.looks
+returns-in-None-clause-touches g c committed =
+    touches_both committed _ (g.P.SectorView.space c.args.space.now) (g.P.SectorView.space c.bare_waiting.new.space) (g.P.SectorView.space c.tidy_owner.new.space) (touches_looks committed _ (g.P.SectorView.space c.args.space.now) (g.P.SectorView.space c.bare_waiting.new.space) c.bare_waiting.ensures.reads.looks)
+    (subst (λ (l : List ℕ). Touches committed (λ s. Contains l s) (g.P.SectorView.space c.bare_waiting.new.space) (g.P.SectorView.space c.tidy_owner.new.space)) (own_still c.args.self.now c.bare_waiting.new.self (g.P.SectorView.space c.args.space.now) (g.P.SectorView.space c.bare_waiting.new.space) c.bare_waiting.ensures.reads) (c.tidy_owner.ensures.touches committed))
 
 pub returns-in-None-clause-blocks : goal.returns-in-None-clause-blocks
-returns-in-None-clause-blocks g c = blocks_read c.args.self.now c.bare_waiting.new.self (g.P.SectorView.space c.args.space.now) (g.P.SectorView.space c.bare_waiting.new.space) c.bare_waiting.ensures.reads
+returns-in-None-clause-blocks g c = blocks_both c.args.self.now c.bare_waiting.new.self c.tidy_owner.new.self (blocks_read c.args.self.now c.bare_waiting.new.self (g.P.SectorView.space c.args.space.now) (g.P.SectorView.space c.bare_waiting.new.space) c.bare_waiting.ensures.reads) c.tidy_owner.ensures.blocks
+
+pub returns-in-None-clause-below : goal.returns-in-None-clause-below
+returns-in-None-clause-below g c = g.met.P.SectorView.follows_trans c.args.space.now c.bare_waiting.new.space c.tidy_owner.new.space c.bare_waiting.ensures.below c.tidy_owner.ensures.below
+
+pub returns-in-None-clause-cause : goal.returns-in-None-clause-cause
+returns-in-None-clause-cause g c = cause_since (g.P.SectorView.space c.args.space.now).faults (g.P.SectorView.space c.bare_waiting.new.space).faults (g.P.SectorView.space c.tidy_owner.new.space).faults c.tidy_owner.result c.bare_waiting.ensures.reads.looks.faults c.tidy_owner.ensures.cause
+
+pub tidy_owner-requires-clause-settled : goal.tidy_owner-requires-clause-settled
+tidy_owner-requires-clause-settled g c tells = c.bare_waiting.ensures.settled (sym c.bare_waiting.ensures.reads.looks.same.tells ∙ tells)
+
+pub tidy_owner-requires-clause-unshrunk : goal.tidy_owner-requires-clause-unshrunk
+tidy_owner-requires-clause-unshrunk g c = c.bare_waiting.ensures.reads.keeps.shrunk ∙ c.requires.unshrunk
+
+pub tidy_owner-requires-clause-lowest : goal.tidy_owner-requires-clause-lowest
+tidy_owner-requires-clause-lowest g c tells =
+    let before = sym c.bare_waiting.ensures.reads.looks.same.tells ∙ tells in
+    ap (λ (k : Content). least (orphans_of (records_of (volume_of k)))) (c.bare_waiting.ensures.reads.looks.content before) ∙ c.requires.lowest before
 
 pub returns-in_err-entry-clause-touches : goal.returns-in_err-entry-clause-touches
 returns-in_err-entry-clause-touches g c committed = touches_looks committed _ (g.P.SectorView.space c.args.space.now) (g.P.SectorView.space c.bare_waiting.new.space) c.bare_waiting.ensures.reads.looks
