@@ -70,6 +70,17 @@ fn verdict_of(weight: Weight, spare: u64) -> Verdict
     }
 }
 
+/// Whether the catalog has to grow first.
+fn is_growth(verdict: Verdict) -> bool {
+    match verdict {
+        Verdict::Grows { more: _, load: _ } => true,
+        Verdict::Refused(_why) => false,
+        Verdict::ToCome => false,
+        Verdict::CommitFirst => false,
+        Verdict::Fits => false,
+    }
+}
+
 /// A growth ahead of the removal of a folder that has attributes is still to come: their removal asks for more room than its load.
 fn growth_or_later(verdict: Verdict, attributes: u32) -> Verdict
     ensures { result ≡ growth_or_later verdict attributes }
@@ -112,7 +123,7 @@ fn judge_removal<P: SectorSpace>(
     Ok(growth_or_later(verdict, attributes))
 }
 
-/// Judges a command by its weight.
+/// Judges a command by its weight: of a growth ahead of `rmdir` it hangs on the folder's attributes whether it is still to come.
 fn judge_weight<P: SectorSpace>(
     alloc: Global,
     volume: &mut Volume,
@@ -131,6 +142,9 @@ fn judge_weight<P: SectorSpace>(
     ensures below { P.SectorView.follows space.old space.new }
     ensures cause { HasTroubleCause (P.SectorView.space space.old).faults (P.SectorView.space space.new).faults result }
 {
+    if !is_growth(verdict) {
+        return Ok(verdict);
+    }
     match command {
         Command::Rmdir(path) => judge_removal(alloc, volume, space, path, verdict),
         _ => Ok(verdict),
