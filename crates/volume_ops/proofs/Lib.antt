@@ -47,6 +47,7 @@ pub mod HeaderPut
 pub mod Identities
 pub mod Leaving
 pub mod Listed
+pub mod LinkLost
 pub mod ListsAfter
 pub mod ListsAgain
 pub mod Loads
@@ -115,6 +116,7 @@ pub mod Touched
 pub mod TreesAfter
 pub mod TreesSettled
 pub mod Unfiled
+pub mod Unlinked
 pub mod UpdateRoom
 pub mod Waiting
 pub mod Walked

@@ -18,9 +18,9 @@ use Rattle.hfs_volume.specs.Content.{VolumeState, attributes_of, records_of, vol
 use Rattle.hfs_volume.specs.Cost.{cost_of}
 use Rattle.hfs_volume.specs.Links.{private_id}
 use Rattle.hfs_volume.specs.TreeOf.{file_bytes, tree_in, tree_of}
-use Rattle.hfs_volume.specs.Weight.{Edits as Asked, edits, edits_of, free_blocks, needs_for, rm_edits, rm_edits_at, room_with, weight, weight_with}
+use Rattle.hfs_volume.specs.Weight.{Edits as Asked, edits, edits_of, folders_made, free_blocks, needs_for, rm_edits, rm_edits_at, room_with, weight, weight_with}
 use Rattle.volume_ops.specs.Lists.{lists_of}
-use Rattle.volume_ops.specs.Losing.{lose_edits, loss_weighed}
+use Rattle.volume_ops.specs.Losing.{lose_edits, loss_weighed, unlink_edits}
 use Rattle.volume_ops.specs.Nodes.{node_in}
 use Rattle.volume_ops.specs.Standing.{HoldsTrees, IsSettled}
 use Rattle.volume_ops.specs.Weighing.{edits_weighed, joined, refused_or, weighed}
@@ -128,6 +128,12 @@ module _ (capacity : ℕ) (takable : List Bool) (volume : VolumeState) (tree : P
       ∙ ap (λ (k : Asked). joined (cost_of (needs_for (free_blocks volume) volume k None) (room_with capacity (free_blocks volume) volume)) (cost_of (needs_for takable volume k None) (room_with capacity takable volume))) asked)
       ∙ ap (λ said. refused_or said (joined (weight capacity volume tree (command.Rm path)) (weight_with capacity takable volume tree (command.Rm path)))) (lost_line tree path e not_own is).0
 
+  pub unlink_allowed : (e : PlainEntry) → to_rm tree path ≡ Ok e → edits_of tree (command.Rm path) ≡ edits 0 2 0 4 → edits_weighed capacity takable volume unlink_edits ≡ words
+  unlink_allowed e is asked =
+      sym ((λ i. joined (weights i) (takable_weights i))
+      ∙ ap (λ (k : Asked). joined (cost_of (needs_for (free_blocks volume) volume k None) (room_with capacity (free_blocks volume) volume)) (cost_of (needs_for takable volume k None) (room_with capacity takable volume))) asked)
+      ∙ ap (λ said. refused_or said (joined (weight capacity volume tree (command.Rm path)) (weight_with capacity takable volume tree (command.Rm path)))) (lost_line tree path e not_own is).0
+
 module _ (capacity : ℕ) (takable : List Bool) (volume : VolumeState) (tree : PlainTree) (path : List (List ℕ)) where
   pub private_weighed : is_private_path path ≡ true → answer.Refused refusal.Private ≡ weighed capacity takable volume tree (command.Rm path)
   private_weighed own = ap (λ said. refused_or said (joined (weight capacity volume tree (command.Rm path)) (weight_with capacity takable volume tree (command.Rm path)))) (private_line tree path own).0
@@ -154,6 +160,9 @@ module _ (law : SoundHasPlainTree) (v : Volume) (content : Content) (holds : Hol
 
     abbrev loss_here : Weight
     loss_here = edits_weighed v.capacity takable (volume_of content) (lose_edits v.private)
+
+    abbrev unlink_here : Weight
+    unlink_here = edits_weighed v.capacity takable (volume_of content) unlink_edits
 
     -- why nothing is removed
     pub rm_missing : (why : Refusal) → said ≡ Err why → to_rm (tree_of content) path ≡ Err why
@@ -189,7 +198,16 @@ module _ (law : SoundHasPlainTree) (v : Volume) (content : Content) (holds : Hol
         waits = λ never. absurd (true≢false never);
       }
 
-    by_node : (f : Node) (n : PlainNode) → to_node (tree_of content) path ≡ Ok n → IsIt f n → IsWeighed (loss_weighed f loss_here)
+      of_link : n.folder ≡ false → (links : ℕ) → names_of (tree_of content) n.id ≡ links → (b : Bool) → nat_lt 1 links ≡ b → IsWeighed (if b then Some unlink_here else None)
+      of_link kind links many false is = of_waiting kind
+      of_link kind links many true is = record {
+        answer_is =
+            unlink_allowed v.capacity takable (volume_of content) (tree_of content) path not_own at.entry (at.removal ∙ ap (λ (b : Bool). if b then Err refusal.IsFolder else Ok at.entry) kind)
+            (edits_here kind ∙ ap (λ (b : Bool). if b then edits 0 2 0 4 else if n.linked then edits 0 5 0 4 else edits (folders_made (tree_of content)) (3 + 2 * folders_made (tree_of content)) 0 4) (ap (nat_lt 1) many ∙ is));
+        waits = λ never. absurd (true≢false never);
+      }
+
+    by_node : (f : Node) (n : PlainNode) → to_node (tree_of content) path ≡ Ok n → IsIt f n → IsWeighed (loss_weighed f loss_here unlink_here)
     by_node (node.Folder folder) n is it =
         let at = there (tree_of content) path some plain n is in
         let removal : to_rm (tree_of content) path ≡ Err refusal.IsFolder = at.removal ∙ ap (λ (m : PlainNode). if m.folder then Err refusal.IsFolder else Ok at.entry) it.is in
@@ -200,14 +218,14 @@ module _ (law : SoundHasPlainTree) (v : Volume) (content : Content) (holds : Hol
     by_node (node.File own true) n is it =
         let at = there (tree_of content) path some plain n is in
         let kind : n.folder ≡ false = ap (λ (m : PlainNode). m.folder) it.is in
-        of_waiting n at kind
+        of_link n at kind own.fields.special (ap (λ (m : PlainNode). names_of (tree_of content) m.id) it.is ∙ it.counts) (nat_lt 1 own.fields.special) refl
     by_node (node.File own false) n is it =
         of_file n (there (tree_of content) path some plain n is) (ap (λ (m : PlainNode). m.folder) it.is) (ap (λ (m : PlainNode). m.linked) it.is) (ap (λ (m : PlainNode). names_of (tree_of content) m.id) it.is ∙ it.counts)
 
-    pub loss_told : (f : Node) → said ≡ Ok f → (o : Option Weight) → o ≡ loss_weighed f loss_here → IsWeighed o
+    pub loss_told : (f : Node) → said ≡ Ok f → (o : Option Weight) → o ≡ loss_weighed f loss_here unlink_here → IsWeighed o
     loss_told f is o same =
         subst IsWeighed (sym same) (by (to_node (tree_of content) path) refl (subst (λ (r : Result Node Refusal). Agree IsIt r (to_node (tree_of content) path)) is agrees))
       where
-        by : (s : Result PlainNode Refusal) → to_node (tree_of content) path ≡ s → Agree IsIt (Ok f) s → IsWeighed (loss_weighed f loss_here)
+        by : (s : Result PlainNode Refusal) → to_node (tree_of content) path ≡ s → Agree IsIt (Ok f) s → IsWeighed (loss_weighed f loss_here unlink_here)
         by (Ok n) at it = by_node f n at it
         by (Err why) at never = absurd never

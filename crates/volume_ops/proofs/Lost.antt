@@ -12,14 +12,16 @@ use Rattle.btree_node.specs.Levels.{Pair}
 use Rattle.cat_records.specs.declared.record.CatRecord.{CatRecord}
 use Rattle.cat_records.specs.declared.record.CatRecord.TheVariants.{Folder, File, Thread}
 use Rattle.catalog.specs.Pairs.{value_at}
+use Rattle.hard_links.specs.Linking.{NamesLink}
 use Rattle.hfs_language.specs.Written.{FitsPath}
 use Rattle.hfs_language.specs.declared.command.Command.TheVariants as command
 use Rattle.hfs_language.specs.declared.refusal.Refusal.{Refusal}
 use Rattle.hfs_language.specs.declared.refusal.Refusal.TheVariants as refusal
 use Rattle.hfs_language.specs.declared.reply.Reply.TheVariants as reply
-use Rattle.hfs_model.specs.Plain.{IsPlainTree, entry_at, is_at}
-use Rattle.hfs_model.specs.Step.{child, front, is_private_path, is_root, last_name, on, reached, removed, root_entry, step, step_line, then_, to_rm, unless, walk}
+use Rattle.hfs_model.specs.Plain.{IsPlainTree, entry_at, is_at, is_node, node_at}
+use Rattle.hfs_model.specs.Step.{child, front, is_private_path, is_root, last_name, on, reached, removed, root_entry, step, step_line, then_, to_node, to_rm, unless, walk}
 use Rattle.hfs_model.specs.declared.plain.PlainEntry.{PlainEntry}
+use Rattle.hfs_model.specs.declared.plain.PlainNode.{PlainNode}
 use Rattle.hfs_model.specs.declared.plain.PlainTree.{PlainTree}
 use Rattle.hfs_volume.specs.Changes.{AreSorted}
 use Rattle.hfs_model.proofs.Below.{front-last, last_name-last}
@@ -34,7 +36,7 @@ use Rattle.hfs_volume.proofs.Flat.{found_some}
 use Rattle.volume_ops.specs.Changing.{catalog_node}
 use Rattle.volume_ops.specs.Lists.{lists_of}
 use Rattle.volume_ops.specs.Looking.{ReadsVolume}
-use Rattle.volume_ops.specs.Losing.{HasRoomToLose, IsLoss, IsOnlyName, losing_in, losing_under, place_of, to_lose}
+use Rattle.volume_ops.specs.Losing.{HasRoomToLose, IsLoss, IsOnlyName, lose_load, losing_in, losing_under, place_of, to_lose}
 use Rattle.volume_ops.specs.Moving.{leave_load}
 use Rattle.volume_ops.specs.Reaching.{child_in, folder_in, folder_reached, named, walk_in}
 use Rattle.volume_ops.specs.Standing.{HoldsTrees, IsSettled}
@@ -45,6 +47,7 @@ use Rattle.volume_ops.specs.declared.volume.Volume.{Volume}
 use Rattle.volume_ops.proofs.Listed.{entries_are}
 use Rattle.volume_ops.proofs.MakeRoom.{make_room_still}
 use Rattle.volume_ops.proofs.MoveRoom.{move_room_still}
+use Rattle.volume_ops.proofs.RoomToRemove.{remove_room_still}
 use Rattle.volume_ops.proofs.Rising.{settled_is_plain, settled_sorted}
 use Rattle.volume_ops.proofs.Routed.{child_is}
 use Rattle.volume_ops.proofs.Sited.{fits_name, some_name}
@@ -58,6 +61,10 @@ SameLosing name (Ok at) (Ok entry) = (entry.parent ≡ at.parent) × (entry.name
 SameLosing name (Err why) (Err other) = why ≡ other
 SameLosing name (Ok at) (Err other) = ⊥
 SameLosing name (Err why) (Ok entry) = ⊥
+
+abbrev node_or : PlainNode → Result PlainNode Refusal → PlainNode
+node_or other (Ok n) = n
+node_or other (Err why) = other
 
 -- what isn't a folder
 abbrev judged : PlainEntry → Result PlainEntry Refusal
@@ -245,16 +252,49 @@ module _ (pairs : List Pair) (above : List (List ℕ)) (name : List ℕ) (at : L
       by (Err why) same = absurd (cc same)
       by (Ok id) same = of_record id (record_at (placed_in pairs) id name) refl same plain
 
+  link_value : (id : ℕ) (p : Placed) → record_at (placed_in pairs) id name ≡ Some p → (value : CatRecord) → p.value ≡ value → then_ (named (Some value)) (to_lose id) ≡ Ok at → at.link ≡ true → NamesLink (place_of at name) pairs
+  link_value id p found (Folder folder) is same linked = absurd (cc same)
+  link_value id p found (Thread thread) is same linked = absurd (cc same)
+  link_value id p found (File file) is same linked =
+      let at_is : (let it : Losing = record { parent = id; link = is_link_type file.fields } in it ≡ at) = ap (losing_or at) same in
+      record {
+        entry = p;
+        found = ap (λ n. record_at (placed_in pairs) n name) (sym (ap (λ (l : Losing). l.parent) at_is)) ∙ found;
+        is_one = ap (λ (v : CatRecord). is_link (record p { value = v })) is ∙ ap (λ (l : Losing). l.link) at_is ∙ linked;
+      }
+
+  link_record : (id : ℕ) (o : Option Placed) → record_at (placed_in pairs) id name ≡ o → then_ (named (option_map (λ (p : Placed). p.value) o)) (to_lose id) ≡ Ok at → at.link ≡ true → NamesLink (place_of at name) pairs
+  link_record id None found same linked = absurd (cc same)
+  link_record id (Some p) found same linked = link_value id p found p.value refl same linked
+
+  -- a record that was found and is a link is that of a link
+  pub link_name : losing_under pairs above name ≡ Ok at → at.link ≡ true → NamesLink (place_of at name) pairs
+  link_name is linked = by (folder_in pairs above) is
+    where
+      by : (r : Result ℕ Refusal) → then_ r (λ id. then_ (named (value_at pairs id name)) (to_lose id)) ≡ Ok at → NamesLink (place_of at name) pairs
+      by (Err why) same = absurd (cc same)
+      by (Ok id) same = link_record id (record_at (placed_in pairs) id name) refl same linked
+
 -- ---- what is spent
 
-pub lose_load_still : (v w : Volume) (a b : Space) → ReadsVolume v w a b → IsTrue a.tells → leave_load w + catalog_node w ≡ leave_load v + catalog_node v
+pub lose_load_still : (v w : Volume) (a b : Space) → ReadsVolume v w a b → IsTrue a.tells → lose_load w ≡ lose_load v
 lose_load_still v w a b reads tells =
-    ap (λ (f : TreeFacts). tree_load catalog_key (cost_of_tree f 0) 3 0 + f.shape.node_size / 512 + f.shape.node_size / 512) (ap (λ (l : VolumeState). l.catalog_tree) (lists_still v w a b reads tells))
+    ap (λ (f : TreeFacts). tree_load catalog_key (cost_of_tree f 0) 3 0 + f.shape.node_size / 512 + f.shape.node_size / 512 + (1 + tree_load catalog_key (cost_of_tree f 0) 2 0)) (ap (λ (l : VolumeState). l.catalog_tree) (lists_still v w a b reads tells))
+
+-- the CNID that was told of a path is that of what it reaches
+pub id_told : (tree : PlainTree) (path : List (List ℕ)) (at : PlainEntry) (n : PlainNode) → reached tree path ≡ Ok at → to_node tree path ≡ Ok n → at.id ≡ n.id
+id_told tree path at n reaches is = by (node_at tree at.id) refl (sym (ap (λ (r : Result PlainEntry Refusal). then_ r (λ x. ok_or (node_at tree x.id) refusal.NotFound)) reaches) ∙ is)
+  where
+    by : (o : Option PlainNode) → node_at tree at.id ≡ o → ok_or o refusal.NotFound ≡ Ok n → at.id ≡ n.id
+    by None found same = absurd (cc same)
+    by (Some m) found same =
+        sym (eqb-true m.id at.id (found_some (is_node at.id) tree.nodes m found).1) ∙ ap (λ (x : PlainNode). x.id) (ap (node_or m) same)
 
 -- reads leave the room
 pub lose_room_still : (v w : Volume) (a b : Space) → ReadsVolume v w a b → HasRoomToLose v a → HasRoomToLose w b
 lose_room_still v w a b reads was = record {
   puts = move_room_still v w a b reads was.puts;
+  drops = remove_room_still v w a b reads was.drops;
   makes = λ absent. make_room_still v w a b reads (was.makes (sym reads.keeps.private ∙ absent));
 }
 

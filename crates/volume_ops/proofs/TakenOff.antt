@@ -33,6 +33,18 @@ module _ (v x : Volume) (a m : Space) (numbered : x ≡ record v { header = with
   threads_drawn settled =
       subst AreThreaded (ap (λ (l : VolumeState). l.catalog_pairs) settled.lists ∙ sym (pairs_drawn v x a m numbered put)) settled.sound.entries.threads
 
+  -- the edit's removal, from the lists before the header's put
+  pub removes_record : (w : Volume) (b : Space) → FollowsOn x.catalog.file w.catalog.file m b → (parent : ℕ) (name : List ℕ) (answer : Removed) → (record_at (placed_in (lists_of v a.content).catalog_pairs) parent name ≡ None → ⊥)
+      → AnswersRemoval (record_at (placed_in (pairs_in (sectors_of_tree x.catalog.file) m.content)) parent name) answer
+      → Removing parent name (pairs_in (sectors_of_tree x.catalog.file) m.content) (pairs_in (sectors_of_tree x.catalog.file) b.content) answer
+      → RemovesEntry parent name (lists_of v a.content).catalog_pairs (lists_of w b.content).catalog_pairs
+  removes_record w b follows parent name answer there answers taken =
+      subst (λ (k : List Pair × List Pair). RemovesEntry parent name k.0 k.1)
+      {x = (pairs_in (sectors_of_tree x.catalog.file) m.content, pairs_in (sectors_of_tree x.catalog.file) b.content)} {y = ((lists_of v a.content).catalog_pairs, (lists_of w b.content).catalog_pairs)}
+      (λ i. (pairs_drawn v x a m numbered put i, pairs_in (sym (same_sectors x.catalog.file w.catalog.file follows.file) i) b.content))
+      (removed_done parent name (pairs_in (sectors_of_tree x.catalog.file) m.content) (pairs_in (sectors_of_tree x.catalog.file) b.content) (record_at (placed_in (pairs_in (sectors_of_tree x.catalog.file) m.content)) parent name) answer
+      (λ none. there (sym (ap (λ (l : List Pair). record_at (placed_in l) parent name) (pairs_drawn v x a m numbered put)) ∙ none)) answers taken)
+
   module _ (w : Volume) (b : Space) (was : IsStanding x m) (tells : IsTrue m.tells) (stands : IsStanding w b) (follows : FollowsOn x.catalog.file w.catalog.file m b) (rest : w ≡ record x { catalog = w.catalog })
       (parent : ℕ) (name : List ℕ) (answer : Removed)
     where
@@ -41,11 +53,7 @@ module _ (v x : Volume) (a m : Space) (numbered : x ≡ record v { header = with
           → Removing parent name (pairs_in (sectors_of_tree x.catalog.file) m.content) (pairs_in (sectors_of_tree x.catalog.file) b.content) answer
           → DropsFolder parent name v w a.content b.content
       drops_folder less there answers taken = record {
-        removes = subst (λ (k : List Pair × List Pair). RemovesEntry parent name k.0 k.1)
-            {x = (pairs_in (sectors_of_tree x.catalog.file) m.content, pairs_in (sectors_of_tree x.catalog.file) b.content)} {y = ((lists_of v a.content).catalog_pairs, (lists_of w b.content).catalog_pairs)}
-            (λ i. (pairs_drawn v x a m numbered put i, pairs_in (sym (same_sectors x.catalog.file w.catalog.file follows.file) i) b.content))
-            (removed_done parent name (pairs_in (sectors_of_tree x.catalog.file) m.content) (pairs_in (sectors_of_tree x.catalog.file) b.content) (record_at (placed_in (pairs_in (sectors_of_tree x.catalog.file) m.content)) parent name) answer
-            (λ none. there (sym (ap (λ (l : List Pair). record_at (placed_in l) parent name) (pairs_drawn v x a m numbered put)) ∙ none)) answers taken);
+        removes = removes_record w b follows parent name answer there answers taken;
         changes = changes_both v x w a.content m.content b.content
             (changes_both v x x a.content a.content m.content (subst (λ (y : Volume). ChangesCatalog v y a.content a.content) (sym numbered) (numbers_change v x.header a.content)) put.changes)
             (subst (λ (y : Volume). ChangesCatalog x y m.content b.content) (sym rest) (catalog_changes x m b w.catalog follows was tells stands.trees.catalog));

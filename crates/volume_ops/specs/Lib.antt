@@ -29,5 +29,6 @@ pub mod Standing
 pub mod Stating
 pub mod Touching
 pub mod Trees
+pub mod Unlinking
 pub mod Watching
 pub mod Weighing

@@ -1,5 +1,5 @@
 -- `rm` of an only name: what is removed, and what putting the file aside does to a volume.
-use Rattle.std.specs.Prelude.{◌≡◌, ◌⊎◌, ℕ, true, false, is_some, List, Option, None, Some, Result, Ok, Err, if◌then◌else◌}
+use Rattle.std.specs.Prelude.{◌≡◌, ◌⊎◌, ℕ, ◌+◌, nat_lt, true, false, is_some, List, Option, None, Some, Result, Ok, Err, if◌then◌else◌}
 use Rattle.sector_disk.specs.Lists.{Content}
 use Rattle.sector_disk.specs.Space.{Space}
 use Rattle.jnl_format.specs.Recovery.{header_of_volume}
@@ -18,13 +18,15 @@ use Rattle.hfs_volume.specs.Naming.{RemovesFile}
 use Rattle.hfs_volume.specs.Records.{is_empty, is_link, is_link_type}
 use Rattle.hfs_volume.specs.Sound.{IsSoundVolume}
 use Rattle.hfs_volume.specs.TreeOf.{tree_of}
-use Rattle.volume_ops.specs.Changing.{ChangesCatalog, TouchesFolder}
+use Rattle.volume_ops.specs.Changing.{ChangesCatalog, TouchesFolder, catalog_node}
 use Rattle.volume_ops.specs.Lists.{lists_of}
-use Rattle.volume_ops.specs.Making.{HasRoomToMake}
-use Rattle.volume_ops.specs.Moving.{HasRoomToMove}
+use Rattle.volume_ops.specs.Making.{HasRoomToMake, entry_load}
+use Rattle.volume_ops.specs.Moving.{HasRoomToMove, leave_load}
 use Rattle.volume_ops.specs.PrivateFolder.{OpensPrivate}
 use Rattle.volume_ops.specs.Reaching.{folder_in, named}
+use Rattle.volume_ops.specs.Removing.{HasRoomToRemove}
 use Rattle.volume_ops.specs.Standing.{HoldsTrees}
+use Rattle.volume_ops.specs.Unlinking.{Unlinks}
 use Rattle.volume_ops.specs.declared.losing.Losing.{Losing}
 use Rattle.volume_ops.specs.declared.nodes.Node.{Node}
 use Rattle.volume_ops.specs.declared.nodes.Node.TheVariants as node
@@ -80,16 +82,26 @@ abbrev pub lose_edits : Option ℕ → Edits
 lose_edits None = record { ids = 1; catalog = 5; attributes = 0; updates = 4 }
 lose_edits (Some private) = record { ids = 0; catalog = 3; attributes = 0; updates = 4 }
 
--- what is told of the weight of `rm`: a folder is refused, and of a file with links nothing is told
-abbrev pub loss_weighed : Node → Weight → Option Weight
-loss_weighed (node.Folder folder) weighs = Some (answer.Refused refusal.IsFolder)
-loss_weighed (node.File file linked) weighs = if linked then None else Some weighs
+-- the edits by which a file loses one of its links, and has others
+abbrev pub unlink_edits : Edits
+unlink_edits = record { ids = 0; catalog = 2; attributes = 0; updates = 4 }
+
+-- what is told of the weight of `rm`: a folder is refused, and of the last link of a file nothing is told
+abbrev pub loss_weighed : Node → Weight → Weight → Option Weight
+loss_weighed (node.Folder folder) weighs unlinks = Some (answer.Refused refusal.IsFolder)
+loss_weighed (node.File file linked) weighs unlinks = if linked then (if nat_lt 1 file.fields.special then Some unlinks else None) else Some weighs
 
 -- ---- the room
 
--- There is room to put a file aside, and where there is no private folder, room to make it before.
+-- the sectors that are put at most where a file loses a name, and there is a private folder: those of a move and of two folders' nodes, or the
+-- header's and those of a link's removal
+abbrev pub lose_load : Volume → ℕ
+lose_load volume = leave_load volume + catalog_node volume + (1 + entry_load volume)
+
+-- There is room to put a file aside, and where there is no private folder, room to make it before; and room to remove a link.
 pub record HasRoomToLose (volume : Volume) (space : Space) : Type 0 where
   pub puts : HasRoomToMove volume space
+  pub drops : HasRoomToRemove volume space
   pub makes : volume.private ≡ None → HasRoomToMake volume space
 
 -- ---- the change
@@ -122,8 +134,12 @@ pub record Loses (entry : PlainEntry) (before after : Content) : Type 0 where
   pub there : is_some (private_id (records_of opened)) ≡ true
   pub removes : RemovesFile entry opened (volume_of after)
 
--- What a path stands for lost its only name, in the lists of the content.
+-- A file lost its only name, or one of its links, in the lists of the content.
+abbrev pub LosesName : PlainEntry → Content → Content → Type 0
+LosesName entry before after = Loses entry before after ⊎ Unlinks entry before after
+
+-- What a path stands for lost its name, in the lists of the content.
 pub record HasLost (path : List (List ℕ)) (before after : Content) : Type 0 where
   pub entry : PlainEntry
   pub allowed : to_rm (tree_of before) path ≡ Ok entry
-  pub loses : Loses entry before after
+  pub loses : LosesName entry before after

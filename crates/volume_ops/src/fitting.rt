@@ -154,13 +154,16 @@ impl Volume {
         self.can_edit(space, edits)
     }
 
-    /// Whether there is room for a file to lose its only name: where there is no private folder, it is made before.
+    /// Whether there is room for a file to lose a name: where it is the only one and there is no private folder, it is made before.
     pub fn fits_lose<P: SectorSpace>(&self, space: &P) -> bool
         requires stands { StandsOver self.now (P.SectorView.space space.now) }
         requires settled { IsTrue (P.SectorView.space space.now).tells → IsSettled self.now (P.SectorView.space space.now).content }
         ensures { IsTrue result → HasRoomToLose self.now (P.SectorView.space space.now) }
     {
         if !self.fits_move(space) {
+            return false;
+        }
+        if !self.fits_remove(space) {
             return false;
         }
         match self.private {

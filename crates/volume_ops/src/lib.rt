@@ -59,6 +59,7 @@ mod telling;
 mod tidying;
 mod touching;
 mod unfiling;
+mod unlinking;
 mod valuing;
 mod volume;
 mod watching;

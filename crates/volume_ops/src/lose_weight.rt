@@ -1,5 +1,5 @@
 //! `weigh` of `rm`.
-ghost use Rattle.std.specs.Prelude.{◌≡◌, false, is_some, Ok, IsTrue, IfOk, IfSome};
+ghost use Rattle.std.specs.Prelude.{◌≡◌, false, is_some, nat_lt, None, Ok, Some, IsTrue, IfOk, IfSome, if◌then◌else◌};
 ghost use Rattle.btree_edit.specs.Causes.{HasTroubleCause};
 ghost use Rattle.hfs_language.specs.Written.{FitsPath};
 ghost use Rattle.hfs_language.specs.declared.command.Command.TheVariants as command;
@@ -8,7 +8,7 @@ ghost use Rattle.hfs_volume.specs.Content.{volume_of};
 ghost use Rattle.hfs_volume.specs.TreeOf.{tree_of};
 ghost use Rattle.volume_ops.specs.Lists.{lists_of};
 ghost use Rattle.volume_ops.specs.Looking.{ReadsVolume};
-ghost use Rattle.volume_ops.specs.Losing.{lose_edits, loss_weighed};
+ghost use Rattle.volume_ops.specs.Losing.{lose_edits, loss_weighed, unlink_edits};
 ghost use Rattle.volume_ops.specs.Nodes.{node_in};
 ghost use Rattle.volume_ops.specs.Room.{capacity_of, free_in};
 ghost use Rattle.volume_ops.specs.declared.room.FreeBlocks.TheVariants as blocks;
@@ -74,18 +74,37 @@ impl Volume {
         }
     }
 
-    /// What the edits weigh by which a file loses its only name; nothing is told of a file with links.
+    /// What the edits weigh by which a file with so many links loses one; nothing is told of the last one.
+    fn weigh_link<P: SectorSpace>(&self, space: &P, links: u32) -> Option<Weight>
+        requires stands { StandsOver self.now (P.SectorView.space space.now) }
+        requires settled { IsTrue (P.SectorView.space space.now).tells → IsSettled self.now (P.SectorView.space space.now).content }
+        ensures exact { IsTrue (P.SectorView.space space.now).tells
+            → result ≡ (if nat_lt 1 links then Some (edits_weighed (capacity_of self.now) (free_in blocks.Takable self.now.map) (volume_of (P.SectorView.space space.now).content) unlink_edits) else None) }
+    {
+        if links > 1 {
+            let edits = Edits {
+                ids: 0,
+                catalog: 2,
+                attributes: 0,
+                updates: 4,
+            };
+            return Some(self.weigh_edits(space, edits));
+        }
+        None
+    }
+
+    /// What the edits weigh by which a file loses a name; nothing is told of its last link.
     fn weigh_loss<P: SectorSpace>(&self, space: &P, node: &Node) -> Option<Weight>
         requires stands { StandsOver self.now (P.SectorView.space space.now) }
         requires settled { IsTrue (P.SectorView.space space.now).tells → IsSettled self.now (P.SectorView.space space.now).content }
         ensures exact { IsTrue (P.SectorView.space space.now).tells
-            → result ≡ loss_weighed node.now (edits_weighed (capacity_of self.now) (free_in blocks.Takable self.now.map) (volume_of (P.SectorView.space space.now).content) (lose_edits self.now.private)) }
+            → result ≡ loss_weighed node.now (edits_weighed (capacity_of self.now) (free_in blocks.Takable self.now.map) (volume_of (P.SectorView.space space.now).content) (lose_edits self.now.private)) (edits_weighed (capacity_of self.now) (free_in blocks.Takable self.now.map) (volume_of (P.SectorView.space space.now).content) unlink_edits) }
     {
         match node {
             Node::Folder(_folder) => Some(Weight::Refused(Refusal::IsFolder)),
-            Node::File(_file, linked) => {
+            Node::File(file, linked) => {
                 if *linked {
-                    return None;
+                    return self.weigh_link(space, file.fields.special);
                 }
                 let edits = self.lose_edits();
                 Some(self.weigh_edits(space, edits))
@@ -93,7 +112,7 @@ impl Volume {
         }
     }
 
-    /// What `rm` needs; nothing is told where it is still to come: where the file has links.
+    /// What `rm` needs; nothing is told where it is still to come: where the name is the last link of its file.
     pub(crate) fn weigh_rm<P: SectorSpace>(
         &mut self,
         alloc: Global,

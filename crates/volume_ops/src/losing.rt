@@ -5,6 +5,7 @@ ghost use Rattle.sector_disk.specs.Lists.{Content};
 ghost use Rattle.btree_edit.specs.Causes.{HasTroubleCause};
 ghost use Rattle.btree_file.specs.Standing.{numbers_of, pairs_in};
 ghost use Rattle.btree_file.specs.State.{sectors_of_tree};
+ghost use Rattle.hard_links.specs.Linking.{NamesLink};
 ghost use Rattle.hfs_language.specs.Written.{FitsPath};
 ghost use Rattle.hfs_language.specs.declared.command.Command.TheVariants as command;
 ghost use Rattle.hfs_language.specs.declared.reply.Reply.TheVariants as reply;
@@ -15,12 +16,14 @@ ghost use Rattle.hfs_volume.specs.TreeOf.{tree_of};
 ghost use Rattle.volume_ops.specs.Changing.{KeepsBlocks, catalog_node};
 ghost use Rattle.volume_ops.specs.Lists.{lists_of};
 ghost use Rattle.volume_ops.specs.Looking.{IsCatalogOver, ReadsTree, ReadsVolume};
-ghost use Rattle.volume_ops.specs.Losing.{Buries, HasLost, HasRoomToLose, Hides, IsLoss, IsOnlyName, Loses, losing_under, place_of, to_lose};
+ghost use Rattle.volume_ops.specs.Losing.{Buries, HasLost, HasRoomToLose, Hides, IsLoss, IsOnlyName, Loses, LosesName, lose_load, losing_under, place_of, to_lose};
 ghost use Rattle.volume_ops.specs.Making.{HasRoomToMake, path_to};
 ghost use Rattle.volume_ops.specs.Moving.{HasRoomToMove, leave_load};
+ghost use Rattle.volume_ops.specs.Removing.{HasRoomToRemove};
 ghost use Rattle.volume_ops.specs.Service.{IsInService};
 ghost use Rattle.volume_ops.specs.Standing.{IsSettled, StandsOver, own_sectors};
 ghost use Rattle.volume_ops.specs.Touching.{Touches};
+ghost use Rattle.volume_ops.specs.Unlinking.{Unlinks};
 
 use crate::looking::lookup_record;
 use crate::names::{copy_name, is_private_path};
@@ -257,11 +260,12 @@ impl Volume {
         }
     }
 
-    /// Removes a name of a file. `Memory` is answered too where it is a link: it doesn't ask for one.
-    fn lose<P: SectorSpace>(
+    /// Removes a link at a path. `Memory` is answered too where its file has no other.
+    fn lose_link<P: SectorSpace>(
         &mut self,
         alloc: Global,
         space: &mut P,
+        path: &Path,
         at: Losing,
         name: &Units,
     ) -> Result<(), Trouble>
@@ -269,22 +273,64 @@ impl Volume {
         requires settled { IsTrue (P.SectorView.space space.old).tells → IsSettled self.old (P.SectorView.space space.old).content }
         requires some { 1 ≤ length name.now }
         requires name { length name.now ≤ 255 }
+        requires fits { FitsPath path.now }
+        requires not_own { is_private_path path.now ≡ false }
+        requires link { IsTrue (P.SectorView.space space.old).tells → NamesLink (place_of at name.now) (lists_of self.old (P.SectorView.space space.old).content).catalog_pairs }
+        requires loses { IsTrue (P.SectorView.space space.old).tells → (entry : PlainEntry) × IsLoss (tree_of (P.SectorView.space space.old).content) path.now entry (place_of at name.now) }
+        requires room { HasRoomToRemove self.old (P.SectorView.space space.old) }
+        ensures stands { OnOk result (StandsOver self.new (P.SectorView.space space.new)) }
+        ensures service { IsInService self.new (P.SectorView.space space.new) }
+        ensures does { IsTrue (P.SectorView.space space.old).tells → (entry : PlainEntry) → IsLoss (tree_of (P.SectorView.space space.old).content) path.now entry (place_of at name.now)
+            → OnOk result (IsSettled self.new (P.SectorView.space space.new).content × (tree_of (P.SectorView.space space.new).content ≡ (step (tree_of (P.SectorView.space space.old).content) (command.Rm path.now)).1)
+            × Unlinks entry (P.SectorView.space space.old).content (P.SectorView.space space.new).content) }
+        ensures blocks { KeepsBlocks self.old self.new }
+        ensures touches { (committed : Content) → Touches committed (λ s. Contains (own_sectors self.old) s) (P.SectorView.space space.old) (P.SectorView.space space.new) }
+        ensures spent { IsTrue (P.SectorView.space space.old).tells → (P.SectorView.space space.old).spare ≤ (P.SectorView.space space.new).spare + lose_load self.old }
+        ensures below { P.SectorView.follows space.old space.new }
+        ensures cause { HasTroubleCause (P.SectorView.space space.old).faults (P.SectorView.space space.new).faults result }
+    {
+        sound_has_plain_tree();
+        match self.owner(alloc, space, path)? {
+            Ok(id) => {
+                let place = place_of(alloc, at, name)?;
+                self.unlink(alloc, space, id, &place)
+            }
+            Err(_why) => Err(Trouble::Memory),
+        }
+    }
+
+    /// Removes a name of a file at a path. `Memory` is answered too where it is its last link.
+    fn lose<P: SectorSpace>(
+        &mut self,
+        alloc: Global,
+        space: &mut P,
+        path: &Path,
+        at: Losing,
+        name: &Units,
+    ) -> Result<(), Trouble>
+        requires stands { StandsOver self.old (P.SectorView.space space.old) }
+        requires settled { IsTrue (P.SectorView.space space.old).tells → IsSettled self.old (P.SectorView.space space.old).content }
+        requires some { 1 ≤ length name.now }
+        requires name { length name.now ≤ 255 }
+        requires fits { FitsPath path.now }
+        requires not_own { is_private_path path.now ≡ false }
+        requires link { IsTrue (P.SectorView.space space.old).tells → at.link ≡ true → NamesLink (place_of at name.now) (lists_of self.old (P.SectorView.space space.old).content).catalog_pairs }
         requires only { IsTrue (P.SectorView.space space.old).tells → at.link ≡ false → IsOnlyName (place_of at name.now) (lists_of self.old (P.SectorView.space space.old).content).catalog_pairs }
-        requires loses { IsTrue (P.SectorView.space space.old).tells → (path : List (List ℕ)) × (entry : PlainEntry) × IsLoss (tree_of (P.SectorView.space space.old).content) path entry (place_of at name.now) }
+        requires loses { IsTrue (P.SectorView.space space.old).tells → (entry : PlainEntry) × IsLoss (tree_of (P.SectorView.space space.old).content) path.now entry (place_of at name.now) }
         requires room { HasRoomToLose self.old (P.SectorView.space space.old) }
         ensures stands { OnOk result (StandsOver self.new (P.SectorView.space space.new)) }
         ensures service { IsInService self.new (P.SectorView.space space.new) }
-        ensures does { IsTrue (P.SectorView.space space.old).tells → (path : List (List ℕ)) (entry : PlainEntry) → IsLoss (tree_of (P.SectorView.space space.old).content) path entry (place_of at name.now)
-            → OnOk result (IsSettled self.new (P.SectorView.space space.new).content × (tree_of (P.SectorView.space space.new).content ≡ (step (tree_of (P.SectorView.space space.old).content) (command.Rm path)).1)
-            × Loses entry (P.SectorView.space space.old).content (P.SectorView.space space.new).content) }
+        ensures does { IsTrue (P.SectorView.space space.old).tells → (entry : PlainEntry) → IsLoss (tree_of (P.SectorView.space space.old).content) path.now entry (place_of at name.now)
+            → OnOk result (IsSettled self.new (P.SectorView.space space.new).content × (tree_of (P.SectorView.space space.new).content ≡ (step (tree_of (P.SectorView.space space.old).content) (command.Rm path.now)).1)
+            × LosesName entry (P.SectorView.space space.old).content (P.SectorView.space space.new).content) }
         ensures blocks { KeepsBlocks self.old self.new }
         ensures touches { (committed : Content) → Touches committed (λ s. Contains (own_sectors self.old) s) (P.SectorView.space space.old) (P.SectorView.space space.new) }
-        ensures spent { IsTrue (P.SectorView.space space.old).tells → is_some self.old.private ≡ true → (P.SectorView.space space.old).spare ≤ (P.SectorView.space space.new).spare + (leave_load self.old + catalog_node self.old) }
+        ensures spent { IsTrue (P.SectorView.space space.old).tells → is_some self.old.private ≡ true → (P.SectorView.space space.old).spare ≤ (P.SectorView.space space.new).spare + lose_load self.old }
         ensures below { P.SectorView.follows space.old space.new }
         ensures cause { HasTroubleCause (P.SectorView.space space.old).faults (P.SectorView.space space.new).faults result }
     {
         if at.link {
-            return Err(Trouble::Memory);
+            return self.lose_link(alloc, space, path, at, name);
         }
         match self.private {
             Some(private) => {
@@ -303,11 +349,13 @@ impl Volume {
         &mut self,
         alloc: Global,
         space: &mut P,
+        path: &Path,
         above: &[Units],
         name: &Units,
     ) -> Result<Reply, Trouble>
         requires stands { StandsOver self.old (P.SectorView.space space.old) }
         requires settled { IsTrue (P.SectorView.space space.old).tells → IsSettled self.old (P.SectorView.space space.old).content }
+        requires split { path.now ≡ path_to above.now name.now }
         requires fits { FitsPath (path_to above.now name.now) }
         requires not_own { is_private_path (path_to above.now name.now) ≡ false }
         requires room { HasRoomToLose self.old (P.SectorView.space space.old) }
@@ -320,23 +368,24 @@ impl Volume {
         ensures service { IsInService self.new (P.SectorView.space space.new) }
         ensures blocks { KeepsBlocks self.old self.new }
         ensures touches { (committed : Content) → Touches committed (λ s. Contains (own_sectors self.old) s) (P.SectorView.space space.old) (P.SectorView.space space.new) }
-        ensures spent { IsTrue (P.SectorView.space space.old).tells → is_some self.old.private ≡ true → (P.SectorView.space space.old).spare ≤ (P.SectorView.space space.new).spare + (leave_load self.old + catalog_node self.old) }
+        ensures spent { IsTrue (P.SectorView.space space.old).tells → is_some self.old.private ≡ true → (P.SectorView.space space.old).spare ≤ (P.SectorView.space space.new).spare + lose_load self.old }
         ensures below { P.SectorView.follows space.old space.new }
         ensures cause { HasTroubleCause (P.SectorView.space space.old).faults (P.SectorView.space space.new).faults result }
     {
         sound_has_plain_tree();
         match self.losing(alloc, space, above, name)? {
             Ok(at) => {
-                self.lose(alloc, space, at, name)?;
+                self.lose(alloc, space, path, at, name)?;
                 Ok(Reply::Ok)
             }
             Err(why) => Ok(Reply::No(why)),
         }
     }
 
-    /// `rm`: removes the only name of the file at a path: the file waits in the private folder to be removed, which is made where
-    /// there is none; or tells the first reason against it. A path that begins with a name of the volume's own is refused. A refused
-    /// command changes nothing. `Memory` comes where memory is wanting, where the name is a link, which is still to come, and where
+    /// `rm`: removes a name of the file at a path: with its only name the file waits in the private folder to be removed, which is
+    /// made where there is none, and with a link it says that it has one less; or tells the first reason against it. A path that begins with a name of the volume's own is refused. A refused
+    /// command changes nothing. `Memory` comes where memory is wanting, where the name is the last link of its file, which is
+    /// still to come, and where
     /// what is left of the room behind an edit doesn't suffice for the next one; `Disk` where a read failed.
     pub fn rm<P: SectorSpace>(
         &mut self,
@@ -353,7 +402,7 @@ impl Volume {
         ensures reply { IsTrue (P.SectorView.space space.old).tells → IfOk result (λ reply. reply ≡ (step_line (tree_of (P.SectorView.space space.old).content) (Ok (command.Rm path.now))).0) }
         ensures tree { IsTrue (P.SectorView.space space.old).tells → OnOk result (tree_of (P.SectorView.space space.new).content ≡ (step_line (tree_of (P.SectorView.space space.old).content) (Ok (command.Rm path.now))).1) }
         ensures refused { IsTrue (P.SectorView.space space.old).tells → IfOk result (λ reply. is_refusal reply ≡ true → (P.SectorView.space space.new).content ≡ (P.SectorView.space space.old).content) }
-        // The content's lists have the file in the private folder, which may be new, and the folders' counts; nothing else of them is changed.
+        // The content's lists have the file in the private folder, which may be new, or a link less; and the folders' counts. Nothing else of them is changed.
         ensures lists { IsTrue (P.SectorView.space space.old).tells → IfOk result (λ said. said ≡ reply.Ok → HasLost path.now (P.SectorView.space space.old).content (P.SectorView.space space.new).content) }
         ensures stands { OnOk result (StandsOver self.new (P.SectorView.space space.new)) }
         ensures settled { IsTrue (P.SectorView.space space.old).tells → OnOk result (IsSettled self.new (P.SectorView.space space.new).content) }
@@ -363,7 +412,7 @@ impl Volume {
         // On a fault too, it puts sectors of its own alone, whatever was committed last.
         ensures touches { (committed : Content) → Touches committed (λ s. Contains (own_sectors self.old) s) (P.SectorView.space space.old) (P.SectorView.space space.new) }
         // Where there is a private folder, it puts so many sectors at most.
-        ensures spent { IsTrue (P.SectorView.space space.old).tells → is_some self.old.private ≡ true → (P.SectorView.space space.old).spare ≤ (P.SectorView.space space.new).spare + (leave_load self.old + catalog_node self.old) }
+        ensures spent { IsTrue (P.SectorView.space space.old).tells → is_some self.old.private ≡ true → (P.SectorView.space space.old).spare ≤ (P.SectorView.space space.new).spare + lose_load self.old }
         ensures below { P.SectorView.follows space.old space.new }
         ensures cause { HasTroubleCause (P.SectorView.space space.old).faults (P.SectorView.space space.new).faults result }
     {
@@ -371,7 +420,7 @@ impl Volume {
             return Ok(Reply::No(Refusal::Private));
         }
         match path.as_slice().split_last() {
-            Some((name, above)) => self.rm_under(alloc, space, above, name),
+            Some((name, above)) => self.rm_under(alloc, space, path, above, name),
             None => Ok(Reply::No(Refusal::Root)),
         }
     }

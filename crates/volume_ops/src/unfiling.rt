@@ -37,7 +37,7 @@ fn with_file_removed(head: &VolumeHeader) -> VolumeHeader
 
 impl Volume {
     /// Counts a file less in the header, and puts it.
-    fn count_file_off<P: SectorSpace>(&mut self, space: &mut P)
+    pub(crate) fn count_file_off<P: SectorSpace>(&mut self, space: &mut P)
         requires stands { StandsOver self.old (P.SectorView.space space.old) }
         requires some { 1 ≤ (P.SectorView.space space.old).spare }
         ensures stands { StandsOver self.new (P.SectorView.space space.new) }

@@ -32,7 +32,7 @@ use Rattle.hfs_volume.specs.declared.cost.Cost.TheVariants as cost
 use Rattle.volume_ops.specs.Attributing.{set_answer}
 use Rattle.volume_ops.specs.Making.{Makes}
 use Rattle.volume_ops.specs.Moving.{HasMoved}
-use Rattle.volume_ops.specs.Losing.{HasLost}
+use Rattle.volume_ops.specs.Losing.{HasLost, LosesName}
 use Rattle.volume_ops.specs.Removing.{HasRemoved}
 use Rattle.volume_ops.specs.Standing.{HoldsOn, IsSettled}
 use Rattle.volume_ops.specs.declared.volume.Volume.{Volume}
@@ -41,7 +41,7 @@ use Rattle.volume_step.specs.declared.judging.Verdict.TheVariants as verdict
 use Rattle.volume_step.specs.declared.outcome.Outcome.{Outcome}
 use Rattle.volume_step.specs.declared.outcome.Outcome.TheVariants as outcome
 use Rattle.volume_step.proofs.Kept.{Keeps, attributes_keep, delete_keeps, keeps_both, keeps_none, mode_keeps, moment_keeps, set_keeps}
-use Rattle.volume_step.proofs.KeptEntries.{lost_keeps, made_keeps, moved_keeps, opened_keeps, removed_keeps}
+use Rattle.volume_step.proofs.KeptEntries.{link_keeps, lost_keeps, made_keeps, moved_keeps, opened_keeps, removed_keeps}
 use Rattle.volume_step.proofs.Served.{changes_told, done_as, journal_kept, line_is, quiet, refused, steps, tells, waits}
 
 -- ---- a volume whose bits are as they were
@@ -369,11 +369,13 @@ module _ (capacity number : ℕ) (path : List (List ℕ)) (before after : Conten
     fine_lost : said ≡ reply.Ok
     fine_lost = said_ok capacity number (command.Rm path) before after sound_before sound_after affords said refl refl reply_is tree
 
+    keeps_name : (entry : PlainEntry) → LosesName entry before after → Keeps (volume_of before) (volume_of after)
+    keeps_name entry (inl loses) =
+        keeps_both (volume_of before) loses.opened (volume_of after) (opened_keeps (volume_of before) loses.opened loses.opens) (lost_keeps entry loses.opened (volume_of after) loses.sound loses.there loses.removes)
+    keeps_name entry (inr unlinks) = link_keeps entry (volume_of before) (volume_of after) sound_before.volume unlinks.removes
+
     keeps_lost : Keeps (volume_of before) (volume_of after)
-    keeps_lost =
-        let it = lists fine_lost in
-        keeps_both (volume_of before) it.loses.opened (volume_of after) (opened_keeps (volume_of before) it.loses.opened it.loses.opens)
-        (lost_keeps it.entry it.loses.opened (volume_of after) it.loses.sound it.loses.there it.loses.removes)
+    keeps_lost = let it = lists fine_lost in keeps_name it.entry it.loses
 
     pub lose_steps : (changes : List Change) → (is_private_path path ≡ false → (entry : PlainEntry) → reached (tree_of before) path ≡ Ok entry → changes ≡ of_entry number change.Removed (Ok entry))
         → StepsTo (outcome.Answered said changes) capacity number (command.Rm path) before after

@@ -1,7 +1,9 @@
 -- What commands that make, move or remove an entry keep of a volume.
-use Rattle.std.proofs.Common.{◌≡◌, ◌≢◌, ◌⊎◌, ◌≤◌, ℕ, ◌+◌, Bool, true, false, List, [], ◌∷◌, ◌++◌, length, inl, inr, refl, sym, ◌∙◌, ap, subst, arith}
+use Rattle.std.proofs.Common.{◌≡◌, ◌≢◌, ◌⊎◌, ◌≤◌, ℕ, ◌+◌, ◌-◌, Bool, true, false, List, [], ◌∷◌, ◌++◌, length, inl, inr, refl, sym, ◌∙◌, ap, subst, arith}
 use Rattle.std.specs.Prelude.{Contains, ◌==◌, is_some, not, Option}
+use Rattle.std.specs.List.{flat_map}
 use Rattle.std.proofs.lemmas.Bool.{true≢false}
+use Rattle.std.proofs.lemmas.List.{length-append}
 use Rattle.std.proofs.lemmas.List.Elements.{Contains-append_left, Contains-append_right}
 use Rattle.cat_records.specs.declared.record.EntryFields.{EntryFields}
 use Rattle.cat_records.specs.declared.record.CatRecord.{CatRecord}
@@ -10,15 +12,15 @@ use Rattle.hfs_model.specs.Step.{Place, private_name}
 use Rattle.hfs_model.specs.declared.plain.PlainEntry.{PlainEntry}
 use Rattle.hfs_volume.specs.Blocks.{HasSizes, forks_of}
 use Rattle.hfs_volume.specs.Changes.{ChangesValue, InCatalog, MovesEntry}
-use Rattle.hfs_volume.specs.Commands.{ChangesFields, DropsAttributes, IsMarkedAlone, IsNewValue, IsRecounted, IsRecountedAlone, IsTouched, MakesEntry, RemovesFolder, entry_in, with_counts, with_fields, with_folder_removed, with_made, without_attributes}
+use Rattle.hfs_volume.specs.Commands.{ChangesFields, DropsAttributes, IsMarkedAlone, IsMarkedLinked, IsNewValue, IsRecounted, IsRecountedAlone, IsTouched, MakesEntry, RemovesFolder, entry_in, with_counts, with_fields, with_folder_removed, with_made, without_attributes}
 use Rattle.hfs_volume.specs.Content.{VolumeState, overflow_in_volume, records_of}
 use Rattle.hfs_volume.specs.Entries.{IsUserId}
 use Rattle.hfs_volume.specs.Forks.{Owned, all_forks, blocks_owned, data_kind, file_forks, forks_in, resource_kind, special_forks}
 use Rattle.hfs_volume.specs.Laws.{one_if}
 use Rattle.hfs_volume.specs.Links.{private_id}
-use Rattle.hfs_volume.specs.Naming.{MovesName, RemovesFile, orphan_name, private_ids}
+use Rattle.hfs_volume.specs.Naming.{MovesName, RemovesFile, RemovesLink, one_file_less, orphan_name, private_ids}
 use Rattle.hfs_volume.specs.Reclaim.{blocks_at, blocks_found}
-use Rattle.hfs_volume.specs.Records.{Overflow, Placed, entries_of, id_in, id_of, is_empty, is_folder, placed_in}
+use Rattle.hfs_volume.specs.Records.{Overflow, Placed, entries_of, id_in, id_of, is_empty, is_folder, is_link, placed_in}
 use Rattle.hfs_volume.specs.Sound.{IsSoundVolume}
 use Rattle.hfs_volume.proofs.Fitting.{differs, not_same}
 use Rattle.hfs_volume.proofs.Making.{placed_splits}
@@ -355,3 +357,65 @@ module _ (old new : VolumeState) (made : OpensPrivate old new) where
 pub opened_keeps : (old new : VolumeState) → (new ≡ old) ⊎ OpensPrivate old new → Keeps old new
 opened_keeps old new (inl same) = subst (λ (v : VolumeState). Keeps old v) (sym same) (keeps_none old)
 opened_keeps old new (inr made) = private_keeps old new made
+
+-- ---- a link less
+
+link_kind : (p : Placed) → is_link p ≡ true → is_folder p.value ≡ false
+link_kind p link = by p.value refl
+  where
+    by : (value : CatRecord) → p.value ≡ value → is_folder value ≡ false
+    by (Folder f) is = absurd (true≢false (sym link ∙ ap (λ (v : CatRecord). is_link (record p { value = v })) is))
+    by (File f) is = refl
+    by (Thread t) is = refl
+
+flat_empty : (f : Owned → List ℕ) (xs : List Owned) (x : Owned) → flat_map f xs ≡ [] → Contains xs x → f x ≡ []
+flat_empty f [] x none stands = absurd (omega (arith, stands.1))
+flat_empty f (y ∷ ys) x none stands =
+    let parts : length (f y) + length (flat_map f ys) ≡ 0 = sym (length-append (f y) (flat_map f ys)) ∙ ap length none in
+    elim (first_or_later y x ys stands) [
+      | inl same ↦ ap f same ∙ no_items (f y) (omega (arith, parts))
+      | inr later ↦ flat_empty f ys x (no_items (flat_map f ys) (omega (arith, parts))) later
+    ]
+
+module _ (at : PlainEntry) (old new : VolumeState) (sound : IsSoundVolume old) (does : RemovesLink at old new) where
+  link_side : OneMore does.entry (records_of does.dropped) (records_of old)
+  link_side = one_more does.drops.changes (named_entry (records_of old) does.entry does.is_entry.stands)
+
+  link_alone : (p : Placed) → Contains (entries_of (records_of does.dropped)) p → (id_of p == id_of does.entry) ≡ false
+  link_alone p stands = by (id_of p == id_of does.entry) refl
+    where
+      by : (t : Bool) → (id_of p == id_of does.entry) ≡ t → t ≡ false
+      by false is = refl
+      by true is = absurd (omega (
+        arith,
+        sound.entries.ids.distinct (id_of does.entry),
+        count_more link_side (λ (q : Placed). id_of q == id_of does.entry),
+        ap one_if (same_number (id_of does.entry)),
+        one_there (λ (q : Placed). id_of q == id_of does.entry) (entries_of (records_of does.dropped)) p stands is,
+      ))
+
+  link_high : 16 ≤ id_of does.entry
+  link_high = elim (each_of (λ (q : Placed). IsUserId old.head.next_catalog_id (id_of q)) (entries_of (records_of old)) sound.entries.ids.each does.entry does.is_entry.stands) [
+    | inl two ↦
+        let root = sound.entries.rooted.root in
+        elim (entry_cases link_side root.0 root.1) [
+          | inl same ↦ absurd (true≢false (sym root.2.folder ∙ ap (λ (p : Placed). is_folder p.value) same ∙ link_kind does.entry does.is_one))
+          | inr there ↦ absurd (not_same (id_of root.0) (id_of does.entry) (link_alone root.0 there) (root.2.id ∙ sym two))
+        ]
+    | inr user ↦ user.0
+  ]
+
+  link_empty : (owned : Owned) → Contains (forks_in does.entry.value) owned → blocks_owned (overflow_in_volume old) owned ≡ []
+  link_empty owned stands = flat_empty (blocks_owned (overflow_in_volume old)) (forks_in does.entry.value) owned (sound.links.good.links does.entry does.is_entry.stands does.is_one).empty stands
+
+  link_blocks : (id kind : ℕ) → blocks_at does.dropped id kind ≡ blocks_at (one_file_less old) id kind
+  link_blocks id kind =
+      ap (λ (v : VolumeState). blocks_at v id kind) does.drops.rest
+      ∙ sym (found_more link_side link_high link_alone (one_file_less old).head (overflow_in_volume old) link_empty id kind)
+
+  pub link_keeps : Keeps old new
+  link_keeps =
+      keeps_both old (one_file_less old) new (counted_head old.head.next_catalog_id (old.head.file_count - 1) old.head.folder_count old)
+      (keeps_both (one_file_less old) does.dropped new (catalog_keeps (one_file_less old) does.dropped does.drops.rest does.drops.nodes link_blocks)
+      (keeps_both does.dropped does.marked new (fields_keep at.id (IsMarkedLinked old.head.modify_date does.links) does.dropped does.marked does.marks)
+      (fields_keep at.parent (IsTouched old.head.modify_date 0 1) does.marked new does.loses)))

@@ -64,3 +64,6 @@ returns-in_err-reply-clause-capacity g c = c.rm.ensures.blocks.capacity ∙ c.ch
 
 pub returns-in_err-reply-clause-shrunk : goal.returns-in_err-reply-clause-shrunk
 returns-in_err-reply-clause-shrunk g c = c.rm.ensures.blocks.shrunk ∙ c.change_at.ensures.reads.keeps.shrunk
+
+pub returns-in_err-reply-clause-below : goal.returns-in_err-reply-clause-below
+returns-in_err-reply-clause-below g c = g.met.P.SectorView.follows_trans c.args.space.now c.change_at.new.space c.rm.new.space c.change_at.ensures.below c.rm.ensures.below

@@ -1,4 +1,4 @@
-use Rattle.std.proofs.Common.{◌≡◌, ℕ, length, sym, ◌∙◌, ap, subst, arith}
+use Rattle.std.proofs.Common.{◌≡◌, inl, inr, ℕ, length, sym, ◌∙◌, ap, subst, arith}
 use Rattle.std.specs.Prelude.{Option, is_some}
 use Rattle.std.proofs.lemmas.Bool.{true≢false}
 use Rattle.hard_links.specs.declared.place.EntryAt.{EntryAt}
@@ -6,8 +6,9 @@ use Rattle.hfs_language.specs.declared.command.Command.TheVariants as command
 use Rattle.hfs_model.specs.Step.{step}
 use Rattle.hfs_volume.specs.TreeOf.{tree_of}
 use Rattle.volume_ops.specs.Lists.{lists_of}
-use Rattle.volume_ops.specs.Losing.{Buries, IsLoss, IsOnlyName, Loses}
+use Rattle.volume_ops.specs.Losing.{Buries, IsLoss, IsOnlyName, Loses, LosesName}
 use Rattle.volume_ops.specs.Standing.{IsSettled}
+use Rattle.volume_ops.specs.Unlinking.{Unlinks}
 use Rattle.volume_ops.proofs.Buried.{loses_there}
 use Rattle.volume_ops.proofs.FoundEntry.{ok_so}
 use Rattle.volume_ops.proofs.volume.Volume.lose.Goals as goal
@@ -24,18 +25,18 @@ bury-requires-clause-only g c tells = subst (λ (p : EntryAt). IsOnlyName p (lis
 pub bury-requires-clause-loses : goal.bury-requires-clause-loses
 bury-requires-clause-loses g c tells =
     let it = c.requires.loses tells in
-    (it.0, it.1, subst (λ (p : EntryAt). IsLoss (tree_of (g.P.SectorView.space c.args.space.now).content) it.0 it.1 p) (sym c.in_ok-place-in-Some.ensures) it.2)
+    (c.args.path.now, it.0, subst (λ (p : EntryAt). IsLoss (tree_of (g.P.SectorView.space c.args.space.now).content) c.args.path.now it.0 p) (sym c.in_ok-place-in-Some.ensures) it.1)
 
 pub returns-in_ok-place-in-Some-clause-does : goal.returns-in_ok-place-in-Some-clause-does
-returns-in_ok-place-in-Some-clause-does g c tells path entry loss =
+returns-in_ok-place-in-Some-clause-does g c tells entry loss =
     ok_so
-    (IsSettled c.bury.new.self (g.P.SectorView.space c.bury.new.space).content × (tree_of (g.P.SectorView.space c.bury.new.space).content ≡ (step (tree_of (g.P.SectorView.space c.args.space.now).content) (command.Rm path)).1)
+    (IsSettled c.bury.new.self (g.P.SectorView.space c.bury.new.space).content × (tree_of (g.P.SectorView.space c.bury.new.space).content ≡ (step (tree_of (g.P.SectorView.space c.args.space.now).content) (command.Rm c.args.path.now)).1)
     × Buries entry (g.P.SectorView.space c.args.space.now).content (g.P.SectorView.space c.bury.new.space).content)
-    (IsSettled c.bury.new.self (g.P.SectorView.space c.bury.new.space).content × (tree_of (g.P.SectorView.space c.bury.new.space).content ≡ (step (tree_of (g.P.SectorView.space c.args.space.now).content) (command.Rm path)).1)
-    × Loses entry (g.P.SectorView.space c.args.space.now).content (g.P.SectorView.space c.bury.new.space).content)
+    (IsSettled c.bury.new.self (g.P.SectorView.space c.bury.new.space).content × (tree_of (g.P.SectorView.space c.bury.new.space).content ≡ (step (tree_of (g.P.SectorView.space c.args.space.now).content) (command.Rm c.args.path.now)).1)
+    × LosesName entry (g.P.SectorView.space c.args.space.now).content (g.P.SectorView.space c.bury.new.space).content)
     c.bury.result
-    (c.bury.ensures.does tells path entry (subst (λ (p : EntryAt). IsLoss (tree_of (g.P.SectorView.space c.args.space.now).content) path entry p) (sym c.in_ok-place-in-Some.ensures) loss))
-    (λ lost. (lost.0, lost.1, loses_there entry (g.P.SectorView.space c.args.space.now).content (g.P.SectorView.space c.bury.new.space).content (c.requires.settled tells).sound lost.2))
+    (c.bury.ensures.does tells c.args.path.now entry (subst (λ (p : EntryAt). IsLoss (tree_of (g.P.SectorView.space c.args.space.now).content) c.args.path.now entry p) (sym c.in_ok-place-in-Some.ensures) loss))
+    (λ lost. (lost.0, lost.1, inl (loses_there entry (g.P.SectorView.space c.args.space.now).content (g.P.SectorView.space c.bury.new.space).content (c.requires.settled tells).sound lost.2)))
 
 pub bury_first-requires-clause-some : goal.bury_first-requires-clause-some
 bury_first-requires-clause-some g c = omega (arith, c.requires.some, ap (λ (p : EntryAt). length p.name) c.in_ok-place-in-None.ensures)
@@ -52,10 +53,42 @@ bury_first-requires-clause-only g c tells = subst (λ (p : EntryAt). IsOnlyName 
 pub bury_first-requires-clause-loses : goal.bury_first-requires-clause-loses
 bury_first-requires-clause-loses g c tells =
     let it = c.requires.loses tells in
-    (it.0, it.1, subst (λ (p : EntryAt). IsLoss (tree_of (g.P.SectorView.space c.args.space.now).content) it.0 it.1 p) (sym c.in_ok-place-in-None.ensures) it.2)
+    (c.args.path.now, it.0, subst (λ (p : EntryAt). IsLoss (tree_of (g.P.SectorView.space c.args.space.now).content) c.args.path.now it.0 p) (sym c.in_ok-place-in-None.ensures) it.1)
 
 pub returns-in_ok-place-in-None-clause-does : goal.returns-in_ok-place-in-None-clause-does
-returns-in_ok-place-in-None-clause-does g c tells path entry loss = c.bury_first.ensures.does tells path entry (subst (λ (p : EntryAt). IsLoss (tree_of (g.P.SectorView.space c.args.space.now).content) path entry p) (sym c.in_ok-place-in-None.ensures) loss)
+returns-in_ok-place-in-None-clause-does g c tells entry loss =
+    ok_so
+    (IsSettled c.bury_first.new.self (g.P.SectorView.space c.bury_first.new.space).content × (tree_of (g.P.SectorView.space c.bury_first.new.space).content ≡ (step (tree_of (g.P.SectorView.space c.args.space.now).content) (command.Rm c.args.path.now)).1)
+    × Loses entry (g.P.SectorView.space c.args.space.now).content (g.P.SectorView.space c.bury_first.new.space).content)
+    (IsSettled c.bury_first.new.self (g.P.SectorView.space c.bury_first.new.space).content × (tree_of (g.P.SectorView.space c.bury_first.new.space).content ≡ (step (tree_of (g.P.SectorView.space c.args.space.now).content) (command.Rm c.args.path.now)).1)
+    × LosesName entry (g.P.SectorView.space c.args.space.now).content (g.P.SectorView.space c.bury_first.new.space).content)
+    c.bury_first.result
+    (c.bury_first.ensures.does tells c.args.path.now entry (subst (λ (p : EntryAt). IsLoss (tree_of (g.P.SectorView.space c.args.space.now).content) c.args.path.now entry p) (sym c.in_ok-place-in-None.ensures) loss))
+    (λ lost. (lost.0, lost.1, inl lost.2))
 
 pub returns-in_ok-place-in-None-clause-spent : goal.returns-in_ok-place-in-None-clause-spent
 returns-in_ok-place-in-None-clause-spent g c tells here = absurd (true≢false (sym here ∙ ap (λ (o : Option ℕ). is_some o) c.in-None.is))
+
+pub lose_link-requires-clause-link : goal.lose_link-requires-clause-link
+lose_link-requires-clause-link g c tells = c.requires.link tells c.if-at.true
+
+pub lose_link-requires-clause-room : goal.lose_link-requires-clause-room
+lose_link-requires-clause-room g c = c.requires.room.drops
+
+pub bury-requires-clause-room : goal.bury-requires-clause-room
+bury-requires-clause-room g c = c.requires.room.puts
+
+pub returns-then-at-clause-does : goal.returns-then-at-clause-does
+returns-then-at-clause-does g c tells entry loss =
+    ok_so
+    (IsSettled c.lose_link.new.self (g.P.SectorView.space c.lose_link.new.space).content × (tree_of (g.P.SectorView.space c.lose_link.new.space).content ≡ (step (tree_of (g.P.SectorView.space c.args.space.now).content) (command.Rm c.args.path.now)).1)
+    × Unlinks entry (g.P.SectorView.space c.args.space.now).content (g.P.SectorView.space c.lose_link.new.space).content)
+    (IsSettled c.lose_link.new.self (g.P.SectorView.space c.lose_link.new.space).content × (tree_of (g.P.SectorView.space c.lose_link.new.space).content ≡ (step (tree_of (g.P.SectorView.space c.args.space.now).content) (command.Rm c.args.path.now)).1)
+    × LosesName entry (g.P.SectorView.space c.args.space.now).content (g.P.SectorView.space c.lose_link.new.space).content)
+    c.lose_link.result (c.lose_link.ensures.does tells entry loss) (λ lost. (lost.0, lost.1, inr lost.2))
+
+pub returns-then-at-clause-spent : goal.returns-then-at-clause-spent
+returns-then-at-clause-spent g c tells here = c.lose_link.ensures.spent tells
+
+pub returns-in_ok-place-in-Some-clause-spent : goal.returns-in_ok-place-in-Some-clause-spent
+returns-in_ok-place-in-Some-clause-spent g c tells here = omega (arith, c.bury.ensures.spent tells)

@@ -72,3 +72,6 @@ returns-in-None-clause-blocks g c = blocks_none c.args.self.now
 
 pub returns-then-is_private_path-clause-blocks : goal.returns-then-is_private_path-clause-blocks
 returns-then-is_private_path-clause-blocks g c = blocks_none c.args.self.now
+
+pub rm_under-requires-clause-split : goal.rm_under-requires-clause-split
+rm_under-requires-clause-split g c = sym c.as_slice.ensures ∙ c.in-Some.ensures.cases.0

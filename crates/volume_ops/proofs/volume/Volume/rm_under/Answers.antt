@@ -1,19 +1,23 @@
-use Rattle.std.proofs.Common.{ℕ, List, sym, ◌∙◌, ap, subst, arith}
+use Rattle.std.proofs.Common.{◌≡◌, ℕ, List, sym, ◌∙◌, ap, subst, arith}
 use Rattle.std.specs.Prelude.{Option, is_some}
 use Rattle.std.specs.List.{Contains}
 use Rattle.std.proofs.lemmas.Bool.{true≢false}
 use Rattle.sector_disk.specs.Lists.{Content}
+use Rattle.hard_links.specs.Linking.{NamesLink}
+use Rattle.hfs_language.specs.Written.{FitsPath}
 use Rattle.hfs_language.specs.declared.command.Command.TheVariants as command
-use Rattle.hfs_model.specs.Step.{step}
+use Rattle.hfs_model.specs.Step.{is_private_path, step}
+use Rattle.hfs_model.specs.declared.plain.PlainEntry.{PlainEntry}
 use Rattle.hfs_volume.specs.Content.{VolumeState}
 use Rattle.hfs_volume.specs.TreeOf.{tree_of}
 use Rattle.volume_ops.specs.Lists.{lists_of}
-use Rattle.volume_ops.specs.Losing.{IsLoss, IsOnlyName, Loses, place_of}
+use Rattle.volume_ops.specs.Losing.{IsLoss, IsOnlyName, LosesName, place_of}
 use Rattle.volume_ops.specs.Making.{path_to}
+use Rattle.volume_ops.specs.Standing.{IsSettled}
 use Rattle.volume_ops.specs.Touching.{Touches}
 use Rattle.volume_ops.proofs.Besides.{blocks_both, blocks_read}
 use Rattle.volume_ops.proofs.Commanding.{touches_looks, touches_both}
-use Rattle.volume_ops.proofs.Lost.{is_loss, lose_load_still, lose_room_still, losing_refused, lost, lost_allowed, lost_line, lost_step, only_name, refused_line}
+use Rattle.volume_ops.proofs.Lost.{is_loss, link_name, lose_load_still, lose_room_still, losing_refused, lost, lost_allowed, lost_line, lost_step, only_name, refused_line}
 use Rattle.volume_ops.proofs.Sited.{fits_above, fits_name}
 use Rattle.volume_ops.proofs.Still.{lists_still, own_still}
 use Rattle.volume_ops.proofs.volume.Volume.rm_under.Goals as goal
@@ -103,7 +107,7 @@ lose-requires-clause-only g c tells plain =
 pub lose-requires-clause-loses : goal.lose-requires-clause-loses
 lose-requires-clause-loses g c tells =
     let before = sym c.losing.ensures.reads.looks.same.tells ∙ tells in
-    ((path_to c.args.above.now c.args.name.now), (lost c.sound_has_plain_tree.ensures c.args.self.now (g.P.SectorView.space c.args.space.now).content (c.requires.stands.stands before).trees (c.requires.settled before) c.args.above.now c.args.name.now c.requires.not_own c.requires.fits c.in_ok-at.field-0 (c.in_ok-at.ensures.found before) c.in-Ok.at c.in-Ok.is), subst (λ (k : Content). IsLoss (tree_of k) (path_to c.args.above.now c.args.name.now) (lost c.sound_has_plain_tree.ensures c.args.self.now (g.P.SectorView.space c.args.space.now).content (c.requires.stands.stands before).trees (c.requires.settled before) c.args.above.now c.args.name.now c.requires.not_own c.requires.fits c.in_ok-at.field-0 (c.in_ok-at.ensures.found before) c.in-Ok.at c.in-Ok.is) (place_of c.in-Ok.at c.args.name.now)) (sym (c.losing.ensures.reads.looks.content before)) (is_loss c.sound_has_plain_tree.ensures c.args.self.now (g.P.SectorView.space c.args.space.now).content (c.requires.stands.stands before).trees (c.requires.settled before) c.args.above.now c.args.name.now c.requires.not_own c.requires.fits c.in_ok-at.field-0 (c.in_ok-at.ensures.found before) c.in-Ok.at c.in-Ok.is))
+    ((lost c.sound_has_plain_tree.ensures c.args.self.now (g.P.SectorView.space c.args.space.now).content (c.requires.stands.stands before).trees (c.requires.settled before) c.args.above.now c.args.name.now c.requires.not_own c.requires.fits c.in_ok-at.field-0 (c.in_ok-at.ensures.found before) c.in-Ok.at c.in-Ok.is), subst (λ (k : Content × List (List ℕ)). IsLoss (tree_of k.0) k.1 (lost c.sound_has_plain_tree.ensures c.args.self.now (g.P.SectorView.space c.args.space.now).content (c.requires.stands.stands before).trees (c.requires.settled before) c.args.above.now c.args.name.now c.requires.not_own c.requires.fits c.in_ok-at.field-0 (c.in_ok-at.ensures.found before) c.in-Ok.at c.in-Ok.is) (place_of c.in-Ok.at c.args.name.now)) (λ i. (sym (c.losing.ensures.reads.looks.content before) i, sym c.requires.split i)) (is_loss c.sound_has_plain_tree.ensures c.args.self.now (g.P.SectorView.space c.args.space.now).content (c.requires.stands.stands before).trees (c.requires.settled before) c.args.above.now c.args.name.now c.requires.not_own c.requires.fits c.in_ok-at.field-0 (c.in_ok-at.ensures.found before) c.in-Ok.at c.in-Ok.is))
 
 pub returns-in_ok-lose-in-Ok-clause-reply : goal.returns-in_ok-lose-in-Ok-clause-reply
 returns-in_ok-lose-in-Ok-clause-reply g c tells = (lost_line (tree_of (g.P.SectorView.space c.args.space.now).content) (path_to c.args.above.now c.args.name.now) (lost c.sound_has_plain_tree.ensures c.args.self.now (g.P.SectorView.space c.args.space.now).content (c.requires.stands.stands tells).trees (c.requires.settled tells) c.args.above.now c.args.name.now c.requires.not_own c.requires.fits c.in_ok-at.field-0 (c.in_ok-at.ensures.found tells) c.in-Ok.at c.in-Ok.is) c.requires.not_own (lost_allowed c.sound_has_plain_tree.ensures c.args.self.now (g.P.SectorView.space c.args.space.now).content (c.requires.stands.stands tells).trees (c.requires.settled tells) c.args.above.now c.args.name.now c.requires.not_own c.requires.fits c.in_ok-at.field-0 (c.in_ok-at.ensures.found tells) c.in-Ok.at c.in-Ok.is)).0
@@ -112,7 +116,9 @@ pub returns-in_ok-lose-in-Ok-clause-tree : goal.returns-in_ok-lose-in-Ok-clause-
 returns-in_ok-lose-in-Ok-clause-tree g c tells =
     let later = c.losing.ensures.reads.looks.same.tells ∙ tells in
     let loss = (is_loss c.sound_has_plain_tree.ensures c.args.self.now (g.P.SectorView.space c.args.space.now).content (c.requires.stands.stands tells).trees (c.requires.settled tells) c.args.above.now c.args.name.now c.requires.not_own c.requires.fits c.in_ok-at.field-0 (c.in_ok-at.ensures.found tells) c.in-Ok.at c.in-Ok.is) in
-    let does = c.in_ok-lose-in-Ok.ensures.does later (path_to c.args.above.now c.args.name.now) (lost c.sound_has_plain_tree.ensures c.args.self.now (g.P.SectorView.space c.args.space.now).content (c.requires.stands.stands tells).trees (c.requires.settled tells) c.args.above.now c.args.name.now c.requires.not_own c.requires.fits c.in_ok-at.field-0 (c.in_ok-at.ensures.found tells) c.in-Ok.at c.in-Ok.is) (subst (λ (k : Content). IsLoss (tree_of k) (path_to c.args.above.now c.args.name.now) (lost c.sound_has_plain_tree.ensures c.args.self.now (g.P.SectorView.space c.args.space.now).content (c.requires.stands.stands tells).trees (c.requires.settled tells) c.args.above.now c.args.name.now c.requires.not_own c.requires.fits c.in_ok-at.field-0 (c.in_ok-at.ensures.found tells) c.in-Ok.at c.in-Ok.is) (place_of c.in-Ok.at c.args.name.now)) (sym (c.losing.ensures.reads.looks.content tells)) loss) in
+    let does = (subst (λ (p : List (List ℕ)). (entry : PlainEntry) → IsLoss (tree_of (g.P.SectorView.space c.losing.new.space).content) p entry (place_of c.in-Ok.at c.args.name.now)
+    → IsSettled c.lose.new.self (g.P.SectorView.space c.lose.new.space).content × (tree_of (g.P.SectorView.space c.lose.new.space).content ≡ (step (tree_of (g.P.SectorView.space c.losing.new.space).content) (command.Rm p)).1)
+    × LosesName entry (g.P.SectorView.space c.losing.new.space).content (g.P.SectorView.space c.lose.new.space).content) c.requires.split (c.in_ok-lose-in-Ok.ensures.does later)) (lost c.sound_has_plain_tree.ensures c.args.self.now (g.P.SectorView.space c.args.space.now).content (c.requires.stands.stands tells).trees (c.requires.settled tells) c.args.above.now c.args.name.now c.requires.not_own c.requires.fits c.in_ok-at.field-0 (c.in_ok-at.ensures.found tells) c.in-Ok.at c.in-Ok.is) (subst (λ (k : Content). IsLoss (tree_of k) (path_to c.args.above.now c.args.name.now) (lost c.sound_has_plain_tree.ensures c.args.self.now (g.P.SectorView.space c.args.space.now).content (c.requires.stands.stands tells).trees (c.requires.settled tells) c.args.above.now c.args.name.now c.requires.not_own c.requires.fits c.in_ok-at.field-0 (c.in_ok-at.ensures.found tells) c.in-Ok.at c.in-Ok.is) (place_of c.in-Ok.at c.args.name.now)) (sym (c.losing.ensures.reads.looks.content tells)) loss) in
     does.1
     ∙ ap (λ (k : Content). (step (tree_of k) (command.Rm (path_to c.args.above.now c.args.name.now))).1) (c.losing.ensures.reads.looks.content tells)
     ∙ lost_step (tree_of (g.P.SectorView.space c.args.space.now).content) (path_to c.args.above.now c.args.name.now) (lost c.sound_has_plain_tree.ensures c.args.self.now (g.P.SectorView.space c.args.space.now).content (c.requires.stands.stands tells).trees (c.requires.settled tells) c.args.above.now c.args.name.now c.requires.not_own c.requires.fits c.in_ok-at.field-0 (c.in_ok-at.ensures.found tells) c.in-Ok.at c.in-Ok.is) (lost_allowed c.sound_has_plain_tree.ensures c.args.self.now (g.P.SectorView.space c.args.space.now).content (c.requires.stands.stands tells).trees (c.requires.settled tells) c.args.above.now c.args.name.now c.requires.not_own c.requires.fits c.in_ok-at.field-0 (c.in_ok-at.ensures.found tells) c.in-Ok.at c.in-Ok.is)
@@ -122,18 +128,22 @@ pub returns-in_ok-lose-in-Ok-clause-settled : goal.returns-in_ok-lose-in-Ok-clau
 returns-in_ok-lose-in-Ok-clause-settled g c tells =
     let later = c.losing.ensures.reads.looks.same.tells ∙ tells in
     let loss = (is_loss c.sound_has_plain_tree.ensures c.args.self.now (g.P.SectorView.space c.args.space.now).content (c.requires.stands.stands tells).trees (c.requires.settled tells) c.args.above.now c.args.name.now c.requires.not_own c.requires.fits c.in_ok-at.field-0 (c.in_ok-at.ensures.found tells) c.in-Ok.at c.in-Ok.is) in
-    let does = c.in_ok-lose-in-Ok.ensures.does later (path_to c.args.above.now c.args.name.now) (lost c.sound_has_plain_tree.ensures c.args.self.now (g.P.SectorView.space c.args.space.now).content (c.requires.stands.stands tells).trees (c.requires.settled tells) c.args.above.now c.args.name.now c.requires.not_own c.requires.fits c.in_ok-at.field-0 (c.in_ok-at.ensures.found tells) c.in-Ok.at c.in-Ok.is) (subst (λ (k : Content). IsLoss (tree_of k) (path_to c.args.above.now c.args.name.now) (lost c.sound_has_plain_tree.ensures c.args.self.now (g.P.SectorView.space c.args.space.now).content (c.requires.stands.stands tells).trees (c.requires.settled tells) c.args.above.now c.args.name.now c.requires.not_own c.requires.fits c.in_ok-at.field-0 (c.in_ok-at.ensures.found tells) c.in-Ok.at c.in-Ok.is) (place_of c.in-Ok.at c.args.name.now)) (sym (c.losing.ensures.reads.looks.content tells)) loss) in
+    let does = (subst (λ (p : List (List ℕ)). (entry : PlainEntry) → IsLoss (tree_of (g.P.SectorView.space c.losing.new.space).content) p entry (place_of c.in-Ok.at c.args.name.now)
+    → IsSettled c.lose.new.self (g.P.SectorView.space c.lose.new.space).content × (tree_of (g.P.SectorView.space c.lose.new.space).content ≡ (step (tree_of (g.P.SectorView.space c.losing.new.space).content) (command.Rm p)).1)
+    × LosesName entry (g.P.SectorView.space c.losing.new.space).content (g.P.SectorView.space c.lose.new.space).content) c.requires.split (c.in_ok-lose-in-Ok.ensures.does later)) (lost c.sound_has_plain_tree.ensures c.args.self.now (g.P.SectorView.space c.args.space.now).content (c.requires.stands.stands tells).trees (c.requires.settled tells) c.args.above.now c.args.name.now c.requires.not_own c.requires.fits c.in_ok-at.field-0 (c.in_ok-at.ensures.found tells) c.in-Ok.at c.in-Ok.is) (subst (λ (k : Content). IsLoss (tree_of k) (path_to c.args.above.now c.args.name.now) (lost c.sound_has_plain_tree.ensures c.args.self.now (g.P.SectorView.space c.args.space.now).content (c.requires.stands.stands tells).trees (c.requires.settled tells) c.args.above.now c.args.name.now c.requires.not_own c.requires.fits c.in_ok-at.field-0 (c.in_ok-at.ensures.found tells) c.in-Ok.at c.in-Ok.is) (place_of c.in-Ok.at c.args.name.now)) (sym (c.losing.ensures.reads.looks.content tells)) loss) in
     does.0
 
 pub returns-in_ok-lose-in-Ok-clause-lists : goal.returns-in_ok-lose-in-Ok-clause-lists
 returns-in_ok-lose-in-Ok-clause-lists g c tells is =
     let later = c.losing.ensures.reads.looks.same.tells ∙ tells in
     let loss = (is_loss c.sound_has_plain_tree.ensures c.args.self.now (g.P.SectorView.space c.args.space.now).content (c.requires.stands.stands tells).trees (c.requires.settled tells) c.args.above.now c.args.name.now c.requires.not_own c.requires.fits c.in_ok-at.field-0 (c.in_ok-at.ensures.found tells) c.in-Ok.at c.in-Ok.is) in
-    let does = c.in_ok-lose-in-Ok.ensures.does later (path_to c.args.above.now c.args.name.now) (lost c.sound_has_plain_tree.ensures c.args.self.now (g.P.SectorView.space c.args.space.now).content (c.requires.stands.stands tells).trees (c.requires.settled tells) c.args.above.now c.args.name.now c.requires.not_own c.requires.fits c.in_ok-at.field-0 (c.in_ok-at.ensures.found tells) c.in-Ok.at c.in-Ok.is) (subst (λ (k : Content). IsLoss (tree_of k) (path_to c.args.above.now c.args.name.now) (lost c.sound_has_plain_tree.ensures c.args.self.now (g.P.SectorView.space c.args.space.now).content (c.requires.stands.stands tells).trees (c.requires.settled tells) c.args.above.now c.args.name.now c.requires.not_own c.requires.fits c.in_ok-at.field-0 (c.in_ok-at.ensures.found tells) c.in-Ok.at c.in-Ok.is) (place_of c.in-Ok.at c.args.name.now)) (sym (c.losing.ensures.reads.looks.content tells)) loss) in
+    let does = (subst (λ (p : List (List ℕ)). (entry : PlainEntry) → IsLoss (tree_of (g.P.SectorView.space c.losing.new.space).content) p entry (place_of c.in-Ok.at c.args.name.now)
+    → IsSettled c.lose.new.self (g.P.SectorView.space c.lose.new.space).content × (tree_of (g.P.SectorView.space c.lose.new.space).content ≡ (step (tree_of (g.P.SectorView.space c.losing.new.space).content) (command.Rm p)).1)
+    × LosesName entry (g.P.SectorView.space c.losing.new.space).content (g.P.SectorView.space c.lose.new.space).content) c.requires.split (c.in_ok-lose-in-Ok.ensures.does later)) (lost c.sound_has_plain_tree.ensures c.args.self.now (g.P.SectorView.space c.args.space.now).content (c.requires.stands.stands tells).trees (c.requires.settled tells) c.args.above.now c.args.name.now c.requires.not_own c.requires.fits c.in_ok-at.field-0 (c.in_ok-at.ensures.found tells) c.in-Ok.at c.in-Ok.is) (subst (λ (k : Content). IsLoss (tree_of k) (path_to c.args.above.now c.args.name.now) (lost c.sound_has_plain_tree.ensures c.args.self.now (g.P.SectorView.space c.args.space.now).content (c.requires.stands.stands tells).trees (c.requires.settled tells) c.args.above.now c.args.name.now c.requires.not_own c.requires.fits c.in_ok-at.field-0 (c.in_ok-at.ensures.found tells) c.in-Ok.at c.in-Ok.is) (place_of c.in-Ok.at c.args.name.now)) (sym (c.losing.ensures.reads.looks.content tells)) loss) in
     record {
       entry = (lost c.sound_has_plain_tree.ensures c.args.self.now (g.P.SectorView.space c.args.space.now).content (c.requires.stands.stands tells).trees (c.requires.settled tells) c.args.above.now c.args.name.now c.requires.not_own c.requires.fits c.in_ok-at.field-0 (c.in_ok-at.ensures.found tells) c.in-Ok.at c.in-Ok.is);
       allowed = (lost_allowed c.sound_has_plain_tree.ensures c.args.self.now (g.P.SectorView.space c.args.space.now).content (c.requires.stands.stands tells).trees (c.requires.settled tells) c.args.above.now c.args.name.now c.requires.not_own c.requires.fits c.in_ok-at.field-0 (c.in_ok-at.ensures.found tells) c.in-Ok.at c.in-Ok.is);
-      loses = subst (λ (k : Content). Loses (lost c.sound_has_plain_tree.ensures c.args.self.now (g.P.SectorView.space c.args.space.now).content (c.requires.stands.stands tells).trees (c.requires.settled tells) c.args.above.now c.args.name.now c.requires.not_own c.requires.fits c.in_ok-at.field-0 (c.in_ok-at.ensures.found tells) c.in-Ok.at c.in-Ok.is) k (g.P.SectorView.space c.lose.new.space).content) (c.losing.ensures.reads.looks.content tells) does.2;
+      loses = subst (λ (k : Content). LosesName (lost c.sound_has_plain_tree.ensures c.args.self.now (g.P.SectorView.space c.args.space.now).content (c.requires.stands.stands tells).trees (c.requires.settled tells) c.args.above.now c.args.name.now c.requires.not_own c.requires.fits c.in_ok-at.field-0 (c.in_ok-at.ensures.found tells) c.in-Ok.at c.in-Ok.is) k (g.P.SectorView.space c.lose.new.space).content) (c.losing.ensures.reads.looks.content tells) does.2;
     }
 
 pub returns-in_ok-lose-in-Ok-clause-spent : goal.returns-in_ok-lose-in-Ok-clause-spent
@@ -147,3 +157,15 @@ returns-in-Err-clause-spent g c tells here = omega (arith, c.losing.ensures.read
 
 pub returns-in_err-at-clause-spent : goal.returns-in_err-at-clause-spent
 returns-in_err-at-clause-spent g c tells here = omega (arith, c.losing.ensures.reads.looks.spare)
+
+pub lose-requires-clause-fits : goal.lose-requires-clause-fits
+lose-requires-clause-fits g c = subst FitsPath (sym c.requires.split) c.requires.fits
+
+pub lose-requires-clause-not_own : goal.lose-requires-clause-not_own
+lose-requires-clause-not_own g c = ap is_private_path c.requires.split ∙ c.requires.not_own
+
+pub lose-requires-clause-link : goal.lose-requires-clause-link
+lose-requires-clause-link g c tells linked =
+    let before = sym c.losing.ensures.reads.looks.same.tells ∙ tells in
+    subst (λ (l : VolumeState). NamesLink (place_of c.in-Ok.at c.args.name.now) l.catalog_pairs) (sym (lists_still c.args.self.now c.losing.new.self (g.P.SectorView.space c.args.space.now) (g.P.SectorView.space c.losing.new.space) c.losing.ensures.reads before))
+    (link_name (lists_of c.args.self.now (g.P.SectorView.space c.args.space.now).content).catalog_pairs c.args.above.now c.args.name.now c.in-Ok.at (sym (c.in_ok-at.ensures.found before) ∙ c.in-Ok.is) linked)

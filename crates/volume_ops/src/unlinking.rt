@@ -1,0 +1,240 @@
+//! `rm` of a link, where its file has others.
+ghost use Rattle.std.specs.Prelude.{◌≡◌, ◌≤◌, ◌<◌, ◌+◌, ℕ, List, Some, true, false, IsTrue, IfSome, length, OnOk};
+ghost use Rattle.std.specs.List.{Contains};
+ghost use Rattle.sector_disk.specs.Lists.{Content};
+ghost use Rattle.btree_edit.specs.Causes.{HasTroubleCause};
+ghost use Rattle.btree_file.specs.Standing.{numbers_of};
+ghost use Rattle.catalog.specs.Entries.{IsOfKind};
+ghost use Rattle.catalog.specs.Pairs.{value_at};
+ghost use Rattle.cat_records.specs.Fits.{FitsEntry, FitsRecord};
+ghost use Rattle.hard_links.specs.Linking.{NamesLink};
+ghost use Rattle.hfs_language.specs.declared.command.Command.TheVariants as command;
+ghost use Rattle.hfs_model.specs.Step.{step};
+ghost use Rattle.hfs_model.specs.declared.plain.PlainEntry.{PlainEntry};
+ghost use Rattle.hfs_volume.specs.Entries.{AreSpelled, AreThreaded};
+ghost use Rattle.hfs_volume.specs.Records.{id_in, is_file, is_thread};
+ghost use Rattle.hfs_volume.specs.TreeOf.{tree_of};
+ghost use Rattle.volume_ops.specs.Changing.{HasRoomToUpdate, KeepsBlocks, catalog_node};
+ghost use Rattle.volume_ops.specs.Lists.{lists_of};
+ghost use Rattle.volume_ops.specs.Losing.{IsLoss, lose_load};
+ghost use Rattle.volume_ops.specs.Making.{entry_load};
+ghost use Rattle.volume_ops.specs.Removing.{HasRoomToRemove};
+ghost use Rattle.volume_ops.specs.Service.{IsInService};
+ghost use Rattle.volume_ops.specs.Standing.{IsSettled, StandsOver, own_sectors};
+ghost use Rattle.volume_ops.specs.Touching.{Touches};
+ghost use Rattle.volume_ops.specs.Unlinking.{CountsDown, DropsName, HasShared, Unlinks, is_plain, links_in, relinked, with_links};
+
+use crate::entries::Entry;
+use crate::volume::Volume;
+use cat_records::{CatRecord, EntryFields, FileRecord};
+use hard_links::EntryAt;
+use hfs_volume::rm_does_its_step;
+use hx_bytes::Trouble;
+use sector_disk::SectorSpace;
+use std::alloc::Global;
+use tree_weights::{edits_have_room, edits_take_their_load};
+
+/// The fields of a file that has so many links from this moment on.
+fn with_links(moment: u32, links: u32, fields: &EntryFields) -> EntryFields
+    ensures same { result ≡ with_links moment links fields.now }
+    ensures fits { FitsEntry fields.now → FitsEntry result }
+{
+    let mut changed = *fields;
+    changed.special = links;
+    changed.attribute = moment;
+    changed
+}
+
+/// The record of such a file; none of a folder or a thread.
+fn relinked(moment: u32, links: u32, rec: &CatRecord) -> Option<CatRecord>
+    ensures same { result ≡ relinked moment links rec.now }
+    ensures alike { IfSome result (λ changed. IsOfKind changed rec.now) }
+    ensures fits { (is_thread rec.now ≡ false → FitsRecord rec.now) → IfSome result (λ changed. FitsRecord changed) }
+    ensures kind { IfSome result (λ changed. is_thread changed ≡ false) }
+{
+    match rec {
+        CatRecord::Folder(_) => None,
+        CatRecord::File(file) => Some(CatRecord::File(FileRecord {
+            fields: with_links(moment, links, &file.fields),
+            data_fork: file.data_fork,
+            resource_fork: file.resource_fork,
+        })),
+        CatRecord::Thread(_) => None,
+    }
+}
+
+/// How many links a file says that it has.
+fn links_in(rec: &CatRecord) -> u32
+    ensures { result ≡ links_in rec.now }
+{
+    match rec {
+        CatRecord::Folder(_) => 0,
+        CatRecord::File(file) => file.fields.special,
+        CatRecord::Thread(_) => 0,
+    }
+}
+
+impl Volume {
+    /// Removes a link from the folder that it stands in, and counts its record off.
+    fn drop_name<P: SectorSpace>(
+        &mut self,
+        alloc: Global,
+        space: &mut P,
+        at: &EntryAt,
+    ) -> Result<(), Trouble>
+        requires stands { StandsOver self.old (P.SectorView.space space.old) }
+        requires settled { IsTrue (P.SectorView.space space.old).tells → IsSettled self.old (P.SectorView.space space.old).content }
+        requires size { 4096 ≤ (numbers_of self.old.catalog.file).node_size }
+        requires some { 1 ≤ length at.now.name }
+        requires name { length at.now.name ≤ 255 }
+        requires link { IsTrue (P.SectorView.space space.old).tells → NamesLink at.now (lists_of self.old (P.SectorView.space space.old).content).catalog_pairs }
+        requires room { HasRoomToRemove self.old (P.SectorView.space space.old) }
+        ensures stands { OnOk result (StandsOver self.new (P.SectorView.space space.new)) }
+        ensures service { IsInService self.new (P.SectorView.space space.new) }
+        ensures blocks { KeepsBlocks self.old self.new }
+        ensures drops { IsTrue (P.SectorView.space space.old).tells → OnOk result (DropsName at.now.parent at.now.name self.old self.new (P.SectorView.space space.old).content (P.SectorView.space space.new).content) }
+        ensures room { OnOk result (HasRoomToUpdate self.new (P.SectorView.space space.new)) }
+        ensures own { own_sectors self.new ≡ own_sectors self.old }
+        ensures touches { (committed : Content) → Touches committed (λ s. Contains (own_sectors self.old) s) (P.SectorView.space space.old) (P.SectorView.space space.new) }
+        ensures spent { IsTrue (P.SectorView.space space.old).tells → (P.SectorView.space space.old).spare ≤ (P.SectorView.space space.new).spare + (1 + entry_load self.old) }
+        ensures below { P.SectorView.follows space.old space.new }
+        ensures cause { HasTroubleCause (P.SectorView.space space.old).faults (P.SectorView.space space.new).faults result }
+    {
+        edits_have_room();
+        edits_take_their_load();
+        self.count_file_off(space);
+        self.remove(alloc, space, at.parent, &at.name)?;
+        Ok(())
+    }
+
+    /// Lets a file that was found say that it has so many links.
+    fn put_links<P: SectorSpace>(
+        &mut self,
+        alloc: Global,
+        space: &mut P,
+        entry: &Entry,
+        links: u32,
+    ) -> Result<(), Trouble>
+        requires stands { StandsOver self.old (P.SectorView.space space.old) }
+        requires spelled { IsTrue (P.SectorView.space space.old).tells → AreSpelled (lists_of self.old (P.SectorView.space space.old).content).catalog_pairs }
+        requires name { length entry.now.name ≤ 255 }
+        requires there { IsTrue (P.SectorView.space space.old).tells → value_at (lists_of self.old (P.SectorView.space space.old).content).catalog_pairs entry.now.parent entry.now.name ≡ Some entry.now.rec }
+        requires fits { is_thread entry.now.rec ≡ false → FitsRecord entry.now.rec }
+        requires room { HasRoomToUpdate self.old (P.SectorView.space space.old) }
+        ensures stands { OnOk result (StandsOver self.new (P.SectorView.space space.new)) }
+        ensures service { IsInService self.new (P.SectorView.space space.new) }
+        ensures counts { IsTrue (P.SectorView.space space.old).tells → is_file entry.now.rec ≡ true → is_plain entry.now.rec ≡ true → links_in entry.now.rec ≡ links + 1 → 0 < links
+            → OnOk result (CountsDown (id_in entry.now.rec) self.old self.new (P.SectorView.space space.old).content (P.SectorView.space space.new).content) }
+        ensures blocks { KeepsBlocks self.old self.new }
+        ensures touches { (committed : Content) → Touches committed (λ s. Contains (own_sectors self.old) s) (P.SectorView.space space.old) (P.SectorView.space space.new) }
+        ensures spent { IsTrue (P.SectorView.space space.old).tells → (P.SectorView.space space.old).spare ≤ (P.SectorView.space space.new).spare + catalog_node self.old }
+        ensures own { own_sectors self.new ≡ own_sectors self.old }
+        ensures below { P.SectorView.follows space.old space.new }
+        ensures cause { HasTroubleCause (P.SectorView.space space.old).faults (P.SectorView.space space.new).faults result }
+    {
+        let Some(rec) = relinked(self.header.modify_date, links, &entry.rec) else {
+            return Ok(());
+        };
+        self.replace(alloc, space, entry, &rec)
+    }
+
+    /// Lets a file that was found say that it has one link less. `Memory` is answered where that would be none.
+    fn put_link_less<P: SectorSpace>(
+        &mut self,
+        alloc: Global,
+        space: &mut P,
+        entry: &Entry,
+    ) -> Result<(), Trouble>
+        requires stands { StandsOver self.old (P.SectorView.space space.old) }
+        requires spelled { IsTrue (P.SectorView.space space.old).tells → AreSpelled (lists_of self.old (P.SectorView.space space.old).content).catalog_pairs }
+        requires name { length entry.now.name ≤ 255 }
+        requires there { IsTrue (P.SectorView.space space.old).tells → value_at (lists_of self.old (P.SectorView.space space.old).content).catalog_pairs entry.now.parent entry.now.name ≡ Some entry.now.rec }
+        requires fits { is_thread entry.now.rec ≡ false → FitsRecord entry.now.rec }
+        requires room { HasRoomToUpdate self.old (P.SectorView.space space.old) }
+        ensures stands { OnOk result (StandsOver self.new (P.SectorView.space space.new)) }
+        ensures service { IsInService self.new (P.SectorView.space space.new) }
+        ensures counts { IsTrue (P.SectorView.space space.old).tells → is_file entry.now.rec ≡ true → is_plain entry.now.rec ≡ true
+            → OnOk result (CountsDown (id_in entry.now.rec) self.old self.new (P.SectorView.space space.old).content (P.SectorView.space space.new).content) }
+        ensures blocks { KeepsBlocks self.old self.new }
+        ensures touches { (committed : Content) → Touches committed (λ s. Contains (own_sectors self.old) s) (P.SectorView.space space.old) (P.SectorView.space space.new) }
+        ensures spent { IsTrue (P.SectorView.space space.old).tells → (P.SectorView.space space.old).spare ≤ (P.SectorView.space space.new).spare + catalog_node self.old }
+        ensures own { own_sectors self.new ≡ own_sectors self.old }
+        ensures below { P.SectorView.follows space.old space.new }
+        ensures cause { HasTroubleCause (P.SectorView.space space.old).faults (P.SectorView.space space.new).faults result }
+    {
+        let links = links_in(&entry.rec);
+        if links < 2 {
+            return Err(Trouble::Memory);
+        }
+        self.put_links(alloc, space, entry, links - 1)
+    }
+
+    /// Lets the file with a CNID say that it has one link less, at the volume's moment. `Memory` is answered too where that would
+    /// be none.
+    fn count_down<P: SectorSpace>(
+        &mut self,
+        alloc: Global,
+        space: &mut P,
+        id: u32,
+    ) -> Result<(), Trouble>
+        requires stands { StandsOver self.old (P.SectorView.space space.old) }
+        requires threads { IsTrue (P.SectorView.space space.old).tells → AreThreaded (lists_of self.old (P.SectorView.space space.old).content).catalog_pairs }
+        requires there { IsTrue (P.SectorView.space space.old).tells → HasShared id (lists_of self.old (P.SectorView.space space.old).content).catalog_pairs }
+        requires room { HasRoomToUpdate self.old (P.SectorView.space space.old) }
+        ensures stands { OnOk result (StandsOver self.new (P.SectorView.space space.new)) }
+        ensures service { IsInService self.new (P.SectorView.space space.new) }
+        ensures counts { IsTrue (P.SectorView.space space.old).tells → OnOk result (CountsDown id self.old self.new (P.SectorView.space space.old).content (P.SectorView.space space.new).content) }
+        ensures blocks { KeepsBlocks self.old self.new }
+        // On a fault too, it puts sectors of its own alone, whatever was committed last; those of one node at most.
+        ensures touches { (committed : Content) → Touches committed (λ s. Contains (own_sectors self.old) s) (P.SectorView.space space.old) (P.SectorView.space space.new) }
+        ensures spent { IsTrue (P.SectorView.space space.old).tells → (P.SectorView.space space.old).spare ≤ (P.SectorView.space space.new).spare + catalog_node self.old }
+        ensures own { own_sectors self.new ≡ own_sectors self.old }
+        ensures below { P.SectorView.follows space.old space.new }
+        ensures cause { HasTroubleCause (P.SectorView.space space.old).faults (P.SectorView.space space.new).faults result }
+    {
+        match self.entry(alloc, space, id)? {
+            Some(entry) => self.put_link_less(alloc, space, &entry),
+            None => Ok(()),
+        }
+    }
+
+    /// Removes a link to the file with a CNID, which has others: the volume is settled again, and its tree is without the name.
+    /// `Memory` is answered too where it has no other, and where the room that is left doesn't suffice for the next record.
+    pub(crate) fn unlink<P: SectorSpace>(
+        &mut self,
+        alloc: Global,
+        space: &mut P,
+        id: u32,
+        at: &EntryAt,
+    ) -> Result<(), Trouble>
+        requires stands { StandsOver self.old (P.SectorView.space space.old) }
+        requires settled { IsTrue (P.SectorView.space space.old).tells → IsSettled self.old (P.SectorView.space space.old).content }
+        requires some { 1 ≤ length at.now.name }
+        requires name { length at.now.name ≤ 255 }
+        requires link { IsTrue (P.SectorView.space space.old).tells → NamesLink at.now (lists_of self.old (P.SectorView.space space.old).content).catalog_pairs }
+        requires loses { IsTrue (P.SectorView.space space.old).tells → (path : List (List ℕ)) × (entry : PlainEntry) × IsLoss (tree_of (P.SectorView.space space.old).content) path entry at.now × (entry.id ≡ id) }
+        requires room { HasRoomToRemove self.old (P.SectorView.space space.old) }
+        ensures stands { OnOk result (StandsOver self.new (P.SectorView.space space.new)) }
+        ensures service { IsInService self.new (P.SectorView.space space.new) }
+        ensures does { IsTrue (P.SectorView.space space.old).tells → (path : List (List ℕ)) (entry : PlainEntry) → IsLoss (tree_of (P.SectorView.space space.old).content) path entry at.now → entry.id ≡ id
+            → OnOk result (IsSettled self.new (P.SectorView.space space.new).content × (tree_of (P.SectorView.space space.new).content ≡ (step (tree_of (P.SectorView.space space.old).content) (command.Rm path)).1)
+            × Unlinks entry (P.SectorView.space space.old).content (P.SectorView.space space.new).content) }
+        ensures blocks { KeepsBlocks self.old self.new }
+        ensures touches { (committed : Content) → Touches committed (λ s. Contains (own_sectors self.old) s) (P.SectorView.space space.old) (P.SectorView.space space.new) }
+        ensures spent { IsTrue (P.SectorView.space space.old).tells → (P.SectorView.space space.old).spare ≤ (P.SectorView.space space.new).spare + lose_load self.old }
+        ensures below { P.SectorView.follows space.old space.new }
+        ensures cause { HasTroubleCause (P.SectorView.space space.old).faults (P.SectorView.space space.new).faults result }
+    {
+        rm_does_its_step();
+        // The least node size that the format allows the catalog (TN1150, "Catalog File").
+        if self.catalog.file.shape().node_size < 4096 {
+            return Ok(());
+        }
+        self.drop_name(alloc, space, at)?;
+        self.count_down(alloc, space, id)?;
+        if !self.fits_update(space) {
+            return Err(Trouble::Memory);
+        }
+        self.touch(alloc, space, at.parent, 0, 1)
+    }
+}
