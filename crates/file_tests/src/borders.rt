@@ -34,15 +34,24 @@ const LENGTHS: [Border; 9] = [
     (2, 1, 0),
 ];
 
+/// Two writes over one another in a file of a block and 300 bytes.
+fn writes_twice(
+    rt: &impl Abort,
+    alloc: Global,
+    file: &mut File,
+    from: u64,
+    length: u64,
+) -> Result<(), Fail> {
+    clear(rt, alloc, file)?;
+    put(rt, alloc, file, 0, place_at(file.block, (1, 300, 0)), 3)?;
+    put(rt, alloc, file, from, length, 0x55)?;
+    put(rt, alloc, file, from / 2, length / 2, 0x6A)
+}
+
 fn writes_from(rt: &impl Abort, alloc: Global, file: &mut File, from: Border) -> Result<(), Fail> {
-    let block = file.block;
-    let from = place_at(block, from);
+    let from = place_at(file.block, from);
     for length in LENGTHS {
-        let length = place_at(block, length);
-        clear(rt, alloc, file)?;
-        put(rt, alloc, file, 0, place_at(block, (1, 300, 0)), 3)?;
-        put(rt, alloc, file, from, length, 0x55)?;
-        put(rt, alloc, file, from / 2, length / 2, 0x6A)?;
+        writes_twice(rt, alloc, file, from, place_at(file.block, length))?;
     }
     Ok(())
 }
@@ -58,6 +67,11 @@ fn writes_at_every_border(rt: HostRuntime) -> Result<(), Fail> {
     Ok(())
 }
 
+/// A number of bytes, of a mebibyte at most.
+fn length_at(block: u32, length: Border) -> u32 {
+    place_at(block, length).min(1 << 20) as u32
+}
+
 /// Looks whether these bytes are those of a plain array from a place on, so many or fewer where it ends.
 fn is_part(rt: &impl Abort, bytes: &[u8], plain: &[u8], from: u64, count: u64) {
     let left = (plain.len() as u64).saturating_sub(from);
@@ -67,18 +81,28 @@ fn is_part(rt: &impl Abort, bytes: &[u8], plain: &[u8], from: u64, count: u64) {
     }
 }
 
+fn reads_part(
+    rt: &impl Abort,
+    alloc: Global,
+    file: &mut File,
+    from: u64,
+    count: u32,
+) -> Result<(), Fail> {
+    let bytes = read_part(rt, alloc, file, from, count)?;
+    is_part(
+        rt,
+        bytes.as_slice(),
+        file.plain.as_slice(),
+        from,
+        u64::from(count),
+    );
+    Ok(())
+}
+
 fn reads_from(rt: &impl Abort, alloc: Global, file: &mut File, from: Border) -> Result<(), Fail> {
     let from = place_at(file.block, from);
     for length in LENGTHS {
-        let count = place_at(file.block, length).min(1 << 20) as u32;
-        let bytes = read_part(rt, alloc, file, from, count)?;
-        is_part(
-            rt,
-            bytes.as_slice(),
-            file.plain.as_slice(),
-            from,
-            count as u64,
-        );
+        reads_part(rt, alloc, file, from, length_at(file.block, length))?;
     }
     Ok(())
 }
