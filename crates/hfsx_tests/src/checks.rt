@@ -67,6 +67,22 @@ fn folders_are_counted(rt: HostRuntime) -> Result<(), Fail> {
     Ok(())
 }
 
+// Files that lost their names go, with their attributes; the folder in which they waited stays.
+#[test]
+fn files_without_a_name_are_given_back(rt: HostRuntime) -> Result<(), Fail> {
+    let alloc = rt.alloc();
+    let mut rig = fresh_rig(alloc)?;
+    run_on(
+        alloc,
+        "run v.img",
+        &mut rig,
+        b"create /a\ncreate /b\nsetattr /b k =v\nsetattr /b l =w\nmkdir /d\ncreate /d/c\nrm /b\nrm /a\nrm /d/c\nls /\n",
+    )?;
+    let told = "clean files 2 folders 2 blocks 2048 free 1692\n";
+    assert!(rt; finds(alloc, &mut rig, Status::Done, told)?);
+    Ok(())
+}
+
 // A run that is stopped leaves a live list in the journal, which the check looks through.
 #[test]
 fn a_live_journal_is_looked_through(rt: HostRuntime) -> Result<(), Fail> {
