@@ -18,6 +18,8 @@ use Rattle.served_volume.proofs.Calls.{faults_of_call, on_value, quiet, short, v
 use Rattle.served_volume.proofs.Seen.{touches_space}
 use Rattle.served_volume.proofs.Service.{service_on}
 use Rattle.served_volume.proofs.Housekeeping.{tidies}
+use Rattle.served_volume.proofs.Resting.{rests}
+use Rattle.hfs_volume.specs.Content.{volume_of}
 use Rattle.served_volume.proofs.serving.ServedVolumeVolume.tidy_step.Goals as goal
 
 pub tidy-came-requires-clause-stands : goal.tidy-came-requires-clause-stands
@@ -58,7 +60,7 @@ returns-in-Ok-clause-tidied g c tells capacity committed now shrunk stands =
     let settled = on_value (IsSettled w b.content) r o is (c.tidy-came.ensures.settled tells) in
     let tells_then = (c.tidy-came.ensures.touches committed).same.tells ∙ tells in
     let was = value_of (λ (q : Tidying). ReclaimsAs q (capacity_of v) (shrunk_of v) a.content b.content) r o is (c.tidy-came.ensures.reclaims tells) in
-    subst (λ (n : Next). TidiesTo n capacity (λ past here file. Knows w capacity past here file b) committed now shrunk b) (sym c.next_of.ensures)
+    subst (λ (n : Next). TidiesTo n capacity (λ past here file. Knows w capacity past here file b) committed now shrunk b) (sym c.next_of-next.ensures)
     (tidies v w capacity committed now shrunk a b stands.known stands.below stands.reads stands.heads
     (record {
       touches = touches_space committed _ a b tells (c.tidy-came.ensures.touches committed);
@@ -100,3 +102,14 @@ pub invariant_of-self : goal.invariant_of-self
 invariant_of-self g c =
     let sectors = (c.tidy-came.ensures.touches []).same.sectors ∙ c.is_elsewhere.ensures c.if-is_elsewhere.false in
     record { sized = service_on c.tidy-came.new.volume (g.G.SectorView.space c.tidy-came.new.space) (told_none c.args.self.now.sectors) (sym sectors) c.tidy-came.ensures.service }
+
+pub invariant_of-self-in-Err-1 : goal.invariant_of-self-in-Err-1
+invariant_of-self-in-Err-1 g c =
+    let sectors = (c.tidy-came.ensures.touches []).same.sectors ∙ c.is_elsewhere.ensures c.if-is_elsewhere.false in
+    record { sized = service_on c.tidy-came.new.volume (g.G.SectorView.space c.tidy-came.new.space) (told_none c.args.self.now.sectors) (sym sectors) c.tidy-came.ensures.service }
+
+pub returns-then-not-self-clause-touches : goal.returns-then-not-self-clause-touches
+returns-then-not-self-clause-touches g c tells capacity committed now shrunk stands = quiet committed _ _ stands.leaves
+
+pub returns-then-not-self-clause-tidied : goal.returns-then-not-self-clause-tidied
+returns-then-not-self-clause-tidied g c tells capacity committed now shrunk stands = (record { reads = stands.reads; heads = stands.heads; known = stands.known }, rests capacity shrunk (volume_of now))
