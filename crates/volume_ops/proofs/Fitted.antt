@@ -20,6 +20,7 @@ use Rattle.volume_ops.specs.Fitting.{is_met}
 use Rattle.volume_ops.specs.Lists.{facts_on}
 use Rattle.volume_ops.specs.Making.{HasRoomToMake}
 use Rattle.volume_ops.specs.Moving.{HasRoomToMove}
+use Rattle.volume_ops.specs.Unlinking.{HasRoomToUnlinkLast}
 use Rattle.volume_ops.specs.Removing.{HasRoomToRemove}
 use Rattle.volume_ops.specs.Room.{capacity_of, free_in}
 use Rattle.volume_ops.specs.declared.room.FreeBlocks.TheVariants as blocks
@@ -161,6 +162,12 @@ module _ (says : LoadSaysEnough) (of_parts : LoadIsOfParts) (v : Volume) (a : Sp
   remove_fits ok some = record {
     some = some;
     told = λ tells. let it = catalog says of_parts v a (settled tells) (record { ids = 0; catalog = 2; attributes = 0; updates = 1 }) (ok tells) in (omega (arith, it.load), it.shallow, it.none);
+  }
+
+  pub unlink_last_fits : Meets (record { ids = 0; catalog = 5; attributes = 0; updates = 4 }) → 1 ≤ a.spare → HasRoomToUnlinkLast v a
+  unlink_last_fits ok some = record {
+    some = some;
+    told = λ tells. let it = catalog says of_parts v a (settled tells) (record { ids = 0; catalog = 5; attributes = 0; updates = 4 }) (ok tells) in (omega (arith, it.load), it.shallow, it.none);
   }
 
   pub move_fits : Meets (record { ids = 0; catalog = 3; attributes = 0; updates = 3 }) → HasRoomToMove v a

@@ -47,6 +47,9 @@ pub mod HeaderPut
 pub mod Identities
 pub mod Leaving
 pub mod Listed
+pub mod LastFile
+pub mod LastLost
+pub mod LastRoom
 pub mod LinkLost
 pub mod ListsAfter
 pub mod ListsAgain

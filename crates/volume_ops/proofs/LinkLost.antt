@@ -64,23 +64,23 @@ link_no_folder p link = by p.value refl
 module _ (v : Volume) (a : Space) (settled : IsSettled v a.content) (was : IsStanding v a) (path : List (List ℕ)) (at : PlainEntry) (place : EntryAt) (loss : IsLoss (tree_of a.content) path at place)
     (link : NamesLink place (lists_of v a.content).catalog_pairs) (id : ℕ) (same_id : at.id ≡ id) (next_fits : v.header.next_catalog_id < 2 ^ 32)
   where
-    pairs_are : (volume_of a.content).catalog_pairs ≡ (lists_of v a.content).catalog_pairs
+    pub pairs_are : (volume_of a.content).catalog_pairs ≡ (lists_of v a.content).catalog_pairs
     pairs_are = ap (λ (l : VolumeState). l.catalog_pairs) settled.lists
 
-    head_is : (volume_of a.content).head ≡ v.header
+    pub head_is : (volume_of a.content).head ≡ v.header
     head_is = ap (λ (l : VolumeState). l.head) settled.lists
 
-    allowed : to_rm (tree_in (volume_of a.content) (file_bytes a.content)) path ≡ Ok at
+    pub allowed : to_rm (tree_in (volume_of a.content) (file_bytes a.content)) path ≡ Ok at
     unfolding tree_of
     allowed = loss.allowed
 
-    from_folder : IsFolderId (entries_of (records_of (volume_of a.content))) loss.above.id
+    pub from_folder : IsFolderId (entries_of (records_of (volume_of a.content))) loss.above.id
     unfolding tree_of
     from_folder =
         (front_is (records_of (volume_of a.content)) (volume_of a.content).head.next_catalog_id settled.sound.entries.ids settled.sound.entries.rooted (tree_in (volume_of a.content) (file_bytes a.content)) (tree_entries (volume_of a.content) (file_bytes a.content))
         path loss.above loss.not_root loss.not_own loss.reaches loss.above_is.0).0.folder
 
-    not_own : ((place.parent == 2) && is_private_name place.name) ≡ false
+    pub not_own : ((place.parent == 2) && is_private_name place.name) ≡ false
     unfolding tree_of
     not_own =
         (λ i. (sym loss.above_is.1 i == 2) && is_private_name (sym loss.last i))
@@ -93,12 +93,12 @@ module _ (v : Volume) (a : Space) (settled : IsSettled v a.content) (was : IsSta
     reach_seen (name ∷ steps) some is =
         walked (records_of (volume_of a.content)) (volume_of a.content).head.next_catalog_id settled.sound.entries.ids settled.sound.entries.rooted (tree_in (volume_of a.content) (file_bytes a.content)) (tree_entries (volume_of a.content) (file_bytes a.content)) steps name root_entry at is
 
-    seen : IsSeen (records_of (volume_of a.content)) at
+    pub seen : IsSeen (records_of (volume_of a.content)) at
     unfolding tree_of
     seen = reach_seen path loss.not_root loss.reaches_it
 
     -- each folder counts no more than there are CNIDs
-    valence_low : (y : Placed) → Contains (entries_of (records_of (volume_of a.content))) y → is_folder y.value ≡ true → valence_in y.value < 2 ^ 32
+    pub valence_low : (y : Placed) → Contains (entries_of (records_of (volume_of a.content))) y → is_folder y.value ≡ true → valence_in y.value < 2 ^ 32
     valence_low y stands kind =
         omega (
           arith,
@@ -115,25 +115,25 @@ module _ (v : Volume) (a : Space) (settled : IsSettled v a.content) (was : IsSta
       there : Contains (records_of (volume_of a.content)) drops.removes.entry × (is_placed_at place.parent place.name drops.removes.entry ≡ true)
       there = found_some (is_placed_at place.parent place.name) (records_of (volume_of a.content)) drops.removes.entry (ap (λ (l : List Pair). record_at (placed_in l) place.parent place.name) pairs_are ∙ drops.removes.found)
 
-      is_one : is_link drops.removes.entry ≡ true
+      pub is_one : is_link drops.removes.entry ≡ true
       is_one = ap is_link (some_same drops.removes.entry link.entry (sym drops.removes.found ∙ link.found)) ∙ link.is_one
 
-      parent_is : drops.removes.entry.parent ≡ place.parent
+      pub parent_is : drops.removes.entry.parent ≡ place.parent
       parent_is = eqb-true drops.removes.entry.parent place.parent (and_parts (drops.removes.entry.parent == place.parent) (bytes_eq drops.removes.entry.name place.name) there.1).0
 
-      name_is : drops.removes.entry.name ≡ place.name
+      pub name_is : drops.removes.entry.name ≡ place.name
       name_is = (bytes_eq-Decides drops.removes.entry.name place.name).0 (and_parts (drops.removes.entry.parent == place.parent) (bytes_eq drops.removes.entry.name place.name) there.1).1
 
       named : is_empty drops.removes.entry.name ≡ false
       named = ap is_empty name_is ∙ loss.named
 
-      entry_stands : Contains (entries_of (records_of (volume_of a.content))) drops.removes.entry
+      pub entry_stands : Contains (entries_of (records_of (volume_of a.content))) drops.removes.entry
       entry_stands = is_entry_of (records_of (volume_of a.content)) drops.removes.entry there.0 named
 
-      dropped_entry : DropsEntry drops.removes.entry (volume_of a.content).catalog_pairs (lists_of w b).catalog_pairs
+      pub dropped_entry : DropsEntry drops.removes.entry (volume_of a.content).catalog_pairs (lists_of w b).catalog_pairs
       dropped_entry = subst (λ (l : List Pair). DropsEntry drops.removes.entry l (lists_of w b).catalog_pairs) (sym pairs_are) drops.removes.drops
 
-      side : OneMore drops.removes.entry (placed_in (lists_of w b).catalog_pairs) (records_of (volume_of a.content))
+      pub side : OneMore drops.removes.entry (placed_in (lists_of w b).catalog_pairs) (records_of (volume_of a.content))
       side = one_more dropped_entry named
 
       fresh : (p : Placed) → Contains (entries_of (placed_in (lists_of w b).catalog_pairs)) p → (id_of p == id_of drops.removes.entry) ≡ false
@@ -155,16 +155,16 @@ module _ (v : Volume) (a : Space) (settled : IsSettled v a.content) (was : IsSta
 
       -- ---- the file
 
-      good : IsGoodLink (records_of (volume_of a.content)) (overflow_in_volume (volume_of a.content)) drops.removes.entry
+      pub good : IsGoodLink (records_of (volume_of a.content)) (overflow_in_volume (volume_of a.content)) drops.removes.entry
       good = settled.sound.links.good.links drops.removes.entry entry_stands is_one
 
-      shared : IsShared (private_id (records_of (volume_of a.content))) (special_of drops.removes.entry) good.node.0
+      pub shared : IsShared (private_id (records_of (volume_of a.content))) (special_of drops.removes.entry) good.node.0
       shared = shared_is (private_id (records_of (volume_of a.content))) (special_of drops.removes.entry) good.node.0 good.node.2
 
       it : IsSeenName (volume_of a.content) (file_bytes a.content) settled.sound at drops.removes.entry
       it = named_entry (volume_of a.content) (file_bytes a.content) settled.sound at drops.removes.entry (settled_sorted v a.content was.trees settled) seen entry_stands (parent_is ∙ sym loss.is_place.0) (name_is ∙ sym loss.is_place.1)
 
-      file_id : id_of good.node.0 ≡ id
+      pub file_id : id_of good.node.0 ≡ id
       file_id =
           sym (ap id_or_0 (shared_found (records_of (volume_of a.content)) (settled_sorted v a.content was.trees settled) (special_of drops.removes.entry) good.node.0 good.node.1 good.node.2))
           ∙ sym (ap (λ b. if b then id_or_0 (shared_file (records_of (volume_of a.content)) (special_of drops.removes.entry)) else id_of drops.removes.entry) is_one)
@@ -173,7 +173,7 @@ module _ (v : Volume) (a : Space) (settled : IsSettled v a.content) (was : IsSta
       inside : LiesIn (entries_of (records_of (volume_of a.content))) shared.folder good.node.0.parent
       inside = subst (λ n. LiesIn (entries_of (records_of (volume_of a.content))) shared.folder n) (sym shared.parent) is_it
 
-      other : good.node.0 ≡ drops.removes.entry → ⊥
+      pub other : good.node.0 ≡ drops.removes.entry → ⊥
       other same = good.outside (shared.folder, shared.private_is, subst (λ (p : Placed). LiesIn (entries_of (records_of (volume_of a.content))) shared.folder p.parent) same inside)
 
       file_plain : is_link good.node.0 ≡ false
@@ -194,7 +194,7 @@ module _ (v : Volume) (a : Space) (settled : IsSettled v a.content) (was : IsSta
 
       -- ---- the folder
 
-      above_left : Contains (entries_of (placed_in (lists_of w b).catalog_pairs)) from_folder.0
+      pub above_left : Contains (entries_of (placed_in (lists_of w b).catalog_pairs)) from_folder.0
       above_left = ⊎_elim
           (λ same. absurd (true≢false (sym from_folder.2 ∙ ap (λ (p : Placed). is_folder p.value) same ∙ link_no_folder drops.removes.entry is_one)))
           (λ left. left)

@@ -20,13 +20,14 @@ use Rattle.hfs_volume.specs.Links.{private_id}
 use Rattle.hfs_volume.specs.TreeOf.{file_bytes, tree_in, tree_of}
 use Rattle.hfs_volume.specs.Weight.{Edits as Asked, edits, edits_of, folders_made, free_blocks, needs_for, rm_edits, rm_edits_at, room_with, weight, weight_with}
 use Rattle.volume_ops.specs.Lists.{lists_of}
-use Rattle.volume_ops.specs.Losing.{lose_edits, loss_weighed, unlink_edits}
+use Rattle.volume_ops.specs.Losing.{lose_edits, loss_weighed, last_edits, unlink_edits}
 use Rattle.volume_ops.specs.Nodes.{node_in}
 use Rattle.volume_ops.specs.Standing.{HoldsTrees, IsSettled}
 use Rattle.volume_ops.specs.Weighing.{edits_weighed, joined, refused_or, weighed}
 use Rattle.volume_ops.specs.declared.nodes.Node.{Node}
 use Rattle.volume_ops.specs.declared.nodes.Node.TheVariants as node
 use Rattle.volume_ops.specs.declared.volume.Volume.{Volume}
+use Rattle.volume_ops.specs.declared.weighing.Edits.{Edits as Spent}
 use Rattle.volume_ops.specs.declared.weighing.Weight.{Weight}
 use Rattle.volume_ops.specs.declared.weighing.Weight.TheVariants as answer
 use Rattle.volume_ops.proofs.Listed.{entries_are, nodes_are}
@@ -134,6 +135,12 @@ module _ (capacity : ℕ) (takable : List Bool) (volume : VolumeState) (tree : P
       ∙ ap (λ (k : Asked). joined (cost_of (needs_for (free_blocks volume) volume k None) (room_with capacity (free_blocks volume) volume)) (cost_of (needs_for takable volume k None) (room_with capacity takable volume))) asked)
       ∙ ap (λ said. refused_or said (joined (weight capacity volume tree (command.Rm path)) (weight_with capacity takable volume tree (command.Rm path)))) (lost_line tree path e not_own is).0
 
+  pub last_allowed : (e : PlainEntry) → to_rm tree path ≡ Ok e → edits_of tree (command.Rm path) ≡ edits 0 5 0 4 → edits_weighed capacity takable volume last_edits ≡ words
+  last_allowed e is asked =
+      sym ((λ i. joined (weights i) (takable_weights i))
+      ∙ ap (λ (k : Asked). joined (cost_of (needs_for (free_blocks volume) volume k None) (room_with capacity (free_blocks volume) volume)) (cost_of (needs_for takable volume k None) (room_with capacity takable volume))) asked)
+      ∙ ap (λ said. refused_or said (joined (weight capacity volume tree (command.Rm path)) (weight_with capacity takable volume tree (command.Rm path)))) (lost_line tree path e not_own is).0
+
 module _ (capacity : ℕ) (takable : List Bool) (volume : VolumeState) (tree : PlainTree) (path : List (List ℕ)) where
   pub private_weighed : is_private_path path ≡ true → answer.Refused refusal.Private ≡ weighed capacity takable volume tree (command.Rm path)
   private_weighed own = ap (λ said. refused_or said (joined (weight capacity volume tree (command.Rm path)) (weight_with capacity takable volume tree (command.Rm path)))) (private_line tree path own).0
@@ -161,8 +168,8 @@ module _ (law : SoundHasPlainTree) (v : Volume) (content : Content) (holds : Hol
     abbrev loss_here : Weight
     loss_here = edits_weighed v.capacity takable (volume_of content) (lose_edits v.private)
 
-    abbrev unlink_here : Weight
-    unlink_here = edits_weighed v.capacity takable (volume_of content) unlink_edits
+    abbrev unlink_here : Spent → Weight
+    unlink_here = edits_weighed v.capacity takable (volume_of content)
 
     -- why nothing is removed
     pub rm_missing : (why : Refusal) → said ≡ Err why → to_rm (tree_of content) path ≡ Err why
@@ -198,9 +205,14 @@ module _ (law : SoundHasPlainTree) (v : Volume) (content : Content) (holds : Hol
         waits = λ never. absurd (true≢false never);
       }
 
-      of_link : n.folder ≡ false → (links : ℕ) → names_of (tree_of content) n.id ≡ links → (b : Bool) → nat_lt 1 links ≡ b → IsWeighed (if b then Some unlink_here else None)
-      of_link kind links many false is = of_waiting kind
-      of_link kind links many true is = record {
+      of_link : n.folder ≡ false → n.linked ≡ true → (links : ℕ) → names_of (tree_of content) n.id ≡ links → (b : Bool) → nat_lt 1 links ≡ b → IsWeighed (Some (unlink_here (if b then unlink_edits else last_edits)))
+      of_link kind linked links many false is = record {
+        answer_is =
+            last_allowed v.capacity takable (volume_of content) (tree_of content) path not_own at.entry (at.removal ∙ ap (λ (b : Bool). if b then Err refusal.IsFolder else Ok at.entry) kind)
+            (edits_here kind ∙ (λ i. if (ap (nat_lt 1) many ∙ is) i then edits 0 2 0 4 else if linked i then edits 0 5 0 4 else edits (folders_made (tree_of content)) (3 + 2 * folders_made (tree_of content)) 0 4));
+        waits = λ never. absurd (true≢false never);
+      }
+      of_link kind linked links many true is = record {
         answer_is =
             unlink_allowed v.capacity takable (volume_of content) (tree_of content) path not_own at.entry (at.removal ∙ ap (λ (b : Bool). if b then Err refusal.IsFolder else Ok at.entry) kind)
             (edits_here kind ∙ ap (λ (b : Bool). if b then edits 0 2 0 4 else if n.linked then edits 0 5 0 4 else edits (folders_made (tree_of content)) (3 + 2 * folders_made (tree_of content)) 0 4) (ap (nat_lt 1) many ∙ is));
@@ -218,7 +230,7 @@ module _ (law : SoundHasPlainTree) (v : Volume) (content : Content) (holds : Hol
     by_node (node.File own true) n is it =
         let at = there (tree_of content) path some plain n is in
         let kind : n.folder ≡ false = ap (λ (m : PlainNode). m.folder) it.is in
-        of_link n at kind own.fields.special (ap (λ (m : PlainNode). names_of (tree_of content) m.id) it.is ∙ it.counts) (nat_lt 1 own.fields.special) refl
+        of_link n at kind (ap (λ (m : PlainNode). m.linked) it.is) own.fields.special (ap (λ (m : PlainNode). names_of (tree_of content) m.id) it.is ∙ it.counts) (nat_lt 1 own.fields.special) refl
     by_node (node.File own false) n is it =
         of_file n (there (tree_of content) path some plain n is) (ap (λ (m : PlainNode). m.folder) it.is) (ap (λ (m : PlainNode). m.linked) it.is) (ap (λ (m : PlainNode). names_of (tree_of content) m.id) it.is ∙ it.counts)
 

@@ -26,7 +26,7 @@ use Rattle.volume_ops.specs.PrivateFolder.{OpensPrivate}
 use Rattle.volume_ops.specs.Reaching.{folder_in, named}
 use Rattle.volume_ops.specs.Removing.{HasRoomToRemove}
 use Rattle.volume_ops.specs.Standing.{HoldsTrees}
-use Rattle.volume_ops.specs.Unlinking.{Unlinks}
+use Rattle.volume_ops.specs.Unlinking.{LosesLink}
 use Rattle.volume_ops.specs.declared.losing.Losing.{Losing}
 use Rattle.volume_ops.specs.declared.nodes.Node.{Node}
 use Rattle.volume_ops.specs.declared.nodes.Node.TheVariants as node
@@ -86,10 +86,18 @@ lose_edits (Some private) = record { ids = 0; catalog = 3; attributes = 0; updat
 abbrev pub unlink_edits : Edits
 unlink_edits = record { ids = 0; catalog = 2; attributes = 0; updates = 4 }
 
--- what is told of the weight of `rm`: a folder is refused, and of the last link of a file nothing is told
-abbrev pub loss_weighed : Node → Weight → Weight → Option Weight
+-- the edits by which a file loses its last link
+abbrev pub last_edits : Edits
+last_edits = record { ids = 0; catalog = 5; attributes = 0; updates = 4 }
+
+-- the edits by which a file loses one of so many links
+abbrev pub link_edits : ℕ → Edits
+link_edits links = if nat_lt 1 links then unlink_edits else last_edits
+
+-- what is told of the weight of `rm`: a folder is refused
+abbrev pub loss_weighed : Node → Weight → (Edits → Weight) → Option Weight
 loss_weighed (node.Folder folder) weighs unlinks = Some (answer.Refused refusal.IsFolder)
-loss_weighed (node.File file linked) weighs unlinks = if linked then (if nat_lt 1 file.fields.special then Some unlinks else None) else Some weighs
+loss_weighed (node.File file linked) weighs unlinks = if linked then Some (unlinks (link_edits file.fields.special)) else Some weighs
 
 -- ---- the room
 
@@ -136,7 +144,7 @@ pub record Loses (entry : PlainEntry) (before after : Content) : Type 0 where
 
 -- A file lost its only name, or one of its links, in the lists of the content.
 abbrev pub LosesName : PlainEntry → Content → Content → Type 0
-LosesName entry before after = Loses entry before after ⊎ Unlinks entry before after
+LosesName entry before after = Loses entry before after ⊎ LosesLink entry before after
 
 -- What a path stands for lost its name, in the lists of the content.
 pub record HasLost (path : List (List ℕ)) (before after : Content) : Type 0 where

@@ -1,20 +1,24 @@
 -- `rm` of a link, where its file has others: what is removed, and what the file says behind it.
-use Rattle.std.specs.Prelude.{◌≡◌, ◌<◌, ℕ, ◌+◌, Bool, true, false, not, List, Option, None, Some}
+use Rattle.std.specs.Prelude.{◌≡◌, ◌⊎◌, ◌<◌, ◌≤◌, ℕ, IsTrue, ◌+◌, Bool, true, false, not, List, Option, None, Some}
 use Rattle.std.specs.List.{Contains}
 use Rattle.sector_disk.specs.Lists.{Content}
+use Rattle.sector_disk.specs.Space.{Space}
 use Rattle.jnl_format.specs.Recovery.{header_of_volume}
 use Rattle.btree_node.specs.Levels.{Pair}
 use Rattle.cat_records.specs.declared.record.CatRecord.{CatRecord}
 use Rattle.cat_records.specs.declared.record.CatRecord.TheVariants.{Folder, File, Thread}
 use Rattle.cat_records.specs.declared.record.EntryFields.{EntryFields}
 use Rattle.catalog.specs.Entries.{RemovesEntry}
+use Rattle.hard_links.specs.declared.place.EntryAt.{EntryAt}
 use Rattle.hfs_model.specs.declared.plain.PlainEntry.{PlainEntry}
 use Rattle.hfs_volume.specs.Commands.{ChangesFields, IsMarkedLinked}
 use Rattle.hfs_volume.specs.Content.{volume_of}
-use Rattle.hfs_volume.specs.Naming.{RemovesLink}
-use Rattle.hfs_volume.specs.Records.{Placed, entries_of, id_of, is_file, is_link, is_link_type, placed_in}
+use Rattle.hfs_volume.specs.Cost.{catalog_key, growth, is_too_deep, tree_load}
+use Rattle.hfs_volume.specs.Naming.{RemovesLastLink, RemovesLink}
+use Rattle.hfs_volume.specs.Records.{Placed, entries_of, id_of, is_file, is_link, is_link_type, placed_in, record_at}
 use Rattle.volume_ops.specs.Changing.{ChangesCatalog}
 use Rattle.volume_ops.specs.Lists.{lists_of}
+use Rattle.volume_ops.specs.Making.{catalog_cost}
 use Rattle.volume_ops.specs.Orphans.{with_file_removed}
 use Rattle.volume_ops.specs.declared.volume.Volume.{Volume}
 
@@ -73,3 +77,26 @@ pub record CountsDown (id : ℕ) (old new : Volume) (before after : Content) : T
 -- A file lost one of its links, in the lists of the content, and has others.
 pub record Unlinks (entry : PlainEntry) (before after : Content) : Type 0 where
   pub removes : RemovesLink entry (volume_of before) (volume_of after)
+
+-- ---- the last link
+
+-- There is room to put the header; where the space tells, there is room for the five edits behind it by which a file loses its last link, and
+-- the catalog needn't grow before.
+pub record HasRoomToUnlinkLast (volume : Volume) (space : Space) : Type 0 where
+  pub some : 1 ≤ space.spare
+  pub told : IsTrue space.tells → (1 + tree_load catalog_key (catalog_cost volume) 5 0 ≤ space.spare) × (is_too_deep catalog_key (catalog_cost volume) 5 ≡ false) × (growth volume.header.block_size catalog_key (catalog_cost volume) 5 ≡ 0)
+
+-- The record at a place is the file's with this CNID, which says that it has one link at most.
+pub record IsLastOf (id : ℕ) (file : EntryAt) (pairs : List Pair) : Type 0 where
+  pub entry : Placed
+  pub found : record_at (placed_in pairs) file.parent file.name ≡ Some entry
+  pub number : id_of entry ≡ id
+  pub last : links_in entry.value ≤ 1
+
+-- A file lost its last link, in the lists of the content: it waits in the private folder to be removed.
+pub record UnlinksLast (entry : PlainEntry) (before after : Content) : Type 0 where
+  pub removes : RemovesLastLink entry (volume_of before) (volume_of after)
+
+-- A file lost one of its links.
+abbrev pub LosesLink : PlainEntry → Content → Content → Type 0
+LosesLink entry before after = Unlinks entry before after ⊎ UnlinksLast entry before after

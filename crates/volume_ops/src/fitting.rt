@@ -13,6 +13,7 @@ ghost use Rattle.volume_ops.specs.Removing.{HasRoomToRemove};
 ghost use Rattle.volume_ops.specs.Room.{capacity_of, free_in};
 ghost use Rattle.volume_ops.specs.declared.room.FreeBlocks.TheVariants as blocks;
 ghost use Rattle.volume_ops.specs.Standing.{IsSettled, StandsOver};
+ghost use Rattle.volume_ops.specs.Unlinking.{HasRoomToUnlinkLast};
 ghost use Rattle.volume_ops.specs.Weighing.{needs_asked};
 
 use crate::room::FreeBlocks;
@@ -137,6 +138,26 @@ impl Volume {
             catalog: 3,
             attributes: 0,
             updates: 3,
+        };
+        self.can_edit(space, edits)
+    }
+
+    /// Whether there is room for the edits by which a file loses its last link.
+    pub(crate) fn fits_unlink_last<P: SectorSpace>(&self, space: &P) -> bool
+        requires stands { StandsOver self.now (P.SectorView.space space.now) }
+        requires settled { IsTrue (P.SectorView.space space.now).tells → IsSettled self.now (P.SectorView.space space.now).content }
+        ensures { IsTrue result → HasRoomToUnlinkLast self.now (P.SectorView.space space.now) }
+    {
+        a_load_says_enough();
+        a_load_is_of_parts();
+        if !has_sector(space.spare()) {
+            return false;
+        }
+        let edits = Edits {
+            ids: 0,
+            catalog: 5,
+            attributes: 0,
+            updates: 4,
         };
         self.can_edit(space, edits)
     }

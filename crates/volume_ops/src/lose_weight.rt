@@ -8,7 +8,7 @@ ghost use Rattle.hfs_volume.specs.Content.{volume_of};
 ghost use Rattle.hfs_volume.specs.TreeOf.{tree_of};
 ghost use Rattle.volume_ops.specs.Lists.{lists_of};
 ghost use Rattle.volume_ops.specs.Looking.{ReadsVolume};
-ghost use Rattle.volume_ops.specs.Losing.{lose_edits, loss_weighed, unlink_edits};
+ghost use Rattle.volume_ops.specs.Losing.{lose_edits, loss_weighed, link_edits};
 ghost use Rattle.volume_ops.specs.Nodes.{node_in};
 ghost use Rattle.volume_ops.specs.Room.{capacity_of, free_in};
 ghost use Rattle.volume_ops.specs.declared.room.FreeBlocks.TheVariants as blocks;
@@ -24,6 +24,27 @@ use hfs_volume::sound_has_plain_tree;
 use hx_bytes::Trouble;
 use sector_disk::SectorSpace;
 use std::alloc::Global;
+
+/// The edits by which a file loses one of so many links.
+fn link_edits(links: u32) -> Edits
+    ensures same { result ≡ link_edits links }
+    ensures none { result.attributes ≡ 0 }
+{
+    if links > 1 {
+        return Edits {
+            ids: 0,
+            catalog: 2,
+            attributes: 0,
+            updates: 4,
+        };
+    }
+    Edits {
+        ids: 0,
+        catalog: 5,
+        attributes: 0,
+        updates: 4,
+    }
+}
 
 impl Volume {
     /// The folder or file that a path stands for, or the first reason against it.
@@ -74,37 +95,19 @@ impl Volume {
         }
     }
 
-    /// What the edits weigh by which a file with so many links loses one; nothing is told of the last one.
-    fn weigh_link<P: SectorSpace>(&self, space: &P, links: u32) -> Option<Weight>
-        requires stands { StandsOver self.now (P.SectorView.space space.now) }
-        requires settled { IsTrue (P.SectorView.space space.now).tells → IsSettled self.now (P.SectorView.space space.now).content }
-        ensures exact { IsTrue (P.SectorView.space space.now).tells
-            → result ≡ (if nat_lt 1 links then Some (edits_weighed (capacity_of self.now) (free_in blocks.Takable self.now.map) (volume_of (P.SectorView.space space.now).content) unlink_edits) else None) }
-    {
-        if links > 1 {
-            let edits = Edits {
-                ids: 0,
-                catalog: 2,
-                attributes: 0,
-                updates: 4,
-            };
-            return Some(self.weigh_edits(space, edits));
-        }
-        None
-    }
-
-    /// What the edits weigh by which a file loses a name; nothing is told of its last link.
+    /// What the edits weigh by which a file loses a name.
     fn weigh_loss<P: SectorSpace>(&self, space: &P, node: &Node) -> Option<Weight>
         requires stands { StandsOver self.now (P.SectorView.space space.now) }
         requires settled { IsTrue (P.SectorView.space space.now).tells → IsSettled self.now (P.SectorView.space space.now).content }
         ensures exact { IsTrue (P.SectorView.space space.now).tells
-            → result ≡ loss_weighed node.now (edits_weighed (capacity_of self.now) (free_in blocks.Takable self.now.map) (volume_of (P.SectorView.space space.now).content) (lose_edits self.now.private)) (edits_weighed (capacity_of self.now) (free_in blocks.Takable self.now.map) (volume_of (P.SectorView.space space.now).content) unlink_edits) }
+            → result ≡ loss_weighed node.now (edits_weighed (capacity_of self.now) (free_in blocks.Takable self.now.map) (volume_of (P.SectorView.space space.now).content) (lose_edits self.now.private)) (edits_weighed (capacity_of self.now) (free_in blocks.Takable self.now.map) (volume_of (P.SectorView.space space.now).content)) }
     {
         match node {
             Node::Folder(_folder) => Some(Weight::Refused(Refusal::IsFolder)),
             Node::File(file, linked) => {
                 if *linked {
-                    return self.weigh_link(space, file.fields.special);
+                    let edits = link_edits(file.fields.special);
+                    return Some(self.weigh_edits(space, edits));
                 }
                 let edits = self.lose_edits();
                 Some(self.weigh_edits(space, edits))
@@ -112,7 +115,7 @@ impl Volume {
         }
     }
 
-    /// What `rm` needs; nothing is told where it is still to come: where the name is the last link of its file.
+    /// What `rm` needs.
     pub(crate) fn weigh_rm<P: SectorSpace>(
         &mut self,
         alloc: Global,

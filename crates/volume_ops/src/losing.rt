@@ -16,14 +16,14 @@ ghost use Rattle.hfs_volume.specs.TreeOf.{tree_of};
 ghost use Rattle.volume_ops.specs.Changing.{KeepsBlocks, catalog_node};
 ghost use Rattle.volume_ops.specs.Lists.{lists_of};
 ghost use Rattle.volume_ops.specs.Looking.{IsCatalogOver, ReadsTree, ReadsVolume};
-ghost use Rattle.volume_ops.specs.Losing.{Buries, HasLost, HasRoomToLose, Hides, IsLoss, IsOnlyName, Loses, LosesName, lose_load, losing_under, place_of, to_lose};
+ghost use Rattle.volume_ops.specs.Losing.{Buries, HasLost, HasRoomToLose, Hides, IsLoss, IsOnlyName, Loses, LosesName, losing_under, place_of, to_lose};
 ghost use Rattle.volume_ops.specs.Making.{HasRoomToMake, path_to};
 ghost use Rattle.volume_ops.specs.Moving.{HasRoomToMove, leave_load};
 ghost use Rattle.volume_ops.specs.Removing.{HasRoomToRemove};
 ghost use Rattle.volume_ops.specs.Service.{IsInService};
 ghost use Rattle.volume_ops.specs.Standing.{IsSettled, StandsOver, own_sectors};
 ghost use Rattle.volume_ops.specs.Touching.{Touches};
-ghost use Rattle.volume_ops.specs.Unlinking.{Unlinks};
+ghost use Rattle.volume_ops.specs.Unlinking.{LosesLink};
 
 use crate::looking::lookup_record;
 use crate::names::{copy_name, is_private_path};
@@ -260,7 +260,7 @@ impl Volume {
         }
     }
 
-    /// Removes a link at a path. `Memory` is answered too where its file has no other.
+    /// Removes a link at a path.
     fn lose_link<P: SectorSpace>(
         &mut self,
         alloc: Global,
@@ -282,10 +282,9 @@ impl Volume {
         ensures service { IsInService self.new (P.SectorView.space space.new) }
         ensures does { IsTrue (P.SectorView.space space.old).tells → (entry : PlainEntry) → IsLoss (tree_of (P.SectorView.space space.old).content) path.now entry (place_of at name.now)
             → OnOk result (IsSettled self.new (P.SectorView.space space.new).content × (tree_of (P.SectorView.space space.new).content ≡ (step (tree_of (P.SectorView.space space.old).content) (command.Rm path.now)).1)
-            × Unlinks entry (P.SectorView.space space.old).content (P.SectorView.space space.new).content) }
+            × LosesLink entry (P.SectorView.space space.old).content (P.SectorView.space space.new).content) }
         ensures blocks { KeepsBlocks self.old self.new }
         ensures touches { (committed : Content) → Touches committed (λ s. Contains (own_sectors self.old) s) (P.SectorView.space space.old) (P.SectorView.space space.new) }
-        ensures spent { IsTrue (P.SectorView.space space.old).tells → (P.SectorView.space space.old).spare ≤ (P.SectorView.space space.new).spare + lose_load self.old }
         ensures below { P.SectorView.follows space.old space.new }
         ensures cause { HasTroubleCause (P.SectorView.space space.old).faults (P.SectorView.space space.new).faults result }
     {
@@ -293,13 +292,13 @@ impl Volume {
         match self.owner(alloc, space, path)? {
             Ok(id) => {
                 let place = place_of(alloc, at, name)?;
-                self.unlink(alloc, space, id, &place)
+                self.lose_one(alloc, space, id, &place)
             }
             Err(_why) => Err(Trouble::Memory),
         }
     }
 
-    /// Removes a name of a file at a path. `Memory` is answered too where it is its last link.
+    /// Removes a name of a file at a path.
     fn lose<P: SectorSpace>(
         &mut self,
         alloc: Global,
@@ -325,7 +324,6 @@ impl Volume {
             × LosesName entry (P.SectorView.space space.old).content (P.SectorView.space space.new).content) }
         ensures blocks { KeepsBlocks self.old self.new }
         ensures touches { (committed : Content) → Touches committed (λ s. Contains (own_sectors self.old) s) (P.SectorView.space space.old) (P.SectorView.space space.new) }
-        ensures spent { IsTrue (P.SectorView.space space.old).tells → is_some self.old.private ≡ true → (P.SectorView.space space.old).spare ≤ (P.SectorView.space space.new).spare + lose_load self.old }
         ensures below { P.SectorView.follows space.old space.new }
         ensures cause { HasTroubleCause (P.SectorView.space space.old).faults (P.SectorView.space space.new).faults result }
     {
@@ -368,7 +366,6 @@ impl Volume {
         ensures service { IsInService self.new (P.SectorView.space space.new) }
         ensures blocks { KeepsBlocks self.old self.new }
         ensures touches { (committed : Content) → Touches committed (λ s. Contains (own_sectors self.old) s) (P.SectorView.space space.old) (P.SectorView.space space.new) }
-        ensures spent { IsTrue (P.SectorView.space space.old).tells → is_some self.old.private ≡ true → (P.SectorView.space space.old).spare ≤ (P.SectorView.space space.new).spare + lose_load self.old }
         ensures below { P.SectorView.follows space.old space.new }
         ensures cause { HasTroubleCause (P.SectorView.space space.old).faults (P.SectorView.space space.new).faults result }
     {
@@ -382,11 +379,11 @@ impl Volume {
         }
     }
 
-    /// `rm`: removes a name of the file at a path: with its only name the file waits in the private folder to be removed, which is
-    /// made where there is none, and with a link it says that it has one less; or tells the first reason against it. A path that begins with a name of the volume's own is refused. A refused
-    /// command changes nothing. `Memory` comes where memory is wanting, where the name is the last link of its file, which is
-    /// still to come, and where
-    /// what is left of the room behind an edit doesn't suffice for the next one; `Disk` where a read failed.
+    /// `rm`: removes a name of the file at a path. With its only name or its last link the file waits in the private folder to be
+    /// removed, which is made where there is none; with a link among others it says that it has one less. Or tells the first reason
+    /// against it. A path that begins with a name of the volume's own is refused. A refused command changes nothing. `Memory` comes
+    /// where memory is wanting, and where what is left of the room behind an edit doesn't suffice for the next one; `Disk` where a
+    /// read failed.
     pub fn rm<P: SectorSpace>(
         &mut self,
         alloc: Global,
@@ -411,8 +408,6 @@ impl Volume {
         ensures blocks { KeepsBlocks self.old self.new }
         // On a fault too, it puts sectors of its own alone, whatever was committed last.
         ensures touches { (committed : Content) → Touches committed (λ s. Contains (own_sectors self.old) s) (P.SectorView.space space.old) (P.SectorView.space space.new) }
-        // Where there is a private folder, it puts so many sectors at most.
-        ensures spent { IsTrue (P.SectorView.space space.old).tells → is_some self.old.private ≡ true → (P.SectorView.space space.old).spare ≤ (P.SectorView.space space.new).spare + lose_load self.old }
         ensures below { P.SectorView.follows space.old space.new }
         ensures cause { HasTroubleCause (P.SectorView.space space.old).faults (P.SectorView.space space.new).faults result }
     {

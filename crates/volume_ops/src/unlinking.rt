@@ -3,7 +3,9 @@ ghost use Rattle.std.specs.Prelude.{◌≡◌, ◌≤◌, ◌<◌, ◌+◌, ℕ,
 ghost use Rattle.std.specs.List.{Contains};
 ghost use Rattle.sector_disk.specs.Lists.{Content};
 ghost use Rattle.btree_edit.specs.Causes.{HasTroubleCause};
+ghost use Rattle.btree_edit.specs.Edits.{EditRoom};
 ghost use Rattle.btree_file.specs.Standing.{numbers_of};
+ghost use Rattle.btree_file.specs.State.{state_of};
 ghost use Rattle.catalog.specs.Entries.{IsOfKind};
 ghost use Rattle.catalog.specs.Pairs.{value_at};
 ghost use Rattle.cat_records.specs.Fits.{FitsEntry, FitsRecord};
@@ -15,6 +17,7 @@ ghost use Rattle.hfs_volume.specs.Entries.{AreSpelled, AreThreaded};
 ghost use Rattle.hfs_volume.specs.Records.{id_in, is_file, is_thread};
 ghost use Rattle.hfs_volume.specs.TreeOf.{tree_of};
 ghost use Rattle.volume_ops.specs.Changing.{HasRoomToUpdate, KeepsBlocks, catalog_node};
+ghost use Rattle.volume_ops.specs.Entering.{entry_by_id};
 ghost use Rattle.volume_ops.specs.Lists.{lists_of};
 ghost use Rattle.volume_ops.specs.Losing.{IsLoss, lose_load};
 ghost use Rattle.volume_ops.specs.Making.{entry_load};
@@ -22,9 +25,10 @@ ghost use Rattle.volume_ops.specs.Removing.{HasRoomToRemove};
 ghost use Rattle.volume_ops.specs.Service.{IsInService};
 ghost use Rattle.volume_ops.specs.Standing.{IsSettled, StandsOver, own_sectors};
 ghost use Rattle.volume_ops.specs.Touching.{Touches};
-ghost use Rattle.volume_ops.specs.Unlinking.{CountsDown, DropsName, HasShared, Unlinks, is_plain, links_in, relinked, with_links};
+ghost use Rattle.volume_ops.specs.Unlinking.{CountsDown, DropsName, HasRoomToUnlinkLast, HasShared, IsLastOf, LosesLink, Unlinks, UnlinksLast, is_plain, links_in, relinked, with_links};
 
 use crate::entries::Entry;
+use crate::names::copy_name;
 use crate::volume::Volume;
 use cat_records::{CatRecord, EntryFields, FileRecord};
 use hard_links::EntryAt;
@@ -94,6 +98,9 @@ impl Volume {
         ensures blocks { KeepsBlocks self.old self.new }
         ensures drops { IsTrue (P.SectorView.space space.old).tells → OnOk result (DropsName at.now.parent at.now.name self.old self.new (P.SectorView.space space.old).content (P.SectorView.space space.new).content) }
         ensures room { OnOk result (HasRoomToUpdate self.new (P.SectorView.space space.new)) }
+        ensures size { OnOk result ((numbers_of self.new.catalog.file).node_size ≡ (numbers_of self.old.catalog.file).node_size) }
+        // What is left of the room for five edits suffices for three.
+        ensures more { HasRoomToUnlinkLast self.old (P.SectorView.space space.old) → OnOk result ((names : List ℕ) → IsTrue (P.SectorView.space space.new).tells → EditRoom 3 516 (state_of names self.new.catalog.file (P.SectorView.space space.new))) }
         ensures own { own_sectors self.new ≡ own_sectors self.old }
         ensures touches { (committed : Content) → Touches committed (λ s. Contains (own_sectors self.old) s) (P.SectorView.space space.old) (P.SectorView.space space.new) }
         ensures spent { IsTrue (P.SectorView.space space.old).tells → (P.SectorView.space space.old).spare ≤ (P.SectorView.space space.new).spare + (1 + entry_load self.old) }
@@ -200,7 +207,7 @@ impl Volume {
 
     /// Removes a link to the file with a CNID, which has others: the volume is settled again, and its tree is without the name.
     /// `Memory` is answered too where it has no other, and where the room that is left doesn't suffice for the next record.
-    pub(crate) fn unlink<P: SectorSpace>(
+    fn unlink<P: SectorSpace>(
         &mut self,
         alloc: Global,
         space: &mut P,
@@ -236,5 +243,131 @@ impl Volume {
             return Err(Trouble::Memory);
         }
         self.touch(alloc, space, at.parent, 0, 1)
+    }
+
+    /// Removes the last link to a file, whose record stands at a place in the private folder: it waits there to be removed. `Memory`
+    /// is answered too where the room that there is doesn't suffice.
+    fn unlink_last<P: SectorSpace>(
+        &mut self,
+        alloc: Global,
+        space: &mut P,
+        private: u32,
+        at: &EntryAt,
+        file: &EntryAt,
+        id: u32,
+    ) -> Result<(), Trouble>
+        requires stands { StandsOver self.old (P.SectorView.space space.old) }
+        requires settled { IsTrue (P.SectorView.space space.old).tells → IsSettled self.old (P.SectorView.space space.old).content }
+        requires some { 1 ≤ length at.now.name }
+        requires name { length at.now.name ≤ 255 }
+        requires some_file { 1 ≤ length file.now.name }
+        requires file_name { length file.now.name ≤ 255 }
+        requires private { self.old.private ≡ Some private }
+        requires link { IsTrue (P.SectorView.space space.old).tells → NamesLink at.now (lists_of self.old (P.SectorView.space space.old).content).catalog_pairs }
+        requires last { IsTrue (P.SectorView.space space.old).tells → IsLastOf id file.now (lists_of self.old (P.SectorView.space space.old).content).catalog_pairs }
+        requires loses { IsTrue (P.SectorView.space space.old).tells → (path : List (List ℕ)) × (entry : PlainEntry) × IsLoss (tree_of (P.SectorView.space space.old).content) path entry at.now × (entry.id ≡ id) }
+        requires room { HasRoomToRemove self.old (P.SectorView.space space.old) }
+        ensures stands { OnOk result (StandsOver self.new (P.SectorView.space space.new)) }
+        ensures service { IsInService self.new (P.SectorView.space space.new) }
+        ensures does { IsTrue (P.SectorView.space space.old).tells → (path : List (List ℕ)) (entry : PlainEntry) → IsLoss (tree_of (P.SectorView.space space.old).content) path entry at.now → entry.id ≡ id
+            → OnOk result (IsSettled self.new (P.SectorView.space space.new).content × (tree_of (P.SectorView.space space.new).content ≡ (step (tree_of (P.SectorView.space space.old).content) (command.Rm path)).1)
+            × UnlinksLast entry (P.SectorView.space space.old).content (P.SectorView.space space.new).content) }
+        ensures blocks { KeepsBlocks self.old self.new }
+        ensures touches { (committed : Content) → Touches committed (λ s. Contains (own_sectors self.old) s) (P.SectorView.space space.old) (P.SectorView.space space.new) }
+        ensures below { P.SectorView.follows space.old space.new }
+        ensures cause { HasTroubleCause (P.SectorView.space space.old).faults (P.SectorView.space space.new).faults result }
+    {
+        rm_does_its_step();
+        // The least node size that the format allows the catalog (TN1150, "Catalog File").
+        if self.catalog.file.shape().node_size < 4096 {
+            return Ok(());
+        }
+        if !self.fits_unlink_last(space) {
+            return Err(Trouble::Memory);
+        }
+        self.drop_name(alloc, space, at)?;
+        self.orphan(alloc, space, private, file)?;
+        if !self.fits_update(space) {
+            return Err(Trouble::Memory);
+        }
+        self.touch(alloc, space, at.parent, 0, 1)
+    }
+
+    /// Removes a link to a file that was found by its CNID.
+    fn lose_one_of<P: SectorSpace>(
+        &mut self,
+        alloc: Global,
+        space: &mut P,
+        id: u32,
+        at: &EntryAt,
+        file: &Entry,
+    ) -> Result<(), Trouble>
+        requires stands { StandsOver self.old (P.SectorView.space space.old) }
+        requires settled { IsTrue (P.SectorView.space space.old).tells → IsSettled self.old (P.SectorView.space space.old).content }
+        requires some { 1 ≤ length at.now.name }
+        requires name { length at.now.name ≤ 255 }
+        requires link { IsTrue (P.SectorView.space space.old).tells → NamesLink at.now (lists_of self.old (P.SectorView.space space.old).content).catalog_pairs }
+        requires loses { IsTrue (P.SectorView.space space.old).tells → (path : List (List ℕ)) × (entry : PlainEntry) × IsLoss (tree_of (P.SectorView.space space.old).content) path entry at.now × (entry.id ≡ id) }
+        requires found { IsTrue (P.SectorView.space space.old).tells → Some file.now ≡ entry_by_id (lists_of self.old (P.SectorView.space space.old).content).catalog_pairs id }
+        requires file_name { length file.now.name ≤ 255 }
+        requires room { HasRoomToRemove self.old (P.SectorView.space space.old) }
+        ensures stands { OnOk result (StandsOver self.new (P.SectorView.space space.new)) }
+        ensures service { IsInService self.new (P.SectorView.space space.new) }
+        ensures does { IsTrue (P.SectorView.space space.old).tells → (path : List (List ℕ)) (entry : PlainEntry) → IsLoss (tree_of (P.SectorView.space space.old).content) path entry at.now → entry.id ≡ id
+            → OnOk result (IsSettled self.new (P.SectorView.space space.new).content × (tree_of (P.SectorView.space space.new).content ≡ (step (tree_of (P.SectorView.space space.old).content) (command.Rm path)).1)
+            × LosesLink entry (P.SectorView.space space.old).content (P.SectorView.space space.new).content) }
+        ensures blocks { KeepsBlocks self.old self.new }
+        ensures touches { (committed : Content) → Touches committed (λ s. Contains (own_sectors self.old) s) (P.SectorView.space space.old) (P.SectorView.space space.new) }
+        ensures below { P.SectorView.follows space.old space.new }
+        ensures cause { HasTroubleCause (P.SectorView.space space.old).faults (P.SectorView.space space.new).faults result }
+    {
+        if links_in(&file.rec) > 1 {
+            return self.unlink(alloc, space, id, at);
+        }
+        if file.name.is_empty() {
+            return Err(Trouble::Memory);
+        }
+        match self.private {
+            Some(private) => {
+                let place = EntryAt {
+                    parent: file.parent,
+                    name: copy_name(alloc, &file.name)?,
+                };
+                self.unlink_last(alloc, space, private, at, &place, id)
+            }
+            None => Err(Trouble::Memory),
+        }
+    }
+
+    /// Removes a link to the file with a CNID: the file says that it has one less, and behind its last one it waits in the private
+    /// folder to be removed. `Memory` is answered too where the room that there is doesn't suffice.
+    pub(crate) fn lose_one<P: SectorSpace>(
+        &mut self,
+        alloc: Global,
+        space: &mut P,
+        id: u32,
+        at: &EntryAt,
+    ) -> Result<(), Trouble>
+        requires stands { StandsOver self.old (P.SectorView.space space.old) }
+        requires settled { IsTrue (P.SectorView.space space.old).tells → IsSettled self.old (P.SectorView.space space.old).content }
+        requires some { 1 ≤ length at.now.name }
+        requires name { length at.now.name ≤ 255 }
+        requires link { IsTrue (P.SectorView.space space.old).tells → NamesLink at.now (lists_of self.old (P.SectorView.space space.old).content).catalog_pairs }
+        requires loses { IsTrue (P.SectorView.space space.old).tells → (path : List (List ℕ)) × (entry : PlainEntry) × IsLoss (tree_of (P.SectorView.space space.old).content) path entry at.now × (entry.id ≡ id) }
+        requires room { HasRoomToRemove self.old (P.SectorView.space space.old) }
+        ensures stands { OnOk result (StandsOver self.new (P.SectorView.space space.new)) }
+        ensures service { IsInService self.new (P.SectorView.space space.new) }
+        ensures does { IsTrue (P.SectorView.space space.old).tells → (path : List (List ℕ)) (entry : PlainEntry) → IsLoss (tree_of (P.SectorView.space space.old).content) path entry at.now → entry.id ≡ id
+            → OnOk result (IsSettled self.new (P.SectorView.space space.new).content × (tree_of (P.SectorView.space space.new).content ≡ (step (tree_of (P.SectorView.space space.old).content) (command.Rm path)).1)
+            × LosesLink entry (P.SectorView.space space.old).content (P.SectorView.space space.new).content) }
+        ensures blocks { KeepsBlocks self.old self.new }
+        ensures touches { (committed : Content) → Touches committed (λ s. Contains (own_sectors self.old) s) (P.SectorView.space space.old) (P.SectorView.space space.new) }
+        ensures below { P.SectorView.follows space.old space.new }
+        ensures cause { HasTroubleCause (P.SectorView.space space.old).faults (P.SectorView.space space.new).faults result }
+    {
+        match self.entry(alloc, space, id)? {
+            Some(file) => self.lose_one_of(alloc, space, id, at, &file),
+            None => Err(Trouble::Memory),
+        }
     }
 }

@@ -265,9 +265,8 @@ impl Volume {
 
     /// What a command needs before its step: that it is refused, by its step or for want of a resource; that a commit comes
     /// first; or how many sectors it puts at most, and by how much the trees grow before. It changes nothing. Of a command that
-    /// only reads nothing is told, nor of one that is still to come, where its step doesn't refuse it: of `ln`, of `rm` of the
-    /// last link of a file, and of `write` and `trunc` that put data. `Memory` comes where memory is wanting, `Disk` where a
-    /// read failed.
+    /// only reads nothing is told, nor of one that is still to come, where its step doesn't refuse it: of `ln`, and of `write`
+    /// and `trunc` that put data. `Memory` comes where memory is wanting, `Disk` where a read failed.
     pub fn weigh<P: SectorSpace>(
         &mut self,
         alloc: Global,

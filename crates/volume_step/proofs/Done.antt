@@ -41,7 +41,7 @@ use Rattle.volume_step.specs.declared.judging.Verdict.TheVariants as verdict
 use Rattle.volume_step.specs.declared.outcome.Outcome.{Outcome}
 use Rattle.volume_step.specs.declared.outcome.Outcome.TheVariants as outcome
 use Rattle.volume_step.proofs.Kept.{Keeps, attributes_keep, delete_keeps, keeps_both, keeps_none, mode_keeps, moment_keeps, set_keeps}
-use Rattle.volume_step.proofs.KeptEntries.{link_keeps, lost_keeps, made_keeps, moved_keeps, opened_keeps, removed_keeps}
+use Rattle.volume_step.proofs.KeptEntries.{last_keeps, link_keeps, lost_keeps, made_keeps, moved_keeps, opened_keeps, removed_keeps}
 use Rattle.volume_step.proofs.Served.{changes_told, done_as, journal_kept, line_is, quiet, refused, steps, tells, waits}
 
 -- ---- a volume whose bits are as they were
@@ -372,7 +372,8 @@ module _ (capacity number : ℕ) (path : List (List ℕ)) (before after : Conten
     keeps_name : (entry : PlainEntry) → LosesName entry before after → Keeps (volume_of before) (volume_of after)
     keeps_name entry (inl loses) =
         keeps_both (volume_of before) loses.opened (volume_of after) (opened_keeps (volume_of before) loses.opened loses.opens) (lost_keeps entry loses.opened (volume_of after) loses.sound loses.there loses.removes)
-    keeps_name entry (inr unlinks) = link_keeps entry (volume_of before) (volume_of after) sound_before.volume unlinks.removes
+    keeps_name entry (inr (inl unlinks)) = link_keeps entry (volume_of before) (volume_of after) sound_before.volume unlinks.removes
+    keeps_name entry (inr (inr last)) = last_keeps entry (volume_of before) (volume_of after) sound_before.volume last.removes
 
     keeps_lost : Keeps (volume_of before) (volume_of after)
     keeps_lost = let it = lists fine_lost in keeps_name it.entry it.loses

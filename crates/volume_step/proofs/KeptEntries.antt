@@ -11,14 +11,14 @@ use Rattle.cat_records.specs.declared.record.CatRecord.TheVariants.{Folder, File
 use Rattle.hfs_model.specs.Step.{Place, private_name}
 use Rattle.hfs_model.specs.declared.plain.PlainEntry.{PlainEntry}
 use Rattle.hfs_volume.specs.Blocks.{HasSizes, forks_of}
-use Rattle.hfs_volume.specs.Changes.{ChangesValue, InCatalog, MovesEntry}
+use Rattle.hfs_volume.specs.Changes.{ChangesValue, DropsEntry, InCatalog, MovesEntry}
 use Rattle.hfs_volume.specs.Commands.{ChangesFields, DropsAttributes, IsMarkedAlone, IsMarkedLinked, IsNewValue, IsRecounted, IsRecountedAlone, IsTouched, MakesEntry, RemovesFolder, entry_in, with_counts, with_fields, with_folder_removed, with_made, without_attributes}
 use Rattle.hfs_volume.specs.Content.{VolumeState, overflow_in_volume, records_of}
 use Rattle.hfs_volume.specs.Entries.{IsUserId}
 use Rattle.hfs_volume.specs.Forks.{Owned, all_forks, blocks_owned, data_kind, file_forks, forks_in, resource_kind, special_forks}
 use Rattle.hfs_volume.specs.Laws.{one_if}
 use Rattle.hfs_volume.specs.Links.{private_id}
-use Rattle.hfs_volume.specs.Naming.{MovesName, RemovesFile, RemovesLink, one_file_less, orphan_name, private_ids}
+use Rattle.hfs_volume.specs.Naming.{MovesName, IsNameOf, RemovesFile, RemovesLastLink, RemovesLink, one_file_less, orphan_name, private_ids}
 use Rattle.hfs_volume.specs.Reclaim.{blocks_at, blocks_found}
 use Rattle.hfs_volume.specs.Records.{Overflow, Placed, entries_of, id_in, id_of, is_empty, is_folder, is_link, placed_in}
 use Rattle.hfs_volume.specs.Sound.{IsSoundVolume}
@@ -28,7 +28,7 @@ use Rattle.hfs_volume.proofs.Members.{each_of, first_or_later, in_one, kept_case
 use Rattle.hfs_volume.proofs.Seeing.{same_number}
 use Rattle.hfs_volume.proofs.Flat.{Pieces, flat_none, flat_pieces}
 use Rattle.hfs_volume.proofs.Hiding.{one_there}
-use Rattle.hfs_volume.proofs.Sides.{OneMore, count_more, entries_more, entry_cases, one_more}
+use Rattle.hfs_volume.proofs.Sides.{OneMore, count_more, entries_more, entry_cases, one_more, still_entry}
 use Rattle.hfs_volume.proofs.Swapping.{Splits}
 use Rattle.volume_ops.specs.PrivateFolder.{OpensPrivate, with_one_folder}
 use Rattle.volume_step.proofs.Forks.{forks_swapped, found_more, found_moved}
@@ -377,45 +377,109 @@ flat_empty f (y ∷ ys) x none stands =
       | inr later ↦ flat_empty f ys x (no_items (flat_map f ys) (omega (arith, parts))) later
     ]
 
-module _ (at : PlainEntry) (old new : VolumeState) (sound : IsSoundVolume old) (does : RemovesLink at old new) where
-  link_side : OneMore does.entry (records_of does.dropped) (records_of old)
-  link_side = one_more does.drops.changes (named_entry (records_of old) does.entry does.is_entry.stands)
+module _ (at : PlainEntry) (old dropped : VolumeState) (sound : IsSoundVolume old) (entry : Placed) (is_entry : IsNameOf at entry old) (is_one : is_link entry ≡ true) (drops : InCatalog (DropsEntry entry) (one_file_less old) dropped) where
+  link_side : OneMore entry (records_of dropped) (records_of old)
+  link_side = one_more drops.changes (named_entry (records_of old) entry is_entry.stands)
 
-  link_alone : (p : Placed) → Contains (entries_of (records_of does.dropped)) p → (id_of p == id_of does.entry) ≡ false
-  link_alone p stands = by (id_of p == id_of does.entry) refl
+  link_alone : (p : Placed) → Contains (entries_of (records_of dropped)) p → (id_of p == id_of entry) ≡ false
+  link_alone p stands = by (id_of p == id_of entry) refl
     where
-      by : (t : Bool) → (id_of p == id_of does.entry) ≡ t → t ≡ false
+      by : (t : Bool) → (id_of p == id_of entry) ≡ t → t ≡ false
       by false is = refl
       by true is = absurd (omega (
         arith,
-        sound.entries.ids.distinct (id_of does.entry),
-        count_more link_side (λ (q : Placed). id_of q == id_of does.entry),
-        ap one_if (same_number (id_of does.entry)),
-        one_there (λ (q : Placed). id_of q == id_of does.entry) (entries_of (records_of does.dropped)) p stands is,
+        sound.entries.ids.distinct (id_of entry),
+        count_more link_side (λ (q : Placed). id_of q == id_of entry),
+        ap one_if (same_number (id_of entry)),
+        one_there (λ (q : Placed). id_of q == id_of entry) (entries_of (records_of dropped)) p stands is,
       ))
 
-  link_high : 16 ≤ id_of does.entry
-  link_high = elim (each_of (λ (q : Placed). IsUserId old.head.next_catalog_id (id_of q)) (entries_of (records_of old)) sound.entries.ids.each does.entry does.is_entry.stands) [
+  link_high : 16 ≤ id_of entry
+  link_high = elim (each_of (λ (q : Placed). IsUserId old.head.next_catalog_id (id_of q)) (entries_of (records_of old)) sound.entries.ids.each entry is_entry.stands) [
     | inl two ↦
         let root = sound.entries.rooted.root in
         elim (entry_cases link_side root.0 root.1) [
-          | inl same ↦ absurd (true≢false (sym root.2.folder ∙ ap (λ (p : Placed). is_folder p.value) same ∙ link_kind does.entry does.is_one))
-          | inr there ↦ absurd (not_same (id_of root.0) (id_of does.entry) (link_alone root.0 there) (root.2.id ∙ sym two))
+          | inl same ↦ absurd (true≢false (sym root.2.folder ∙ ap (λ (p : Placed). is_folder p.value) same ∙ link_kind entry is_one))
+          | inr there ↦ absurd (not_same (id_of root.0) (id_of entry) (link_alone root.0 there) (root.2.id ∙ sym two))
         ]
     | inr user ↦ user.0
   ]
 
-  link_empty : (owned : Owned) → Contains (forks_in does.entry.value) owned → blocks_owned (overflow_in_volume old) owned ≡ []
-  link_empty owned stands = flat_empty (blocks_owned (overflow_in_volume old)) (forks_in does.entry.value) owned (sound.links.good.links does.entry does.is_entry.stands does.is_one).empty stands
+  link_empty : (owned : Owned) → Contains (forks_in entry.value) owned → blocks_owned (overflow_in_volume old) owned ≡ []
+  link_empty owned stands = flat_empty (blocks_owned (overflow_in_volume old)) (forks_in entry.value) owned (sound.links.good.links entry is_entry.stands is_one).empty stands
 
-  link_blocks : (id kind : ℕ) → blocks_at does.dropped id kind ≡ blocks_at (one_file_less old) id kind
+  link_blocks : (id kind : ℕ) → blocks_at dropped id kind ≡ blocks_at (one_file_less old) id kind
   link_blocks id kind =
-      ap (λ (v : VolumeState). blocks_at v id kind) does.drops.rest
+      ap (λ (v : VolumeState). blocks_at v id kind) drops.rest
       ∙ sym (found_more link_side link_high link_alone (one_file_less old).head (overflow_in_volume old) link_empty id kind)
 
-  pub link_keeps : Keeps old new
-  link_keeps =
-      keeps_both old (one_file_less old) new (counted_head old.head.next_catalog_id (old.head.file_count - 1) old.head.folder_count old)
-      (keeps_both (one_file_less old) does.dropped new (catalog_keeps (one_file_less old) does.dropped does.drops.rest does.drops.nodes link_blocks)
-      (keeps_both does.dropped does.marked new (fields_keep at.id (IsMarkedLinked old.head.modify_date does.links) does.dropped does.marked does.marks)
-      (fields_keep at.parent (IsTouched old.head.modify_date 0 1) does.marked new does.loses)))
+  dropped_link : Keeps old dropped
+  dropped_link =
+      keeps_both old (one_file_less old) dropped (counted_head old.head.next_catalog_id (old.head.file_count - 1) old.head.folder_count old)
+      (catalog_keeps (one_file_less old) dropped drops.rest drops.nodes link_blocks)
+
+pub link_keeps : (at : PlainEntry) (old new : VolumeState) → IsSoundVolume old → RemovesLink at old new → Keeps old new
+link_keeps at old new sound does =
+    keeps_both old does.dropped new (dropped_link at old does.dropped sound does.entry does.is_entry does.is_one does.drops)
+    (keeps_both does.dropped does.marked new (fields_keep at.id (IsMarkedLinked old.head.modify_date does.links) does.dropped does.marked does.marks)
+    (fields_keep at.parent (IsTouched old.head.modify_date 0 1) does.marked new does.loses))
+
+-- ---- a last link
+
+module _ (at : PlainEntry) (old new : VolumeState) (sound : IsSoundVolume old) (does : RemovesLastLink at old new) where
+  first_side : OneMore does.entry (records_of does.dropped) (records_of old)
+  first_side = link_side at old does.dropped sound does.entry does.is_entry does.is_one does.drops
+
+  last_out : OneMore does.file (placed_in does.moves.changes.between) (records_of does.dropped)
+  last_out = one_more does.moves.changes.out (named_entry (records_of does.dropped) does.file does.is_file.0)
+
+  last_back : OneMore (record does.file { parent = does.file.parent; name = orphan_name does.number }) (placed_in does.moves.changes.between) (records_of does.moved)
+  last_back = one_more does.moves.changes.back (orphan_named does.number)
+
+  last_alone : (p : Placed) → Contains (entries_of (placed_in does.moves.changes.between)) p → (id_of p == id_of does.file) ≡ false
+  last_alone p stands = by (id_of p == id_of does.file) refl
+    where
+      by : (t : Bool) → (id_of p == id_of does.file) ≡ t → t ≡ false
+      by false is = refl
+      by true is = absurd (omega (
+        arith,
+        sound.entries.ids.distinct (id_of does.file),
+        count_more first_side (λ (q : Placed). id_of q == id_of does.file),
+        count_more last_out (λ (q : Placed). id_of q == id_of does.file),
+        ap one_if (same_number (id_of does.file)),
+        one_there (λ (q : Placed). id_of q == id_of does.file) (entries_of (placed_in does.moves.changes.between)) p stands is,
+      ))
+
+  -- a file isn't the root
+  last_high : is_folder does.file.value ≡ false → 16 ≤ id_of does.file
+  last_high isnt = elim (each_of (λ (q : Placed). IsUserId old.head.next_catalog_id (id_of q)) (entries_of (records_of old)) sound.entries.ids.each does.file (still_entry first_side does.file does.is_file.0)) [
+    | inl two ↦
+        let root = sound.entries.rooted.root in
+        elim (entry_cases first_side root.0 root.1) [
+          | inl same ↦ absurd (true≢false (sym root.2.folder ∙ ap (λ (p : Placed). is_folder p.value) same ∙ link_kind does.entry does.is_one))
+          | inr left ↦ elim (entry_cases last_out root.0 left) [
+            | inl same ↦ absurd (true≢false (sym root.2.folder ∙ ap (λ (p : Placed). is_folder p.value) same ∙ isnt))
+            | inr there ↦ absurd (not_same (id_of root.0) (id_of does.file) (last_alone root.0 there) (root.2.id ∙ sym two))
+          ]
+        ]
+    | inr user ↦ user.0
+  ]
+
+  last_blocks : (id kind : ℕ) → blocks_at does.moved id kind ≡ blocks_at does.dropped id kind
+  unfolding all_forks
+  last_blocks id kind = by does.file.value refl
+    where
+      empty : forks_in does.file.value ≡ [] → blocks_at does.moved id kind ≡ blocks_at does.dropped id kind
+      empty none = forks_are does.dropped does.moved does.moves.rest (none_more last_back none ∙ sym (none_more last_out none)) id kind
+
+      by : (value : CatRecord) → does.file.value ≡ value → blocks_at does.moved id kind ≡ blocks_at does.dropped id kind
+      by (Folder f) is = empty (ap forks_in is)
+      by (Thread t) is = empty (ap forks_in is)
+      by (File f) is =
+          ap (λ (v : VolumeState). blocks_at v id kind) does.moves.rest
+          ∙ ap (blocks_found (overflow_in_volume does.dropped)) (found_moved last_out last_back (last_high (ap is_folder is)) last_alone does.dropped.head id kind)
+
+  pub last_keeps : Keeps old new
+  last_keeps =
+      keeps_both old does.dropped new (dropped_link at old does.dropped sound does.entry does.is_entry does.is_one does.drops)
+      (keeps_both does.dropped does.moved new (catalog_keeps does.dropped does.moved does.moves.rest does.moves.nodes last_blocks) (fields_keep at.parent (IsTouched old.head.modify_date 0 1) does.moved new does.loses))

@@ -1,6 +1,7 @@
 use Rattle.std.proofs.Common.{[], ℕ, List, sym, ◌∙◌, ap, subst, arith}
 use Rattle.std.specs.List.{Contains}
 use Rattle.btree_edit.specs.Edits.{EditRoom, TakesAtMost, TakesEdits}
+use Rattle.btree_edit.proofs.EditLaws.{room_then}
 use Rattle.btree_file.specs.Standing.{numbers_of}
 use Rattle.btree_file.specs.State.{state_of}
 use Rattle.volume_ops.specs.Lists.{lists_of}
@@ -11,6 +12,8 @@ use Rattle.volume_ops.proofs.Added.{own_added, own_drawn}
 use Rattle.volume_ops.proofs.Commanding.{touches_both}
 use Rattle.volume_ops.proofs.RoomToRemove.{room_behind_removal, room_to_remove, spent_removal}
 use Rattle.volume_ops.proofs.TakenOff.{threads_drawn}
+use Rattle.volume_ops.proofs.DroppedOne.{same_then}
+use Rattle.volume_ops.proofs.LastRoom.{room_to_unlink}
 use Rattle.volume_ops.proofs.Unlinked.{drops_name, link_there}
 use Rattle.volume_ops.proofs.Touched.{touches_header}
 use Rattle.volume_ops.proofs.Besides.{blocks_both, blocks_edit, blocks_header}
@@ -86,3 +89,13 @@ returns-clause-blocks g c = blocks_both c.args.self.now c.count_file_off.new.sel
 
 pub returns-in_err-remove-clause-blocks : goal.returns-in_err-remove-clause-blocks
 returns-in_err-remove-clause-blocks g c = blocks_both c.args.self.now c.count_file_off.new.self c.remove.new.self (blocks_header c.args.self.now c.count_file_off.new.self c.count_file_off.ensures.rest) (blocks_edit c.count_file_off.new.self c.remove.new.self c.remove.ensures.rest)
+
+pub returns-clause-more : goal.returns-clause-more
+returns-clause-more g c room names =
+    room_then 2 3 516 (state_of names c.count_file_off.new.self.catalog.file (g.P.SectorView.space c.count_file_off.new.space)) (state_of names c.remove.new.self.catalog.file (g.P.SectorView.space c.remove.new.space))
+    (same_then c.count_file_off.new.self.catalog.file c.remove.new.self.catalog.file (g.P.SectorView.space c.count_file_off.new.space) (g.P.SectorView.space c.remove.new.space) c.remove.ensures.frame names) (c.in_ok-remove.ensures.edits names)
+    (λ tells. subst (λ (t : Tree). EditRoom 5 516 (state_of names t.file (g.P.SectorView.space c.count_file_off.new.space))) (sym (ap (λ (x : Volume). x.catalog) c.count_file_off.ensures.rest))
+    (room_to_unlink c.edits_have_room.ensures c.args.self.now (g.P.SectorView.space c.args.space.now) (g.P.SectorView.space c.count_file_off.new.space) room c.requires.size c.count_file_off.ensures.within.same.tells c.count_file_off.ensures.spent names tells))
+
+pub returns-clause-size : goal.returns-clause-size
+returns-clause-size g c = c.remove.ensures.frame.file.node_size ∙ ap (λ (x : Volume). (numbers_of x.catalog.file).node_size) c.count_file_off.ensures.rest

@@ -8,7 +8,7 @@ use Rattle.hfs_volume.specs.TreeOf.{tree_of}
 use Rattle.volume_ops.specs.Lists.{lists_of}
 use Rattle.volume_ops.specs.Losing.{Buries, IsLoss, IsOnlyName, Loses, LosesName}
 use Rattle.volume_ops.specs.Standing.{IsSettled}
-use Rattle.volume_ops.specs.Unlinking.{Unlinks}
+use Rattle.volume_ops.specs.Unlinking.{LosesLink}
 use Rattle.volume_ops.proofs.Buried.{loses_there}
 use Rattle.volume_ops.proofs.FoundEntry.{ok_so}
 use Rattle.volume_ops.proofs.volume.Volume.lose.Goals as goal
@@ -66,9 +66,6 @@ returns-in_ok-place-in-None-clause-does g c tells entry loss =
     (c.bury_first.ensures.does tells c.args.path.now entry (subst (λ (p : EntryAt). IsLoss (tree_of (g.P.SectorView.space c.args.space.now).content) c.args.path.now entry p) (sym c.in_ok-place-in-None.ensures) loss))
     (λ lost. (lost.0, lost.1, inl lost.2))
 
-pub returns-in_ok-place-in-None-clause-spent : goal.returns-in_ok-place-in-None-clause-spent
-returns-in_ok-place-in-None-clause-spent g c tells here = absurd (true≢false (sym here ∙ ap (λ (o : Option ℕ). is_some o) c.in-None.is))
-
 pub lose_link-requires-clause-link : goal.lose_link-requires-clause-link
 lose_link-requires-clause-link g c tells = c.requires.link tells c.if-at.true
 
@@ -82,13 +79,7 @@ pub returns-then-at-clause-does : goal.returns-then-at-clause-does
 returns-then-at-clause-does g c tells entry loss =
     ok_so
     (IsSettled c.lose_link.new.self (g.P.SectorView.space c.lose_link.new.space).content × (tree_of (g.P.SectorView.space c.lose_link.new.space).content ≡ (step (tree_of (g.P.SectorView.space c.args.space.now).content) (command.Rm c.args.path.now)).1)
-    × Unlinks entry (g.P.SectorView.space c.args.space.now).content (g.P.SectorView.space c.lose_link.new.space).content)
+    × LosesLink entry (g.P.SectorView.space c.args.space.now).content (g.P.SectorView.space c.lose_link.new.space).content)
     (IsSettled c.lose_link.new.self (g.P.SectorView.space c.lose_link.new.space).content × (tree_of (g.P.SectorView.space c.lose_link.new.space).content ≡ (step (tree_of (g.P.SectorView.space c.args.space.now).content) (command.Rm c.args.path.now)).1)
     × LosesName entry (g.P.SectorView.space c.args.space.now).content (g.P.SectorView.space c.lose_link.new.space).content)
     c.lose_link.result (c.lose_link.ensures.does tells entry loss) (λ lost. (lost.0, lost.1, inr lost.2))
-
-pub returns-then-at-clause-spent : goal.returns-then-at-clause-spent
-returns-then-at-clause-spent g c tells here = c.lose_link.ensures.spent tells
-
-pub returns-in_ok-place-in-Some-clause-spent : goal.returns-in_ok-place-in-Some-clause-spent
-returns-in_ok-place-in-Some-clause-spent g c tells here = omega (arith, c.bury.ensures.spent tells)

@@ -146,18 +146,6 @@ returns-in_ok-lose-in-Ok-clause-lists g c tells is =
       loses = subst (λ (k : Content). LosesName (lost c.sound_has_plain_tree.ensures c.args.self.now (g.P.SectorView.space c.args.space.now).content (c.requires.stands.stands tells).trees (c.requires.settled tells) c.args.above.now c.args.name.now c.requires.not_own c.requires.fits c.in_ok-at.field-0 (c.in_ok-at.ensures.found tells) c.in-Ok.at c.in-Ok.is) k (g.P.SectorView.space c.lose.new.space).content) (c.losing.ensures.reads.looks.content tells) does.2;
     }
 
-pub returns-in_ok-lose-in-Ok-clause-spent : goal.returns-in_ok-lose-in-Ok-clause-spent
-returns-in_ok-lose-in-Ok-clause-spent g c tells here = omega (arith, c.losing.ensures.reads.looks.spare, c.lose.ensures.spent (c.losing.ensures.reads.looks.same.tells ∙ tells) (ap (λ (o : Option ℕ). is_some o) c.losing.ensures.reads.keeps.private ∙ here), lose_load_still c.args.self.now c.losing.new.self (g.P.SectorView.space c.args.space.now) (g.P.SectorView.space c.losing.new.space) c.losing.ensures.reads tells)
-
-pub returns-in_err-lose-in-Ok-clause-spent : goal.returns-in_err-lose-in-Ok-clause-spent
-returns-in_err-lose-in-Ok-clause-spent g c tells here = omega (arith, c.losing.ensures.reads.looks.spare, c.lose.ensures.spent (c.losing.ensures.reads.looks.same.tells ∙ tells) (ap (λ (o : Option ℕ). is_some o) c.losing.ensures.reads.keeps.private ∙ here), lose_load_still c.args.self.now c.losing.new.self (g.P.SectorView.space c.args.space.now) (g.P.SectorView.space c.losing.new.space) c.losing.ensures.reads tells)
-
-pub returns-in-Err-clause-spent : goal.returns-in-Err-clause-spent
-returns-in-Err-clause-spent g c tells here = omega (arith, c.losing.ensures.reads.looks.spare)
-
-pub returns-in_err-at-clause-spent : goal.returns-in_err-at-clause-spent
-returns-in_err-at-clause-spent g c tells here = omega (arith, c.losing.ensures.reads.looks.spare)
-
 pub lose-requires-clause-fits : goal.lose-requires-clause-fits
 lose-requires-clause-fits g c = subst FitsPath (sym c.requires.split) c.requires.fits
 
