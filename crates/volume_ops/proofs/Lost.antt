@@ -293,7 +293,6 @@ id_told tree path at n reaches is = by (node_at tree at.id) refl (sym (ap (λ (r
 -- reads leave the room
 pub lose_room_still : (v w : Volume) (a b : Space) → ReadsVolume v w a b → HasRoomToLose v a → HasRoomToLose w b
 lose_room_still v w a b reads was = record {
-  puts = move_room_still v w a b reads was.puts;
   drops = remove_room_still v w a b reads was.drops;
   makes = λ absent. make_room_still v w a b reads (was.makes (sym reads.keeps.private ∙ absent));
 }

@@ -106,9 +106,8 @@ loss_weighed (node.File file linked) weighs unlinks = if linked then Some (unlin
 abbrev pub lose_load : Volume → ℕ
 lose_load volume = leave_load volume + catalog_node volume + (1 + entry_load volume)
 
--- There is room to put a file aside, and where there is no private folder, room to make it before; and room to remove a link.
+-- There is room to remove a link, and where there is no private folder, room to make it.
 pub record HasRoomToLose (volume : Volume) (space : Space) : Type 0 where
-  pub puts : HasRoomToMove volume space
   pub drops : HasRoomToRemove volume space
   pub makes : volume.private ≡ None → HasRoomToMake volume space
 

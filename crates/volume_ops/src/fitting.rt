@@ -181,9 +181,6 @@ impl Volume {
         requires settled { IsTrue (P.SectorView.space space.now).tells → IsSettled self.now (P.SectorView.space space.now).content }
         ensures { IsTrue result → HasRoomToLose self.now (P.SectorView.space space.now) }
     {
-        if !self.fits_move(space) {
-            return false;
-        }
         if !self.fits_remove(space) {
             return false;
         }

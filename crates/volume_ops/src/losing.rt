@@ -332,6 +332,9 @@ impl Volume {
         }
         match self.private {
             Some(private) => {
+                if !self.fits_move(space) {
+                    return Err(Trouble::Memory);
+                }
                 let place = place_of(alloc, at, name)?;
                 self.bury(alloc, space, private, &place)
             }
