@@ -10,8 +10,7 @@ use crate::outcome::Outcome;
 use hfs_language::{Command, Reply};
 use hx_bytes::Trouble;
 
-/// Whether the catalog may grow ahead of a command. Such a command edits its tree, puts no data, and needs no attributes file. Of `rm` that growth is
-/// still to come: for a file with other names it asks for more room than its load, and behind a growth none may be missing.
+/// Whether a command edits the catalog's tree: no other wants more nodes of it. Such a command puts no data, and needs no attributes file.
 pub(crate) fn edits_catalog(command: &Command) -> bool
     ensures data { result ≡ true → (tree : PlainTree) → data_of tree command.now ≡ None }
     ensures tree { result ≡ true → (volume : VolumeState) → lacks_tree volume command.now ≡ false }
@@ -19,6 +18,7 @@ pub(crate) fn edits_catalog(command: &Command) -> bool
     match command {
         Command::Mkdir(_path) => true,
         Command::Create(_path) => true,
+        Command::Rm(_path) => true,
         Command::Rmdir(_path) => true,
         Command::Mv(_from, _to) => true,
         Command::Ln(_from, _to) => true,
