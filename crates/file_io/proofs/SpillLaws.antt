@@ -42,7 +42,7 @@ agrees_either these a b at value is here = ⊎_elim (λ s. agrees_set these a b 
 pub spills_none : (these : ℕ → Type 0) (space : Space) → SpillsIn these space space
 spills_none these space = record {
   content = agrees_none these space.content;
-  durable = agrees_none these space.durable;
+  durable = agrees_none (λ s. these s × space.spilled s) space.durable;
   spilled = λ s p. inl p;
   still = λ s p. p;
   live = λ s. iff_none (space.live s);
@@ -52,7 +52,8 @@ spills_none these space = record {
 spills_both : (these : ℕ → Type 0) (a b c : Space) → SpillsIn these a b → SpillsIn these b c → SpillsIn these a c
 spills_both these a b c p q = record {
   content = agrees_both these a.content b.content c.content p.content q.content;
-  durable = agrees_both these a.durable b.durable c.durable p.durable q.durable;
+  durable = agrees_both (λ s. these s × c.spilled s) a.durable b.durable c.durable
+      (record { size = p.durable.size; each = λ s. ⊎_elim (λ same. inl same) (λ is. inr (is.0, q.still s is.1)) (p.durable.each s) }) q.durable;
   spilled = λ s n. ⊎_elim (λ m. p.spilled s m) (λ t. inr t) (q.spilled s n);
   still = λ s o. q.still s (p.still s o);
   live = λ s. iff_both (a.live s) (b.live s) (c.live s) (p.live s) (q.live s);
@@ -62,7 +63,7 @@ spills_both these a b c p q = record {
 spills_read : (these : ℕ → Type 0) (a b : Space) → SameSectors a b → SpillsIn these a b
 spills_read these a b s = record {
   content = agrees_same these a.content b.content s.content;
-  durable = agrees_same these a.durable b.durable s.durable;
+  durable = agrees_same (λ k. these k × b.spilled k) a.durable b.durable s.durable;
   spilled = λ k n. inl ((s.spilled k).0 n);
   still = λ k o. (s.spilled k).1 o;
   live = s.live;
@@ -72,7 +73,7 @@ spills_read these a b s = record {
 spills_one : (these : ℕ → Type 0) (a b : Space) (at : ℕ) (value : List ℕ) → these at → Spills a at value b → SpillsIn these a b
 spills_one these a b at value here s = record {
   content = agrees_set these a.content b.content at value s.content here;
-  durable = agrees_set these a.durable b.durable at value s.durable here;
+  durable = agrees_set (λ k. these k × b.spilled k) a.durable b.durable at value s.durable (here, (s.spilled at).1 (inr refl));
   spilled = λ k n. ⊎_elim (λ o. inl o) (λ same. inr (subst (λ j. these j) (sym same) here)) ((s.spilled k).0 n);
   still = λ k o. (s.spilled k).1 (inl o);
   live = s.live;
@@ -82,7 +83,10 @@ spills_one these a b at value here s = record {
 spills_maybe : (these : ℕ → Type 0) (a b : Space) (at : ℕ) (value : List ℕ) → these at → MayHaveSpilled a at value b → SpillsIn these a b
 spills_maybe these a b at value here s = record {
   content = agrees_either these a.content b.content at value s.content here;
-  durable = agrees_either these a.durable b.durable at value (⊎_elim (λ set. inl set.0) (λ same. inr same) s.durable) here;
+  durable = ⊎_elim
+      (λ (set : (b.durable ≡ slice_set a.durable at value) × b.spilled at). agrees_set (λ k. these k × b.spilled k) a.durable b.durable at value set.0 (here, set.1))
+      (λ (is : b.durable ≡ a.durable). agrees_same (λ k. these k × b.spilled k) a.durable b.durable is)
+      s.durable;
   spilled = λ k n. ⊎_elim (λ o. inl o) (λ same. inr (subst (λ j. these j) (sym same) here)) (s.spilled k n);
   still = s.still;
   live = s.live;
@@ -145,6 +149,7 @@ pub record Made (old now : Space) (from_sectors fresh : List ℕ) (first size fr
   pub later : old.faults ≤ now.faults
   pub touches : IsTrue old.tells → SpillsIn (IsOneOf fresh) old now
   pub time : IsTrue old.tells → TimePasses old.clock now.clock (LeavesDurable now)
+  pub sizes : IsTrue old.tells → (at : ℕ) → (sector now.content at ≡ sector old.content at) ⊎ (length (sector now.content at) ≡ 512)
   pub bytes : IsTrue old.tells → (m k : ℕ) → m < n → k < 512 → get_or (sector_bytes now.content (get_or fresh m 0)) k 0 ≡ new_byte old.content from_sectors size from value ((first + m) * 512 + k)
 
 pub made_none : (space : Space) (from_sectors fresh : List ℕ) (first size from : ℕ) (value : List ℕ) → Made space space from_sectors fresh first size from value 0
@@ -154,6 +159,7 @@ made_none space from_sectors fresh first size from value = record {
   later = omega arith;
   touches = λ tells. spills_none (IsOneOf fresh) space;
   time = λ tells. none_passes space.clock (LeavesDurable space);
+  sizes = λ tells at. inl refl;
   bytes = λ tells m k lt below. absurd (omega (arith, lt));
 }
 
@@ -165,6 +171,7 @@ made_read old now mid from_sectors fresh first size from value n m r = record {
   later = omega (arith, m.later, r.later);
   touches = λ tells. spills_both (IsOneOf fresh) old now mid (m.touches tells) (spills_read (IsOneOf fresh) now mid (r.sectors (m.same.tells ∙ tells)));
   time = λ tells. time_both old now mid (r.sectors (m.same.tells ∙ tells)) r.same (m.time tells) (r.time (m.same.tells ∙ tells));
+  sizes = λ tells at. let same = ap (λ (c : Content). sector c at) (r.sectors (m.same.tells ∙ tells)).content in ⊎_elim (λ e. inl (same ∙ e)) (λ long. inr (ap (λ (l : List ℕ). length l) same ∙ long)) (m.sizes tells at);
   bytes = λ tells i k lt below. ap (λ (c : Content). get_or (sector_bytes c (get_or fresh i 0)) k 0) (r.sectors (m.same.tells ∙ tells)).content ∙ m.bytes tells i k lt below;
 }
 
@@ -194,6 +201,12 @@ made_more old mid new from_sectors fresh first size from value n at made m place
   touches = λ tells. spills_both (IsOneOf fresh) old mid new (m.touches tells) (spills_one (IsOneOf fresh) mid new at made (n, place) (spills (m.same.tells ∙ tells)));
   time = λ tells. let told = m.same.tells ∙ tells in both_pass old.clock mid.clock new.clock (LeavesDurable mid) (LeavesDurable new) (LeavesDurable new) (m.time tells) (time told)
       (λ image bytes l. leaves_spilled mid new at made image bytes (spills told) same.told l) (λ image bytes l. l);
+  sizes = λ tells s. let told = m.same.tells ∙ tells in ⊎_elim
+      (λ (here : s ≡ at). inr (ap (λ (c : Content). length (sector c s)) (spills told).content ∙ ap (λ j. length (get_or (slice_set mid.content at made) j [])) here ∙ ap (λ (l : List ℕ). length l) (get_or-set_same mid.content at made [] (inside told)) ∙ long))
+      (λ (other : s ≢ at).
+      let still = ap (λ (c : Content). sector c s) (spills told).content ∙ get_or-set_other mid.content at s made [] other in
+      ⊎_elim (λ e. inl (still ∙ e)) (λ is. inr (ap (λ (l : List ℕ). length l) still ∙ is)) (m.sizes tells s))
+      (cases_eq s at);
   bytes = λ tells i k lt below. let told = m.same.tells ∙ tells in let s = spills told in ⊎_elim
       (λ (before : i < n).
       let there : get_or fresh i 0 ≢ at = λ is. absurd (omega (arith, before, apart i n at (made_place fresh n i at before place is) place)) in

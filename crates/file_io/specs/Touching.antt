@@ -19,7 +19,7 @@ pub record IsOnlyRead (old new : Space) : Type 0 where
 -- Sectors of these were spilled, or may have been: all others are as they were, and nothing else is.
 pub record SpillsIn (these : ℕ → Type 0) (old new : Space) : Type 0 where
   pub content : AgreesOutside these old.content new.content
-  pub durable : AgreesOutside these old.durable new.durable
+  pub durable : AgreesOutside (λ s. these s × new.spilled s) old.durable new.durable
   pub spilled : (s : ℕ) → new.spilled s → old.spilled s ⊎ these s
   pub still : (s : ℕ) → old.spilled s → new.spilled s
   pub live : (s : ℕ) → new.live s ↔ old.live s

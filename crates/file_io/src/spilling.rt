@@ -1,7 +1,8 @@
 //! New blocks of a file, made of old ones and spilled.
-ghost use Rattle.std.specs.Prelude.{◌≡◌, ◌<◌, ◌≤◌, ◌+◌, ◌*◌, ◌/◌, ◌%◌, ◌^◌, ℕ, IsTrue, Some, length, slice_get, slice_index, OnOk};
+ghost use Rattle.std.specs.Prelude.{◌≡◌, ◌⊎◌, ◌<◌, ◌≤◌, ◌+◌, ◌*◌, ◌/◌, ◌%◌, ◌^◌, ℕ, IsTrue, Some, length, slice_get, slice_index, OnOk};
 ghost use Rattle.std.specs.List.{All};
 ghost use Rattle.sector_disk.specs.Cause.{HasCause};
+ghost use Rattle.sector_disk.specs.Lists.{sector};
 ghost use Rattle.sector_disk.specs.Clock.{TimePasses};
 ghost use Rattle.sector_disk.specs.Space.{SameSpace, SameRoom, LeavesDurable};
 ghost use Rattle.fork_map.specs.Blocks.{blocks_of, sectors_of};
@@ -78,6 +79,8 @@ pub fn spill_sectors<P: SectorSpace>(
         slice_index (sector_bytes (P.SectorView.space space.new).content (slice_index (sectors_of per_block (blocks_of fresh.now)) n)) k
         ≡ new_byte (P.SectorView.space space.old).content (sectors_of per_block (blocks_of fork.now)) size from value.now ((first + n) * 512 + k)) }
     ensures touches { IsTrue (P.SectorView.space space.old).tells → SpillsIn (IsOneOf (sectors_of per_block (blocks_of fresh.now))) (P.SectorView.space space.old) (P.SectorView.space space.new) }
+    // Each sector that is another one has its 512 bytes.
+    ensures sizes { IsTrue (P.SectorView.space space.old).tells → OnOk result ((at : ℕ) → (sector (P.SectorView.space space.new).content at ≡ sector (P.SectorView.space space.old).content at) ⊎ (length (sector (P.SectorView.space space.new).content at) ≡ 512)) }
     ensures time { IsTrue (P.SectorView.space space.old).tells → TimePasses (P.SectorView.space space.old).clock (P.SectorView.space space.new).clock (LeavesDurable (P.SectorView.space space.new)) }
     ensures room { SameRoom (P.SectorView.space space.old) (P.SectorView.space space.new) }
     ensures same { SameSpace (P.SectorView.space space.old) (P.SectorView.space space.new) }

@@ -1,9 +1,10 @@
 //! The bytes of a file written.
-ghost use Rattle.std.specs.Prelude.{◌≡◌, ◌<◌, ◌≤◌, ◌+◌, ◌-◌, ◌*◌, ◌/◌, ◌++◌, ◌^◌, ℕ, [], true, false, IsTrue, length, take, drop, max, slice_index, slice_index_or, OnOk, IfOk};
+ghost use Rattle.std.specs.Prelude.{◌≡◌, ◌⊎◌, ◌<◌, ◌≤◌, ◌+◌, ◌-◌, ◌*◌, ◌/◌, ◌++◌, ◌^◌, ℕ, [], true, false, IsTrue, length, take, drop, max, slice_index, slice_index_or, OnOk, IfOk};
 ghost use Rattle.std.specs.List.{All};
 ghost use Rattle.std.specs.Result.{IsErrOf};
 ghost use Rattle.hx_bytes.specs.declared.faults.Trouble.TheVariants.{Disk};
 ghost use Rattle.sector_disk.specs.Cause.{Rose};
+ghost use Rattle.sector_disk.specs.Lists.{sector};
 ghost use Rattle.sector_disk.specs.Clock.{TimePasses};
 ghost use Rattle.sector_disk.specs.Space.{SameSpace, SameRoom, LeavesDurable};
 ghost use Rattle.fork_map.specs.Blocks.{blocks_of, AreNumbers};
@@ -54,6 +55,8 @@ pub fn write<P: SectorSpace>(
 
     // Nothing but sectors of the fresh blocks is touched, also where it fails.
     ensures touches { IsTrue (P.SectorView.space space.old).tells → SpillsIn (IsOneOf (sectors_in block (fresh_of map.old (new_blocks block size from (from + length value.now))))) (P.SectorView.space space.old) (P.SectorView.space space.new) }
+    // Each sector that is another one has its 512 bytes.
+    ensures sizes { IsTrue (P.SectorView.space space.old).tells → OnOk result ((at : ℕ) → (sector (P.SectorView.space space.new).content at ≡ sector (P.SectorView.space space.old).content at) ⊎ (length (sector (P.SectorView.space space.new).content at) ≡ 512)) }
     ensures time { IsTrue (P.SectorView.space space.old).tells → TimePasses (P.SectorView.space space.old).clock (P.SectorView.space space.new).clock (LeavesDurable (P.SectorView.space space.new)) }
     ensures room { SameRoom (P.SectorView.space space.old) (P.SectorView.space space.new) }
     ensures same { SameSpace (P.SectorView.space space.old) (P.SectorView.space space.new) }
@@ -100,6 +103,8 @@ pub fn grow_step<P: SectorSpace>(
 
     // Nothing but sectors of the fresh blocks is touched, also where it fails.
     ensures touches { IsTrue (P.SectorView.space space.old).tells → SpillsIn (IsOneOf (sectors_in block (fresh_of map.old (new_blocks block size size (to))))) (P.SectorView.space space.old) (P.SectorView.space space.new) }
+    // Each sector that is another one has its 512 bytes.
+    ensures sizes { IsTrue (P.SectorView.space space.old).tells → OnOk result ((at : ℕ) → (sector (P.SectorView.space space.new).content at ≡ sector (P.SectorView.space space.old).content at) ⊎ (length (sector (P.SectorView.space space.new).content at) ≡ 512)) }
     ensures time { IsTrue (P.SectorView.space space.old).tells → TimePasses (P.SectorView.space space.old).clock (P.SectorView.space space.new).clock (LeavesDurable (P.SectorView.space space.new)) }
     ensures room { SameRoom (P.SectorView.space space.old) (P.SectorView.space space.new) }
     ensures same { SameSpace (P.SectorView.space space.old) (P.SectorView.space space.new) }
@@ -143,6 +148,8 @@ fn rewrite<P: SectorSpace>(
     ensures map { AreApart (blocks_of fork.now) → OnOk result (map.new ≡ given (middle (first_block block size from) (old_end block size end) fork.now) (taken (new_blocks block size from end) map.old)) }
     ensures keeps { length map.old.changed ≡ sectors_for (length map.old.used) → KeepsMap map.old map.new }
     ensures touches { IsTrue (P.SectorView.space space.old).tells → SpillsIn (IsOneOf (sectors_in block (fresh_of map.old (new_blocks block size from end)))) (P.SectorView.space space.old) (P.SectorView.space space.new) }
+    // Each sector that is another one has its 512 bytes.
+    ensures sizes { IsTrue (P.SectorView.space space.old).tells → OnOk result ((at : ℕ) → (sector (P.SectorView.space space.new).content at ≡ sector (P.SectorView.space space.old).content at) ⊎ (length (sector (P.SectorView.space space.new).content at) ≡ 512)) }
     ensures time { IsTrue (P.SectorView.space space.old).tells → TimePasses (P.SectorView.space space.old).clock (P.SectorView.space space.new).clock (LeavesDurable (P.SectorView.space space.new)) }
     ensures room { SameRoom (P.SectorView.space space.old) (P.SectorView.space space.new) }
     ensures same { SameSpace (P.SectorView.space space.old) (P.SectorView.space space.new) }
