@@ -14,7 +14,7 @@ use Rattle.jnl_replay.proofs.Repeated.{newest}
 use Rattle.jnl_store.specs.Spaces.{found}
 use Rattle.hfs_volume.specs.Aside.{AsideIsFree}
 use Rattle.hfs_volume.specs.Mount.{MountsTo}
-use Rattle.hfs_volume.specs.Run.{Entry, lines_of, replies_of, shrunk_in, tree_after}
+use Rattle.volume_runs.specs.Run.{Entry, lines_of, replies_of, shrunk_in, tree_after}
 use Rattle.hfs_volume.specs.Sound.{IsSound}
 use Rattle.hfs_serving.specs.Beginning.{BeginsRun}
 use Rattle.hfs_serving.specs.Closing.{MayFinish}

@@ -9,7 +9,7 @@ use Rattle.sector_disk.specs.Space.{Space}
 use Rattle.sector_disk.proofs.Passing.{none_passes, both_pass, passes_with}
 use Rattle.jnl_format.specs.Recovery.{Content}
 use Rattle.hfs_volume.specs.Reclaim.{Tidies, none}
-use Rattle.hfs_volume.specs.Run.{Entry, content_after, shrunk_in, replies_of}
+use Rattle.volume_runs.specs.Run.{Entry, content_after, shrunk_in, replies_of}
 use Rattle.hfs_serving.specs.Runs.{IsPrefix, StandsAs, Leads, StandsIn, SurvivesFrom, Crashes, Serves}
 use Rattle.hfs_serving.specs.Outside.{Outside}
 use Rattle.hfs_serving.specs.Serving.{IsDurable, IsRead, IsAsDurable, Touches, MayCommit, IsEither, Commits, TellsOut, IsServing, WasCommitted, StandsWithin, Goes, Stops}

@@ -5,8 +5,9 @@ use Rattle.std.proofs.lemmas.List.{append-nil, length-map, length-take-le}
 use Rattle.sector_disk.specs.Space.{Space}
 use Rattle.jnl_format.specs.Recovery.{Content}
 use Rattle.hfs_volume.specs.Content.{volume_of}
-use Rattle.hfs_volume.specs.Reclaim.{Tidies, IsTidied, IsAtRest, none, one_more}
-use Rattle.hfs_volume.specs.Run.{Entry, shrunk_in, lines_of}
+use Rattle.hfs_volume.specs.Reclaim.{Tidies, IsTidied, none, one_more}
+use Rattle.volume_runs.specs.Rest.{IsAtRest}
+use Rattle.volume_runs.specs.Run.{Entry, shrunk_in, lines_of}
 use Rattle.hfs_serving.specs.Going.{Knowing, Stands, Stays, Tidied, Answered, AnswersTo, is_answered, GoesTidy, GoesRested, GoesOn, GoesWhole, ServesBatch, ServesLine, ServesLines, StopsLines, StopsOn, line_if}
 use Rattle.hfs_serving.specs.declared.volume.Step.{Step}
 use Rattle.hfs_serving.specs.declared.volume.Step.TheVariants as step

@@ -8,7 +8,7 @@ use Rattle.jnl_format.specs.Recovery.{Content}
 use Rattle.jnl_replay.specs.declared.plan.Plan.{Plan}
 use Rattle.jnl_store.specs.Spaces.{found}
 use Rattle.hfs_volume.specs.Aside.{NamesJournal}
-use Rattle.hfs_volume.specs.Run.{Entry}
+use Rattle.volume_runs.specs.Run.{Entry}
 use Rattle.hfs_serving.specs.Outside.{outside_of}
 use Rattle.hfs_serving.specs.Runs.{StandsAs, StandsIn, Survives, SurvivesFrom, Crashes}
 use Rattle.hfs_serving.specs.Opening.{Opens}

@@ -4,7 +4,7 @@ use Rattle.std.specs.Prelude.{Option}
 use Rattle.std.proofs.lemmas.List.{append-nil}
 use Rattle.sector_disk.specs.Space.{Space}
 use Rattle.jnl_format.specs.Recovery.{Content}
-use Rattle.hfs_volume.specs.Run.{Entry, shrunk_in}
+use Rattle.volume_runs.specs.Run.{Entry, shrunk_in}
 use Rattle.hfs_serving.specs.Outside.{Outside}
 use Rattle.hfs_serving.specs.Runs.{Crashes, KeepsPlace, Serves, SetsUnmounted}
 use Rattle.hfs_serving.specs.Serving.{Commits, Goes, MayCommit, Stops, Touches}

@@ -2,9 +2,10 @@
 use Rattle.std.proofs.Common.{◌≡◌, ℕ, List, [], ◌∷◌, ◌++◌, refl, sym, ◌∙◌, subst}
 use Rattle.std.specs.Prelude.{Option}
 use Rattle.jnl_format.specs.Recovery.{Content}
-use Rattle.hfs_volume.specs.Reclaim.{Tidies, none, one_more, Rests, IsAtRest}
+use Rattle.hfs_volume.specs.Reclaim.{Tidies, none, one_more}
+use Rattle.volume_runs.specs.Rest.{Rests, IsAtRest}
 use Rattle.hfs_volume.specs.Content.{volume_of}
-use Rattle.hfs_volume.specs.Run.{Entry, IsServed, IsRunFrom, content_after, shrunk_in, shrunk_after}
+use Rattle.volume_runs.specs.Run.{Entry, IsServed, IsRunFrom, content_after, shrunk_in, shrunk_after}
 use Rattle.hfs_serving.specs.Runs.{KeepsPlace, Leads, LeadsToRest}
 use Rattle.hfs_serving.proofs.Lists.{content_after-none, content_after-append, content_after-last, shrunk_in-append}
 

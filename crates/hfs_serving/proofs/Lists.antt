@@ -6,7 +6,7 @@ use Rattle.std.proofs.lemmas.List.{append_cancel_left}
 use Rattle.jnl_format.specs.Recovery.{Content}
 use Rattle.hfs_language.specs.Text.{reply_text, body_text}
 use Rattle.hfs_language.specs.declared.reply.Reply.{Reply}
-use Rattle.hfs_volume.specs.Run.{Entry, content_after, shrunk_in, shrunk_after, lines_of, replies_of}
+use Rattle.volume_runs.specs.Run.{Entry, content_after, shrunk_in, shrunk_after, lines_of, replies_of}
 use Rattle.hfs_serving.specs.Runs.{IsPrefix}
 
 pub content_after-none : (start : Content) → content_after start [] ≡ start

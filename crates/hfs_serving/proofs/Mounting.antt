@@ -14,7 +14,7 @@ use Rattle.hfs_volume.specs.Sound.{IsSound}
 use Rattle.hfs_volume.specs.TreeOf.{tree_of}
 use Rattle.hfs_volume.specs.Mount.{FoldsCase, MountsTo}
 use Rattle.hfs_volume.specs.Reclaim.{Tidies, none, one_more, IsTidied, KeepsTree}
-use Rattle.hfs_volume.specs.Run.{Entry, IsServed, IsRunFrom, content_after, shrunk_in, shrunk_after, tree_after}
+use Rattle.volume_runs.specs.Run.{Entry, IsServed, IsRunFrom, content_after, shrunk_in, shrunk_after, tree_after}
 use Rattle.hfs_serving.specs.Outside.{outside_of}
 use Rattle.hfs_serving.specs.Opening.{MayServe, Opens}
 use Rattle.hfs_serving.specs.Runs.{Crashes, IsMarked, StandsAs, StandsIn}

@@ -7,14 +7,14 @@ use Rattle.sector_disk.specs.Source.{Stream}
 use Rattle.sector_disk.specs.Space.{Space}
 use Rattle.jnl_format.specs.Recovery.{Content}
 use Rattle.hfs_language.specs.Language.{most_bytes}
-use Rattle.hfs_volume.specs.Run.{Entry, lines_of, replies_of}
+use Rattle.volume_runs.specs.Run.{Entry, lines_of, replies_of}
 use Rattle.hfs_serving.specs.Going.{Knowing, Stands}
 use Rattle.hfs_serving.specs.Outside.{Outside}
 use Rattle.hfs_serving.specs.Runs.{IsPrefix}
 use Rattle.hfs_serving.specs.Steps.{CrashesStep, ServesStep}
 use Rattle.hfs_serving.specs.Watching.{CrashesHeard, ServesHeard}
 use Rattle.hfs_language.specs.declared.reply.Change.{Change}
-use Rattle.hfs_volume.specs.Told.{changes_in}
+use Rattle.volume_runs.specs.Told.{changes_in}
 use Rattle.hfs_serving.specs.Taking.{HasTaken}
 use Rattle.hfs_serving.proofs.Relabelling.{Holds, crashes_text, holds_take, relabel, relabel_changes, relabel_take, relabel_lines, relabel_replies, relabel_shrunk, serves_text}
 use Rattle.line_source.specs.Batch.{AddsLines, held}

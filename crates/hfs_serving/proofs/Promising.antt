@@ -9,7 +9,7 @@ use Rattle.jnl_format.specs.Recovery.{Content}
 use Rattle.jnl_replay.specs.declared.plan.Plan.{Plan}
 use Rattle.jnl_store.specs.Spaces.{found}
 use Rattle.hfs_volume.specs.Aside.{AsideIsFree}
-use Rattle.hfs_volume.specs.Run.{Entry, lines_of, shrunk_in}
+use Rattle.volume_runs.specs.Run.{Entry, lines_of, shrunk_in}
 use Rattle.hfs_volume.specs.Sound.{IsSound}
 use Rattle.hfs_serving.specs.Closing.{Finishes, MayFinish}
 use Rattle.hfs_serving.specs.Going.{Knowing, Stands}

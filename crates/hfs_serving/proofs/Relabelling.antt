@@ -13,10 +13,10 @@ use Rattle.hfs_language.specs.declared.refusal.Refusal.{Refusal}
 use Rattle.hfs_language.specs.declared.refusal.Refusal.TheVariants.{TooLong}
 use Rattle.hfs_model.specs.Step.{step_line}
 use Rattle.hfs_volume.specs.TreeOf.{tree_of}
-use Rattle.hfs_volume.specs.Told.{changes_by, changes_in, changes_of}
+use Rattle.volume_runs.specs.Told.{changes_by, changes_in, changes_of}
 use Rattle.hfs_language.specs.declared.reply.Change.{Change}
 use Rattle.hfs_volume.specs.Reclaim.{Tidies}
-use Rattle.hfs_volume.specs.Run.{DoesLine, Entry, IsAnswered, IsRunFrom, IsServed, IsToCome, LacksMemory, LacksResource, asked_by, content_after, is_ok, lines_of, or_before, replies_of, reply_to, shrunk_after, shrunk_by, shrunk_in}
+use Rattle.volume_runs.specs.Run.{DoesLine, Entry, IsAnswered, IsRunFrom, IsServed, IsToCome, LacksMemory, LacksResource, asked_by, content_after, is_ok, lines_of, or_before, replies_of, reply_to, shrunk_after, shrunk_by, shrunk_in}
 use Rattle.hfs_serving.specs.Outside.{Outside}
 use Rattle.hfs_serving.specs.Runs.{Crashes, IsPrefix, Leads, Serves, StandsIn, Survives, SurvivesFrom}
 use Rattle.line_source.specs.Batch.{held}

@@ -2,8 +2,8 @@
 use Rattle.std.proofs.Common.{◌≡◌, ◌+◌, ◌∷◌, [], ◌++◌, ℕ, suc, List, length, refl, sym, ◌∙◌, ap, arith, append_assoc}
 use Rattle.std.proofs.lemmas.List.{append-nil}
 use Rattle.hfs_language.specs.declared.reply.Change.{Change}
-use Rattle.hfs_volume.specs.Run.{Entry, replies_of}
-use Rattle.hfs_volume.specs.Told.{changes_by, changes_in}
+use Rattle.volume_runs.specs.Run.{Entry, replies_of}
+use Rattle.volume_runs.specs.Told.{changes_by, changes_in}
 use Rattle.hfs_serving.specs.Said.{joined, said_of, untold}
 use Rattle.hfs_serving.specs.declared.volume.ToTell.{ToTell}
 use Rattle.hfs_serving.proofs.Lists.{replies_of-append, replies_of-none}

@@ -23,7 +23,7 @@ use Rattle.hfs_volume.specs.Aside.{IsAside}
 use Rattle.hfs_volume.specs.Content.{JournalPlace, volume_of}
 use Rattle.hfs_volume.specs.Mount.{HoldsAtMost, Mounts, MountsTo}
 use Rattle.hfs_volume.specs.Reclaim.{none}
-use Rattle.hfs_volume.specs.Run.{replies_of, tree_after}
+use Rattle.volume_runs.specs.Run.{replies_of, tree_after}
 use Rattle.hfs_volume.specs.Sound.{IsSound}
 use Rattle.hfs_volume.specs.TreeOf.{tree_of}
 use Rattle.hfs_serving.specs.Beginning.{BeginsRun, MayBegin}

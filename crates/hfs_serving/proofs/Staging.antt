@@ -6,7 +6,7 @@ use Rattle.sector_disk.specs.Clock.{TimePasses}
 use Rattle.sector_disk.proofs.Passing.{both_pass, passes_with}
 use Rattle.jnl_format.specs.Recovery.{Content}
 use Rattle.hfs_volume.specs.Reclaim.{Tidies, none}
-use Rattle.hfs_volume.specs.Run.{Entry, shrunk_in}
+use Rattle.volume_runs.specs.Run.{Entry, shrunk_in}
 use Rattle.hfs_serving.specs.Runs.{KeepsPlace, StandsAs, IsMarked, SetsVersion, SetsUnmounted, Leads, StandsIn, Crashes, Serves}
 use Rattle.hfs_serving.specs.Outside.{Outside}
 use Rattle.hfs_serving.specs.Stages.{MayTurn, Turns}

@@ -3,7 +3,7 @@ use Rattle.std.proofs.Common.{◌≡◌, ◌⊎◌, ◌≤◌, ◌+◌, ◌++◌
 use Rattle.std.proofs.lemmas.List.{append-nil, length-map, length-take-le, take_all}
 use Rattle.std.proofs.Math.Seq.{take-append-add}
 use Rattle.hfs_language.specs.declared.reply.Change.{Change}
-use Rattle.hfs_volume.specs.Told.{changes_in}
+use Rattle.volume_runs.specs.Told.{changes_in}
 use Rattle.hfs_serving.specs.Said.{untold}
 use Rattle.hfs_serving.specs.Runs.{IsPrefix}
 use Rattle.hfs_serving.specs.Watching.{CrashesHeard, HeardOf, ServesHeard}
@@ -14,7 +14,7 @@ use Rattle.sector_disk.specs.Space.{Space, AgreesOutside}
 use Rattle.jnl_format.specs.Keeping.{KeepsHeader}
 use Rattle.jnl_format.specs.Recovery.{Content, header_of_volume, journaling_version}
 use Rattle.hfs_volume.specs.Aside.{IsAside}
-use Rattle.hfs_volume.specs.Run.{Entry, lines_of, replies_of, shrunk_in}
+use Rattle.volume_runs.specs.Run.{Entry, lines_of, replies_of, shrunk_in}
 use Rattle.hfs_serving.specs.Going.{Knowing, ServesBatch, Stands, StopsLines}
 use Rattle.hfs_serving.specs.Outside.{Outside}
 use Rattle.hfs_serving.specs.Serving.{TellsOut}

@@ -8,7 +8,7 @@ use Rattle.sector_disk.specs.Clock.{TimePasses}
 use Rattle.sector_disk.proofs.Passing.{none_passes, both_pass}
 use Rattle.jnl_format.specs.Recovery.{Content}
 use Rattle.hfs_volume.specs.Reclaim.{Tidies}
-use Rattle.hfs_volume.specs.Run.{Entry, content_after, shrunk_in, replies_of}
+use Rattle.volume_runs.specs.Run.{Entry, content_after, shrunk_in, replies_of}
 use Rattle.hfs_serving.specs.Runs.{IsPrefix, StandsAs, Leads, StandsIn, Survives, SurvivesFrom, Crashes, Serves}
 use Rattle.hfs_serving.specs.Outside.{Outside}
 use Rattle.hfs_serving.proofs.Lists.{replies_of-none, replies_of-append, length-replies, front_length, front_behind, take_past}

@@ -7,7 +7,7 @@ use Rattle.jnl_format.specs.Recovery.{Content, Journal, header_of_volume}
 use Rattle.hfs_language.specs.Lines.{lines, HasNoNewline}
 use Rattle.hfs_model.specs.declared.plain.PlainTree.{PlainTree}
 use Rattle.hfs_volume.specs.Mount.{HasJournal, MountsTo}
-use Rattle.hfs_volume.specs.Run.{Entry, IsRun, lines_of, replies_of, tree_after}
+use Rattle.volume_runs.specs.Run.{Entry, IsRun, lines_of, replies_of, tree_after}
 use Rattle.hfs_serving.specs.Outside.{Outside}
 use Rattle.hfs_serving.specs.Runs.{Crashes}
 use Rattle.hfs_serving.specs.declared.telling.Stop.{Stop}

@@ -3,8 +3,9 @@ use Rattle.std.specs.Prelude.{◌≡◌, ◌≢◌, All, codes, ℕ, Bool, true,
 use Rattle.sector_disk.specs.Space.{Space}
 use Rattle.jnl_format.specs.Recovery.{Content}
 use Rattle.hfs_volume.specs.Content.{volume_of}
-use Rattle.hfs_volume.specs.Reclaim.{IsTidied, IsAtRest}
-use Rattle.hfs_volume.specs.Run.{Entry, IsServed, shrunk_in, shrunk_after, lines_of}
+use Rattle.hfs_volume.specs.Reclaim.{IsTidied}
+use Rattle.volume_runs.specs.Rest.{IsAtRest}
+use Rattle.volume_runs.specs.Run.{Entry, IsServed, shrunk_in, shrunk_after, lines_of}
 use Rattle.hfs_serving.specs.Grounds.{KeepsHeading}
 use Rattle.hfs_serving.specs.Outside.{Outside}
 use Rattle.hfs_serving.specs.Runs.{KeepsPlace, LeadsToRest}

@@ -8,8 +8,9 @@ use Rattle.volume_header.specs.Refusal.{is_locked}
 use Rattle.volume_header.specs.declared.header.VolumeHeader.{VolumeHeader}
 use Rattle.hfs_volume.specs.Aside.{IsAside}
 use Rattle.hfs_volume.specs.Content.{volume_of}
-use Rattle.hfs_volume.specs.Reclaim.{Tidies, Rests, KeepsTree}
-use Rattle.hfs_volume.specs.Run.{Entry, IsRunFrom, content_after, shrunk_in, replies_of}
+use Rattle.hfs_volume.specs.Reclaim.{Tidies, KeepsTree}
+use Rattle.volume_runs.specs.Rest.{Rests}
+use Rattle.volume_runs.specs.Run.{Entry, IsRunFrom, content_after, shrunk_in, replies_of}
 use Rattle.hfs_serving.specs.Outside.{Outside}
 
 -- the one list begins with the other

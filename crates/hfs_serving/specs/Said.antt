@@ -1,7 +1,7 @@
 -- What a run tells: the replies of its entries, and what they changed.
 use Rattle.std.specs.Prelude.{◌++◌, [], ℕ, List}
-use Rattle.hfs_volume.specs.Run.{Entry, replies_of}
-use Rattle.hfs_volume.specs.Told.{changes_in}
+use Rattle.volume_runs.specs.Run.{Entry, replies_of}
+use Rattle.volume_runs.specs.Told.{changes_in}
 use Rattle.hfs_serving.specs.declared.volume.ToTell.{ToTell}
 
 -- nothing

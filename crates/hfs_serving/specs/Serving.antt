@@ -5,7 +5,7 @@ use Rattle.sector_disk.specs.Disk.{ToldPrefix}
 use Rattle.sector_disk.specs.Space.{Space, AgreesOutside, LeavesDurable}
 use Rattle.jnl_format.specs.Recovery.{Content}
 use Rattle.hfs_volume.specs.Reclaim.{Tidies}
-use Rattle.hfs_volume.specs.Run.{Entry, IsRunFrom, content_after, shrunk_in}
+use Rattle.volume_runs.specs.Run.{Entry, IsRunFrom, content_after, shrunk_in}
 use Rattle.hfs_serving.specs.Outside.{Outside}
 use Rattle.hfs_volume.specs.Aside.{IsFreeSector, IsJournalSector, IsAside}
 use Rattle.hfs_serving.specs.Runs.{KeepsPlace, Leads, StandsAs, StandsIn}

@@ -7,7 +7,7 @@ use Rattle.sector_disk.specs.Source.{Stream}
 use Rattle.sector_disk.specs.Space.{Space}
 use Rattle.jnl_format.specs.Recovery.{Content}
 use Rattle.hfs_language.specs.Lines.{lines}
-use Rattle.hfs_volume.specs.Run.{Entry, lines_of, replies_of, shrunk_in}
+use Rattle.volume_runs.specs.Run.{Entry, lines_of, replies_of, shrunk_in}
 use Rattle.hfs_serving.specs.Going.{Knowing, Stands}
 use Rattle.hfs_serving.specs.Outside.{Outside}
 use Rattle.hfs_serving.specs.Runs.{Crashes, Leads, Serves, SetsUnmounted, StandsAs}

@@ -6,7 +6,7 @@ use Rattle.jnl_format.specs.Recovery.{Content}
 use Rattle.hfs_language.specs.Lines.{lines}
 use Rattle.hfs_volume.specs.Aside.{NamesJournal}
 use Rattle.hfs_volume.specs.Mount.{MountsTo}
-use Rattle.hfs_volume.specs.Run.{Entry, IsRun, lines_of, replies_of, tree_after}
+use Rattle.volume_runs.specs.Run.{Entry, IsRun, lines_of, replies_of, tree_after}
 use Rattle.hfs_serving.specs.Opening.{Opens}
 use Rattle.hfs_serving.specs.Runs.{IsPrefix, Survives, StandsIn}
 

@@ -5,8 +5,8 @@ use Rattle.sector_disk.specs.Source.{Stream}
 use Rattle.sector_disk.specs.Space.{Space}
 use Rattle.jnl_format.specs.Recovery.{Content}
 use Rattle.hfs_language.specs.declared.reply.Change.{Change}
-use Rattle.hfs_volume.specs.Run.{Entry, replies_of}
-use Rattle.hfs_volume.specs.Told.{changes_in}
+use Rattle.volume_runs.specs.Run.{Entry, replies_of}
+use Rattle.volume_runs.specs.Told.{changes_in}
 use Rattle.hfs_serving.specs.Ending.{AnswersRig, AnswersRun, AnswersStep, AnswersToTheLast, FinishesRun}
 use Rattle.hfs_serving.specs.Going.{Knowing}
 use Rattle.hfs_serving.specs.Outside.{Outside}

@@ -6,7 +6,7 @@ ghost use Rattle.jnl_format.specs.Recovery.{Content};
 ghost use Rattle.jnl_replay.specs.declared.plan.Plan.{Plan};
 ghost use Rattle.jnl_store.specs.Spaces.{found};
 ghost use Rattle.hfs_volume.specs.Reclaim.{Tidies};
-ghost use Rattle.hfs_volume.specs.Run.{Entry, IsRun, IsServed, shrunk_in, replies_of};
+ghost use Rattle.volume_runs.specs.Run.{Entry, IsRun, IsServed, shrunk_in, replies_of};
 ghost use Rattle.hfs_volume.specs.Sound.{IsSound};
 ghost use Rattle.hfs_serving.specs.Opening.{MayServe};
 ghost use Rattle.hfs_serving.specs.Outside.{outside_of};

@@ -16,7 +16,7 @@ use Rattle.hfs_volume.specs.Forks.{Owned, overflow_in, blocks_owned, is_of, in_u
 use Rattle.hfs_volume.specs.Content.{VolumeState, is_set, overflow_in_volume}
 use Rattle.hfs_volume.specs.Blocks.{HasForks, HasFork, HasSizes, GoesOn, GoOn, LieInside, forks_of, used_in, is_among, count_used}
 use Rattle.hfs_volume.specs.Reclaim.{is_fork, blocks_at, blocks_found}
-use Rattle.hfs_volume.specs.Run.{AreFresh}
+use Rattle.hfs_volume.specs.Data.{AreFresh}
 use Rattle.hfs_volume.specs.Changes.{FlipsBits}
 use Rattle.hfs_volume.specs.Laws.{HasRightBits}
 use Rattle.hfs_volume.proofs.Members.{at_front, behind, all_of, each_of, kept_stands, kept_cases}

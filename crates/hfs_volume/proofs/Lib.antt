@@ -65,7 +65,6 @@ pub mod Renaming
 pub mod Reparenting
 pub mod Repeats
 pub mod Rereading
-mod Running
 pub mod Sectors
 pub mod Seeing
 mod Shaping

@@ -19,7 +19,7 @@ use Rattle.hfs_volume.specs.Forks.{is_of, data_kind, resource_kind, extents_id, 
 use Rattle.hfs_volume.specs.Content.{overflow_in_volume, facts_at, VolumeState, TreeFacts, is_set, has_attributes}
 use Rattle.hfs_volume.specs.Blocks.{HasSizes, GoesOn}
 use Rattle.hfs_volume.specs.Reclaim.{IsTreeFork, blocks_at}
-use Rattle.hfs_volume.specs.Run.{AreFresh}
+use Rattle.hfs_volume.specs.Data.{AreFresh}
 
 -- ---- lists
 

@@ -8,6 +8,7 @@ pub mod Changes
 pub mod Commands
 pub mod Content
 pub mod Cost
+pub mod Data
 pub mod Entries
 pub mod Findings
 pub mod Forks
@@ -19,9 +20,7 @@ pub mod Nodes
 pub mod Reclaim
 pub mod Reclaiming
 pub mod Records
-pub mod Run
 pub mod Sound
-pub mod Told
 pub mod TreeOf
 pub mod Weight
 pub mod Writing

@@ -16,7 +16,7 @@ use Rattle.hfs_volume.specs.Forks.{Owned, data_kind, blocks_owned, per_block_of,
 use Rattle.hfs_volume.specs.Links.{orphans_of}
 use Rattle.hfs_volume.specs.Content.{VolumeState, volume_of, records_of, overflow_in_volume}
 use Rattle.hfs_volume.specs.Reclaim.{IsTreeFork, GrowsTree, Does, CutShrunk, CutOrphan, blocks_at, blocks_wanted}
-use Rattle.hfs_volume.specs.Run.{PutsInFork}
+use Rattle.hfs_volume.specs.Data.{PutsInFork}
 use Rattle.hfs_volume.specs.Weight.{Data, first_block, new_blocks_of, old_blocks_of}
 use Rattle.hfs_volume.specs.Aside.{IsFreeSector}
 use Rattle.hfs_volume.specs.Sound.{IsSound, IsSoundVolume}

@@ -16,9 +16,10 @@ use Rattle.hfs_model.specs.Step.{step_line, refuses, only_reads}
 use Rattle.hfs_volume.specs.declared.cost.Cost.TheVariants as cost
 use Rattle.hfs_volume.specs.Content.{VolumeState, volume_of}
 use Rattle.hfs_volume.specs.Reclaim.{GrowsTrees}
-use Rattle.hfs_volume.specs.Run.{AsksMore, DoesLine, Entry, IsAnswered, IsDone, IsServed, IsToCome, LacksMemory, LacksResource, PutsInFork, attribute_edits, is_ok, reply_to}
+use Rattle.hfs_volume.specs.Data.{PutsInFork}
+use Rattle.volume_runs.specs.Run.{AsksMore, DoesLine, Entry, IsAnswered, IsDone, IsServed, IsToCome, LacksMemory, LacksResource, attribute_edits, is_ok, reply_to}
 use Rattle.hfs_volume.specs.Sound.{IsSound}
-use Rattle.hfs_volume.specs.Told.{changes_by, changes_of}
+use Rattle.volume_runs.specs.Told.{changes_by, changes_of}
 use Rattle.hfs_volume.specs.TreeOf.{tree_of}
 use Rattle.hfs_volume.specs.Weight.{data_of, gauge, needs_cut, weight}
 use Rattle.served_volume.specs.Knowing.{IsAlike}

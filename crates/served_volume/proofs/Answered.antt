@@ -9,8 +9,8 @@ use Rattle.hfs_language.specs.Text.{reply_text}
 use Rattle.hfs_language.specs.declared.reply.Change.{Change}
 use Rattle.hfs_language.specs.declared.reply.Reply.{Reply}
 use Rattle.hfs_language.specs.Language.{command_of}
-use Rattle.hfs_volume.specs.Run.{Entry, IsServed, is_ok, or_before, replies_of, shrunk_after, shrunk_by}
-use Rattle.hfs_volume.specs.Told.{changes_by, changes_in}
+use Rattle.volume_runs.specs.Run.{Entry, IsServed, is_ok, or_before, replies_of, shrunk_after, shrunk_by}
+use Rattle.volume_runs.specs.Told.{changes_by, changes_in}
 use Rattle.hfs_volume.specs.TreeOf.{tree_of}
 use Rattle.hfs_serving.specs.Going.{Answered, AnswersTo, Stays}
 use Rattle.hfs_serving.specs.Grounds.{KeepsHeading}

@@ -11,7 +11,7 @@ use Rattle.hfs_language.specs.declared.refusal.Refusal.TheVariants as refusal
 use Rattle.hfs_language.specs.declared.reply.Reply.{Reply}
 use Rattle.hfs_language.specs.declared.reply.Reply.TheVariants as reply
 use Rattle.hfs_model.specs.Step.{step_line}
-use Rattle.hfs_volume.specs.Run.{DoesLine, Entry, IsAnswered, LacksMemory, is_ok, or_before, reply_to, shrunk_by}
+use Rattle.volume_runs.specs.Run.{DoesLine, Entry, IsAnswered, LacksMemory, is_ok, or_before, reply_to, shrunk_by}
 use Rattle.hfs_volume.specs.Sound.{IsSound}
 use Rattle.hfs_volume.specs.TreeOf.{tree_of}
 use Rattle.volume_step.specs.Steps.{IsServedAs, KeepsJournal, ShrinksAs, StepsTo}

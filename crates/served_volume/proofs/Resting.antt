@@ -2,7 +2,8 @@
 use Rattle.std.proofs.Common.{◌≡◌, ℕ, inl, inr, refl}
 use Rattle.std.specs.Prelude.{IsTrue, Option, None, Some}
 use Rattle.hfs_volume.specs.Content.{VolumeState}
-use Rattle.hfs_volume.specs.Reclaim.{CutOrphan, CutShrunk, DropAttribute, DropOrphan, IsAtRest, Reclaim, is_left, next_reclaim}
+use Rattle.hfs_volume.specs.Reclaim.{CutOrphan, CutShrunk, DropAttribute, DropOrphan, Reclaim, next_reclaim}
+use Rattle.volume_runs.specs.Rest.{IsAtRest, is_left}
 
 left : (step : Reclaim) → IsTrue (is_left step)
 left (CutShrunk id) = refl

@@ -8,7 +8,7 @@ use Rattle.hfs_language.specs.declared.refusal.Refusal.{Refusal}
 use Rattle.hfs_language.specs.declared.refusal.Refusal.TheVariants as refusal
 use Rattle.hfs_language.specs.declared.reply.Reply.TheVariants as reply
 use Rattle.hfs_language.specs.Text.{reply_text}
-use Rattle.hfs_volume.specs.Run.{is_ok, or_before, shrunk_by}
+use Rattle.volume_runs.specs.Run.{is_ok, or_before, shrunk_by}
 use Rattle.hfs_volume.specs.TreeOf.{tree_of}
 use Rattle.hfs_serving.specs.Said.{joined}
 use Rattle.hfs_serving.specs.declared.volume.Step.{Step}

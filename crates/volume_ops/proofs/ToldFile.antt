@@ -11,7 +11,7 @@ use Rattle.hfs_model.specs.Plain.{entries_in}
 use Rattle.hfs_model.specs.Step.{facts_of, is_private_path, most_bytes, most_growth, most_size, on, resized, size_written, step, step_line, then_, to_file, to_node, to_size, to_trunc, to_write, unless, written}
 use Rattle.hfs_model.specs.declared.plain.PlainNode.{PlainNode}
 use Rattle.hfs_model.specs.declared.plain.PlainTree.{PlainTree}
-use Rattle.hfs_volume.specs.Run.{is_ok, or_before, shrunk_by}
+use Rattle.volume_runs.specs.Run.{is_ok, or_before, shrunk_by}
 use Rattle.hfs_volume.specs.Weight.{Data, data_of, grown_data, written_data}
 use Rattle.volume_ops.specs.Refusing.{against_growth, against_trunc, against_write, facts_or}
 use Rattle.volume_ops.specs.Resizing.{shrunk_then}

@@ -10,7 +10,7 @@ use Rattle.hfs_model.specs.declared.plain.PlainNode.{PlainNode}
 use Rattle.hfs_model.specs.declared.plain.PlainTree.{PlainTree}
 use Rattle.hfs_volume.specs.Content.{volume_of}
 use Rattle.hfs_volume.specs.Reclaim.{blocks_at}
-use Rattle.hfs_volume.specs.Run.{is_ok, or_before, shrunk_by}
+use Rattle.volume_runs.specs.Run.{is_ok, or_before, shrunk_by}
 use Rattle.hfs_volume.specs.TreeOf.{tree_of}
 use Rattle.hfs_volume.specs.Weight.{data_of}
 use Rattle.hfs_volume.specs.Writing.{RewritesFile}

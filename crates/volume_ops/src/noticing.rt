@@ -5,7 +5,7 @@ ghost use Rattle.hfs_language.specs.Written.{FitsPath};
 ghost use Rattle.hfs_language.specs.declared.reply.ChangeKind.TheVariants as change;
 ghost use Rattle.hfs_model.specs.Step.{Place, is_private_path, to_make};
 ghost use Rattle.hfs_model.specs.declared.plain.PlainEntry.{PlainEntry};
-ghost use Rattle.hfs_volume.specs.Told.{of_made, of_pair};
+ghost use Rattle.volume_runs.specs.Told.{of_made, of_pair};
 ghost use Rattle.hfs_volume.specs.TreeOf.{tree_of};
 ghost use Rattle.volume_ops.specs.Looking.{ReadsVolume};
 ghost use Rattle.volume_ops.specs.Making.{path_to};

@@ -6,7 +6,7 @@ ghost use Rattle.hfs_language.specs.Written.{FitsPath};
 ghost use Rattle.hfs_language.specs.declared.command.Command.TheVariants as command;
 ghost use Rattle.hfs_model.specs.Step.{is_private_path};
 ghost use Rattle.hfs_model.specs.declared.plain.PlainEntry.{PlainEntry};
-ghost use Rattle.hfs_volume.specs.Run.{attribute_edits};
+ghost use Rattle.volume_runs.specs.Run.{attribute_edits};
 ghost use Rattle.hfs_volume.specs.TreeOf.{tree_of};
 ghost use Rattle.volume_ops.specs.Lists.{lists_of};
 ghost use Rattle.volume_ops.specs.Looking.{ReadsVolume};

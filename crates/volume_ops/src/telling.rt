@@ -3,7 +3,7 @@ ghost use Rattle.std.specs.Prelude.{◌≡◌, Ok, IsTrue, IfOk, IfSome, is_some
 ghost use Rattle.btree_edit.specs.Causes.{HasTroubleCause};
 ghost use Rattle.hfs_language.specs.Written.{FitsCommand};
 ghost use Rattle.hfs_model.specs.Step.{only_reads};
-ghost use Rattle.hfs_volume.specs.Run.{reply_to};
+ghost use Rattle.volume_runs.specs.Run.{reply_to};
 ghost use Rattle.volume_ops.specs.Looking.{ReadsVolume};
 ghost use Rattle.volume_ops.specs.Room.{capacity_of};
 ghost use Rattle.volume_ops.specs.Standing.{StandsOver, IsSettled};

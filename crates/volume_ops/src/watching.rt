@@ -7,7 +7,7 @@ ghost use Rattle.btree_file.specs.State.{sectors_of_tree};
 ghost use Rattle.hfs_language.specs.Written.{FitsPath};
 ghost use Rattle.hfs_model.specs.Step.{is_private_path, reached};
 ghost use Rattle.hfs_model.specs.declared.plain.PlainEntry.{PlainEntry};
-ghost use Rattle.hfs_volume.specs.Told.{of_entry};
+ghost use Rattle.volume_runs.specs.Told.{of_entry};
 ghost use Rattle.hfs_volume.specs.TreeOf.{tree_of};
 ghost use Rattle.volume_ops.specs.Lists.{lists_of};
 ghost use Rattle.volume_ops.specs.Looking.{IsCatalogOver, ReadsTree, ReadsVolume};

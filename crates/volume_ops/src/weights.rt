@@ -5,7 +5,7 @@ ghost use Rattle.hfs_language.specs.Written.{FitsCommand, FitsPath};
 ghost use Rattle.hfs_language.specs.declared.command.Command.TheVariants as command;
 ghost use Rattle.hfs_model.specs.Step.{is_private_path, only_reads, refuses};
 ghost use Rattle.hfs_volume.specs.Content.{volume_of};
-ghost use Rattle.hfs_volume.specs.Run.{is_to_come};
+ghost use Rattle.volume_runs.specs.Run.{is_to_come};
 ghost use Rattle.hfs_volume.specs.TreeOf.{tree_of};
 ghost use Rattle.volume_ops.specs.Looking.{ReadsVolume};
 ghost use Rattle.volume_ops.specs.Making.{making, path_to};

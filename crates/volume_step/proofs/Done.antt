@@ -23,9 +23,9 @@ use Rattle.hfs_volume.specs.Attributing.{DeletesAttribute, SetsAttribute, at_mom
 use Rattle.hfs_volume.specs.Commands.{ChangesMode}
 use Rattle.hfs_volume.specs.Content.{VolumeState, has_attributes, volume_of}
 use Rattle.hfs_volume.specs.Cost.{cost_of}
-use Rattle.hfs_volume.specs.Run.{reply_to}
+use Rattle.volume_runs.specs.Run.{reply_to}
 use Rattle.hfs_volume.specs.Sound.{IsSound}
-use Rattle.hfs_volume.specs.Told.{changes_of, of_entry, of_made, of_pair}
+use Rattle.volume_runs.specs.Told.{changes_of, of_entry, of_made, of_pair}
 use Rattle.hfs_volume.specs.TreeOf.{tree_of}
 use Rattle.hfs_volume.specs.Weight.{data_of, edits, free_blocks, needs_for, room_with, weight_with}
 use Rattle.hfs_volume.specs.declared.cost.Cost.TheVariants as cost

@@ -22,9 +22,10 @@ use Rattle.hfs_volume.specs.Content.{TreeFacts, VolumeState, facts_at, has_attri
 use Rattle.hfs_volume.specs.Cost.{attributes_key, catalog_key, cost_of, growth, growth_for, no_tree, tree_at}
 use Rattle.hfs_volume.specs.Forks.{attributes_id, catalog_id, data_kind, extents_id}
 use Rattle.hfs_volume.specs.Reclaim.{GrowsBy, GrowsTree, GrowsTrees, IsTreeFork, blocks_at}
-use Rattle.hfs_volume.specs.Run.{DoesLine, IsAnswered, IsDone, IsServed, PutsInFork, is_ok, reply_to}
+use Rattle.hfs_volume.specs.Data.{PutsInFork}
+use Rattle.volume_runs.specs.Run.{DoesLine, IsAnswered, IsDone, IsServed, is_ok, reply_to}
 use Rattle.hfs_volume.specs.Sound.{IsSound}
-use Rattle.hfs_volume.specs.Told.{changes_of}
+use Rattle.volume_runs.specs.Told.{changes_of}
 use Rattle.hfs_volume.specs.TreeOf.{tree_of}
 use Rattle.hfs_volume.specs.Weight.{Edits, cost_of_tree, cut_cost, data_of, edits_of, free_blocks, lacks_tree, needs_cut, needs_for, room_with, weight, weight_with}
 use Rattle.hfs_volume.specs.declared.cost.Cost.{Cost}

@@ -8,7 +8,7 @@ use Rattle.hfs_language.specs.declared.command.Command.{Command}
 use Rattle.hfs_language.specs.declared.reply.Reply.TheVariants as reply
 use Rattle.hfs_model.specs.Step.{only_reads, step_line}
 use Rattle.hfs_model.specs.declared.plain.PlainTree.{PlainTree}
-use Rattle.hfs_volume.specs.Run.{is_ok, or_before, reply_to, shrunk_by}
+use Rattle.volume_runs.specs.Run.{is_ok, or_before, reply_to, shrunk_by}
 use Rattle.hfs_volume.specs.Sound.{IsSound}
 use Rattle.hfs_volume.specs.TreeOf.{tree_of}
 use Rattle.hfs_volume.specs.Weight.{data_of}

@@ -20,9 +20,10 @@ use Rattle.hfs_model.specs.declared.plain.PlainNode.{PlainNode}
 use Rattle.hfs_model.specs.declared.plain.PlainTree.{PlainTree}
 use Rattle.hfs_volume.specs.Content.{volume_of}
 use Rattle.hfs_volume.specs.Cost.{cost_of}
-use Rattle.hfs_volume.specs.Run.{DoesLine, IsDone, IsServed, PutsInFork, is_ok, reply_to}
+use Rattle.hfs_volume.specs.Data.{PutsInFork}
+use Rattle.volume_runs.specs.Run.{DoesLine, IsDone, IsServed, is_ok, reply_to}
 use Rattle.hfs_volume.specs.Sound.{IsSound}
-use Rattle.hfs_volume.specs.Told.{changes_of}
+use Rattle.volume_runs.specs.Told.{changes_of}
 use Rattle.hfs_volume.specs.TreeOf.{tree_of}
 use Rattle.hfs_volume.specs.Weight.{cut_cost, data_of, edits_of, free_blocks, lacks_tree, needs_cut, needs_for, room_with, weight, weight_with}
 use Rattle.hfs_volume.specs.declared.cost.Cost.TheVariants as cost

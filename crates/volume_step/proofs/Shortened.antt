@@ -18,7 +18,7 @@ use Rattle.hfs_model.specs.declared.plain.PlainNode.{PlainNode}
 use Rattle.hfs_model.specs.declared.plain.PlainTree.{PlainTree}
 use Rattle.hfs_volume.specs.Content.{VolumeState, volume_of}
 use Rattle.hfs_volume.specs.Sound.{IsSound}
-use Rattle.hfs_volume.specs.Told.{of_entry}
+use Rattle.volume_runs.specs.Told.{of_entry}
 use Rattle.hfs_volume.specs.TreeOf.{tree_of}
 use Rattle.hfs_volume.specs.Weight.{Data, data_of, grown_data, written_data}
 use Rattle.hfs_volume.specs.Writing.{with_free}

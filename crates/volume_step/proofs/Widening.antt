@@ -12,7 +12,7 @@ use Rattle.hfs_language.specs.declared.refusal.Refusal.{Refusal}
 use Rattle.hfs_language.specs.declared.reply.Reply.TheVariants as reply
 use Rattle.hfs_model.specs.Step.{only_reads}
 use Rattle.hfs_model.specs.declared.plain.PlainTree.{PlainTree}
-use Rattle.hfs_volume.specs.Run.{is_ok, or_before, shrunk_by}
+use Rattle.volume_runs.specs.Run.{is_ok, or_before, shrunk_by}
 use Rattle.hfs_volume.specs.TreeOf.{tree_of}
 use Rattle.alloc_bitmap.specs.Map.{BlockMap, free_of}
 use Rattle.hfs_volume.specs.Forks.{per_block_of}

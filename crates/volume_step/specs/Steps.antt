@@ -11,8 +11,8 @@ use Rattle.hfs_language.specs.declared.reply.Reply.{Reply}
 use Rattle.hfs_language.specs.declared.reply.Reply.TheVariants as reply
 use Rattle.hfs_model.specs.Step.{refuses, step_line}
 use Rattle.hfs_volume.specs.Content.{volume_of}
-use Rattle.hfs_volume.specs.Run.{AsksMore, Entry, IsServed, is_ok, is_to_come, or_before, shrunk_by}
-use Rattle.hfs_volume.specs.Told.{changes_by}
+use Rattle.volume_runs.specs.Run.{AsksMore, Entry, IsServed, is_ok, is_to_come, or_before, shrunk_by}
+use Rattle.volume_runs.specs.Told.{changes_by}
 use Rattle.hfs_volume.specs.TreeOf.{tree_of}
 use Rattle.hfs_volume.specs.Weight.{weight}
 use Rattle.hfs_volume.specs.declared.cost.Cost.TheVariants as cost

@@ -2,7 +2,7 @@ use Rattle.std.proofs.Common.{◌≡◌, ◌++◌, ◌+◌, ◌∷◌, [], ℕ, 
 use Rattle.std.specs.Prelude.{IsTrue, Bool, true, false}
 use Rattle.std.proofs.lemmas.List.{append-nil, take_more}
 use Rattle.hfs_serving.specs.Going.{ServesLine, ServesLines}
-use Rattle.hfs_volume.specs.Run.{shrunk_in}
+use Rattle.volume_runs.specs.Run.{shrunk_in}
 use Rattle.hfs_serving.proofs.Going.{lines_none, lines_on, lines_stop, on_err, stands_in_lines}
 use Rattle.hfs_serving.proofs.Syncing.{no_sync_more, no_sync_yet}
 use Rattle.std.proofs.lemmas.Result.{err_from_is_err_and}

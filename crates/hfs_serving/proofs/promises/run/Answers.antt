@@ -2,7 +2,7 @@ use Rattle.std.proofs.Common.{[], ℕ, List, length, refl, sym, ◌∙◌, ap, s
 use Rattle.std.specs.Prelude.{None, IsTrue}
 use Rattle.jnl_store.specs.Seen.{seen}
 use Rattle.jnl_store.specs.Store.{plan_of}
-use Rattle.hfs_volume.specs.Run.{shrunk_in}
+use Rattle.volume_runs.specs.Run.{shrunk_in}
 use Rattle.hfs_serving.specs.Grounds.{Anchor}
 use Rattle.hfs_serving.specs.Outside.{outside_of}
 use Rattle.hfs_serving.specs.Taking.{HasTaken}

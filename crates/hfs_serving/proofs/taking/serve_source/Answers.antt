@@ -2,7 +2,7 @@ use Rattle.std.proofs.Common.{◌≡◌, ◌≤◌, ◌<◌, ◌+◌, [], ℕ, L
 use Rattle.std.specs.Prelude.{Option, IsTrue}
 use Rattle.jnl_format.specs.Recovery.{Content}
 use Rattle.hfs_serving.specs.Going.{Stands}
-use Rattle.hfs_volume.specs.Run.{shrunk_in}
+use Rattle.volume_runs.specs.Run.{shrunk_in}
 use Rattle.hfs_serving.specs.Steps.{CrashesStep, ServesStep}
 use Rattle.hfs_serving.proofs.Going.{on_err}
 use Rattle.hfs_serving.proofs.Stepping.{both_heard, crash_both_heard, ends_heard, none_heard, step_both, step_crash, step_ends}

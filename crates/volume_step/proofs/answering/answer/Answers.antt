@@ -1,7 +1,7 @@
 use Rattle.std.proofs.Common.{◌≡◌, subst}
 use Rattle.std.specs.Prelude.{IfSome, Option, Ok}
 use Rattle.hfs_language.specs.declared.reply.Reply.{Reply}
-use Rattle.hfs_volume.specs.Run.{reply_to}
+use Rattle.volume_runs.specs.Run.{reply_to}
 use Rattle.volume_ops.specs.Room.{capacity_of}
 use Rattle.volume_ops.proofs.Commanding.{touches_looks}
 use Rattle.volume_ops.proofs.Sounding.{sound_here}

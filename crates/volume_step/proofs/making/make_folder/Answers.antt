@@ -4,7 +4,7 @@ use Rattle.std.specs.List.{Contains}
 use Rattle.sector_disk.specs.Lists.{Content}
 use Rattle.hfs_language.specs.declared.command.Command.TheVariants as command
 use Rattle.hfs_model.specs.Step.{to_make}
-use Rattle.hfs_volume.specs.Told.{of_made}
+use Rattle.volume_runs.specs.Told.{of_made}
 use Rattle.hfs_volume.specs.TreeOf.{tree_of}
 use Rattle.volume_ops.specs.Room.{capacity_of}
 use Rattle.volume_ops.specs.Touching.{Touches}

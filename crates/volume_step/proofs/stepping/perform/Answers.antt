@@ -1,7 +1,7 @@
 use Rattle.std.proofs.Common.{ap, subst, sym}
 use Rattle.std.specs.Prelude.{IfOk, Ok}
 use Rattle.hfs_language.specs.declared.command.Command.{Command}
-use Rattle.hfs_volume.specs.Run.{shrunk_by}
+use Rattle.volume_runs.specs.Run.{shrunk_by}
 use Rattle.hfs_volume.specs.TreeOf.{tree_of}
 use Rattle.volume_ops.specs.Keeping.{shrunk_of}
 use Rattle.volume_step.specs.Steps.{ShrinksAs}

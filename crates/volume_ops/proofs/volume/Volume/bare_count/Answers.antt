@@ -4,7 +4,7 @@ use Rattle.hfs_language.specs.Written.{FitsPath}
 use Rattle.hfs_language.specs.declared.command.Command.TheVariants as command
 use Rattle.hfs_model.specs.Step.{is_private_path}
 use Rattle.hfs_model.specs.declared.plain.PlainEntry.{PlainEntry}
-use Rattle.hfs_volume.specs.Run.{attribute_edits}
+use Rattle.volume_runs.specs.Run.{attribute_edits}
 use Rattle.hfs_volume.specs.TreeOf.{tree_of}
 use Rattle.volume_ops.specs.Removing.{MayRemove}
 use Rattle.volume_ops.proofs.RemoveWeight.{removed_some}

@@ -3,7 +3,7 @@ use Rattle.std.specs.Prelude.{IfOk, Ok}
 use Rattle.hfs_language.specs.Written.{FitsPath}
 use Rattle.hfs_language.specs.declared.reply.Change.{Change}
 use Rattle.hfs_model.specs.Step.{Place, is_private_path, to_make}
-use Rattle.hfs_volume.specs.Told.{of_made}
+use Rattle.volume_runs.specs.Told.{of_made}
 use Rattle.hfs_volume.specs.TreeOf.{tree_of}
 use Rattle.volume_ops.proofs.Noticed.{made_some}
 use Rattle.volume_ops.proofs.volume.Volume.change_made.Goals as goal

@@ -4,7 +4,7 @@ use Rattle.hfs_language.specs.declared.command.Command.{Command}
 use Rattle.hfs_language.specs.declared.command.Command.TheVariants as command
 use Rattle.hfs_model.specs.Step.{refuses}
 use Rattle.hfs_volume.specs.Content.{volume_of}
-use Rattle.hfs_volume.specs.Run.{is_to_come}
+use Rattle.volume_runs.specs.Run.{is_to_come}
 use Rattle.hfs_volume.specs.TreeOf.{tree_of}
 use Rattle.volume_ops.specs.Room.{free_in}
 use Rattle.volume_ops.specs.Weighing.{weighed}

@@ -1,7 +1,6 @@
 -- Runs: lines, each with its reply and the contents before and after it.
 use Rattle.std.specs.Prelude.{◌≡◌, ◌≢◌, ◌⊎◌, ◌<◌, ℕ, ◌+◌, nat_lt, Bool, true, false, List, [], ◌∷◌, ◌++◌, length, map, take, drop, sum, All, Option, Some, None, Result, Ok, Err, IsTrue, if◌then◌else◌}
 use Rattle.jnl_format.specs.Recovery.{Content}
-use Rattle.alloc_bitmap.specs.Apart.{AreApart}
 use Rattle.hfs_language.specs.Language.{command_of}
 use Rattle.hfs_language.specs.Text.{reply_text}
 use Rattle.hfs_language.specs.declared.command.Command.{Command}
@@ -14,12 +13,13 @@ use Rattle.hfs_volume.specs.declared.cost.Cost.TheVariants as cost
 use Rattle.hfs_model.specs.declared.plain.PlainNode.{PlainNode}
 use Rattle.hfs_model.specs.declared.plain.PlainTree.{PlainTree}
 use Rattle.hfs_model.specs.Step.{step_line, refuses, to_file, only_reads}
-use Rattle.hfs_volume.specs.Forks.{data_kind}
-use Rattle.hfs_volume.specs.Content.{VolumeState, volume_of, is_set}
+use Rattle.hfs_volume.specs.Content.{volume_of}
 use Rattle.hfs_volume.specs.Sound.{IsSound}
 use Rattle.hfs_volume.specs.TreeOf.{tree_of}
-use Rattle.hfs_volume.specs.Weight.{Data, data_of, weight, gauge, edits_of, needs_cut, first_block, new_blocks_of, old_blocks_of}
-use Rattle.hfs_volume.specs.Reclaim.{GrowsTrees, IsTreeFork, blocks_at, Rests}
+use Rattle.hfs_volume.specs.Weight.{data_of, weight, gauge, edits_of, needs_cut}
+use Rattle.hfs_volume.specs.Data.{PutsInFork}
+use Rattle.hfs_volume.specs.Reclaim.{GrowsTrees}
+use Rattle.volume_runs.specs.Rest.{Rests}
 
 -- ---- entries
 
@@ -33,26 +33,6 @@ pub record Entry : Type 0 where
 -- what the line asks for, or why it spells no command
 abbrev pub asked_by : Entry → Result Command Refusal
 asked_by entry = command_of entry.line
-
--- blocks that were free, each once
-pub record AreFresh (volume : VolumeState) (blocks : List ℕ) : Type 0 where
-  pub inside : All (λ block. block < volume.head.total_blocks) blocks
-  pub free : All (λ block. is_set volume block ≡ false) blocks
-  pub once : AreApart blocks
-
--- New blocks stand in place of the old ones from the first that is written on.
-pub record PutsData (put : Data) (old new : VolumeState) : Type 0 where
-  pub fresh : List ℕ
-  pub are_fresh : AreFresh old fresh
-  pub many : length fresh ≡ new_blocks_of old.head.block_size put
-  pub is : blocks_at new put.id data_kind
-      ≡ take (first_block old.head.block_size put) (blocks_at old put.id data_kind)
-      ++ (fresh ++ drop (first_block old.head.block_size put + old_blocks_of old.head.block_size put) (blocks_at old put.id data_kind))
-
--- what becomes of the forks of files: the one that data is put into has it, and all others have the blocks that they had
-abbrev pub PutsInFork : Option Data → VolumeState → VolumeState → Type 0
-PutsInFork None old new = (id kind : ℕ) → ¬ IsTreeFork id → blocks_at new id kind ≡ blocks_at old id kind
-PutsInFork (Some put) old new = PutsData put old new × ((id kind : ℕ) → ¬ IsTreeFork id → (id ≢ put.id) ⊎ (kind ≢ data_kind) → blocks_at new id kind ≡ blocks_at old id kind)
 
 -- the reply of a command's step, but that `df` is answered by the volume
 abbrev pub reply_to : ℕ → Content → Result Command Refusal → Reply

@@ -9,7 +9,7 @@ use Rattle.hfs_language.specs.declared.reply.ChangeKind.TheVariants as change
 use Rattle.hfs_model.specs.declared.plain.PlainEntry.{PlainEntry}
 use Rattle.hfs_model.specs.declared.plain.PlainTree.{PlainTree}
 use Rattle.hfs_model.specs.Step.{Place, to_make, to_rm, to_rmdir, to_mv, to_ln, reached}
-use Rattle.hfs_volume.specs.Run.{Entry, asked_by, is_ok}
+use Rattle.volume_runs.specs.Run.{Entry, asked_by, is_ok}
 use Rattle.hfs_volume.specs.TreeOf.{tree_of}
 
 -- a change of what an entry names, at its place
