@@ -91,7 +91,7 @@ fn image_of<'a>(
         Work::Format { sectors } => Image::to_format(rt, name, sectors),
         Work::Run => Image::open(rt, name),
         Work::Check => Image::to_check(rt, name),
-        Work::Wrong => Ok((Image::Absent, 0)),
+        Work::Gen { .. } | Work::Wrong => Ok((Image::Absent, 0)),
     }
 }
 

@@ -1,6 +1,7 @@
 pub mod Cause
 pub mod Checking
 pub mod Faults
+pub mod Generating
 pub mod Made
 pub mod Status
 pub mod Telling

@@ -2,7 +2,7 @@
 use Rattle.std.specs.Prelude.{◌≡◌, ◌≢◌, ◌⊎◌, ◌<◌, ◌^◌, ℕ, List, [], ◌∷◌, map, slice_index, String, string_bytes, codes, decimal}
 use Rattle.std.specs.declared.alloc.Global.{Global}
 use Rattle.hfsx_server.specs.declared.words.Work.{Work}
-use Rattle.hfsx_server.specs.declared.words.Work.TheVariants.{Check, Format, Run, Wrong}
+use Rattle.hfsx_server.specs.declared.words.Work.TheVariants.{Check, Format, Gen, Run, Wrong}
 
 -- the words as lists of bytes
 abbrev pub texts : List (String Global) → List (List ℕ)
@@ -26,13 +26,30 @@ AreCheck words = (image : List ℕ) × MayName image × (words ≡ codes "check"
 abbrev pub AreFormat : List (List ℕ) → ℕ → Type 0
 AreFormat words sectors = (image : List ℕ) × MayName image × (sectors < 2 ^ 64) × (words ≡ codes "format" ∷ image ∷ decimal sectors ∷ [])
 
+-- the words are `gen SEED COUNT`
+abbrev pub AreGen : List (List ℕ) → (seed count : ℕ) → Type 0
+AreGen words seed count = (seed < 2 ^ 64) × (count < 2 ^ 64) × (words ≡ codes "gen" ∷ decimal seed ∷ decimal count ∷ [])
+
+-- the words behind `format` ask for this work
+abbrev pub IsFormatOf : (image sectors : List ℕ) → Work → Type 0
+IsFormatOf image sectors (Format many) = MayName image × (many < 2 ^ 64) × (sectors ≡ decimal many)
+IsFormatOf image sectors Wrong = (many : ℕ) → MayName image → many < 2 ^ 64 → sectors ≢ decimal many
+IsFormatOf image sectors _ = ⊥
+
+-- the words behind `gen` ask for this work
+abbrev pub IsGenOf : (seed count : List ℕ) → Work → Type 0
+IsGenOf seed count (Gen n many) = (n < 2 ^ 64) × (many < 2 ^ 64) × (seed ≡ decimal n) × (count ≡ decimal many)
+IsGenOf seed count Wrong = (n many : ℕ) → n < 2 ^ 64 → many < 2 ^ 64 → seed ≡ decimal n → count ≢ decimal many
+IsGenOf seed count _ = ⊥
+
 -- the words ask for this work
 abbrev pub AreWordsOf : List (List ℕ) → Work → Type 0
 AreWordsOf words (Format sectors) = AreFormat words sectors
 AreWordsOf words Run = AreRun words
 AreWordsOf words Check = AreCheck words
-AreWordsOf words Wrong = ¬ AreRun words × ¬ AreCheck words × ((sectors : ℕ) → ¬ AreFormat words sectors)
+AreWordsOf words (Gen seed count) = AreGen words seed count
+AreWordsOf words Wrong = ¬ AreRun words × ¬ AreCheck words × ((sectors : ℕ) → ¬ AreFormat words sectors) × ((seed count : ℕ) → ¬ AreGen words seed count)
 
 -- the words ask for a work, and where they give a number of sectors, it is that of the image
 abbrev pub AreInUse : List (List ℕ) → ℕ → Type 0
-AreInUse words sectors = AreRun words ⊎ (AreCheck words ⊎ AreFormat words sectors)
+AreInUse words sectors = AreRun words ⊎ (AreCheck words ⊎ (AreFormat words sectors ⊎ ((seed count : ℕ) × AreGen words seed count)))

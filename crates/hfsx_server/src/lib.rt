@@ -4,6 +4,7 @@
 mod checking;
 mod faults;
 mod formatting;
+mod generating;
 mod header;
 mod refusal;
 mod reports;
@@ -14,6 +15,7 @@ mod words;
 
 pub use checking::check;
 pub use formatting::format;
+pub use generating::{Played, generate};
 pub use refusal::{SizeRefusal, tell_mount, tell_open, tell_refusal, tell_usage};
 pub use running::run;
 pub use status::Status;

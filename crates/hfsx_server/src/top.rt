@@ -9,18 +9,20 @@ ghost use Rattle.hfs_serving.specs.Ending.{AnswersRun, AnswersToTheLast, Finishe
 ghost use Rattle.hfs_serving.specs.Steps.{KeepsRun};
 ghost use Rattle.volume_make.specs.Layout.{free_of};
 ghost use Rattle.hfsx_server.specs.Checking.{IsSoundImage, ToldBroken, ToldCheckRefusal, ToldSound};
+ghost use Rattle.hfsx_server.specs.Generating.{ToldPlayed};
 ghost use Rattle.hfsx_server.specs.Made.{IsMade, IsNoSize, made_layout};
 ghost use Rattle.hfsx_server.specs.Telling.{ToldRefusal, ToldUnlessFailed, refusal_text, size_refusal, usage_text, formatted_text};
-ghost use Rattle.hfsx_server.specs.Words.{texts, AreRun, AreCheck, AreFormat, AreInUse};
+ghost use Rattle.hfsx_server.specs.Words.{texts, AreRun, AreCheck, AreFormat, AreGen, AreInUse};
 
-use crate::{Status, Work, check, format, read_words, run, tell_usage};
+use crate::{Status, Work, check, format, generate, read_words, run, tell_usage};
 use sector_disk::{Rig, Source};
 use std::alloc::Global;
 
 /// Does what the words after the program's name ask for, on an image and with the lines of a source.
 ///
 /// `format IMAGE SECTORS` makes an empty volume, `run IMAGE` answers line after line, and `check IMAGE` says whether the volume is
-/// sound. The name of the image is the caller's, who opened it. Other words tell how the program is called.
+/// sound. The name of the image is the caller's, who opened it. `gen SEED COUNT` plays generated lines on a volume in memory, and leaves
+/// the image alone. Other words tell how the program is called.
 pub fn hfsx<R: Rig, S: Source>(
     alloc: Global,
     words: &[String],
@@ -74,6 +76,10 @@ pub fn hfsx<R: Rig, S: Source>(
         → (result ≡ Status.Refused) ⊎ ((result ≡ Status.Disk) ⊎ (result ≡ Status.Memory)) }
     ensures check_unwritten { AreCheck (texts words.now) → ((R.state rig.new).candidates ≡ (R.state rig.old).candidates) × ((R.state rig.new).barriers ≡ (R.state rig.old).barriers) }
 
+    // `gen`: with status 0 and 1 its line was told, which says that the volume in memory is sound, or that it isn't. Nothing is written.
+    ensures gen_told { (seed count : ℕ) → AreGen (texts words.now) seed count → IsTrue (R.state rig.old).tells → (result ≡ Status.Done) ⊎ (result ≡ Status.Refused) → ToldPlayed seed count result (R.state rig.old) (R.state rig.new) }
+    ensures gen_unwritten { (seed count : ℕ) → AreGen (texts words.now) seed count → ((R.state rig.new).candidates ≡ (R.state rig.old).candidates) × ((R.state rig.new).barriers ≡ (R.state rig.old).barriers) }
+
     // What is refused, and wrong words, leave the image as it was.
     ensures unwritten { (result ≡ Status.Refused) ⊎ (result ≡ Status.Usage) → (R.state rig.new).candidates ≡ (R.state rig.old).candidates }
 
@@ -85,6 +91,7 @@ pub fn hfsx<R: Rig, S: Source>(
     match read_words(words) {
         Work::Run => run(alloc, rig, source),
         Work::Check => check(alloc, rig),
+        Work::Gen { seed, count } => generate(alloc, rig, seed, count),
         Work::Format { sectors } => {
             if sectors == rig.sectors() {
                 format(alloc, rig)

@@ -1,6 +1,6 @@
 // The words of a command line.
 ghost use Rattle.std.specs.Prelude.{◌≡◌, ◌≢◌, ◌<◌, ◌^◌, ◌↔◌, ℕ, IsTrue, MatchOption, codes, decimal, string_bytes};
-ghost use Rattle.hfsx_server.specs.Words.{texts, MayName, AreWordsOf};
+ghost use Rattle.hfsx_server.specs.Words.{texts, MayName, AreWordsOf, IsFormatOf, IsGenOf};
 
 use itoa::Buffer;
 
@@ -13,6 +13,8 @@ pub enum Work {
     Run,
     /// `check IMAGE`
     Check,
+    /// `gen SEED COUNT`
+    Gen { seed: u64, count: u64 },
     /// Any other words.
     Wrong,
 }
@@ -34,18 +36,43 @@ pub fn read_words(words: &[String]) -> Work
             }
             Work::Wrong
         }
-        [verb, image, sectors] => {
-            if verb.as_str() == "format" && may_name(image.as_str()) {
-                match read_number(sectors.as_str()) {
-                    Some(sectors) => Work::Format { sectors },
-                    None => Work::Wrong,
-                }
-            } else {
-                Work::Wrong
+        [verb, first, second] => {
+            if verb.as_str() == "format" {
+                return read_format(first.as_str(), second.as_str());
             }
+            if verb.as_str() == "gen" {
+                return read_gen(first.as_str(), second.as_str());
+            }
+            Work::Wrong
         }
         _ => Work::Wrong,
     }
+}
+
+// Reads the words behind `format`.
+fn read_format(image: &str, sectors: &str) -> Work
+    ensures { IsFormatOf image.now sectors.now result }
+{
+    if !may_name(image) {
+        return Work::Wrong;
+    }
+    match read_number(sectors) {
+        Some(sectors) => Work::Format { sectors },
+        None => Work::Wrong,
+    }
+}
+
+// Reads the words behind `gen`.
+fn read_gen(seed: &str, count: &str) -> Work
+    ensures { IsGenOf seed.now count.now result }
+{
+    let Some(seed) = read_number(seed) else {
+        return Work::Wrong;
+    };
+    let Some(count) = read_number(count) else {
+        return Work::Wrong;
+    };
+    Work::Gen { seed, count }
 }
 
 // The number that the word is in decimal, without a sign or a leading zero.

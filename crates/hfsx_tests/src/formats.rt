@@ -101,9 +101,7 @@ fn a_volume_of_another_size_is_made_and_served(rt: HostRuntime) -> Result<(), Fa
 fn wrong_words_tell_the_usage(rt: HostRuntime) -> Result<(), Fail> {
     let alloc = rt.alloc();
     for line in [
-        // No work, and one that isn't built.
         "",
-        "gen 7",
         // Words for options, the word `help` and an empty word.
         "--help",
         "run -v",
@@ -115,7 +113,11 @@ fn wrong_words_tell_the_usage(rt: HostRuntime) -> Result<(), Fail> {
         "check",
         "check v.img w.img",
         "check -v",
+        "gen 7",
+        "gen 7 8 9",
         // No number, and not that of the image.
+        "gen 07 5",
+        "gen 7 -5",
         "format v.img 07",
         "format v.img +7",
         "format v.img 18446744073709551616",
@@ -127,6 +129,20 @@ fn wrong_words_tell_the_usage(rt: HostRuntime) -> Result<(), Fail> {
         assert_eq!(rt; rig.told(), USAGE.as_bytes());
         assert_eq!(rt; rig.calls(), 0);
     }
+    Ok(())
+}
+
+#[test]
+fn a_stream_without_lines_leaves_an_empty_volume(rt: HostRuntime) -> Result<(), Fail> {
+    let alloc = rt.alloc();
+    let mut rig = MemRig::new(alloc, 8)?;
+    let ended = run_on(alloc, "gen 1 0", &mut rig, b"ls /\n")?;
+    assert_eq!(rt; ended, Status::Done);
+    assert_eq!(rt;
+        rig.told(),
+        b"gen 1 0 ok 0 no 0 folders 0 names 0 files 0 bytes 0 sum 0 clean\n".as_slice()
+    );
+    assert_eq!(rt; rig.calls(), 0);
     Ok(())
 }
 

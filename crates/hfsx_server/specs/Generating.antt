@@ -1,0 +1,25 @@
+-- What is told of a stream that was played.
+use Rattle.std.specs.Prelude.{◌≡◌, ◌++◌, ℕ, Bool, List, codes, if◌then◌else◌}
+use Rattle.sector_disk.specs.Disk.{State}
+use Rattle.hfs_language.specs.Text.{field}
+use Rattle.hfsx_server.specs.declared.generating.Played.{Played}
+use Rattle.hfsx_server.specs.declared.status.Status.{Status}
+use Rattle.hfsx_server.specs.declared.status.Status.TheVariants as status
+
+-- the last word of its line
+abbrev pub state_text : Bool → List ℕ
+state_text clean = if clean then codes " clean\n" else codes " unsound\n"
+
+-- the line of a stream that was played: its seed and how many lines it had, what they were answered, and what the volume holds
+abbrev pub played_text : (seed count : ℕ) → Played → List ℕ
+played_text seed count played =
+    codes "gen" ++ field seed ++ field count ++ (codes " ok" ++ field played.done) ++ (codes " no" ++ field played.refused) ++ (codes " folders" ++ field played.folders) ++ (codes " names" ++ field played.names)
+    ++ (codes " files" ++ field played.files) ++ (codes " bytes" ++ field played.bytes) ++ (codes " sum" ++ field played.sum) ++ state_text played.clean
+
+-- the status of a stream that was played: its volume is sound, or it isn't
+abbrev pub verdict_of : Played → Status
+verdict_of played = if played.clean then status.Done else status.Refused
+
+-- A line of such a stream was told, with this status.
+abbrev pub ToldPlayed : (seed count : ℕ) → Status → State → State → Type 0
+ToldPlayed seed count result old new = (played : Played) × (result ≡ verdict_of played) × (new.told ≡ old.told ++ played_text seed count played)
