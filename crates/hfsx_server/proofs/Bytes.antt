@@ -1,14 +1,14 @@
 -- What an image of bytes stands for is bytes.
-use Rattle.std.proofs.Common.{◌≡◌, ℕ, zero, suc, ◌+◌, ◌-◌, ◌*◌, ◌/◌, ◌<◌, ◌≤◌, Bool, true, false, List, [], ◌∷◌, ◌++◌, length, take, drop, map, get_or, refl, sym, ◌∙◌, ap, subst, arith, ⊎_elim}
-use Rattle.std.specs.Prelude.{IsTrue, slice_set}
+use Rattle.std.proofs.Common.{ℕ, zero, suc, ◌+◌, ◌-◌, ◌/◌, ◌<◌, ◌≤◌, List, [], ◌∷◌, ◌++◌, length, take, drop, map, refl, sym, subst, arith, ⊎_elim}
+use Rattle.std.specs.Prelude.{slice_set}
 use Rattle.std.specs.List.{Contains, concat}
 use Rattle.std.proofs.lemmas.Bool.{cases_lt}
 use Rattle.std.proofs.lemmas.List.{length-take, length-map, get_or-take, get_or-drop, get_or_past, get_or-map}
 use Rattle.hx_bytes.specs.Field.{AreBytes}
-use Rattle.sector_disk.specs.Disk.{State, IsDisk, Candidates, candidates_of, content, content_of}
-use Rattle.sector_disk.specs.Lists.{IsSector, last}
-use Rattle.jnl_format.specs.Recovery.{Content, Journal, sector, replayed, with_homes, with_home, homes_of, text_of}
-use Rattle.jnl_format.specs.Ring.{ring_text, journal_bytes, bytes_from, distance}
+use Rattle.sector_disk.specs.Disk.{State, IsDisk, Candidates, candidates_of, content}
+use Rattle.sector_disk.specs.Lists.{last}
+use Rattle.jnl_format.specs.Recovery.{Content, Journal, replayed, with_homes, with_home, homes_of, text_of}
+use Rattle.jnl_format.specs.Ring.{journal_bytes, bytes_from, distance}
 use Rattle.jnl_format.specs.declared.blocks.Home.{Home}
 use Rattle.hfs_volume.specs.Findings.{HasBytes}
 

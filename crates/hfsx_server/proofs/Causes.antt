@@ -6,7 +6,6 @@ use Rattle.hx_bytes.specs.declared.faults.Trouble.TheVariants.{Disk, Memory}
 use Rattle.hfsx_server.specs.Cause.{IsCause}
 use Rattle.hfsx_server.specs.declared.faults.CheckFault.{CheckFault}
 use Rattle.hfsx_server.specs.declared.faults.CheckFault.TheVariants as fault
-use Rattle.sector_disk.specs.Cause.{HasCause, Rose}
 use Rattle.hfsx_server.specs.Faults.{fault_of_trouble}
 
 pub same_fault : {T E : Type 0} (y fault : E) → ◌≡◌ {A = Result T E} (Err y) (Err fault) → y ≡ fault

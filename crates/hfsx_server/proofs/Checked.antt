@@ -1,6 +1,6 @@
 -- What a check finds, and why it refuses an image.
 use Rattle.std.specs.Prelude.{◌↔◌, ◌≤◌, Contains, IfOk}
-use Rattle.std.proofs.Common.{◌≡◌, ◌⊎◌, ◌<◌, ◌++◌, ℕ, Bool, true, false, List, IsTrue, Result, Ok, Err, Option, None, inl, inr, ⊎_elim, length, refl, sym, ◌∙◌, ap, subst}
+use Rattle.std.proofs.Common.{◌≡◌, ◌⊎◌, ◌<◌, ◌++◌, ℕ, Bool, false, List, IsTrue, Result, Ok, Err, None, ⊎_elim, length, refl, sym, ◌∙◌, ap, subst}
 use Rattle.sector_disk.specs.Disk.{State, content}
 use Rattle.volume_header.specs.Refusal.{header_refusal}
 use Rattle.volume_header.specs.declared.header.VolumeHeader.{VolumeHeader}

@@ -1,7 +1,7 @@
 -- What an image stands for, and why it isn't mounted.
-use Rattle.std.proofs.Common.{◌≡◌, ◌<◌, ℕ, Bool, List, inl, inr, ⊎_elim, sym, ◌∙◌, ap, subst, arith, cond}
+use Rattle.std.proofs.Common.{◌≡◌, ◌<◌, ℕ, Bool, List, sym, ◌∙◌, ap, subst, arith, cond}
 use Rattle.std.specs.Prelude.{Ok}
-use Rattle.std.proofs.lemmas.Bool.{eq-eqb, cases_lt}
+use Rattle.std.proofs.lemmas.Bool.{eq-eqb}
 use Rattle.jnl_format.specs.Recovery.{Content, Journal, recovery}
 use Rattle.jnl_replay.specs.Peeking.{peeked}
 use Rattle.jnl_replay.specs.Viewing.{shown}

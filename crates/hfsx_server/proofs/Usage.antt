@@ -1,8 +1,10 @@
 -- Words ask for one work at most.
-use Rattle.std.proofs.Common.{◌≡◌, ℕ, List, [], ◌∷◌, get_or, refl, sym, ◌∙◌, ap, codes}
+use Rattle.std.proofs.Common.{◌≡◌, ℕ, List, [], ◌∷◌, get_or, refl, subst, sym, ◌∙◌, ap, codes}
 use Rattle.std.specs.Prelude.{decimal}
 use Rattle.std.proofs.lemmas.Fmt.{decimal_injective}
-use Rattle.hfsx_server.specs.Words.{AreRun, AreCheck, AreFormat, AreGen}
+use Rattle.hfsx_server.specs.Words.{AreRun, AreCheck, AreFormat, AreGen, AreWordsOf, IsFormatOf, IsGenOf, MayName}
+use Rattle.hfsx_server.specs.declared.words.Work.{Work}
+use Rattle.hfsx_server.specs.declared.words.Work.TheVariants.{Check, Format, Gen, Run, Wrong}
 
 third : List (List ℕ) → List ℕ
 third words = get_or words 2 []
@@ -68,3 +70,42 @@ same_seed words a b m n one other = decimal_injective a b one.0 other.0 (sym (th
 
 pub same_count : (words : List (List ℕ)) (a b m n : ℕ) → AreGen words a m → AreGen words b n → m ≡ n
 same_count words a b m n one other = decimal_injective m n one.1 other.1 (sym (the_last a m) ∙ ap third (sym one.2 ∙ other.2) ∙ the_last b n)
+
+second_is : (v a b : List ℕ) → second (v ∷ a ∷ b ∷ []) ≡ a
+unfolding second
+second_is v a b = refl
+
+third_is : (v a b : List ℕ) → third (v ∷ a ∷ b ∷ []) ≡ b
+unfolding third
+third_is v a b = refl
+
+the_second_of : (words : List (List ℕ)) (v a b : List ℕ) → words ≡ v ∷ a ∷ b ∷ [] → second words ≡ a
+the_second_of words v a b are = ap second are ∙ second_is v a b
+
+the_third_of : (words : List (List ℕ)) (v a b : List ℕ) → words ≡ v ∷ a ∷ b ∷ [] → third words ≡ b
+the_third_of words v a b are = ap third are ∙ third_is v a b
+
+-- the words behind `format`, and those behind `gen`
+pub words_of_format : (words : List (List ℕ)) (a b : List ℕ) (work : Work) → words ≡ codes "format" ∷ a ∷ b ∷ [] → IsFormatOf a b work → AreWordsOf words work
+words_of_format words a b (Format many) are is = (a, is.0, is.1, are ∙ ap (λ (t : List ℕ). codes "format" ∷ a ∷ t ∷ []) is.2)
+words_of_format words a b Run are is = absurd is
+words_of_format words a b Check are is = absurd is
+words_of_format words a b (Gen seed count) are is = absurd is
+words_of_format words a b Wrong are is = (
+  λ run. apart words run.0 a b run.2 are,
+  λ check. apart_check words check.0 a b check.2 are,
+  λ many format. is many (subst MayName (sym (the_second_of words _ _ _ format.3) ∙ the_second_of words _ _ _ are) format.1) format.2 (sym (the_third_of words _ _ _ are) ∙ the_third_of words _ _ _ format.3),
+  λ seed count gen. apart_gen_format words a b (decimal seed) (decimal count) are gen.2,
+)
+
+pub words_of_gen : (words : List (List ℕ)) (a b : List ℕ) (work : Work) → words ≡ codes "gen" ∷ a ∷ b ∷ [] → IsGenOf a b work → AreWordsOf words work
+words_of_gen words a b (Format many) are is = absurd is
+words_of_gen words a b Run are is = absurd is
+words_of_gen words a b Check are is = absurd is
+words_of_gen words a b (Gen seed count) are is = (is.0, is.1, are ∙ (λ i. codes "gen" ∷ is.2 i ∷ is.3 i ∷ []))
+words_of_gen words a b Wrong are is = (
+  λ run. apart_gen_run words run.0 a b run.2 are,
+  λ check. apart_gen_check words check.0 a b check.2 are,
+  λ many format. apart_gen_format words format.0 (decimal many) a b format.3 are,
+  λ seed count gen. is seed count gen.0 gen.1 (sym (the_second_of words _ _ _ are) ∙ the_second_of words _ _ _ gen.2) (sym (the_third_of words _ _ _ are) ∙ the_third_of words _ _ _ gen.2),
+)

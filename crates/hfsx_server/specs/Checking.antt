@@ -1,5 +1,5 @@
 -- What a check says of an image.
-use Rattle.std.specs.Prelude.{◌≡◌, ◌⊎◌, ◌↔◌, ◌<◌, ◌≤◌, ◌++◌, ℕ, List, length, Contains, IsTrue, Ok, Err, None, Some}
+use Rattle.std.specs.Prelude.{◌≡◌, ◌⊎◌, ◌↔◌, ◌<◌, ◌≤◌, ◌++◌, List, length, Contains, IsTrue, Ok, Err, None, Some}
 use Rattle.sector_disk.specs.Disk.{State, content}
 use Rattle.volume_header.specs.Refusal.{header_refusal}
 use Rattle.jnl_format.specs.Recovery.{Content, header_of_volume, recovery}

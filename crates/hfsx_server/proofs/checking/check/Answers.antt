@@ -1,4 +1,4 @@
-use Rattle.std.proofs.Common.{◌≡◌, ◌∙◌, List, IsTrue, inr, ⊎_elim, sym, subst}
+use Rattle.std.proofs.Common.{◌∙◌, List, inr, subst}
 use Rattle.sector_disk.specs.Disk.{content}
 use Rattle.fsck_list.specs.declared.finding.Finding.{Finding}
 use Rattle.hfsx_server.specs.Checking.{IsCheckFault, JudgesImage}

@@ -1,8 +1,7 @@
-use Rattle.std.proofs.Common.{◌≡◌, ◌∙◌, Ok, refl, sym, ap, subst}
+use Rattle.std.proofs.Common.{◌≡◌, ◌∙◌, Ok, sym, ap, subst}
 use Rattle.sector_disk.specs.Disk.{content}
 use Rattle.sector_disk.proofs.Writing.{reads_both}
-use Rattle.volume_header.specs.Refusal.{header_refusal}
-use Rattle.jnl_format.specs.Recovery.{Content, header_of_volume, recovery, replayed}
+use Rattle.jnl_format.specs.Recovery.{Content, recovery, replayed}
 use Rattle.jnl_replay.specs.Plan.{journal_of}
 use Rattle.jnl_replay.specs.Peeking.{peeked}
 use Rattle.jnl_replay.specs.Viewing.{shown}

@@ -1,4 +1,4 @@
-use Rattle.std.proofs.Common.{◌≡◌, ℕ, List, IsTrue, get_or, sym, ap}
+use Rattle.std.proofs.Common.{ℕ, List, get_or, sym, ap}
 use Rattle.sector_disk.specs.Disk.{content}
 use Rattle.jnl_replay.specs.Viewing.{shown}
 use Rattle.hfsx_server.proofs.Checked.{judges_of}

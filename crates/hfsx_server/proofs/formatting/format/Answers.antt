@@ -1,4 +1,4 @@
-use Rattle.std.proofs.Common.{◌≡◌, ◌<◌, ◌∙◌, ◌++◌, [], ℕ, List, IsTrue, sym, ap, subst, arith}
+use Rattle.std.proofs.Common.{◌≡◌, ◌<◌, ◌∙◌, ◌++◌, ℕ, List, IsTrue, sym, ap, subst, arith}
 use Rattle.volume_make.specs.Layout.{free_of}
 use Rattle.hfsx_server.specs.Made.{made_layout}
 use Rattle.hfsx_server.specs.Telling.{Tells, refusal_text, size_refusal, formatted_text}

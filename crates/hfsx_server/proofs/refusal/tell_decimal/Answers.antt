@@ -1,4 +1,4 @@
-use Rattle.std.proofs.Common.{◌≡◌, ◌∙◌, ℕ, List, sym, subst}
+use Rattle.std.proofs.Common.{◌∙◌, ℕ, List, subst}
 use Rattle.hfsx_server.specs.Telling.{Telling}
 use Rattle.hfsx_server.proofs.refusal.tell_decimal.Goals as goal
 

@@ -1,4 +1,4 @@
-use Rattle.std.proofs.Common.{◌≡◌, ℕ, List, ◌++◌, ◌∷◌, [], length, codes, refl}
+use Rattle.std.proofs.Common.{◌∷◌, [], refl}
 use Rattle.std.specs.Prelude.{decimal}
 use Rattle.std.proofs.lemmas.Result.{err_from_is_err_and}
 use Rattle.hfsx_server.proofs.Telling.{telling_both, telling_failed}

@@ -1,4 +1,4 @@
-use Rattle.std.proofs.Common.{◌≡◌, ℕ, List, ◌++◌, ◌∷◌, [], length, codes, refl}
+use Rattle.std.proofs.Common.{◌++◌, length, codes, refl}
 use Rattle.std.specs.List.{flat_map}
 use Rattle.hfs_language.specs.Text.{field}
 use Rattle.hfsx_server.specs.Telling.{finding_text}

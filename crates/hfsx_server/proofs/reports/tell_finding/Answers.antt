@@ -1,4 +1,4 @@
-use Rattle.std.proofs.Common.{◌≡◌, ◌++◌, ◌∷◌, [], ℕ, List, codes, refl}
+use Rattle.std.proofs.Common.{◌++◌, ◌∷◌, [], ℕ, codes, refl}
 use Rattle.std.specs.Prelude.{decimal}
 use Rattle.std.proofs.lemmas.Result.{err_from_is_err_and}
 use Rattle.hfs_language.specs.Text.{fields}

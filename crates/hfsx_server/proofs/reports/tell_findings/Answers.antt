@@ -1,4 +1,3 @@
-use Rattle.std.proofs.Common.{◌≡◌}
 use Rattle.hfsx_server.specs.Telling.{findings_text}
 use Rattle.hfsx_server.proofs.Telling.{tells_all}
 use Rattle.hfsx_server.proofs.reports.tell_findings.Goals as goal

@@ -1,6 +1,7 @@
 use Rattle.std.proofs.Common.{◌≡◌, ◌↔◌, ◌∙◌, ◌∷◌, [], List, ℕ, IsTrue, length, ap, arith, rules, codes}
-use Rattle.std.specs.Prelude.{string_bytes, decimal}
-use Rattle.hfsx_server.specs.Words.{MayName}
+use Rattle.std.specs.Prelude.{string_bytes}
+use Rattle.hfsx_server.specs.Words.{MayName, texts}
+use Rattle.hfsx_server.proofs.Usage.{words_of_format, words_of_gen}
 use Rattle.hfsx_server.proofs.WordLists.{two_words, three_words}
 use Rattle.hfsx_server.proofs.words.read_words.Goals as goal
 
@@ -20,16 +21,18 @@ returns-then-eq-2 c =
     let named : MayName (string_bytes c.image-item.result) = search rules in
     (string_bytes c.image-item.result, named, words ∙ ap (λ (t : List ℕ). t ∷ string_bytes c.image-item.result ∷ []) (verb.0 c.if-eq-2.true))
 
-pub returns-in-Some : goal.returns-in-Some
-returns-in-Some c =
+pub returns-then-eq-3 : goal.returns-then-eq-3
+returns-then-eq-3 c =
     let three : length c.args.words.now ≡ 3 = omega arith in
-    let words = three_words c.args.words.now c.verb-item-then-words-lt4.result c.image-item-then-words-lt4.result c.sectors-item.result three c.verb-item-then-words-lt4.is c.image-item-then-words-lt4.is c.sectors-item.is in
+    let words = three_words c.args.words.now c.verb-item-then-words-lt4.result c.first-item.result c.second-item.result three c.verb-item-then-words-lt4.is c.first-item.is c.second-item.is in
     let verb : IsTrue c.eq-in-len3.result ↔ (string_bytes c.verb-item-then-words-lt4.result ≡ codes "format") = search rules in
-    let named : MayName (string_bytes c.image-item-then-words-lt4.result) = search rules in
-    let number : string_bytes c.sectors-item.result ≡ decimal c.in-Some.sectors = search rules in (
-      string_bytes c.image-item-then-words-lt4.result,
-      named,
-      search rules,
-      words ∙ ap (λ (t : List ℕ). t ∷ string_bytes c.image-item-then-words-lt4.result ∷ string_bytes c.sectors-item.result ∷ []) (verb.0 c.if-eq-3.true)
-          ∙ ap (λ (t : List ℕ). codes "format" ∷ string_bytes c.image-item-then-words-lt4.result ∷ t ∷ []) number,
-    )
+    words_of_format (texts c.args.words.now) (string_bytes c.first-item.result) (string_bytes c.second-item.result) c.read_format.result
+    (words ∙ ap (λ (t : List ℕ). t ∷ string_bytes c.first-item.result ∷ string_bytes c.second-item.result ∷ []) (verb.0 c.if-eq-3.true)) (search rules)
+
+pub returns-then-eq-4 : goal.returns-then-eq-4
+returns-then-eq-4 c =
+    let three : length c.args.words.now ≡ 3 = omega arith in
+    let words = three_words c.args.words.now c.verb-item-then-words-lt4.result c.first-item.result c.second-item.result three c.verb-item-then-words-lt4.is c.first-item.is c.second-item.is in
+    let verb : IsTrue c.eq-in-len3-2.result ↔ (string_bytes c.verb-item-then-words-lt4.result ≡ codes "gen") = search rules in
+    words_of_gen (texts c.args.words.now) (string_bytes c.first-item.result) (string_bytes c.second-item.result) c.read_gen.result
+    (words ∙ ap (λ (t : List ℕ). t ∷ string_bytes c.first-item.result ∷ string_bytes c.second-item.result ∷ []) (verb.0 c.if-eq-4.true)) (search rules)
