@@ -62,19 +62,19 @@ def growth(tree, key, edits, block):
 
 
 def weigh(gauge, plain, verb, words):
-    """The refusal for want of a resource, or None, and whether a tree has to grow."""
+    """The refusal for want of a resource, or None, and how many trees have to grow."""
     if verb == "setattr" and not gauge.trees[2][2]:
-        return b"no NoTree", False
+        return b"no NoTree", 0
     ids, catalog, attributes, updates = edits_of(plain, verb, words)
     if plain.next + ids > 4294967295:
-        return b"no NoIds %d" % plain.next, False
-    load, blocks, grows = 1 + updates * gauge.trees[1][0] // 512, 0, False
+        return b"no NoIds %d" % plain.next, 0
+    load, blocks, grows = 1 + updates * gauge.trees[1][0] // 512, 0, 0
     for tree, key, edits in zip(gauge.trees, KEYS, (0, catalog, attributes)):
         size, depth, nodes, _ = tree
         rises, more, maps = growth(tree, key, edits, gauge.block)
         if edits and (depth >= 8 or max(depth, 1) + 1 + rises > 11):
-            return b"no TooDeep %d" % depth, False
-        blocks, grows = blocks + more * size // gauge.block, grows or more > 0
+            return b"no TooDeep %d" % depth, 0
+        blocks, grows = blocks + more * size // gauge.block, grows + (more > 0)
         if edits:
             load += size // 512 * min(edits * (4 * (max(depth, 1) + 2 + rises) + 4) + (2 + maps if more else 0), nodes + more)
     if gauge.free < blocks:

@@ -17,7 +17,7 @@ use Rattle.hfs_volume.specs.declared.cost.Cost.TheVariants as cost
 use Rattle.hfs_volume.specs.Content.{VolumeState, volume_of}
 use Rattle.hfs_volume.specs.Reclaim.{GrowsTrees}
 use Rattle.hfs_volume.specs.Data.{PutsInFork}
-use Rattle.volume_runs.specs.Run.{AsksMore, DoesLine, Entry, IsAnswered, IsDone, IsServed, IsToCome, LacksMemory, LacksResource, attribute_edits, is_ok, reply_to}
+use Rattle.volume_runs.specs.Run.{AsksMore, DoesLine, Entry, IsAnswered, IsDone, IsLater, IsServed, IsToCome, LacksMemory, LacksResource, is_ok, reply_to}
 use Rattle.hfs_volume.specs.Sound.{IsSound}
 use Rattle.volume_runs.specs.Told.{changes_by, changes_of}
 use Rattle.hfs_volume.specs.TreeOf.{tree_of}
@@ -112,7 +112,7 @@ module _ (capacity : ℕ) (line : List ℕ) (said : Reply) (now next old new : C
   more_alike : (asked : Command) → AsksMore capacity asked old → AsksMore capacity asked now
   more_alike asked was = record {
     no_refusal = refuses_none (Ok asked) was.no_refusal;
-    more = ⊎_elim (λ many. inl (subst (λ (t : PlainTree). 11 < attribute_edits t asked) (sym before.tree) many)) (λ grows. inr (grows.0, grows.1, weighs asked ∙ grows.2, grows.3)) was.more;
+    more = record { load = was.more.load; grow = was.more.grow; weighs = weighs asked ∙ was.more.weighs; later = subst (λ (v : VolumeState). IsLater was.more.grow v) (sym before.lists) was.more.later };
   }
 
   to_come_alike : IsToCome capacity own → IsToCome capacity other

@@ -34,8 +34,7 @@ use Rattle.hfs_model.specs.Sorted.{kept}
 use Rattle.hfs_volume.specs.Changes.{AreSortedAttributes, DropsAttribute, is_attribute_of}
 use Rattle.hfs_volume.specs.Commands.{DropsAttributes}
 use Rattle.hfs_volume.specs.Records.{Attribute, attribute_of}
-use Rattle.volume_ops.specs.Dropping.{FitsToDrop, LeavesNamed}
-use Rattle.volume_ops.proofs.Deepening.{tops_rise}
+use Rattle.volume_ops.specs.Dropping.{LeavesNamed}
 
 -- ---- the lists
 
@@ -154,23 +153,6 @@ pub sorted_held : (tree : TreeFile) (space : Space) → HoldsTree attributes_for
 sorted_held tree space holds =
     subst AreSortedAttributes (pairs_held attributes_form IsAttrKey anything attr_cmp [] tree space holds)
     (rising_sorted (pairs_of (state_of [] tree space)) (tree_ascends (state_of [] tree space) (tree_held attributes_form IsAttrKey anything attr_cmp [] tree space holds)))
-
--- ---- the room
-
-pub room_for_drop : (names : List ℕ) (tree : TreeFile) (space : Space) → FitsToDrop tree.shape space.spare → EditRoom 1 266 (state_of names tree space)
-room_for_drop names tree space fits =
-    let some : 0 < tree.shape.node_size / 512 = omega (arith, fits.size) in
-    let few : (state_of names tree space).unwritten ≤ tree.shape.total = omega (arith, count_by-le-length (λ n. not (is_written tree space.put n)) (range_with_len 0 tree.shape.total), length-range_with_len 0 tree.shape.total) in
-    let fit : min (edit_writes (tree.shape.depth + 1)) tree.shape.total ≤ space.spare / (tree.shape.node_size / 512) =
-    (le-div_iff_mul-le {k = tree.shape.node_size / 512} {x = min (edit_writes (tree.shape.depth + 1)) tree.shape.total} {y = space.spare} some).1 fits.writes in
-    record {
-      deepest = tree.shape.depth + 1;
-      deep = tops_rise _ _ 1 _;
-      depth = λ any. fits.depth;
-      records = fits.records;
-      free = omega (arith, fits.free);
-      writes = omega (arith, few, fit);
-    }
 
 pub edits_none : (store : Store) → TakesEdits 0 266 store store
 edits_none store = record {

@@ -134,6 +134,13 @@ module _ (lists : VolumeState) (sound : IsSoundVolume lists) where
       ∙ ap (λ (l : List ℕ). take file.data_fork.logical_size l) (same_bytes a b (lists.head.total_blocks * per) (file_sectors p file stands is) (λ at has. agrees at (not_2 p file stands is at has) (not_in_catalog p file stands is at has) (not_in_map p file stands is at has)))
       ∙ sym (by_lists p file stands is a reads_a))
 
+  -- so is it where neither header nor attributes file nor bitmap is looked at
+  pub tree_stays_beside : (a b : Content) → ReadsAs a lists → ReadsAs b lists → ((at : ℕ) → at ≢ 2 → (Contains (attributes_sectors lists) at → ⊥) → (Contains (allocation_sectors lists) at → ⊥) → sector b at ≡ sector a at) → tree_in lists (file_bytes b) ≡ tree_in lists (file_bytes a)
+  tree_stays_beside a b reads_a reads_b agrees = same_bytes_same_tree lists (file_bytes b) (file_bytes a) (λ p file stands is.
+      by_lists p file stands is b reads_b
+      ∙ ap (λ (l : List ℕ). take file.data_fork.logical_size l) (same_bytes a b (lists.head.total_blocks * per) (file_sectors p file stands is) (λ at has. agrees at (not_2 p file stands is at has) (not_in_attributes p file stands is at has) (not_in_map p file stands is at has)))
+      ∙ sym (by_lists p file stands is a reads_a))
+
   -- so the tree of the lists is the same by both
   pub tree_stays : (a b : Content) → ReadsAs a lists → ReadsAs b lists → ((at : ℕ) → at ≢ 2 → (Contains (catalog_sectors lists) at → ⊥) → (Contains (attributes_sectors lists) at → ⊥) → sector b at ≡ sector a at) → tree_in lists (file_bytes b) ≡ tree_in lists (file_bytes a)
   tree_stays a b reads_a reads_b agrees = same_bytes_same_tree lists (file_bytes b) (file_bytes a) (λ p file stands is. bytes_stay p file stands is a b reads_a reads_b agrees)

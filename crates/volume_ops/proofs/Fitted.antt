@@ -21,7 +21,7 @@ use Rattle.volume_ops.specs.Lists.{facts_on}
 use Rattle.volume_ops.specs.Making.{HasRoomToMake}
 use Rattle.volume_ops.specs.Moving.{HasRoomToMove}
 use Rattle.volume_ops.specs.Unlinking.{HasRoomToUnlinkLast}
-use Rattle.volume_ops.specs.Removing.{HasRoomToRemove}
+use Rattle.volume_ops.specs.Removing.{HasRoomToBare, HasRoomToRemove}
 use Rattle.volume_ops.specs.Room.{capacity_of, free_in}
 use Rattle.volume_ops.specs.declared.room.FreeBlocks.TheVariants as blocks
 use Rattle.volume_ops.specs.Standing.{IsSettled}
@@ -141,6 +141,17 @@ module _ (says : LoadSaysEnough) (of_parts : LoadIsOfParts) (v : Volume) (a : Sp
         (roomy room.block attributes_key asked.attributes a.spare (1 + asked.updates * (v.catalog.file.shape.node_size / 512)) _ _ (volume_of a.content).attributes_tree (tree_at room 2) (attributes_is (capacity_of v) (free_in blocks.Takable v.map) (volume_of a.content) has_there)
         afforded.attributes no_attributes no_attributes (omega (arith, parts, nodes_are))))
 
+    -- both trees together
+    both : IsTrue (has_attributes v.header)
+        → 1 + asked.updates * (v.catalog.file.shape.node_size / 512) + tree_load catalog_key (cost_of_tree (facts_on v.catalog.file) 0) asked.catalog 0 + tree_load attributes_key (cost_of_tree (facts_on v.attributes.file) 0) asked.attributes 0 ≤ a.spare
+    both has =
+        let has_there : IsTrue (has_attributes (volume_of a.content).head) = subst (λ (h : VolumeHeader). IsTrue (has_attributes h)) (sym same_head) has in
+        let first : load_at needs room 1 ≡ tree_load catalog_key (cost_of_tree (facts_on v.catalog.file) 0) asked.catalog 0 =
+        (λ i. tree_load catalog_key (catalog_is (capacity_of v) (free_in blocks.Takable v.map) (volume_of a.content) i) asked.catalog (no_catalog i)) ∙ (λ i. tree_load catalog_key (cost_of_tree (same_catalog i) 0) asked.catalog 0) in
+        let second : load_at needs room 2 ≡ tree_load attributes_key (cost_of_tree (facts_on v.attributes.file) 0) asked.attributes 0 =
+        (λ i. tree_load attributes_key (attributes_is (capacity_of v) (free_in blocks.Takable v.map) (volume_of a.content) has_there i) asked.attributes (no_attributes i)) ∙ (λ i. tree_load attributes_key (cost_of_tree (settled.attributes has i) 0) asked.attributes 0) in
+        omega (arith, parts, nodes_are, first, second)
+
     -- records are updated in place
     pub nodes_fit : asked.updates * (v.catalog.file.shape.node_size / 512) ≤ a.spare
     nodes_fit = omega (arith, parts, nodes_are)
@@ -162,6 +173,13 @@ module _ (says : LoadSaysEnough) (of_parts : LoadIsOfParts) (v : Volume) (a : Sp
   remove_fits ok some = record {
     some = some;
     told = λ tells. let it = catalog says of_parts v a (settled tells) (record { ids = 0; catalog = 2; attributes = 0; updates = 1 }) (ok tells) in (omega (arith, it.load), it.shallow, it.none);
+  }
+
+  pub bare_fits : (many : ℕ) → Meets (record { ids = 0; catalog = 2; attributes = many; updates = 1 }) → HasRoomToBare many v a
+  bare_fits many ok = record {
+    told = λ tells has.
+        let it = attributes says of_parts v a (settled tells) (record { ids = 0; catalog = 2; attributes = many; updates = 1 }) (ok tells) has in
+        (omega (arith, both says of_parts v a (settled tells) (record { ids = 0; catalog = 2; attributes = many; updates = 1 }) (ok tells) has), it.shallow, it.none);
   }
 
   pub unlink_last_fits : Meets (record { ids = 0; catalog = 5; attributes = 0; updates = 4 }) → 1 ≤ a.spare → HasRoomToUnlinkLast v a

@@ -1,22 +1,17 @@
--- What a growth of the catalog leaves of a volume's own sectors and of its free blocks.
+-- What a growth leaves of a volume's own sectors and of its free blocks.
 use Rattle.std.proofs.Common.{◌≡◌, ◌⊎◌, inl, inr, ℕ, ◌/◌, false, true, sym, ◌∙◌, ap, subst, ⊎_elim}
 use Rattle.std.specs.Prelude.{Contains, slice_index_or}
+use Rattle.hx_bytes.specs.declared.extents.Extent.{Extent}
 use Rattle.alloc_bitmap.specs.Map.{free_of}
 use Rattle.hfs_volume.specs.Forks.{per_block_of}
-use Rattle.volume_header.specs.declared.header.VolumeHeader.{VolumeHeader}
-use Rattle.volume_ops.specs.Growing.{GrowsVolume, IsFreeAt, IsOwnOrFree, catalog_blocks}
+use Rattle.volume_ops.specs.Growing.{IsFreeAt, IsOwnOrFree, TakesRun}
 use Rattle.volume_ops.specs.Standing.{own_sectors}
 use Rattle.volume_ops.specs.declared.volume.Volume.{Volume}
 use Rattle.volume_ops.proofs.GrownRun.{free_before}
 
-module _ (more : ℕ) (v w : Volume) (grows : GrowsVolume more v w) where
-  per_same : per_block_of w.header ≡ per_block_of v.header
-  per_same = ap (λ (u : Volume). per_block_of u.header) grows.rest
-
+module _ (count : ℕ) (run : Extent) (v w : Volume) (takes : TakesRun count run v.map w.map) (per_same : per_block_of w.header ≡ per_block_of v.header) where
   free_at_before : (s : ℕ) → IsFreeAt w s → IsFreeAt v s
-  free_at_before s is =
-      free_before (catalog_blocks v more) grows.run v.map w.map grows.takes (s / per_block_of v.header)
-      (subst (λ n. slice_index_or (free_of w.map) (s / n) false ≡ true) per_same is)
+  free_at_before s is = free_before count run v.map w.map takes (s / per_block_of v.header) (subst (λ n. slice_index_or (free_of w.map) (s / n) false ≡ true) per_same is)
 
   pub gained_before : ((s : ℕ) → Contains (own_sectors w) s → IsOwnOrFree v s) → (s : ℕ) → IsOwnOrFree w s → IsOwnOrFree v s
   gained_before gained s is = ⊎_elim (λ own. gained s own) (λ free. inr (free_at_before s free)) is

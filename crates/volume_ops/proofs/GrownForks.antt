@@ -8,7 +8,7 @@ use Rattle.hx_bytes.specs.declared.extents.Extent.{Extent}
 use Rattle.hx_bytes.specs.declared.extents.ForkRecord.{ForkRecord}
 use Rattle.fork_map.specs.Cut.{join, touch}
 use Rattle.hfs_volume.specs.Blocks.{GoOn, GoesOn}
-use Rattle.hfs_volume.specs.Forks.{catalog_id, data_kind, extents_of, in_use, is_full, overflow_in}
+use Rattle.hfs_volume.specs.Forks.{data_kind, extents_of, in_use, is_full, overflow_in}
 use Rattle.hfs_volume.specs.Records.{Overflow}
 use Rattle.hfs_volume.proofs.Members.{behind, first_or_later}
 use Rattle.overflow.specs.Records.{eight_at}
@@ -74,33 +74,33 @@ no_more : (many : ℕ) (xs : List Extent) (more : List Overflow) → length xs �
 no_more many xs [] eight few goes = refl
 no_more many xs (m ∷ more) eight few goes = absurd (omega (arith, few, eight, ap (λ (l : List Extent). length l) (full_all xs goes.1)))
 
-module _ (overflow : List Overflow) (fork : ForkRecord) (eight : length fork.extents.extents ≡ 8) (goes : GoesOn overflow (record { id = catalog_id; kind = data_kind; fork = fork }))
-    (few : length (extents_of overflow catalog_id data_kind fork) < 8)
+module _ (id : ℕ) (overflow : List Overflow) (fork : ForkRecord) (eight : length fork.extents.extents ≡ 8) (goes : GoesOn overflow (record { id = id; kind = data_kind; fork = fork }))
+    (few : length (extents_of overflow id data_kind fork) < 8)
   where
     front_few : length (in_use fork.extents.extents) < 8
     unfolding extents_of
-    front_few = omega (arith, few, length-append (in_use fork.extents.extents) (flat_map (λ (m : Overflow). in_use m.extents) (overflow_in overflow catalog_id data_kind)))
+    front_few = omega (arith, few, length-append (in_use fork.extents.extents) (flat_map (λ (m : Overflow). in_use m.extents) (overflow_in overflow id data_kind)))
 
-    pub none_over : overflow_in overflow catalog_id data_kind ≡ []
-    none_over = no_more _ fork.extents.extents (overflow_in overflow catalog_id data_kind) eight front_few goes
+    pub none_over : overflow_in overflow id data_kind ≡ []
+    none_over = no_more _ fork.extents.extents (overflow_in overflow id data_kind) eight front_few goes
 
-    pub front_alone : extents_of overflow catalog_id data_kind fork ≡ in_use fork.extents.extents
+    pub front_alone : extents_of overflow id data_kind fork ≡ in_use fork.extents.extents
     unfolding extents_of
     front_alone = ap (λ (l : List Overflow). in_use fork.extents.extents ++ flat_map (λ (m : Overflow). in_use m.extents) l) none_over ∙ append-nil (in_use fork.extents.extents)
 
     -- and its record has room for one extent more
-    module _ (run : Extent) (some : run.count ≢ 0) (other : ForkRecord) (is : other.extents ≡ eight_at (join (extents_of overflow catalog_id data_kind fork) (run ∷ [])) 0) where
+    module _ (run : Extent) (some : run.count ≢ 0) (other : ForkRecord) (is : other.extents ≡ eight_at (join (extents_of overflow id data_kind fork) (run ∷ [])) 0) where
       abbrev joined : List Extent
-      joined = join (extents_of overflow catalog_id data_kind fork) (run ∷ [])
+      joined = join (extents_of overflow id data_kind fork) (run ∷ [])
 
-      used : AreUsed (extents_of overflow catalog_id data_kind fork)
+      used : AreUsed (extents_of overflow id data_kind fork)
       used = subst AreUsed (sym front_alone) (in_use_used fork.extents.extents)
 
       pub front_longer : in_use other.extents.extents ≡ joined
       front_longer =
-          ap (λ e. in_use e.extents) is ∙ eight_used joined 0 (join_used (extents_of overflow catalog_id data_kind fork) run used some)
-          ∙ take_all 8 joined (omega (arith, few, join_few (extents_of overflow catalog_id data_kind fork) run))
+          ap (λ e. in_use e.extents) is ∙ eight_used joined 0 (join_used (extents_of overflow id data_kind fork) run used some)
+          ∙ take_all 8 joined (omega (arith, few, join_few (extents_of overflow id data_kind fork) run))
 
-      pub longer_is : extents_of overflow catalog_id data_kind other ≡ joined
+      pub longer_is : extents_of overflow id data_kind other ≡ joined
       unfolding extents_of
       longer_is = ap (λ (l : List Overflow). in_use other.extents.extents ++ flat_map (λ (m : Overflow). in_use m.extents) l) none_over ∙ append-nil (in_use other.extents.extents) ∙ front_longer

@@ -110,7 +110,7 @@ module _ (v : Volume) (a : Space) (was : IsStanding v a) (settled : IsSettled v 
   off_map at has other = off_fork (record { id = allocation_id; kind = data_kind; fork = (volume_of a.content).head.allocation_fork }) (special_stands (volume_of a.content) _ (2, omega arith, refl)) at has
       (subst (λ (l : List ℕ). Contains l at) (λ i. sectors_of ((was.forks.map_per ∙ ap per_block_of (sym head_is)) i) (blocks_of ((was.forks.map ∙ (λ j. extents_of (overflow_is j) allocation_id data_kind (sym head_is j).allocation_fork)) i))) other)
 
-  off_attributes : (at : ℕ) → Contains run_sectors at → Contains (attribute_sectors v) at → ⊥
+  pub off_attributes : (at : ℕ) → Contains run_sectors at → Contains (attribute_sectors v) at → ⊥
   off_attributes at has other =
       let it = if_has (has_attributes v.header) at (sectors_of_tree v.attributes.file) other in
       off_fork (record { id = attributes_id; kind = data_kind; fork = (volume_of a.content).head.attributes_fork }) (special_stands (volume_of a.content) _ (4, omega arith, refl)) at has

@@ -13,7 +13,7 @@ use Rattle.btree_file.specs.declared.tree.TreeFile.{TreeFile}
 use Rattle.sector_disk.specs.Lists.{Content}
 use Rattle.sector_disk.specs.Space.{Space}
 use Rattle.hfs_volume.specs.Aside.{IsJournalSector}
-use Rattle.volume_ops.specs.Growing.{CanGrowCatalog, IsOwnOrFree, Lengthens, TakesRun, catalog_blocks, lengthened, nodes_load, run_load, with_catalog}
+use Rattle.volume_ops.specs.Growing.{CanGrowCatalog, IsOwnOrFree, Lengthens, TakesRun, blocks_filled, lengthened, nodes_load, run_load, with_catalog}
 use Rattle.volume_ops.specs.Mapping.{HoldsUnchanged, changed_sectors}
 use Rattle.volume_ops.specs.Service.{IsInService}
 use Rattle.volume_ops.specs.Standing.{IsSettled, StandsOver, own_sectors, map_sectors}
@@ -26,7 +26,7 @@ use Rattle.volume_ops.proofs.GrownStands.{own_gained, own_still, put_own, stands
 use Rattle.volume_ops.proofs.GrownUnchanged.{holds_unchanged}
 
 module _ (more : ℕ) (v : Volume) (a b : Space) (over : StandsOver v a) (settled : IsTrue a.tells → IsSettled v a.content) (can : CanGrowCatalog more v a) (shut : IsTrue a.tells → (at : ℕ) → a.closed at → IsJournalSector a.content at)
-    (run : Extent) (later : BlockMap) (takes : TakesRun (catalog_blocks v more) run v.map later)
+    (run : Extent) (later : BlockMap) (takes : TakesRun (blocks_filled v.catalog.file more) run v.map later)
   where
     some : 0 < run.count
     some = run_some more v a can run takes.many
@@ -35,12 +35,12 @@ module _ (more : ℕ) (v : Volume) (a b : Space) (over : StandsOver v a) (settle
     pub service_then : (file : TreeFile) (head : VolumeHeader) → FitsHeader head → head.block_size ≡ v.header.block_size → file.shape.node_size ≡ v.catalog.file.shape.node_size → LiesInside file b → b.sectors ≡ a.sectors
         → IsInService (record v { header = head; map = later; catalog = record v.catalog { file = file } }) b
     service_then file head fits block size inside sectors =
-        service_after v a b head later file over.service sectors fits block (same_fork (catalog_blocks v more) run v.map later takes) (same_per (catalog_blocks v more) run v.map later takes) (same_length (catalog_blocks v more) run v.map later takes) (marked_long (catalog_blocks v more) run v.map later takes can.unchanged) size inside
+        service_after v a b head later file over.service sectors fits block (same_fork (blocks_filled v.catalog.file more) run v.map later takes) (same_per (blocks_filled v.catalog.file more) run v.map later takes) (same_length (blocks_filled v.catalog.file more) run v.map later takes) (marked_long (blocks_filled v.catalog.file more) run v.map later takes can.unchanged) size inside
 
     pub own_failed : (file : TreeFile) → SaysSame v.catalog.file file → own_sectors (record v { map = later; catalog = record v.catalog { file = file } }) ≡ own_sectors v
-    own_failed file same = own_same v later file same.fork same.per_block (same_fork (catalog_blocks v more) run v.map later takes) (same_per (catalog_blocks v more) run v.map later takes)
+    own_failed file same = own_same v later file same.fork same.per_block (same_fork (blocks_filled v.catalog.file more) run v.map later takes) (same_per (blocks_filled v.catalog.file more) run v.map later takes)
 
-    pub nodes_spent : TakesRoomToGrow v.catalog.file run a b → a.spare ≤ b.spare + nodes_load v more
+    pub nodes_spent : TakesRoomToGrow v.catalog.file run a b → a.spare ≤ b.spare + nodes_load v.catalog.file more
     nodes_spent room = omega (arith, room.written, load_is more v a can run takes.many)
 
     module _ (file : TreeFile) (grown : IsTrue a.tells → HasGrown run v.catalog.file file a.content b.content) (within : PutsWithin (sectors_with v.catalog.file run) a b) where
@@ -52,7 +52,7 @@ module _ (more : ℕ) (v : Volume) (a b : Space) (over : StandsOver v a) (settle
         service = service_then file (with_catalog run.count file.fork v.header) fits refl size inside within.same.sectors;
         stands = λ told.
             let tells : IsTrue a.tells = sym within.same.tells ∙ told in
-            stands_longer v a b (over.stands tells) (settled tells) (catalog_blocks v more) run later takes some file (grown tells) within tells over.service.fits.catalog_fork.extents.eight can.extents (shut tells);
+            stands_longer v a b (over.stands tells) (settled tells) (blocks_filled v.catalog.file more) run later takes some file (grown tells) within tells over.service.fits.catalog_fork.extents.eight can.extents (shut tells);
       }
 
       pub lengthens_then : IsTrue a.tells → Lengthens more v (lengthened run.count v later file) a b
@@ -60,18 +60,18 @@ module _ (more : ℕ) (v : Volume) (a b : Space) (over : StandsOver v a) (settle
 
       pub unchanged_then : IsTrue a.tells → HoldsUnchanged (lengthened run.count v later file) b.content
       unchanged_then tells =
-          holds_unchanged v a b (over.stands tells) (settled tells) (catalog_blocks v more) run later takes some file (grown tells) within tells over.service.fits.catalog_fork.extents.eight can.extents more (subst (λ n. n ≤ v.header.free_blocks) (sym takes.many) can.counted)
+          holds_unchanged v a b (over.stands tells) (settled tells) (blocks_filled v.catalog.file more) run later takes some file (grown tells) within tells over.service.fits.catalog_fork.extents.eight can.extents more (subst (λ n. n ≤ v.header.free_blocks) (sym takes.many) can.counted)
           (nodes_are more v a can run takes.many) (bytes_are more v a can run takes.many (over.stands tells) (settled tells)) can.unchanged
 
       pub own_then : IsTrue a.tells → (s : ℕ) → Contains (own_sectors v) s → Contains (own_sectors (lengthened run.count v later file)) s
-      own_then tells s has = own_still v a b (over.stands tells) (settled tells) (catalog_blocks v more) run later takes some file (grown tells) within tells s has
+      own_then tells s has = own_still v a b (over.stands tells) (settled tells) (blocks_filled v.catalog.file more) run later takes some file (grown tells) within tells s has
 
       pub gained_then : IsTrue a.tells → (s : ℕ) → Contains (own_sectors (lengthened run.count v later file)) s → IsOwnOrFree v s
-      gained_then tells s has = own_gained v a b (over.stands tells) (settled tells) (catalog_blocks v more) run later takes some file (grown tells) within tells s has
+      gained_then tells s has = own_gained v a b (over.stands tells) (settled tells) (blocks_filled v.catalog.file more) run later takes some file (grown tells) within tells s has
 
       pub touches_then : (committed : Content) → Touches committed (λ s. Contains (own_sectors (lengthened run.count v later file)) s) a b
       touches_then committed = touches_told committed (sectors_with v.catalog.file run) (λ s. Contains (own_sectors (lengthened run.count v later file)) s) a b
-          (λ tells s has. put_own v a b (over.stands tells) (settled tells) (catalog_blocks v more) run later takes some file (grown tells) within tells s has) within
+          (λ tells s has. put_own v a b (over.stands tells) (settled tells) (blocks_filled v.catalog.file more) run later takes some file (grown tells) within tells s has) within
 
-      pub map_then : length (changed_sectors (lengthened run.count v later file)) ≤ run_load v (catalog_blocks v more)
-      map_then = subst (λ n. length (changed_sectors (lengthened run.count v later file)) ≤ min (sectors_for (length v.map.used)) (n / 4096 + 2)) takes.many (map_few (catalog_blocks v more) run v.map later takes can.unchanged (map_sectors (lengthened run.count v later file)))
+      pub map_then : length (changed_sectors (lengthened run.count v later file)) ≤ run_load v (blocks_filled v.catalog.file more)
+      map_then = subst (λ n. length (changed_sectors (lengthened run.count v later file)) ≤ min (sectors_for (length v.map.used)) (n / 4096 + 2)) takes.many (map_few (blocks_filled v.catalog.file more) run v.map later takes can.unchanged (map_sectors (lengthened run.count v later file)))

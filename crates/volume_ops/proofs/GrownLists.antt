@@ -92,7 +92,7 @@ module _ (v : Volume) (a b : Space) (was : IsStanding v a) (settled : IsSettled 
     joined_is = grown.extents ∙ ap (λ es. join es (run ∷ [])) file_is
 
     in_record : in_use (longer_fork run.count (volume_of a.content).head.block_size file.fork (volume_of a.content).head.catalog_fork).extents.extents ≡ file.fork
-    in_record = front_longer overflow (volume_of a.content).head.catalog_fork eight_here goes few_here run (λ none. absurd (omega (arith, some, none))) fork (ap (λ es. eight_at es 0) joined_is) ∙ sym joined_is
+    in_record = front_longer catalog_id overflow (volume_of a.content).head.catalog_fork eight_here goes few_here run (λ none. absurd (omega (arith, some, none))) fork (ap (λ es. eight_at es 0) joined_is) ∙ sym joined_is
 
     long : length (blocks_of (run ∷ [])) ≡ run.count
     long = ap (λ (l : List ℕ). length l) (blocks_one run) ∙ length-range_with_len run.start run.count
@@ -133,12 +133,12 @@ module _ (v : Volume) (a b : Space) (was : IsStanding v a) (settled : IsSettled 
 
         ends : (x : Extent) → Contains (extents_of (overflow_in_volume (volume_of a.content)) catalog_id data_kind (volume_of a.content).head.catalog_fork) x → x.start + x.count ≤ (volume_of a.content).head.total_blocks
         ends x there = each_of (λ (e : Extent). e.start + e.count ≤ (volume_of a.content).head.total_blocks) (in_use (volume_of a.content).head.catalog_fork.extents.extents) sizes.inside x
-            (subst (λ (es : List Extent). Contains es x) (front_alone overflow (volume_of a.content).head.catalog_fork eight_here goes few_here) there)
+            (subst (λ (es : List Extent). Contains es x) (front_alone catalog_id overflow (volume_of a.content).head.catalog_fork eight_here goes few_here) there)
 
     is_stored : IsStored catalog_id data_kind fork lists_grown
     is_stored = (
       record { inside = lie_inside; blocks = blocks_now; bytes = omega (arith, size_is) },
-      subst (λ (more : List Overflow). GoOn (length (blocks_of fork.extents.extents)) (is_full fork.extents.extents) more) (sym (none_over overflow (volume_of a.content).head.catalog_fork eight_here goes few_here)) tt,
+      subst (λ (more : List Overflow). GoOn (length (blocks_of fork.extents.extents)) (is_full fork.extents.extents) more) (sym (none_over catalog_id overflow (volume_of a.content).head.catalog_fork eight_here goes few_here)) tt,
     )
 
     -- ---- its bits

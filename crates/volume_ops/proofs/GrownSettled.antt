@@ -15,7 +15,7 @@ use Rattle.btree_file.specs.State.{sectors_of_tree}
 use Rattle.btree_file.specs.declared.tree.TreeFile.{TreeFile}
 use Rattle.sector_disk.specs.Lists.{sector}
 use Rattle.sector_disk.specs.Space.{Space}
-use Rattle.hfs_volume.specs.Content.{TreeFacts, VolumeState, attributes_file, block_limit, facts_of, overflow_in_volume, overflow_of_content, sectors_in, tree_of_fork, volume_of}
+use Rattle.hfs_volume.specs.Content.{TreeFacts, VolumeState, attributes_file, block_limit, facts_of, has_attributes, overflow_in_volume, overflow_of_content, sectors_in, tree_of_fork, volume_of}
 use Rattle.hfs_volume.specs.Forks.{attributes_id, catalog_id, data_kind, extents_id, extents_of, per_block_of}
 use Rattle.hfs_volume.specs.Links.{private_id}
 use Rattle.hfs_volume.specs.Records.{placed_in}
@@ -38,7 +38,7 @@ use Rattle.volume_ops.proofs.Resettling.{bits_at, lists_anew, settles}
 use Rattle.volume_ops.proofs.TreesSettled.{header_settled, tree_without}
 
 -- what a fork that is as it was shows of a growth by no node
-same_fork : (size block : ℕ) (old new : List ℕ) → new ≡ old → GrowsBy (0 * size / block) old new
+pub same_fork : (size block : ℕ) (old new : List ℕ) → new ≡ old → GrowsBy (0 * size / block) old new
 same_fork size block old new same = record {
   front = ap (λ l. take (length old) l) same ∙ take_all (length old) old (omega arith);
   longer = ap (λ (l : List ℕ). length l) same ∙ (let none : 0 * size / block ≡ 0 = ap (λ n. n / block) (zero-mul size) ∙ zero-div block in omega (arith, none));
@@ -202,10 +202,13 @@ module _ (v : Volume) (a b : Space) (was : IsStanding v a) (settled : IsSettled 
         let old : v.catalog.file.shape ≡ (volume_of a.content).catalog_tree.shape = ap (λ (l : VolumeState). l.catalog_tree.shape) (sym settled.lists) in
         is ∙ grown.tree.numbers ∙ (λ i. record (old i) { total = (sym is i).total; free = (sym is i).free })
 
-    pub head_then : (volume_of d.content).head ≡ record (volume_of a.content).head { free_blocks = (volume_of d.content).head.free_blocks; catalog_fork = (volume_of d.content).head.catalog_fork }
+    pub head_then : (volume_of d.content).head ≡ record (volume_of a.content).head { free_blocks = (volume_of d.content).head.free_blocks; catalog_fork = (volume_of d.content).head.catalog_fork; attributes_fork = (volume_of d.content).head.attributes_fork }
     head_then =
         let is : (volume_of d.content).head ≡ with_catalog run.count file.fork (volume_of a.content).head = ap (λ (l : VolumeState). l.head) volume_now in
-        is ∙ (λ i. record (volume_of a.content).head { free_blocks = (sym is i).free_blocks; catalog_fork = (sym is i).catalog_fork })
+        is ∙ (λ i. record (volume_of a.content).head { free_blocks = (sym is i).free_blocks; catalog_fork = (sym is i).catalog_fork; attributes_fork = (sym is i).attributes_fork })
+
+    pub has_then : has_attributes (volume_of d.content).head ≡ has_attributes (volume_of a.content).head
+    has_then = ap (λ (l : VolumeState). has_attributes l.head) volume_now
 
     pub journal_then : (volume_of d.content).journal ≡ (volume_of a.content).journal
     journal_then = ap (λ (l : VolumeState). l.journal) volume_now

@@ -198,7 +198,7 @@ module _ (v : Volume) (a b : Space) (was : IsStanding v a) (settled : IsSettled 
       pub catalog_fork : file.fork ≡ extents_of (overflow_in_volume (lists_of v a.content)) catalog_id data_kind (with_catalog run.count file.fork v.header).catalog_fork
       catalog_fork =
           let behind : file.fork ≡ join (extents_of (overflow_in_volume (lists_of v a.content)) catalog_id data_kind v.header.catalog_fork) (run ∷ []) = grown.extents ∙ ap (λ es. join es (run ∷ [])) was.forks.catalog in
-          behind ∙ sym (longer_is (overflow_in_volume (lists_of v a.content)) v.header.catalog_fork eight catalog_goes_on few_were run (λ none. absurd (omega (arith, some, none))) (with_catalog run.count file.fork v.header).catalog_fork
+          behind ∙ sym (longer_is catalog_id (overflow_in_volume (lists_of v a.content)) v.header.catalog_fork eight catalog_goes_on few_were run (λ none. absurd (omega (arith, some, none))) (with_catalog run.count file.fork v.header).catalog_fork
           (ap (λ es. eight_at es 0) behind))
 
       -- ---- it stands

@@ -42,7 +42,7 @@ module _ (v : Volume) (a b : Space) (was : IsStanding v a) (settled : IsSettled 
     pub holds_unchanged : HoldsUnchanged (lengthened run.count v later file) b.content
     holds_unchanged k low same =
         let clear : has run k ≡ false = unchanged_has count run v.map later takes unchanged k same in
-        let there : k < length (bits_on v) = omega (
+        let here : k < length (bits_on v) = omega (
           arith,
           low,
           bits_long v a b was settled count run later takes some file grown within tells eight few more counted nodes whole,
@@ -50,5 +50,5 @@ module _ (v : Volume) (a b : Space) (was : IsStanding v a) (settled : IsSettled 
         ) in
         ap (λ (l : List ℕ). fork_bit b.content l k) (map_same v a b was settled count run later takes some file grown within tells)
         ∙ bit_elsewhere (map_sectors v) a.content b.content (bits_same v a b was settled count run later takes some file grown within tells) k
-        ∙ bits_hold v a was (header_settled v a.content settled) fits bits_before k there
+        ∙ bits_hold v a was (header_settled v a.content settled) fits bits_before k here
         ∙ sym (bit_same v a b was settled count run later takes some file grown within tells eight few more counted nodes whole k clear)

@@ -2,6 +2,13 @@ pub mod Added
 pub mod Affording
 pub mod Alike
 pub mod AttributesEdited
+pub mod AttributesGrownWhole
+pub mod AttributesGrownUnchanged
+pub mod AttributesGrownStands
+pub mod AttributesGrownSettled
+pub mod AttributesGrownLists
+pub mod AttributesGrownLengthened
+pub mod AttributesGrownCalls
 pub mod Begun
 pub mod Besides
 pub mod Bridged
@@ -31,11 +38,13 @@ pub mod Gauging
 pub mod GrownCan
 pub mod GrownForks
 pub mod GrownAhead
+pub mod GrownAlone
 pub mod GrownBits
 pub mod GrownCalls
 pub mod GrownFree
 pub mod GrownLengthened
 pub mod GrownLists
+pub mod GrownNone
 pub mod GrownRoom
 pub mod GrownRun
 pub mod GrownSettled
@@ -94,6 +103,7 @@ pub mod Resettling
 pub mod Resized
 pub mod Righting
 pub mod Rising
+pub mod RoomAfter
 pub mod RoomKept
 pub mod RoomToRemove
 pub mod Routed

@@ -16,7 +16,7 @@ use Rattle.hfs_model.specs.declared.plain.PlainEntry.{PlainEntry}
 use Rattle.hfs_model.specs.declared.plain.PlainTree.{PlainTree}
 use Rattle.hfs_volume.specs.Changes.{InAttributes}
 use Rattle.hfs_volume.specs.Commands.{DropsAttributes, RemovesFolder, with_folder_removed}
-use Rattle.hfs_volume.specs.Content.{VolumeState, volume_of}
+use Rattle.hfs_volume.specs.Content.{VolumeState, has_attributes, volume_of}
 use Rattle.hfs_volume.specs.Cost.{attributes_key, catalog_key, growth, is_too_deep, tree_load}
 use Rattle.hfs_volume.specs.Records.{is_folder}
 use Rattle.hfs_volume.specs.TreeOf.{tree_of}
@@ -82,6 +82,11 @@ pub record HasRoomToRemove (volume : Volume) (space : Space) : Type 0 where
 -- the sectors that the removal of so many attributes takes at most
 abbrev pub bare_load : Volume → ℕ → ℕ
 bare_load volume many = tree_load attributes_key (attributes_cost volume) many 0
+
+-- Where the space tells, there is room to remove a folder behind so many attributes, where there is an attributes file, which needn't grow before.
+pub record HasRoomToBare (many : ℕ) (volume : Volume) (space : Space) : Type 0 where
+  pub told : IsTrue space.tells → IsTrue (has_attributes volume.header)
+      → (remove_load volume + bare_load volume many ≤ space.spare) × (is_too_deep attributes_key (attributes_cost volume) many ≡ false) × (growth volume.header.block_size attributes_key (attributes_cost volume) many ≡ 0)
 
 -- ---- the change
 

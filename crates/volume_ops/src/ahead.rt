@@ -1,29 +1,41 @@
-//! The catalog of a volume in service, which grows ahead of a command.
+//! The catalog and the attributes file of a volume in service, which grow ahead of a command.
 ghost use Rattle.std.specs.Prelude.{◌≡◌, ◌≤◌, ◌+◌, ℕ, IsTrue, IfOk, IfSome, OnOk, length};
 ghost use Rattle.sector_disk.specs.Lists.{Content};
 ghost use Rattle.alloc_bitmap.specs.Map.{none};
 ghost use Rattle.flag_rows.specs.Bits.{sectors_for};
 ghost use Rattle.btree_edit.specs.Causes.{HasTroubleCause};
 ghost use Rattle.hfs_volume.specs.Aside.{IsJournalSector};
-ghost use Rattle.volume_ops.specs.Growing.{GoesAhead, IsOwnOrFree, growth_load};
+ghost use Rattle.hfs_volume.specs.Content.{volume_of};
+ghost use Rattle.hfs_volume.specs.Forks.{attributes_id, catalog_id};
+ghost use Rattle.hfs_volume.specs.Weight.{extents_in_use};
+ghost use Rattle.volume_ops.specs.Growing.{GoesAhead, IsLater, IsOwnOrFree, growth_load};
 ghost use Rattle.volume_ops.specs.Service.{IsInService};
 ghost use Rattle.volume_ops.specs.Standing.{HoldsOn, IsSettled, StandsOver};
 ghost use Rattle.volume_ops.specs.Touching.{Touches};
 ghost use Rattle.volume_ops.specs.declared.ahead.Growth.TheVariants as growing;
 
+use crate::growable::count_blocks;
 use crate::volume::Volume;
-use hx_bytes::Trouble;
+use btree_file::TreeFile;
+use hx_bytes::{ForkRecord, Trouble};
 use sector_disk::SectorSpace;
 use std::alloc::Global;
+
+/// How many nodes more the catalog and the attributes file get.
+#[derive(Clone, Copy)]
+pub struct MoreNodes {
+    pub catalog: u32,
+    pub attributes: u32,
+}
 
 /// What became of a growth ahead of a command.
 #[derive(Clone, Copy)]
 pub enum Growth {
-    /// The catalog has its nodes.
+    /// The trees have their nodes.
     Grown,
-    /// There is too little room now for what the growth and the command put.
+    /// There is too little room now for what the growth and the command put, or for the blocks.
     CommitFirst,
-    /// The catalog can't grow by so many nodes in one extent more.
+    /// Both are to grow, or the fork of the one that is has eight extents.
     ToCome,
 }
 
@@ -38,22 +50,22 @@ fn fit_both(first: u64, second: u64, spare: u64) -> bool
 }
 
 impl Volume {
-    /// How many sectors a growth of the catalog by so many nodes puts at most; none where the numbers that count them have no room.
-    fn count_growth(&self, more: u32) -> Option<u64>
-        ensures { IfSome result (λ sectors. sectors ≡ growth_load self.now more) }
+    /// How many sectors a growth of a file with this fork by so many nodes puts at most; none where the numbers that count them have no room.
+    fn count_growth(&self, file: &TreeFile, fork: ForkRecord, more: u32) -> Option<u64>
+        ensures { IfSome result (λ sectors. sectors ≡ growth_load self.now file.now more) }
     {
-        if self.catalog.file.per_block() == 0 {
+        if file.per_block() == 0 {
             return None;
         }
-        let blocks = self.count_catalog_blocks(more);
-        if !self.counts_have_room(more, blocks) {
+        let blocks = count_blocks(file, more);
+        if !self.counts_have_room(file, fork, more, blocks) {
             return None;
         }
-        Some(self.count_growth_sectors(more, blocks))
+        Some(self.count_growth_sectors(file, more, blocks))
     }
 
     /// Grows the catalog, where no bit was changed since the last keep.
-    fn grow_kept<P: SectorSpace>(
+    fn grow_catalog_kept<P: SectorSpace>(
         &mut self,
         alloc: Global,
         space: &mut P,
@@ -64,7 +76,8 @@ impl Volume {
         requires settled { IsTrue (P.SectorView.space space.old).tells → IsSettled self.old (P.SectorView.space space.old).content }
         requires unchanged { self.old.map.changed ≡ none (sectors_for (length self.old.map.used)) }
         requires closed { IsTrue (P.SectorView.space space.old).tells → (at : ℕ) → (P.SectorView.space space.old).closed at → IsJournalSector (P.SectorView.space space.old).content at }
-        ensures ahead { IsTrue (P.SectorView.space space.old).tells → IfOk result (λ said. GoesAhead said more (P.SectorView.space space.old).content (P.SectorView.space space.new).content) }
+        ensures ahead { IsTrue (P.SectorView.space space.old).tells → IfOk result (λ said. GoesAhead said (record { catalog = more; attributes = 0 }) (P.SectorView.space space.old).content (P.SectorView.space space.new).content) }
+        ensures later { IsTrue (P.SectorView.space space.old).tells → IfOk result (λ said. said ≡ growing.ToCome → 8 ≤ extents_in_use (volume_of (P.SectorView.space space.old).content) catalog_id (volume_of (P.SectorView.space space.old).content).head.catalog_fork) }
         ensures room { IfOk result (λ said. said ≡ growing.Grown → load ≤ (P.SectorView.space space.new).spare) }
         ensures stands { OnOk result (StandsOver self.new (P.SectorView.space space.new)) }
         ensures settled { IsTrue (P.SectorView.space space.old).tells → OnOk result (IsSettled self.new (P.SectorView.space space.new).content) }
@@ -76,26 +89,26 @@ impl Volume {
         ensures below { P.SectorView.follows space.old space.new }
         ensures cause { HasTroubleCause (P.SectorView.space space.old).faults (P.SectorView.space space.new).faults result }
     {
-        match self.count_growth(more) {
+        if self.catalog.file.fork().len() >= 8 {
+            return Ok(Growth::ToCome);
+        }
+        match self.count_growth(&self.catalog.file, self.header.catalog_fork, more) {
             Some(sectors) => {
                 if !fit_both(sectors, load, space.spare()) {
                     return Ok(Growth::CommitFirst);
                 }
                 if !self.can_grow_catalog(space, more) {
-                    return Ok(Growth::ToCome);
+                    return Ok(Growth::CommitFirst);
                 }
                 self.grow_catalog(alloc, space, more)?;
                 Ok(Growth::Grown)
             }
-            None => Ok(Growth::ToCome),
+            None => Ok(Growth::CommitFirst),
         }
     }
 
-    /// Grows the catalog by so many nodes ahead of a command that puts so many sectors at most; what was done so far stays, whatever is
-    /// undone later. Where there is too little room for both nothing is changed, nor where the catalog can't grow so: its fork has eight
-    /// extents, so many blocks aren't free in a row, or a number has no room. `Memory` comes where memory is wanting, `Disk` where a
-    /// read failed.
-    pub fn grow_ahead<P: SectorSpace>(
+    /// Grows the attributes file, where no bit was changed since the last keep.
+    fn grow_attributes_kept<P: SectorSpace>(
         &mut self,
         alloc: Global,
         space: &mut P,
@@ -104,10 +117,61 @@ impl Volume {
     ) -> Result<Growth, Trouble>
         requires stands { StandsOver self.old (P.SectorView.space space.old) }
         requires settled { IsTrue (P.SectorView.space space.old).tells → IsSettled self.old (P.SectorView.space space.old).content }
+        requires unchanged { self.old.map.changed ≡ none (sectors_for (length self.old.map.used)) }
+        requires closed { IsTrue (P.SectorView.space space.old).tells → (at : ℕ) → (P.SectorView.space space.old).closed at → IsJournalSector (P.SectorView.space space.old).content at }
+        ensures ahead { IsTrue (P.SectorView.space space.old).tells → IfOk result (λ said. GoesAhead said (record { catalog = 0; attributes = more }) (P.SectorView.space space.old).content (P.SectorView.space space.new).content) }
+        ensures later { IsTrue (P.SectorView.space space.old).tells → IfOk result (λ said. said ≡ growing.ToCome → 8 ≤ extents_in_use (volume_of (P.SectorView.space space.old).content) attributes_id (volume_of (P.SectorView.space space.old).content).head.attributes_fork) }
+        ensures room { IfOk result (λ said. said ≡ growing.Grown → load ≤ (P.SectorView.space space.new).spare) }
+        ensures stands { OnOk result (StandsOver self.new (P.SectorView.space space.new)) }
+        ensures settled { IsTrue (P.SectorView.space space.old).tells → OnOk result (IsSettled self.new (P.SectorView.space space.new).content) }
+        ensures service { IsInService self.new (P.SectorView.space space.new) }
+        ensures holds { (committed : Content) → HoldsOn committed self.old → HoldsOn committed self.new }
+        ensures same { (self.new.private ≡ self.old.private) × (self.new.shrunk ≡ self.old.shrunk) × (self.new.capacity ≡ self.old.capacity) }
+        ensures touches { (committed : Content) → Touches committed (IsOwnOrFree self.old) (P.SectorView.space space.old) (P.SectorView.space space.new) }
+        ensures gained { IsTrue (P.SectorView.space space.old).tells → OnOk result ((s : ℕ) → IsOwnOrFree self.new s → IsOwnOrFree self.old s) }
+        ensures below { P.SectorView.follows space.old space.new }
+        ensures cause { HasTroubleCause (P.SectorView.space space.old).faults (P.SectorView.space space.new).faults result }
+    {
+        if self.header.attributes_fork.logical_size == 0 {
+            return Ok(Growth::CommitFirst);
+        }
+        if self.attributes.file.fork().len() >= 8 {
+            return Ok(Growth::ToCome);
+        }
+        match self.count_growth(&self.attributes.file, self.header.attributes_fork, more) {
+            Some(sectors) => {
+                if !fit_both(sectors, load, space.spare()) {
+                    return Ok(Growth::CommitFirst);
+                }
+                if !self.can_grow_attributes(space, more) {
+                    return Ok(Growth::CommitFirst);
+                }
+                self.grow_attributes(alloc, space, more)?;
+                Ok(Growth::Grown)
+            }
+            None => Ok(Growth::CommitFirst),
+        }
+    }
+
+    /// Grows the catalog or the attributes file by so many nodes ahead of a command that puts so many sectors at most; what was done so far
+    /// stays, whatever is undone later. A commit comes first where there is too little room for both, so many blocks aren't free in a row,
+    /// or a number has no room; and the growth is still to come where both files are to grow, or the file's fork has eight extents: then
+    /// nothing is changed. `Memory` comes where memory is wanting, `Disk` where a read failed.
+    pub fn grow_ahead<P: SectorSpace>(
+        &mut self,
+        alloc: Global,
+        space: &mut P,
+        more: MoreNodes,
+        load: u64,
+    ) -> Result<Growth, Trouble>
+        requires stands { StandsOver self.old (P.SectorView.space space.old) }
+        requires settled { IsTrue (P.SectorView.space space.old).tells → IsSettled self.old (P.SectorView.space space.old).content }
         // Only the journal's sectors are closed.
         requires closed { IsTrue (P.SectorView.space space.old).tells → (at : ℕ) → (P.SectorView.space space.old).closed at → IsJournalSector (P.SectorView.space space.old).content at }
-        // Told, the content's catalog has just these nodes more, and its tree is as it was; or nothing was changed.
+        // Told, the content's catalog and attributes file have just these nodes more, and its tree is as it was; or nothing was changed.
         ensures ahead { IsTrue (P.SectorView.space space.old).tells → IfOk result (λ said. GoesAhead said more (P.SectorView.space space.old).content (P.SectorView.space space.new).content) }
+        // Such a growth isn't built only where both files are to grow, or the fork of the one that is has eight extents.
+        ensures later { IsTrue (P.SectorView.space space.old).tells → IfOk result (λ said. said ≡ growing.ToCome → IsLater more (volume_of (P.SectorView.space space.old).content)) }
         // Behind a growth so many sectors may be put as the command puts.
         ensures room { IfOk result (λ said. said ≡ growing.Grown → load ≤ (P.SectorView.space space.new).spare) }
         ensures stands { OnOk result (StandsOver self.new (P.SectorView.space space.new)) }
@@ -124,6 +188,14 @@ impl Volume {
         ensures cause { HasTroubleCause (P.SectorView.space space.old).faults (P.SectorView.space space.new).faults result }
     {
         self.keep();
-        self.grow_kept(alloc, space, more, load)
+        let catalog = more.catalog;
+        let attributes = more.attributes;
+        if attributes == 0 {
+            return self.grow_catalog_kept(alloc, space, catalog, load);
+        }
+        if catalog == 0 {
+            return self.grow_attributes_kept(alloc, space, attributes, load);
+        }
+        Ok(Growth::ToCome)
     }
 }

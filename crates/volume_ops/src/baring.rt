@@ -6,7 +6,7 @@ ghost use Rattle.attributes.specs.Owned.{names_of};
 ghost use Rattle.attributes.specs.Values.{AreInline};
 ghost use Rattle.btree_edit.specs.Causes.{HasTroubleCause};
 ghost use Rattle.btree_edit.specs.Desk.{IsDeskOf};
-ghost use Rattle.btree_edit.specs.Edits.{TakesAtMost, TakesEdits};
+ghost use Rattle.btree_edit.specs.Edits.{EditRoom, TakesAtMost, TakesEdits};
 ghost use Rattle.btree_file.specs.Frame.{FollowsOn};
 ghost use Rattle.btree_file.specs.Standing.{HoldsTree, LiesInside, LiesOpen, numbers_of, pairs_in};
 ghost use Rattle.btree_file.specs.State.{sectors_of_tree, state_of};
@@ -18,7 +18,6 @@ ghost use Rattle.hfs_volume.specs.Content.{has_attributes};
 ghost use Rattle.volume_ops.specs.Attributing.{ChangesAttributes};
 ghost use Rattle.volume_ops.specs.Lists.{lists_of};
 ghost use Rattle.volume_ops.specs.Looking.{ReadsVolume};
-ghost use Rattle.volume_ops.specs.Dropping.{FitsToDrop, FitsToLeave};
 ghost use Rattle.volume_ops.specs.Service.{IsInService};
 ghost use Rattle.volume_ops.specs.Standing.{IsSettled, StandsOver, own_sectors};
 ghost use Rattle.volume_ops.specs.Touching.{Touches};
@@ -28,33 +27,9 @@ use crate::valuing::delete_value;
 use crate::volume::Volume;
 use btree_edit::Desk;
 use btree_file::TreeFile;
-use btree_node::TreeShape;
 use hx_bytes::{Names, Trouble, Units};
 use sector_disk::SectorSpace;
 use std::alloc::Global;
-
-/// One attribute can be removed from a file with these numbers, whatever its tree is like.
-fn room_to_drop(owned: TreeShape, spare: u64) -> bool
-    ensures { IsTrue result → FitsToDrop owned spare }
-{
-    if owned.node_size < 4096 || owned.depth > 10 || owned.leaf_records == 0xFFFF_FFFF {
-        return false;
-    }
-    let depth = u64::from(owned.depth);
-    if depth + 2 > u64::from(owned.free) {
-        return false;
-    }
-    let nodes = (4 * (depth + 2) + 4).min(u64::from(owned.total));
-    nodes * u64::from(owned.node_size / 512) <= spare
-}
-
-/// There is room to remove a folder from a catalog with these numbers, whatever its tree is like.
-fn room_to_leave(catalog: TreeShape, spare: u64) -> bool
-    ensures { IsTrue result → FitsToLeave catalog spare }
-{
-    let edits = 3 * (4 * (u64::from(catalog.depth) + 4) + 4);
-    edits * u64::from(catalog.node_size / 512) < spare
-}
 
 /// Removes an attribute of a folder or file.
 fn drop_value<P: SectorSpace>(
@@ -70,6 +45,8 @@ fn drop_value<P: SectorSpace>(
     requires open { LiesOpen tree.old (P.SectorView.space space.old) }
     requires holds { IsTrue (P.SectorView.space space.old).tells → HoldsTree attributes_form IsAttrKey anything attr_cmp tree.old (P.SectorView.space space.old).content }
     requires inline { IsTrue (P.SectorView.space space.old).tells → AreInline (pairs_in (sectors_of_tree tree.old) (P.SectorView.space space.old).content) }
+    requires size { 4096 ≤ (numbers_of tree.old).node_size }
+    requires room { (names : List ℕ) → IsTrue (P.SectorView.space space.old).tells → EditRoom 1 266 (state_of names tree.old (P.SectorView.space space.old)) }
     ensures dropped { IsTrue (P.SectorView.space space.old).tells → OnOk result (DropsAttribute id name.now (pairs_in (sectors_of_tree tree.old) (P.SectorView.space space.old).content) (pairs_in (sectors_of_tree tree.old) (P.SectorView.space space.new).content)) }
     ensures holds { IsTrue (P.SectorView.space space.old).tells → OnOk result (HoldsTree attributes_form IsAttrKey anything attr_cmp tree.new (P.SectorView.space space.new).content) }
     ensures frame { FollowsOn tree.old tree.new (P.SectorView.space space.old) (P.SectorView.space space.new) }
@@ -82,9 +59,6 @@ fn drop_value<P: SectorSpace>(
 {
     // No name is longer (TN1150, "Attributes File").
     if name.len() > 127 {
-        return Err(Trouble::Memory);
-    }
-    if !room_to_drop(tree.shape(), space.spare()) {
         return Err(Trouble::Memory);
     }
     delete_value(alloc, tree, desk, space, id, name)?;
@@ -106,6 +80,8 @@ fn drop_owned<P: SectorSpace>(
     requires holds { IsTrue (P.SectorView.space space.old).tells → HoldsTree attributes_form IsAttrKey anything attr_cmp tree.old (P.SectorView.space space.old).content }
     requires inline { IsTrue (P.SectorView.space space.old).tells → AreInline (pairs_in (sectors_of_tree tree.old) (P.SectorView.space space.old).content) }
     requires listed { IsTrue (P.SectorView.space space.old).tells → owned.now ≡ names_of id (pairs_in (sectors_of_tree tree.old) (P.SectorView.space space.old).content) }
+    requires size { 4096 ≤ (numbers_of tree.old).node_size }
+    requires room { (names : List ℕ) → IsTrue (P.SectorView.space space.old).tells → EditRoom (length owned.now) 266 (state_of names tree.old (P.SectorView.space space.old)) }
     ensures sorted { IsTrue (P.SectorView.space space.old).tells → OnOk result (AreSortedAttributes (pairs_in (sectors_of_tree tree.old) (P.SectorView.space space.new).content)) }
     ensures dropped { IsTrue (P.SectorView.space space.old).tells → OnOk result (DropsAttributes id (pairs_in (sectors_of_tree tree.old) (P.SectorView.space space.old).content) (pairs_in (sectors_of_tree tree.old) (P.SectorView.space space.new).content)) }
     ensures holds { IsTrue (P.SectorView.space space.old).tells → OnOk result (HoldsTree attributes_form IsAttrKey anything attr_cmp tree.new (P.SectorView.space space.new).content) }
@@ -123,13 +99,6 @@ fn drop_owned<P: SectorSpace>(
 }
 
 impl Volume {
-    /// Whether there is room at run time to remove a folder, whatever the catalog is like.
-    pub(crate) fn can_leave(&self, spare: u64) -> bool
-        ensures { IsTrue result → FitsToLeave self.now.catalog.file.shape spare }
-    {
-        room_to_leave(self.catalog.file.shape(), spare)
-    }
-
     /// The names of the attributes of a folder or file; a volume without an attributes file has none.
     pub(crate) fn list_attributes<P: SectorSpace>(
         &mut self,
@@ -158,8 +127,7 @@ impl Volume {
         )
     }
 
-    /// Removes the attributes of a folder or file, whose names these are. The volume stands as before, without them. `Memory`
-    /// is answered too where the room left doesn't suffice for the next of them, by numbers alone.
+    /// Removes the attributes of a folder or file, whose names these are. The volume stands as before, without them.
     pub(crate) fn bare<P: SectorSpace>(
         &mut self,
         alloc: Global,
@@ -171,6 +139,8 @@ impl Volume {
         requires has { IsTrue (has_attributes self.old.header) }
         requires inline { IsTrue (P.SectorView.space space.old).tells → AreInline (lists_of self.old (P.SectorView.space space.old).content).attribute_pairs }
         requires listed { IsTrue (P.SectorView.space space.old).tells → owned.now ≡ names_of id (lists_of self.old (P.SectorView.space space.old).content).attribute_pairs }
+        requires size { 4096 ≤ self.old.attributes.file.shape.node_size }
+        requires room { (names : List ℕ) → IsTrue (P.SectorView.space space.old).tells → EditRoom (length owned.now) 266 (state_of names self.old.attributes.file (P.SectorView.space space.old)) }
         // Behind an answer it stands, and behind a fault it is in service.
         ensures stands { OnOk result (StandsOver self.new (P.SectorView.space space.new)) }
         ensures service { IsInService self.new (P.SectorView.space space.new) }

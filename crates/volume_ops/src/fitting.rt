@@ -9,7 +9,7 @@ ghost use Rattle.volume_ops.specs.Fitting.{is_met};
 ghost use Rattle.volume_ops.specs.Losing.{HasRoomToLose, lose_edits};
 ghost use Rattle.volume_ops.specs.Making.{HasRoomToMake};
 ghost use Rattle.volume_ops.specs.Moving.{HasRoomToMove};
-ghost use Rattle.volume_ops.specs.Removing.{HasRoomToRemove};
+ghost use Rattle.volume_ops.specs.Removing.{HasRoomToBare, HasRoomToRemove};
 ghost use Rattle.volume_ops.specs.Room.{capacity_of, free_in};
 ghost use Rattle.volume_ops.specs.declared.room.FreeBlocks.TheVariants as blocks;
 ghost use Rattle.volume_ops.specs.Standing.{IsSettled, StandsOver};
@@ -123,6 +123,42 @@ impl Volume {
             updates: 1,
         };
         self.can_edit(space, edits)
+    }
+
+    /// Whether there is room to remove a folder with so many attributes, by what it costs.
+    pub fn fits_bare<P: SectorSpace>(&self, space: &P, many: u32) -> bool
+        requires stands { StandsOver self.now (P.SectorView.space space.now) }
+        requires settled { IsTrue (P.SectorView.space space.now).tells → IsSettled self.now (P.SectorView.space space.now).content }
+        ensures { IsTrue result → HasRoomToBare many self.now (P.SectorView.space space.now) }
+    {
+        a_load_says_enough();
+        a_load_is_of_parts();
+        if !has_tree(self.header.attributes_fork.logical_size) {
+            return many == 0;
+        }
+        let edits = Edits {
+            ids: 0,
+            catalog: 2,
+            attributes: many,
+            updates: 1,
+        };
+        self.can_edit(space, edits)
+    }
+
+    /// The same of a folder that has some.
+    pub(crate) fn fits_owner<P: SectorSpace>(&self, space: &P, many: usize) -> bool
+        requires stands { StandsOver self.now (P.SectorView.space space.now) }
+        requires settled { IsTrue (P.SectorView.space space.now).tells → IsSettled self.now (P.SectorView.space space.now).content }
+        ensures some { IsTrue result → 0 < many }
+        ensures room { IsTrue result → HasRoomToBare many self.now (P.SectorView.space space.now) }
+    {
+        if many == 0 {
+            return false;
+        }
+        if many > 0xFFFF_FFFF {
+            return false;
+        }
+        self.fits_bare(space, many as u32)
     }
 
     /// Whether there is room to move a folder or file.

@@ -1,11 +1,14 @@
-//! Whether the catalog of a volume in service can get more nodes.
+//! Whether the catalog or the attributes file of a volume in service can get more nodes.
 ghost use Rattle.std.specs.Prelude.{◌≡◌, ◌<◌, ◌≤◌, ◌+◌, ◌*◌, ◌/◌, ◌^◌, min, IsTrue, length};
 ghost use Rattle.alloc_bitmap.specs.Map.{free_of, none};
 ghost use Rattle.btree_file.specs.Growth.{map_nodes_for};
 ghost use Rattle.flag_rows.specs.Bits.{count_set, sectors_for};
-ghost use Rattle.volume_ops.specs.Growing.{CanGrowCatalog, CountsHaveRoom, HasFreeRun, catalog_blocks, growth_load};
+ghost use Rattle.hfs_volume.specs.Content.{has_attributes};
+ghost use Rattle.volume_ops.specs.Growing.{CanGrow, CanGrowAttributes, CanGrowCatalog, CountsHaveRoom, HasFreeRun, blocks_filled, growth_load};
 
 use crate::volume::Volume;
+use btree_file::TreeFile;
+use hx_bytes::ForkRecord;
 use sector_disk::SectorSpace;
 
 /// How many map nodes more are wanted so that each of so many nodes has a bit, where a map has so many bits (TN1150, "Map Nodes").
@@ -26,6 +29,15 @@ fn count_map_sectors(total: u32, run: u64) -> u64
     all.min(run / 4096 + 2)
 }
 
+/// How many blocks so many nodes of a tree's file fill.
+pub(crate) fn count_blocks(file: &TreeFile, more: u32) -> u64
+    requires { 0 < file.now.per_block }
+    ensures { result ≡ blocks_filled file.now more }
+{
+    let sectors = u64::from(more) * u64::from(file.shape().node_size / 512);
+    sectors / u64::from(file.per_block())
+}
+
 impl Volume {
     /// Whether so many blocks in a row are free and not held.
     fn has_free_run(&self, blocks: u64) -> bool
@@ -42,14 +54,18 @@ impl Volume {
         blocks <= u64::from(self.map.longest())
     }
 
-    /// Whether the numbers that count the catalog's nodes, blocks and bytes have room for so many nodes more.
-    pub(crate) fn counts_have_room(&self, more: u32, blocks: u64) -> bool
-        requires { blocks ≡ catalog_blocks self.now more }
-        ensures { IsTrue result → CountsHaveRoom more self.now }
+    /// Whether the numbers that count the nodes, blocks and bytes of a file with this fork have room for so many nodes more.
+    pub(crate) fn counts_have_room(
+        &self,
+        file: &TreeFile,
+        fork: ForkRecord,
+        more: u32,
+        blocks: u64,
+    ) -> bool
+        requires { blocks ≡ blocks_filled file.now more }
+        ensures { IsTrue result → CountsHaveRoom more file.now fork self.now }
     {
-        let file = &self.catalog.file;
         let shape = file.shape();
-        let fork = self.header.catalog_fork;
         if shape.node_size < 512 || shape.node_size > 32_768 || file.fork().len() >= 8 {
             return false;
         }
@@ -71,40 +87,69 @@ impl Volume {
         blocks <= u64::from(self.header.free_blocks)
     }
 
-    /// How many sectors a growth of the catalog by so many nodes, in so many blocks, puts at most.
-    pub(crate) fn count_growth_sectors(&self, more: u32, blocks: u64) -> u64
-        requires blocks { blocks ≡ catalog_blocks self.now more }
-        requires counts { CountsHaveRoom more self.now }
-        ensures { result ≡ growth_load self.now more }
+    /// How many sectors a growth of a file by so many nodes, in so many blocks, puts at most.
+    pub(crate) fn count_growth_sectors(&self, file: &TreeFile, more: u32, blocks: u64) -> u64
+        requires blocks { blocks ≡ blocks_filled file.now more }
+        requires least { 512 ≤ file.now.shape.node_size }
+        requires most { file.now.shape.node_size ≤ 32768 }
+        requires nodes { file.now.shape.total + more < 2 ^ 32 }
+        ensures { result ≡ growth_load self.now file.now more }
     {
-        let file = &self.catalog.file;
         let shape = file.shape();
         let maps = count_map_nodes(shape.total + more, file.map_bits(), shape.node_size);
         let nodes = (2 + u64::from(maps)) * u64::from(shape.node_size / 512);
         nodes + (count_map_sectors(self.map.total(), blocks) + 1)
     }
 
-    /// Whether the catalog can get so many nodes more now, by `grow_catalog`: they fill blocks that are free in a row, its fork
-    /// has fewer than eight extents, and there is room to put what is changed.
-    pub fn can_grow_catalog<P: SectorSpace>(&self, space: &P, more: u32) -> bool
-        // Since the last keep no bit was changed.
+    /// Whether a file with this fork can get so many nodes more now: they fill blocks that are free in a row, its fork has fewer than
+    /// eight extents, and there is room to put what is changed.
+    fn can_grow<P: SectorSpace>(
+        &self,
+        space: &P,
+        file: &TreeFile,
+        fork: ForkRecord,
+        more: u32,
+    ) -> bool
         requires unchanged { self.now.map.changed ≡ none (sectors_for (length self.now.map.used)) }
-        ensures sure { IsTrue result → CanGrowCatalog more self.now (P.SectorView.space space.now) }
+        ensures sure { IsTrue result → CanGrow more file.now fork self.now (P.SectorView.space space.now) }
     {
-        let per_block = self.catalog.file.per_block();
+        let per_block = file.per_block();
         if per_block == 0 {
             return false;
         }
-        let blocks = self.count_catalog_blocks(more);
+        let blocks = count_blocks(file, more);
         if !self.has_free_run(blocks) {
             return false;
         }
-        if !self.counts_have_room(more, blocks) {
+        if !self.counts_have_room(file, fork, more, blocks) {
             return false;
         }
         if u64::from(self.map.total()) * u64::from(per_block) > space.sectors() {
             return false;
         }
-        self.count_growth_sectors(more, blocks) <= space.spare()
+        self.count_growth_sectors(file, more, blocks) <= space.spare()
+    }
+
+    /// Whether the catalog can get so many nodes more now, by `grow_catalog`.
+    pub fn can_grow_catalog<P: SectorSpace>(&self, space: &P, more: u32) -> bool
+        // Since the last keep no bit was changed.
+        requires unchanged { self.now.map.changed ≡ none (sectors_for (length self.now.map.used)) }
+        ensures sure { IsTrue result → CanGrowCatalog more self.now (P.SectorView.space space.now) }
+    {
+        self.can_grow(space, &self.catalog.file, self.header.catalog_fork, more)
+    }
+
+    /// Whether there is an attributes file that can get so many nodes more now, by `grow_attributes`.
+    pub fn can_grow_attributes<P: SectorSpace>(&self, space: &P, more: u32) -> bool
+        // Since the last keep no bit was changed.
+        requires unchanged { self.now.map.changed ≡ none (sectors_for (length self.now.map.used)) }
+        ensures there { IsTrue result → IsTrue (has_attributes self.now.header) }
+        ensures sure { IsTrue result → CanGrowAttributes more self.now (P.SectorView.space space.now) }
+    {
+        if self.header.attributes_fork.logical_size == 0 {
+            return false;
+        }
+        let file = &self.attributes.file;
+        self.can_grow(space, file, self.header.attributes_fork, more)
     }
 }

@@ -8,17 +8,19 @@ ghost use Rattle.btree_edit.specs.Causes.{HasTroubleCause};
 ghost use Rattle.hx_bytes.specs.Fork.{FitsExtent, FitsExtents, FitsFork};
 ghost use Rattle.hfs_volume.specs.Aside.{IsJournalSector};
 ghost use Rattle.hfs_volume.specs.Content.{volume_of};
+ghost use Rattle.hfs_volume.specs.Cost.{catalog_key};
 ghost use Rattle.hfs_volume.specs.Forks.{catalog_id};
 ghost use Rattle.hfs_volume.specs.Reclaim.{GrowsTrees};
 ghost use Rattle.hfs_volume.specs.TreeOf.{tree_of};
 ghost use Rattle.overflow.specs.Records.{eight_at, no_extent};
 ghost use Rattle.volume_header.specs.Header.{FitsHeader};
-ghost use Rattle.volume_ops.specs.Growing.{CanGrowCatalog, GrowsLists, GrowsVolume, HasFreeRun, IsOwnOrFree, KeepsForks, Lengthens, SufficesFor, TakesRun, catalog_blocks, growth_load, longer_fork, nodes_load, run_load, with_catalog};
+ghost use Rattle.volume_ops.specs.Growing.{CanGrowCatalog, GrowsCatalog, GrowsLists, HasFreeRun, IsOwnOrFree, KeepsForks, Lengthens, SufficesFor, TakesRun, blocks_filled, growth_load, longer_fork, nodes_load, run_load, with_catalog};
 ghost use Rattle.volume_ops.specs.Mapping.{HoldsUnchanged, changed_sectors};
 ghost use Rattle.volume_ops.specs.Service.{IsInService};
 ghost use Rattle.volume_ops.specs.Standing.{HoldsOn, IsSettled, StandsOver, own_sectors};
 ghost use Rattle.volume_ops.specs.Touching.{Touches};
 
+use crate::growable::count_blocks;
 use crate::volume::Volume;
 use alloc_bitmap::Bitmap;
 use hfs_volume::growth_keeps_the_tree;
@@ -67,7 +69,12 @@ fn first_eight(extents: &[Extent]) -> ExtentRecord
 }
 
 /// A fork that goes on in so many blocks more of this size, with these extents.
-fn longer_fork(fork: ForkRecord, extents: &[Extent], count: u32, block: u32) -> ForkRecord
+pub(crate) fn longer_fork(
+    fork: ForkRecord,
+    extents: &[Extent],
+    count: u32,
+    block: u32,
+) -> ForkRecord
     requires blocks { fork.total_blocks + count < 2 ^ 32 }
     requires bytes { fork.logical_size + count * block < 2 ^ 64 }
     ensures same { result ≡ longer_fork count block extents.now fork }
@@ -96,7 +103,7 @@ fn with_catalog(head: &VolumeHeader, extents: &[Extent], count: u32) -> VolumeHe
 }
 
 /// Takes so many blocks, of which there are enough in a row.
-fn take_run(map: &mut Bitmap, alloc: Global, count: u32) -> Result<Extent, OutOfMemory>
+pub(crate) fn take_run(map: &mut Bitmap, alloc: Global, count: u32) -> Result<Extent, OutOfMemory>
     requires some { 0 < count }
     requires enough { count ≤ count_set (free_of map.old) }
     requires run { HasFreeRun count (free_of map.old) }
@@ -108,16 +115,6 @@ fn take_run(map: &mut Bitmap, alloc: Global, count: u32) -> Result<Extent, OutOf
 }
 
 impl Volume {
-    /// How many blocks so many nodes of the catalog fill.
-    pub(crate) fn count_catalog_blocks(&self, more: u32) -> u64
-        requires { 0 < self.now.catalog.file.per_block }
-        ensures { result ≡ catalog_blocks self.now more }
-    {
-        let file = &self.catalog.file;
-        let sectors = u64::from(more) * u64::from(file.shape().node_size / 512);
-        sectors / u64::from(file.per_block())
-    }
-
     /// Takes a run of blocks for so many nodes more of the catalog, puts the nodes that this changes, and counts them in the header; neither
     /// header nor bitmap is put. The volume stands as before.
     fn lengthen_catalog<P: SectorSpace>(
@@ -141,12 +138,12 @@ impl Volume {
         ensures gained { IsTrue (P.SectorView.space space.old).tells → (s : ℕ) → Contains (own_sectors self.new) s → IsOwnOrFree self.old s }
         ensures service { IsInService self.new (P.SectorView.space space.new) }
         ensures touches { (committed : Content) → Touches committed (λ s. Contains (own_sectors self.new) s) (P.SectorView.space space.old) (P.SectorView.space space.new) }
-        ensures spent { (P.SectorView.space space.old).spare ≤ (P.SectorView.space space.new).spare + nodes_load self.old more }
-        ensures map { OnOk result (length (changed_sectors self.new) ≤ run_load self.old (catalog_blocks self.old more)) }
+        ensures spent { (P.SectorView.space space.old).spare ≤ (P.SectorView.space space.new).spare + nodes_load self.old.catalog.file more }
+        ensures map { OnOk result (length (changed_sectors self.new) ≤ run_load self.old (blocks_filled self.old.catalog.file more)) }
         ensures below { P.SectorView.follows space.old space.new }
         ensures cause { HasTroubleCause (P.SectorView.space space.old).faults (P.SectorView.space space.new).faults result }
     {
-        let blocks = self.count_catalog_blocks(more);
+        let blocks = count_blocks(&self.catalog.file, more);
         let run = take_run(&mut self.map, alloc, blocks as u32)?;
         self.catalog.file.grow(alloc, space, run)?;
         self.header = with_catalog(&self.header, self.catalog.file.fork().as_slice(), run.count);
@@ -174,13 +171,13 @@ impl Volume {
         // Every other fork has the blocks that it had.
         ensures files { IsTrue (P.SectorView.space space.old).tells → OnOk result (KeepsForks catalog_id (volume_of (P.SectorView.space space.old).content) (volume_of (P.SectorView.space space.new).content)) }
         // Of the content's numbers those of the catalog alone are others.
-        ensures lists { IsTrue (P.SectorView.space space.old).tells → OnOk result (GrowsLists more (volume_of (P.SectorView.space space.old).content) (volume_of (P.SectorView.space space.new).content)) }
+        ensures lists { IsTrue (P.SectorView.space space.old).tells → OnOk result (GrowsLists more 0 (volume_of (P.SectorView.space space.old).content) (volume_of (P.SectorView.space space.new).content)) }
         // The new blocks are taken, and none is given up; the bits that were changed are put.
-        ensures volume { IsTrue (P.SectorView.space space.old).tells → OnOk result (GrowsVolume more self.old self.new) }
+        ensures volume { IsTrue (P.SectorView.space space.old).tells → OnOk result (GrowsCatalog more self.old self.new) }
         // The bitmap keeps for each of its file's sectors whether it was changed.
         ensures marks { OnOk result (length self.new.map.changed ≡ sectors_for (length self.new.map.used)) }
         // For edits for which it had to grow by so many nodes it has room now.
-        ensures suffices { IsTrue (P.SectorView.space space.old).tells → OnOk result (SufficesFor more self.old self.new) }
+        ensures suffices { IsTrue (P.SectorView.space space.old).tells → OnOk result (SufficesFor catalog_key more self.old.catalog.file self.new.catalog.file) }
         ensures holds { (committed : Content) → HoldsOn committed self.old → HoldsOn committed self.new }
         ensures same { (self.new.private ≡ self.old.private) × (self.new.shrunk ≡ self.old.shrunk) × (self.new.capacity ≡ self.old.capacity) }
         ensures service { IsInService self.new (P.SectorView.space space.new) }
@@ -189,7 +186,7 @@ impl Volume {
         ensures own { IsTrue (P.SectorView.space space.old).tells → (s : ℕ) → Contains (own_sectors self.old) s → Contains (own_sectors self.new) s }
         // What is its own besides lies in blocks that were free.
         ensures gained { IsTrue (P.SectorView.space space.old).tells → (s : ℕ) → Contains (own_sectors self.new) s → IsOwnOrFree self.old s }
-        ensures spent { (P.SectorView.space space.old).spare ≤ (P.SectorView.space space.new).spare + growth_load self.old more }
+        ensures spent { (P.SectorView.space space.old).spare ≤ (P.SectorView.space space.new).spare + growth_load self.old self.old.catalog.file more }
         ensures below { P.SectorView.follows space.old space.new }
         ensures cause { HasTroubleCause (P.SectorView.space space.old).faults (P.SectorView.space space.new).faults result }
     {

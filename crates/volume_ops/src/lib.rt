@@ -17,6 +17,7 @@ mod fields;
 mod fitting;
 mod growable;
 mod growing;
+mod growing_attributes;
 mod header;
 mod heading;
 mod keeping;
@@ -66,7 +67,7 @@ mod watching;
 mod weighing;
 mod weights;
 
-pub use ahead::Growth;
+pub use ahead::{Growth, MoreNodes};
 pub use tidying::Tidying;
 pub use volume::Volume;
 pub use weighing::Weight;

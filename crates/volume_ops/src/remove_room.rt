@@ -1,4 +1,4 @@
-//! The attributes that `rmdir` removes: how many there are, and whether there is room for them by numbers alone.
+//! How many attributes `rmdir` removes.
 ghost use Rattle.std.specs.Prelude.{◌≡◌, ◌≤◌, false, Ok, IsTrue, IfOk, length};
 ghost use Rattle.attributes.specs.Owned.{count_of};
 ghost use Rattle.btree_edit.specs.Causes.{HasTroubleCause};
@@ -15,40 +15,11 @@ ghost use Rattle.volume_ops.specs.Removing.{MayRemove};
 ghost use Rattle.volume_ops.specs.Standing.{IsSettled, StandsOver};
 
 use crate::volume::Volume;
-use btree_node::TreeShape;
 use hfs_language::Path;
 use hfs_volume::sound_has_plain_tree;
 use hx_bytes::{Trouble, Units};
 use sector_disk::SectorSpace;
 use std::alloc::Global;
-
-/// The sectors that this many edits of a tree with these numbers put at most, if each put every node that an edit may.
-fn sectors_of_edits(shape: TreeShape, many: u64) -> Option<u64> {
-    let nodes = 4 * (u64::from(shape.depth) + 2) + 4;
-    many.checked_mul(nodes)?
-        .checked_mul(u64::from(shape.node_size / 512))
-}
-
-/// Whether so many attributes can be removed with this room from a file with these numbers, and then a folder from a catalog with
-/// those. Their removal makes neither tree deeper.
-fn has_room_for(owned: TreeShape, catalog: TreeShape, spare: u64, many: u64) -> bool {
-    if many == 0 {
-        return true;
-    }
-    if owned.node_size < 4096 || owned.depth > 10 || owned.leaf_records == 0xFFFF_FFFF {
-        return false;
-    }
-    if u64::from(owned.depth) + 2 > u64::from(owned.free) {
-        return false;
-    }
-    let Some(puts) = sectors_of_edits(owned, many) else {
-        return false;
-    };
-    let Some(others) = sectors_of_edits(catalog, 6) else {
-        return false;
-    };
-    puts < spare && others < spare - puts
-}
 
 impl Volume {
     /// How many attributes a folder or file has.
@@ -124,15 +95,5 @@ impl Volume {
             Some((name, above)) => self.bare_count_under(alloc, space, above, name),
             None => Ok(0),
         }
-    }
-
-    /// Whether there is room to remove a folder with so many attributes, by numbers alone.
-    pub fn fits_bare<P: SectorSpace>(&self, space: &P, many: u32) -> bool {
-        has_room_for(
-            self.attributes.file.shape(),
-            self.catalog.file.shape(),
-            space.spare(),
-            u64::from(many),
-        )
     }
 }

@@ -196,7 +196,7 @@ impl Volume {
     }
 
     /// Removes a folder without entries, after its attributes, whose names these are. `Memory` is answered too where the room that
-    /// is left doesn't suffice for the next of them, or for the folder behind them, by numbers alone.
+    /// there is doesn't suffice for all of this, by what it costs.
     fn remove_owner<P: SectorSpace>(
         &mut self,
         alloc: Global,
@@ -223,12 +223,20 @@ impl Volume {
         ensures below { P.SectorView.follows space.old space.new }
         ensures cause { HasTroubleCause (P.SectorView.space space.old).faults (P.SectorView.space space.new).faults result }
     {
+        edits_have_room();
         edits_take_their_load();
         if self.header.attributes_fork.logical_size == 0 {
             return Err(Trouble::Memory);
         }
+        // The least node size that the format allows the attributes file (TN1150, "Attributes File").
+        if self.attributes.file.shape().node_size < 4096 {
+            return Err(Trouble::Memory);
+        }
+        if !self.fits_owner(space, owned.len()) {
+            return Err(Trouble::Memory);
+        }
         self.bare(alloc, space, at.id, owned)?;
-        if !self.can_leave(space.spare()) {
+        if space.spare() == 0 {
             return Err(Trouble::Memory);
         }
         self.remove_folder(alloc, space, at, name)

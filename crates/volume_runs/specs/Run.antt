@@ -1,5 +1,5 @@
 -- Runs: lines, each with its reply and the contents before and after it.
-use Rattle.std.specs.Prelude.{◌≡◌, ◌≢◌, ◌⊎◌, ◌<◌, ℕ, ◌+◌, nat_lt, Bool, true, false, List, [], ◌∷◌, ◌++◌, length, map, take, drop, sum, All, Option, Some, None, Result, Ok, Err, IsTrue, if◌then◌else◌}
+use Rattle.std.specs.Prelude.{◌≡◌, ◌≢◌, ◌⊎◌, ◌<◌, ◌≤◌, ℕ, ◌+◌, nat_lt, Bool, true, false, List, [], ◌∷◌, ◌++◌, length, map, take, drop, slice_index, All, Option, Some, None, Result, Ok, Err, IsTrue, if◌then◌else◌}
 use Rattle.jnl_format.specs.Recovery.{Content}
 use Rattle.hfs_language.specs.Language.{command_of}
 use Rattle.hfs_language.specs.Text.{reply_text}
@@ -13,10 +13,11 @@ use Rattle.hfs_volume.specs.declared.cost.Cost.TheVariants as cost
 use Rattle.hfs_model.specs.declared.plain.PlainNode.{PlainNode}
 use Rattle.hfs_model.specs.declared.plain.PlainTree.{PlainTree}
 use Rattle.hfs_model.specs.Step.{step_line, refuses, to_file, only_reads}
-use Rattle.hfs_volume.specs.Content.{volume_of}
+use Rattle.hfs_volume.specs.Content.{VolumeState, volume_of}
+use Rattle.hfs_volume.specs.Forks.{attributes_id, catalog_id}
 use Rattle.hfs_volume.specs.Sound.{IsSound}
 use Rattle.hfs_volume.specs.TreeOf.{tree_of}
-use Rattle.hfs_volume.specs.Weight.{data_of, weight, gauge, edits_of, needs_cut}
+use Rattle.hfs_volume.specs.Weight.{data_of, weight, gauge, edits_of, extents_in_use, needs_cut}
 use Rattle.hfs_volume.specs.Data.{PutsInFork}
 use Rattle.hfs_volume.specs.Reclaim.{GrowsTrees}
 use Rattle.volume_runs.specs.Rest.{Rests}
@@ -91,11 +92,25 @@ is_to_come _ = false
 abbrev pub attribute_edits : PlainTree → Command → ℕ
 attribute_edits tree asked = (edits_of tree asked).attributes
 
--- The step doesn't refuse the command, but it asks for more than is built: it removes more than eleven attributes, or a tree has to grow for it.
+-- a growth of the extents file, of catalog and attributes file both, or of one of these, where its fork has eight extents already
+abbrev pub IsLater : List ℕ → VolumeState → Type 0
+IsLater grow volume =
+    (0 < slice_index grow 0)
+    ⊎ (((0 < slice_index grow 1) × (0 < slice_index grow 2))
+    ⊎ (((0 < slice_index grow 1) × (8 ≤ extents_in_use volume catalog_id volume.head.catalog_fork))
+    ⊎ ((0 < slice_index grow 2) × (8 ≤ extents_in_use volume attributes_id volume.head.attributes_fork))))
+
+-- Trees have to grow for a command as isn't built yet.
+pub record GrowsMore (capacity : ℕ) (asked : Command) (content : Content) : Type 0 where
+  pub load : ℕ
+  pub grow : List ℕ
+  pub weighs : weight capacity (volume_of content) (tree_of content) asked ≡ cost.Load load grow
+  pub later : IsLater grow (volume_of content)
+
+-- The step doesn't refuse the command, but it asks for more than is built.
 pub record AsksMore (capacity : ℕ) (asked : Command) (content : Content) : Type 0 where
   pub no_refusal : refuses (tree_of content) (Ok asked) ≡ false
-  pub more : (11 < attribute_edits (tree_of content) asked)
-      ⊎ ((load : ℕ) × (grow : List ℕ) × (weight capacity (volume_of content) (tree_of content) asked ≡ cost.Load load grow) × (0 < sum grow))
+  pub more : GrowsMore capacity asked content
 
 -- The step doesn't refuse the command, but it is still to come, and nothing was changed.
 pub record IsToCome (capacity : ℕ) (entry : Entry) : Type 0 where

@@ -1,4 +1,4 @@
--- A command ahead of which the catalog grew: the entry of its line, from the content before the growth.
+-- A command ahead of which catalog or attributes file grew: the entry of its line, from the content before the growth.
 use Rattle.std.proofs.Common.{◌≡◌, ◌≢◌, ◌⊎◌, ◌<◌, ℕ, ◌+◌, ◌*◌, ◌/◌, Bool, true, false, List, [], ◌∷◌, inl, inr, length, take, refl, sym, ◌∙◌, ap, subst, arith, zero-mul}
 use Rattle.std.specs.Prelude.{IsTrue, None, Result, Ok, Err, not, slice_index, if◌then◌else◌}
 use Rattle.std.proofs.Math.Nat.{zero-div}
@@ -31,8 +31,10 @@ use Rattle.hfs_volume.specs.Weight.{Edits, cost_of_tree, cut_cost, data_of, edit
 use Rattle.hfs_volume.specs.declared.cost.Cost.{Cost}
 use Rattle.hfs_volume.specs.declared.cost.Cost.TheVariants as cost
 use Rattle.hfs_volume.specs.declared.cost.Room.{Room}
+use Rattle.hfs_volume.specs.declared.cost.TreeCost.{TreeCost}
 use Rattle.tree_weights.specs.Weights.{IsAfforded, LoadIsOfParts, LoadSaysEnough}
-use Rattle.volume_ops.specs.Growing.{GrowsAhead, GrowsLists}
+use Rattle.volume_ops.specs.Growing.{GrowsAhead, GrowsNumbers}
+use Rattle.volume_ops.specs.declared.ahead.MoreNodes.{MoreNodes}
 use Rattle.volume_step.specs.Steps.{Affords, GrowsFirst, IsServedAs, KeepsJournal, StepsTo}
 use Rattle.volume_step.specs.declared.outcome.Outcome.{Outcome}
 use Rattle.volume_step.specs.declared.outcome.Outcome.TheVariants as outcome
@@ -40,30 +42,34 @@ use Rattle.volume_step.proofs.MetAgain.{IsLarger, load_then, met_again, needs_of
 
 -- ---- what the command weighs behind the growth
 
-chosen : (a b c : Bool) (x y z w : Cost) → a ≡ false → b ≡ false → c ≡ false → (if a then x else if b then y else if c then z else w) ≡ w
-chosen a b c x y z w one two three = λ i. if one i then x else if two i then y else if three i then z else w
+chosen : (a b c : Bool) (x y z w : Cost) (d : Bool) → a ≡ false → b ≡ false → c ≡ d → (if a then x else if b then y else if c then z else w) ≡ (if d then z else w)
+chosen a b c x y z w d one two three = λ i. if one i then x else if two i then y else if three i then z else w
 
 -- neither the growth of a tree nor what is larger of it hangs on its extents
 growth_alike : (block key edits : ℕ) (tree : TreeFacts) (m n : ℕ) → growth block key (cost_of_tree tree m) edits ≡ growth block key (cost_of_tree tree n) edits
 unfolding growth_for
 growth_alike block key edits tree m n = refl
 
-growth_if : (block key edits : ℕ) (x y : Bool) (t u : TreeFacts) (m n : ℕ) → y ≡ x → u ≡ t → growth block key (if y then cost_of_tree u n else no_tree) edits ≡ growth block key (if x then cost_of_tree t m else no_tree) edits
-growth_if block key edits x y t u m n same_if same = (λ i. growth block key (if same_if i then cost_of_tree (same i) n else no_tree) edits) ∙ by x
-  where
-    by : (z : Bool) → growth block key (if z then cost_of_tree t n else no_tree) edits ≡ growth block key (if z then cost_of_tree t m else no_tree) edits
-    by true = growth_alike block key edits t n m
-    by false = refl
+-- a tree that has grown, where there is one
+abbrev tree_if : Bool → TreeFacts → ℕ → TreeCost
+tree_if there tree extents = if there then cost_of_tree tree extents else no_tree
 
-larger_if : (x y : Bool) (t u : TreeFacts) (m n : ℕ) → y ≡ x → u ≡ t → IsLarger 0 (if x then cost_of_tree t m else no_tree) (if y then cost_of_tree u n else no_tree)
-larger_if x y t u m n same_if same = subst (λ (k : Bool × TreeFacts). IsLarger 0 (if x then cost_of_tree t m else no_tree) (if k.0 then cost_of_tree k.1 n else no_tree)) {x = (x, t)} {y = (y, u)} (λ i. (sym same_if i, sym same i)) (by x)
+suffices_if : (block key edits more : ℕ) (x y : Bool) (t u : TreeFacts) (m n : ℕ) → y ≡ x → (x ≡ false → more ≡ 0) → GrowsNumbers key more t u → more ≡ growth block key (tree_if x t m) edits → growth block key (tree_if y u n) edits ≡ 0
+suffices_if block key edits more x y t u m n same_if none grows is = ap (λ z. growth block key (tree_if z u n) edits) same_if ∙ by x none is
   where
-    by : (z : Bool) → IsLarger 0 (if z then cost_of_tree t m else no_tree) (if z then cost_of_tree t n else no_tree)
-    by true = record { node_size = refl; depth = refl; records = refl; nodes = omega arith }
-    by false = record { node_size = refl; depth = refl; records = refl; nodes = omega arith }
+    by : (z : Bool) → (z ≡ false → more ≡ 0) → more ≡ growth block key (tree_if z t m) edits → growth block key (tree_if z u n) edits ≡ 0
+    by true without was = growth_alike block key edits u n 0 ∙ grows.suffices block edits (was ∙ growth_alike block key edits t m 0)
+    by false without was = sym was ∙ without refl
 
-module _ (says : LoadSaysEnough) (of_parts : LoadIsOfParts) (capacity more : ℕ) (asked : Command) (before mid : Content) (unread : only_reads asked ≡ false) (no_put : (tree : PlainTree) → data_of tree asked ≡ None) (no_lack : (volume : VolumeState) → lacks_tree volume asked ≡ false)
-    (first : GrowsFirst more capacity asked before) (ahead : GrowsAhead more before mid)
+larger_if : (more : ℕ) (x y : Bool) (t u : TreeFacts) (m n : ℕ) → y ≡ x → u.shape ≡ record t.shape { total = u.shape.total; free = u.shape.free } → u.shape.total ≡ t.shape.total + more → (x ≡ false → more ≡ 0) → IsLarger more (tree_if x t m) (tree_if y u n)
+larger_if more x y t u m n same_if numbers total none = subst (λ (z : Bool). IsLarger more (tree_if x t m) (tree_if z u n)) (sym same_if) (by x none)
+  where
+    by : (z : Bool) → (z ≡ false → more ≡ 0) → IsLarger more (tree_if z t m) (tree_if z u n)
+    by true without = record { node_size = ap (λ (s : TreeShape). s.node_size) numbers; depth = ap (λ (s : TreeShape). s.depth) numbers; records = ap (λ (s : TreeShape). s.leaf_records) numbers; nodes = total }
+    by false without = record { node_size = refl; depth = refl; records = refl; nodes = omega (arith, without refl) }
+
+module _ (says : LoadSaysEnough) (of_parts : LoadIsOfParts) (capacity : ℕ) (more : MoreNodes) (asked : Command) (before mid : Content) (unread : only_reads asked ≡ false) (no_put : (tree : PlainTree) → data_of tree asked ≡ None)
+    (lacks_same : (old new : VolumeState) → has_attributes new.head ≡ has_attributes old.head → lacks_tree new asked ≡ lacks_tree old asked) (first : GrowsFirst more capacity asked before) (ahead : GrowsAhead more before mid)
   where
     abbrev old : VolumeState
     old = volume_of before
@@ -77,15 +83,28 @@ module _ (says : LoadSaysEnough) (of_parts : LoadIsOfParts) (capacity more : ℕ
     abbrev room : VolumeState → Room
     room volume = room_with capacity (free_blocks volume) volume
 
-    weight_is : (volume : VolumeState) (tree : PlainTree) → weight capacity volume tree asked ≡ cost_of (needs_of_edits (edits_of tree asked)) (room volume)
+    -- a load is told of a volume that lacks no tree
+    no_lack : lacks_tree (volume_of before) asked ≡ false
     unfolding weight_with
-    weight_is volume tree =
+    no_lack = by (lacks_tree (volume_of before) asked) refl
+      where
+        by : (b : Bool) → lacks_tree (volume_of before) asked ≡ b → lacks_tree (volume_of before) asked ≡ false
+        by false is = is
+        by true is = absurd (
+            let refused : weight capacity (volume_of before) (tree_of before) asked ≡ cost.Refused refusal.NoTree =
+            chosen (only_reads asked) (needs_cut (volume_of before) (data_of (tree_of before) asked)) (lacks_tree (volume_of before) asked) (cost.Load 0 (0 ∷ 0 ∷ 0 ∷ [])) (cut_cost (room (volume_of before))) (cost.Refused refusal.NoTree) (cost_of (needs_for (free_blocks (volume_of before)) (volume_of before) (edits_of (tree_of before) asked) (data_of (tree_of before) asked)) (room (volume_of before)))
+            true unread (ap (needs_cut (volume_of before)) (no_put (tree_of before))) is in
+            let both : cost.Refused refusal.NoTree ≡ cost.Load first.load (0 ∷ more.catalog ∷ more.attributes ∷ []) = sym refused ∙ first.weighs in cc both)
+
+    weight_is : (volume : VolumeState) (tree : PlainTree) → lacks_tree volume asked ≡ false → weight capacity volume tree asked ≡ cost_of (needs_of_edits (edits_of tree asked)) (room volume)
+    unfolding weight_with
+    weight_is volume tree lacks =
         chosen (only_reads asked) (needs_cut volume (data_of tree asked)) (lacks_tree volume asked) (cost.Load 0 (0 ∷ 0 ∷ 0 ∷ [])) (cut_cost (room volume)) (cost.Refused refusal.NoTree) (cost_of (needs_for (free_blocks volume) volume (edits_of tree asked) (data_of tree asked)) (room volume))
-        unread (ap (needs_cut volume) (no_put tree)) (no_lack volume)
+        false unread (ap (needs_cut volume) (no_put tree)) lacks
         ∙ ap (λ d. cost_of (needs_for (free_blocks volume) volume (edits_of tree asked) d) (room volume)) (no_put tree)
 
-    afforded : IsAfforded (needs_of_edits many) (room old) first.load (0 ∷ more ∷ 0 ∷ [])
-    afforded = says (needs_of_edits many) (room old) first.load (0 ∷ more ∷ 0 ∷ []) (sym (weight_is old (tree_of before)) ∙ first.weighs)
+    afforded : IsAfforded (needs_of_edits many) (room old) first.load (0 ∷ more.catalog ∷ more.attributes ∷ [])
+    afforded = says (needs_of_edits many) (room old) first.load (0 ∷ more.catalog ∷ more.attributes ∷ []) (sym (weight_is old (tree_of before) no_lack) ∙ first.weighs)
 
     block_is : (room new).block ≡ (room old).block
     unfolding room_with
@@ -99,39 +118,38 @@ module _ (says : LoadSaysEnough) (of_parts : LoadIsOfParts) (capacity more : ℕ
     unfolding room_with
     capacity_is = refl
 
-    larger : IsLarger more (tree_at (room old) 1) (tree_at (room new) 1)
+    larger : IsLarger more.catalog (tree_at (room old) 1) (tree_at (room new) 1)
     unfolding room_with
     larger = record {
-      node_size = ap (λ (s : TreeShape). s.node_size) ahead.lists.numbers;
-      depth = ap (λ (s : TreeShape). s.depth) ahead.lists.numbers;
-      records = ap (λ (s : TreeShape). s.leaf_records) ahead.lists.numbers;
+      node_size = ap (λ (s : TreeShape). s.node_size) ahead.lists.catalog_grows.numbers;
+      depth = ap (λ (s : TreeShape). s.depth) ahead.lists.catalog_grows.numbers;
+      records = ap (λ (s : TreeShape). s.leaf_records) ahead.lists.catalog_grows.numbers;
       nodes = ahead.grows.catalog.nodes;
     }
 
-    same_attributes : IsLarger 0 (tree_at (room old) 2) (tree_at (room new) 2)
+    own_if : more.attributes ≡ growth (room old).block attributes_key (tree_at (room old) 2) many.attributes
+    own_if = ap (λ l. slice_index l 2) afforded.grows
+
+    larger_own : IsLarger more.attributes (tree_at (room old) 2) (tree_at (room new) 2)
     unfolding room_with
-    same_attributes = larger_if (has_attributes old.head) (has_attributes new.head) old.attributes_tree new.attributes_tree _ _ (ap (λ (h : VolumeHeader). has_attributes h) ahead.lists.head) ahead.lists.attributes
+    larger_own = larger_if more.attributes (has_attributes old.head) (has_attributes new.head) old.attributes_tree new.attributes_tree _ _ ahead.lists.has ahead.lists.attributes_grow.numbers ahead.grows.attributes.nodes ahead.lists.none
 
     catalog_still : growth (room new).block catalog_key (tree_at (room new) 1) many.catalog ≡ 0
     unfolding room_with growth_for
-    catalog_still = ap (λ n. growth n catalog_key (tree_at (room new) 1) many.catalog) block_is ∙ ahead.lists.suffices (room old).block many.catalog (ap (λ l. slice_index l 1) afforded.grows)
+    catalog_still = ap (λ n. growth n catalog_key (tree_at (room new) 1) many.catalog) block_is ∙ ahead.lists.catalog_grows.suffices (room old).block many.catalog (ap (λ l. slice_index l 1) afforded.grows)
 
     attributes_still : growth (room new).block attributes_key (tree_at (room new) 2) many.attributes ≡ 0
     unfolding room_with
     attributes_still =
         ap (λ n. growth n attributes_key (tree_at (room new) 2) many.attributes) block_is
-        ∙ growth_if (room old).block attributes_key many.attributes (has_attributes old.head) (has_attributes new.head) old.attributes_tree new.attributes_tree _ _ (ap (λ (h : VolumeHeader). has_attributes h) ahead.lists.head) ahead.lists.attributes
-        ∙ sym (ap (λ l. slice_index l 2) afforded.grows)
-
-    tree_then : (P : PlainTree → Type 0) → P (tree_of before) → P (tree_of mid)
-    tree_then P was = subst P (sym ahead.tree) was
+        ∙ suffices_if (room old).block attributes_key many.attributes more.attributes (has_attributes old.head) (has_attributes new.head) old.attributes_tree new.attributes_tree _ _ ahead.lists.has ahead.lists.none ahead.lists.attributes_grow own_if
 
     pub affords_then : Affords capacity asked mid
     affords_then = record {
       no_refusal = subst (λ (t : PlainTree). refuses t (Ok asked) ≡ false) (sym ahead.tree) first.no_refusal;
       load = _;
-      affords = weight_is new (tree_of mid) ∙ ap (λ (t : PlainTree). cost_of (needs_of_edits (edits_of t asked)) (room new)) ahead.tree
-          ∙ met_again of_parts many (room old) (room new) more first.load first.some afforded capacity_is ids_are larger same_attributes catalog_still attributes_still;
+      affords = weight_is new (tree_of mid) (lacks_same old new ahead.lists.has ∙ no_lack) ∙ ap (λ (t : PlainTree). cost_of (needs_of_edits (edits_of t asked)) (room new)) ahead.tree
+          ∙ met_again of_parts many (room old) (room new) more.catalog more.attributes first.load afforded capacity_is ids_are larger larger_own catalog_still attributes_still;
     }
 
     -- ---- the journal's place
@@ -158,11 +176,11 @@ tree_both id more a b c p q = record {
   blocks = subst (λ (l : List ℕ). GrowsBy (more * (facts_at a id).shape.node_size / a.head.block_size) (blocks_at a id data_kind) l) (sym (grown_same _ (blocks_at b id data_kind) (blocks_at c id data_kind) (none_of (facts_at b id).shape.node_size b.head.block_size) q.blocks)) p.blocks;
 }
 
-trees_both : (more : ℕ) (a b c : VolumeState) → GrowsTrees (0 ∷ more ∷ 0 ∷ []) a b → GrowsTrees (0 ∷ 0 ∷ 0 ∷ []) b c → GrowsTrees (0 ∷ more ∷ 0 ∷ []) a c
-trees_both more a b c p q = record {
+trees_both : (more own : ℕ) (a b c : VolumeState) → GrowsTrees (0 ∷ more ∷ own ∷ []) a b → GrowsTrees (0 ∷ 0 ∷ 0 ∷ []) b c → GrowsTrees (0 ∷ more ∷ own ∷ []) a c
+trees_both more own a b c p q = record {
   extents = tree_both extents_id 0 a b c p.extents q.extents;
   catalog = tree_both catalog_id more a b c p.catalog q.catalog;
-  attributes = tree_both attributes_id 0 a b c p.attributes q.attributes;
+  attributes = tree_both attributes_id own a b c p.attributes q.attributes;
 }
 
 -- the growths of a load
@@ -172,7 +190,7 @@ grown_in (cost.Refused why) = []
 
 -- ---- the entry
 
-module _ (capacity number more : ℕ) (asked : Command) (before mid after : Content) (unread : only_reads asked ≡ false) (no_put : (tree : PlainTree) → data_of tree asked ≡ None) (first : GrowsFirst more capacity asked before) (ahead : GrowsAhead more before mid) (affords : Affords capacity asked mid)
+module _ (capacity number : ℕ) (more : MoreNodes) (asked : Command) (before mid after : Content) (unread : only_reads asked ≡ false) (no_put : (tree : PlainTree) → data_of tree asked ≡ None) (first : GrowsFirst more capacity asked before) (ahead : GrowsAhead more before mid) (affords : Affords capacity asked mid)
     (sound : IsSound before) (reply_same : (content : Content) → reply_to capacity content (Ok asked) ≡ (step_line (tree_of content) (Ok asked)).0)
   where
     done_first : IsDone capacity asked mid after → IsDone capacity asked before after
@@ -180,12 +198,12 @@ module _ (capacity number more : ℕ) (asked : Command) (before mid after : Cont
         let none : done.grow ≡ 0 ∷ 0 ∷ 0 ∷ [] = ap grown_in (sym done.affords ∙ affords.affords) in
         record {
           load = first.load;
-          grow = 0 ∷ more ∷ 0 ∷ [];
+          grow = 0 ∷ more.catalog ∷ more.attributes ∷ [];
           affords = first.weighs;
           no_surplus = ap (needs_cut (volume_of before)) (no_put (tree_of before));
-          grows = trees_both more (volume_of before) (volume_of mid) (volume_of after) ahead.grows (subst (λ (l : List ℕ). GrowsTrees l (volume_of mid) (volume_of after)) none done.grows);
+          grows = trees_both more.catalog more.attributes (volume_of before) (volume_of mid) (volume_of after) ahead.grows (subst (λ (l : List ℕ). GrowsTrees l (volume_of mid) (volume_of after)) none done.grows);
           forks = subst (λ d. PutsInFork d (volume_of before) (volume_of after)) (sym (no_put (tree_of before)))
-              (λ id kind other. subst (λ d. PutsInFork d (volume_of mid) (volume_of after)) (no_put (tree_of mid)) done.forks id kind other ∙ ahead.files id kind (inl (λ same. other (inr (inl same)))));
+              (λ id kind other. subst (λ d. PutsInFork d (volume_of mid) (volume_of after)) (no_put (tree_of mid)) done.forks id kind other ∙ ahead.files id kind other);
           reads = λ does_read. absurd (true≢false (sym does_read ∙ unread));
         }
 

@@ -1,6 +1,6 @@
--- A step ahead of which the catalog grew, from the volume before the growth.
-use Rattle.std.proofs.Common.{◌≡◌, ◌⊎◌, ◌<◌, ℕ, ◌+◌, List, [], ◌∷◌, inl, inr, ⊎_elim, refl, sym, ◌∙◌, ap, subst, arith}
-use Rattle.std.specs.Prelude.{sum, IfOk, IsTrue, None, Option, Result, Ok, Err, false, if◌then◌else◌}
+-- A step ahead of which catalog or attributes file grew, from the volume before the growth.
+use Rattle.std.proofs.Common.{◌≡◌, ◌⊎◌, ◌<◌, ◌≤◌, ℕ, ◌+◌, List, [], ◌∷◌, inl, inr, ⊎_elim, refl, sym, ◌∙◌, ap, subst, arith}
+use Rattle.std.specs.Prelude.{IfOk, IsTrue, None, Option, Result, Ok, Err, false, if◌then◌else◌}
 use Rattle.hx_bytes.specs.declared.faults.Trouble.{Trouble}
 use Rattle.jnl_format.specs.Recovery.{Content}
 use Rattle.sector_disk.specs.Space.{Space}
@@ -9,13 +9,16 @@ use Rattle.hfs_language.specs.declared.reply.Reply.TheVariants as reply
 use Rattle.hfs_model.specs.Step.{only_reads, step_line}
 use Rattle.hfs_model.specs.declared.plain.PlainTree.{PlainTree}
 use Rattle.volume_runs.specs.Run.{is_ok, or_before, reply_to, shrunk_by}
+use Rattle.hfs_volume.specs.Content.{volume_of}
+use Rattle.hfs_volume.specs.Forks.{attributes_id, catalog_id}
 use Rattle.hfs_volume.specs.Sound.{IsSound}
 use Rattle.hfs_volume.specs.TreeOf.{tree_of}
-use Rattle.hfs_volume.specs.Weight.{data_of}
-use Rattle.volume_ops.specs.Growing.{GoesAhead, GrowsAhead, IsOwnOrFree}
+use Rattle.hfs_volume.specs.Weight.{data_of, extents_in_use}
+use Rattle.volume_ops.specs.Growing.{GoesAhead, GrowsAhead, IsLater, IsOwnOrFree}
 use Rattle.volume_ops.specs.Touching.{Touches}
 use Rattle.volume_ops.specs.declared.ahead.Growth.{Growth}
 use Rattle.volume_ops.specs.declared.ahead.Growth.TheVariants as growing
+use Rattle.volume_ops.specs.declared.ahead.MoreNodes.{MoreNodes}
 use Rattle.volume_ops.specs.declared.volume.Volume.{Volume}
 use Rattle.volume_ops.proofs.Commanding.{touches_both}
 use Rattle.volume_ops.proofs.WhenKept.{touches_those}
@@ -26,15 +29,18 @@ use Rattle.volume_step.proofs.GrownFirst.{steps_first}
 use Rattle.volume_step.proofs.Served.{reply_step}
 
 -- what became of the growth, by what it is
-pub went : (more : ℕ) (before after : Content) (said is : Growth) → said ≡ is → GoesAhead said more before after → GoesAhead is more before after
+pub went : (more : MoreNodes) (before after : Content) (said is : Growth) → said ≡ is → GoesAhead said more before after → GoesAhead is more before after
 went more before after said is same goes = subst (λ (g : Growth). GoesAhead g more before after) same goes
 
--- it is still to come where the catalog can't grow so
-pub waits_grown : (more capacity : ℕ) (asked : Command) (content : Content) → GrowsFirst more capacity asked content → Waits capacity asked content
-waits_grown more capacity asked content first = inr (record { no_refusal = first.no_refusal; more = inr (first.load, 0 ∷ more ∷ 0 ∷ [], first.weighs, some more first.some) })
+-- it is still to come where the trees can't grow so
+pub waits_grown : (more : MoreNodes) (capacity : ℕ) (asked : Command) (content : Content) → GrowsFirst more capacity asked content → IsLater more (volume_of content) → Waits capacity asked content
+waits_grown more capacity asked content first later = inr (record { no_refusal = first.no_refusal; more = record { load = first.load; grow = 0 ∷ more.catalog ∷ more.attributes ∷ []; weighs = first.weighs; later = inr (by later) } })
   where
-    some : (n : ℕ) → 0 < n → 0 < sum (0 ∷ n ∷ 0 ∷ [])
-    some n is = let it : 0 < 0 + 0 + n + 0 = omega (arith, is) in it
+    by : IsLater more (volume_of content)
+        → ((0 < more.catalog) × (0 < more.attributes)) ⊎ (((0 < more.catalog) × (8 ≤ extents_in_use (volume_of content) catalog_id (volume_of content).head.catalog_fork)) ⊎ ((0 < more.attributes) × (8 ≤ extents_in_use (volume_of content) attributes_id (volume_of content).head.attributes_fork)))
+    by (inl both) = inl both
+    by (inr (inl catalog)) = inr (inl (omega (arith, first.some, catalog.0), catalog.1))
+    by (inr (inr own)) = inr (inr (omega (arith, first.some, own.0), own.1))
 
 -- the journal's place is kept twice
 pub journal_both : (a b c : Content) → KeepsJournal a b → KeepsJournal b c → KeepsJournal a c
@@ -63,7 +69,7 @@ touches_grown committed u v w a b c gained p q =
 pub touches_ahead : (committed : Content) (u v : Volume) (a b : Space) → Touches committed (IsOwnOrFree u) a b → Touches committed (OwnOf u v) a b
 touches_ahead committed u v a b p = touches_those committed (IsOwnOrFree u) (OwnOf u v) a b (λ tells s is. inl is) p
 
-module _ (capacity number more : ℕ) (asked : Command) (before mid after : Content) (unread : only_reads asked ≡ false) (ahead : GrowsAhead more before mid) where
+module _ (capacity number : ℕ) (more : MoreNodes) (asked : Command) (before mid after : Content) (unread : only_reads asked ≡ false) (ahead : GrowsAhead more before mid) where
   -- the file that was shrunk last
   shrinks_grown : (old kept new : Option ℕ) → kept ≡ old → (o : Outcome) → ShrinksAs o asked mid kept new → ShrinksAs o asked before old new
   shrinks_grown old kept new same (outcome.Answered said changes) is = is ∙ (λ i. if is_ok said then or_before (shrunk_by (ahead.tree i) (Ok asked)) (same i) else same i)

@@ -63,8 +63,8 @@ some (suc n) is = omega arith
 sum_some : (a b c : ℕ) → 0 < 0 + a + b + c → 0 < sum (a ∷ b ∷ c ∷ [])
 sum_some a b c some_one = some_one
 
-sum_alone : (b : ℕ) → 0 < sum (0 ∷ b ∷ 0 ∷ []) → 0 < b
-sum_alone b some_one = let it : 0 < 0 + 0 + b + 0 = some_one in omega (arith, it)
+sum_alone : (b c : ℕ) → 0 < sum (0 ∷ b ∷ c ∷ []) → 0 < b + c
+sum_alone b c some_one = let it : 0 < 0 + 0 + b + c = some_one in omega (arith, it)
 
 grows_some : (a b c : ℕ) → (not (a == 0) || (not (b == 0) || not (c == 0))) ≡ true → 0 < sum (a ∷ b ∷ c ∷ [])
 grows_some a b c is = by (a == 0) (b == 0) (c == 0) refl refl refl is
@@ -105,21 +105,20 @@ module _ (capacity : ℕ) (takable : List Bool) (content : Content) (asked : Com
       by_spare true none = tt
       by_spare false none = record { no_refusal = fine; load = s; affords = is ∙ ap (cost.Load s) (is_three ∙ grows_no (slice_index grow 0) (slice_index grow 1) (slice_index grow 2) none) }
 
-      -- the catalog alone grows, or another tree does
-      by_alone : (x y : Bool) → (slice_index grow 0 == 0) ≡ x → (slice_index grow 2 == 0) ≡ y → 0 < sum grow → IsJudged (if x && y then verdict.Grows (slice_index grow 1) t else verdict.ToCome) capacity asked content
-      by_alone true true one two any =
-          let alone : slice_index grow 0 ∷ slice_index grow 1 ∷ slice_index grow 2 ∷ [] ≡ 0 ∷ slice_index grow 1 ∷ 0 ∷ [] = λ i. eqb-true (slice_index grow 0) 0 one i ∷ slice_index grow 1 ∷ eqb-true (slice_index grow 2) 0 two i ∷ [] in
+      -- catalog and attributes file alone grow, or the extents file does, too
+      by_alone : (x : Bool) → (slice_index grow 0 == 0) ≡ x → 0 < sum grow → IsJudged (if x then verdict.Grows (record { catalog = slice_index grow 1; attributes = slice_index grow 2 }) t else verdict.ToCome) capacity asked content
+      by_alone true one any =
+          let alone : slice_index grow 0 ∷ slice_index grow 1 ∷ slice_index grow 2 ∷ [] ≡ 0 ∷ slice_index grow 1 ∷ slice_index grow 2 ∷ [] = λ i. eqb-true (slice_index grow 0) 0 one i ∷ slice_index grow 1 ∷ slice_index grow 2 ∷ [] in
           record {
             no_refusal = fine;
-            some = sum_alone (slice_index grow 1) (subst (λ (l : List ℕ). 0 < sum l) (is_three ∙ alone) any);
+            some = sum_alone (slice_index grow 1) (slice_index grow 2) (subst (λ (l : List ℕ). 0 < sum l) (is_three ∙ alone) any);
             load = s;
             weighs = is ∙ ap (cost.Load s) (is_three ∙ alone);
           }
-      by_alone true false one two any = inr (record { no_refusal = fine; more = inr (s, grow, is, any) })
-      by_alone false y one two any = inr (record { no_refusal = fine; more = inr (s, grow, is, any) })
+      by_alone false one any = inr (record { no_refusal = fine; more = record { load = s; grow = grow; weighs = is; later = inl (some (slice_index grow 0) one) } })
 
       by_grow : (b : Bool) → grows_in grow ≡ b → IsJudged (if b then growth_of grow t else if nat_lt spare t then verdict.CommitFirst else verdict.Fits) capacity asked content
-      by_grow true any = by_alone (slice_index grow 0 == 0) (slice_index grow 2 == 0) refl refl (subst (λ (l : List ℕ). 0 < sum l) (sym is_three) (grows_some (slice_index grow 0) (slice_index grow 1) (slice_index grow 2) any))
+      by_grow true any = by_alone (slice_index grow 0 == 0) refl (subst (λ (l : List ℕ). 0 < sum l) (sym is_three) (grows_some (slice_index grow 0) (slice_index grow 1) (slice_index grow 2) any))
       by_grow false none = by_spare (nat_lt spare t) none
 
   of_costs : refuses (tree_of content) (Ok asked) ≡ false → (one other : Cost) → weight capacity (volume_of content) (tree_of content) asked ≡ one → IsJudged (verdict_of (joined one other) spare) capacity asked content

@@ -4,7 +4,6 @@ pub mod GrownFirst
 pub mod GrownSteps
 pub mod Handing
 pub mod Judged
-pub mod JudgedLater
 pub mod Kept
 pub mod KeptEntries
 pub mod MetAgain

@@ -1,4 +1,4 @@
--- What edits cost behind the growth of the catalog that they wanted: a load without growth, no larger than before.
+-- What edits cost behind the growths of catalog and attributes file that they wanted: a load without growth, no larger than before.
 use Rattle.std.proofs.Common.{◌≡◌, ◌≢◌, ◌<◌, ◌≤◌, ℕ, ◌+◌, ◌-◌, ◌*◌, ◌/◌, min, Bool, true, false, List, [], ◌∷◌, refl, sym, ◌∙◌, ap, subst, arith, le-ltb, mul-le-mul_left, zero-mul, ⊎_elim}
 use Rattle.std.specs.Prelude.{◌==◌, ◌&&◌, ◌||◌, nat_lt, nat_le, max, not, slice_index, Option, Some, None, if◌then◌else◌}
 use Rattle.std.proofs.Math.Nat.{zero-div}
@@ -54,8 +54,8 @@ module _ (more key edits : ℕ) (old new : TreeCost) (larger : IsLarger more old
   abbrev writes : ℕ
   writes = edits * (4 * (depth_of old + 2 + rises key old edits) + 4)
 
-  fewer : 0 < more → tree_load key alike edits 0 ≤ tree_load key old edits more
-  fewer some = by (edits == 0) refl
+  fewer : tree_load key alike edits 0 ≤ tree_load key old edits more
+  fewer = by (edits == 0) refl
     where
       low : (b : Bool) (n m : ℕ) → n ≤ m → (if b then 0 else n) ≤ (if b then 0 else m)
       low true n m is = omega arith
@@ -67,13 +67,13 @@ module _ (more key edits : ℕ) (old new : TreeCost) (larger : IsLarger more old
           subst (λ c. (if c && true then 0 else node_sectors old * min (writes + 0) (new.nodes + 0)) ≤ (if c && (more == 0) then 0 else node_sectors old * min (writes + growth_writes old more) (old.nodes + more))) (sym is)
           (mul-le-mul_left (node_sectors old) (omega (arith, larger.nodes)))
 
-  pub load_fewer : 0 < more → tree_load key new edits 0 ≤ tree_load key old edits more
-  load_fewer some = subst (λ t. tree_load key t edits 0 ≤ tree_load key old edits more) is_alike (fewer some)
+  pub load_fewer : tree_load key new edits 0 ≤ tree_load key old edits more
+  load_fewer = subst (λ t. tree_load key t edits 0 ≤ tree_load key old edits more) is_alike fewer
 
 -- ---- all of them
 
-module _ (of_parts : LoadIsOfParts) (many : Edits) (a b : Room) (more load : ℕ) (some : 0 < more) (afforded : IsAfforded (needs_of_edits many) a load (0 ∷ more ∷ 0 ∷ []))
-    (capacity : b.capacity ≡ a.capacity) (ids : b.next_id ≡ a.next_id) (larger : IsLarger more (tree_at a 1) (tree_at b 1)) (same : IsLarger 0 (tree_at a 2) (tree_at b 2))
+module _ (of_parts : LoadIsOfParts) (many : Edits) (a b : Room) (more own load : ℕ) (afforded : IsAfforded (needs_of_edits many) a load (0 ∷ more ∷ own ∷ []))
+    (capacity : b.capacity ≡ a.capacity) (ids : b.next_id ≡ a.next_id) (larger : IsLarger more (tree_at a 1) (tree_at b 1)) (larger_own : IsLarger own (tree_at a 2) (tree_at b 2))
     (catalog : growth b.block catalog_key (tree_at b 1) many.catalog ≡ 0) (attributes : growth b.block attributes_key (tree_at b 2) many.attributes ≡ 0)
   where
     abbrev needs : Needs
@@ -101,8 +101,8 @@ module _ (of_parts : LoadIsOfParts) (many : Edits) (a b : Room) (more load : ℕ
     grown_is : more ≡ slice_index (plan_of needs a).grow 1
     grown_is = ap (λ l. slice_index l 1) afforded.grows
 
-    set_is : 0 ≡ slice_index (plan_of needs a).grow 2
-    set_is = ap (λ l. slice_index l 2) afforded.grows
+    own_is : own ≡ slice_index (plan_of needs a).grow 2
+    own_is = ap (λ l. slice_index l 2) afforded.grows
 
     bitmap_none : bitmap_load needs b (growth_blocks still b) ≡ 0
     bitmap_none = ap (bitmap_load needs b) blocks_none ∙ none_least (parts_for b.total 4096)
@@ -111,22 +111,17 @@ module _ (of_parts : LoadIsOfParts) (many : Edits) (a b : Room) (more load : ℕ
         none_least n = omega arith
 
     catalog_low : tree_load catalog_key (tree_at b 1) many.catalog 0 ≤ load_at needs a 1
-    catalog_low = subst (λ n. tree_load catalog_key (tree_at b 1) many.catalog 0 ≤ tree_load catalog_key (tree_at a 1) many.catalog n) grown_is (load_fewer more catalog_key many.catalog (tree_at a 1) (tree_at b 1) larger some)
+    catalog_low = subst (λ n. tree_load catalog_key (tree_at b 1) many.catalog 0 ≤ tree_load catalog_key (tree_at a 1) many.catalog n) grown_is (load_fewer more catalog_key many.catalog (tree_at a 1) (tree_at b 1) larger)
 
-    attributes_same : tree_load attributes_key (tree_at b 2) many.attributes 0 ≡ load_at needs a 2
-    attributes_same = same_load (tree_at a 2) (tree_at b 2) same ∙ ap (λ n. tree_load attributes_key (tree_at a 2) many.attributes n) set_is
-      where
-        same_load : (old new : TreeCost) → IsLarger 0 old new → tree_load attributes_key new many.attributes 0 ≡ tree_load attributes_key old many.attributes 0
-        same_load old new is =
-            let nodes : new.nodes ≡ old.nodes = omega (arith, is.nodes) in
-            λ i. tree_load attributes_key (record new { node_size = is.node_size i; depth = is.depth i; records = is.records i; nodes = nodes i }) many.attributes 0
+    attributes_low : tree_load attributes_key (tree_at b 2) many.attributes 0 ≤ load_at needs a 2
+    attributes_low = subst (λ n. tree_load attributes_key (tree_at b 2) many.attributes 0 ≤ tree_load attributes_key (tree_at a 2) many.attributes n) own_is (load_fewer own attributes_key many.attributes (tree_at a 2) (tree_at b 2) larger_own)
 
     updates_same : many.updates * node_sectors (tree_at b 1) ≡ many.updates * node_sectors (tree_at a 1)
     updates_same = ap (λ n. many.updates * n) (sectors_alike more catalog_key many.catalog (tree_at a 1) (tree_at b 1) larger)
 
     pub load_then : load_of needs b still ≤ load
     unfolding load_of
-    load_then = let parts = of_parts needs a load (0 ∷ more ∷ 0 ∷ []) afforded in omega (arith, parts, catalog_low, attributes_same, updates_same, bitmap_none)
+    load_then = let parts = of_parts needs a load (0 ∷ more ∷ own ∷ []) afforded in omega (arith, parts, catalog_low, attributes_low, updates_same, bitmap_none)
 
     -- ---- nothing is missing
 
@@ -134,7 +129,7 @@ module _ (of_parts : LoadIsOfParts) (many : Edits) (a b : Room) (more load : ℕ
     deep_catalog = deep_alike more catalog_key many.catalog (tree_at a 1) (tree_at b 1) larger ∙ afforded.catalog
 
     deep_attributes : is_too_deep attributes_key (tree_at b 2) many.attributes ≡ false
-    deep_attributes = deep_alike 0 attributes_key many.attributes (tree_at a 2) (tree_at b 2) same ∙ afforded.attributes
+    deep_attributes = deep_alike own attributes_key many.attributes (tree_at a 2) (tree_at b 2) larger_own ∙ afforded.attributes
 
     nothing_missing : resource_refusal needs b still ≡ None
     nothing_missing =

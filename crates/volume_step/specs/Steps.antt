@@ -1,5 +1,5 @@
 -- What a command on a volume in service came to.
-use Rattle.std.specs.Prelude.{◌≡◌, ◌⊎◌, ◌<◌, ℕ, ◌==◌, ◌&&◌, ◌||◌, nat_lt, not, slice_index, Bool, false, IsTrue, List, [], ◌∷◌, Ok, Option, if◌then◌else◌}
+use Rattle.std.specs.Prelude.{◌≡◌, ◌⊎◌, ◌<◌, ℕ, ◌+◌, ◌==◌, ◌||◌, nat_lt, not, slice_index, Bool, false, IsTrue, List, [], ◌∷◌, Ok, Option, if◌then◌else◌}
 use Rattle.std.specs.List.{Contains}
 use Rattle.jnl_format.specs.Keeping.{IsSame}
 use Rattle.jnl_format.specs.Recovery.{Content, header_of_volume}
@@ -18,6 +18,7 @@ use Rattle.hfs_volume.specs.Weight.{weight}
 use Rattle.hfs_volume.specs.declared.cost.Cost.TheVariants as cost
 use Rattle.volume_ops.specs.Growing.{IsOwnOrFree}
 use Rattle.volume_ops.specs.Standing.{own_sectors}
+use Rattle.volume_ops.specs.declared.ahead.MoreNodes.{MoreNodes}
 use Rattle.volume_ops.specs.declared.volume.Volume.{Volume}
 use Rattle.volume_ops.specs.declared.weighing.Weight.{Weight}
 use Rattle.volume_ops.specs.declared.weighing.Weight.TheVariants as answer
@@ -58,14 +59,9 @@ OwnOf old new s = IsOwnOrFree old s ⊎ Contains (own_sectors new) s
 abbrev pub grows_in : List ℕ → Bool
 grows_in grow = not (slice_index grow 0 == 0) || (not (slice_index grow 1 == 0) || not (slice_index grow 2 == 0))
 
--- what a growth comes to: the catalog alone grows, or that of another tree is still to come
+-- what a growth comes to: catalog and attributes file grow, or that of the extents file is still to come
 abbrev pub growth_of : List ℕ → ℕ → Verdict
-growth_of grow sectors = if (slice_index grow 0 == 0) && (slice_index grow 2 == 0) then verdict.Grows (slice_index grow 1) sectors else verdict.ToCome
-
--- a growth ahead of the removal of a folder with attributes is still to come
-abbrev pub growth_or_later : Verdict → ℕ → Verdict
-growth_or_later (verdict.Grows more load) attributes = if attributes == 0 then verdict.Grows more load else verdict.ToCome
-growth_or_later other attributes = other
+growth_of grow sectors = if slice_index grow 0 == 0 then verdict.Grows (record { catalog = slice_index grow 1; attributes = slice_index grow 2 }) sectors else verdict.ToCome
 
 -- what a command's weight comes to, where so many sectors may be put
 abbrev pub verdict_of : Weight → ℕ → Verdict
@@ -79,12 +75,13 @@ pub record Affords (capacity : ℕ) (asked : Command) (content : Content) : Type
   pub load : ℕ
   pub affords : weight capacity (volume_of content) (tree_of content) asked ≡ cost.Load load (0 ∷ 0 ∷ 0 ∷ [])
 
--- The step doesn't refuse the command, and nothing is missing for it, but the catalog has to grow before by so many nodes, and no other tree.
-pub record GrowsFirst (more capacity : ℕ) (asked : Command) (content : Content) : Type 0 where
+-- The step doesn't refuse the command, and nothing is missing for it, but catalog and attributes file have to grow before by so many nodes, and no
+-- other tree.
+pub record GrowsFirst (more : MoreNodes) (capacity : ℕ) (asked : Command) (content : Content) : Type 0 where
   pub no_refusal : refuses (tree_of content) (Ok asked) ≡ false
-  pub some : 0 < more
+  pub some : 0 < more.catalog + more.attributes
   pub load : ℕ
-  pub weighs : weight capacity (volume_of content) (tree_of content) asked ≡ cost.Load load (0 ∷ more ∷ 0 ∷ [])
+  pub weighs : weight capacity (volume_of content) (tree_of content) asked ≡ cost.Load load (0 ∷ more.catalog ∷ more.attributes ∷ [])
 
 -- the step doesn't refuse the command, but it is still to come, or asks for more than is built
 abbrev pub Waits : ℕ → Command → Content → Type 0

@@ -1,7 +1,7 @@
-//! Commands ahead of which the catalog grows.
+//! Commands ahead of which the catalog or the attributes file grows.
 ghost use Rattle.std.specs.Prelude.{◌≡◌, true, false, IfOk, IsErrOf, None};
 ghost use Rattle.hfs_model.specs.declared.plain.PlainTree.{PlainTree};
-ghost use Rattle.hfs_volume.specs.Content.{VolumeState};
+ghost use Rattle.hfs_volume.specs.Content.{VolumeState, has_attributes};
 ghost use Rattle.hfs_volume.specs.Weight.{data_of, lacks_tree};
 ghost use Rattle.hx_bytes.specs.declared.faults.Trouble.TheVariants as trouble;
 ghost use Rattle.volume_step.specs.Steps.{IsDoneOk};
@@ -10,10 +10,11 @@ use crate::outcome::Outcome;
 use hfs_language::{Command, Reply};
 use hx_bytes::Trouble;
 
-/// Whether a command edits the catalog's tree: no other wants more nodes of it. Such a command puts no data, and needs no attributes file.
-pub(crate) fn edits_catalog(command: &Command) -> bool
+/// Whether a command edits the catalog's tree or that of the attributes: no other wants more nodes of them. Such a command puts no data, and
+/// it lacks an attributes file or not by the header alone.
+pub(crate) fn edits_tree(command: &Command) -> bool
     ensures data { result ≡ true → (tree : PlainTree) → data_of tree command.now ≡ None }
-    ensures tree { result ≡ true → (volume : VolumeState) → lacks_tree volume command.now ≡ false }
+    ensures tree { (old new : VolumeState) → has_attributes new.head ≡ has_attributes old.head → lacks_tree new command.now ≡ lacks_tree old command.now }
 {
     match command {
         Command::Mkdir(_path) => true,
@@ -22,6 +23,12 @@ pub(crate) fn edits_catalog(command: &Command) -> bool
         Command::Rmdir(_path) => true,
         Command::Mv(_from, _to) => true,
         Command::Ln(_from, _to) => true,
+        Command::SetAttr {
+            path: _,
+            name: _,
+            value: _,
+        } => true,
+        Command::DelAttr { path: _, name: _ } => true,
         _ => false,
     }
 }

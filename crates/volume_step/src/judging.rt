@@ -1,31 +1,30 @@
 //! A command judged before its step: by its weight, and by the room that there is.
 ghost use Rattle.std.specs.Prelude.{◌≡◌, false, IsTrue, IfOk};
 ghost use Rattle.btree_edit.specs.Causes.{HasTroubleCause};
-ghost use Rattle.hfs_language.specs.Written.{FitsCommand, FitsPath};
-ghost use Rattle.hfs_language.specs.declared.command.Command.TheVariants as command;
+ghost use Rattle.hfs_language.specs.Written.{FitsCommand};
 ghost use Rattle.hfs_model.specs.Step.{only_reads};
 ghost use Rattle.volume_ops.specs.Looking.{ReadsVolume};
 ghost use Rattle.volume_ops.specs.Room.{capacity_of};
 ghost use Rattle.volume_ops.specs.Standing.{IsSettled, StandsOver};
-ghost use Rattle.volume_step.specs.Steps.{IsJudged, growth_of, growth_or_later, grows_in, verdict_of};
+ghost use Rattle.volume_step.specs.Steps.{IsJudged, growth_of, grows_in, verdict_of};
 
-use hfs_language::{Command, Path, Refusal};
+use hfs_language::{Command, Refusal};
 use hx_bytes::Trouble;
 use sector_disk::SectorSpace;
 use std::alloc::Global;
-use volume_ops::{Volume, Weight};
+use volume_ops::{MoreNodes, Volume, Weight};
 
 /// Whether a command may be done now.
 #[derive(Clone, Copy)]
 pub(crate) enum Verdict {
     /// Its step refuses it, or a resource is missing.
     Refused(Refusal),
-    /// It is still to come, or a tree but the catalog has to grow for it, which is still to come.
+    /// It is still to come, or the extents file has to grow for it, which is still to come.
     ToCome,
     /// It wants a commit before it.
     CommitFirst,
-    /// The catalog has to grow before it, by so many nodes, and no other tree; its load is so many sectors, with the growth.
-    Grows { more: u32, load: u64 },
+    /// The catalog or the attributes file has to grow before it, by so many nodes; its load is so many sectors, with the growth.
+    Grows { more: MoreNodes, load: u64 },
     /// Nothing stands in its way.
     Fits,
 }
@@ -37,13 +36,16 @@ fn grows(grow: [u32; 3]) -> bool
     grow[0] != 0 || (grow[1] != 0 || grow[2] != 0)
 }
 
-/// What a growth comes to: that of the catalog alone goes ahead of the command.
+/// What a growth comes to: that of catalog and attributes file goes ahead of the command.
 fn growth_of(grow: [u32; 3], sectors: u64) -> Verdict
     ensures { result ≡ growth_of grow sectors }
 {
-    if grow[0] == 0 && grow[2] == 0 {
+    if grow[0] == 0 {
         Verdict::Grows {
-            more: grow[1],
+            more: MoreNodes {
+                catalog: grow[1],
+                attributes: grow[2],
+            },
             load: sectors,
         }
     } else {
@@ -70,87 +72,6 @@ fn verdict_of(weight: Weight, spare: u64) -> Verdict
     }
 }
 
-/// Whether the catalog has to grow first.
-fn is_growth(verdict: Verdict) -> bool {
-    match verdict {
-        Verdict::Grows { more: _, load: _ } => true,
-        Verdict::Refused(_why) => false,
-        Verdict::ToCome => false,
-        Verdict::CommitFirst => false,
-        Verdict::Fits => false,
-    }
-}
-
-/// A growth ahead of the removal of a folder that has attributes is still to come: their removal asks for more room than its load.
-fn growth_or_later(verdict: Verdict, attributes: u32) -> Verdict
-    ensures { result ≡ growth_or_later verdict attributes }
-{
-    match verdict {
-        Verdict::Grows { more, load } => {
-            if attributes == 0 {
-                Verdict::Grows { more, load }
-            } else {
-                Verdict::ToCome
-            }
-        }
-        Verdict::Refused(why) => Verdict::Refused(why),
-        Verdict::ToCome => Verdict::ToCome,
-        Verdict::CommitFirst => Verdict::CommitFirst,
-        Verdict::Fits => Verdict::Fits,
-    }
-}
-
-/// Judges the removal of a folder, where the catalog may have to grow before it.
-fn judge_removal<P: SectorSpace>(
-    alloc: Global,
-    volume: &mut Volume,
-    space: &mut P,
-    path: &Path,
-    verdict: Verdict,
-) -> Result<Verdict, Trouble>
-    requires stands { StandsOver volume.old (P.SectorView.space space.old) }
-    requires settled { IsTrue (P.SectorView.space space.old).tells → IsSettled volume.old (P.SectorView.space space.old).content }
-    requires fits { FitsPath path.now }
-    requires judged { IsTrue (P.SectorView.space space.old).tells → IsJudged verdict (capacity_of volume.old) (command.Rmdir path.now) (P.SectorView.space space.old).content }
-    ensures judged { IsTrue (P.SectorView.space space.old).tells → IfOk result (λ verdict. IsJudged verdict (capacity_of volume.old) (command.Rmdir path.now) (P.SectorView.space space.old).content) }
-    ensures reads { ReadsVolume volume.old volume.new (P.SectorView.space space.old) (P.SectorView.space space.new) }
-    ensures stands { StandsOver volume.new (P.SectorView.space space.new) }
-    ensures settled { IsTrue (P.SectorView.space space.old).tells → IsSettled volume.new (P.SectorView.space space.new).content }
-    ensures below { P.SectorView.follows space.old space.new }
-    ensures cause { HasTroubleCause (P.SectorView.space space.old).faults (P.SectorView.space space.new).faults result }
-{
-    let attributes = volume.bare_count(alloc, space, path)?;
-    Ok(growth_or_later(verdict, attributes))
-}
-
-/// Judges a command by its weight: of a growth ahead of `rmdir` it hangs on the folder's attributes whether it is still to come.
-fn judge_weight<P: SectorSpace>(
-    alloc: Global,
-    volume: &mut Volume,
-    space: &mut P,
-    command: &Command,
-    verdict: Verdict,
-) -> Result<Verdict, Trouble>
-    requires stands { StandsOver volume.old (P.SectorView.space space.old) }
-    requires settled { IsTrue (P.SectorView.space space.old).tells → IsSettled volume.old (P.SectorView.space space.old).content }
-    requires fits { FitsCommand command.now }
-    requires judged { IsTrue (P.SectorView.space space.old).tells → IsJudged verdict (capacity_of volume.old) command.now (P.SectorView.space space.old).content }
-    ensures judged { IsTrue (P.SectorView.space space.old).tells → IfOk result (λ verdict. IsJudged verdict (capacity_of volume.old) command.now (P.SectorView.space space.old).content) }
-    ensures reads { ReadsVolume volume.old volume.new (P.SectorView.space space.old) (P.SectorView.space space.new) }
-    ensures stands { StandsOver volume.new (P.SectorView.space space.new) }
-    ensures settled { IsTrue (P.SectorView.space space.old).tells → IsSettled volume.new (P.SectorView.space space.new).content }
-    ensures below { P.SectorView.follows space.old space.new }
-    ensures cause { HasTroubleCause (P.SectorView.space space.old).faults (P.SectorView.space space.new).faults result }
-{
-    if !is_growth(verdict) {
-        return Ok(verdict);
-    }
-    match command {
-        Command::Rmdir(path) => judge_removal(alloc, volume, space, path, verdict),
-        _ => Ok(verdict),
-    }
-}
-
 /// Judges a command that changes the volume. One that isn't weighed is still to come.
 pub(crate) fn judge<P: SectorSpace>(
     alloc: Global,
@@ -170,10 +91,7 @@ pub(crate) fn judge<P: SectorSpace>(
     ensures cause { HasTroubleCause (P.SectorView.space space.old).faults (P.SectorView.space space.new).faults result }
 {
     match volume.weigh(alloc, space, command)? {
-        Some(weight) => {
-            let verdict = verdict_of(weight, space.spare());
-            judge_weight(alloc, volume, space, command, verdict)
-        }
+        Some(weight) => Ok(verdict_of(weight, space.spare())),
         None => Ok(Verdict::ToCome),
     }
 }

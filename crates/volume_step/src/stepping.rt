@@ -13,7 +13,7 @@ ghost use Rattle.volume_ops.specs.Touching.{Touches};
 ghost use Rattle.volume_step.specs.Steps.{Affords, GrowsFirst, IsDoneOk, KeepsJournal, OwnOf, ShrinksAs, StepsTo};
 
 use crate::answering::{answer, only_reads, refusal};
-use crate::growing::{done_or_short, edits_catalog};
+use crate::growing::{done_or_short, edits_tree};
 use crate::judging::{Verdict, judge};
 use crate::making::{make_file, make_folder, move_entry};
 use crate::marking::{date, set_mode};
@@ -26,7 +26,7 @@ use hx_bytes::Trouble;
 use sector_disk::SectorSpace;
 use std::alloc::Global;
 use tree_weights::{a_load_is_of_parts, a_load_says_enough};
-use volume_ops::{Growth, Volume};
+use volume_ops::{Growth, MoreNodes, Volume};
 
 /// Does a command for which nothing is missing. One that isn't done here yet waits.
 fn perform<P: SectorSpace>(
@@ -81,7 +81,7 @@ fn perform<P: SectorSpace>(
     }
 }
 
-/// Does a command for which nothing is missing, behind the growth of the catalog: it is answered with ok.
+/// Does a command for which nothing is missing, behind the growth of a tree: it is answered with ok.
 fn do_grown<P: SectorSpace>(
     alloc: Global,
     volume: &mut Volume,
@@ -110,7 +110,7 @@ fn do_grown<P: SectorSpace>(
     done_or_short(outcome)
 }
 
-/// Does a command ahead of which the catalog has to grow by so many nodes; its load is so many sectors, with the growth. Where the catalog can't
+/// Does a command ahead of which a tree has to grow by so many nodes; its load is so many sectors, with the growth. Where it can't
 /// grow so the command is still to come, and where there is too little room for both a commit comes first.
 fn grow_first<P: SectorSpace>(
     alloc: Global,
@@ -118,7 +118,7 @@ fn grow_first<P: SectorSpace>(
     space: &mut P,
     number: u64,
     command: &Command,
-    more: u32,
+    more: MoreNodes,
     load: u64,
 ) -> Result<Outcome, Trouble>
     requires stands { StandsOver volume.old (P.SectorView.space space.old) }
@@ -141,8 +141,8 @@ fn grow_first<P: SectorSpace>(
 {
     a_load_says_enough();
     a_load_is_of_parts();
-    if !edits_catalog(command) {
-        return Ok(refusal(alloc, Refusal::NotBuilt));
+    if !edits_tree(command) {
+        return Ok(Outcome::CommitFirst);
     }
     match volume.grow_ahead(alloc, space, more, load)? {
         Growth::Grown => do_grown(alloc, volume, space, number, command),

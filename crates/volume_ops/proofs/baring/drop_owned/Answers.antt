@@ -10,6 +10,7 @@ use Rattle.hfs_volume.specs.Changes.{AreSortedAttributes, DropsAttribute}
 use Rattle.hfs_volume.specs.Commands.{DropsAttributes}
 use Rattle.volume_ops.specs.Dropping.{LeavesNamed}
 use Rattle.volume_ops.proofs.DroppedOne.{edits_more, edits_none, inline_less, inside_then, leaves_all, leaves_less, leaves_none, open_then, same_then, sorted_held, takes_all, takes_more}
+use Rattle.volume_ops.proofs.RoomAfter.{room_after, room_round}
 use Rattle.volume_ops.proofs.Seeing.{cause_since}
 use Rattle.volume_ops.proofs.baring.drop_owned.Goals as goal
 
@@ -36,6 +37,16 @@ drop_value-requires-clause-holds g c tells = c.loop-at.invariant.holds (sym c.lo
 
 pub drop_value-requires-clause-inline : goal.drop_value-requires-clause-inline
 drop_value-requires-clause-inline g c tells = c.loop-at.invariant.inline (sym c.loop-at.invariant.frame.space.same.tells ∙ tells)
+
+pub drop_value-requires-clause-size : goal.drop_value-requires-clause-size
+drop_value-requires-clause-size g c = subst (λ n. 4096 ≤ n) (sym c.loop-at.invariant.frame.file.node_size) c.requires.size
+
+pub drop_value-requires-clause-room : goal.drop_value-requires-clause-room
+drop_value-requires-clause-room g c names tells =
+    let first = state_of names c.args.tree.now (g.P.SectorView.space c.args.space.now) in
+    let now = state_of names c.loop-at.tree (g.P.SectorView.space c.loop-at.space) in
+    room_round (length c.args.owned.now) c.loop-at.at 266 now (omega (arith, c.loop-at-test.true))
+    (room_after c.loop-at.at (length c.args.owned.now) 266 first now (omega (arith, c.loop-at-test.true)) (same_then c.args.tree.now c.loop-at.tree (g.P.SectorView.space c.args.space.now) (g.P.SectorView.space c.loop-at.space) c.loop-at.invariant.frame names) (c.loop-at.invariant.edits names) (c.requires.room names)) tells
 
 pub loop-at-preserved : goal.loop-at-preserved
 loop-at-preserved g c =

@@ -42,6 +42,9 @@ returns-clause-touches g c committed =
     touches_both committed _ (g.P.SectorView.space c.args.space.now) (g.P.SectorView.space c.change_at.new.space) (g.P.SectorView.space c.rmdir.new.space) (touches_looks committed _ (g.P.SectorView.space c.args.space.now) (g.P.SectorView.space c.change_at.new.space) c.change_at.ensures.reads.looks)
     (subst (λ (l : List ℕ). Touches committed (λ s. Contains l s) (g.P.SectorView.space c.change_at.new.space) (g.P.SectorView.space c.rmdir.new.space)) (own_still c.args.volume.now c.change_at.new.self (g.P.SectorView.space c.args.space.now) (g.P.SectorView.space c.change_at.new.space) c.change_at.ensures.reads) (c.rmdir.ensures.touches committed))
 
+pub returns-in_err-reply-clause-below : goal.returns-in_err-reply-clause-below
+returns-in_err-reply-clause-below g c = g.met.P.SectorView.follows_trans c.args.space.now c.change_at.new.space c.rmdir.new.space c.change_at.ensures.below c.rmdir.ensures.below
+
 pub returns-in_err-reply-clause-touches : goal.returns-in_err-reply-clause-touches
 returns-in_err-reply-clause-touches g c committed =
     touches_both committed _ (g.P.SectorView.space c.args.space.now) (g.P.SectorView.space c.change_at.new.space) (g.P.SectorView.space c.rmdir.new.space) (touches_looks committed _ (g.P.SectorView.space c.args.space.now) (g.P.SectorView.space c.change_at.new.space) c.change_at.ensures.reads.looks)

@@ -17,13 +17,6 @@ use Rattle.volume_step.proofs.GrownFirst.{affords_then, place_ahead}
 use Rattle.volume_step.proofs.GrownSteps.{journal_both, result_answered, result_shrinks, touches_ahead, touches_grown, waits_grown, went}
 use Rattle.volume_step.proofs.stepping.grow_first.Goals as goal
 
--- ---- where it isn't one that edits the catalog
-
-pub returns-then-not-edits_catalog-clause-answered : goal.returns-then-not-edits_catalog-clause-answered
-returns-then-not-edits_catalog-clause-answered g c tells =
-    waits_steps (capacity_of c.args.volume.now) c.args.number c.args.command.now (g.P.SectorView.space c.args.space.now).content (g.P.SectorView.space c.args.space.now).content refl (sound_here c.args.volume.now (g.P.SectorView.space c.args.space.now) (c.requires.stands.stands tells) (c.requires.settled tells))
-    (waits_grown c.args.more (capacity_of c.args.volume.now) c.args.command.now (g.P.SectorView.space c.args.space.now).content (c.requires.grows tells)) c.refusal.result c.refusal.ensures
-
 -- ---- the growth
 
 pub returns-in_err-grow_ahead-clause-touches : goal.returns-in_err-grow_ahead-clause-touches
@@ -38,16 +31,16 @@ do_grown-requires-clause-affords g c told =
     let ahead = went c.args.more (g.P.SectorView.space c.args.space.now).content (g.P.SectorView.space c.grow_ahead.new.space).content c.in_ok-grow_ahead.field-0 growing.Grown c.in-Grown.is (c.in_ok-grow_ahead.ensures.ahead tells) in
     subst (λ (n : ℕ). Affords n c.args.command.now (g.P.SectorView.space c.grow_ahead.new.space).content) (sym c.grow_ahead.ensures.same.2)
     (affords_then c.a_load_says_enough.ensures c.a_load_is_of_parts.ensures (capacity_of c.args.volume.now) c.args.more c.args.command.now (g.P.SectorView.space c.args.space.now).content (g.P.SectorView.space c.grow_ahead.new.space).content c.requires.changes
-    (c.if-not-edits_catalog.ensures.data refl) (c.if-not-edits_catalog.ensures.tree refl) (c.requires.grows tells) ahead)
+    (c.if-not-edits_tree.ensures.data refl) c.if-not-edits_tree.ensures.tree (c.requires.grows tells) ahead)
 
 -- ---- behind it
 
 pub returns-in-Grown-clause-answered : goal.returns-in-Grown-clause-answered
 returns-in-Grown-clause-answered g c tells =
     let ahead = went c.args.more (g.P.SectorView.space c.args.space.now).content (g.P.SectorView.space c.grow_ahead.new.space).content c.in_ok-grow_ahead.field-0 growing.Grown c.in-Grown.is (c.in_ok-grow_ahead.ensures.ahead tells) in
-    result_answered (capacity_of c.args.volume.now) c.args.number c.args.more c.args.command.now (g.P.SectorView.space c.args.space.now).content (g.P.SectorView.space c.grow_ahead.new.space).content (g.P.SectorView.space c.do_grown.new.space).content c.requires.changes ahead (c.if-not-edits_catalog.ensures.data refl) (c.requires.grows tells)
+    result_answered (capacity_of c.args.volume.now) c.args.number c.args.more c.args.command.now (g.P.SectorView.space c.args.space.now).content (g.P.SectorView.space c.grow_ahead.new.space).content (g.P.SectorView.space c.do_grown.new.space).content c.requires.changes ahead (c.if-not-edits_tree.ensures.data refl) (c.requires.grows tells)
     (affords_then c.a_load_says_enough.ensures c.a_load_is_of_parts.ensures (capacity_of c.args.volume.now) c.args.more c.args.command.now (g.P.SectorView.space c.args.space.now).content (g.P.SectorView.space c.grow_ahead.new.space).content c.requires.changes
-    (c.if-not-edits_catalog.ensures.data refl) (c.if-not-edits_catalog.ensures.tree refl) (c.requires.grows tells) ahead)
+    (c.if-not-edits_tree.ensures.data refl) c.if-not-edits_tree.ensures.tree (c.requires.grows tells) ahead)
     (sound_here c.args.volume.now (g.P.SectorView.space c.args.space.now) (c.requires.stands.stands tells) (c.requires.settled tells)) c.do_grown.result c.do_grown.ensures.done
     (subst (λ (n : ℕ). IfOk c.do_grown.result (λ (o : Outcome). StepsTo o n c.args.number c.args.command.now (g.P.SectorView.space c.grow_ahead.new.space).content (g.P.SectorView.space c.do_grown.new.space).content)) c.grow_ahead.ensures.same.2
     (c.do_grown.ensures.answered ((c.grow_ahead.ensures.touches []).same.tells ∙ tells)))
@@ -55,7 +48,7 @@ returns-in-Grown-clause-answered g c tells =
 pub returns-in-Grown-clause-place : goal.returns-in-Grown-clause-place
 returns-in-Grown-clause-place g c tells =
     let ahead = went c.args.more (g.P.SectorView.space c.args.space.now).content (g.P.SectorView.space c.grow_ahead.new.space).content c.in_ok-grow_ahead.field-0 growing.Grown c.in-Grown.is (c.in_ok-grow_ahead.ensures.ahead tells) in
-    let place = place_ahead c.a_load_says_enough.ensures c.a_load_is_of_parts.ensures (capacity_of c.args.volume.now) c.args.more c.args.command.now (g.P.SectorView.space c.args.space.now).content (g.P.SectorView.space c.grow_ahead.new.space).content c.requires.changes (c.if-not-edits_catalog.ensures.data refl) (c.if-not-edits_catalog.ensures.tree refl) (c.requires.grows tells) ahead in
+    let place = place_ahead c.a_load_says_enough.ensures c.a_load_is_of_parts.ensures (capacity_of c.args.volume.now) c.args.more c.args.command.now (g.P.SectorView.space c.args.space.now).content (g.P.SectorView.space c.grow_ahead.new.space).content c.requires.changes (c.if-not-edits_tree.ensures.data refl) c.if-not-edits_tree.ensures.tree (c.requires.grows tells) ahead in
     on_ok (λ then_. journal_both (g.P.SectorView.space c.args.space.now).content (g.P.SectorView.space c.grow_ahead.new.space).content (g.P.SectorView.space c.do_grown.new.space).content place then_) c.do_grown.result (c.do_grown.ensures.place ((c.grow_ahead.ensures.touches []).same.tells ∙ tells))
 
 pub returns-in-Grown-clause-settled : goal.returns-in-Grown-clause-settled
@@ -95,7 +88,7 @@ returns-in-ToCome-clause-answered g c tells =
     waits_steps (capacity_of c.args.volume.now) c.args.number c.args.command.now (g.P.SectorView.space c.args.space.now).content (g.P.SectorView.space c.grow_ahead.new.space).content
     (went c.args.more (g.P.SectorView.space c.args.space.now).content (g.P.SectorView.space c.grow_ahead.new.space).content c.in_ok-grow_ahead.field-0 growing.ToCome c.in-ToCome.is (c.in_ok-grow_ahead.ensures.ahead tells))
     (sound_here c.args.volume.now (g.P.SectorView.space c.args.space.now) (c.requires.stands.stands tells) (c.requires.settled tells))
-    (waits_grown c.args.more (capacity_of c.args.volume.now) c.args.command.now (g.P.SectorView.space c.args.space.now).content (c.requires.grows tells)) c.refusal-in-ToCome.result c.refusal-in-ToCome.ensures
+    (waits_grown c.args.more (capacity_of c.args.volume.now) c.args.command.now (g.P.SectorView.space c.args.space.now).content (c.requires.grows tells) (c.in_ok-grow_ahead.ensures.later tells c.in-ToCome.is)) c.refusal.result c.refusal.ensures
 
 pub returns-in-ToCome-clause-place : goal.returns-in-ToCome-clause-place
 returns-in-ToCome-clause-place g c tells =

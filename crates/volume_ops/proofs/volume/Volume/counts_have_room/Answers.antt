@@ -1,17 +1,15 @@
 use Rattle.std.proofs.Common.{◌≡◌, ◌*◌, ◌/◌, List, length, sym, ◌∙◌, ap, arith}
 use Rattle.std.proofs.lemmas.Bool.{leb-true}
 use Rattle.hx_bytes.specs.declared.extents.Extent.{Extent}
-use Rattle.volume_ops.specs.Changing.{catalog_node}
-use Rattle.volume_ops.specs.Growing.{catalog_blocks}
+use Rattle.volume_ops.specs.Growing.{blocks_filled}
 use Rattle.volume_ops.proofs.volume.Volume.counts_have_room.Goals as goal
 
 pub returns : goal.returns
 returns c is =
-    let v = c.args.self.now in
-    let blocks : c.from.result ≡ catalog_blocks c.args.self.now c.args.more = c.from.ensures ∙ c.requires in
-    let per : c.from-2.result ≡ c.args.self.now.catalog.file.per_block = c.from-2.ensures ∙ c.per_block.ensures in
-    let node : c.from-4.result ≡ catalog_node c.args.self.now = c.from-4.ensures ∙ ap (λ s. s.node_size / 512) c.shape-shape.ensures in
-    let size : c.from-9.result * c.from-10.result ≡ catalog_blocks c.args.self.now c.args.more * c.args.self.now.header.block_size = λ i. (c.from-9.ensures ∙ c.requires) i * c.from-10.ensures i in
+    let blocks : c.from.result ≡ blocks_filled c.args.file.now c.args.more = c.from.ensures ∙ c.requires in
+    let per : c.from-2.result ≡ c.args.file.now.per_block = c.from-2.ensures ∙ c.per_block.ensures in
+    let node : c.from-4.result ≡ c.args.file.now.shape.node_size / 512 = c.from-4.ensures ∙ ap (λ s. s.node_size / 512) c.shape-shape.ensures in
+    let size : c.from-9.result * c.from-10.result ≡ blocks_filled c.args.file.now c.args.more * c.args.self.now.header.block_size = λ i. (c.from-9.ensures ∙ c.requires) i * c.from-10.ensures i in
     record {
       least = omega (arith, c.if-shape-lt512.false, ap (λ s. s.node_size) c.shape-shape.ensures);
       most = omega (arith, c.if-shape-gt32768.false, ap (λ s. s.node_size) c.shape-shape.ensures);

@@ -6,11 +6,12 @@ use Rattle.std.proofs.lemmas.Result.{err_from_is_err_and}
 use Rattle.hx_bytes.specs.declared.faults.Trouble.{Trouble}
 use Rattle.btree_file.specs.State.{sectors_of_tree}
 use Rattle.sector_disk.specs.Lists.{Content}
+use Rattle.hfs_volume.specs.Cost.{catalog_key}
 use Rattle.volume_ops.specs.Mapping.{changed_sectors}
 use Rattle.volume_ops.specs.Standing.{HoldsOn, attribute_sectors, map_sectors, own_sectors}
 use Rattle.volume_ops.specs.declared.volume.Volume.{Volume}
 use Rattle.volume_ops.proofs.Commanding.{touches_both}
-use Rattle.volume_ops.proofs.GrownRoom.{suffices_for}
+use Rattle.volume_ops.proofs.GrownRoom.{least_catalog, suffices_for}
 use Rattle.volume_ops.proofs.GrownWhole.{files_whole, grows_whole, lists_whole, settled_whole, tree_whole, volume_whole}
 use Rattle.volume_ops.proofs.Seeing.{cause_on}
 use Rattle.volume_ops.proofs.Touched.{touches_header, touches_within}
@@ -129,8 +130,8 @@ returns-in_err-lengthen_catalog-clause-cause g c = let p = err_from_is_err_and c
 
 pub returns-clause-suffices : goal.returns-clause-suffices
 returns-clause-suffices g c tells =
-    suffices_for c.args.more c.args.self.now c.lengthen_catalog.new.self (g.P.SectorView.space c.args.space.now) (c.requires.stands.stands tells) c.requires.can c.trees_grow_by_enough.ensures
-    (volume_whole c.args.more c.args.self.now c.lengthen_catalog.new.self (g.P.SectorView.space c.args.space.now) (g.P.SectorView.space c.lengthen_catalog.new.space) (g.P.SectorView.space c.put_map.new.space) (g.P.SectorView.space c.put_header.new.space) c.requires.stands (c.requires.settled tells) c.requires.can tells c.growth_keeps_the_tree.ensures (c.in_ok-lengthen_catalog.ensures.lengthens tells) (c.put_header.ensures.stands.stands (c.put_header.ensures.within.same.tells ∙ (c.put_map.ensures.within.same.tells ∙ ((c.lengthen_catalog.ensures.touches []).same.tells ∙ tells)))) (c.put_map.ensures.put ((c.lengthen_catalog.ensures.touches []).same.tells ∙ tells)) (c.put_header.ensures.put (c.put_map.ensures.within.same.tells ∙ ((c.lengthen_catalog.ensures.touches []).same.tells ∙ tells))) c.put_header.ensures.within (c.put_map.ensures.within.same.tells ∙ ((c.lengthen_catalog.ensures.touches []).same.tells ∙ tells)))
+    let grows = volume_whole c.args.more c.args.self.now c.lengthen_catalog.new.self (g.P.SectorView.space c.args.space.now) (g.P.SectorView.space c.lengthen_catalog.new.space) (g.P.SectorView.space c.put_map.new.space) (g.P.SectorView.space c.put_header.new.space) c.requires.stands (c.requires.settled tells) c.requires.can tells c.growth_keeps_the_tree.ensures (c.in_ok-lengthen_catalog.ensures.lengthens tells) (c.put_header.ensures.stands.stands (c.put_header.ensures.within.same.tells ∙ (c.put_map.ensures.within.same.tells ∙ ((c.lengthen_catalog.ensures.touches []).same.tells ∙ tells)))) (c.put_map.ensures.put ((c.lengthen_catalog.ensures.touches []).same.tells ∙ tells)) (c.put_header.ensures.put (c.put_map.ensures.within.same.tells ∙ ((c.lengthen_catalog.ensures.touches []).same.tells ∙ tells))) c.put_header.ensures.within (c.put_map.ensures.within.same.tells ∙ ((c.lengthen_catalog.ensures.touches []).same.tells ∙ tells)) in
+    suffices_for catalog_key c.args.more c.args.self.now.catalog.file c.lengthen_catalog.new.self.catalog.file (least_catalog c.args.self.now (g.P.SectorView.space c.args.space.now) (c.requires.stands.stands tells)) (omega arith) c.requires.can.some c.trees_grow_by_enough.ensures grows.numbers grows.free
 
 pub returns-in_err-lengthen_catalog-clause-suffices : goal.returns-in_err-lengthen_catalog-clause-suffices
 returns-in_err-lengthen_catalog-clause-suffices g c tells = let p = err_from_is_err_and c.from_residual.result c.from_residual.ensures.1 in off_ok _ c.from_residual.result p.0 p.1
@@ -143,9 +144,9 @@ returns-in_err-lengthen_catalog-clause-marks g c = let p = err_from_is_err_and c
 
 pub returns-clause-lists : goal.returns-clause-lists
 returns-clause-lists g c tells =
+    let grows = volume_whole c.args.more c.args.self.now c.lengthen_catalog.new.self (g.P.SectorView.space c.args.space.now) (g.P.SectorView.space c.lengthen_catalog.new.space) (g.P.SectorView.space c.put_map.new.space) (g.P.SectorView.space c.put_header.new.space) c.requires.stands (c.requires.settled tells) c.requires.can tells c.growth_keeps_the_tree.ensures (c.in_ok-lengthen_catalog.ensures.lengthens tells) (c.put_header.ensures.stands.stands (c.put_header.ensures.within.same.tells ∙ (c.put_map.ensures.within.same.tells ∙ ((c.lengthen_catalog.ensures.touches []).same.tells ∙ tells)))) (c.put_map.ensures.put ((c.lengthen_catalog.ensures.touches []).same.tells ∙ tells)) (c.put_header.ensures.put (c.put_map.ensures.within.same.tells ∙ ((c.lengthen_catalog.ensures.touches []).same.tells ∙ tells))) c.put_header.ensures.within (c.put_map.ensures.within.same.tells ∙ ((c.lengthen_catalog.ensures.touches []).same.tells ∙ tells)) in
     lists_whole c.args.more c.args.self.now c.lengthen_catalog.new.self (g.P.SectorView.space c.args.space.now) (g.P.SectorView.space c.lengthen_catalog.new.space) (g.P.SectorView.space c.put_map.new.space) (g.P.SectorView.space c.put_header.new.space) c.requires.stands (c.requires.settled tells) c.requires.can tells c.growth_keeps_the_tree.ensures (c.in_ok-lengthen_catalog.ensures.lengthens tells) (c.put_header.ensures.stands.stands (c.put_header.ensures.within.same.tells ∙ (c.put_map.ensures.within.same.tells ∙ ((c.lengthen_catalog.ensures.touches []).same.tells ∙ tells)))) (c.put_map.ensures.put ((c.lengthen_catalog.ensures.touches []).same.tells ∙ tells)) (c.put_header.ensures.put (c.put_map.ensures.within.same.tells ∙ ((c.lengthen_catalog.ensures.touches []).same.tells ∙ tells))) c.put_header.ensures.within (c.put_map.ensures.within.same.tells ∙ ((c.lengthen_catalog.ensures.touches []).same.tells ∙ tells))
-    (suffices_for c.args.more c.args.self.now c.lengthen_catalog.new.self (g.P.SectorView.space c.args.space.now) (c.requires.stands.stands tells) c.requires.can c.trees_grow_by_enough.ensures
-    (volume_whole c.args.more c.args.self.now c.lengthen_catalog.new.self (g.P.SectorView.space c.args.space.now) (g.P.SectorView.space c.lengthen_catalog.new.space) (g.P.SectorView.space c.put_map.new.space) (g.P.SectorView.space c.put_header.new.space) c.requires.stands (c.requires.settled tells) c.requires.can tells c.growth_keeps_the_tree.ensures (c.in_ok-lengthen_catalog.ensures.lengthens tells) (c.put_header.ensures.stands.stands (c.put_header.ensures.within.same.tells ∙ (c.put_map.ensures.within.same.tells ∙ ((c.lengthen_catalog.ensures.touches []).same.tells ∙ tells)))) (c.put_map.ensures.put ((c.lengthen_catalog.ensures.touches []).same.tells ∙ tells)) (c.put_header.ensures.put (c.put_map.ensures.within.same.tells ∙ ((c.lengthen_catalog.ensures.touches []).same.tells ∙ tells))) c.put_header.ensures.within (c.put_map.ensures.within.same.tells ∙ ((c.lengthen_catalog.ensures.touches []).same.tells ∙ tells))))
+    (suffices_for catalog_key c.args.more c.args.self.now.catalog.file c.lengthen_catalog.new.self.catalog.file (least_catalog c.args.self.now (g.P.SectorView.space c.args.space.now) (c.requires.stands.stands tells)) (omega arith) c.requires.can.some c.trees_grow_by_enough.ensures grows.numbers grows.free)
 
 pub returns-in_err-lengthen_catalog-clause-lists : goal.returns-in_err-lengthen_catalog-clause-lists
 returns-in_err-lengthen_catalog-clause-lists g c tells = let p = err_from_is_err_and c.from_residual.result c.from_residual.ensures.1 in off_ok _ c.from_residual.result p.0 p.1

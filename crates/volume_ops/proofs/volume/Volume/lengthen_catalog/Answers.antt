@@ -12,7 +12,7 @@ use Rattle.btree_file.specs.declared.tree.TreeFile.{TreeFile}
 use Rattle.sector_disk.specs.Space.{Space}
 use Rattle.volume_header.specs.Header.{FitsHeader}
 use Rattle.volume_header.specs.declared.header.VolumeHeader.{VolumeHeader}
-use Rattle.volume_ops.specs.Growing.{HasFreeRun, Lengthens, TakesRun, catalog_blocks, run_load, with_catalog}
+use Rattle.volume_ops.specs.Growing.{HasFreeRun, Lengthens, TakesRun, blocks_filled, run_load, with_catalog}
 use Rattle.volume_ops.specs.Mapping.{HoldsUnchanged, changed_sectors}
 use Rattle.volume_ops.specs.Service.{IsInService}
 use Rattle.volume_ops.specs.Standing.{StandsOver, own_sectors}
@@ -38,20 +38,20 @@ failed_by before now Memory disk = tt
 cause_of : (before now : ℕ) (q : Result (Unit {0}) Trouble) (t y : Trouble) → q ≡ Err y → y ≡ t → before ≤ now → (IsErrOf {T = Unit {0}} (Err t) Disk → Rose before now) → HasTroubleCause before now q
 cause_of before now q t y is same later disk = subst (λ (r : Result (Unit {0}) Trouble). HasTroubleCause before now r) (sym (is ∙ ap Err same)) (record { later = later; failed = failed_by before now t disk })
 
-pub count_catalog_blocks-blocks-requires : goal.count_catalog_blocks-blocks-requires
-count_catalog_blocks-blocks-requires g c = per_block_some c.args.more c.args.self.now (g.P.SectorView.space c.args.space.now) c.requires.can (record { start = 0; count = catalog_blocks c.args.self.now c.args.more }) refl
+pub count_blocks-blocks-requires : goal.count_blocks-blocks-requires
+count_blocks-blocks-requires g c = per_block_some c.args.more c.args.self.now (g.P.SectorView.space c.args.space.now) c.requires.can (record { start = 0; count = blocks_filled c.args.self.now.catalog.file c.args.more }) refl
 
 pub take_run-requires-clause-some : goal.take_run-requires-clause-some
-take_run-requires-clause-some g c = subst (λ n. 0 < n) (sym c.count_catalog_blocks-blocks.ensures) c.requires.can.some
+take_run-requires-clause-some g c = subst (λ n. 0 < n) (sym c.count_blocks-blocks.ensures) c.requires.can.some
 
 pub take_run-requires-clause-enough : goal.take_run-requires-clause-enough
-take_run-requires-clause-enough g c = omega (arith, c.count_catalog_blocks-blocks.ensures, c.requires.can.enough)
+take_run-requires-clause-enough g c = omega (arith, c.count_blocks-blocks.ensures, c.requires.can.enough)
 
 pub take_run-requires-clause-run : goal.take_run-requires-clause-run
-take_run-requires-clause-run g c = subst (λ n. HasFreeRun n (free_of c.args.self.now.map)) (sym c.count_catalog_blocks-blocks.ensures) c.requires.can.run
+take_run-requires-clause-run g c = subst (λ n. HasFreeRun n (free_of c.args.self.now.map)) (sym c.count_blocks-blocks.ensures) c.requires.can.run
 
 -- the run that was taken, by the number of its blocks
-taken : (v : Volume) (more count : ℕ) (run : Extent) (map_ : BlockMap) → count ≡ catalog_blocks v more → TakesRun count run v.map map_ → TakesRun (catalog_blocks v more) run v.map map_
+taken : (v : Volume) (more count : ℕ) (run : Extent) (map_ : BlockMap) → count ≡ blocks_filled v.catalog.file more → TakesRun count run v.map map_ → TakesRun (blocks_filled v.catalog.file more) run v.map map_
 taken v more count run map_ is takes = subst (λ n. TakesRun n run v.map map_) is takes
 
 pub grow-requires-clause-inside : goal.grow-requires-clause-inside
@@ -59,7 +59,7 @@ grow-requires-clause-inside g c = c.requires.stands.service.catalog.inside
 
 pub grow-requires-clause-run_inside : goal.grow-requires-clause-run_inside
 grow-requires-clause-run_inside g c =
-    let takes = taken c.args.self.now c.args.more c.count_catalog_blocks-blocks.result c.in_ok-run.run' c.take_run.new.map c.count_catalog_blocks-blocks.ensures c.in_ok-run.ensures.takes in
+    let takes = taken c.args.self.now c.args.more c.count_blocks-blocks.result c.in_ok-run.run' c.take_run.new.map c.count_blocks-blocks.ensures c.in_ok-run.ensures.takes in
     run_inside c.args.more c.args.self.now (g.P.SectorView.space c.args.space.now) c.requires.can c.in_ok-run.run' takes.many takes.inside
 
 pub grow-requires-clause-open : goal.grow-requires-clause-open
@@ -67,35 +67,35 @@ grow-requires-clause-open g c = catalog_open c.args.self.now (g.P.SectorView.spa
 
 pub grow-requires-clause-run_open : goal.grow-requires-clause-run_open
 grow-requires-clause-run_open g c tells =
-    let takes = taken c.args.self.now c.args.more c.count_catalog_blocks-blocks.result c.in_ok-run.run' c.take_run.new.map c.count_catalog_blocks-blocks.ensures c.in_ok-run.ensures.takes in
-    run_opens c.args.self.now (g.P.SectorView.space c.args.space.now) (c.requires.stands.stands tells) (c.requires.settled tells) (catalog_blocks c.args.self.now c.args.more) c.in_ok-run.run' c.take_run.new.map takes (c.requires.closed tells)
+    let takes = taken c.args.self.now c.args.more c.count_blocks-blocks.result c.in_ok-run.run' c.take_run.new.map c.count_blocks-blocks.ensures c.in_ok-run.ensures.takes in
+    run_opens c.args.self.now (g.P.SectorView.space c.args.space.now) (c.requires.stands.stands tells) (c.requires.settled tells) (blocks_filled c.args.self.now.catalog.file c.args.more) c.in_ok-run.run' c.take_run.new.map takes (c.requires.closed tells)
 
 pub grow-requires-clause-stands : goal.grow-requires-clause-stands
 grow-requires-clause-stands g c tells = (c.requires.stands.stands tells).trees.catalog.stands
 
 pub grow-requires-clause-apart : goal.grow-requires-clause-apart
 grow-requires-clause-apart g c tells =
-    let takes = taken c.args.self.now c.args.more c.count_catalog_blocks-blocks.result c.in_ok-run.run' c.take_run.new.map c.count_catalog_blocks-blocks.ensures c.in_ok-run.ensures.takes in
-    grown_apart c.args.self.now (g.P.SectorView.space c.args.space.now) (c.requires.stands.stands tells) (c.requires.settled tells) (catalog_blocks c.args.self.now c.args.more) c.in_ok-run.run' c.take_run.new.map takes
+    let takes = taken c.args.self.now c.args.more c.count_blocks-blocks.result c.in_ok-run.run' c.take_run.new.map c.count_blocks-blocks.ensures c.in_ok-run.ensures.takes in
+    grown_apart c.args.self.now (g.P.SectorView.space c.args.space.now) (c.requires.stands.stands tells) (c.requires.settled tells) (blocks_filled c.args.self.now.catalog.file c.args.more) c.in_ok-run.run' c.take_run.new.map takes
 
 pub grow-requires-clause-whole : goal.grow-requires-clause-whole
-grow-requires-clause-whole g c = whole_nodes c.args.more c.args.self.now (g.P.SectorView.space c.args.space.now) c.requires.can c.in_ok-run.run' (c.in_ok-run.ensures.takes.many ∙ c.count_catalog_blocks-blocks.ensures)
+grow-requires-clause-whole g c = whole_nodes c.args.more c.args.self.now (g.P.SectorView.space c.args.space.now) c.requires.can c.in_ok-run.run' (c.in_ok-run.ensures.takes.many ∙ c.count_blocks-blocks.ensures)
 
 pub grow-requires-clause-few : goal.grow-requires-clause-few
-grow-requires-clause-few g c = few_nodes c.args.more c.args.self.now (g.P.SectorView.space c.args.space.now) c.requires.can c.in_ok-run.run' (c.in_ok-run.ensures.takes.many ∙ c.count_catalog_blocks-blocks.ensures)
+grow-requires-clause-few g c = few_nodes c.args.more c.args.self.now (g.P.SectorView.space c.args.space.now) c.requires.can c.in_ok-run.run' (c.in_ok-run.ensures.takes.many ∙ c.count_blocks-blocks.ensures)
 
 pub grow-requires-clause-room : goal.grow-requires-clause-room
-grow-requires-clause-room g c = grow_room c.args.more c.args.self.now (g.P.SectorView.space c.args.space.now) c.requires.can c.in_ok-run.run' (c.in_ok-run.ensures.takes.many ∙ c.count_catalog_blocks-blocks.ensures)
+grow-requires-clause-room g c = grow_room c.args.more c.args.self.now (g.P.SectorView.space c.args.space.now) c.requires.can c.in_ok-run.run' (c.in_ok-run.ensures.takes.many ∙ c.count_blocks-blocks.ensures)
 
 pub with_catalog-self-requires-clause-blocks : goal.with_catalog-self-requires-clause-blocks
-with_catalog-self-requires-clause-blocks g c = omega (arith, c.requires.can.blocks, c.in_ok-run.ensures.takes.many, c.count_catalog_blocks-blocks.ensures)
+with_catalog-self-requires-clause-blocks g c = omega (arith, c.requires.can.blocks, c.in_ok-run.ensures.takes.many, c.count_blocks-blocks.ensures)
 
 pub with_catalog-self-requires-clause-bytes : goal.with_catalog-self-requires-clause-bytes
 with_catalog-self-requires-clause-bytes g c =
-    omega (arith, c.requires.can.bytes, ap (λ n. n * c.args.self.now.header.block_size) (c.in_ok-run.ensures.takes.many ∙ c.count_catalog_blocks-blocks.ensures))
+    omega (arith, c.requires.can.bytes, ap (λ n. n * c.args.self.now.header.block_size) (c.in_ok-run.ensures.takes.many ∙ c.count_blocks-blocks.ensures))
 
 pub with_catalog-self-requires-clause-free : goal.with_catalog-self-requires-clause-free
-with_catalog-self-requires-clause-free g c = omega (arith, c.requires.can.counted, c.in_ok-run.ensures.takes.many, c.count_catalog_blocks-blocks.ensures)
+with_catalog-self-requires-clause-free g c = omega (arith, c.requires.can.counted, c.in_ok-run.ensures.takes.many, c.count_blocks-blocks.ensures)
 
 -- ---- behind it
 
@@ -112,7 +112,7 @@ returns-clause-stands g c =
     let v = c.args.self.now in
     let a : Space = g.P.SectorView.space c.args.space.now in
     let b : Space = g.P.SectorView.space c.grow.new.space in
-    let takes = taken v c.args.more c.count_catalog_blocks-blocks.result c.in_ok-run.run' c.take_run.new.map c.count_catalog_blocks-blocks.ensures c.in_ok-run.ensures.takes in
+    let takes = taken v c.args.more c.count_blocks-blocks.result c.in_ok-run.run' c.take_run.new.map c.count_blocks-blocks.ensures c.in_ok-run.ensures.takes in
     let head = headed v c.in_ok-run.run' c.fork.result.now c.as_slice.result.now c.grow.new.self.fork c.with_catalog-self.result c.with_catalog-self.ensures.same c.as_slice.ensures c.fork.ensures in
     subst (λ h. StandsOver (made v c.take_run.new.map c.grow.new.self h) b) (sym head)
     (stands_then c.args.more v a b c.requires.stands c.requires.settled c.requires.can c.requires.closed c.in_ok-run.run' c.take_run.new.map takes c.grow.new.self c.in_ok-grow.ensures.grown c.grow.ensures.frame
@@ -123,7 +123,7 @@ returns-clause-lengthens g c tells =
     let v = c.args.self.now in
     let a : Space = g.P.SectorView.space c.args.space.now in
     let b : Space = g.P.SectorView.space c.grow.new.space in
-    let takes = taken v c.args.more c.count_catalog_blocks-blocks.result c.in_ok-run.run' c.take_run.new.map c.count_catalog_blocks-blocks.ensures c.in_ok-run.ensures.takes in
+    let takes = taken v c.args.more c.count_blocks-blocks.result c.in_ok-run.run' c.take_run.new.map c.count_blocks-blocks.ensures c.in_ok-run.ensures.takes in
     let head = headed v c.in_ok-run.run' c.fork.result.now c.as_slice.result.now c.grow.new.self.fork c.with_catalog-self.result c.with_catalog-self.ensures.same c.as_slice.ensures c.fork.ensures in
     subst (λ h. Lengthens c.args.more v (made v c.take_run.new.map c.grow.new.self h) a b) (sym head)
     (lengthens_then c.args.more v a b c.requires.stands c.requires.settled c.requires.can c.requires.closed c.in_ok-run.run' c.take_run.new.map takes c.grow.new.self c.in_ok-grow.ensures.grown c.grow.ensures.frame tells)
@@ -133,23 +133,23 @@ returns-clause-unchanged g c tells =
     let v = c.args.self.now in
     let a : Space = g.P.SectorView.space c.args.space.now in
     let b : Space = g.P.SectorView.space c.grow.new.space in
-    let takes = taken v c.args.more c.count_catalog_blocks-blocks.result c.in_ok-run.run' c.take_run.new.map c.count_catalog_blocks-blocks.ensures c.in_ok-run.ensures.takes in
+    let takes = taken v c.args.more c.count_blocks-blocks.result c.in_ok-run.run' c.take_run.new.map c.count_blocks-blocks.ensures c.in_ok-run.ensures.takes in
     let head = headed v c.in_ok-run.run' c.fork.result.now c.as_slice.result.now c.grow.new.self.fork c.with_catalog-self.result c.with_catalog-self.ensures.same c.as_slice.ensures c.fork.ensures in
     subst (λ h. HoldsUnchanged (made v c.take_run.new.map c.grow.new.self h) b.content) (sym head)
     (unchanged_then c.args.more v a b c.requires.stands c.requires.settled c.requires.can c.requires.closed c.in_ok-run.run' c.take_run.new.map takes c.grow.new.self c.in_ok-grow.ensures.grown c.grow.ensures.frame tells)
 
 pub returns-clause-held : goal.returns-clause-held
-returns-clause-held g c = same_held c.count_catalog_blocks-blocks.result c.in_ok-run.run' c.args.self.now.map c.take_run.new.map c.in_ok-run.ensures.takes
+returns-clause-held g c = same_held c.count_blocks-blocks.result c.in_ok-run.run' c.args.self.now.map c.take_run.new.map c.in_ok-run.ensures.takes
 
 pub returns-clause-still : goal.returns-clause-still
-returns-clause-still g c k was = used_still c.count_catalog_blocks-blocks.result c.in_ok-run.run' c.args.self.now.map c.take_run.new.map c.in_ok-run.ensures.takes k was
+returns-clause-still g c k was = used_still c.count_blocks-blocks.result c.in_ok-run.run' c.args.self.now.map c.take_run.new.map c.in_ok-run.ensures.takes k was
 
 pub returns-clause-own : goal.returns-clause-own
 returns-clause-own g c tells s has =
     let v = c.args.self.now in
     let a : Space = g.P.SectorView.space c.args.space.now in
     let b : Space = g.P.SectorView.space c.grow.new.space in
-    let takes = taken v c.args.more c.count_catalog_blocks-blocks.result c.in_ok-run.run' c.take_run.new.map c.count_catalog_blocks-blocks.ensures c.in_ok-run.ensures.takes in
+    let takes = taken v c.args.more c.count_blocks-blocks.result c.in_ok-run.run' c.take_run.new.map c.count_blocks-blocks.ensures c.in_ok-run.ensures.takes in
     let head = headed v c.in_ok-run.run' c.fork.result.now c.as_slice.result.now c.grow.new.self.fork c.with_catalog-self.result c.with_catalog-self.ensures.same c.as_slice.ensures c.fork.ensures in
     subst (λ h. Contains (own_sectors (made v c.take_run.new.map c.grow.new.self h)) s) (sym head)
     (own_then c.args.more v a b c.requires.stands c.requires.settled c.requires.can c.requires.closed c.in_ok-run.run' c.take_run.new.map takes c.grow.new.self c.in_ok-grow.ensures.grown c.grow.ensures.frame tells s has)
@@ -159,7 +159,7 @@ returns-clause-gained g c tells s has =
     let v = c.args.self.now in
     let a : Space = g.P.SectorView.space c.args.space.now in
     let b : Space = g.P.SectorView.space c.grow.new.space in
-    let takes = taken v c.args.more c.count_catalog_blocks-blocks.result c.in_ok-run.run' c.take_run.new.map c.count_catalog_blocks-blocks.ensures c.in_ok-run.ensures.takes in
+    let takes = taken v c.args.more c.count_blocks-blocks.result c.in_ok-run.run' c.take_run.new.map c.count_blocks-blocks.ensures c.in_ok-run.ensures.takes in
     let head = headed v c.in_ok-run.run' c.fork.result.now c.as_slice.result.now c.grow.new.self.fork c.with_catalog-self.result c.with_catalog-self.ensures.same c.as_slice.ensures c.fork.ensures in
     gained_then c.args.more v a b c.requires.stands c.requires.settled c.requires.can c.requires.closed c.in_ok-run.run' c.take_run.new.map takes c.grow.new.self c.in_ok-grow.ensures.grown c.grow.ensures.frame tells s
     (subst (λ h. Contains (own_sectors (made v c.take_run.new.map c.grow.new.self h)) s) head has)
@@ -169,7 +169,7 @@ returns-clause-service g c =
     let v = c.args.self.now in
     let a : Space = g.P.SectorView.space c.args.space.now in
     let b : Space = g.P.SectorView.space c.grow.new.space in
-    let takes = taken v c.args.more c.count_catalog_blocks-blocks.result c.in_ok-run.run' c.take_run.new.map c.count_catalog_blocks-blocks.ensures c.in_ok-run.ensures.takes in
+    let takes = taken v c.args.more c.count_blocks-blocks.result c.in_ok-run.run' c.take_run.new.map c.count_blocks-blocks.ensures c.in_ok-run.ensures.takes in
     service_then c.args.more v a b c.requires.stands c.requires.settled c.requires.can c.requires.closed c.in_ok-run.run' c.take_run.new.map takes c.grow.new.self c.with_catalog-self.result
     (c.with_catalog-self.ensures.fits c.requires.stands.service.fits) (ap (λ h. h.block_size) c.with_catalog-self.ensures.same) c.grow.ensures.node_size c.grow.ensures.inside c.grow.ensures.frame.same.sectors
 
@@ -178,14 +178,14 @@ returns-clause-touches g c committed =
     let v = c.args.self.now in
     let a : Space = g.P.SectorView.space c.args.space.now in
     let b : Space = g.P.SectorView.space c.grow.new.space in
-    let takes = taken v c.args.more c.count_catalog_blocks-blocks.result c.in_ok-run.run' c.take_run.new.map c.count_catalog_blocks-blocks.ensures c.in_ok-run.ensures.takes in
+    let takes = taken v c.args.more c.count_blocks-blocks.result c.in_ok-run.run' c.take_run.new.map c.count_blocks-blocks.ensures c.in_ok-run.ensures.takes in
     let head = headed v c.in_ok-run.run' c.fork.result.now c.as_slice.result.now c.grow.new.self.fork c.with_catalog-self.result c.with_catalog-self.ensures.same c.as_slice.ensures c.fork.ensures in
     subst (λ h. Touches committed (λ s. Contains (own_sectors (made v c.take_run.new.map c.grow.new.self h)) s) a b) (sym head)
     (touches_then c.args.more v a b c.requires.stands c.requires.settled c.requires.can c.requires.closed c.in_ok-run.run' c.take_run.new.map takes c.grow.new.self c.in_ok-grow.ensures.grown c.grow.ensures.frame committed)
 
 pub returns-clause-spent : goal.returns-clause-spent
 returns-clause-spent g c =
-    let takes = taken c.args.self.now c.args.more c.count_catalog_blocks-blocks.result c.in_ok-run.run' c.take_run.new.map c.count_catalog_blocks-blocks.ensures c.in_ok-run.ensures.takes in
+    let takes = taken c.args.self.now c.args.more c.count_blocks-blocks.result c.in_ok-run.run' c.take_run.new.map c.count_blocks-blocks.ensures c.in_ok-run.ensures.takes in
     nodes_spent c.args.more c.args.self.now (g.P.SectorView.space c.args.space.now) (g.P.SectorView.space c.grow.new.space) c.requires.stands c.requires.settled c.requires.can c.requires.closed c.in_ok-run.run' c.take_run.new.map takes c.grow.ensures.room
 
 pub returns-clause-map : goal.returns-clause-map
@@ -193,9 +193,9 @@ returns-clause-map g c =
     let v = c.args.self.now in
     let a : Space = g.P.SectorView.space c.args.space.now in
     let b : Space = g.P.SectorView.space c.grow.new.space in
-    let takes = taken v c.args.more c.count_catalog_blocks-blocks.result c.in_ok-run.run' c.take_run.new.map c.count_catalog_blocks-blocks.ensures c.in_ok-run.ensures.takes in
+    let takes = taken v c.args.more c.count_blocks-blocks.result c.in_ok-run.run' c.take_run.new.map c.count_blocks-blocks.ensures c.in_ok-run.ensures.takes in
     let head = headed v c.in_ok-run.run' c.fork.result.now c.as_slice.result.now c.grow.new.self.fork c.with_catalog-self.result c.with_catalog-self.ensures.same c.as_slice.ensures c.fork.ensures in
-    subst (λ h. length (changed_sectors (made v c.take_run.new.map c.grow.new.self h)) ≤ run_load v (catalog_blocks v c.args.more)) (sym head)
+    subst (λ h. length (changed_sectors (made v c.take_run.new.map c.grow.new.self h)) ≤ run_load v (blocks_filled v.catalog.file c.args.more)) (sym head)
     (map_then c.args.more v a b c.requires.stands c.requires.settled c.requires.can c.requires.closed c.in_ok-run.run' c.take_run.new.map takes c.grow.new.self c.in_ok-grow.ensures.grown c.grow.ensures.frame)
 
 -- ---- where no memory is found for the run
@@ -221,24 +221,24 @@ returns-in_err-run-clause-touches g c committed = touches_none committed (λ s. 
 -- ---- where the file couldn't grow
 
 pub returns-in_err-grow-clause-held : goal.returns-in_err-grow-clause-held
-returns-in_err-grow-clause-held g c = same_held c.count_catalog_blocks-blocks.result c.in_ok-run.run' c.args.self.now.map c.take_run.new.map c.in_ok-run.ensures.takes
+returns-in_err-grow-clause-held g c = same_held c.count_blocks-blocks.result c.in_ok-run.run' c.args.self.now.map c.take_run.new.map c.in_ok-run.ensures.takes
 
 pub returns-in_err-grow-clause-still : goal.returns-in_err-grow-clause-still
-returns-in_err-grow-clause-still g c k was = used_still c.count_catalog_blocks-blocks.result c.in_ok-run.run' c.args.self.now.map c.take_run.new.map c.in_ok-run.ensures.takes k was
+returns-in_err-grow-clause-still g c k was = used_still c.count_blocks-blocks.result c.in_ok-run.run' c.args.self.now.map c.take_run.new.map c.in_ok-run.ensures.takes k was
 
 pub returns-in_err-grow-clause-own : goal.returns-in_err-grow-clause-own
 returns-in_err-grow-clause-own g c tells s has =
-    let takes = taken c.args.self.now c.args.more c.count_catalog_blocks-blocks.result c.in_ok-run.run' c.take_run.new.map c.count_catalog_blocks-blocks.ensures c.in_ok-run.ensures.takes in
+    let takes = taken c.args.self.now c.args.more c.count_blocks-blocks.result c.in_ok-run.run' c.take_run.new.map c.count_blocks-blocks.ensures c.in_ok-run.ensures.takes in
     subst (λ (l : List ℕ). Contains l s) (sym (own_failed c.args.more c.args.self.now (g.P.SectorView.space c.args.space.now) (g.P.SectorView.space c.grow.new.space) c.requires.stands c.requires.settled c.requires.can c.requires.closed c.in_ok-run.run' c.take_run.new.map takes c.grow.new.self c.in_err-grow.ensures.failed)) has
 
 pub returns-in_err-grow-clause-gained : goal.returns-in_err-grow-clause-gained
 returns-in_err-grow-clause-gained g c tells s has =
-    let takes = taken c.args.self.now c.args.more c.count_catalog_blocks-blocks.result c.in_ok-run.run' c.take_run.new.map c.count_catalog_blocks-blocks.ensures c.in_ok-run.ensures.takes in
+    let takes = taken c.args.self.now c.args.more c.count_blocks-blocks.result c.in_ok-run.run' c.take_run.new.map c.count_blocks-blocks.ensures c.in_ok-run.ensures.takes in
     inl (subst (λ (l : List ℕ). Contains l s) (own_failed c.args.more c.args.self.now (g.P.SectorView.space c.args.space.now) (g.P.SectorView.space c.grow.new.space) c.requires.stands c.requires.settled c.requires.can c.requires.closed c.in_ok-run.run' c.take_run.new.map takes c.grow.new.self c.in_err-grow.ensures.failed) has)
 
 pub returns-in_err-grow-clause-service : goal.returns-in_err-grow-clause-service
 returns-in_err-grow-clause-service g c =
-    let takes = taken c.args.self.now c.args.more c.count_catalog_blocks-blocks.result c.in_ok-run.run' c.take_run.new.map c.count_catalog_blocks-blocks.ensures c.in_ok-run.ensures.takes in
+    let takes = taken c.args.self.now c.args.more c.count_blocks-blocks.result c.in_ok-run.run' c.take_run.new.map c.count_blocks-blocks.ensures c.in_ok-run.ensures.takes in
     service_then c.args.more c.args.self.now (g.P.SectorView.space c.args.space.now) (g.P.SectorView.space c.grow.new.space) c.requires.stands c.requires.settled c.requires.can c.requires.closed c.in_ok-run.run' c.take_run.new.map takes c.grow.new.self c.args.self.now.header
     c.requires.stands.service.fits refl c.grow.ensures.node_size c.grow.ensures.inside c.grow.ensures.frame.same.sectors
 
@@ -248,7 +248,7 @@ returns-in_err-grow-clause-touches g c committed =
 
 pub returns-in_err-grow-clause-spent : goal.returns-in_err-grow-clause-spent
 returns-in_err-grow-clause-spent g c =
-    let takes = taken c.args.self.now c.args.more c.count_catalog_blocks-blocks.result c.in_ok-run.run' c.take_run.new.map c.count_catalog_blocks-blocks.ensures c.in_ok-run.ensures.takes in
+    let takes = taken c.args.self.now c.args.more c.count_blocks-blocks.result c.in_ok-run.run' c.take_run.new.map c.count_blocks-blocks.ensures c.in_ok-run.ensures.takes in
     nodes_spent c.args.more c.args.self.now (g.P.SectorView.space c.args.space.now) (g.P.SectorView.space c.grow.new.space) c.requires.stands c.requires.settled c.requires.can c.requires.closed c.in_ok-run.run' c.take_run.new.map takes c.grow.ensures.room
 
 -- ---- answers, and the reader's order
@@ -313,8 +313,8 @@ returns-in_err-run-clause-spent g c = omega arith
 
 pub returns-clause-marks : goal.returns-clause-marks
 returns-clause-marks g c =
-    marked_long c.count_catalog_blocks-blocks.result c.in_ok-run.run' c.args.self.now.map c.take_run.new.map c.in_ok-run.ensures.takes c.requires.can.unchanged
-    ∙ ap sectors_for (sym (same_length c.count_catalog_blocks-blocks.result c.in_ok-run.run' c.args.self.now.map c.take_run.new.map c.in_ok-run.ensures.takes))
+    marked_long c.count_blocks-blocks.result c.in_ok-run.run' c.args.self.now.map c.take_run.new.map c.in_ok-run.ensures.takes c.requires.can.unchanged
+    ∙ ap sectors_for (sym (same_length c.count_blocks-blocks.result c.in_ok-run.run' c.args.self.now.map c.take_run.new.map c.in_ok-run.ensures.takes))
 
 pub returns-in_err-run-clause-marks : goal.returns-in_err-run-clause-marks
 returns-in_err-run-clause-marks g c = let p = err_from_is_err_and c.from_residual.result c.from_residual.ensures.1 in off_ok _ c.from_residual.result p.0 p.1

@@ -1,14 +1,14 @@
-use Rattle.std.proofs.Common.{◌≡◌, ℕ, List, [], length, sym, ◌∙◌, ap, subst, arith}
+use Rattle.std.proofs.Common.{◌≡◌, ◌≤◌, ℕ, List, [], length, sym, ◌∙◌, ap, subst, arith}
 use Rattle.std.specs.Prelude.{OnOk}
 use Rattle.std.specs.List.{Contains}
+use Rattle.btree_node.specs.declared.store.TreeShape.{TreeShape}
 use Rattle.hfs_volume.specs.Content.{volume_of}
 use Rattle.hfs_volume.specs.TreeOf.{tree_of}
-use Rattle.volume_ops.specs.Dropping.{FitsToLeave}
 use Rattle.volume_ops.specs.Removing.{TakesFolder, remove_load}
 use Rattle.volume_ops.specs.Standing.{IsSettled}
 use Rattle.volume_ops.specs.Touching.{Touches}
 use Rattle.volume_ops.proofs.AttributesEdited.{attributes_large, own_then}
-use Rattle.volume_ops.proofs.BareRoom.{room_for_folder, spent_counted}
+use Rattle.volume_ops.proofs.BareRoom.{room_for_folder, room_for_owned, spent_counted}
 use Rattle.volume_ops.proofs.Bared.{attributes_bared, leaving_still, node_alone, none_left, removed_same, settled_bared}
 use Rattle.volume_ops.proofs.Commanding.{touches_both, touches_none}
 use Rattle.volume_ops.proofs.OwnedChange.{settled_inline}
@@ -41,10 +41,19 @@ remove_folder-requires-clause-bare g c later =
     let tells = sym c.bare.ensures.frame.space.same.tells ∙ later in
     none_left c.args.self.now c.bare.new.self (g.P.SectorView.space c.args.space.now) (g.P.SectorView.space c.bare.new.space) c.args.at.id (c.in_ok-bare.ensures.bares tells) (c.requires.settled tells) (c.requires.stands.stands tells) (c.in_ok-bare.ensures.stands.stands later) (has_them c.args.self.now.header c.if-self-eq0.false)
 
+pub bare-requires-clause-size : goal.bare-requires-clause-size
+bare-requires-clause-size g c = omega (arith, c.if-shape-lt4096.false, ap (λ (s : TreeShape). s.node_size) c.shape.ensures)
+
+pub bare-requires-clause-room : goal.bare-requires-clause-room
+bare-requires-clause-room g c =
+    let large : 4096 ≤ c.args.self.now.attributes.file.shape.node_size = omega (arith, c.if-shape-lt4096.false, ap (λ (s : TreeShape). s.node_size) c.shape.ensures) in
+    room_for_owned (length c.args.owned.now) (c.fits_owner.ensures.some c.if-not-fits_owner.false) c.edits_have_room.ensures c.args.self.now (g.P.SectorView.space c.args.space.now) (c.fits_owner.ensures.room c.if-not-fits_owner.false) (has_them c.args.self.now.header c.if-self-eq0.false) large
+
 pub remove_folder-requires-clause-room : goal.remove_folder-requires-clause-room
 remove_folder-requires-clause-room g c =
-    room_for_folder c.args.self.now c.bare.new.self (g.P.SectorView.space c.args.space.now) (g.P.SectorView.space c.bare.new.space) c.bare.ensures.rest c.bare.ensures.frame.space.same.tells c.requires.room
-    (subst (λ n. FitsToLeave c.bare.new.self.catalog.file.shape n) c.spare.ensures (c.can_leave.ensures c.if-not-can_leave.false))
+    let large : 4096 ≤ c.args.self.now.attributes.file.shape.node_size = omega (arith, c.if-shape-lt4096.false, ap (λ (s : TreeShape). s.node_size) c.shape.ensures) in
+    room_for_folder c.edits_take_their_load.ensures (length c.args.owned.now) c.args.self.now c.bare.new.self (g.P.SectorView.space c.args.space.now) (g.P.SectorView.space c.bare.new.space) c.bare.ensures.rest c.bare.ensures.frame.space.same.tells c.requires.room (c.fits_owner.ensures.room c.if-not-fits_owner.false)
+    (has_them c.args.self.now.header c.if-self-eq0.false) large (c.bare.ensures.takes []) (omega (arith, c.spare.ensures, c.if-spare-eq0.false))
 
 pub returns-clause-does : goal.returns-clause-does
 returns-clause-does g c tells =
@@ -85,11 +94,11 @@ returns-then-self-eq0-clause-touches g c committed = touches_none committed _ (g
 pub returns-then-self-eq0-clause-service : goal.returns-then-self-eq0-clause-service
 returns-then-self-eq0-clause-service g c = c.requires.stands.service
 
-pub returns-then-not-can_leave-clause-touches : goal.returns-then-not-can_leave-clause-touches
-returns-then-not-can_leave-clause-touches g c committed = c.bare.ensures.touches committed
+pub returns-then-spare-eq0-clause-touches : goal.returns-then-spare-eq0-clause-touches
+returns-then-spare-eq0-clause-touches g c committed = c.bare.ensures.touches committed
 
-pub returns-then-not-can_leave-clause-spent : goal.returns-then-not-can_leave-clause-spent
-returns-then-not-can_leave-clause-spent g c tells =
+pub returns-then-spare-eq0-clause-spent : goal.returns-then-spare-eq0-clause-spent
+returns-then-spare-eq0-clause-spent g c tells =
     omega (arith, spent_counted c.edits_take_their_load.ensures (length c.args.owned.now) c.args.self.now c.bare.new.self (g.P.SectorView.space c.args.space.now) (g.P.SectorView.space c.bare.new.space) tells (attributes_large c.args.self.now (g.P.SectorView.space c.args.space.now) c.requires.stands (has_them c.args.self.now.header c.if-self-eq0.false) tells) (c.bare.ensures.takes []))
 
 pub returns-clause-takes : goal.returns-clause-takes
@@ -109,5 +118,23 @@ returns-in_err-bare-clause-blocks g c = blocks_owned c.args.self.now c.bare.new.
 pub returns-then-self-eq0-clause-blocks : goal.returns-then-self-eq0-clause-blocks
 returns-then-self-eq0-clause-blocks g c = blocks_none c.args.self.now
 
-pub returns-then-not-can_leave-clause-blocks : goal.returns-then-not-can_leave-clause-blocks
-returns-then-not-can_leave-clause-blocks g c = blocks_owned c.args.self.now c.bare.new.self c.bare.ensures.rest
+pub returns-then-spare-eq0-clause-blocks : goal.returns-then-spare-eq0-clause-blocks
+returns-then-spare-eq0-clause-blocks g c = blocks_owned c.args.self.now c.bare.new.self c.bare.ensures.rest
+
+pub returns-then-shape-lt4096-clause-touches : goal.returns-then-shape-lt4096-clause-touches
+returns-then-shape-lt4096-clause-touches g c committed = touches_none committed _ (g.P.SectorView.space c.args.space.now)
+
+pub returns-then-not-fits_owner-clause-touches : goal.returns-then-not-fits_owner-clause-touches
+returns-then-not-fits_owner-clause-touches g c committed = touches_none committed _ (g.P.SectorView.space c.args.space.now)
+
+pub returns-then-shape-lt4096-clause-service : goal.returns-then-shape-lt4096-clause-service
+returns-then-shape-lt4096-clause-service g c = c.requires.stands.service
+
+pub returns-then-not-fits_owner-clause-service : goal.returns-then-not-fits_owner-clause-service
+returns-then-not-fits_owner-clause-service g c = c.requires.stands.service
+
+pub returns-then-shape-lt4096-clause-blocks : goal.returns-then-shape-lt4096-clause-blocks
+returns-then-shape-lt4096-clause-blocks g c = blocks_none c.args.self.now
+
+pub returns-then-not-fits_owner-clause-blocks : goal.returns-then-not-fits_owner-clause-blocks
+returns-then-not-fits_owner-clause-blocks g c = blocks_none c.args.self.now

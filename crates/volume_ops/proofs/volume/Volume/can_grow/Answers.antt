@@ -1,16 +1,16 @@
 use Rattle.std.proofs.Common.{◌≡◌, ◌<◌, ◌*◌, length, refl, ◌∙◌, subst, arith}
 use Rattle.std.proofs.lemmas.Bool.{leb-true}
 use Rattle.alloc_bitmap.specs.Map.{free_of}
-use Rattle.volume_ops.specs.Growing.{CountsHaveRoom, HasFreeRun, catalog_blocks}
-use Rattle.volume_ops.proofs.volume.Volume.can_grow_catalog.Goals as goal
+use Rattle.volume_ops.specs.Growing.{CountsHaveRoom, HasFreeRun, blocks_filled}
+use Rattle.volume_ops.proofs.volume.Volume.can_grow.Goals as goal
 
 pub returns : goal.returns
 returns g c = record {
   sure = λ is.
       let free = c.if-not-has_free_run.ensures in
-      let counts : CountsHaveRoom c.args.more c.args.self.now = c.if-not-counts_have_room.ensures refl in
-      let blocks : c.count_catalog_blocks-blocks.result ≡ catalog_blocks c.args.self.now c.args.more = c.count_catalog_blocks-blocks.ensures in
-      let size : c.from.result * c.from-2.result ≡ length c.args.self.now.map.used * c.args.self.now.catalog.file.per_block = λ i. (c.from.ensures ∙ c.total.ensures) i * (c.from-2.ensures ∙ c.per_block-per_block.ensures) i in
+      let counts : CountsHaveRoom c.args.more c.args.file.now c.args.fork c.args.self.now = c.if-not-counts_have_room.ensures refl in
+      let blocks : c.count_blocks-blocks.result ≡ blocks_filled c.args.file.now c.args.more = c.count_blocks-blocks.ensures in
+      let size : c.from.result * c.from-2.result ≡ length c.args.self.now.map.used * c.args.file.now.per_block = λ i. (c.from.ensures ∙ c.total.ensures) i * (c.from-2.ensures ∙ c.per_block-per_block.ensures) i in
       record {
         some = subst (λ n. 0 < n) blocks (free.some refl);
         whole = counts.whole;

@@ -1,22 +1,25 @@
-use Rattle.std.proofs.Common.{ℕ}
+use Rattle.std.proofs.Common.{ℕ, inl, inr, ap}
 use Rattle.std.specs.Prelude.{Contains}
-use Rattle.volume_ops.specs.Growing.{IsOwnOrFree}
+use Rattle.hfs_volume.specs.Forks.{per_block_of}
+use Rattle.volume_ops.specs.Growing.{IsOwnOrFree, blocks_filled}
 use Rattle.volume_ops.specs.Standing.{own_sectors}
+use Rattle.volume_ops.specs.declared.volume.Volume.{Volume}
 use Rattle.volume_ops.proofs.GrownAhead.{gained_before}
 use Rattle.volume_ops.proofs.WhenKept.{touches_those}
-use Rattle.volume_ops.proofs.volume.Volume.grow_kept.Goals as goal
+use Rattle.volume_ops.proofs.volume.Volume.grow_catalog_kept.Goals as goal
 
 pub returns-in_ok-grow_catalog-in-Some-clause-ahead : goal.returns-in_ok-grow_catalog-in-Some-clause-ahead
 returns-in_ok-grow_catalog-in-Some-clause-ahead g c tells = record {
   tree = c.in_ok-grow_catalog-in-Some.ensures.tree tells;
   grows = c.in_ok-grow_catalog-in-Some.ensures.grows tells;
-  files = c.in_ok-grow_catalog-in-Some.ensures.files tells;
+  files = λ id kind other. c.in_ok-grow_catalog-in-Some.ensures.files tells id kind (inl (λ same. other (inr (inl same))));
   lists = c.in_ok-grow_catalog-in-Some.ensures.lists tells;
 }
 
 pub returns-in_ok-grow_catalog-in-Some-clause-gained : goal.returns-in_ok-grow_catalog-in-Some-clause-gained
 returns-in_ok-grow_catalog-in-Some-clause-gained g c tells =
-    gained_before c.args.more c.args.self.now c.grow_catalog.new.self (c.in_ok-grow_catalog-in-Some.ensures.volume tells) (c.grow_catalog.ensures.gained tells)
+    let grows = c.in_ok-grow_catalog-in-Some.ensures.volume tells in
+    gained_before (blocks_filled c.args.self.now.catalog.file c.args.more) grows.run c.args.self.now c.grow_catalog.new.self grows.takes (ap (λ (u : Volume). per_block_of u.header) grows.rest) (c.grow_catalog.ensures.gained tells)
 
 pub returns-in_ok-grow_catalog-in-Some-clause-touches : goal.returns-in_ok-grow_catalog-in-Some-clause-touches
 returns-in_ok-grow_catalog-in-Some-clause-touches g c committed =
