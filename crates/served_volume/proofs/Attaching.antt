@@ -1,6 +1,7 @@
 -- A volume that came into service, as serving sees it.
-use Rattle.std.proofs.Common.{◌≡◌, ◌⊎◌, ℕ, inl, inr, length, refl, sym, ◌∙◌, ap, subst}
+use Rattle.std.proofs.Common.{◌≡◌, ◌⊎◌, ℕ, Bool, false, List, inl, inr, length, refl, sym, ◌∙◌, ap, subst}
 use Rattle.std.specs.Prelude.{IsTrue, Option, None}
+use Rattle.std.proofs.lemmas.List.{length-replicate}
 use Rattle.jnl_format.specs.Recovery.{Content}
 use Rattle.sector_disk.specs.Lists.{sector}
 use Rattle.sector_disk.specs.Space.{Space, AgreesOutside}
@@ -38,7 +39,7 @@ attached v capacity now these a b outside tells may looks stands settled fresh =
       known = record {
         stands = stands;
         settled = settled;
-        holds = holds_own v b.content now lists settled;
+        holds = holds_own v b.content now lists settled (ap (λ (l : List Bool). length l) fresh.held ∙ length-replicate (length v.map.used) false);
         was_sound = may.sound;
         capacity_is = fresh.capacity_is;
         shrunk_is = fresh.shrunk;

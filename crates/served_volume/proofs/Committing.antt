@@ -1,6 +1,7 @@
 -- A volume behind a commit.
-use Rattle.std.proofs.Common.{◌≡◌, ◌⊎◌, ◌<◌, ◌≤◌, ℕ, Bool, List, length, refl, sym, ◌∙◌, ap, subst}
+use Rattle.std.proofs.Common.{◌≡◌, ◌⊎◌, ◌<◌, ◌≤◌, ℕ, Bool, false, List, length, refl, sym, ◌∙◌, ap, subst}
 use Rattle.std.specs.Prelude.{All, IsTrue, Option}
+use Rattle.std.proofs.lemmas.List.{length-replicate}
 use Rattle.alloc_bitmap.specs.Untold.{told_none}
 use Rattle.alloc_bitmap.specs.declared.bitmap.Bitmap.{Bitmap}
 use Rattle.flag_rows.specs.Bits.{sectors_for}
@@ -74,7 +75,10 @@ module _ (v w : Volume) (settles : Settles v w) where
         record {
           stands = record { service = service_settled b (service_on v a b sectors known.stands.service); stands = λ _. stands_then };
           settled = settled_then;
-          holds = λ block set. holds_used v a.content now known.alike.lists known.settled w.map.used w.map.held settles.same.used block set;
+          holds = (
+            ap (λ (l : List Bool). length l) settles.held ∙ length-replicate (length v.map.used) false ∙ sym (ap (λ (l : List Bool). length l) settles.same.used),
+            λ block set. holds_used v a.content now known.alike.lists known.settled w.map.used w.map.held settles.same.used block set,
+          );
           was_sound = known.alike.sound;
           capacity_is = settles.same.capacity ∙ known.capacity_is;
           shrunk_is = settles.same.shrunk ∙ known.shrunk_is;

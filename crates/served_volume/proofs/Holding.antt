@@ -24,5 +24,5 @@ holds_used v content now same settled used held is block set =
     ap (λ (l : VolumeState). l.bits) same ∙ ap (λ (l : VolumeState). l.bits) settled.lists in
     inl (ap (λ (l : List Bool). get_or l block false) is ∙ set_in_front v.map.used (8 * v.header.allocation_fork.logical_size - length v.map.used) block (sym (ap (λ (l : List Bool). get_or l block false) bits) ∙ set))
 
-pub holds_own : (v : Volume) (content now : Content) → volume_of now ≡ volume_of content → IsSettled v content → HoldsOn now v
-holds_own v content now same settled = λ block set. holds_used v content now same settled v.map.used v.map.held refl block set
+pub holds_own : (v : Volume) (content now : Content) → volume_of now ≡ volume_of content → IsSettled v content → length v.map.held ≡ length v.map.used → HoldsOn now v
+holds_own v content now same settled long = (long, λ block set. holds_used v content now same settled v.map.used v.map.held refl block set)

@@ -11,9 +11,9 @@ use hx_bytes::Trouble;
 use std::alloc::Global;
 use volume_step::tidy;
 
-/// Whether a line may take a name from a file, so that something is left to reclaim behind it.
+/// Whether a line may take a name from a file, or blocks, so that something is left to reclaim behind it.
 fn takes_name(line: &[u8]) -> bool {
-    line.starts_with(b"rm ")
+    line.starts_with(b"rm ") || line.starts_with(b"trunc ") || line.starts_with(b"write ")
 }
 
 impl Volume for ServedVolume {

@@ -1,20 +1,21 @@
 -- What the drop of an entry costs, and a step that was made behind reads.
-use Rattle.std.proofs.Common.{◌≡◌, ℕ, Bool, true, false, List, [], ◌∷◌, refl, sym, ◌∙◌, ap, subst}
+use Rattle.std.proofs.Common.{◌≡◌, ℕ, Bool, true, false, List, [], ◌∷◌, inl, inr, refl, sym, ◌∙◌, ap, subst}
 use Rattle.std.specs.Prelude.{◌==◌, ◌&&◌, slice_index, IfOk, Option, None, Some, Result, Ok, Err}
 use Rattle.std.proofs.lemmas.Bool.{and_parts, eqb-true, true≢false}
 use Rattle.hx_bytes.specs.declared.faults.Trouble.{Trouble}
 use Rattle.sector_disk.specs.Lists.{Content}
 use Rattle.hfs_language.specs.declared.refusal.Refusal.{Refusal}
 use Rattle.hfs_volume.specs.Content.{volume_of}
-use Rattle.hfs_volume.specs.Cost.{cost_of, cost_or, load_of, plan_of, resource_refusal}
-use Rattle.hfs_volume.specs.Reclaim.{DropAttribute, DropOrphan, reclaim_cost, reclaim_cost_with}
-use Rattle.hfs_volume.specs.Weight.{free_blocks, room_with}
+use Rattle.hfs_volume.specs.Cost.{cost_of, cost_or, load_of, load_refusal, plan_of, resource_refusal}
+use Rattle.hfs_volume.specs.Reclaim.{CutOrphan, CutShrunk, DropAttribute, DropOrphan, Reclaim, reclaim_cost, reclaim_cost_with}
+use Rattle.hfs_volume.specs.Weight.{cut_cost, cut_load, free_blocks, room_with}
 use Rattle.hfs_volume.specs.declared.cost.Cost.{Cost}
 use Rattle.hfs_volume.specs.declared.cost.Cost.TheVariants as cost
 use Rattle.hfs_volume.specs.declared.cost.Needs.{Needs}
 use Rattle.hfs_volume.specs.declared.cost.Room.{Room}
+use Rattle.volume_ops.specs.Cutting.{IsCut}
 use Rattle.volume_ops.specs.Orphans.{AffordsStep, TidiesAs, grows_none}
-use Rattle.volume_ops.specs.Room.{capacity_of, free_in}
+use Rattle.volume_ops.specs.Room.{capacity_of, free_in, room_on}
 use Rattle.volume_ops.specs.Standing.{IsSettled}
 use Rattle.volume_ops.specs.Weighing.{needs_asked}
 use Rattle.volume_ops.specs.declared.room.FreeBlocks.TheVariants as blocks
@@ -72,6 +73,28 @@ pub affords_bare_by : (v : Volume) (content : Content) → IsSettled v content �
     → AffordsStep (capacity_of v) content (DropAttribute id name)
 unfolding reclaim_cost_with
 affords_bare_by v content settled found is none id name = let it = load_by v content settled bare_edits found is none in record { load = it.0; affords = it.1 }
+
+-- ---- cuts
+
+-- what a cut costs by the room that the volume keeps is what it costs by that of the content
+cut_cost_is : (v : Volume) (content : Content) → IsSettled v content → cut_cost (room_on blocks.All v) ≡ cut_cost (room_with (capacity_of v) (free_blocks (volume_of content)) (volume_of content))
+unfolding room_with
+cut_cost_is v content settled = sym (λ i. cut_cost (room_with (capacity_of v) (free_blocks (volume_of content)) (settled.lists i)))
+
+cut_load_by : (refused : Option Refusal) (load : ℕ) (found : Cost) → found ≡ cost_or refused load (0 ∷ 0 ∷ 0 ∷ []) → grows_none found ≡ true → cost_or refused load (0 ∷ 0 ∷ 0 ∷ []) ≡ cost.Load load (0 ∷ 0 ∷ 0 ∷ [])
+cut_load_by None load found is none = refl
+cut_load_by (Some why) load found is none = absurd (true≢false (sym none ∙ ap grows_none is))
+
+cut_steps : (capacity : ℕ) (content : Content) (load : ℕ) → cut_cost (room_with capacity (free_blocks (volume_of content)) (volume_of content)) ≡ cost.Load load (0 ∷ 0 ∷ 0 ∷ []) → (step : Reclaim) → IsCut step → AffordsStep capacity content step
+unfolding reclaim_cost_with
+cut_steps capacity content load is step (inl (id, same)) = record { load = load; affords = ap (reclaim_cost capacity (volume_of content)) same ∙ is }
+cut_steps capacity content load is step (inr (id, kind, same)) = record { load = load; affords = ap (reclaim_cost capacity (volume_of content)) same ∙ is }
+
+pub affords_cut_by : (v : Volume) (content : Content) → IsSettled v content → (found : Cost) → found ≡ cut_cost (room_on blocks.All v) → grows_none found ≡ true → (step : Reclaim) → IsCut step → AffordsStep (capacity_of v) content step
+affords_cut_by v content settled found is none step cut =
+    cut_steps (capacity_of v) content (cut_load (room_with (capacity_of v) (free_blocks (volume_of content)) (volume_of content)))
+    (cut_load_by (load_refusal (cut_load (room_with (capacity_of v) (free_blocks (volume_of content)) (volume_of content))) (room_with (capacity_of v) (free_blocks (volume_of content)) (volume_of content)).capacity)
+    (cut_load (room_with (capacity_of v) (free_blocks (volume_of content)) (volume_of content))) found (is ∙ cut_cost_is v content settled) none) step cut
 
 -- ---- behind reads
 

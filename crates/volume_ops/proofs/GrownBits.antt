@@ -78,20 +78,20 @@ bit_elsewhere sectors a b same k = by (slice_get sectors (k / 4096)) refl
 
 -- ---- the sectors that a run changes
 
-touched_fits : (n : ℕ) (e : Extent) → e.start + e.count ≤ n * 4096 → (touched_by e).start + (touched_by e).count ≤ n
+pub touched_fits : (n : ℕ) (e : Extent) → e.start + e.count ≤ n * 4096 → (touched_by e).start + (touched_by e).count ≤ n
 touched_fits n e fits = ⊎_elim
     (λ none. rw none.0 (omega (arith, fits)))
     (λ some. rw some.0 (omega (arith, fits)))
     (eqb_tells e.count 0)
 
-touched_has : (e : Extent) (k : ℕ) → e.start ≤ k → k < e.start + e.count → has (touched_by e) (k / 4096) ≡ true
+pub touched_has : (e : Extent) (k : ℕ) → e.start ≤ k → k < e.start + e.count → has (touched_by e) (k / 4096) ≡ true
 touched_has e k from to = ⊎_elim
     (λ none. absurd (omega (arith, from, to, none.1)))
     (λ some. has_in (touched_by e) (k / 4096) (omega (arith, from)) (rw some.0 (omega (arith, to, from))))
     (eqb_tells e.count 0)
 
 -- how many flags are set
-set_of : (flags : List Bool) → count_set flags ≤ length flags
+pub set_of : (flags : List Bool) → count_set flags ≤ length flags
 set_of flags = count_by-le-length (λ (flag : Bool). flag) flags
 
 set_cons : (x : Bool) (xs : List Bool) → count_set (x ∷ xs) ≡ cond x 1 0 + count_set xs
@@ -114,7 +114,7 @@ back_none zero n = none_set n
 back_none (suc s) zero = refl
 back_none (suc s) (suc n) = back_none s n
 
-marked_set : (n : ℕ) (e : Extent) → count_set (mark (none n) e true) ≤ e.count
+pub marked_set : (n : ℕ) (e : Extent) → count_set (mark (none n) e true) ≤ e.count
 marked_set n e = omega (
   arith,
   set_append (take e.start (none n)) (replicate e.count true ++ drop (e.start + e.count) (none n)),
@@ -125,13 +125,13 @@ marked_set n e = omega (
   length-replicate e.count true,
 )
 
-few_changed : (xs : List ℕ) (flags : List Bool) → length (changed_of xs flags) ≤ count_set flags
+pub few_changed : (xs : List ℕ) (flags : List Bool) → length (changed_of xs flags) ≤ count_set flags
 few_changed [] flags = omega arith
 few_changed (x ∷ xs) [] = omega arith
 few_changed (x ∷ xs) (true ∷ flags) = omega (arith, few_changed xs flags, set_cons true flags)
 few_changed (x ∷ xs) (false ∷ flags) = omega (arith, few_changed xs flags, set_cons false flags)
 
-touched_few : (e : Extent) → (touched_by e).count ≤ e.count / 4096 + 2
+pub touched_few : (e : Extent) → (touched_by e).count ≤ e.count / 4096 + 2
 touched_few e = ⊎_elim
     (λ none. rw none.0 (omega arith))
     (λ some. rw some.0 (omega arith))

@@ -22,6 +22,14 @@ pub mod Commanding
 pub mod CostSame
 pub mod DataWeights
 pub mod Counted
+pub mod CutCalls
+pub mod CutDone
+pub mod CutForks
+pub mod CutKept
+pub mod CutLists
+pub mod CutSettled
+pub mod CutShrunk
+pub mod CutWhole
 pub mod Dating
 pub mod EditsOn
 pub mod Deepening
@@ -35,6 +43,7 @@ pub mod FilesKept
 pub mod Fitted
 pub mod FoundEntry
 pub mod Gauging
+pub mod GivenBack
 pub mod GrownCan
 pub mod GrownForks
 pub mod GrownAhead
@@ -54,6 +63,7 @@ pub mod GrownWhole
 pub mod HeaderFits
 pub mod HeaderPut
 pub mod Identities
+pub mod KeptUsed
 pub mod Leaving
 pub mod Listed
 pub mod LastFile
@@ -75,6 +85,7 @@ pub mod MoveRoom
 pub mod MoveWeight
 pub mod Moved
 pub mod Mounted
+pub mod NextCut
 pub mod NextDrop
 pub mod NodeIs
 pub mod NodesRead

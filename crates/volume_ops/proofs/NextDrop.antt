@@ -13,7 +13,7 @@ use Rattle.hfs_volume.specs.Blocks.{HasSizes, forks_of}
 use Rattle.hfs_volume.specs.Content.{VolumeState, attributes_of, overflow_in_volume, records_of}
 use Rattle.hfs_volume.specs.Forks.{Owned, all_forks, blocks_owned, data_kind, file_forks, forks_in, resource_kind, special_forks}
 use Rattle.hfs_volume.specs.Links.{is_orphan, orphans_of}
-use Rattle.hfs_volume.specs.Reclaim.{CutOrphan, DropAttribute, DropOrphan, Reclaim, bare_step, first_attribute, has_blocks, least, least_from, next_reclaim, orphan_step, orphan_steps}
+use Rattle.hfs_volume.specs.Reclaim.{CutOrphan, DropAttribute, DropOrphan, Reclaim, bare_step, first_attribute, has_blocks, has_surplus_left, least, least_from, next_reclaim, orphan_step, orphan_steps, shrunk_step}
 use Rattle.hfs_volume.specs.Records.{Attribute, Placed, attribute_of, entries_of, entry_of, id_of}
 use Rattle.hfs_volume.specs.Sound.{IsSoundVolume}
 use Rattle.hfs_volume.specs.Weight.{extents_found, file_blocks, file_fork}
@@ -61,11 +61,11 @@ none_in : (blocks : List ℕ) (many : ℕ) → length blocks ≡ many → (many 
 none_in blocks many is none = ap (λ n. not (n == 0)) is ∙ ap not none
 
 module _ (volume : VolumeState) (sound : IsSoundVolume volume) where
-  fork_stands : (e : Placed) → Contains (entries_of (records_of volume)) e → (owned : Owned) → Contains (forks_in e.value) owned → Contains (forks_of volume) owned
+  pub fork_stands : (e : Placed) → Contains (entries_of (records_of volume)) e → (owned : Owned) → Contains (forks_in e.value) owned → Contains (forks_of volume) owned
   unfolding all_forks
   fork_stands e stands owned has = Contains-append_right (special_forks volume.head) (file_forks (records_of volume)) owned (flat_stands (λ (p : Placed). forks_in p.value) (entries_of (records_of volume)) e owned stands has)
 
-  many_are : (e : Placed) → Contains (entries_of (records_of volume)) e → (owned : Owned) → Contains (forks_in e.value) owned → length (blocks_owned (overflow_in_volume volume) owned) ≡ owned.fork.total_blocks
+  pub many_are : (e : Placed) → Contains (entries_of (records_of volume)) e → (owned : Owned) → Contains (forks_in e.value) owned → length (blocks_owned (overflow_in_volume volume) owned) ≡ owned.fork.total_blocks
   many_are e stands owned has = (each_of (HasSizes volume.head (overflow_in_volume volume)) (forks_of volume) sound.blocks.forks.sizes owned (fork_stands e stands owned has)).blocks
 
   -- a file whose record says so has no blocks
@@ -103,12 +103,12 @@ no_first id attributes none = by (first_attribute attributes id) refl
 
 -- ---- the step
 
-pub next_is_drop : (volume : VolumeState) → IsSoundVolume volume → (shrunk : Option ℕ) → shrunk ≡ None → (id : ℕ) → least (orphans_of (records_of volume)) ≡ Some id → (e : Placed) → Contains (entries_of (records_of volume)) e → id_of e ≡ id
+pub next_is_drop : (volume : VolumeState) → IsSoundVolume volume → (shrunk : Option ℕ) → has_surplus_left volume shrunk ≡ false → (id : ℕ) → least (orphans_of (records_of volume)) ≡ Some id → (e : Placed) → Contains (entries_of (records_of volume)) e → id_of e ≡ id
     → is_blockless e.value ≡ true → length (map (λ (a : Attribute). a.name) (kept (λ (a : Attribute). a.id == id) (map attribute_of volume.attribute_pairs))) ≡ 0 → next_reclaim volume shrunk ≡ Some (DropOrphan id)
 unfolding next_reclaim
 next_is_drop volume sound shrunk unshrunk id lowest e stands is bare none =
     let blocks = blockless_so volume sound e stands e.value refl bare in
-    ap (λ (s : Option ℕ). next_reclaim volume s) unshrunk ∙ ap (orphan_steps volume) lowest
+    ap (λ b. if b then shrunk_step shrunk else orphan_steps volume (least (orphans_of (records_of volume)))) unshrunk ∙ ap (orphan_steps volume) lowest
     ∙ ap Some ((λ i. if ap (λ n. has_blocks (file_blocks volume n data_kind)) (sym is) i then CutOrphan id data_kind else if ap (λ n. has_blocks (file_blocks volume n resource_kind)) (sym is) i then CutOrphan id resource_kind else bare_step id (first_attribute (attributes_of volume) id))
     ∙ (λ i. if blocks.0 i then CutOrphan id data_kind else if blocks.1 i then CutOrphan id resource_kind else bare_step id (no_first id (attributes_of volume) none i)))
 
@@ -124,13 +124,13 @@ first_kept test (x ∷ xs) some = by (λ more. first_kept test xs more) (test x)
     by later true more = (x, refl, refl)
     by later false more = later more
 
-pub next_is_bare : (volume : VolumeState) → IsSoundVolume volume → (shrunk : Option ℕ) → shrunk ≡ None → (id : ℕ) → least (orphans_of (records_of volume)) ≡ Some id → (e : Placed) → Contains (entries_of (records_of volume)) e → id_of e ≡ id
+pub next_is_bare : (volume : VolumeState) → IsSoundVolume volume → (shrunk : Option ℕ) → has_surplus_left volume shrunk ≡ false → (id : ℕ) → least (orphans_of (records_of volume)) ≡ Some id → (e : Placed) → Contains (entries_of (records_of volume)) e → id_of e ≡ id
     → is_blockless e.value ≡ true → (name : List ℕ) → IsFirstName name (map (λ (a : Attribute). a.name) (kept (λ (a : Attribute). a.id == id) (map attribute_of volume.attribute_pairs))) → next_reclaim volume shrunk ≡ Some (DropAttribute id name)
 unfolding next_reclaim
 next_is_bare volume sound shrunk unshrunk id lowest e stands is bare name first =
     let blocks = blockless_so volume sound e stands e.value refl bare in
     let it = first_kept (λ (a : Attribute). a.id == id) (attributes_of volume) first.0 in
-    ap (λ (s : Option ℕ). next_reclaim volume s) unshrunk ∙ ap (orphan_steps volume) lowest
+    ap (λ b. if b then shrunk_step shrunk else orphan_steps volume (least (orphans_of (records_of volume)))) unshrunk ∙ ap (orphan_steps volume) lowest
     ∙ ap Some ((λ i. if ap (λ n. has_blocks (file_blocks volume n data_kind)) (sym is) i then CutOrphan id data_kind else if ap (λ n. has_blocks (file_blocks volume n resource_kind)) (sym is) i then CutOrphan id resource_kind else bare_step id (first_attribute (attributes_of volume) id))
     ∙ (λ i. if blocks.0 i then CutOrphan id data_kind else if blocks.1 i then CutOrphan id resource_kind else bare_step id (it.1 i))
     ∙ ap (DropAttribute id) (sym it.2 ∙ sym first.1))

@@ -1,5 +1,5 @@
 -- The file with the least CNID of those that wait, as it is found by its CNID, is the one whose entry the next step of reclaiming drops.
-use Rattle.std.proofs.Common.{◌≡◌, ◌≤◌, ℕ, true, List, length, refl, sym, ◌∙◌, ap, subst}
+use Rattle.std.proofs.Common.{◌≡◌, ◌≤◌, ℕ, true, false, List, length, refl, sym, ◌∙◌, ap, subst}
 use Rattle.std.specs.Prelude.{Contains, IfOk, IfSome, Option, None, Some, Result, Ok, Err, map}
 use Rattle.hx_bytes.specs.declared.faults.Trouble.{Trouble}
 use Rattle.sector_disk.specs.Lists.{Content}
@@ -14,7 +14,7 @@ use Rattle.catalog.specs.declared.folder.Child.{Child}
 use Rattle.cat_records.specs.declared.record.CatRecord.{CatRecord}
 use Rattle.hfs_volume.specs.Content.{VolumeState, records_of, volume_of}
 use Rattle.hfs_volume.specs.Links.{is_orphan, orphans_of, private_id}
-use Rattle.hfs_volume.specs.Reclaim.{DropAttribute, DropOrphan, least, next_reclaim}
+use Rattle.hfs_volume.specs.Reclaim.{DropAttribute, DropOrphan, has_surplus_left, least, next_reclaim}
 use Rattle.hfs_volume.specs.Reclaiming.{DropIsOfBareOrphan, IsBareOrphan}
 use Rattle.hfs_volume.specs.Records.{Placed, entries_of, id_of, placed_in}
 use Rattle.hfs_volume.proofs.Flat.{some_same}
@@ -39,7 +39,7 @@ waiting_found v content settled private has list listed looked same (Some id) is
     least_found (volume_of content).catalog_pairs private id (sym settled.private ∙ has)
     (ap (λ (l : List Child). least_clear (searched unsearched l)) (ap (children_in private) (ap (λ (l : VolumeState). l.catalog_pairs) settled.lists) ∙ sym listed ∙ sym same) ∙ sym is)
 
-module _ (v : Volume) (content : Content) (holds : HoldsTrees v content) (settled : IsSettled v content) (id : ℕ) (lowest : least (orphans_of (records_of (volume_of content))) ≡ Some id) (law : DropIsOfBareOrphan) (shrunk : Option ℕ) (unshrunk : shrunk ≡ None) where
+module _ (v : Volume) (content : Content) (holds : HoldsTrees v content) (settled : IsSettled v content) (id : ℕ) (lowest : least (orphans_of (records_of (volume_of content))) ≡ Some id) (law : DropIsOfBareOrphan) (shrunk : Option ℕ) (unshrunk : has_surplus_left (volume_of content) shrunk ≡ false) where
   found : (e : Placed) × Contains (orphans_of (records_of (volume_of content))) e × (id_of e ≡ id)
   found = least_is (orphans_of (records_of (volume_of content))) id lowest
 

@@ -8,6 +8,7 @@ use Rattle.flag_rows.specs.Bits.{sectors_for}
 use Rattle.alloc_bitmap.specs.Map.{BlockMap, none}
 use Rattle.volume_ops.specs.Growing.{IsOwnOrFree}
 use Rattle.volume_ops.specs.Keeping.{Keeps}
+use Rattle.volume_ops.specs.Lists.{lists_of}
 use Rattle.volume_ops.specs.Service.{IsInService}
 use Rattle.volume_ops.specs.Standing.{HoldsOn, IsSettled, IsStanding, StandsOver}
 use Rattle.volume_ops.specs.Touching.{Touches}
@@ -76,6 +77,10 @@ module _ (v w : Volume) (keeps : Keeps v w) where
     kept = w.kept;
   }
 
+  -- its lists
+  pub lists_kept : (content : Content) → lists_of w content ≡ lists_of v content
+  lists_kept content = ap (λ (u : Volume). lists_of u content) (sym is_marked)
+
   marks_kept : (space : Space) → IsInService v space → w.map.changed ≡ none (sectors_for (length v.map.used))
   marks_kept space was = keeps.changed ∙ ap none was.marks
 
@@ -98,7 +103,7 @@ module _ (v w : Volume) (keeps : Keeps v w) where
   settled_kept space was = subst (λ (u : Volume). IsSettled u space.content) is_marked (settled_marked w.map.changed w.map.kept_used w.map.kept_held w.kept v space space.content was)
 
   pub holds_kept : (committed : Content) → HoldsOn committed v → HoldsOn committed w
-  holds_kept committed was = subst (λ (u : Volume). HoldsOn committed u) is_marked (λ block set. was block set)
+  holds_kept committed was = subst (λ (u : Volume). HoldsOn committed u) is_marked (was.0, λ block set. was.1 block set)
 
   pub free_kept : (s : ℕ) → IsOwnOrFree w s → IsOwnOrFree v s
   free_kept s is = back (subst (λ (u : Volume). IsOwnOrFree u s) (sym is_marked) is)

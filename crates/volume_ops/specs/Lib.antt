@@ -1,5 +1,6 @@
 pub mod Attributing
 pub mod Changing
+pub mod Cutting
 pub mod Dropping
 pub mod Entering
 pub mod Fitting

@@ -18,6 +18,7 @@ use Rattle.hfs_volume.specs.TreeOf.{tree_of}
 use Rattle.hfs_volume.specs.declared.cost.Cost.{Cost}
 use Rattle.hfs_volume.specs.declared.cost.Cost.TheVariants as cost
 use Rattle.volume_ops.specs.Changing.{ChangesCatalog}
+use Rattle.volume_ops.specs.Cutting.{CutsFile}
 use Rattle.volume_ops.specs.Lists.{lists_of}
 use Rattle.volume_ops.specs.declared.entries.Entry.{Entry}
 use Rattle.volume_ops.specs.declared.orphans.Search.{Search}
@@ -155,8 +156,13 @@ pub record HasBared (capacity : ℕ) (shrunk : Option ℕ) (before after : Conte
   pub waiting : BaresWaiting shrunk before after
   pub affords : AffordsStep capacity before (DropAttribute waiting.id waiting.name)
 
+-- It was made, and cut a fork.
+pub record HasCut (capacity : ℕ) (shrunk : Option ℕ) (before after : Content) : Type 0 where
+  pub cuts : CutsFile shrunk before after
+  pub affords : AffordsStep capacity before cuts.step
+
 -- the next step of reclaiming was made, or nothing was changed
 abbrev pub TidiesAs : Tidying → ℕ → Option ℕ → Content → Content → Type 0
 TidiesAs tidying.Rest capacity shrunk before after = after ≡ before
-TidiesAs tidying.Made capacity shrunk before after = HasDropped capacity shrunk before after ⊎ HasBared capacity shrunk before after
+TidiesAs tidying.Made capacity shrunk before after = HasDropped capacity shrunk before after ⊎ (HasBared capacity shrunk before after ⊎ HasCut capacity shrunk before after)
 TidiesAs tidying.CommitFirst capacity shrunk before after = after ≡ before

@@ -117,6 +117,6 @@ pub record IsSettled (volume : Volume) (content : Content) : Type 0 where
   pub sound : IsSoundVolume (volume_of content)
   pub private : volume.private ≡ private_id (records_of (volume_of content))
 
--- each block that a content has in use is in use or held now
+-- for each block it is kept whether it is held, and each one that a content has in use is in use or held now
 abbrev pub HoldsOn : Content → Volume → Type 0
-HoldsOn committed volume = (block : ℕ) → is_set (volume_of committed) block ≡ true → (slice_index_or volume.map.used block false ≡ true) ⊎ (slice_index_or volume.map.held block false ≡ true)
+HoldsOn committed volume = (length volume.map.held ≡ length volume.map.used) × ((block : ℕ) → is_set (volume_of committed) block ≡ true → (slice_index_or volume.map.used block false ≡ true) ⊎ (slice_index_or volume.map.held block false ≡ true))

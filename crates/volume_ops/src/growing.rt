@@ -50,7 +50,7 @@ fn extent_or_none(extents: &[Extent], at: usize) -> Extent
 }
 
 /// The first eight extents of a list, with unused ones where it has fewer.
-fn first_eight(extents: &[Extent]) -> ExtentRecord
+pub(crate) fn first_eight(extents: &[Extent]) -> ExtentRecord
     ensures same { result ≡ eight_at extents.now 0 }
     ensures fits { FitsExtents result }
 {
@@ -132,6 +132,7 @@ impl Volume {
         ensures unchanged { IsTrue (P.SectorView.space space.old).tells → OnOk result (HoldsUnchanged self.new (P.SectorView.space space.new).content) }
         ensures marks { OnOk result (length self.new.map.changed ≡ sectors_for (length self.new.map.used)) }
         ensures held { self.new.map.held ≡ self.old.map.held }
+        ensures size { length self.new.map.used ≡ length self.old.map.used }
         ensures still { (k : ℕ) → slice_index_or self.old.map.used k false ≡ true → slice_index_or self.new.map.used k false ≡ true }
         ensures same { (self.new.private ≡ self.old.private) × (self.new.shrunk ≡ self.old.shrunk) × (self.new.capacity ≡ self.old.capacity) }
         ensures own { IsTrue (P.SectorView.space space.old).tells → (s : ℕ) → Contains (own_sectors self.old) s → Contains (own_sectors self.new) s }

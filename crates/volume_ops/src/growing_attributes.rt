@@ -63,6 +63,7 @@ impl Volume {
         ensures unchanged { IsTrue (P.SectorView.space space.old).tells → OnOk result (HoldsUnchanged self.new (P.SectorView.space space.new).content) }
         ensures marks { OnOk result (length self.new.map.changed ≡ sectors_for (length self.new.map.used)) }
         ensures held { self.new.map.held ≡ self.old.map.held }
+        ensures size { length self.new.map.used ≡ length self.old.map.used }
         ensures still { (k : ℕ) → slice_index_or self.old.map.used k false ≡ true → slice_index_or self.new.map.used k false ≡ true }
         ensures same { (self.new.private ≡ self.old.private) × (self.new.shrunk ≡ self.old.shrunk) × (self.new.capacity ≡ self.old.capacity) }
         ensures own { IsTrue (P.SectorView.space space.old).tells → (s : ℕ) → Contains (own_sectors self.old) s → Contains (own_sectors self.new) s }

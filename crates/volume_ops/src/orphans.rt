@@ -84,7 +84,7 @@ fn is_clear(name: &[u16]) -> bool
 }
 
 /// Whether the fields are those of a further name of a file.
-fn is_link(fields: &EntryFields) -> bool
+pub(crate) fn is_link(fields: &EntryFields) -> bool
     ensures { result ≡ is_link_type fields.now }
 {
     read_be32(fields.finder.as_slice(), 0) == LINK_TYPE

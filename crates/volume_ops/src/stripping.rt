@@ -1,5 +1,5 @@
 //! An attribute of a file that lost its last name, dropped.
-ghost use Rattle.std.specs.Prelude.{◌≡◌, ◌≤◌, ℕ, true, Option, Some, None, IsTrue, IfOk, IfSome, length, List, OnOk};
+ghost use Rattle.std.specs.Prelude.{◌≡◌, ◌≤◌, ℕ, true, false, Option, Some, IsTrue, IfOk, IfSome, length, List, OnOk};
 ghost use Rattle.std.specs.List.{Contains};
 ghost use Rattle.sector_disk.specs.Lists.{Content};
 ghost use Rattle.attributes.specs.Owned.{names_of};
@@ -7,9 +7,10 @@ ghost use Rattle.btree_edit.specs.Causes.{HasTroubleCause};
 ghost use Rattle.btree_file.specs.Standing.{numbers_of};
 ghost use Rattle.hfs_volume.specs.Content.{has_attributes, records_of, volume_of};
 ghost use Rattle.hfs_volume.specs.Links.{orphans_of};
-ghost use Rattle.hfs_volume.specs.Reclaim.{DropAttribute, least, next_reclaim};
+ghost use Rattle.hfs_volume.specs.Reclaim.{DropAttribute, has_surplus_left, least, next_reclaim};
 ghost use Rattle.volume_ops.specs.Attributing.{HasRoomToMark};
 ghost use Rattle.volume_ops.specs.Changing.{KeepsBlocks};
+ghost use Rattle.volume_ops.specs.Cutting.{KeepsUsed};
 ghost use Rattle.volume_ops.specs.Keeping.{shrunk_of};
 ghost use Rattle.volume_ops.specs.Lists.{lists_of};
 ghost use Rattle.volume_ops.specs.Looking.{ReadsVolume};
@@ -83,7 +84,7 @@ impl Volume {
         requires stands { StandsOver self.old (P.SectorView.space space.old) }
         requires settled { IsTrue (P.SectorView.space space.old).tells → IsSettled self.old (P.SectorView.space space.old).content }
         requires lowest { IsTrue (P.SectorView.space space.old).tells → least (orphans_of (records_of (volume_of (P.SectorView.space space.old).content))) ≡ Some id }
-        ensures found { IsTrue (P.SectorView.space space.old).tells → (shrunk : Option ℕ) → shrunk ≡ None → IfOk result (λ found. IfSome found (λ name. next_reclaim (volume_of (P.SectorView.space space.old).content) shrunk ≡ Some (DropAttribute id name))) }
+        ensures found { IsTrue (P.SectorView.space space.old).tells → (shrunk : Option ℕ) → has_surplus_left (volume_of (P.SectorView.space space.old).content) shrunk ≡ false → IfOk result (λ found. IfSome found (λ name. next_reclaim (volume_of (P.SectorView.space space.old).content) shrunk ≡ Some (DropAttribute id name))) }
         ensures reads { ReadsVolume self.old self.new (P.SectorView.space space.old) (P.SectorView.space space.new) }
         ensures stands { StandsOver self.new (P.SectorView.space space.new) }
         ensures settled { IsTrue (P.SectorView.space space.old).tells → IsSettled self.new (P.SectorView.space space.new).content }
@@ -195,19 +196,19 @@ impl Volume {
         requires stands { StandsOver self.old (P.SectorView.space space.old) }
         requires settled { IsTrue (P.SectorView.space space.old).tells → IsSettled self.old (P.SectorView.space space.old).content }
         requires lowest { IsTrue (P.SectorView.space space.old).tells → least (orphans_of (records_of (volume_of (P.SectorView.space space.old).content))) ≡ Some id }
-        requires unshrunk { shrunk_of self.old ≡ None }
+        requires kept { IsTrue (P.SectorView.space space.old).tells → has_surplus_left (volume_of (P.SectorView.space space.old).content) (shrunk_of self.old) ≡ false }
         ensures tidied { IsTrue (P.SectorView.space space.old).tells → IfOk result (λ came. TidiesAs came (capacity_of self.old) (shrunk_of self.old) (P.SectorView.space space.old).content (P.SectorView.space space.new).content) }
         ensures stands { OnOk result (StandsOver self.new (P.SectorView.space space.new)) }
         ensures settled { IsTrue (P.SectorView.space space.old).tells → OnOk result (IsSettled self.new (P.SectorView.space space.new).content) }
         ensures service { IsInService self.new (P.SectorView.space space.new) }
-        ensures blocks { KeepsBlocks self.old self.new }
+        ensures used { KeepsUsed self.old self.new }
         ensures touches { (committed : Content) → Touches committed (λ s. Contains (own_sectors self.old) s) (P.SectorView.space space.old) (P.SectorView.space space.new) }
         ensures below { P.SectorView.follows space.old space.new }
         ensures cause { HasTroubleCause (P.SectorView.space space.old).faults (P.SectorView.space space.new).faults result }
     {
         match self.next_owned(alloc, space, id)? {
             Some(name) => self.tidy_attribute(alloc, space, id, &name),
-            None => Ok(Tidying::Rest),
+            None => self.tidy_blocks(alloc, space, id),
         }
     }
 }

@@ -1,5 +1,5 @@
-//! Housekeeping: the next step of reclaiming for a file that lost its last name and has no blocks.
-ghost use Rattle.std.specs.Prelude.{◌≡◌, ◌≤◌, ℕ, true, Option, Some, None, IsTrue, IfOk, IfSome, length, OnOk};
+//! Housekeeping: the next step of reclaiming.
+ghost use Rattle.std.specs.Prelude.{◌≡◌, ◌≤◌, ℕ, true, false, Option, Some, IsTrue, IfOk, IfSome, length, OnOk};
 ghost use Rattle.std.specs.List.{Contains};
 ghost use Rattle.sector_disk.specs.Lists.{Content};
 ghost use Rattle.attributes.specs.Owned.{names_of};
@@ -7,8 +7,9 @@ ghost use Rattle.btree_edit.specs.Causes.{HasTroubleCause};
 ghost use Rattle.catalog.specs.Children.{children_in};
 ghost use Rattle.hfs_volume.specs.Content.{records_of, volume_of};
 ghost use Rattle.hfs_volume.specs.Links.{orphans_of};
-ghost use Rattle.hfs_volume.specs.Reclaim.{DropOrphan, least};
+ghost use Rattle.hfs_volume.specs.Reclaim.{DropOrphan, has_surplus_left, least};
 ghost use Rattle.volume_ops.specs.Changing.{KeepsBlocks};
+ghost use Rattle.volume_ops.specs.Cutting.{KeepsUsed};
 ghost use Rattle.volume_ops.specs.Keeping.{shrunk_of};
 ghost use Rattle.volume_ops.specs.Lists.{lists_of};
 ghost use Rattle.volume_ops.specs.Looking.{ReadsVolume};
@@ -140,7 +141,7 @@ impl Volume {
         requires stands { StandsOver self.old (P.SectorView.space space.old) }
         requires settled { IsTrue (P.SectorView.space space.old).tells → IsSettled self.old (P.SectorView.space space.old).content }
         requires lowest { IsTrue (P.SectorView.space space.old).tells → least (orphans_of (records_of (volume_of (P.SectorView.space space.old).content))) ≡ Some id }
-        ensures found { IsTrue (P.SectorView.space space.old).tells → (shrunk : Option ℕ) → shrunk ≡ None → IfOk result (λ found. IfSome found (IsToDrop shrunk (P.SectorView.space space.old).content)) }
+        ensures found { IsTrue (P.SectorView.space space.old).tells → (shrunk : Option ℕ) → has_surplus_left (volume_of (P.SectorView.space space.old).content) shrunk ≡ false → IfOk result (λ found. IfSome found (IsToDrop shrunk (P.SectorView.space space.old).content)) }
         ensures name { IfOk result (λ found. IfSome found (λ entry. length entry.name ≤ 255)) }
         ensures reads { ReadsVolume self.old self.new (P.SectorView.space space.old) (P.SectorView.space space.new) }
         ensures stands { StandsOver self.new (P.SectorView.space space.new) }
@@ -217,12 +218,12 @@ impl Volume {
         requires stands { StandsOver self.old (P.SectorView.space space.old) }
         requires settled { IsTrue (P.SectorView.space space.old).tells → IsSettled self.old (P.SectorView.space space.old).content }
         requires lowest { IsTrue (P.SectorView.space space.old).tells → least (orphans_of (records_of (volume_of (P.SectorView.space space.old).content))) ≡ Some id }
-        requires unshrunk { shrunk_of self.old ≡ None }
+        requires kept { IsTrue (P.SectorView.space space.old).tells → has_surplus_left (volume_of (P.SectorView.space space.old).content) (shrunk_of self.old) ≡ false }
         ensures tidied { IsTrue (P.SectorView.space space.old).tells → IfOk result (λ came. TidiesAs came (capacity_of self.old) (shrunk_of self.old) (P.SectorView.space space.old).content (P.SectorView.space space.new).content) }
         ensures stands { OnOk result (StandsOver self.new (P.SectorView.space space.new)) }
         ensures settled { IsTrue (P.SectorView.space space.old).tells → OnOk result (IsSettled self.new (P.SectorView.space space.new).content) }
         ensures service { IsInService self.new (P.SectorView.space space.new) }
-        ensures blocks { KeepsBlocks self.old self.new }
+        ensures used { KeepsUsed self.old self.new }
         ensures touches { (committed : Content) → Touches committed (λ s. Contains (own_sectors self.old) s) (P.SectorView.space space.old) (P.SectorView.space space.new) }
         ensures below { P.SectorView.follows space.old space.new }
         ensures cause { HasTroubleCause (P.SectorView.space space.old).faults (P.SectorView.space space.new).faults result }
@@ -233,20 +234,20 @@ impl Volume {
         }
     }
 
-    /// The next step, where no file was shrunk since the mount.
-    fn tidy_unshrunk<P: SectorSpace>(
+    /// The next step, where the file that was shrunk last has no blocks past its size.
+    pub(crate) fn tidy_unshrunk<P: SectorSpace>(
         &mut self,
         alloc: Global,
         space: &mut P,
     ) -> Result<Tidying, Trouble>
         requires stands { StandsOver self.old (P.SectorView.space space.old) }
         requires settled { IsTrue (P.SectorView.space space.old).tells → IsSettled self.old (P.SectorView.space space.old).content }
-        requires unshrunk { shrunk_of self.old ≡ None }
+        requires kept { IsTrue (P.SectorView.space space.old).tells → has_surplus_left (volume_of (P.SectorView.space space.old).content) (shrunk_of self.old) ≡ false }
         ensures tidied { IsTrue (P.SectorView.space space.old).tells → IfOk result (λ came. TidiesAs came (capacity_of self.old) (shrunk_of self.old) (P.SectorView.space space.old).content (P.SectorView.space space.new).content) }
         ensures stands { OnOk result (StandsOver self.new (P.SectorView.space space.new)) }
         ensures settled { IsTrue (P.SectorView.space space.old).tells → OnOk result (IsSettled self.new (P.SectorView.space space.new).content) }
         ensures service { IsInService self.new (P.SectorView.space space.new) }
-        ensures blocks { KeepsBlocks self.old self.new }
+        ensures used { KeepsUsed self.old self.new }
         ensures touches { (committed : Content) → Touches committed (λ s. Contains (own_sectors self.old) s) (P.SectorView.space space.old) (P.SectorView.space space.new) }
         ensures below { P.SectorView.follows space.old space.new }
         ensures cause { HasTroubleCause (P.SectorView.space space.old).faults (P.SectorView.space space.new).faults result }
@@ -257,10 +258,11 @@ impl Volume {
         }
     }
 
-    /// Makes the next step of reclaiming for a file that lost its last name and has no blocks any more: it drops the first of its
-    /// attributes, or its entry. Each other step is still to come: it is left, and so is all that comes behind it. Where no file was
-    /// shrunk since the mount, and each name of the private folder that begins with `temp` has nothing but a number of nineteen digits
-    /// or fewer behind it, the step is found. `Memory` comes where memory is wanting, `Disk` where a read failed.
+    /// Makes the next step of reclaiming: it cuts the file that was shrunk last where that has blocks past its size, or, of the file with
+    /// the least CNID of those that lost their last name, a fork, or drops the first of its attributes, or its entry. A cut is of one
+    /// extent, or of its last 32,768 blocks. It is still to come for a fork whose record has eight extents, and where a name of the
+    /// private folder begins with `temp` and has anything but a number of nineteen digits or fewer behind it. `Memory` comes where memory
+    /// is wanting, `Disk` where a read failed.
     pub fn tidy<P: SectorSpace>(&mut self, alloc: Global, space: &mut P) -> Result<Tidying, Trouble>
         requires stands { StandsOver self.old (P.SectorView.space space.old) }
         requires settled { IsTrue (P.SectorView.space space.old).tells → IsSettled self.old (P.SectorView.space space.old).content }
@@ -269,15 +271,15 @@ impl Volume {
         ensures stands { OnOk result (StandsOver self.new (P.SectorView.space space.new)) }
         ensures settled { IsTrue (P.SectorView.space space.old).tells → OnOk result (IsSettled self.new (P.SectorView.space space.new).content) }
         ensures service { IsInService self.new (P.SectorView.space space.new) }
-        // The blocks in use are as they were, and so are the file shrunk last and the capacity.
-        ensures blocks { KeepsBlocks self.old self.new }
+        // No block that a content has in use is lost, and the file shrunk last and the capacity are as they were.
+        ensures used { KeepsUsed self.old self.new }
         // On a fault too, it puts sectors of its own alone, whatever was committed last.
         ensures touches { (committed : Content) → Touches committed (λ s. Contains (own_sectors self.old) s) (P.SectorView.space space.old) (P.SectorView.space space.new) }
         ensures below { P.SectorView.follows space.old space.new }
         ensures cause { HasTroubleCause (P.SectorView.space space.old).faults (P.SectorView.space space.new).faults result }
     {
         match self.shrunk {
-            Some(_file) => Ok(Tidying::Rest),
+            Some(id) => self.tidy_surplus(alloc, space, id),
             None => self.tidy_unshrunk(alloc, space),
         }
     }

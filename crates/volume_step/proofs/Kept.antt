@@ -1,5 +1,5 @@
 -- What commands that put no data keep of a volume: the blocks of each fork, the nodes of each tree, the journal's place, and what the header says of the volume.
-use Rattle.std.proofs.Common.{◌≡◌, ℕ, ◌+◌, ◌*◌, ◌/◌, List, [], ◌∷◌, ◌++◌, length, take, refl, sym, ◌∙◌, ap, subst, arith}
+use Rattle.std.proofs.Common.{◌≡◌, ℕ, ◌+◌, ◌*◌, ◌/◌, List, [], ◌∷◌, ◌++◌, length, take, inl, inr, refl, sym, ◌∙◌, ap, subst, arith}
 use Rattle.std.specs.Prelude.{find}
 use Rattle.std.proofs.Math.Nat.{div-le_self}
 use Rattle.std.proofs.lemmas.List.{take_all}
@@ -15,6 +15,7 @@ use Rattle.hfs_volume.specs.Forks.{all_forks, data_kind, file_forks, special_for
 use Rattle.hfs_volume.specs.Reclaim.{GrowsBy, GrowsTrees, blocks_at, blocks_found, is_fork}
 use Rattle.hfs_volume.proofs.Making.{placed_splits}
 use Rattle.hfs_volume.proofs.Swapping.{Splits}
+use Rattle.volume_ops.specs.Cutting.{KeepsTrees}
 use Rattle.volume_step.proofs.Forks.{forks_swapped}
 
 -- what stays of a volume's lists
@@ -70,6 +71,14 @@ grows_none old new keeps = record {
   extents = record { nodes = omega (arith, keeps.extents); blocks = grows_by _ _ _ (nothing old.extents_tree.shape.node_size old.head.block_size) (keeps.blocks extents_id data_kind) };
   catalog = record { nodes = omega (arith, keeps.catalog); blocks = grows_by _ _ _ (nothing old.catalog_tree.shape.node_size old.head.block_size) (keeps.blocks catalog_id data_kind) };
   attributes = record { nodes = omega (arith, keeps.attributes); blocks = grows_by _ _ _ (nothing old.attributes_tree.shape.node_size old.head.block_size) (keeps.blocks attributes_id data_kind) };
+}
+
+-- what a cut leaves of the trees
+pub cut_grows_none : (old new : VolumeState) → KeepsTrees old new → GrowsTrees (0 ∷ 0 ∷ 0 ∷ []) old new
+cut_grows_none old new keeps = record {
+  extents = record { nodes = omega (arith, keeps.extents); blocks = grows_by _ _ _ (nothing old.extents_tree.shape.node_size old.head.block_size) (keeps.forks extents_id data_kind (inl refl)) };
+  catalog = record { nodes = omega (arith, keeps.catalog); blocks = grows_by _ _ _ (nothing old.catalog_tree.shape.node_size old.head.block_size) (keeps.forks catalog_id data_kind (inr (inl refl))) };
+  attributes = record { nodes = omega (arith, keeps.attributes); blocks = grows_by _ _ _ (nothing old.attributes_tree.shape.node_size old.head.block_size) (keeps.forks attributes_id data_kind (inr (inr refl))) };
 }
 
 -- ---- changes of records

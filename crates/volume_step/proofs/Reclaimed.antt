@@ -18,7 +18,11 @@ use Rattle.hfs_volume.proofs.Hiding.{one_there}
 use Rattle.hfs_volume.proofs.Seeing.{same_number}
 use Rattle.hfs_volume.proofs.Sides.{OneMore, count_more, entry_is_named, one_more}
 use Rattle.hfs_volume.specs.Laws.{IsShaped, SoundIsBoth, one_if}
-use Rattle.volume_ops.specs.Orphans.{HasBared, HasDropped, TidiesAs}
+use Rattle.volume_header.specs.declared.header.VolumeHeader.{VolumeHeader}
+use Rattle.volume_header.specs.Refusal.{is_locked}
+use Rattle.std.specs.Int.{bit_at}
+use Rattle.volume_ops.specs.Cutting.{KeepsTrees}
+use Rattle.volume_ops.specs.Orphans.{HasBared, HasCut, HasDropped, TidiesAs}
 use Rattle.volume_ops.proofs.OrphanFacts.{each_none, high, stands}
 use Rattle.volume_ops.specs.declared.tidying.Tidying.{Tidying}
 use Rattle.volume_ops.specs.declared.tidying.Tidying.TheVariants as tidying
@@ -26,7 +30,7 @@ use Rattle.volume_step.specs.Steps.{KeepsJournal}
 use Rattle.volume_step.specs.Tidying.{ReclaimsAs}
 use Rattle.volume_step.proofs.Done.{same_place}
 use Rattle.volume_step.proofs.Forks.{found_more}
-use Rattle.volume_step.proofs.Kept.{Keeps, attributes_keep, catalog_keeps, fields_keep, grows_none, keeps_both}
+use Rattle.volume_step.proofs.Kept.{Keeps, attributes_keep, catalog_keeps, cut_grows_none, fields_keep, grows_none, keeps_both}
 use Rattle.volume_step.proofs.Served.{journal_kept}
 
 -- ---- what stays
@@ -77,6 +81,26 @@ module _ (id : ℕ) (old new : VolumeState) (sound : IsSoundVolume old) (shaped 
       (keeps_both (one_file_less old) does.dropped new (catalog_keeps (one_file_less old) does.dropped does.drops.rest does.drops.nodes dropped_blocks)
       (fields_keep does.entry.parent (IsRecounted 0 1) does.dropped new does.loses))
 
+-- ---- a cut
+
+cut_place : (before after : Content) → KeepsTrees (volume_of before) (volume_of after) → KeepsJournal before after
+unfolding volume_of
+cut_place before after keeps = record {
+  journal = keeps.journal;
+  locked = ap (λ (h : VolumeHeader). is_locked h.attributes) keeps.head;
+  heading = record {
+    signature = ap (λ (h : VolumeHeader). h.signature) keeps.head;
+    version = ap (λ (h : VolumeHeader). h.version) keeps.head;
+    last_mounted = ap (λ (h : VolumeHeader). h.last_mounted_version) keeps.head;
+    info_block = ap (λ (h : VolumeHeader). h.journal_info_block) keeps.head;
+    block_size = ap (λ (h : VolumeHeader). h.block_size) keeps.head;
+    total_blocks = ap (λ (h : VolumeHeader). h.total_blocks) keeps.head;
+    bit_12 = ap (λ (h : VolumeHeader). bit_at h.attributes 12) keeps.head;
+    bit_13 = ap (λ (h : VolumeHeader). bit_at h.attributes 13) keeps.head;
+    bit_15 = ap (λ (h : VolumeHeader). bit_at h.attributes 15) keeps.head;
+  };
+}
+
 -- ---- the step
 
 module _ (halves : (volume : VolumeState) → SoundIsBoth volume) (capacity : ℕ) (shrunk : Option ℕ) (before after : Content) (sound : IsSoundVolume (volume_of before)) (sound_after : IsSound after) where
@@ -110,13 +134,27 @@ module _ (halves : (volume : VolumeState) → SoundIsBoth volume) (capacity : �
     keeps = record { sound = sound_after; tree = was.waiting.tree };
   }
 
-  reclaimed : HasDropped capacity shrunk before after ⊎ HasBared capacity shrunk before after → Reclaims capacity shrunk before after
-  reclaimed (inl was) = dropped was
-  reclaimed (inr was) = bared was
+  cut : HasCut capacity shrunk before after → Reclaims capacity shrunk before after
+  cut was = record {
+    step = was.cuts.step;
+    next = was.cuts.next;
+    load = was.affords.load;
+    grow = 0 ∷ 0 ∷ 0 ∷ [];
+    affords = was.affords.affords;
+    grows = cut_grows_none (volume_of before) (volume_of after) was.cuts.keeps;
+    does = was.cuts.does;
+    keeps = record { sound = sound_after; tree = was.cuts.tree };
+  }
 
-  placed : HasDropped capacity shrunk before after ⊎ HasBared capacity shrunk before after → KeepsJournal before after
+  reclaimed : HasDropped capacity shrunk before after ⊎ (HasBared capacity shrunk before after ⊎ HasCut capacity shrunk before after) → Reclaims capacity shrunk before after
+  reclaimed (inl was) = dropped was
+  reclaimed (inr (inl was)) = bared was
+  reclaimed (inr (inr was)) = cut was
+
+  placed : HasDropped capacity shrunk before after ⊎ (HasBared capacity shrunk before after ⊎ HasCut capacity shrunk before after) → KeepsJournal before after
   placed (inl was) = journal_kept before after (dropped_keeps was)
-  placed (inr was) = journal_kept before after (bared_keeps was)
+  placed (inr (inl was)) = journal_kept before after (bared_keeps was)
+  placed (inr (inr was)) = cut_place before after was.cuts.keeps
 
 module _ (halves : (volume : VolumeState) → SoundIsBoth volume) (capacity : ℕ) (shrunk : Option ℕ) (before after : Content) (sound : IsSoundVolume (volume_of before)) where
   pub reclaims_as : (r : Result Tidying Trouble) → OnOk r (IsSound after) → IfOk r (λ (came : Tidying). TidiesAs came capacity shrunk before after) → IfOk r (λ (came : Tidying). ReclaimsAs came capacity shrunk before after)

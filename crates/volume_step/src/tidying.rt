@@ -17,8 +17,9 @@ use sector_disk::SectorSpace;
 use std::alloc::Global;
 use volume_ops::{Tidying, Volume};
 
-/// Makes the next step of reclaiming for a file that lost its last name and has no blocks any more: it drops the first of its
-/// attributes, or its entry; each other step is still to come. `Memory` comes where memory is wanting, `Disk` where a read failed.
+/// Makes the next step of reclaiming: it cuts the file that was shrunk last where that has blocks past its size, or, of the file with
+/// the least CNID of those that lost their last name, a fork, or drops the first of its attributes, or its entry. A cut of a fork whose
+/// record has eight extents is still to come. `Memory` comes where memory is wanting, `Disk` where a read failed.
 pub fn tidy<P: SectorSpace>(
     alloc: Global,
     volume: &mut Volume,

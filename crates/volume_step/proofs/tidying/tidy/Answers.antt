@@ -5,7 +5,6 @@ use Rattle.volume_ops.specs.Room.{capacity_of}
 use Rattle.volume_ops.specs.Standing.{IsSettled, StandsOver}
 use Rattle.volume_ops.proofs.FoundEntry.{ok_both}
 use Rattle.volume_ops.proofs.Sounding.{sound_here}
-use Rattle.volume_step.proofs.Done.{holds_kept}
 use Rattle.volume_step.proofs.Reclaimed.{places_as, reclaims_as}
 use Rattle.volume_step.proofs.tidying.tidy.Goals as goal
 
@@ -28,4 +27,4 @@ returns-clause-place g c tells =
     (c.tidy.ensures.tidied tells)
 
 pub returns-clause-holds : goal.returns-clause-holds
-returns-clause-holds g c committed was = holds_kept committed c.args.volume.now c.tidy.new.self c.tidy.ensures.blocks.map was
+returns-clause-holds g c committed was = c.tidy.ensures.used.holds committed was

@@ -1,4 +1,4 @@
-use Rattle.std.proofs.Common.{◌≡◌, inl, inr, ℕ, ◌++◌, [], ◌∷◌, not, sym, ◌∙◌, ap, subst, arith, ⊎_elim}
+use Rattle.std.proofs.Common.{◌≡◌, inl, inr, Bool, List, length, ℕ, ◌++◌, [], ◌∷◌, not, sym, ◌∙◌, ap, subst, arith, ⊎_elim}
 use Rattle.std.specs.Prelude.{Contains, false, true, slice_index_or, Result, Err, OnOk}
 use Rattle.std.proofs.lemmas.List.Elements.{Contains-append_right}
 use Rattle.std.proofs.lemmas.List.Sums.{count_by-le-length}
@@ -22,8 +22,9 @@ off_ok : {U : Type 0} (P : Type 0) (q : Result U Trouble) (y : Trouble) → q �
 off_ok {U} P q y is = subst (λ (r : Result U Trouble). OnOk r P) (sym is) tt
 
 -- blocks in use stay in use
-holds_then : (committed : Content) (v w : Volume) → w.map.held ≡ v.map.held → ((k : ℕ) → slice_index_or v.map.used k false ≡ true → slice_index_or w.map.used k false ≡ true) → HoldsOn committed v → HoldsOn committed w
-holds_then committed v w held still was block set = ⊎_elim (λ used. inl (still block used)) (λ kept. inr (ap (λ l. slice_index_or l block false) held ∙ kept)) (was block set)
+holds_then : (committed : Content) (v w : Volume) → length w.map.used ≡ length v.map.used → w.map.held ≡ v.map.held → ((k : ℕ) → slice_index_or v.map.used k false ≡ true → slice_index_or w.map.used k false ≡ true) → HoldsOn committed v → HoldsOn committed w
+holds_then committed v w size held still was =
+    (ap (λ (l : List Bool). length l) held ∙ was.0 ∙ sym size, λ block set. ⊎_elim (λ used. inl (still block used)) (λ kept. inr (ap (λ l. slice_index_or l block false) held ∙ kept)) (was.1 block set))
 
 map_own : (w : Volume) (s : ℕ) → Contains (map_sectors w) s → Contains (own_sectors w) s
 map_own w s has = Contains-append_right (2 ∷ sectors_of_tree w.extents.file) (sectors_of_tree w.catalog.file ++ (attribute_sectors w ++ map_sectors w)) s
@@ -66,7 +67,7 @@ pub returns-clause-service : goal.returns-clause-service
 returns-clause-service g c = c.put_header.ensures.stands.service
 
 pub returns-clause-holds : goal.returns-clause-holds
-returns-clause-holds g c committed was = holds_then committed c.args.self.now c.lengthen_attributes.new.self c.lengthen_attributes.ensures.held c.lengthen_attributes.ensures.still was
+returns-clause-holds g c committed was = holds_then committed c.args.self.now c.lengthen_attributes.new.self c.lengthen_attributes.ensures.size c.lengthen_attributes.ensures.held c.lengthen_attributes.ensures.still was
 
 pub returns-clause-touches : goal.returns-clause-touches
 returns-clause-touches g c committed = touches_both committed (λ s. Contains (own_sectors c.lengthen_attributes.new.self) s) (g.P.SectorView.space c.args.space.now) (g.P.SectorView.space c.put_map.new.space) (g.P.SectorView.space c.put_header.new.space) (touches_both committed (λ s. Contains (own_sectors c.lengthen_attributes.new.self) s) (g.P.SectorView.space c.args.space.now) (g.P.SectorView.space c.lengthen_attributes.new.space) (g.P.SectorView.space c.put_map.new.space) (c.lengthen_attributes.ensures.touches committed) (touches_within committed (map_sectors c.lengthen_attributes.new.self) (λ s. Contains (own_sectors c.lengthen_attributes.new.self) s) (g.P.SectorView.space c.lengthen_attributes.new.space) (g.P.SectorView.space c.put_map.new.space) (λ s has. map_own c.lengthen_attributes.new.self s has) c.put_map.ensures.within)) (touches_header c.lengthen_attributes.new.self committed (g.P.SectorView.space c.put_map.new.space) (g.P.SectorView.space c.put_header.new.space) c.put_header.ensures.within)
@@ -108,7 +109,7 @@ pub returns-in_err-lengthen_attributes-clause-service : goal.returns-in_err-leng
 returns-in_err-lengthen_attributes-clause-service g c = c.lengthen_attributes.ensures.service
 
 pub returns-in_err-lengthen_attributes-clause-holds : goal.returns-in_err-lengthen_attributes-clause-holds
-returns-in_err-lengthen_attributes-clause-holds g c committed was = holds_then committed c.args.self.now c.lengthen_attributes.new.self c.lengthen_attributes.ensures.held c.lengthen_attributes.ensures.still was
+returns-in_err-lengthen_attributes-clause-holds g c committed was = holds_then committed c.args.self.now c.lengthen_attributes.new.self c.lengthen_attributes.ensures.size c.lengthen_attributes.ensures.held c.lengthen_attributes.ensures.still was
 
 pub returns-in_err-lengthen_attributes-clause-touches : goal.returns-in_err-lengthen_attributes-clause-touches
 returns-in_err-lengthen_attributes-clause-touches g c committed = c.lengthen_attributes.ensures.touches committed

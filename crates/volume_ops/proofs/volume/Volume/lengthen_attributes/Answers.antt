@@ -142,6 +142,9 @@ returns-clause-unchanged g c tells =
 pub returns-clause-held : goal.returns-clause-held
 returns-clause-held g c = same_held c.count_blocks-blocks.result c.in_ok-run.run' c.args.self.now.map c.take_run.new.map c.in_ok-run.ensures.takes
 
+pub returns-clause-size : goal.returns-clause-size
+returns-clause-size g c = same_length c.count_blocks-blocks.result c.in_ok-run.run' c.args.self.now.map c.take_run.new.map c.in_ok-run.ensures.takes
+
 pub returns-clause-still : goal.returns-clause-still
 returns-clause-still g c k was = used_still c.count_blocks-blocks.result c.in_ok-run.run' c.args.self.now.map c.take_run.new.map c.in_ok-run.ensures.takes k was
 
@@ -204,6 +207,9 @@ returns-clause-map g c =
 pub returns-in_err-run-clause-held : goal.returns-in_err-run-clause-held
 returns-in_err-run-clause-held g c = ap (λ (m : BlockMap). m.held) c.in_err-run.ensures.same
 
+pub returns-in_err-run-clause-size : goal.returns-in_err-run-clause-size
+returns-in_err-run-clause-size g c = ap (λ (m : BlockMap). length m.used) c.in_err-run.ensures.same
+
 pub returns-in_err-run-clause-still : goal.returns-in_err-run-clause-still
 returns-in_err-run-clause-still g c k was = ap (λ (m : BlockMap). slice_index_or m.used k false) c.in_err-run.ensures.same ∙ was
 
@@ -223,6 +229,9 @@ returns-in_err-run-clause-touches g c committed = touches_none committed (λ s. 
 
 pub returns-in_err-grow-clause-held : goal.returns-in_err-grow-clause-held
 returns-in_err-grow-clause-held g c = same_held c.count_blocks-blocks.result c.in_ok-run.run' c.args.self.now.map c.take_run.new.map c.in_ok-run.ensures.takes
+
+pub returns-in_err-grow-clause-size : goal.returns-in_err-grow-clause-size
+returns-in_err-grow-clause-size g c = same_length c.count_blocks-blocks.result c.in_ok-run.run' c.args.self.now.map c.take_run.new.map c.in_ok-run.ensures.takes
 
 pub returns-in_err-grow-clause-still : goal.returns-in_err-grow-clause-still
 returns-in_err-grow-clause-still g c k was = used_still c.count_blocks-blocks.result c.in_ok-run.run' c.args.self.now.map c.take_run.new.map c.in_ok-run.ensures.takes k was

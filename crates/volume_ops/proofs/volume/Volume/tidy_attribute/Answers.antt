@@ -1,4 +1,4 @@
-use Rattle.std.proofs.Common.{◌≡◌, ◌≤◌, inr, ℕ, List, length, sym, ◌∙◌, ap, subst, arith}
+use Rattle.std.proofs.Common.{◌≡◌, ◌≤◌, inl, inr, ℕ, List, length, sym, ◌∙◌, ap, subst, arith}
 use Rattle.btree_node.specs.declared.store.TreeShape.{TreeShape}
 use Rattle.hfs_volume.specs.Reclaim.{DropAttribute}
 use Rattle.volume_ops.specs.Orphans.{AffordsStep}
@@ -23,10 +23,10 @@ strip-requires-clause-room g c = c.fits_delattr.ensures c.if-not-fits_delattr.fa
 pub returns-clause-tidied : goal.returns-clause-tidied
 returns-clause-tidied g c tells =
     let done = (c.in_ok-strip.ensures.does tells).1 in
-    inr (record {
+    inr (inl (record {
       waiting = done.0;
       affords = subst (λ (k : ℕ × List ℕ). AffordsStep (capacity_of c.args.self.now) (g.P.SectorView.space c.args.space.now).content (DropAttribute k.0 k.1)) {x = (c.args.id, c.args.name.now)} {y = (done.0.id, done.0.name)} (λ i. (sym done.1 i, sym done.2 i)) (c.affords_bare.ensures tells c.if-not-affords_bare.false c.args.id c.args.name.now);
-    })
+    }))
 
 pub returns-clause-settled : goal.returns-clause-settled
 returns-clause-settled g c tells = (c.in_ok-strip.ensures.does tells).0

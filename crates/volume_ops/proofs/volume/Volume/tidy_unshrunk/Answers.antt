@@ -1,27 +1,33 @@
-use Rattle.std.proofs.Common.{◌≡◌, ℕ, List, sym, ◌∙◌, ap, subst}
-use Rattle.std.specs.Prelude.{Option, IfSome, Some}
+use Rattle.std.proofs.Common.{◌≡◌, ◌≤◌, ℕ, false, true, length, List, arith, sym, ◌∙◌, ap, subst, refl}
+use Rattle.std.specs.Prelude.{Option, IfSome, Some, None, IsTrue}
 use Rattle.std.specs.List.{Contains}
 use Rattle.sector_disk.specs.Lists.{Content}
-use Rattle.hfs_volume.specs.Content.{records_of, volume_of}
+use Rattle.cat_records.specs.Fits.{FitsRecord}
+use Rattle.catalog.specs.Pairs.{value_at}
+use Rattle.hfs_volume.specs.Content.{VolumeState, records_of, volume_of}
 use Rattle.hfs_volume.specs.Links.{orphans_of}
-use Rattle.hfs_volume.specs.Reclaim.{least}
+use Rattle.hfs_volume.specs.Records.{is_thread}
+use Rattle.hfs_volume.specs.Reclaim.{DropAttribute, has_surplus_left, least, next_reclaim}
 use Rattle.volume_ops.specs.Keeping.{shrunk_of}
 use Rattle.volume_ops.specs.Orphans.{IsToDrop}
 use Rattle.volume_ops.specs.Room.{capacity_of}
 use Rattle.volume_ops.specs.Touching.{Touches}
 use Rattle.volume_ops.specs.declared.entries.Entry.{Entry}
 use Rattle.volume_ops.proofs.Affording.{tidied_behind}
-use Rattle.volume_ops.proofs.Besides.{blocks_both, blocks_read}
-use Rattle.volume_ops.proofs.Commanding.{touches_both, touches_looks}
+use Rattle.volume_ops.proofs.Commanding.{touches_both, touches_looks, touches_none}
+use Rattle.volume_ops.proofs.FoundEntry.{settled_spelled}
+use Rattle.volume_ops.proofs.KeptUsed.{used_blocks, used_both, used_none, used_read}
 use Rattle.volume_ops.proofs.Seeing.{cause_since}
-use Rattle.volume_ops.proofs.Still.{own_still}
+use Rattle.volume_ops.proofs.Still.{lists_still, own_still, settled_still}
 use Rattle.volume_ops.proofs.volume.Volume.tidy_unshrunk.Goals as goal
 
 pub tidy_waiting-requires-clause-settled : goal.tidy_waiting-requires-clause-settled
 tidy_waiting-requires-clause-settled g c tells = c.next_waiting.ensures.settled (sym c.next_waiting.ensures.reads.looks.same.tells ∙ tells)
 
-pub tidy_waiting-requires-clause-unshrunk : goal.tidy_waiting-requires-clause-unshrunk
-tidy_waiting-requires-clause-unshrunk g c = c.next_waiting.ensures.reads.keeps.shrunk ∙ c.requires.unshrunk
+pub tidy_waiting-requires-clause-kept : goal.tidy_waiting-requires-clause-kept
+tidy_waiting-requires-clause-kept g c tells =
+    let before = sym c.next_waiting.ensures.reads.looks.same.tells ∙ tells in
+    (λ i. has_surplus_left (volume_of (c.next_waiting.ensures.reads.looks.content before i)) (c.next_waiting.ensures.reads.keeps.shrunk i)) ∙ c.requires.kept before
 
 pub tidy_waiting-requires-clause-lowest : goal.tidy_waiting-requires-clause-lowest
 tidy_waiting-requires-clause-lowest g c tells =
@@ -39,8 +45,9 @@ returns-in-Some-clause-touches g c committed =
     touches_both committed _ (g.P.SectorView.space c.args.space.now) (g.P.SectorView.space c.next_waiting.new.space) (g.P.SectorView.space c.tidy_waiting.new.space) (touches_looks committed _ (g.P.SectorView.space c.args.space.now) (g.P.SectorView.space c.next_waiting.new.space) c.next_waiting.ensures.reads.looks)
     (subst (λ (l : List ℕ). Touches committed (λ s. Contains l s) (g.P.SectorView.space c.next_waiting.new.space) (g.P.SectorView.space c.tidy_waiting.new.space)) (own_still c.args.self.now c.next_waiting.new.self (g.P.SectorView.space c.args.space.now) (g.P.SectorView.space c.next_waiting.new.space) c.next_waiting.ensures.reads) (c.tidy_waiting.ensures.touches committed))
 
-pub returns-in-Some-clause-blocks : goal.returns-in-Some-clause-blocks
-returns-in-Some-clause-blocks g c = blocks_both c.args.self.now c.next_waiting.new.self c.tidy_waiting.new.self (blocks_read c.args.self.now c.next_waiting.new.self (g.P.SectorView.space c.args.space.now) (g.P.SectorView.space c.next_waiting.new.space) c.next_waiting.ensures.reads) c.tidy_waiting.ensures.blocks
+pub returns-in-Some-clause-used : goal.returns-in-Some-clause-used
+returns-in-Some-clause-used g c =
+    used_both c.args.self.now c.next_waiting.new.self c.tidy_waiting.new.self (used_read c.args.self.now c.next_waiting.new.self (g.P.SectorView.space c.args.space.now) (g.P.SectorView.space c.next_waiting.new.space) c.next_waiting.ensures.reads) c.tidy_waiting.ensures.used
 
 pub returns-in-Some-clause-below : goal.returns-in-Some-clause-below
 returns-in-Some-clause-below g c = g.met.P.SectorView.follows_trans c.args.space.now c.next_waiting.new.space c.tidy_waiting.new.space c.next_waiting.ensures.below c.tidy_waiting.ensures.below
@@ -51,11 +58,11 @@ returns-in-Some-clause-cause g c = cause_since (g.P.SectorView.space c.args.spac
 pub returns-in-None-clause-touches : goal.returns-in-None-clause-touches
 returns-in-None-clause-touches g c committed = touches_looks committed _ (g.P.SectorView.space c.args.space.now) (g.P.SectorView.space c.next_waiting.new.space) c.next_waiting.ensures.reads.looks
 
-pub returns-in-None-clause-blocks : goal.returns-in-None-clause-blocks
-returns-in-None-clause-blocks g c = blocks_read c.args.self.now c.next_waiting.new.self (g.P.SectorView.space c.args.space.now) (g.P.SectorView.space c.next_waiting.new.space) c.next_waiting.ensures.reads
+pub returns-in-None-clause-used : goal.returns-in-None-clause-used
+returns-in-None-clause-used g c = used_read c.args.self.now c.next_waiting.new.self (g.P.SectorView.space c.args.space.now) (g.P.SectorView.space c.next_waiting.new.space) c.next_waiting.ensures.reads
 
 pub returns-in_err-id-clause-touches : goal.returns-in_err-id-clause-touches
 returns-in_err-id-clause-touches g c committed = touches_looks committed _ (g.P.SectorView.space c.args.space.now) (g.P.SectorView.space c.next_waiting.new.space) c.next_waiting.ensures.reads.looks
 
-pub returns-in_err-id-clause-blocks : goal.returns-in_err-id-clause-blocks
-returns-in_err-id-clause-blocks g c = blocks_read c.args.self.now c.next_waiting.new.self (g.P.SectorView.space c.args.space.now) (g.P.SectorView.space c.next_waiting.new.space) c.next_waiting.ensures.reads
+pub returns-in_err-id-clause-used : goal.returns-in_err-id-clause-used
+returns-in_err-id-clause-used g c = used_read c.args.self.now c.next_waiting.new.self (g.P.SectorView.space c.args.space.now) (g.P.SectorView.space c.next_waiting.new.space) c.next_waiting.ensures.reads

@@ -1,20 +1,24 @@
-use Rattle.std.proofs.Common.{◌≤◌, length, ℕ, List, sym, ◌∙◌, ap, subst}
-use Rattle.std.specs.Prelude.{Option, IfSome}
+use Rattle.std.proofs.Common.{◌≡◌, ◌≤◌, ℕ, false, true, length, List, arith, sym, ◌∙◌, ap, subst, refl}
+use Rattle.std.specs.Prelude.{Option, IfSome, Some, None, IsTrue}
 use Rattle.std.specs.List.{Contains}
 use Rattle.sector_disk.specs.Lists.{Content}
-use Rattle.hfs_volume.specs.Content.{records_of, volume_of}
+use Rattle.cat_records.specs.Fits.{FitsRecord}
+use Rattle.catalog.specs.Pairs.{value_at}
+use Rattle.hfs_volume.specs.Content.{VolumeState, records_of, volume_of}
 use Rattle.hfs_volume.specs.Links.{orphans_of}
-use Rattle.hfs_volume.specs.Reclaim.{least}
+use Rattle.hfs_volume.specs.Records.{is_thread}
+use Rattle.hfs_volume.specs.Reclaim.{DropAttribute, has_surplus_left, least, next_reclaim}
 use Rattle.volume_ops.specs.Keeping.{shrunk_of}
 use Rattle.volume_ops.specs.Orphans.{IsToDrop}
 use Rattle.volume_ops.specs.Room.{capacity_of}
 use Rattle.volume_ops.specs.Touching.{Touches}
 use Rattle.volume_ops.specs.declared.entries.Entry.{Entry}
 use Rattle.volume_ops.proofs.Affording.{tidied_behind}
-use Rattle.volume_ops.proofs.Besides.{blocks_both, blocks_none, blocks_read}
 use Rattle.volume_ops.proofs.Commanding.{touches_both, touches_looks, touches_none}
+use Rattle.volume_ops.proofs.FoundEntry.{settled_spelled}
+use Rattle.volume_ops.proofs.KeptUsed.{used_blocks, used_both, used_none, used_read}
 use Rattle.volume_ops.proofs.Seeing.{cause_since}
-use Rattle.volume_ops.proofs.Still.{own_still}
+use Rattle.volume_ops.proofs.Still.{lists_still, own_still, settled_still}
 use Rattle.volume_ops.proofs.volume.Volume.tidy_waiting.Goals as goal
 
 pub tidy_entry-requires-clause-settled : goal.tidy_entry-requires-clause-settled
@@ -26,7 +30,7 @@ tidy_entry-requires-clause-name g c = subst (λ (o : Option Entry). IfSome o (λ
 pub tidy_entry-requires-clause-waits : goal.tidy_entry-requires-clause-waits
 tidy_entry-requires-clause-waits g c tells =
     let before = sym c.bare_waiting.ensures.reads.looks.same.tells ∙ tells in
-    let waits = subst (λ (o : Option Entry). IfSome o (IsToDrop (shrunk_of c.args.self.now) (g.P.SectorView.space c.args.space.now).content)) c.in-Some.is (c.in_ok-entry.ensures.found before (shrunk_of c.args.self.now) c.requires.unshrunk) in
+    let waits = subst (λ (o : Option Entry). IfSome o (IsToDrop (shrunk_of c.args.self.now) (g.P.SectorView.space c.args.space.now).content)) c.in-Some.is (c.in_ok-entry.ensures.found before (shrunk_of c.args.self.now) (c.requires.kept before)) in
     subst (λ (k : Option ℕ × Content). IsToDrop k.0 k.1 c.in-Some.entry) {x = (shrunk_of c.args.self.now, (g.P.SectorView.space c.args.space.now).content)} {y = (shrunk_of c.bare_waiting.new.self, (g.P.SectorView.space c.bare_waiting.new.space).content)}
     (λ i. (sym c.bare_waiting.ensures.reads.keeps.shrunk i, sym (c.bare_waiting.ensures.reads.looks.content before) i)) waits
 
@@ -40,8 +44,9 @@ returns-in-Some-clause-touches g c committed =
     touches_both committed _ (g.P.SectorView.space c.args.space.now) (g.P.SectorView.space c.bare_waiting.new.space) (g.P.SectorView.space c.tidy_entry.new.space) (touches_looks committed _ (g.P.SectorView.space c.args.space.now) (g.P.SectorView.space c.bare_waiting.new.space) c.bare_waiting.ensures.reads.looks)
     (subst (λ (l : List ℕ). Touches committed (λ s. Contains l s) (g.P.SectorView.space c.bare_waiting.new.space) (g.P.SectorView.space c.tidy_entry.new.space)) (own_still c.args.self.now c.bare_waiting.new.self (g.P.SectorView.space c.args.space.now) (g.P.SectorView.space c.bare_waiting.new.space) c.bare_waiting.ensures.reads) (c.tidy_entry.ensures.touches committed))
 
-pub returns-in-Some-clause-blocks : goal.returns-in-Some-clause-blocks
-returns-in-Some-clause-blocks g c = blocks_both c.args.self.now c.bare_waiting.new.self c.tidy_entry.new.self (blocks_read c.args.self.now c.bare_waiting.new.self (g.P.SectorView.space c.args.space.now) (g.P.SectorView.space c.bare_waiting.new.space) c.bare_waiting.ensures.reads) c.tidy_entry.ensures.blocks
+pub returns-in-Some-clause-used : goal.returns-in-Some-clause-used
+returns-in-Some-clause-used g c =
+    used_both c.args.self.now c.bare_waiting.new.self c.tidy_entry.new.self (used_read c.args.self.now c.bare_waiting.new.self (g.P.SectorView.space c.args.space.now) (g.P.SectorView.space c.bare_waiting.new.space) c.bare_waiting.ensures.reads) (used_blocks c.bare_waiting.new.self c.tidy_entry.new.self c.tidy_entry.ensures.blocks)
 
 pub returns-in-Some-clause-below : goal.returns-in-Some-clause-below
 returns-in-Some-clause-below g c = g.met.P.SectorView.follows_trans c.args.space.now c.bare_waiting.new.space c.tidy_entry.new.space c.bare_waiting.ensures.below c.tidy_entry.ensures.below
@@ -59,8 +64,9 @@ returns-in-None-clause-touches g c committed =
     touches_both committed _ (g.P.SectorView.space c.args.space.now) (g.P.SectorView.space c.bare_waiting.new.space) (g.P.SectorView.space c.tidy_owner.new.space) (touches_looks committed _ (g.P.SectorView.space c.args.space.now) (g.P.SectorView.space c.bare_waiting.new.space) c.bare_waiting.ensures.reads.looks)
     (subst (λ (l : List ℕ). Touches committed (λ s. Contains l s) (g.P.SectorView.space c.bare_waiting.new.space) (g.P.SectorView.space c.tidy_owner.new.space)) (own_still c.args.self.now c.bare_waiting.new.self (g.P.SectorView.space c.args.space.now) (g.P.SectorView.space c.bare_waiting.new.space) c.bare_waiting.ensures.reads) (c.tidy_owner.ensures.touches committed))
 
-pub returns-in-None-clause-blocks : goal.returns-in-None-clause-blocks
-returns-in-None-clause-blocks g c = blocks_both c.args.self.now c.bare_waiting.new.self c.tidy_owner.new.self (blocks_read c.args.self.now c.bare_waiting.new.self (g.P.SectorView.space c.args.space.now) (g.P.SectorView.space c.bare_waiting.new.space) c.bare_waiting.ensures.reads) c.tidy_owner.ensures.blocks
+pub returns-in-None-clause-used : goal.returns-in-None-clause-used
+returns-in-None-clause-used g c =
+    used_both c.args.self.now c.bare_waiting.new.self c.tidy_owner.new.self (used_read c.args.self.now c.bare_waiting.new.self (g.P.SectorView.space c.args.space.now) (g.P.SectorView.space c.bare_waiting.new.space) c.bare_waiting.ensures.reads) c.tidy_owner.ensures.used
 
 pub returns-in-None-clause-below : goal.returns-in-None-clause-below
 returns-in-None-clause-below g c = g.met.P.SectorView.follows_trans c.args.space.now c.bare_waiting.new.space c.tidy_owner.new.space c.bare_waiting.ensures.below c.tidy_owner.ensures.below
@@ -71,16 +77,18 @@ returns-in-None-clause-cause g c = cause_since (g.P.SectorView.space c.args.spac
 pub tidy_owner-requires-clause-settled : goal.tidy_owner-requires-clause-settled
 tidy_owner-requires-clause-settled g c tells = c.bare_waiting.ensures.settled (sym c.bare_waiting.ensures.reads.looks.same.tells ∙ tells)
 
-pub tidy_owner-requires-clause-unshrunk : goal.tidy_owner-requires-clause-unshrunk
-tidy_owner-requires-clause-unshrunk g c = c.bare_waiting.ensures.reads.keeps.shrunk ∙ c.requires.unshrunk
-
 pub tidy_owner-requires-clause-lowest : goal.tidy_owner-requires-clause-lowest
 tidy_owner-requires-clause-lowest g c tells =
     let before = sym c.bare_waiting.ensures.reads.looks.same.tells ∙ tells in
     ap (λ (k : Content). least (orphans_of (records_of (volume_of k)))) (c.bare_waiting.ensures.reads.looks.content before) ∙ c.requires.lowest before
 
+pub tidy_owner-requires-clause-kept : goal.tidy_owner-requires-clause-kept
+tidy_owner-requires-clause-kept g c tells =
+    let before = sym c.bare_waiting.ensures.reads.looks.same.tells ∙ tells in
+    (λ i. has_surplus_left (volume_of (c.bare_waiting.ensures.reads.looks.content before i)) (c.bare_waiting.ensures.reads.keeps.shrunk i)) ∙ c.requires.kept before
+
 pub returns-in_err-entry-clause-touches : goal.returns-in_err-entry-clause-touches
 returns-in_err-entry-clause-touches g c committed = touches_looks committed _ (g.P.SectorView.space c.args.space.now) (g.P.SectorView.space c.bare_waiting.new.space) c.bare_waiting.ensures.reads.looks
 
-pub returns-in_err-entry-clause-blocks : goal.returns-in_err-entry-clause-blocks
-returns-in_err-entry-clause-blocks g c = blocks_read c.args.self.now c.bare_waiting.new.self (g.P.SectorView.space c.args.space.now) (g.P.SectorView.space c.bare_waiting.new.space) c.bare_waiting.ensures.reads
+pub returns-in_err-entry-clause-used : goal.returns-in_err-entry-clause-used
+returns-in_err-entry-clause-used g c = used_read c.args.self.now c.bare_waiting.new.self (g.P.SectorView.space c.args.space.now) (g.P.SectorView.space c.bare_waiting.new.space) c.bare_waiting.ensures.reads
