@@ -301,7 +301,7 @@ impl Volume {
             Command::Create(path) => Ok(Some(self.weigh_create(alloc, space, path)?)),
             Command::Rmdir(path) => Ok(Some(self.weigh_rmdir(alloc, space, path)?)),
             Command::Mv(from, to) => Ok(Some(self.weigh_mv(alloc, space, from, to)?)),
-            Command::Rm(path) => self.weigh_rm(alloc, space, path),
+            Command::Rm(path) => Ok(Some(self.weigh_rm(alloc, space, path)?)),
             Command::Ln(_from, _to) => self.weigh_refused(alloc, space, command),
             Command::Write { path, from, value } => {
                 self.weigh_write(alloc, space, path, *from, value.as_slice())
