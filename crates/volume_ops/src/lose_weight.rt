@@ -47,7 +47,7 @@ fn link_edits(links: u32) -> Edits
 
 impl Volume {
     /// The folder or file that a path stands for, or the first reason against it.
-    fn node<P: SectorSpace>(
+    pub(crate) fn node<P: SectorSpace>(
         &mut self,
         alloc: Global,
         space: &mut P,
