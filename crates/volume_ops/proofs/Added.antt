@@ -22,7 +22,7 @@ use Rattle.volume_ops.specs.Standing.{IsStanding, attribute_sectors, map_sectors
 use Rattle.volume_ops.specs.declared.volume.Volume.{Volume}
 use Rattle.volume_ops.proofs.ListsAfter.{catalog_changes, changes_both, header_stays, numbers_change}
 
-added_done : (entry : Placed) (old new : List Pair) (found : Option Placed) (answer : Inserted) → found ≡ None → AnswersAdd found answer → Adding entry old new answer → AddsEntry entry old new
+pub added_done : (entry : Placed) (old new : List Pair) (found : Option Placed) (answer : Inserted) → found ≡ None → AnswersAdd found answer → Adding entry old new answer → AddsEntry entry old new
 added_done entry old new found inserted.Exists none there same = absurd (there none)
 added_done entry old new found inserted.Done none free added = added.0
 
@@ -43,7 +43,7 @@ module _ (v x : Volume) (a m : Space) (numbered : x ≡ record v { header = with
   pub pairs_drawn : pairs_in (sectors_of_tree x.catalog.file) m.content ≡ (lists_of v a.content).catalog_pairs
   pairs_drawn = ap (λ (l : VolumeState). l.catalog_pairs) put.lists ∙ ap (λ (y : Volume). pairs_in (sectors_of_tree y.catalog.file) a.content) numbered
 
-  drawn_changes : ChangesCatalog v x a.content m.content
+  pub drawn_changes : ChangesCatalog v x a.content m.content
   drawn_changes =
       changes_both v x x a.content a.content m.content
       (subst (λ (y : Volume). ChangesCatalog v y a.content a.content) (sym numbered) (numbers_change v x.header a.content)) put.changes

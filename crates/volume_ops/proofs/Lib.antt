@@ -70,6 +70,9 @@ pub mod LastFile
 pub mod LastLost
 pub mod LastRoom
 pub mod LinkLost
+pub mod LinkMade
+pub mod LinkWeight
+pub mod Linkable
 pub mod ListsAfter
 pub mod ListsAgain
 pub mod Loads
@@ -85,6 +88,7 @@ pub mod MoveRoom
 pub mod MoveWeight
 pub mod Moved
 pub mod Mounted
+pub mod NameAdded
 pub mod NextCut
 pub mod NextDrop
 pub mod NodeIs

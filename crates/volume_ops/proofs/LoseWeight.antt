@@ -1,6 +1,6 @@
 -- What `rm` weighs, by the record of what it removes.
 use Rattle.std.proofs.Common.{◌≡◌, ℕ, ◌+◌, ◌*◌, Bool, true, false, List, length, refl, sym, ◌∙◌, ap, subst}
-use Rattle.std.specs.Prelude.{◌==◌, nat_lt, is_some, IfSome, Option, Some, None, Result, Ok, Err, if◌then◌else◌}
+use Rattle.std.specs.Prelude.{◌==◌, nat_lt, is_some, Option, Some, None, Result, Ok, Err, if◌then◌else◌}
 use Rattle.std.specs.Option.{ok_or}
 use Rattle.std.proofs.lemmas.Bool.{true≢false}
 use Rattle.sector_disk.specs.Lists.{Content}
@@ -9,7 +9,7 @@ use Rattle.hfs_language.specs.declared.command.Command.TheVariants as command
 use Rattle.hfs_language.specs.declared.refusal.Refusal.{Refusal}
 use Rattle.hfs_language.specs.declared.refusal.Refusal.TheVariants as refusal
 use Rattle.hfs_model.specs.Plain.{IsPlainTree, names_of, node_at}
-use Rattle.hfs_model.specs.Step.{is_private_path, is_refusal, is_root, reached, refuses, then_, to_node, to_rm, unless}
+use Rattle.hfs_model.specs.Step.{is_private_path, is_root, reached, then_, to_node, to_rm, unless}
 use Rattle.hfs_model.specs.declared.plain.PlainEntry.{PlainEntry}
 use Rattle.hfs_model.specs.declared.plain.PlainNode.{PlainNode}
 use Rattle.hfs_model.specs.declared.plain.PlainTree.{PlainTree}
@@ -108,9 +108,6 @@ module _ (capacity : ℕ) (takable : List Bool) (volume : VolumeState) (tree : P
   pub lose_refused : (why : Refusal) → to_rm tree path ≡ Err why → answer.Refused why ≡ words
   lose_refused why is = ap (λ said. refused_or said (joined (weight capacity volume tree (command.Rm path)) (weight_with capacity takable volume tree (command.Rm path)))) (refused_line tree path why not_own is).0
 
-  pub fine : (e : PlainEntry) → to_rm tree path ≡ Ok e → refuses tree (Ok (command.Rm path)) ≡ false
-  fine e is = ap is_refusal (sym (lost_line tree path e not_own is).0)
-
   weights : weight capacity volume tree (command.Rm path) ≡ cost_of (needs_for (free_blocks volume) volume (edits_of tree (command.Rm path)) None) (room_with capacity (free_blocks volume) volume)
   unfolding weight_with
   weights = refl
@@ -179,11 +176,6 @@ module _ (law : SoundHasPlainTree) (v : Volume) (content : Content) (holds : Hol
         by (Err other) same agree = missing (tree_of content) path some plain why (same ∙ ap (λ (w : Refusal). Err w) (sym agree))
         by (Ok n) same never = absurd never
 
-    -- what is known of a weight that was told, or wasn't
-    pub record IsWeighed (o : Option Weight) : Type 0 where
-      pub answer_is : IfSome o (λ weighs. weighs ≡ words_here)
-      pub waits : is_some o ≡ false → refuses (tree_of content) (Ok (command.Rm path)) ≡ false
-
     private_here : is_some v.private ≡ (tree_of content).has_private
     private_here = ap (λ (o : Option ℕ). is_some o) settled.private ∙ sym (has_private_is content)
 
@@ -191,42 +183,24 @@ module _ (law : SoundHasPlainTree) (v : Volume) (content : Content) (holds : Hol
       edits_here : (kind : n.folder ≡ false) → edits_of (tree_of content) (command.Rm path) ≡ rm_edits (tree_of content) (Some n)
       edits_here kind = ap (rm_edits_at (tree_of content)) (at.removal ∙ ap (λ (b : Bool). if b then Err refusal.IsFolder else Ok at.entry) kind) ∙ ap (rm_edits (tree_of content)) at.found
 
-      of_waiting : n.folder ≡ false → IsWeighed None
-      of_waiting kind = record {
-        answer_is = tt;
-        waits = λ none. fine v.capacity takable (volume_of content) (tree_of content) path not_own at.entry (at.removal ∙ ap (λ (b : Bool). if b then Err refusal.IsFolder else Ok at.entry) kind);
-      }
+      of_file : n.folder ≡ false → n.linked ≡ false → names_of (tree_of content) n.id ≡ 1 → loss_here ≡ words_here
+      of_file kind plain_file one =
+          lose_allowed v.capacity takable (volume_of content) (tree_of content) path not_own v.private at.entry (at.removal ∙ ap (λ (b : Bool). if b then Err refusal.IsFolder else Ok at.entry) kind)
+          (edits_here kind ∙ (λ i. if nat_lt 1 (one i) then edits 0 2 0 4 else if plain_file i then edits 0 5 0 4 else edits (if sym private_here i then 0 else 1) (3 + 2 * (if sym private_here i then 0 else 1)) 0 4) ∙ asked_is v.private)
 
-      of_file : n.folder ≡ false → n.linked ≡ false → names_of (tree_of content) n.id ≡ 1 → IsWeighed (Some loss_here)
-      of_file kind plain_file one = record {
-        answer_is =
-            lose_allowed v.capacity takable (volume_of content) (tree_of content) path not_own v.private at.entry (at.removal ∙ ap (λ (b : Bool). if b then Err refusal.IsFolder else Ok at.entry) kind)
-            (edits_here kind ∙ (λ i. if nat_lt 1 (one i) then edits 0 2 0 4 else if plain_file i then edits 0 5 0 4 else edits (if sym private_here i then 0 else 1) (3 + 2 * (if sym private_here i then 0 else 1)) 0 4) ∙ asked_is v.private);
-        waits = λ never. absurd (true≢false never);
-      }
+      of_link : n.folder ≡ false → n.linked ≡ true → (links : ℕ) → names_of (tree_of content) n.id ≡ links → (b : Bool) → nat_lt 1 links ≡ b → unlink_here (if b then unlink_edits else last_edits) ≡ words_here
+      of_link kind linked links many false is =
+          last_allowed v.capacity takable (volume_of content) (tree_of content) path not_own at.entry (at.removal ∙ ap (λ (b : Bool). if b then Err refusal.IsFolder else Ok at.entry) kind)
+          (edits_here kind ∙ (λ i. if (ap (nat_lt 1) many ∙ is) i then edits 0 2 0 4 else if linked i then edits 0 5 0 4 else edits (folders_made (tree_of content)) (3 + 2 * folders_made (tree_of content)) 0 4))
+      of_link kind linked links many true is =
+          unlink_allowed v.capacity takable (volume_of content) (tree_of content) path not_own at.entry (at.removal ∙ ap (λ (b : Bool). if b then Err refusal.IsFolder else Ok at.entry) kind)
+          (edits_here kind ∙ ap (λ (b : Bool). if b then edits 0 2 0 4 else if n.linked then edits 0 5 0 4 else edits (folders_made (tree_of content)) (3 + 2 * folders_made (tree_of content)) 0 4) (ap (nat_lt 1) many ∙ is))
 
-      of_link : n.folder ≡ false → n.linked ≡ true → (links : ℕ) → names_of (tree_of content) n.id ≡ links → (b : Bool) → nat_lt 1 links ≡ b → IsWeighed (Some (unlink_here (if b then unlink_edits else last_edits)))
-      of_link kind linked links many false is = record {
-        answer_is =
-            last_allowed v.capacity takable (volume_of content) (tree_of content) path not_own at.entry (at.removal ∙ ap (λ (b : Bool). if b then Err refusal.IsFolder else Ok at.entry) kind)
-            (edits_here kind ∙ (λ i. if (ap (nat_lt 1) many ∙ is) i then edits 0 2 0 4 else if linked i then edits 0 5 0 4 else edits (folders_made (tree_of content)) (3 + 2 * folders_made (tree_of content)) 0 4));
-        waits = λ never. absurd (true≢false never);
-      }
-      of_link kind linked links many true is = record {
-        answer_is =
-            unlink_allowed v.capacity takable (volume_of content) (tree_of content) path not_own at.entry (at.removal ∙ ap (λ (b : Bool). if b then Err refusal.IsFolder else Ok at.entry) kind)
-            (edits_here kind ∙ ap (λ (b : Bool). if b then edits 0 2 0 4 else if n.linked then edits 0 5 0 4 else edits (folders_made (tree_of content)) (3 + 2 * folders_made (tree_of content)) 0 4) (ap (nat_lt 1) many ∙ is));
-        waits = λ never. absurd (true≢false never);
-      }
-
-    by_node : (f : Node) (n : PlainNode) → to_node (tree_of content) path ≡ Ok n → IsIt f n → IsWeighed (loss_weighed f loss_here unlink_here)
+    by_node : (f : Node) (n : PlainNode) → to_node (tree_of content) path ≡ Ok n → IsIt f n → loss_weighed f loss_here unlink_here ≡ words_here
     by_node (node.Folder folder) n is it =
         let at = there (tree_of content) path some plain n is in
         let removal : to_rm (tree_of content) path ≡ Err refusal.IsFolder = at.removal ∙ ap (λ (m : PlainNode). if m.folder then Err refusal.IsFolder else Ok at.entry) it.is in
-        record {
-          answer_is = lose_refused v.capacity takable (volume_of content) (tree_of content) path not_own refusal.IsFolder removal;
-          waits = λ never. absurd (true≢false never);
-        }
+        lose_refused v.capacity takable (volume_of content) (tree_of content) path not_own refusal.IsFolder removal
     by_node (node.File own true) n is it =
         let at = there (tree_of content) path some plain n is in
         let kind : n.folder ≡ false = ap (λ (m : PlainNode). m.folder) it.is in
@@ -234,10 +208,10 @@ module _ (law : SoundHasPlainTree) (v : Volume) (content : Content) (holds : Hol
     by_node (node.File own false) n is it =
         of_file n (there (tree_of content) path some plain n is) (ap (λ (m : PlainNode). m.folder) it.is) (ap (λ (m : PlainNode). m.linked) it.is) (ap (λ (m : PlainNode). names_of (tree_of content) m.id) it.is ∙ it.counts)
 
-    pub loss_told : (f : Node) → said ≡ Ok f → (o : Option Weight) → o ≡ loss_weighed f loss_here unlink_here → IsWeighed o
-    loss_told f is o same =
-        subst IsWeighed (sym same) (by (to_node (tree_of content) path) refl (subst (λ (r : Result Node Refusal). Agree IsIt r (to_node (tree_of content) path)) is agrees))
+    pub loss_told : (f : Node) → said ≡ Ok f → (weighs : Weight) → weighs ≡ loss_weighed f loss_here unlink_here → weighs ≡ words_here
+    loss_told f is weighs same =
+        same ∙ by (to_node (tree_of content) path) refl (subst (λ (r : Result Node Refusal). Agree IsIt r (to_node (tree_of content) path)) is agrees)
       where
-        by : (s : Result PlainNode Refusal) → to_node (tree_of content) path ≡ s → Agree IsIt (Ok f) s → IsWeighed (loss_weighed f loss_here unlink_here)
+        by : (s : Result PlainNode Refusal) → to_node (tree_of content) path ≡ s → Agree IsIt (Ok f) s → loss_weighed f loss_here unlink_here ≡ words_here
         by (Ok n) at it = by_node f n at it
         by (Err why) at never = absurd never

@@ -92,11 +92,11 @@ new_is false id moment = (
   record { size = refl; blocks = refl; extents = refl },
 )
 
-placed_still : (pair : Pair) (old new : List Pair) → Adds pair old new → (y : Placed) → Contains (placed_in old) y → Contains (placed_in new) y
+pub placed_still : (pair : Pair) (old new : List Pair) → Adds pair old new → (y : Placed) → Contains (placed_in old) y → Contains (placed_in new) y
 placed_still pair old new added y stands =
     subst (λ l. Contains l y) (sym (ap placed_in added.is ∙ map_insert placed_of old added.place pair)) (still_stands (placed_in old) added.place (placed_of pair) y stands)
 
-placed_adds : (entry : Placed) (pair : Pair) (old new : List Pair) → Adds pair old new → placed_of pair ≡ entry → Adds entry (placed_in old) (placed_in new)
+pub placed_adds : (entry : Placed) (pair : Pair) (old new : List Pair) → Adds pair old new → placed_of pair ≡ entry → Adds entry (placed_in old) (placed_in new)
 placed_adds entry pair old new added stands = record {
   place = added.place;
   within = omega (arith, added.within, length-map old placed_of);
@@ -110,7 +110,7 @@ third_false true false true d is = absurd (true≢false is)
 third_false true false false d is = is
 
 -- an entry that stood before stands still
-entry_still : (entry : Placed) (old new : List Pair) → AddsEntry entry old new → (y : Placed) → Contains (entries_of (placed_in old)) y → Contains (entries_of (placed_in new)) y
+pub entry_still : (entry : Placed) (old new : List Pair) → AddsEntry entry old new → (y : Placed) → Contains (entries_of (placed_in old)) y → Contains (entries_of (placed_in new)) y
 entry_still entry old new added y stands =
     let both = kept_cases (λ (placed : Placed). not (is_empty placed.name)) (placed_in old) y stands in
     kept_stands (λ (placed : Placed). not (is_empty placed.name)) (placed_in new) y (placed_still added.thread added.between new added.thread_added y (placed_still added.pair old added.between added.entry_added y both.0)) both.1

@@ -33,11 +33,12 @@ use Rattle.hfs_volume.proofs.Flat.{none_or_some}
 use Rattle.hfs_volume.proofs.Sides.{entry_is_record}
 use Rattle.volume_ops.specs.Changing.{ChangesCatalog, PutsHeader, ReplacesRecord}
 use Rattle.volume_ops.specs.Entering.{entry_by_id}
+use Rattle.volume_ops.specs.Linking.{CountsUp}
 use Rattle.volume_ops.specs.Lists.{lists_of, facts_on}
 use Rattle.volume_ops.specs.Looking.{ReadsVolume}
 use Rattle.volume_ops.specs.Orphans.{with_file_removed}
 use Rattle.volume_ops.specs.Standing.{HoldsTrees, IsStanding}
-use Rattle.volume_ops.specs.Unlinking.{CountsDown, DropsName, HasShared, is_plain, links_in, relinked, with_links}
+use Rattle.volume_ops.specs.Unlinking.{CountsDown, DropsName, HasShared, SaysLinks, is_plain, links_in, relinked, with_links}
 use Rattle.volume_ops.specs.declared.entries.Entry.{Entry}
 use Rattle.volume_ops.specs.declared.volume.Volume.{Volume}
 use Rattle.volume_ops.proofs.Added.{pairs_drawn}
@@ -85,17 +86,17 @@ not_true : (b : Bool) → not b ≡ true → b ≡ false
 not_true true is = absurd (true≢false (sym is))
 not_true false is = refl
 
-module _ (moment links id parent : ℕ) (name : List ℕ) (new_rec : CatRecord) (old new : VolumeState) (updates : UpdatesEntry parent name new_rec old.catalog_pairs new.catalog_pairs) (nodes : HasSameNodes old.catalog_tree new.catalog_tree)
+module _ (moment links had id parent : ℕ) (name : List ℕ) (new_rec : CatRecord) (old new : VolumeState) (updates : UpdatesEntry parent name new_rec old.catalog_pairs new.catalog_pairs) (nodes : HasSameNodes old.catalog_tree new.catalog_tree)
     (rest : new ≡ record old { catalog_pairs = new.catalog_pairs; catalog_tree = new.catalog_tree })
   where
     abbrev Marks : Type 0
-    Marks = (does : ChangesFields id (IsMarkedLinked moment links) old new) × (does.before.special ≡ links + 1)
+    Marks = (does : ChangesFields id (IsMarkedLinked moment links) old new) × (does.before.special ≡ had)
 
     of_value : (p : ℕ) (n : List ℕ) (value : CatRecord) → updates.entry ≡ record { parent = p; name = n; value = value } → relinked moment links value ≡ Some new_rec → is_file value ≡ true → is_plain value ≡ true → id_in value ≡ id
-        → links_in value ≡ links + 1 → Marks
-    of_value p n (Folder folder) is made kind plain number had = absurd (true≢false (sym kind))
-    of_value p n (Thread thread) is made kind plain number had = absurd (true≢false (sym kind))
-    of_value p n (File file) is made kind plain number had = (
+        → links_in value ≡ had → Marks
+    of_value p n (Folder folder) is made kind plain number told = absurd (true≢false (sym kind))
+    of_value p n (Thread thread) is made kind plain number told = absurd (true≢false (sym kind))
+    of_value p n (File file) is made kind plain number told = (
       record {
         entry = record { parent = p; name = n; value = File file };
         before = file.fields;
@@ -123,25 +124,31 @@ module _ (moment links id parent : ℕ) (name : List ℕ) (new_rec : CatRecord) 
           rest = rest;
         };
       },
-      had,
+      told,
     )
 
-    pub marks_file : (old_rec : CatRecord) → value_at old.catalog_pairs parent name ≡ Some old_rec → relinked moment links old_rec ≡ Some new_rec → is_file old_rec ≡ true → is_plain old_rec ≡ true → id_in old_rec ≡ id → links_in old_rec ≡ links + 1 → Marks
-    marks_file old_rec there made kind plain number had =
+    pub marks_file : (old_rec : CatRecord) → value_at old.catalog_pairs parent name ≡ Some old_rec → relinked moment links old_rec ≡ Some new_rec → is_file old_rec ≡ true → is_plain old_rec ≡ true → id_in old_rec ≡ id → links_in old_rec ≡ had → Marks
+    marks_file old_rec there made kind plain number told =
         let same : old_rec ≡ updates.entry.value = sym (ap (file_or old_rec) (sym (ap (option_map (λ (p : Placed). p.value)) updates.found) ∙ there)) in
         of_value updates.entry.parent updates.entry.name updates.entry.value refl (ap (relinked moment links) (sym same) ∙ made) (sym (ap is_file same) ∙ kind) (sym (ap is_plain same) ∙ plain) (sym (ap id_in same) ∙ number)
-        (sym (ap links_in same) ∙ had)
+        (sym (ap links_in same) ∙ told)
 
 -- ---- the record was put
 
-pub counts_down : (moment links : ℕ) (v w : Volume) (before after : Content) (entry : Entry) (rec : CatRecord) → v.header.modify_date ≡ moment → value_at (lists_of v before).catalog_pairs entry.parent entry.name ≡ Some entry.rec
-    → is_file entry.rec ≡ true → is_plain entry.rec ≡ true → links_in entry.rec ≡ links + 1 → 0 < links → relinked moment links entry.rec ≡ Some rec → ReplacesRecord entry rec v w before after → CountsDown (id_in entry.rec) v w before after
-counts_down moment links v w before after entry rec now there kind plain had some made r =
-    let marks = marks_file moment links (id_in entry.rec) entry.parent entry.name rec (lists_of v before) (lists_of w after) r.updates (record { total = r.changes.nodes.0; size = r.changes.nodes.1 })
+pub says_links : (moment links : ℕ) (v w : Volume) (before after : Content) (entry : Entry) (rec : CatRecord) → v.header.modify_date ≡ moment → value_at (lists_of v before).catalog_pairs entry.parent entry.name ≡ Some entry.rec
+    → is_file entry.rec ≡ true → is_plain entry.rec ≡ true → relinked moment links entry.rec ≡ Some rec → ReplacesRecord entry rec v w before after → SaysLinks (id_in entry.rec) links (links_in entry.rec) v w before after
+says_links moment links v w before after entry rec now there kind plain made r =
+    let marks = marks_file moment links (links_in entry.rec) (id_in entry.rec) entry.parent entry.name rec (lists_of v before) (lists_of w after) r.updates (record { total = r.changes.nodes.0; size = r.changes.nodes.1 })
     (r.changes.lists ∙ (λ i. record (lists_of v before) { head = (ap (λ (x : Volume). x.header) r.rest) i; catalog_pairs = (lists_of w after).catalog_pairs; catalog_tree = facts_on w.catalog.file }))
-    entry.rec there made kind plain refl had in
-    let at_moment = subst (λ m. (does : ChangesFields (id_in entry.rec) (IsMarkedLinked m links) (lists_of v before) (lists_of w after)) × (does.before.special ≡ links + 1)) (sym now) marks in
-    record { links = links; some = some; marks = at_moment.0; was = at_moment.1; changes = r.changes; rest = r.rest; headed = r.headed }
+    entry.rec there made kind plain refl refl in
+    let at_moment = subst (λ m. (does : ChangesFields (id_in entry.rec) (IsMarkedLinked m links) (lists_of v before) (lists_of w after)) × (does.before.special ≡ links_in entry.rec)) (sym now) marks in
+    record { marks = at_moment.0; was = at_moment.1; changes = r.changes; rest = r.rest; headed = r.headed }
+
+pub says_less : (id links had : ℕ) (v w : Volume) (before after : Content) → had ≡ links + 1 → 0 < links → SaysLinks id links had v w before after → CountsDown id v w before after
+says_less id links had v w before after one some says = record { links = links; some = some; marks = says.marks; was = says.was ∙ one; changes = says.changes; rest = says.rest; headed = says.headed }
+
+pub says_more : (id links had : ℕ) (v w : Volume) (before after : Content) → links ≡ had + 1 → SaysLinks id links had v w before after → CountsUp id v w before after
+says_more id links had v w before after one says = record { links = links; marks = says.marks; one_more = one ∙ ap (λ n. n + 1) (sym says.was); changes = says.changes; rest = says.rest; headed = says.headed }
 
 -- ---- the file was found
 
@@ -200,6 +207,19 @@ counts_read v u a m reads tells rest id w after t =
       some = t.some;
       marks = marks.0;
       was = marks.1;
+      changes = changes_both v u w a.content m.content after (read_changes v u a m reads tells rest) t.changes;
+      rest = t.rest ∙ (λ i. record (rest i) { catalog = w.catalog });
+      headed = t.headed ∙ ap header_of_volume (reads.looks.content tells);
+    }
+
+pub counts_up_read : (v u : Volume) (a m : Space) (reads : ReadsVolume v u a m) (tells : IsTrue a.tells) (rest : u ≡ record v { catalog = u.catalog }) (id : ℕ) (w : Volume) (after : Content) → CountsUp id u w m.content after → CountsUp id v w a.content after
+counts_up_read v u a m reads tells rest id w after t =
+    let marks = subst (λ (k : VolumeHeader × VolumeState). (does : ChangesFields id (IsMarkedLinked k.0.modify_date t.links) k.1 (lists_of w after)) × (t.links ≡ does.before.special + 1)) {x = (u.header, lists_of u m.content)} {y = (v.header, lists_of v a.content)}
+    (λ i. (reads.keeps.header i, lists_still v u a m reads tells i)) (t.marks, t.one_more) in
+    record {
+      links = t.links;
+      marks = marks.0;
+      one_more = marks.1;
       changes = changes_both v u w a.content m.content after (read_changes v u a m reads tells rest) t.changes;
       rest = t.rest ∙ (λ i. record (rest i) { catalog = w.catalog });
       headed = t.headed ∙ ap header_of_volume (reads.looks.content tells);

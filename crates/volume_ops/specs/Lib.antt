@@ -6,6 +6,7 @@ pub mod Entering
 pub mod Fitting
 pub mod Growing
 pub mod Keeping
+pub mod Linking
 pub mod Listing
 pub mod Lists
 pub mod Looking

@@ -95,9 +95,9 @@ abbrev pub link_edits : ℕ → Edits
 link_edits links = if nat_lt 1 links then unlink_edits else last_edits
 
 -- what is told of the weight of `rm`: a folder is refused
-abbrev pub loss_weighed : Node → Weight → (Edits → Weight) → Option Weight
-loss_weighed (node.Folder folder) weighs unlinks = Some (answer.Refused refusal.IsFolder)
-loss_weighed (node.File file linked) weighs unlinks = if linked then Some (unlinks (link_edits file.fields.special)) else Some weighs
+abbrev pub loss_weighed : Node → Weight → (Edits → Weight) → Weight
+loss_weighed (node.Folder folder) weighs unlinks = answer.Refused refusal.IsFolder
+loss_weighed (node.File file linked) weighs unlinks = if linked then unlinks (link_edits file.fields.special) else weighs
 
 -- ---- the room
 

@@ -63,6 +63,15 @@ pub record DropsName (parent : ℕ) (name : List ℕ) (old new : Volume) (before
   pub header : new.header ≡ with_file_removed old.header
   pub headed : header_of_volume after ≡ new.header
 
+-- The file with this CNID says that it has so many links, where it said that it had so many; its attribute date says when. Nothing else of the volume
+-- is changed, and the header wasn't put.
+pub record SaysLinks (id links had : ℕ) (old new : Volume) (before after : Content) : Type 0 where
+  pub marks : ChangesFields id (IsMarkedLinked old.header.modify_date links) (lists_of old before) (lists_of new after)
+  pub was : marks.before.special ≡ had
+  pub changes : ChangesCatalog old new before after
+  pub rest : new ≡ record old { catalog = new.catalog }
+  pub headed : header_of_volume after ≡ header_of_volume before
+
 -- The file with this CNID says that it has one link less, and others; its attribute date says when. Nothing else of the volume is changed, and
 -- the header wasn't put.
 pub record CountsDown (id : ℕ) (old new : Volume) (before after : Content) : Type 0 where

@@ -22,6 +22,8 @@ mod growing_attributes;
 mod header;
 mod heading;
 mod keeping;
+mod link_weight;
+mod linking;
 mod listing;
 mod looking;
 mod lose_weight;

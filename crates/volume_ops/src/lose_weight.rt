@@ -1,9 +1,8 @@
 //! `weigh` of `rm`.
-ghost use Rattle.std.specs.Prelude.{◌≡◌, false, is_some, nat_lt, None, Ok, Some, IsTrue, IfOk, IfSome, if◌then◌else◌};
+ghost use Rattle.std.specs.Prelude.{◌≡◌, nat_lt, None, Some, IsTrue, IfOk, if◌then◌else◌};
 ghost use Rattle.btree_edit.specs.Causes.{HasTroubleCause};
 ghost use Rattle.hfs_language.specs.Written.{FitsPath};
 ghost use Rattle.hfs_language.specs.declared.command.Command.TheVariants as command;
-ghost use Rattle.hfs_model.specs.Step.{refuses};
 ghost use Rattle.hfs_volume.specs.Content.{volume_of};
 ghost use Rattle.hfs_volume.specs.TreeOf.{tree_of};
 ghost use Rattle.volume_ops.specs.Lists.{lists_of};
@@ -48,7 +47,7 @@ fn link_edits(links: u32) -> Edits
 
 impl Volume {
     /// The folder or file that a path stands for, or the first reason against it.
-    fn node<P: SectorSpace>(
+    pub(crate) fn node<P: SectorSpace>(
         &mut self,
         alloc: Global,
         space: &mut P,
@@ -96,21 +95,21 @@ impl Volume {
     }
 
     /// What the edits weigh by which a file loses a name.
-    fn weigh_loss<P: SectorSpace>(&self, space: &P, node: &Node) -> Option<Weight>
+    fn weigh_loss<P: SectorSpace>(&self, space: &P, node: &Node) -> Weight
         requires stands { StandsOver self.now (P.SectorView.space space.now) }
         requires settled { IsTrue (P.SectorView.space space.now).tells → IsSettled self.now (P.SectorView.space space.now).content }
         ensures exact { IsTrue (P.SectorView.space space.now).tells
             → result ≡ loss_weighed node.now (edits_weighed (capacity_of self.now) (free_in blocks.Takable self.now.map) (volume_of (P.SectorView.space space.now).content) (lose_edits self.now.private)) (edits_weighed (capacity_of self.now) (free_in blocks.Takable self.now.map) (volume_of (P.SectorView.space space.now).content)) }
     {
         match node {
-            Node::Folder(_folder) => Some(Weight::Refused(Refusal::IsFolder)),
+            Node::Folder(_folder) => Weight::Refused(Refusal::IsFolder),
             Node::File(file, linked) => {
                 if *linked {
                     let edits = link_edits(file.fields.special);
-                    return Some(self.weigh_edits(space, edits));
+                    return self.weigh_edits(space, edits);
                 }
                 let edits = self.lose_edits();
-                Some(self.weigh_edits(space, edits))
+                self.weigh_edits(space, edits)
             }
         }
     }
@@ -121,14 +120,12 @@ impl Volume {
         alloc: Global,
         space: &mut P,
         path: &Path,
-    ) -> Result<Option<Weight>, Trouble>
+    ) -> Result<Weight, Trouble>
         requires stands { StandsOver self.old (P.SectorView.space space.old) }
         requires settled { IsTrue (P.SectorView.space space.old).tells → IsSettled self.old (P.SectorView.space space.old).content }
         requires fits { FitsPath path.now }
         ensures answer { IsTrue (P.SectorView.space space.old).tells
-            → IfOk result (λ said. IfSome said (λ weighs. weighs ≡ weighed (capacity_of self.old) (free_in blocks.Takable self.old.map) (volume_of (P.SectorView.space space.old).content) (tree_of (P.SectorView.space space.old).content) (command.Rm path.now))) }
-        ensures waits { IsTrue (P.SectorView.space space.old).tells
-            → IfOk result (λ said. is_some said ≡ false → refuses (tree_of (P.SectorView.space space.old).content) (Ok (command.Rm path.now)) ≡ false) }
+            → IfOk result (λ weighs. weighs ≡ weighed (capacity_of self.old) (free_in blocks.Takable self.old.map) (volume_of (P.SectorView.space space.old).content) (tree_of (P.SectorView.space space.old).content) (command.Rm path.now)) }
         ensures reads { ReadsVolume self.old self.new (P.SectorView.space space.old) (P.SectorView.space space.new) }
         ensures stands { StandsOver self.new (P.SectorView.space space.new) }
         ensures settled { IsTrue (P.SectorView.space space.old).tells → IsSettled self.new (P.SectorView.space space.new).content }
@@ -136,15 +133,15 @@ impl Volume {
         ensures cause { HasTroubleCause (P.SectorView.space space.old).faults (P.SectorView.space space.new).faults result }
     {
         if is_private_path(path) {
-            return Ok(Some(Weight::Refused(Refusal::Private)));
+            return Ok(Weight::Refused(Refusal::Private));
         }
         if path.is_empty() {
-            return Ok(Some(Weight::Refused(Refusal::Root)));
+            return Ok(Weight::Refused(Refusal::Root));
         }
         sound_has_plain_tree();
         match self.node(alloc, space, path)? {
             Ok(node) => Ok(self.weigh_loss(space, &node)),
-            Err(why) => Ok(Some(Weight::Refused(why))),
+            Err(why) => Ok(Weight::Refused(why)),
         }
     }
 }

@@ -54,7 +54,7 @@ pub(crate) struct Losing {
 }
 
 /// Whether the fields are those of a link.
-fn is_link(fields: &EntryFields) -> bool
+pub(crate) fn is_link(fields: &EntryFields) -> bool
     ensures { result ≡ is_link_type fields.now }
 {
     read_be32(fields.finder.as_slice(), 0) == LINK_TYPE

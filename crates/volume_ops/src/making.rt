@@ -37,7 +37,7 @@ use tree_weights::{edits_have_room, edits_take_their_load};
 
 impl Volume {
     /// Counts a new folder or file in the header, which gives it the next CNID, and puts the header.
-    fn draw<P: SectorSpace>(&mut self, space: &mut P, folder: bool)
+    pub(crate) fn draw<P: SectorSpace>(&mut self, space: &mut P, folder: bool)
         requires stands { StandsOver self.old (P.SectorView.space space.old) }
         requires some { 1 ≤ (P.SectorView.space space.old).spare }
         ensures stands { StandsOver self.new (P.SectorView.space space.new) }

@@ -7,6 +7,7 @@ ghost use Rattle.hfs_model.specs.Step.{Place, is_private_path, to_make};
 ghost use Rattle.hfs_model.specs.declared.plain.PlainEntry.{PlainEntry};
 ghost use Rattle.volume_runs.specs.Told.{of_made, of_pair};
 ghost use Rattle.hfs_volume.specs.TreeOf.{tree_of};
+ghost use Rattle.volume_ops.specs.Linking.{MayLink};
 ghost use Rattle.volume_ops.specs.Looking.{ReadsVolume};
 ghost use Rattle.volume_ops.specs.Making.{path_to};
 ghost use Rattle.volume_ops.specs.Moving.{MayMove};
@@ -139,6 +140,75 @@ impl Volume {
             Some((old, above)) => match to.as_slice().split_last() {
                 Some((name, under)) => {
                     self.change_way(alloc, space, line, from, to, above, old, under, name)
+                }
+                None => Ok(Changes::new(alloc)),
+            },
+            None => Ok(Changes::new(alloc)),
+        }
+    }
+
+    /// What it changes to give the file that a path stands for another name under another path.
+    fn change_name<P: SectorSpace>(
+        &mut self,
+        alloc: Global,
+        space: &mut P,
+        line: u64,
+        from: &Path,
+        to: &Path,
+        above: &[Units],
+        old: &Units,
+        under: &[Units],
+        name: &Units,
+    ) -> Result<Changes, Trouble>
+        requires stands { StandsOver self.old (P.SectorView.space space.old) }
+        requires settled { IsTrue (P.SectorView.space space.old).tells → IsSettled self.old (P.SectorView.space space.old).content }
+        requires from_fits { FitsPath from.now }
+        requires to_fits { FitsPath to.now }
+        requires split { from.now ≡ path_to above.now old.now }
+        requires goal_split { to.now ≡ path_to under.now name.now }
+        ensures told { IsTrue (P.SectorView.space space.old).tells → is_private_path from.now ≡ false → is_private_path to.now ≡ false → (pair : PlainEntry × Place) → MayLink (tree_of (P.SectorView.space space.old).content) from.now to.now pair
+            → IfOk result (λ changes. changes ≡ of_pair line change.Linked (Ok pair)) }
+        ensures reads { ReadsVolume self.old self.new (P.SectorView.space space.old) (P.SectorView.space space.new) }
+        ensures stands { StandsOver self.new (P.SectorView.space space.new) }
+        ensures settled { IsTrue (P.SectorView.space space.old).tells → IsSettled self.new (P.SectorView.space space.new).content }
+        ensures below { P.SectorView.follows space.old space.new }
+        ensures cause { HasTroubleCause (P.SectorView.space space.old).faults (P.SectorView.space space.new).faults result }
+    {
+        sound_has_plain_tree();
+        match self.route(alloc, space, from.as_slice(), above, under, name)? {
+            Ok(way) => Ok(one_change(alloc, line, ChangeKind::Linked, way.id, way.folder, name)?),
+            Err(_why) => Err(Trouble::Memory),
+        }
+    }
+
+    /// What `ln` changes: the file that the first path stands for has a name at the place that the second one says. It is read before
+    /// the command is done. `Memory` comes where memory is wanting, and may come where there is no such file or place; `Disk` where a
+    /// read failed.
+    pub fn change_linked<P: SectorSpace>(
+        &mut self,
+        alloc: Global,
+        space: &mut P,
+        line: u64,
+        from: &Path,
+        to: &Path,
+    ) -> Result<Changes, Trouble>
+        requires stands { StandsOver self.old (P.SectorView.space space.old) }
+        requires settled { IsTrue (P.SectorView.space space.old).tells → IsSettled self.old (P.SectorView.space space.old).content }
+        requires from_fits { FitsPath from.now }
+        requires to_fits { FitsPath to.now }
+        // Where it may have a name there, it is what watchers are told of it.
+        ensures told { IsTrue (P.SectorView.space space.old).tells → is_private_path from.now ≡ false → is_private_path to.now ≡ false → (pair : PlainEntry × Place) → MayLink (tree_of (P.SectorView.space space.old).content) from.now to.now pair
+            → IfOk result (λ changes. changes ≡ of_pair line change.Linked (Ok pair)) }
+        ensures reads { ReadsVolume self.old self.new (P.SectorView.space space.old) (P.SectorView.space space.new) }
+        ensures stands { StandsOver self.new (P.SectorView.space space.new) }
+        ensures settled { IsTrue (P.SectorView.space space.old).tells → IsSettled self.new (P.SectorView.space space.new).content }
+        ensures below { P.SectorView.follows space.old space.new }
+        ensures cause { HasTroubleCause (P.SectorView.space space.old).faults (P.SectorView.space space.new).faults result }
+    {
+        match from.as_slice().split_last() {
+            Some((old, above)) => match to.as_slice().split_last() {
+                Some((name, under)) => {
+                    self.change_name(alloc, space, line, from, to, above, old, under, name)
                 }
                 None => Ok(Changes::new(alloc)),
             },

@@ -239,7 +239,7 @@ impl Volume {
     }
 
     /// Why `ln` is refused, if it is.
-    fn refused_ln<P: SectorSpace>(
+    pub(crate) fn refused_ln<P: SectorSpace>(
         &mut self,
         alloc: Global,
         space: &mut P,

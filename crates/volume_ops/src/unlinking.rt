@@ -18,6 +18,7 @@ ghost use Rattle.hfs_volume.specs.Records.{id_in, is_file, is_thread};
 ghost use Rattle.hfs_volume.specs.TreeOf.{tree_of};
 ghost use Rattle.volume_ops.specs.Changing.{HasRoomToUpdate, KeepsBlocks, catalog_node};
 ghost use Rattle.volume_ops.specs.Entering.{entry_by_id};
+ghost use Rattle.volume_ops.specs.Linking.{CountsUp};
 ghost use Rattle.volume_ops.specs.Lists.{lists_of};
 ghost use Rattle.volume_ops.specs.Losing.{IsLoss, lose_load};
 ghost use Rattle.volume_ops.specs.Making.{entry_load};
@@ -25,7 +26,7 @@ ghost use Rattle.volume_ops.specs.Removing.{HasRoomToRemove};
 ghost use Rattle.volume_ops.specs.Service.{IsInService};
 ghost use Rattle.volume_ops.specs.Standing.{IsSettled, StandsOver, own_sectors};
 ghost use Rattle.volume_ops.specs.Touching.{Touches};
-ghost use Rattle.volume_ops.specs.Unlinking.{CountsDown, DropsName, HasRoomToUnlinkLast, HasShared, IsLastOf, LosesLink, Unlinks, UnlinksLast, is_plain, links_in, relinked, with_links};
+ghost use Rattle.volume_ops.specs.Unlinking.{CountsDown, DropsName, HasRoomToUnlinkLast, HasShared, IsLastOf, LosesLink, SaysLinks, Unlinks, UnlinksLast, is_plain, links_in, relinked, with_links};
 
 use crate::entries::Entry;
 use crate::names::copy_name;
@@ -130,8 +131,8 @@ impl Volume {
         requires room { HasRoomToUpdate self.old (P.SectorView.space space.old) }
         ensures stands { OnOk result (StandsOver self.new (P.SectorView.space space.new)) }
         ensures service { IsInService self.new (P.SectorView.space space.new) }
-        ensures counts { IsTrue (P.SectorView.space space.old).tells → is_file entry.now.rec ≡ true → is_plain entry.now.rec ≡ true → links_in entry.now.rec ≡ links + 1 → 0 < links
-            → OnOk result (CountsDown (id_in entry.now.rec) self.old self.new (P.SectorView.space space.old).content (P.SectorView.space space.new).content) }
+        ensures counts { IsTrue (P.SectorView.space space.old).tells → is_file entry.now.rec ≡ true → is_plain entry.now.rec ≡ true
+            → OnOk result (SaysLinks (id_in entry.now.rec) links (links_in entry.now.rec) self.old self.new (P.SectorView.space space.old).content (P.SectorView.space space.new).content) }
         ensures blocks { KeepsBlocks self.old self.new }
         ensures touches { (committed : Content) → Touches committed (λ s. Contains (own_sectors self.old) s) (P.SectorView.space space.old) (P.SectorView.space space.new) }
         ensures spent { IsTrue (P.SectorView.space space.old).tells → (P.SectorView.space space.old).spare ≤ (P.SectorView.space space.new).spare + catalog_node self.old }
@@ -174,6 +175,36 @@ impl Volume {
             return Err(Trouble::Memory);
         }
         self.put_links(alloc, space, entry, links - 1)
+    }
+
+    /// Lets a file that was found say that it has one link more. `Memory` is answered where it can't say so.
+    pub(crate) fn put_link_more<P: SectorSpace>(
+        &mut self,
+        alloc: Global,
+        space: &mut P,
+        entry: &Entry,
+    ) -> Result<(), Trouble>
+        requires stands { StandsOver self.old (P.SectorView.space space.old) }
+        requires spelled { IsTrue (P.SectorView.space space.old).tells → AreSpelled (lists_of self.old (P.SectorView.space space.old).content).catalog_pairs }
+        requires name { length entry.now.name ≤ 255 }
+        requires there { IsTrue (P.SectorView.space space.old).tells → value_at (lists_of self.old (P.SectorView.space space.old).content).catalog_pairs entry.now.parent entry.now.name ≡ Some entry.now.rec }
+        requires fits { is_thread entry.now.rec ≡ false → FitsRecord entry.now.rec }
+        requires room { HasRoomToUpdate self.old (P.SectorView.space space.old) }
+        ensures stands { OnOk result (StandsOver self.new (P.SectorView.space space.new)) }
+        ensures service { IsInService self.new (P.SectorView.space space.new) }
+        ensures counts { IsTrue (P.SectorView.space space.old).tells → is_file entry.now.rec ≡ true → is_plain entry.now.rec ≡ true
+            → OnOk result (CountsUp (id_in entry.now.rec) self.old self.new (P.SectorView.space space.old).content (P.SectorView.space space.new).content) }
+        ensures blocks { KeepsBlocks self.old self.new }
+        ensures touches { (committed : Content) → Touches committed (λ s. Contains (own_sectors self.old) s) (P.SectorView.space space.old) (P.SectorView.space space.new) }
+        ensures own { own_sectors self.new ≡ own_sectors self.old }
+        ensures below { P.SectorView.follows space.old space.new }
+        ensures cause { HasTroubleCause (P.SectorView.space space.old).faults (P.SectorView.space space.new).faults result }
+    {
+        let links = links_in(&entry.rec);
+        if links > 0xFFFF_FFFE {
+            return Err(Trouble::Memory);
+        }
+        self.put_links(alloc, space, entry, links + 1)
     }
 
     /// Lets the file with a CNID say that it has one link less, at the volume's moment. `Memory` is answered too where that would

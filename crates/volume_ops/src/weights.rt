@@ -265,8 +265,8 @@ impl Volume {
 
     /// What a command needs before its step: that it is refused, by its step or for want of a resource; that a commit comes
     /// first; or how many sectors it puts at most, and by how much the trees grow before. It changes nothing. Of a command that
-    /// only reads nothing is told, nor of one that is still to come, where its step doesn't refuse it: of `ln`, and of `write`
-    /// and `trunc` that put data. `Memory` comes where memory is wanting, `Disk` where a read failed.
+    /// only reads nothing is told, nor of one that is still to come, where its step doesn't refuse it: of the first `ln` of a
+    /// file, and of `write` and `trunc` that put data. `Memory` comes where memory is wanting, `Disk` where a read failed.
     pub fn weigh<P: SectorSpace>(
         &mut self,
         alloc: Global,
@@ -301,8 +301,8 @@ impl Volume {
             Command::Create(path) => Ok(Some(self.weigh_create(alloc, space, path)?)),
             Command::Rmdir(path) => Ok(Some(self.weigh_rmdir(alloc, space, path)?)),
             Command::Mv(from, to) => Ok(Some(self.weigh_mv(alloc, space, from, to)?)),
-            Command::Rm(path) => self.weigh_rm(alloc, space, path),
-            Command::Ln(_from, _to) => self.weigh_refused(alloc, space, command),
+            Command::Rm(path) => Ok(Some(self.weigh_rm(alloc, space, path)?)),
+            Command::Ln(from, to) => self.weigh_ln(alloc, space, from, to),
             Command::Write { path, from, value } => {
                 self.weigh_write(alloc, space, path, *from, value.as_slice())
             }

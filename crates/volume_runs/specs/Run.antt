@@ -82,7 +82,6 @@ pub record LacksMemory (capacity : ℕ) (entry : Entry) : Type 0 where
 
 -- the commands that aren't built yet
 abbrev pub is_to_come : Command → Bool
-is_to_come (command.Rm path) = true
 is_to_come (command.Ln from to) = true
 is_to_come (command.Write path from value) = true
 is_to_come (command.Trunc path size) = true

@@ -158,7 +158,7 @@ module _ (capacity number : ℕ) (asked : Command) (before after : Content) (sou
 free_path : (path : List (List ℕ)) → (is_private_path path || false) ≡ false → is_private_path path ≡ false
 free_path path is = or_none (is_private_path path) is
 
-first_free : (a b : Bool) → (a || (b || false)) ≡ false → (a ≡ false) × (b ≡ false)
+pub first_free : (a b : Bool) → (a || (b || false)) ≡ false → (a ≡ false) × (b ≡ false)
 first_free true b is = absurd (true≢false is)
 first_free false true is = absurd (true≢false is)
 first_free false false is = (refl, refl)

@@ -76,7 +76,7 @@ new_empty false drawn moment (File f) is owned stands =
     ]
 new_empty false drawn moment (Thread t) never owned stands = absurd never
 
-no_items : (xs : List ℕ) → length xs ≡ 0 → xs ≡ []
+pub no_items : (xs : List ℕ) → length xs ≡ 0 → xs ≡ []
 no_items [] none = refl
 no_items (x ∷ xs) none = absurd (omega (arith, none))
 
@@ -254,7 +254,7 @@ counted_blocks : (next files folders : ℕ) (old : VolumeState) (id kind : ℕ) 
 unfolding all_forks
 counted_blocks next files folders old id kind = refl
 
-counted_head : (next files folders : ℕ) (old : VolumeState) → Keeps old (record old { head = with_counts next files folders old.head })
+pub counted_head : (next files folders : ℕ) (old : VolumeState) → Keeps old (record old { head = with_counts next files folders old.head })
 counted_head next files folders old = record {
   blocks = λ id kind. counted_blocks next files folders old id kind;
   extents = refl;

@@ -6,6 +6,7 @@ pub mod Handing
 pub mod Judged
 pub mod Kept
 pub mod KeptEntries
+pub mod KeptLinks
 pub mod MetAgain
 pub mod Reclaimed
 pub mod Served

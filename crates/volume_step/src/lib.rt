@@ -4,6 +4,7 @@
 mod answering;
 mod growing;
 mod judging;
+mod linking;
 mod making;
 mod marking;
 mod outcome;

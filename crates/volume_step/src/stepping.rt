@@ -15,6 +15,7 @@ ghost use Rattle.volume_step.specs.Steps.{Affords, GrowsFirst, IsDoneOk, KeepsJo
 use crate::answering::{answer, only_reads, refusal};
 use crate::growing::{done_or_short, edits_tree};
 use crate::judging::{Verdict, judge};
+use crate::linking::link_file;
 use crate::making::{make_file, make_folder, move_entry};
 use crate::marking::{date, set_mode};
 use crate::outcome::Outcome;
@@ -70,8 +71,8 @@ fn perform<P: SectorSpace>(
         Command::Write { path, from, value } => {
             write_value(alloc, volume, space, number, path, *from, value.as_slice())
         }
-        Command::Ln(_, _)
-        | Command::Read { .. }
+        Command::Ln(from, to) => link_file(alloc, volume, space, number, from, to),
+        Command::Read { .. }
         | Command::Ls(_)
         | Command::Stat(_)
         | Command::GetAttr { .. }

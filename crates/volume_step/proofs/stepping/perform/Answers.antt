@@ -73,3 +73,9 @@ returns-in-Write-clause-shrunk g c tells = keeps_shrunk c.args.command.now (g.P.
 
 pub returns-in-Write-clause-touches : goal.returns-in-Write-clause-touches
 returns-in-Write-clause-touches g c committed = touches_own committed c.args.volume.now c.write_value.new.volume (g.P.SectorView.space c.args.space.now) (g.P.SectorView.space c.write_value.new.space) (c.write_value.ensures.touches committed)
+
+pub returns-in-Ln-clause-shrunk : goal.returns-in-Ln-clause-shrunk
+returns-in-Ln-clause-shrunk g c tells = keeps_shrunk c.args.command.now (g.P.SectorView.space c.args.space.now).content (shrunk_of c.args.volume.now) (shrunk_of c.link_file.new.volume) (ap (λ (k : Command). shrunk_by (tree_of (g.P.SectorView.space c.args.space.now).content) (Ok k)) c.in-Ln.is) c.link_file.ensures.shrunk c.link_file.result
+
+pub returns-in-Ln-clause-touches : goal.returns-in-Ln-clause-touches
+returns-in-Ln-clause-touches g c committed = touches_own committed c.args.volume.now c.link_file.new.volume (g.P.SectorView.space c.args.space.now) (g.P.SectorView.space c.link_file.new.space) (c.link_file.ensures.touches committed)

@@ -5,10 +5,10 @@ use Rattle.cat_records.specs.declared.record.CatRecord.{CatRecord}
 use Rattle.catalog.specs.Entries.{IsOfKind}
 use Rattle.hfs_volume.specs.Records.{id_in, is_thread}
 use Rattle.volume_ops.specs.Changing.{ReplacesRecord}
-use Rattle.volume_ops.specs.Unlinking.{CountsDown}
+use Rattle.volume_ops.specs.Unlinking.{SaysLinks, links_in}
 use Rattle.volume_ops.proofs.Commanding.{touches_none}
 use Rattle.volume_ops.proofs.FoundEntry.{ok_so}
-use Rattle.volume_ops.proofs.Unlinked.{counts_down, relinked_some}
+use Rattle.volume_ops.proofs.Unlinked.{relinked_some, says_links}
 use Rattle.volume_ops.proofs.Besides.{blocks_edit, blocks_none}
 use Rattle.volume_ops.proofs.volume.Volume.put_links.Goals as goal
 
@@ -22,15 +22,15 @@ pub replace-requires-clause-same_kind : goal.replace-requires-clause-same_kind
 replace-requires-clause-same_kind g c = subst (λ (o : Option CatRecord). IfSome o (λ changed. IsOfKind changed c.args.entry.now.rec)) c.in-Some.is c.relinked.ensures.alike
 
 pub returns-clause-counts : goal.returns-clause-counts
-returns-clause-counts g c tells a_file plain was some =
+returns-clause-counts g c tells a_file plain =
     ok_so (ReplacesRecord c.args.entry.now c.in-Some.rec c.args.self.now c.replace.new.self (g.P.SectorView.space c.args.space.now).content (g.P.SectorView.space c.replace.new.space).content)
-    (CountsDown (id_in c.args.entry.now.rec) c.args.self.now c.replace.new.self (g.P.SectorView.space c.args.space.now).content (g.P.SectorView.space c.replace.new.space).content)
+    (SaysLinks (id_in c.args.entry.now.rec) c.args.links (links_in c.args.entry.now.rec) c.args.self.now c.replace.new.self (g.P.SectorView.space c.args.space.now).content (g.P.SectorView.space c.replace.new.space).content)
     c.replace.result (c.replace.ensures.replaces tells)
-    (λ r. counts_down c.args.self.now.header.modify_date c.args.links c.args.self.now c.replace.new.self (g.P.SectorView.space c.args.space.now).content (g.P.SectorView.space c.replace.new.space).content c.args.entry.now c.in-Some.rec refl (c.requires.there tells) a_file plain was some
+    (λ r. says_links c.args.self.now.header.modify_date c.args.links c.args.self.now c.replace.new.self (g.P.SectorView.space c.args.space.now).content (g.P.SectorView.space c.replace.new.space).content c.args.entry.now c.in-Some.rec refl (c.requires.there tells) a_file plain
     (sym c.relinked.ensures.same ∙ c.in-Some.is) r)
 
 pub returns-in_default-clause-counts : goal.returns-in_default-clause-counts
-returns-in_default-clause-counts g c tells a_file plain was some = absurd (relinked_some c.args.self.now.header.modify_date c.args.links c.args.entry.now.rec a_file (sym c.relinked.ensures.same ∙ c.in_default.is))
+returns-in_default-clause-counts g c tells a_file plain = absurd (relinked_some c.args.self.now.header.modify_date c.args.links c.args.entry.now.rec a_file (sym c.relinked.ensures.same ∙ c.in_default.is))
 
 pub returns-in_default-clause-touches : goal.returns-in_default-clause-touches
 returns-in_default-clause-touches g c committed = touches_none committed _ (g.P.SectorView.space c.args.space.now)

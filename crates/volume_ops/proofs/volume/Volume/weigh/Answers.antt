@@ -23,17 +23,16 @@ returns-in_ok-weigh_setattr-in-SetAttr-clause-answer g c tells =
     ∙ ap (λ (value : List ℕ). weighed c.args.self.now.capacity (free_in blocks.Takable c.args.self.now.map) (volume_of (g.P.SectorView.space c.args.space.now).content) (tree_of (g.P.SectorView.space c.args.space.now).content) (command.SetAttr c.in-SetAttr.path c.in-SetAttr.name value)) c.as_slice.ensures
     ∙ ap (λ (k : Command). weighed c.args.self.now.capacity (free_in blocks.Takable c.args.self.now.map) (volume_of (g.P.SectorView.space c.args.space.now).content) (tree_of (g.P.SectorView.space c.args.space.now).content) k) (sym c.in-SetAttr.is)
 
-pub returns-in-Rm-clause-waits : goal.returns-in-Rm-clause-waits
-returns-in-Rm-clause-waits g c tells unread =
-    if_so (λ (said : Option Weight). is_some said ≡ false → refuses (tree_of (g.P.SectorView.space c.args.space.now).content) (Ok (command.Rm c.in-Rm.path)) ≡ false)
-    (λ (said : Option Weight). is_some said ≡ false → (is_to_come c.args.command.now ≡ true) × (refuses (tree_of (g.P.SectorView.space c.args.space.now).content) (Ok c.args.command.now) ≡ false)) c.weigh_rm.result
-    (λ said it none. (ap is_to_come c.in-Rm.is, ap (λ (k : Command). refuses (tree_of (g.P.SectorView.space c.args.space.now).content) (Ok k)) c.in-Rm.is ∙ it none)) (c.weigh_rm.ensures.waits tells)
+pub returns-in-Ln-clause-answer : goal.returns-in-Ln-clause-answer
+returns-in-Ln-clause-answer g c tells =
+    subst (λ (k : Command). IfOk c.weigh_ln.result (λ said. IfSome said (λ weighs. weighs ≡ weighed c.args.self.now.capacity (free_in blocks.Takable c.args.self.now.map) (volume_of (g.P.SectorView.space c.args.space.now).content) (tree_of (g.P.SectorView.space c.args.space.now).content) k)))
+    (sym c.in-Ln.is) (c.weigh_ln.ensures.answer tells)
 
 pub returns-in-Ln-clause-waits : goal.returns-in-Ln-clause-waits
 returns-in-Ln-clause-waits g c tells unread =
-    if_so (λ (said : Option Weight). is_some said ≡ false → refuses (tree_of (g.P.SectorView.space c.args.space.now).content) (Ok c.args.command.now) ≡ false)
-    (λ (said : Option Weight). is_some said ≡ false → (is_to_come c.args.command.now ≡ true) × (refuses (tree_of (g.P.SectorView.space c.args.space.now).content) (Ok c.args.command.now) ≡ false)) c.weigh_refused.result
-    (λ said it none. (ap is_to_come c.in-Ln.is, it none)) (c.weigh_refused.ensures.waits tells)
+    if_so (λ (said : Option Weight). is_some said ≡ false → refuses (tree_of (g.P.SectorView.space c.args.space.now).content) (Ok (command.Ln c.in-Ln.from c.in-Ln.to)) ≡ false)
+    (λ (said : Option Weight). is_some said ≡ false → (is_to_come c.args.command.now ≡ true) × (refuses (tree_of (g.P.SectorView.space c.args.space.now).content) (Ok c.args.command.now) ≡ false)) c.weigh_ln.result
+    (λ said it none. (ap is_to_come c.in-Ln.is, ap (λ (k : Command). refuses (tree_of (g.P.SectorView.space c.args.space.now).content) (Ok k)) c.in-Ln.is ∙ it none)) (c.weigh_ln.ensures.waits tells)
 
 pub returns-in-Write-clause-answer : goal.returns-in-Write-clause-answer
 returns-in-Write-clause-answer g c tells =
@@ -56,8 +55,3 @@ returns-in-Trunc-clause-waits g c tells unread =
     if_so (λ (said : Option Weight). is_some said ≡ false → refuses (tree_of (g.P.SectorView.space c.args.space.now).content) (Ok (command.Trunc c.in-Trunc.path c.in-Trunc.size)) ≡ false)
     (λ (said : Option Weight). is_some said ≡ false → (is_to_come c.args.command.now ≡ true) × (refuses (tree_of (g.P.SectorView.space c.args.space.now).content) (Ok c.args.command.now) ≡ false)) c.weigh_trunc.result
     (λ said it none. (ap is_to_come c.in-Trunc.is, ap (λ (k : Command). refuses (tree_of (g.P.SectorView.space c.args.space.now).content) (Ok k)) (sym (sym c.in-Trunc.is)) ∙ it none)) (c.weigh_trunc.ensures.waits tells)
-
-pub returns-in-Rm-clause-answer : goal.returns-in-Rm-clause-answer
-returns-in-Rm-clause-answer g c tells =
-    subst (λ (k : Command). IfOk c.weigh_rm.result (λ (said : Option Weight). IfSome said (λ weighs. weighs ≡ weighed c.args.self.now.capacity (free_in blocks.Takable c.args.self.now.map) (volume_of (g.P.SectorView.space c.args.space.now).content) (tree_of (g.P.SectorView.space c.args.space.now).content) k)))
-    (sym c.in-Rm.is) (c.weigh_rm.ensures.answer tells)

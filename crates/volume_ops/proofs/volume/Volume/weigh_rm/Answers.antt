@@ -13,12 +13,9 @@ pub weigh_loss-requires-clause-settled : goal.weigh_loss-requires-clause-settled
 weigh_loss-requires-clause-settled g c tells = c.node.ensures.settled (sym c.node.ensures.reads.looks.same.tells ∙ tells)
 
 pub returns-in-Ok-clause-answer : goal.returns-in-Ok-clause-answer
-returns-in-Ok-clause-answer g c tells = (loss_told c.sound_has_plain_tree.ensures c.args.self.now (g.P.SectorView.space c.args.space.now).content (c.requires.stands.stands tells).trees (c.requires.settled tells) c.args.path.now (sym c.is_private_path.ensures ∙ c.if-is_private_path.false) c.requires.fits (unrooted c.args.path.now (sym c.is_empty.ensures ∙ c.if-is_empty.false)) c.in_ok-node.field-0 (c.in_ok-node.ensures.found tells) (free_in blocks.Takable c.args.self.now.map) c.in-Ok.node c.in-Ok.is c.weigh_loss.result (c.weigh_loss.ensures.exact (c.node.ensures.reads.looks.same.tells ∙ tells)
-    ∙ (λ i. loss_weighed c.in-Ok.node (edits_weighed (c.node.ensures.reads.keeps.capacity i) (free_in blocks.Takable (c.node.ensures.reads.keeps.map i)) (volume_of (c.node.ensures.reads.looks.content tells i)) (lose_edits (c.node.ensures.reads.keeps.private i))) (edits_weighed (c.node.ensures.reads.keeps.capacity i) (free_in blocks.Takable (c.node.ensures.reads.keeps.map i)) (volume_of (c.node.ensures.reads.looks.content tells i)))))).answer_is
-
-pub returns-in-Ok-clause-waits : goal.returns-in-Ok-clause-waits
-returns-in-Ok-clause-waits g c tells = (loss_told c.sound_has_plain_tree.ensures c.args.self.now (g.P.SectorView.space c.args.space.now).content (c.requires.stands.stands tells).trees (c.requires.settled tells) c.args.path.now (sym c.is_private_path.ensures ∙ c.if-is_private_path.false) c.requires.fits (unrooted c.args.path.now (sym c.is_empty.ensures ∙ c.if-is_empty.false)) c.in_ok-node.field-0 (c.in_ok-node.ensures.found tells) (free_in blocks.Takable c.args.self.now.map) c.in-Ok.node c.in-Ok.is c.weigh_loss.result (c.weigh_loss.ensures.exact (c.node.ensures.reads.looks.same.tells ∙ tells)
-    ∙ (λ i. loss_weighed c.in-Ok.node (edits_weighed (c.node.ensures.reads.keeps.capacity i) (free_in blocks.Takable (c.node.ensures.reads.keeps.map i)) (volume_of (c.node.ensures.reads.looks.content tells i)) (lose_edits (c.node.ensures.reads.keeps.private i))) (edits_weighed (c.node.ensures.reads.keeps.capacity i) (free_in blocks.Takable (c.node.ensures.reads.keeps.map i)) (volume_of (c.node.ensures.reads.looks.content tells i)))))).waits
+returns-in-Ok-clause-answer g c tells =
+    loss_told c.sound_has_plain_tree.ensures c.args.self.now (g.P.SectorView.space c.args.space.now).content (c.requires.stands.stands tells).trees (c.requires.settled tells) c.args.path.now (sym c.is_private_path.ensures ∙ c.if-is_private_path.false) c.requires.fits (unrooted c.args.path.now (sym c.is_empty.ensures ∙ c.if-is_empty.false)) c.in_ok-node.field-0 (c.in_ok-node.ensures.found tells) (free_in blocks.Takable c.args.self.now.map) c.in-Ok.node c.in-Ok.is c.weigh_loss.result (c.weigh_loss.ensures.exact (c.node.ensures.reads.looks.same.tells ∙ tells)
+    ∙ (λ i. loss_weighed c.in-Ok.node (edits_weighed (c.node.ensures.reads.keeps.capacity i) (free_in blocks.Takable (c.node.ensures.reads.keeps.map i)) (volume_of (c.node.ensures.reads.looks.content tells i)) (lose_edits (c.node.ensures.reads.keeps.private i))) (edits_weighed (c.node.ensures.reads.keeps.capacity i) (free_in blocks.Takable (c.node.ensures.reads.keeps.map i)) (volume_of (c.node.ensures.reads.looks.content tells i)))))
 
 pub returns-in-Err-clause-answer : goal.returns-in-Err-clause-answer
 returns-in-Err-clause-answer g c tells =

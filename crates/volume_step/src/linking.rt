@@ -1,0 +1,54 @@
+//! `ln`, for which nothing is missing.
+ghost use Rattle.std.specs.Prelude.{◌≡◌, IsTrue, IfOk, OnOk};
+ghost use Rattle.std.specs.List.{Contains};
+ghost use Rattle.sector_disk.specs.Lists.{Content};
+ghost use Rattle.btree_edit.specs.Causes.{HasTroubleCause};
+ghost use Rattle.hfs_language.specs.Written.{FitsPath};
+ghost use Rattle.hfs_language.specs.declared.command.Command.TheVariants as command;
+ghost use Rattle.volume_ops.specs.Keeping.{shrunk_of};
+ghost use Rattle.volume_ops.specs.Room.{capacity_of};
+ghost use Rattle.volume_ops.specs.Service.{IsInService};
+ghost use Rattle.volume_ops.specs.Standing.{HoldsOn, IsSettled, StandsOver, own_sectors};
+ghost use Rattle.volume_ops.specs.Touching.{Touches};
+ghost use Rattle.volume_step.specs.Steps.{Affords, KeepsJournal, StepsTo};
+
+use crate::outcome::Outcome;
+use hfs_language::Path;
+use hx_bytes::Trouble;
+use sector_disk::SectorSpace;
+use std::alloc::Global;
+use volume_ops::Volume;
+
+/// Gives a file another name. Where the room that there is doesn't suffice, a commit comes first.
+pub(crate) fn link_file<P: SectorSpace>(
+    alloc: Global,
+    volume: &mut Volume,
+    space: &mut P,
+    number: u64,
+    from: &Path,
+    to: &Path,
+) -> Result<Outcome, Trouble>
+    requires stands { StandsOver volume.old (P.SectorView.space space.old) }
+    requires settled { IsTrue (P.SectorView.space space.old).tells → IsSettled volume.old (P.SectorView.space space.old).content }
+    requires from_fits { FitsPath from.now }
+    requires to_fits { FitsPath to.now }
+    requires affords { IsTrue (P.SectorView.space space.old).tells → Affords (capacity_of volume.old) (command.Ln from.now to.now) (P.SectorView.space space.old).content }
+    ensures answered { IsTrue (P.SectorView.space space.old).tells → IfOk result (λ outcome. StepsTo outcome (capacity_of volume.old) number (command.Ln from.now to.now) (P.SectorView.space space.old).content (P.SectorView.space space.new).content) }
+    ensures place { IsTrue (P.SectorView.space space.old).tells → OnOk result (KeepsJournal (P.SectorView.space space.old).content (P.SectorView.space space.new).content) }
+    ensures stands { OnOk result (StandsOver volume.new (P.SectorView.space space.new)) }
+    ensures settled { IsTrue (P.SectorView.space space.old).tells → OnOk result (IsSettled volume.new (P.SectorView.space space.new).content) }
+    ensures service { IsInService volume.new (P.SectorView.space space.new) }
+    ensures holds { (committed : Content) → HoldsOn committed volume.old → OnOk result (HoldsOn committed volume.new) }
+    ensures capacity { capacity_of volume.new ≡ capacity_of volume.old }
+    ensures shrunk { shrunk_of volume.new ≡ shrunk_of volume.old }
+    ensures touches { (committed : Content) → Touches committed (λ s. Contains (own_sectors volume.old) s) (P.SectorView.space space.old) (P.SectorView.space space.new) }
+    ensures below { P.SectorView.follows space.old space.new }
+    ensures cause { HasTroubleCause (P.SectorView.space space.old).faults (P.SectorView.space space.new).faults result }
+{
+    let changes = volume.change_linked(alloc, space, number, from, to)?;
+    if !volume.fits_make(space) {
+        return Ok(Outcome::CommitFirst);
+    }
+    let reply = volume.ln(alloc, space, from, to)?;
+    Ok(Outcome::Answered { reply, changes })
+}
