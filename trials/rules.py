@@ -341,6 +341,7 @@ class Reading:
         want(not any(found[head.total :]), 3, "bits behind those of blocks")
         want(found[: head.total] == marks, 13, "a bit of the bitmap")
         want(head.free + used == head.total, 14, "the free blocks")
+        self.marks = marks
 
     def go_on(self, place, full, records):
         for _, _, start, extents in records:

@@ -1,6 +1,6 @@
 """What a command takes of a volume, written from the page docs/commands.md ("What a command takes") and not from the program.
 
-It speaks of commands that put no bytes into files, for which the numbers that `df` tells are enough.
+For commands that put no bytes into files the numbers that `df` tells are enough; for the others the free runs and the file's extents are asked for.
 """
 
 KEYS = (10, 516, 266)
@@ -61,31 +61,90 @@ def growth(tree, key, edits, block):
     return rises, least * unit, maps(least * unit)
 
 
-def weigh(gauge, plain, verb, words):
-    """The refusal for want of a resource, or None, and how many trees have to grow."""
+class Data:
+    """Where a `write` or a `trunc` puts data: how many new blocks it takes, and how many of those that the file has they replace."""
+
+    def __init__(self, size, start, end, block):
+        first = min(start, size) // block
+        self.new, self.grows = up(end, block) - first, end > size
+        self.old = min(up(end, block), up(size, block)) - first
+
+
+def data_of(plain, verb, words, block):
+    """The data that a command puts into a file, or None."""
+    if verb not in ("write", "trunc"):
+        return None
+    size = len(plain.reached(words[0]).data)
+    start, end = (int(words[1]), int(words[1]) + len(words[2])) if verb == "write" else (size, int(words[1]))
+    return Data(size, start, end, block) if end > start else None
+
+
+def records(extents):
+    """How many overflow records a fork of so many extents has."""
+    return up(max(0, extents - 8), 8)
+
+
+class Fork:
+    """What is known of the forks that a command makes longer: the extents of the file's data and whether it has blocks past its size, the lengths of the free
+    runs, and the extents of the trees' forks."""
+
+    def __init__(self, extents, surplus, runs, trees):
+        self.extents, self.surplus, self.runs, self.trees = extents, surplus, sorted(runs, reverse=True), trees
+
+    def fewest(self, many):
+        """The least number of free runs that hold so many blocks, or of all of them."""
+        for count, long in enumerate(self.runs):
+            if many <= 0:
+                return count
+            many -= long
+        return len(self.runs)
+
+
+class Weight:
+    """What a command takes: the refusal for want of a resource, or None, and whether it asks for more than is built, and may wait."""
+
+    def __init__(self, refused=None, waits=False):
+        self.refused, self.waits = refused, waits
+
+
+def weigh(gauge, plain, verb, words, fork):
+    """The weight of a command that the plain tree doesn't refuse."""
     if verb == "setattr" and not gauge.trees[2][2]:
-        return b"no NoTree", 0
+        return Weight(b"no NoTree")
+    trees, data = gauge.trees, data_of(plain, verb, words, gauge.block)
+    sectors = [size // 512 for size, _, _, _ in trees]
+    if data and data.grows and fork.surplus:
+        load = 1 + sectors[1] + min(up(gauge.total, 4096), 24) + sectors[0] * min(4 * (trees[0][1] + 1) + 4, trees[0][2])
+        return Weight(b"no TooBig %d %d" % (load, gauge.capacity) if load > gauge.capacity else None, True)
     ids, catalog, attributes, updates = edits_of(plain, verb, words)
+    runs = fork.fewest(data.new) if data else 0
+    edits = [records(fork.extents) + records(fork.extents + 1 + runs) if data else 0, catalog, attributes]
+    waits = edits[0] > 0
     if plain.next + ids > 4294967295:
-        return b"no NoIds %d" % plain.next, 0
-    load, blocks, grows = 1 + updates * gauge.trees[1][0] // 512, 0, 0
-    for tree, key, edits in zip(gauge.trees, KEYS, (0, catalog, attributes)):
-        size, depth, nodes, _ = tree
-        rises, more, maps = growth(tree, key, edits, gauge.block)
-        if edits and (depth >= 8 or max(depth, 1) + 1 + rises > 11):
-            return b"no TooDeep %d" % depth, 0
-        blocks, grows = blocks + more * size // gauge.block, grows + (more > 0)
-        if edits:
-            load += size // 512 * min(edits * (4 * (max(depth, 1) + 2 + rises) + 4) + (2 + maps if more else 0), nodes + more)
-    if gauge.free < blocks:
-        return b"no NoSpace %d %d" % (gauge.free, blocks), grows
-    if blocks and gauge.longest < blocks:
-        return b"no NoRun %d %d" % (gauge.longest, blocks), grows
-    if blocks:
-        load += min(up(gauge.total, 4096), blocks // 4096 + 2)
+        return Weight(b"no NoIds %d" % plain.next, waits)
+    grown = [None] + [growth(trees[it], KEYS[it], edits[it], gauge.block) for it in (1, 2)]
+    edits[0] += sum(grown[it][1] > 0 and fork.trees[it] >= 8 for it in (1, 2))
+    grown[0] = growth(trees[0], KEYS[0], edits[0], gauge.block)
+    load, blocks = 1 + updates * sectors[1], 0
+    for (size, depth, nodes, _), many, (rises, more, maps) in zip(trees, edits, grown):
+        if many and (depth >= 8 or max(depth, 1) + 1 + rises > 11):
+            return Weight(b"no TooDeep %d" % depth, waits)
+        blocks += more * size // gauge.block
+        if many or more:
+            load += size // 512 * min(many * (4 * (max(depth, 1) + 2 + rises) + 4) + (2 + maps if more else 0), nodes + more)
+    waits |= grown[0][1] > 0 or grown[1][1] > 0 and grown[2][1] > 0 or any(grown[it][1] > 0 and fork.trees[it] >= 8 for it in (1, 2))
+    if grown[0][1] and fork.trees[0] == 8:
+        return Weight(b"no OverflowFull 8", waits)
+    wanted = blocks + (data.new if data else 0)
+    if gauge.free < wanted:
+        return Weight(b"no NoSpace %d %d" % (gauge.free, wanted), waits)
+    if blocks and gauge.longest < wanted:
+        return Weight(b"no NoRun %d %d" % (gauge.longest, wanted), waits)
+    bits = (data.new // 4096 + 2 * runs + data.old if data else 0) + (blocks // 4096 + 2 if blocks else 0)
+    load += min(up(gauge.total, 4096), bits)
     if verb not in ("at", *CHANGES):
         load = 0
-    return (b"no TooBig %d %d" % (load, gauge.capacity) if load > gauge.capacity else None), grows
+    return Weight(b"no TooBig %d %d" % (load, gauge.capacity) if load > gauge.capacity else None, waits)
 
 
 CHANGES = ("mkdir", "create", "rm", "rmdir", "mv", "ln", "chmod", "setattr", "delattr", "write", "trunc")

@@ -1,7 +1,7 @@
 //! Power fails after each write and each barrier of a run.
 use crate::few::{Few, fresh_few};
 use crate::plain::told_behind;
-use crate::runs::{is_clean, run_lines, told_by};
+use crate::runs::{AT_ONCE, PIECE, is_clean, run_in_pieces, run_lines, told_by};
 use hx_bytes::OutOfMemory;
 use mem_disk::MemImage;
 use std::alloc::Global;
@@ -10,7 +10,7 @@ use std::alloc::Global;
 const FOLDERS: &[u8] =
     b"mkdir /d0\nsync\nmkdir /d1\nsync\nmkdir /d2\nsync\nmkdir /d3\nsync\nmkdir /d4\nsync\nmkdir /d5\nsync\n";
 
-/// A run with each command that changes a volume without bytes of files.
+/// A run with each command that changes folders, entries and attributes.
 const COMMANDS: &[u8] =
     b"mkdir /a\ncreate /a/f\nat 500\nchmod /a/f 600\nsetattr /a/f k =one\nsync\nmkdir /a/b\nmv /a/f /a/b/g\nsetattr /a/b/g k =two\nsetattr /a l =\nsync\ndelattr /a/b/g k\ncreate /h\nrmdir /a\nmv /a/b/g /g\nrmdir /a/b\nrmdir /a\nsync\n";
 
@@ -25,6 +25,18 @@ const REMOVALS: &[u8] =
 /// What is read back behind it.
 const READS_OF_REMOVALS: &[u8] =
     b"ls /\nstat /\nstat /a\nstat /b\nls /d\nstat /d\nstat /d/c\nstat /e\n";
+
+/// A run in which bytes are put into files and cut off, and files get and lose names: into new blocks and over old ones, over the border of a
+/// block, behind a gap, by either name of a file. Housekeeping gives back blocks between the lines.
+const BYTES: &[u8] =
+    b"create /f\nwrite /f 5 =hello\nsync\nwrite /f 4094 =wxyz\nln /f /g\nsync\nwrite /g 0 =ab\nmkdir /d\ncreate /d/h\ntrunc /d/h 5000\nrm /f\nat 700\nln /g /d/i\nsync\ntrunc /g 3\ntrunc /d/h 4000\nwrite /d/h 3999 =xyz\nmv /g /d/g\nsetattr /d/g k =v\nchmod /d/i 640\nsync\nwrite /d/i 9000 =%00end\ndelattr /d/i k\nrm /d/i\nrm /d/g\nread /d/h 3998 9\ntrunc /d/h 0\nrm /d/h\nrmdir /d\ncreate /f\nwrite /f 0 =last\nls /\nsync\n";
+
+/// What is read back behind it.
+const READS_OF_BYTES: &[u8] =
+    b"ls /\nstat /\nls /d\nstat /d\nstat /f\nread /f 0 9100\nstat /g\nread /g 0 9100\nlsattr /g\nstat /d/h\nread /d/h 0 9100\nstat /d/g\nread /d/g 0 9100\ngetattr /d/g k\nstat /d/i\nread /d/i 8998 9100\nlsattr /d/i\n";
+
+/// A file whose bytes are put three times, which come at once.
+const ONE_BATCH: &[u8] = b"create /f\nwrite /f 0 =a\nwrite /f 0 =b\nwrite /f 0 =c\n";
 
 /// What all crashes of a run left.
 #[derive(Clone, Copy)]
@@ -51,6 +63,18 @@ pub fn try_removals(alloc: Global, choice: u64) -> Result<Tried, OutOfMemory> {
     )
 }
 
+/// All crashes of a run that puts bytes into files and gives files names on a new volume.
+pub fn try_bytes(alloc: Global, choice: u64) -> Result<Tried, OutOfMemory> {
+    try_from(alloc, &fresh_few(alloc)?, BYTES, READS_OF_BYTES, choice)
+}
+
+/// All crashes of one batch that puts bytes into a file over and over on a new volume.
+pub fn try_one_batch(alloc: Global, choice: u64) -> Result<Tried, OutOfMemory> {
+    let start = fresh_few(alloc)?;
+    let reads = b"ls /\nread /f 0 9\n";
+    try_in_pieces(alloc, &start, ONE_BATCH, AT_ONCE, reads, choice)
+}
+
 /// All crashes of a run on a volume of which the ring was gone round before.
 pub fn try_worn(alloc: Global, choice: u64) -> Result<Tried, OutOfMemory> {
     try_from(alloc, &worn(alloc)?, FOLDERS, b"ls /\n", choice)
@@ -75,18 +99,19 @@ pub fn worn(alloc: Global) -> Result<MemImage, OutOfMemory> {
     disk.rig.image(alloc, 1)
 }
 
-/// Stops the run after each call that wrote, and mounts the image of this choice. It must be sound, and what is read of it must be what the
+/// Stops the run of lines that come in such pieces after each call that wrote, and mounts the image of this choice. It must be sound, and what is read of it must be what the
 /// plain tree tells after some of the lines, among them each that was answered.
-fn try_from(
+fn try_in_pieces(
     alloc: Global,
     start: &MemImage,
     lines: &[u8],
+    piece: u64,
     reads: &[u8],
     choice: u64,
 ) -> Result<Tried, OutOfMemory> {
     let wanted = told_behind(alloc, lines, reads)?;
     let mut whole = Few::over(alloc, start)?;
-    run_lines(alloc, &mut whole, lines)?;
+    run_in_pieces(alloc, &mut whole, lines, piece)?;
     let mut tried = Tried {
         crashes: 0,
         wrong: None,
@@ -98,7 +123,7 @@ fn try_from(
         let stop = call.saturating_add(1);
         let mut disk = Few::over(alloc, start)?;
         disk.rig.stop_after(stop);
-        let ran = run_lines(alloc, &mut disk, lines)?;
+        let ran = run_in_pieces(alloc, &mut disk, lines, piece)?;
         let image = disk.rig.image(alloc, choice)?;
         let told = told_by(alloc, &image, reads)?;
         if !is_clean(alloc, &image)? || !is_one_of(&wanted, ran.lines, told) {
@@ -107,6 +132,17 @@ fn try_from(
         tried.crashes = tried.crashes.saturating_add(1);
     }
     Ok(tried)
+}
+
+// The same for lines that come in the usual pieces.
+fn try_from(
+    alloc: Global,
+    start: &MemImage,
+    lines: &[u8],
+    reads: &[u8],
+    choice: u64,
+) -> Result<Tried, OutOfMemory> {
+    try_in_pieces(alloc, start, lines, PIECE, reads, choice)
 }
 
 // Whether this was told, and is wanted after so many lines at least.

@@ -1,4 +1,4 @@
-//! A disk of which only the sectors are kept that a volume without bytes of files uses.
+//! A disk of which only the sectors are kept that a volume with few bytes of files uses.
 ghost use Rattle.std.specs.Prelude.{◌<◌, IfSome};
 ghost use Rattle.mem_disk.specs.MemRig.{rig_state};
 
@@ -11,8 +11,8 @@ use test_kit::{fresh, put};
 /// How many sectors the disk shows.
 const SHOWN: u64 = 16_384;
 
-/// How many sectors are kept in front: up to the end of the catalog.
-const FRONT: u64 = 2_840;
+/// How many sectors are kept in front: up to the end of the catalog, and the next 32 blocks, which files take first.
+const FRONT: u64 = 3_096;
 
 /// The sector of the alternate volume header, which is kept behind them.
 const ALTERNATE: u64 = 16_382;

@@ -7,8 +7,11 @@ use mem_disk::{MemImage, MemSource};
 use std::alloc::Global;
 use test_kit::words;
 
-// How many bytes a take of the source gives at most: few, so that lines come in pieces, and some batches have several.
-const PIECE: u64 = 29;
+/// How many bytes a take of the source gives at most: few, so that lines come in pieces, and some batches have several.
+pub const PIECE: u64 = 29;
+
+/// The same, where all lines of a run come at once, and are one batch up to the 32nd.
+pub const AT_ONCE: u64 = 65_536;
 
 /// How a run ended, and how many whole lines it told.
 #[derive(Clone, Copy)]
@@ -19,7 +22,17 @@ pub struct Ran {
 
 /// Serves these lines, and counts the whole lines that were told.
 pub fn run_lines(alloc: Global, disk: &mut Few, input: &[u8]) -> Result<Ran, OutOfMemory> {
-    let status = run_words(alloc, "run v.img", disk, input)?;
+    run_in_pieces(alloc, disk, input, PIECE)
+}
+
+/// Serves lines that come in pieces of so many bytes.
+pub fn run_in_pieces(
+    alloc: Global,
+    disk: &mut Few,
+    input: &[u8],
+    piece: u64,
+) -> Result<Ran, OutOfMemory> {
+    let status = run_words(alloc, "run v.img", disk, input, piece)?;
     let lines = count_lines(disk.rig.told());
     Ok(Ran { status, lines })
 }
@@ -30,9 +43,10 @@ fn run_words(
     line: &str,
     disk: &mut Few,
     input: &[u8],
+    piece: u64,
 ) -> Result<Status, OutOfMemory> {
     let words = words(alloc, line)?;
-    let mut source = MemSource::new(alloc, input, PIECE, None)?;
+    let mut source = MemSource::new(alloc, input, piece.max(1), None)?;
     Ok(hfsx(alloc, words.as_slice(), disk, &mut source))
 }
 
@@ -53,6 +67,6 @@ pub fn told_by(
 /// Whether a check finds the volume of an image sound.
 pub fn is_clean(alloc: Global, image: &MemImage) -> Result<bool, OutOfMemory> {
     let mut disk = Few::over(alloc, image)?;
-    let status = run_words(alloc, "check v.img", &mut disk, b"")?;
+    let status = run_words(alloc, "check v.img", &mut disk, b"", PIECE)?;
     Ok(status == Status::Done)
 }

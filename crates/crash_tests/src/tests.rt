@@ -1,5 +1,5 @@
 // Runs that are cut off, and runs over devices that fail; each choice of a crash's image is a test of its own.
-use crate::crashes::{try_all, try_removals, try_worn, worn};
+use crate::crashes::{try_all, try_bytes, try_one_batch, try_removals, try_worn, worn};
 use crate::journals::{Damage, HEADER, changed_sectors, is_refused, told_before_the_journal};
 use crate::replays::{is_replayed_after_two_stops, start_of};
 use crate::twice::try_pairs;
@@ -83,6 +83,80 @@ fn the_values_of_choice_7_leave_a_prefix(rt: HostRuntime) -> Result<(), Fail> {
     let tried = try_all(rt.alloc(), 7)?;
     assert_eq!(rt; tried.wrong, None);
     assert!(rt; 100 < tried.crashes);
+    Ok(())
+}
+
+#[test]
+fn the_oldest_bytes_of_files_leave_a_prefix(rt: HostRuntime) -> Result<(), Fail> {
+    let tried = try_bytes(rt.alloc(), 0)?;
+    assert_eq!(rt; tried.wrong, None);
+    assert!(rt; 200 < tried.crashes);
+    Ok(())
+}
+
+#[test]
+fn the_newest_bytes_of_files_leave_a_prefix(rt: HostRuntime) -> Result<(), Fail> {
+    let tried = try_bytes(rt.alloc(), 1)?;
+    assert_eq!(rt; tried.wrong, None);
+    assert!(rt; 200 < tried.crashes);
+    Ok(())
+}
+
+#[test]
+fn the_bytes_of_choice_2_leave_a_prefix(rt: HostRuntime) -> Result<(), Fail> {
+    let tried = try_bytes(rt.alloc(), 2)?;
+    assert_eq!(rt; tried.wrong, None);
+    assert!(rt; 200 < tried.crashes);
+    Ok(())
+}
+
+#[test]
+fn the_bytes_of_choice_3_leave_a_prefix(rt: HostRuntime) -> Result<(), Fail> {
+    let tried = try_bytes(rt.alloc(), 3)?;
+    assert_eq!(rt; tried.wrong, None);
+    assert!(rt; 200 < tried.crashes);
+    Ok(())
+}
+
+#[test]
+fn the_bytes_of_choice_4_leave_a_prefix(rt: HostRuntime) -> Result<(), Fail> {
+    let tried = try_bytes(rt.alloc(), 4)?;
+    assert_eq!(rt; tried.wrong, None);
+    assert!(rt; 200 < tried.crashes);
+    Ok(())
+}
+
+#[test]
+fn the_bytes_of_choice_5_leave_a_prefix(rt: HostRuntime) -> Result<(), Fail> {
+    let tried = try_bytes(rt.alloc(), 5)?;
+    assert_eq!(rt; tried.wrong, None);
+    assert!(rt; 200 < tried.crashes);
+    Ok(())
+}
+
+#[test]
+fn the_bytes_of_choice_6_leave_a_prefix(rt: HostRuntime) -> Result<(), Fail> {
+    let tried = try_bytes(rt.alloc(), 6)?;
+    assert_eq!(rt; tried.wrong, None);
+    assert!(rt; 200 < tried.crashes);
+    Ok(())
+}
+
+#[test]
+fn the_bytes_of_choice_7_leave_a_prefix(rt: HostRuntime) -> Result<(), Fail> {
+    let tried = try_bytes(rt.alloc(), 7)?;
+    assert_eq!(rt; tried.wrong, None);
+    assert!(rt; 200 < tried.crashes);
+    Ok(())
+}
+
+#[test]
+fn a_batch_of_bytes_leaves_a_prefix(rt: HostRuntime) -> Result<(), Fail> {
+    for choice in 0..8u64 {
+        let tried = try_one_batch(rt.alloc(), choice)?;
+        assert_eq!(rt; tried.wrong, None);
+        assert!(rt; 40 < tried.crashes);
+    }
     Ok(())
 }
 

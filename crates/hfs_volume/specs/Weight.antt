@@ -102,6 +102,7 @@ grown_data size (Ok file) =
     if nat_lt (length file.bytes) size then Some (record { id = file.id; old_size = length file.bytes; new_size = size; from = length file.bytes; end = size }) else None
 grown_data size (Err why) = None
 
+-- the data that a command puts into a file, where it puts some
 abbrev pub data_of : PlainTree → Command → Option Data
 data_of tree (command.Write path from value) = written_data from (length value) (to_file tree path)
 data_of tree (command.Trunc path size) = grown_data size (to_file tree path)

@@ -1,9 +1,10 @@
-// How many barriers a run calls.
+// How many barriers and device calls a run makes.
 use crate::counting::Counting;
 use hfsx_server::{Status, hfsx};
 use mem_disk::MemSource;
+use std::alloc::{AllocError, Global};
 use std::test::Fail;
-use test_kit::{fresh_rig, words};
+use test_kit::{fresh_rig, run_on, words};
 
 const LINES: &[u8] =
     b"mkdir /d0\nsync\nmkdir /d1\nsync\nmkdir /d2\nsync\nmkdir /d3\nsync\nmkdir /d4\nsync\nmkdir /d5\nsync\nmkdir /d6\nsync\nmkdir /d7\nsync\nmkdir /d8\nsync\nmkdir /d9\nsync\n";
@@ -21,5 +22,54 @@ fn a_run_calls_two_barriers_a_commit(rt: HostRuntime) -> Result<(), Fail> {
         Status::Done
     );
     assert_eq!(rt; rig.barriers, 28);
+    Ok(())
+}
+
+// A line so many times.
+fn repeated(alloc: Global, line: &[u8], count: u32) -> Result<Vec<u8>, AllocError> {
+    let mut lines = Vec::new(alloc);
+    for _line in 0..count {
+        lines.extend_from_slice(line)?;
+    }
+    Ok(lines)
+}
+
+// Forty lines that come at once are two batches, with two barriers each: twelve with those of the mount and of the end.
+#[test]
+fn lines_that_come_at_once_share_their_barriers(rt: HostRuntime) -> Result<(), Fail> {
+    let alloc = rt.alloc();
+    let mut input = Vec::new(alloc);
+    for number in 0..40u8 {
+        input.extend_from_slice(b"mkdir /a")?;
+        if 9 < number {
+            input.push(b'0' + number / 10)?;
+        }
+        input.push(b'0' + number % 10)?;
+        input.push(b'\n')?;
+    }
+    let mut rig = Counting::over(fresh_rig(alloc)?);
+    let mut source = MemSource::new(alloc, &input, 65_536, None)?;
+    let words = words(alloc, "run v.img")?;
+    assert_eq!(rt;
+        hfsx(alloc, words.as_slice(), &mut rig, &mut source),
+        Status::Done
+    );
+    assert_eq!(rt; rig.rig.told(), repeated(alloc, b"ok\n", 40)?.as_slice());
+    assert!(rt; rig.barriers <= 12);
+    Ok(())
+}
+
+// What was read once is read from memory.
+#[test]
+fn more_lines_that_read_the_same_make_no_more_calls(rt: HostRuntime) -> Result<(), Fail> {
+    let alloc = rt.alloc();
+    let mut one = fresh_rig(alloc)?;
+    let mut other = fresh_rig(alloc)?;
+    for (rig, count) in [(&mut one, 100), (&mut other, 200)] {
+        let input = repeated(alloc, b"ls /\n", count)?;
+        assert_eq!(rt; run_on(alloc, "run v.img", rig, &input)?, Status::Done);
+        assert_eq!(rt; rig.told(), repeated(alloc, b"ok 0\n", count)?.as_slice());
+    }
+    assert_eq!(rt; one.calls(), other.calls());
     Ok(())
 }

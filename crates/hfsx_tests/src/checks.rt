@@ -67,7 +67,7 @@ fn folders_are_counted(rt: HostRuntime) -> Result<(), Fail> {
     Ok(())
 }
 
-// Files that lost their names go, with their attributes; the folder in which they waited stays.
+// Files that lost their names go, with their blocks and attributes, also where the run ends behind that; the folder in which they waited stays.
 #[test]
 fn files_without_a_name_are_given_back(rt: HostRuntime) -> Result<(), Fail> {
     let alloc = rt.alloc();
@@ -76,9 +76,25 @@ fn files_without_a_name_are_given_back(rt: HostRuntime) -> Result<(), Fail> {
         alloc,
         "run v.img",
         &mut rig,
-        b"create /a\ncreate /b\nsetattr /b k =v\nsetattr /b l =w\nmkdir /d\ncreate /d/c\nrm /b\nrm /a\nrm /d/c\nls /\n",
+        b"create /a\ncreate /b\nsetattr /b k =v\nsetattr /b l =w\nmkdir /d\ncreate /d/c\nwrite /d/c 5000 =x\nrm /b\nrm /a\nrm /d/c\n",
     )?;
     let told = "clean files 2 folders 2 blocks 2048 free 1692\n";
+    assert!(rt; finds(alloc, &mut rig, Status::Done, told)?);
+    Ok(())
+}
+
+// So do blocks past the size of a file that the last line made shorter.
+#[test]
+fn blocks_that_the_last_line_cut_off_are_given_back(rt: HostRuntime) -> Result<(), Fail> {
+    let alloc = rt.alloc();
+    let mut rig = fresh_rig(alloc)?;
+    run_on(
+        alloc,
+        "run v.img",
+        &mut rig,
+        b"create /a\ntrunc /a 90000\ntrunc /a 4097\n",
+    )?;
+    let told = "clean files 3 folders 0 blocks 2048 free 1690\n";
     assert!(rt; finds(alloc, &mut rig, Status::Done, told)?);
     Ok(())
 }

@@ -5,7 +5,7 @@ use hx_bytes::OutOfMemory;
 use mem_disk::MemRig;
 use std::alloc::{AllocError, Global};
 use std::test::Fail;
-use test_kit::{fresh_rig, run_on, sector_of};
+use test_kit::{fresh_rig, put, run_on, sector_of};
 
 // Whether a run on a new volume tells this.
 fn tells(alloc: Global, input: &[u8], told: &[u8]) -> Result<bool, OutOfMemory> {
@@ -33,13 +33,33 @@ fn lines_are_answered(rt: HostRuntime) -> Result<(), Fail> {
         ),
         // What a folder and its entries refuse.
         (
-            "mkdir /a\nmv /a /a/b\ncreate /a/f\nrmdir /a\nls /a/f\nstat /z\nmkdir /.journal\n",
-            "ok\nno Inside\nok\nno NotEmpty\nno NotFolder\nno NotFound\nno Private\n",
+            "mkdir /a\nmv /a /a/b\ncreate /a/f\nrmdir /a\nrm /\nrm /a\nls /a/f\nstat /z\nmkdir /.journal\n",
+            "ok\nno Inside\nok\nno NotEmpty\nno Root\nno IsFolder\nno NotFolder\nno NotFound\nno Private\n",
         ),
-        // Moments, modes and reads of an empty file.
+        // Moments, modes and bytes.
         (
-            "at 100\ncreate /a\nat 200\nchmod /a 600\nstat /a\nread /a 1 5\nread /a 0 65537\n",
-            "ok\nok\nok\nok\nok file 18 0 1 0600 100 100 200\nok =\nno TooLarge\n",
+            "at 100\ncreate /a\nat 200\nwrite /a 0 =x\nchmod /a 600\nstat /a\nread /a 1 5\nread /a 0 65537\ntrunc /a 1048578\n",
+            "ok\nok\nok\nok\nok\nok file 18 1 1 0600 100 200 200\nok =\nno TooLarge\nno GrowLimit\n",
+        ),
+        // A folder with what is in it gets another place; a mode of one digit.
+        (
+            "mkdir /a\nmkdir /a/b\ncreate /a/b/f\nmv /a/b /c\nls /c\nstat /c\nls /a\nchmod /c/f 7\nstat /c/f\n",
+            "ok\nok\nok\nok\nok 1 f\nok folder 19 1 0755 0 0 0\nok 0\nok\nok file 20 0 1 0007 0 0 0\n",
+        ),
+        // Bytes over the border of a block, and zeros in front of them.
+        (
+            "create /f\nwrite /f 5 =hello\nsync\nwrite /f 4094 =wxyz\nread /f 4092 10\nread /f 0 11\nstat /f\n",
+            "ok\nok\nok\nok\nok =%00%00wxyz\nok =%00%00%00%00%00hello%00\nok file 18 4098 1 0644 0 0 0\n",
+        ),
+        // A file that was emptied and grows again has zeros, and the largest file ends at 2^40 bytes.
+        (
+            "create /f\nwrite /f 0 =\nstat /f\nwrite /f 0 =a\ntrunc /f 0\ntrunc /f 3\nread /f 0 5\nwrite /f 1099511627776 =x\n",
+            "ok\nok\nok file 18 0 1 0644 0 0 0\nok\nok\nok\nok =%00%00%00\nno TooLarge\n",
+        ),
+        // Names of one file: the bytes are those of each, and its id is that which it had. Four ids go to the private folder and to the links.
+        (
+            "create /a\nwrite /a 0 =hi\nln /a /b\nstat /b\nln /b /c\nrm /a\nstat /c\nrm /b\nread /c 0 9\nrm /c\ncreate /z\nstat /z\nsync\ndf\n",
+            "ok\nok\nok\nok file 18 2 2 0644 0 0 0\nok\nok\nok file 18 2 2 0644 0 0 0\nok\nok =hi\nok\nok\nok file 23 0 1 0644 0 0 0\nok\nok 4096 2048 1692 1692 1982 0 16 15 1 64 62 0 16 15\n",
         ),
         // An entry gets another place and another name.
         (
@@ -79,12 +99,7 @@ fn lines_are_answered(rt: HostRuntime) -> Result<(), Fail> {
             "at 100\ncreate /f\nat 200\nwrite /f 5 =\nstat /f\ntrunc /f 0\nstat /f\ntrunc / 0\nwrite /g 0 =\n",
             "ok\nok\nok\nok\nok file 18 0 1 0644 100 100 100\nok\nok file 18 0 1 0644 100 200 200\nno IsFolder\nno NotFound\n",
         ),
-        // What is still to come changes nothing.
-        (
-            "create /f\nwrite /f 0 =x\ntrunc /f 5\nln /f /g\nstat /f\n",
-            "ok\nno NotBuilt\nno NotBuilt\nno NotBuilt\nok file 18 0 1 0644 0 0 0\n",
-        ),
-        // But its refusals are told.
+        // What a file's names and bytes refuse.
         (
             "create /f\nrm /\nrm /g\nrm /f/g\nln /f /f\nln / /g\nwrite / 0 =x\nwrite /f 2000000 =x\ntrunc /g 5\ntrunc /f 1099511627777\n",
             "ok\nno Root\nno NotFound\nno NotFolder\nno Exists\nno Root\nno IsFolder\nno GrowLimit\nno NotFound\nno TooLarge\n",
@@ -131,6 +146,25 @@ fn entries_are_there_in_a_second_run(rt: HostRuntime) -> Result<(), Fail> {
         )?;
         assert_eq!(rt; again.told(), b"ok\nok 2 a/ x/\nok 1 y\nok =v\n".as_slice());
     }
+    Ok(())
+}
+
+// The id 4294967295 is never given: a command that draws one is refused, and nothing has changed.
+#[test]
+fn the_last_id_is_never_given(rt: HostRuntime) -> Result<(), Fail> {
+    let alloc = rt.alloc();
+    let mut rig = fresh_rig(alloc)?;
+    let mut header = sector_of(&mut rig, 2);
+    header[64..68].copy_from_slice(&[0xFF; 4]);
+    put(&mut rig, 2, &header);
+    assert_eq!(rt;
+        run_on(alloc, "run v.img", &mut rig, b"create /a\ncreate /b\ndf\n")?,
+        Status::Done
+    );
+    assert_eq!(rt;
+        rig.told(),
+        b"no NoIds 4294967295\nno NoIds 4294967295\nok 4096 2048 1692 1692 1982 0 16 15 1 64 62 0 16 15\n".as_slice()
+    );
     Ok(())
 }
 

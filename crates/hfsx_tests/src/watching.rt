@@ -74,16 +74,19 @@ fn copied(alloc: Global, change: &Change) -> Result<Change, OutOfMemory>
     })
 }
 
-// The first stays, since it is told the changes of lines 0 and 2. The second leaves at the first change, and the third at that of line 2.
-#[test]
-fn watchers_are_told_changes_in_order(rt: HostRuntime) -> Result<(), Fail> {
-    let alloc = rt.alloc();
+// Serves lines on a new volume, with a watcher for each of these pairs, that stays as long as the changes that it is told are those of the two
+// lines. Answers what was told, and how many watchers are left; nothing where the run ended otherwise than at the end of its lines.
+fn served_with(
+    alloc: Global,
+    input: &[u8],
+    expected: &[[u64; 2]],
+) -> Result<Option<(Vec<u8>, usize)>, OutOfMemory> {
     let mut rig = fresh_rig(alloc)?;
-    let mut source = MemSource::new(alloc, b"mkdir /a\nls /\nmkdir /b\n", 64, None)?;
+    let mut source = MemSource::new(alloc, input, 64, None)?;
     let mut checker = VolumeChecker::new(alloc);
     let mut watchers: Vec<Box<dyn Watcher>> = Vec::new(alloc);
-    for lines in [[0, 2], [9, 9], [0, 9]] {
-        watchers.push(Box::new(alloc, Expecting::new(alloc, lines))?)?;
+    for lines in expected {
+        watchers.push(Box::new(alloc, Expecting::new(alloc, *lines))?)?;
     }
     let ended = serve_image::<ServedVolume, VolumeChecker, MemRig, MemSource>(
         alloc,
@@ -93,7 +96,30 @@ fn watchers_are_told_changes_in_order(rt: HostRuntime) -> Result<(), Fail> {
         &mut watchers,
         &mut source,
     );
-    assert!(rt; matches!(&ended, Ok(Ok(()))));
-    assert_eq!(rt; watchers.len(), 1);
+    if !matches!(&ended, Ok(Ok(()))) {
+        return Ok(None);
+    }
+    Ok(Some((Vec::from_slice(alloc, rig.told())?, watchers.len())))
+}
+
+// The first stays, since it is told the changes of lines 0 and 2. The second leaves at the first change, and the third at that of line 2.
+#[test]
+fn watchers_are_told_changes_in_order(rt: HostRuntime) -> Result<(), Fail> {
+    let lines = b"mkdir /a\nls /\nmkdir /b\n";
+    let served = served_with(rt.alloc(), lines, &[[0, 2], [9, 9], [0, 9]])?;
+    assert!(rt;
+        matches!(&served, Some((told, left)) if told.as_slice() == b"ok\nok 1 a/\nok\n".as_slice() && *left == 1)
+    );
+    Ok(())
+}
+
+// Two that leave at once, behind one another, and one that is told the one change that there is.
+#[test]
+fn watchers_that_leave_are_told_no_more(rt: HostRuntime) -> Result<(), Fail> {
+    let lines = b"mkdir /a\ncreate /a\n";
+    let served = served_with(rt.alloc(), lines, &[[9, 9], [9, 9], [0, 9]])?;
+    assert!(rt;
+        matches!(&served, Some((told, left)) if told.as_slice() == b"ok\nno Exists\n".as_slice() && *left == 1)
+    );
     Ok(())
 }

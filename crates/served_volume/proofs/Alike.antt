@@ -17,7 +17,7 @@ use Rattle.hfs_volume.specs.declared.cost.Cost.TheVariants as cost
 use Rattle.hfs_volume.specs.Content.{VolumeState, volume_of}
 use Rattle.hfs_volume.specs.Reclaim.{GrowsTrees}
 use Rattle.hfs_volume.specs.Data.{PutsInFork}
-use Rattle.volume_runs.specs.Run.{AsksMore, DoesLine, Entry, IsAnswered, IsDone, IsLater, IsServed, IsToCome, LacksMemory, LacksResource, is_ok, reply_to}
+use Rattle.volume_runs.specs.Run.{AsksMore, DoesLine, Entry, IsAnswered, IsDone, IsLater, IsServed, IsToCome, LacksMemory, LacksResource, PutsMore, is_ok, reply_to}
 use Rattle.hfs_volume.specs.Sound.{IsSound}
 use Rattle.volume_runs.specs.Told.{changes_by, changes_of}
 use Rattle.hfs_volume.specs.TreeOf.{tree_of}
@@ -112,7 +112,9 @@ module _ (capacity : ℕ) (line : List ℕ) (said : Reply) (now next old new : C
   more_alike : (asked : Command) → AsksMore capacity asked old → AsksMore capacity asked now
   more_alike asked was = record {
     no_refusal = refuses_none (Ok asked) was.no_refusal;
-    more = record { load = was.more.load; grow = was.more.grow; weighs = weighs asked ∙ was.more.weighs; later = subst (λ (v : VolumeState). IsLater was.more.grow v) (sym before.lists) was.more.later };
+    more = ⊎_elim
+        (λ grows. inl (record { load = grows.load; grow = grows.grow; weighs = weighs asked ∙ grows.weighs; later = subst (λ (v : VolumeState). IsLater grows.grow v) (sym before.lists) grows.later }))
+        (λ puts. inr (subst (λ (k : VolumeState × PlainTree). PutsMore k.0 k.1 asked) {x = (volume_of old, tree_of old)} {y = (volume_of now, tree_of now)} (λ i. (sym before.lists i, sym before.tree i)) puts)) was.more;
   }
 
   to_come_alike : IsToCome capacity own → IsToCome capacity other
@@ -120,7 +122,7 @@ module _ (capacity : ℕ) (line : List ℕ) (said : Reply) (now next old new : C
     asked = was.asked;
     is_asked = was.is_asked;
     no_refusal = refuses_none (Ok was.asked) was.no_refusal;
-    waits = ⊎_elim (λ never. inl never) (λ more. inr (more_alike was.asked more)) was.waits;
+    waits = more_alike was.asked was.waits;
     reply_is = was.reply_is;
     same = still was.same;
   }

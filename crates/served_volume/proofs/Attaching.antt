@@ -14,12 +14,13 @@ use Rattle.hfs_serving.specs.Grounds.{KeepsHeading}
 use Rattle.hfs_serving.specs.Outside.{Outside}
 use Rattle.hfs_serving.specs.Serving.{IsRead}
 use Rattle.hfs_serving.proofs.Agreeing.{agrees_more}
-use Rattle.volume_ops.specs.Opening.{IsFresh, IsServable}
-use Rattle.volume_ops.specs.Standing.{IsSettled, StandsOver}
-use Rattle.volume_ops.specs.Touching.{Looks}
-use Rattle.volume_ops.specs.declared.volume.Volume.{Volume}
+use Rattle.volume_base.specs.Opening.{IsFresh, IsServable}
+use Rattle.volume_base.specs.Standing.{IsSettled, StandsOver}
+use Rattle.volume_base.specs.Touching.{Looks}
+use Rattle.volume_base.specs.declared.volume.Volume.{Volume}
 use Rattle.served_volume.specs.Knowing.{IsAlike, Knows}
 use Rattle.served_volume.proofs.Heading.{heads_read}
+use Rattle.served_volume.proofs.LaidOut.{laid_out}
 use Rattle.served_volume.proofs.Holding.{holds_own}
 
 pub servable : (now : Content) (space : Space) (outside : Outside) → MayAttach now space outside → IsServable space.content
@@ -40,6 +41,7 @@ attached v capacity now these a b outside tells may looks stands settled fresh =
         stands = stands;
         settled = settled;
         holds = holds_own v b.content now lists settled (ap (λ (l : List Bool). length l) fresh.held ∙ length-replicate (length v.map.used) false);
+        laid_out = laid_out v b.content now lists settled;
         was_sound = may.sound;
         capacity_is = fresh.capacity_is;
         shrunk_is = fresh.shrunk;

@@ -15,13 +15,15 @@ use Rattle.hfs_volume.specs.TreeOf.{tree_of}
 use Rattle.hfs_serving.specs.Grounds.{Anchor, ShowsJournal}
 use Rattle.hfs_serving.specs.Outside.{Outside}
 use Rattle.hfs_serving.specs.Serving.{Commits, IsRead}
-use Rattle.volume_ops.specs.Keeping.{SameStanding, Settles}
-use Rattle.volume_ops.specs.Room.{capacity_of}
-use Rattle.volume_ops.specs.Service.{IsInService}
-use Rattle.volume_ops.specs.Standing.{HoldsOn, IsSettled, IsStanding, StandsOver}
-use Rattle.volume_ops.specs.declared.volume.Kept.{Kept}
-use Rattle.volume_ops.specs.declared.volume.Volume.{Volume}
+use Rattle.volume_base.specs.Keeping.{SameStanding, Settles}
+use Rattle.volume_base.specs.Room.{capacity_of}
+use Rattle.volume_base.specs.Service.{IsInService}
+use Rattle.volume_space.specs.Standing.{HoldsOn}
+use Rattle.volume_base.specs.Standing.{IsSettled, IsStanding, StandsOver}
+use Rattle.volume_base.specs.declared.volume.Kept.{Kept}
+use Rattle.volume_base.specs.declared.volume.Volume.{Volume}
 use Rattle.served_volume.specs.Knowing.{IsAlike, IsOfSize, Knows}
+use Rattle.served_volume.proofs.LaidOut.{laid_out}
 use Rattle.served_volume.proofs.Elsewhere.{DiffersInJournal, as_sound, settled_elsewhere, stands_elsewhere}
 use Rattle.served_volume.proofs.Heading.{journal_alike}
 use Rattle.served_volume.proofs.Holding.{holds_used}
@@ -79,6 +81,7 @@ module _ (v w : Volume) (settles : Settles v w) where
             ap (λ (l : List Bool). length l) settles.held ∙ length-replicate (length v.map.used) false ∙ sym (ap (λ (l : List Bool). length l) settles.same.used),
             λ block set. holds_used v a.content now known.alike.lists known.settled w.map.used w.map.held settles.same.used block set,
           );
+          laid_out = laid_out w b.content now (known.alike.lists ∙ sym other.1) settled_then;
           was_sound = known.alike.sound;
           capacity_is = settles.same.capacity ∙ known.capacity_is;
           shrunk_is = settles.same.shrunk ∙ known.shrunk_is;

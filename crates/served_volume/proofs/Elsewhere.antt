@@ -24,11 +24,11 @@ use Rattle.hfs_volume.specs.Links.{private_id}
 use Rattle.hfs_volume.specs.Records.{overflow_of}
 use Rattle.hfs_volume.specs.Sound.{IsSound, IsSoundVolume}
 use Rattle.hfs_volume.specs.TreeOf.{tree_of}
-use Rattle.volume_ops.specs.Lists.{lists_of}
-use Rattle.volume_ops.specs.Standing.{HoldsTrees, HasItsForks, IsStanding, IsSettled, attribute_sectors, file_sectors, map_sectors, own_sectors, with_attributes_tree}
-use Rattle.volume_ops.specs.declared.volume.Kept.{Kept}
-use Rattle.volume_ops.specs.declared.volume.Volume.{Volume}
-use Rattle.volume_ops.proofs.ListsAfter.{file_pairs}
+use Rattle.volume_base.specs.Lists.{lists_of}
+use Rattle.volume_base.specs.Standing.{HoldsTrees, HasItsForks, IsStanding, IsSettled, attribute_sectors, file_sectors, map_sectors, own_sectors, with_attributes_tree}
+use Rattle.volume_base.specs.declared.volume.Kept.{Kept}
+use Rattle.volume_base.specs.declared.volume.Volume.{Volume}
+use Rattle.volume_base.proofs.ListsAfter.{file_pairs}
 
 -- bytes of the journal's own sectors differ, and each of these sectors has its bytes
 pub record DiffersInJournal (old new : Space) : Type 0 where

@@ -24,7 +24,7 @@ use Rattle.hfs_volume.proofs.BlockWants.{in_range}
 use Rattle.hfs_volume.proofs.Sectors.{in_front}
 use Rattle.hfs_volume.proofs.Untouched.{whole_blocks}
 use Rattle.hfs_serving.specs.Grounds.{KeepsHeading}
-use Rattle.volume_ops.specs.Mounting.{marked_header}
+use Rattle.volume_names.specs.Mounting.{marked_header}
 use Rattle.volume_step.specs.Steps.{KeepsJournal}
 
 -- ---- headers of one volume

@@ -4,8 +4,9 @@ use Rattle.std.proofs.lemmas.Bool.{cases_lt, true≢false}
 use Rattle.std.proofs.lemmas.List.{get_or_append_left, get_or-append_right, get_or-replicate, get_or_past, length-replicate}
 use Rattle.sector_disk.specs.Lists.{Content}
 use Rattle.hfs_volume.specs.Content.{VolumeState, volume_of}
-use Rattle.volume_ops.specs.Standing.{HoldsOn, IsSettled}
-use Rattle.volume_ops.specs.declared.volume.Volume.{Volume}
+use Rattle.volume_space.specs.Standing.{HoldsOn}
+use Rattle.volume_base.specs.Standing.{IsSettled}
+use Rattle.volume_base.specs.declared.volume.Volume.{Volume}
 
 none_at : (clear k : ℕ) → get_or (replicate clear false) k false ≡ false
 none_at clear k = ⊎_elim (λ low. get_or-replicate clear k false false low) (λ past. get_or_past (replicate clear false) k false (omega (arith, past, length-replicate clear false))) (cases_lt k clear)

@@ -10,10 +10,10 @@ use Rattle.hfs_volume.specs.declared.cost.Cost.TheVariants as cost
 use Rattle.hfs_serving.specs.Going.{Stays, Tidied, TidiesTo}
 use Rattle.hfs_serving.specs.Grounds.{KeepsHeading}
 use Rattle.hfs_serving.specs.Serving.{IsDurable, IsRead}
-use Rattle.volume_ops.specs.Keeping.{shrunk_of}
-use Rattle.volume_ops.specs.declared.tidying.Tidying.{Tidying}
-use Rattle.volume_ops.specs.declared.tidying.Tidying.TheVariants as tidying
-use Rattle.volume_ops.specs.declared.volume.Volume.{Volume}
+use Rattle.volume_base.specs.Keeping.{shrunk_of}
+use Rattle.volume_space.specs.declared.tidying.Tidying.{Tidying}
+use Rattle.volume_space.specs.declared.tidying.Tidying.TheVariants as tidying
+use Rattle.volume_base.specs.declared.volume.Volume.{Volume}
 use Rattle.volume_step.specs.Tidying.{ReclaimsAs}
 use Rattle.served_volume.specs.Knowing.{IsAlike, Knows}
 use Rattle.served_volume.specs.Tidying.{next_of}

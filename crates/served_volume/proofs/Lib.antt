@@ -9,6 +9,7 @@ mod Folded
 mod Heading
 mod Holding
 mod Housekeeping
+mod LaidOut
 mod Limits
 mod Marked
 mod Refusing

@@ -9,9 +9,9 @@ use Rattle.hfs_serving.specs.Beginning.{IsMarkedMounted}
 use Rattle.hfs_serving.specs.Closing.{IsClosed}
 use Rattle.hfs_serving.specs.Grounds.{KeepsHeading}
 use Rattle.hfs_serving.specs.Serving.{IsDurable, IsRead}
-use Rattle.volume_ops.specs.Mounting.{marked_header}
-use Rattle.volume_ops.specs.Keeping.{shrunk_of}
-use Rattle.volume_ops.specs.declared.volume.Volume.{Volume}
+use Rattle.volume_names.specs.Mounting.{marked_header}
+use Rattle.volume_base.specs.Keeping.{shrunk_of}
+use Rattle.volume_base.specs.declared.volume.Volume.{Volume}
 use Rattle.served_volume.specs.Knowing.{Knows}
 use Rattle.served_volume.specs.Marking.{IsMarkedAs}
 use Rattle.served_volume.proofs.Stepping.{Leaves, follow, heads_then, knows_then, place_then, reads_then}

@@ -5,7 +5,7 @@ use Rattle.sector_disk.specs.Lists.{Content, sector}
 use Rattle.sector_disk.specs.Space.{Space, AgreesOutside}
 use Rattle.hfs_volume.specs.Aside.{IsFreeSector}
 use Rattle.hfs_serving.specs.Serving.{TouchesSpace}
-use Rattle.volume_ops.specs.Touching.{Looks, Touches}
+use Rattle.volume_base.specs.Touching.{Looks, Touches}
 
 pub touches_space : (committed : Content) (these : ℕ → Type 0) (a b : Space) → IsTrue a.tells → Touches committed these a b → TouchesSpace committed a b
 touches_space committed these a b tells was = record {

@@ -3,9 +3,9 @@ use Rattle.std.proofs.Common.{◌≡◌, ◌<◌, ℕ, length, sym, subst}
 use Rattle.std.specs.Prelude.{All, slice_index}
 use Rattle.fork_map.specs.Blocks.{fork_sectors}
 use Rattle.sector_disk.specs.Space.{Space}
-use Rattle.volume_ops.specs.Service.{IsInService, IsTreeInService}
-use Rattle.volume_ops.specs.declared.volume.Tree.{Tree}
-use Rattle.volume_ops.specs.declared.volume.Volume.{Volume}
+use Rattle.volume_base.specs.Service.{IsInService, IsTreeInService}
+use Rattle.volume_base.specs.declared.volume.Tree.{Tree}
+use Rattle.volume_base.specs.declared.volume.Volume.{Volume}
 
 tree_on : (tree : Tree) (a b : Space) → b.sectors ≡ a.sectors → IsTreeInService tree a → IsTreeInService tree b
 tree_on tree a b same was = record {

@@ -14,13 +14,15 @@ use Rattle.hfs_serving.specs.Outside.{Outside}
 use Rattle.hfs_serving.specs.Runs.{KeepsPlace}
 use Rattle.hfs_serving.specs.Serving.{IsDurable, IsRead, TouchesSpace}
 use Rattle.hfs_serving.proofs.Agreeing.{agrees_more}
-use Rattle.volume_ops.specs.Keeping.{shrunk_of}
-use Rattle.volume_ops.specs.Room.{capacity_of}
-use Rattle.volume_ops.specs.Standing.{HoldsOn, IsSettled, StandsOver}
-use Rattle.volume_ops.specs.declared.volume.Volume.{Volume}
+use Rattle.volume_base.specs.Keeping.{shrunk_of}
+use Rattle.volume_base.specs.Room.{capacity_of}
+use Rattle.volume_space.specs.Standing.{HoldsOn}
+use Rattle.volume_base.specs.Standing.{IsSettled, StandsOver}
+use Rattle.volume_base.specs.declared.volume.Volume.{Volume}
 use Rattle.volume_step.specs.Steps.{KeepsJournal}
 use Rattle.served_volume.specs.Knowing.{IsAlike, Knows}
 use Rattle.served_volume.proofs.Alike.{Follows, followed}
+use Rattle.served_volume.proofs.LaidOut.{laid_then}
 use Rattle.served_volume.proofs.Heading.{head_is, heads_after, info_same, journal_kept}
 
 -- what a call left of a volume and its space
@@ -66,6 +68,7 @@ module _ (v w : Volume) (capacity : ℕ) (committed now : Content) (shrunk : Opt
     stands = leaves.stands;
     settled = leaves.settled;
     holds = leaves.holds known.holds;
+    laid_out = laid_then committed v w a.content b.content known.laid_out known.settled leaves.settled leaves.keeps.heading;
     was_sound = known.was_sound;
     capacity_is = leaves.capacity ∙ known.capacity_is;
     shrunk_is = is;

@@ -4,8 +4,8 @@ use Rattle.std.specs.Prelude.{IsTrue, Option}
 use Rattle.jnl_format.specs.Recovery.{info_sector_of}
 use Rattle.sector_disk.specs.Lists.{Content}
 use Rattle.sector_disk.specs.Space.{Space}
-use Rattle.volume_ops.specs.Standing.{AreWhole, HoldsTrees, HasItsForks, IsStanding, IsSettled, StandsOver, blocks_end}
-use Rattle.volume_ops.specs.declared.volume.Volume.{Volume}
+use Rattle.volume_base.specs.Standing.{AreWhole, HoldsTrees, HasItsForks, IsStanding, IsSettled, StandsOver, blocks_end}
+use Rattle.volume_base.specs.declared.volume.Volume.{Volume}
 use Rattle.served_volume.specs.Knowing.{IsAlike, Knows}
 use Rattle.served_volume.proofs.Service.{service_on}
 
@@ -41,6 +41,7 @@ module _ (v : Volume) (a b : Space) (same : IsSame a b) where
     stands = stands_same was.stands;
     settled = subst (λ (c : Content). IsSettled v c) (sym same.content) was.settled;
     holds = was.holds;
+    laid_out = was.laid_out;
     was_sound = was.was_sound;
     capacity_is = was.capacity_is;
     shrunk_is = was.shrunk_is;

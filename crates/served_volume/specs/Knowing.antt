@@ -6,11 +6,13 @@ use Rattle.sector_disk.specs.Space.{Space}
 use Rattle.hfs_volume.specs.Content.{volume_of}
 use Rattle.hfs_volume.specs.Sound.{IsSound}
 use Rattle.hfs_volume.specs.TreeOf.{tree_of}
-use Rattle.volume_ops.specs.Keeping.{shrunk_of}
-use Rattle.volume_ops.specs.Room.{capacity_of}
-use Rattle.volume_ops.specs.Service.{IsInService}
-use Rattle.volume_ops.specs.Standing.{StandsOver, IsSettled, HoldsOn}
-use Rattle.volume_ops.specs.declared.volume.Volume.{Volume}
+use Rattle.volume_base.specs.Keeping.{shrunk_of}
+use Rattle.volume_base.specs.Room.{capacity_of}
+use Rattle.volume_base.specs.Service.{IsInService}
+use Rattle.volume_space.specs.Spilling.{IsLaidOutAs}
+use Rattle.volume_base.specs.Standing.{StandsOver, IsSettled}
+use Rattle.volume_space.specs.Standing.{HoldsOn}
+use Rattle.volume_base.specs.declared.volume.Volume.{Volume}
 
 -- The two contents are sound volumes with the same lists and the same tree: they differ in bytes that no rule looks at.
 pub record IsAlike (content other : Content) : Type 0 where
@@ -20,11 +22,12 @@ pub record IsAlike (content other : Content) : Type 0 where
   pub tree : tree_of content ≡ tree_of other
 
 -- The volume stands over its space, whose content is like the one that it stands for; each block that what was committed last has in use is in
--- use or held; a transaction holds so many sectors; and this is the file that was shrunk last.
+-- use or held, and it has the volume's blocks; a transaction holds so many sectors; and this is the file that was shrunk last.
 pub record Knows (volume : Volume) (capacity : ℕ) (committed now : Content) (shrunk : Option ℕ) (space : Space) : Type 0 where
   pub stands : StandsOver volume space
   pub settled : IsSettled volume space.content
   pub holds : HoldsOn committed volume
+  pub laid_out : IsLaidOutAs committed volume
   pub was_sound : IsSound committed
   pub capacity_is : capacity_of volume ≡ capacity
   pub shrunk_is : shrunk_of volume ≡ shrunk

@@ -9,8 +9,8 @@ use Rattle.hfs_serving.specs.Grounds.{KeepsHeading}
 use Rattle.hfs_serving.specs.Outside.{Outside}
 use Rattle.hfs_serving.specs.Runs.{KeepsPlace}
 use Rattle.hfs_serving.specs.Serving.{IsRead}
-use Rattle.volume_ops.specs.Mounting.{marked_header}
-use Rattle.volume_ops.specs.declared.volume.Volume.{Volume}
+use Rattle.volume_names.specs.Mounting.{marked_header}
+use Rattle.volume_base.specs.declared.volume.Volume.{Volume}
 use Rattle.served_volume.specs.Knowing.{Knows}
 
 -- for some capacity, contents and shrunk file it stands

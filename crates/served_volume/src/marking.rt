@@ -10,6 +10,7 @@ ghost use Rattle.served_volume.specs.Marking.{IsMarkedAs, SomeKnown};
 use crate::served::ServedVolume;
 use hfs_serving::Ground;
 use hx_bytes::Trouble;
+use volume_names::mark;
 
 impl ServedVolume {
     /// Puts the header's mark: the volume is in use, or was unmounted. Where there is no room for a sector, nothing is put, and memory is missing.
@@ -31,7 +32,7 @@ impl ServedVolume {
         if base.spare() == 0 {
             return Err(Trouble::Memory);
         }
-        self.volume.mark(base, in_use);
+        mark(&mut self.volume, base, in_use);
         base.look();
         Ok(())
     }

@@ -3,7 +3,7 @@ ghost use Rattle.std.proofs.Props.{props};
 ghost use Rattle.served_volume.specs.Knowing.{IsOfSize};
 
 use std::alloc::Global;
-use volume_ops::Volume;
+use volume_base::Volume;
 
 /// A whole volume that is served.
 #[derive(Drop)]

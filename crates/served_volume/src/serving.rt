@@ -21,7 +21,7 @@ impl Volume for ServedVolume {
 
     fn attach<G: Ground>(alloc: Global, base: &mut G, capacity: u64) -> Result<Self, Trouble> {
         let _before = base.pending();
-        let found = volume_ops::Volume::attach(alloc, base, capacity);
+        let found = volume_base::Volume::attach(alloc, base, capacity);
         let _after = base.pending();
         base.look();
         let sectors = base.sectors();

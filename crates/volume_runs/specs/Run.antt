@@ -17,7 +17,7 @@ use Rattle.hfs_volume.specs.Content.{VolumeState, volume_of}
 use Rattle.hfs_volume.specs.Forks.{attributes_id, catalog_id}
 use Rattle.hfs_volume.specs.Sound.{IsSound}
 use Rattle.hfs_volume.specs.TreeOf.{tree_of}
-use Rattle.hfs_volume.specs.Weight.{data_of, weight, gauge, edits_of, extents_in_use, needs_cut}
+use Rattle.hfs_volume.specs.Weight.{data_of, weight, gauge, edits_of, extents_in_use, free_blocks, needs_cut, needs_for}
 use Rattle.hfs_volume.specs.Data.{PutsInFork}
 use Rattle.hfs_volume.specs.Reclaim.{GrowsTrees}
 use Rattle.volume_runs.specs.Rest.{Rests}
@@ -80,13 +80,6 @@ pub record LacksMemory (capacity : ℕ) (entry : Entry) : Type 0 where
 
 -- ---- what is still to come
 
--- the commands that aren't built yet
-abbrev pub is_to_come : Command → Bool
-is_to_come (command.Ln from to) = true
-is_to_come (command.Write path from value) = true
-is_to_come (command.Trunc path size) = true
-is_to_come _ = false
-
 -- how many attributes a command removes or sets
 abbrev pub attribute_edits : PlainTree → Command → ℕ
 attribute_edits tree asked = (edits_of tree asked).attributes
@@ -106,17 +99,26 @@ pub record GrowsMore (capacity : ℕ) (asked : Command) (content : Content) : Ty
   pub weighs : weight capacity (volume_of content) (tree_of content) asked ≡ cost.Load load grow
   pub later : IsLater grow (volume_of content)
 
--- The step doesn't refuse the command, but it asks for more than is built.
+-- how many edits of the extents file the cost of a command counts, where no block is held: overflow records of the fork that data is put into
+abbrev pub overflow_edits : VolumeState → PlainTree → Command → ℕ
+overflow_edits volume tree asked = slice_index (needs_for (free_blocks volume) volume (edits_of tree asked) (data_of tree asked)).edits 0
+
+-- Data is put into a file whose blocks past its size go first, or its cost counts overflow records of the file's fork.
+abbrev pub PutsMore : VolumeState → PlainTree → Command → Type 0
+PutsMore volume tree asked = (needs_cut volume (data_of tree asked) ≡ true) ⊎ (0 < overflow_edits volume tree asked)
+
+-- The step doesn't refuse the command, but it asks for more than is built: trees grow for it otherwise than is built, or it puts data where blocks past a size
+-- go first or overflow records are counted.
 pub record AsksMore (capacity : ℕ) (asked : Command) (content : Content) : Type 0 where
   pub no_refusal : refuses (tree_of content) (Ok asked) ≡ false
-  pub more : GrowsMore capacity asked content
+  pub more : GrowsMore capacity asked content ⊎ PutsMore (volume_of content) (tree_of content) asked
 
--- The step doesn't refuse the command, but it is still to come, and nothing was changed.
+-- The step doesn't refuse the command, but it asks for more than is built, and nothing was changed.
 pub record IsToCome (capacity : ℕ) (entry : Entry) : Type 0 where
   pub asked : Command
   pub is_asked : asked_by entry ≡ Ok asked
   pub no_refusal : refuses (tree_of entry.before) (Ok asked) ≡ false
-  pub waits : IsTrue (is_to_come asked) ⊎ AsksMore capacity asked entry.before
+  pub waits : AsksMore capacity asked entry.before
   pub reply_is : entry.reply ≡ reply.No refusal.NotBuilt
   pub same : entry.after ≡ entry.before
 

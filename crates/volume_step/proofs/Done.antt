@@ -23,20 +23,21 @@ use Rattle.hfs_volume.specs.Attributing.{DeletesAttribute, SetsAttribute, at_mom
 use Rattle.hfs_volume.specs.Commands.{ChangesMode}
 use Rattle.hfs_volume.specs.Content.{VolumeState, has_attributes, volume_of}
 use Rattle.hfs_volume.specs.Cost.{cost_of}
-use Rattle.volume_runs.specs.Run.{reply_to}
+use Rattle.volume_runs.specs.Run.{AsksMore, reply_to}
 use Rattle.hfs_volume.specs.Sound.{IsSound}
 use Rattle.volume_runs.specs.Told.{changes_of, of_entry, of_made, of_pair}
 use Rattle.hfs_volume.specs.TreeOf.{tree_of}
 use Rattle.hfs_volume.specs.Weight.{data_of, edits, free_blocks, needs_for, room_with, weight_with}
 use Rattle.hfs_volume.specs.declared.cost.Cost.TheVariants as cost
-use Rattle.volume_ops.specs.Attributing.{set_answer}
-use Rattle.volume_ops.specs.Making.{Makes}
-use Rattle.volume_ops.specs.Moving.{HasMoved}
-use Rattle.volume_ops.specs.Losing.{HasLost, LosesName}
-use Rattle.volume_ops.specs.Removing.{HasRemoved}
-use Rattle.volume_ops.specs.Standing.{HoldsOn, IsSettled}
-use Rattle.volume_ops.specs.declared.volume.Volume.{Volume}
-use Rattle.volume_step.specs.Steps.{Affords, IsJudged, KeepsJournal, StepsTo, Waits}
+use Rattle.volume_base.specs.Attributing.{set_answer}
+use Rattle.volume_names.specs.Making.{Makes}
+use Rattle.volume_names.specs.Moving.{HasMoved}
+use Rattle.volume_names.specs.Losing.{HasLost, LosesName}
+use Rattle.volume_names.specs.Removing.{HasRemoved}
+use Rattle.volume_space.specs.Standing.{HoldsOn}
+use Rattle.volume_base.specs.Standing.{IsSettled}
+use Rattle.volume_base.specs.declared.volume.Volume.{Volume}
+use Rattle.volume_step.specs.Steps.{Affords, IsJudged, KeepsJournal, StepsTo}
 use Rattle.volume_step.specs.declared.judging.Verdict.TheVariants as verdict
 use Rattle.volume_step.specs.declared.outcome.Outcome.{Outcome}
 use Rattle.volume_step.specs.declared.outcome.Outcome.TheVariants as outcome
@@ -133,7 +134,7 @@ module _ (capacity number : ℕ) (asked : Command) (before after : Content) (sam
       (subst (λ (k : Content). StepsTo (outcome.Answered (reply.No why) []) capacity number asked before k) (sym same)
       (steps capacity number asked (reply.No why) before before (refused capacity asked before sound why unread is) [] refl))
 
-  pub waits_steps : IsSound before → Waits capacity asked before → (it : Outcome) → it ≡ outcome.Answered (reply.No refusal.NotBuilt) [] → StepsTo it capacity number asked before after
+  pub waits_steps : IsSound before → AsksMore capacity asked before → (it : Outcome) → it ≡ outcome.Answered (reply.No refusal.NotBuilt) [] → StepsTo it capacity number asked before after
   waits_steps sound why it it_is =
       subst (λ (o : Outcome). StepsTo o capacity number asked before after) (sym it_is)
       (subst (λ (k : Content). StepsTo (outcome.Answered (reply.No refusal.NotBuilt) []) capacity number asked before k) (sym same)

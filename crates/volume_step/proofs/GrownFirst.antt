@@ -33,8 +33,8 @@ use Rattle.hfs_volume.specs.declared.cost.Cost.TheVariants as cost
 use Rattle.hfs_volume.specs.declared.cost.Room.{Room}
 use Rattle.hfs_volume.specs.declared.cost.TreeCost.{TreeCost}
 use Rattle.tree_weights.specs.Weights.{IsAfforded, LoadIsOfParts, LoadSaysEnough}
-use Rattle.volume_ops.specs.Growing.{GrowsAhead, GrowsNumbers}
-use Rattle.volume_ops.specs.declared.ahead.MoreNodes.{MoreNodes}
+use Rattle.volume_space.specs.Growing.{GrowsAhead, GrowsNumbers}
+use Rattle.volume_space.specs.declared.ahead.MoreNodes.{MoreNodes}
 use Rattle.volume_step.specs.Steps.{Affords, GrowsFirst, IsServedAs, KeepsJournal, StepsTo}
 use Rattle.volume_step.specs.declared.outcome.Outcome.{Outcome}
 use Rattle.volume_step.specs.declared.outcome.Outcome.TheVariants as outcome

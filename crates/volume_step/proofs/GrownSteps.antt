@@ -8,21 +8,21 @@ use Rattle.hfs_language.specs.declared.command.Command.{Command}
 use Rattle.hfs_language.specs.declared.reply.Reply.TheVariants as reply
 use Rattle.hfs_model.specs.Step.{only_reads, step_line}
 use Rattle.hfs_model.specs.declared.plain.PlainTree.{PlainTree}
-use Rattle.volume_runs.specs.Run.{is_ok, or_before, reply_to, shrunk_by}
+use Rattle.volume_runs.specs.Run.{AsksMore, is_ok, or_before, reply_to, shrunk_by}
 use Rattle.hfs_volume.specs.Content.{volume_of}
 use Rattle.hfs_volume.specs.Forks.{attributes_id, catalog_id}
 use Rattle.hfs_volume.specs.Sound.{IsSound}
 use Rattle.hfs_volume.specs.TreeOf.{tree_of}
 use Rattle.hfs_volume.specs.Weight.{data_of, extents_in_use}
-use Rattle.volume_ops.specs.Growing.{GoesAhead, GrowsAhead, IsLater, IsOwnOrFree}
-use Rattle.volume_ops.specs.Touching.{Touches}
-use Rattle.volume_ops.specs.declared.ahead.Growth.{Growth}
-use Rattle.volume_ops.specs.declared.ahead.Growth.TheVariants as growing
-use Rattle.volume_ops.specs.declared.ahead.MoreNodes.{MoreNodes}
-use Rattle.volume_ops.specs.declared.volume.Volume.{Volume}
-use Rattle.volume_ops.proofs.Commanding.{touches_both}
-use Rattle.volume_ops.proofs.WhenKept.{touches_those}
-use Rattle.volume_step.specs.Steps.{Affords, GrowsFirst, IsDoneOk, KeepsJournal, OwnOf, ShrinksAs, StepsTo, Waits}
+use Rattle.volume_space.specs.Growing.{GoesAhead, GrowsAhead, IsLater, IsOwnOrFree}
+use Rattle.volume_base.specs.Touching.{Touches}
+use Rattle.volume_space.specs.declared.ahead.Growth.{Growth}
+use Rattle.volume_space.specs.declared.ahead.Growth.TheVariants as growing
+use Rattle.volume_space.specs.declared.ahead.MoreNodes.{MoreNodes}
+use Rattle.volume_base.specs.declared.volume.Volume.{Volume}
+use Rattle.volume_base.proofs.Commanding.{touches_both}
+use Rattle.volume_space.proofs.WhenKept.{touches_those}
+use Rattle.volume_step.specs.Steps.{Affords, GrowsFirst, IsDoneOk, KeepsJournal, OwnOf, ShrinksAs, StepsTo}
 use Rattle.volume_step.specs.declared.outcome.Outcome.{Outcome}
 use Rattle.volume_step.specs.declared.outcome.Outcome.TheVariants as outcome
 use Rattle.volume_step.proofs.GrownFirst.{steps_first}
@@ -33,8 +33,8 @@ pub went : (more : MoreNodes) (before after : Content) (said is : Growth) → sa
 went more before after said is same goes = subst (λ (g : Growth). GoesAhead g more before after) same goes
 
 -- it is still to come where the trees can't grow so
-pub waits_grown : (more : MoreNodes) (capacity : ℕ) (asked : Command) (content : Content) → GrowsFirst more capacity asked content → IsLater more (volume_of content) → Waits capacity asked content
-waits_grown more capacity asked content first later = inr (record { no_refusal = first.no_refusal; more = record { load = first.load; grow = 0 ∷ more.catalog ∷ more.attributes ∷ []; weighs = first.weighs; later = inr (by later) } })
+pub waits_grown : (more : MoreNodes) (capacity : ℕ) (asked : Command) (content : Content) → GrowsFirst more capacity asked content → IsLater more (volume_of content) → AsksMore capacity asked content
+waits_grown more capacity asked content first later = record { no_refusal = first.no_refusal; more = inl (record { load = first.load; grow = 0 ∷ more.catalog ∷ more.attributes ∷ []; weighs = first.weighs; later = inr (by later) }) }
   where
     by : IsLater more (volume_of content)
         → ((0 < more.catalog) × (0 < more.attributes)) ⊎ (((0 < more.catalog) × (8 ≤ extents_in_use (volume_of content) catalog_id (volume_of content).head.catalog_fork)) ⊎ ((0 < more.attributes) × (8 ≤ extents_in_use (volume_of content) attributes_id (volume_of content).head.attributes_fork)))

@@ -15,7 +15,7 @@ use Rattle.hfs_volume.specs.Forks.{all_forks, data_kind, file_forks, special_for
 use Rattle.hfs_volume.specs.Reclaim.{GrowsBy, GrowsTrees, blocks_at, blocks_found, is_fork}
 use Rattle.hfs_volume.proofs.Making.{placed_splits}
 use Rattle.hfs_volume.proofs.Swapping.{Splits}
-use Rattle.volume_ops.specs.Cutting.{KeepsTrees}
+use Rattle.volume_space.specs.Cutting.{KeepsTrees}
 use Rattle.volume_step.proofs.Forks.{forks_swapped}
 
 -- what stays of a volume's lists

@@ -30,7 +30,7 @@ use Rattle.hfs_volume.proofs.Flat.{Pieces, flat_none, flat_pieces}
 use Rattle.hfs_volume.proofs.Hiding.{one_there}
 use Rattle.hfs_volume.proofs.Sides.{OneMore, count_more, entries_more, entry_cases, one_more, still_entry}
 use Rattle.hfs_volume.proofs.Swapping.{Splits}
-use Rattle.volume_ops.specs.PrivateFolder.{OpensPrivate, with_one_folder}
+use Rattle.volume_names.specs.PrivateFolder.{OpensPrivate, with_one_folder}
 use Rattle.volume_step.proofs.Forks.{forks_swapped, found_more, found_moved}
 use Rattle.volume_step.proofs.Kept.{Keeps, attributes_keep, catalog_keeps, fields_keep, forks_are, keeps_both, keeps_none}
 
@@ -142,7 +142,7 @@ module _ (folder : Bool) (at : Place) (old new : VolumeState) (sound : IsSoundVo
 
 -- ---- a folder or file at another place
 
-named_entry : (records : List Placed) (p : Placed) → Contains (entries_of records) p → is_empty p.name ≡ false
+pub named_entry : (records : List Placed) (p : Placed) → Contains (entries_of records) p → is_empty p.name ≡ false
 named_entry records p stands = by (is_empty p.name) (kept_cases (λ (q : Placed). not (is_empty q.name)) records p stands).1
   where
     by : (b : Bool) → not b ≡ true → b ≡ false
@@ -150,7 +150,7 @@ named_entry records p stands = by (is_empty p.name) (kept_cases (λ (q : Placed)
     by false is = refl
 
 -- where a value has no forks, the forks are those without it
-none_more : {entry : Placed} {less more : List Placed} → OneMore entry less more → forks_in entry.value ≡ [] → file_forks more ≡ file_forks less
+pub none_more : {entry : Placed} {less more : List Placed} → OneMore entry less more → forks_in entry.value ≡ [] → file_forks more ≡ file_forks less
 none_more {entry} {less} {more} one none = flat_none (λ (p : Placed). forks_in p.value) entry (entries_of less) (entries_of more) (entries_more one) none
 
 module _ (at : PlainEntry) (to : Place) (old new : VolumeState) (sound : IsSoundVolume old) (named : is_empty to.name ≡ false) (does : MovesName at to old new) where

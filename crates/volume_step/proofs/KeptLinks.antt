@@ -1,50 +1,37 @@
--- What another link of a file keeps of a volume, and what `ln` comes to.
+-- What another link of a file keeps of a volume.
 use Rattle.std.proofs.Common.{◌≡◌, ◌≢◌, ℕ, ◌+◌, Bool, true, false, List, [], ◌∷◌, ◌++◌, length, inl, inr, refl, sym, ◌∙◌, ap, subst, arith}
-use Rattle.std.specs.Prelude.{Contains, ◌==◌, ◌||◌, Ok}
+use Rattle.std.specs.Prelude.{Contains, ◌==◌, ◌||◌}
 use Rattle.std.proofs.lemmas.List.Elements.{Contains-append_left, Contains-append_right}
-use Rattle.jnl_format.specs.Recovery.{Content}
 use Rattle.cat_records.specs.declared.record.CatRecord.{CatRecord}
 use Rattle.cat_records.specs.declared.record.CatRecord.TheVariants.{Folder, File, Thread}
-use Rattle.hfs_language.specs.declared.command.Command.TheVariants as command
-use Rattle.hfs_language.specs.declared.reply.Change.{Change}
-use Rattle.hfs_language.specs.declared.reply.ChangeKind.TheVariants as change
-use Rattle.hfs_language.specs.declared.reply.Reply.{Reply}
-use Rattle.hfs_language.specs.declared.reply.Reply.TheVariants as reply
-use Rattle.hfs_model.specs.Step.{Place, is_private_path, step_line, to_ln}
+use Rattle.hfs_model.specs.Step.{Place}
 use Rattle.hfs_model.specs.declared.plain.PlainEntry.{PlainEntry}
 use Rattle.hfs_volume.specs.Blocks.{HasSizes, forks_of}
 use Rattle.hfs_volume.specs.Commands.{IsMarkedLinked, IsTouched, entry_in, with_counts}
-use Rattle.hfs_volume.specs.Content.{VolumeState, overflow_in_volume, records_of, volume_of}
+use Rattle.hfs_volume.specs.Content.{VolumeState, overflow_in_volume, records_of}
 use Rattle.hfs_volume.specs.Entries.{IsUserId}
 use Rattle.hfs_volume.specs.Forks.{Owned, all_forks, blocks_owned, data_kind, file_forks, forks_in, resource_kind, special_forks}
 use Rattle.hfs_volume.specs.Naming.{IsLinkValue, LinksMore}
 use Rattle.hfs_volume.specs.Reclaim.{blocks_at}
 use Rattle.hfs_volume.specs.Records.{Overflow, Placed, entries_of, id_in, id_of, is_empty, special_of}
-use Rattle.hfs_volume.specs.Sound.{IsSound, IsSoundVolume}
-use Rattle.hfs_volume.specs.TreeOf.{tree_of}
+use Rattle.hfs_volume.specs.Sound.{IsSoundVolume}
 use Rattle.hfs_volume.proofs.Fitting.{differs}
 use Rattle.hfs_volume.proofs.Flat.{Pieces, flat_pieces}
 use Rattle.hfs_volume.proofs.Members.{each_of, first_or_later, in_one}
 use Rattle.hfs_volume.proofs.Sides.{OneMore, entries_more, one_more}
-use Rattle.volume_runs.specs.Told.{of_pair}
-use Rattle.volume_ops.specs.Linking.{HasLinked}
-use Rattle.volume_step.specs.Steps.{Affords, KeepsJournal, StepsTo}
-use Rattle.volume_step.specs.declared.outcome.Outcome.TheVariants as outcome
-use Rattle.volume_step.proofs.Done.{done_steps, first_free, line_free, said_ok}
 use Rattle.volume_step.proofs.Forks.{found_more}
 use Rattle.volume_step.proofs.Kept.{Keeps, catalog_keeps, fields_keep, keeps_both}
 use Rattle.volume_step.proofs.KeptEntries.{counted_head, fields_forks, no_items}
-use Rattle.volume_step.proofs.Served.{journal_kept}
 
 -- ---- a link
 
-link_number : (drawn reference : ℕ) (value : CatRecord) → IsLinkValue drawn reference value → id_in value ≡ drawn
+pub link_number : (drawn reference : ℕ) (value : CatRecord) → IsLinkValue drawn reference value → id_in value ≡ drawn
 link_number drawn reference (Folder f) never = absurd never
 link_number drawn reference (File f) is = is.0
 link_number drawn reference (Thread t) never = absurd never
 
 -- it has no blocks
-link_bare : (drawn reference : ℕ) (value : CatRecord) → IsLinkValue drawn reference value → (owned : Owned) → Contains (forks_in value) owned → owned.fork.total_blocks ≡ 0
+pub link_bare : (drawn reference : ℕ) (value : CatRecord) → IsLinkValue drawn reference value → (owned : Owned) → Contains (forks_in value) owned → owned.fork.total_blocks ≡ 0
 link_bare drawn reference (Folder f) never owned stands = absurd never
 link_bare drawn reference (Thread t) never owned stands = absurd never
 link_bare drawn reference (File f) is owned stands =
@@ -109,25 +96,3 @@ module _ (at : PlainEntry) (to : Place) (old new : VolumeState) (sound : IsSound
       (keeps_both begun does.linked new (catalog_keeps begun does.linked does.links.rest does.links.nodes linked_blocks)
       (keeps_both does.linked does.marked new (fields_keep at.id (IsMarkedLinked old.head.modify_date does.count) does.linked does.marked does.marks)
       (fields_keep to.folder (IsTouched old.head.modify_date 1 0) does.marked new does.gains)))
-
--- ---- the command
-
-module _ (capacity number : ℕ) (from to : List (List ℕ)) (before after : Content) (sound_before : IsSound before) (sound_after : IsSound after) (affords : Affords capacity (command.Ln from to) before)
-    (said : Reply) (reply_is : said ≡ (step_line (tree_of before) (Ok (command.Ln from to))).0) (tree : tree_of after ≡ (step_line (tree_of before) (Ok (command.Ln from to))).1) (lists : said ≡ reply.Ok → HasLinked from to before after)
-  where
-    fine_link : said ≡ reply.Ok
-    fine_link = said_ok capacity number (command.Ln from to) before after sound_before sound_after affords said refl refl reply_is tree
-
-    keeps_link : Keeps (volume_of before) (volume_of after)
-    keeps_link = let it = lists fine_link in more_keeps it.entry it.place (volume_of before) (volume_of after) sound_before.volume sound_after.volume it.named it.links.links
-
-    pub link_steps : (changes : List Change) → (is_private_path from ≡ false → is_private_path to ≡ false → (pair : PlainEntry × Place) → to_ln (tree_of before) from to ≡ Ok pair → changes ≡ of_pair number change.Linked (Ok pair))
-        → StepsTo (outcome.Answered said changes) capacity number (command.Ln from to) before after
-    link_steps changes told =
-        let it = lists fine_link in
-        let free = first_free (is_private_path from) (is_private_path to) (line_free (tree_of before) (command.Ln from to) affords.no_refusal) in
-        done_steps capacity number (command.Ln from to) before after sound_before sound_after affords said refl refl reply_is tree keeps_link changes
-        (told free.0 free.1 (it.entry, it.place) it.allowed ∙ ap (of_pair number change.Linked) (sym it.allowed))
-
-    pub link_place : KeepsJournal before after
-    link_place = journal_kept before after keeps_link

@@ -6,8 +6,11 @@ pub mod Handing
 pub mod Judged
 pub mod Kept
 pub mod KeptEntries
+pub mod KeptFirst
 pub mod KeptLinks
+pub mod Linked
 pub mod MetAgain
+pub mod Putting
 pub mod Reclaimed
 pub mod Served
 pub mod Shortened

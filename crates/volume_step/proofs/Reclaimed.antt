@@ -21,11 +21,11 @@ use Rattle.hfs_volume.specs.Laws.{IsShaped, SoundIsBoth, one_if}
 use Rattle.volume_header.specs.declared.header.VolumeHeader.{VolumeHeader}
 use Rattle.volume_header.specs.Refusal.{is_locked}
 use Rattle.std.specs.Int.{bit_at}
-use Rattle.volume_ops.specs.Cutting.{KeepsTrees}
-use Rattle.volume_ops.specs.Orphans.{HasBared, HasCut, HasDropped, TidiesAs}
-use Rattle.volume_ops.proofs.OrphanFacts.{each_none, high, stands}
-use Rattle.volume_ops.specs.declared.tidying.Tidying.{Tidying}
-use Rattle.volume_ops.specs.declared.tidying.Tidying.TheVariants as tidying
+use Rattle.volume_space.specs.Cutting.{KeepsTrees}
+use Rattle.volume_space.specs.Orphans.{HasBared, HasCut, HasDropped, TidiesAs}
+use Rattle.volume_space.proofs.OrphanFacts.{each_none, high, stands}
+use Rattle.volume_space.specs.declared.tidying.Tidying.{Tidying}
+use Rattle.volume_space.specs.declared.tidying.Tidying.TheVariants as tidying
 use Rattle.volume_step.specs.Steps.{KeepsJournal}
 use Rattle.volume_step.specs.Tidying.{ReclaimsAs}
 use Rattle.volume_step.proofs.Done.{same_place}

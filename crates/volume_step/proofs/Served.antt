@@ -21,13 +21,13 @@ use Rattle.hfs_model.specs.declared.plain.PlainTree.{PlainTree}
 use Rattle.hfs_volume.specs.Content.{volume_of}
 use Rattle.hfs_volume.specs.Cost.{cost_of}
 use Rattle.hfs_volume.specs.Data.{PutsInFork}
-use Rattle.volume_runs.specs.Run.{DoesLine, IsDone, IsServed, is_ok, reply_to}
+use Rattle.volume_runs.specs.Run.{AsksMore, DoesLine, IsDone, IsServed, is_ok, reply_to}
 use Rattle.hfs_volume.specs.Sound.{IsSound}
 use Rattle.volume_runs.specs.Told.{changes_of}
 use Rattle.hfs_volume.specs.TreeOf.{tree_of}
 use Rattle.hfs_volume.specs.Weight.{cut_cost, data_of, edits_of, free_blocks, lacks_tree, needs_cut, needs_for, room_with, weight, weight_with}
 use Rattle.hfs_volume.specs.declared.cost.Cost.TheVariants as cost
-use Rattle.volume_step.specs.Steps.{Affords, IsJudged, KeepsJournal, StepsTo, Waits}
+use Rattle.volume_step.specs.Steps.{Affords, IsJudged, KeepsJournal, StepsTo}
 use Rattle.volume_step.specs.declared.judging.Verdict.TheVariants as verdict
 use Rattle.volume_step.specs.declared.outcome.Outcome.TheVariants as outcome
 use Rattle.volume_step.proofs.Kept.{Keeps, grows_none, keeps_none}
@@ -226,12 +226,12 @@ module _ (capacity : ℕ) (asked : Command) (before : Content) (sound : IsSound 
   }
 
   -- a command that is still to come
-  pub waits : Waits capacity asked before → Comes capacity asked (reply.No refusal.NotBuilt) before before
+  pub waits : AsksMore capacity asked before → Comes capacity asked (reply.No refusal.NotBuilt) before before
   waits why = record {
     is = λ line spells. record {
       sound_before = sound;
       sound_after = sound;
-      is = inr (inr (inr (record { asked = asked; is_asked = spells; no_refusal = ⊎_elim (λ still. still.1) (λ more. more.no_refusal) why; waits = ⊎_elim (λ still. inl still.0) (λ more. inr more) why; reply_is = refl; same = refl })));
+      is = inr (inr (inr (record { asked = asked; is_asked = spells; no_refusal = why.no_refusal; waits = why; reply_is = refl; same = refl })));
     };
   }
 

@@ -23,7 +23,7 @@ use Rattle.hfs_volume.specs.TreeOf.{tree_of}
 use Rattle.hfs_volume.specs.Weight.{Data, data_of, grown_data, written_data}
 use Rattle.hfs_volume.specs.Writing.{with_free}
 use Rattle.hfs_volume.proofs.Reaching.{then_ok, unless_ok}
-use Rattle.volume_ops.specs.Resizing.{IsShortened}
+use Rattle.volume_space.specs.Resizing.{IsShortened}
 use Rattle.volume_step.specs.Steps.{Affords, KeepsJournal, StepsTo}
 use Rattle.volume_step.specs.declared.outcome.Outcome.TheVariants as outcome
 use Rattle.volume_step.proofs.Done.{done_steps, line_free, line_ok, or_none, reached_node}

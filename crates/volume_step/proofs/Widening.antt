@@ -1,5 +1,5 @@
 -- Commands that shrink no file and put the volume's own sectors, as `step` says what became of both.
-use Rattle.std.proofs.Common.{◌≡◌, ◌⊎◌, ℕ, ◌/◌, Bool, true, false, List, [], inl, inr, ⊎_elim, refl, sym, ◌∙◌, ap, subst}
+use Rattle.std.proofs.Common.{◌≡◌, ◌⊎◌, ℕ, ◌/◌, Bool, true, false, List, [], length, inl, inr, ⊎_elim, refl, sym, ◌∙◌, ap, subst}
 use Rattle.std.specs.List.{Contains}
 use Rattle.std.specs.Prelude.{slice_index_or, IfOk, Option, None, Result, Ok, Err, if◌then◌else◌}
 use Rattle.std.proofs.lemmas.Bool.{true≢false}
@@ -17,13 +17,14 @@ use Rattle.hfs_volume.specs.TreeOf.{tree_of}
 use Rattle.alloc_bitmap.specs.Map.{BlockMap, free_of}
 use Rattle.hfs_volume.specs.Forks.{per_block_of}
 use Rattle.volume_header.specs.declared.header.VolumeHeader.{VolumeHeader}
-use Rattle.volume_ops.specs.Growing.{IsOwnOrFree}
-use Rattle.volume_ops.specs.Looking.{ReadsVolume}
-use Rattle.volume_ops.specs.Standing.{own_sectors}
-use Rattle.volume_ops.specs.Touching.{Looks, Touches}
-use Rattle.volume_ops.specs.declared.volume.Volume.{Volume}
-use Rattle.volume_ops.proofs.Commanding.{touches_both, touches_looks}
-use Rattle.volume_ops.proofs.Still.{own_still}
+use Rattle.volume_space.specs.Growing.{IsOwnOrFree}
+use Rattle.volume_base.specs.Looking.{ReadsVolume}
+use Rattle.volume_space.specs.Spilling.{IsLaidOutAs}
+use Rattle.volume_base.specs.Standing.{own_sectors}
+use Rattle.volume_base.specs.Touching.{Looks, Touches}
+use Rattle.volume_base.specs.declared.volume.Volume.{Volume}
+use Rattle.volume_base.proofs.Commanding.{touches_both, touches_looks}
+use Rattle.volume_base.proofs.Still.{own_still}
 use Rattle.volume_step.specs.Steps.{OwnOf, ShrinksAs}
 use Rattle.volume_step.specs.declared.outcome.Outcome.{Outcome}
 use Rattle.volume_step.specs.declared.outcome.Outcome.TheVariants as outcome
@@ -50,6 +51,13 @@ touches_own committed v w a b was = touches_wider committed (λ s. Contains (own
 
 pub touches_looked : (committed : Content) (v w : Volume) (a b : Space) → Looks (λ s. Contains (own_sectors v) s) a b → Touches committed (OwnOf v w) a b
 touches_looked committed v w a b was = touches_own committed v w a b (touches_looks committed (λ s. Contains (own_sectors v) s) a b was)
+
+-- a content has the blocks of a volume that was read
+pub laid_still : (committed : Content) (v w : Volume) → w.header ≡ v.header → w.map ≡ v.map → IsLaidOutAs committed v → IsLaidOutAs committed w
+laid_still committed v w header map was = record {
+  block = was.block ∙ sym (ap (λ (h : VolumeHeader). h.block_size) header);
+  total = was.total ∙ sym (ap (λ (m : BlockMap). length m.used) map);
+}
 
 -- reads leave what is a volume's own, and what is free
 pub own_or_free_still : (u v : Volume) (a b : Space) → ReadsVolume u v a b → (s : ℕ) → IsOwnOrFree v s → IsOwnOrFree u s

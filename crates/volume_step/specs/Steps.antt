@@ -11,17 +11,17 @@ use Rattle.hfs_language.specs.declared.reply.Reply.{Reply}
 use Rattle.hfs_language.specs.declared.reply.Reply.TheVariants as reply
 use Rattle.hfs_model.specs.Step.{refuses, step_line}
 use Rattle.hfs_volume.specs.Content.{volume_of}
-use Rattle.volume_runs.specs.Run.{AsksMore, Entry, IsServed, is_ok, is_to_come, or_before, shrunk_by}
+use Rattle.volume_runs.specs.Run.{AsksMore, Entry, IsServed, is_ok, or_before, shrunk_by}
 use Rattle.volume_runs.specs.Told.{changes_by}
 use Rattle.hfs_volume.specs.TreeOf.{tree_of}
 use Rattle.hfs_volume.specs.Weight.{weight}
 use Rattle.hfs_volume.specs.declared.cost.Cost.TheVariants as cost
-use Rattle.volume_ops.specs.Growing.{IsOwnOrFree}
-use Rattle.volume_ops.specs.Standing.{own_sectors}
-use Rattle.volume_ops.specs.declared.ahead.MoreNodes.{MoreNodes}
-use Rattle.volume_ops.specs.declared.volume.Volume.{Volume}
-use Rattle.volume_ops.specs.declared.weighing.Weight.{Weight}
-use Rattle.volume_ops.specs.declared.weighing.Weight.TheVariants as answer
+use Rattle.volume_space.specs.Growing.{IsOwnOrFree}
+use Rattle.volume_base.specs.Standing.{own_sectors}
+use Rattle.volume_space.specs.declared.ahead.MoreNodes.{MoreNodes}
+use Rattle.volume_base.specs.declared.volume.Volume.{Volume}
+use Rattle.volume_base.specs.declared.weighing.Weight.{Weight}
+use Rattle.volume_base.specs.declared.weighing.Weight.TheVariants as answer
 use Rattle.volume_step.specs.declared.outcome.Outcome.{Outcome}
 use Rattle.volume_step.specs.declared.outcome.Outcome.TheVariants as outcome
 use Rattle.volume_step.specs.declared.judging.Verdict.{Verdict}
@@ -83,15 +83,11 @@ pub record GrowsFirst (more : MoreNodes) (capacity : ℕ) (asked : Command) (con
   pub load : ℕ
   pub weighs : weight capacity (volume_of content) (tree_of content) asked ≡ cost.Load load (0 ∷ more.catalog ∷ more.attributes ∷ [])
 
--- the step doesn't refuse the command, but it is still to come, or asks for more than is built
-abbrev pub Waits : ℕ → Command → Content → Type 0
-Waits capacity asked content = (IsTrue (is_to_come asked) × (refuses (tree_of content) (Ok asked) ≡ false)) ⊎ AsksMore capacity asked content
-
 -- the verdict stands
 abbrev pub IsJudged : Verdict → ℕ → Command → Content → Type 0
 IsJudged (verdict.Refused why) capacity asked content =
     (reply.No why ≡ (step_line (tree_of content) (Ok asked)).0) ⊎ ((refuses (tree_of content) (Ok asked) ≡ false) × (weight capacity (volume_of content) (tree_of content) asked ≡ cost.Refused why))
-IsJudged verdict.ToCome capacity asked content = Waits capacity asked content
+IsJudged verdict.ToCome capacity asked content = AsksMore capacity asked content
 IsJudged verdict.CommitFirst capacity asked content = Unit {0}
 IsJudged (verdict.Grows more load) capacity asked content = GrowsFirst more capacity asked content
 IsJudged verdict.Fits capacity asked content = Affords capacity asked content

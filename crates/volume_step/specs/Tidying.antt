@@ -2,8 +2,8 @@
 use Rattle.std.specs.Prelude.{◌≡◌, ℕ, Option}
 use Rattle.jnl_format.specs.Recovery.{Content}
 use Rattle.hfs_volume.specs.Reclaim.{Reclaims}
-use Rattle.volume_ops.specs.declared.tidying.Tidying.{Tidying}
-use Rattle.volume_ops.specs.declared.tidying.Tidying.TheVariants as tidying
+use Rattle.volume_space.specs.declared.tidying.Tidying.{Tidying}
+use Rattle.volume_space.specs.declared.tidying.Tidying.TheVariants as tidying
 
 -- the next step of reclaiming was made, and nothing was missing for it; or nothing was changed
 abbrev pub ReclaimsAs : Tidying → ℕ → Option ℕ → Content → Content → Type 0

@@ -6,11 +6,12 @@ ghost use Rattle.btree_edit.specs.Causes.{HasTroubleCause};
 ghost use Rattle.hfs_language.specs.Written.{FitsCommand};
 ghost use Rattle.hfs_language.specs.declared.reply.Reply.TheVariants as reply;
 ghost use Rattle.hfs_model.specs.Step.{only_reads};
-ghost use Rattle.volume_ops.specs.Keeping.{shrunk_of};
-ghost use Rattle.volume_ops.specs.Room.{capacity_of};
-ghost use Rattle.volume_ops.specs.Service.{IsInService};
-ghost use Rattle.volume_ops.specs.Standing.{HoldsOn, IsSettled, StandsOver, own_sectors};
-ghost use Rattle.volume_ops.specs.Touching.{Touches};
+ghost use Rattle.volume_base.specs.Keeping.{shrunk_of};
+ghost use Rattle.volume_base.specs.Room.{capacity_of};
+ghost use Rattle.volume_base.specs.Service.{IsInService};
+ghost use Rattle.volume_space.specs.Standing.{HoldsOn};
+ghost use Rattle.volume_base.specs.Standing.{IsSettled, StandsOver, own_sectors};
+ghost use Rattle.volume_base.specs.Touching.{Touches};
 ghost use Rattle.volume_step.specs.Steps.{KeepsJournal, StepsTo};
 ghost use Rattle.volume_step.specs.declared.outcome.Outcome.TheVariants as outcome;
 
@@ -19,7 +20,7 @@ use hfs_language::{Changes, Command, Refusal, Reply};
 use hx_bytes::Trouble;
 use sector_disk::SectorSpace;
 use std::alloc::Global;
-use volume_ops::Volume;
+use volume_base::Volume;
 
 /// Whether a command changes nothing on any volume.
 pub(crate) fn only_reads(command: &Command) -> bool

@@ -3,16 +3,18 @@ ghost use Rattle.std.specs.Prelude.{◌≡◌, false, IsTrue, IfOk};
 ghost use Rattle.btree_edit.specs.Causes.{HasTroubleCause};
 ghost use Rattle.hfs_language.specs.Written.{FitsCommand};
 ghost use Rattle.hfs_model.specs.Step.{only_reads};
-ghost use Rattle.volume_ops.specs.Looking.{ReadsVolume};
-ghost use Rattle.volume_ops.specs.Room.{capacity_of};
-ghost use Rattle.volume_ops.specs.Standing.{IsSettled, StandsOver};
+ghost use Rattle.volume_base.specs.Looking.{ReadsVolume};
+ghost use Rattle.volume_base.specs.Room.{capacity_of};
+ghost use Rattle.volume_base.specs.Standing.{IsSettled, StandsOver};
 ghost use Rattle.volume_step.specs.Steps.{IsJudged, growth_of, grows_in, verdict_of};
 
 use hfs_language::{Command, Refusal};
 use hx_bytes::Trouble;
 use sector_disk::SectorSpace;
 use std::alloc::Global;
-use volume_ops::{MoreNodes, Volume, Weight};
+use volume_base::{Volume, Weight};
+use volume_space::MoreNodes;
+use volume_weights::weigh;
 
 /// Whether a command may be done now.
 #[derive(Clone, Copy)]
@@ -90,7 +92,7 @@ pub(crate) fn judge<P: SectorSpace>(
     ensures below { P.SectorView.follows space.old space.new }
     ensures cause { HasTroubleCause (P.SectorView.space space.old).faults (P.SectorView.space space.new).faults result }
 {
-    match volume.weigh(alloc, space, command)? {
+    match weigh(volume, alloc, space, command)? {
         Some(weight) => Ok(verdict_of(weight, space.spare())),
         None => Ok(Verdict::ToCome),
     }

@@ -5,11 +5,12 @@ ghost use Rattle.sector_disk.specs.Lists.{Content};
 ghost use Rattle.btree_edit.specs.Causes.{HasTroubleCause};
 ghost use Rattle.hfs_language.specs.Written.{FitsPath};
 ghost use Rattle.hfs_language.specs.declared.command.Command.TheVariants as command;
-ghost use Rattle.volume_ops.specs.Keeping.{shrunk_of};
-ghost use Rattle.volume_ops.specs.Room.{capacity_of};
-ghost use Rattle.volume_ops.specs.Service.{IsInService};
-ghost use Rattle.volume_ops.specs.Standing.{HoldsOn, IsSettled, StandsOver, own_sectors};
-ghost use Rattle.volume_ops.specs.Touching.{Touches};
+ghost use Rattle.volume_base.specs.Keeping.{shrunk_of};
+ghost use Rattle.volume_base.specs.Room.{capacity_of};
+ghost use Rattle.volume_base.specs.Service.{IsInService};
+ghost use Rattle.volume_space.specs.Standing.{HoldsOn};
+ghost use Rattle.volume_base.specs.Standing.{IsSettled, StandsOver, own_sectors};
+ghost use Rattle.volume_base.specs.Touching.{Touches};
 ghost use Rattle.volume_step.specs.Steps.{Affords, KeepsJournal, StepsTo};
 
 use crate::outcome::Outcome;
@@ -17,7 +18,8 @@ use hfs_language::Path;
 use hx_bytes::Trouble;
 use sector_disk::SectorSpace;
 use std::alloc::Global;
-use volume_ops::Volume;
+use volume_base::Volume;
+use volume_names::{fits_make, ln};
 
 /// Gives a file another name. Where the room that there is doesn't suffice, a commit comes first.
 pub(crate) fn link_file<P: SectorSpace>(
@@ -46,9 +48,9 @@ pub(crate) fn link_file<P: SectorSpace>(
     ensures cause { HasTroubleCause (P.SectorView.space space.old).faults (P.SectorView.space space.new).faults result }
 {
     let changes = volume.change_linked(alloc, space, number, from, to)?;
-    if !volume.fits_make(space) {
+    if !fits_make(volume, space) {
         return Ok(Outcome::CommitFirst);
     }
-    let reply = volume.ln(alloc, space, from, to)?;
+    let reply = ln(volume, alloc, space, from, to)?;
     Ok(Outcome::Answered { reply, changes })
 }

@@ -5,11 +5,12 @@ ghost use Rattle.sector_disk.specs.Lists.{Content};
 ghost use Rattle.btree_edit.specs.Causes.{HasTroubleCause};
 ghost use Rattle.hfs_language.specs.Written.{FitsPath};
 ghost use Rattle.hfs_language.specs.declared.command.Command.TheVariants as command;
-ghost use Rattle.volume_ops.specs.Keeping.{shrunk_of};
-ghost use Rattle.volume_ops.specs.Room.{capacity_of};
-ghost use Rattle.volume_ops.specs.Service.{IsInService};
-ghost use Rattle.volume_ops.specs.Standing.{HoldsOn, IsSettled, StandsOver, own_sectors};
-ghost use Rattle.volume_ops.specs.Touching.{Touches};
+ghost use Rattle.volume_base.specs.Keeping.{shrunk_of};
+ghost use Rattle.volume_base.specs.Room.{capacity_of};
+ghost use Rattle.volume_base.specs.Service.{IsInService};
+ghost use Rattle.volume_space.specs.Standing.{HoldsOn};
+ghost use Rattle.volume_base.specs.Standing.{IsSettled, StandsOver, own_sectors};
+ghost use Rattle.volume_base.specs.Touching.{Touches};
 ghost use Rattle.volume_step.specs.Steps.{Affords, KeepsJournal, StepsTo};
 
 use crate::outcome::Outcome;
@@ -17,7 +18,8 @@ use hfs_language::Path;
 use hx_bytes::Trouble;
 use sector_disk::SectorSpace;
 use std::alloc::Global;
-use volume_ops::Volume;
+use volume_base::Volume;
+use volume_names::{create, fits_make, fits_move, mkdir, mv};
 
 /// Makes a folder. Where the room that there is doesn't suffice, a commit comes first.
 pub(crate) fn make_folder<P: SectorSpace>(
@@ -44,10 +46,10 @@ pub(crate) fn make_folder<P: SectorSpace>(
     ensures cause { HasTroubleCause (P.SectorView.space space.old).faults (P.SectorView.space space.new).faults result }
 {
     let changes = volume.change_made(alloc, space, number, path)?;
-    if !volume.fits_make(space) {
+    if !fits_make(volume, space) {
         return Ok(Outcome::CommitFirst);
     }
-    let reply = volume.mkdir(alloc, space, path)?;
+    let reply = mkdir(volume, alloc, space, path)?;
     Ok(Outcome::Answered { reply, changes })
 }
 
@@ -76,10 +78,10 @@ pub(crate) fn make_file<P: SectorSpace>(
     ensures cause { HasTroubleCause (P.SectorView.space space.old).faults (P.SectorView.space space.new).faults result }
 {
     let changes = volume.change_made(alloc, space, number, path)?;
-    if !volume.fits_make(space) {
+    if !fits_make(volume, space) {
         return Ok(Outcome::CommitFirst);
     }
-    let reply = volume.create(alloc, space, path)?;
+    let reply = create(volume, alloc, space, path)?;
     Ok(Outcome::Answered { reply, changes })
 }
 
@@ -110,9 +112,9 @@ pub(crate) fn move_entry<P: SectorSpace>(
     ensures cause { HasTroubleCause (P.SectorView.space space.old).faults (P.SectorView.space space.new).faults result }
 {
     let changes = volume.change_moved(alloc, space, number, from, to)?;
-    if !volume.fits_move(space) {
+    if !fits_move(volume, space) {
         return Ok(Outcome::CommitFirst);
     }
-    let reply = volume.mv(alloc, space, from, to)?;
+    let reply = mv(volume, alloc, space, from, to)?;
     Ok(Outcome::Answered { reply, changes })
 }

@@ -5,11 +5,12 @@ ghost use Rattle.sector_disk.specs.Lists.{Content};
 ghost use Rattle.btree_edit.specs.Causes.{HasTroubleCause};
 ghost use Rattle.hfs_language.specs.Written.{FitsPath};
 ghost use Rattle.hfs_language.specs.declared.command.Command.TheVariants as command;
-ghost use Rattle.volume_ops.specs.Keeping.{shrunk_of};
-ghost use Rattle.volume_ops.specs.Room.{capacity_of};
-ghost use Rattle.volume_ops.specs.Service.{IsInService};
-ghost use Rattle.volume_ops.specs.Standing.{HoldsOn, IsSettled, StandsOver, own_sectors};
-ghost use Rattle.volume_ops.specs.Touching.{Touches};
+ghost use Rattle.volume_base.specs.Keeping.{shrunk_of};
+ghost use Rattle.volume_base.specs.Room.{capacity_of};
+ghost use Rattle.volume_base.specs.Service.{IsInService};
+ghost use Rattle.volume_space.specs.Standing.{HoldsOn};
+ghost use Rattle.volume_base.specs.Standing.{IsSettled, StandsOver, own_sectors};
+ghost use Rattle.volume_base.specs.Touching.{Touches};
 ghost use Rattle.volume_step.specs.Steps.{Affords, KeepsJournal, StepsTo};
 
 use crate::outcome::Outcome;
@@ -17,7 +18,8 @@ use hfs_language::{ChangeKind, Changes, Path};
 use hx_bytes::Trouble;
 use sector_disk::SectorSpace;
 use std::alloc::Global;
-use volume_ops::Volume;
+use volume_base::Volume;
+use volume_names::{at, chmod};
 
 /// Dates the volume with another moment.
 pub(crate) fn date<P: SectorSpace>(
@@ -45,7 +47,7 @@ pub(crate) fn date<P: SectorSpace>(
     if space.spare() == 0 {
         return Ok(Outcome::CommitFirst);
     }
-    let reply = volume.at(space, moment);
+    let reply = at(volume, space, moment);
     Ok(Outcome::Answered {
         reply,
         changes: Changes::new(alloc),
@@ -82,6 +84,6 @@ pub(crate) fn set_mode<P: SectorSpace>(
     if !volume.fits_update(space) {
         return Ok(Outcome::CommitFirst);
     }
-    let reply = volume.chmod(alloc, space, path, rights)?;
+    let reply = chmod(volume, alloc, space, path, rights)?;
     Ok(Outcome::Answered { reply, changes })
 }

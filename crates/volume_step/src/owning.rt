@@ -5,11 +5,12 @@ ghost use Rattle.sector_disk.specs.Lists.{Content};
 ghost use Rattle.btree_edit.specs.Causes.{HasTroubleCause};
 ghost use Rattle.hfs_language.specs.Written.{FitsPath, IsName};
 ghost use Rattle.hfs_language.specs.declared.command.Command.TheVariants as command;
-ghost use Rattle.volume_ops.specs.Keeping.{shrunk_of};
-ghost use Rattle.volume_ops.specs.Room.{capacity_of};
-ghost use Rattle.volume_ops.specs.Service.{IsInService};
-ghost use Rattle.volume_ops.specs.Standing.{HoldsOn, IsSettled, StandsOver, own_sectors};
-ghost use Rattle.volume_ops.specs.Touching.{Touches};
+ghost use Rattle.volume_base.specs.Keeping.{shrunk_of};
+ghost use Rattle.volume_base.specs.Room.{capacity_of};
+ghost use Rattle.volume_base.specs.Service.{IsInService};
+ghost use Rattle.volume_space.specs.Standing.{HoldsOn};
+ghost use Rattle.volume_base.specs.Standing.{IsSettled, StandsOver, own_sectors};
+ghost use Rattle.volume_base.specs.Touching.{Touches};
 ghost use Rattle.volume_step.specs.Steps.{Affords, KeepsJournal, StepsTo};
 
 use crate::outcome::Outcome;
@@ -17,7 +18,8 @@ use hfs_language::{ChangeKind, Path};
 use hx_bytes::{Trouble, Units};
 use sector_disk::SectorSpace;
 use std::alloc::Global;
-use volume_ops::Volume;
+use volume_base::Volume;
+use volume_names::{delattr, fits_setattr, setattr};
 
 /// Gives a folder or file an attribute. Where the room that there is doesn't suffice, a commit comes first.
 pub(crate) fn set_attribute<P: SectorSpace>(
@@ -47,10 +49,10 @@ pub(crate) fn set_attribute<P: SectorSpace>(
     ensures cause { HasTroubleCause (P.SectorView.space space.old).faults (P.SectorView.space space.new).faults result }
 {
     let changes = volume.change_at(alloc, space, number, ChangeKind::Attribute, path)?;
-    if !volume.fits_setattr(space) {
+    if !fits_setattr(volume, space) {
         return Ok(Outcome::CommitFirst);
     }
-    let reply = volume.setattr(alloc, space, path, name, value)?;
+    let reply = setattr(volume, alloc, space, path, name, value)?;
     Ok(Outcome::Answered { reply, changes })
 }
 
@@ -84,6 +86,6 @@ pub(crate) fn delete_attribute<P: SectorSpace>(
     if !volume.fits_delattr(space) {
         return Ok(Outcome::CommitFirst);
     }
-    let reply = volume.delattr(alloc, space, path, name)?;
+    let reply = delattr(volume, alloc, space, path, name)?;
     Ok(Outcome::Answered { reply, changes })
 }

@@ -5,11 +5,12 @@ ghost use Rattle.sector_disk.specs.Lists.{Content};
 ghost use Rattle.btree_edit.specs.Causes.{HasTroubleCause};
 ghost use Rattle.hfs_language.specs.Written.{FitsPath};
 ghost use Rattle.hfs_language.specs.declared.command.Command.TheVariants as command;
-ghost use Rattle.volume_ops.specs.Keeping.{shrunk_of};
-ghost use Rattle.volume_ops.specs.Room.{capacity_of};
-ghost use Rattle.volume_ops.specs.Service.{IsInService};
-ghost use Rattle.volume_ops.specs.Standing.{HoldsOn, IsSettled, StandsOver, own_sectors};
-ghost use Rattle.volume_ops.specs.Touching.{Touches};
+ghost use Rattle.volume_base.specs.Keeping.{shrunk_of};
+ghost use Rattle.volume_base.specs.Room.{capacity_of};
+ghost use Rattle.volume_base.specs.Service.{IsInService};
+ghost use Rattle.volume_space.specs.Standing.{HoldsOn};
+ghost use Rattle.volume_base.specs.Standing.{IsSettled, StandsOver, own_sectors};
+ghost use Rattle.volume_base.specs.Touching.{Touches};
 ghost use Rattle.volume_step.specs.Steps.{Affords, KeepsJournal, StepsTo};
 
 use crate::outcome::Outcome;
@@ -17,7 +18,8 @@ use hfs_language::{ChangeKind, Path};
 use hx_bytes::Trouble;
 use sector_disk::SectorSpace;
 use std::alloc::Global;
-use volume_ops::Volume;
+use volume_base::Volume;
+use volume_names::{bare_count, fits_bare, fits_lose, rm, rmdir};
 
 /// Removes a folder with so many attributes. Where the room that there is doesn't suffice, a commit comes first.
 fn remove_with<P: SectorSpace>(
@@ -48,10 +50,10 @@ fn remove_with<P: SectorSpace>(
     if !volume.fits_remove(space) {
         return Ok(Outcome::CommitFirst);
     }
-    if !volume.fits_bare(space, many) {
+    if !fits_bare(volume, space, many) {
         return Ok(Outcome::CommitFirst);
     }
-    let reply = volume.rmdir(alloc, space, path)?;
+    let reply = rmdir(volume, alloc, space, path)?;
     Ok(Outcome::Answered { reply, changes })
 }
 
@@ -79,7 +81,7 @@ pub(crate) fn remove_folder<P: SectorSpace>(
     ensures below { P.SectorView.follows space.old space.new }
     ensures cause { HasTroubleCause (P.SectorView.space space.old).faults (P.SectorView.space space.new).faults result }
 {
-    let many = volume.bare_count(alloc, space, path)?;
+    let many = bare_count(volume, alloc, space, path)?;
     remove_with(alloc, volume, space, number, path, many)
 }
 
@@ -108,9 +110,9 @@ pub(crate) fn remove_file<P: SectorSpace>(
     ensures cause { HasTroubleCause (P.SectorView.space space.old).faults (P.SectorView.space space.new).faults result }
 {
     let changes = volume.change_at(alloc, space, number, ChangeKind::Removed, path)?;
-    if !volume.fits_lose(space) {
+    if !fits_lose(volume, space) {
         return Ok(Outcome::CommitFirst);
     }
-    let reply = volume.rm(alloc, space, path)?;
+    let reply = rm(volume, alloc, space, path)?;
     Ok(Outcome::Answered { reply, changes })
 }

@@ -1,15 +1,18 @@
 //! A command on a volume in service, weighed and done.
 ghost use Rattle.std.specs.Prelude.{◌≡◌, ℕ, false, IsTrue, IfOk, OnOk};
 ghost use Rattle.sector_disk.specs.Lists.{Content};
+ghost use Rattle.sector_disk.specs.Space.{SameSpace};
 ghost use Rattle.btree_edit.specs.Causes.{HasTroubleCause};
 ghost use Rattle.hfs_language.specs.Written.{FitsCommand};
 ghost use Rattle.hfs_model.specs.Step.{only_reads};
 ghost use Rattle.hfs_volume.specs.Aside.{IsJournalSector};
-ghost use Rattle.volume_ops.specs.Keeping.{shrunk_of};
-ghost use Rattle.volume_ops.specs.Room.{capacity_of};
-ghost use Rattle.volume_ops.specs.Service.{IsInService};
-ghost use Rattle.volume_ops.specs.Standing.{HoldsOn, IsSettled, StandsOver};
-ghost use Rattle.volume_ops.specs.Touching.{Touches};
+ghost use Rattle.volume_base.specs.Keeping.{shrunk_of};
+ghost use Rattle.volume_base.specs.Room.{capacity_of};
+ghost use Rattle.volume_base.specs.Service.{IsInService};
+ghost use Rattle.volume_space.specs.Spilling.{IsLaidOutAs};
+ghost use Rattle.volume_space.specs.Standing.{HoldsOn};
+ghost use Rattle.volume_base.specs.Standing.{IsSettled, StandsOver};
+ghost use Rattle.volume_base.specs.Touching.{Touches};
 ghost use Rattle.volume_step.specs.Steps.{Affords, GrowsFirst, IsDoneOk, KeepsJournal, OwnOf, ShrinksAs, StepsTo};
 
 use crate::answering::{answer, only_reads, refusal};
@@ -27,10 +30,11 @@ use hx_bytes::Trouble;
 use sector_disk::SectorSpace;
 use std::alloc::Global;
 use tree_weights::{a_load_is_of_parts, a_load_says_enough};
-use volume_ops::{Growth, MoreNodes, Volume};
+use volume_base::Volume;
+use volume_space::{Growth, MoreNodes, grow_ahead};
 
-/// Does a command for which nothing is missing. One that isn't done here yet waits.
-fn perform<P: SectorSpace>(
+/// Does a command for which nothing is missing, and which puts no data into a file. Another waits.
+fn perform_without_data<P: SectorSpace>(
     alloc: Global,
     volume: &mut Volume,
     space: &mut P,
@@ -67,18 +71,51 @@ fn perform<P: SectorSpace>(
         Command::Mv(from, to) => move_entry(alloc, volume, space, number, from, to),
         Command::Rmdir(path) => remove_folder(alloc, volume, space, number, path),
         Command::Rm(path) => remove_file(alloc, volume, space, number, path),
-        Command::Trunc { path, size } => resize(alloc, volume, space, number, path, *size),
-        Command::Write { path, from, value } => {
-            write_value(alloc, volume, space, number, path, *from, value.as_slice())
-        }
         Command::Ln(from, to) => link_file(alloc, volume, space, number, from, to),
-        Command::Read { .. }
+        Command::Trunc { .. }
+        | Command::Write { .. }
+        | Command::Read { .. }
         | Command::Ls(_)
         | Command::Stat(_)
         | Command::GetAttr { .. }
         | Command::LsAttr(_)
         | Command::Df
         | Command::Sync => Ok(Outcome::CommitFirst),
+    }
+}
+
+/// Does a command for which nothing is missing. One that isn't done here yet waits.
+fn perform<P: SectorSpace>(
+    alloc: Global,
+    volume: &mut Volume,
+    space: &mut P,
+    number: u64,
+    command: &Command,
+) -> Result<Outcome, Trouble>
+    requires stands { StandsOver volume.old (P.SectorView.space space.old) }
+    requires settled { IsTrue (P.SectorView.space space.old).tells → IsSettled volume.old (P.SectorView.space space.old).content }
+    requires fits { FitsCommand command.now }
+    requires closed { IsTrue (P.SectorView.space space.old).tells → (at : ℕ) → (P.SectorView.space space.old).closed at → IsJournalSector (P.SectorView.space space.old).content at }
+    requires affords { IsTrue (P.SectorView.space space.old).tells → Affords (capacity_of volume.old) command.now (P.SectorView.space space.old).content }
+    ensures answered { IsTrue (P.SectorView.space space.old).tells → IfOk result (λ outcome. StepsTo outcome (capacity_of volume.old) number command.now (P.SectorView.space space.old).content (P.SectorView.space space.new).content) }
+    ensures place { IsTrue (P.SectorView.space space.old).tells → OnOk result (KeepsJournal (P.SectorView.space space.old).content (P.SectorView.space space.new).content) }
+    ensures stands { OnOk result (StandsOver volume.new (P.SectorView.space space.new)) }
+    ensures settled { IsTrue (P.SectorView.space space.old).tells → OnOk result (IsSettled volume.new (P.SectorView.space space.new).content) }
+    ensures service { IsInService volume.new (P.SectorView.space space.new) }
+    ensures holds { (committed : Content) → HoldsOn committed volume.old → OnOk result (HoldsOn committed volume.new) }
+    ensures capacity { capacity_of volume.new ≡ capacity_of volume.old }
+    ensures shrunk { IsTrue (P.SectorView.space space.old).tells → IfOk result (λ outcome. ShrinksAs outcome command.now (P.SectorView.space space.old).content (shrunk_of volume.old) (shrunk_of volume.new)) }
+    ensures touches { (committed : Content) → HoldsOn committed volume.old → IsLaidOutAs committed volume.old → Touches committed (OwnOf volume.old volume.new) (P.SectorView.space space.old) (P.SectorView.space space.new) }
+    ensures same { SameSpace (P.SectorView.space space.old) (P.SectorView.space space.new) }
+    ensures below { P.SectorView.follows space.old space.new }
+    ensures cause { HasTroubleCause (P.SectorView.space space.old).faults (P.SectorView.space space.new).faults result }
+{
+    match command {
+        Command::Trunc { path, size } => resize(alloc, volume, space, number, path, *size),
+        Command::Write { path, from, value } => {
+            write_value(alloc, volume, space, number, path, *from, value.as_slice())
+        }
+        _ => perform_without_data(alloc, volume, space, number, command),
     }
 }
 
@@ -107,7 +144,7 @@ fn do_grown<P: SectorSpace>(
     ensures below { P.SectorView.follows space.old space.new }
     ensures cause { HasTroubleCause (P.SectorView.space space.old).faults (P.SectorView.space space.new).faults result }
 {
-    let outcome = perform(alloc, volume, space, number, command)?;
+    let outcome = perform_without_data(alloc, volume, space, number, command)?;
     done_or_short(outcome)
 }
 
@@ -145,7 +182,7 @@ fn grow_first<P: SectorSpace>(
     if !edits_tree(command) {
         return Ok(Outcome::CommitFirst);
     }
-    match volume.grow_ahead(alloc, space, more, load)? {
+    match grow_ahead(volume, alloc, space, more, load)? {
         Growth::Grown => do_grown(alloc, volume, space, number, command),
         Growth::CommitFirst => Ok(Outcome::CommitFirst),
         Growth::ToCome => Ok(refusal(alloc, Refusal::NotBuilt)),
@@ -173,7 +210,8 @@ fn change<P: SectorSpace>(
     ensures holds { (committed : Content) → HoldsOn committed volume.old → OnOk result (HoldsOn committed volume.new) }
     ensures capacity { capacity_of volume.new ≡ capacity_of volume.old }
     ensures shrunk { IsTrue (P.SectorView.space space.old).tells → IfOk result (λ outcome. ShrinksAs outcome command.now (P.SectorView.space space.old).content (shrunk_of volume.old) (shrunk_of volume.new)) }
-    ensures touches { (committed : Content) → Touches committed (OwnOf volume.old volume.new) (P.SectorView.space space.old) (P.SectorView.space space.new) }
+    ensures touches { (committed : Content) → HoldsOn committed volume.old → IsLaidOutAs committed volume.old → Touches committed (OwnOf volume.old volume.new) (P.SectorView.space space.old) (P.SectorView.space space.new) }
+    ensures same { SameSpace (P.SectorView.space space.old) (P.SectorView.space space.new) }
     ensures below { P.SectorView.follows space.old space.new }
     ensures cause { HasTroubleCause (P.SectorView.space space.old).faults (P.SectorView.space space.new).faults result }
 {
@@ -215,8 +253,10 @@ pub fn step<P: SectorSpace>(
     ensures capacity { capacity_of volume.new ≡ capacity_of volume.old }
     // The file that was shrunk last is the one that the command shrank, where it shrank one.
     ensures shrunk { IsTrue (P.SectorView.space space.old).tells → IfOk result (λ outcome. ShrinksAs outcome command.now (P.SectorView.space space.old).content (shrunk_of volume.old) (shrunk_of volume.new)) }
-    // On a fault too, it puts sectors that are its own before or behind the call alone, and spills into blocks that were free at the last commit.
-    ensures touches { (committed : Content) → Touches committed (OwnOf volume.old volume.new) (P.SectorView.space space.old) (P.SectorView.space space.new) }
+    // On a fault too, it puts sectors that are its own before or behind the call alone, and spills into blocks that were free at the last commit,
+    // of a content with the volume's blocks.
+    ensures touches { (committed : Content) → HoldsOn committed volume.old → IsLaidOutAs committed volume.old → Touches committed (OwnOf volume.old volume.new) (P.SectorView.space space.old) (P.SectorView.space space.new) }
+    ensures same { SameSpace (P.SectorView.space space.old) (P.SectorView.space space.new) }
     ensures below { P.SectorView.follows space.old space.new }
     ensures cause { HasTroubleCause (P.SectorView.space space.old).faults (P.SectorView.space space.new).faults result }
 {

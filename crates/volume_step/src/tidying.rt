@@ -3,11 +3,12 @@ ghost use Rattle.std.specs.Prelude.{◌≡◌, IsTrue, IfOk, OnOk};
 ghost use Rattle.std.specs.List.{Contains};
 ghost use Rattle.sector_disk.specs.Lists.{Content};
 ghost use Rattle.btree_edit.specs.Causes.{HasTroubleCause};
-ghost use Rattle.volume_ops.specs.Keeping.{shrunk_of};
-ghost use Rattle.volume_ops.specs.Room.{capacity_of};
-ghost use Rattle.volume_ops.specs.Service.{IsInService};
-ghost use Rattle.volume_ops.specs.Standing.{HoldsOn, IsSettled, StandsOver, own_sectors};
-ghost use Rattle.volume_ops.specs.Touching.{Touches};
+ghost use Rattle.volume_base.specs.Keeping.{shrunk_of};
+ghost use Rattle.volume_base.specs.Room.{capacity_of};
+ghost use Rattle.volume_base.specs.Service.{IsInService};
+ghost use Rattle.volume_space.specs.Standing.{HoldsOn};
+ghost use Rattle.volume_base.specs.Standing.{IsSettled, StandsOver, own_sectors};
+ghost use Rattle.volume_base.specs.Touching.{Touches};
 ghost use Rattle.volume_step.specs.Steps.{KeepsJournal};
 ghost use Rattle.volume_step.specs.Tidying.{ReclaimsAs};
 
@@ -15,7 +16,8 @@ use hfs_volume::soundness_has_two_halves;
 use hx_bytes::Trouble;
 use sector_disk::SectorSpace;
 use std::alloc::Global;
-use volume_ops::{Tidying, Volume};
+use volume_base::Volume;
+use volume_space::Tidying;
 
 /// Makes the next step of reclaiming: it cuts the file that was shrunk last where that has blocks past its size, or, of the file with
 /// the least CNID of those that lost their last name, a fork, or drops the first of its attributes, or its entry. A cut of a fork whose
@@ -44,5 +46,5 @@ pub fn tidy<P: SectorSpace>(
     ensures cause { HasTroubleCause (P.SectorView.space space.old).faults (P.SectorView.space space.new).faults result }
 {
     soundness_has_two_halves();
-    volume.tidy(alloc, space)
+    volume_space::tidy(volume, alloc, space)
 }

@@ -1,7 +1,8 @@
 use Rattle.std.proofs.Common.{refl, sym, subst}
-use Rattle.volume_ops.proofs.Commanding.{touches_none}
-use Rattle.volume_ops.specs.Keeping.{shrunk_of}
-use Rattle.volume_ops.specs.Room.{capacity_of}
+use Rattle.sector_disk.proofs.SpaceLaws.{space_none}
+use Rattle.volume_base.proofs.Commanding.{touches_none}
+use Rattle.volume_base.specs.Keeping.{shrunk_of}
+use Rattle.volume_base.specs.Room.{capacity_of}
 use Rattle.volume_step.specs.declared.outcome.Outcome.{Outcome}
 use Rattle.served_volume.specs.Answering.{AnswersAs, ShrinksBy}
 use Rattle.served_volume.proofs.Refusing.{keeps_self, refused_entry}
@@ -17,7 +18,10 @@ pub returns-in-Err-clause-place : goal.returns-in-Err-clause-place
 returns-in-Err-clause-place g c tells = keeps_self _
 
 pub returns-in-Err-clause-touches : goal.returns-in-Err-clause-touches
-returns-in-Err-clause-touches g c committed = touches_none committed _ _
+returns-in-Err-clause-touches g c committed holds laid = touches_none committed _ _
+
+pub returns-in-Err-clause-same : goal.returns-in-Err-clause-same
+returns-in-Err-clause-same g c = space_none _
 
 pub returns-in-Err-clause-shrunk : goal.returns-in-Err-clause-shrunk
 returns-in-Err-clause-shrunk g c tells =

@@ -1,6 +1,6 @@
 use Rattle.std.proofs.Common.{sym, subst}
-use Rattle.volume_ops.specs.Keeping.{shrunk_of}
-use Rattle.volume_ops.specs.Room.{capacity_of}
+use Rattle.volume_base.specs.Keeping.{shrunk_of}
+use Rattle.volume_base.specs.Room.{capacity_of}
 use Rattle.volume_step.specs.declared.outcome.Outcome.{Outcome}
 use Rattle.served_volume.specs.Answering.{AnswersAs, ShrinksBy}
 use Rattle.served_volume.proofs.Refusing.{shortened, shortened_shrinks}

@@ -2,9 +2,9 @@ use Rattle.std.proofs.Common.{◌≡◌, subst}
 use Rattle.std.specs.Prelude.{IfSome, Option, Ok}
 use Rattle.hfs_language.specs.declared.reply.Reply.{Reply}
 use Rattle.volume_runs.specs.Run.{reply_to}
-use Rattle.volume_ops.specs.Room.{capacity_of}
-use Rattle.volume_ops.proofs.Commanding.{touches_looks}
-use Rattle.volume_ops.proofs.Sounding.{sound_here}
+use Rattle.volume_base.specs.Room.{capacity_of}
+use Rattle.volume_base.proofs.Commanding.{touches_looks}
+use Rattle.volume_space.proofs.Sounding.{sound_here}
 use Rattle.volume_step.proofs.Done.{read_steps, same_place}
 use Rattle.volume_step.proofs.answering.answer.Goals as goal
 

@@ -4,15 +4,15 @@ use Rattle.sector_disk.specs.Lists.{Content}
 use Rattle.hfs_language.specs.declared.command.Command.TheVariants as command
 use Rattle.hfs_model.specs.Step.{to_ln}
 use Rattle.hfs_volume.specs.TreeOf.{tree_of}
-use Rattle.volume_ops.specs.Room.{capacity_of}
-use Rattle.volume_ops.specs.Touching.{Touches}
-use Rattle.volume_ops.proofs.Commanding.{touches_both, touches_looks}
-use Rattle.volume_ops.proofs.Sounding.{sound_here}
-use Rattle.volume_ops.proofs.Still.{own_still}
+use Rattle.volume_base.specs.Room.{capacity_of}
+use Rattle.volume_base.specs.Touching.{Touches}
+use Rattle.volume_base.proofs.Commanding.{touches_both, touches_looks}
+use Rattle.volume_space.proofs.Sounding.{sound_here}
+use Rattle.volume_base.proofs.Still.{own_still}
 use Rattle.volume_step.specs.Steps.{Affords, KeepsJournal, StepsTo}
 use Rattle.volume_step.specs.declared.outcome.Outcome.TheVariants as outcome
 use Rattle.volume_step.proofs.Done.{holds_kept}
-use Rattle.volume_step.proofs.KeptLinks.{link_place, link_steps}
+use Rattle.volume_step.proofs.Linked.{link_place, link_steps}
 use Rattle.volume_step.proofs.linking.link_file.Goals as goal
 
 pub returns-clause-answered : goal.returns-clause-answered
@@ -20,7 +20,7 @@ returns-clause-answered g c tells =
     subst (λ (k : Content). StepsTo (outcome.Answered c.in_ok-reply.reply c.in_ok-changes.changes) (capacity_of c.args.volume.now) c.args.number (command.Ln c.args.from.now c.args.to.now) k (g.P.SectorView.space c.ln.new.space).content) (c.change_linked.ensures.reads.looks.content tells)
     (link_steps (capacity_of c.args.volume.now) c.args.number c.args.from.now c.args.to.now (g.P.SectorView.space c.change_linked.new.space).content (g.P.SectorView.space c.ln.new.space).content
     (sound_here c.change_linked.new.self (g.P.SectorView.space c.change_linked.new.space) (c.change_linked.ensures.stands.stands (c.change_linked.ensures.reads.looks.same.tells ∙ tells)) (c.change_linked.ensures.settled tells))
-    (sound_here c.ln.new.self (g.P.SectorView.space c.ln.new.space) (c.in_ok-reply.ensures.stands.stands ((c.ln.ensures.touches (g.P.SectorView.space c.args.space.now).content).same.tells ∙ (c.change_linked.ensures.reads.looks.same.tells ∙ tells))) (c.in_ok-reply.ensures.settled (c.change_linked.ensures.reads.looks.same.tells ∙ tells)))
+    (sound_here c.ln.new.volume (g.P.SectorView.space c.ln.new.space) (c.in_ok-reply.ensures.stands.stands ((c.ln.ensures.touches (g.P.SectorView.space c.args.space.now).content).same.tells ∙ (c.change_linked.ensures.reads.looks.same.tells ∙ tells))) (c.in_ok-reply.ensures.settled (c.change_linked.ensures.reads.looks.same.tells ∙ tells)))
     (subst (λ (k : Content). Affords (capacity_of c.args.volume.now) (command.Ln c.args.from.now c.args.to.now) k) (sym (c.change_linked.ensures.reads.looks.content tells)) (c.requires.affords tells)) c.in_ok-reply.reply (c.in_ok-reply.ensures.reply (c.change_linked.ensures.reads.looks.same.tells ∙ tells)) (c.in_ok-reply.ensures.tree (c.change_linked.ensures.reads.looks.same.tells ∙ tells)) (c.in_ok-reply.ensures.lists (c.change_linked.ensures.reads.looks.same.tells ∙ tells)) c.in_ok-changes.changes
     (λ not_own goal_not_own pair is. c.in_ok-changes.ensures.told tells not_own goal_not_own pair (ap (λ (k : Content). to_ln (tree_of k) c.args.from.now c.args.to.now) (sym (c.change_linked.ensures.reads.looks.content tells)) ∙ is)))
 
@@ -29,11 +29,11 @@ returns-clause-place g c tells =
     subst (λ (k : Content). KeepsJournal k (g.P.SectorView.space c.ln.new.space).content) (c.change_linked.ensures.reads.looks.content tells)
     (link_place (capacity_of c.args.volume.now) c.args.number c.args.from.now c.args.to.now (g.P.SectorView.space c.change_linked.new.space).content (g.P.SectorView.space c.ln.new.space).content
     (sound_here c.change_linked.new.self (g.P.SectorView.space c.change_linked.new.space) (c.change_linked.ensures.stands.stands (c.change_linked.ensures.reads.looks.same.tells ∙ tells)) (c.change_linked.ensures.settled tells))
-    (sound_here c.ln.new.self (g.P.SectorView.space c.ln.new.space) (c.in_ok-reply.ensures.stands.stands ((c.ln.ensures.touches (g.P.SectorView.space c.args.space.now).content).same.tells ∙ (c.change_linked.ensures.reads.looks.same.tells ∙ tells))) (c.in_ok-reply.ensures.settled (c.change_linked.ensures.reads.looks.same.tells ∙ tells)))
+    (sound_here c.ln.new.volume (g.P.SectorView.space c.ln.new.space) (c.in_ok-reply.ensures.stands.stands ((c.ln.ensures.touches (g.P.SectorView.space c.args.space.now).content).same.tells ∙ (c.change_linked.ensures.reads.looks.same.tells ∙ tells))) (c.in_ok-reply.ensures.settled (c.change_linked.ensures.reads.looks.same.tells ∙ tells)))
     (subst (λ (k : Content). Affords (capacity_of c.args.volume.now) (command.Ln c.args.from.now c.args.to.now) k) (sym (c.change_linked.ensures.reads.looks.content tells)) (c.requires.affords tells)) c.in_ok-reply.reply (c.in_ok-reply.ensures.reply (c.change_linked.ensures.reads.looks.same.tells ∙ tells)) (c.in_ok-reply.ensures.tree (c.change_linked.ensures.reads.looks.same.tells ∙ tells)) (c.in_ok-reply.ensures.lists (c.change_linked.ensures.reads.looks.same.tells ∙ tells)))
 
 pub returns-clause-holds : goal.returns-clause-holds
-returns-clause-holds g c committed was = holds_kept committed c.change_linked.new.self c.ln.new.self c.ln.ensures.blocks.map (holds_kept committed c.args.volume.now c.change_linked.new.self c.change_linked.ensures.reads.keeps.map was)
+returns-clause-holds g c committed was = holds_kept committed c.change_linked.new.self c.ln.new.volume c.ln.ensures.blocks.map (holds_kept committed c.args.volume.now c.change_linked.new.self c.change_linked.ensures.reads.keeps.map was)
 
 pub returns-clause-below : goal.returns-clause-below
 returns-clause-below g c = g.met.P.SectorView.follows_trans c.args.space.now c.change_linked.new.space c.ln.new.space c.change_linked.ensures.below c.ln.ensures.below

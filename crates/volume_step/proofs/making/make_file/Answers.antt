@@ -6,11 +6,11 @@ use Rattle.hfs_language.specs.declared.command.Command.TheVariants as command
 use Rattle.hfs_model.specs.Step.{to_make}
 use Rattle.volume_runs.specs.Told.{of_made}
 use Rattle.hfs_volume.specs.TreeOf.{tree_of}
-use Rattle.volume_ops.specs.Room.{capacity_of}
-use Rattle.volume_ops.specs.Touching.{Touches}
-use Rattle.volume_ops.proofs.Commanding.{touches_both, touches_looks}
-use Rattle.volume_ops.proofs.Sounding.{sound_here}
-use Rattle.volume_ops.proofs.Still.{own_still}
+use Rattle.volume_base.specs.Room.{capacity_of}
+use Rattle.volume_base.specs.Touching.{Touches}
+use Rattle.volume_base.proofs.Commanding.{touches_both, touches_looks}
+use Rattle.volume_space.proofs.Sounding.{sound_here}
+use Rattle.volume_base.proofs.Still.{own_still}
 use Rattle.volume_step.specs.Steps.{Affords, KeepsJournal, StepsTo}
 use Rattle.volume_step.specs.declared.outcome.Outcome.TheVariants as outcome
 use Rattle.volume_step.proofs.Done.{create_place, create_steps, holds_kept}
@@ -21,7 +21,7 @@ returns-clause-answered g c tells =
     subst (λ (k : Content). StepsTo (outcome.Answered c.in_ok-reply.reply c.in_ok-changes.changes) (capacity_of c.args.volume.now) c.args.number (command.Create c.args.path.now) k (g.P.SectorView.space c.create.new.space).content) (c.change_made.ensures.reads.looks.content tells)
     (create_steps (capacity_of c.args.volume.now) c.args.number c.args.path.now (g.P.SectorView.space c.change_made.new.space).content (g.P.SectorView.space c.create.new.space).content
     (sound_here c.change_made.new.self (g.P.SectorView.space c.change_made.new.space) (c.change_made.ensures.stands.stands (c.change_made.ensures.reads.looks.same.tells ∙ tells)) (c.change_made.ensures.settled tells))
-    (sound_here c.create.new.self (g.P.SectorView.space c.create.new.space) (c.in_ok-reply.ensures.stands.stands ((c.create.ensures.touches (g.P.SectorView.space c.args.space.now).content).same.tells ∙ (c.change_made.ensures.reads.looks.same.tells ∙ tells))) (c.in_ok-reply.ensures.settled (c.change_made.ensures.reads.looks.same.tells ∙ tells)))
+    (sound_here c.create.new.volume (g.P.SectorView.space c.create.new.space) (c.in_ok-reply.ensures.stands.stands ((c.create.ensures.touches (g.P.SectorView.space c.args.space.now).content).same.tells ∙ (c.change_made.ensures.reads.looks.same.tells ∙ tells))) (c.in_ok-reply.ensures.settled (c.change_made.ensures.reads.looks.same.tells ∙ tells)))
     c.in_ok-reply.reply (subst (λ (k : Content). Affords (capacity_of c.args.volume.now) (command.Create c.args.path.now) k) (sym (c.change_made.ensures.reads.looks.content tells)) (c.requires.affords tells)) (c.in_ok-reply.ensures.reply (c.change_made.ensures.reads.looks.same.tells ∙ tells)) (c.in_ok-reply.ensures.tree (c.change_made.ensures.reads.looks.same.tells ∙ tells)) (c.in_ok-reply.ensures.lists (c.change_made.ensures.reads.looks.same.tells ∙ tells)) c.in_ok-changes.changes
     (λ not_own at is. c.in_ok-changes.ensures.told tells not_own at (ap (λ (k : Content). to_make (tree_of k) c.args.path.now) (sym (c.change_made.ensures.reads.looks.content tells)) ∙ is) ∙ ap (λ (k : Content). of_made c.args.number (tree_of k) (Ok at)) (sym (c.change_made.ensures.reads.looks.content tells))))
 
@@ -30,11 +30,11 @@ returns-clause-place g c tells =
     subst (λ (k : Content). KeepsJournal k (g.P.SectorView.space c.create.new.space).content) (c.change_made.ensures.reads.looks.content tells)
     (create_place (capacity_of c.args.volume.now) c.args.number c.args.path.now (g.P.SectorView.space c.change_made.new.space).content (g.P.SectorView.space c.create.new.space).content
     (sound_here c.change_made.new.self (g.P.SectorView.space c.change_made.new.space) (c.change_made.ensures.stands.stands (c.change_made.ensures.reads.looks.same.tells ∙ tells)) (c.change_made.ensures.settled tells))
-    (sound_here c.create.new.self (g.P.SectorView.space c.create.new.space) (c.in_ok-reply.ensures.stands.stands ((c.create.ensures.touches (g.P.SectorView.space c.args.space.now).content).same.tells ∙ (c.change_made.ensures.reads.looks.same.tells ∙ tells))) (c.in_ok-reply.ensures.settled (c.change_made.ensures.reads.looks.same.tells ∙ tells)))
+    (sound_here c.create.new.volume (g.P.SectorView.space c.create.new.space) (c.in_ok-reply.ensures.stands.stands ((c.create.ensures.touches (g.P.SectorView.space c.args.space.now).content).same.tells ∙ (c.change_made.ensures.reads.looks.same.tells ∙ tells))) (c.in_ok-reply.ensures.settled (c.change_made.ensures.reads.looks.same.tells ∙ tells)))
     c.in_ok-reply.reply (subst (λ (k : Content). Affords (capacity_of c.args.volume.now) (command.Create c.args.path.now) k) (sym (c.change_made.ensures.reads.looks.content tells)) (c.requires.affords tells)) (c.in_ok-reply.ensures.reply (c.change_made.ensures.reads.looks.same.tells ∙ tells)) (c.in_ok-reply.ensures.tree (c.change_made.ensures.reads.looks.same.tells ∙ tells)) (c.in_ok-reply.ensures.lists (c.change_made.ensures.reads.looks.same.tells ∙ tells)))
 
 pub returns-clause-holds : goal.returns-clause-holds
-returns-clause-holds g c committed was = holds_kept committed c.change_made.new.self c.create.new.self c.create.ensures.blocks.map (holds_kept committed c.args.volume.now c.change_made.new.self c.change_made.ensures.reads.keeps.map was)
+returns-clause-holds g c committed was = holds_kept committed c.change_made.new.self c.create.new.volume c.create.ensures.blocks.map (holds_kept committed c.args.volume.now c.change_made.new.self c.change_made.ensures.reads.keeps.map was)
 
 pub returns-clause-below : goal.returns-clause-below
 returns-clause-below g c = g.met.P.SectorView.follows_trans c.args.space.now c.change_made.new.space c.create.new.space c.change_made.ensures.below c.create.ensures.below

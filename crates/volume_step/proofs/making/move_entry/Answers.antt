@@ -4,11 +4,11 @@ use Rattle.sector_disk.specs.Lists.{Content}
 use Rattle.hfs_language.specs.declared.command.Command.TheVariants as command
 use Rattle.hfs_model.specs.Step.{to_mv}
 use Rattle.hfs_volume.specs.TreeOf.{tree_of}
-use Rattle.volume_ops.specs.Room.{capacity_of}
-use Rattle.volume_ops.specs.Touching.{Touches}
-use Rattle.volume_ops.proofs.Commanding.{touches_both, touches_looks}
-use Rattle.volume_ops.proofs.Sounding.{sound_here}
-use Rattle.volume_ops.proofs.Still.{own_still}
+use Rattle.volume_base.specs.Room.{capacity_of}
+use Rattle.volume_base.specs.Touching.{Touches}
+use Rattle.volume_base.proofs.Commanding.{touches_both, touches_looks}
+use Rattle.volume_space.proofs.Sounding.{sound_here}
+use Rattle.volume_base.proofs.Still.{own_still}
 use Rattle.volume_step.specs.Steps.{Affords, KeepsJournal, StepsTo}
 use Rattle.volume_step.specs.declared.outcome.Outcome.TheVariants as outcome
 use Rattle.volume_step.proofs.Done.{move_place, move_steps, holds_kept}
@@ -19,7 +19,7 @@ returns-clause-answered g c tells =
     subst (λ (k : Content). StepsTo (outcome.Answered c.in_ok-reply.reply c.in_ok-changes.changes) (capacity_of c.args.volume.now) c.args.number (command.Mv c.args.from.now c.args.to.now) k (g.P.SectorView.space c.mv.new.space).content) (c.change_moved.ensures.reads.looks.content tells)
     (move_steps (capacity_of c.args.volume.now) c.args.number c.args.from.now c.args.to.now (g.P.SectorView.space c.change_moved.new.space).content (g.P.SectorView.space c.mv.new.space).content
     (sound_here c.change_moved.new.self (g.P.SectorView.space c.change_moved.new.space) (c.change_moved.ensures.stands.stands (c.change_moved.ensures.reads.looks.same.tells ∙ tells)) (c.change_moved.ensures.settled tells))
-    (sound_here c.mv.new.self (g.P.SectorView.space c.mv.new.space) (c.in_ok-reply.ensures.stands.stands ((c.mv.ensures.touches (g.P.SectorView.space c.args.space.now).content).same.tells ∙ (c.change_moved.ensures.reads.looks.same.tells ∙ tells))) (c.in_ok-reply.ensures.settled (c.change_moved.ensures.reads.looks.same.tells ∙ tells)))
+    (sound_here c.mv.new.volume (g.P.SectorView.space c.mv.new.space) (c.in_ok-reply.ensures.stands.stands ((c.mv.ensures.touches (g.P.SectorView.space c.args.space.now).content).same.tells ∙ (c.change_moved.ensures.reads.looks.same.tells ∙ tells))) (c.in_ok-reply.ensures.settled (c.change_moved.ensures.reads.looks.same.tells ∙ tells)))
     (subst (λ (k : Content). Affords (capacity_of c.args.volume.now) (command.Mv c.args.from.now c.args.to.now) k) (sym (c.change_moved.ensures.reads.looks.content tells)) (c.requires.affords tells)) c.in_ok-reply.reply (c.in_ok-reply.ensures.reply (c.change_moved.ensures.reads.looks.same.tells ∙ tells)) (c.in_ok-reply.ensures.tree (c.change_moved.ensures.reads.looks.same.tells ∙ tells)) (c.in_ok-reply.ensures.lists (c.change_moved.ensures.reads.looks.same.tells ∙ tells)) c.in_ok-changes.changes
     (λ not_own goal_not_own pair is. c.in_ok-changes.ensures.told tells not_own goal_not_own pair (ap (λ (k : Content). to_mv (tree_of k) c.args.from.now c.args.to.now) (sym (c.change_moved.ensures.reads.looks.content tells)) ∙ is)))
 
@@ -28,11 +28,11 @@ returns-clause-place g c tells =
     subst (λ (k : Content). KeepsJournal k (g.P.SectorView.space c.mv.new.space).content) (c.change_moved.ensures.reads.looks.content tells)
     (move_place (capacity_of c.args.volume.now) c.args.number c.args.from.now c.args.to.now (g.P.SectorView.space c.change_moved.new.space).content (g.P.SectorView.space c.mv.new.space).content
     (sound_here c.change_moved.new.self (g.P.SectorView.space c.change_moved.new.space) (c.change_moved.ensures.stands.stands (c.change_moved.ensures.reads.looks.same.tells ∙ tells)) (c.change_moved.ensures.settled tells))
-    (sound_here c.mv.new.self (g.P.SectorView.space c.mv.new.space) (c.in_ok-reply.ensures.stands.stands ((c.mv.ensures.touches (g.P.SectorView.space c.args.space.now).content).same.tells ∙ (c.change_moved.ensures.reads.looks.same.tells ∙ tells))) (c.in_ok-reply.ensures.settled (c.change_moved.ensures.reads.looks.same.tells ∙ tells)))
+    (sound_here c.mv.new.volume (g.P.SectorView.space c.mv.new.space) (c.in_ok-reply.ensures.stands.stands ((c.mv.ensures.touches (g.P.SectorView.space c.args.space.now).content).same.tells ∙ (c.change_moved.ensures.reads.looks.same.tells ∙ tells))) (c.in_ok-reply.ensures.settled (c.change_moved.ensures.reads.looks.same.tells ∙ tells)))
     (subst (λ (k : Content). Affords (capacity_of c.args.volume.now) (command.Mv c.args.from.now c.args.to.now) k) (sym (c.change_moved.ensures.reads.looks.content tells)) (c.requires.affords tells)) c.in_ok-reply.reply (c.in_ok-reply.ensures.reply (c.change_moved.ensures.reads.looks.same.tells ∙ tells)) (c.in_ok-reply.ensures.tree (c.change_moved.ensures.reads.looks.same.tells ∙ tells)) (c.in_ok-reply.ensures.lists (c.change_moved.ensures.reads.looks.same.tells ∙ tells)))
 
 pub returns-clause-holds : goal.returns-clause-holds
-returns-clause-holds g c committed was = holds_kept committed c.change_moved.new.self c.mv.new.self c.mv.ensures.blocks.map (holds_kept committed c.args.volume.now c.change_moved.new.self c.change_moved.ensures.reads.keeps.map was)
+returns-clause-holds g c committed was = holds_kept committed c.change_moved.new.self c.mv.new.volume c.mv.ensures.blocks.map (holds_kept committed c.args.volume.now c.change_moved.new.self c.change_moved.ensures.reads.keeps.map was)
 
 pub returns-clause-below : goal.returns-clause-below
 returns-clause-below g c = g.met.P.SectorView.follows_trans c.args.space.now c.change_moved.new.space c.mv.new.space c.change_moved.ensures.below c.mv.ensures.below

@@ -1,6 +1,6 @@
 use Rattle.std.proofs.Common.{◌∙◌}
-use Rattle.volume_ops.specs.Room.{capacity_of}
-use Rattle.volume_ops.proofs.Sounding.{sound_here}
+use Rattle.volume_base.specs.Room.{capacity_of}
+use Rattle.volume_space.proofs.Sounding.{sound_here}
 use Rattle.volume_step.proofs.Done.{at_steps, at_place}
 use Rattle.volume_step.proofs.marking.date.Goals as goal
 
@@ -8,12 +8,12 @@ pub returns-clause-answered : goal.returns-clause-answered
 returns-clause-answered g c tells =
     at_steps (capacity_of c.args.volume.now) c.args._number c.args.moment (g.P.SectorView.space c.args.space.now).content (g.P.SectorView.space c.at-reply.new.space).content
     (sound_here c.args.volume.now (g.P.SectorView.space c.args.space.now) (c.requires.stands.stands tells) (c.requires.settled tells))
-    (sound_here c.at-reply.new.self (g.P.SectorView.space c.at-reply.new.space) (c.at-reply.ensures.stands.stands ((c.at-reply.ensures.touches (g.P.SectorView.space c.args.space.now).content).same.tells ∙ tells)) (c.at-reply.ensures.settled tells))
+    (sound_here c.at-reply.new.volume (g.P.SectorView.space c.at-reply.new.space) (c.at-reply.ensures.stands.stands ((c.at-reply.ensures.touches (g.P.SectorView.space c.args.space.now).content).same.tells ∙ tells)) (c.at-reply.ensures.settled tells))
     (c.requires.affords tells) c.at-reply.result (c.at-reply.ensures.reply tells) (c.at-reply.ensures.tree tells) (c.at-reply.ensures.lists tells) c.new.result c.new.ensures
 
 pub returns-clause-place : goal.returns-clause-place
 returns-clause-place g c tells =
     at_place (capacity_of c.args.volume.now) c.args._number c.args.moment (g.P.SectorView.space c.args.space.now).content (g.P.SectorView.space c.at-reply.new.space).content
     (sound_here c.args.volume.now (g.P.SectorView.space c.args.space.now) (c.requires.stands.stands tells) (c.requires.settled tells))
-    (sound_here c.at-reply.new.self (g.P.SectorView.space c.at-reply.new.space) (c.at-reply.ensures.stands.stands ((c.at-reply.ensures.touches (g.P.SectorView.space c.args.space.now).content).same.tells ∙ tells)) (c.at-reply.ensures.settled tells))
+    (sound_here c.at-reply.new.volume (g.P.SectorView.space c.at-reply.new.space) (c.at-reply.ensures.stands.stands ((c.at-reply.ensures.touches (g.P.SectorView.space c.args.space.now).content).same.tells ∙ tells)) (c.at-reply.ensures.settled tells))
     (c.requires.affords tells) c.at-reply.result (c.at-reply.ensures.reply tells) (c.at-reply.ensures.tree tells) (c.at-reply.ensures.lists tells)

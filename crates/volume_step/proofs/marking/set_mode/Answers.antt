@@ -4,11 +4,11 @@ use Rattle.sector_disk.specs.Lists.{Content}
 use Rattle.hfs_language.specs.declared.command.Command.TheVariants as command
 use Rattle.hfs_model.specs.Step.{reached}
 use Rattle.hfs_volume.specs.TreeOf.{tree_of}
-use Rattle.volume_ops.specs.Room.{capacity_of}
-use Rattle.volume_ops.specs.Touching.{Touches}
-use Rattle.volume_ops.proofs.Commanding.{touches_both, touches_looks}
-use Rattle.volume_ops.proofs.Sounding.{sound_here}
-use Rattle.volume_ops.proofs.Still.{own_still}
+use Rattle.volume_base.specs.Room.{capacity_of}
+use Rattle.volume_base.specs.Touching.{Touches}
+use Rattle.volume_base.proofs.Commanding.{touches_both, touches_looks}
+use Rattle.volume_space.proofs.Sounding.{sound_here}
+use Rattle.volume_base.proofs.Still.{own_still}
 use Rattle.volume_step.specs.Steps.{Affords, KeepsJournal, StepsTo}
 use Rattle.volume_step.specs.declared.outcome.Outcome.TheVariants as outcome
 use Rattle.volume_step.proofs.Done.{chmod_place, chmod_steps, holds_kept}
@@ -19,7 +19,7 @@ returns-clause-answered g c tells =
     subst (λ (k : Content). StepsTo (outcome.Answered c.in_ok-reply.reply c.in_ok-changes.changes) (capacity_of c.args.volume.now) c.args.number (command.Chmod c.args.path.now c.args.rights) k (g.P.SectorView.space c.chmod.new.space).content) (c.change_at.ensures.reads.looks.content tells)
     (chmod_steps (capacity_of c.args.volume.now) c.args.number c.args.path.now c.args.rights (g.P.SectorView.space c.change_at.new.space).content (g.P.SectorView.space c.chmod.new.space).content
     (sound_here c.change_at.new.self (g.P.SectorView.space c.change_at.new.space) (c.change_at.ensures.stands.stands (c.change_at.ensures.reads.looks.same.tells ∙ tells)) (c.change_at.ensures.settled tells))
-    (sound_here c.chmod.new.self (g.P.SectorView.space c.chmod.new.space) (c.in_ok-reply.ensures.stands.stands ((c.chmod.ensures.touches (g.P.SectorView.space c.args.space.now).content).same.tells ∙ (c.change_at.ensures.reads.looks.same.tells ∙ tells))) (c.in_ok-reply.ensures.settled (c.change_at.ensures.reads.looks.same.tells ∙ tells)))
+    (sound_here c.chmod.new.volume (g.P.SectorView.space c.chmod.new.space) (c.in_ok-reply.ensures.stands.stands ((c.chmod.ensures.touches (g.P.SectorView.space c.args.space.now).content).same.tells ∙ (c.change_at.ensures.reads.looks.same.tells ∙ tells))) (c.in_ok-reply.ensures.settled (c.change_at.ensures.reads.looks.same.tells ∙ tells)))
     (subst (λ (k : Content). Affords (capacity_of c.args.volume.now) (command.Chmod c.args.path.now c.args.rights) k) (sym (c.change_at.ensures.reads.looks.content tells)) (c.requires.affords tells))
     c.in_ok-reply.reply (c.in_ok-reply.ensures.reply (c.change_at.ensures.reads.looks.same.tells ∙ tells)) (c.in_ok-reply.ensures.tree (c.change_at.ensures.reads.looks.same.tells ∙ tells)) (c.in_ok-reply.ensures.lists (c.change_at.ensures.reads.looks.same.tells ∙ tells)) c.in_ok-changes.changes
     (λ not_own entry is. c.in_ok-changes.ensures.told tells not_own entry (ap (λ (k : Content). reached (tree_of k) c.args.path.now) (sym (c.change_at.ensures.reads.looks.content tells)) ∙ is)))
@@ -29,12 +29,12 @@ returns-clause-place g c tells =
     subst (λ (k : Content). KeepsJournal k (g.P.SectorView.space c.chmod.new.space).content) (c.change_at.ensures.reads.looks.content tells)
     (chmod_place (capacity_of c.args.volume.now) c.args.number c.args.path.now c.args.rights (g.P.SectorView.space c.change_at.new.space).content (g.P.SectorView.space c.chmod.new.space).content
     (sound_here c.change_at.new.self (g.P.SectorView.space c.change_at.new.space) (c.change_at.ensures.stands.stands (c.change_at.ensures.reads.looks.same.tells ∙ tells)) (c.change_at.ensures.settled tells))
-    (sound_here c.chmod.new.self (g.P.SectorView.space c.chmod.new.space) (c.in_ok-reply.ensures.stands.stands ((c.chmod.ensures.touches (g.P.SectorView.space c.args.space.now).content).same.tells ∙ (c.change_at.ensures.reads.looks.same.tells ∙ tells))) (c.in_ok-reply.ensures.settled (c.change_at.ensures.reads.looks.same.tells ∙ tells)))
+    (sound_here c.chmod.new.volume (g.P.SectorView.space c.chmod.new.space) (c.in_ok-reply.ensures.stands.stands ((c.chmod.ensures.touches (g.P.SectorView.space c.args.space.now).content).same.tells ∙ (c.change_at.ensures.reads.looks.same.tells ∙ tells))) (c.in_ok-reply.ensures.settled (c.change_at.ensures.reads.looks.same.tells ∙ tells)))
     (subst (λ (k : Content). Affords (capacity_of c.args.volume.now) (command.Chmod c.args.path.now c.args.rights) k) (sym (c.change_at.ensures.reads.looks.content tells)) (c.requires.affords tells))
     c.in_ok-reply.reply (c.in_ok-reply.ensures.reply (c.change_at.ensures.reads.looks.same.tells ∙ tells)) (c.in_ok-reply.ensures.tree (c.change_at.ensures.reads.looks.same.tells ∙ tells)) (c.in_ok-reply.ensures.lists (c.change_at.ensures.reads.looks.same.tells ∙ tells)))
 
 pub returns-clause-holds : goal.returns-clause-holds
-returns-clause-holds g c committed was = holds_kept committed c.change_at.new.self c.chmod.new.self c.chmod.ensures.map (holds_kept committed c.args.volume.now c.change_at.new.self c.change_at.ensures.reads.keeps.map was)
+returns-clause-holds g c committed was = holds_kept committed c.change_at.new.self c.chmod.new.volume c.chmod.ensures.map (holds_kept committed c.args.volume.now c.change_at.new.self c.change_at.ensures.reads.keeps.map was)
 
 pub returns-clause-below : goal.returns-clause-below
 returns-clause-below g c = g.met.P.SectorView.follows_trans c.args.space.now c.change_at.new.space c.chmod.new.space c.change_at.ensures.below c.chmod.ensures.below

@@ -3,10 +3,10 @@ use Rattle.std.specs.List.{Contains}
 use Rattle.std.specs.Prelude.{IfOk, OnOk}
 use Rattle.sector_disk.specs.Lists.{Content}
 use Rattle.hfs_language.specs.declared.command.Command.TheVariants as command
-use Rattle.volume_ops.specs.Room.{capacity_of}
-use Rattle.volume_ops.specs.Touching.{Touches}
-use Rattle.volume_ops.proofs.Commanding.{touches_both, touches_looks}
-use Rattle.volume_ops.proofs.Still.{own_still}
+use Rattle.volume_base.specs.Room.{capacity_of}
+use Rattle.volume_base.specs.Touching.{Touches}
+use Rattle.volume_base.proofs.Commanding.{touches_both, touches_looks}
+use Rattle.volume_base.proofs.Still.{own_still}
 use Rattle.volume_step.specs.Steps.{Affords, KeepsJournal, StepsTo}
 use Rattle.volume_step.specs.declared.outcome.Outcome.{Outcome}
 use Rattle.volume_step.proofs.Done.{holds_kept}
@@ -14,23 +14,23 @@ use Rattle.volume_step.proofs.removing.remove_folder.Goals as goal
 
 pub remove_with-requires-clause-affords : goal.remove_with-requires-clause-affords
 remove_with-requires-clause-affords g c told =
-    subst (λ (k : ℕ × Content). Affords k.0 (command.Rmdir c.args.path.now) k.1) {x = ((capacity_of c.args.volume.now), (g.P.SectorView.space c.args.space.now).content)} {y = (capacity_of c.bare_count.new.self, (g.P.SectorView.space c.bare_count.new.space).content)} (λ i. (sym c.bare_count.ensures.reads.keeps.capacity i, sym (c.bare_count.ensures.reads.looks.content (sym c.bare_count.ensures.reads.looks.same.tells ∙ told)) i))
+    subst (λ (k : ℕ × Content). Affords k.0 (command.Rmdir c.args.path.now) k.1) {x = ((capacity_of c.args.volume.now), (g.P.SectorView.space c.args.space.now).content)} {y = (capacity_of c.bare_count.new.volume, (g.P.SectorView.space c.bare_count.new.space).content)} (λ i. (sym c.bare_count.ensures.reads.keeps.capacity i, sym (c.bare_count.ensures.reads.looks.content (sym c.bare_count.ensures.reads.looks.same.tells ∙ told)) i))
     (c.requires.affords (sym c.bare_count.ensures.reads.looks.same.tells ∙ told))
 
 pub returns-clause-answered : goal.returns-clause-answered
 returns-clause-answered g c tells =
-    subst (λ (k : ℕ × Content). IfOk c.remove_with.result (λ (o : Outcome). StepsTo o k.0 c.args.number (command.Rmdir c.args.path.now) k.1 (g.P.SectorView.space c.remove_with.new.space).content)) {x = (capacity_of c.bare_count.new.self, (g.P.SectorView.space c.bare_count.new.space).content)} {y = ((capacity_of c.args.volume.now), (g.P.SectorView.space c.args.space.now).content)} (λ i. (c.bare_count.ensures.reads.keeps.capacity i, c.bare_count.ensures.reads.looks.content tells i)) (c.remove_with.ensures.answered (c.bare_count.ensures.reads.looks.same.tells ∙ tells))
+    subst (λ (k : ℕ × Content). IfOk c.remove_with.result (λ (o : Outcome). StepsTo o k.0 c.args.number (command.Rmdir c.args.path.now) k.1 (g.P.SectorView.space c.remove_with.new.space).content)) {x = (capacity_of c.bare_count.new.volume, (g.P.SectorView.space c.bare_count.new.space).content)} {y = ((capacity_of c.args.volume.now), (g.P.SectorView.space c.args.space.now).content)} (λ i. (c.bare_count.ensures.reads.keeps.capacity i, c.bare_count.ensures.reads.looks.content tells i)) (c.remove_with.ensures.answered (c.bare_count.ensures.reads.looks.same.tells ∙ tells))
 
 pub returns-clause-place : goal.returns-clause-place
 returns-clause-place g c tells = subst (λ (k : Content). OnOk c.remove_with.result (KeepsJournal k (g.P.SectorView.space c.remove_with.new.space).content)) (c.bare_count.ensures.reads.looks.content tells) (c.remove_with.ensures.place (c.bare_count.ensures.reads.looks.same.tells ∙ tells))
 
 pub returns-clause-holds : goal.returns-clause-holds
-returns-clause-holds g c committed was = c.remove_with.ensures.holds committed (holds_kept committed c.args.volume.now c.bare_count.new.self c.bare_count.ensures.reads.keeps.map was)
+returns-clause-holds g c committed was = c.remove_with.ensures.holds committed (holds_kept committed c.args.volume.now c.bare_count.new.volume c.bare_count.ensures.reads.keeps.map was)
 
 pub returns-clause-touches : goal.returns-clause-touches
 returns-clause-touches g c committed =
     touches_both committed _ (g.P.SectorView.space c.args.space.now) (g.P.SectorView.space c.bare_count.new.space) (g.P.SectorView.space c.remove_with.new.space) (touches_looks committed _ (g.P.SectorView.space c.args.space.now) (g.P.SectorView.space c.bare_count.new.space) c.bare_count.ensures.reads.looks)
-    (subst (λ (l : List ℕ). Touches committed (λ s. Contains l s) (g.P.SectorView.space c.bare_count.new.space) (g.P.SectorView.space c.remove_with.new.space)) (own_still c.args.volume.now c.bare_count.new.self (g.P.SectorView.space c.args.space.now) (g.P.SectorView.space c.bare_count.new.space) c.bare_count.ensures.reads) (c.remove_with.ensures.touches committed))
+    (subst (λ (l : List ℕ). Touches committed (λ s. Contains l s) (g.P.SectorView.space c.bare_count.new.space) (g.P.SectorView.space c.remove_with.new.space)) (own_still c.args.volume.now c.bare_count.new.volume (g.P.SectorView.space c.args.space.now) (g.P.SectorView.space c.bare_count.new.space) c.bare_count.ensures.reads) (c.remove_with.ensures.touches committed))
 
 pub returns-in_err-many-clause-touches : goal.returns-in_err-many-clause-touches
 returns-in_err-many-clause-touches g c committed = touches_looks committed _ (g.P.SectorView.space c.args.space.now) (g.P.SectorView.space c.bare_count.new.space) c.bare_count.ensures.reads.looks

@@ -1,16 +1,22 @@
-use Rattle.std.proofs.Common.{ℕ, sym, ◌∙◌, subst}
+use Rattle.std.proofs.Common.{ℕ, [], sym, ◌∙◌, subst}
 use Rattle.std.specs.Prelude.{IfOk, OnOk, Option}
 use Rattle.sector_disk.specs.Lists.{Content}
+use Rattle.sector_disk.proofs.SpaceLaws.{space_both}
 use Rattle.hfs_volume.specs.Aside.{IsJournalSector}
-use Rattle.volume_ops.specs.Room.{capacity_of}
-use Rattle.volume_ops.specs.Keeping.{shrunk_of}
-use Rattle.volume_ops.proofs.Sounding.{sound_here}
+use Rattle.volume_base.specs.Room.{capacity_of}
+use Rattle.volume_base.specs.Keeping.{shrunk_of}
+use Rattle.volume_space.proofs.Sounding.{sound_here}
 use Rattle.volume_step.specs.Steps.{Affords, GrowsFirst, IsJudged, KeepsJournal, ShrinksAs, StepsTo}
 use Rattle.volume_step.specs.declared.judging.Verdict.{Verdict}
 use Rattle.volume_step.specs.declared.outcome.Outcome.{Outcome}
 use Rattle.volume_step.proofs.Done.{holds_kept, refused_steps, same_place, waits_steps}
-use Rattle.volume_step.proofs.Widening.{own_or_free_still, refused_shrinks, touches_behind, touches_looked}
+use Rattle.volume_step.proofs.Widening.{laid_still, own_or_free_still, refused_shrinks, touches_behind, touches_looked}
 use Rattle.volume_step.proofs.stepping.change.Goals as goal
+
+pub perform-requires-clause-closed : goal.perform-requires-clause-closed
+perform-requires-clause-closed g c told at shut =
+    let tells = sym c.judge.ensures.reads.looks.same.tells ∙ told in
+    subst (λ (k : Content). IsJournalSector k at) (sym (c.judge.ensures.reads.looks.content tells)) (c.requires.closed tells at ((c.judge.ensures.reads.looks.closed tells at).0 shut))
 
 pub perform-requires-clause-affords : goal.perform-requires-clause-affords
 perform-requires-clause-affords g c told =
@@ -38,9 +44,10 @@ pub returns-in-Fits-clause-holds : goal.returns-in-Fits-clause-holds
 returns-in-Fits-clause-holds g c committed was = c.perform.ensures.holds committed (holds_kept committed c.args.volume.now c.judge.new.volume c.judge.ensures.reads.keeps.map was)
 
 pub returns-in-Fits-clause-touches : goal.returns-in-Fits-clause-touches
-returns-in-Fits-clause-touches g c committed =
+returns-in-Fits-clause-touches g c committed holds laid =
     touches_behind committed c.args.volume.now c.judge.new.volume c.perform.new.volume (g.P.SectorView.space c.args.space.now) (g.P.SectorView.space c.judge.new.space) (g.P.SectorView.space c.perform.new.space)
-    (own_or_free_still c.args.volume.now c.judge.new.volume (g.P.SectorView.space c.args.space.now) (g.P.SectorView.space c.judge.new.space) c.judge.ensures.reads) c.judge.ensures.reads.looks (c.perform.ensures.touches committed)
+    (own_or_free_still c.args.volume.now c.judge.new.volume (g.P.SectorView.space c.args.space.now) (g.P.SectorView.space c.judge.new.space) c.judge.ensures.reads) c.judge.ensures.reads.looks
+    (c.perform.ensures.touches committed (holds_kept committed c.args.volume.now c.judge.new.volume c.judge.ensures.reads.keeps.map holds) (laid_still committed c.args.volume.now c.judge.new.volume c.judge.ensures.reads.keeps.header c.judge.ensures.reads.keeps.map laid))
 
 pub returns-in-Fits-clause-shrunk : goal.returns-in-Fits-clause-shrunk
 returns-in-Fits-clause-shrunk g c tells =
@@ -63,16 +70,16 @@ pub returns-in-ToCome-clause-place : goal.returns-in-ToCome-clause-place
 returns-in-ToCome-clause-place g c tells = same_place (g.P.SectorView.space c.args.space.now).content (g.P.SectorView.space c.judge.new.space).content (c.judge.ensures.reads.looks.content tells)
 
 pub returns-in_err-why-clause-touches : goal.returns-in_err-why-clause-touches
-returns-in_err-why-clause-touches g c committed = touches_looked committed c.args.volume.now c.judge.new.volume (g.P.SectorView.space c.args.space.now) (g.P.SectorView.space c.judge.new.space) c.judge.ensures.reads.looks
+returns-in_err-why-clause-touches g c committed holds laid = touches_looked committed c.args.volume.now c.judge.new.volume (g.P.SectorView.space c.args.space.now) (g.P.SectorView.space c.judge.new.space) c.judge.ensures.reads.looks
 
 pub returns-in-Refused-clause-touches : goal.returns-in-Refused-clause-touches
-returns-in-Refused-clause-touches g c committed = touches_looked committed c.args.volume.now c.judge.new.volume (g.P.SectorView.space c.args.space.now) (g.P.SectorView.space c.judge.new.space) c.judge.ensures.reads.looks
+returns-in-Refused-clause-touches g c committed holds laid = touches_looked committed c.args.volume.now c.judge.new.volume (g.P.SectorView.space c.args.space.now) (g.P.SectorView.space c.judge.new.space) c.judge.ensures.reads.looks
 
 pub returns-in-ToCome-clause-touches : goal.returns-in-ToCome-clause-touches
-returns-in-ToCome-clause-touches g c committed = touches_looked committed c.args.volume.now c.judge.new.volume (g.P.SectorView.space c.args.space.now) (g.P.SectorView.space c.judge.new.space) c.judge.ensures.reads.looks
+returns-in-ToCome-clause-touches g c committed holds laid = touches_looked committed c.args.volume.now c.judge.new.volume (g.P.SectorView.space c.args.space.now) (g.P.SectorView.space c.judge.new.space) c.judge.ensures.reads.looks
 
 pub returns-in-CommitFirst-clause-touches : goal.returns-in-CommitFirst-clause-touches
-returns-in-CommitFirst-clause-touches g c committed = touches_looked committed c.args.volume.now c.judge.new.volume (g.P.SectorView.space c.args.space.now) (g.P.SectorView.space c.judge.new.space) c.judge.ensures.reads.looks
+returns-in-CommitFirst-clause-touches g c committed holds laid = touches_looked committed c.args.volume.now c.judge.new.volume (g.P.SectorView.space c.args.space.now) (g.P.SectorView.space c.judge.new.space) c.judge.ensures.reads.looks
 
 -- ---- ahead of which the catalog grows
 
@@ -98,7 +105,7 @@ pub returns-in-Grows-clause-holds : goal.returns-in-Grows-clause-holds
 returns-in-Grows-clause-holds g c committed was = c.grow_first.ensures.holds committed (holds_kept committed c.args.volume.now c.judge.new.volume c.judge.ensures.reads.keeps.map was)
 
 pub returns-in-Grows-clause-touches : goal.returns-in-Grows-clause-touches
-returns-in-Grows-clause-touches g c committed =
+returns-in-Grows-clause-touches g c committed holds laid =
     touches_behind committed c.args.volume.now c.judge.new.volume c.grow_first.new.volume (g.P.SectorView.space c.args.space.now) (g.P.SectorView.space c.judge.new.space) (g.P.SectorView.space c.grow_first.new.space)
     (own_or_free_still c.args.volume.now c.judge.new.volume (g.P.SectorView.space c.args.space.now) (g.P.SectorView.space c.judge.new.space) c.judge.ensures.reads) c.judge.ensures.reads.looks (c.grow_first.ensures.touches committed)
 
@@ -106,3 +113,11 @@ pub returns-in-Grows-clause-shrunk : goal.returns-in-Grows-clause-shrunk
 returns-in-Grows-clause-shrunk g c tells =
     subst (λ (k : Option ℕ × Content). IfOk c.grow_first.result (λ (o : Outcome). ShrinksAs o c.args.command.now k.1 k.0 (shrunk_of c.grow_first.new.volume))) {x = (shrunk_of c.judge.new.volume, (g.P.SectorView.space c.judge.new.space).content)} {y = (shrunk_of c.args.volume.now, (g.P.SectorView.space c.args.space.now).content)}
     (λ i. (c.judge.ensures.reads.keeps.shrunk i, c.judge.ensures.reads.looks.content tells i)) (c.grow_first.ensures.shrunk (c.judge.ensures.reads.looks.same.tells ∙ tells))
+
+-- ---- what the space's numbers are
+
+pub returns-in-Fits-clause-same : goal.returns-in-Fits-clause-same
+returns-in-Fits-clause-same g c = space_both _ _ _ c.judge.ensures.reads.looks.same c.perform.ensures.same
+
+pub returns-in-Grows-clause-same : goal.returns-in-Grows-clause-same
+returns-in-Grows-clause-same g c = space_both _ _ _ c.judge.ensures.reads.looks.same (c.grow_first.ensures.touches []).same

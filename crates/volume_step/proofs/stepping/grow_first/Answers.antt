@@ -3,13 +3,13 @@ use Rattle.std.specs.Prelude.{IfOk}
 use Rattle.sector_disk.specs.Lists.{Content}
 use Rattle.hfs_model.specs.declared.plain.PlainTree.{PlainTree}
 use Rattle.hfs_volume.specs.Weight.{data_of}
-use Rattle.volume_ops.specs.Growing.{GrowsAhead}
-use Rattle.volume_ops.specs.Keeping.{shrunk_of}
-use Rattle.volume_ops.specs.Room.{capacity_of}
-use Rattle.volume_ops.specs.Standing.{HoldsOn}
-use Rattle.volume_ops.specs.declared.ahead.Growth.TheVariants as growing
-use Rattle.volume_ops.proofs.Sounding.{sound_here}
-use Rattle.volume_ops.proofs.WhenKept.{on_ok}
+use Rattle.volume_space.specs.Growing.{GrowsAhead}
+use Rattle.volume_base.specs.Keeping.{shrunk_of}
+use Rattle.volume_base.specs.Room.{capacity_of}
+use Rattle.volume_space.specs.Standing.{HoldsOn}
+use Rattle.volume_space.specs.declared.ahead.Growth.TheVariants as growing
+use Rattle.volume_space.proofs.Sounding.{sound_here}
+use Rattle.volume_space.proofs.WhenKept.{on_ok}
 use Rattle.volume_step.specs.Steps.{Affords, KeepsJournal, StepsTo}
 use Rattle.volume_step.specs.declared.outcome.Outcome.{Outcome}
 use Rattle.volume_step.proofs.Done.{same_place, waits_steps}
@@ -20,7 +20,7 @@ use Rattle.volume_step.proofs.stepping.grow_first.Goals as goal
 -- ---- the growth
 
 pub returns-in_err-grow_ahead-clause-touches : goal.returns-in_err-grow_ahead-clause-touches
-returns-in_err-grow_ahead-clause-touches g c committed = touches_ahead committed c.args.volume.now c.grow_ahead.new.self (g.P.SectorView.space c.args.space.now) (g.P.SectorView.space c.grow_ahead.new.space) (c.grow_ahead.ensures.touches committed)
+returns-in_err-grow_ahead-clause-touches g c committed = touches_ahead committed c.args.volume.now c.grow_ahead.new.volume (g.P.SectorView.space c.args.space.now) (g.P.SectorView.space c.grow_ahead.new.space) (c.grow_ahead.ensures.touches committed)
 
 pub do_grown-requires-clause-settled : goal.do_grown-requires-clause-settled
 do_grown-requires-clause-settled g c told = c.in_ok-grow_ahead.ensures.settled (sym (c.grow_ahead.ensures.touches []).same.tells ∙ told)
@@ -61,11 +61,11 @@ pub returns-in-Grown-clause-shrunk : goal.returns-in-Grown-clause-shrunk
 returns-in-Grown-clause-shrunk g c tells =
     let ahead = went c.args.more (g.P.SectorView.space c.args.space.now).content (g.P.SectorView.space c.grow_ahead.new.space).content c.in_ok-grow_ahead.field-0 growing.Grown c.in-Grown.is (c.in_ok-grow_ahead.ensures.ahead tells) in
     result_shrinks (capacity_of c.args.volume.now) c.args.number c.args.more c.args.command.now (g.P.SectorView.space c.args.space.now).content (g.P.SectorView.space c.grow_ahead.new.space).content (g.P.SectorView.space c.do_grown.new.space).content c.requires.changes ahead
-    (shrunk_of c.args.volume.now) (shrunk_of c.grow_ahead.new.self) (shrunk_of c.do_grown.new.volume) c.grow_ahead.ensures.same.1 c.do_grown.result (c.do_grown.ensures.shrunk ((c.grow_ahead.ensures.touches []).same.tells ∙ tells))
+    (shrunk_of c.args.volume.now) (shrunk_of c.grow_ahead.new.volume) (shrunk_of c.do_grown.new.volume) c.grow_ahead.ensures.same.1 c.do_grown.result (c.do_grown.ensures.shrunk ((c.grow_ahead.ensures.touches []).same.tells ∙ tells))
 
 pub returns-in-Grown-clause-touches : goal.returns-in-Grown-clause-touches
 returns-in-Grown-clause-touches g c committed =
-    touches_grown committed c.args.volume.now c.grow_ahead.new.self c.do_grown.new.volume (g.P.SectorView.space c.args.space.now) (g.P.SectorView.space c.grow_ahead.new.space) (g.P.SectorView.space c.do_grown.new.space) c.in_ok-grow_ahead.ensures.gained (c.grow_ahead.ensures.touches committed) (c.do_grown.ensures.touches committed)
+    touches_grown committed c.args.volume.now c.grow_ahead.new.volume c.do_grown.new.volume (g.P.SectorView.space c.args.space.now) (g.P.SectorView.space c.grow_ahead.new.space) (g.P.SectorView.space c.do_grown.new.space) c.in_ok-grow_ahead.ensures.gained (c.grow_ahead.ensures.touches committed) (c.do_grown.ensures.touches committed)
 
 pub returns-in-Grown-clause-below : goal.returns-in-Grown-clause-below
 returns-in-Grown-clause-below g c = g.met.P.SectorView.follows_trans c.args.space.now c.grow_ahead.new.space c.do_grown.new.space c.grow_ahead.ensures.below c.do_grown.ensures.below
@@ -81,7 +81,7 @@ returns-in-CommitFirst-clause-place g c tells =
     (went c.args.more (g.P.SectorView.space c.args.space.now).content (g.P.SectorView.space c.grow_ahead.new.space).content c.in_ok-grow_ahead.field-0 growing.CommitFirst c.in-CommitFirst.is (c.in_ok-grow_ahead.ensures.ahead tells))
 
 pub returns-in-CommitFirst-clause-touches : goal.returns-in-CommitFirst-clause-touches
-returns-in-CommitFirst-clause-touches g c committed = touches_ahead committed c.args.volume.now c.grow_ahead.new.self (g.P.SectorView.space c.args.space.now) (g.P.SectorView.space c.grow_ahead.new.space) (c.grow_ahead.ensures.touches committed)
+returns-in-CommitFirst-clause-touches g c committed = touches_ahead committed c.args.volume.now c.grow_ahead.new.volume (g.P.SectorView.space c.args.space.now) (g.P.SectorView.space c.grow_ahead.new.space) (c.grow_ahead.ensures.touches committed)
 
 pub returns-in-ToCome-clause-answered : goal.returns-in-ToCome-clause-answered
 returns-in-ToCome-clause-answered g c tells =
@@ -96,4 +96,4 @@ returns-in-ToCome-clause-place g c tells =
     (went c.args.more (g.P.SectorView.space c.args.space.now).content (g.P.SectorView.space c.grow_ahead.new.space).content c.in_ok-grow_ahead.field-0 growing.ToCome c.in-ToCome.is (c.in_ok-grow_ahead.ensures.ahead tells))
 
 pub returns-in-ToCome-clause-touches : goal.returns-in-ToCome-clause-touches
-returns-in-ToCome-clause-touches g c committed = touches_ahead committed c.args.volume.now c.grow_ahead.new.self (g.P.SectorView.space c.args.space.now) (g.P.SectorView.space c.grow_ahead.new.space) (c.grow_ahead.ensures.touches committed)
+returns-in-ToCome-clause-touches g c committed = touches_ahead committed c.args.volume.now c.grow_ahead.new.volume (g.P.SectorView.space c.args.space.now) (g.P.SectorView.space c.grow_ahead.new.space) (c.grow_ahead.ensures.touches committed)

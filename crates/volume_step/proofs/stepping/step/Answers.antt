@@ -1,6 +1,6 @@
-use Rattle.std.proofs.Common.{sym, ◌∙◌}
+use Rattle.std.proofs.Common.{[], sym, ◌∙◌}
 use Rattle.hfs_volume.specs.TreeOf.{tree_of}
-use Rattle.volume_ops.specs.Keeping.{shrunk_of}
+use Rattle.volume_base.specs.Keeping.{shrunk_of}
 use Rattle.volume_step.proofs.Widening.{keeps_shrunk, reads_shrink_none, touches_own}
 use Rattle.volume_step.proofs.stepping.step.Goals as goal
 
@@ -10,4 +10,7 @@ returns-then-only_reads-clause-shrunk g c tells =
     (reads_shrink_none (tree_of (g.P.SectorView.space c.args.space.now).content) c.args.command.now (sym c.only_reads.ensures ∙ c.if-only_reads.true)) c.answer.ensures.shrunk c.answer.result
 
 pub returns-then-only_reads-clause-touches : goal.returns-then-only_reads-clause-touches
-returns-then-only_reads-clause-touches g c committed = touches_own committed c.args.volume.now c.answer.new.volume (g.P.SectorView.space c.args.space.now) (g.P.SectorView.space c.answer.new.space) (c.answer.ensures.touches committed)
+returns-then-only_reads-clause-touches g c committed holds laid = touches_own committed c.args.volume.now c.answer.new.volume (g.P.SectorView.space c.args.space.now) (g.P.SectorView.space c.answer.new.space) (c.answer.ensures.touches committed)
+
+pub returns-then-only_reads-clause-same : goal.returns-then-only_reads-clause-same
+returns-then-only_reads-clause-same g c = (c.answer.ensures.touches []).same

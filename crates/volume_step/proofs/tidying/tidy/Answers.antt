@@ -1,10 +1,10 @@
 use Rattle.std.proofs.Common.{◌∙◌}
 use Rattle.hfs_volume.specs.Sound.{IsSound}
-use Rattle.volume_ops.specs.Keeping.{shrunk_of}
-use Rattle.volume_ops.specs.Room.{capacity_of}
-use Rattle.volume_ops.specs.Standing.{IsSettled, StandsOver}
-use Rattle.volume_ops.proofs.FoundEntry.{ok_both}
-use Rattle.volume_ops.proofs.Sounding.{sound_here}
+use Rattle.volume_base.specs.Keeping.{shrunk_of}
+use Rattle.volume_base.specs.Room.{capacity_of}
+use Rattle.volume_base.specs.Standing.{IsSettled, StandsOver}
+use Rattle.volume_base.proofs.FoundEntry.{ok_both}
+use Rattle.volume_space.proofs.Sounding.{sound_here}
 use Rattle.volume_step.proofs.Reclaimed.{places_as, reclaims_as}
 use Rattle.volume_step.proofs.tidying.tidy.Goals as goal
 
@@ -14,7 +14,7 @@ returns-clause-reclaims g c tells =
     let b = g.P.SectorView.space c.tidy.new.space in
     let later = (c.tidy.ensures.touches a.content).same.tells ∙ tells in
     reclaims_as c.soundness_has_two_halves.ensures (capacity_of c.args.volume.now) (shrunk_of c.args.volume.now) a.content b.content (c.requires.settled tells).sound c.tidy.result
-    (ok_both (StandsOver c.tidy.new.self b) (IsSettled c.tidy.new.self b.content) (IsSound b.content) c.tidy.result c.tidy.ensures.stands (c.tidy.ensures.settled tells) (λ stands settled. sound_here c.tidy.new.self b (stands.stands later) settled))
+    (ok_both (StandsOver c.tidy.new.volume b) (IsSettled c.tidy.new.volume b.content) (IsSound b.content) c.tidy.result c.tidy.ensures.stands (c.tidy.ensures.settled tells) (λ stands settled. sound_here c.tidy.new.volume b (stands.stands later) settled))
     (c.tidy.ensures.tidied tells)
 
 pub returns-clause-place : goal.returns-clause-place
@@ -23,7 +23,7 @@ returns-clause-place g c tells =
     let b = g.P.SectorView.space c.tidy.new.space in
     let later = (c.tidy.ensures.touches a.content).same.tells ∙ tells in
     places_as c.soundness_has_two_halves.ensures (capacity_of c.args.volume.now) (shrunk_of c.args.volume.now) a.content b.content (c.requires.settled tells).sound c.tidy.result
-    (ok_both (StandsOver c.tidy.new.self b) (IsSettled c.tidy.new.self b.content) (IsSound b.content) c.tidy.result c.tidy.ensures.stands (c.tidy.ensures.settled tells) (λ stands settled. sound_here c.tidy.new.self b (stands.stands later) settled))
+    (ok_both (StandsOver c.tidy.new.volume b) (IsSettled c.tidy.new.volume b.content) (IsSound b.content) c.tidy.result c.tidy.ensures.stands (c.tidy.ensures.settled tells) (λ stands settled. sound_here c.tidy.new.volume b (stands.stands later) settled))
     (c.tidy.ensures.tidied tells)
 
 pub returns-clause-holds : goal.returns-clause-holds

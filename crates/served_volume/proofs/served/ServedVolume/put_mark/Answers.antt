@@ -1,11 +1,11 @@
 use Rattle.std.proofs.Common.{◌≡◌, [], refl, sym, ◌∙◌, ap, subst, arith}
 use Rattle.alloc_bitmap.specs.Untold.{told_none}
 use Rattle.hfs_serving.proofs.Causes.{counts_none, fine}
-use Rattle.volume_ops.proofs.Sounding.{sound_here}
-use Rattle.volume_ops.specs.Keeping.{shrunk_of}
-use Rattle.volume_ops.specs.Room.{capacity_of}
-use Rattle.volume_ops.specs.Standing.{HoldsOn}
-use Rattle.volume_ops.specs.declared.volume.Volume.{Volume}
+use Rattle.volume_space.proofs.Sounding.{sound_here}
+use Rattle.volume_base.specs.Keeping.{shrunk_of}
+use Rattle.volume_base.specs.Room.{capacity_of}
+use Rattle.volume_space.specs.Standing.{HoldsOn}
+use Rattle.volume_base.specs.declared.volume.Volume.{Volume}
 use Rattle.served_volume.proofs.Calls.{quiet, short}
 use Rattle.served_volume.proofs.Heading.{marks_keep}
 use Rattle.served_volume.proofs.Marked.{marked_as}
@@ -37,7 +37,7 @@ returns-clause-touches g c tells capacity committed now shrunk stands =
 pub returns-clause-marked : goal.returns-clause-marked
 returns-clause-marked g c tells capacity committed now shrunk stands =
     let v = c.args.self.now.volume in
-    let w = c.mark.new.self in
+    let w = c.mark.new.volume in
     let a = g.G.SectorView.space c.args.base.now in
     let b = g.G.SectorView.space c.mark.new.space in
     let lists = c.mark.ensures.lists tells in

@@ -6,10 +6,11 @@ use Rattle.hfs_serving.specs.Faults.{Faults}
 use Rattle.hfs_serving.specs.Going.{AnswersTo}
 use Rattle.hfs_serving.specs.declared.volume.Step.{Step}
 use Rattle.hfs_serving.proofs.Causes.{counts_none, handed}
-use Rattle.volume_ops.proofs.Sounding.{sound_here}
-use Rattle.volume_ops.specs.Keeping.{shrunk_of}
-use Rattle.volume_ops.specs.Room.{capacity_of}
-use Rattle.volume_ops.specs.Standing.{HoldsOn, IsSettled, StandsOver}
+use Rattle.volume_space.proofs.Sounding.{sound_here}
+use Rattle.volume_base.specs.Keeping.{shrunk_of}
+use Rattle.volume_base.specs.Room.{capacity_of}
+use Rattle.volume_space.specs.Standing.{HoldsOn}
+use Rattle.volume_base.specs.Standing.{IsSettled, StandsOver}
 use Rattle.volume_step.specs.Steps.{KeepsJournal}
 use Rattle.volume_step.specs.declared.outcome.Outcome.{Outcome}
 use Rattle.served_volume.specs.Answering.{AnswersAs, ShrinksBy, TellsAs}
@@ -48,11 +49,11 @@ returns-then-is_elsewhere-clause-faults g c = short (counts_none _ _)
 
 pub returns-in-Ok-clause-touches : goal.returns-in-Ok-clause-touches
 returns-in-Ok-clause-touches g c tells capacity committed now shrunk stands =
-    c.look.ensures.sees c.requires.serves.0 committed c.args.base.now c.answer_line-outcome.ensures.below c.requires.serves.1 tells (touches_space committed _ _ _ tells (c.answer_line-outcome.ensures.touches committed))
+    c.look.ensures.sees c.requires.serves.0 committed c.args.base.now c.answer_line-outcome.ensures.below c.requires.serves.1 tells (touches_space committed _ _ _ tells (c.answer_line-outcome.ensures.touches committed stands.known.holds stands.known.laid_out))
 
 pub returns-in-Err-clause-touches : goal.returns-in-Err-clause-touches
 returns-in-Err-clause-touches g c tells capacity committed now shrunk stands =
-    c.look.ensures.sees c.requires.serves.0 committed c.args.base.now c.answer_line-outcome.ensures.below c.requires.serves.1 tells (touches_space committed _ _ _ tells (c.answer_line-outcome.ensures.touches committed))
+    c.look.ensures.sees c.requires.serves.0 committed c.args.base.now c.answer_line-outcome.ensures.below c.requires.serves.1 tells (touches_space committed _ _ _ tells (c.answer_line-outcome.ensures.touches committed stands.known.holds stands.known.laid_out))
 
 pub returns-in-Ok-clause-answered : goal.returns-in-Ok-clause-answered
 returns-in-Ok-clause-answered g c tells capacity committed now shrunk stands =
@@ -65,13 +66,13 @@ returns-in-Ok-clause-answered g c tells capacity committed now shrunk stands =
     let is = c.in-Ok.is in
     let there = on_value (StandsOver w b) r o is c.answer_line-outcome.ensures.stands in
     let settled = on_value (IsSettled w b.content) r o is (c.answer_line-outcome.ensures.settled tells) in
-    let tells_then = (c.answer_line-outcome.ensures.touches committed).same.tells ∙ tells in
+    let tells_then = c.answer_line-outcome.ensures.same.tells ∙ tells in
     let was = value_of (λ (q : Outcome). AnswersAs q (capacity_of v) c.args.number c.args.line.now a.content b.content) r o is (c.answer_line-outcome.ensures.answered tells) in
     let shrinks = value_of (λ (q : Outcome). ShrinksBy q c.args.line.now a.content (shrunk_of v) (shrunk_of w)) r o is (c.answer_line-outcome.ensures.shrunk tells) in
     if_so (λ (s : Step). TellsAs s o c.args.told.now c.tell.new.told) (λ (s : Step). AnswersTo s capacity (λ past here file. Knows w capacity past here file b) committed now shrunk b c.args.number c.args.line.now c.args.told.now c.tell.new.told) c.tell.result
     (λ s told. answers v w capacity committed now shrunk a b stands.known stands.below stands.reads stands.heads
     (record {
-      touches = touches_space committed _ a b tells (c.answer_line-outcome.ensures.touches committed);
+      touches = touches_space committed _ a b tells (c.answer_line-outcome.ensures.touches committed stands.known.holds stands.known.laid_out);
       keeps = on_value (KeepsJournal a.content b.content) r o is (c.answer_line-outcome.ensures.place tells);
       stands = there;
       settled = settled;
@@ -86,31 +87,31 @@ returns-in-Ok-clause-still g c capacity serves few =
     on_any _ c.tell.result (now, c.look.ensures.most capacity now)
 
 pub returns-in-Ok-clause-tells : goal.returns-in-Ok-clause-tells
-returns-in-Ok-clause-tells g c = (c.answer_line-outcome.ensures.touches []).same.tells
+returns-in-Ok-clause-tells g c = c.answer_line-outcome.ensures.same.tells
 
 pub returns-in-Err-clause-tells : goal.returns-in-Err-clause-tells
-returns-in-Err-clause-tells g c = (c.answer_line-outcome.ensures.touches []).same.tells
+returns-in-Err-clause-tells g c = c.answer_line-outcome.ensures.same.tells
 
 pub returns-in-Ok-clause-anchor : goal.returns-in-Ok-clause-anchor
-returns-in-Ok-clause-anchor g c = c.look.ensures.anchor c.args.base.now c.answer_line-outcome.ensures.below (c.answer_line-outcome.ensures.touches []).same.names
+returns-in-Ok-clause-anchor g c = c.look.ensures.anchor c.args.base.now c.answer_line-outcome.ensures.below c.answer_line-outcome.ensures.same.names
 
 pub returns-in-Err-clause-anchor : goal.returns-in-Err-clause-anchor
-returns-in-Err-clause-anchor g c = c.look.ensures.anchor c.args.base.now c.answer_line-outcome.ensures.below (c.answer_line-outcome.ensures.touches []).same.names
+returns-in-Err-clause-anchor g c = c.look.ensures.anchor c.args.base.now c.answer_line-outcome.ensures.below c.answer_line-outcome.ensures.same.names
 
 pub returns-in-Ok-clause-faults : goal.returns-in-Ok-clause-faults
 returns-in-Ok-clause-faults g c =
     record {
-      counts = c.look.ensures.counts c.args.base.now c.answer_line-outcome.ensures.below (c.answer_line-outcome.ensures.touches []).same.sink_faults;
+      counts = c.look.ensures.counts c.args.base.now c.answer_line-outcome.ensures.below c.answer_line-outcome.ensures.same.sink_faults;
       disk = λ is. absurd (c.tell.ensures.no_disk is);
     }
 
 pub returns-in-Err-clause-faults : goal.returns-in-Err-clause-faults
 returns-in-Err-clause-faults g c =
-    let counts = c.look.ensures.counts c.args.base.now c.answer_line-outcome.ensures.below (c.answer_line-outcome.ensures.touches []).same.sink_faults in
+    let counts = c.look.ensures.counts c.args.base.now c.answer_line-outcome.ensures.below c.answer_line-outcome.ensures.same.sink_faults in
     handed (counts_none _ _) c.in-Err.trouble c.in-Err.trouble _
     (subst (λ (r : Result Outcome Trouble). Faults (g.G.Ground.failed c.args.base.now) (g.G.SectorView.space c.args.base.now) (g.G.Ground.failed c.answer_line-outcome.new.space) (g.G.SectorView.space c.answer_line-outcome.new.space) r) c.in-Err.is (faults_of_call c.answer_line-outcome.result counts c.answer_line-outcome.ensures.cause)) refl refl
 
 pub invariant_of-self : goal.invariant_of-self
 invariant_of-self g c =
-    let sectors = (c.answer_line-outcome.ensures.touches []).same.sectors ∙ c.is_elsewhere.ensures c.if-is_elsewhere.false in
+    let sectors = c.answer_line-outcome.ensures.same.sectors ∙ c.is_elsewhere.ensures c.if-is_elsewhere.false in
     record { sized = service_on c.answer_line-outcome.new.volume (g.G.SectorView.space c.answer_line-outcome.new.space) (told_none c.args.self.now.sectors) (sym sectors) c.answer_line-outcome.ensures.service }

@@ -3,9 +3,9 @@ use Rattle.std.specs.Prelude.{Contains, Result, Err}
 use Rattle.hx_bytes.specs.declared.faults.Trouble.{Trouble}
 use Rattle.hfs_serving.specs.Faults.{Faults}
 use Rattle.hfs_serving.proofs.Causes.{counts_none, fine, handed}
-use Rattle.volume_ops.specs.Opening.{IsFresh}
-use Rattle.volume_ops.specs.Standing.{IsSettled, StandsOver, own_sectors_in}
-use Rattle.volume_ops.specs.declared.volume.Volume.{Volume}
+use Rattle.volume_base.specs.Opening.{IsFresh}
+use Rattle.volume_base.specs.Standing.{IsSettled, StandsOver, own_sectors_in}
+use Rattle.volume_base.specs.declared.volume.Volume.{Volume}
 use Rattle.served_volume.proofs.Attaching.{attached, servable}
 use Rattle.served_volume.proofs.Calls.{faults_of_call, value_of}
 use Rattle.served_volume.proofs.Heading.{journal_alike}

@@ -6,11 +6,12 @@ use Rattle.hfs_serving.specs.Faults.{Faults}
 use Rattle.hfs_serving.specs.Going.{TidiesTo}
 use Rattle.hfs_serving.specs.declared.volume.Next.{Next}
 use Rattle.hfs_serving.proofs.Causes.{counts_none, fine, handed}
-use Rattle.volume_ops.proofs.Sounding.{sound_here}
-use Rattle.volume_ops.specs.Keeping.{shrunk_of}
-use Rattle.volume_ops.specs.Room.{capacity_of}
-use Rattle.volume_ops.specs.Standing.{HoldsOn, IsSettled, StandsOver}
-use Rattle.volume_ops.specs.declared.tidying.Tidying.{Tidying}
+use Rattle.volume_space.proofs.Sounding.{sound_here}
+use Rattle.volume_base.specs.Keeping.{shrunk_of}
+use Rattle.volume_base.specs.Room.{capacity_of}
+use Rattle.volume_space.specs.Standing.{HoldsOn}
+use Rattle.volume_base.specs.Standing.{IsSettled, StandsOver}
+use Rattle.volume_space.specs.declared.tidying.Tidying.{Tidying}
 use Rattle.volume_step.specs.Steps.{KeepsJournal}
 use Rattle.volume_step.specs.Tidying.{ReclaimsAs}
 use Rattle.served_volume.specs.Knowing.{Knows}

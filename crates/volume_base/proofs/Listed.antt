@@ -1,0 +1,132 @@
+-- What commands answer over a settled volume is what the step answers on its tree.
+use Rattle.std.proofs.Common.{◌≡◌, ℕ, false, List, refl, sym, ◌∙◌, ap, arith}
+use Rattle.std.specs.Prelude.{◌||◌, Option, Result, Ok, Err, All, take, drop, if◌then◌else◌, ◌≤◌, ◌∷◌, [], length, zero, suc}
+use Rattle.std.specs.List.{flat_map}
+use Rattle.sector_disk.specs.Lists.{Content}
+use Rattle.attributes.specs.Values.{value_at}
+use Rattle.btree_node.specs.Levels.{Pair}
+use Rattle.cat_records.specs.declared.record.FileRecord.{FileRecord}
+use Rattle.btree_file.specs.Standing.{pairs_in}
+use Rattle.btree_file.specs.State.{sectors_of_tree}
+use Rattle.hfs_language.specs.Written.{FitsPath}
+use Rattle.hfs_language.specs.declared.command.Command.TheVariants as command
+use Rattle.hfs_language.specs.declared.refusal.Refusal.{Refusal}
+use Rattle.hfs_language.specs.declared.refusal.Refusal.TheVariants as refusal
+use Rattle.hfs_language.specs.declared.reply.ListedName.{ListedName}
+use Rattle.hfs_language.specs.declared.reply.Reply.{Reply}
+use Rattle.hfs_language.specs.declared.reply.Reply.TheVariants as reply
+use Rattle.hfs_model.specs.Step.{is_private_path, step, step_line}
+use Rattle.hfs_volume.specs.Books.{SoundHasPlainTree}
+use Rattle.hfs_volume.specs.Content.{VolumeState, volume_of, records_of, overflow_in_volume, attributes_of}
+use Rattle.hfs_volume.specs.TreeOf.{tree_in, tree_of, seen_entry, threaded_node, file_bytes}
+use Rattle.volume_base.specs.Listing.{replied, names_in}
+use Rattle.volume_base.specs.Lists.{lists_of}
+use Rattle.volume_base.specs.Owning.{owner_in, attributes_in, names_owned, value_told, value_owned}
+use Rattle.volume_base.specs.Reading.{HasFile, file_in}
+use Rattle.volume_base.specs.Standing.{HoldsTrees, IsSettled}
+use Rattle.volume_base.specs.Stating.{facts_in}
+use Rattle.volume_base.specs.declared.volume.Volume.{Volume}
+use Rattle.volume_base.proofs.FileBytes.{bytes_long}
+use Rattle.volume_base.proofs.NodeIs.{facts_same, file_stands, content_same}
+use Rattle.volume_base.proofs.Rising.{settled_is_plain, settled_sorted}
+use Rattle.volume_base.proofs.Walked.{listing_same, owned_same, value_same}
+
+-- the names of a path are short
+pub fits_short : (path : List (List ℕ)) → FitsPath path → All (λ (name : List ℕ). length name ≤ 255) path
+fits_short [] fits k d low = absurd (omega (arith, low))
+fits_short (name ∷ path) fits zero d low = fits.0.short
+fits_short (name ∷ path) fits (suc k) d low = fits_short path fits.1 k d (omega (arith, low))
+
+pub entries_are : (content : Content) → (tree_of content).entries ≡ flat_map (seen_entry (records_of (volume_of content))) (records_of (volume_of content))
+unfolding tree_of tree_in
+entries_are content = refl
+
+pub listing_is : SoundHasPlainTree → (v : Volume) (content : Content) → HoldsTrees v content → IsSettled v content → (path : List (List ℕ)) → is_private_path path ≡ false → FitsPath path
+    → names_in (pairs_in (sectors_of_tree v.catalog.file) content) path ≡ (step_line (tree_of content) (Ok (command.Ls path))).0
+listing_is law v content holds settled path not_own fits =
+    let sound = settled.sound.entries in
+    ap (λ (l : List Pair). names_in l path) (sym (ap (λ (l : VolumeState). l.catalog_pairs) settled.lists))
+    ∙ listing_same (volume_of content).catalog_pairs (volume_of content).head.next_catalog_id sound.ids sound.rooted sound.threads (overflow_in_volume (volume_of content)) settled.sound.links.good (settled_sorted v content holds settled) (tree_of content) (entries_are content) (settled_is_plain law v content holds settled) path not_own fits
+    ∙ sym (ap (λ b. (if b || false then (reply.No refusal.Private, tree_of content) else step (tree_of content) (command.Ls path)).0) not_own)
+
+pub nodes_are : (content : Content) → (tree_of content).nodes ≡ flat_map (threaded_node (attributes_of (volume_of content)) (records_of (volume_of content)) (file_bytes content)) (records_of (volume_of content))
+unfolding tree_of tree_in
+nodes_are content = refl
+
+pub owned_is : SoundHasPlainTree → (v : Volume) (content : Content) → HoldsTrees v content → IsSettled v content → (path : List (List ℕ)) → is_private_path path ≡ false → FitsPath path
+    → names_owned (lists_of v content).catalog_pairs v.private (lists_of v content).attribute_pairs path ≡ (step_line (tree_of content) (Ok (command.LsAttr path))).0
+owned_is law v content holds settled path not_own fits =
+    let sound = settled.sound.entries in
+    (λ i. names_owned (sym (ap (λ (l : VolumeState). l.catalog_pairs) settled.lists) i) (settled.private i) (sym (ap (λ (l : VolumeState). l.attribute_pairs) settled.lists) i) path)
+    ∙ owned_same (volume_of content).catalog_pairs (volume_of content).head.next_catalog_id sound.ids sound.rooted sound.threads (overflow_in_volume (volume_of content)) settled.sound.links.good (settled_sorted v content holds settled) (tree_of content) (entries_are content)
+    (settled_is_plain law v content holds settled) (volume_of content).attribute_pairs (file_bytes content) (nodes_are content) path not_own fits
+    ∙ sym (ap (λ b. (if b || false then (reply.No refusal.Private, tree_of content) else step (tree_of content) (command.LsAttr path)).0) not_own)
+
+-- what `stat` answers
+pub facts_is : SoundHasPlainTree → (v : Volume) (content : Content) → HoldsTrees v content → IsSettled v content → (path : List (List ℕ)) → is_private_path path ≡ false → FitsPath path
+    → facts_in (pairs_in (sectors_of_tree v.catalog.file) content) v.private path ≡ (step_line (tree_of content) (Ok (command.Stat path))).0
+facts_is law v content holds settled path not_own fits =
+    (λ i. facts_in (sym (ap (λ (l : VolumeState). l.catalog_pairs) settled.lists) i) (settled.private i) path)
+    ∙ facts_same (volume_of content) settled.sound (settled_sorted v content holds settled) (tree_of content) (entries_are content) (settled_is_plain law v content holds settled)
+    (attributes_of (volume_of content)) (file_bytes content) (nodes_are content) (bytes_long content settled.sound) path not_own fits
+    ∙ sym (ap (λ b. (if b || false then (reply.No refusal.Private, tree_of content) else step (tree_of content) (command.Stat path)).0) not_own)
+
+-- the reply about what was found, and the one that tells the reason against it
+module _ (law : SoundHasPlainTree) (v : Volume) (content : Content) (holds : HoldsTrees v content) (settled : IsSettled v content) (path : List (List ℕ)) (not_own : is_private_path path ≡ false) (fits : FitsPath path) (said : Result ℕ Refusal)
+    (found : said ≡ owner_in (lists_of v content).catalog_pairs v.private path)
+  where
+    pub told_owned : (id : ℕ) (list : List ListedName) → said ≡ Ok id → list ≡ attributes_in (lists_of v content).attribute_pairs id → reply.Listing list ≡ (step_line (tree_of content) (Ok (command.LsAttr path))).0
+    told_owned id list ok is =
+        ap reply.Listing is ∙ ap (λ r. replied r (λ n. reply.Listing (attributes_in (lists_of v content).attribute_pairs n))) (sym ok ∙ found) ∙ owned_is law v content holds settled path not_own fits
+
+    pub told_why : (why : Refusal) → said ≡ Err why → reply.No why ≡ (step_line (tree_of content) (Ok (command.LsAttr path))).0
+    told_why why err = ap (λ r. replied r (λ n. reply.Listing (attributes_in (lists_of v content).attribute_pairs n))) (sym err ∙ found) ∙ owned_is law v content holds settled path not_own fits
+
+pub value_is : SoundHasPlainTree → (v : Volume) (content : Content) → HoldsTrees v content → IsSettled v content → (path : List (List ℕ)) (name : List ℕ) → is_private_path path ≡ false → FitsPath path
+    → value_owned (lists_of v content).catalog_pairs v.private (lists_of v content).attribute_pairs path name ≡ (step_line (tree_of content) (Ok (command.GetAttr path name))).0
+value_is law v content holds settled path name not_own fits =
+    let sound = settled.sound.entries in
+    (λ i. value_owned (sym (ap (λ (l : VolumeState). l.catalog_pairs) settled.lists) i) (settled.private i) (sym (ap (λ (l : VolumeState). l.attribute_pairs) settled.lists) i) path name)
+    ∙ value_same (volume_of content).catalog_pairs (volume_of content).head.next_catalog_id sound.ids sound.rooted sound.threads (overflow_in_volume (volume_of content)) settled.sound.links.good (settled_sorted v content holds settled) (tree_of content) (entries_are content)
+    (settled_is_plain law v content holds settled) (volume_of content).attribute_pairs (file_bytes content) (nodes_are content) path name not_own fits
+    ∙ sym (ap (λ b. (if b || false then (reply.No refusal.Private, tree_of content) else step (tree_of content) (command.GetAttr path name)).0) not_own)
+
+-- the same of an attribute's value
+module _ (law : SoundHasPlainTree) (v : Volume) (content : Content) (holds : HoldsTrees v content) (settled : IsSettled v content) (path : List (List ℕ)) (name : List ℕ) (not_own : is_private_path path ≡ false) (fits : FitsPath path) (said : Result ℕ Refusal)
+    (found : said ≡ owner_in (lists_of v content).catalog_pairs v.private path)
+  where
+    pub told_value : (id : ℕ) (value : Option (List ℕ)) (told : Reply) → said ≡ Ok id → value ≡ value_at (lists_of v content).attribute_pairs id name → told ≡ value_told value → told ≡ (step_line (tree_of content) (Ok (command.GetAttr path name))).0
+    told_value id value told ok is told_is =
+        told_is ∙ ap value_told is ∙ ap (λ r. replied r (λ n. value_told (value_at (lists_of v content).attribute_pairs n name))) (sym ok ∙ found) ∙ value_is law v content holds settled path name not_own fits
+
+    pub told_value_why : (why : Refusal) → said ≡ Err why → reply.No why ≡ (step_line (tree_of content) (Ok (command.GetAttr path name))).0
+    told_value_why why err = ap (λ r. replied r (λ n. value_told (value_at (lists_of v content).attribute_pairs n name))) (sym err ∙ found) ∙ value_is law v content holds settled path name not_own fits
+
+-- the file of which bytes are asked has its record
+pub file_there : SoundHasPlainTree → (v : Volume) (content : Content) → HoldsTrees v content → IsSettled v content → (path : List (List ℕ)) (long : ℕ) → is_private_path path ≡ false → FitsPath path → (said : Result FileRecord Refusal)
+    → said ≡ file_in (lists_of v content).catalog_pairs v.private path long → (file : FileRecord) → said ≡ Ok file → HasFile (records_of (volume_of content)) file
+file_there law v content holds settled path long not_own fits said found file ok =
+    file_stands (volume_of content) settled.sound (settled_sorted v content holds settled) (tree_of content) (entries_are content) (settled_is_plain law v content holds settled)
+    (attributes_of (volume_of content)) (file_bytes content) (nodes_are content) path long file not_own fits
+    (sym (λ i. file_in (sym (ap (λ (l : VolumeState). l.catalog_pairs) settled.lists) i) (settled.private i) path long) ∙ sym found ∙ ok)
+
+pub content_is : SoundHasPlainTree → (v : Volume) (content : Content) → HoldsTrees v content → IsSettled v content → (path : List (List ℕ)) (start long : ℕ) → is_private_path path ≡ false → FitsPath path
+    → replied (file_in (lists_of v content).catalog_pairs v.private path long) (λ file. reply.Content (take long (drop start (file_bytes content file)))) ≡ (step_line (tree_of content) (Ok (command.Read path start long))).0
+content_is law v content holds settled path start long not_own fits =
+    (λ i. replied (file_in (sym (ap (λ (l : VolumeState). l.catalog_pairs) settled.lists) i) (settled.private i) path long) (λ file. reply.Content (take long (drop start (file_bytes content file)))))
+    ∙ content_same (volume_of content) settled.sound (settled_sorted v content holds settled) (tree_of content) (entries_are content) (settled_is_plain law v content holds settled)
+    (attributes_of (volume_of content)) (file_bytes content) (nodes_are content) path start long not_own fits
+    ∙ sym (ap (λ b. (if b || false then (reply.No refusal.Private, tree_of content) else step (tree_of content) (command.Read path start long)).0) not_own)
+
+-- the same of a file's bytes
+module _ (law : SoundHasPlainTree) (v : Volume) (content : Content) (holds : HoldsTrees v content) (settled : IsSettled v content) (path : List (List ℕ)) (start long : ℕ) (not_own : is_private_path path ≡ false) (fits : FitsPath path)
+    (said : Result FileRecord Refusal) (found : said ≡ file_in (lists_of v content).catalog_pairs v.private path long)
+  where
+    abbrev word : Result FileRecord Refusal → Reply
+    word r = replied r (λ file. reply.Content (take long (drop start (file_bytes content file))))
+
+    pub told_content : (file : FileRecord) (bytes : List ℕ) → said ≡ Ok file → bytes ≡ take long (drop start (file_bytes content file)) → reply.Content bytes ≡ (step_line (tree_of content) (Ok (command.Read path start long))).0
+    told_content file bytes ok is = ap reply.Content is ∙ ap word (sym ok ∙ found) ∙ content_is law v content holds settled path start long not_own fits
+
+    pub told_content_why : (why : Refusal) → said ≡ Err why → reply.No why ≡ (step_line (tree_of content) (Ok (command.Read path start long))).0
+    told_content_why why err = ap word (sym err ∙ found) ∙ content_is law v content holds settled path start long not_own fits

@@ -1,0 +1,63 @@
+//! Changes of the attributes of a volume in service.
+ghost use Rattle.std.specs.Prelude.{◌≡◌, ◌≤◌, ℕ, List, IsTrue, length, OnOk};
+ghost use Rattle.std.specs.List.{Contains};
+ghost use Rattle.sector_disk.specs.Lists.{Content};
+ghost use Rattle.attributes.specs.Values.{AreInline};
+ghost use Rattle.btree_edit.specs.Causes.{HasTroubleCause};
+ghost use Rattle.btree_edit.specs.Edits.{EditRoom, TakesAtMost};
+ghost use Rattle.btree_file.specs.Frame.{FollowsOn};
+ghost use Rattle.btree_file.specs.Standing.{numbers_of};
+ghost use Rattle.btree_file.specs.State.{state_of};
+ghost use Rattle.hfs_volume.specs.Changes.{DropsAttribute};
+ghost use Rattle.hfs_volume.specs.Content.{has_attributes};
+ghost use Rattle.volume_base.specs.Attributing.{ChangesAttributes};
+ghost use Rattle.volume_base.specs.Lists.{lists_of};
+ghost use Rattle.volume_base.specs.Service.{IsInService};
+ghost use Rattle.volume_base.specs.Standing.{StandsOver, own_sectors};
+ghost use Rattle.volume_base.specs.Touching.{Touches};
+
+use crate::valuing::delete_value;
+use crate::volume::Volume;
+use attributes::SetAnswer;
+use hx_bytes::{Trouble, Units};
+use sector_disk::SectorSpace;
+use std::alloc::Global;
+
+impl Volume {
+    /// Deletes an attribute of a folder or file. The volume stands as before, with this one change of its attributes.
+    pub fn delete<P: SectorSpace>(
+        &mut self,
+        alloc: Global,
+        space: &mut P,
+        id: u32,
+        name: &Units,
+    ) -> Result<SetAnswer, Trouble>
+        requires stands { StandsOver self.old (P.SectorView.space space.old) }
+        requires has { IsTrue (has_attributes self.old.header) }
+        requires size { 4096 ≤ (numbers_of self.old.attributes.file).node_size }
+        requires inline { IsTrue (P.SectorView.space space.old).tells → AreInline (lists_of self.old (P.SectorView.space space.old).content).attribute_pairs }
+        requires name { length name.now ≤ 127 }
+        requires room { (names : List ℕ) → IsTrue (P.SectorView.space space.old).tells → EditRoom 1 266 (state_of names self.old.attributes.file (P.SectorView.space space.old)) }
+        // Behind an answer it stands, and behind a fault it is in service.
+        ensures stands { OnOk result (StandsOver self.new (P.SectorView.space space.new)) }
+        ensures service { IsInService self.new (P.SectorView.space space.new) }
+        // Nothing else of it is changed.
+        ensures rest { self.new ≡ record self.old { attributes = self.new.attributes } }
+        ensures deletes { IsTrue (P.SectorView.space space.old).tells → OnOk result (ChangesAttributes (DropsAttribute id name.now) self.old self.new (P.SectorView.space space.old).content (P.SectorView.space space.new).content) }
+        // On a fault too, it puts sectors of its own alone, whatever was committed last.
+        ensures touches { (committed : Content) → Touches committed (λ s. Contains (own_sectors self.old) s) (P.SectorView.space space.old) (P.SectorView.space space.new) }
+        ensures takes { (names : List ℕ) → TakesAtMost 1 266 (state_of names self.old.attributes.file (P.SectorView.space space.old)) (state_of names self.new.attributes.file (P.SectorView.space space.new)) }
+        ensures frame { FollowsOn self.old.attributes.file self.new.attributes.file (P.SectorView.space space.old) (P.SectorView.space space.new) }
+        ensures below { P.SectorView.follows space.old space.new }
+        ensures cause { HasTroubleCause (P.SectorView.space space.old).faults (P.SectorView.space space.new).faults result }
+    {
+        delete_value(
+            alloc,
+            &mut self.attributes.file,
+            &mut self.attributes.desk,
+            space,
+            id,
+            name,
+        )
+    }
+}

@@ -1,0 +1,234 @@
+//! `read`: bytes of a file.
+ghost use Rattle.std.specs.Prelude.{◌≡◌, ◌≤◌, ◌<◌, ◌*◌, ◌/◌, ◌%◌, true, Ok, IsTrue, IfOk, length, take, drop};
+ghost use Rattle.std.specs.List.{All, list_all};
+ghost use Rattle.btree_edit.specs.Causes.{HasTroubleCause};
+ghost use Rattle.btree_file.specs.Frame.{ReadsSpace};
+ghost use Rattle.btree_file.specs.Standing.{pairs_in};
+ghost use Rattle.btree_file.specs.State.{sectors_of_tree};
+ghost use Rattle.file_io.specs.Bytes.{IsBlockSize, fork_bytes};
+ghost use Rattle.fork_map.specs.Blocks.{blocks_of, fork_sectors};
+ghost use Rattle.hfs_language.specs.Written.{FitsPath};
+ghost use Rattle.hfs_language.specs.declared.command.Command.TheVariants as command;
+ghost use Rattle.hfs_model.specs.Step.{step_line};
+ghost use Rattle.hfs_volume.specs.Content.{volume_of, records_of};
+ghost use Rattle.hfs_volume.specs.TreeOf.{tree_of, file_bytes};
+ghost use Rattle.volume_base.specs.Lists.{lists_of};
+ghost use Rattle.volume_base.specs.Looking.{IsCatalogOver, ReadsTree, ReadsVolume};
+ghost use Rattle.volume_base.specs.Opening.{ends_inside};
+ghost use Rattle.volume_base.specs.Reading.{HasFile, to_read, file_in};
+ghost use Rattle.volume_base.specs.Standing.{StandsOver, IsSettled};
+
+use crate::extents::inside_or_none;
+use crate::looking::load_extents;
+use crate::names::is_private_path;
+use crate::nodes::{Node, find_node};
+use crate::opening::DATA;
+use crate::volume::Volume;
+use btree_edit::Desk;
+use btree_file::TreeFile;
+use cat_records::FileRecord;
+use file_io::read;
+use fork_map::ExtentList;
+use hfs_language::{Path, Refusal, Reply};
+use hfs_volume::sound_has_plain_tree;
+use hx_bytes::{Bytes, Trouble, Units};
+use sector_disk::SectorSpace;
+use std::alloc::Global;
+
+/// The most bytes that one command reads.
+const MOST_BYTES: u64 = 65_536;
+
+/// The file that was found, unless more bytes are asked than one command reads.
+fn to_read(long: u64, node: &Node) -> Result<FileRecord, Refusal>
+    ensures said { result ≡ to_read long node.now }
+    ensures few { IfOk result (λ file. long ≤ 65536) }
+{
+    match node {
+        Node::Folder(_) => Err(Refusal::IsFolder),
+        Node::File(file, _) => {
+            if MOST_BYTES < long {
+                return Err(Refusal::TooLarge);
+            }
+            Ok(*file)
+        }
+    }
+}
+
+/// The file that a path stands for, of which so many bytes are asked, or the first reason against it.
+fn find_file<P: SectorSpace>(
+    alloc: Global,
+    tree: &mut TreeFile,
+    desk: &mut Desk,
+    space: &mut P,
+    private: Option<u32>,
+    path: &[Units],
+    long: u64,
+) -> Result<Result<FileRecord, Refusal>, Trouble>
+    requires over { IsCatalogOver tree.old desk.old (P.SectorView.space space.old) }
+    requires names { All (λ name. length name ≤ 255) path.now }
+    ensures found { IsTrue (P.SectorView.space space.old).tells → IfOk result (λ said. said ≡ file_in (pairs_in (sectors_of_tree tree.old) (P.SectorView.space space.old).content) private path.now long) }
+    ensures few { IfOk result (λ said. IfOk said (λ file. long ≤ 65536)) }
+    ensures over { IsCatalogOver tree.new desk.new (P.SectorView.space space.new) }
+    ensures reads { ReadsTree tree.old tree.new (P.SectorView.space space.old) (P.SectorView.space space.new) }
+    ensures below { P.SectorView.follows space.old space.new }
+    ensures cause { HasTroubleCause (P.SectorView.space space.old).faults (P.SectorView.space space.new).faults result }
+{
+    match find_node(alloc, tree, desk, space, private, path)? {
+        Ok(node) => Ok(to_read(long, &node)),
+        Err(why) => Ok(Err(why)),
+    }
+}
+
+/// A block's size, or 512 where it isn't one of whole sectors.
+fn whole_block(block: u32) -> u32
+    requires least { 512 ≤ block }
+    requires most { block ≤ 65536 }
+    ensures whole { IsBlockSize result }
+    ensures same { block % 512 ≡ 0 → result ≡ block }
+{
+    if block % 512 == 0 { block } else { 512 }
+}
+
+/// A file's size, or 0 where the blocks of its fork hold less.
+pub fn size_held(fork: &ExtentList, per_block: u32, size: u64) -> u64
+    requires { per_block ≤ 128 }
+    ensures held { result ≤ length (fork_sectors fork.now per_block) * 512 }
+    ensures same { size ≤ length (fork_sectors fork.now per_block) * 512 → result ≡ size }
+{
+    if size == 0 {
+        return 0;
+    }
+    match fork.sector_at(per_block, (size - 1) / 512) {
+        Some(_) => size,
+        None => 0,
+    }
+}
+
+/// Bytes of a file that has so many in the blocks of a fork. Where these lie outside, or hold less, there are none.
+fn read_fork<P: SectorSpace>(
+    alloc: Global,
+    space: &mut P,
+    fork: ExtentList,
+    block: u32,
+    size: u64,
+    from: u64,
+    long: u32,
+) -> Result<Bytes, Trouble>
+    requires least { 512 ≤ block }
+    requires most { block ≤ 65536 }
+    ensures bytes { IsTrue (P.SectorView.space space.old).tells → block % 512 ≡ 0 → list_all (ends_inside (block / 512) (P.SectorView.space space.old).sectors) fork ≡ true → size ≤ length (blocks_of fork) * block
+        → IfOk result (λ bytes. bytes ≡ take long (drop from (take size (fork_bytes (P.SectorView.space space.old).content block fork)))) }
+    ensures reads { ReadsSpace (P.SectorView.space space.old) (P.SectorView.space space.new) }
+    ensures below { P.SectorView.follows space.old space.new }
+    ensures cause { HasTroubleCause (P.SectorView.space space.old).faults (P.SectorView.space space.new).faults result }
+{
+    let whole = whole_block(block);
+    let inside = inside_or_none(alloc, fork, whole / 512, space.sectors());
+    let held = size_held(&inside, whole / 512, size);
+    read(alloc, space, &inside, whole, held, from, long)
+}
+
+impl Volume {
+    /// The file that a path stands for, of which so many bytes are asked, or the first reason against it.
+    fn file_to_read<P: SectorSpace>(
+        &mut self,
+        alloc: Global,
+        space: &mut P,
+        path: &Path,
+        long: u64,
+    ) -> Result<Result<FileRecord, Refusal>, Trouble>
+        requires stands { StandsOver self.old (P.SectorView.space space.old) }
+        requires settled { IsTrue (P.SectorView.space space.old).tells → IsSettled self.old (P.SectorView.space space.old).content }
+        requires fits { FitsPath path.now }
+        ensures found { IsTrue (P.SectorView.space space.old).tells → IfOk result (λ said. said ≡ file_in (lists_of self.old (P.SectorView.space space.old).content).catalog_pairs self.old.private path.now long) }
+        ensures few { IfOk result (λ said. IfOk said (λ file. long ≤ 65536)) }
+        ensures reads { ReadsVolume self.old self.new (P.SectorView.space space.old) (P.SectorView.space space.new) }
+        ensures stands { StandsOver self.new (P.SectorView.space space.new) }
+        ensures settled { IsTrue (P.SectorView.space space.old).tells → IsSettled self.new (P.SectorView.space space.new).content }
+        ensures below { P.SectorView.follows space.old space.new }
+        ensures cause { HasTroubleCause (P.SectorView.space space.old).faults (P.SectorView.space space.new).faults result }
+    {
+        find_file(
+            alloc,
+            &mut self.catalog.file,
+            &mut self.catalog.desk,
+            space,
+            self.private,
+            path.as_slice(),
+            long,
+        )
+    }
+
+    /// So many bytes of a file from a place on, or fewer where the file ends.
+    fn read_file<P: SectorSpace>(
+        &mut self,
+        alloc: Global,
+        space: &mut P,
+        file: &FileRecord,
+        from: u64,
+        long: u64,
+    ) -> Result<Bytes, Trouble>
+        requires stands { StandsOver self.old (P.SectorView.space space.old) }
+        requires settled { IsTrue (P.SectorView.space space.old).tells → IsSettled self.old (P.SectorView.space space.old).content }
+        requires there { IsTrue (P.SectorView.space space.old).tells → HasFile (records_of (volume_of (P.SectorView.space space.old).content)) file.now }
+        requires few { long ≤ 65536 }
+        ensures bytes { IsTrue (P.SectorView.space space.old).tells → IfOk result (λ bytes. bytes ≡ take long (drop from (file_bytes (P.SectorView.space space.old).content file.now))) }
+        ensures reads { ReadsVolume self.old self.new (P.SectorView.space space.old) (P.SectorView.space space.new) }
+        ensures stands { StandsOver self.new (P.SectorView.space space.new) }
+        ensures settled { IsTrue (P.SectorView.space space.old).tells → IsSettled self.new (P.SectorView.space space.new).content }
+        ensures below { P.SectorView.follows space.old space.new }
+        ensures cause { HasTroubleCause (P.SectorView.space space.old).faults (P.SectorView.space space.new).faults result }
+    {
+        let block = self.header.block_size;
+        let list = load_extents(
+            alloc,
+            &mut self.extents.file,
+            &mut self.extents.desk,
+            space,
+            file.fields.id,
+            DATA,
+            &file.data_fork,
+        )?;
+        read_fork(
+            alloc,
+            space,
+            list,
+            block,
+            file.data_fork.logical_size,
+            from,
+            long as u32,
+        )
+    }
+
+    /// The reply to `read`: so many bytes, 65,536 at most, of the file that a path stands for, from a place on, or fewer where
+    /// the file ends; or the first reason against it, of which `TooLarge` comes last. A path that begins with a name of the
+    /// volume's own is refused. It changes nothing. `Memory` comes where memory is wanting, `Disk` where a read failed.
+    pub fn read<P: SectorSpace>(
+        &mut self,
+        alloc: Global,
+        space: &mut P,
+        path: &Path,
+        from: u64,
+        long: u64,
+    ) -> Result<Reply, Trouble>
+        requires stands { StandsOver self.old (P.SectorView.space space.old) }
+        requires settled { IsTrue (P.SectorView.space space.old).tells → IsSettled self.old (P.SectorView.space space.old).content }
+        requires fits { FitsPath path.now }
+        // Told, the reply is that of the plain tree's step.
+        ensures reply { IsTrue (P.SectorView.space space.old).tells → IfOk result (λ reply. reply ≡ (step_line (tree_of (P.SectorView.space space.old).content) (Ok (command.Read path.now from long))).0) }
+        ensures reads { ReadsVolume self.old self.new (P.SectorView.space space.old) (P.SectorView.space space.new) }
+        ensures stands { StandsOver self.new (P.SectorView.space space.new) }
+        ensures settled { IsTrue (P.SectorView.space space.old).tells → IsSettled self.new (P.SectorView.space space.new).content }
+        ensures below { P.SectorView.follows space.old space.new }
+        ensures cause { HasTroubleCause (P.SectorView.space space.old).faults (P.SectorView.space space.new).faults result }
+    {
+        if is_private_path(path) {
+            return Ok(Reply::No(Refusal::Private));
+        }
+        sound_has_plain_tree();
+        match self.file_to_read(alloc, space, path, long)? {
+            Ok(file) => Ok(Reply::Content(self.read_file(alloc, space, &file, from, long)?)),
+            Err(why) => Ok(Reply::No(why)),
+        }
+    }
+}

@@ -1,0 +1,54 @@
+use Rattle.std.proofs.Common.{◌≡◌, ℕ, List, sym, ◌∙◌, subst}
+use Rattle.std.specs.List.{Contains}
+use Rattle.hfs_language.specs.declared.command.Command.TheVariants as command
+use Rattle.hfs_model.specs.Step.{step}
+use Rattle.hfs_volume.specs.Content.{volume_of}
+use Rattle.hfs_volume.specs.Naming.{LinksFirst}
+use Rattle.hfs_volume.specs.TreeOf.{tree_of}
+use Rattle.volume_names.specs.Linking.{LinksAnew}
+use Rattle.volume_base.specs.Making.{free_place}
+use Rattle.volume_base.specs.Standing.{IsSettled}
+use Rattle.volume_base.specs.Touching.{Touches}
+use Rattle.volume_base.proofs.Besides.{blocks_both}
+use Rattle.volume_base.proofs.Commanding.{touches_both}
+use Rattle.volume_base.proofs.FoundEntry.{ok_so}
+use Rattle.volume_names.proofs.LinkAnew.{anew_does, linking_then, only_then}
+use Rattle.volume_names.proofs.first_links.link_anew.Goals as goal
+
+pub link_dated-requires-clause-settled : goal.link_dated-requires-clause-settled
+link_dated-requires-clause-settled g c tells = (c.in_ok-open_private.ensures.opens (sym (c.open_private.ensures.touches (g.P.SectorView.space c.args.space.now).content).same.tells ∙ tells)).settled
+
+pub link_dated-requires-clause-only : goal.link_dated-requires-clause-only
+link_dated-requires-clause-only g c tells =
+    let before = sym (c.open_private.ensures.touches (g.P.SectorView.space c.args.space.now).content).same.tells ∙ tells in
+    let links = c.requires.links before in
+    only_then c.header_may_change.ensures c.args.volume.now (g.P.SectorView.space c.args.space.now) (c.requires.settled before) (c.requires.stands.stands before) links.0 links.1 links.2 c.args.way.now.parent c.args.old.now c.args.way.now.id c.args.way.now.folder c.args.name.now links.3 (c.requires.only before) c.open_private.new.volume (g.P.SectorView.space c.open_private.new.space).content (c.in_ok-open_private.ensures.opens before)
+
+pub link_dated-requires-clause-links : goal.link_dated-requires-clause-links
+link_dated-requires-clause-links g c tells =
+    let before = sym (c.open_private.ensures.touches (g.P.SectorView.space c.args.space.now).content).same.tells ∙ tells in
+    let links = c.requires.links before in
+    (links.0, links.1, links.2, linking_then c.header_may_change.ensures c.args.volume.now (g.P.SectorView.space c.args.space.now) (c.requires.settled before) (c.requires.stands.stands before) links.0 links.1 links.2 c.args.way.now.parent c.args.old.now c.args.way.now.id c.args.way.now.folder c.args.name.now links.3 (c.requires.only before) c.open_private.new.volume (g.P.SectorView.space c.open_private.new.space).content (c.in_ok-open_private.ensures.opens before))
+
+pub returns-in-Some-clause-does : goal.returns-in-Some-clause-does
+returns-in-Some-clause-does g c tells from to entry linking =
+    let later = (c.open_private.ensures.touches (g.P.SectorView.space c.args.space.now).content).same.tells ∙ tells in
+    ok_so
+    (IsSettled c.link_dated.new.volume (g.P.SectorView.space c.link_dated.new.space).content × (tree_of (g.P.SectorView.space c.link_dated.new.space).content ≡ (step (tree_of (g.P.SectorView.space c.open_private.new.space).content) (command.Ln from to)).1)
+    × LinksFirst entry (free_place c.args.way.now.folder c.args.name.now) (volume_of (g.P.SectorView.space c.open_private.new.space).content) (volume_of (g.P.SectorView.space c.link_dated.new.space).content))
+    (IsSettled c.link_dated.new.volume (g.P.SectorView.space c.link_dated.new.space).content × (tree_of (g.P.SectorView.space c.link_dated.new.space).content ≡ (step (tree_of (g.P.SectorView.space c.args.space.now).content) (command.Ln from to)).1)
+    × LinksAnew entry (free_place c.args.way.now.folder c.args.name.now) (g.P.SectorView.space c.args.space.now).content (g.P.SectorView.space c.link_dated.new.space).content)
+    c.link_dated.result
+    (c.link_dated.ensures.does later from to entry (linking_then c.header_may_change.ensures c.args.volume.now (g.P.SectorView.space c.args.space.now) (c.requires.settled tells) (c.requires.stands.stands tells) from to entry c.args.way.now.parent c.args.old.now c.args.way.now.id c.args.way.now.folder c.args.name.now linking (c.requires.only tells) c.open_private.new.volume (g.P.SectorView.space c.open_private.new.space).content (c.in_ok-open_private.ensures.opens tells)))
+    (anew_does c.header_may_change.ensures c.args.volume.now (g.P.SectorView.space c.args.space.now) (c.requires.settled tells) (c.requires.stands.stands tells) from to entry c.args.way.now.parent c.args.old.now c.args.way.now.id c.args.way.now.folder c.args.name.now linking (c.requires.only tells) c.open_private.new.volume (g.P.SectorView.space c.open_private.new.space).content (c.in_ok-open_private.ensures.opens tells) c.sound_has_plain_tree.ensures c.link_dated.new.volume (g.P.SectorView.space c.link_dated.new.space).content)
+
+pub returns-in-Some-clause-touches : goal.returns-in-Some-clause-touches
+returns-in-Some-clause-touches g c committed =
+    touches_both committed _ (g.P.SectorView.space c.args.space.now) (g.P.SectorView.space c.open_private.new.space) (g.P.SectorView.space c.link_dated.new.space) (c.open_private.ensures.touches committed)
+    (subst (λ (l : List ℕ). Touches committed (λ s. Contains l s) (g.P.SectorView.space c.open_private.new.space) (g.P.SectorView.space c.link_dated.new.space)) c.open_private.ensures.own (c.link_dated.ensures.touches committed))
+
+pub returns-in-Some-clause-below : goal.returns-in-Some-clause-below
+returns-in-Some-clause-below g c = g.met.P.SectorView.follows_trans c.args.space.now c.open_private.new.space c.link_dated.new.space c.open_private.ensures.below c.link_dated.ensures.below
+
+pub returns-in-Some-clause-blocks : goal.returns-in-Some-clause-blocks
+returns-in-Some-clause-blocks g c = blocks_both c.args.volume.now c.open_private.new.volume c.link_dated.new.volume c.open_private.ensures.blocks c.link_dated.ensures.blocks

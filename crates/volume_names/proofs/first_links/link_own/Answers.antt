@@ -1,0 +1,23 @@
+use Rattle.std.proofs.Common.{◌≡◌, sym}
+use Rattle.hfs_language.specs.declared.command.Command.TheVariants as command
+use Rattle.hfs_model.specs.Step.{step}
+use Rattle.hfs_volume.specs.Content.{volume_of}
+use Rattle.hfs_volume.specs.Naming.{LinksFirst}
+use Rattle.hfs_volume.specs.TreeOf.{tree_of}
+use Rattle.volume_names.specs.Linking.{LinksAnew}
+use Rattle.volume_base.specs.Making.{free_place}
+use Rattle.volume_base.specs.Standing.{IsSettled}
+use Rattle.volume_base.proofs.FoundEntry.{ok_so}
+use Rattle.volume_names.proofs.LinkAnew.{first_anew}
+use Rattle.volume_names.proofs.first_links.link_own.Goals as goal
+
+pub returns-in-Some-clause-does : goal.returns-in-Some-clause-does
+returns-in-Some-clause-does g c tells from to entry linking =
+    ok_so
+    (IsSettled c.link_first.new.volume (g.P.SectorView.space c.link_first.new.space).content × (tree_of (g.P.SectorView.space c.link_first.new.space).content ≡ (step (tree_of (g.P.SectorView.space c.args.space.now).content) (command.Ln from to)).1)
+    × LinksFirst entry (free_place c.args.way.now.folder c.args.name.now) (volume_of (g.P.SectorView.space c.args.space.now).content) (volume_of (g.P.SectorView.space c.link_first.new.space).content))
+    (IsSettled c.link_first.new.volume (g.P.SectorView.space c.link_first.new.space).content × (tree_of (g.P.SectorView.space c.link_first.new.space).content ≡ (step (tree_of (g.P.SectorView.space c.args.space.now).content) (command.Ln from to)).1)
+    × LinksAnew entry (free_place c.args.way.now.folder c.args.name.now) (g.P.SectorView.space c.args.space.now).content (g.P.SectorView.space c.link_first.new.space).content)
+    c.link_first.result
+    (c.link_first.ensures.does tells from to entry linking)
+    (first_anew c.args.volume.now (g.P.SectorView.space c.args.space.now) (c.requires.settled tells) c.in-Some.private c.in-Some.is from to entry (free_place c.args.way.now.folder c.args.name.now) c.link_first.new.volume (g.P.SectorView.space c.link_first.new.space).content)

@@ -1,0 +1,82 @@
+use Rattle.std.proofs.Common.{[], ℕ, List, sym, ◌∙◌, subst, arith}
+use Rattle.std.specs.List.{Contains}
+use Rattle.volume_base.specs.Changing.{TouchesFolder}
+use Rattle.volume_names.specs.Losing.{Hides}
+use Rattle.volume_base.specs.Touching.{Touches}
+use Rattle.volume_base.proofs.Added.{own_edited}
+use Rattle.volume_names.proofs.Buried.{private_after, puts_aside, threads_aside}
+use Rattle.volume_base.proofs.Commanding.{touches_both}
+use Rattle.volume_base.proofs.FoundEntry.{ok_so, ok_true, settled_threads}
+use Rattle.volume_names.proofs.MoveRoom.{node_moved, room_to_move, spent_move}
+use Rattle.volume_base.proofs.Besides.{blocks_both, blocks_edit}
+use Rattle.volume_names.proofs.losing.hide.Goals as goal
+
+pub set_aside-requires-clause-threads : goal.set_aside-requires-clause-threads
+set_aside-requires-clause-threads g c tells = settled_threads c.args.volume.now (g.P.SectorView.space c.args.space.now).content (c.requires.settled tells)
+
+pub set_aside-requires-clause-file : goal.set_aside-requires-clause-file
+set_aside-requires-clause-file g c tells = (c.requires.only tells).names
+
+pub set_aside-requires-clause-room : goal.set_aside-requires-clause-room
+set_aside-requires-clause-room g c names = room_to_move c.edits_have_room.ensures c.args.volume.now (g.P.SectorView.space c.args.space.now) c.requires.room c.requires.size names
+
+pub touch-requires-clause-threads : goal.touch-requires-clause-threads
+touch-requires-clause-threads g c tells =
+    threads_aside c.args.volume.now (g.P.SectorView.space c.args.space.now) (c.requires.settled (sym c.set_aside.ensures.frame.space.same.tells ∙ tells)) (c.requires.stands.stands (sym c.set_aside.ensures.frame.space.same.tells ∙ tells)) (c.requires.loses (sym c.set_aside.ensures.frame.space.same.tells ∙ tells)).0 (c.requires.loses (sym c.set_aside.ensures.frame.space.same.tells ∙ tells)).1 c.args.at.now (c.requires.loses (sym c.set_aside.ensures.frame.space.same.tells ∙ tells)).2 (c.requires.only (sym c.set_aside.ensures.frame.space.same.tells ∙ tells)) c.args.private c.requires.private c.requires.stands.service.fits.next_catalog_id c.set_aside.new.volume (g.P.SectorView.space c.set_aside.new.space).content
+    (puts_aside c.args.volume.now c.set_aside.new.volume (g.P.SectorView.space c.args.space.now) (g.P.SectorView.space c.set_aside.new.space) c.args.private c.args.at.now (c.requires.stands.stands (sym c.set_aside.ensures.frame.space.same.tells ∙ tells)) (sym c.set_aside.ensures.frame.space.same.tells ∙ tells) c.set_aside.ensures.frame c.set_aside.ensures.rest (c.in_ok-set_aside.ensures.stands.stands (c.set_aside.ensures.frame.space.same.tells ∙ (sym c.set_aside.ensures.frame.space.same.tells ∙ tells))) (c.in_ok-set_aside.ensures.moved (sym c.set_aside.ensures.frame.space.same.tells ∙ tells))) (c.in_ok-set_aside.ensures.stands.stands (c.set_aside.ensures.frame.space.same.tells ∙ (sym c.set_aside.ensures.frame.space.same.tells ∙ tells))).trees
+
+pub touch-requires-clause-there : goal.touch-requires-clause-there
+touch-requires-clause-there g c tells =
+    private_after c.args.volume.now (g.P.SectorView.space c.args.space.now) (c.requires.settled (sym c.set_aside.ensures.frame.space.same.tells ∙ tells)) (c.requires.stands.stands (sym c.set_aside.ensures.frame.space.same.tells ∙ tells)) (c.requires.loses (sym c.set_aside.ensures.frame.space.same.tells ∙ tells)).0 (c.requires.loses (sym c.set_aside.ensures.frame.space.same.tells ∙ tells)).1 c.args.at.now (c.requires.loses (sym c.set_aside.ensures.frame.space.same.tells ∙ tells)).2 (c.requires.only (sym c.set_aside.ensures.frame.space.same.tells ∙ tells)) c.args.private c.requires.private c.requires.stands.service.fits.next_catalog_id c.set_aside.new.volume (g.P.SectorView.space c.set_aside.new.space).content
+    (puts_aside c.args.volume.now c.set_aside.new.volume (g.P.SectorView.space c.args.space.now) (g.P.SectorView.space c.set_aside.new.space) c.args.private c.args.at.now (c.requires.stands.stands (sym c.set_aside.ensures.frame.space.same.tells ∙ tells)) (sym c.set_aside.ensures.frame.space.same.tells ∙ tells) c.set_aside.ensures.frame c.set_aside.ensures.rest (c.in_ok-set_aside.ensures.stands.stands (c.set_aside.ensures.frame.space.same.tells ∙ (sym c.set_aside.ensures.frame.space.same.tells ∙ tells))) (c.in_ok-set_aside.ensures.moved (sym c.set_aside.ensures.frame.space.same.tells ∙ tells))) (c.in_ok-set_aside.ensures.stands.stands (c.set_aside.ensures.frame.space.same.tells ∙ (sym c.set_aside.ensures.frame.space.same.tells ∙ tells))).trees
+
+pub returns-clause-hides : goal.returns-clause-hides
+returns-clause-hides g c tells =
+    ok_so (TouchesFolder c.args.private 1 0 c.set_aside.new.volume c.touch.new.self (g.P.SectorView.space c.set_aside.new.space).content (g.P.SectorView.space c.touch.new.space).content)
+    (Hides c.args.private c.args.at.now c.args.volume.now c.touch.new.self (g.P.SectorView.space c.args.space.now).content (g.P.SectorView.space c.touch.new.space).content)
+    c.touch.result (c.touch.ensures.counts (c.set_aside.ensures.frame.space.same.tells ∙ tells))
+    (λ t. record { middle = c.set_aside.new.volume; content = (g.P.SectorView.space c.set_aside.new.space).content; holds = (c.in_ok-set_aside.ensures.stands.stands (c.set_aside.ensures.frame.space.same.tells ∙ tells)).trees; moves = (puts_aside c.args.volume.now c.set_aside.new.volume (g.P.SectorView.space c.args.space.now) (g.P.SectorView.space c.set_aside.new.space) c.args.private c.args.at.now (c.requires.stands.stands (tells)) (tells) c.set_aside.ensures.frame c.set_aside.ensures.rest (c.in_ok-set_aside.ensures.stands.stands (c.set_aside.ensures.frame.space.same.tells ∙ (tells))) (c.in_ok-set_aside.ensures.moved (tells))); gains = t })
+
+pub returns-clause-touches : goal.returns-clause-touches
+returns-clause-touches g c committed =
+    touches_both committed _ (g.P.SectorView.space c.args.space.now) (g.P.SectorView.space c.set_aside.new.space) (g.P.SectorView.space c.touch.new.space) (c.set_aside.ensures.touches committed)
+    (subst (λ (l : List ℕ). Touches committed (λ s. Contains l s) (g.P.SectorView.space c.set_aside.new.space) (g.P.SectorView.space c.touch.new.space)) (own_edited c.args.volume.now c.set_aside.new.volume (g.P.SectorView.space c.args.space.now) (g.P.SectorView.space c.set_aside.new.space) c.set_aside.ensures.frame c.set_aside.ensures.rest) (c.touch.ensures.touches committed))
+
+pub returns-clause-below : goal.returns-clause-below
+returns-clause-below g c = g.met.P.SectorView.follows_trans c.args.space.now c.set_aside.new.space c.touch.new.space c.set_aside.ensures.below c.touch.ensures.below
+
+pub returns-clause-spent : goal.returns-clause-spent
+returns-clause-spent g c tells = omega (arith, spent_move c.edits_have_room.ensures c.edits_take_their_load.ensures c.args.volume.now c.set_aside.new.volume (g.P.SectorView.space c.args.space.now) (g.P.SectorView.space c.set_aside.new.space) c.requires.room c.requires.size (c.set_aside.ensures.takes []) tells, c.touch.ensures.spent (c.set_aside.ensures.frame.space.same.tells ∙ tells), node_moved c.edits_have_room.ensures c.edits_take_their_load.ensures c.args.volume.now c.set_aside.new.volume (g.P.SectorView.space c.args.space.now) (g.P.SectorView.space c.set_aside.new.space) c.requires.room c.requires.size (c.set_aside.ensures.takes []) tells)
+
+pub returns-in_err-set_aside-clause-spent : goal.returns-in_err-set_aside-clause-spent
+returns-in_err-set_aside-clause-spent g c tells = omega (arith, spent_move c.edits_have_room.ensures c.edits_take_their_load.ensures c.args.volume.now c.set_aside.new.volume (g.P.SectorView.space c.args.space.now) (g.P.SectorView.space c.set_aside.new.space) c.requires.room c.requires.size (c.set_aside.ensures.takes []) tells)
+
+pub returns-clause-size : goal.returns-clause-size
+returns-clause-size g c = ok_true c.touch.result (c.touch.ensures.size ∙ c.set_aside.ensures.frame.file.node_size)
+
+pub returns-clause-own : goal.returns-clause-own
+returns-clause-own g c = c.touch.ensures.own ∙ own_edited c.args.volume.now c.set_aside.new.volume (g.P.SectorView.space c.args.space.now) (g.P.SectorView.space c.set_aside.new.space) c.set_aside.ensures.frame c.set_aside.ensures.rest
+
+pub returns-in_err-set_aside-clause-own : goal.returns-in_err-set_aside-clause-own
+returns-in_err-set_aside-clause-own g c = own_edited c.args.volume.now c.set_aside.new.volume (g.P.SectorView.space c.args.space.now) (g.P.SectorView.space c.set_aside.new.space) c.set_aside.ensures.frame c.set_aside.ensures.rest
+
+pub touch-requires-clause-room : goal.touch-requires-clause-room
+touch-requires-clause-room g c = c.fits_update.ensures c.if-not-fits_update.false
+
+pub returns-then-not-fits_update-clause-touches : goal.returns-then-not-fits_update-clause-touches
+returns-then-not-fits_update-clause-touches g c committed = c.set_aside.ensures.touches committed
+
+pub returns-then-not-fits_update-clause-spent : goal.returns-then-not-fits_update-clause-spent
+returns-then-not-fits_update-clause-spent g c tells = omega (arith, spent_move c.edits_have_room.ensures c.edits_take_their_load.ensures c.args.volume.now c.set_aside.new.volume (g.P.SectorView.space c.args.space.now) (g.P.SectorView.space c.set_aside.new.space) c.requires.room c.requires.size (c.set_aside.ensures.takes []) tells)
+
+pub returns-then-not-fits_update-clause-own : goal.returns-then-not-fits_update-clause-own
+returns-then-not-fits_update-clause-own g c = own_edited c.args.volume.now c.set_aside.new.volume (g.P.SectorView.space c.args.space.now) (g.P.SectorView.space c.set_aside.new.space) c.set_aside.ensures.frame c.set_aside.ensures.rest
+
+pub returns-then-not-fits_update-clause-blocks : goal.returns-then-not-fits_update-clause-blocks
+returns-then-not-fits_update-clause-blocks g c = blocks_edit c.args.volume.now c.set_aside.new.volume c.set_aside.ensures.rest
+
+pub returns-clause-blocks : goal.returns-clause-blocks
+returns-clause-blocks g c = blocks_both c.args.volume.now c.set_aside.new.volume c.touch.new.self (blocks_edit c.args.volume.now c.set_aside.new.volume c.set_aside.ensures.rest) c.touch.ensures.blocks
+
+pub returns-in_err-set_aside-clause-blocks : goal.returns-in_err-set_aside-clause-blocks
+returns-in_err-set_aside-clause-blocks g c = blocks_edit c.args.volume.now c.set_aside.new.volume c.set_aside.ensures.rest

@@ -1,0 +1,86 @@
+use Rattle.std.proofs.Common.{◌≡◌, inl, inr, ℕ, length, sym, ◌∙◌, ap, subst, arith}
+use Rattle.std.specs.Prelude.{Option, is_some}
+use Rattle.std.proofs.lemmas.Bool.{true≢false}
+use Rattle.hard_links.specs.declared.place.EntryAt.{EntryAt}
+use Rattle.hfs_language.specs.declared.command.Command.TheVariants as command
+use Rattle.hfs_model.specs.Step.{step}
+use Rattle.hfs_volume.specs.TreeOf.{tree_of}
+use Rattle.volume_base.specs.Lists.{lists_of}
+use Rattle.volume_names.specs.Losing.{Buries, Loses, LosesName}
+use Rattle.volume_base.specs.Losing.{IsLoss, IsOnlyName}
+use Rattle.volume_base.specs.Standing.{IsSettled}
+use Rattle.volume_names.specs.Unlinking.{LosesLink}
+use Rattle.volume_names.proofs.Buried.{loses_there}
+use Rattle.volume_base.proofs.FoundEntry.{ok_so}
+use Rattle.volume_names.proofs.losing.lose.Goals as goal
+
+pub bury-requires-clause-some : goal.bury-requires-clause-some
+bury-requires-clause-some g c = omega (arith, c.requires.some, ap (λ (p : EntryAt). length p.name) c.in_ok-place-in-Some.ensures)
+
+pub bury-requires-clause-name : goal.bury-requires-clause-name
+bury-requires-clause-name g c = omega (arith, c.requires.name, ap (λ (p : EntryAt). length p.name) c.in_ok-place-in-Some.ensures)
+
+pub bury-requires-clause-only : goal.bury-requires-clause-only
+bury-requires-clause-only g c tells = subst (λ (p : EntryAt). IsOnlyName p (lists_of c.args.volume.now (g.P.SectorView.space c.args.space.now).content).catalog_pairs) (sym c.in_ok-place-in-Some.ensures) (c.requires.only tells c.if-at.false)
+
+pub bury-requires-clause-loses : goal.bury-requires-clause-loses
+bury-requires-clause-loses g c tells =
+    let it = c.requires.loses tells in
+    (c.args.path.now, it.0, subst (λ (p : EntryAt). IsLoss (tree_of (g.P.SectorView.space c.args.space.now).content) c.args.path.now it.0 p) (sym c.in_ok-place-in-Some.ensures) it.1)
+
+pub returns-in_ok-place-in-Some-clause-does : goal.returns-in_ok-place-in-Some-clause-does
+returns-in_ok-place-in-Some-clause-does g c tells entry loss =
+    ok_so
+    (IsSettled c.bury.new.volume (g.P.SectorView.space c.bury.new.space).content × (tree_of (g.P.SectorView.space c.bury.new.space).content ≡ (step (tree_of (g.P.SectorView.space c.args.space.now).content) (command.Rm c.args.path.now)).1)
+    × Buries entry (g.P.SectorView.space c.args.space.now).content (g.P.SectorView.space c.bury.new.space).content)
+    (IsSettled c.bury.new.volume (g.P.SectorView.space c.bury.new.space).content × (tree_of (g.P.SectorView.space c.bury.new.space).content ≡ (step (tree_of (g.P.SectorView.space c.args.space.now).content) (command.Rm c.args.path.now)).1)
+    × LosesName entry (g.P.SectorView.space c.args.space.now).content (g.P.SectorView.space c.bury.new.space).content)
+    c.bury.result
+    (c.bury.ensures.does tells c.args.path.now entry (subst (λ (p : EntryAt). IsLoss (tree_of (g.P.SectorView.space c.args.space.now).content) c.args.path.now entry p) (sym c.in_ok-place-in-Some.ensures) loss))
+    (λ lost. (lost.0, lost.1, inl (loses_there entry (g.P.SectorView.space c.args.space.now).content (g.P.SectorView.space c.bury.new.space).content (c.requires.settled tells).sound lost.2)))
+
+pub bury_first-requires-clause-some : goal.bury_first-requires-clause-some
+bury_first-requires-clause-some g c = omega (arith, c.requires.some, ap (λ (p : EntryAt). length p.name) c.in_ok-place-in-None.ensures)
+
+pub bury_first-requires-clause-name : goal.bury_first-requires-clause-name
+bury_first-requires-clause-name g c = omega (arith, c.requires.name, ap (λ (p : EntryAt). length p.name) c.in_ok-place-in-None.ensures)
+
+pub bury_first-requires-clause-room : goal.bury_first-requires-clause-room
+bury_first-requires-clause-room g c = c.requires.room.makes c.in-None.is
+
+pub bury_first-requires-clause-only : goal.bury_first-requires-clause-only
+bury_first-requires-clause-only g c tells = subst (λ (p : EntryAt). IsOnlyName p (lists_of c.args.volume.now (g.P.SectorView.space c.args.space.now).content).catalog_pairs) (sym c.in_ok-place-in-None.ensures) (c.requires.only tells c.if-at.false)
+
+pub bury_first-requires-clause-loses : goal.bury_first-requires-clause-loses
+bury_first-requires-clause-loses g c tells =
+    let it = c.requires.loses tells in
+    (c.args.path.now, it.0, subst (λ (p : EntryAt). IsLoss (tree_of (g.P.SectorView.space c.args.space.now).content) c.args.path.now it.0 p) (sym c.in_ok-place-in-None.ensures) it.1)
+
+pub returns-in_ok-place-in-None-clause-does : goal.returns-in_ok-place-in-None-clause-does
+returns-in_ok-place-in-None-clause-does g c tells entry loss =
+    ok_so
+    (IsSettled c.bury_first.new.volume (g.P.SectorView.space c.bury_first.new.space).content × (tree_of (g.P.SectorView.space c.bury_first.new.space).content ≡ (step (tree_of (g.P.SectorView.space c.args.space.now).content) (command.Rm c.args.path.now)).1)
+    × Loses entry (g.P.SectorView.space c.args.space.now).content (g.P.SectorView.space c.bury_first.new.space).content)
+    (IsSettled c.bury_first.new.volume (g.P.SectorView.space c.bury_first.new.space).content × (tree_of (g.P.SectorView.space c.bury_first.new.space).content ≡ (step (tree_of (g.P.SectorView.space c.args.space.now).content) (command.Rm c.args.path.now)).1)
+    × LosesName entry (g.P.SectorView.space c.args.space.now).content (g.P.SectorView.space c.bury_first.new.space).content)
+    c.bury_first.result
+    (c.bury_first.ensures.does tells c.args.path.now entry (subst (λ (p : EntryAt). IsLoss (tree_of (g.P.SectorView.space c.args.space.now).content) c.args.path.now entry p) (sym c.in_ok-place-in-None.ensures) loss))
+    (λ lost. (lost.0, lost.1, inl lost.2))
+
+pub lose_link-requires-clause-link : goal.lose_link-requires-clause-link
+lose_link-requires-clause-link g c tells = c.requires.link tells c.if-at.true
+
+pub lose_link-requires-clause-room : goal.lose_link-requires-clause-room
+lose_link-requires-clause-room g c = c.requires.room.drops
+
+pub bury-requires-clause-room : goal.bury-requires-clause-room
+bury-requires-clause-room g c = c.fits_move.ensures c.if-not-fits_move.false
+
+pub returns-then-at-clause-does : goal.returns-then-at-clause-does
+returns-then-at-clause-does g c tells entry loss =
+    ok_so
+    (IsSettled c.lose_link.new.volume (g.P.SectorView.space c.lose_link.new.space).content × (tree_of (g.P.SectorView.space c.lose_link.new.space).content ≡ (step (tree_of (g.P.SectorView.space c.args.space.now).content) (command.Rm c.args.path.now)).1)
+    × LosesLink entry (g.P.SectorView.space c.args.space.now).content (g.P.SectorView.space c.lose_link.new.space).content)
+    (IsSettled c.lose_link.new.volume (g.P.SectorView.space c.lose_link.new.space).content × (tree_of (g.P.SectorView.space c.lose_link.new.space).content ≡ (step (tree_of (g.P.SectorView.space c.args.space.now).content) (command.Rm c.args.path.now)).1)
+    × LosesName entry (g.P.SectorView.space c.args.space.now).content (g.P.SectorView.space c.lose_link.new.space).content)
+    c.lose_link.result (c.lose_link.ensures.does tells entry loss) (λ lost. (lost.0, lost.1, inr lost.2))

@@ -1,0 +1,45 @@
+use Rattle.std.proofs.Common.{◌≡◌, false, sym, ◌∙◌, subst}
+use Rattle.std.specs.Prelude.{Option, IfSome}
+use Rattle.cat_records.specs.Fits.{FitsRecord}
+use Rattle.cat_records.specs.declared.record.CatRecord.{CatRecord}
+use Rattle.catalog.specs.Entries.{IsOfKind}
+use Rattle.hfs_volume.specs.Records.{id_in, is_thread}
+use Rattle.volume_base.specs.Changing.{ReplacesRecord}
+use Rattle.volume_names.specs.PrivateFolder.{RecountsFolder}
+use Rattle.volume_base.proofs.Commanding.{touches_none}
+use Rattle.volume_base.proofs.FoundEntry.{ok_so}
+use Rattle.volume_names.proofs.PrivateRecount.{recounted_some, recounts_folder}
+use Rattle.volume_base.proofs.Besides.{blocks_edit, blocks_none}
+use Rattle.volume_names.proofs.private_folder.put_recounted.Goals as goal
+
+pub replace-requires-clause-kind : goal.replace-requires-clause-kind
+replace-requires-clause-kind g c = subst (λ (o : Option CatRecord). IfSome o (λ changed. is_thread changed ≡ false)) c.in-Some.is c.recounted.ensures.kind
+
+pub replace-requires-clause-fits : goal.replace-requires-clause-fits
+replace-requires-clause-fits g c = subst (λ (o : Option CatRecord). IfSome o (λ changed. FitsRecord changed)) c.in-Some.is (c.recounted.ensures.fits c.requires.fits)
+
+pub replace-requires-clause-same_kind : goal.replace-requires-clause-same_kind
+replace-requires-clause-same_kind g c = subst (λ (o : Option CatRecord). IfSome o (λ changed. IsOfKind changed c.args.entry.now.rec)) c.in-Some.is c.recounted.ensures.alike
+
+pub returns-clause-counts : goal.returns-clause-counts
+returns-clause-counts g c tells folder fits =
+    ok_so (ReplacesRecord c.args.entry.now c.in-Some.rec c.args.volume.now c.replace.new.self (g.P.SectorView.space c.args.space.now).content (g.P.SectorView.space c.replace.new.space).content)
+    (RecountsFolder (id_in c.args.entry.now.rec) c.args.up c.args.volume.now c.replace.new.self (g.P.SectorView.space c.args.space.now).content (g.P.SectorView.space c.replace.new.space).content)
+    c.replace.result (c.replace.ensures.replaces tells)
+    (λ r. recounts_folder c.args.up c.args.volume.now c.replace.new.self (g.P.SectorView.space c.args.space.now).content (g.P.SectorView.space c.replace.new.space).content c.args.entry.now c.in-Some.rec (c.requires.there tells) folder
+    (sym (c.recounted.ensures.same fits) ∙ c.in-Some.is) r)
+
+pub returns-in_default-clause-counts : goal.returns-in_default-clause-counts
+returns-in_default-clause-counts g c tells folder fits = absurd (recounted_some c.args.up c.args.entry.now.rec folder (sym (c.recounted.ensures.same fits) ∙ c.in_default.is))
+
+pub returns-in_default-clause-touches : goal.returns-in_default-clause-touches
+returns-in_default-clause-touches g c committed = touches_none committed _ (g.P.SectorView.space c.args.space.now)
+
+pub returns-in_default-clause-service : goal.returns-in_default-clause-service
+returns-in_default-clause-service g c = c.requires.stands.service
+
+pub returns-clause-blocks : goal.returns-clause-blocks
+returns-clause-blocks g c = blocks_edit c.args.volume.now c.replace.new.self c.replace.ensures.rest
+
+pub returns-in_default-clause-blocks : goal.returns-in_default-clause-blocks
+returns-in_default-clause-blocks g c = blocks_none c.args.volume.now

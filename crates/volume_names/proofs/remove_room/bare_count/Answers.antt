@@ -1,0 +1,22 @@
+use Rattle.std.proofs.Common.{◌≡◌, false, ℕ, List, length, sym, ◌∙◌, ap, subst}
+use Rattle.std.specs.Prelude.{IfOk}
+use Rattle.hfs_language.specs.Written.{FitsPath}
+use Rattle.hfs_language.specs.declared.command.Command.TheVariants as command
+use Rattle.hfs_model.specs.Step.{is_private_path}
+use Rattle.hfs_model.specs.declared.plain.PlainEntry.{PlainEntry}
+use Rattle.volume_runs.specs.Run.{attribute_edits}
+use Rattle.hfs_volume.specs.TreeOf.{tree_of}
+use Rattle.volume_names.specs.Removing.{MayRemove}
+use Rattle.volume_base.proofs.RemoveWeight.{removed_some}
+use Rattle.volume_names.proofs.remove_room.bare_count.Goals as goal
+
+pub bare_count_under-requires-clause-fits : goal.bare_count_under-requires-clause-fits
+bare_count_under-requires-clause-fits g c = subst FitsPath (sym (sym c.in-Some.ensures.cases.0 ∙ c.as_slice.ensures)) c.requires.fits
+
+pub returns-in-Some-clause-told : goal.returns-in-Some-clause-told
+returns-in-Some-clause-told g c tells =
+    subst (λ (p : List (List ℕ)). is_private_path p ≡ false → (entry : PlainEntry) → MayRemove (tree_of (g.P.SectorView.space c.args.space.now).content) p entry → IfOk c.bare_count_under.result (λ (many : ℕ). many ≡ attribute_edits (tree_of (g.P.SectorView.space c.args.space.now).content) (command.Rmdir p)))
+    (sym c.in-Some.ensures.cases.0 ∙ c.as_slice.ensures) (c.bare_count_under.ensures.told tells)
+
+pub returns-in-None-clause-told : goal.returns-in-None-clause-told
+returns-in-None-clause-told g c tells not_own entry is = absurd (removed_some (tree_of (g.P.SectorView.space c.args.space.now).content) c.args.path.now entry (ap (λ (p : List (List ℕ)). length p) (sym c.as_slice.ensures) ∙ c.in-None.ensures.cases) is)

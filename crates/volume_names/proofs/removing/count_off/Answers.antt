@@ -1,0 +1,12 @@
+use Rattle.std.proofs.Common.{inl, sym, ◌∙◌, ap}
+use Rattle.hfs_volume.specs.Changes.{with_numbers}
+use Rattle.volume_base.proofs.Numbering.{stands_with}
+use Rattle.volume_names.proofs.removing.count_off.Goals as goal
+
+pub put_header-requires-clause-stands : goal.put_header-requires-clause-stands
+put_header-requires-clause-stands g c =
+    stands_with c.with_folder_removed-volume.result c.args.volume.now (g.P.SectorView.space c.args.space.now) (c.with_folder_removed-volume.ensures.same ∙ sym (ap (with_numbers c.args.volume.now.header) c.with_folder_removed-volume.ensures.same))
+    (c.with_folder_removed-volume.ensures.fits c.requires.stands.service.fits) c.requires.stands
+
+pub put_header-requires-clause-room : goal.put_header-requires-clause-room
+put_header-requires-clause-room g c = inl c.requires.some

@@ -1,0 +1,38 @@
+use Rattle.std.proofs.Common.{[], ℕ, List, sym, ◌∙◌, ap}
+use Rattle.btree_edit.proofs.EditLaws.{room_then}
+use Rattle.btree_file.specs.State.{state_of}
+use Rattle.hfs_volume.specs.Records.{placed_in, record_at}
+use Rattle.volume_base.specs.Lists.{lists_of}
+use Rattle.volume_base.proofs.Added.{own_edited}
+use Rattle.volume_base.proofs.Besides.{blocks_edit}
+use Rattle.volume_names.proofs.DroppedOne.{same_then}
+use Rattle.volume_names.proofs.Shared.{puts_link}
+use Rattle.volume_names.proofs.sharing.put_link.Goals as goal
+
+pub add-requires-clause-unused : goal.add-requires-clause-unused
+add-requires-clause-unused g c tells = ap (λ n. record_at (placed_in (lists_of c.args.volume.now (g.P.SectorView.space c.args.space.now).content).catalog_pairs) n []) c.link_record-rec.ensures.id ∙ c.requires.unused tells
+
+pub returns-clause-puts : goal.returns-clause-puts
+returns-clause-puts g c tells =
+    puts_link c.args.volume.now c.add.new.volume (g.P.SectorView.space c.args.space.now) (g.P.SectorView.space c.add.new.space) (c.requires.stands.stands tells) tells (c.in_ok-add.ensures.stands.stands (c.add.ensures.frame.space.same.tells ∙ tells)) c.add.ensures.frame c.add.ensures.rest
+    c.args.folder c.args.name.now c.args.id c.args.number c.args.created c.link_record-rec.result c.in_ok-add.field-0 c.link_record-rec.ensures.same (c.requires.vacant tells) (c.in_ok-add.ensures.answer tells) (c.in_ok-add.ensures.added tells)
+
+pub returns-clause-more : goal.returns-clause-more
+returns-clause-more g c room names =
+    room_then 2 2 516 (state_of names c.args.volume.now.catalog.file (g.P.SectorView.space c.args.space.now)) (state_of names c.add.new.volume.catalog.file (g.P.SectorView.space c.add.new.space))
+    (same_then c.args.volume.now.catalog.file c.add.new.volume.catalog.file (g.P.SectorView.space c.args.space.now) (g.P.SectorView.space c.add.new.space) c.add.ensures.frame names) (c.in_ok-add.ensures.edits names) (room names)
+
+pub returns-clause-size : goal.returns-clause-size
+returns-clause-size g c = c.add.ensures.frame.file.node_size
+
+pub returns-clause-own : goal.returns-clause-own
+returns-clause-own g c = own_edited c.args.volume.now c.add.new.volume (g.P.SectorView.space c.args.space.now) (g.P.SectorView.space c.add.new.space) c.add.ensures.frame c.add.ensures.rest
+
+pub returns-clause-blocks : goal.returns-clause-blocks
+returns-clause-blocks g c = blocks_edit c.args.volume.now c.add.new.volume c.add.ensures.rest
+
+pub returns-in_err-add-clause-own : goal.returns-in_err-add-clause-own
+returns-in_err-add-clause-own g c = own_edited c.args.volume.now c.add.new.volume (g.P.SectorView.space c.args.space.now) (g.P.SectorView.space c.add.new.space) c.add.ensures.frame c.add.ensures.rest
+
+pub returns-in_err-add-clause-blocks : goal.returns-in_err-add-clause-blocks
+returns-in_err-add-clause-blocks g c = blocks_edit c.args.volume.now c.add.new.volume c.add.ensures.rest

@@ -1,0 +1,108 @@
+use Rattle.std.proofs.Common.{◌≡◌, [], ◌<◌, ◌+◌, ◌^◌, ℕ, List, refl, sym, ◌∙◌, ap, subst, arith}
+use Rattle.std.specs.Prelude.{None}
+use Rattle.std.specs.List.{Contains}
+use Rattle.std.proofs.lemmas.Bool.{lt-ltb}
+use Rattle.btree_edit.proofs.EditLaws.{room_first}
+use Rattle.btree_file.specs.State.{state_of}
+use Rattle.hfs_volume.specs.Records.{placed_in, record_at}
+use Rattle.volume_base.specs.Lists.{lists_of}
+use Rattle.volume_names.specs.Sharing.{LinksBoth, PutsLink}
+use Rattle.volume_base.specs.Standing.{StandsOver}
+use Rattle.volume_base.specs.Touching.{Touches}
+use Rattle.volume_base.proofs.Besides.{blocks_both}
+use Rattle.volume_base.proofs.Commanding.{touches_both}
+use Rattle.volume_names.proofs.FirstMade.{first_unused, old_vacant, second_unused, second_vacant}
+use Rattle.volume_base.proofs.FoundEntry.{ok_both}
+use Rattle.volume_names.proofs.Shared.{stood_there}
+use Rattle.volume_names.proofs.sharing.share.Goals as goal
+
+pub share_file-requires-clause-there : goal.share_file-requires-clause-there
+share_file-requires-clause-there g c tells = stood_there (lists_of c.args.volume.now (g.P.SectorView.space c.args.space.now).content).catalog_pairs c.args.way.now.parent c.args.old.now (c.requires.only tells)
+
+pub put_link-requires-clause-size : goal.put_link-requires-clause-size
+put_link-requires-clause-size g c = omega (arith, c.requires.size, c.in_ok-share_file.ensures.size)
+
+pub put_link-requires-clause-vacant : goal.put_link-requires-clause-vacant
+put_link-requires-clause-vacant g c tells =
+    let before = sym (c.share_file.ensures.touches (g.P.SectorView.space c.args.space.now).content).same.tells ∙ tells in
+    let links = c.requires.links before in
+    old_vacant c.args.volume.now (g.P.SectorView.space c.args.space.now) (c.requires.settled before) (c.requires.stands.stands before) links.0 links.1 links.2 c.args.way.now.parent c.args.old.now c.args.way.now.id c.args.way.now.folder c.args.name.now links.3 (c.requires.only before) c.args.private c.requires.private c.requires.room.ids c.args.number (lt-ltb c.args.number (2 ^ 32) c.ranges.number.fits) (c.requires.free before) c.share_file.new.volume (g.P.SectorView.space c.share_file.new.space).content (c.in_ok-share_file.ensures.shares before) (c.in_ok-share_file.ensures.stands.stands ((c.share_file.ensures.touches (g.P.SectorView.space c.args.space.now).content).same.tells ∙ before)).trees
+
+pub put_link-requires-clause-unused : goal.put_link-requires-clause-unused
+put_link-requires-clause-unused g c tells =
+    let before = sym (c.share_file.ensures.touches (g.P.SectorView.space c.args.space.now).content).same.tells ∙ tells in
+    let links = c.requires.links before in
+    first_unused c.args.volume.now (g.P.SectorView.space c.args.space.now) (c.requires.settled before) (c.requires.stands.stands before) links.0 links.1 links.2 c.args.way.now.parent c.args.old.now c.args.way.now.id c.args.way.now.folder c.args.name.now links.3 (c.requires.only before) c.args.private c.requires.private c.requires.room.ids c.args.number (lt-ltb c.args.number (2 ^ 32) c.ranges.number.fits) (c.requires.free before) c.share_file.new.volume (g.P.SectorView.space c.share_file.new.space).content (c.in_ok-share_file.ensures.shares before) (c.in_ok-share_file.ensures.stands.stands ((c.share_file.ensures.touches (g.P.SectorView.space c.args.space.now).content).same.tells ∙ before)).trees
+
+pub put_link-requires-clause-room : goal.put_link-requires-clause-room
+put_link-requires-clause-room g c names tells = room_first 2 2 516 (state_of names c.share_file.new.volume.catalog.file (g.P.SectorView.space c.share_file.new.space)) (c.in_ok-share_file.ensures.more names) tells
+
+pub put_link-requires-2-clause-size : goal.put_link-requires-2-clause-size
+put_link-requires-2-clause-size g c = omega (arith, c.requires.size, c.in_ok-share_file.ensures.size, c.in_ok-put_link.ensures.size)
+
+pub put_link-requires-2-clause-vacant : goal.put_link-requires-2-clause-vacant
+put_link-requires-2-clause-vacant g c tells =
+    let before = sym (c.share_file.ensures.touches (g.P.SectorView.space c.args.space.now).content).same.tells ∙ sym (c.put_link.ensures.touches (g.P.SectorView.space c.args.space.now).content).same.tells ∙ tells in
+    let links = c.requires.links before in
+    second_vacant c.args.volume.now (g.P.SectorView.space c.args.space.now) (c.requires.settled before) (c.requires.stands.stands before) links.0 links.1 links.2 c.args.way.now.parent c.args.old.now c.args.way.now.id c.args.way.now.folder c.args.name.now links.3 (c.requires.only before) c.args.private c.requires.private c.requires.room.ids c.args.number (lt-ltb c.args.number (2 ^ 32) c.ranges.number.fits) (c.requires.free before) c.share_file.new.volume (g.P.SectorView.space c.share_file.new.space).content (c.in_ok-share_file.ensures.shares before) (c.in_ok-share_file.ensures.stands.stands ((c.share_file.ensures.touches (g.P.SectorView.space c.args.space.now).content).same.tells ∙ before)).trees c.args.created c.put_link.new.volume (g.P.SectorView.space c.put_link.new.space).content (c.in_ok-put_link.ensures.puts ((c.share_file.ensures.touches (g.P.SectorView.space c.args.space.now).content).same.tells ∙ before)) (c.in_ok-put_link.ensures.stands.stands ((c.put_link.ensures.touches (g.P.SectorView.space c.args.space.now).content).same.tells ∙ ((c.share_file.ensures.touches (g.P.SectorView.space c.args.space.now).content).same.tells ∙ before))).trees
+
+pub put_link-requires-2-clause-unused : goal.put_link-requires-2-clause-unused
+put_link-requires-2-clause-unused g c tells =
+    let before = sym (c.share_file.ensures.touches (g.P.SectorView.space c.args.space.now).content).same.tells ∙ sym (c.put_link.ensures.touches (g.P.SectorView.space c.args.space.now).content).same.tells ∙ tells in
+    let links = c.requires.links before in
+    second_unused c.args.volume.now (g.P.SectorView.space c.args.space.now) (c.requires.settled before) (c.requires.stands.stands before) links.0 links.1 links.2 c.args.way.now.parent c.args.old.now c.args.way.now.id c.args.way.now.folder c.args.name.now links.3 (c.requires.only before) c.args.private c.requires.private c.requires.room.ids c.args.number (lt-ltb c.args.number (2 ^ 32) c.ranges.number.fits) (c.requires.free before) c.share_file.new.volume (g.P.SectorView.space c.share_file.new.space).content (c.in_ok-share_file.ensures.shares before) (c.in_ok-share_file.ensures.stands.stands ((c.share_file.ensures.touches (g.P.SectorView.space c.args.space.now).content).same.tells ∙ before)).trees c.args.created c.put_link.new.volume (g.P.SectorView.space c.put_link.new.space).content (c.in_ok-put_link.ensures.puts ((c.share_file.ensures.touches (g.P.SectorView.space c.args.space.now).content).same.tells ∙ before)) (c.in_ok-put_link.ensures.stands.stands ((c.put_link.ensures.touches (g.P.SectorView.space c.args.space.now).content).same.tells ∙ ((c.share_file.ensures.touches (g.P.SectorView.space c.args.space.now).content).same.tells ∙ before))).trees
+
+pub put_link-requires-2-clause-room : goal.put_link-requires-2-clause-room
+put_link-requires-2-clause-room g c = c.in_ok-put_link.ensures.more c.in_ok-share_file.ensures.more
+
+pub returns-clause-both : goal.returns-clause-both
+returns-clause-both g c tells =
+    let second = (c.share_file.ensures.touches (g.P.SectorView.space c.args.space.now).content).same.tells ∙ tells in
+    let third = (c.put_link.ensures.touches (g.P.SectorView.space c.args.space.now).content).same.tells ∙ second in
+    let last = (c.put_link-2.ensures.touches (g.P.SectorView.space c.args.space.now).content).same.tells ∙ third in
+    ok_both (StandsOver c.put_link-2.new.volume (g.P.SectorView.space c.put_link-2.new.space)) (PutsLink c.args.way.now.folder c.args.name.now (c.args.volume.now.header.next_catalog_id + 1) c.args.number c.args.created c.put_link.new.volume c.put_link-2.new.volume (g.P.SectorView.space c.put_link.new.space).content (g.P.SectorView.space c.put_link-2.new.space).content)
+    (LinksBoth c.args.way.now.parent c.args.old.now c.args.private c.args.number c.args.way.now.folder c.args.name.now c.args.created c.args.volume.now c.put_link-2.new.volume (g.P.SectorView.space c.args.space.now).content (g.P.SectorView.space c.put_link-2.new.space).content)
+    c.put_link-2.result c.put_link-2.ensures.stands (c.put_link-2.ensures.puts third)
+    (λ stands two. record {
+      moved = c.share_file.new.volume;
+      moved_in = (g.P.SectorView.space c.share_file.new.space).content;
+      shares = c.in_ok-share_file.ensures.shares tells;
+      holds_moved = (c.in_ok-share_file.ensures.stands.stands second).trees;
+      replaced = c.put_link.new.volume;
+      replaced_in = (g.P.SectorView.space c.put_link.new.space).content;
+      one = c.in_ok-put_link.ensures.puts second;
+      holds_replaced = (c.in_ok-put_link.ensures.stands.stands third).trees;
+      two = two;
+      holds = (stands.stands last).trees;
+    })
+
+pub returns-clause-own : goal.returns-clause-own
+returns-clause-own g c = c.put_link-2.ensures.own ∙ c.put_link.ensures.own ∙ c.share_file.ensures.own
+
+pub returns-in_err-put_link-clause-own : goal.returns-in_err-put_link-clause-own
+returns-in_err-put_link-clause-own g c = c.put_link.ensures.own ∙ c.share_file.ensures.own
+
+pub returns-in_err-put_link-clause-touches : goal.returns-in_err-put_link-clause-touches
+returns-in_err-put_link-clause-touches g c committed =
+    touches_both committed _ (g.P.SectorView.space c.args.space.now) (g.P.SectorView.space c.share_file.new.space) (g.P.SectorView.space c.put_link.new.space) (c.share_file.ensures.touches committed)
+    (subst (λ (l : List ℕ). Touches committed (λ s. Contains l s) (g.P.SectorView.space c.share_file.new.space) (g.P.SectorView.space c.put_link.new.space)) c.share_file.ensures.own (c.put_link.ensures.touches committed))
+
+pub returns-clause-touches : goal.returns-clause-touches
+returns-clause-touches g c committed =
+    touches_both committed _ (g.P.SectorView.space c.args.space.now) (g.P.SectorView.space c.put_link.new.space) (g.P.SectorView.space c.put_link-2.new.space)
+    (touches_both committed _ (g.P.SectorView.space c.args.space.now) (g.P.SectorView.space c.share_file.new.space) (g.P.SectorView.space c.put_link.new.space) (c.share_file.ensures.touches committed)
+    (subst (λ (l : List ℕ). Touches committed (λ s. Contains l s) (g.P.SectorView.space c.share_file.new.space) (g.P.SectorView.space c.put_link.new.space)) c.share_file.ensures.own (c.put_link.ensures.touches committed)))
+    (subst (λ (l : List ℕ). Touches committed (λ s. Contains l s) (g.P.SectorView.space c.put_link.new.space) (g.P.SectorView.space c.put_link-2.new.space)) (c.put_link.ensures.own ∙ c.share_file.ensures.own) (c.put_link-2.ensures.touches committed))
+
+pub returns-in_err-put_link-clause-below : goal.returns-in_err-put_link-clause-below
+returns-in_err-put_link-clause-below g c = g.met.P.SectorView.follows_trans c.args.space.now c.share_file.new.space c.put_link.new.space c.share_file.ensures.below c.put_link.ensures.below
+
+pub returns-clause-below : goal.returns-clause-below
+returns-clause-below g c =
+    g.met.P.SectorView.follows_trans c.args.space.now c.put_link.new.space c.put_link-2.new.space (g.met.P.SectorView.follows_trans c.args.space.now c.share_file.new.space c.put_link.new.space c.share_file.ensures.below c.put_link.ensures.below) c.put_link-2.ensures.below
+
+pub returns-in_err-put_link-clause-blocks : goal.returns-in_err-put_link-clause-blocks
+returns-in_err-put_link-clause-blocks g c = blocks_both c.args.volume.now c.share_file.new.volume c.put_link.new.volume c.share_file.ensures.blocks c.put_link.ensures.blocks
+
+pub returns-clause-blocks : goal.returns-clause-blocks
+returns-clause-blocks g c = blocks_both c.args.volume.now c.put_link.new.volume c.put_link-2.new.volume (blocks_both c.args.volume.now c.share_file.new.volume c.put_link.new.volume c.share_file.ensures.blocks c.put_link.ensures.blocks) c.put_link-2.ensures.blocks

@@ -1,0 +1,45 @@
+use Rattle.std.proofs.Common.{◌≡◌, inl, inr, ℕ, List, length, sym, ◌∙◌, ap, subst, arith}
+use Rattle.std.proofs.lemmas.Bool.{eqb-false}
+use Rattle.hard_links.specs.declared.place.EntryAt.{EntryAt}
+use Rattle.hfs_language.specs.declared.command.Command.TheVariants as command
+use Rattle.hfs_model.specs.Step.{step}
+use Rattle.hfs_volume.specs.TreeOf.{tree_of}
+use Rattle.volume_base.specs.Lists.{lists_of}
+use Rattle.volume_base.specs.Standing.{IsSettled}
+use Rattle.volume_names.specs.Unlinking.{IsLastOf, LosesLink, Unlinks, UnlinksLast}
+use Rattle.volume_base.proofs.FoundEntry.{ok_so}
+use Rattle.volume_names.proofs.LastFile.{last_of}
+use Rattle.volume_names.proofs.unlinking.lose_one_of.Goals as goal
+
+pub unlink_last-requires-clause-some_file : goal.unlink_last-requires-clause-some_file
+unlink_last-requires-clause-some_file g c =
+    let none = eqb-false (length c.args.file.now.name) 0 (sym c.is_empty.ensures ∙ c.if-is_empty.false) in
+    omega (arith, none, ap (λ (n : List ℕ). length n) c.in_ok-copy_name-in-Some.ensures)
+
+pub unlink_last-requires-clause-file_name : goal.unlink_last-requires-clause-file_name
+unlink_last-requires-clause-file_name g c = omega (arith, c.requires.file_name, ap (λ (n : List ℕ). length n) c.in_ok-copy_name-in-Some.ensures)
+
+pub unlink_last-requires-clause-last : goal.unlink_last-requires-clause-last
+unlink_last-requires-clause-last g c tells =
+    let loses = c.requires.loses tells in
+    subst (λ (n : List ℕ). IsLastOf c.args.id (record { parent = c.args.file.now.parent; name = n }) (lists_of c.args.volume.now (g.P.SectorView.space c.args.space.now).content).catalog_pairs) (sym c.in_ok-copy_name-in-Some.ensures)
+    (last_of c.args.volume.now (g.P.SectorView.space c.args.space.now) (c.requires.settled tells) (c.requires.stands.stands tells) loses.0 loses.1 c.args.at.now loses.2 (c.requires.link tells) c.args.id loses.3 c.requires.stands.service.fits.next_catalog_id
+    c.args.file.now (c.requires.found tells) (omega (arith, c.links_in.ensures, c.if-links_in-gt1.false)))
+
+pub returns-then-links_in-gt1-clause-does : goal.returns-then-links_in-gt1-clause-does
+returns-then-links_in-gt1-clause-does g c tells path entry loss same =
+    ok_so
+    (IsSettled c.unlink.new.volume (g.P.SectorView.space c.unlink.new.space).content × (tree_of (g.P.SectorView.space c.unlink.new.space).content ≡ (step (tree_of (g.P.SectorView.space c.args.space.now).content) (command.Rm path)).1)
+    × Unlinks entry (g.P.SectorView.space c.args.space.now).content (g.P.SectorView.space c.unlink.new.space).content)
+    (IsSettled c.unlink.new.volume (g.P.SectorView.space c.unlink.new.space).content × (tree_of (g.P.SectorView.space c.unlink.new.space).content ≡ (step (tree_of (g.P.SectorView.space c.args.space.now).content) (command.Rm path)).1)
+    × LosesLink entry (g.P.SectorView.space c.args.space.now).content (g.P.SectorView.space c.unlink.new.space).content)
+    c.unlink.result (c.unlink.ensures.does tells path entry loss same) (λ lost. (lost.0, lost.1, inl lost.2))
+
+pub returns-in_ok-copy_name-in-Some-clause-does : goal.returns-in_ok-copy_name-in-Some-clause-does
+returns-in_ok-copy_name-in-Some-clause-does g c tells path entry loss same =
+    ok_so
+    (IsSettled c.unlink_last.new.volume (g.P.SectorView.space c.unlink_last.new.space).content × (tree_of (g.P.SectorView.space c.unlink_last.new.space).content ≡ (step (tree_of (g.P.SectorView.space c.args.space.now).content) (command.Rm path)).1)
+    × UnlinksLast entry (g.P.SectorView.space c.args.space.now).content (g.P.SectorView.space c.unlink_last.new.space).content)
+    (IsSettled c.unlink_last.new.volume (g.P.SectorView.space c.unlink_last.new.space).content × (tree_of (g.P.SectorView.space c.unlink_last.new.space).content ≡ (step (tree_of (g.P.SectorView.space c.args.space.now).content) (command.Rm path)).1)
+    × LosesLink entry (g.P.SectorView.space c.args.space.now).content (g.P.SectorView.space c.unlink_last.new.space).content)
+    c.unlink_last.result (c.unlink_last.ensures.does tells path entry loss same) (λ lost. (lost.0, lost.1, inr lost.2))

@@ -1,0 +1,45 @@
+use Rattle.std.proofs.Common.{◌≡◌, false, sym, ◌∙◌, subst, refl}
+use Rattle.std.specs.Prelude.{Option, IfSome}
+use Rattle.cat_records.specs.Fits.{FitsRecord}
+use Rattle.cat_records.specs.declared.record.CatRecord.{CatRecord}
+use Rattle.catalog.specs.Entries.{IsOfKind}
+use Rattle.hfs_volume.specs.Records.{id_in, is_thread}
+use Rattle.volume_base.specs.Changing.{ReplacesRecord}
+use Rattle.volume_names.specs.Unlinking.{SaysLinks, links_in}
+use Rattle.volume_base.proofs.Commanding.{touches_none}
+use Rattle.volume_base.proofs.FoundEntry.{ok_so}
+use Rattle.volume_names.proofs.Unlinked.{relinked_some, says_links}
+use Rattle.volume_base.proofs.Besides.{blocks_edit, blocks_none}
+use Rattle.volume_names.proofs.unlinking.put_links.Goals as goal
+
+pub replace-requires-clause-kind : goal.replace-requires-clause-kind
+replace-requires-clause-kind g c = subst (λ (o : Option CatRecord). IfSome o (λ changed. is_thread changed ≡ false)) c.in-Some.is c.relinked.ensures.kind
+
+pub replace-requires-clause-fits : goal.replace-requires-clause-fits
+replace-requires-clause-fits g c = subst (λ (o : Option CatRecord). IfSome o (λ changed. FitsRecord changed)) c.in-Some.is (c.relinked.ensures.fits c.requires.fits)
+
+pub replace-requires-clause-same_kind : goal.replace-requires-clause-same_kind
+replace-requires-clause-same_kind g c = subst (λ (o : Option CatRecord). IfSome o (λ changed. IsOfKind changed c.args.entry.now.rec)) c.in-Some.is c.relinked.ensures.alike
+
+pub returns-clause-counts : goal.returns-clause-counts
+returns-clause-counts g c tells a_file plain =
+    ok_so (ReplacesRecord c.args.entry.now c.in-Some.rec c.args.volume.now c.replace.new.self (g.P.SectorView.space c.args.space.now).content (g.P.SectorView.space c.replace.new.space).content)
+    (SaysLinks (id_in c.args.entry.now.rec) c.args.links (links_in c.args.entry.now.rec) c.args.volume.now c.replace.new.self (g.P.SectorView.space c.args.space.now).content (g.P.SectorView.space c.replace.new.space).content)
+    c.replace.result (c.replace.ensures.replaces tells)
+    (λ r. says_links c.args.volume.now.header.modify_date c.args.links c.args.volume.now c.replace.new.self (g.P.SectorView.space c.args.space.now).content (g.P.SectorView.space c.replace.new.space).content c.args.entry.now c.in-Some.rec refl (c.requires.there tells) a_file plain
+    (sym c.relinked.ensures.same ∙ c.in-Some.is) r)
+
+pub returns-in_default-clause-counts : goal.returns-in_default-clause-counts
+returns-in_default-clause-counts g c tells a_file plain = absurd (relinked_some c.args.volume.now.header.modify_date c.args.links c.args.entry.now.rec a_file (sym c.relinked.ensures.same ∙ c.in_default.is))
+
+pub returns-in_default-clause-touches : goal.returns-in_default-clause-touches
+returns-in_default-clause-touches g c committed = touches_none committed _ (g.P.SectorView.space c.args.space.now)
+
+pub returns-in_default-clause-service : goal.returns-in_default-clause-service
+returns-in_default-clause-service g c = c.requires.stands.service
+
+pub returns-clause-blocks : goal.returns-clause-blocks
+returns-clause-blocks g c = blocks_edit c.args.volume.now c.replace.new.self c.replace.ensures.rest
+
+pub returns-in_default-clause-blocks : goal.returns-in_default-clause-blocks
+returns-in_default-clause-blocks g c = blocks_none c.args.volume.now

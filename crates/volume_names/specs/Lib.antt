@@ -1,0 +1,12 @@
+pub mod Changing
+pub mod Dropping
+pub mod Entering
+pub mod Linking
+pub mod Losing
+pub mod Making
+pub mod Mounting
+pub mod Moving
+pub mod PrivateFolder
+pub mod Removing
+pub mod Sharing
+pub mod Unlinking

@@ -1,0 +1,183 @@
+//! `setattr`: an attribute of a folder or file, set.
+ghost use Rattle.std.specs.Prelude.{◌≡◌, ◌<◌, ◌≤◌, ◌+◌, ℕ, List, Ok, Some, true, false, IsTrue, IfOk, length, OnOk};
+ghost use Rattle.std.specs.List.{Contains};
+ghost use Rattle.sector_disk.specs.Lists.{Content};
+ghost use Rattle.attributes.specs.Values.{AreInline, SetsValue};
+ghost use Rattle.btree_edit.specs.Causes.{HasTroubleCause};
+ghost use Rattle.catalog.specs.Pairs.{value_at};
+ghost use Rattle.cat_records.specs.Fits.{FitsRecord};
+ghost use Rattle.hfs_language.specs.Written.{FitsPath};
+ghost use Rattle.hfs_language.specs.declared.command.Command.TheVariants as command;
+ghost use Rattle.hfs_language.specs.declared.reply.Reply.TheVariants as reply;
+ghost use Rattle.hfs_model.specs.Step.{step, step_line, to_node, is_refusal};
+ghost use Rattle.hfs_model.specs.declared.plain.PlainNode.{PlainNode};
+ghost use Rattle.hfs_volume.specs.Attributing.{SetsAttribute};
+ghost use Rattle.hfs_volume.specs.Content.{volume_of, has_attributes};
+ghost use Rattle.hfs_volume.specs.Entries.{AreSpelled};
+ghost use Rattle.hfs_volume.specs.Records.{is_thread};
+ghost use Rattle.hfs_volume.specs.TreeOf.{tree_of};
+ghost use Rattle.hfs_volume.specs.Weight.{weight};
+ghost use Rattle.hfs_volume.specs.declared.cost.Cost.TheVariants as cost;
+ghost use Rattle.volume_base.specs.Attributing.{ChangesOwned, HasRoomToMark, mark_load, set_answer};
+ghost use Rattle.volume_base.specs.Keeping.{shrunk_of};
+ghost use Rattle.volume_base.specs.Lists.{lists_of};
+ghost use Rattle.volume_base.specs.Room.{capacity_of};
+ghost use Rattle.volume_base.specs.Service.{IsInService};
+ghost use Rattle.volume_base.specs.Standing.{IsSettled, StandsOver, own_sectors};
+ghost use Rattle.volume_base.specs.Touching.{Touches};
+
+use crate::attributing::set;
+use crate::marking::put_mark;
+use hfs_language::{Path, Refusal, Reply};
+use hfs_volume::{setattr_does_its_step, sound_has_plain_tree, soundness_has_two_halves};
+use hx_bytes::{Trouble, Units};
+use sector_disk::SectorSpace;
+use std::alloc::Global;
+use tree_weights::{edits_have_room, edits_take_their_load};
+use volume_base::{Entry, Volume, is_private_path};
+
+/// Sets an attribute of a folder or file that was found, and marks this one.
+fn put_value<P: SectorSpace>(
+    volume: &mut Volume,
+    alloc: Global,
+    space: &mut P,
+    entry: &Entry,
+    id: u32,
+    name: &Units,
+    value: &[u8],
+) -> Result<(), Trouble>
+    requires stands { StandsOver volume.old (P.SectorView.space space.old) }
+    requires has { IsTrue (has_attributes volume.old.header) }
+    requires inline { IsTrue (P.SectorView.space space.old).tells → AreInline (lists_of volume.old (P.SectorView.space space.old).content).attribute_pairs }
+    requires spelled { IsTrue (P.SectorView.space space.old).tells → AreSpelled (lists_of volume.old (P.SectorView.space space.old).content).catalog_pairs }
+    requires entry_name { length entry.now.name ≤ 255 }
+    requires there { IsTrue (P.SectorView.space space.old).tells → value_at (lists_of volume.old (P.SectorView.space space.old).content).catalog_pairs entry.now.parent entry.now.name ≡ Some entry.now.rec }
+    requires fits { is_thread entry.now.rec ≡ false → FitsRecord entry.now.rec }
+    requires some { 1 ≤ length name.now }
+    requires name { length name.now ≤ 127 }
+    requires long { length value.now ≤ 1700 }
+    requires room { HasRoomToMark 2 volume.old (P.SectorView.space space.old) }
+    ensures stands { OnOk result (StandsOver volume.new (P.SectorView.space space.new)) }
+    ensures service { IsInService volume.new (P.SectorView.space space.new) }
+    ensures header { volume.new.header ≡ volume.old.header }
+    ensures map { volume.new.map ≡ volume.old.map }
+    ensures capacity { capacity_of volume.new ≡ capacity_of volume.old }
+    ensures shrunk { shrunk_of volume.new ≡ shrunk_of volume.old }
+    ensures sets { IsTrue (P.SectorView.space space.old).tells → is_thread entry.now.rec ≡ false
+        → OnOk result (ChangesOwned (SetsValue id name.now value.now) true entry.now volume.old volume.new (P.SectorView.space space.old).content (P.SectorView.space space.new).content) }
+    ensures touches { (committed : Content) → Touches committed (λ s. Contains (own_sectors volume.old) s) (P.SectorView.space space.old) (P.SectorView.space space.new) }
+    ensures spent { IsTrue (P.SectorView.space space.old).tells → (P.SectorView.space space.old).spare ≤ (P.SectorView.space space.new).spare + mark_load 2 volume.old }
+    ensures below { P.SectorView.follows space.old space.new }
+    ensures cause { HasTroubleCause (P.SectorView.space space.old).faults (P.SectorView.space space.new).faults result }
+{
+    edits_have_room();
+    edits_take_their_load();
+    // The least node size that the format allows the attributes file (TN1150, "Attributes File").
+    if volume.attributes.file.shape().node_size < 4096 {
+        return Ok(());
+    }
+    set(volume, alloc, space, id, name, value)?;
+    put_mark(volume, alloc, space, entry, true)
+}
+
+/// Sets an attribute of the folder or file with a CNID.
+fn set_value_of<P: SectorSpace>(
+    volume: &mut Volume,
+    alloc: Global,
+    space: &mut P,
+    id: u32,
+    name: &Units,
+    value: &[u8],
+) -> Result<(), Trouble>
+    requires stands { StandsOver volume.old (P.SectorView.space space.old) }
+    requires settled { IsTrue (P.SectorView.space space.old).tells → IsSettled volume.old (P.SectorView.space space.old).content }
+    requires has { IsTrue (has_attributes volume.old.header) }
+    requires some { 1 ≤ length name.now }
+    requires name { length name.now ≤ 127 }
+    requires long { length value.now ≤ 1700 }
+    requires there { IsTrue (P.SectorView.space space.old).tells → (node : PlainNode) × Contains (tree_of (P.SectorView.space space.old).content).nodes node × (node.id ≡ id) }
+    requires room { HasRoomToMark 2 volume.old (P.SectorView.space space.old) }
+    ensures stands { OnOk result (StandsOver volume.new (P.SectorView.space space.new)) }
+    ensures service { IsInService volume.new (P.SectorView.space space.new) }
+    ensures header { volume.new.header ≡ volume.old.header }
+    ensures map { volume.new.map ≡ volume.old.map }
+    ensures capacity { capacity_of volume.new ≡ capacity_of volume.old }
+    ensures shrunk { shrunk_of volume.new ≡ shrunk_of volume.old }
+    ensures does { IsTrue (P.SectorView.space space.old).tells → (path : List (List ℕ)) (node : PlainNode) → to_node (tree_of (P.SectorView.space space.old).content) path ≡ Ok node → node.id ≡ id
+        → OnOk result (IsSettled volume.new (P.SectorView.space space.new).content × (tree_of (P.SectorView.space space.new).content ≡ (step (tree_of (P.SectorView.space space.old).content) (command.SetAttr path name.now value.now)).1)
+        × SetsAttribute id name.now value.now (volume_of (P.SectorView.space space.old).content) (volume_of (P.SectorView.space space.new).content)) }
+    ensures touches { (committed : Content) → Touches committed (λ s. Contains (own_sectors volume.old) s) (P.SectorView.space space.old) (P.SectorView.space space.new) }
+    ensures spent { IsTrue (P.SectorView.space space.old).tells → (P.SectorView.space space.old).spare ≤ (P.SectorView.space space.new).spare + mark_load 2 volume.old }
+    ensures below { P.SectorView.follows space.old space.new }
+    ensures cause { HasTroubleCause (P.SectorView.space space.old).faults (P.SectorView.space space.new).faults result }
+{
+    setattr_does_its_step();
+    soundness_has_two_halves();
+    match volume.entry(alloc, space, id)? {
+        Some(entry) => put_value(volume, alloc, space, &entry, id, name, value),
+        None => Ok(()),
+    }
+}
+
+/// `setattr`: gives an attribute of the folder or file that a path stands for this value, in place of one that it has,
+/// and dates its attributes by the volume's moment; or tells the first reason against it, of which `AttributeTooLarge`
+/// comes behind those of the path. A path that begins with a name of the volume's own is refused. What is refused by
+/// nothing else is refused as `NoTree` by a volume without an attributes file. A refused command changes nothing.
+/// `Memory` comes where memory is wanting, `Disk` where a read failed.
+pub fn setattr<P: SectorSpace>(
+    volume: &mut Volume,
+    alloc: Global,
+    space: &mut P,
+    path: &Path,
+    name: &Units,
+    value: &[u8],
+) -> Result<Reply, Trouble>
+    requires stands { StandsOver volume.old (P.SectorView.space space.old) }
+    requires settled { IsTrue (P.SectorView.space space.old).tells → IsSettled volume.old (P.SectorView.space space.old).content }
+    requires fits { FitsPath path.now }
+    requires some { 1 ≤ length name.now }
+    requires name { length name.now ≤ 127 }
+    // Two edits of the attributes file, and a node of the catalog.
+    requires room { HasRoomToMark 2 volume.old (P.SectorView.space space.old) }
+    // Told, the reply is that of the plain tree's step, but for a volume without an attributes file; and so is the tree.
+    ensures reply { IsTrue (P.SectorView.space space.old).tells → IfOk result (λ reply. reply ≡ set_answer (has_attributes volume.old.header) (step_line (tree_of (P.SectorView.space space.old).content) (Ok (command.SetAttr path.now name.now value.now))).0) }
+    ensures tree { IsTrue (P.SectorView.space space.old).tells → IsTrue (has_attributes volume.old.header)
+        → OnOk result (tree_of (P.SectorView.space space.new).content ≡ (step_line (tree_of (P.SectorView.space space.old).content) (Ok (command.SetAttr path.now name.now value.now))).1) }
+    ensures refused { IsTrue (P.SectorView.space space.old).tells → IfOk result (λ reply. is_refusal reply ≡ true → (P.SectorView.space space.new).content ≡ (P.SectorView.space space.old).content) }
+    // Where it isn't refused, the folder or file has the attribute in the content's lists and is marked, and nothing else of them is changed.
+    ensures lists { IsTrue (P.SectorView.space space.old).tells → IfOk result (λ said. said ≡ reply.Ok → (node : PlainNode) × (to_node (tree_of (P.SectorView.space space.old).content) path.now ≡ Ok node) × SetsAttribute node.id name.now value.now (volume_of (P.SectorView.space space.old).content) (volume_of (P.SectorView.space space.new).content)) }
+    // The header and the blocks in use are as they were.
+    ensures header { volume.new.header ≡ volume.old.header }
+    ensures map { volume.new.map ≡ volume.old.map }
+    ensures capacity { capacity_of volume.new ≡ capacity_of volume.old }
+    ensures shrunk { shrunk_of volume.new ≡ shrunk_of volume.old }
+    ensures stands { OnOk result (StandsOver volume.new (P.SectorView.space space.new)) }
+    ensures settled { IsTrue (P.SectorView.space space.old).tells → OnOk result (IsSettled volume.new (P.SectorView.space space.new).content) }
+    ensures service { IsInService volume.new (P.SectorView.space space.new) }
+    // On a fault too, it puts sectors of its own alone, whatever was committed last.
+    ensures touches { (committed : Content) → Touches committed (λ s. Contains (own_sectors volume.old) s) (P.SectorView.space space.old) (P.SectorView.space space.new) }
+    ensures spent { IsTrue (P.SectorView.space space.old).tells → (P.SectorView.space space.old).spare ≤ (P.SectorView.space space.new).spare + mark_load 2 volume.old }
+    // What its load names bounds the sectors that it puts.
+    ensures loads { IsTrue (P.SectorView.space space.old).tells → (n : ℕ) (grow : List ℕ) → weight (capacity_of volume.old) (volume_of (P.SectorView.space space.old).content) (tree_of (P.SectorView.space space.old).content) (command.SetAttr path.now name.now value.now) ≡ cost.Load n grow
+        → (P.SectorView.space space.old).spare ≤ (P.SectorView.space space.new).spare + n }
+    ensures below { P.SectorView.follows space.old space.new }
+    ensures cause { HasTroubleCause (P.SectorView.space space.old).faults (P.SectorView.space space.new).faults result }
+{
+    if is_private_path(path) {
+        return Ok(Reply::No(Refusal::Private));
+    }
+    sound_has_plain_tree();
+    match volume.owner(alloc, space, path)? {
+        Ok(id) => {
+            if value.len() > 1700 {
+                return Ok(Reply::No(Refusal::AttributeTooLarge));
+            }
+            if volume.header.attributes_fork.logical_size == 0 {
+                return Ok(Reply::No(Refusal::NoTree));
+            }
+            set_value_of(volume, alloc, space, id, name, value)?;
+            Ok(Reply::Ok)
+        }
+        Err(why) => Ok(Reply::No(why)),
+    }
+}

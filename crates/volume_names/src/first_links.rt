@@ -1,0 +1,245 @@
+//! `ln` of a file with one name: what is done in the catalog, and the private folder made where there is none.
+ghost use Rattle.std.specs.Prelude.{◌≡◌, ◌≤◌, ℕ, List, None, Some, IsTrue, length, OnOk};
+ghost use Rattle.std.specs.List.{Contains};
+ghost use Rattle.sector_disk.specs.Lists.{Content};
+ghost use Rattle.btree_edit.specs.Causes.{HasTroubleCause};
+ghost use Rattle.btree_file.specs.Standing.{numbers_of};
+ghost use Rattle.hfs_language.specs.declared.command.Command.TheVariants as command;
+ghost use Rattle.hfs_model.specs.Step.{step};
+ghost use Rattle.hfs_model.specs.declared.plain.PlainEntry.{PlainEntry};
+ghost use Rattle.hfs_volume.specs.Content.{volume_of};
+ghost use Rattle.hfs_volume.specs.Links.{node_name};
+ghost use Rattle.hfs_volume.specs.Naming.{LinksFirst};
+ghost use Rattle.hfs_volume.specs.Records.{placed_in, record_at};
+ghost use Rattle.hfs_volume.specs.TreeOf.{tree_of};
+ghost use Rattle.volume_base.specs.Changing.{KeepsBlocks};
+ghost use Rattle.volume_base.specs.Linking.{IsLinking};
+ghost use Rattle.volume_names.specs.Linking.{LinksAnew};
+ghost use Rattle.volume_base.specs.Lists.{lists_of};
+ghost use Rattle.volume_base.specs.Losing.{IsOnlyName};
+ghost use Rattle.volume_base.specs.Making.{HasRoomToMake, free_place};
+ghost use Rattle.volume_base.specs.Service.{IsInService};
+ghost use Rattle.volume_base.specs.Sharing.{HasRoomToShare};
+ghost use Rattle.volume_base.specs.Standing.{IsSettled, StandsOver, own_sectors};
+ghost use Rattle.volume_base.specs.Touching.{Touches};
+
+use crate::fitting::fits_share;
+use crate::linking::link_date;
+use crate::node_names::{free_number, node_name};
+use crate::private_folder::open_private;
+use crate::sharing::{say_two, share};
+use hfs_volume::{header_may_change, ln_does_its_step, sound_has_plain_tree};
+use hx_bytes::{Trouble, Units};
+use sector_disk::SectorSpace;
+use std::alloc::Global;
+use volume_base::{Route, Volume};
+
+/// Gives a file with one name another one: it goes to the private folder under a number that is free there. The volume is
+/// settled again, and its tree has the name. `Memory` is answered too where the room that is left doesn't suffice for the next
+/// record.
+fn link_under<P: SectorSpace>(
+    volume: &mut Volume,
+    alloc: Global,
+    space: &mut P,
+    way: &Route,
+    old: &Units,
+    name: &Units,
+    private: u32,
+    node: &Units,
+    number: u32,
+    created: u32,
+) -> Result<(), Trouble>
+    requires stands { StandsOver volume.old (P.SectorView.space space.old) }
+    requires settled { IsTrue (P.SectorView.space space.old).tells → IsSettled volume.old (P.SectorView.space space.old).content }
+    requires some { 1 ≤ length name.now }
+    requires name { length name.now ≤ 255 }
+    requires some_old { 1 ≤ length old.now }
+    requires old_name { length old.now ≤ 255 }
+    requires size { 4096 ≤ (numbers_of volume.old.catalog.file).node_size }
+    requires some_node { 1 ≤ length node.now }
+    requires node_short { length node.now ≤ 255 }
+    requires node { node.now ≡ node_name number }
+    requires private { volume.old.private ≡ Some private }
+    requires free { IsTrue (P.SectorView.space space.old).tells → record_at (placed_in (lists_of volume.old (P.SectorView.space space.old).content).catalog_pairs) private (node_name number) ≡ None }
+    requires only { IsTrue (P.SectorView.space space.old).tells → IsOnlyName (record { parent = way.now.parent; name = old.now }) (lists_of volume.old (P.SectorView.space space.old).content).catalog_pairs }
+    requires links { IsTrue (P.SectorView.space space.old).tells → (from to : List (List ℕ)) × (at : PlainEntry) × IsLinking (tree_of (P.SectorView.space space.old).content) from to at way.now.parent old.now way.now.id way.now.folder name.now }
+    requires room { HasRoomToShare volume.old (P.SectorView.space space.old) }
+    ensures stands { OnOk result (StandsOver volume.new (P.SectorView.space space.new)) }
+    ensures service { IsInService volume.new (P.SectorView.space space.new) }
+    ensures does { IsTrue (P.SectorView.space space.old).tells → (from to : List (List ℕ)) (at : PlainEntry) → IsLinking (tree_of (P.SectorView.space space.old).content) from to at way.now.parent old.now way.now.id way.now.folder name.now
+        → OnOk result (IsSettled volume.new (P.SectorView.space space.new).content × (tree_of (P.SectorView.space space.new).content ≡ (step (tree_of (P.SectorView.space space.old).content) (command.Ln from to)).1)
+        × LinksFirst at (free_place way.now.folder name.now) (volume_of (P.SectorView.space space.old).content) (volume_of (P.SectorView.space space.new).content)) }
+    ensures blocks { KeepsBlocks volume.old volume.new }
+    ensures touches { (committed : Content) → Touches committed (λ s. Contains (own_sectors volume.old) s) (P.SectorView.space space.old) (P.SectorView.space space.new) }
+    ensures below { P.SectorView.follows space.old space.new }
+    ensures cause { HasTroubleCause (P.SectorView.space space.old).faults (P.SectorView.space space.new).faults result }
+{
+    ln_does_its_step();
+    share(
+        volume, alloc, space, way, old, name, private, node, number, created,
+    )?;
+    if !volume.fits_update(space) {
+        return Err(Trouble::Memory);
+    }
+    volume.touch(alloc, space, private, 1, 0)?;
+    if !volume.fits_update(space) {
+        return Err(Trouble::Memory);
+    }
+    say_two(volume, alloc, space, way.id)?;
+    if !volume.fits_update(space) {
+        return Err(Trouble::Memory);
+    }
+    volume.touch(alloc, space, way.folder, 1, 0)
+}
+
+/// Gives a file with one name another one, where the private folder is there; links get this create date. `Memory` is answered
+/// too where there is no room for the edits, or no number is free.
+fn link_first<P: SectorSpace>(
+    volume: &mut Volume,
+    alloc: Global,
+    space: &mut P,
+    way: &Route,
+    old: &Units,
+    name: &Units,
+    private: u32,
+    created: u32,
+) -> Result<(), Trouble>
+    requires stands { StandsOver volume.old (P.SectorView.space space.old) }
+    requires settled { IsTrue (P.SectorView.space space.old).tells → IsSettled volume.old (P.SectorView.space space.old).content }
+    requires some { 1 ≤ length name.now }
+    requires name { length name.now ≤ 255 }
+    requires some_old { 1 ≤ length old.now }
+    requires old_name { length old.now ≤ 255 }
+    requires private { volume.old.private ≡ Some private }
+    requires only { IsTrue (P.SectorView.space space.old).tells → IsOnlyName (record { parent = way.now.parent; name = old.now }) (lists_of volume.old (P.SectorView.space space.old).content).catalog_pairs }
+    requires links { IsTrue (P.SectorView.space space.old).tells → (from to : List (List ℕ)) × (at : PlainEntry) × IsLinking (tree_of (P.SectorView.space space.old).content) from to at way.now.parent old.now way.now.id way.now.folder name.now }
+    ensures stands { OnOk result (StandsOver volume.new (P.SectorView.space space.new)) }
+    ensures service { IsInService volume.new (P.SectorView.space space.new) }
+    ensures does { IsTrue (P.SectorView.space space.old).tells → (from to : List (List ℕ)) (at : PlainEntry) → IsLinking (tree_of (P.SectorView.space space.old).content) from to at way.now.parent old.now way.now.id way.now.folder name.now
+        → OnOk result (IsSettled volume.new (P.SectorView.space space.new).content × (tree_of (P.SectorView.space space.new).content ≡ (step (tree_of (P.SectorView.space space.old).content) (command.Ln from to)).1)
+        × LinksFirst at (free_place way.now.folder name.now) (volume_of (P.SectorView.space space.old).content) (volume_of (P.SectorView.space space.new).content)) }
+    ensures blocks { KeepsBlocks volume.old volume.new }
+    ensures touches { (committed : Content) → Touches committed (λ s. Contains (own_sectors volume.old) s) (P.SectorView.space space.old) (P.SectorView.space space.new) }
+    ensures below { P.SectorView.follows space.old space.new }
+    ensures cause { HasTroubleCause (P.SectorView.space space.old).faults (P.SectorView.space space.new).faults result }
+{
+    // The least node size that the format allows the catalog (TN1150, "Catalog File").
+    if volume.catalog.file.shape().node_size < 4096 {
+        return Ok(());
+    }
+    let number = free_number(volume, alloc, space, private, way.id)?;
+    let node = node_name(alloc, number)?;
+    if !fits_share(volume, space) {
+        return Err(Trouble::Memory);
+    }
+    link_under(
+        volume, alloc, space, way, old, name, private, &node, number, created,
+    )
+}
+
+/// The same with the create date of the private folder.
+fn link_dated<P: SectorSpace>(
+    volume: &mut Volume,
+    alloc: Global,
+    space: &mut P,
+    way: &Route,
+    old: &Units,
+    name: &Units,
+    private: u32,
+) -> Result<(), Trouble>
+    requires stands { StandsOver volume.old (P.SectorView.space space.old) }
+    requires settled { IsTrue (P.SectorView.space space.old).tells → IsSettled volume.old (P.SectorView.space space.old).content }
+    requires some { 1 ≤ length name.now }
+    requires name { length name.now ≤ 255 }
+    requires some_old { 1 ≤ length old.now }
+    requires old_name { length old.now ≤ 255 }
+    requires private { volume.old.private ≡ Some private }
+    requires only { IsTrue (P.SectorView.space space.old).tells → IsOnlyName (record { parent = way.now.parent; name = old.now }) (lists_of volume.old (P.SectorView.space space.old).content).catalog_pairs }
+    requires links { IsTrue (P.SectorView.space space.old).tells → (from to : List (List ℕ)) × (at : PlainEntry) × IsLinking (tree_of (P.SectorView.space space.old).content) from to at way.now.parent old.now way.now.id way.now.folder name.now }
+    ensures stands { OnOk result (StandsOver volume.new (P.SectorView.space space.new)) }
+    ensures service { IsInService volume.new (P.SectorView.space space.new) }
+    ensures does { IsTrue (P.SectorView.space space.old).tells → (from to : List (List ℕ)) (at : PlainEntry) → IsLinking (tree_of (P.SectorView.space space.old).content) from to at way.now.parent old.now way.now.id way.now.folder name.now
+        → OnOk result (IsSettled volume.new (P.SectorView.space space.new).content × (tree_of (P.SectorView.space space.new).content ≡ (step (tree_of (P.SectorView.space space.old).content) (command.Ln from to)).1)
+        × LinksFirst at (free_place way.now.folder name.now) (volume_of (P.SectorView.space space.old).content) (volume_of (P.SectorView.space space.new).content)) }
+    ensures blocks { KeepsBlocks volume.old volume.new }
+    ensures touches { (committed : Content) → Touches committed (λ s. Contains (own_sectors volume.old) s) (P.SectorView.space space.old) (P.SectorView.space space.new) }
+    ensures below { P.SectorView.follows space.old space.new }
+    ensures cause { HasTroubleCause (P.SectorView.space space.old).faults (P.SectorView.space space.new).faults result }
+{
+    let created = link_date(volume, alloc, space)?;
+    link_first(volume, alloc, space, way, old, name, private, created)
+}
+
+/// Gives a file with one name another one, where there is no private folder: it is made before.
+fn link_anew<P: SectorSpace>(
+    volume: &mut Volume,
+    alloc: Global,
+    space: &mut P,
+    way: &Route,
+    old: &Units,
+    name: &Units,
+) -> Result<(), Trouble>
+    requires stands { StandsOver volume.old (P.SectorView.space space.old) }
+    requires settled { IsTrue (P.SectorView.space space.old).tells → IsSettled volume.old (P.SectorView.space space.old).content }
+    requires some { 1 ≤ length name.now }
+    requires name { length name.now ≤ 255 }
+    requires some_old { 1 ≤ length old.now }
+    requires old_name { length old.now ≤ 255 }
+    requires absent { volume.old.private ≡ None }
+    requires only { IsTrue (P.SectorView.space space.old).tells → IsOnlyName (record { parent = way.now.parent; name = old.now }) (lists_of volume.old (P.SectorView.space space.old).content).catalog_pairs }
+    requires links { IsTrue (P.SectorView.space space.old).tells → (from to : List (List ℕ)) × (at : PlainEntry) × IsLinking (tree_of (P.SectorView.space space.old).content) from to at way.now.parent old.now way.now.id way.now.folder name.now }
+    requires room { HasRoomToMake volume.old (P.SectorView.space space.old) }
+    ensures stands { OnOk result (StandsOver volume.new (P.SectorView.space space.new)) }
+    ensures service { IsInService volume.new (P.SectorView.space space.new) }
+    ensures does { IsTrue (P.SectorView.space space.old).tells → (from to : List (List ℕ)) (at : PlainEntry) → IsLinking (tree_of (P.SectorView.space space.old).content) from to at way.now.parent old.now way.now.id way.now.folder name.now
+        → OnOk result (IsSettled volume.new (P.SectorView.space space.new).content × (tree_of (P.SectorView.space space.new).content ≡ (step (tree_of (P.SectorView.space space.old).content) (command.Ln from to)).1)
+        × LinksAnew at (free_place way.now.folder name.now) (P.SectorView.space space.old).content (P.SectorView.space space.new).content) }
+    ensures blocks { KeepsBlocks volume.old volume.new }
+    ensures touches { (committed : Content) → Touches committed (λ s. Contains (own_sectors volume.old) s) (P.SectorView.space space.old) (P.SectorView.space space.new) }
+    ensures below { P.SectorView.follows space.old space.new }
+    ensures cause { HasTroubleCause (P.SectorView.space space.old).faults (P.SectorView.space space.new).faults result }
+{
+    header_may_change();
+    sound_has_plain_tree();
+    open_private(volume, alloc, space)?;
+    match volume.private {
+        Some(private) => link_dated(volume, alloc, space, way, old, name, private),
+        None => Err(Trouble::Memory),
+    }
+}
+
+/// Gives a file with one name another one: the first links to it. Links get this create date, where the private folder is
+/// there.
+pub(crate) fn link_own<P: SectorSpace>(
+    volume: &mut Volume,
+    alloc: Global,
+    space: &mut P,
+    way: &Route,
+    old: &Units,
+    name: &Units,
+    created: u32,
+) -> Result<(), Trouble>
+    requires stands { StandsOver volume.old (P.SectorView.space space.old) }
+    requires settled { IsTrue (P.SectorView.space space.old).tells → IsSettled volume.old (P.SectorView.space space.old).content }
+    requires some { 1 ≤ length name.now }
+    requires name { length name.now ≤ 255 }
+    requires some_old { 1 ≤ length old.now }
+    requires old_name { length old.now ≤ 255 }
+    requires only { IsTrue (P.SectorView.space space.old).tells → IsOnlyName (record { parent = way.now.parent; name = old.now }) (lists_of volume.old (P.SectorView.space space.old).content).catalog_pairs }
+    requires links { IsTrue (P.SectorView.space space.old).tells → (from to : List (List ℕ)) × (at : PlainEntry) × IsLinking (tree_of (P.SectorView.space space.old).content) from to at way.now.parent old.now way.now.id way.now.folder name.now }
+    requires room { HasRoomToMake volume.old (P.SectorView.space space.old) }
+    ensures stands { OnOk result (StandsOver volume.new (P.SectorView.space space.new)) }
+    ensures service { IsInService volume.new (P.SectorView.space space.new) }
+    ensures does { IsTrue (P.SectorView.space space.old).tells → (from to : List (List ℕ)) (at : PlainEntry) → IsLinking (tree_of (P.SectorView.space space.old).content) from to at way.now.parent old.now way.now.id way.now.folder name.now
+        → OnOk result (IsSettled volume.new (P.SectorView.space space.new).content × (tree_of (P.SectorView.space space.new).content ≡ (step (tree_of (P.SectorView.space space.old).content) (command.Ln from to)).1)
+        × LinksAnew at (free_place way.now.folder name.now) (P.SectorView.space space.old).content (P.SectorView.space space.new).content) }
+    ensures blocks { KeepsBlocks volume.old volume.new }
+    ensures touches { (committed : Content) → Touches committed (λ s. Contains (own_sectors volume.old) s) (P.SectorView.space space.old) (P.SectorView.space space.new) }
+    ensures below { P.SectorView.follows space.old space.new }
+    ensures cause { HasTroubleCause (P.SectorView.space space.old).faults (P.SectorView.space space.new).faults result }
+{
+    match volume.private {
+        Some(private) => link_first(volume, alloc, space, way, old, name, private, created),
+        None => link_anew(volume, alloc, space, way, old, name),
+    }
+}

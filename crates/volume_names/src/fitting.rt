@@ -1,0 +1,195 @@
+//! Whether there is room for a command now, by what its edits cost.
+ghost use Rattle.std.specs.Prelude.{◌<◌, ◌+◌, ◌^◌, ◌==◌, IsTrue};
+ghost use Rattle.volume_base.specs.Attributing.{HasRoomToMark};
+ghost use Rattle.volume_base.specs.Losing.{HasRoomToLose, lose_edits};
+ghost use Rattle.volume_base.specs.Making.{HasRoomToMake};
+ghost use Rattle.volume_base.specs.Moving.{HasRoomToMove};
+ghost use Rattle.volume_base.specs.Removing.{HasRoomToBare};
+ghost use Rattle.volume_base.specs.Sharing.{HasRoomToShare};
+ghost use Rattle.volume_base.specs.Standing.{IsSettled, StandsOver};
+ghost use Rattle.volume_base.specs.Unlinking.{HasRoomToUnlinkLast};
+
+use sector_disk::SectorSpace;
+use tree_weights::{a_load_is_of_parts, a_load_says_enough};
+use volume_base::{Edits, Volume, has_sector, has_tree};
+
+/// Whether there is a CNID behind this one.
+fn leaves_id(next: u32) -> bool
+    ensures { IsTrue result → next + 1 < 2 ^ 32 }
+{
+    next < u32::MAX
+}
+
+/// Whether there are CNIDs for two links and one behind them.
+fn leaves_two_ids(next: u32) -> bool
+    ensures { IsTrue result → next + 2 < 2 ^ 32 }
+{
+    next < u32::MAX - 1
+}
+
+/// Whether there is room to make a folder or file.
+pub fn fits_make<P: SectorSpace>(volume: &Volume, space: &P) -> bool
+    requires stands { StandsOver volume.now (P.SectorView.space space.now) }
+    requires settled { IsTrue (P.SectorView.space space.now).tells → IsSettled volume.now (P.SectorView.space space.now).content }
+    ensures { IsTrue result → HasRoomToMake volume.now (P.SectorView.space space.now) }
+{
+    a_load_says_enough();
+    a_load_is_of_parts();
+    if !leaves_id(volume.header.next_catalog_id) {
+        return false;
+    }
+    if !has_sector(space.spare()) {
+        return false;
+    }
+    let edits = Edits {
+        ids: 1,
+        catalog: 2,
+        attributes: 0,
+        updates: 1,
+    };
+    volume.can_edit(space, edits)
+}
+
+/// Whether there is room to remove a folder with so many attributes, by what it costs.
+pub fn fits_bare<P: SectorSpace>(volume: &Volume, space: &P, many: u32) -> bool
+    requires stands { StandsOver volume.now (P.SectorView.space space.now) }
+    requires settled { IsTrue (P.SectorView.space space.now).tells → IsSettled volume.now (P.SectorView.space space.now).content }
+    ensures { IsTrue result → HasRoomToBare many volume.now (P.SectorView.space space.now) }
+{
+    a_load_says_enough();
+    a_load_is_of_parts();
+    if !has_tree(volume.header.attributes_fork.logical_size) {
+        return many == 0;
+    }
+    let edits = Edits {
+        ids: 0,
+        catalog: 2,
+        attributes: many,
+        updates: 1,
+    };
+    volume.can_edit(space, edits)
+}
+
+/// The same of a folder that has some.
+pub(crate) fn fits_owner<P: SectorSpace>(volume: &Volume, space: &P, many: usize) -> bool
+    requires stands { StandsOver volume.now (P.SectorView.space space.now) }
+    requires settled { IsTrue (P.SectorView.space space.now).tells → IsSettled volume.now (P.SectorView.space space.now).content }
+    ensures some { IsTrue result → 0 < many }
+    ensures room { IsTrue result → HasRoomToBare many volume.now (P.SectorView.space space.now) }
+{
+    if many == 0 {
+        return false;
+    }
+    if many > 0xFFFF_FFFF {
+        return false;
+    }
+    fits_bare(volume, space, many as u32)
+}
+
+/// Whether there is room to move a folder or file.
+pub fn fits_move<P: SectorSpace>(volume: &Volume, space: &P) -> bool
+    requires stands { StandsOver volume.now (P.SectorView.space space.now) }
+    requires settled { IsTrue (P.SectorView.space space.now).tells → IsSettled volume.now (P.SectorView.space space.now).content }
+    ensures { IsTrue result → HasRoomToMove volume.now (P.SectorView.space space.now) }
+{
+    a_load_says_enough();
+    a_load_is_of_parts();
+    let edits = Edits {
+        ids: 0,
+        catalog: 3,
+        attributes: 0,
+        updates: 3,
+    };
+    volume.can_edit(space, edits)
+}
+
+/// Whether there is room for a file's first link, where the private folder is there.
+pub(crate) fn fits_share<P: SectorSpace>(volume: &Volume, space: &P) -> bool
+    requires stands { StandsOver volume.now (P.SectorView.space space.now) }
+    requires settled { IsTrue (P.SectorView.space space.now).tells → IsSettled volume.now (P.SectorView.space space.now).content }
+    ensures { IsTrue result → HasRoomToShare volume.now (P.SectorView.space space.now) }
+{
+    a_load_says_enough();
+    a_load_is_of_parts();
+    if !leaves_two_ids(volume.header.next_catalog_id) {
+        return false;
+    }
+    if !has_sector(space.spare()) {
+        return false;
+    }
+    let edits = Edits {
+        ids: 2,
+        catalog: 7,
+        attributes: 0,
+        updates: 4,
+    };
+    volume.can_edit(space, edits)
+}
+
+/// Whether there is room for the edits by which a file loses its last link.
+pub(crate) fn fits_unlink_last<P: SectorSpace>(volume: &Volume, space: &P) -> bool
+    requires stands { StandsOver volume.now (P.SectorView.space space.now) }
+    requires settled { IsTrue (P.SectorView.space space.now).tells → IsSettled volume.now (P.SectorView.space space.now).content }
+    ensures { IsTrue result → HasRoomToUnlinkLast volume.now (P.SectorView.space space.now) }
+{
+    a_load_says_enough();
+    a_load_is_of_parts();
+    if !has_sector(space.spare()) {
+        return false;
+    }
+    let edits = Edits {
+        ids: 0,
+        catalog: 5,
+        attributes: 0,
+        updates: 4,
+    };
+    volume.can_edit(space, edits)
+}
+
+/// Whether there is room to make the private folder, and then to put a file aside into it.
+fn fits_open<P: SectorSpace>(volume: &Volume, space: &P) -> bool
+    requires stands { StandsOver volume.now (P.SectorView.space space.now) }
+    requires settled { IsTrue (P.SectorView.space space.now).tells → IsSettled volume.now (P.SectorView.space space.now).content }
+    ensures { IsTrue result → HasRoomToMake volume.now (P.SectorView.space space.now) }
+{
+    if !fits_make(volume, space) {
+        return false;
+    }
+    let edits = volume.lose_edits();
+    volume.can_edit(space, edits)
+}
+
+/// Whether there is room for a file to lose a name: where it is the only one and there is no private folder, it is made before.
+pub fn fits_lose<P: SectorSpace>(volume: &Volume, space: &P) -> bool
+    requires stands { StandsOver volume.now (P.SectorView.space space.now) }
+    requires settled { IsTrue (P.SectorView.space space.now).tells → IsSettled volume.now (P.SectorView.space space.now).content }
+    ensures { IsTrue result → HasRoomToLose volume.now (P.SectorView.space space.now) }
+{
+    if !volume.fits_remove(space) {
+        return false;
+    }
+    match volume.private {
+        Some(_private) => true,
+        None => fits_open(volume, space),
+    }
+}
+
+/// Whether there is room to set an attribute and to mark its owner.
+pub fn fits_setattr<P: SectorSpace>(volume: &Volume, space: &P) -> bool
+    requires stands { StandsOver volume.now (P.SectorView.space space.now) }
+    requires settled { IsTrue (P.SectorView.space space.now).tells → IsSettled volume.now (P.SectorView.space space.now).content }
+    ensures { IsTrue result → HasRoomToMark 2 volume.now (P.SectorView.space space.now) }
+{
+    a_load_says_enough();
+    a_load_is_of_parts();
+    if !has_tree(volume.header.attributes_fork.logical_size) {
+        return volume.fits_update(space);
+    }
+    let edits = Edits {
+        ids: 0,
+        catalog: 0,
+        attributes: 2,
+        updates: 1,
+    };
+    volume.can_edit(space, edits)
+}

@@ -1,0 +1,44 @@
+//! Commands that change names, links, dates and attributes of a volume in service.
+#![tactic(auto)]
+
+mod attribute_change;
+mod attribute_removal;
+mod attributing;
+mod baring;
+mod changing;
+mod editing;
+mod fields;
+mod first_links;
+mod fitting;
+mod heading;
+mod linking;
+mod losing;
+mod making;
+mod marking;
+mod mounting;
+mod moving;
+mod new_entries;
+mod node_names;
+mod orphaning;
+mod private_folder;
+mod relocating;
+mod remove_room;
+mod removing;
+mod setting;
+mod sharing;
+mod stamping;
+mod unlinking;
+mod valuing;
+
+pub use attribute_change::setattr;
+pub use attribute_removal::delattr;
+pub use fitting::{fits_bare, fits_lose, fits_make, fits_move, fits_setattr};
+pub use heading::at;
+pub use linking::ln;
+pub use losing::rm;
+pub use making::{create, mkdir};
+pub use mounting::mark;
+pub use moving::mv;
+pub use remove_room::bare_count;
+pub use removing::rmdir;
+pub use setting::chmod;

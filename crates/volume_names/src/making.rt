@@ -1,0 +1,281 @@
+//! `mkdir` and `create`: a new folder or file.
+ghost use Rattle.std.specs.Prelude.{◌≡◌, ◌<◌, ◌≤◌, ◌+◌, ◌^◌, ◌∷◌, ℕ, List, [], Ok, None, Some, false, true, IsTrue, IfOk, length, OnOk};
+ghost use Rattle.std.specs.List.{Contains};
+ghost use Rattle.sector_disk.specs.Lists.{Content};
+ghost use Rattle.btree_edit.specs.Causes.{HasTroubleCause};
+ghost use Rattle.btree_file.specs.Frame.{PutsWithin};
+ghost use Rattle.btree_file.specs.Standing.{numbers_of};
+ghost use Rattle.catalog.specs.Pairs.{value_at};
+ghost use Rattle.hfs_language.specs.Written.{FitsPath};
+ghost use Rattle.hfs_language.specs.declared.command.Command.TheVariants as command;
+ghost use Rattle.hfs_language.specs.declared.reply.Reply.TheVariants as reply;
+ghost use Rattle.hfs_model.specs.Step.{is_private_path, is_refusal, made, step_line};
+ghost use Rattle.hfs_volume.specs.Changes.{with_numbers};
+ghost use Rattle.hfs_volume.specs.Commands.{MakesEntry, with_made};
+ghost use Rattle.hfs_volume.specs.Content.{volume_of};
+ghost use Rattle.hfs_volume.specs.Records.{placed_in, record_at};
+ghost use Rattle.hfs_volume.specs.TreeOf.{tree_of};
+ghost use Rattle.hfs_volume.specs.Weight.{weight};
+ghost use Rattle.hfs_volume.specs.declared.cost.Cost.TheVariants as cost;
+ghost use Rattle.volume_base.specs.Changing.{HasRoomToUpdate, KeepsBlocks, PutsHeader};
+ghost use Rattle.volume_base.specs.Lists.{lists_of};
+ghost use Rattle.volume_base.specs.Making.{AddsNew, HasRoomToMake, IsSite, entry_load, free_place, make_load, making, new_value, path_to};
+ghost use Rattle.volume_names.specs.Making.{HasNew, Makes};
+ghost use Rattle.volume_base.specs.Room.{capacity_of};
+ghost use Rattle.volume_base.specs.Service.{IsInService};
+ghost use Rattle.volume_base.specs.Standing.{IsSettled, StandsOver, own_sectors};
+ghost use Rattle.volume_base.specs.Touching.{Touches};
+
+use crate::changing::add;
+use crate::new_entries::{new_record, with_made};
+use hfs_language::{Path, Refusal, Reply};
+use hfs_volume::{create_does_its_step, mkdir_does_its_step, sound_has_plain_tree};
+use hx_bytes::{Trouble, Units};
+use sector_disk::SectorSpace;
+use std::alloc::Global;
+use tree_weights::{edits_have_room, edits_take_their_load};
+use volume_base::{Volume, is_private_path};
+
+/// Counts a new folder or file in the header, which gives it the next CNID, and puts the header.
+pub(crate) fn draw<P: SectorSpace>(volume: &mut Volume, space: &mut P, folder: bool)
+    requires stands { StandsOver volume.old (P.SectorView.space space.old) }
+    requires some { 1 ≤ (P.SectorView.space space.old).spare }
+    ensures stands { StandsOver volume.new (P.SectorView.space space.new) }
+    ensures rest { volume.new ≡ record volume.old { header = with_numbers volume.old.header volume.new.header } }
+    ensures header { volume.old.header.next_catalog_id + 1 < 2 ^ 32 → volume.old.header.folder_count + 1 < 2 ^ 32 → volume.old.header.file_count + 1 < 2 ^ 32 → volume.new.header ≡ with_made folder volume.old.header }
+    ensures put { IsTrue (P.SectorView.space space.old).tells → PutsHeader volume.new (P.SectorView.space space.old).content (P.SectorView.space space.new).content }
+    ensures within { PutsWithin (2 ∷ []) (P.SectorView.space space.old) (P.SectorView.space space.new) }
+    ensures spent { (P.SectorView.space space.old).spare ≤ (P.SectorView.space space.new).spare + 1 }
+    ensures faults { (P.SectorView.space space.new).faults ≡ (P.SectorView.space space.old).faults }
+    ensures below { P.SectorView.follows space.old space.new }
+{
+    volume.header = with_made(folder, &volume.header);
+    volume.put_header(space);
+}
+
+/// Adds a new folder or file to a folder, with the next CNID.
+pub(crate) fn add_new<P: SectorSpace>(
+    volume: &mut Volume,
+    alloc: Global,
+    space: &mut P,
+    id: u32,
+    name: &Units,
+    folder: bool,
+) -> Result<(), Trouble>
+    requires stands { StandsOver volume.old (P.SectorView.space space.old) }
+    requires settled { IsTrue (P.SectorView.space space.old).tells → IsSettled volume.old (P.SectorView.space space.old).content }
+    requires size { 4096 ≤ (numbers_of volume.old.catalog.file).node_size }
+    requires some { 1 ≤ length name.now }
+    requires name { length name.now ≤ 255 }
+    requires free { IsTrue (P.SectorView.space space.old).tells → record_at (placed_in (lists_of volume.old (P.SectorView.space space.old).content).catalog_pairs) id name.now ≡ None }
+    requires room { HasRoomToMake volume.old (P.SectorView.space space.old) }
+    ensures stands { OnOk result (StandsOver volume.new (P.SectorView.space space.new)) }
+    ensures service { IsInService volume.new (P.SectorView.space space.new) }
+    ensures adds { IsTrue (P.SectorView.space space.old).tells → OnOk result (AddsNew folder id name.now volume.old volume.new (P.SectorView.space space.old).content (P.SectorView.space space.new).content) }
+    ensures room { OnOk result (HasRoomToUpdate volume.new (P.SectorView.space space.new)) }
+    ensures own { own_sectors volume.new ≡ own_sectors volume.old }
+    ensures blocks { KeepsBlocks volume.old volume.new }
+    ensures touches { (committed : Content) → Touches committed (λ s. Contains (own_sectors volume.old) s) (P.SectorView.space space.old) (P.SectorView.space space.new) }
+    ensures spent { IsTrue (P.SectorView.space space.old).tells → (P.SectorView.space space.old).spare ≤ (P.SectorView.space space.new).spare + (1 + entry_load volume.old) }
+    ensures below { P.SectorView.follows space.old space.new }
+    ensures cause { HasTroubleCause (P.SectorView.space space.old).faults (P.SectorView.space space.new).faults result }
+{
+    edits_have_room();
+    edits_take_their_load();
+    let rec = new_record(
+        folder,
+        volume.header.next_catalog_id,
+        volume.header.modify_date,
+    );
+    draw(volume, space, folder);
+    add(volume, alloc, space, id, name, &rec)?;
+    Ok(())
+}
+
+/// Makes a folder or file of this name in the folder with this CNID.
+fn make_in<P: SectorSpace>(
+    volume: &mut Volume,
+    alloc: Global,
+    space: &mut P,
+    id: u32,
+    name: &Units,
+    folder: bool,
+) -> Result<(), Trouble>
+    requires stands { StandsOver volume.old (P.SectorView.space space.old) }
+    requires settled { IsTrue (P.SectorView.space space.old).tells → IsSettled volume.old (P.SectorView.space space.old).content }
+    requires some { 1 ≤ length name.now }
+    requires name { length name.now ≤ 255 }
+    requires site { IsTrue (P.SectorView.space space.old).tells → IsSite (tree_of (P.SectorView.space space.old).content) id name.now }
+    requires room { HasRoomToMake volume.old (P.SectorView.space space.old) }
+    ensures stands { OnOk result (StandsOver volume.new (P.SectorView.space space.new)) }
+    ensures service { IsInService volume.new (P.SectorView.space space.new) }
+    ensures does { IsTrue (P.SectorView.space space.old).tells
+        → OnOk result (IsSettled volume.new (P.SectorView.space space.new).content × (tree_of (P.SectorView.space space.new).content ≡ made folder (free_place id name.now) (tree_of (P.SectorView.space space.old).content))
+        × (value_at (lists_of volume.new (P.SectorView.space space.new).content).catalog_pairs id name.now ≡ Some (new_value folder volume.old.header.next_catalog_id volume.old.header.modify_date))
+        × MakesEntry folder (free_place id name.now) (volume_of (P.SectorView.space space.old).content) (volume_of (P.SectorView.space space.new).content)) }
+    ensures blocks { KeepsBlocks volume.old volume.new }
+    ensures touches { (committed : Content) → Touches committed (λ s. Contains (own_sectors volume.old) s) (P.SectorView.space space.old) (P.SectorView.space space.new) }
+    ensures spent { IsTrue (P.SectorView.space space.old).tells → (P.SectorView.space space.old).spare ≤ (P.SectorView.space space.new).spare + make_load volume.old }
+    ensures below { P.SectorView.follows space.old space.new }
+    ensures cause { HasTroubleCause (P.SectorView.space space.old).faults (P.SectorView.space space.new).faults result }
+{
+    mkdir_does_its_step();
+    create_does_its_step();
+    // The least node size that the format allows the catalog (TN1150, "Catalog File").
+    if volume.catalog.file.shape().node_size < 4096 {
+        return Ok(());
+    }
+    add_new(volume, alloc, space, id, name, folder)?;
+    volume.touch(alloc, space, id, 1, 0)
+}
+
+/// Makes a folder or file of this name under a path, or tells the first reason against it.
+fn make_under<P: SectorSpace>(
+    volume: &mut Volume,
+    alloc: Global,
+    space: &mut P,
+    above: &[Units],
+    name: &Units,
+    folder: bool,
+) -> Result<Reply, Trouble>
+    requires stands { StandsOver volume.old (P.SectorView.space space.old) }
+    requires settled { IsTrue (P.SectorView.space space.old).tells → IsSettled volume.old (P.SectorView.space space.old).content }
+    requires fits { FitsPath (path_to above.now name.now) }
+    requires not_own { is_private_path (path_to above.now name.now) ≡ false }
+    requires room { HasRoomToMake volume.old (P.SectorView.space space.old) }
+    ensures reply { IsTrue (P.SectorView.space space.old).tells → IfOk result (λ reply. reply ≡ (step_line (tree_of (P.SectorView.space space.old).content) (Ok (making folder (path_to above.now name.now)))).0) }
+    ensures tree { IsTrue (P.SectorView.space space.old).tells → OnOk result (tree_of (P.SectorView.space space.new).content ≡ (step_line (tree_of (P.SectorView.space space.old).content) (Ok (making folder (path_to above.now name.now)))).1) }
+    ensures refused { IsTrue (P.SectorView.space space.old).tells → IfOk result (λ reply. is_refusal reply ≡ true → (P.SectorView.space space.new).content ≡ (P.SectorView.space space.old).content) }
+    ensures entry { IsTrue (P.SectorView.space space.old).tells → IfOk result (λ said. said ≡ reply.Ok → HasNew folder (path_to above.now name.now) volume.old.header (lists_of volume.new (P.SectorView.space space.new).content).catalog_pairs) }
+    ensures lists { IsTrue (P.SectorView.space space.old).tells → IfOk result (λ said. said ≡ reply.Ok → Makes folder (path_to above.now name.now) (P.SectorView.space space.old).content (P.SectorView.space space.new).content) }
+    ensures stands { OnOk result (StandsOver volume.new (P.SectorView.space space.new)) }
+    ensures settled { IsTrue (P.SectorView.space space.old).tells → OnOk result (IsSettled volume.new (P.SectorView.space space.new).content) }
+    ensures service { IsInService volume.new (P.SectorView.space space.new) }
+    ensures blocks { KeepsBlocks volume.old volume.new }
+    ensures touches { (committed : Content) → Touches committed (λ s. Contains (own_sectors volume.old) s) (P.SectorView.space space.old) (P.SectorView.space space.new) }
+    ensures spent { IsTrue (P.SectorView.space space.old).tells → (P.SectorView.space space.old).spare ≤ (P.SectorView.space space.new).spare + make_load volume.old }
+    ensures below { P.SectorView.follows space.old space.new }
+    ensures cause { HasTroubleCause (P.SectorView.space space.old).faults (P.SectorView.space space.new).faults result }
+{
+    sound_has_plain_tree();
+    match volume.site(alloc, space, above, name)? {
+        Ok(id) => {
+            make_in(volume, alloc, space, id, name, folder)?;
+            Ok(Reply::Ok)
+        }
+        Err(why) => Ok(Reply::No(why)),
+    }
+}
+
+/// Makes a folder or file at a path, or tells the first reason against it.
+fn make<P: SectorSpace>(
+    volume: &mut Volume,
+    alloc: Global,
+    space: &mut P,
+    path: &Path,
+    folder: bool,
+) -> Result<Reply, Trouble>
+    requires stands { StandsOver volume.old (P.SectorView.space space.old) }
+    requires settled { IsTrue (P.SectorView.space space.old).tells → IsSettled volume.old (P.SectorView.space space.old).content }
+    requires fits { FitsPath path.now }
+    requires room { HasRoomToMake volume.old (P.SectorView.space space.old) }
+    ensures reply { IsTrue (P.SectorView.space space.old).tells → IfOk result (λ reply. reply ≡ (step_line (tree_of (P.SectorView.space space.old).content) (Ok (making folder path.now))).0) }
+    ensures tree { IsTrue (P.SectorView.space space.old).tells → OnOk result (tree_of (P.SectorView.space space.new).content ≡ (step_line (tree_of (P.SectorView.space space.old).content) (Ok (making folder path.now))).1) }
+    ensures refused { IsTrue (P.SectorView.space space.old).tells → IfOk result (λ reply. is_refusal reply ≡ true → (P.SectorView.space space.new).content ≡ (P.SectorView.space space.old).content) }
+    ensures entry { IsTrue (P.SectorView.space space.old).tells → IfOk result (λ said. said ≡ reply.Ok → HasNew folder path.now volume.old.header (lists_of volume.new (P.SectorView.space space.new).content).catalog_pairs) }
+    ensures lists { IsTrue (P.SectorView.space space.old).tells → IfOk result (λ said. said ≡ reply.Ok → Makes folder path.now (P.SectorView.space space.old).content (P.SectorView.space space.new).content) }
+    ensures stands { OnOk result (StandsOver volume.new (P.SectorView.space space.new)) }
+    ensures settled { IsTrue (P.SectorView.space space.old).tells → OnOk result (IsSettled volume.new (P.SectorView.space space.new).content) }
+    ensures service { IsInService volume.new (P.SectorView.space space.new) }
+    ensures blocks { KeepsBlocks volume.old volume.new }
+    ensures touches { (committed : Content) → Touches committed (λ s. Contains (own_sectors volume.old) s) (P.SectorView.space space.old) (P.SectorView.space space.new) }
+    ensures spent { IsTrue (P.SectorView.space space.old).tells → (P.SectorView.space space.old).spare ≤ (P.SectorView.space space.new).spare + make_load volume.old }
+    ensures below { P.SectorView.follows space.old space.new }
+    ensures cause { HasTroubleCause (P.SectorView.space space.old).faults (P.SectorView.space space.new).faults result }
+{
+    if is_private_path(path) {
+        return Ok(Reply::No(Refusal::Private));
+    }
+    match path.as_slice().split_last() {
+        Some((name, above)) => make_under(volume, alloc, space, above, name, folder),
+        None => Ok(Reply::No(Refusal::Root)),
+    }
+}
+
+/// `mkdir`: makes a folder at a path, with mode 0755, in a folder that is there; or tells the first reason against it. A
+/// path that begins with a name of the volume's own is refused. A refused command changes nothing. `Memory` comes where
+/// memory is wanting, `Disk` where a read failed.
+pub fn mkdir<P: SectorSpace>(
+    volume: &mut Volume,
+    alloc: Global,
+    space: &mut P,
+    path: &Path,
+) -> Result<Reply, Trouble>
+    requires stands { StandsOver volume.old (P.SectorView.space space.old) }
+    requires settled { IsTrue (P.SectorView.space space.old).tells → IsSettled volume.old (P.SectorView.space space.old).content }
+    requires fits { FitsPath path.now }
+    // There is a CNID for it, and room for what it puts; the catalog needn't grow before.
+    requires room { HasRoomToMake volume.old (P.SectorView.space space.old) }
+    // Told, reply and tree are those of the plain tree's step.
+    ensures reply { IsTrue (P.SectorView.space space.old).tells → IfOk result (λ reply. reply ≡ (step_line (tree_of (P.SectorView.space space.old).content) (Ok (command.Mkdir path.now))).0) }
+    ensures tree { IsTrue (P.SectorView.space space.old).tells → OnOk result (tree_of (P.SectorView.space space.new).content ≡ (step_line (tree_of (P.SectorView.space space.old).content) (Ok (command.Mkdir path.now))).1) }
+    ensures refused { IsTrue (P.SectorView.space space.old).tells → IfOk result (λ reply. is_refusal reply ≡ true → (P.SectorView.space space.new).content ≡ (P.SectorView.space space.old).content) }
+    // Behind `Ok` its record stands in the catalog, as new ones are.
+    ensures entry { IsTrue (P.SectorView.space space.old).tells → IfOk result (λ said. said ≡ reply.Ok → HasNew true path.now volume.old.header (lists_of volume.new (P.SectorView.space space.new).content).catalog_pairs) }
+    // The content's lists have its entry with its thread, one entry more in the folder above, and the header's numbers; nothing else of them is changed.
+    ensures lists { IsTrue (P.SectorView.space space.old).tells → IfOk result (λ said. said ≡ reply.Ok → Makes true path.now (P.SectorView.space space.old).content (P.SectorView.space space.new).content) }
+    ensures stands { OnOk result (StandsOver volume.new (P.SectorView.space space.new)) }
+    ensures settled { IsTrue (P.SectorView.space space.old).tells → OnOk result (IsSettled volume.new (P.SectorView.space space.new).content) }
+    ensures service { IsInService volume.new (P.SectorView.space space.new) }
+    // The blocks in use are as they were, and so are the file shrunk last and the capacity.
+    ensures blocks { KeepsBlocks volume.old volume.new }
+    // On a fault too, it puts sectors of its own alone, whatever was committed last.
+    ensures touches { (committed : Content) → Touches committed (λ s. Contains (own_sectors volume.old) s) (P.SectorView.space space.old) (P.SectorView.space space.new) }
+    ensures spent { IsTrue (P.SectorView.space space.old).tells → (P.SectorView.space space.old).spare ≤ (P.SectorView.space space.new).spare + make_load volume.old }
+    // What its load names bounds the sectors that it puts.
+    ensures loads { IsTrue (P.SectorView.space space.old).tells → (n : ℕ) (grow : List ℕ) → weight (capacity_of volume.old) (volume_of (P.SectorView.space space.old).content) (tree_of (P.SectorView.space space.old).content) (command.Mkdir path.now) ≡ cost.Load n grow
+        → (P.SectorView.space space.old).spare ≤ (P.SectorView.space space.new).spare + n }
+    ensures below { P.SectorView.follows space.old space.new }
+    ensures cause { HasTroubleCause (P.SectorView.space space.old).faults (P.SectorView.space space.new).faults result }
+{
+    make(volume, alloc, space, path, true)
+}
+
+/// `create`: makes an empty file at a path, with mode 0644, in a folder that is there; or tells the first reason against
+/// it. A path that begins with a name of the volume's own is refused. A refused command changes nothing. `Memory` comes
+/// where memory is wanting, `Disk` where a read failed.
+pub fn create<P: SectorSpace>(
+    volume: &mut Volume,
+    alloc: Global,
+    space: &mut P,
+    path: &Path,
+) -> Result<Reply, Trouble>
+    requires stands { StandsOver volume.old (P.SectorView.space space.old) }
+    requires settled { IsTrue (P.SectorView.space space.old).tells → IsSettled volume.old (P.SectorView.space space.old).content }
+    requires fits { FitsPath path.now }
+    // There is a CNID for it, and room for what it puts; the catalog needn't grow before.
+    requires room { HasRoomToMake volume.old (P.SectorView.space space.old) }
+    // Told, reply and tree are those of the plain tree's step.
+    ensures reply { IsTrue (P.SectorView.space space.old).tells → IfOk result (λ reply. reply ≡ (step_line (tree_of (P.SectorView.space space.old).content) (Ok (command.Create path.now))).0) }
+    ensures tree { IsTrue (P.SectorView.space space.old).tells → OnOk result (tree_of (P.SectorView.space space.new).content ≡ (step_line (tree_of (P.SectorView.space space.old).content) (Ok (command.Create path.now))).1) }
+    ensures refused { IsTrue (P.SectorView.space space.old).tells → IfOk result (λ reply. is_refusal reply ≡ true → (P.SectorView.space space.new).content ≡ (P.SectorView.space space.old).content) }
+    // Behind `Ok` its record stands in the catalog, as new ones are.
+    ensures entry { IsTrue (P.SectorView.space space.old).tells → IfOk result (λ said. said ≡ reply.Ok → HasNew false path.now volume.old.header (lists_of volume.new (P.SectorView.space space.new).content).catalog_pairs) }
+    // The content's lists have its entry with its thread, one entry more in the folder above, and the header's numbers; nothing else of them is changed.
+    ensures lists { IsTrue (P.SectorView.space space.old).tells → IfOk result (λ said. said ≡ reply.Ok → Makes false path.now (P.SectorView.space space.old).content (P.SectorView.space space.new).content) }
+    ensures stands { OnOk result (StandsOver volume.new (P.SectorView.space space.new)) }
+    ensures settled { IsTrue (P.SectorView.space space.old).tells → OnOk result (IsSettled volume.new (P.SectorView.space space.new).content) }
+    ensures service { IsInService volume.new (P.SectorView.space space.new) }
+    // The blocks in use are as they were, and so are the file shrunk last and the capacity.
+    ensures blocks { KeepsBlocks volume.old volume.new }
+    // On a fault too, it puts sectors of its own alone, whatever was committed last.
+    ensures touches { (committed : Content) → Touches committed (λ s. Contains (own_sectors volume.old) s) (P.SectorView.space space.old) (P.SectorView.space space.new) }
+    ensures spent { IsTrue (P.SectorView.space space.old).tells → (P.SectorView.space space.old).spare ≤ (P.SectorView.space space.new).spare + make_load volume.old }
+    // What its load names bounds the sectors that it puts.
+    ensures loads { IsTrue (P.SectorView.space space.old).tells → (n : ℕ) (grow : List ℕ) → weight (capacity_of volume.old) (volume_of (P.SectorView.space space.old).content) (tree_of (P.SectorView.space space.old).content) (command.Create path.now) ≡ cost.Load n grow
+        → (P.SectorView.space space.old).spare ≤ (P.SectorView.space space.new).spare + n }
+    ensures below { P.SectorView.follows space.old space.new }
+    ensures cause { HasTroubleCause (P.SectorView.space space.old).faults (P.SectorView.space space.new).faults result }
+{
+    make(volume, alloc, space, path, false)
+}

@@ -1,0 +1,91 @@
+//! Folders and files whose attributes were changed.
+ghost use Rattle.std.specs.Prelude.{◌≡◌, ◌≤◌, ◌+◌, IfSome, Some, false, IsTrue, length, OnOk};
+ghost use Rattle.std.specs.List.{Contains};
+ghost use Rattle.sector_disk.specs.Lists.{Content};
+ghost use Rattle.btree_edit.specs.Causes.{HasTroubleCause};
+ghost use Rattle.catalog.specs.Pairs.{value_at};
+ghost use Rattle.cat_records.specs.Fits.{FitsEntry, FitsRecord};
+ghost use Rattle.hfs_volume.specs.Entries.{AreSpelled};
+ghost use Rattle.hfs_volume.specs.Records.{is_thread};
+ghost use Rattle.volume_base.specs.Attributing.{MarksEntry, marked_fields, with_attribute_flag, with_mark};
+ghost use Rattle.volume_base.specs.Changing.{HasRoomToUpdate, catalog_node};
+ghost use Rattle.volume_base.specs.Lists.{lists_of};
+ghost use Rattle.volume_base.specs.Service.{IsInService};
+ghost use Rattle.volume_base.specs.Standing.{StandsOver, own_sectors};
+ghost use Rattle.volume_base.specs.Touching.{Touches};
+
+use cat_records::{CatRecord, EntryFields, FileRecord, FolderRecord};
+use hx_bytes::Trouble;
+use sector_disk::SectorSpace;
+use std::alloc::Global;
+use volume_base::{Entry, Volume};
+
+/// The flags of a folder or file that has attributes, or has none: bit 2 says it.
+fn with_attribute_flag(has: bool, flags: u16) -> u16
+    ensures { result ≡ with_attribute_flag has flags }
+{
+    let bit = if has { 4 } else { 0 };
+    flags / 8 * 8 + bit + flags % 4
+}
+
+/// The fields of a folder or file to which something was done at this moment, and which has attributes, or none.
+fn marked_fields(has: bool, moment: u32, fields: &EntryFields) -> EntryFields
+    ensures same { result ≡ marked_fields has moment fields.now }
+    ensures fits { FitsEntry fields.now → FitsEntry result }
+{
+    let mut changed = *fields;
+    changed.flags = with_attribute_flag(has, fields.flags);
+    changed.attribute = moment;
+    changed
+}
+
+/// The record of such a folder or file; none of a thread.
+fn with_mark(has: bool, moment: u32, rec: &CatRecord) -> Option<CatRecord>
+    ensures same { result ≡ with_mark has moment rec.now }
+    ensures fits { (is_thread rec.now ≡ false → FitsRecord rec.now) → IfSome result (λ changed. FitsRecord changed) }
+    ensures kind { IfSome result (λ changed. is_thread changed ≡ false) }
+{
+    match rec {
+        CatRecord::Folder(folder) => Some(CatRecord::Folder(FolderRecord {
+            fields: marked_fields(has, moment, &folder.fields),
+        })),
+        CatRecord::File(file) => Some(CatRecord::File(FileRecord {
+            fields: marked_fields(has, moment, &file.fields),
+            data_fork: file.data_fork,
+            resource_fork: file.resource_fork,
+        })),
+        CatRecord::Thread(_) => None,
+    }
+}
+
+/// Dates the attributes of a folder or file by the volume's moment, and says whether it has any.
+pub(crate) fn put_mark<P: SectorSpace>(
+    volume: &mut Volume,
+    alloc: Global,
+    space: &mut P,
+    entry: &Entry,
+    has: bool,
+) -> Result<(), Trouble>
+    requires stands { StandsOver volume.old (P.SectorView.space space.old) }
+    requires spelled { IsTrue (P.SectorView.space space.old).tells → AreSpelled (lists_of volume.old (P.SectorView.space space.old).content).catalog_pairs }
+    requires name { length entry.now.name ≤ 255 }
+    requires there { IsTrue (P.SectorView.space space.old).tells → value_at (lists_of volume.old (P.SectorView.space space.old).content).catalog_pairs entry.now.parent entry.now.name ≡ Some entry.now.rec }
+    requires fits { is_thread entry.now.rec ≡ false → FitsRecord entry.now.rec }
+    requires room { HasRoomToUpdate volume.old (P.SectorView.space space.old) }
+    ensures stands { OnOk result (StandsOver volume.new (P.SectorView.space space.new)) }
+    ensures service { IsInService volume.new (P.SectorView.space space.new) }
+    // Nothing else of it is changed.
+    ensures rest { volume.new ≡ record volume.old { catalog = volume.new.catalog } }
+    ensures marks { IsTrue (P.SectorView.space space.old).tells → is_thread entry.now.rec ≡ false
+        → OnOk result (MarksEntry has volume.old.header.modify_date entry.now volume.old volume.new (P.SectorView.space space.old).content (P.SectorView.space space.new).content) }
+    // On a fault too, it puts sectors of its own alone, whatever was committed last; those of one node at most.
+    ensures touches { (committed : Content) → Touches committed (λ s. Contains (own_sectors volume.old) s) (P.SectorView.space space.old) (P.SectorView.space space.new) }
+    ensures spent { IsTrue (P.SectorView.space space.old).tells → (P.SectorView.space space.old).spare ≤ (P.SectorView.space space.new).spare + catalog_node volume.old }
+    ensures below { P.SectorView.follows space.old space.new }
+    ensures cause { HasTroubleCause (P.SectorView.space space.old).faults (P.SectorView.space space.new).faults result }
+{
+    let Some(rec) = with_mark(has, volume.header.modify_date, &entry.rec) else {
+        return Ok(());
+    };
+    volume.replace(alloc, space, entry, &rec)
+}

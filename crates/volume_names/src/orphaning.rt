@@ -1,0 +1,98 @@
+//! Files that lost their last name, in a volume in service.
+ghost use Rattle.std.specs.Prelude.{◌≡◌, ◌≤◌, ℕ, List, IsTrue, length, OnOk};
+ghost use Rattle.std.specs.List.{Contains};
+ghost use Rattle.sector_disk.specs.Lists.{Content};
+ghost use Rattle.btree_node.specs.Keys.{IsCatalogKey, catalog_cmp, anything};
+ghost use Rattle.btree_node.specs.TreeFile.{catalog_form};
+ghost use Rattle.btree_edit.specs.Causes.{HasTroubleCause};
+ghost use Rattle.btree_edit.specs.Desk.{IsDeskOf};
+ghost use Rattle.btree_edit.specs.Edits.{EditRoom, TakesAtMost, TakesEdits};
+ghost use Rattle.btree_file.specs.Frame.{FollowsOn};
+ghost use Rattle.btree_file.specs.Standing.{HoldsTree, LiesInside, LiesOpen, numbers_of, pairs_in};
+ghost use Rattle.btree_file.specs.State.{sectors_of_tree, state_of};
+ghost use Rattle.hard_links.specs.Orphans.{MakesOrphan, NamesFile};
+ghost use Rattle.hfs_volume.specs.Entries.{AreThreaded};
+ghost use Rattle.volume_base.specs.Service.{IsInService};
+ghost use Rattle.volume_base.specs.Standing.{StandsOver, own_sectors};
+ghost use Rattle.volume_base.specs.Touching.{Touches};
+
+use btree_edit::Desk;
+use btree_file::{TreeFile, TreeOn};
+use hard_links::{EntryAt, orphan};
+use hx_bytes::Trouble;
+use sector_disk::SectorSpace;
+use std::alloc::Global;
+use volume_base::Volume;
+
+/// Moves a file into the private folder, where it waits to be removed.
+fn put_aside<P: SectorSpace>(
+    alloc: Global,
+    tree: &mut TreeFile,
+    desk: &mut Desk,
+    space: &mut P,
+    private: u32,
+    at: &EntryAt,
+) -> Result<(), Trouble>
+    requires desk { IsDeskOf (numbers_of tree.old).node_size desk.old }
+    requires size { 4096 ≤ (numbers_of tree.old).node_size }
+    requires inside { LiesInside tree.old (P.SectorView.space space.old) }
+    requires open { LiesOpen tree.old (P.SectorView.space space.old) }
+    requires holds { IsTrue (P.SectorView.space space.old).tells → HoldsTree catalog_form IsCatalogKey anything catalog_cmp tree.old (P.SectorView.space space.old).content }
+    requires threads { IsTrue (P.SectorView.space space.old).tells → AreThreaded (pairs_in (sectors_of_tree tree.old) (P.SectorView.space space.old).content) }
+    requires some { 1 ≤ length at.now.name }
+    requires name { length at.now.name ≤ 255 }
+    requires file { IsTrue (P.SectorView.space space.old).tells → NamesFile at.now (pairs_in (sectors_of_tree tree.old) (P.SectorView.space space.old).content) }
+    requires room { (names : List ℕ) → IsTrue (P.SectorView.space space.old).tells → EditRoom 3 516 (state_of names tree.old (P.SectorView.space space.old)) }
+    ensures moved { IsTrue (P.SectorView.space space.old).tells → OnOk result (MakesOrphan private at.now (pairs_in (sectors_of_tree tree.old) (P.SectorView.space space.old).content) (pairs_in (sectors_of_tree tree.old) (P.SectorView.space space.new).content)) }
+    ensures holds { IsTrue (P.SectorView.space space.old).tells → OnOk result (HoldsTree catalog_form IsCatalogKey anything catalog_cmp tree.new (P.SectorView.space space.new).content) }
+    ensures frame { FollowsOn tree.old tree.new (P.SectorView.space space.old) (P.SectorView.space space.new) }
+    // At most three edits were made, on a fault too.
+    ensures edits { (names : List ℕ) → OnOk result (TakesEdits 3 516 (state_of names tree.old (P.SectorView.space space.old)) (state_of names tree.new (P.SectorView.space space.new))) }
+    ensures takes { (names : List ℕ) → TakesAtMost 3 516 (state_of names tree.old (P.SectorView.space space.old)) (state_of names tree.new (P.SectorView.space space.new)) }
+    ensures desk { IsDeskOf (numbers_of tree.new).node_size desk.new }
+    ensures below { P.SectorView.follows space.old space.new }
+    ensures cause { HasTroubleCause (P.SectorView.space space.old).faults (P.SectorView.space space.new).faults result }
+{
+    let mut on = TreeOn { tree, space };
+    orphan(alloc, &mut on, desk, private, at)
+}
+
+/// Moves a file that lost its last name into the private folder, under the word `temp` and a number, where it waits to be
+/// removed. The volume stands as before, with this one change of its catalog.
+pub(crate) fn set_aside<P: SectorSpace>(
+    volume: &mut Volume,
+    alloc: Global,
+    space: &mut P,
+    private: u32,
+    at: &EntryAt,
+) -> Result<(), Trouble>
+    requires stands { StandsOver volume.old (P.SectorView.space space.old) }
+    requires size { 4096 ≤ (numbers_of volume.old.catalog.file).node_size }
+    requires threads { IsTrue (P.SectorView.space space.old).tells → AreThreaded (pairs_in (sectors_of_tree volume.old.catalog.file) (P.SectorView.space space.old).content) }
+    requires some { 1 ≤ length at.now.name }
+    requires name { length at.now.name ≤ 255 }
+    requires file { IsTrue (P.SectorView.space space.old).tells → NamesFile at.now (pairs_in (sectors_of_tree volume.old.catalog.file) (P.SectorView.space space.old).content) }
+    requires room { (names : List ℕ) → IsTrue (P.SectorView.space space.old).tells → EditRoom 3 516 (state_of names volume.old.catalog.file (P.SectorView.space space.old)) }
+    // Behind an answer it stands, and behind a fault it is in service.
+    ensures stands { OnOk result (StandsOver volume.new (P.SectorView.space space.new)) }
+    ensures service { IsInService volume.new (P.SectorView.space space.new) }
+    // Nothing else of it is changed.
+    ensures rest { volume.new ≡ record volume.old { catalog = volume.new.catalog } }
+    ensures moved { IsTrue (P.SectorView.space space.old).tells → OnOk result (MakesOrphan private at.now (pairs_in (sectors_of_tree volume.old.catalog.file) (P.SectorView.space space.old).content) (pairs_in (sectors_of_tree volume.old.catalog.file) (P.SectorView.space space.new).content)) }
+    // On a fault too, it puts sectors of its own alone, whatever was committed last.
+    ensures touches { (committed : Content) → Touches committed (λ s. Contains (own_sectors volume.old) s) (P.SectorView.space space.old) (P.SectorView.space space.new) }
+    ensures frame { FollowsOn volume.old.catalog.file volume.new.catalog.file (P.SectorView.space space.old) (P.SectorView.space space.new) }
+    ensures edits { (names : List ℕ) → OnOk result (TakesEdits 3 516 (state_of names volume.old.catalog.file (P.SectorView.space space.old)) (state_of names volume.new.catalog.file (P.SectorView.space space.new))) }
+    ensures takes { (names : List ℕ) → TakesAtMost 3 516 (state_of names volume.old.catalog.file (P.SectorView.space space.old)) (state_of names volume.new.catalog.file (P.SectorView.space space.new)) }
+    ensures below { P.SectorView.follows space.old space.new }
+    ensures cause { HasTroubleCause (P.SectorView.space space.old).faults (P.SectorView.space space.new).faults result }
+{
+    put_aside(
+        alloc,
+        &mut volume.catalog.file,
+        &mut volume.catalog.desk,
+        space,
+        private,
+        at,
+    )
+}

@@ -1,7 +1,0 @@
-use Rattle.std.proofs.Common.{◌≡◌, take, map}
-use Rattle.hfs_model.specs.Sorted.{kept}
-use Rattle.volume_ops.specs.Listing.{is_shown, listed_child}
-use Rattle.volume_ops.proofs.listing.shown.Given as goal
-
-abbrev pub invariant-loop-child : goal.invariant-loop-child
-invariant-loop-child l = l.names ≡ map listed_child (kept (is_shown l.folder) (take l.child-index l.children))

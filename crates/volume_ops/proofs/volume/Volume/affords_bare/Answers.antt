@@ -1,6 +1,0 @@
-use Rattle.std.proofs.Common.{sym, ◌∙◌}
-use Rattle.volume_ops.proofs.Affording.{affords_bare_by}
-use Rattle.volume_ops.proofs.volume.Volume.affords_bare.Goals as goal
-
-pub returns : goal.returns
-returns g c tells is id name = affords_bare_by c.args.self.now (g.P.SectorView.space c.args.space.now).content (c.requires.settled tells) c.cost_of_edits.result (c.cost_of_edits.ensures.exact tells) (sym c.grows_none.ensures ∙ is) id name

@@ -1,7 +1,0 @@
-use Rattle.std.proofs.Common.{sym, ◌∙◌, ap}
-use Rattle.hfs_volume.specs.Weight.{cut_cost}
-use Rattle.volume_ops.proofs.Affording.{affords_cut_by}
-use Rattle.volume_ops.proofs.volume.Volume.affords_cut.Goals as goal
-
-pub returns : goal.returns
-returns c content settled is step cut = affords_cut_by c.args.self.now content settled c.cut_cost.result (c.cut_cost.ensures ∙ ap cut_cost c.room.ensures) (sym c.grows_none.ensures ∙ is) step cut

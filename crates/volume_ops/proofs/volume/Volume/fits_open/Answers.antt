@@ -1,4 +1,0 @@
-use Rattle.volume_ops.proofs.volume.Volume.fits_open.Goals as goal
-
-pub returns : goal.returns
-returns g c fits = c.fits_make.ensures c.if-not-fits_make.false

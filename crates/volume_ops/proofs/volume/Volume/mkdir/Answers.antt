@@ -1,7 +1,0 @@
-use Rattle.std.proofs.Common.{true, arith}
-use Rattle.hfs_volume.specs.TreeOf.{tree_of}
-use Rattle.volume_ops.proofs.Loads.{make_load_told}
-use Rattle.volume_ops.proofs.volume.Volume.mkdir.Goals as goal
-
-pub returns-clause-loads : goal.returns-clause-loads
-returns-clause-loads g c tells n grow is = omega (arith, c.make.ensures.spent tells, make_load_told c.args.self.now (g.P.SectorView.space c.args.space.now).content (c.requires.settled tells) (c.requires.room.told tells).2 c.args.self.now.capacity true c.args.path.now (tree_of (g.P.SectorView.space c.args.space.now).content) n grow is)

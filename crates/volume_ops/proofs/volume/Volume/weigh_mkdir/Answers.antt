@@ -1,5 +1,0 @@
-use Rattle.std.specs.Prelude.{true}
-use Rattle.volume_ops.proofs.volume.Volume.weigh_mkdir.Goals as goal
-
-pub returns-clause-answer : goal.returns-clause-answer
-returns-clause-answer g c tells = c.weigh_make.ensures.answer tells true

@@ -1,0 +1,140 @@
+-- The growth of the attributes file as a whole: its file is longer, the bitmap is put, and then the header.
+use Rattle.std.proofs.Common.{◌≡◌, ◌≢◌, ◌<◌, ◌≤◌, ℕ, ◌+◌, [], ◌∷◌, ◌++◌, sym, ◌∙◌, ap, subst, arith, ⊎_elim}
+use Rattle.std.specs.Prelude.{Contains, IsTrue}
+use Rattle.std.proofs.lemmas.Bool.{true≢false}
+use Rattle.jnl_format.specs.Recovery.{header_of_volume}
+use Rattle.alloc_bitmap.proofs.ApartLaws.{times-append}
+use Rattle.btree_file.specs.Frame.{PutsWithin}
+use Rattle.btree_file.specs.State.{sectors_of_tree}
+use Rattle.sector_disk.specs.Lists.{sector}
+use Rattle.sector_disk.specs.Space.{Space}
+use Rattle.hfs_volume.specs.Content.{TreeFacts, VolumeState, has_attributes, volume_of}
+use Rattle.hfs_volume.specs.Cost.{attributes_key, catalog_key, growth}
+use Rattle.hfs_volume.specs.Forks.{attributes_id}
+use Rattle.hfs_volume.specs.Reclaim.{GrowsTrees}
+use Rattle.hfs_volume.specs.TreeOf.{tree_of}
+use Rattle.hfs_volume.specs.Weight.{cost_of_tree}
+use Rattle.hfs_volume.specs.Writing.{GrowthKeeps}
+use Rattle.hfs_volume.proofs.Members.{first_or_later}
+use Rattle.volume_base.specs.Changing.{PutsHeader}
+use Rattle.volume_space.specs.Growing.{CanGrowAttributes, GrowsAttributes, GrowsLists, KeepsForks, LengthensAttributes, SufficesFor, blocks_filled, lengthened_attributes, with_attributes}
+use Rattle.volume_base.specs.Lists.{facts_on, lists_of}
+use Rattle.volume_space.specs.Mapping.{HoldsMap, PutsMap}
+use Rattle.volume_base.specs.Standing.{IsSettled, IsStanding, StandsOver, attribute_sectors, file_sectors, map_sectors}
+use Rattle.volume_base.specs.declared.volume.Volume.{Volume}
+use Rattle.volume_space.proofs.GrownBits.{bit_elsewhere}
+use Rattle.volume_space.proofs.GrownCalls.{bytes_owned, maps_are, nodes_are, run_some}
+use Rattle.volume_space.proofs.AttributesGrownSettled.{attributes_then, catalog_then, forks_kept, has_then, head_then, journal_then, settled_now, shape_now, tree_same, trees_grow}
+use Rattle.volume_space.proofs.GrownNone.{grows_none}
+use Rattle.volume_base.proofs.Placing.{stands_once}
+
+module _ (more : ℕ) (v w : Volume) (a b c d : Space) (over : StandsOver v a) (settled : IsSettled v a.content) (there : IsTrue (has_attributes v.header)) (can : CanGrowAttributes more v a) (tells : IsTrue a.tells) (law : GrowthKeeps)
+    (longer : LengthensAttributes more v w a b) (stands : IsStanding w d) (map_put : PutsMap w b.content c.content) (header_put : PutsHeader w c.content d.content) (header_within : PutsWithin (2 ∷ []) c d) (told : IsTrue c.tells)
+  where
+    was : IsStanding v a
+    was = over.stands tells
+
+    abbrev long : Volume
+    long = lengthened_attributes longer.run.count v w.map w.attributes.file
+
+    -- sector 2 alone is another behind the put of the header
+    header_alone : (s : ℕ) → s ≢ 2 → sector d.content s ≡ sector c.content s
+    header_alone s differs = ⊎_elim (λ same. same) (λ has. absurd (⊎_elim (λ is. differs is) (λ none. omega (arith, none.1)) (first_or_later 2 s [] has))) ((header_within.content told).each s)
+
+    not_header : (s : ℕ) → Contains (map_sectors w) s → s ≢ 2
+    not_header s has two =
+        omega (
+          arith,
+          stands.apart s,
+          times-append s (2 ∷ []) (file_sectors w),
+          times-append s (sectors_of_tree w.extents.file) (sectors_of_tree w.catalog.file ++ (attribute_sectors w ++ map_sectors w)),
+          times-append s (sectors_of_tree w.catalog.file) (attribute_sectors w ++ map_sectors w),
+          times-append s (attribute_sectors w) (map_sectors w),
+          stands_once s (map_sectors w) has,
+          stands_once s (2 ∷ []) (0, omega arith, sym two),
+        )
+
+    holds : HoldsMap w d.content
+    holds k low = bit_elsewhere (map_sectors w) c.content d.content (λ s has. header_alone s (not_header s has)) k ∙ map_put.holds k low
+
+    lists : lists_of w d.content ≡ lists_of w b.content
+    lists = header_put.lists ∙ map_put.lists
+
+    outside : (s : ℕ) → s ≢ 2 → (Contains (map_sectors w) s → ⊥) → sector d.content s ≡ sector b.content s
+    outside s differs none = header_alone s differs ∙ ⊎_elim (λ same. same) (λ has. absurd (none has)) (map_put.outside.each s)
+
+    -- the same of the volume as it was made
+    stands_long : IsStanding (lengthened_attributes longer.run.count v w.map w.attributes.file) d
+    stands_long = subst (λ (x : Volume). IsStanding x d) longer.rest stands
+
+    headed_long : header_of_volume d.content ≡ with_attributes longer.run.count w.attributes.file.fork v.header
+    headed_long = header_put.headed ∙ ap (λ (x : Volume). x.header) longer.rest
+
+    holds_long : HoldsMap (lengthened_attributes longer.run.count v w.map w.attributes.file) d.content
+    holds_long = subst (λ (x : Volume). HoldsMap x d.content) longer.rest holds
+
+    lists_long : lists_of (lengthened_attributes longer.run.count v w.map w.attributes.file) d.content ≡ lists_of (lengthened_attributes longer.run.count v w.map w.attributes.file) b.content
+    lists_long = subst (λ (x : Volume). lists_of x d.content ≡ lists_of x b.content) longer.rest lists
+
+    outside_long : (s : ℕ) → s ≢ 2 → (Contains (map_sectors (lengthened_attributes longer.run.count v w.map w.attributes.file)) s → ⊥) → sector d.content s ≡ sector b.content s
+    outside_long = subst (λ (x : Volume). (s : ℕ) → s ≢ 2 → (Contains (map_sectors x) s → ⊥) → sector d.content s ≡ sector b.content s) longer.rest outside
+
+    some : 0 < longer.run.count
+    some = run_some more v a can longer.run longer.takes.many
+
+    counted : longer.run.count ≤ v.header.free_blocks
+    counted = subst (λ n. n ≤ v.header.free_blocks) (sym longer.takes.many) can.counted
+
+    pub settled_whole : IsSettled w d.content
+    settled_whole = subst (λ (x : Volume). IsSettled x d.content) (sym longer.rest)
+        (settled_now v a b was settled there (blocks_filled v.attributes.file more) longer.run w.map longer.takes some w.attributes.file longer.grown longer.within tells over.service.fits.attributes_fork.extents.eight can.extents more counted
+        (nodes_are more v a can longer.run longer.takes.many) (bytes_owned more v a there can longer.run longer.takes.many was settled) law d stands_long headed_long holds_long lists_long outside_long)
+
+    pub tree_whole : tree_of d.content ≡ tree_of a.content
+    tree_whole =
+        tree_same v a b was settled there (blocks_filled v.attributes.file more) longer.run w.map longer.takes some w.attributes.file longer.grown longer.within tells over.service.fits.attributes_fork.extents.eight can.extents more counted
+        (nodes_are more v a can longer.run longer.takes.many) (bytes_owned more v a there can longer.run longer.takes.many was settled) law d stands_long headed_long holds_long lists_long outside_long
+
+    pub grows_whole : GrowsTrees (0 ∷ 0 ∷ more ∷ []) (volume_of a.content) (volume_of d.content)
+    grows_whole =
+        trees_grow v a b was settled there (blocks_filled v.attributes.file more) longer.run w.map longer.takes some w.attributes.file longer.grown longer.within tells over.service.fits.attributes_fork.extents.eight can.extents more counted
+        (nodes_are more v a can longer.run longer.takes.many) (bytes_owned more v a there can longer.run longer.takes.many was settled) law d stands_long headed_long holds_long lists_long outside_long
+
+    pub files_whole : KeepsForks attributes_id (volume_of a.content) (volume_of d.content)
+    files_whole =
+        forks_kept v a b was settled there (blocks_filled v.attributes.file more) longer.run w.map longer.takes some w.attributes.file longer.grown longer.within tells over.service.fits.attributes_fork.extents.eight can.extents more counted
+        (nodes_are more v a can longer.run longer.takes.many) (bytes_owned more v a there can longer.run longer.takes.many was settled) law d stands_long headed_long holds_long lists_long outside_long
+
+    pub volume_whole : GrowsAttributes more v w
+    volume_whole = record {
+      run = longer.run;
+      takes = longer.takes;
+      numbers = longer.grown.tree.numbers;
+      total = longer.grown.total ∙ ap (λ n. v.attributes.file.shape.total + n) (nodes_are more v a can longer.run longer.takes.many);
+      free = omega (arith, longer.grown.free, nodes_are more v a can longer.run longer.takes.many, maps_are more v a can longer.run longer.takes.many);
+      bits = longer.grown.stands.agrees.bits;
+      extents = longer.grown.extents;
+      rest = longer.rest;
+    }
+
+    pub lists_whole : SufficesFor attributes_key more v.attributes.file w.attributes.file → GrowsLists 0 more (volume_of a.content) (volume_of d.content)
+    lists_whole enough = record {
+      head = head_then v a b was settled there (blocks_filled v.attributes.file more) longer.run w.map longer.takes some w.attributes.file longer.grown longer.within tells over.service.fits.attributes_fork.extents.eight can.extents more counted
+          (nodes_are more v a can longer.run longer.takes.many) (bytes_owned more v a there can longer.run longer.takes.many was settled) law d stands_long headed_long holds_long lists_long outside_long;
+      has = has_then v a b was settled there (blocks_filled v.attributes.file more) longer.run w.map longer.takes some w.attributes.file longer.grown longer.within tells over.service.fits.attributes_fork.extents.eight can.extents more counted
+          (nodes_are more v a can longer.run longer.takes.many) (bytes_owned more v a there can longer.run longer.takes.many was settled) law d stands_long headed_long holds_long lists_long outside_long;
+      none = λ lacks. absurd (true≢false (sym (ap (λ (l : VolumeState). has_attributes l.head) settled.lists ∙ there) ∙ lacks));
+      catalog_grows = grows_none catalog_key (volume_of a.content).catalog_tree (volume_of d.content).catalog_tree (catalog_then v a b was settled there (blocks_filled v.attributes.file more) longer.run w.map longer.takes some w.attributes.file longer.grown longer.within tells over.service.fits.attributes_fork.extents.eight can.extents more counted
+          (nodes_are more v a can longer.run longer.takes.many) (bytes_owned more v a there can longer.run longer.takes.many was settled) law d stands_long headed_long holds_long lists_long outside_long);
+      attributes_grow = record {
+        numbers = shape_now v a b was settled there (blocks_filled v.attributes.file more) longer.run w.map longer.takes some w.attributes.file longer.grown longer.within tells over.service.fits.attributes_fork.extents.eight can.extents more counted
+            (nodes_are more v a can longer.run longer.takes.many) (bytes_owned more v a there can longer.run longer.takes.many was settled) law d stands_long headed_long holds_long lists_long outside_long;
+        suffices = λ block edits is.
+            let old : (volume_of a.content).attributes_tree ≡ facts_on v.attributes.file = settled.attributes there in
+            let new : (volume_of d.content).attributes_tree ≡ facts_on w.attributes.file = attributes_then v a b was settled there (blocks_filled v.attributes.file more) longer.run w.map longer.takes some w.attributes.file longer.grown longer.within tells over.service.fits.attributes_fork.extents.eight can.extents more counted
+            (nodes_are more v a can longer.run longer.takes.many) (bytes_owned more v a there can longer.run longer.takes.many was settled) law d stands_long headed_long holds_long lists_long outside_long in
+            subst (λ (t : TreeFacts). growth block attributes_key (cost_of_tree t 0) edits ≡ 0) (sym new) (enough block edits (subst (λ (t : TreeFacts). more ≡ growth block attributes_key (cost_of_tree t 0) edits) old is)).0;
+      };
+      journal = journal_then v a b was settled there (blocks_filled v.attributes.file more) longer.run w.map longer.takes some w.attributes.file longer.grown longer.within tells over.service.fits.attributes_fork.extents.eight can.extents more counted
+          (nodes_are more v a can longer.run longer.takes.many) (bytes_owned more v a there can longer.run longer.takes.many was settled) law d stands_long headed_long holds_long lists_long outside_long;
+    }

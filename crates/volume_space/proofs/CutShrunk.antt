@@ -1,0 +1,171 @@
+-- A cut of the file that was shrunk last leaves its bytes as they are: they lie in the blocks that stay.
+use Rattle.std.proofs.Common.{◌≡◌, ◌≢◌, ◌⊎◌, inl, inr, ◌<◌, ◌≤◌, ℕ, zero, suc, ◌+◌, ◌-◌, ◌*◌, ◌/◌, ◌%◌, min, Bool, true, false, List, [], ◌∷◌, ◌++◌, length, take, drop, replicate, refl, sym, ◌∙◌, ap, subst, arith, ⊎_elim, length-append, length-take}
+use Rattle.std.specs.Prelude.{Contains, nat_lt, Option, Some, if◌then◌else◌}
+use Rattle.std.specs.List.{flat_map, range_with_len}
+use Rattle.std.proofs.lemmas.Bool.{cases_lt}
+use Rattle.std.proofs.lemmas.Grind.{flat_map-append}
+use Rattle.std.proofs.lemmas.List.{length-replicate, take-append-drop}
+use Rattle.std.proofs.lemmas.List.Elements.{Contains-append_left}
+use Rattle.hx_bytes.specs.declared.extents.Extent.{Extent}
+use Rattle.jnl_format.specs.Recovery.{header_of_volume}
+use Rattle.volume_header.specs.declared.header.VolumeHeader.{VolumeHeader}
+use Rattle.sector_disk.specs.Lists.{Content, sector}
+use Rattle.sector_disk.specs.Space.{Space}
+use Rattle.cat_records.specs.declared.record.CatRecord.TheVariants.{File}
+use Rattle.cat_records.specs.declared.record.FileRecord.{FileRecord}
+use Rattle.catalog.specs.Pairs.{value_at}
+use Rattle.alloc_bitmap.specs.Map.{none}
+use Rattle.file_io.proofs.ByteLaws.{bytes_enough}
+use Rattle.flag_rows.specs.Bits.{sectors_for}
+use Rattle.fork_map.specs.Blocks.{blocks_of, sectors_of}
+use Rattle.hfs_model.specs.Step.{padded}
+use Rattle.hfs_volume.specs.Changes.{with_fork}
+use Rattle.hfs_volume.specs.Content.{VolumeState, block_bytes, block_limit, block_sector, overflow_in_volume, records_of, volume_of}
+use Rattle.hfs_volume.specs.Forks.{data_kind, extents_of, in_use, parts_for, per_block_of}
+use Rattle.hfs_volume.specs.Laws.{IsUserFile}
+use Rattle.hfs_volume.specs.Records.{is_link_type}
+use Rattle.hfs_volume.specs.Reclaim.{CutShrunk, Does, IsTreeFork, blocks_at, blocks_wanted, next_reclaim}
+use Rattle.hfs_volume.specs.Sound.{IsSoundVolume}
+use Rattle.hfs_volume.specs.TreeOf.{file_bytes, tree_in}
+use Rattle.hfs_volume.specs.Writing.{OthersKeepBytes, ShrunkCut}
+use Rattle.hfs_volume.proofs.Rereading.{same_bytes}
+use Rattle.hfs_volume.proofs.Sectors.{below_parts}
+use Rattle.hfs_volume.proofs.Untouched.{HasWholeBlocks, whole_blocks}
+use Rattle.volume_base.specs.Changing.{ReplacesRecord}
+use Rattle.volume_space.specs.Cutting.{CutsFile, IsCutOf, MayGive, PutsGiven, cut_fork_of, fork_at, given_back, with_freed}
+use Rattle.volume_base.specs.Lists.{bits_on, facts_on, lists_of}
+use Rattle.volume_base.specs.Standing.{IsSettled, IsStanding}
+use Rattle.volume_space.specs.declared.cutting.Cut.{Cut}
+use Rattle.volume_base.specs.declared.entries.Entry.{Entry}
+use Rattle.volume_base.specs.declared.volume.Volume.{Volume}
+use Rattle.volume_space.proofs.CutDone.{entry_there, high_id, keeps, low_tree, off, others, tree_same}
+use Rattle.volume_space.proofs.CutLists.{extents_alone, left_is, stays_in}
+use Rattle.volume_space.proofs.CutSettled.{does, does_after, found_value, header_same, headed, lists_cut, nodes, settled_now, updates, volume_now}
+use Rattle.volume_base.proofs.FilesKept.{not_2, not_in_catalog, not_in_map}
+use Rattle.volume_base.proofs.TreesSettled.{header_settled}
+
+-- ---- bytes of blocks
+
+sector_long : (content : Content) (limit at : ℕ) → length (block_sector content limit at) ≡ 512
+unfolding block_sector
+sector_long content limit at = by (nat_lt at limit)
+  where
+    by : (b : Bool) → length (if b then take 512 (padded 512 (sector content at)) else replicate 512 0) ≡ 512
+    by true = omega (arith, length-take 512 (padded 512 (sector content at)), length-append (sector content at) (replicate {A = ℕ} (512 - length (sector content at)) 0), length-replicate {A = ℕ} (512 - length (sector content at)) 0)
+    by false = length-replicate {A = ℕ} 512 0
+
+bytes_are_long : (content : Content) (limit : ℕ) (xs : List ℕ) → length (block_bytes content limit xs) ≡ length xs * 512
+unfolding block_bytes
+bytes_are_long content limit [] = refl
+bytes_are_long content limit (x ∷ xs) = omega (arith, length-append (block_sector content limit x) (flat_map (block_sector content limit) xs), sector_long content limit x, bytes_are_long content limit xs)
+
+bytes_append : (content : Content) (limit : ℕ) (xs ys : List ℕ) → block_bytes content limit (xs ++ ys) ≡ block_bytes content limit xs ++ block_bytes content limit ys
+unfolding block_bytes
+bytes_append content limit xs ys = flat_map-append (block_sector content limit) xs ys
+
+take_front : (n : ℕ) (xs ys : List ℕ) → n ≤ length xs → take n (xs ++ ys) ≡ take n xs
+take_front zero xs ys less = refl
+take_front (suc n) [] ys less = absurd (omega (arith, less))
+take_front (suc n) (x ∷ xs) ys less = ap (λ l. x ∷ l) (take_front n xs ys (omega (arith, less)))
+
+-- so many bytes lie in as many blocks as they take
+lie_in : (size block left : ℕ) → 0 < block → parts_for size block ≤ left → size ≤ left * block
+lie_in size block left some least = ⊎_elim (λ (more : left * block < size). absurd (omega (arith, below_parts block size left some more, least))) (λ (enough : size ≤ left * block). enough) (cases_lt (left * block) size)
+
+module _ (v w : Volume) (a c d : Space) (was : IsStanding v a) (settled : IsSettled v a.content) (entry : Entry) (file : FileRecord) (keep : ℕ) (cut : Cut) (may : MayGive cut.goes v) (unchanged : v.map.changed ≡ none (sectors_for (length v.map.used)))
+    (eight : length (fork_at data_kind file).extents.extents ≡ 8) (is_cut : IsCutOf (fork_at data_kind file) keep cut) (no_link : is_link_type file.fields ≡ false)
+    (there : value_at (lists_of v a.content).catalog_pairs entry.parent entry.name ≡ Some entry.rec) (is : entry.rec ≡ File file)
+    (puts : PutsGiven (given_back cut.goes v) a.content c.content)
+    (replaces : ReplacesRecord entry (File (with_fork data_kind (cut_fork_of v.header.block_size (fork_at data_kind file) cut) file)) (given_back cut.goes v) w c.content d.content)
+    (stands : IsStanding w d) (wanted : parts_for file.data_fork.logical_size (volume_of a.content).head.block_size ≤ keep)
+  where
+    abbrev new : VolumeState
+    new = lists_cut v w a c d was settled entry file data_kind keep cut may unchanged (inl refl) eight is_cut no_link there is puts replaces stands
+
+    abbrev head : VolumeHeader
+    head = header_of_volume a.content
+
+    abbrev size : ℕ
+    size = file.data_fork.logical_size
+
+    head_is : (volume_of a.content).head ≡ header_of_volume a.content
+    unfolding volume_of
+    head_is = refl
+
+    blocks : HasWholeBlocks (volume_of a.content).sectors (volume_of a.content).head
+    blocks = whole_blocks (volume_of a.content).sectors (volume_of a.content).head settled.sound.blocks.header.accepted
+
+    enough : file.data_fork.logical_size ≤ is_cut.last.left * (volume_of a.content).head.block_size
+    enough = lie_in file.data_fork.logical_size (volume_of a.content).head.block_size is_cut.last.left (omega (arith, blocks.whole, blocks.some)) (omega (arith, wanted, is_cut.last.least))
+
+    size_is : (cut_fork_of (volume_of a.content).head.block_size file.data_fork cut).logical_size ≡ file.data_fork.logical_size
+    size_is = ap (λ n. min file.data_fork.logical_size (n * (volume_of a.content).head.block_size)) (left_is (volume_of a.content) settled.sound data_kind keep entry.parent entry.name file cut (lists_of w d.content).catalog_pairs (facts_on w.catalog.file) (bits_on (given_back cut.goes v)) (updates v w a c d was settled entry file data_kind keep cut may unchanged (inl refl) eight is_cut no_link there is puts replaces stands) (found_value v w a c d was settled entry file data_kind keep cut may unchanged (inl refl) eight is_cut no_link there is puts replaces stands (updates v w a c d was settled entry file data_kind keep cut may unchanged (inl refl) eight is_cut no_link there is puts replaces stands)) no_link (inl refl) eight is_cut (nodes v w a c d was settled entry file data_kind keep cut may unchanged (inl refl) eight is_cut no_link there is puts replaces stands)) ∙ omega (arith, enough)
+
+    heads : header_of_volume d.content ≡ with_freed cut.goes.count (header_of_volume a.content)
+    heads = headed v w a c d was settled entry file data_kind keep cut may unchanged (inl refl) eight is_cut no_link there is puts replaces stands ∙ header_same v w a c d was settled entry file data_kind keep cut may unchanged (inl refl) eight is_cut no_link there is puts replaces stands ∙ ap (with_freed cut.goes.count) (sym (header_settled v a.content settled))
+
+    overflow : overflow_in_volume (volume_of d.content) ≡ overflow_in_volume (volume_of a.content)
+    overflow = ap overflow_in_volume (volume_now v w a c d was settled entry file data_kind keep cut may unchanged (inl refl) eight is_cut no_link there is puts replaces stands)
+
+    stays_are : extents_of (overflow_in_volume (volume_of a.content)) file.fields.id data_kind (cut_fork_of (volume_of a.content).head.block_size file.data_fork cut) ≡ cut.stays
+    stays_are = extents_alone (volume_of a.content) settled.sound data_kind keep entry.parent entry.name file cut (lists_of w d.content).catalog_pairs (facts_on w.catalog.file) (bits_on (given_back cut.goes v)) (updates v w a c d was settled entry file data_kind keep cut may unchanged (inl refl) eight is_cut no_link there is puts replaces stands) (found_value v w a c d was settled entry file data_kind keep cut may unchanged (inl refl) eight is_cut no_link there is puts replaces stands (updates v w a c d was settled entry file data_kind keep cut may unchanged (inl refl) eight is_cut no_link there is puts replaces stands)) no_link (inl refl) eight is_cut (nodes v w a c d was settled entry file data_kind keep cut may unchanged (inl refl) eight is_cut no_link there is puts replaces stands) (cut_fork_of (volume_of a.content).head.block_size file.data_fork cut) ∙ stays_in (volume_of a.content) settled.sound data_kind keep entry.parent entry.name file cut (lists_of w d.content).catalog_pairs (facts_on w.catalog.file) (bits_on (given_back cut.goes v)) (updates v w a c d was settled entry file data_kind keep cut may unchanged (inl refl) eight is_cut no_link there is puts replaces stands) (found_value v w a c d was settled entry file data_kind keep cut may unchanged (inl refl) eight is_cut no_link there is puts replaces stands (updates v w a c d was settled entry file data_kind keep cut may unchanged (inl refl) eight is_cut no_link there is puts replaces stands)) no_link (inl refl) eight is_cut (nodes v w a c d was settled entry file data_kind keep cut may unchanged (inl refl) eight is_cut no_link there is puts replaces stands)
+
+    were : extents_of (overflow_in_volume (volume_of a.content)) file.fields.id data_kind file.data_fork ≡ in_use file.data_fork.extents.extents
+    were = extents_alone (volume_of a.content) settled.sound data_kind keep entry.parent entry.name file cut (lists_of w d.content).catalog_pairs (facts_on w.catalog.file) (bits_on (given_back cut.goes v)) (updates v w a c d was settled entry file data_kind keep cut may unchanged (inl refl) eight is_cut no_link there is puts replaces stands) (found_value v w a c d was settled entry file data_kind keep cut may unchanged (inl refl) eight is_cut no_link there is puts replaces stands (updates v w a c d was settled entry file data_kind keep cut may unchanged (inl refl) eight is_cut no_link there is puts replaces stands)) no_link (inl refl) eight is_cut (nodes v w a c d was settled entry file data_kind keep cut may unchanged (inl refl) eight is_cut no_link there is puts replaces stands) file.data_fork
+
+    abbrev list : List Extent
+    list = in_use file.data_fork.extents.extents
+
+    -- the sectors of its blocks, in two parts
+    parts : sectors_of (per_block_of head) (blocks_of list) ≡ sectors_of (per_block_of head) (blocks_of cut.stays) ++ sectors_of (per_block_of head) (drop is_cut.last.left (blocks_of list))
+    parts =
+        ap (sectors_of (per_block_of head)) (sym (take-append-drop is_cut.last.left (blocks_of list)))
+        ∙ flat_map-append (λ block. range_with_len (block * per_block_of head) (per_block_of head)) (take is_cut.last.left (blocks_of list)) (drop is_cut.last.left (blocks_of list))
+        ∙ ap (λ l. sectors_of (per_block_of head) l ++ sectors_of (per_block_of head) (drop is_cut.last.left (blocks_of list))) (sym is_cut.last.stay)
+
+    its_sector : (s : ℕ) → Contains (sectors_of (per_block_of head) (blocks_of cut.stays)) s → Contains (sectors_of (per_block_of (volume_of a.content).head) (blocks_of (extents_of (overflow_in_volume (volume_of a.content)) file.fields.id data_kind file.data_fork))) s
+    its_sector s has =
+        subst (λ (k : VolumeHeader × List Extent). Contains (sectors_of (per_block_of k.0) (blocks_of k.1)) s) {x = (head, list)} {y = ((volume_of a.content).head, extents_of (overflow_in_volume (volume_of a.content)) file.fields.id data_kind file.data_fork)} (λ i. (sym head_is i, sym were i))
+        (subst (λ (l : List ℕ). Contains l s) (sym parts) (Contains-append_left (sectors_of (per_block_of head) (blocks_of cut.stays)) (sectors_of (per_block_of head) (drop is_cut.last.left (blocks_of list))) s has))
+
+    agrees : (s : ℕ) → Contains (sectors_of (per_block_of head) (blocks_of cut.stays)) s → sector d.content s ≡ sector a.content s
+    agrees s has =
+        let value = found_value v w a c d was settled entry file data_kind keep cut may unchanged (inl refl) eight is_cut no_link there is puts replaces stands (updates v w a c d was settled entry file data_kind keep cut may unchanged (inl refl) eight is_cut no_link there is puts replaces stands) in
+        let stood = entry_there v w a c d was settled entry file data_kind keep cut may unchanged (inl refl) eight is_cut no_link there is puts replaces stands in
+        off v w a c d was settled entry file data_kind keep cut may unchanged (inl refl) eight is_cut no_link there is puts replaces stands s (not_2 (volume_of a.content) settled.sound (updates v w a c d was settled entry file data_kind keep cut may unchanged (inl refl) eight is_cut no_link there is puts replaces stands).entry file stood value s (its_sector s has))
+        (not_in_catalog (volume_of a.content) settled.sound (updates v w a c d was settled entry file data_kind keep cut may unchanged (inl refl) eight is_cut no_link there is puts replaces stands).entry file stood value s (its_sector s has)) (not_in_map (volume_of a.content) settled.sound (updates v w a c d was settled entry file data_kind keep cut may unchanged (inl refl) eight is_cut no_link there is puts replaces stands).entry file stood value s (its_sector s has))
+
+    long_enough : file.data_fork.logical_size ≤ length (block_bytes a.content (block_limit a.content) (sectors_of (per_block_of head) (blocks_of cut.stays)))
+    long_enough =
+        let stays_long : length (blocks_of cut.stays) ≡ is_cut.last.left = ap (λ (l : List ℕ). length l) is_cut.last.stay ∙ (let e : length (take is_cut.last.left (blocks_of list)) ≡ is_cut.last.left = omega (arith, length-take is_cut.last.left (blocks_of list), is_cut.last.sum) in e) in
+        let fits : file.data_fork.logical_size ≤ length (blocks_of cut.stays) * head.block_size = subst (λ (k : ℕ × VolumeHeader). file.data_fork.logical_size ≤ k.0 * k.1.block_size) {x = (is_cut.last.left, (volume_of a.content).head)} {y = (length (blocks_of cut.stays), head)} (λ i. (sym stays_long i, head_is i)) enough in
+        let whole : head.block_size ≡ 512 * per_block_of head = subst (λ h. h.block_size ≡ 512 * per_block_of h) head_is blocks.whole in
+        omega (arith, bytes_enough (per_block_of head) head.block_size file.data_fork.logical_size (blocks_of cut.stays) refl (omega (arith, whole)) fits, bytes_are_long a.content (block_limit a.content) (sectors_of (per_block_of head) (blocks_of cut.stays)))
+
+    own_bytes : file_bytes d.content (with_fork data_kind (cut_fork_of (volume_of a.content).head.block_size (fork_at data_kind file) cut) file) ≡ file_bytes a.content file
+    unfolding file_bytes
+    own_bytes =
+        (λ i. take (size_is i) (block_bytes d.content ((heads i).total_blocks * per_block_of (heads i)) (sectors_of (per_block_of (heads i)) (blocks_of (extents_of (overflow i) file.fields.id data_kind (cut_fork_of (volume_of a.content).head.block_size file.data_fork cut))))))
+        ∙ (λ i. take size (block_bytes d.content (block_limit a.content) (sectors_of (per_block_of head) (blocks_of (stays_are i)))))
+        ∙ ap (take size) (same_bytes a.content d.content (block_limit a.content) (sectors_of (per_block_of head) (blocks_of cut.stays)) agrees)
+        ∙ sym (take_front size (block_bytes a.content (block_limit a.content) (sectors_of (per_block_of head) (blocks_of cut.stays))) (block_bytes a.content (block_limit a.content) (sectors_of (per_block_of head) (drop is_cut.last.left (blocks_of list)))) long_enough)
+        ∙ ap (take size) (sym (bytes_append a.content (block_limit a.content) (sectors_of (per_block_of head) (blocks_of cut.stays)) (sectors_of (per_block_of head) (drop is_cut.last.left (blocks_of list)))) ∙ ap (block_bytes a.content (block_limit a.content)) (sym parts))
+        ∙ (λ i. take size (block_bytes a.content (block_limit a.content) (sectors_of (per_block_of head) (blocks_of (sym were i)))))
+
+    module _ (law : ShrunkCut) (bytes : OthersKeepBytes) (user : IsUserFile file.fields.id (volume_of a.content)) (shrunk : Option ℕ) (next : next_reclaim (volume_of a.content) shrunk ≡ Some (CutShrunk file.fields.id)) (least : blocks_wanted (volume_of a.content) file.fields.id data_kind ≤ is_cut.last.left) where
+      by_shrunk : IsSoundVolume new × (tree_in new (file_bytes d.content) ≡ tree_in (volume_of a.content) (file_bytes a.content)) × Does (CutShrunk file.fields.id) (volume_of a.content) new
+      by_shrunk = law file.fields.id is_cut.last.left cut.goes.count (volume_of a.content) new (file_bytes a.content) (file_bytes d.content) settled.sound user (does v w a c d was settled entry file data_kind keep cut may unchanged (inl refl) eight is_cut no_link there is puts replaces stands) least
+          (ap (file_bytes d.content) (does_after v w a c d was settled entry file data_kind keep cut may unchanged (inl refl) eight is_cut no_link there is puts replaces stands).0 ∙ own_bytes ∙ sym (ap (file_bytes a.content) (does_after v w a c d was settled entry file data_kind keep cut may unchanged (inl refl) eight is_cut no_link there is puts replaces stands).1)) (others v w a c d was settled entry file data_kind keep cut may unchanged (inl refl) eight is_cut no_link there is puts replaces stands bytes)
+
+      pub shrunk_done : IsSettled w d.content × CutsFile shrunk a.content d.content
+      shrunk_done = (
+        settled_now v w a c d was settled entry file data_kind keep cut may unchanged (inl refl) eight is_cut no_link there is puts replaces stands by_shrunk.0,
+        record {
+          step = CutShrunk file.fields.id;
+          is_cut = inl (file.fields.id, refl);
+          next = next;
+          does = subst (λ (l : VolumeState). Does (CutShrunk file.fields.id) (volume_of a.content) l) (sym (volume_now v w a c d was settled entry file data_kind keep cut may unchanged (inl refl) eight is_cut no_link there is puts replaces stands)) (record { cut = by_shrunk.2.cut; others = by_shrunk.2.others });
+          keeps = keeps v w a c d was settled entry file data_kind keep cut may unchanged (inl refl) eight is_cut no_link there is puts replaces stands (λ id other tree. by_shrunk.2.others id other (inl (λ same. absurd (omega (arith, same, high_id v w a c d was settled entry file data_kind keep cut may unchanged (inl refl) eight is_cut no_link there is puts replaces stands, low_tree v w a c d was settled entry file data_kind keep cut may unchanged (inl refl) eight is_cut no_link there is puts replaces stands id tree)))));
+          tree = tree_same v w a c d was settled entry file data_kind keep cut may unchanged (inl refl) eight is_cut no_link there is puts replaces stands by_shrunk.1;
+        },
+      )

@@ -1,0 +1,93 @@
+-- The file of a node that isn't a folder, as data is put into it: its record, by its CNID, and its size.
+use Rattle.std.proofs.Common.{◌≡◌, ◌<◌, ◌≤◌, ℕ, ◌+◌, false, List, length, refl, sym, ◌∙◌, ap, subst, arith}
+use Rattle.std.specs.Prelude.{Contains, IsTrue, Some}
+use Rattle.sector_disk.specs.Space.{Space}
+use Rattle.catalog.specs.Pairs.{value_at}
+use Rattle.cat_records.specs.declared.record.CatRecord.{CatRecord}
+use Rattle.cat_records.specs.declared.record.CatRecord.TheVariants.{Folder, File, Thread}
+use Rattle.cat_records.specs.declared.record.FileRecord.{FileRecord}
+use Rattle.cat_records.specs.declared.record.FolderRecord.{FolderRecord}
+use Rattle.cat_records.specs.declared.record.ThreadRecord.{ThreadRecord}
+use Rattle.hfs_model.specs.declared.plain.PlainNode.{PlainNode}
+use Rattle.hfs_volume.specs.Content.{VolumeState, records_of, volume_of}
+use Rattle.hfs_volume.specs.Records.{Placed, entries_of, id_in}
+use Rattle.hfs_volume.specs.TreeOf.{file_bytes, tree_of}
+use Rattle.hfs_volume.specs.Weight.{Data}
+use Rattle.hfs_volume.proofs.Hiding.{same_entry}
+use Rattle.volume_base.specs.Lists.{lists_of}
+use Rattle.volume_base.specs.Reading.{HasFile}
+use Rattle.volume_base.specs.Standing.{IsSettled, StandsOver}
+use Rattle.volume_space.specs.Writing.{IsAt, IsToldFile, can_put, data_load, extents_in, is_put_now, put_load}
+use Rattle.volume_base.specs.declared.entries.Entry.{Entry}
+use Rattle.volume_base.specs.declared.volume.Volume.{Volume}
+use Rattle.volume_base.proofs.FileBytes.{bytes_long}
+use Rattle.volume_base.proofs.FoundEntry.{IsThere}
+use Rattle.volume_space.proofs.NextCut.{stands_there}
+use Rattle.volume_base.proofs.PlainFiles.{IsFileOf, file_of_node}
+use Rattle.volume_space.proofs.PutAllowed.{load_is}
+use Rattle.volume_space.proofs.PutWhere.{put_now}
+use Rattle.volume_base.proofs.Rising.{settled_sorted}
+
+abbrev file_or : FileRecord → CatRecord → FileRecord
+file_or other (Folder folder) = other
+file_or other (File file) = file
+file_or other (Thread thread) = other
+
+pub same_file : (one other : FileRecord) → File one ≡ File other → one ≡ other
+same_file one other is = ap (file_or one) is
+
+pub not_folder : (folder : FolderRecord) (file : FileRecord) → Folder folder ≡ File file → ⊥
+not_folder folder file same = cc same
+
+pub not_thread : (thread : ThreadRecord) (file : FileRecord) → Thread thread ≡ File file → ⊥
+not_thread thread file same = cc same
+
+module _ (v : Volume) (a : Space) (holds : StandsOver v a) (tells : IsTrue a.tells) (settled : IsSettled v a.content) (node : PlainNode) (stands : Contains (tree_of a.content).nodes node) (kind : node.folder ≡ false) where
+  pub its : IsFileOf (volume_of a.content) (file_bytes a.content) node
+  unfolding tree_of
+  its = file_of_node (volume_of a.content) settled.sound (settled_sorted v a.content (holds.stands tells).trees settled) (file_bytes a.content) node stands kind
+
+  -- a file with its CNID is this
+  pub only : (file : FileRecord) → HasFile (records_of (volume_of a.content)) file → file.fields.id ≡ node.id → its.file ≡ file
+  only file has number =
+      let one : has.entry ≡ its.entry = same_entry (volume_of a.content).head.next_catalog_id (entries_of (records_of (volume_of a.content))) settled.sound.entries.ids has.entry its.entry has.stands its.stands
+      (ap id_in has.value ∙ number ∙ its.id ∙ sym (ap id_in its.value)) in
+      sym (same_file file its.file (sym has.value ∙ ap (λ (p : Placed). p.value) one ∙ its.value))
+
+  -- and so is the entry that is found by it
+  pub entry_is : (id : ℕ) (entry : Entry) → node.id ≡ id → IsThere (lists_of v a.content).catalog_pairs id entry → entry.rec ≡ File its.file
+  entry_is id entry number there =
+      let e = stands_there (volume_of a.content) settled.sound entry.parent entry.name entry.rec there.kind (ap (λ (l : VolumeState). value_at l.catalog_pairs entry.parent entry.name) settled.lists ∙ there.value) in
+      let one : e.0 ≡ its.entry = same_entry (volume_of a.content).head.next_catalog_id (entries_of (records_of (volume_of a.content))) settled.sound.entries.ids e.0 its.entry e.1 its.stands
+      (ap id_in e.2 ∙ there.number ∙ sym number ∙ its.id ∙ sym (ap id_in its.value)) in
+      sym e.2 ∙ ap (λ (p : Placed). p.value) one ∙ its.value
+
+  module _ (file : FileRecord) (same : its.file ≡ file) where
+    pub told_is : IsToldFile file (extents_in a.content file) a.content
+    told_is = subst (λ (f : FileRecord). IsToldFile f (extents_in a.content f) a.content) same (record { entry = its.entry; stands = its.stands; value = its.value; extents_are = refl; no_link = its.no_link })
+
+    pub has_it : HasFile (records_of (volume_of a.content)) file
+    has_it = subst (λ (f : FileRecord). HasFile (records_of (volume_of a.content)) f) same (record { entry = its.entry; stands = its.stands; value = its.value })
+
+    pub number_is : file.fields.id ≡ node.id
+    number_is = sym (its.id ∙ ap (λ (f : FileRecord). f.fields.id) same)
+
+    pub long_is : length node.bytes ≡ file.data_fork.logical_size
+    long_is = ap (λ (l : List ℕ). length l) its.bytes ∙ bytes_long a.content settled.sound its.file its.entry its.stands its.value ∙ ap (λ (f : FileRecord). f.data_fork.logical_size) same
+
+    -- whether data can be put into it now
+    pub now_is : (put : Data) (from long spare : ℕ) → put.id ≡ node.id → IsAt put (length node.bytes) from (from + long)
+        → can_put v spare (length (extents_in a.content file)) file.data_fork.total_blocks file.data_fork.logical_size from long ≡ is_put_now v spare (volume_of a.content) (Some put)
+    now_is put from long spare number at =
+        put_now v a.content settled file has_it put from long (number ∙ sym number_is) (subst (λ n. IsAt put n from (from + long)) long_is at) (omega (arith, holds.service.least)) spare
+
+    -- and what it loads
+    pub load_now : (put : Data) (from long : ℕ) → IsAt put (length node.bytes) from (from + long) → put_load v file.data_fork.logical_size from long ≡ data_load v put
+    load_now put from long at = load_is v put file.data_fork.logical_size from long (subst (λ n. IsAt put n from (from + long)) long_is at) (omega (arith, holds.service.least))
+
+-- the file is the same one behind a keep, or a read
+pub same_files : (v k : Volume) (a : Space) (holds : StandsOver v a) (held : StandsOver k a) (tells : IsTrue a.tells) (settled : IsSettled v a.content) (kept : IsSettled k a.content) (node : PlainNode) (stands : Contains (tree_of a.content).nodes node) (kind : node.folder ≡ false)
+    → (its v a holds tells settled node stands kind).file ≡ (its k a held tells kept node stands kind).file
+same_files v k a holds held tells settled kept node stands kind =
+    only v a holds tells settled node stands kind (its k a held tells kept node stands kind).file (has_it k a held tells kept node stands kind (its k a held tells kept node stands kind).file refl)
+    (number_is k a held tells kept node stands kind (its k a held tells kept node stands kind).file refl)

@@ -1,0 +1,306 @@
+-- Data is put into a file: its bytes are spilled, its record is replaced, and then the bitmap and the header are put. The volume is settled again, and its lists
+-- are those that the laws speak of.
+use Rattle.std.proofs.Common.{◌≡◌, ◌⊎◌, inl, inr, ◌<◌, ◌≤◌, ℕ, ◌+◌, ◌*◌, ◌/◌, false, List, [], ◌∷◌, ◌++◌, length, take, drop, refl, sym, ◌∙◌, ap, subst, arith, ⊎_elim, take-append-drop}
+use Rattle.std.specs.Prelude.{Contains, IsTrue, Option, Some}
+use Rattle.std.specs.Option.{option_map}
+use Rattle.std.proofs.lemmas.List.Elements.{Contains-append_left, Contains-append_right, Contains-append_cases}
+use Rattle.hx_bytes.specs.Fork.{FitsFork}
+use Rattle.hx_bytes.specs.declared.extents.Extent.{Extent}
+use Rattle.hx_bytes.specs.declared.extents.ForkRecord.{ForkRecord}
+use Rattle.volume_header.specs.declared.header.VolumeHeader.{VolumeHeader}
+use Rattle.jnl_format.specs.Recovery.{header_of_volume}
+use Rattle.sector_disk.specs.Lists.{Content, sector}
+use Rattle.sector_disk.specs.Space.{AgreesOutside, Space}
+use Rattle.flag_rows.specs.Bits.{count_set}
+use Rattle.fork_map.specs.Blocks.{blocks_of, sectors_of}
+use Rattle.alloc_bitmap.specs.Map.{BlockMap, free_of}
+use Rattle.btree_node.specs.Levels.{Pair}
+use Rattle.btree_file.specs.State.{sectors_of_tree}
+use Rattle.file_io.specs.Bytes.{fork_bytes as bytes_read, written}
+use Rattle.file_io.specs.Places.{fresh_of}
+use Rattle.file_io.specs.Touching.{IsOneOf}
+use Rattle.overflow.specs.Records.{eight_at}
+use Rattle.cat_records.specs.Fits.{FitsFile}
+use Rattle.cat_records.specs.declared.record.CatRecord.{CatRecord}
+use Rattle.cat_records.specs.declared.record.CatRecord.TheVariants.{File}
+use Rattle.cat_records.specs.declared.record.FileRecord.{FileRecord}
+use Rattle.catalog.specs.Entries.{UpdatesEntry}
+use Rattle.catalog.specs.Pairs.{value_at}
+use Rattle.hfs_model.specs.declared.plain.PlainTree.{PlainTree}
+use Rattle.hfs_volume.specs.Blocks.{forks_of}
+use Rattle.hfs_volume.specs.Changes.{FlipsBits, HasSameNodes}
+use Rattle.hfs_volume.specs.Commands.{AreBytesOf}
+use Rattle.hfs_volume.specs.Content.{VolumeState, block_limit, overflow_in_volume, records_of, volume_of}
+use Rattle.hfs_volume.specs.Data.{AreFresh}
+use Rattle.hfs_volume.specs.Forks.{Owned, attributes_id, blocks_owned, data_kind, extents_of, per_block_of}
+use Rattle.hfs_volume.specs.Links.{private_id}
+use Rattle.hfs_volume.specs.Records.{Placed, entries_of, is_link_type, placed_in}
+use Rattle.hfs_volume.specs.Sound.{IsSoundVolume}
+use Rattle.hfs_volume.specs.TreeOf.{file_bytes, tree_in, tree_of}
+use Rattle.hfs_volume.specs.Writing.{KeepsOthers, MakesBytes, OthersKeepBytes, RewritesFile, file_before, with_free, written_bytes}
+use Rattle.hfs_volume.proofs.Bytes.{file_bytes_are}
+use Rattle.hfs_volume.proofs.Flat.{some_same}
+use Rattle.hfs_volume.proofs.Members.{each_of}
+use Rattle.hfs_volume.proofs.Sectors.{in_block}
+use Rattle.hfs_volume.proofs.Untouched.{HasWholeBlocks, data_fork_of, file_fork_stands, whole_blocks}
+use Rattle.volume_base.specs.Changing.{ChangesCatalog}
+use Rattle.volume_base.specs.Lists.{bits_on, facts_on, lists_of}
+use Rattle.volume_space.specs.Mapping.{HoldsMap}
+use Rattle.volume_base.specs.Standing.{IsSettled, IsStanding, map_sectors, with_attributes_tree}
+use Rattle.volume_space.specs.Writing.{extents_in, with_data_put, with_record, with_spill}
+use Rattle.volume_base.specs.declared.volume.Tree.{Tree}
+use Rattle.volume_base.specs.declared.volume.Volume.{Volume}
+use Rattle.volume_base.proofs.FileBytes.{bytes_are}
+use Rattle.volume_base.proofs.FilesKept.{ReadsAs, allocation_sectors, attributes_apart, attributes_off_map, attributes_sectors, catalog_sectors}
+use Rattle.volume_space.proofs.GrownBits.{bits_read}
+use Rattle.volume_space.proofs.GrownFree.{below_product}
+use Rattle.volume_base.proofs.ListsAgain.{attributes_again}
+use Rattle.volume_space.proofs.PutBytes.{IsSpecial, block_fresh, bytes_then, fresh_apart, put_agrees, written_is}
+use Rattle.volume_space.proofs.PutLists.{before_is, makes, now_blocks, put_is, rewrites}
+use Rattle.volume_base.proofs.Resettling.{bits_at, lists_anew, settles}
+use Rattle.volume_space.proofs.Resized.{IsRecordOf, private_again, rewritten, stood, with_data}
+use Rattle.volume_space.proofs.Sounding.{sound_here}
+use Rattle.volume_space.proofs.SpilledBits.{fresh_are}
+use Rattle.volume_space.proofs.SpilledFile.{file_fits, block_below}
+use Rattle.volume_base.proofs.TreesSettled.{header_settled, tree_without}
+
+pub in_take : (n : ℕ) (xs : List ℕ) (x : ℕ) → Contains (take n xs) x → Contains xs x
+in_take n xs x stands = subst (λ l. Contains l x) (take-append-drop n xs) (Contains-append_left (take n xs) (drop n xs) x stands)
+
+pub in_drop : (n : ℕ) (xs : List ℕ) (x : ℕ) → Contains (drop n xs) x → Contains xs x
+in_drop n xs x stands = subst (λ l. Contains l x) (take-append-drop n xs) (Contains-append_right (take n xs) (drop n xs) x stands)
+
+-- What was done, stage by stage, to put a value into a file.
+pub record IsPutThrough (v : Volume) (a : Space) (later : BlockMap) (cat : Tree) (free : ℕ) (b c : Content) (e : Space) (n parent : ℕ) (name : List ℕ) (fork : ForkRecord) (file : FileRecord) (from count : ℕ) (more : List Extent) (place : ℕ) (value : List ℕ) : Type 0 where
+  pub enough : n ≤ count_set (free_of v.map)
+  pub spilled : AgreesOutside (IsOneOf (sectors_of (per_block_of v.header) (blocks_of (fresh_of v.map n)))) a.content b
+  pub spill_lists : lists_of (with_spill v later) b ≡ record (lists_of v a.content) { bits = bits_on (with_spill v later) }
+  pub updates : UpdatesEntry parent name (File (rewritten v.header.modify_date fork file)) (lists_of (with_spill v later) b).catalog_pairs (lists_of (with_record v later cat) c).catalog_pairs
+  pub changes : ChangesCatalog (with_spill v later) (with_record v later cat) b c
+  pub there : value_at (lists_of v a.content).catalog_pairs parent name ≡ Some (File file)
+  pub no_link : is_link_type file.fields ≡ false
+  pub fits : FitsFile file
+  pub fits_fork : FitsFork fork
+  pub stands : IsStanding (with_data_put v later cat free) e
+  pub headed : header_of_volume e.content ≡ (with_data_put v later cat free).header
+  pub map_held : HoldsMap (with_data_put v later cat free) e.content
+  pub lists_after : lists_of (with_data_put v later cat free) e.content ≡ lists_of (with_data_put v later cat free) c
+  pub outside : AgreesOutside (λ s. (s ≡ 2) ⊎ Contains (map_sectors (with_data_put v later cat free)) s) c e.content
+  pub few : length (extents_in a.content file) < 8
+  pub gets : fork.extents ≡ eight_at more 0
+  pub many : length more ≤ 8
+  pub total : fork.total_blocks ≡ length (blocks_of more)
+  pub size_held : fork.logical_size ≤ length (blocks_of more) * v.header.block_size
+  pub blocks : blocks_of more ≡ take from (blocks_of (extents_in a.content file)) ++ (blocks_of (fresh_of v.map n) ++ drop (from + count) (blocks_of (extents_in a.content file)))
+  pub within : from + count ≤ length (blocks_of (extents_in a.content file))
+  pub flips : FlipsBits (blocks_of (fresh_of v.map n)) (take count (drop from (blocks_of (extents_in a.content file)))) (volume_of a.content) (record (volume_of a.content) { bits = bits_on (with_spill v later) })
+  pub counts : free + length (blocks_of (fresh_of v.map n)) ≡ v.header.free_blocks + count
+  pub bytes : take fork.logical_size (bytes_read b v.header.block_size more) ≡ written (take file.data_fork.logical_size (bytes_read a.content v.header.block_size (extents_in a.content file))) place value
+
+module _ (v : Volume) (a : Space) (was : IsStanding v a) (settled : IsSettled v a.content) (later : BlockMap) (cat : Tree) (free : ℕ) (b c : Content) (e : Space) (n parent : ℕ) (name : List ℕ) (fork : ForkRecord) (file : FileRecord) (from count : ℕ) (more : List Extent)
+    (place : ℕ) (value : List ℕ) (does : IsPutThrough v a later cat free b c e n parent name fork file from count more place value)
+  where
+    abbrev w : Volume
+    w = with_data_put v later cat free
+
+    abbrev old : VolumeState
+    old = volume_of a.content
+
+    abbrev fresh : List ℕ
+    fresh = blocks_of (fresh_of v.map n)
+
+    abbrev pairs : List Pair
+    pairs = (lists_of (with_record v later cat) c).catalog_pairs
+
+    -- the lists that it leads to
+    abbrev pub lists_put : VolumeState
+    lists_put = record (volume_of a.content) { head = with_free free (volume_of a.content).head.next_allocation (volume_of a.content).head; catalog_pairs = (lists_of (with_record v later cat) c).catalog_pairs; catalog_tree = facts_on cat.file; bits = bits_on (with_data_put v later cat free) }
+
+    head_is : (volume_of a.content).head ≡ v.header
+    head_is = ap (λ (l : VolumeState). l.head) settled.lists
+
+    pairs_are : (lists_of (with_spill v later) b).catalog_pairs ≡ (volume_of a.content).catalog_pairs
+    pairs_are = ap (λ (l : VolumeState). l.catalog_pairs) does.spill_lists ∙ sym (ap (λ (l : VolumeState). l.catalog_pairs) settled.lists)
+
+    updated : UpdatesEntry parent name (File (rewritten v.header.modify_date fork file)) (volume_of a.content).catalog_pairs pairs
+    updated = subst (λ (l : List Pair). UpdatesEntry parent name (File (rewritten v.header.modify_date fork file)) l pairs) pairs_are does.updates
+
+    there_now : value_at (volume_of a.content).catalog_pairs parent name ≡ Some (File file)
+    there_now = ap (λ (l : VolumeState). value_at l.catalog_pairs parent name) settled.lists ∙ does.there
+
+    is_record : IsRecordOf v.header.modify_date parent name fork file (volume_of a.content).catalog_pairs pairs
+    is_record = made updated
+      where
+        made : UpdatesEntry parent name (File (rewritten v.header.modify_date fork file)) (volume_of a.content).catalog_pairs pairs → IsRecordOf v.header.modify_date parent name fork file (volume_of a.content).catalog_pairs pairs
+        made u = record {
+          updates = u;
+          value = some_same u.entry.value (File file) (sym (ap (option_map (λ (p : Placed). p.value)) u.found) ∙ there_now);
+          no_link = does.no_link;
+          fits = does.fits;
+          fits_fork = does.fits_fork;
+        }
+
+    nodes : HasSameNodes (volume_of a.content).catalog_tree (facts_on cat.file)
+    nodes = record {
+      total = does.changes.nodes.0 ∙ sym (ap (λ (l : VolumeState). l.catalog_tree.shape.total) settled.lists);
+      size = does.changes.nodes.1 ∙ sym (ap (λ (l : VolumeState). l.catalog_tree.shape.node_size) settled.lists);
+    }
+
+    are_fresh : AreFresh (volume_of a.content) (blocks_of (fresh_of v.map n))
+    are_fresh = fresh_are v a was settled n does.enough
+
+    entry_there : Contains (entries_of (records_of (volume_of a.content))) is_record.updates.entry
+    entry_there = stood v.header.modify_date parent name fork file (volume_of a.content) lists_put is_record settled.sound
+
+    fork_there : Contains (forks_of (volume_of a.content)) (data_fork_of file)
+    fork_there = file_fork_stands (volume_of a.content) is_record.updates.entry file entry_there is_record.value
+
+    cases : (block : ℕ) → Contains (blocks_of more) block → Contains (blocks_of (extents_in a.content file)) block ⊎ Contains (blocks_of (fresh_of v.map n)) block
+    cases block has = ⊎_elim (λ front. inl (in_take from (blocks_of (extents_in a.content file)) block front))
+        (λ behind. ⊎_elim (λ new. inr new) (λ back. inl (in_drop (from + count) (blocks_of (extents_in a.content file)) block back)) (Contains-append_cases fresh (drop (from + count) (blocks_of (extents_in a.content file))) block behind))
+        (Contains-append_cases (take from (blocks_of (extents_in a.content file))) (fresh ++ drop (from + count) (blocks_of (extents_in a.content file))) block (subst (λ (l : List ℕ). Contains l block) does.blocks has))
+
+    below : (block : ℕ) → Contains (blocks_of more) block → block < (volume_of a.content).head.total_blocks
+    below block has = ⊎_elim
+        (λ had. omega (arith, block_below (length v.map.used) (extents_in a.content file) (file_fits v a settled (data_fork_of file) fork_there) block had, settled.blocks, ap (λ (h : VolumeHeader). h.total_blocks) head_is))
+        (λ new. each_of (λ (k : ℕ). k < (volume_of a.content).head.total_blocks) fresh are_fresh.inside block new)
+        (cases block has)
+
+    size_held : fork.logical_size ≤ length (blocks_of more) * (volume_of a.content).head.block_size
+    size_held = subst (λ (h : VolumeHeader). fork.logical_size ≤ length (blocks_of more) * h.block_size) (sym head_is) does.size_held
+
+    counted : free + length (blocks_of (fresh_of v.map n)) ≡ (volume_of a.content).head.free_blocks + count
+    counted = does.counts ∙ ap (λ (h : VolumeHeader). h.free_blocks + count) (sym head_is)
+
+    pub rewrites_it : RewritesFile file.fields.id from count (blocks_of (fresh_of v.map n)) (volume_of a.content) lists_put
+    rewrites_it = rewrites from count v.header.modify_date parent name fork file fresh (volume_of a.content) lists_put is_record settled.sound (sym (ap (λ (h : VolumeHeader). h.modify_date) head_is)) nodes free counted refl are_fresh more
+        does.fits.data_fork.extents.eight does.few does.gets does.many does.total size_held does.blocks does.within does.flips below
+
+    pub before_it : file_before rewrites_it.puts ≡ file
+    unfolding rewrites_it
+    before_it = before_is from count v.header.modify_date parent name fork file fresh (volume_of a.content) lists_put is_record settled.sound (sym (ap (λ (h : VolumeHeader). h.modify_date) head_is)) nodes free counted refl are_fresh more
+        does.fits.data_fork.extents.eight does.few does.gets does.many does.total size_held does.blocks does.within does.flips below
+
+    -- ---- the content behind it
+
+    lists_are : record (lists_of (with_data_put v later cat free) e.content) { attributes_tree = (volume_of a.content).attributes_tree } ≡ lists_put
+    lists_are =
+        (λ i. record (does.lists_after i) { attributes_tree = (volume_of a.content).attributes_tree })
+        ∙ (λ i. record (does.changes.lists i) { head = w.header; attributes_tree = (volume_of a.content).attributes_tree })
+        ∙ (λ i. record (does.spill_lists i) { head = w.header; catalog_pairs = pairs; catalog_tree = facts_on cat.file; attributes_tree = (volume_of a.content).attributes_tree })
+        ∙ sym (λ i. record (settled.lists i) { head = w.header; catalog_pairs = pairs; catalog_tree = facts_on cat.file; bits = bits_on w })
+        ∙ (λ i. record (volume_of a.content) { head = record (sym head_is i) { free_blocks = free }; catalog_pairs = pairs; catalog_tree = facts_on cat.file; bits = bits_on w })
+
+    bits_fit : length later.used ≤ 8 * v.header.allocation_fork.logical_size
+    bits_fit = omega (
+      arith,
+      does.stands.blocks,
+      settled.sound.blocks.files.bits,
+      ap (λ (h : VolumeHeader). h.total_blocks) head_is,
+      ap (λ (h : VolumeHeader). h.allocation_fork.logical_size) head_is,
+    )
+
+    bits : bits_at e.content w ≡ bits_on w
+    bits = bits_read w e does.stands does.headed bits_fit does.map_held
+
+    pub volume_now : volume_of e.content ≡ with_attributes_tree lists_put (volume_of e.content)
+    volume_now = lists_anew w e does.stands does.headed bits ∙ (λ i. with_attributes_tree (lists_are i) (volume_of e.content))
+
+    reads : ReadsAs e.content lists_put
+    reads = record {
+      overflow = ap (λ (l : VolumeState). l.overflow_pairs) volume_now;
+      total = ap (λ (h : VolumeHeader). h.total_blocks) does.headed ∙ ap (λ (h : VolumeHeader). h.total_blocks) (sym head_is);
+      block = ap (λ (h : VolumeHeader). h.block_size) does.headed ∙ ap (λ (h : VolumeHeader). h.block_size) (sym head_is);
+    }
+
+    pub tree_put : tree_of e.content ≡ tree_in lists_put (file_bytes e.content)
+    unfolding tree_of
+    tree_put = ap (λ (l : VolumeState). tree_in l (file_bytes e.content)) volume_now ∙ tree_without lists_put (volume_of e.content).attributes_tree (file_bytes e.content)
+
+    -- ---- where a law says that these lists are a sound volume's, with a tree
+
+    module _ (sound : IsSoundVolume lists_put) where
+      pub settled_put : IsSettled (with_data_put v later cat free) e.content
+      settled_put = settles w e does.stands does.headed bits (volume_of a.content).attributes_tree settled.attributes (subst IsSoundVolume (sym lists_are) sound)
+          (settled.private ∙ sym (private_again v.header.modify_date parent name fork file (volume_of a.content) lists_put is_record settled.sound) ∙ ap (λ (l : VolumeState). private_id (placed_in l.catalog_pairs)) (sym lists_are))
+
+    -- ---- the sectors
+
+    catalog_are : sectors_of_tree v.catalog.file ≡ catalog_sectors (volume_of a.content)
+    catalog_are = (λ i. sectors_of (was.forks.catalog_per i) (blocks_of (was.forks.catalog i))) ∙ sym (ap (λ (l : VolumeState). catalog_sectors l) settled.lists)
+
+    map_are : map_sectors w ≡ allocation_sectors (volume_of a.content)
+    map_are = (λ i. sectors_of (does.stands.forks.map_per i) (blocks_of (does.stands.forks.map i))) ∙ ap (λ (l : VolumeState). allocation_sectors l) lists_are
+
+    later_agrees : AgreesOutside (IsSpecial (volume_of a.content)) b e.content
+    later_agrees = record {
+      size = does.outside.size ∙ does.changes.outside.size;
+      each = λ s. by s (does.changes.outside.each s) (does.outside.each s);
+    }
+      where
+        by : (s : ℕ) → (sector c s ≡ sector b s) ⊎ ((s ≡ 2) ⊎ Contains (sectors_of_tree v.catalog.file) s) → (sector e.content s ≡ sector c s) ⊎ ((s ≡ 2) ⊎ Contains (map_sectors w) s) → (sector e.content s ≡ sector b s) ⊎ IsSpecial (volume_of a.content) s
+        by s first (inr (inl two)) = inr (inl two)
+        by s first (inr (inr map)) = inr (inr (inr (subst (λ (l : List ℕ). Contains l s) map_are map)))
+        by s (inr (inl two)) (inl same) = inr (inl two)
+        by s (inr (inr has)) (inl same) = inr (inr (inl (subst (λ (l : List ℕ). Contains l s) catalog_are has)))
+        by s (inl was_same) (inl same) = inl (same ∙ was_same)
+
+    spilled : AgreesOutside (IsOneOf (sectors_of (per_block_of (volume_of a.content).head) (blocks_of (fresh_of v.map n)))) a.content b
+    spilled = subst (λ (h : VolumeHeader). AgreesOutside (IsOneOf (sectors_of (per_block_of h) (blocks_of (fresh_of v.map n)))) a.content b) (sym head_is) does.spilled
+
+    -- ---- the attributes file
+
+    abbrev own_attributes : Owned
+    own_attributes = record { id = attributes_id; kind = data_kind; fork = (volume_of a.content).head.attributes_fork }
+
+    special_there : (s : ℕ) → Contains (attributes_sectors (volume_of a.content)) s → Contains (blocks_owned (overflow_in_volume (volume_of a.content)) own_attributes) (s / per_block_of (volume_of a.content).head)
+    special_there s has = in_block (per_block_of (volume_of a.content).head) (blocks_owned (overflow_in_volume (volume_of a.content)) own_attributes) s (whole_blocks (volume_of a.content).sectors (volume_of a.content).head settled.sound.blocks.header.accepted).some has
+
+    attributes_still : (s : ℕ) → Contains (attributes_sectors (volume_of a.content)) s → sector e.content s ≡ sector a.content s
+    attributes_still s has =
+        let apart = attributes_apart (volume_of a.content) settled.sound s has in
+        ⊎_elim (λ same. same) (λ special. absurd (⊎_elim (λ two. apart.0 two) (λ others. ⊎_elim (λ there. apart.1 there) (λ map. attributes_off_map (volume_of a.content) settled.sound s has map) others) special)) (later_agrees.each s)
+        ∙ ⊎_elim (λ same. same)
+        (λ is. absurd (fresh_apart a.content b e.content (sound_here v a was settled) fresh are_fresh spilled later_agrees (s / per_block_of (volume_of a.content).head)
+        (block_fresh a.content b e.content (sound_here v a was settled) fresh are_fresh spilled later_agrees s is) (inr (own_attributes, (4, omega arith, refl), special_there s has))))
+        (spilled.each s)
+
+    limit_same : block_limit e.content ≡ block_limit a.content
+    limit_same = ap (λ (h : VolumeHeader). h.total_blocks * per_block_of h) does.headed ∙ sym (ap (λ (h : VolumeHeader). h.total_blocks * per_block_of h) (header_settled v a.content settled))
+
+    attributes_same : (volume_of e.content).attributes_tree ≡ (volume_of a.content).attributes_tree
+    attributes_same = attributes_again a.content e.content limit_same (ap (λ (l : VolumeState). attributes_sectors l) volume_now) attributes_still
+
+    pub volume_is : volume_of e.content ≡ lists_put
+    volume_is = volume_now ∙ (λ i. record lists_put { attributes_tree = attributes_same i })
+
+    -- ---- the bytes
+
+    module _ (others_law : OthersKeepBytes) where
+      others : KeepsOthers file.fields.id (volume_of a.content) (file_bytes a.content) (file_bytes e.content)
+      unfolding rewrites_it
+      others =
+          let put = put_is from count v.header.modify_date parent name fork file fresh (volume_of a.content) lists_put is_record settled.sound (sym (ap (λ (h : VolumeHeader). h.modify_date) head_is)) nodes free counted refl are_fresh more
+          does.fits.data_fork.extents.eight does.few does.gets does.many does.total size_held does.blocks does.within does.flips below in
+          others_law file.fields.id data_kind from count fresh a.content e.content rewrites_it.put (sound_here v a was settled) rewrites_it.puts (ap (λ (l : VolumeState). l.head) volume_now ∙ sym put.0) (ap (λ (l : VolumeState). l.overflow_pairs) volume_now ∙ sym put.1)
+          (put_agrees a.content b e.content (sound_here v a was settled) fresh are_fresh spilled later_agrees)
+
+      made : file_bytes e.content (with_data fork file) ≡ written_bytes place value (file_bytes a.content file)
+      made =
+          bytes_then a.content b e.content (sound_here v a was settled) fresh are_fresh spilled later_agrees is_record.updates.entry file entry_there is_record.value (blocks_of more) cases lists_put reads refl (with_data fork file)
+          (now_blocks from count v.header.modify_date parent name fork file fresh (volume_of a.content) lists_put is_record settled.sound (sym (ap (λ (h : VolumeHeader). h.modify_date) head_is)) nodes free counted refl are_fresh more
+          does.fits.data_fork.extents.eight does.few does.gets does.many does.total size_held does.blocks does.within does.flips below)
+          (λ s has. below_product s (per_block_of (volume_of a.content).head) (volume_of a.content).head.total_blocks some (below (s / per_block_of (volume_of a.content).head) (in_block (per_block_of (volume_of a.content).head) (blocks_of more) s some has)))
+          ∙ ap (λ (h : VolumeHeader). take fork.logical_size (bytes_read b h.block_size more)) head_is
+          ∙ does.bytes
+          ∙ ap (λ (h : VolumeHeader). written (take file.data_fork.logical_size (bytes_read a.content h.block_size (extents_in a.content file))) place value) (sym (header_settled v a.content settled))
+          ∙ ap (λ (l : List ℕ). written l place value) (sym (bytes_are a.content settled.sound file is_record.updates.entry entry_there is_record.value))
+          ∙ written_is (file_bytes a.content file) place value
+        where
+          some : 0 < per_block_of (volume_of a.content).head
+          some = (whole_blocks (volume_of a.content).sectors (volume_of a.content).head settled.sound.blocks.header.accepted).some
+
+      pub makes_it : MakesBytes (written_bytes place value) rewrites_it (file_bytes a.content) (file_bytes e.content)
+      unfolding rewrites_it
+      makes_it = makes from count v.header.modify_date parent name fork file fresh (volume_of a.content) lists_put is_record settled.sound (sym (ap (λ (h : VolumeHeader). h.modify_date) head_is)) nodes free counted refl are_fresh more
+          does.fits.data_fork.extents.eight does.few does.gets does.many does.total size_held does.blocks does.within does.flips below (written_bytes place value) (file_bytes a.content) (file_bytes e.content) made others

@@ -1,0 +1,1 @@
+use Rattle.volume_space.proofs.putting.are_used.Goals as goal

@@ -1,0 +1,10 @@
+use Rattle.std.proofs.Common.{List, ℕ, length, refl, sym, ◌∙◌, ap}
+use Rattle.std.proofs.lemmas.Bool.{eqb-true}
+use Rattle.volume_space.proofs.tidying.bare_entry.Goals as goal
+
+pub returns-clause-bare : goal.returns-clause-bare
+returns-clause-bare g c tells = (
+  refl,
+  sym c.is_blockless.ensures ∙ c.if-not-is_blockless.false,
+  ap (λ (l : List (List ℕ)). length l) (sym (c.in_ok-owned.ensures.listed tells)) ∙ eqb-true (length c.in_ok-owned.owned) 0 (sym c.is_empty.ensures ∙ c.if-not-is_empty.false),
+)

@@ -1,0 +1,56 @@
+use Rattle.std.proofs.Common.{inl, ◌≡◌, ◌≤◌, length, sym, ◌∙◌, ap, arith}
+use Rattle.std.proofs.lemmas.Bool.{eqb-false}
+use Rattle.btree_node.specs.declared.store.TreeShape.{TreeShape}
+use Rattle.volume_base.proofs.Besides.{blocks_none}
+use Rattle.volume_base.proofs.Commanding.{touches_none}
+use Rattle.volume_space.proofs.tidying.tidy_entry.Goals as goal
+
+pub drop_waiting-requires-clause-size : goal.drop_waiting-requires-clause-size
+drop_waiting-requires-clause-size g c = omega (arith, c.if-shape-lt4096.false, ap (λ (s : TreeShape). s.node_size) c.shape.ensures)
+
+pub drop_waiting-requires-clause-room : goal.drop_waiting-requires-clause-room
+drop_waiting-requires-clause-room g c = c.fits_remove.ensures c.if-not-fits_remove.false
+
+pub returns-clause-tidied : goal.returns-clause-tidied
+returns-clause-tidied g c tells =
+    let done = c.in_ok-drop_waiting.ensures.does tells in
+    inl (record { waiting = done.1; affords = c.affords_drop.ensures tells c.if-not-affords_drop.false done.1.id })
+
+pub returns-clause-settled : goal.returns-clause-settled
+returns-clause-settled g c tells = (c.in_ok-drop_waiting.ensures.does tells).0
+
+pub returns-then-is_empty-clause-touches : goal.returns-then-is_empty-clause-touches
+returns-then-is_empty-clause-touches g c committed = touches_none committed _ (g.P.SectorView.space c.args.space.now)
+
+pub returns-then-is_empty-clause-service : goal.returns-then-is_empty-clause-service
+returns-then-is_empty-clause-service g c = c.requires.stands.service
+
+pub returns-then-is_empty-clause-blocks : goal.returns-then-is_empty-clause-blocks
+returns-then-is_empty-clause-blocks g c = blocks_none c.args.volume.now
+
+pub returns-then-shape-lt4096-clause-touches : goal.returns-then-shape-lt4096-clause-touches
+returns-then-shape-lt4096-clause-touches g c committed = touches_none committed _ (g.P.SectorView.space c.args.space.now)
+
+pub returns-then-shape-lt4096-clause-service : goal.returns-then-shape-lt4096-clause-service
+returns-then-shape-lt4096-clause-service g c = c.requires.stands.service
+
+pub returns-then-shape-lt4096-clause-blocks : goal.returns-then-shape-lt4096-clause-blocks
+returns-then-shape-lt4096-clause-blocks g c = blocks_none c.args.volume.now
+
+pub returns-then-not-affords_drop-clause-touches : goal.returns-then-not-affords_drop-clause-touches
+returns-then-not-affords_drop-clause-touches g c committed = touches_none committed _ (g.P.SectorView.space c.args.space.now)
+
+pub returns-then-not-affords_drop-clause-service : goal.returns-then-not-affords_drop-clause-service
+returns-then-not-affords_drop-clause-service g c = c.requires.stands.service
+
+pub returns-then-not-affords_drop-clause-blocks : goal.returns-then-not-affords_drop-clause-blocks
+returns-then-not-affords_drop-clause-blocks g c = blocks_none c.args.volume.now
+
+pub returns-then-not-fits_remove-clause-touches : goal.returns-then-not-fits_remove-clause-touches
+returns-then-not-fits_remove-clause-touches g c committed = touches_none committed _ (g.P.SectorView.space c.args.space.now)
+
+pub returns-then-not-fits_remove-clause-service : goal.returns-then-not-fits_remove-clause-service
+returns-then-not-fits_remove-clause-service g c = c.requires.stands.service
+
+pub returns-then-not-fits_remove-clause-blocks : goal.returns-then-not-fits_remove-clause-blocks
+returns-then-not-fits_remove-clause-blocks g c = blocks_none c.args.volume.now

@@ -1,0 +1,65 @@
+use Rattle.std.proofs.Common.{◌≡◌, ◌≤◌, ℕ, false, true, length, List, arith, sym, ◌∙◌, ap, subst, refl}
+use Rattle.std.specs.Prelude.{Option, IfSome, Some, None, IsTrue}
+use Rattle.std.specs.List.{Contains}
+use Rattle.sector_disk.specs.Lists.{Content}
+use Rattle.cat_records.specs.Fits.{FitsRecord}
+use Rattle.catalog.specs.Pairs.{value_at}
+use Rattle.hfs_volume.specs.Content.{VolumeState, records_of, volume_of}
+use Rattle.hfs_volume.specs.Links.{orphans_of}
+use Rattle.hfs_volume.specs.Records.{is_thread}
+use Rattle.hfs_volume.specs.Reclaim.{DropAttribute, has_surplus_left, least, next_reclaim}
+use Rattle.volume_base.specs.Keeping.{shrunk_of}
+use Rattle.volume_base.specs.Room.{capacity_of}
+use Rattle.volume_base.specs.Touching.{Touches}
+use Rattle.volume_space.proofs.Affording.{tidied_behind}
+use Rattle.volume_base.proofs.Commanding.{touches_both, touches_looks}
+use Rattle.volume_space.proofs.KeptUsed.{used_both, used_read}
+use Rattle.volume_base.proofs.Seeing.{cause_since}
+use Rattle.volume_base.proofs.Still.{own_still}
+use Rattle.volume_space.proofs.tidying.tidy_unshrunk.Goals as goal
+
+pub tidy_waiting-requires-clause-settled : goal.tidy_waiting-requires-clause-settled
+tidy_waiting-requires-clause-settled g c tells = c.next_waiting.ensures.settled (sym c.next_waiting.ensures.reads.looks.same.tells ∙ tells)
+
+pub tidy_waiting-requires-clause-kept : goal.tidy_waiting-requires-clause-kept
+tidy_waiting-requires-clause-kept g c tells =
+    let before = sym c.next_waiting.ensures.reads.looks.same.tells ∙ tells in
+    (λ i. has_surplus_left (volume_of (c.next_waiting.ensures.reads.looks.content before i)) (c.next_waiting.ensures.reads.keeps.shrunk i)) ∙ c.requires.kept before
+
+pub tidy_waiting-requires-clause-lowest : goal.tidy_waiting-requires-clause-lowest
+tidy_waiting-requires-clause-lowest g c tells =
+    let before = sym c.next_waiting.ensures.reads.looks.same.tells ∙ tells in
+    ap (λ (k : Content). least (orphans_of (records_of (volume_of k)))) (c.next_waiting.ensures.reads.looks.content before)
+    ∙ subst (λ (o : Option ℕ). IfSome o (λ id. least (orphans_of (records_of (volume_of (g.P.SectorView.space c.args.space.now).content))) ≡ Some id)) c.in-Some.is (c.in_ok-id.ensures.found before)
+
+pub returns-in-Some-clause-tidied : goal.returns-in-Some-clause-tidied
+returns-in-Some-clause-tidied g c tells =
+    tidied_behind (g.P.SectorView.space c.args.space.now).content (g.P.SectorView.space c.next_waiting.new.space).content (g.P.SectorView.space c.tidy_waiting.new.space).content (c.next_waiting.ensures.reads.looks.content tells) (capacity_of c.args.volume.now) (capacity_of c.next_waiting.new.volume) c.next_waiting.ensures.reads.keeps.capacity (shrunk_of c.args.volume.now) (shrunk_of c.next_waiting.new.volume) c.next_waiting.ensures.reads.keeps.shrunk c.tidy_waiting.result
+    (c.tidy_waiting.ensures.tidied (c.next_waiting.ensures.reads.looks.same.tells ∙ tells))
+
+pub returns-in-Some-clause-touches : goal.returns-in-Some-clause-touches
+returns-in-Some-clause-touches g c committed =
+    touches_both committed _ (g.P.SectorView.space c.args.space.now) (g.P.SectorView.space c.next_waiting.new.space) (g.P.SectorView.space c.tidy_waiting.new.space) (touches_looks committed _ (g.P.SectorView.space c.args.space.now) (g.P.SectorView.space c.next_waiting.new.space) c.next_waiting.ensures.reads.looks)
+    (subst (λ (l : List ℕ). Touches committed (λ s. Contains l s) (g.P.SectorView.space c.next_waiting.new.space) (g.P.SectorView.space c.tidy_waiting.new.space)) (own_still c.args.volume.now c.next_waiting.new.volume (g.P.SectorView.space c.args.space.now) (g.P.SectorView.space c.next_waiting.new.space) c.next_waiting.ensures.reads) (c.tidy_waiting.ensures.touches committed))
+
+pub returns-in-Some-clause-used : goal.returns-in-Some-clause-used
+returns-in-Some-clause-used g c =
+    used_both c.args.volume.now c.next_waiting.new.volume c.tidy_waiting.new.volume (used_read c.args.volume.now c.next_waiting.new.volume (g.P.SectorView.space c.args.space.now) (g.P.SectorView.space c.next_waiting.new.space) c.next_waiting.ensures.reads) c.tidy_waiting.ensures.used
+
+pub returns-in-Some-clause-below : goal.returns-in-Some-clause-below
+returns-in-Some-clause-below g c = g.met.P.SectorView.follows_trans c.args.space.now c.next_waiting.new.space c.tidy_waiting.new.space c.next_waiting.ensures.below c.tidy_waiting.ensures.below
+
+pub returns-in-Some-clause-cause : goal.returns-in-Some-clause-cause
+returns-in-Some-clause-cause g c = cause_since (g.P.SectorView.space c.args.space.now).faults (g.P.SectorView.space c.next_waiting.new.space).faults (g.P.SectorView.space c.tidy_waiting.new.space).faults c.tidy_waiting.result c.next_waiting.ensures.reads.looks.faults c.tidy_waiting.ensures.cause
+
+pub returns-in-None-clause-touches : goal.returns-in-None-clause-touches
+returns-in-None-clause-touches g c committed = touches_looks committed _ (g.P.SectorView.space c.args.space.now) (g.P.SectorView.space c.next_waiting.new.space) c.next_waiting.ensures.reads.looks
+
+pub returns-in-None-clause-used : goal.returns-in-None-clause-used
+returns-in-None-clause-used g c = used_read c.args.volume.now c.next_waiting.new.volume (g.P.SectorView.space c.args.space.now) (g.P.SectorView.space c.next_waiting.new.space) c.next_waiting.ensures.reads
+
+pub returns-in_err-id-clause-touches : goal.returns-in_err-id-clause-touches
+returns-in_err-id-clause-touches g c committed = touches_looks committed _ (g.P.SectorView.space c.args.space.now) (g.P.SectorView.space c.next_waiting.new.space) c.next_waiting.ensures.reads.looks
+
+pub returns-in_err-id-clause-used : goal.returns-in_err-id-clause-used
+returns-in_err-id-clause-used g c = used_read c.args.volume.now c.next_waiting.new.volume (g.P.SectorView.space c.args.space.now) (g.P.SectorView.space c.next_waiting.new.space) c.next_waiting.ensures.reads

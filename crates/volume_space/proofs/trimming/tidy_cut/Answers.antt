@@ -1,0 +1,42 @@
+use Rattle.std.proofs.Common.{◌≡◌, ◌≤◌, ℕ, false, true, length, List, inl, inr, arith, sym, ◌∙◌, ap, subst, refl}
+use Rattle.std.specs.Prelude.{Option, IfSome, Some, None, IsTrue}
+use Rattle.std.specs.List.{Contains}
+use Rattle.std.proofs.lemmas.Bool.{true≢false, eq-eqb, eqb-true}
+use Rattle.sector_disk.specs.Lists.{Content}
+use Rattle.cat_records.specs.Fits.{FitsRecord}
+use Rattle.cat_records.specs.declared.record.CatRecord.{CatRecord}
+use Rattle.catalog.specs.Pairs.{value_at}
+use Rattle.hfs_volume.specs.Content.{VolumeState, records_of, volume_of}
+use Rattle.hfs_volume.specs.Links.{orphans_of}
+use Rattle.hfs_volume.specs.Records.{id_in, is_thread}
+use Rattle.hfs_volume.specs.Reclaim.{DropAttribute, has_surplus_left, least, next_reclaim}
+use Rattle.volume_base.proofs.Commanding.{touches_none}
+use Rattle.volume_space.proofs.KeptUsed.{used_none}
+use Rattle.volume_space.proofs.trimming.tidy_cut.Goals as goal
+
+pub returns-in-Folder-clause-touches : goal.returns-in-Folder-clause-touches
+returns-in-Folder-clause-touches g c committed = touches_none committed _ (g.P.SectorView.space c.args.space.now)
+
+pub returns-in-Folder-clause-used : goal.returns-in-Folder-clause-used
+returns-in-Folder-clause-used g c = used_none c.args.volume.now
+
+pub returns-in-Folder-clause-service : goal.returns-in-Folder-clause-service
+returns-in-Folder-clause-service g c = c.requires.stands.service
+
+pub returns-in-Folder-clause-cause : goal.returns-in-Folder-clause-cause
+returns-in-Folder-clause-cause g c = record { later = omega arith; failed = tt }
+
+pub returns-in-Thread-clause-touches : goal.returns-in-Thread-clause-touches
+returns-in-Thread-clause-touches g c committed = touches_none committed _ (g.P.SectorView.space c.args.space.now)
+
+pub returns-in-Thread-clause-used : goal.returns-in-Thread-clause-used
+returns-in-Thread-clause-used g c = used_none c.args.volume.now
+
+pub returns-in-Thread-clause-service : goal.returns-in-Thread-clause-service
+returns-in-Thread-clause-service g c = c.requires.stands.service
+
+pub returns-in-Thread-clause-cause : goal.returns-in-Thread-clause-cause
+returns-in-Thread-clause-cause g c = record { later = omega arith; failed = tt }
+
+pub tidy_fork-requires-clause-fits : goal.tidy_fork-requires-clause-fits
+tidy_fork-requires-clause-fits g c = subst FitsRecord c.in-File.is (c.requires.fits (ap is_thread c.in-File.is))

@@ -1,0 +1,81 @@
+use Rattle.std.proofs.Common.{◌≡◌, ◌≤◌, ℕ, false, true, length, List, inl, inr, arith, sym, ◌∙◌, ap, subst, refl}
+use Rattle.std.specs.Prelude.{Option, IfSome, Some, None, IsTrue}
+use Rattle.std.specs.List.{Contains}
+use Rattle.std.proofs.lemmas.Bool.{true≢false, eq-eqb, eqb-true}
+use Rattle.sector_disk.specs.Lists.{Content}
+use Rattle.cat_records.specs.Fits.{FitsRecord}
+use Rattle.cat_records.specs.declared.record.CatRecord.{CatRecord}
+use Rattle.catalog.specs.Pairs.{value_at}
+use Rattle.hfs_volume.specs.Content.{VolumeState, records_of, volume_of}
+use Rattle.hfs_volume.specs.Links.{orphans_of}
+use Rattle.hfs_volume.specs.Records.{id_in, is_thread}
+use Rattle.hfs_volume.specs.Reclaim.{DropAttribute, has_surplus_left, least, next_reclaim}
+use Rattle.volume_space.specs.Cutting.{IsNextCut, kind_of}
+use Rattle.volume_base.specs.Touching.{Touches}
+use Rattle.volume_base.proofs.Commanding.{touches_none}
+use Rattle.volume_space.proofs.KeptUsed.{used_both, used_none}
+use Rattle.btree_file.specs.Standing.{pairs_in}
+use Rattle.btree_file.specs.State.{sectors_of_tree}
+use Rattle.volume_space.specs.Cutting.{CutsFile}
+use Rattle.volume_space.proofs.CutKept.{load_kept, may_kept, own_kept, used_kept}
+use Rattle.volume_space.proofs.WhenKept.{lists_kept, settled_kept, stands_kept, unchanged_kept}
+use Rattle.volume_space.proofs.trimming.tidy_part.Goals as goal
+
+pub returns-then-not-affords_cut-clause-touches : goal.returns-then-not-affords_cut-clause-touches
+returns-then-not-affords_cut-clause-touches g c committed = touches_none committed _ (g.P.SectorView.space c.args.space.now)
+
+pub returns-then-not-affords_cut-clause-used : goal.returns-then-not-affords_cut-clause-used
+returns-then-not-affords_cut-clause-used g c = used_none c.args.volume.now
+
+pub returns-then-not-affords_cut-clause-service : goal.returns-then-not-affords_cut-clause-service
+returns-then-not-affords_cut-clause-service g c = c.requires.stands.service
+
+pub returns-then-not-fits_cut-clause-touches : goal.returns-then-not-fits_cut-clause-touches
+returns-then-not-fits_cut-clause-touches g c committed = touches_none committed _ (g.P.SectorView.space c.args.space.now)
+
+pub returns-then-not-fits_cut-clause-used : goal.returns-then-not-fits_cut-clause-used
+returns-then-not-fits_cut-clause-used g c = used_none c.args.volume.now
+
+pub returns-then-not-fits_cut-clause-service : goal.returns-then-not-fits_cut-clause-service
+returns-then-not-fits_cut-clause-service g c = c.requires.stands.service
+
+pub cut_fork-requires-clause-stands : goal.cut_fork-requires-clause-stands
+cut_fork-requires-clause-stands g c = stands_kept c.args.volume.now c.keep.new.self c.keep.ensures (g.P.SectorView.space c.args.space.now) c.requires.stands
+
+pub cut_fork-requires-clause-settled : goal.cut_fork-requires-clause-settled
+cut_fork-requires-clause-settled g c tells = settled_kept c.args.volume.now c.keep.new.self c.keep.ensures (g.P.SectorView.space c.args.space.now) (c.requires.settled tells)
+
+pub cut_fork-requires-clause-there : goal.cut_fork-requires-clause-there
+cut_fork-requires-clause-there g c tells = ap (λ (l : VolumeState). value_at l.catalog_pairs c.args.entry.now.parent c.args.entry.now.name) (lists_kept c.args.volume.now c.keep.new.self c.keep.ensures (g.P.SectorView.space c.args.space.now).content) ∙ c.requires.there tells
+
+pub cut_fork-requires-clause-gives : goal.cut_fork-requires-clause-gives
+cut_fork-requires-clause-gives g c = may_kept c.args.volume.now c.keep.new.self c.keep.ensures c.args.cut.now.goes c.requires.gives
+
+pub cut_fork-requires-clause-next : goal.cut_fork-requires-clause-next
+cut_fork-requires-clause-next g c tells = subst (λ (o : Option ℕ). IsNextCut o (g.P.SectorView.space c.args.space.now).content (id_in c.args.entry.now.rec) (kind_of c.args.surplus.kind) c.args.surplus.keep) (sym c.keep.ensures.same.shrunk) (c.requires.next tells)
+
+pub cut_fork-requires-clause-unchanged : goal.cut_fork-requires-clause-unchanged
+cut_fork-requires-clause-unchanged g c = unchanged_kept c.args.volume.now c.keep.new.self c.keep.ensures (g.P.SectorView.space c.args.space.now) c.requires.stands.service
+
+pub cut_fork-requires-clause-room : goal.cut_fork-requires-clause-room
+cut_fork-requires-clause-room g c = omega (arith, load_kept c.args.volume.now c.keep.new.self c.keep.ensures, c.fits_cut.ensures c.if-not-fits_cut.false)
+
+pub returns-clause-tidied : goal.returns-clause-tidied
+returns-clause-tidied g c tells =
+    let done = subst (λ (o : Option ℕ). CutsFile o (g.P.SectorView.space c.args.space.now).content (g.P.SectorView.space c.cut_fork.new.space).content) c.keep.ensures.same.shrunk (c.in_ok-cut_fork.ensures.cuts tells).1 in
+    inr (inr (record { cuts = done; affords = c.affords_cut.ensures (g.P.SectorView.space c.args.space.now).content (c.requires.settled tells) c.if-not-affords_cut.false done.step done.is_cut }))
+
+pub returns-clause-settled : goal.returns-clause-settled
+returns-clause-settled g c tells = (c.in_ok-cut_fork.ensures.cuts tells).0
+
+pub returns-clause-used : goal.returns-clause-used
+returns-clause-used g c = used_both c.args.volume.now c.keep.new.self c.cut_fork.new.volume (used_kept c.args.volume.now c.keep.new.self c.keep.ensures) c.cut_fork.ensures.used
+
+pub returns-clause-touches : goal.returns-clause-touches
+returns-clause-touches g c committed = subst (λ (l : List ℕ). Touches committed (λ s. Contains l s) (g.P.SectorView.space c.args.space.now) (g.P.SectorView.space c.cut_fork.new.space)) (own_kept c.args.volume.now c.keep.new.self c.keep.ensures) (c.cut_fork.ensures.touches committed)
+
+pub returns-in_err-cut_fork-clause-used : goal.returns-in_err-cut_fork-clause-used
+returns-in_err-cut_fork-clause-used g c = used_both c.args.volume.now c.keep.new.self c.cut_fork.new.volume (used_kept c.args.volume.now c.keep.new.self c.keep.ensures) c.cut_fork.ensures.used
+
+pub returns-in_err-cut_fork-clause-touches : goal.returns-in_err-cut_fork-clause-touches
+returns-in_err-cut_fork-clause-touches g c committed = subst (λ (l : List ℕ). Touches committed (λ s. Contains l s) (g.P.SectorView.space c.args.space.now) (g.P.SectorView.space c.cut_fork.new.space)) (own_kept c.args.volume.now c.keep.new.self c.keep.ensures) (c.cut_fork.ensures.touches committed)

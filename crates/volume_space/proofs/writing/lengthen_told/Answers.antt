@@ -1,0 +1,157 @@
+use Rattle.std.proofs.Common.{◌≡◌, ◌⊎◌, ⊎_elim, ◌<◌, ◌≤◌, ℕ, ◌+◌, ◌-◌, [], ◌∷◌, true, false, List, length, refl, sym, ◌∙◌, ap, subst, arith}
+use Rattle.std.specs.Prelude.{Contains, Option, Some, None, Ok}
+use Rattle.std.proofs.lemmas.Bool.{true≢false}
+use Rattle.hfs_language.specs.declared.command.Command.TheVariants as command
+use Rattle.hfs_language.specs.declared.reply.Reply.{Reply}
+use Rattle.hfs_language.specs.declared.reply.Reply.TheVariants as reply
+use Rattle.hfs_model.specs.Step.{Step}
+use Rattle.hfs_volume.specs.Content.{volume_of}
+use Rattle.hfs_volume.specs.TreeOf.{tree_of}
+use Rattle.hfs_volume.specs.Weight.{Data}
+use Rattle.volume_space.specs.Writing.{PutsAt, is_put_now}
+use Rattle.volume_base.proofs.Commanding.{touches_none}
+use Rattle.volume_space.proofs.PutDone.{data_done, no_cut_now, trunc_done}
+use Rattle.volume_space.proofs.PutLoads.{trunc_loaded}
+use Rattle.volume_space.proofs.PutTold.{done_not_refused, file_there, put_by_trunc, trunc_at, trunc_data, trunc_id, trunc_small}
+use Rattle.volume_base.proofs.ToldFile.{short_data, told_node, trunc_line, trunc_told, trunc_tree}
+use Rattle.volume_space.proofs.ShortenedCalls.{refused_told}
+use Rattle.volume_space.proofs.writing.lengthen_told.Goals as goal
+
+pub put_data-requires-clause-some : goal.put_data-requires-clause-some
+put_data-requires-clause-some g c = omega arith
+
+pub put_data-requires-clause-small : goal.put_data-requires-clause-small
+put_data-requires-clause-small g c = omega (arith, trunc_small c.args.size c.args.told.now (sym c.in_default.is ∙ c.against_trunc.ensures), (c.is_no_longer.ensures.long c.if-is_no_longer.false))
+
+pub put_data-requires-clause-there : goal.put_data-requires-clause-there
+put_data-requires-clause-there g c tells =
+    let it = told_node (tree_of (g.P.SectorView.space c.args.space.now).content) c.args._path.now c.args.told.now (c.requires.told tells) in
+    let about = trunc_told (tree_of (g.P.SectorView.space c.args.space.now).content) c.args._path.now c.args.told.now it c.args.size (sym c.in_default.is ∙ c.against_trunc.ensures) in
+    let there = file_there (tree_of (g.P.SectorView.space c.args.space.now).content) c.args._path.now it.node about.0.file in
+    (it.node, there.0, about.0.id, there.1)
+
+pub returns-then-put-clause-reply : goal.returns-then-put-clause-reply
+returns-then-put-clause-reply g c tells =
+    let it = told_node (tree_of (g.P.SectorView.space c.args.space.now).content) c.args._path.now c.args.told.now (c.requires.told tells) in
+    let about = trunc_told (tree_of (g.P.SectorView.space c.args.space.now).content) c.args._path.now c.args.told.now it c.args.size (sym c.in_default.is ∙ c.against_trunc.ensures) in
+    sym (ap (λ (s : Step). s.0) (trunc_line (tree_of (g.P.SectorView.space c.args.space.now).content) c.args._path.now c.args.told.now it.node about.0 c.args.size about.1))
+
+pub returns-then-put-clause-tree : goal.returns-then-put-clause-tree
+returns-then-put-clause-tree g c tells =
+    let it = told_node (tree_of (g.P.SectorView.space c.args.space.now).content) c.args._path.now c.args.told.now (c.requires.told tells) in
+    let about = trunc_told (tree_of (g.P.SectorView.space c.args.space.now).content) c.args._path.now c.args.told.now it c.args.size (sym c.in_default.is ∙ c.against_trunc.ensures) in
+    let there = file_there (tree_of (g.P.SectorView.space c.args.space.now).content) c.args._path.now it.node about.0.file in
+    let does = trunc_done c.args.volume.now c.put_data.new.volume (g.P.SectorView.space c.args.space.now) (g.P.SectorView.space c.put_data.new.space).content c.requires.stands tells (c.requires.settled tells) it.node there.0 there.1 (c.args.size - 1) (0 ∷ []) (subst (λ id. PutsAt id (c.args.size - 1) (0 ∷ []) c.args.volume.now c.put_data.new.volume (g.P.SectorView.space c.args.space.now).content (g.P.SectorView.space c.put_data.new.space).content) (sym about.0.id) (c.in_ok-put.ensures.puts tells c.if-put.true)) c.args.size refl refl (omega (arith, about.0.size, (c.is_no_longer.ensures.long c.if-is_no_longer.false))) c.trunc_does_its_step.ensures c.args._path.now about.1 in
+    does.1 ∙ trunc_tree (tree_of (g.P.SectorView.space c.args.space.now).content) c.args._path.now c.args.told.now it.node about.0 c.args.size
+
+pub returns-then-put-clause-settled : goal.returns-then-put-clause-settled
+returns-then-put-clause-settled g c tells =
+    let it = told_node (tree_of (g.P.SectorView.space c.args.space.now).content) c.args._path.now c.args.told.now (c.requires.told tells) in
+    let about = trunc_told (tree_of (g.P.SectorView.space c.args.space.now).content) c.args._path.now c.args.told.now it c.args.size (sym c.in_default.is ∙ c.against_trunc.ensures) in
+    let there = file_there (tree_of (g.P.SectorView.space c.args.space.now).content) c.args._path.now it.node about.0.file in
+    let does = trunc_done c.args.volume.now c.put_data.new.volume (g.P.SectorView.space c.args.space.now) (g.P.SectorView.space c.put_data.new.space).content c.requires.stands tells (c.requires.settled tells) it.node there.0 there.1 (c.args.size - 1) (0 ∷ []) (subst (λ id. PutsAt id (c.args.size - 1) (0 ∷ []) c.args.volume.now c.put_data.new.volume (g.P.SectorView.space c.args.space.now).content (g.P.SectorView.space c.put_data.new.space).content) (sym about.0.id) (c.in_ok-put.ensures.puts tells c.if-put.true)) c.args.size refl refl (omega (arith, about.0.size, (c.is_no_longer.ensures.long c.if-is_no_longer.false))) c.trunc_does_its_step.ensures c.args._path.now about.1 in
+    does.0
+
+pub returns-then-put-clause-refused : goal.returns-then-put-clause-refused
+returns-then-put-clause-refused g c tells is = absurd (true≢false (sym is))
+
+pub returns-then-put-clause-lists : goal.returns-then-put-clause-lists
+returns-then-put-clause-lists g c tells said =
+    let it = told_node (tree_of (g.P.SectorView.space c.args.space.now).content) c.args._path.now c.args.told.now (c.requires.told tells) in
+    let about = trunc_told (tree_of (g.P.SectorView.space c.args.space.now).content) c.args._path.now c.args.told.now it c.args.size (sym c.in_default.is ∙ c.against_trunc.ensures) in
+    let there = file_there (tree_of (g.P.SectorView.space c.args.space.now).content) c.args._path.now it.node about.0.file in
+    data_done c.args.volume.now c.put_data.new.volume (g.P.SectorView.space c.args.space.now) (g.P.SectorView.space c.put_data.new.space).content c.requires.stands tells (c.requires.settled tells) it.node there.0 there.1 (c.args.size - 1) (0 ∷ []) (subst (λ id. PutsAt id (c.args.size - 1) (0 ∷ []) c.args.volume.now c.put_data.new.volume (g.P.SectorView.space c.args.space.now).content (g.P.SectorView.space c.put_data.new.space).content) (sym about.0.id) (c.in_ok-put.ensures.puts tells c.if-put.true)) (put_by_trunc (tree_of (g.P.SectorView.space c.args.space.now).content) c.args._path.now c.args.told.now it.node about.0 c.args.size (c.is_no_longer.ensures.long c.if-is_no_longer.false)) ((trunc_id (tree_of (g.P.SectorView.space c.args.space.now).content) c.args._path.now c.args.told.now it.node about.0 c.args.size (c.is_no_longer.ensures.long c.if-is_no_longer.false)) ∙ sym about.0.id) (trunc_at (tree_of (g.P.SectorView.space c.args.space.now).content) c.args._path.now c.args.told.now it.node about.0 c.args.size (c.is_no_longer.ensures.long c.if-is_no_longer.false)) (g.P.SectorView.space c.args.space.now).spare (sym (c.in_ok-put.ensures.exactly tells it.node there.0 about.0.id there.1 (put_by_trunc (tree_of (g.P.SectorView.space c.args.space.now).content) c.args._path.now c.args.told.now it.node about.0 c.args.size (c.is_no_longer.ensures.long c.if-is_no_longer.false)) (trunc_id (tree_of (g.P.SectorView.space c.args.space.now).content) c.args._path.now c.args.told.now it.node about.0 c.args.size (c.is_no_longer.ensures.long c.if-is_no_longer.false)) (trunc_at (tree_of (g.P.SectorView.space c.args.space.now).content) c.args._path.now c.args.told.now it.node about.0 c.args.size (c.is_no_longer.ensures.long c.if-is_no_longer.false))) ∙ c.if-put.true) c.rewrite_puts_its_blocks_alone.ensures (command.Trunc c.args._path.now c.args.size) (trunc_data (tree_of (g.P.SectorView.space c.args.space.now).content) c.args._path.now c.args.told.now it.node about.0 c.args.size (c.is_no_longer.ensures.long c.if-is_no_longer.false))
+
+pub returns-clause-waits : goal.returns-clause-waits
+returns-clause-waits g c tells = (c.in_ok-put.ensures.waits tells c.if-put.false).1
+
+pub returns-clause-settled : goal.returns-clause-settled
+returns-clause-settled g c tells = (c.in_ok-put.ensures.waits tells c.if-put.false).0
+
+pub returns-clause-waiting : goal.returns-clause-waiting
+returns-clause-waiting g c tells =
+    let it = told_node (tree_of (g.P.SectorView.space c.args.space.now).content) c.args._path.now c.args.told.now (c.requires.told tells) in
+    let about = trunc_told (tree_of (g.P.SectorView.space c.args.space.now).content) c.args._path.now c.args.told.now it c.args.size (sym c.in_default.is ∙ c.against_trunc.ensures) in
+    done_not_refused _ _ (trunc_line (tree_of (g.P.SectorView.space c.args.space.now).content) c.args._path.now c.args.told.now it.node about.0 c.args.size about.1) refl
+
+pub returns-clause-exactly : goal.returns-clause-exactly
+returns-clause-exactly g c tells =
+    let it = told_node (tree_of (g.P.SectorView.space c.args.space.now).content) c.args._path.now c.args.told.now (c.requires.told tells) in
+    let about = trunc_told (tree_of (g.P.SectorView.space c.args.space.now).content) c.args._path.now c.args.told.now it c.args.size (sym c.in_default.is ∙ c.against_trunc.ensures) in
+    let there = file_there (tree_of (g.P.SectorView.space c.args.space.now).content) c.args._path.now it.node about.0.file in
+    ap (λ (o : Option Data). is_put_now c.args.volume.now (g.P.SectorView.space c.args.space.now).spare (volume_of (g.P.SectorView.space c.args.space.now).content) o) (trunc_data (tree_of (g.P.SectorView.space c.args.space.now).content) c.args._path.now c.args.told.now it.node about.0 c.args.size (c.is_no_longer.ensures.long c.if-is_no_longer.false)) ∙ sym (c.in_ok-put.ensures.exactly tells it.node there.0 about.0.id there.1 (put_by_trunc (tree_of (g.P.SectorView.space c.args.space.now).content) c.args._path.now c.args.told.now it.node about.0 c.args.size (c.is_no_longer.ensures.long c.if-is_no_longer.false)) (trunc_id (tree_of (g.P.SectorView.space c.args.space.now).content) c.args._path.now c.args.told.now it.node about.0 c.args.size (c.is_no_longer.ensures.long c.if-is_no_longer.false)) (trunc_at (tree_of (g.P.SectorView.space c.args.space.now).content) c.args._path.now c.args.told.now it.node about.0 c.args.size (c.is_no_longer.ensures.long c.if-is_no_longer.false))) ∙ c.if-put.false
+
+pub returns-then-put-clause-loads : goal.returns-then-put-clause-loads
+returns-then-put-clause-loads g c tells n grow is =
+    let it = told_node (tree_of (g.P.SectorView.space c.args.space.now).content) c.args._path.now c.args.told.now (c.requires.told tells) in
+    let about = trunc_told (tree_of (g.P.SectorView.space c.args.space.now).content) c.args._path.now c.args.told.now it c.args.size (sym c.in_default.is ∙ c.against_trunc.ensures) in
+    let there = file_there (tree_of (g.P.SectorView.space c.args.space.now).content) c.args._path.now it.node about.0.file in
+    ⊎_elim (λ none_put. omega (arith, none_put))
+    (λ some_put. omega (arith, some_put.1, trunc_loaded c.args.volume.now (g.P.SectorView.space c.args.space.now).content (c.requires.settled tells) c.args.volume.now.capacity (tree_of (g.P.SectorView.space c.args.space.now).content) c.args._path.now (put_by_trunc (tree_of (g.P.SectorView.space c.args.space.now).content) c.args._path.now c.args.told.now it.node about.0 c.args.size (c.is_no_longer.ensures.long c.if-is_no_longer.false)) (no_cut_now c.args.volume.now (g.P.SectorView.space c.args.space.now).spare (volume_of (g.P.SectorView.space c.args.space.now).content) (put_by_trunc (tree_of (g.P.SectorView.space c.args.space.now).content) c.args._path.now c.args.told.now it.node about.0 c.args.size (c.is_no_longer.ensures.long c.if-is_no_longer.false)) some_put.0) n grow c.args.size (trunc_data (tree_of (g.P.SectorView.space c.args.space.now).content) c.args._path.now c.args.told.now it.node about.0 c.args.size (c.is_no_longer.ensures.long c.if-is_no_longer.false)) is))
+    (c.put_data.ensures.spent tells it.node there.0 about.0.id there.1 (put_by_trunc (tree_of (g.P.SectorView.space c.args.space.now).content) c.args._path.now c.args.told.now it.node about.0 c.args.size (c.is_no_longer.ensures.long c.if-is_no_longer.false)) (trunc_id (tree_of (g.P.SectorView.space c.args.space.now).content) c.args._path.now c.args.told.now it.node about.0 c.args.size (c.is_no_longer.ensures.long c.if-is_no_longer.false)) (trunc_at (tree_of (g.P.SectorView.space c.args.space.now).content) c.args._path.now c.args.told.now it.node about.0 c.args.size (c.is_no_longer.ensures.long c.if-is_no_longer.false)))
+
+pub returns-then-put-clause-service : goal.returns-then-put-clause-service
+returns-then-put-clause-service g c = c.put_data.ensures.service
+
+pub returns-clause-loads : goal.returns-clause-loads
+returns-clause-loads g c tells n grow is =
+    let it = told_node (tree_of (g.P.SectorView.space c.args.space.now).content) c.args._path.now c.args.told.now (c.requires.told tells) in
+    let about = trunc_told (tree_of (g.P.SectorView.space c.args.space.now).content) c.args._path.now c.args.told.now it c.args.size (sym c.in_default.is ∙ c.against_trunc.ensures) in
+    let there = file_there (tree_of (g.P.SectorView.space c.args.space.now).content) c.args._path.now it.node about.0.file in
+    ⊎_elim (λ none_put. omega (arith, none_put))
+    (λ some_put. omega (arith, some_put.1, trunc_loaded c.args.volume.now (g.P.SectorView.space c.args.space.now).content (c.requires.settled tells) c.args.volume.now.capacity (tree_of (g.P.SectorView.space c.args.space.now).content) c.args._path.now (put_by_trunc (tree_of (g.P.SectorView.space c.args.space.now).content) c.args._path.now c.args.told.now it.node about.0 c.args.size (c.is_no_longer.ensures.long c.if-is_no_longer.false)) (no_cut_now c.args.volume.now (g.P.SectorView.space c.args.space.now).spare (volume_of (g.P.SectorView.space c.args.space.now).content) (put_by_trunc (tree_of (g.P.SectorView.space c.args.space.now).content) c.args._path.now c.args.told.now it.node about.0 c.args.size (c.is_no_longer.ensures.long c.if-is_no_longer.false)) some_put.0) n grow c.args.size (trunc_data (tree_of (g.P.SectorView.space c.args.space.now).content) c.args._path.now c.args.told.now it.node about.0 c.args.size (c.is_no_longer.ensures.long c.if-is_no_longer.false)) is))
+    (c.put_data.ensures.spent tells it.node there.0 about.0.id there.1 (put_by_trunc (tree_of (g.P.SectorView.space c.args.space.now).content) c.args._path.now c.args.told.now it.node about.0 c.args.size (c.is_no_longer.ensures.long c.if-is_no_longer.false)) (trunc_id (tree_of (g.P.SectorView.space c.args.space.now).content) c.args._path.now c.args.told.now it.node about.0 c.args.size (c.is_no_longer.ensures.long c.if-is_no_longer.false)) (trunc_at (tree_of (g.P.SectorView.space c.args.space.now).content) c.args._path.now c.args.told.now it.node about.0 c.args.size (c.is_no_longer.ensures.long c.if-is_no_longer.false)))
+
+pub returns-clause-service : goal.returns-clause-service
+returns-clause-service g c = c.put_data.ensures.service
+
+pub returns-in_err-put-clause-loads : goal.returns-in_err-put-clause-loads
+returns-in_err-put-clause-loads g c tells n grow is =
+    let it = told_node (tree_of (g.P.SectorView.space c.args.space.now).content) c.args._path.now c.args.told.now (c.requires.told tells) in
+    let about = trunc_told (tree_of (g.P.SectorView.space c.args.space.now).content) c.args._path.now c.args.told.now it c.args.size (sym c.in_default.is ∙ c.against_trunc.ensures) in
+    let there = file_there (tree_of (g.P.SectorView.space c.args.space.now).content) c.args._path.now it.node about.0.file in
+    ⊎_elim (λ none_put. omega (arith, none_put))
+    (λ some_put. omega (arith, some_put.1, trunc_loaded c.args.volume.now (g.P.SectorView.space c.args.space.now).content (c.requires.settled tells) c.args.volume.now.capacity (tree_of (g.P.SectorView.space c.args.space.now).content) c.args._path.now (put_by_trunc (tree_of (g.P.SectorView.space c.args.space.now).content) c.args._path.now c.args.told.now it.node about.0 c.args.size (c.is_no_longer.ensures.long c.if-is_no_longer.false)) (no_cut_now c.args.volume.now (g.P.SectorView.space c.args.space.now).spare (volume_of (g.P.SectorView.space c.args.space.now).content) (put_by_trunc (tree_of (g.P.SectorView.space c.args.space.now).content) c.args._path.now c.args.told.now it.node about.0 c.args.size (c.is_no_longer.ensures.long c.if-is_no_longer.false)) some_put.0) n grow c.args.size (trunc_data (tree_of (g.P.SectorView.space c.args.space.now).content) c.args._path.now c.args.told.now it.node about.0 c.args.size (c.is_no_longer.ensures.long c.if-is_no_longer.false)) is))
+    (c.put_data.ensures.spent tells it.node there.0 about.0.id there.1 (put_by_trunc (tree_of (g.P.SectorView.space c.args.space.now).content) c.args._path.now c.args.told.now it.node about.0 c.args.size (c.is_no_longer.ensures.long c.if-is_no_longer.false)) (trunc_id (tree_of (g.P.SectorView.space c.args.space.now).content) c.args._path.now c.args.told.now it.node about.0 c.args.size (c.is_no_longer.ensures.long c.if-is_no_longer.false)) (trunc_at (tree_of (g.P.SectorView.space c.args.space.now).content) c.args._path.now c.args.told.now it.node about.0 c.args.size (c.is_no_longer.ensures.long c.if-is_no_longer.false)))
+
+pub returns-in_err-put-clause-service : goal.returns-in_err-put-clause-service
+returns-in_err-put-clause-service g c = c.put_data.ensures.service
+
+pub returns-then-is_no_longer-clause-waiting : goal.returns-then-is_no_longer-clause-waiting
+returns-then-is_no_longer-clause-waiting g c tells =
+    let it = told_node (tree_of (g.P.SectorView.space c.args.space.now).content) c.args._path.now c.args.told.now (c.requires.told tells) in
+    let about = trunc_told (tree_of (g.P.SectorView.space c.args.space.now).content) c.args._path.now c.args.told.now it c.args.size (sym c.in_default.is ∙ c.against_trunc.ensures) in
+    done_not_refused _ _ (trunc_line (tree_of (g.P.SectorView.space c.args.space.now).content) c.args._path.now c.args.told.now it.node about.0 c.args.size about.1) refl
+
+pub returns-then-is_no_longer-clause-exactly : goal.returns-then-is_no_longer-clause-exactly
+returns-then-is_no_longer-clause-exactly g c tells =
+    let it = told_node (tree_of (g.P.SectorView.space c.args.space.now).content) c.args._path.now c.args.told.now (c.requires.told tells) in
+    let about = trunc_told (tree_of (g.P.SectorView.space c.args.space.now).content) c.args._path.now c.args.told.now it c.args.size (sym c.in_default.is ∙ c.against_trunc.ensures) in
+    ap (λ (o : Option Data). is_put_now c.args.volume.now (g.P.SectorView.space c.args.space.now).spare (volume_of (g.P.SectorView.space c.args.space.now).content) o) (short_data (tree_of (g.P.SectorView.space c.args.space.now).content) c.args._path.now c.args.told.now it.node about.0 c.args.size (c.is_no_longer.ensures.short c.if-is_no_longer.true))
+
+pub returns-then-is_no_longer-clause-touches : goal.returns-then-is_no_longer-clause-touches
+returns-then-is_no_longer-clause-touches g c committed holds alike = touches_none committed _ (g.P.SectorView.space c.args.space.now)
+
+pub returns-then-is_no_longer-clause-loads : goal.returns-then-is_no_longer-clause-loads
+returns-then-is_no_longer-clause-loads g c tells n grow is = omega arith
+
+pub returns-then-is_no_longer-clause-service : goal.returns-then-is_no_longer-clause-service
+returns-then-is_no_longer-clause-service g c = c.requires.stands.service
+
+pub returns-in-Some-clause-reply : goal.returns-in-Some-clause-reply
+returns-in-Some-clause-reply g c tells = (refused_told (tree_of (g.P.SectorView.space c.args.space.now).content) c.args._path.now c.args.size c.args.told.now (c.requires.told tells) c.in-Some.why (sym c.in-Some.is ∙ c.against_trunc.ensures)).0
+
+pub returns-in-Some-clause-tree : goal.returns-in-Some-clause-tree
+returns-in-Some-clause-tree g c tells = (refused_told (tree_of (g.P.SectorView.space c.args.space.now).content) c.args._path.now c.args.size c.args.told.now (c.requires.told tells) c.in-Some.why (sym c.in-Some.is ∙ c.against_trunc.ensures)).1
+
+pub returns-in-Some-clause-lists : goal.returns-in-Some-clause-lists
+returns-in-Some-clause-lists g c tells said = absurd (let no : Some (reply.No c.in-Some.why) ≡ Some reply.Ok = said in cc no)
+
+pub returns-in-Some-clause-touches : goal.returns-in-Some-clause-touches
+returns-in-Some-clause-touches g c committed holds alike = touches_none committed _ (g.P.SectorView.space c.args.space.now)
+
+pub returns-in-Some-clause-loads : goal.returns-in-Some-clause-loads
+returns-in-Some-clause-loads g c tells n grow is = omega arith
+
+pub returns-in-Some-clause-service : goal.returns-in-Some-clause-service
+returns-in-Some-clause-service g c = c.requires.stands.service

@@ -1,0 +1,170 @@
+-- Blocks at the end of a file's fork, which a step of housekeeping gives back.
+use Rattle.std.specs.Prelude.{◌≡◌, ◌⊎◌, ◌<◌, ◌≤◌, ℕ, ◌+◌, ◌-◌, ◌*◌, ◌^◌, ◌==◌, min, nat_le, nat_lt, not, Bool, true, false, List, [], ◌∷◌, length, take, drop, Option, None, Some, if◌then◌else◌}
+use Rattle.std.specs.List.{Contains}
+use Rattle.sector_disk.specs.Lists.{Content}
+use Rattle.sector_disk.specs.Space.{AgreesOutside}
+use Rattle.jnl_format.specs.Recovery.{header_of_volume}
+use Rattle.flag_rows.specs.Bits.{mark, sectors_for}
+use Rattle.fork_map.specs.Blocks.{blocks_of}
+use Rattle.fork_map.specs.Cut.{front}
+use Rattle.alloc_bitmap.specs.Map.{BlockMap, Have, touched_by}
+use Rattle.hx_bytes.specs.declared.extents.Extent.{Extent}
+use Rattle.hx_bytes.specs.declared.extents.ForkRecord.{ForkRecord}
+use Rattle.volume_header.specs.declared.header.VolumeHeader.{VolumeHeader}
+use Rattle.cat_records.specs.declared.record.CatRecord.{CatRecord}
+use Rattle.cat_records.specs.declared.record.CatRecord.TheVariants.{Folder, File, Thread}
+use Rattle.cat_records.specs.declared.record.FileRecord.{FileRecord}
+use Rattle.hfs_volume.specs.Content.{VolumeState, records_of, volume_of}
+use Rattle.hfs_volume.specs.Forks.{data_kind, in_use, parts_for, resource_kind}
+use Rattle.hfs_volume.specs.Links.{orphans_of}
+use Rattle.hfs_volume.specs.Reclaim.{CutOrphan, CutShrunk, Does, IsTreeFork, Reclaim, blocks_at, blocks_wanted, least, next_reclaim}
+use Rattle.hfs_volume.specs.TreeOf.{tree_of}
+use Rattle.overflow.specs.Records.{eight_at}
+use Rattle.volume_base.specs.Changing.{catalog_node}
+use Rattle.volume_base.specs.Lists.{lists_of}
+use Rattle.volume_space.specs.Mapping.{HoldsMap}
+use Rattle.volume_space.specs.Standing.{HoldsOn}
+use Rattle.volume_base.specs.Standing.{map_sectors}
+use Rattle.volume_space.specs.declared.cutting.Cut.{Cut}
+use Rattle.volume_space.specs.declared.cutting.ForkKind.{ForkKind}
+use Rattle.volume_space.specs.declared.cutting.ForkKind.TheVariants as kinds
+use Rattle.volume_space.specs.declared.trimming.Surplus.{Surplus}
+use Rattle.volume_base.specs.declared.volume.Volume.{Volume}
+
+-- ---- forks
+
+-- the number that stands for a kind of fork
+abbrev pub kind_of : ForkKind → ℕ
+kind_of kinds.Data = data_kind
+kind_of kinds.Resource = resource_kind
+
+-- a file's fork of this kind
+abbrev pub fork_at : ℕ → FileRecord → ForkRecord
+fork_at kind file = if kind == data_kind then file.data_fork else file.resource_fork
+
+-- a fork that has so many blocks of this size, in these extents, and no bytes past them
+abbrev pub shorter_fork : ℕ → ℕ → List Extent → ForkRecord → ForkRecord
+shorter_fork blocks block extents stored = record {
+  logical_size = min stored.logical_size (blocks * block);
+  clump_size = stored.clump_size;
+  total_blocks = blocks;
+  extents = eight_at extents 0;
+}
+
+-- ---- the run that goes
+-- A list of extents in two parts: those of the blocks in front, and one run at the end, of so many blocks.
+pub record IsSplit (count : ℕ) (list : List Extent) (cut : Cut) : Type 0 where
+  pub stays : cut.stays ≡ front (length (blocks_of list) - count) list
+  pub stay : blocks_of cut.stays ≡ take (length (blocks_of list) - count) (blocks_of list)
+  pub go : blocks_of (cut.goes ∷ []) ≡ drop (length (blocks_of list) - count) (blocks_of list)
+  pub some : 0 < cut.goes.count
+
+-- A list of extents in two parts: those of the blocks in front, no fewer than these, and one run at the end.
+pub record IsLastCut (keep : ℕ) (list : List Extent) (cut : Cut) : Type 0 where
+  pub left : ℕ
+  pub stays : cut.stays ≡ front left list
+  pub stay : blocks_of cut.stays ≡ take left (blocks_of list)
+  pub go : blocks_of (cut.goes ∷ []) ≡ drop left (blocks_of list)
+  pub least : keep ≤ left
+  pub some : 0 < cut.goes.count
+  pub sum : left + cut.goes.count ≡ length (blocks_of list)
+
+-- its record has eight extents, so that other extents of the fork may stand in overflow records
+abbrev pub is_spread : ForkRecord → Bool
+is_spread stored = nat_le 8 (length (in_use stored.extents.extents))
+
+-- The blocks of a fork that isn't spread, in two such parts.
+pub record IsCutOf (stored : ForkRecord) (keep : ℕ) (cut : Cut) : Type 0 where
+  pub few : length (in_use stored.extents.extents) < 8
+  pub blocks : length (blocks_of (in_use stored.extents.extents)) ≡ stored.total_blocks
+  pub last : IsLastCut keep (in_use stored.extents.extents) cut
+
+-- the record of a fork of which this was cut
+abbrev pub cut_fork_of : ℕ → ForkRecord → Cut → ForkRecord
+cut_fork_of block stored cut = shorter_fork (stored.total_blocks - cut.goes.count) block cut.stays stored
+
+-- The blocks of a run are in use, and the header can count them as free.
+pub record MayGive (run : Extent) (volume : Volume) : Type 0 where
+  pub used : Have volume.map.used run true
+  pub counted : volume.header.free_blocks + run.count < 2 ^ 32
+  pub most : run.count ≤ 32768
+
+-- a bitmap that gave a run back, and holds its blocks
+abbrev pub without_run : Extent → BlockMap → BlockMap
+without_run run map = record map { used = mark map.used run false; held = mark map.held run true; changed = mark map.changed (touched_by run) true }
+
+-- a header that counts so many free blocks more
+abbrev pub with_freed : ℕ → VolumeHeader → VolumeHeader
+with_freed count head = record head { free_blocks = head.free_blocks + count }
+
+-- a volume that gave a run back
+abbrev pub given_back : Extent → Volume → Volume
+given_back run volume = record volume { map = without_run run volume.map; header = with_freed run.count volume.header }
+
+-- the sectors of the bitmap that a run puts at most
+abbrev pub given_load : Volume → ℕ
+given_load volume = min (sectors_for (length volume.map.used)) 10
+
+-- the sectors that a cut puts at most: those of the bitmap, the header's, and those of a node of the catalog
+abbrev pub trim_load : Volume → ℕ
+trim_load volume = given_load volume + 1 + catalog_node volume
+
+-- Bitmap and header of a volume were put: the content has them, and the volume's lists over it are as they were.
+pub record PutsGiven (volume : Volume) (before after : Content) : Type 0 where
+  pub holds : HoldsMap volume after
+  pub headed : header_of_volume after ≡ volume.header
+  pub lists : lists_of volume after ≡ lists_of volume before
+  pub outside : AgreesOutside (λ s. (s ≡ 2) ⊎ Contains (map_sectors volume) s) before after
+
+-- No block that a content has in use is lost, and the file shrunk last and the capacity are as they were.
+pub record KeepsUsed (old new : Volume) : Type 0 where
+  pub holds : (committed : Content) → HoldsOn committed old → HoldsOn committed new
+  pub shrunk : new.shrunk ≡ old.shrunk
+  pub capacity : new.capacity ≡ old.capacity
+
+-- ---- the step
+-- The next step of reclaiming cuts this fork of the file with this CNID, to no fewer blocks than these.
+abbrev pub IsNextCut : Option ℕ → Content → ℕ → ℕ → ℕ → Type 0
+IsNextCut shrunk content id kind keep =
+    ((next_reclaim (volume_of content) shrunk ≡ Some (CutShrunk id)) × (kind ≡ data_kind) × (keep ≡ blocks_wanted (volume_of content) id data_kind))
+    ⊎ ((next_reclaim (volume_of content) shrunk ≡ Some (CutOrphan id kind)) × (keep ≡ 0) × (least (orphans_of (records_of (volume_of content))) ≡ Some id))
+
+-- the steps that cut
+abbrev pub IsCut : Reclaim → Type 0
+IsCut step = ((id : ℕ) × (step ≡ CutShrunk id)) ⊎ ((id : ℕ) × (kind : ℕ) × (step ≡ CutOrphan id kind))
+
+-- What a cut leaves of the lists of a content: the trees have their nodes and their blocks, the journal lies where it lay, and of the header the
+-- count of free blocks alone is another one.
+pub record KeepsTrees (old new : VolumeState) : Type 0 where
+  pub head : new.head ≡ record old.head { free_blocks = new.head.free_blocks }
+  pub extents : new.extents_tree.shape.total ≡ old.extents_tree.shape.total
+  pub catalog : new.catalog_tree.shape.total ≡ old.catalog_tree.shape.total
+  pub attributes : new.attributes_tree.shape.total ≡ old.attributes_tree.shape.total
+  pub journal : new.journal ≡ old.journal
+  pub forks : (id kind : ℕ) → IsTreeFork id → blocks_at new id kind ≡ blocks_at old id kind
+
+-- The next step of reclaiming was made, and cut a fork.
+pub record CutsFile (shrunk : Option ℕ) (before after : Content) : Type 0 where
+  pub step : Reclaim
+  pub is_cut : IsCut step
+  pub next : next_reclaim (volume_of before) shrunk ≡ Some step
+  pub does : Does step (volume_of before) (volume_of after)
+  pub keeps : KeepsTrees (volume_of before) (volume_of after)
+  pub tree : tree_of after ≡ tree_of before
+
+-- ---- what is past a file's size, or left of a file
+-- what a file's data fork has past its size, where blocks have this size
+abbrev pub surplus_in : ℕ → CatRecord → Option Surplus
+surplus_in block (Folder folder) = None
+surplus_in block (File file) =
+    if nat_lt (parts_for file.data_fork.logical_size block) file.data_fork.total_blocks then Some (record { kind = kinds.Data; keep = parts_for file.data_fork.logical_size block }) else None
+surplus_in block (Thread thread) = None
+
+-- the fork of a file that has blocks, the data fork first
+abbrev pub blocks_left : CatRecord → Option Surplus
+blocks_left (Folder folder) = None
+blocks_left (File file) =
+    if not (file.data_fork.total_blocks == 0) then Some (record { kind = kinds.Data; keep = 0 })
+    else if not (file.resource_fork.total_blocks == 0) then Some (record { kind = kinds.Resource; keep = 0 })
+    else None
+blocks_left (Thread thread) = None

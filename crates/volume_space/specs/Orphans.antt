@@ -1,0 +1,160 @@
+-- Files that lost their last name and wait in the private folder: how a step of housekeeping finds the first of them, and what it does to it.
+use Rattle.std.specs.Prelude.{◌≡◌, ◌⊎◌, ◌<◌, ◌==◌, ◌&&◌, ◌||◌, nat_lt, ℕ, Bool, true, false, not, List, [], ◌∷◌, length, drop, slice_index, slice_index_or, Option, Some, None, if◌then◌else◌}
+use Rattle.std.specs.List.{list_all}
+use Rattle.sector_disk.specs.Lists.{Content}
+use Rattle.jnl_format.specs.Recovery.{header_of_volume}
+use Rattle.cat_records.specs.declared.record.CatRecord.{CatRecord}
+use Rattle.cat_records.specs.declared.record.CatRecord.TheVariants.{Folder, File, Thread}
+use Rattle.catalog.specs.Entries.{RemovesEntry}
+use Rattle.catalog.specs.declared.folder.Child.{Child}
+use Rattle.hfs_volume.specs.Changes.{DropsAttribute, InAttributes}
+use Rattle.hfs_volume.specs.Content.{volume_of}
+use Rattle.hfs_volume.specs.Reclaim.{Does, DropAttribute, DropOrphan, Reclaim, next_reclaim, reclaim_cost}
+use Rattle.hfs_volume.specs.Reclaiming.{DropsOrphanEntry, IsBareOrphan}
+use Rattle.hfs_volume.specs.Records.{id_in, is_link_type}
+use Rattle.hfs_volume.specs.TreeOf.{tree_of}
+use Rattle.hfs_volume.specs.declared.cost.Cost.{Cost}
+use Rattle.hfs_volume.specs.declared.cost.Cost.TheVariants as cost
+use Rattle.volume_base.specs.Changing.{ChangesCatalog}
+use Rattle.volume_space.specs.Cutting.{CutsFile}
+use Rattle.volume_base.specs.Lists.{lists_of}
+use Rattle.volume_base.specs.declared.entries.Entry.{Entry}
+use Rattle.volume_space.specs.declared.orphans.Search.{Search}
+use Rattle.volume_space.specs.declared.tidying.Tidying.{Tidying}
+use Rattle.volume_space.specs.declared.tidying.Tidying.TheVariants as tidying
+use Rattle.volume_base.specs.declared.volume.Volume.{Volume}
+use Rattle.volume_base.specs.Orphans.{with_file_removed}
+
+-- ---- the names of files that wait
+
+-- a name begins with the word `temp`
+abbrev pub begins_temp : List ℕ → Bool
+begins_temp name = if nat_lt (length name) 4 then false else (slice_index name 0 == 116) && ((slice_index name 1 == 101) && ((slice_index name 2 == 109) && (slice_index name 3 == 112)))
+
+-- a decimal digit
+abbrev pub is_digit : ℕ → Bool
+is_digit unit = nat_lt 47 unit && nat_lt unit 58
+
+-- digits of which the first is this one have no zero in front
+abbrev pub is_led : ℕ → ℕ → Bool
+is_led first many = (many == 1) || not (first == 48)
+
+-- nineteen digits of a decimal number or fewer
+abbrev pub is_number : List ℕ → Bool
+is_number digits = if length digits == 0 then false else if nat_lt 19 (length digits) then false else if not (is_led (slice_index digits 0) (length digits)) then false else list_all is_digit digits
+
+-- a name that begins with that word has nothing but such a number behind it
+abbrev pub is_clear : List ℕ → Bool
+is_clear name = if not (begins_temp name) then true else is_number (drop 4 name)
+
+-- a file's own record, and no further name of it
+abbrev pub is_own_record : CatRecord → Bool
+is_own_record (Folder folder) = false
+is_own_record (File file) = not (is_link_type file.fields)
+is_own_record (Thread thread) = false
+
+-- an entry of the private folder that waits to be removed
+abbrev pub is_waiting : Child → Bool
+is_waiting child = is_own_record child.rec && begins_temp child.name
+
+-- the lesser of what was found before and this CNID
+abbrev pub lesser : Option ℕ → ℕ → ℕ
+lesser None id = id
+lesser (Some least) id = if nat_lt id least then id else least
+
+-- what was found behind one entry more
+abbrev pub found_next : Option ℕ → Child → Option ℕ
+found_next found child = if is_waiting child then Some (lesser found (id_in child.rec)) else found
+
+-- a search behind one entry more
+abbrev pub seen_next : Search → Child → Search
+seen_next search child = record { clear = search.clear && is_clear child.name; least = found_next search.least child }
+
+-- behind all of them
+abbrev pub searched : Search → List Child → Search
+searched search [] = search
+searched search (child ∷ rest) = searched (seen_next search child) rest
+
+-- before the first
+abbrev pub unsearched : Search
+unsearched = record { clear = true; least = None }
+
+-- what a search found, where each name that begins so is clear
+abbrev pub least_clear : Search → Option ℕ
+least_clear search = if not search.clear then None else search.least
+
+-- a file that has no blocks
+abbrev pub is_blockless : CatRecord → Bool
+is_blockless (Folder folder) = false
+is_blockless (File file) = (file.data_fork.total_blocks == 0) && (file.resource_fork.total_blocks == 0)
+is_blockless (Thread thread) = false
+
+-- ---- the entry that goes
+-- The next step of reclaiming drops this entry: it is that of a file that lost its last name, and has neither blocks nor attributes.
+pub record IsToDrop (shrunk : Option ℕ) (content : Content) (entry : Entry) : Type 0 where
+  pub id : ℕ
+  pub next : next_reclaim (volume_of content) shrunk ≡ Some (DropOrphan id)
+  pub bare : IsBareOrphan id (volume_of content)
+  pub parent : entry.parent ≡ bare.entry.parent
+  pub name : entry.name ≡ bare.entry.name
+
+-- The entry of a name in a folder isn't there any more, nor is its thread; the header counts a file less and was put.
+pub record DropsFile (parent : ℕ) (name : List ℕ) (old new : Volume) (before after : Content) : Type 0 where
+  pub removes : RemovesEntry parent name (lists_of old before).catalog_pairs (lists_of new after).catalog_pairs
+  pub changes : ChangesCatalog old new before after
+  pub header : new.header ≡ with_file_removed old.header
+  pub headed : header_of_volume after ≡ new.header
+
+-- The entry of such a file goes, in the lists of the content, and the tree is as it was.
+pub record DropsWaiting (shrunk : Option ℕ) (before after : Content) : Type 0 where
+  pub id : ℕ
+  pub next : next_reclaim (volume_of before) shrunk ≡ Some (DropOrphan id)
+  pub drops : DropsOrphanEntry id (volume_of before) (volume_of after)
+  pub does : Does (DropOrphan id) (volume_of before) (volume_of after)
+  pub tree : tree_of after ≡ tree_of before
+
+-- ---- the attribute that goes
+-- the name is the first of these
+abbrev pub IsFirstName : List ℕ → List (List ℕ) → Type 0
+IsFirstName name names = (0 < length names) × (name ≡ slice_index_or names 0 [])
+
+-- An attribute of a file that waits goes, in the lists of the content, and the tree is as it was.
+pub record BaresWaiting (shrunk : Option ℕ) (before after : Content) : Type 0 where
+  pub id : ℕ
+  pub name : List ℕ
+  pub next : next_reclaim (volume_of before) shrunk ≡ Some (DropAttribute id name)
+  pub bares : InAttributes (DropsAttribute id name) (volume_of before) (volume_of after)
+  pub does : Does (DropAttribute id name) (volume_of before) (volume_of after)
+  pub tree : tree_of after ≡ tree_of before
+
+-- ---- what a step came to
+-- a load for which no tree grows
+abbrev pub grows_none : Cost → Bool
+grows_none (cost.Refused why) = false
+grows_none (cost.Load load grow) = (slice_index grow 0 == 0) && ((slice_index grow 1 == 0) && (slice_index grow 2 == 0))
+
+-- Nothing is missing for a step of reclaiming, and no tree has to grow for it.
+pub record AffordsStep (capacity : ℕ) (content : Content) (step : Reclaim) : Type 0 where
+  pub load : ℕ
+  pub affords : reclaim_cost capacity (volume_of content) step ≡ cost.Load load (0 ∷ 0 ∷ 0 ∷ [])
+
+-- The next step of reclaiming was made, and dropped an entry.
+pub record HasDropped (capacity : ℕ) (shrunk : Option ℕ) (before after : Content) : Type 0 where
+  pub waiting : DropsWaiting shrunk before after
+  pub affords : AffordsStep capacity before (DropOrphan waiting.id)
+
+-- It was made, and dropped an attribute.
+pub record HasBared (capacity : ℕ) (shrunk : Option ℕ) (before after : Content) : Type 0 where
+  pub waiting : BaresWaiting shrunk before after
+  pub affords : AffordsStep capacity before (DropAttribute waiting.id waiting.name)
+
+-- It was made, and cut a fork.
+pub record HasCut (capacity : ℕ) (shrunk : Option ℕ) (before after : Content) : Type 0 where
+  pub cuts : CutsFile shrunk before after
+  pub affords : AffordsStep capacity before cuts.step
+
+-- the next step of reclaiming was made, or nothing was changed
+abbrev pub TidiesAs : Tidying → ℕ → Option ℕ → Content → Content → Type 0
+TidiesAs tidying.Rest capacity shrunk before after = after ≡ before
+TidiesAs tidying.Made capacity shrunk before after = HasDropped capacity shrunk before after ⊎ (HasBared capacity shrunk before after ⊎ HasCut capacity shrunk before after)
+TidiesAs tidying.CommitFirst capacity shrunk before after = after ≡ before

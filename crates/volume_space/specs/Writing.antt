@@ -1,0 +1,219 @@
+-- `write` of bytes and `trunc` to a larger size: data is put into a file.
+use Rattle.std.specs.Prelude.{◌≡◌, ◌<◌, ◌≤◌, ℕ, ◌+◌, ◌-◌, ◌*◌, ◌/◌, ◌&&◌, ◌||◌, max, min, nat_le, nat_lt, not, Bool, true, false, List, [], ◌∷◌, ◌++◌, length, take, drop, slice_index_or, Option, None, Some}
+use Rattle.std.specs.List.{All, Contains, list_all}
+use Rattle.hx_bytes.specs.declared.extents.Extent.{Extent}
+use Rattle.hx_bytes.specs.declared.extents.ForkRecord.{ForkRecord}
+use Rattle.sector_disk.specs.Space.{AgreesOutside, Space}
+use Rattle.fork_map.specs.Blocks.{blocks_of}
+use Rattle.alloc_bitmap.specs.Apart.{AreApart}
+use Rattle.file_io.specs.Bytes.{IsBlockSize, fork_bytes, sectors_in, written}
+use Rattle.file_io.specs.Places.{AreUsed, KeepsMap, blocks_for, first_block as first_of, fresh_of, given, middle, new_blocks, old_end, taken}
+use Rattle.file_io.specs.Touching.{IsOneOf}
+use Rattle.overflow.specs.Records.{eight_at}
+use Rattle.cat_records.specs.Fits.{FitsFile}
+use Rattle.cat_records.specs.declared.record.CatRecord.TheVariants.{File}
+use Rattle.cat_records.specs.declared.record.FileRecord.{FileRecord}
+use Rattle.jnl_format.specs.Recovery.{Content}
+use Rattle.flag_rows.specs.Bits.{count_set, sectors_for}
+use Rattle.flag_rows.specs.Marks.{Fit}
+use Rattle.flag_rows.specs.Runs.{fewest_of}
+use Rattle.alloc_bitmap.specs.Map.{BlockMap, Have, free_of}
+use Rattle.hfs_language.specs.declared.command.Command.{Command}
+use Rattle.hfs_volume.specs.Content.{VolumeState, overflow_in_volume, records_of, volume_of}
+use Rattle.hfs_volume.specs.Data.{PutsInFork}
+use Rattle.hfs_volume.specs.Forks.{data_kind, extents_of, per_block_of}
+use Rattle.hfs_volume.specs.Records.{Placed, entries_of, is_link_type}
+use Rattle.hfs_volume.specs.Sound.{IsSoundVolume}
+use Rattle.hfs_volume.specs.TreeOf.{file_bytes, tree_in, tree_of}
+use Rattle.hfs_volume.specs.Weight.{Data, data_of, file_extents, first_block, free_runs, needs_cut, new_blocks_of, old_blocks_of}
+use Rattle.hfs_volume.specs.Writing.{MakesBytes, RewritesFile, file_before, written_bytes}
+use Rattle.volume_base.specs.Changing.{ReplacesRecord, catalog_node}
+use Rattle.volume_base.specs.Lists.{bits_on, lists_of}
+use Rattle.volume_base.specs.Reading.{HasFile}
+use Rattle.volume_base.specs.Standing.{IsSettled}
+use Rattle.volume_base.specs.declared.entries.Entry.{Entry}
+use Rattle.volume_base.specs.declared.volume.Tree.{Tree}
+use Rattle.volume_base.specs.declared.volume.Volume.{Volume}
+
+-- how many blocks data takes of a volume, and in whose place of the file's they come
+abbrev pub fresh_blocks : Volume → Data → ℕ
+fresh_blocks volume put = new_blocks_of volume.header.block_size put
+
+abbrev pub freed_blocks : Volume → Data → ℕ
+freed_blocks volume put = old_blocks_of volume.header.block_size put
+
+-- from how many free runs they are taken
+abbrev pub fresh_runs : Volume → Data → ℕ
+fresh_runs volume put = fewest_of (fresh_blocks volume put) (free_runs (free_of volume.map))
+
+-- the sectors of the bitmap that a put of data changes, at most
+abbrev pub bits_load : Volume → Data → ℕ
+bits_load volume put = min (sectors_for (length volume.map.used)) (fresh_blocks volume put / 4096 + 2 * fresh_runs volume put + freed_blocks volume put)
+
+-- the sectors that a put of data puts at most: the header's, the record's, and those of the bitmap
+abbrev pub data_load : Volume → Data → ℕ
+data_load volume put = 1 + catalog_node volume + bits_load volume put
+
+-- There are as many free blocks as the data takes, and room to put what it puts.
+pub record HasRoomToPutData (put : Data) (volume : Volume) (spare : ℕ) : Type 0 where
+  pub blocks : fresh_blocks volume put ≤ count_set (free_of volume.map)
+  pub sectors : data_load volume put ≤ spare
+
+-- whether there is this room, where so many sectors may be put
+abbrev pub fits_data : Volume → ℕ → Data → Bool
+fits_data volume spare put = nat_le (fresh_blocks volume put) (count_set (free_of volume.map)) && nat_le (data_load volume put) spare
+
+-- a fork of so many extents has more than its record holds, or may have with blocks of so many runs
+abbrev pub may_overflow : ℕ → ℕ → Bool
+may_overflow extents runs = nat_lt 8 (extents + 1 + runs)
+
+-- it is still to come to put data into a file that has blocks past its size, which go first, or whose fork has more than eight extents or may
+-- have with the new blocks
+abbrev pub is_put_later : Volume → VolumeState → Data → Bool
+is_put_later volume lists put = needs_cut lists (Some put) || may_overflow (length (file_extents lists put.id data_kind)) (fresh_runs volume put)
+
+-- there is data to put, it isn't still to come to put it, and there is room for it, where so many sectors may be put
+abbrev pub is_put_now : Volume → ℕ → VolumeState → Option Data → Bool
+is_put_now volume spare lists None = false
+is_put_now volume spare lists (Some put) = not (is_put_later volume lists put) && fits_data volume spare put
+
+-- The file has the data of a command: it has fresh blocks in place of those from the first that is written on, its size and its dates are others,
+-- and the header counts the free blocks anew; nothing else of the lists is changed, and of all forks this one alone has other blocks.
+pub record HasData (asked : Command) (before after : Content) : Type 0 where
+  pub put : Data
+  pub is_asked : data_of (tree_of before) asked ≡ Some put
+  pub no_cut : needs_cut (volume_of before) (Some put) ≡ false
+  pub fresh : List ℕ
+  pub rewrites : RewritesFile put.id (first_block (volume_of before).head.block_size put) (old_blocks_of (volume_of before).head.block_size put) fresh (volume_of before) (volume_of after)
+  pub forks : PutsInFork (Some put) (volume_of before) (volume_of after)
+  pub overflow : (volume_of after).overflow_pairs ≡ (volume_of before).overflow_pairs
+
+-- ---- the stages of a put
+-- a fork of this size in so many blocks, with these extents
+abbrev pub fork_with : (size total : ℕ) → List Extent → ForkRecord → ForkRecord
+fork_with size total extents fork = record { logical_size = size; clump_size = fork.clump_size; total_blocks = total; extents = eight_at extents 0 }
+
+-- the record of a file that has this data fork since this moment
+abbrev pub record_with : (moment : ℕ) → ForkRecord → FileRecord → FileRecord
+record_with moment fork file = record file { fields = record file.fields { changed = moment; attribute = moment }; data_fork = fork }
+
+-- The extents of a file of this size lie in the space, hold its bytes and are in use, none twice, and so is the block of the header; the volume's blocks lie in the space.
+pub record IsSureToPut (extents : List Extent) (size : ℕ) (volume : Volume) (space : Space) : Type 0 where
+  pub block : IsBlockSize volume.header.block_size
+  pub fits : length volume.map.used * per_block_of volume.header ≤ space.sectors
+  pub header : slice_index_or volume.map.used (2 / per_block_of volume.header) false ≡ true
+  pub inside : All (λ at. at < space.sectors) (sectors_in volume.header.block_size extents)
+  pub holds : size ≤ length (blocks_of extents) * volume.header.block_size
+  pub used : AreUsed volume.map (blocks_of extents)
+  pub apart : AreApart (blocks_of extents)
+  pub fit : Fit (length volume.map.used) extents
+
+-- the volume behind a spill, behind the new record, and with another number of free blocks
+abbrev pub with_spill : Volume → BlockMap → Volume
+with_spill volume later = record volume { map = later }
+
+abbrev pub with_record : Volume → BlockMap → Tree → Volume
+with_record volume later catalog = record volume { map = later; catalog = catalog }
+
+abbrev pub with_data_put : Volume → BlockMap → Tree → ℕ → Volume
+with_data_put volume later catalog free = record volume { map = later; catalog = catalog; header = record volume.header { free_blocks = free } }
+
+-- how many blocks a value takes that is put into a file of this size
+abbrev pub blocks_put : Volume → (size from long : ℕ) → ℕ
+blocks_put volume size from long = new_blocks volume.header.block_size size from (from + long)
+
+-- A value was spilled for a file of these extents, and the file's record has the new fork; bitmap and header say so in memory, and neither of them was put.
+pub record PlacesData (entry : Entry) (file : FileRecord) (extents : List Extent) (from : ℕ) (value : List ℕ) (total free : ℕ) (old new : Volume) (before after : Content) : Type 0 where
+  pub later : List Extent
+  pub between : Content
+  pub few : length later ≤ 8
+  pub blocks : blocks_of later ≡ take (first_of old.header.block_size file.data_fork.logical_size from) (blocks_of extents)
+      ++ blocks_of (fresh_of old.map (blocks_put old file.data_fork.logical_size from (length value)))
+      ++ drop (old_end old.header.block_size file.data_fork.logical_size (from + length value)) (blocks_of extents)
+  pub bytes : take (max file.data_fork.logical_size (from + length value)) (fork_bytes between old.header.block_size later)
+      ≡ written (take file.data_fork.logical_size (fork_bytes before old.header.block_size extents)) from value
+  pub map : AreApart (blocks_of extents)
+      → new.map ≡ given (middle (first_of old.header.block_size file.data_fork.logical_size from) (old_end old.header.block_size file.data_fork.logical_size (from + length value)) extents) (taken (blocks_put old file.data_fork.logical_size from (length value)) old.map)
+  pub fits : FitsFile (record_with old.header.modify_date (fork_with (max file.data_fork.logical_size (from + length value)) total later file.data_fork) file)
+  pub keeps : KeepsMap old.map new.map
+  pub spilled : AgreesOutside (IsOneOf (sectors_in old.header.block_size (fresh_of old.map (blocks_put old file.data_fork.logical_size from (length value))))) before between
+  pub lists : lists_of (with_spill old new.map) between ≡ record (lists_of old before) { bits = bits_on (with_spill old new.map) }
+  pub replaces : ReplacesRecord entry (File (record_with old.header.modify_date (fork_with (max file.data_fork.logical_size (from + length value)) total later file.data_fork) file)) (with_spill old new.map) (with_record old new.map new.catalog) between after
+  pub rest : new ≡ with_data_put old new.map new.catalog free
+
+-- A value was put into a file: these are the lists that the laws of `write` and `trunc` speak of, and the bytes are made so. Where they are a sound volume's, the
+-- volume is settled, and stands for their tree.
+pub record PutsValue (file : FileRecord) (from : ℕ) (value : List ℕ) (old new : Volume) (before after : Content) : Type 0 where
+  pub lists : VolumeState
+  pub fresh : List ℕ
+  pub many : length fresh ≡ blocks_put old file.data_fork.logical_size from (length value)
+  pub rewrites : RewritesFile file.fields.id (first_of old.header.block_size file.data_fork.logical_size from) (old_end old.header.block_size file.data_fork.logical_size (from + length value) - first_of old.header.block_size file.data_fork.logical_size from) fresh (volume_of before) lists
+  pub same_file : file_before rewrites.puts ≡ file
+  pub makes : MakesBytes (written_bytes from value) rewrites (file_bytes before) (file_bytes after)
+  pub settles : IsSoundVolume lists → IsSettled new after
+  pub tree : tree_of after ≡ tree_in lists (file_bytes after)
+  pub now : volume_of after ≡ lists
+  pub overflow : lists.overflow_pairs ≡ (volume_of before).overflow_pairs
+
+-- the sectors that a put of so many bytes puts at most into a file of this size
+abbrev pub put_load : Volume → (size from long : ℕ) → ℕ
+put_load volume size from long =
+    1 + catalog_node volume
+    + min (sectors_for (length volume.map.used)) (blocks_put volume size from long / 4096 + 2 * fewest_of (blocks_put volume size from long) (free_runs (free_of volume.map)) + (old_end volume.header.block_size size (from + long) - first_of volume.header.block_size size from))
+
+-- A file's record stands in the lists of a content, its data fork has these extents, and it is no link.
+pub record IsToldFile (file : FileRecord) (extents : List Extent) (content : Content) : Type 0 where
+  pub entry : Placed
+  pub stands : Contains (entries_of (records_of (volume_of content))) entry
+  pub value : entry.value ≡ File file
+  pub extents_are : extents ≡ extents_of (overflow_in_volume (volume_of content)) file.fields.id data_kind file.data_fork
+  pub no_link : is_link_type file.fields ≡ false
+
+-- ---- extents that are used, and apart
+-- the blocks of each of these extents lie in the volume, and are in use
+abbrev pub AreHad : BlockMap → List Extent → Type 0
+AreHad blocks [] = Unit {0}
+AreHad blocks (extent ∷ rest) = Have blocks.used extent true × AreHad blocks rest
+
+-- the blocks of the first extent lie before those of the second
+abbrev pub ends_before : Extent → Extent → Bool
+ends_before first second = nat_le (first.start + first.count) second.start
+
+-- an extent has no block in common with any of these
+abbrev pub is_apart_from : Extent → List Extent → Bool
+is_apart_from extent others = list_all (λ other. ends_before other extent || ends_before extent other) others
+
+-- no two of them have a block in common
+abbrev pub are_apart : List Extent → Bool
+are_apart [] = true
+are_apart (extent ∷ rest) = is_apart_from extent rest && are_apart rest
+
+-- ---- whether data can be put now, by the numbers
+-- a file of this size that grows to an end has more blocks than its size wants
+abbrev pub has_more : (size end wanted total : ℕ) → Bool
+has_more size end wanted total = nat_lt size end && nat_lt wanted total
+
+-- whether so much data can be put now into a file that has so many blocks in so many extents
+abbrev pub can_put : Volume → (spare extents total size from long : ℕ) → Bool
+can_put volume spare extents total size from long =
+    not (has_more size (from + long) (blocks_for volume.header.block_size size) total)
+    && (nat_le (blocks_put volume size from long) (count_set (free_of volume.map))
+    && (nat_le (put_load volume size from long) spare && not (may_overflow extents (fewest_of (blocks_put volume size from long) (free_runs (free_of volume.map))))))
+
+-- Data of so many bytes from a place on, into a file of this size.
+pub record IsAt (put : Data) (size from end : ℕ) : Type 0 where
+  pub size_is : put.old_size ≡ size
+  pub new_is : put.new_size ≡ max size end
+  pub end_is : put.end ≡ end
+  pub place : min put.from put.old_size ≡ min from size
+
+-- A value was put into the file with this CNID.
+pub record PutsAt (id from : ℕ) (value : List ℕ) (old new : Volume) (before after : Content) : Type 0 where
+  pub file : FileRecord
+  pub number : file.fields.id ≡ id
+  pub stands : HasFile (records_of (volume_of before)) file
+  pub puts : PutsValue file from value old new before after
+
+-- the extents of a file's data fork
+abbrev pub extents_in : Content → FileRecord → List Extent
+extents_in content file = extents_of (overflow_in_volume (volume_of content)) file.fields.id data_kind file.data_fork

@@ -1,0 +1,26 @@
+//! Bytes of files, growth of the trees' files, and housekeeping, on a volume in service.
+#![tactic(auto)]
+
+mod ahead;
+mod cutting;
+mod growable;
+mod growing;
+mod growing_attributes;
+mod mapping;
+mod orphans;
+mod putting;
+mod resizing;
+mod spilling;
+mod stripping;
+mod tidying;
+mod trimming;
+mod unfiling;
+mod writing;
+
+pub use ahead::{Growth, MoreNodes, grow_ahead};
+pub use growable::{can_grow_attributes, can_grow_catalog};
+pub use growing::grow_catalog;
+pub use growing_attributes::grow_attributes;
+pub use resizing::shorten;
+pub use tidying::{Tidying, tidy};
+pub use writing::{lengthen, write};

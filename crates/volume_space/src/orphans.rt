@@ -1,0 +1,191 @@
+//! Files that lost their last name, found among the entries of the private folder.
+ghost use Rattle.std.specs.Prelude.{◌≡◌};
+ghost use Rattle.std.specs.List.{list_all};
+ghost use Rattle.hfs_volume.specs.Records.{id_in, is_link_type};
+ghost use Rattle.volume_space.specs.Orphans.{begins_temp, found_next, is_blockless, is_clear, is_digit, is_led, is_number, is_own_record, is_waiting, least_clear, lesser, searched, seen_next, unsearched};
+
+use cat_records::{CatRecord, EntryFields};
+use catalog::Child;
+use hx_bytes::read_be32;
+
+/// `hlnk`, the type of a further name (TN1150, "Hard Links").
+const LINK_TYPE: u32 = 0x686C_6E6B;
+
+/// `hfs+`, its creator.
+const LINK_CREATOR: u32 = 0x6866_732B;
+
+/// What a search among the entries of the private folder found.
+#[derive(Clone, Copy)]
+pub(crate) struct Search {
+    /// Each name that begins with `temp` has nothing but a number behind it.
+    pub(crate) clear: bool,
+    /// The least CNID of the files that wait to be removed.
+    pub(crate) least: Option<u32>,
+}
+
+/// Whether a name begins with the word `temp`.
+fn begins_temp(name: &[u16]) -> bool
+    ensures { result ≡ begins_temp name.now }
+{
+    if name.len() < 4 {
+        return false;
+    }
+    name[0] == 116 && (name[1] == 101 && (name[2] == 109 && name[3] == 112))
+}
+
+/// Whether a unit is a decimal digit.
+fn is_digit(unit: u16) -> bool
+    ensures { result ≡ is_digit unit }
+{
+    47 < unit && unit < 58
+}
+
+/// Whether units are decimal digits.
+fn are_digits(units: &[u16]) -> bool
+    ensures { result ≡ list_all is_digit units.now }
+{
+    units.iter().all(|unit| is_digit(*unit))
+}
+
+/// Whether so many digits, of which this is the first, have no zero in front.
+fn is_led(first: u16, many: usize) -> bool
+    ensures { result ≡ is_led first many }
+{
+    many == 1 || first != 48
+}
+
+/// Whether units are a decimal number of nineteen digits or fewer.
+fn is_number(units: &[u16]) -> bool
+    ensures { result ≡ is_number units.now }
+{
+    if units.is_empty() {
+        return false;
+    }
+    if units.len() > 19 {
+        return false;
+    }
+    if !is_led(units[0], units.len()) {
+        return false;
+    }
+    are_digits(units)
+}
+
+/// Whether a name has nothing but a number behind the word `temp`, if it begins with it.
+fn is_clear(name: &[u16]) -> bool
+    ensures { result ≡ is_clear name.now }
+{
+    if !begins_temp(name) {
+        return true;
+    }
+    if name.len() < 4 {
+        return true;
+    }
+    is_number(&name[4..])
+}
+
+/// Whether the fields are those of a further name of a file.
+pub(crate) fn is_link(fields: &EntryFields) -> bool
+    ensures { result ≡ is_link_type fields.now }
+{
+    read_be32(fields.finder.as_slice(), 0) == LINK_TYPE
+        && read_be32(fields.finder.as_slice(), 4) == LINK_CREATOR
+}
+
+/// Whether a record is a file's own.
+fn is_own_record(rec: &CatRecord) -> bool
+    ensures { result ≡ is_own_record rec.now }
+{
+    match rec {
+        CatRecord::Folder(_folder) => false,
+        CatRecord::File(file) => !is_link(&file.fields),
+        CatRecord::Thread(_thread) => false,
+    }
+}
+
+/// Whether an entry of the private folder waits to be removed.
+fn is_waiting(child: &Child) -> bool
+    ensures { result ≡ is_waiting child.now }
+{
+    is_own_record(&child.rec) && begins_temp(child.name.as_slice())
+}
+
+/// The CNID in a folder's or file's record; 0 in a thread's.
+fn id_in(rec: &CatRecord) -> u32
+    ensures { result ≡ id_in rec.now }
+{
+    match rec {
+        CatRecord::Folder(folder) => folder.fields.id,
+        CatRecord::File(file) => file.fields.id,
+        CatRecord::Thread(_thread) => 0,
+    }
+}
+
+/// The lesser of what was found before and this CNID.
+fn lesser(found: Option<u32>, id: u32) -> u32
+    ensures { result ≡ lesser found id }
+{
+    match found {
+        None => id,
+        Some(least) => { if id < least { id } else { least } }
+    }
+}
+
+/// What was found behind one entry more.
+fn found_next(found: Option<u32>, child: &Child) -> Option<u32>
+    ensures { result ≡ found_next found child.now }
+{
+    if is_waiting(child) {
+        Some(lesser(found, id_in(&child.rec)))
+    } else {
+        found
+    }
+}
+
+/// A search behind one entry more.
+fn seen_next(search: Search, child: &Child) -> Search
+    ensures { result ≡ seen_next search child.now }
+{
+    Search {
+        clear: search.clear && is_clear(child.name.as_slice()),
+        least: found_next(search.least, child),
+    }
+}
+
+/// A search among entries of the private folder.
+fn searched(children: &[Child]) -> Search
+    ensures { result ≡ searched unsearched children.now }
+{
+    let mut search = Search {
+        clear: true,
+        least: None,
+    };
+    for child in children {
+        search = seen_next(search, child);
+    }
+    search
+}
+
+/// The least CNID of the files among these entries of the private folder that wait to be removed. None is told where a name
+/// that begins with `temp` has anything but a number of nineteen digits or fewer behind it.
+pub(crate) fn least_waiting(children: &[Child]) -> Option<u32>
+    ensures { result ≡ least_clear (searched unsearched children.now) }
+{
+    let search = searched(children);
+    if !search.clear {
+        return None;
+    }
+    search.least
+}
+
+/// Whether a record is that of a file that has no blocks.
+pub(crate) fn is_blockless(rec: &CatRecord) -> bool
+    ensures { result ≡ is_blockless rec.now }
+{
+    match rec {
+        CatRecord::Folder(_folder) => false,
+        CatRecord::File(file) => {
+            file.data_fork.total_blocks == 0 && file.resource_fork.total_blocks == 0
+        }
+        CatRecord::Thread(_thread) => false,
+    }
+}

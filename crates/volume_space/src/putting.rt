@@ -1,0 +1,622 @@
+//! Data put into a file of a volume in service.
+ghost use Rattle.std.specs.Prelude.{◌≡◌, ◌⊎◌, ◌<◌, ◌≤◌, ◌+◌, ◌-◌, ◌*◌, ◌/◌, ◌%◌, ◌^◌, ℕ, Some, true, false, max, min, nat_le, IsTrue, IfOk, IfSome, OnOk, length};
+ghost use Rattle.std.specs.List.{Contains};
+ghost use Rattle.sector_disk.specs.Lists.{Content};
+ghost use Rattle.sector_disk.specs.Space.{SameSpace};
+ghost use Rattle.alloc_bitmap.specs.Map.{free_of, none};
+ghost use Rattle.btree_edit.specs.Causes.{HasTroubleCause};
+ghost use Rattle.cat_records.specs.Fits.{FitsFile, FitsRecord};
+ghost use Rattle.cat_records.specs.declared.record.CatRecord.TheVariants.{File};
+ghost use Rattle.cat_records.specs.declared.record.FileRecord.{FileRecord};
+ghost use Rattle.catalog.specs.Pairs.{value_at};
+ghost use Rattle.file_io.specs.Places.{blocks_for, first_block, given, middle, new_blocks, old_end, taken};
+ghost use Rattle.flag_rows.specs.Bits.{count_set, sectors_for};
+ghost use Rattle.flag_rows.specs.Runs.{fewest_of};
+ghost use Rattle.hfs_model.specs.declared.plain.PlainNode.{PlainNode};
+ghost use Rattle.hfs_volume.specs.TreeOf.{tree_of};
+ghost use Rattle.hfs_volume.specs.Weight.{Data, free_runs};
+ghost use Rattle.hfs_volume.specs.Aside.{IsJournalSector};
+ghost use Rattle.volume_base.specs.Changing.{HasRoomToUpdate, catalog_node};
+ghost use Rattle.volume_base.specs.Lists.{lists_of};
+ghost use Rattle.hfs_volume.specs.Content.{overflow_in_volume, records_of, volume_of};
+ghost use Rattle.hfs_volume.specs.Forks.{data_kind, extents_of};
+ghost use Rattle.hfs_volume.specs.Records.{is_thread};
+ghost use Rattle.volume_base.specs.Looking.{ReadsVolume};
+ghost use Rattle.volume_base.specs.Reading.{HasFile};
+ghost use Rattle.volume_base.specs.Service.{IsInService};
+ghost use Rattle.volume_space.specs.Spilling.{IsLaidOutAs};
+ghost use Rattle.volume_space.specs.Standing.{HoldsOn};
+ghost use Rattle.volume_base.specs.Standing.{IsSettled, StandsOver, own_sectors};
+ghost use Rattle.volume_base.specs.Touching.{Touches};
+ghost use Rattle.volume_space.specs.Writing.{AreHad, IsAt, IsSureToPut, IsToldFile, PlacesData, PutsAt, PutsValue, are_apart, blocks_put, can_put, data_load, ends_before, extents_in, fork_with, has_more, is_apart_from, is_put_now, may_overflow, put_load, record_with};
+
+use crate::growing::first_eight;
+use crate::mapping::put_map;
+use crate::resizing::with_change;
+use crate::spilling::spill;
+use alloc_bitmap::Bitmap;
+use cat_records::{CatRecord, FileRecord};
+use fork_map::ExtentList;
+use hfs_volume::other_files_keep_their_bytes;
+use hx_bytes::{Extent, ForkRecord, Trouble};
+use sector_disk::SectorSpace;
+use std::alloc::Global;
+use volume_base::{DATA, Entry, Volume, all_inside, load_extents, size_held};
+
+/// What is put into a file: the size that it has, and the bytes that are new, from a place up to an end.
+#[derive(Clone, Copy)]
+struct Place {
+    size: u64,
+    from: u64,
+    end: u64,
+}
+
+/// How many blocks data takes, and in whose place of the file's they come.
+#[derive(Clone, Copy)]
+struct Counts {
+    fresh: u64,
+    freed: u64,
+}
+
+/// How many blocks are free, and how many a file has.
+#[derive(Clone, Copy)]
+struct Sums {
+    free: u32,
+    total: u32,
+}
+
+/// How many blocks so many bytes take.
+fn blocks_for(block: u32, bytes: u64) -> u64
+    requires { 0 < block }
+    ensures { result ≡ blocks_for block bytes }
+{
+    if bytes == 0 {
+        return 0;
+    }
+    (bytes - 1) / u64::from(block) + 1
+}
+
+/// How many blocks so much data takes, and in whose place they come.
+fn count_blocks(block: u32, place: Place) -> Counts
+    requires { 0 < block }
+    ensures fresh { result.fresh ≡ new_blocks block place.size place.from place.end }
+    ensures freed { result.freed ≡ old_end block place.size place.end - first_block block place.size place.from }
+    ensures less { result.freed ≤ result.fresh }
+{
+    let first = place.from.min(place.size) / u64::from(block);
+    let end = blocks_for(block, place.end);
+    let old_end = end.min(blocks_for(block, place.size));
+    Counts {
+        fresh: end.saturating_sub(first),
+        freed: old_end.saturating_sub(first),
+    }
+}
+
+/// So many blocks less, and so many more, if there are so many.
+fn exchanged(blocks: u32, less: u64, more: u64) -> Option<u32>
+    ensures { IfSome result (λ left. (left + less ≡ blocks + more) × (left < 2 ^ 32)) }
+{
+    let left = u64::from(blocks).checked_sub(less)?;
+    let now = left.checked_add(more)?;
+    if now > 0xFFFF_FFFF {
+        return None;
+    }
+    Some(now as u32)
+}
+
+/// How many blocks are free behind a put, of so many, and how many the file has, of so many; none where one of them has no 32 bits.
+fn count_sums(free: u32, blocks: u32, counts: Counts) -> Option<Sums>
+    ensures { IfSome result (λ sums. (sums.free + counts.fresh ≡ free + counts.freed) × (sums.total + counts.freed ≡ blocks + counts.fresh)) }
+{
+    let free = exchanged(free, counts.fresh, counts.freed)?;
+    let total = exchanged(blocks, counts.freed, counts.fresh)?;
+    Some(Sums { free, total })
+}
+
+/// Whether these counts have 32 bits.
+fn are_small(counts: Counts) -> bool
+    ensures fresh { IsTrue result → counts.fresh < 2 ^ 32 }
+    ensures freed { IsTrue result → counts.freed < 2 ^ 32 }
+{
+    if counts.fresh > 0xFFFF_FFFF {
+        return false;
+    }
+    if counts.freed > 0xFFFF_FFFF {
+        return false;
+    }
+    true
+}
+
+/// Whether so many sectors may be put, and another one.
+fn has_room(sectors: u64, spare: u64) -> bool
+    ensures { IsTrue result → sectors + 1 ≤ spare }
+{
+    if spare <= sectors {
+        return false;
+    }
+    true
+}
+
+/// Whether a file of this size that grows to an end has more blocks than its size wants.
+fn has_more(size: u64, end: u64, wanted: u64, total: u32) -> bool
+    ensures { result ≡ has_more size end wanted total }
+{
+    size < end && wanted < u64::from(total)
+}
+
+/// Whether one number is at most another.
+fn is_at_most(number: u64, other: u64) -> bool
+    ensures exact { result ≡ nat_le number other }
+    ensures sure { IsTrue result → number ≤ other }
+{
+    number <= other
+}
+
+/// Whether a fork of so many extents may get more than its record holds, with blocks of so many runs.
+fn may_overflow(extents: usize, runs: u32) -> bool
+    requires { extents < 2 ^ 60 }
+    ensures { result ≡ may_overflow extents runs }
+{
+    8 < extents as u64 + 1 + u64::from(runs)
+}
+
+/// Whether so many extents can be counted with those that are to come.
+fn are_countable(extents: usize) -> bool
+    ensures { IsTrue result → extents < 2 ^ 60 }
+{
+    if extents >= 1 << 60 {
+        return false;
+    }
+    true
+}
+
+/// Whether a block has whole sectors.
+fn is_whole(block: u32) -> bool
+    ensures { IsTrue result → block % 512 ≡ 0 }
+{
+    block % 512 == 0
+}
+
+/// Whether so many blocks of so many sectors lie in so many.
+fn is_inside(blocks: u32, per_block: u32, sectors: u64) -> bool
+    ensures { IsTrue result → blocks * per_block ≤ sectors }
+{
+    u64::from(blocks) * u64::from(per_block) <= sectors
+}
+
+/// Whether two sizes are the same.
+fn is_same(size: u64, other: u64) -> bool
+    ensures { IsTrue result → size ≡ other }
+{
+    size == other
+}
+
+/// Whether the blocks of these extents are all in use.
+fn are_used(map: &Bitmap, extents: &[Extent]) -> bool
+    ensures { IsTrue result → AreHad map.now extents.now }
+{
+    for extent in extents {
+        if !map.have(*extent, true) {
+            return false;
+        }
+    }
+    true
+}
+
+/// Whether the blocks of the first extent lie before those of the second.
+fn ends_before(first: Extent, second: Extent) -> bool
+    ensures { result ≡ ends_before first second }
+{
+    u64::from(first.start) + u64::from(first.count) <= u64::from(second.start)
+}
+
+/// Whether an extent has no block in common with others.
+fn is_apart_from(extent: Extent, others: &[Extent]) -> bool
+    ensures { result ≡ is_apart_from extent others.now }
+{
+    others.iter().all(|other| ends_before(*other, extent) || ends_before(extent, *other))
+}
+
+/// Whether no two extents have a block in common.
+fn are_apart(extents: &[Extent]) -> bool
+    ensures { IsTrue result → are_apart extents.now ≡ true }
+{
+    for at in 0..extents.len() {
+        if !is_apart_from(extents[at], &extents[at + 1..]) {
+            return false;
+        }
+    }
+    true
+}
+
+/// Whether a file's record has room for these extents.
+fn is_in_record(extents: &[Extent]) -> bool
+    ensures { IsTrue result → length extents.now ≤ 8 }
+{
+    if extents.len() > 8 {
+        return false;
+    }
+    true
+}
+
+/// The record of a file that has this size in so many blocks of these extents, since this moment.
+fn with_data(
+    moment: u32,
+    size: u64,
+    total: u32,
+    extents: &[Extent],
+    file: &FileRecord,
+) -> FileRecord
+    ensures same { result ≡ record_with moment (fork_with size total extents.now file.now.data_fork) file.now }
+    ensures fits { FitsFile file.now → FitsFile result }
+{
+    FileRecord {
+        fields: with_change(moment, &file.fields),
+        data_fork: ForkRecord {
+            logical_size: size,
+            clump_size: file.data_fork.clump_size,
+            total_blocks: total,
+            extents: first_eight(extents),
+        },
+        resource_fork: file.resource_fork,
+    }
+}
+
+/// How many sectors of the bitmap a put of data changes at most.
+fn count_bits(volume: &Volume, counts: Counts) -> u64
+    requires fresh { counts.fresh < 2 ^ 32 }
+    requires freed { counts.freed < 2 ^ 32 }
+    ensures few { result ≤ 2 ^ 32 }
+    ensures exact { result ≡ min (sectors_for (length volume.now.map.used)) (counts.fresh / 4096 + 2 * fewest_of counts.fresh (free_runs (free_of volume.now.map)) + counts.freed) }
+{
+    let all = (u64::from(volume.map.total()) + 4095) / 4096;
+    let runs = volume.map.fewest(counts.fresh as u32);
+    let bits = counts.fresh / 4096 + 2 * u64::from(runs) + counts.freed;
+    all.min(bits)
+}
+
+/// How many sectors a put of data puts at most.
+fn count_data_sectors(volume: &Volume, counts: Counts) -> u64
+    requires fresh { counts.fresh < 2 ^ 32 }
+    requires freed { counts.freed < 2 ^ 32 }
+    ensures { result ≡ 1 + catalog_node volume.now + min (sectors_for (length volume.now.map.used)) (counts.fresh / 4096 + 2 * fewest_of counts.fresh (free_runs (free_of volume.now.map)) + counts.freed) }
+{
+    let node = u64::from(volume.catalog.file.shape().node_size / 512);
+    1 + node + count_bits(volume, counts)
+}
+
+/// Whether so many bytes can be put into a file of this size from a place on, which has so many blocks, in these extents: none of them is
+/// past its size, or it doesn't grow; there are free blocks, and room; and its record holds the extents that it may get.
+fn is_put_now<P: SectorSpace>(
+    volume: &Volume,
+    space: &P,
+    extents: usize,
+    total: u32,
+    size: u64,
+    from: u64,
+    long: usize,
+) -> bool
+    requires service { IsInService volume.now (P.SectorView.space space.now) }
+    requires few { extents < 2 ^ 60 }
+    requires small { from + long ≤ 2 ^ 40 }
+    ensures { result ≡ can_put volume.now (P.SectorView.space space.now).spare extents total size from long }
+{
+    let block = volume.header.block_size;
+    let end = from + long as u64;
+    let wanted = blocks_for(block, size);
+    if has_more(size, end, wanted, total) {
+        return false;
+    }
+    let counts = count_blocks(block, Place { size, from, end });
+    if !is_at_most(counts.fresh, u64::from(volume.map.count_free())) {
+        return false;
+    }
+    if !is_at_most(count_data_sectors(volume, counts), space.spare()) {
+        return false;
+    }
+    let runs = volume.map.fewest(counts.fresh as u32);
+    !may_overflow(extents, runs)
+}
+
+/// Whether the extents of a file of this size are such as a sound volume's: they lie in the space, hold its bytes, and are in use; and
+/// so is the block of the header.
+fn is_sure<P: SectorSpace>(volume: &Volume, space: &P, list: &ExtentList, size: u64) -> bool
+    requires service { IsInService volume.now (P.SectorView.space space.now) }
+    ensures { IsTrue result → IsSureToPut list.now size volume.now (P.SectorView.space space.now) }
+{
+    let block = volume.header.block_size;
+    if !is_whole(block) {
+        return false;
+    }
+    let per_block = block / 512;
+    let sectors = space.sectors();
+    if !is_inside(volume.map.total(), per_block, sectors) {
+        return false;
+    }
+    let header = Extent {
+        start: 2 / per_block,
+        count: 1,
+    };
+    if !volume.map.have(header, true) {
+        return false;
+    }
+    let extents = list.as_slice();
+    if !all_inside(extents, per_block, sectors) {
+        return false;
+    }
+    let held = size_held(list, per_block, size);
+    if !is_same(held, size) {
+        return false;
+    }
+    if !are_apart(extents) {
+        return false;
+    }
+    are_used(&volume.map, extents)
+}
+
+/// Spills a value for a file of these extents, and gives the file its new record; bitmap and header say so in memory, and neither is put.
+fn place_data<P: SectorSpace>(
+    volume: &mut Volume,
+    alloc: Global,
+    space: &mut P,
+    entry: &Entry,
+    file: &FileRecord,
+    list: &ExtentList,
+    from: u64,
+    value: &[u8],
+    total: u32,
+    free: u32,
+) -> Result<(), Trouble>
+    requires stands { StandsOver volume.old (P.SectorView.space space.old) }
+    requires settled { IsTrue (P.SectorView.space space.old).tells → IsSettled volume.old (P.SectorView.space space.old).content }
+    requires closed { IsTrue (P.SectorView.space space.old).tells → (at : ℕ) → (P.SectorView.space space.old).closed at → IsJournalSector (P.SectorView.space space.old).content at }
+    requires sure { IsSureToPut list.now file.now.data_fork.logical_size volume.old (P.SectorView.space space.old) }
+    requires some { 0 < length value.now }
+    requires small { from + length value.now ≤ 2 ^ 40 }
+    requires free { blocks_put volume.old file.now.data_fork.logical_size from (length value.now) ≤ count_set (free_of volume.old.map) }
+    requires name { length entry.now.name ≤ 255 }
+    requires there { IsTrue (P.SectorView.space space.old).tells → value_at (lists_of volume.old (P.SectorView.space space.old).content).catalog_pairs entry.now.parent entry.now.name ≡ Some entry.now.rec }
+    requires kind { entry.now.rec ≡ File file.now }
+    requires fits { FitsFile file.now }
+    requires room { HasRoomToUpdate volume.old (P.SectorView.space space.old) }
+    ensures stands { OnOk result (StandsOver volume.new (P.SectorView.space space.new)) }
+    ensures service { IsInService volume.new (P.SectorView.space space.new) }
+    ensures places { IsTrue (P.SectorView.space space.old).tells → OnOk result (PlacesData entry.now file.now list.now from value.now total free volume.old volume.new (P.SectorView.space space.old).content (P.SectorView.space space.new).content) }
+    ensures map { OnOk result (volume.new.map ≡ given (middle (first_block volume.old.header.block_size file.now.data_fork.logical_size from) (old_end volume.old.header.block_size file.now.data_fork.logical_size (from + length value.now)) list.now) (taken (blocks_put volume.old file.now.data_fork.logical_size from (length value.now)) volume.old.map)) }
+    ensures own { own_sectors volume.new ≡ own_sectors volume.old }
+    ensures same { (volume.new.private ≡ volume.old.private) × (volume.new.shrunk ≡ volume.old.shrunk) × (volume.new.capacity ≡ volume.old.capacity) }
+    ensures commit { (committed : Content) → HoldsOn committed volume.old → IsLaidOutAs committed volume.old → Touches committed (λ s. Contains (own_sectors volume.old) s) (P.SectorView.space space.old) (P.SectorView.space space.new) }
+    ensures spent { IsTrue (P.SectorView.space space.old).tells → (P.SectorView.space space.old).spare ≤ (P.SectorView.space space.new).spare + catalog_node volume.old }
+    ensures space { SameSpace (P.SectorView.space space.old) (P.SectorView.space space.new) }
+    ensures below { P.SectorView.follows space.old space.new }
+    ensures cause { HasTroubleCause (P.SectorView.space space.old).faults (P.SectorView.space space.new).faults result }
+{
+    let moment = volume.header.modify_date;
+    let size = file.data_fork.logical_size;
+    let long = size.max(from + value.len() as u64);
+    let later = spill(volume, alloc, space, list, size, from, value)?;
+    let extents = later.as_slice();
+    if !is_in_record(extents) {
+        return Err(Trouble::Memory);
+    }
+    let rec = with_data(moment, long, total, extents, file);
+    volume.replace(alloc, space, entry, &CatRecord::File(rec))?;
+    volume.header.free_blocks = free;
+    Ok(())
+}
+
+/// Puts a value into a file of these extents: its bytes, its record, the bitmap and the header.
+fn put_over<P: SectorSpace>(
+    volume: &mut Volume,
+    alloc: Global,
+    space: &mut P,
+    entry: &Entry,
+    file: &FileRecord,
+    list: &ExtentList,
+    from: u64,
+    value: &[u8],
+) -> Result<(), Trouble>
+    requires stands { StandsOver volume.old (P.SectorView.space space.old) }
+    requires settled { IsTrue (P.SectorView.space space.old).tells → IsSettled volume.old (P.SectorView.space space.old).content }
+    requires closed { IsTrue (P.SectorView.space space.old).tells → (at : ℕ) → (P.SectorView.space space.old).closed at → IsJournalSector (P.SectorView.space space.old).content at }
+    requires unchanged { volume.old.map.changed ≡ none (sectors_for (length volume.old.map.used)) }
+    requires some { 0 < length value.now }
+    requires small { from + length value.now ≤ 2 ^ 40 }
+    requires free { blocks_put volume.old file.now.data_fork.logical_size from (length value.now) ≤ count_set (free_of volume.old.map) }
+    requires few { length list.now < 8 }
+    requires name { length entry.now.name ≤ 255 }
+    requires there { IsTrue (P.SectorView.space space.old).tells → value_at (lists_of volume.old (P.SectorView.space space.old).content).catalog_pairs entry.now.parent entry.now.name ≡ Some entry.now.rec }
+    requires kind { entry.now.rec ≡ File file.now }
+    requires fits { FitsFile file.now }
+    requires told { IsTrue (P.SectorView.space space.old).tells → IsToldFile file.now list.now (P.SectorView.space space.old).content }
+    requires room { put_load volume.old file.now.data_fork.logical_size from (length value.now) ≤ (P.SectorView.space space.old).spare }
+    ensures stands { OnOk result (StandsOver volume.new (P.SectorView.space space.new)) }
+    ensures service { IsInService volume.new (P.SectorView.space space.new) }
+    ensures puts { IsTrue (P.SectorView.space space.old).tells → OnOk result (PutsValue file.now from value.now volume.old volume.new (P.SectorView.space space.old).content (P.SectorView.space space.new).content) }
+    ensures same { (volume.new.private ≡ volume.old.private) × (volume.new.shrunk ≡ volume.old.shrunk) × (volume.new.capacity ≡ volume.old.capacity) }
+    ensures commit { (committed : Content) → HoldsOn committed volume.old → IsLaidOutAs committed volume.old → Touches committed (λ s. Contains (own_sectors volume.old) s) (P.SectorView.space space.old) (P.SectorView.space space.new) }
+    ensures holds { (committed : Content) → HoldsOn committed volume.old → OnOk result (HoldsOn committed volume.new) }
+    ensures spent { IsTrue (P.SectorView.space space.old).tells → (P.SectorView.space space.old).spare ≤ (P.SectorView.space space.new).spare + put_load volume.old file.now.data_fork.logical_size from (length value.now) }
+    ensures space { SameSpace (P.SectorView.space space.old) (P.SectorView.space space.new) }
+    ensures below { P.SectorView.follows space.old space.new }
+    ensures cause { HasTroubleCause (P.SectorView.space space.old).faults (P.SectorView.space space.new).faults result }
+{
+    other_files_keep_their_bytes();
+    let size = file.data_fork.logical_size;
+    let end = from + value.len() as u64;
+    if !is_sure(volume, space, list, size) {
+        return Err(Trouble::Memory);
+    }
+    let counts = count_blocks(volume.header.block_size, Place { size, from, end });
+    let head = volume.header.free_blocks;
+    let Some(sums) = count_sums(head, file.data_fork.total_blocks, counts) else {
+        return Err(Trouble::Memory);
+    };
+    if !are_small(counts) {
+        return Err(Trouble::Memory);
+    }
+    let bits = count_bits(volume, counts);
+    place_data(
+        volume, alloc, space, entry, file, list, from, value, sums.total, sums.free,
+    )?;
+    if !has_room(bits, space.spare()) {
+        return Err(Trouble::Memory);
+    }
+    put_map(volume, space);
+    volume.put_header(space);
+    Ok(())
+}
+
+/// The extents of a file's data fork.
+fn data_extents<P: SectorSpace>(
+    volume: &mut Volume,
+    alloc: Global,
+    space: &mut P,
+    file: &FileRecord,
+) -> Result<ExtentList, Trouble>
+    requires stands { StandsOver volume.old (P.SectorView.space space.old) }
+    requires settled { IsTrue (P.SectorView.space space.old).tells → IsSettled volume.old (P.SectorView.space space.old).content }
+    requires there { IsTrue (P.SectorView.space space.old).tells → HasFile (records_of (volume_of (P.SectorView.space space.old).content)) file.now }
+    ensures found { IsTrue (P.SectorView.space space.old).tells → IfOk result (λ list. list ≡ extents_of (overflow_in_volume (volume_of (P.SectorView.space space.old).content)) file.now.fields.id data_kind file.now.data_fork) }
+    ensures reads { ReadsVolume volume.old volume.new (P.SectorView.space space.old) (P.SectorView.space space.new) }
+    ensures rest { volume.new ≡ record volume.old { extents = volume.new.extents } }
+    ensures stands { StandsOver volume.new (P.SectorView.space space.new) }
+    ensures settled { IsTrue (P.SectorView.space space.old).tells → IsSettled volume.new (P.SectorView.space space.new).content }
+    ensures below { P.SectorView.follows space.old space.new }
+    ensures cause { HasTroubleCause (P.SectorView.space space.old).faults (P.SectorView.space space.new).faults result }
+{
+    load_extents(
+        alloc,
+        &mut volume.extents.file,
+        &mut volume.extents.desk,
+        space,
+        file.fields.id,
+        DATA,
+        &file.data_fork,
+    )
+}
+
+/// Puts a value into a file where that can be done now, and says whether it did.
+fn put_in_file<P: SectorSpace>(
+    volume: &mut Volume,
+    alloc: Global,
+    space: &mut P,
+    entry: &Entry,
+    file: &FileRecord,
+    from: u64,
+    value: &[u8],
+) -> Result<bool, Trouble>
+    requires stands { StandsOver volume.old (P.SectorView.space space.old) }
+    requires settled { IsTrue (P.SectorView.space space.old).tells → IsSettled volume.old (P.SectorView.space space.old).content }
+    requires closed { IsTrue (P.SectorView.space space.old).tells → (at : ℕ) → (P.SectorView.space space.old).closed at → IsJournalSector (P.SectorView.space space.old).content at }
+    requires unchanged { volume.old.map.changed ≡ none (sectors_for (length volume.old.map.used)) }
+    requires some { 0 < length value.now }
+    requires small { from + length value.now ≤ 2 ^ 40 }
+    requires name { length entry.now.name ≤ 255 }
+    requires there { IsTrue (P.SectorView.space space.old).tells → value_at (lists_of volume.old (P.SectorView.space space.old).content).catalog_pairs entry.now.parent entry.now.name ≡ Some entry.now.rec }
+    requires kind { entry.now.rec ≡ File file.now }
+    requires fits { FitsFile file.now }
+    requires told { IsTrue (P.SectorView.space space.old).tells → IsToldFile file.now (extents_in (P.SectorView.space space.old).content file.now) (P.SectorView.space space.old).content }
+    ensures stands { OnOk result (StandsOver volume.new (P.SectorView.space space.new)) }
+    ensures service { IsInService volume.new (P.SectorView.space space.new) }
+    ensures exactly { IsTrue (P.SectorView.space space.old).tells → IfOk result (λ put. put ≡ can_put volume.old (P.SectorView.space space.old).spare (length (extents_in (P.SectorView.space space.old).content file.now)) file.now.data_fork.total_blocks file.now.data_fork.logical_size from (length value.now)) }
+    ensures puts { IsTrue (P.SectorView.space space.old).tells → IfOk result (λ put. IsTrue put → PutsValue file.now from value.now volume.old volume.new (P.SectorView.space space.old).content (P.SectorView.space space.new).content) }
+    ensures waits { IsTrue (P.SectorView.space space.old).tells → IfOk result (λ put. put ≡ false → IsSettled volume.new (P.SectorView.space space.new).content × ((P.SectorView.space space.new).content ≡ (P.SectorView.space space.old).content)) }
+    ensures same { (volume.new.private ≡ volume.old.private) × (volume.new.shrunk ≡ volume.old.shrunk) × (volume.new.capacity ≡ volume.old.capacity) }
+    ensures commit { (committed : Content) → HoldsOn committed volume.old → IsLaidOutAs committed volume.old → Touches committed (λ s. Contains (own_sectors volume.old) s) (P.SectorView.space space.old) (P.SectorView.space space.new) }
+    ensures holds { (committed : Content) → HoldsOn committed volume.old → OnOk result (HoldsOn committed volume.new) }
+    ensures spent { IsTrue (P.SectorView.space space.old).tells → ((P.SectorView.space space.old).spare ≤ (P.SectorView.space space.new).spare) ⊎ ((can_put volume.old (P.SectorView.space space.old).spare (length (extents_in (P.SectorView.space space.old).content file.now)) file.now.data_fork.total_blocks file.now.data_fork.logical_size from (length value.now) ≡ true) × ((P.SectorView.space space.old).spare ≤ (P.SectorView.space space.new).spare + put_load volume.old file.now.data_fork.logical_size from (length value.now))) }
+    ensures space { SameSpace (P.SectorView.space space.old) (P.SectorView.space space.new) }
+    ensures below { P.SectorView.follows space.old space.new }
+    ensures cause { HasTroubleCause (P.SectorView.space space.old).faults (P.SectorView.space space.new).faults result }
+{
+    let size = file.data_fork.logical_size;
+    let total = file.data_fork.total_blocks;
+    let list = data_extents(volume, alloc, space, file)?;
+    let extents = list.len();
+    if !are_countable(extents) {
+        return Err(Trouble::Memory);
+    }
+    if !is_put_now(volume, space, extents, total, size, from, value.len()) {
+        return Ok(false);
+    }
+    put_over(volume, alloc, space, entry, file, &list, from, value)?;
+    Ok(true)
+}
+
+/// Puts a value into the file of an entry where that can be done now, and says whether it did.
+fn put_in_entry<P: SectorSpace>(
+    volume: &mut Volume,
+    alloc: Global,
+    space: &mut P,
+    entry: &Entry,
+    from: u64,
+    value: &[u8],
+) -> Result<bool, Trouble>
+    requires stands { StandsOver volume.old (P.SectorView.space space.old) }
+    requires settled { IsTrue (P.SectorView.space space.old).tells → IsSettled volume.old (P.SectorView.space space.old).content }
+    requires closed { IsTrue (P.SectorView.space space.old).tells → (at : ℕ) → (P.SectorView.space space.old).closed at → IsJournalSector (P.SectorView.space space.old).content at }
+    requires unchanged { volume.old.map.changed ≡ none (sectors_for (length volume.old.map.used)) }
+    requires some { 0 < length value.now }
+    requires small { from + length value.now ≤ 2 ^ 40 }
+    requires name { length entry.now.name ≤ 255 }
+    requires there { IsTrue (P.SectorView.space space.old).tells → value_at (lists_of volume.old (P.SectorView.space space.old).content).catalog_pairs entry.now.parent entry.now.name ≡ Some entry.now.rec }
+    requires fits { is_thread entry.now.rec ≡ false → FitsRecord entry.now.rec }
+    requires told { IsTrue (P.SectorView.space space.old).tells → (file : FileRecord) → entry.now.rec ≡ File file → IsToldFile file (extents_in (P.SectorView.space space.old).content file) (P.SectorView.space space.old).content }
+    ensures stands { OnOk result (StandsOver volume.new (P.SectorView.space space.new)) }
+    ensures service { IsInService volume.new (P.SectorView.space space.new) }
+    ensures exactly { IsTrue (P.SectorView.space space.old).tells → (file : FileRecord) → entry.now.rec ≡ File file
+        → IfOk result (λ put. put ≡ can_put volume.old (P.SectorView.space space.old).spare (length (extents_in (P.SectorView.space space.old).content file)) file.data_fork.total_blocks file.data_fork.logical_size from (length value.now)) }
+    ensures puts { IsTrue (P.SectorView.space space.old).tells → (file : FileRecord) → entry.now.rec ≡ File file → IfOk result (λ put. IsTrue put → PutsValue file from value.now volume.old volume.new (P.SectorView.space space.old).content (P.SectorView.space space.new).content) }
+    ensures waits { IsTrue (P.SectorView.space space.old).tells → IfOk result (λ put. put ≡ false → IsSettled volume.new (P.SectorView.space space.new).content × ((P.SectorView.space space.new).content ≡ (P.SectorView.space space.old).content)) }
+    ensures same { (volume.new.private ≡ volume.old.private) × (volume.new.shrunk ≡ volume.old.shrunk) × (volume.new.capacity ≡ volume.old.capacity) }
+    ensures commit { (committed : Content) → HoldsOn committed volume.old → IsLaidOutAs committed volume.old → Touches committed (λ s. Contains (own_sectors volume.old) s) (P.SectorView.space space.old) (P.SectorView.space space.new) }
+    ensures holds { (committed : Content) → HoldsOn committed volume.old → OnOk result (HoldsOn committed volume.new) }
+    ensures spent { IsTrue (P.SectorView.space space.old).tells → (file : FileRecord) → entry.now.rec ≡ File file → ((P.SectorView.space space.old).spare ≤ (P.SectorView.space space.new).spare) ⊎ ((can_put volume.old (P.SectorView.space space.old).spare (length (extents_in (P.SectorView.space space.old).content file)) file.data_fork.total_blocks file.data_fork.logical_size from (length value.now) ≡ true) × ((P.SectorView.space space.old).spare ≤ (P.SectorView.space space.new).spare + put_load volume.old file.data_fork.logical_size from (length value.now))) }
+    ensures space { SameSpace (P.SectorView.space space.old) (P.SectorView.space space.new) }
+    ensures below { P.SectorView.follows space.old space.new }
+    ensures cause { HasTroubleCause (P.SectorView.space space.old).faults (P.SectorView.space space.new).faults result }
+{
+    match &entry.rec {
+        CatRecord::Folder(_folder) => Ok(false),
+        CatRecord::File(file) => put_in_file(volume, alloc, space, entry, file, from, value),
+        CatRecord::Thread(_thread) => Ok(false),
+    }
+}
+
+/// Puts a value into the file with a CNID where that can be done now, and says whether it did.
+pub(crate) fn put_data<P: SectorSpace>(
+    volume: &mut Volume,
+    alloc: Global,
+    space: &mut P,
+    id: u32,
+    from: u64,
+    value: &[u8],
+) -> Result<bool, Trouble>
+    requires stands { StandsOver volume.old (P.SectorView.space space.old) }
+    requires settled { IsTrue (P.SectorView.space space.old).tells → IsSettled volume.old (P.SectorView.space space.old).content }
+    requires closed { IsTrue (P.SectorView.space space.old).tells → (at : ℕ) → (P.SectorView.space space.old).closed at → IsJournalSector (P.SectorView.space space.old).content at }
+    requires some { 0 < length value.now }
+    requires small { from + length value.now ≤ 2 ^ 40 }
+    requires there { IsTrue (P.SectorView.space space.old).tells → (node : PlainNode) × Contains (tree_of (P.SectorView.space space.old).content).nodes node × (node.id ≡ id) × (node.folder ≡ false) }
+    ensures stands { OnOk result (StandsOver volume.new (P.SectorView.space space.new)) }
+    ensures service { IsInService volume.new (P.SectorView.space space.new) }
+    ensures exactly { IsTrue (P.SectorView.space space.old).tells → (node : PlainNode) → Contains (tree_of (P.SectorView.space space.old).content).nodes node → node.id ≡ id → node.folder ≡ false
+        → (put : Data) → put.id ≡ id → IsAt put (length node.bytes) from (from + length value.now) → IfOk result (λ said. said ≡ is_put_now volume.old (P.SectorView.space space.old).spare (volume_of (P.SectorView.space space.old).content) (Some put)) }
+    ensures puts { IsTrue (P.SectorView.space space.old).tells → IfOk result (λ said. IsTrue said → PutsAt id from value.now volume.old volume.new (P.SectorView.space space.old).content (P.SectorView.space space.new).content) }
+    ensures waits { IsTrue (P.SectorView.space space.old).tells → IfOk result (λ said. said ≡ false → IsSettled volume.new (P.SectorView.space space.new).content × ((P.SectorView.space space.new).content ≡ (P.SectorView.space space.old).content)) }
+    ensures same { (volume.new.private ≡ volume.old.private) × (volume.new.shrunk ≡ volume.old.shrunk) × (volume.new.capacity ≡ volume.old.capacity) }
+    ensures commit { (committed : Content) → HoldsOn committed volume.old → IsLaidOutAs committed volume.old → Touches committed (λ s. Contains (own_sectors volume.old) s) (P.SectorView.space space.old) (P.SectorView.space space.new) }
+    ensures holds { (committed : Content) → HoldsOn committed volume.old → OnOk result (HoldsOn committed volume.new) }
+    ensures spent { IsTrue (P.SectorView.space space.old).tells → (node : PlainNode) → Contains (tree_of (P.SectorView.space space.old).content).nodes node → node.id ≡ id → node.folder ≡ false → (put : Data) → put.id ≡ id → IsAt put (length node.bytes) from (from + length value.now)
+        → ((P.SectorView.space space.old).spare ≤ (P.SectorView.space space.new).spare) ⊎ ((is_put_now volume.old (P.SectorView.space space.old).spare (volume_of (P.SectorView.space space.old).content) (Some put) ≡ true) × ((P.SectorView.space space.old).spare ≤ (P.SectorView.space space.new).spare + data_load volume.old put)) }
+    ensures space { SameSpace (P.SectorView.space space.old) (P.SectorView.space space.new) }
+    ensures below { P.SectorView.follows space.old space.new }
+    ensures cause { HasTroubleCause (P.SectorView.space space.old).faults (P.SectorView.space space.new).faults result }
+{
+    volume.keep();
+    match volume.entry(alloc, space, id)? {
+        Some(entry) => put_in_entry(volume, alloc, space, &entry, from, value),
+        None => Ok(false),
+    }
+}

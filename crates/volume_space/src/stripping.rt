@@ -1,0 +1,209 @@
+//! An attribute of a file that lost its last name, dropped.
+ghost use Rattle.std.specs.Prelude.{◌≡◌, ◌≤◌, ℕ, true, false, Option, Some, IsTrue, IfOk, IfSome, length, List, OnOk};
+ghost use Rattle.std.specs.List.{Contains};
+ghost use Rattle.sector_disk.specs.Lists.{Content};
+ghost use Rattle.attributes.specs.Owned.{names_of};
+ghost use Rattle.btree_edit.specs.Causes.{HasTroubleCause};
+ghost use Rattle.btree_file.specs.Standing.{numbers_of};
+ghost use Rattle.hfs_volume.specs.Content.{has_attributes, records_of, volume_of};
+ghost use Rattle.hfs_volume.specs.Links.{orphans_of};
+ghost use Rattle.hfs_volume.specs.Reclaim.{DropAttribute, has_surplus_left, least, next_reclaim};
+ghost use Rattle.volume_base.specs.Attributing.{HasRoomToMark};
+ghost use Rattle.volume_base.specs.Changing.{KeepsBlocks};
+ghost use Rattle.volume_space.specs.Cutting.{KeepsUsed};
+ghost use Rattle.volume_base.specs.Keeping.{shrunk_of};
+ghost use Rattle.volume_base.specs.Lists.{lists_of};
+ghost use Rattle.volume_base.specs.Looking.{ReadsVolume};
+ghost use Rattle.volume_space.specs.Orphans.{AffordsStep, BaresWaiting, IsFirstName, TidiesAs, is_blockless};
+ghost use Rattle.volume_base.specs.Room.{capacity_of};
+ghost use Rattle.volume_base.specs.Service.{IsInService};
+ghost use Rattle.volume_base.specs.Standing.{IsSettled, StandsOver, own_sectors};
+ghost use Rattle.volume_base.specs.Touching.{Touches};
+
+use crate::orphans::is_blockless;
+use crate::tidying::{Tidying, grows_none};
+use crate::trimming::tidy_blocks;
+use hfs_volume::{
+    reclaim_drops_an_attribute, reclaim_drops_attributes_of_orphans,
+    reclaim_drops_entries_of_bare_orphans,
+};
+use hx_bytes::{OutOfMemory, Trouble, Units};
+use sector_disk::SectorSpace;
+use std::alloc::Global;
+use tree_weights::edits_have_room;
+use volume_base::{Edits, Entry, FreeBlocks, Volume, copy_name};
+
+/// The first of these names, if there is one.
+fn first_name(alloc: Global, names: &[Units]) -> Result<Option<Units>, OutOfMemory>
+    ensures { IfOk result (λ found. IfSome found (λ name. IsFirstName name names.now)) }
+{
+    if names.is_empty() {
+        return Ok(None);
+    }
+    let name = copy_name(alloc, &names[0])?;
+    Ok(Some(name))
+}
+
+/// The name of a file's first attribute, where it has no blocks.
+fn first_owned<P: SectorSpace>(
+    volume: &mut Volume,
+    alloc: Global,
+    space: &mut P,
+    id: u32,
+    entry: &Entry,
+) -> Result<Option<Units>, Trouble>
+    requires stands { StandsOver volume.old (P.SectorView.space space.old) }
+    requires settled { IsTrue (P.SectorView.space space.old).tells → IsSettled volume.old (P.SectorView.space space.old).content }
+    ensures first { IsTrue (P.SectorView.space space.old).tells
+        → IfOk result (λ found. IfSome found (λ name. (is_blockless entry.now.rec ≡ true) × IsFirstName name (names_of id (lists_of volume.old (P.SectorView.space space.old).content).attribute_pairs))) }
+    ensures reads { ReadsVolume volume.old volume.new (P.SectorView.space space.old) (P.SectorView.space space.new) }
+    ensures stands { StandsOver volume.new (P.SectorView.space space.new) }
+    ensures settled { IsTrue (P.SectorView.space space.old).tells → IsSettled volume.new (P.SectorView.space space.new).content }
+    ensures below { P.SectorView.follows space.old space.new }
+    ensures cause { HasTroubleCause (P.SectorView.space space.old).faults (P.SectorView.space space.new).faults result }
+{
+    if !is_blockless(&entry.rec) {
+        return Ok(None);
+    }
+    let owned = volume.list_attributes(alloc, space, id)?;
+    let name = first_name(alloc, owned.as_slice())?;
+    Ok(name)
+}
+
+/// The name of the first attribute of the file with the least CNID of those that wait, where it has no blocks.
+fn next_owned<P: SectorSpace>(
+    volume: &mut Volume,
+    alloc: Global,
+    space: &mut P,
+    id: u32,
+) -> Result<Option<Units>, Trouble>
+    requires stands { StandsOver volume.old (P.SectorView.space space.old) }
+    requires settled { IsTrue (P.SectorView.space space.old).tells → IsSettled volume.old (P.SectorView.space space.old).content }
+    requires lowest { IsTrue (P.SectorView.space space.old).tells → least (orphans_of (records_of (volume_of (P.SectorView.space space.old).content))) ≡ Some id }
+    ensures found { IsTrue (P.SectorView.space space.old).tells → (shrunk : Option ℕ) → has_surplus_left (volume_of (P.SectorView.space space.old).content) shrunk ≡ false → IfOk result (λ found. IfSome found (λ name. next_reclaim (volume_of (P.SectorView.space space.old).content) shrunk ≡ Some (DropAttribute id name))) }
+    ensures reads { ReadsVolume volume.old volume.new (P.SectorView.space space.old) (P.SectorView.space space.new) }
+    ensures stands { StandsOver volume.new (P.SectorView.space space.new) }
+    ensures settled { IsTrue (P.SectorView.space space.old).tells → IsSettled volume.new (P.SectorView.space space.new).content }
+    ensures below { P.SectorView.follows space.old space.new }
+    ensures cause { HasTroubleCause (P.SectorView.space space.old).faults (P.SectorView.space space.new).faults result }
+{
+    reclaim_drops_entries_of_bare_orphans();
+    match volume.entry(alloc, space, id)? {
+        Some(entry) => first_owned(volume, alloc, space, id, &entry),
+        None => Ok(None),
+    }
+}
+
+/// Whether all free blocks suffice for the drop of an attribute, and no tree has to grow for it.
+fn affords_bare<P: SectorSpace>(volume: &Volume, space: &P) -> bool
+    requires stands { StandsOver volume.now (P.SectorView.space space.now) }
+    requires settled { IsTrue (P.SectorView.space space.now).tells → IsSettled volume.now (P.SectorView.space space.now).content }
+    requires has { IsTrue (has_attributes volume.now.header) }
+    ensures { IsTrue (P.SectorView.space space.now).tells → IsTrue result → (id : ℕ) (name : List ℕ) → AffordsStep (capacity_of volume.now) (P.SectorView.space space.now).content (DropAttribute id name) }
+{
+    let edits = Edits {
+        ids: 0,
+        catalog: 0,
+        attributes: 1,
+        updates: 1,
+    };
+    grows_none(volume.cost_of_edits(space, FreeBlocks::All, edits))
+}
+
+/// Drops an attribute of a file that waits to be removed. The volume is settled again, and its tree is as it was.
+fn strip<P: SectorSpace>(
+    volume: &mut Volume,
+    alloc: Global,
+    space: &mut P,
+    id: u32,
+    name: &Units,
+) -> Result<(), Trouble>
+    requires stands { StandsOver volume.old (P.SectorView.space space.old) }
+    requires settled { IsTrue (P.SectorView.space space.old).tells → IsSettled volume.old (P.SectorView.space space.old).content }
+    requires has { IsTrue (has_attributes volume.old.header) }
+    requires size { 4096 ≤ (numbers_of volume.old.attributes.file).node_size }
+    requires name { length name.now ≤ 127 }
+    requires waits { IsTrue (P.SectorView.space space.old).tells → next_reclaim (volume_of (P.SectorView.space space.old).content) (shrunk_of volume.old) ≡ Some (DropAttribute id name.now) }
+    requires room { HasRoomToMark 1 volume.old (P.SectorView.space space.old) }
+    ensures stands { OnOk result (StandsOver volume.new (P.SectorView.space space.new)) }
+    ensures service { IsInService volume.new (P.SectorView.space space.new) }
+    ensures blocks { KeepsBlocks volume.old volume.new }
+    ensures does { IsTrue (P.SectorView.space space.old).tells
+        → OnOk result (IsSettled volume.new (P.SectorView.space space.new).content × ((waiting : BaresWaiting (shrunk_of volume.old) (P.SectorView.space space.old).content (P.SectorView.space space.new).content) × (waiting.id ≡ id) × (waiting.name ≡ name.now))) }
+    ensures touches { (committed : Content) → Touches committed (λ s. Contains (own_sectors volume.old) s) (P.SectorView.space space.old) (P.SectorView.space space.new) }
+    ensures below { P.SectorView.follows space.old space.new }
+    ensures cause { HasTroubleCause (P.SectorView.space space.old).faults (P.SectorView.space space.new).faults result }
+{
+    reclaim_drops_an_attribute();
+    reclaim_drops_attributes_of_orphans();
+    edits_have_room();
+    volume.delete(alloc, space, id, name)?;
+    Ok(())
+}
+
+/// Drops an attribute of a file that waits, where nothing is missing for it.
+fn tidy_attribute<P: SectorSpace>(
+    volume: &mut Volume,
+    alloc: Global,
+    space: &mut P,
+    id: u32,
+    name: &Units,
+) -> Result<Tidying, Trouble>
+    requires stands { StandsOver volume.old (P.SectorView.space space.old) }
+    requires settled { IsTrue (P.SectorView.space space.old).tells → IsSettled volume.old (P.SectorView.space space.old).content }
+    requires waits { IsTrue (P.SectorView.space space.old).tells → next_reclaim (volume_of (P.SectorView.space space.old).content) (shrunk_of volume.old) ≡ Some (DropAttribute id name.now) }
+    ensures tidied { IsTrue (P.SectorView.space space.old).tells → IfOk result (λ came. TidiesAs came (capacity_of volume.old) (shrunk_of volume.old) (P.SectorView.space space.old).content (P.SectorView.space space.new).content) }
+    ensures stands { OnOk result (StandsOver volume.new (P.SectorView.space space.new)) }
+    ensures settled { IsTrue (P.SectorView.space space.old).tells → OnOk result (IsSettled volume.new (P.SectorView.space space.new).content) }
+    ensures service { IsInService volume.new (P.SectorView.space space.new) }
+    ensures blocks { KeepsBlocks volume.old volume.new }
+    ensures touches { (committed : Content) → Touches committed (λ s. Contains (own_sectors volume.old) s) (P.SectorView.space space.old) (P.SectorView.space space.new) }
+    ensures below { P.SectorView.follows space.old space.new }
+    ensures cause { HasTroubleCause (P.SectorView.space space.old).faults (P.SectorView.space space.new).faults result }
+{
+    // No name is longer (TN1150, "Attributes File").
+    if name.len() > 127 {
+        return Ok(Tidying::Rest);
+    }
+    if volume.header.attributes_fork.logical_size == 0 {
+        return Ok(Tidying::Rest);
+    }
+    // The least node size that the format allows the attributes file (TN1150, "Attributes File").
+    if volume.attributes.file.shape().node_size < 4096 {
+        return Ok(Tidying::Rest);
+    }
+    if !affords_bare(volume, space) {
+        return Ok(Tidying::Rest);
+    }
+    if !volume.fits_delattr(space) {
+        return Ok(Tidying::CommitFirst);
+    }
+    strip(volume, alloc, space, id, name)?;
+    Ok(Tidying::Made)
+}
+
+/// The next step for the file with the least CNID of those that wait, which has attributes or blocks.
+pub(crate) fn tidy_owner<P: SectorSpace>(
+    volume: &mut Volume,
+    alloc: Global,
+    space: &mut P,
+    id: u32,
+) -> Result<Tidying, Trouble>
+    requires stands { StandsOver volume.old (P.SectorView.space space.old) }
+    requires settled { IsTrue (P.SectorView.space space.old).tells → IsSettled volume.old (P.SectorView.space space.old).content }
+    requires lowest { IsTrue (P.SectorView.space space.old).tells → least (orphans_of (records_of (volume_of (P.SectorView.space space.old).content))) ≡ Some id }
+    requires kept { IsTrue (P.SectorView.space space.old).tells → has_surplus_left (volume_of (P.SectorView.space space.old).content) (shrunk_of volume.old) ≡ false }
+    ensures tidied { IsTrue (P.SectorView.space space.old).tells → IfOk result (λ came. TidiesAs came (capacity_of volume.old) (shrunk_of volume.old) (P.SectorView.space space.old).content (P.SectorView.space space.new).content) }
+    ensures stands { OnOk result (StandsOver volume.new (P.SectorView.space space.new)) }
+    ensures settled { IsTrue (P.SectorView.space space.old).tells → OnOk result (IsSettled volume.new (P.SectorView.space space.new).content) }
+    ensures service { IsInService volume.new (P.SectorView.space space.new) }
+    ensures used { KeepsUsed volume.old volume.new }
+    ensures touches { (committed : Content) → Touches committed (λ s. Contains (own_sectors volume.old) s) (P.SectorView.space space.old) (P.SectorView.space space.new) }
+    ensures below { P.SectorView.follows space.old space.new }
+    ensures cause { HasTroubleCause (P.SectorView.space space.old).faults (P.SectorView.space space.new).faults result }
+{
+    match next_owned(volume, alloc, space, id)? {
+        Some(name) => tidy_attribute(volume, alloc, space, id, &name),
+        None => tidy_blocks(volume, alloc, space, id),
+    }
+}

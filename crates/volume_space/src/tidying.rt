@@ -1,0 +1,287 @@
+//! Housekeeping: the next step of reclaiming.
+ghost use Rattle.std.specs.Prelude.{◌≡◌, ◌≤◌, ℕ, true, false, Option, Some, IsTrue, IfOk, IfSome, length, OnOk};
+ghost use Rattle.std.specs.List.{Contains};
+ghost use Rattle.sector_disk.specs.Lists.{Content};
+ghost use Rattle.attributes.specs.Owned.{names_of};
+ghost use Rattle.btree_edit.specs.Causes.{HasTroubleCause};
+ghost use Rattle.catalog.specs.Children.{children_in};
+ghost use Rattle.hfs_volume.specs.Content.{records_of, volume_of};
+ghost use Rattle.hfs_volume.specs.Links.{orphans_of};
+ghost use Rattle.hfs_volume.specs.Reclaim.{DropOrphan, has_surplus_left, least};
+ghost use Rattle.volume_base.specs.Changing.{KeepsBlocks};
+ghost use Rattle.volume_space.specs.Cutting.{KeepsUsed};
+ghost use Rattle.volume_base.specs.Keeping.{shrunk_of};
+ghost use Rattle.volume_base.specs.Lists.{lists_of};
+ghost use Rattle.volume_base.specs.Looking.{ReadsVolume};
+ghost use Rattle.volume_space.specs.Orphans.{AffordsStep, IsToDrop, TidiesAs, grows_none, is_blockless};
+ghost use Rattle.volume_base.specs.Room.{capacity_of};
+ghost use Rattle.volume_base.specs.Service.{IsInService};
+ghost use Rattle.volume_base.specs.Standing.{IsSettled, StandsOver, own_sectors};
+ghost use Rattle.volume_base.specs.Touching.{Touches};
+
+use crate::orphans::{is_blockless, least_waiting};
+use crate::stripping::tidy_owner;
+use crate::trimming::tidy_surplus;
+use crate::unfiling::drop_waiting;
+use catalog::Children;
+use hfs_volume::{Cost, reclaim_drops_entries_of_bare_orphans};
+use hx_bytes::Trouble;
+use sector_disk::SectorSpace;
+use std::alloc::Global;
+use volume_base::{Edits, Entry, FreeBlocks, Volume, list_children};
+
+/// What a step of housekeeping came to.
+#[derive(Clone, Copy)]
+pub enum Tidying {
+    /// Nothing is left to reclaim, something is missing for the next step, or that step is still to come. Nothing was changed.
+    Rest,
+    Made,
+    /// The next step wants a commit before it. Nothing was changed.
+    CommitFirst,
+}
+
+/// Whether this is a load for which no tree grows.
+pub(crate) fn grows_none(cost: Cost) -> bool
+    ensures { result ≡ grows_none cost }
+{
+    match cost {
+        Cost::Refused(_) => false,
+        Cost::Load { grow, .. } => grow[0] == 0 && (grow[1] == 0 && grow[2] == 0),
+    }
+}
+
+/// The entries of a folder.
+fn children<P: SectorSpace>(
+    volume: &mut Volume,
+    alloc: Global,
+    space: &mut P,
+    folder: u32,
+) -> Result<Children, Trouble>
+    requires stands { StandsOver volume.old (P.SectorView.space space.old) }
+    requires settled { IsTrue (P.SectorView.space space.old).tells → IsSettled volume.old (P.SectorView.space space.old).content }
+    ensures listed { IsTrue (P.SectorView.space space.old).tells → IfOk result (λ list. list ≡ children_in folder (lists_of volume.old (P.SectorView.space space.old).content).catalog_pairs) }
+    ensures reads { ReadsVolume volume.old volume.new (P.SectorView.space space.old) (P.SectorView.space space.new) }
+    ensures stands { StandsOver volume.new (P.SectorView.space space.new) }
+    ensures settled { IsTrue (P.SectorView.space space.old).tells → IsSettled volume.new (P.SectorView.space space.new).content }
+    ensures below { P.SectorView.follows space.old space.new }
+    ensures cause { HasTroubleCause (P.SectorView.space space.old).faults (P.SectorView.space space.new).faults result }
+{
+    list_children(
+        alloc,
+        &mut volume.catalog.file,
+        &mut volume.catalog.desk,
+        space,
+        folder,
+    )
+}
+
+/// The least CNID of the files that lost their last name. None is told where the private folder has an entry whose name begins
+/// with `temp` and isn't that of such a file.
+fn next_waiting<P: SectorSpace>(
+    volume: &mut Volume,
+    alloc: Global,
+    space: &mut P,
+) -> Result<Option<u32>, Trouble>
+    requires stands { StandsOver volume.old (P.SectorView.space space.old) }
+    requires settled { IsTrue (P.SectorView.space space.old).tells → IsSettled volume.old (P.SectorView.space space.old).content }
+    ensures found { IsTrue (P.SectorView.space space.old).tells → IfOk result (λ found. IfSome found (λ id. least (orphans_of (records_of (volume_of (P.SectorView.space space.old).content))) ≡ Some id)) }
+    ensures reads { ReadsVolume volume.old volume.new (P.SectorView.space space.old) (P.SectorView.space space.new) }
+    ensures stands { StandsOver volume.new (P.SectorView.space space.new) }
+    ensures settled { IsTrue (P.SectorView.space space.old).tells → IsSettled volume.new (P.SectorView.space space.new).content }
+    ensures below { P.SectorView.follows space.old space.new }
+    ensures cause { HasTroubleCause (P.SectorView.space space.old).faults (P.SectorView.space space.new).faults result }
+{
+    match volume.private {
+        Some(private) => {
+            let children = children(volume, alloc, space, private)?;
+            Ok(least_waiting(children.as_slice()))
+        }
+        None => Ok(None),
+    }
+}
+
+/// The entry of a file, where it has neither blocks nor attributes.
+fn bare_entry<P: SectorSpace>(
+    volume: &mut Volume,
+    alloc: Global,
+    space: &mut P,
+    id: u32,
+    entry: Entry,
+) -> Result<Option<Entry>, Trouble>
+    requires stands { StandsOver volume.old (P.SectorView.space space.old) }
+    requires settled { IsTrue (P.SectorView.space space.old).tells → IsSettled volume.old (P.SectorView.space space.old).content }
+    ensures bare { IsTrue (P.SectorView.space space.old).tells
+        → IfOk result (λ found. IfSome found (λ bare. (bare ≡ entry) × (is_blockless entry.rec ≡ true) × (length (names_of id (lists_of volume.old (P.SectorView.space space.old).content).attribute_pairs) ≡ 0))) }
+    ensures same { IfOk result (λ found. IfSome found (λ bare. bare ≡ entry)) }
+    ensures reads { ReadsVolume volume.old volume.new (P.SectorView.space space.old) (P.SectorView.space space.new) }
+    ensures stands { StandsOver volume.new (P.SectorView.space space.new) }
+    ensures settled { IsTrue (P.SectorView.space space.old).tells → IsSettled volume.new (P.SectorView.space space.new).content }
+    ensures below { P.SectorView.follows space.old space.new }
+    ensures cause { HasTroubleCause (P.SectorView.space space.old).faults (P.SectorView.space space.new).faults result }
+{
+    if !is_blockless(&entry.rec) {
+        return Ok(None);
+    }
+    let owned = volume.list_attributes(alloc, space, id)?;
+    if !owned.is_empty() {
+        return Ok(None);
+    }
+    Ok(Some(entry))
+}
+
+/// The entry of the file with the least CNID of those that wait, where it has neither blocks nor attributes.
+fn bare_waiting<P: SectorSpace>(
+    volume: &mut Volume,
+    alloc: Global,
+    space: &mut P,
+    id: u32,
+) -> Result<Option<Entry>, Trouble>
+    requires stands { StandsOver volume.old (P.SectorView.space space.old) }
+    requires settled { IsTrue (P.SectorView.space space.old).tells → IsSettled volume.old (P.SectorView.space space.old).content }
+    requires lowest { IsTrue (P.SectorView.space space.old).tells → least (orphans_of (records_of (volume_of (P.SectorView.space space.old).content))) ≡ Some id }
+    ensures found { IsTrue (P.SectorView.space space.old).tells → (shrunk : Option ℕ) → has_surplus_left (volume_of (P.SectorView.space space.old).content) shrunk ≡ false → IfOk result (λ found. IfSome found (IsToDrop shrunk (P.SectorView.space space.old).content)) }
+    ensures name { IfOk result (λ found. IfSome found (λ entry. length entry.name ≤ 255)) }
+    ensures reads { ReadsVolume volume.old volume.new (P.SectorView.space space.old) (P.SectorView.space space.new) }
+    ensures stands { StandsOver volume.new (P.SectorView.space space.new) }
+    ensures settled { IsTrue (P.SectorView.space space.old).tells → IsSettled volume.new (P.SectorView.space space.new).content }
+    ensures below { P.SectorView.follows space.old space.new }
+    ensures cause { HasTroubleCause (P.SectorView.space space.old).faults (P.SectorView.space space.new).faults result }
+{
+    reclaim_drops_entries_of_bare_orphans();
+    match volume.entry(alloc, space, id)? {
+        Some(entry) => bare_entry(volume, alloc, space, id, entry),
+        None => Ok(None),
+    }
+}
+
+/// Whether all free blocks suffice for the drop of an entry, and no tree has to grow for it.
+fn affords_drop<P: SectorSpace>(volume: &Volume, space: &P) -> bool
+    requires stands { StandsOver volume.now (P.SectorView.space space.now) }
+    requires settled { IsTrue (P.SectorView.space space.now).tells → IsSettled volume.now (P.SectorView.space space.now).content }
+    ensures { IsTrue (P.SectorView.space space.now).tells → IsTrue result → (id : ℕ) → AffordsStep (capacity_of volume.now) (P.SectorView.space space.now).content (DropOrphan id) }
+{
+    let edits = Edits {
+        ids: 0,
+        catalog: 2,
+        attributes: 0,
+        updates: 1,
+    };
+    grows_none(volume.cost_of_edits(space, FreeBlocks::All, edits))
+}
+
+/// Drops the entry of a file that waits, where nothing is missing for it.
+fn tidy_entry<P: SectorSpace>(
+    volume: &mut Volume,
+    alloc: Global,
+    space: &mut P,
+    entry: &Entry,
+) -> Result<Tidying, Trouble>
+    requires stands { StandsOver volume.old (P.SectorView.space space.old) }
+    requires settled { IsTrue (P.SectorView.space space.old).tells → IsSettled volume.old (P.SectorView.space space.old).content }
+    requires name { length entry.now.name ≤ 255 }
+    requires waits { IsTrue (P.SectorView.space space.old).tells → IsToDrop (shrunk_of volume.old) (P.SectorView.space space.old).content entry.now }
+    ensures tidied { IsTrue (P.SectorView.space space.old).tells → IfOk result (λ came. TidiesAs came (capacity_of volume.old) (shrunk_of volume.old) (P.SectorView.space space.old).content (P.SectorView.space space.new).content) }
+    ensures stands { OnOk result (StandsOver volume.new (P.SectorView.space space.new)) }
+    ensures settled { IsTrue (P.SectorView.space space.old).tells → OnOk result (IsSettled volume.new (P.SectorView.space space.new).content) }
+    ensures service { IsInService volume.new (P.SectorView.space space.new) }
+    ensures blocks { KeepsBlocks volume.old volume.new }
+    ensures touches { (committed : Content) → Touches committed (λ s. Contains (own_sectors volume.old) s) (P.SectorView.space space.old) (P.SectorView.space space.new) }
+    ensures below { P.SectorView.follows space.old space.new }
+    ensures cause { HasTroubleCause (P.SectorView.space space.old).faults (P.SectorView.space space.new).faults result }
+{
+    if entry.name.is_empty() {
+        return Ok(Tidying::Rest);
+    }
+    // The least node size that the format allows the catalog (TN1150, "Catalog File").
+    if volume.catalog.file.shape().node_size < 4096 {
+        return Ok(Tidying::Rest);
+    }
+    if !affords_drop(volume, space) {
+        return Ok(Tidying::Rest);
+    }
+    if !volume.fits_remove(space) {
+        return Ok(Tidying::CommitFirst);
+    }
+    drop_waiting(volume, alloc, space, entry)?;
+    Ok(Tidying::Made)
+}
+
+/// The next step for the file with the least CNID of those that wait.
+fn tidy_waiting<P: SectorSpace>(
+    volume: &mut Volume,
+    alloc: Global,
+    space: &mut P,
+    id: u32,
+) -> Result<Tidying, Trouble>
+    requires stands { StandsOver volume.old (P.SectorView.space space.old) }
+    requires settled { IsTrue (P.SectorView.space space.old).tells → IsSettled volume.old (P.SectorView.space space.old).content }
+    requires lowest { IsTrue (P.SectorView.space space.old).tells → least (orphans_of (records_of (volume_of (P.SectorView.space space.old).content))) ≡ Some id }
+    requires kept { IsTrue (P.SectorView.space space.old).tells → has_surplus_left (volume_of (P.SectorView.space space.old).content) (shrunk_of volume.old) ≡ false }
+    ensures tidied { IsTrue (P.SectorView.space space.old).tells → IfOk result (λ came. TidiesAs came (capacity_of volume.old) (shrunk_of volume.old) (P.SectorView.space space.old).content (P.SectorView.space space.new).content) }
+    ensures stands { OnOk result (StandsOver volume.new (P.SectorView.space space.new)) }
+    ensures settled { IsTrue (P.SectorView.space space.old).tells → OnOk result (IsSettled volume.new (P.SectorView.space space.new).content) }
+    ensures service { IsInService volume.new (P.SectorView.space space.new) }
+    ensures used { KeepsUsed volume.old volume.new }
+    ensures touches { (committed : Content) → Touches committed (λ s. Contains (own_sectors volume.old) s) (P.SectorView.space space.old) (P.SectorView.space space.new) }
+    ensures below { P.SectorView.follows space.old space.new }
+    ensures cause { HasTroubleCause (P.SectorView.space space.old).faults (P.SectorView.space space.new).faults result }
+{
+    match bare_waiting(volume, alloc, space, id)? {
+        Some(entry) => tidy_entry(volume, alloc, space, &entry),
+        None => tidy_owner(volume, alloc, space, id),
+    }
+}
+
+/// The next step, where the file that was shrunk last has no blocks past its size.
+pub(crate) fn tidy_unshrunk<P: SectorSpace>(
+    volume: &mut Volume,
+    alloc: Global,
+    space: &mut P,
+) -> Result<Tidying, Trouble>
+    requires stands { StandsOver volume.old (P.SectorView.space space.old) }
+    requires settled { IsTrue (P.SectorView.space space.old).tells → IsSettled volume.old (P.SectorView.space space.old).content }
+    requires kept { IsTrue (P.SectorView.space space.old).tells → has_surplus_left (volume_of (P.SectorView.space space.old).content) (shrunk_of volume.old) ≡ false }
+    ensures tidied { IsTrue (P.SectorView.space space.old).tells → IfOk result (λ came. TidiesAs came (capacity_of volume.old) (shrunk_of volume.old) (P.SectorView.space space.old).content (P.SectorView.space space.new).content) }
+    ensures stands { OnOk result (StandsOver volume.new (P.SectorView.space space.new)) }
+    ensures settled { IsTrue (P.SectorView.space space.old).tells → OnOk result (IsSettled volume.new (P.SectorView.space space.new).content) }
+    ensures service { IsInService volume.new (P.SectorView.space space.new) }
+    ensures used { KeepsUsed volume.old volume.new }
+    ensures touches { (committed : Content) → Touches committed (λ s. Contains (own_sectors volume.old) s) (P.SectorView.space space.old) (P.SectorView.space space.new) }
+    ensures below { P.SectorView.follows space.old space.new }
+    ensures cause { HasTroubleCause (P.SectorView.space space.old).faults (P.SectorView.space space.new).faults result }
+{
+    match next_waiting(volume, alloc, space)? {
+        Some(id) => tidy_waiting(volume, alloc, space, id),
+        None => Ok(Tidying::Rest),
+    }
+}
+
+/// Makes the next step of reclaiming: it cuts the file that was shrunk last where that has blocks past its size, or, of the file with
+/// the least CNID of those that lost their last name, a fork, or drops the first of its attributes, or its entry. A cut is of one
+/// extent, or of its last 32,768 blocks. It is still to come for a fork whose record has eight extents, and where a name of the
+/// private folder begins with `temp` and has anything but a number of nineteen digits or fewer behind it. `Memory` comes where memory
+/// is wanting, `Disk` where a read failed.
+pub fn tidy<P: SectorSpace>(
+    volume: &mut Volume,
+    alloc: Global,
+    space: &mut P,
+) -> Result<Tidying, Trouble>
+    requires stands { StandsOver volume.old (P.SectorView.space space.old) }
+    requires settled { IsTrue (P.SectorView.space space.old).tells → IsSettled volume.old (P.SectorView.space space.old).content }
+    // Told, the next step was made, and nothing was missing for it; or nothing was changed.
+    ensures tidied { IsTrue (P.SectorView.space space.old).tells → IfOk result (λ came. TidiesAs came (capacity_of volume.old) (shrunk_of volume.old) (P.SectorView.space space.old).content (P.SectorView.space space.new).content) }
+    ensures stands { OnOk result (StandsOver volume.new (P.SectorView.space space.new)) }
+    ensures settled { IsTrue (P.SectorView.space space.old).tells → OnOk result (IsSettled volume.new (P.SectorView.space space.new).content) }
+    ensures service { IsInService volume.new (P.SectorView.space space.new) }
+    // No block that a content has in use is lost, and the file shrunk last and the capacity are as they were.
+    ensures used { KeepsUsed volume.old volume.new }
+    // On a fault too, it puts sectors of its own alone, whatever was committed last.
+    ensures touches { (committed : Content) → Touches committed (λ s. Contains (own_sectors volume.old) s) (P.SectorView.space space.old) (P.SectorView.space space.new) }
+    ensures below { P.SectorView.follows space.old space.new }
+    ensures cause { HasTroubleCause (P.SectorView.space space.old).faults (P.SectorView.space space.new).faults result }
+{
+    match volume.shrunk {
+        Some(id) => tidy_surplus(volume, alloc, space, id),
+        None => tidy_unshrunk(volume, alloc, space),
+    }
+}

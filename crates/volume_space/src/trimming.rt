@@ -1,0 +1,364 @@
+//! Housekeeping that cuts forks: of the file shrunk last, and of files that lost their last name.
+ghost use Rattle.std.specs.Prelude.{◌≡◌, ◌<◌, ◌≤◌, ◌==◌, ◌&&◌, nat_lt, not, Some, false, true, IsTrue, IfOk, IfSome, OnOk, length};
+ghost use Rattle.std.specs.List.{Contains};
+ghost use Rattle.sector_disk.specs.Lists.{Content};
+ghost use Rattle.btree_edit.specs.Causes.{HasTroubleCause};
+ghost use Rattle.cat_records.specs.Fits.{FitsFile, FitsRecord};
+ghost use Rattle.cat_records.specs.declared.record.CatRecord.TheVariants.{File};
+ghost use Rattle.catalog.specs.Pairs.{value_at};
+ghost use Rattle.hfs_model.specs.Step.{is_private_name};
+ghost use Rattle.hfs_volume.specs.Content.{records_of, volume_of};
+ghost use Rattle.hfs_volume.specs.Forks.{parts_for};
+ghost use Rattle.hfs_volume.specs.Links.{orphans_of};
+ghost use Rattle.hfs_volume.specs.Reclaim.{Reclaim, has_surplus_left, least};
+ghost use Rattle.hfs_volume.specs.Records.{id_in, is_link_type, is_thread};
+ghost use Rattle.volume_space.specs.Cutting.{IsCut, IsCutOf, IsNextCut, KeepsUsed, MayGive, blocks_left, fork_at, kind_of, surplus_in};
+ghost use Rattle.volume_base.specs.Keeping.{shrunk_of};
+ghost use Rattle.volume_base.specs.Lists.{lists_of};
+ghost use Rattle.volume_space.specs.Orphans.{AffordsStep, TidiesAs};
+ghost use Rattle.volume_base.specs.Room.{capacity_of};
+ghost use Rattle.volume_base.specs.Service.{IsInService};
+ghost use Rattle.volume_base.specs.Standing.{IsSettled, StandsOver, own_sectors};
+ghost use Rattle.volume_base.specs.Touching.{Touches};
+
+use crate::cutting::{Cut, ForkKind, cut_fork, cut_of, fits_cut, fork_of};
+use crate::orphans::is_link;
+use crate::tidying::{Tidying, grows_none, tidy_unshrunk};
+use cat_records::{CatRecord, FileRecord};
+use hx_bytes::Trouble;
+use sector_disk::SectorSpace;
+use std::alloc::Global;
+use volume_base::{Entry, FreeBlocks, ROOT, Volume, is_private_name};
+use volume_cost::cut_cost;
+
+/// A fork that is to be cut, and how many of its first blocks stay at least.
+#[derive(Clone, Copy)]
+pub(crate) struct Surplus {
+    pub(crate) kind: ForkKind,
+    pub(crate) keep: u128,
+}
+
+/// How many blocks so many bytes take.
+fn count_wanted(size: u64, block: u32) -> u128
+    requires { 0 < block }
+    ensures { result ≡ parts_for size block }
+{
+    (u128::from(size) + u128::from(block) - 1) / u128::from(block)
+}
+
+/// Whether a fork of so many blocks has more than these.
+fn is_exceeded(wanted: u128, total: u32) -> bool
+    ensures { result ≡ nat_lt wanted total }
+{
+    wanted < u128::from(total)
+}
+
+/// What a file's data fork has past its size, where blocks have this size.
+fn surplus_in(rec: &CatRecord, block: u32) -> Option<Surplus>
+    requires { 0 < block }
+    ensures { result ≡ surplus_in block rec.now }
+{
+    match rec {
+        CatRecord::Folder(_folder) => None,
+        CatRecord::File(file) => {
+            let wanted = count_wanted(file.data_fork.logical_size, block);
+            if is_exceeded(wanted, file.data_fork.total_blocks) {
+                Some(Surplus {
+                    kind: ForkKind::Data,
+                    keep: wanted,
+                })
+            } else {
+                None
+            }
+        }
+        CatRecord::Thread(_thread) => None,
+    }
+}
+
+/// Whether a fork of so many blocks has any.
+fn has_any(total: u32) -> bool
+    ensures { result ≡ not (total == 0) }
+{
+    total != 0
+}
+
+/// The fork of a file that has blocks, the data fork first.
+fn blocks_left(rec: &CatRecord) -> Option<Surplus>
+    ensures { result ≡ blocks_left rec.now }
+{
+    match rec {
+        CatRecord::Folder(_folder) => None,
+        CatRecord::File(file) => {
+            if has_any(file.data_fork.total_blocks) {
+                Some(Surplus {
+                    kind: ForkKind::Data,
+                    keep: 0,
+                })
+            } else if has_any(file.resource_fork.total_blocks) {
+                Some(Surplus {
+                    kind: ForkKind::Resource,
+                    keep: 0,
+                })
+            } else {
+                None
+            }
+        }
+        CatRecord::Thread(_thread) => None,
+    }
+}
+
+/// Whether an entry is one of the volume's own in the root.
+fn is_own(entry: &Entry) -> bool
+    ensures { result ≡ (entry.now.parent == 2) && is_private_name entry.now.name }
+{
+    entry.parent == ROOT && is_private_name(&entry.name)
+}
+
+/// Whether a record is that of the folder or file with this CNID.
+fn has_id(rec: &CatRecord, id: u32) -> bool
+    ensures number { IsTrue result → id_in rec.now ≡ id }
+    ensures kind { IsTrue result → is_thread rec.now ≡ false }
+{
+    match rec {
+        CatRecord::Folder(folder) => folder.fields.id == id,
+        CatRecord::File(file) => file.fields.id == id,
+        CatRecord::Thread(_thread) => false,
+    }
+}
+
+/// Whether the journal has room for a cut.
+fn affords_cut(volume: &Volume) -> bool
+    ensures { (content : Content) → IsSettled volume.now content → IsTrue result → (step : Reclaim) → IsCut step → AffordsStep (capacity_of volume.now) content step }
+{
+    grows_none(cut_cost(&volume.room(FreeBlocks::All)))
+}
+
+/// Cuts this of a file's fork, where nothing is missing for it.
+fn tidy_part<P: SectorSpace>(
+    volume: &mut Volume,
+    alloc: Global,
+    space: &mut P,
+    entry: &Entry,
+    file: &FileRecord,
+    surplus: Surplus,
+    cut: &Cut,
+) -> Result<Tidying, Trouble>
+    requires stands { StandsOver volume.old (P.SectorView.space space.old) }
+    requires settled { IsTrue (P.SectorView.space space.old).tells → IsSettled volume.old (P.SectorView.space space.old).content }
+    requires name { length entry.now.name ≤ 255 }
+    requires there { IsTrue (P.SectorView.space space.old).tells → value_at (lists_of volume.old (P.SectorView.space space.old).content).catalog_pairs entry.now.parent entry.now.name ≡ Some entry.now.rec }
+    requires is { entry.now.rec ≡ File file.now }
+    requires fits { FitsFile file.now }
+    requires no_link { is_link_type file.now.fields ≡ false }
+    requires user { (entry.now.parent ≡ 2) × (is_private_name entry.now.name ≡ true) → ⊥ }
+    requires cut { IsCutOf (fork_at (kind_of surplus.kind) file.now) surplus.keep cut.now }
+    requires gives { MayGive cut.now.goes volume.old }
+    requires next { IsTrue (P.SectorView.space space.old).tells → IsNextCut (shrunk_of volume.old) (P.SectorView.space space.old).content (id_in entry.now.rec) (kind_of surplus.kind) surplus.keep }
+    ensures tidied { IsTrue (P.SectorView.space space.old).tells → IfOk result (λ came. TidiesAs came (capacity_of volume.old) (shrunk_of volume.old) (P.SectorView.space space.old).content (P.SectorView.space space.new).content) }
+    ensures stands { OnOk result (StandsOver volume.new (P.SectorView.space space.new)) }
+    ensures settled { IsTrue (P.SectorView.space space.old).tells → OnOk result (IsSettled volume.new (P.SectorView.space space.new).content) }
+    ensures service { IsInService volume.new (P.SectorView.space space.new) }
+    ensures used { KeepsUsed volume.old volume.new }
+    ensures touches { (committed : Content) → Touches committed (λ s. Contains (own_sectors volume.old) s) (P.SectorView.space space.old) (P.SectorView.space space.new) }
+    ensures below { P.SectorView.follows space.old space.new }
+    ensures cause { HasTroubleCause (P.SectorView.space space.old).faults (P.SectorView.space space.new).faults result }
+{
+    if !affords_cut(volume) {
+        return Ok(Tidying::Rest);
+    }
+    if !fits_cut(volume, space) {
+        return Ok(Tidying::CommitFirst);
+    }
+    volume.keep();
+    cut_fork(
+        volume,
+        alloc,
+        space,
+        entry,
+        file,
+        surplus.kind,
+        surplus.keep,
+        cut,
+    )?;
+    Ok(Tidying::Made)
+}
+
+/// Cuts a file's fork, where its blocks stand in its record.
+fn tidy_fork<P: SectorSpace>(
+    volume: &mut Volume,
+    alloc: Global,
+    space: &mut P,
+    entry: &Entry,
+    file: &FileRecord,
+    surplus: Surplus,
+) -> Result<Tidying, Trouble>
+    requires stands { StandsOver volume.old (P.SectorView.space space.old) }
+    requires settled { IsTrue (P.SectorView.space space.old).tells → IsSettled volume.old (P.SectorView.space space.old).content }
+    requires name { length entry.now.name ≤ 255 }
+    requires there { IsTrue (P.SectorView.space space.old).tells → value_at (lists_of volume.old (P.SectorView.space space.old).content).catalog_pairs entry.now.parent entry.now.name ≡ Some entry.now.rec }
+    requires is { entry.now.rec ≡ File file.now }
+    requires fits { FitsFile file.now }
+    requires next { IsTrue (P.SectorView.space space.old).tells → IsNextCut (shrunk_of volume.old) (P.SectorView.space space.old).content (id_in entry.now.rec) (kind_of surplus.kind) surplus.keep }
+    ensures tidied { IsTrue (P.SectorView.space space.old).tells → IfOk result (λ came. TidiesAs came (capacity_of volume.old) (shrunk_of volume.old) (P.SectorView.space space.old).content (P.SectorView.space space.new).content) }
+    ensures stands { OnOk result (StandsOver volume.new (P.SectorView.space space.new)) }
+    ensures settled { IsTrue (P.SectorView.space space.old).tells → OnOk result (IsSettled volume.new (P.SectorView.space space.new).content) }
+    ensures service { IsInService volume.new (P.SectorView.space space.new) }
+    ensures used { KeepsUsed volume.old volume.new }
+    ensures touches { (committed : Content) → Touches committed (λ s. Contains (own_sectors volume.old) s) (P.SectorView.space space.old) (P.SectorView.space space.new) }
+    ensures below { P.SectorView.follows space.old space.new }
+    ensures cause { HasTroubleCause (P.SectorView.space space.old).faults (P.SectorView.space space.new).faults result }
+{
+    if is_link(&file.fields) {
+        return Err(Trouble::Memory);
+    }
+    if is_own(entry) {
+        return Err(Trouble::Memory);
+    }
+    let fork = fork_of(surplus.kind, file);
+    match cut_of(volume, alloc, &fork, surplus.keep)? {
+        Some(cut) => tidy_part(volume, alloc, space, entry, file, surplus, &cut),
+        None => Ok(Tidying::Rest),
+    }
+}
+
+/// Cuts a fork of the file that stands there.
+fn tidy_cut<P: SectorSpace>(
+    volume: &mut Volume,
+    alloc: Global,
+    space: &mut P,
+    entry: &Entry,
+    surplus: Surplus,
+) -> Result<Tidying, Trouble>
+    requires stands { StandsOver volume.old (P.SectorView.space space.old) }
+    requires settled { IsTrue (P.SectorView.space space.old).tells → IsSettled volume.old (P.SectorView.space space.old).content }
+    requires name { length entry.now.name ≤ 255 }
+    requires there { IsTrue (P.SectorView.space space.old).tells → value_at (lists_of volume.old (P.SectorView.space space.old).content).catalog_pairs entry.now.parent entry.now.name ≡ Some entry.now.rec }
+    requires fits { is_thread entry.now.rec ≡ false → FitsRecord entry.now.rec }
+    requires next { IsTrue (P.SectorView.space space.old).tells → IsNextCut (shrunk_of volume.old) (P.SectorView.space space.old).content (id_in entry.now.rec) (kind_of surplus.kind) surplus.keep }
+    ensures tidied { IsTrue (P.SectorView.space space.old).tells → IfOk result (λ came. TidiesAs came (capacity_of volume.old) (shrunk_of volume.old) (P.SectorView.space space.old).content (P.SectorView.space space.new).content) }
+    ensures stands { OnOk result (StandsOver volume.new (P.SectorView.space space.new)) }
+    ensures settled { IsTrue (P.SectorView.space space.old).tells → OnOk result (IsSettled volume.new (P.SectorView.space space.new).content) }
+    ensures service { IsInService volume.new (P.SectorView.space space.new) }
+    ensures used { KeepsUsed volume.old volume.new }
+    ensures touches { (committed : Content) → Touches committed (λ s. Contains (own_sectors volume.old) s) (P.SectorView.space space.old) (P.SectorView.space space.new) }
+    ensures below { P.SectorView.follows space.old space.new }
+    ensures cause { HasTroubleCause (P.SectorView.space space.old).faults (P.SectorView.space space.new).faults result }
+{
+    match &entry.rec {
+        CatRecord::Folder(_folder) => Err(Trouble::Memory),
+        CatRecord::File(file) => tidy_fork(volume, alloc, space, entry, file, surplus),
+        CatRecord::Thread(_thread) => Err(Trouble::Memory),
+    }
+}
+
+/// Cuts the file that was shrunk last, where it has blocks past its size, or makes the next step behind that.
+fn tidy_shrunk<P: SectorSpace>(
+    volume: &mut Volume,
+    alloc: Global,
+    space: &mut P,
+    id: u32,
+    entry: &Entry,
+) -> Result<Tidying, Trouble>
+    requires stands { StandsOver volume.old (P.SectorView.space space.old) }
+    requires settled { IsTrue (P.SectorView.space space.old).tells → IsSettled volume.old (P.SectorView.space space.old).content }
+    requires name { length entry.now.name ≤ 255 }
+    requires there { IsTrue (P.SectorView.space space.old).tells → value_at (lists_of volume.old (P.SectorView.space space.old).content).catalog_pairs entry.now.parent entry.now.name ≡ Some entry.now.rec }
+    requires fits { is_thread entry.now.rec ≡ false → FitsRecord entry.now.rec }
+    requires shrunk { shrunk_of volume.old ≡ Some id }
+    ensures tidied { IsTrue (P.SectorView.space space.old).tells → IfOk result (λ came. TidiesAs came (capacity_of volume.old) (shrunk_of volume.old) (P.SectorView.space space.old).content (P.SectorView.space space.new).content) }
+    ensures stands { OnOk result (StandsOver volume.new (P.SectorView.space space.new)) }
+    ensures settled { IsTrue (P.SectorView.space space.old).tells → OnOk result (IsSettled volume.new (P.SectorView.space space.new).content) }
+    ensures service { IsInService volume.new (P.SectorView.space space.new) }
+    ensures used { KeepsUsed volume.old volume.new }
+    ensures touches { (committed : Content) → Touches committed (λ s. Contains (own_sectors volume.old) s) (P.SectorView.space space.old) (P.SectorView.space space.new) }
+    ensures below { P.SectorView.follows space.old space.new }
+    ensures cause { HasTroubleCause (P.SectorView.space space.old).faults (P.SectorView.space space.new).faults result }
+{
+    if !has_id(&entry.rec, id) {
+        return Err(Trouble::Memory);
+    }
+    match surplus_in(&entry.rec, volume.header.block_size) {
+        Some(surplus) => tidy_cut(volume, alloc, space, entry, surplus),
+        None => tidy_unshrunk(volume, alloc, space),
+    }
+}
+
+/// The next step, where a file was shrunk.
+pub(crate) fn tidy_surplus<P: SectorSpace>(
+    volume: &mut Volume,
+    alloc: Global,
+    space: &mut P,
+    id: u32,
+) -> Result<Tidying, Trouble>
+    requires stands { StandsOver volume.old (P.SectorView.space space.old) }
+    requires settled { IsTrue (P.SectorView.space space.old).tells → IsSettled volume.old (P.SectorView.space space.old).content }
+    requires shrunk { shrunk_of volume.old ≡ Some id }
+    ensures tidied { IsTrue (P.SectorView.space space.old).tells → IfOk result (λ came. TidiesAs came (capacity_of volume.old) (shrunk_of volume.old) (P.SectorView.space space.old).content (P.SectorView.space space.new).content) }
+    ensures stands { OnOk result (StandsOver volume.new (P.SectorView.space space.new)) }
+    ensures settled { IsTrue (P.SectorView.space space.old).tells → OnOk result (IsSettled volume.new (P.SectorView.space space.new).content) }
+    ensures service { IsInService volume.new (P.SectorView.space space.new) }
+    ensures used { KeepsUsed volume.old volume.new }
+    ensures touches { (committed : Content) → Touches committed (λ s. Contains (own_sectors volume.old) s) (P.SectorView.space space.old) (P.SectorView.space space.new) }
+    ensures below { P.SectorView.follows space.old space.new }
+    ensures cause { HasTroubleCause (P.SectorView.space space.old).faults (P.SectorView.space space.new).faults result }
+{
+    match volume.entry(alloc, space, id)? {
+        Some(entry) => tidy_shrunk(volume, alloc, space, id, &entry),
+        None => tidy_unshrunk(volume, alloc, space),
+    }
+}
+
+/// Cuts the file that waits and stands there.
+fn tidy_left<P: SectorSpace>(
+    volume: &mut Volume,
+    alloc: Global,
+    space: &mut P,
+    entry: &Entry,
+) -> Result<Tidying, Trouble>
+    requires stands { StandsOver volume.old (P.SectorView.space space.old) }
+    requires settled { IsTrue (P.SectorView.space space.old).tells → IsSettled volume.old (P.SectorView.space space.old).content }
+    requires name { length entry.now.name ≤ 255 }
+    requires there { IsTrue (P.SectorView.space space.old).tells → value_at (lists_of volume.old (P.SectorView.space space.old).content).catalog_pairs entry.now.parent entry.now.name ≡ Some entry.now.rec }
+    requires fits { is_thread entry.now.rec ≡ false → FitsRecord entry.now.rec }
+    requires next { IsTrue (P.SectorView.space space.old).tells
+        → IfSome (blocks_left entry.now.rec) (λ surplus. IsNextCut (shrunk_of volume.old) (P.SectorView.space space.old).content (id_in entry.now.rec) (kind_of surplus.kind) surplus.keep) }
+    ensures tidied { IsTrue (P.SectorView.space space.old).tells → IfOk result (λ came. TidiesAs came (capacity_of volume.old) (shrunk_of volume.old) (P.SectorView.space space.old).content (P.SectorView.space space.new).content) }
+    ensures stands { OnOk result (StandsOver volume.new (P.SectorView.space space.new)) }
+    ensures settled { IsTrue (P.SectorView.space space.old).tells → OnOk result (IsSettled volume.new (P.SectorView.space space.new).content) }
+    ensures service { IsInService volume.new (P.SectorView.space space.new) }
+    ensures used { KeepsUsed volume.old volume.new }
+    ensures touches { (committed : Content) → Touches committed (λ s. Contains (own_sectors volume.old) s) (P.SectorView.space space.old) (P.SectorView.space space.new) }
+    ensures below { P.SectorView.follows space.old space.new }
+    ensures cause { HasTroubleCause (P.SectorView.space space.old).faults (P.SectorView.space space.new).faults result }
+{
+    match blocks_left(&entry.rec) {
+        Some(surplus) => tidy_cut(volume, alloc, space, entry, surplus),
+        None => Err(Trouble::Memory),
+    }
+}
+
+/// Cuts the file with the least CNID of those that wait.
+pub(crate) fn tidy_blocks<P: SectorSpace>(
+    volume: &mut Volume,
+    alloc: Global,
+    space: &mut P,
+    id: u32,
+) -> Result<Tidying, Trouble>
+    requires stands { StandsOver volume.old (P.SectorView.space space.old) }
+    requires settled { IsTrue (P.SectorView.space space.old).tells → IsSettled volume.old (P.SectorView.space space.old).content }
+    requires lowest { IsTrue (P.SectorView.space space.old).tells → least (orphans_of (records_of (volume_of (P.SectorView.space space.old).content))) ≡ Some id }
+    requires kept { IsTrue (P.SectorView.space space.old).tells → has_surplus_left (volume_of (P.SectorView.space space.old).content) (shrunk_of volume.old) ≡ false }
+    ensures tidied { IsTrue (P.SectorView.space space.old).tells → IfOk result (λ came. TidiesAs came (capacity_of volume.old) (shrunk_of volume.old) (P.SectorView.space space.old).content (P.SectorView.space space.new).content) }
+    ensures stands { OnOk result (StandsOver volume.new (P.SectorView.space space.new)) }
+    ensures settled { IsTrue (P.SectorView.space space.old).tells → OnOk result (IsSettled volume.new (P.SectorView.space space.new).content) }
+    ensures service { IsInService volume.new (P.SectorView.space space.new) }
+    ensures used { KeepsUsed volume.old volume.new }
+    ensures touches { (committed : Content) → Touches committed (λ s. Contains (own_sectors volume.old) s) (P.SectorView.space space.old) (P.SectorView.space space.new) }
+    ensures below { P.SectorView.follows space.old space.new }
+    ensures cause { HasTroubleCause (P.SectorView.space space.old).faults (P.SectorView.space space.new).faults result }
+{
+    match volume.entry(alloc, space, id)? {
+        Some(entry) => tidy_left(volume, alloc, space, &entry),
+        None => Err(Trouble::Memory),
+    }
+}

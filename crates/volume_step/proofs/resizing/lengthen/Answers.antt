@@ -1,0 +1,94 @@
+use Rattle.std.proofs.Common.{◌≡◌, ℕ, true, List, refl, sym, ◌∙◌, ap, subst}
+use Rattle.std.specs.List.{Contains}
+use Rattle.std.specs.Prelude.{length, IfNone, IfSome, Option, Some, None, Ok}
+use Rattle.sector_disk.specs.Lists.{Content}
+use Rattle.sector_disk.proofs.SpaceLaws.{space_both}
+use Rattle.hfs_language.specs.declared.command.Command.TheVariants as command
+use Rattle.hfs_language.specs.declared.reply.Reply.{Reply}
+use Rattle.hfs_model.specs.Step.{reached, step_line}
+use Rattle.hfs_volume.specs.Aside.{IsJournalSector}
+use Rattle.hfs_volume.specs.TreeOf.{tree_of}
+use Rattle.volume_base.specs.Room.{capacity_of}
+use Rattle.volume_base.specs.Touching.{Touches}
+use Rattle.volume_base.proofs.Commanding.{touches_both, touches_looks}
+use Rattle.volume_space.proofs.Sounding.{sound_here}
+use Rattle.volume_base.proofs.Still.{own_still}
+use Rattle.volume_step.specs.Steps.{Affords, KeepsJournal, StepsTo}
+use Rattle.volume_step.specs.declared.outcome.Outcome.TheVariants as outcome
+use Rattle.volume_step.proofs.Done.{holds_kept, same_place}
+use Rattle.volume_step.proofs.Putting.{size_place, size_steps}
+use Rattle.volume_step.proofs.Widening.{laid_still}
+use Rattle.volume_step.proofs.resizing.lengthen.Goals as goal
+
+pub lengthen-requires-clause-closed : goal.lengthen-requires-clause-closed
+lengthen-requires-clause-closed g c told at shut =
+    let tells = sym c.change_at.ensures.reads.looks.same.tells ∙ told in
+    subst (λ (k : Content). IsJournalSector k at) (sym (c.change_at.ensures.reads.looks.content tells)) (c.requires.closed tells at ((c.change_at.ensures.reads.looks.closed tells at).0 shut))
+
+pub returns-in-Some-clause-answered : goal.returns-in-Some-clause-answered
+returns-in-Some-clause-answered g c tells =
+    subst (λ (k : Content). StepsTo (outcome.Answered c.in-Some.reply c.in_ok-changes.changes) (capacity_of c.args.volume.now) c.args.number (command.Trunc c.args.path.now c.args.size) k (g.P.SectorView.space c.lengthen.new.space).content) (c.change_at.ensures.reads.looks.content tells)
+    (size_steps (capacity_of c.args.volume.now) c.args.number c.args.path.now c.args.size (g.P.SectorView.space c.change_at.new.space).content (g.P.SectorView.space c.lengthen.new.space).content
+    (sound_here c.change_at.new.self (g.P.SectorView.space c.change_at.new.space) (c.change_at.ensures.stands.stands (c.change_at.ensures.reads.looks.same.tells ∙ tells)) (c.change_at.ensures.settled tells))
+    (sound_here c.lengthen.new.volume (g.P.SectorView.space c.lengthen.new.space) (c.in_ok-reply.ensures.stands.stands (c.lengthen.ensures.same.tells ∙ (c.change_at.ensures.reads.looks.same.tells ∙ tells))) (c.in_ok-reply.ensures.settled (c.change_at.ensures.reads.looks.same.tells ∙ tells)))
+    (subst (λ (k : Content). Affords (capacity_of c.args.volume.now) (command.Trunc c.args.path.now c.args.size) k) (sym (c.change_at.ensures.reads.looks.content tells)) (c.requires.affords tells))
+    c.in-Some.reply (subst (λ (o : Option Reply). IfSome o (λ reply. reply ≡ (step_line (tree_of (g.P.SectorView.space c.change_at.new.space).content) (Ok (command.Trunc c.args.path.now c.args.size))).0)) c.in-Some.is (c.in_ok-reply.ensures.reply (c.change_at.ensures.reads.looks.same.tells ∙ tells)))
+    (subst (λ (o : Option Reply). IfSome o (λ reply. tree_of (g.P.SectorView.space c.lengthen.new.space).content ≡ (step_line (tree_of (g.P.SectorView.space c.change_at.new.space).content) (Ok (command.Trunc c.args.path.now c.args.size))).1)) c.in-Some.is (c.in_ok-reply.ensures.tree (c.change_at.ensures.reads.looks.same.tells ∙ tells)))
+    (λ ok. c.in_ok-reply.ensures.lists (c.change_at.ensures.reads.looks.same.tells ∙ tells) (c.in-Some.is ∙ ap Some ok)) c.in_ok-changes.changes
+    (λ not_own entry is. c.in_ok-changes.ensures.told tells not_own entry (ap (λ (k : Content). reached (tree_of k) c.args.path.now) (sym (c.change_at.ensures.reads.looks.content tells)) ∙ is)))
+
+pub returns-in-Some-clause-place : goal.returns-in-Some-clause-place
+returns-in-Some-clause-place g c tells =
+    subst (λ (k : Content). KeepsJournal k (g.P.SectorView.space c.lengthen.new.space).content) (c.change_at.ensures.reads.looks.content tells)
+    (size_place (capacity_of c.args.volume.now) c.args.number c.args.path.now c.args.size (g.P.SectorView.space c.change_at.new.space).content (g.P.SectorView.space c.lengthen.new.space).content
+    (sound_here c.change_at.new.self (g.P.SectorView.space c.change_at.new.space) (c.change_at.ensures.stands.stands (c.change_at.ensures.reads.looks.same.tells ∙ tells)) (c.change_at.ensures.settled tells))
+    (sound_here c.lengthen.new.volume (g.P.SectorView.space c.lengthen.new.space) (c.in_ok-reply.ensures.stands.stands (c.lengthen.ensures.same.tells ∙ (c.change_at.ensures.reads.looks.same.tells ∙ tells))) (c.in_ok-reply.ensures.settled (c.change_at.ensures.reads.looks.same.tells ∙ tells)))
+    (subst (λ (k : Content). Affords (capacity_of c.args.volume.now) (command.Trunc c.args.path.now c.args.size) k) (sym (c.change_at.ensures.reads.looks.content tells)) (c.requires.affords tells))
+    c.in-Some.reply (subst (λ (o : Option Reply). IfSome o (λ reply. reply ≡ (step_line (tree_of (g.P.SectorView.space c.change_at.new.space).content) (Ok (command.Trunc c.args.path.now c.args.size))).0)) c.in-Some.is (c.in_ok-reply.ensures.reply (c.change_at.ensures.reads.looks.same.tells ∙ tells)))
+    (subst (λ (o : Option Reply). IfSome o (λ reply. tree_of (g.P.SectorView.space c.lengthen.new.space).content ≡ (step_line (tree_of (g.P.SectorView.space c.change_at.new.space).content) (Ok (command.Trunc c.args.path.now c.args.size))).1)) c.in-Some.is (c.in_ok-reply.ensures.tree (c.change_at.ensures.reads.looks.same.tells ∙ tells)))
+    (λ ok. c.in_ok-reply.ensures.lists (c.change_at.ensures.reads.looks.same.tells ∙ tells) (c.in-Some.is ∙ ap Some ok)))
+
+pub returns-in-Some-clause-holds : goal.returns-in-Some-clause-holds
+returns-in-Some-clause-holds g c committed was = c.in_ok-reply.ensures.holds committed (holds_kept committed c.args.volume.now c.change_at.new.self c.change_at.ensures.reads.keeps.map was)
+
+pub returns-in-Some-clause-below : goal.returns-in-Some-clause-below
+returns-in-Some-clause-below g c = g.met.P.SectorView.follows_trans c.args.space.now c.change_at.new.space c.lengthen.new.space c.change_at.ensures.below c.lengthen.ensures.below
+
+pub returns-in-Some-clause-touches : goal.returns-in-Some-clause-touches
+returns-in-Some-clause-touches g c committed holds laid =
+    touches_both committed _ (g.P.SectorView.space c.args.space.now) (g.P.SectorView.space c.change_at.new.space) (g.P.SectorView.space c.lengthen.new.space) (touches_looks committed _ (g.P.SectorView.space c.args.space.now) (g.P.SectorView.space c.change_at.new.space) c.change_at.ensures.reads.looks)
+    (subst (λ (l : List ℕ). Touches committed (λ s. Contains l s) (g.P.SectorView.space c.change_at.new.space) (g.P.SectorView.space c.lengthen.new.space)) (own_still c.args.volume.now c.change_at.new.self (g.P.SectorView.space c.args.space.now) (g.P.SectorView.space c.change_at.new.space) c.change_at.ensures.reads) (c.lengthen.ensures.touches committed (holds_kept committed c.args.volume.now c.change_at.new.self c.change_at.ensures.reads.keeps.map holds) (laid_still committed c.args.volume.now c.change_at.new.self c.change_at.ensures.reads.keeps.header c.change_at.ensures.reads.keeps.map laid)))
+
+pub returns-in-Some-clause-same : goal.returns-in-Some-clause-same
+returns-in-Some-clause-same g c = space_both _ _ _ c.change_at.ensures.reads.looks.same c.lengthen.ensures.same
+
+pub returns-in-None-clause-answered : goal.returns-in-None-clause-answered
+returns-in-None-clause-answered g c tells = (subst (λ (o : Option Reply). IfNone o ((g.P.SectorView.space c.lengthen.new.space).content ≡ (g.P.SectorView.space c.change_at.new.space).content)) c.in-None.is (c.in_ok-reply.ensures.waits (c.change_at.ensures.reads.looks.same.tells ∙ tells))) ∙ c.change_at.ensures.reads.looks.content tells
+
+pub returns-in-None-clause-place : goal.returns-in-None-clause-place
+returns-in-None-clause-place g c tells = same_place (g.P.SectorView.space c.args.space.now).content (g.P.SectorView.space c.lengthen.new.space).content ((subst (λ (o : Option Reply). IfNone o ((g.P.SectorView.space c.lengthen.new.space).content ≡ (g.P.SectorView.space c.change_at.new.space).content)) c.in-None.is (c.in_ok-reply.ensures.waits (c.change_at.ensures.reads.looks.same.tells ∙ tells))) ∙ c.change_at.ensures.reads.looks.content tells)
+
+pub returns-in-None-clause-holds : goal.returns-in-None-clause-holds
+returns-in-None-clause-holds g c committed was = c.in_ok-reply.ensures.holds committed (holds_kept committed c.args.volume.now c.change_at.new.self c.change_at.ensures.reads.keeps.map was)
+
+pub returns-in-None-clause-below : goal.returns-in-None-clause-below
+returns-in-None-clause-below g c = g.met.P.SectorView.follows_trans c.args.space.now c.change_at.new.space c.lengthen.new.space c.change_at.ensures.below c.lengthen.ensures.below
+
+pub returns-in-None-clause-touches : goal.returns-in-None-clause-touches
+returns-in-None-clause-touches g c committed holds laid =
+    touches_both committed _ (g.P.SectorView.space c.args.space.now) (g.P.SectorView.space c.change_at.new.space) (g.P.SectorView.space c.lengthen.new.space) (touches_looks committed _ (g.P.SectorView.space c.args.space.now) (g.P.SectorView.space c.change_at.new.space) c.change_at.ensures.reads.looks)
+    (subst (λ (l : List ℕ). Touches committed (λ s. Contains l s) (g.P.SectorView.space c.change_at.new.space) (g.P.SectorView.space c.lengthen.new.space)) (own_still c.args.volume.now c.change_at.new.self (g.P.SectorView.space c.args.space.now) (g.P.SectorView.space c.change_at.new.space) c.change_at.ensures.reads) (c.lengthen.ensures.touches committed (holds_kept committed c.args.volume.now c.change_at.new.self c.change_at.ensures.reads.keeps.map holds) (laid_still committed c.args.volume.now c.change_at.new.self c.change_at.ensures.reads.keeps.header c.change_at.ensures.reads.keeps.map laid)))
+
+pub returns-in-None-clause-same : goal.returns-in-None-clause-same
+returns-in-None-clause-same g c = space_both _ _ _ c.change_at.ensures.reads.looks.same c.lengthen.ensures.same
+
+pub returns-in_err-reply-clause-touches : goal.returns-in_err-reply-clause-touches
+returns-in_err-reply-clause-touches g c committed holds laid =
+    touches_both committed _ (g.P.SectorView.space c.args.space.now) (g.P.SectorView.space c.change_at.new.space) (g.P.SectorView.space c.lengthen.new.space) (touches_looks committed _ (g.P.SectorView.space c.args.space.now) (g.P.SectorView.space c.change_at.new.space) c.change_at.ensures.reads.looks)
+    (subst (λ (l : List ℕ). Touches committed (λ s. Contains l s) (g.P.SectorView.space c.change_at.new.space) (g.P.SectorView.space c.lengthen.new.space)) (own_still c.args.volume.now c.change_at.new.self (g.P.SectorView.space c.args.space.now) (g.P.SectorView.space c.change_at.new.space) c.change_at.ensures.reads) (c.lengthen.ensures.touches committed (holds_kept committed c.args.volume.now c.change_at.new.self c.change_at.ensures.reads.keeps.map holds) (laid_still committed c.args.volume.now c.change_at.new.self c.change_at.ensures.reads.keeps.header c.change_at.ensures.reads.keeps.map laid)))
+
+pub returns-in_err-reply-clause-same : goal.returns-in_err-reply-clause-same
+returns-in_err-reply-clause-same g c = space_both _ _ _ c.change_at.ensures.reads.looks.same c.lengthen.ensures.same
+
+pub returns-in_err-changes-clause-touches : goal.returns-in_err-changes-clause-touches
+returns-in_err-changes-clause-touches g c committed holds laid = touches_looks committed _ (g.P.SectorView.space c.args.space.now) (g.P.SectorView.space c.change_at.new.space) c.change_at.ensures.reads.looks

@@ -1,0 +1,111 @@
+-- The file that data is put into: what its record says of its extents and its blocks.
+use Rattle.std.proofs.Common.{◌≡◌, ◌<◌, ◌≤◌, ℕ, ◌+◌, ◌*◌, ◌^◌, false, true, List, [], ◌∷◌, length, refl, sym, ◌∙◌, ap, subst, arith}
+use Rattle.std.specs.Prelude.{Contains, IfSome, Option, Some, None, is_some}
+use Rattle.std.specs.Option.{option_map}
+use Rattle.std.proofs.Math.Nat.{mul-le-mul_left, mul-le-mul_right}
+use Rattle.hx_bytes.specs.declared.extents.Extent.{Extent}
+use Rattle.hx_bytes.specs.declared.extents.ForkRecord.{ForkRecord}
+use Rattle.sector_disk.specs.Lists.{Content}
+use Rattle.fork_map.specs.Blocks.{blocks_of}
+use Rattle.btree_node.specs.Levels.{Pair}
+use Rattle.cat_records.specs.Fits.{FitsFile, FitsRecord}
+use Rattle.cat_records.specs.declared.record.CatRecord.{CatRecord}
+use Rattle.cat_records.specs.declared.record.CatRecord.TheVariants.{File}
+use Rattle.cat_records.specs.declared.record.FileRecord.{FileRecord}
+use Rattle.catalog.specs.Pairs.{value_at}
+use Rattle.hfs_model.specs.declared.plain.PlainNode.{PlainNode}
+use Rattle.hfs_volume.specs.Blocks.{HasSizes}
+use Rattle.hfs_volume.specs.Content.{VolumeState, overflow_in_volume, records_of, volume_of}
+use Rattle.hfs_volume.specs.Forks.{data_kind, extents_of}
+use Rattle.hfs_volume.specs.Records.{Placed, entries_of, entry_of, id_in, id_of, is_empty, is_placed_at, is_thread, record_at}
+use Rattle.hfs_volume.specs.TreeOf.{file_bytes, tree_of}
+use Rattle.hfs_volume.specs.Weight.{extents_found, file_blocks, file_extents, file_fork}
+use Rattle.hfs_volume.proofs.Flat.{found_some, some_same}
+use Rattle.hfs_volume.proofs.Hiding.{same_entry}
+use Rattle.hfs_volume.proofs.Members.{each_of}
+use Rattle.hfs_volume.proofs.NodesOf.{entry_of_is}
+use Rattle.hfs_volume.proofs.Sides.{is_entry_of}
+use Rattle.volume_weights.specs.DataWeighing.{IsFileOfPut, file_of_record}
+use Rattle.volume_base.specs.Entering.{entry_by_id}
+use Rattle.volume_base.specs.Lists.{lists_of}
+use Rattle.volume_base.specs.Standing.{HoldsTrees, IsSettled}
+use Rattle.volume_base.specs.declared.data_cost.Put.{Put}
+use Rattle.volume_base.specs.declared.entries.Entry.{Entry}
+use Rattle.volume_base.specs.declared.volume.Volume.{Volume}
+use Rattle.volume_base.proofs.FileBytes.{bytes_long, geometry_is, sizes, size_is}
+use Rattle.volume_base.proofs.FoundEntry.{IsThere, entry_there}
+use Rattle.volume_base.proofs.PlainFiles.{IsFileOf, file_of_node}
+use Rattle.volume_base.proofs.Rising.{settled_sorted}
+
+abbrev file_or : FileRecord → CatRecord → FileRecord
+file_or other (File file) = file
+file_or other _ = other
+
+module _ (v : Volume) (content : Content) (holds : HoldsTrees v content) (settled : IsSettled v content) (put : Put) (node : PlainNode) (there : Contains (tree_of content).nodes node) (kind : node.folder ≡ false) (number : node.id ≡ put.id)
+    (long : length node.bytes ≡ put.old_size) (entry : Entry) (found : Some entry ≡ entry_by_id (lists_of v content).catalog_pairs put.id)
+  where
+    its : IsFileOf (volume_of content) (file_bytes content) node
+    unfolding tree_of
+    its = file_of_node (volume_of content) settled.sound (settled_sorted v content holds settled) (file_bytes content) node there kind
+
+    here : IsThere (lists_of v content).catalog_pairs put.id entry
+    here = entry_there v content holds settled put.id node there number entry found
+
+    here_now : value_at (volume_of content).catalog_pairs entry.parent entry.name ≡ Some entry.rec
+    here_now = ap (λ (l : VolumeState). value_at l.catalog_pairs entry.parent entry.name) settled.lists ∙ here.value
+
+    by_record : (o : Option Placed) → record_at (records_of (volume_of content)) entry.parent entry.name ≡ o → option_map (λ (p : Placed). p.value) o ≡ Some entry.rec → entry.rec ≡ File its.file
+    by_record None none same = absurd (let no : None ≡ Some entry.rec = same in cc no)
+    by_record (Some e) at same =
+        let value : e.value ≡ entry.rec = some_same e.value entry.rec same in
+        let stands = found_some (is_placed_at entry.parent entry.name) (records_of (volume_of content)) e at in
+        let named : is_empty e.name ≡ false = sym (each_of (λ (p : Placed). is_thread p.value ≡ is_empty p.name) (records_of (volume_of content)) settled.sound.entries.threads.kinds e stands.0) ∙ ap is_thread value ∙ here.kind in
+        let one : e ≡ its.entry = same_entry (volume_of content).head.next_catalog_id (entries_of (records_of (volume_of content))) settled.sound.entries.ids e its.entry
+        (is_entry_of (records_of (volume_of content)) e stands.0 named) its.stands
+        (ap id_in value ∙ here.number ∙ sym number ∙ its.id ∙ sym (ap id_in its.value)) in
+        sym value ∙ ap (λ (p : Placed). p.value) one ∙ its.value
+
+    rec_is : entry.rec ≡ File its.file
+    rec_is = by_record (record_at (records_of (volume_of content)) entry.parent entry.name) refl here_now
+
+    fork_is : file_fork data_kind (entry_of (records_of (volume_of content)) put.id) ≡ Some its.file.data_fork
+    fork_is =
+        let at : id_of its.entry ≡ put.id = ap id_in its.value ∙ sym its.id ∙ number in
+        ap (λ n. file_fork data_kind (entry_of (records_of (volume_of content)) n)) (sym at)
+        ∙ ap (file_fork data_kind) (entry_of_is (records_of (volume_of content)) (volume_of content).head.next_catalog_id settled.sound.entries.ids its.entry its.stands)
+        ∙ ap (λ (v : CatRecord). file_fork data_kind (Some (record its.entry { value = v }))) its.value
+
+    -- what stands in the fork that was found
+    extents_are : file_extents (volume_of content) put.id data_kind ≡ extents_of (overflow_in_volume (volume_of content)) its.file.fields.id data_kind its.file.data_fork
+    extents_are = ap (extents_found (overflow_in_volume (volume_of content)) put.id data_kind) fork_is ∙ ap (λ n. extents_of (overflow_in_volume (volume_of content)) n data_kind its.file.data_fork) (sym number ∙ its.id)
+
+    low : FitsFile its.file → put.old_size ≤ 2 ^ 48
+    low fits =
+        let held = (sizes content settled.sound its.file its.entry its.stands its.value).bytes in
+        let size : put.old_size ≡ its.file.data_fork.logical_size = sym long ∙ ap (λ (l : List ℕ). length l) its.bytes ∙ bytes_long content settled.sound its.file its.entry its.stands its.value in
+        let first = mul-le-mul_right {m = its.file.data_fork.total_blocks} {n = 2 ^ 32} (volume_of content).head.block_size (omega (arith, fits.data_fork.total_blocks)) in
+        let second : 2 ^ 32 * (volume_of content).head.block_size ≤ 2 ^ 32 * 65536 = mul-le-mul_left {m = (volume_of content).head.block_size} {n = 65536} (2 ^ 32) (omega (arith, size_is content settled.sound, (geometry_is content settled.sound).most)) in
+        omega (arith, held, size, first, second)
+
+    -- the record of the entry that was found is the file's
+    file_found : (file : FileRecord) → entry.rec ≡ File file → (is_thread entry.rec ≡ false → FitsRecord entry.rec) → IsFileOfPut (volume_of content) file put
+    file_found file is fits =
+        let same : its.file ≡ file = ap (file_or its.file) (sym rec_is ∙ is) in
+        subst (λ (f : FileRecord). IsFileOfPut (volume_of content) f put) same (record {
+          has = record { entry = its.entry; stands = its.stands; value = its.value };
+          id = sym its.id ∙ number;
+          fork = fork_is;
+          blocks = ap (λ (l : List Extent). length (blocks_of l)) extents_are ∙ (sizes content settled.sound its.file its.entry its.stands its.value).blocks;
+          small = low (subst FitsRecord rec_is (fits here.kind));
+        })
+
+    -- so it is told, and it is
+    pub file_told : (is_thread entry.rec ≡ false → FitsRecord entry.rec) → IfSome (file_of_record entry.rec) (λ file. IsFileOfPut (volume_of content) file put)
+    file_told fits = subst (λ (r : CatRecord). IfSome (file_of_record r) (λ file. IsFileOfPut (volume_of content) file put)) (sym rec_is) (file_found its.file rec_is fits)
+
+    pub some_told : is_some (file_of_record entry.rec) ≡ true
+    some_told = ap (λ (r : CatRecord). is_some (file_of_record r)) rec_is
+
+-- the extents of the file that data is put into
+pub extents_at : (volume : VolumeState) (file : FileRecord) (put : Put) → IsFileOfPut volume file put → file_extents volume put.id data_kind ≡ extents_of (overflow_in_volume volume) file.fields.id data_kind file.data_fork
+extents_at volume file put it = ap (extents_found (overflow_in_volume volume) put.id data_kind) it.fork ∙ ap (λ n. extents_of (overflow_in_volume volume) n data_kind file.data_fork) (sym it.id)

@@ -1,0 +1,7 @@
+pub mod CommandWeights
+pub mod DataBlocks
+pub mod DataFork
+pub mod DataNeeds
+pub mod LinkWeight
+pub mod LoseWeight
+pub mod MoveWeight

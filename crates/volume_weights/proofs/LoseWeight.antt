@@ -1,0 +1,218 @@
+-- What `rm` weighs, by the record of what it removes.
+use Rattle.std.proofs.Common.{◌≡◌, ℕ, ◌+◌, ◌*◌, Bool, true, false, List, length, refl, sym, ◌∙◌, ap, subst}
+use Rattle.std.specs.Prelude.{◌==◌, nat_lt, is_some, Option, Some, None, Result, Ok, Err, if◌then◌else◌}
+use Rattle.std.specs.Option.{ok_or}
+use Rattle.std.proofs.lemmas.Bool.{true≢false}
+use Rattle.sector_disk.specs.Lists.{Content}
+use Rattle.hfs_language.specs.Written.{FitsPath}
+use Rattle.hfs_language.specs.declared.command.Command.TheVariants as command
+use Rattle.hfs_language.specs.declared.refusal.Refusal.{Refusal}
+use Rattle.hfs_language.specs.declared.refusal.Refusal.TheVariants as refusal
+use Rattle.hfs_model.specs.Plain.{IsPlainTree, names_of, node_at}
+use Rattle.hfs_model.specs.Step.{is_private_path, is_root, reached, then_, to_node, to_rm, unless}
+use Rattle.hfs_model.specs.declared.plain.PlainEntry.{PlainEntry}
+use Rattle.hfs_model.specs.declared.plain.PlainNode.{PlainNode}
+use Rattle.hfs_model.specs.declared.plain.PlainTree.{PlainTree}
+use Rattle.hfs_volume.specs.Books.{SoundHasPlainTree}
+use Rattle.hfs_volume.specs.Content.{VolumeState, attributes_of, records_of, volume_of}
+use Rattle.hfs_volume.specs.Cost.{cost_of}
+use Rattle.hfs_volume.specs.Links.{private_id}
+use Rattle.hfs_volume.specs.TreeOf.{file_bytes, tree_in, tree_of}
+use Rattle.hfs_volume.specs.Weight.{Edits as Asked, edits, edits_of, folders_made, free_blocks, needs_for, rm_edits, rm_edits_at, room_with, weight, weight_with}
+use Rattle.volume_base.specs.Lists.{lists_of}
+use Rattle.volume_base.specs.Losing.{lose_edits}
+use Rattle.volume_weights.specs.Losing.{loss_weighed, last_edits, unlink_edits}
+use Rattle.volume_base.specs.Nodes.{node_in}
+use Rattle.volume_base.specs.Standing.{HoldsTrees, IsSettled}
+use Rattle.volume_base.specs.Weighing.{edits_weighed, joined, refused_or, weighed}
+use Rattle.volume_base.specs.declared.nodes.Node.{Node}
+use Rattle.volume_base.specs.declared.nodes.Node.TheVariants as node
+use Rattle.volume_base.specs.declared.volume.Volume.{Volume}
+use Rattle.volume_base.specs.declared.weighing.Edits.{Edits as Spent}
+use Rattle.volume_base.specs.declared.weighing.Weight.{Weight}
+use Rattle.volume_base.specs.declared.weighing.Weight.TheVariants as answer
+use Rattle.volume_base.proofs.Listed.{entries_are, nodes_are}
+use Rattle.volume_base.proofs.Lost.{lost_line, private_line, refused_line}
+use Rattle.volume_base.proofs.NodeIs.{IsNode, node_same}
+use Rattle.volume_base.proofs.Refused.{reached_kind, rooted}
+use Rattle.volume_base.proofs.Rising.{settled_is_plain, settled_sorted}
+use Rattle.volume_base.proofs.Walked.{Agree}
+
+-- ---- on a tree
+
+abbrev value_or : PlainNode → Result PlainNode Refusal → PlainNode
+value_or other (Ok n) = n
+value_or other (Err why) = other
+
+abbrev entry_err : Result PlainNode Refusal → Result PlainEntry Refusal
+entry_err (Ok n) = Err refusal.NotFound
+entry_err (Err why) = Err why
+
+module _ (tree : PlainTree) (path : List (List ℕ)) (some : is_root path ≡ false) where
+  -- a file that is reached is what `rm` removes
+  rm_of : (e : PlainEntry) (folder : Bool) → reached tree path ≡ Ok e → e.folder ≡ folder → to_rm tree path ≡ (if folder then Err refusal.IsFolder else Ok e)
+  rm_of e folder is kind =
+      ap (λ (b : Bool). then_ (if b then Err refusal.Root else Ok path) (λ named. then_ (reached tree named) (λ at. unless at.folder refusal.IsFolder at))) some
+      ∙ ap (λ (r : Result PlainEntry Refusal). then_ r (λ at. unless at.folder refusal.IsFolder at)) is
+      ∙ ap (λ (b : Bool). unless b refusal.IsFolder e) kind
+
+  rm_unreached : (why : Refusal) → reached tree path ≡ Err why → to_rm tree path ≡ Err why
+  rm_unreached why is =
+      ap (λ (b : Bool). then_ (if b then Err refusal.Root else Ok path) (λ named. then_ (reached tree named) (λ at. unless at.folder refusal.IsFolder at))) some
+      ∙ ap (λ (r : Result PlainEntry Refusal). then_ r (λ at. unless at.folder refusal.IsFolder at)) is
+
+  module _ (plain : IsPlainTree tree) where
+    -- the folder or file of a path, and its name
+    pub record IsThere (n : PlainNode) : Type 0 where
+      pub entry : PlainEntry
+      pub found : node_at tree entry.id ≡ Some n
+      pub removal : to_rm tree path ≡ (if n.folder then Err refusal.IsFolder else Ok entry)
+
+    pub there : (n : PlainNode) → to_node tree path ≡ Ok n → IsThere n
+    there n is = by (reached tree path) refl is
+      where
+        by : (r : Result PlainEntry Refusal) → reached tree path ≡ r → then_ r (λ at. ok_or (node_at tree at.id) refusal.NotFound) ≡ Ok n → IsThere n
+        by (Err why) found same = absurd (cc same)
+        by (Ok e) found same =
+            let kind = reached_kind tree plain path e found in
+            let n_is : kind.0 ≡ n = ap (λ (r : Result PlainNode Refusal). value_or kind.0 r) (sym (ap (λ (o : Option PlainNode). ok_or o refusal.NotFound) kind.1) ∙ same) in
+            record { entry = e; found = kind.1 ∙ ap (λ (m : PlainNode). Some m) n_is; removal = rm_of e n.folder found (sym kind.2 ∙ ap (λ (m : PlainNode). m.folder) n_is) }
+
+    pub missing : (why : Refusal) → to_node tree path ≡ Err why → to_rm tree path ≡ Err why
+    missing why is = by (reached tree path) refl is
+      where
+        by : (r : Result PlainEntry Refusal) → reached tree path ≡ r → then_ r (λ at. ok_or (node_at tree at.id) refusal.NotFound) ≡ Err why → to_rm tree path ≡ Err why
+        by (Err other) found same = rm_unreached other found ∙ ap (λ (r : Result PlainNode Refusal). entry_err r) same
+        by (Ok e) found same =
+            let kind = reached_kind tree plain path e found in
+            absurd (let none : Ok kind.0 ≡ Err why = sym (ap (λ (o : Option PlainNode). ok_or o refusal.NotFound) kind.1) ∙ same in cc none)
+
+-- ---- over a settled volume
+
+-- the edits, in the weight's words
+abbrev asked_to_lose : Option ℕ → Asked
+asked_to_lose None = edits 1 5 0 4
+asked_to_lose (Some private) = edits 0 3 0 4
+
+asked_is : (private : Option ℕ) → edits (if is_some private then 0 else 1) (3 + 2 * (if is_some private then 0 else 1)) 0 4 ≡ asked_to_lose private
+asked_is None = refl
+asked_is (Some private) = refl
+
+pub has_private_is : (content : Content) → (tree_of content).has_private ≡ is_some (private_id (records_of (volume_of content)))
+unfolding tree_of tree_in
+has_private_is content = refl
+
+module _ (capacity : ℕ) (takable : List Bool) (volume : VolumeState) (tree : PlainTree) (path : List (List ℕ)) (not_own : is_private_path path ≡ false) where
+  abbrev words : Weight
+  words = weighed capacity takable volume tree (command.Rm path)
+
+  pub lose_refused : (why : Refusal) → to_rm tree path ≡ Err why → answer.Refused why ≡ words
+  lose_refused why is = ap (λ said. refused_or said (joined (weight capacity volume tree (command.Rm path)) (weight_with capacity takable volume tree (command.Rm path)))) (refused_line tree path why not_own is).0
+
+  weights : weight capacity volume tree (command.Rm path) ≡ cost_of (needs_for (free_blocks volume) volume (edits_of tree (command.Rm path)) None) (room_with capacity (free_blocks volume) volume)
+  unfolding weight_with
+  weights = refl
+
+  takable_weights : weight_with capacity takable volume tree (command.Rm path) ≡ cost_of (needs_for takable volume (edits_of tree (command.Rm path)) None) (room_with capacity takable volume)
+  unfolding weight_with
+  takable_weights = refl
+
+  pub lose_allowed : (private : Option ℕ) (e : PlainEntry) → to_rm tree path ≡ Ok e → edits_of tree (command.Rm path) ≡ asked_to_lose private → edits_weighed capacity takable volume (lose_edits private) ≡ words
+  lose_allowed None e is asked =
+      sym ((λ i. joined (weights i) (takable_weights i))
+      ∙ ap (λ (k : Asked). joined (cost_of (needs_for (free_blocks volume) volume k None) (room_with capacity (free_blocks volume) volume)) (cost_of (needs_for takable volume k None) (room_with capacity takable volume))) asked)
+      ∙ ap (λ said. refused_or said (joined (weight capacity volume tree (command.Rm path)) (weight_with capacity takable volume tree (command.Rm path)))) (lost_line tree path e not_own is).0
+  lose_allowed (Some private) e is asked =
+      sym ((λ i. joined (weights i) (takable_weights i))
+      ∙ ap (λ (k : Asked). joined (cost_of (needs_for (free_blocks volume) volume k None) (room_with capacity (free_blocks volume) volume)) (cost_of (needs_for takable volume k None) (room_with capacity takable volume))) asked)
+      ∙ ap (λ said. refused_or said (joined (weight capacity volume tree (command.Rm path)) (weight_with capacity takable volume tree (command.Rm path)))) (lost_line tree path e not_own is).0
+
+  pub unlink_allowed : (e : PlainEntry) → to_rm tree path ≡ Ok e → edits_of tree (command.Rm path) ≡ edits 0 2 0 4 → edits_weighed capacity takable volume unlink_edits ≡ words
+  unlink_allowed e is asked =
+      sym ((λ i. joined (weights i) (takable_weights i))
+      ∙ ap (λ (k : Asked). joined (cost_of (needs_for (free_blocks volume) volume k None) (room_with capacity (free_blocks volume) volume)) (cost_of (needs_for takable volume k None) (room_with capacity takable volume))) asked)
+      ∙ ap (λ said. refused_or said (joined (weight capacity volume tree (command.Rm path)) (weight_with capacity takable volume tree (command.Rm path)))) (lost_line tree path e not_own is).0
+
+  pub last_allowed : (e : PlainEntry) → to_rm tree path ≡ Ok e → edits_of tree (command.Rm path) ≡ edits 0 5 0 4 → edits_weighed capacity takable volume last_edits ≡ words
+  last_allowed e is asked =
+      sym ((λ i. joined (weights i) (takable_weights i))
+      ∙ ap (λ (k : Asked). joined (cost_of (needs_for (free_blocks volume) volume k None) (room_with capacity (free_blocks volume) volume)) (cost_of (needs_for takable volume k None) (room_with capacity takable volume))) asked)
+      ∙ ap (λ said. refused_or said (joined (weight capacity volume tree (command.Rm path)) (weight_with capacity takable volume tree (command.Rm path)))) (lost_line tree path e not_own is).0
+
+module _ (capacity : ℕ) (takable : List Bool) (volume : VolumeState) (tree : PlainTree) (path : List (List ℕ)) where
+  pub private_weighed : is_private_path path ≡ true → answer.Refused refusal.Private ≡ weighed capacity takable volume tree (command.Rm path)
+  private_weighed own = ap (λ said. refused_or said (joined (weight capacity volume tree (command.Rm path)) (weight_with capacity takable volume tree (command.Rm path)))) (private_line tree path own).0
+
+  pub root_weighed : (length path == 0) ≡ true → answer.Refused refusal.Root ≡ weighed capacity takable volume tree (command.Rm path)
+  root_weighed is = sym (ap (λ (p : List (List ℕ)). weighed capacity takable volume tree (command.Rm p)) (rooted path is))
+
+module _ (law : SoundHasPlainTree) (v : Volume) (content : Content) (holds : HoldsTrees v content) (settled : IsSettled v content) (path : List (List ℕ)) (not_own : is_private_path path ≡ false) (fits : FitsPath path) (some : is_root path ≡ false)
+    (said : Result Node Refusal) (found : said ≡ node_in (lists_of v content).catalog_pairs v.private path) (takable : List Bool)
+  where
+    plain : IsPlainTree (tree_of content)
+    plain = settled_is_plain law v content holds settled
+
+    abbrev IsIt : Node → PlainNode → Type 0
+    IsIt = IsNode (volume_of content) settled.sound (settled_sorted v content holds settled) (tree_of content) (entries_are content) (settled_is_plain law v content holds settled) (attributes_of (volume_of content)) (file_bytes content) (nodes_are content)
+
+    agrees : Agree IsIt said (to_node (tree_of content) path)
+    agrees =
+        subst (λ (r : Result Node Refusal). Agree IsIt r (to_node (tree_of content) path)) (sym (found ∙ (λ i. node_in (sym (ap (λ (l : VolumeState). l.catalog_pairs) settled.lists) i) (settled.private i) path)))
+        (node_same (volume_of content) settled.sound (settled_sorted v content holds settled) (tree_of content) (entries_are content) (settled_is_plain law v content holds settled) (attributes_of (volume_of content)) (file_bytes content) (nodes_are content) path not_own fits)
+
+    abbrev words_here : Weight
+    words_here = weighed v.capacity takable (volume_of content) (tree_of content) (command.Rm path)
+
+    abbrev loss_here : Weight
+    loss_here = edits_weighed v.capacity takable (volume_of content) (lose_edits v.private)
+
+    abbrev unlink_here : Spent → Weight
+    unlink_here = edits_weighed v.capacity takable (volume_of content)
+
+    -- why nothing is removed
+    pub rm_missing : (why : Refusal) → said ≡ Err why → to_rm (tree_of content) path ≡ Err why
+    rm_missing why is = by (to_node (tree_of content) path) refl (subst (λ (r : Result Node Refusal). Agree IsIt r (to_node (tree_of content) path)) is agrees)
+      where
+        by : (s : Result PlainNode Refusal) → to_node (tree_of content) path ≡ s → Agree IsIt (Err why) s → to_rm (tree_of content) path ≡ Err why
+        by (Err other) same agree = missing (tree_of content) path some plain why (same ∙ ap (λ (w : Refusal). Err w) (sym agree))
+        by (Ok n) same never = absurd never
+
+    private_here : is_some v.private ≡ (tree_of content).has_private
+    private_here = ap (λ (o : Option ℕ). is_some o) settled.private ∙ sym (has_private_is content)
+
+    module _ (n : PlainNode) (at : IsThere (tree_of content) path some plain n) where
+      edits_here : (kind : n.folder ≡ false) → edits_of (tree_of content) (command.Rm path) ≡ rm_edits (tree_of content) (Some n)
+      edits_here kind = ap (rm_edits_at (tree_of content)) (at.removal ∙ ap (λ (b : Bool). if b then Err refusal.IsFolder else Ok at.entry) kind) ∙ ap (rm_edits (tree_of content)) at.found
+
+      of_file : n.folder ≡ false → n.linked ≡ false → names_of (tree_of content) n.id ≡ 1 → loss_here ≡ words_here
+      of_file kind plain_file one =
+          lose_allowed v.capacity takable (volume_of content) (tree_of content) path not_own v.private at.entry (at.removal ∙ ap (λ (b : Bool). if b then Err refusal.IsFolder else Ok at.entry) kind)
+          (edits_here kind ∙ (λ i. if nat_lt 1 (one i) then edits 0 2 0 4 else if plain_file i then edits 0 5 0 4 else edits (if sym private_here i then 0 else 1) (3 + 2 * (if sym private_here i then 0 else 1)) 0 4) ∙ asked_is v.private)
+
+      of_link : n.folder ≡ false → n.linked ≡ true → (links : ℕ) → names_of (tree_of content) n.id ≡ links → (b : Bool) → nat_lt 1 links ≡ b → unlink_here (if b then unlink_edits else last_edits) ≡ words_here
+      of_link kind linked links many false is =
+          last_allowed v.capacity takable (volume_of content) (tree_of content) path not_own at.entry (at.removal ∙ ap (λ (b : Bool). if b then Err refusal.IsFolder else Ok at.entry) kind)
+          (edits_here kind ∙ (λ i. if (ap (nat_lt 1) many ∙ is) i then edits 0 2 0 4 else if linked i then edits 0 5 0 4 else edits (folders_made (tree_of content)) (3 + 2 * folders_made (tree_of content)) 0 4))
+      of_link kind linked links many true is =
+          unlink_allowed v.capacity takable (volume_of content) (tree_of content) path not_own at.entry (at.removal ∙ ap (λ (b : Bool). if b then Err refusal.IsFolder else Ok at.entry) kind)
+          (edits_here kind ∙ ap (λ (b : Bool). if b then edits 0 2 0 4 else if n.linked then edits 0 5 0 4 else edits (folders_made (tree_of content)) (3 + 2 * folders_made (tree_of content)) 0 4) (ap (nat_lt 1) many ∙ is))
+
+    by_node : (f : Node) (n : PlainNode) → to_node (tree_of content) path ≡ Ok n → IsIt f n → loss_weighed f loss_here unlink_here ≡ words_here
+    by_node (node.Folder folder) n is it =
+        let at = there (tree_of content) path some plain n is in
+        let removal : to_rm (tree_of content) path ≡ Err refusal.IsFolder = at.removal ∙ ap (λ (m : PlainNode). if m.folder then Err refusal.IsFolder else Ok at.entry) it.is in
+        lose_refused v.capacity takable (volume_of content) (tree_of content) path not_own refusal.IsFolder removal
+    by_node (node.File own true) n is it =
+        let at = there (tree_of content) path some plain n is in
+        let kind : n.folder ≡ false = ap (λ (m : PlainNode). m.folder) it.is in
+        of_link n at kind (ap (λ (m : PlainNode). m.linked) it.is) own.fields.special (ap (λ (m : PlainNode). names_of (tree_of content) m.id) it.is ∙ it.counts) (nat_lt 1 own.fields.special) refl
+    by_node (node.File own false) n is it =
+        of_file n (there (tree_of content) path some plain n is) (ap (λ (m : PlainNode). m.folder) it.is) (ap (λ (m : PlainNode). m.linked) it.is) (ap (λ (m : PlainNode). names_of (tree_of content) m.id) it.is ∙ it.counts)
+
+    pub loss_told : (f : Node) → said ≡ Ok f → (weighs : Weight) → weighs ≡ loss_weighed f loss_here unlink_here → weighs ≡ words_here
+    loss_told f is weighs same =
+        same ∙ by (to_node (tree_of content) path) refl (subst (λ (r : Result Node Refusal). Agree IsIt r (to_node (tree_of content) path)) is agrees)
+      where
+        by : (s : Result PlainNode Refusal) → to_node (tree_of content) path ≡ s → Agree IsIt (Ok f) s → loss_weighed f loss_here unlink_here ≡ words_here
+        by (Ok n) at it = by_node f n at it
+        by (Err why) at never = absurd never

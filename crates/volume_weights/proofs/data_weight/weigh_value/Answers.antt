@@ -1,0 +1,65 @@
+use Rattle.std.proofs.Common.{◌≡◌, ◌≤◌, ℕ, true, false, List, length, refl, sym, ◌∙◌, ap, subst, arith}
+use Rattle.std.proofs.lemmas.Bool.{eqb-true}
+use Rattle.std.specs.Prelude.{◌==◌, is_some, IfSome, Option, Result, Some, Ok, Err}
+use Rattle.hfs_language.specs.declared.command.Command.TheVariants as command
+use Rattle.hfs_language.specs.declared.refusal.Refusal.{Refusal}
+use Rattle.hfs_model.specs.Step.{refuses}
+use Rattle.hfs_volume.specs.Content.{volume_of}
+use Rattle.hfs_volume.specs.TreeOf.{tree_of}
+use Rattle.hfs_volume.specs.Weight.{needs_cut}
+use Rattle.volume_base.specs.DataWeighing.{IsMoreData, data_as, data_weighed}
+use Rattle.volume_weights.specs.DataWeighing.{WaitsForMore}
+use Rattle.volume_base.specs.Room.{free_in}
+use Rattle.volume_base.specs.Weighing.{weighed}
+use Rattle.volume_base.specs.declared.room.FreeBlocks.TheVariants as blocks
+use Rattle.volume_base.specs.declared.weighing.Weight.{Weight}
+use Rattle.volume_base.proofs.DataCommands.{about_file, write_line, said_both, some_both, write_more, write_low, write_put, write_weighed}
+use Rattle.volume_base.proofs.DataWeights.{value_weighed}
+use Rattle.volume_base.proofs.Refused.{not_refused, told_refused, write_refusal}
+use Rattle.volume_base.proofs.Rising.{settled_is_plain}
+use Rattle.volume_base.proofs.Seeing.{if_so}
+use Rattle.volume_base.proofs.ToldFile.{told_node, write_told}
+use Rattle.volume_weights.proofs.data_weight.weigh_value.Goals as goal
+
+pub returns-in-Some-clause-answer : goal.returns-in-Some-clause-answer
+returns-in-Some-clause-answer g c tells =
+    told_refused c.args.volume.now.capacity (free_in blocks.Takable c.args.volume.now.map) (volume_of (g.P.SectorView.space c.args.space.now).content) (tree_of (g.P.SectorView.space c.args.space.now).content) (command.Write c.args._path.now c.args.from c.args.value.now) c.in-Some.why
+    (sym c.in-Some.is ∙ c.against_write.ensures ∙ write_refusal (tree_of (g.P.SectorView.space c.args.space.now).content) (settled_is_plain c.sound_has_plain_tree.ensures c.args.volume.now (g.P.SectorView.space c.args.space.now).content (c.requires.stands.stands tells).trees (c.requires.settled tells)) c.args._path.now c.args.from c.args.value.now (Ok c.args.told.now) (c.requires.told tells))
+
+pub returns-clause-answer : goal.returns-clause-answer
+returns-clause-answer g c tells =
+    c.weigh_update.ensures.exact tells
+    ∙ value_weighed c.args.volume.now.capacity (free_in blocks.Takable c.args.volume.now.map) (volume_of (g.P.SectorView.space c.args.space.now).content) (tree_of (g.P.SectorView.space c.args.space.now).content) c.args._path.now c.args.told.now (c.requires.told tells) c.args.from c.args.value.now (sym c.in_default.is ∙ c.against_write.ensures) (eqb-true (length c.args.value.now) 0 (sym c.is_empty.ensures ∙ c.if-not-is_empty.false))
+
+pub weigh_put-requires-clause-end : goal.weigh_put-requires-clause-end
+weigh_put-requires-clause-end g c = omega (arith, c.end_of.ensures, write_low c.args.from (length c.args.value.now) c.args.told.now (sym c.in_default.is ∙ c.against_write.ensures))
+
+pub weigh_put-requires-clause-there : goal.weigh_put-requires-clause-there
+weigh_put-requires-clause-there g c tells =
+    let it = (told_node (tree_of (g.P.SectorView.space c.args.space.now).content) c.args._path.now c.args.told.now (c.requires.told tells)) in
+    let about = (write_told (tree_of (g.P.SectorView.space c.args.space.now).content) c.args._path.now c.args.told.now (told_node (tree_of (g.P.SectorView.space c.args.space.now).content) c.args._path.now c.args.told.now (c.requires.told tells)) c.args.from c.args.value.now (sym c.in_default.is ∙ c.against_write.ensures)) in
+    let there = about_file (tree_of (g.P.SectorView.space c.args.space.now).content) c.args._path.now it.node about.0.file in
+    (it.node, there.0, there.1, about.0.id, about.0.size)
+
+pub returns-then-not-is_empty-clause-answer : goal.returns-then-not-is_empty-clause-answer
+returns-then-not-is_empty-clause-answer g c tells =
+    let it = (told_node (tree_of (g.P.SectorView.space c.args.space.now).content) c.args._path.now c.args.told.now (c.requires.told tells)) in
+    let about = (write_told (tree_of (g.P.SectorView.space c.args.space.now).content) c.args._path.now c.args.told.now (told_node (tree_of (g.P.SectorView.space c.args.space.now).content) c.args._path.now c.args.told.now (c.requires.told tells)) c.args.from c.args.value.now (sym c.in_default.is ∙ c.against_write.ensures)) in
+    said_both c.weigh_put.result (λ (said : Option Weight). IfSome said (λ weighs. weighs ≡ data_weighed c.args.volume.now.capacity (free_in blocks.Takable c.args.volume.now.map) (volume_of (g.P.SectorView.space c.args.space.now).content) (data_as (record { id = c.args.told.now.id; old_size = c.args.told.now.size; from = c.args.from; end = c.end_of.result }))))
+    (λ (said : Option Weight). is_some said ≡ true → needs_cut (volume_of (g.P.SectorView.space c.args.space.now).content) (Some (data_as (record { id = c.args.told.now.id; old_size = c.args.told.now.size; from = c.args.from; end = c.end_of.result }))) ≡ false)
+    (λ (said : Option Weight). IfSome said (λ weighs. weighs ≡ weighed c.args.volume.now.capacity (free_in blocks.Takable c.args.volume.now.map) (volume_of (g.P.SectorView.space c.args.space.now).content) (tree_of (g.P.SectorView.space c.args.space.now).content) (command.Write c.args._path.now c.args.from c.args.value.now)))
+    (c.weigh_put.ensures.answer tells) (c.weigh_put.ensures.no_cut tells)
+    (λ said is no_cut. some_both said _ _ is no_cut (λ weighs same whole. same ∙ write_weighed c.args.volume.now.capacity (free_in blocks.Takable c.args.volume.now.map) (volume_of (g.P.SectorView.space c.args.space.now).content) (tree_of (g.P.SectorView.space c.args.space.now).content) c.args._path.now (data_as (record { id = c.args.told.now.id; old_size = c.args.told.now.size; from = c.args.from; end = c.end_of.result })) whole c.args.from c.args.value.now
+    (write_put (tree_of (g.P.SectorView.space c.args.space.now).content) c.args._path.now c.args.told.now it.node about.0 (record { id = c.args.told.now.id; old_size = c.args.told.now.size; from = c.args.from; end = c.end_of.result }) refl refl c.args.from c.args.value.now (sym c.is_empty.ensures ∙ c.if-not-is_empty.true) refl c.end_of.ensures) _ (write_line (tree_of (g.P.SectorView.space c.args.space.now).content) c.args._path.now c.args.told.now it.node about.0 c.args.from c.args.value.now about.1)))
+
+pub returns-then-not-is_empty-clause-waits : goal.returns-then-not-is_empty-clause-waits
+returns-then-not-is_empty-clause-waits g c tells =
+    let it = (told_node (tree_of (g.P.SectorView.space c.args.space.now).content) c.args._path.now c.args.told.now (c.requires.told tells)) in
+    let about = (write_told (tree_of (g.P.SectorView.space c.args.space.now).content) c.args._path.now c.args.told.now (told_node (tree_of (g.P.SectorView.space c.args.space.now).content) c.args._path.now c.args.told.now (c.requires.told tells)) c.args.from c.args.value.now (sym c.in_default.is ∙ c.against_write.ensures)) in
+    if_so (λ (said : Option Weight). is_some said ≡ false → IsMoreData (volume_of (g.P.SectorView.space c.args.space.now).content) (data_as (record { id = c.args.told.now.id; old_size = c.args.told.now.size; from = c.args.from; end = c.end_of.result })))
+    (λ (said : Option Weight). is_some said ≡ false → WaitsForMore (g.P.SectorView.space c.args.space.now).content (command.Write c.args._path.now c.args.from c.args.value.now)) c.weigh_put.result
+    (λ said is none. (
+      not_refused (tree_of (g.P.SectorView.space c.args.space.now).content) (command.Write c.args._path.now c.args.from c.args.value.now) (sym c.in_default.is ∙ c.against_write.ensures ∙ write_refusal (tree_of (g.P.SectorView.space c.args.space.now).content) (settled_is_plain c.sound_has_plain_tree.ensures c.args.volume.now (g.P.SectorView.space c.args.space.now).content (c.requires.stands.stands tells).trees (c.requires.settled tells)) c.args._path.now c.args.from c.args.value.now (Ok c.args.told.now) (c.requires.told tells)),
+      write_more (volume_of (g.P.SectorView.space c.args.space.now).content) (tree_of (g.P.SectorView.space c.args.space.now).content) c.args._path.now c.args.from c.args.value.now (data_as (record { id = c.args.told.now.id; old_size = c.args.told.now.size; from = c.args.from; end = c.end_of.result })) (write_put (tree_of (g.P.SectorView.space c.args.space.now).content) c.args._path.now c.args.told.now it.node about.0 (record { id = c.args.told.now.id; old_size = c.args.told.now.size; from = c.args.from; end = c.end_of.result }) refl refl c.args.from c.args.value.now (sym c.is_empty.ensures ∙ c.if-not-is_empty.true) refl c.end_of.ensures) (is none),
+    ))
+    (c.weigh_put.ensures.waits tells)

@@ -1,0 +1,16 @@
+use Rattle.std.proofs.Common.{◌≡◌, refl, sym, ◌∙◌, ap}
+use Rattle.hfs_volume.specs.Content.{volume_of}
+use Rattle.hfs_volume.specs.Cost.{cost_of}
+use Rattle.hfs_volume.specs.Weight.{room_with}
+use Rattle.volume_base.specs.Weighing.{joined, needs_asked}
+use Rattle.volume_base.proofs.RoomKept.{free_content}
+use Rattle.volume_weights.proofs.weighing.weigh_edits.Goals as goal
+
+pub returns : goal.returns
+returns g c = record {
+  exact = λ tells.
+      let settled = c.requires.settled tells in
+      c.joined.ensures ∙ (λ i. joined
+      ((c.cost_of_edits-all.ensures.exact tells ∙ (λ k. cost_of (needs_asked c.args.edits) (room_with c.args.volume.now.capacity (free_content c.args.volume.now (g.P.SectorView.space c.args.space.now).content (c.requires.settled tells) k) (volume_of (g.P.SectorView.space c.args.space.now).content)))) i)
+      (c.cost_of_edits-takable.ensures.exact tells i));
+}

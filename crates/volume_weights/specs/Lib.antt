@@ -1,0 +1,3 @@
+pub mod DataWeighing
+pub mod Linking
+pub mod Losing

@@ -1,0 +1,268 @@
+//! What data costs that a command puts into a file.
+ghost use Rattle.std.specs.Prelude.{◌≡◌, ◌<◌, ◌≤◌, ◌^◌, true, false, is_some, length, min, Some, IsTrue, IfOk, IfSome};
+ghost use Rattle.std.specs.List.{Contains};
+ghost use Rattle.btree_edit.specs.Causes.{HasTroubleCause};
+ghost use Rattle.flag_rows.specs.Runs.{fewest_of};
+ghost use Rattle.hfs_model.specs.declared.plain.PlainNode.{PlainNode};
+ghost use Rattle.hfs_volume.specs.Content.{volume_of, records_of, overflow_in_volume};
+ghost use Rattle.hfs_volume.specs.Cost.{cost_of};
+ghost use Rattle.hfs_volume.specs.Forks.{data_kind, extents_of};
+ghost use Rattle.hfs_volume.specs.TreeOf.{tree_of};
+ghost use Rattle.hfs_volume.specs.Weight.{file_blocks, file_extents, free_runs, needs_cut, new_blocks_of, old_blocks_of, room_with};
+ghost use Rattle.volume_cost.specs.Sizes.{AreSmall};
+ghost use Rattle.volume_weights.specs.DataWeighing.{IsFileOfPut, are_usual, file_of_record, has_more, needs_put};
+ghost use Rattle.volume_base.specs.DataWeighing.{IsMoreData, data_as, data_weighed};
+ghost use Rattle.volume_base.specs.Looking.{ReadsVolume};
+ghost use Rattle.volume_base.specs.Reading.{HasFile};
+ghost use Rattle.volume_base.specs.Room.{capacity_of, free_in};
+ghost use Rattle.volume_base.specs.declared.room.FreeBlocks.TheVariants as blocks;
+ghost use Rattle.volume_base.specs.Standing.{IsSettled, StandsOver};
+
+use crate::weighing::joined;
+use cat_records::{CatRecord, FileRecord};
+use fork_map::ExtentList;
+use hfs_language::Refusal;
+use hfs_volume::{Cost, Needs};
+use hx_bytes::Trouble;
+use sector_disk::SectorSpace;
+use std::alloc::Global;
+use tree_weights::trees_grow_by_enough;
+use volume_base::{
+    DATA, FreeBlocks, Put, Volume, Weight, count_extents, is_measured, load_extents,
+};
+use volume_cost::{cost, count_blocks, count_extents_edits};
+
+/// Whether blocks have a usual size, and the file and its data have sizes that files have.
+fn are_usual(block: u32, put: Put) -> bool
+    ensures { result ≡ are_usual block put }
+{
+    512 <= block && (put.old_size <= 281_474_976_710_656 && put.end <= 1_099_511_627_776)
+}
+
+/// How many new blocks data takes, and in place of how many old ones.
+fn blocks_of_put(block: u32, put: Put) -> (u64, u64)
+    requires usual { are_usual block put ≡ true }
+    ensures new { result.0 ≡ new_blocks_of block (data_as put) }
+    ensures old { result.1 ≡ old_blocks_of block (data_as put) }
+    ensures few_new { result.0 < 2 ^ 32 }
+    ensures few_old { result.1 < 2 ^ 32 }
+{
+    count_blocks(
+        block,
+        put.old_size,
+        put.old_size.max(put.end),
+        put.from,
+        put.end,
+    )
+}
+
+/// Whether the file grows and has more blocks than its size takes.
+fn has_more(block: u32, blocks: u32, put: Put) -> bool
+    requires usual { are_usual block put ≡ true }
+    ensures { result ≡ has_more block blocks put }
+{
+    let taken = (put.old_size + block as u64 - 1) / block as u64;
+    put.old_size < put.old_size.max(put.end) && taken < blocks as u64
+}
+
+/// The file whose record this is.
+fn file_of_record(rec: &CatRecord) -> Option<FileRecord>
+    ensures { result ≡ file_of_record rec.now }
+{
+    match rec {
+        CatRecord::Folder(_) => None,
+        CatRecord::File(file) => Some(*file),
+        CatRecord::Thread(_) => None,
+    }
+}
+
+/// How few of the runs of free blocks have so many blocks together.
+fn fewest(volume: &Volume, free: FreeBlocks, count: u32) -> u32
+    ensures { result ≡ fewest_of count (free_runs (free_in free volume.now.map)) }
+{
+    match free {
+        FreeBlocks::All => volume.map.fewest_all(count),
+        FreeBlocks::Takable => volume.map.fewest(count),
+    }
+}
+
+/// What data needs that is put into a file whose fork has so many extents.
+fn needs_put(volume: &Volume, free: FreeBlocks, extents: u32, put: Put) -> Needs
+    requires usual { are_usual volume.now.header.block_size put ≡ true }
+    ensures same { result ≡ needs_put (free_in free volume.now.map) volume.now.header.block_size extents (data_as put) }
+    ensures small { AreSmall result }
+{
+    let (new_blocks, old_blocks) = blocks_of_put(volume.header.block_size, put);
+    let runs = fewest(volume, free, new_blocks as u32) as u64;
+    Needs {
+        ids: 0,
+        edits: [count_extents_edits(extents, runs, new_blocks), 0, 0],
+        updates: 1,
+        new_blocks,
+        old_blocks,
+        runs,
+    }
+}
+
+/// What data costs that is put into a file whose fork has so many extents, where these blocks count as free.
+fn cost_of_put<P: SectorSpace>(
+    volume: &Volume,
+    _space: &P,
+    free: FreeBlocks,
+    extents: u32,
+    put: Put,
+) -> Cost
+    requires stands { StandsOver volume.now (P.SectorView.space _space.now) }
+    requires settled { IsTrue (P.SectorView.space _space.now).tells → IsSettled volume.now (P.SectorView.space _space.now).content }
+    requires usual { are_usual volume.now.header.block_size put ≡ true }
+    ensures exact { IsTrue (P.SectorView.space _space.now).tells → result ≡ cost_of (needs_put (free_in free volume.now.map) volume.now.header.block_size extents (data_as put)) (room_with (capacity_of volume.now) (free_in free volume.now.map) (volume_of (P.SectorView.space _space.now).content)) }
+{
+    trees_grow_by_enough();
+    let room = volume.room(free);
+    // A space that tells its sectors has a volume with usual numbers.
+    if !is_measured(&room) {
+        return Cost::Refused(Refusal::NoSpace(0, 0));
+    }
+    cost(&needs_put(volume, free, extents, put), &room)
+}
+
+/// What data weighs that is put into a file whose fork has so many extents and blocks; nothing is told where it grows and has blocks past
+/// its size, or where its cost counts overflow records.
+fn weigh_fork<P: SectorSpace>(
+    volume: &Volume,
+    space: &P,
+    extents: u32,
+    held: u32,
+    put: Put,
+) -> Option<Weight>
+    requires stands { StandsOver volume.now (P.SectorView.space space.now) }
+    requires settled { IsTrue (P.SectorView.space space.now).tells → IsSettled volume.now (P.SectorView.space space.now).content }
+    requires old { IsTrue (P.SectorView.space space.now).tells → put.old_size ≤ 2 ^ 48 }
+    requires end { put.end ≤ 2 ^ 40 }
+    requires extents { IsTrue (P.SectorView.space space.now).tells → extents ≡ min (length (file_extents (volume_of (P.SectorView.space space.now).content) put.id data_kind)) 4294967295 }
+    requires held { IsTrue (P.SectorView.space space.now).tells → held ≡ length (file_blocks (volume_of (P.SectorView.space space.now).content) put.id data_kind) }
+    ensures answer { IsTrue (P.SectorView.space space.now).tells → IfSome result (λ weighs. weighs ≡ data_weighed (capacity_of volume.now) (free_in blocks.Takable volume.now.map) (volume_of (P.SectorView.space space.now).content) (data_as put)) }
+    ensures no_cut { IsTrue (P.SectorView.space space.now).tells → is_some result ≡ true → needs_cut (volume_of (P.SectorView.space space.now).content) (Some (data_as put)) ≡ false }
+    ensures waits { IsTrue (P.SectorView.space space.now).tells → is_some result ≡ false → IsMoreData (volume_of (P.SectorView.space space.now).content) (data_as put) }
+{
+    // A space that tells its sectors has a volume with usual numbers.
+    if !are_usual(volume.header.block_size, put) {
+        return Some(Weight::Refused(Refusal::NoSpace(0, 0)));
+    }
+    if has_more(volume.header.block_size, held, put) {
+        return None;
+    }
+    let needs = needs_put(volume, FreeBlocks::All, extents, put);
+    if needs.edits[0] != 0 {
+        return None;
+    }
+    let all = cost_of_put(volume, space, FreeBlocks::All, extents, put);
+    let takable = cost_of_put(volume, space, FreeBlocks::Takable, extents, put);
+    Some(joined(all, takable))
+}
+
+/// The extents of a file's data fork.
+fn load_data_fork<P: SectorSpace>(
+    volume: &mut Volume,
+    alloc: Global,
+    space: &mut P,
+    file: &FileRecord,
+) -> Result<ExtentList, Trouble>
+    requires stands { StandsOver volume.old (P.SectorView.space space.old) }
+    requires settled { IsTrue (P.SectorView.space space.old).tells → IsSettled volume.old (P.SectorView.space space.old).content }
+    requires there { IsTrue (P.SectorView.space space.old).tells → HasFile (records_of (volume_of (P.SectorView.space space.old).content)) file.now }
+    ensures list { IsTrue (P.SectorView.space space.old).tells → IfOk result (λ list. list ≡ extents_of (overflow_in_volume (volume_of (P.SectorView.space space.old).content)) file.now.fields.id data_kind file.now.data_fork) }
+    ensures reads { ReadsVolume volume.old volume.new (P.SectorView.space space.old) (P.SectorView.space space.new) }
+    ensures stands { StandsOver volume.new (P.SectorView.space space.new) }
+    ensures settled { IsTrue (P.SectorView.space space.old).tells → IsSettled volume.new (P.SectorView.space space.new).content }
+    ensures below { P.SectorView.follows space.old space.new }
+    ensures cause { HasTroubleCause (P.SectorView.space space.old).faults (P.SectorView.space space.new).faults result }
+{
+    load_extents(
+        alloc,
+        &mut volume.extents.file,
+        &mut volume.extents.desk,
+        space,
+        file.fields.id,
+        DATA,
+        &file.data_fork,
+    )
+}
+
+/// What data weighs that is put into the file of this record; nothing is told where it grows and has blocks past its size, or where its
+/// cost counts overflow records.
+fn weigh_file<P: SectorSpace>(
+    volume: &mut Volume,
+    alloc: Global,
+    space: &mut P,
+    file: &FileRecord,
+    put: Put,
+) -> Result<Option<Weight>, Trouble>
+    requires stands { StandsOver volume.old (P.SectorView.space space.old) }
+    requires settled { IsTrue (P.SectorView.space space.old).tells → IsSettled volume.old (P.SectorView.space space.old).content }
+    requires end { put.end ≤ 2 ^ 40 }
+    requires there { IsTrue (P.SectorView.space space.old).tells → IsFileOfPut (volume_of (P.SectorView.space space.old).content) file.now put }
+    ensures answer { IsTrue (P.SectorView.space space.old).tells → IfOk result (λ said. IfSome said (λ weighs. weighs ≡ data_weighed (capacity_of volume.old) (free_in blocks.Takable volume.old.map) (volume_of (P.SectorView.space space.old).content) (data_as put))) }
+    ensures no_cut { IsTrue (P.SectorView.space space.old).tells → IfOk result (λ said. is_some said ≡ true → needs_cut (volume_of (P.SectorView.space space.old).content) (Some (data_as put)) ≡ false) }
+    ensures waits { IsTrue (P.SectorView.space space.old).tells → IfOk result (λ said. is_some said ≡ false → IsMoreData (volume_of (P.SectorView.space space.old).content) (data_as put)) }
+    ensures reads { ReadsVolume volume.old volume.new (P.SectorView.space space.old) (P.SectorView.space space.new) }
+    ensures stands { StandsOver volume.new (P.SectorView.space space.new) }
+    ensures settled { IsTrue (P.SectorView.space space.old).tells → IsSettled volume.new (P.SectorView.space space.new).content }
+    ensures below { P.SectorView.follows space.old space.new }
+    ensures cause { HasTroubleCause (P.SectorView.space space.old).faults (P.SectorView.space space.new).faults result }
+{
+    let list = load_data_fork(volume, alloc, space, file)?;
+    let extents = count_extents(&list);
+    Ok(weigh_fork(volume, space, extents, file.data_fork.total_blocks, put))
+}
+
+/// The record of the file that data is put into.
+fn file_of_put<P: SectorSpace>(
+    volume: &mut Volume,
+    alloc: Global,
+    space: &mut P,
+    put: Put,
+) -> Result<Option<FileRecord>, Trouble>
+    requires stands { StandsOver volume.old (P.SectorView.space space.old) }
+    requires settled { IsTrue (P.SectorView.space space.old).tells → IsSettled volume.old (P.SectorView.space space.old).content }
+    requires there { IsTrue (P.SectorView.space space.old).tells → (node : PlainNode) × Contains (tree_of (P.SectorView.space space.old).content).nodes node × (node.folder ≡ false) × (node.id ≡ put.id) × (length node.bytes ≡ put.old_size) }
+    ensures found { IsTrue (P.SectorView.space space.old).tells → IfOk result (λ found. IfSome found (λ file. IsFileOfPut (volume_of (P.SectorView.space space.old).content) file put)) }
+    ensures some { IsTrue (P.SectorView.space space.old).tells → IfOk result (λ found. is_some found ≡ true) }
+    ensures reads { ReadsVolume volume.old volume.new (P.SectorView.space space.old) (P.SectorView.space space.new) }
+    ensures stands { StandsOver volume.new (P.SectorView.space space.new) }
+    ensures settled { IsTrue (P.SectorView.space space.old).tells → IsSettled volume.new (P.SectorView.space space.new).content }
+    ensures below { P.SectorView.follows space.old space.new }
+    ensures cause { HasTroubleCause (P.SectorView.space space.old).faults (P.SectorView.space space.new).faults result }
+{
+    match volume.entry(alloc, space, put.id)? {
+        Some(entry) => Ok(file_of_record(&entry.rec)),
+        None => Ok(None),
+    }
+}
+
+/// What data weighs that is put into the file with a CNID; nothing is told where it grows and has blocks past its size, or where its cost
+/// counts overflow records.
+pub(crate) fn weigh_put<P: SectorSpace>(
+    volume: &mut Volume,
+    alloc: Global,
+    space: &mut P,
+    put: Put,
+) -> Result<Option<Weight>, Trouble>
+    requires stands { StandsOver volume.old (P.SectorView.space space.old) }
+    requires settled { IsTrue (P.SectorView.space space.old).tells → IsSettled volume.old (P.SectorView.space space.old).content }
+    requires end { put.end ≤ 2 ^ 40 }
+    requires there { IsTrue (P.SectorView.space space.old).tells → (node : PlainNode) × Contains (tree_of (P.SectorView.space space.old).content).nodes node × (node.folder ≡ false) × (node.id ≡ put.id) × (length node.bytes ≡ put.old_size) }
+    ensures answer { IsTrue (P.SectorView.space space.old).tells → IfOk result (λ said. IfSome said (λ weighs. weighs ≡ data_weighed (capacity_of volume.old) (free_in blocks.Takable volume.old.map) (volume_of (P.SectorView.space space.old).content) (data_as put))) }
+    ensures no_cut { IsTrue (P.SectorView.space space.old).tells → IfOk result (λ said. is_some said ≡ true → needs_cut (volume_of (P.SectorView.space space.old).content) (Some (data_as put)) ≡ false) }
+    ensures waits { IsTrue (P.SectorView.space space.old).tells → IfOk result (λ said. is_some said ≡ false → IsMoreData (volume_of (P.SectorView.space space.old).content) (data_as put)) }
+    ensures reads { ReadsVolume volume.old volume.new (P.SectorView.space space.old) (P.SectorView.space space.new) }
+    ensures stands { StandsOver volume.new (P.SectorView.space space.new) }
+    ensures settled { IsTrue (P.SectorView.space space.old).tells → IsSettled volume.new (P.SectorView.space space.new).content }
+    ensures below { P.SectorView.follows space.old space.new }
+    ensures cause { HasTroubleCause (P.SectorView.space space.old).faults (P.SectorView.space space.new).faults result }
+{
+    match file_of_put(volume, alloc, space, put)? {
+        Some(file) => weigh_file(volume, alloc, space, &file, put),
+        None => Ok(None),
+    }
+}

@@ -1,0 +1,13 @@
+//! What commands weigh on a volume in service.
+#![tactic(auto)]
+
+mod data_cost;
+mod data_weight;
+mod link_weight;
+mod lose_weight;
+mod move_weight;
+mod remove_weight;
+mod weighing;
+mod weights;
+
+pub use weights::weigh;

@@ -1,0 +1,105 @@
+//! `weigh` of `mv`.
+ghost use Rattle.std.specs.Prelude.{◌≡◌, false, IsTrue, IfOk};
+ghost use Rattle.btree_edit.specs.Causes.{HasTroubleCause};
+ghost use Rattle.hfs_language.specs.Written.{FitsPath};
+ghost use Rattle.hfs_language.specs.declared.command.Command.TheVariants as command;
+ghost use Rattle.hfs_model.specs.Step.{is_private_path};
+ghost use Rattle.hfs_volume.specs.Content.{volume_of};
+ghost use Rattle.hfs_volume.specs.TreeOf.{tree_of};
+ghost use Rattle.volume_base.specs.Looking.{ReadsVolume};
+ghost use Rattle.volume_base.specs.Making.{path_to};
+ghost use Rattle.volume_base.specs.Room.{capacity_of, free_in};
+ghost use Rattle.volume_base.specs.declared.room.FreeBlocks.TheVariants as blocks;
+ghost use Rattle.volume_base.specs.Standing.{IsSettled, StandsOver};
+ghost use Rattle.volume_base.specs.Weighing.{weighed};
+
+use crate::weighing::weigh_edits;
+use hfs_language::{Path, Refusal};
+use hfs_volume::sound_has_plain_tree;
+use hx_bytes::{Trouble, Units};
+use sector_disk::SectorSpace;
+use std::alloc::Global;
+use volume_base::{Edits, Volume, Weight, is_below, is_private_path};
+
+/// What `mv` needs from a name under a path to a name under another one.
+fn weigh_mv_under<P: SectorSpace>(
+    volume: &mut Volume,
+    alloc: Global,
+    space: &mut P,
+    from: &Path,
+    to: &Path,
+    above: &[Units],
+    old: &Units,
+    under: &[Units],
+    name: &Units,
+) -> Result<Weight, Trouble>
+    requires stands { StandsOver volume.old (P.SectorView.space space.old) }
+    requires settled { IsTrue (P.SectorView.space space.old).tells → IsSettled volume.old (P.SectorView.space space.old).content }
+    requires from_fits { FitsPath from.now }
+    requires to_fits { FitsPath to.now }
+    requires split { from.now ≡ path_to above.now old.now }
+    requires goal_split { to.now ≡ path_to under.now name.now }
+    requires not_own { is_private_path from.now ≡ false }
+    requires goal_not_own { is_private_path to.now ≡ false }
+    ensures answer { IsTrue (P.SectorView.space space.old).tells
+        → IfOk result (λ weighs. weighs ≡ weighed (capacity_of volume.old) (free_in blocks.Takable volume.old.map) (volume_of (P.SectorView.space space.old).content) (tree_of (P.SectorView.space space.old).content) (command.Mv from.now to.now)) }
+    ensures reads { ReadsVolume volume.old volume.new (P.SectorView.space space.old) (P.SectorView.space space.new) }
+    ensures stands { StandsOver volume.new (P.SectorView.space space.new) }
+    ensures settled { IsTrue (P.SectorView.space space.old).tells → IsSettled volume.new (P.SectorView.space space.new).content }
+    ensures below { P.SectorView.follows space.old space.new }
+    ensures cause { HasTroubleCause (P.SectorView.space space.old).faults (P.SectorView.space space.new).faults result }
+{
+    sound_has_plain_tree();
+    match volume.route(alloc, space, from.as_slice(), above, under, name)? {
+        Ok(_way) => {
+            if is_below(to.as_slice(), from.as_slice()) {
+                return Ok(Weight::Refused(Refusal::Inside));
+            }
+            let edits = Edits {
+                ids: 0,
+                catalog: 3,
+                attributes: 0,
+                updates: 3,
+            };
+            Ok(weigh_edits(volume, space, edits))
+        }
+        Err(why) => Ok(Weight::Refused(why)),
+    }
+}
+
+/// What `mv` needs.
+pub(crate) fn weigh_mv<P: SectorSpace>(
+    volume: &mut Volume,
+    alloc: Global,
+    space: &mut P,
+    from: &Path,
+    to: &Path,
+) -> Result<Weight, Trouble>
+    requires stands { StandsOver volume.old (P.SectorView.space space.old) }
+    requires settled { IsTrue (P.SectorView.space space.old).tells → IsSettled volume.old (P.SectorView.space space.old).content }
+    requires from_fits { FitsPath from.now }
+    requires to_fits { FitsPath to.now }
+    ensures answer { IsTrue (P.SectorView.space space.old).tells
+        → IfOk result (λ weighs. weighs ≡ weighed (capacity_of volume.old) (free_in blocks.Takable volume.old.map) (volume_of (P.SectorView.space space.old).content) (tree_of (P.SectorView.space space.old).content) (command.Mv from.now to.now)) }
+    ensures reads { ReadsVolume volume.old volume.new (P.SectorView.space space.old) (P.SectorView.space space.new) }
+    ensures stands { StandsOver volume.new (P.SectorView.space space.new) }
+    ensures settled { IsTrue (P.SectorView.space space.old).tells → IsSettled volume.new (P.SectorView.space space.new).content }
+    ensures below { P.SectorView.follows space.old space.new }
+    ensures cause { HasTroubleCause (P.SectorView.space space.old).faults (P.SectorView.space space.new).faults result }
+{
+    if is_private_path(from) {
+        return Ok(Weight::Refused(Refusal::Private));
+    }
+    if is_private_path(to) {
+        return Ok(Weight::Refused(Refusal::Private));
+    }
+    match from.as_slice().split_last() {
+        Some((old, above)) => match to.as_slice().split_last() {
+            Some((name, under)) => {
+                weigh_mv_under(volume, alloc, space, from, to, above, old, under, name)
+            }
+            None => Ok(Weight::Refused(Refusal::Root)),
+        },
+        None => Ok(Weight::Refused(Refusal::Root)),
+    }
+}

@@ -1,0 +1,45 @@
+//! What the edits of a command cost a volume.
+ghost use Rattle.std.specs.Prelude.{◌≡◌, ◌<◌, IsTrue};
+ghost use Rattle.hfs_volume.specs.Content.{volume_of, has_attributes};
+ghost use Rattle.volume_base.specs.Room.{capacity_of, free_in};
+ghost use Rattle.volume_base.specs.declared.room.FreeBlocks.TheVariants as blocks;
+ghost use Rattle.volume_base.specs.Standing.{IsSettled, StandsOver};
+ghost use Rattle.volume_base.specs.Weighing.{edits_weighed, joined};
+
+use hfs_volume::Cost;
+use sector_disk::SectorSpace;
+use volume_base::{Edits, FreeBlocks, Volume, Weight};
+
+/// What all free blocks cost, and what those cost that may be taken, together.
+pub(crate) fn joined(all: Cost, takable: Cost) -> Weight
+    ensures { result ≡ joined all takable }
+{
+    match all {
+        Cost::Refused(why) => Weight::Refused(why),
+        Cost::Load { grow, .. } => match takable {
+            Cost::Refused(_) => Weight::CommitFirst,
+            Cost::Load {
+                sectors,
+                grow: more,
+            } => {
+                if grow[0] == more[0] {
+                    Weight::Load { sectors, grow }
+                } else {
+                    Weight::CommitFirst
+                }
+            }
+        },
+    }
+}
+
+/// What edits weigh: what all free blocks cost, and what those cost that may be taken.
+pub(crate) fn weigh_edits<P: SectorSpace>(volume: &Volume, space: &P, edits: Edits) -> Weight
+    requires stands { StandsOver volume.now (P.SectorView.space space.now) }
+    requires settled { IsTrue (P.SectorView.space space.now).tells → IsSettled volume.now (P.SectorView.space space.now).content }
+    requires tree { IsTrue (P.SectorView.space space.now).tells → 0 < edits.attributes → IsTrue (has_attributes volume.now.header) }
+    ensures exact { IsTrue (P.SectorView.space space.now).tells → result ≡ edits_weighed (capacity_of volume.now) (free_in blocks.Takable volume.now.map) (volume_of (P.SectorView.space space.now).content) edits }
+{
+    let all = volume.cost_of_edits(space, FreeBlocks::All, edits);
+    let takable = volume.cost_of_edits(space, FreeBlocks::Takable, edits);
+    joined(all, takable)
+}
