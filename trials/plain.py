@@ -10,6 +10,7 @@ A name is its UTF-16 code units as big-endian bytes, which stand in the order of
 import re
 import struct
 import unicodedata
+import urllib.parse
 
 LINE, READ, SIZE, GROWTH, LINKS, VALUE = 140000, 65536, 2**40, 1048576, 32767, 1700
 NAME, ATTRIBUTE_NAME = 255, 127
@@ -75,12 +76,17 @@ def print_path(path):
     return b"".join(b"/" + print_name(it) for it in path) or b"/"
 
 
+# How each byte of a value is spelled.
+SPELLED = [bytes([it]) if 0x21 <= it <= 0x7E and it != 0x25 else b"%%%02X" % it for it in range(256)]
+
+
 def print_value(value):
-    return b"=" + b"".join(bytes([it]) if 0x21 <= it <= 0x7E and it != 0x25 else b"%%%02X" % it for it in value)
+    return b"=" + b"".join(map(SPELLED.__getitem__, value))
 
 
 def read_value(word):
-    return re.sub(rb"%([0-9A-F]{2})", lambda it: bytes([int(it[1], 16)]), word[1:], flags=re.DOTALL)
+    """The bytes of a value that is spelled right."""
+    return urllib.parse.unquote_to_bytes(word[1:])
 
 
 # ---- lines

@@ -150,6 +150,11 @@ class Volume:
             self.behind(number, kind, extents)
         return number
 
+    def ahead(self, number, size):
+        """Lets a file end before its blocks do."""
+        extents, _ = self.entries[number]["forks"][0]
+        self.entries[number]["forks"][0] = (extents, size)
+
     def behind(self, number, kind, extents):
         """The overflow records of a fork."""
         place = sum(count for _, count in extents[:8])

@@ -3,6 +3,8 @@
 For commands that put no bytes into files the numbers that `df` tells are enough; for the others the free runs and the file's extents are asked for.
 """
 
+import copy
+
 KEYS = (10, 516, 266)
 
 
@@ -86,10 +88,10 @@ def records(extents):
 
 class Fork:
     """What is known of the forks that a command makes longer: the extents of the file's data and whether it has blocks past its size, the lengths of the free
-    runs, and the extents of the trees' forks."""
+    runs, and the extents of the trees' forks; and the same behind the cuts of these blocks, where it is known."""
 
-    def __init__(self, extents, surplus, runs, trees):
-        self.extents, self.surplus, self.runs, self.trees = extents, surplus, sorted(runs, reverse=True), trees
+    def __init__(self, extents, surplus, runs, trees, behind=None):
+        self.extents, self.surplus, self.runs, self.trees, self.behind = extents, surplus, sorted(runs, reverse=True), trees, behind
 
     def fewest(self, many):
         """The least number of free runs that hold so many blocks, or of all of them."""
@@ -101,10 +103,11 @@ class Fork:
 
 
 class Weight:
-    """What a command takes: the refusal for want of a resource, or None, and whether it asks for more than is built, and may wait."""
+    """What a command takes: the refusal for want of a resource, or None, whether it asks for more than is built, and may wait, and whether a whole
+    transaction may have too little room for a growth beside the load, so that the answer may be `no OutOfMemory`."""
 
-    def __init__(self, refused=None, waits=False):
-        self.refused, self.waits = refused, waits
+    def __init__(self, refused=None, waits=False, is_tight=False):
+        self.refused, self.waits, self.is_tight = refused, waits, is_tight
 
 
 def weigh(gauge, plain, verb, words, fork):
@@ -115,7 +118,13 @@ def weigh(gauge, plain, verb, words, fork):
     sectors = [size // 512 for size, _, _, _ in trees]
     if data and data.grows and fork.surplus:
         load = 1 + sectors[1] + min(up(gauge.total, 4096), 24) + sectors[0] * min(4 * (trees[0][1] + 1) + 4, trees[0][2])
-        return Weight(b"no TooBig %d %d" % (load, gauge.capacity) if load > gauge.capacity else None, True)
+        if load > gauge.capacity:
+            return Weight(b"no TooBig %d %d" % (load, gauge.capacity))
+        if not fork.behind:
+            return Weight(None, True)
+        # Its cuts go first; then it weighs what it does behind them.
+        gauge, fork = copy.copy(gauge), fork.behind
+        gauge.free, gauge.longest = sum(fork.runs), max(fork.runs, default=0)
     ids, catalog, attributes, updates = edits_of(plain, verb, words)
     runs = fork.fewest(data.new) if data else 0
     edits = [records(fork.extents) + records(fork.extents + 1 + runs) if data else 0, catalog, attributes]
@@ -144,7 +153,10 @@ def weigh(gauge, plain, verb, words, fork):
     load += min(up(gauge.total, 4096), bits)
     if verb not in ("at", *CHANGES):
         load = 0
-    return Weight(b"no TooBig %d %d" % (load, gauge.capacity) if load > gauge.capacity else None, waits)
+    # A growth puts the header's node, another one and the new map nodes, sectors of the bitmap and the volume header; what it puts at most may be asked for twice.
+    ahead = sum(size * (2 + maps) // 512 for (size, _, _, _), (_, more, maps) in zip(trees, grown) if more)
+    is_tight = blocks > 0 and load + 2 * (ahead + blocks // 4096 + 3) > gauge.capacity
+    return Weight(b"no TooBig %d %d" % (load, gauge.capacity) if load > gauge.capacity else None, waits, is_tight)
 
 
 CHANGES = ("mkdir", "create", "rm", "rmdir", "mv", "ln", "chmod", "setattr", "delattr", "write", "trunc")

@@ -1,3 +1,4 @@
 pub mod Numbers
 pub mod Both
 pub mod Paths
+pub mod Plain

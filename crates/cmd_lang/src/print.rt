@@ -39,14 +39,14 @@ fn push_byte(text: &mut Vec<u8>, byte: u8) -> Result<(), AllocError>
     ensures { OnOk result (text.new.items ≡ text.old.items ++ spec.byte_text byte) }
 {
     if is_plain(byte) {
-        text.extend_from_slice(&[byte])
+        Ok(text.push(byte)?)
     } else {
         text.extend_from_slice(&[b'%', hex_digit(byte / 16 % 16), hex_digit(byte % 16)])
     }
 }
 
 /// A byte that stands for itself in a value.
-fn is_plain(byte: u8) -> bool
+pub(crate) fn is_plain(byte: u8) -> bool
     ensures { result ≡ spec.is_plain byte }
 {
     byte >= 33 && byte <= 126 && byte != b'%'

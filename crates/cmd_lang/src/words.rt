@@ -1,5 +1,5 @@
 //! The words of a line are read: numbers, modes, values, names and paths.
-ghost use Rattle.std.specs.Prelude.{◌≡◌, ◌≤◌, true, drop, length, decimal, bytes_eq, IfOk};
+ghost use Rattle.std.specs.Prelude.{◌≡◌, ◌≤◌, ◌∷◌, true, drop, length, decimal, bytes_eq, IfOk, IfSome};
 ghost use Rattle.std.specs.List.{list_all};
 ghost use Rattle.std.specs.Str.Parse.{digits_value};
 ghost use Rattle.percent_encoding.specs.Percent.{percent_decode as unescaped};
@@ -8,7 +8,7 @@ ghost use Rattle.hfs_language.specs.Text as spec_text;
 ghost use Rattle.cmd_lang.specs.Reads.{Reads};
 
 use crate::LineFault;
-use crate::print::value_text;
+use crate::print::{is_plain, value_text};
 use hfs_language::Refusal;
 use hx_bytes::{Bytes, Units};
 use itoa::Buffer;
@@ -92,8 +92,44 @@ fn octal_value(digits: &[u8]) -> u16
 }
 
 /// A value, spelled as it is printed.
-#[tactic(auto, unfolding(hfs_language::specs::Language::value_of))]
 pub(crate) fn read_value(alloc: Global, word: &str) -> Result<Bytes, LineFault>
+    ensures { Reads (spec.value_of word.now) result }
+{
+    match plain_bytes(word.as_bytes()) {
+        Some(value) => Ok(copied(alloc, value)?),
+        None => read_escaped(alloc, word),
+    }
+}
+
+/// The bytes of a value in which each byte stands for itself.
+fn plain_bytes(text: &[u8]) -> Option<&[u8]>
+    ensures { IfSome result (λ value. (text.now ≡ 61 ∷ value.now) × (list_all spec_text.is_plain value.now ≡ true)) }
+{
+    match text {
+        [first, rest @ ..] => if *first == b'=' && are_plain(rest) {
+            Some(rest)
+        } else {
+            None
+        },
+        [] => None,
+    }
+}
+
+fn are_plain(bytes: &[u8]) -> bool
+    ensures { result ≡ list_all spec_text.is_plain bytes.now }
+{
+    bytes.iter().all(|byte| is_plain(*byte))
+}
+
+fn copied(alloc: Global, value: &[u8]) -> Result<Bytes, AllocError>
+    ensures { IfOk result (λ copy. copy ≡ value.now) }
+{
+    Ok(Bytes::from_vec(Vec::from_slice(alloc, value)?))
+}
+
+/// A value, each byte of which may be escaped.
+#[tactic(auto, unfolding(hfs_language::specs::Language::value_of))]
+fn read_escaped(alloc: Global, word: &str) -> Result<Bytes, LineFault>
     ensures { Reads (spec.value_of word.now) result }
 {
     let text = word.as_bytes();

@@ -38,6 +38,18 @@ const READS_OF_BYTES: &[u8] =
 /// A file whose bytes are put three times, which come at once.
 const ONE_BATCH: &[u8] = b"create /f\nwrite /f 0 =a\nwrite /f 0 =b\nwrite /f 0 =c\n";
 
+/// How many files with long names fill the catalog so far that one more entry makes it grow.
+const FILES: u8 = 80;
+
+/// A run that makes one entry more, and puts bytes.
+const GROWTH: &[u8] = b"mkdir /d\nsync\ncreate /d/x\nwrite /d/x 0 =y\nsync\n";
+
+/// What is read back behind it.
+const READS_OF_GROWTH: &[u8] = b"stat /\nls /d\nstat /d\nstat /d/x\nread /d/x 0 9\n";
+
+/// The room behind it: the catalog has 80 nodes, and had 64.
+const ROOM_OF_GROWTH: &[u8] = b"ok 4096 2048 1675 1675 1982 0 16 15 3 80 25 0 16 15\n";
+
 /// What all crashes of a run left.
 #[derive(Clone, Copy)]
 pub struct Tried {
@@ -72,7 +84,39 @@ pub fn try_bytes(alloc: Global, choice: u64) -> Result<Tried, OutOfMemory> {
 pub fn try_one_batch(alloc: Global, choice: u64) -> Result<Tried, OutOfMemory> {
     let start = fresh_few(alloc)?;
     let reads = b"ls /\nread /f 0 9\n";
-    try_in_pieces(alloc, &start, ONE_BATCH, AT_ONCE, reads, choice)
+    try_in_pieces(alloc, &start, b"", ONE_BATCH, AT_ONCE, reads, choice)
+}
+
+/// All crashes of a run ahead of which the catalog grows; nothing where it doesn't grow.
+pub fn try_growth(alloc: Global, choice: u64) -> Result<Option<Tried>, OutOfMemory> {
+    let before = filling(alloc)?;
+    let mut full = Few::over(alloc, &fresh_few(alloc)?)?;
+    run_lines(alloc, &mut full, &before)?;
+    let start = full.rig.image(alloc, 1)?;
+    let mut whole = Few::over(alloc, &start)?;
+    run_lines(alloc, &mut whole, GROWTH)?;
+    let grown = told_by(alloc, &whole.rig.image(alloc, 1)?, b"df\n")?;
+    if !matches!(&grown, Some(room) if room.as_slice() == ROOM_OF_GROWTH) {
+        return Ok(None);
+    }
+    let reads = READS_OF_GROWTH;
+    let tried = try_in_pieces(alloc, &start, &before, GROWTH, PIECE, reads, choice)?;
+    Ok(Some(tried))
+}
+
+// A line for each file, with a name of 254 letters, of which the last two tell it from the others.
+fn filling(alloc: Global) -> Result<Vec<u8>, OutOfMemory> {
+    let mut lines = Vec::new(alloc);
+    for file in 0..FILES {
+        lines.extend_from_slice(b"create /")?;
+        for _letter in 0..252 {
+            lines.push(b'n')?;
+        }
+        lines.push(b'a' + file / 26 % 26)?;
+        lines.push(b'a' + file % 26)?;
+        lines.push(b'\n')?;
+    }
+    Ok(lines)
 }
 
 /// All crashes of a run on a volume of which the ring was gone round before.
@@ -100,16 +144,17 @@ pub fn worn(alloc: Global) -> Result<MemImage, OutOfMemory> {
 }
 
 /// Stops the run of lines that come in such pieces after each call that wrote, and mounts the image of this choice. It must be sound, and what is read of it must be what the
-/// plain tree tells after some of the lines, among them each that was answered.
+/// plain tree tells after some of the lines, among them each that was answered. The lines `before` made what stood there first.
 fn try_in_pieces(
     alloc: Global,
     start: &MemImage,
+    before: &[u8],
     lines: &[u8],
     piece: u64,
     reads: &[u8],
     choice: u64,
 ) -> Result<Tried, OutOfMemory> {
-    let wanted = told_behind(alloc, lines, reads)?;
+    let wanted = told_behind(alloc, before, lines, reads)?;
     let mut whole = Few::over(alloc, start)?;
     run_in_pieces(alloc, &mut whole, lines, piece)?;
     let mut tried = Tried {
@@ -142,7 +187,7 @@ fn try_from(
     reads: &[u8],
     choice: u64,
 ) -> Result<Tried, OutOfMemory> {
-    try_in_pieces(alloc, start, lines, PIECE, reads, choice)
+    try_in_pieces(alloc, start, b"", lines, PIECE, reads, choice)
 }
 
 // Whether this was told, and is wanted after so many lines at least.

@@ -14,11 +14,14 @@ const SHOWN: u64 = 16_384;
 /// How many sectors are kept in front: up to the end of the catalog, and the next 32 blocks, which files take first.
 const FRONT: u64 = 3_096;
 
+/// The same, up to 256 blocks more than those 32.
+const LONG_FRONT: u64 = FRONT + 2_048;
+
 /// The sector of the alternate volume header, which is kept behind them.
 const ALTERNATE: u64 = 16_382;
 
-/// A disk that keeps a sixth of the sectors that it shows. A call on another sector fails. It tells nothing; what
-/// happens to it is seen in its rig.
+/// A disk that keeps only the first sectors that it shows, and the alternate volume header behind them. A call on another sector fails. It tells
+/// nothing; what happens to it is seen in its rig.
 #[derive(Drop)]
 pub struct Few {
     pub rig: MemRig,
@@ -27,20 +30,30 @@ pub struct Few {
     barriers: u64,
 }
 
-/// Where a sector is kept.
-fn place_of(at: u64) -> Option<u64> {
-    if at < FRONT {
+/// Where a sector is kept, where so many are kept in front.
+fn place_of(at: u64, front: u64) -> Option<u64> {
+    if at < front {
         return Some(at);
     }
-    if at == ALTERNATE { Some(FRONT) } else { None }
+    if at == ALTERNATE { Some(front) } else { None }
 }
 
 /// The kept sectors of the volume that `format` makes.
 pub fn fresh_few(alloc: Global) -> Result<MemImage, OutOfMemory> {
+    fresh_front(alloc, FRONT)
+}
+
+/// The same, with room for a file of 256 blocks.
+pub fn fresh_long(alloc: Global) -> Result<MemImage, OutOfMemory> {
+    fresh_front(alloc, LONG_FRONT)
+}
+
+// The volume that `format` makes, of which so many sectors are kept in front.
+fn fresh_front(alloc: Global, front: u64) -> Result<MemImage, OutOfMemory> {
     let whole = fresh(alloc)?;
-    let mut rig = MemRig::new(alloc, FRONT + 1)?;
+    let mut rig = MemRig::new(alloc, front.saturating_add(1))?;
     for (at, sector) in whole.sectors.iter().enumerate() {
-        if let Some(place) = place_of(at as u64) {
+        if let Some(place) = place_of(at as u64, front) {
             put(&mut rig, place, sector);
         }
     }
@@ -62,7 +75,7 @@ impl Few {
     fn find(&self, at: u64) -> Option<u64>
         ensures { IfSome result (λ place. place < (rig_state self.now.rig).sectors) }
     {
-        match place_of(at) {
+        match place_of(at, self.rig.sectors().saturating_sub(1)) {
             Some(place) if place < self.rig.sectors() => Some(place),
             _ => None,
         }

@@ -10,6 +10,8 @@ mod journals;
 #[cfg(test)]
 mod plain;
 #[cfg(test)]
+mod reclaims;
+#[cfg(test)]
 mod replays;
 #[cfg(test)]
 mod runs;

@@ -8,12 +8,19 @@ use std::alloc::Global;
 /// The most that the next id may be for a step.
 const MOST_ID: u32 = 4_294_967_292;
 
-/// What a new volume tells of some lines behind the first ones of others: behind none, behind one, and so on to all.
-pub fn told_behind(alloc: Global, first: &[u8], lines: &[u8]) -> Result<Vec<Vec<u8>>, OutOfMemory> {
+/// What a volume, made by the lines `before` on a new one, tells of some lines behind the first ones of others: behind none, behind one, and so
+/// on to all.
+pub fn told_behind(
+    alloc: Global,
+    before: &[u8],
+    first: &[u8],
+    lines: &[u8],
+) -> Result<Vec<Vec<u8>>, OutOfMemory> {
     let mut told = Vec::new(alloc);
     let whole = count_lines(first);
     for count in 0..whole.saturating_add(1) {
         let mut tree = PlainTree::new(alloc)?;
+        play(alloc, &mut tree, before, u64::MAX)?;
         play(alloc, &mut tree, first, count)?;
         told.push(play(alloc, &mut tree, lines, u64::MAX)?)?;
     }

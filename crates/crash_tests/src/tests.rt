@@ -1,6 +1,7 @@
 // Runs that are cut off, and runs over devices that fail; each choice of a crash's image is a test of its own.
-use crate::crashes::{try_all, try_bytes, try_one_batch, try_removals, try_worn, worn};
+use crate::crashes::{try_all, try_bytes, try_growth, try_one_batch, try_removals, try_worn, worn};
 use crate::journals::{Damage, HEADER, changed_sectors, is_refused, told_before_the_journal};
+use crate::reclaims::try_reclaims;
 use crate::replays::{is_replayed_after_two_stops, start_of};
 use crate::twice::try_pairs;
 use std::test::Fail;
@@ -147,6 +148,34 @@ fn the_bytes_of_choice_7_leave_a_prefix(rt: HostRuntime) -> Result<(), Fail> {
     let tried = try_bytes(rt.alloc(), 7)?;
     assert_eq!(rt; tried.wrong, None);
     assert!(rt; 200 < tried.crashes);
+    Ok(())
+}
+
+#[test]
+fn a_catalog_that_grows_leaves_a_prefix_0_to_3(rt: HostRuntime) -> Result<(), Fail> {
+    for choice in 0..4u64 {
+        let tried = try_growth(rt.alloc(), choice)?;
+        assert!(rt; matches!(&tried, Some(tried) if tried.wrong.is_none() && 60 < tried.crashes));
+    }
+    Ok(())
+}
+
+#[test]
+fn a_catalog_that_grows_leaves_a_prefix_4_to_7(rt: HostRuntime) -> Result<(), Fail> {
+    for choice in 4..8u64 {
+        let tried = try_growth(rt.alloc(), choice)?;
+        assert!(rt; matches!(&tried, Some(tried) if tried.wrong.is_none() && 60 < tried.crashes));
+    }
+    Ok(())
+}
+
+#[test]
+fn a_file_that_goes_is_there_or_gone(rt: HostRuntime) -> Result<(), Fail> {
+    for choice in 0..8u64 {
+        let tried = try_reclaims(rt.alloc(), choice)?;
+        assert_eq!(rt; tried.wrong, None);
+        assert!(rt; 40 < tried.crashes);
+    }
     Ok(())
 }
 

@@ -1,5 +1,5 @@
 -- A line that was answered, as serving sees it.
-use Rattle.std.proofs.Common.{◌≡◌, ◌⊎◌, ◌+◌, ◌++◌, ℕ, List, [], ◌∷◌, refl, sym, ◌∙◌, ap, subst}
+use Rattle.std.proofs.Common.{◌≡◌, ℕ, List, [], ◌∷◌, inl, inr, refl, sym, ◌∙◌, ap, subst}
 use Rattle.std.specs.Prelude.{IsErrOf, IsTrue, Option, Result, Ok, Err, IfOk, if◌then◌else◌}
 use Rattle.std.proofs.lemmas.List.{append-nil}
 use Rattle.hx_bytes.specs.declared.faults.Trouble.{Trouble}
@@ -11,8 +11,12 @@ use Rattle.hfs_language.specs.declared.reply.Reply.{Reply}
 use Rattle.hfs_language.specs.Language.{command_of}
 use Rattle.volume_runs.specs.Run.{Entry, IsServed, is_ok, or_before, replies_of, shrunk_after, shrunk_by}
 use Rattle.volume_runs.specs.Told.{changes_by, changes_in}
+use Rattle.hfs_volume.specs.Content.{VolumeState, volume_of}
+use Rattle.hfs_volume.specs.Forks.{data_kind}
+use Rattle.hfs_volume.specs.Reclaim.{CutsAlone, CutsSurplus, blocks_wanted}
 use Rattle.hfs_volume.specs.TreeOf.{tree_of}
-use Rattle.hfs_serving.specs.Going.{Answered, AnswersTo, Stays}
+use Rattle.hfs_volume.specs.Weight.{cut_cost, free_blocks, room_with}
+use Rattle.hfs_serving.specs.Going.{Answered, AnswersTo, Stays, Tidied}
 use Rattle.hfs_serving.specs.Grounds.{KeepsHeading}
 use Rattle.hfs_serving.specs.Said.{joined, said_of}
 use Rattle.hfs_serving.specs.Serving.{IsDurable, IsRead}
@@ -25,7 +29,7 @@ use Rattle.volume_step.specs.Steps.{IsServedAs}
 use Rattle.volume_step.specs.declared.outcome.Outcome.{Outcome}
 use Rattle.volume_step.specs.declared.outcome.Outcome.TheVariants as outcome
 use Rattle.served_volume.specs.Answering.{AnswersAs, ShrinksBy, TellsAs}
-use Rattle.served_volume.specs.Knowing.{Knows}
+use Rattle.served_volume.specs.Knowing.{IsAlike, Knows}
 use Rattle.served_volume.proofs.Alike.{served_alike, told_alike}
 use Rattle.served_volume.proofs.Stepping.{Leaves, follow, heads_then, knows_then, place_then, reads_then}
 
@@ -35,6 +39,17 @@ unfolding replies_of changes_in
 one_said number entry said replies changes = λ i. record {
   replies = (append-nil (reply_text entry.reply) ∙ sym replies) i;
   changes = (append-nil (changes_by number entry) ∙ sym changes) i;
+}
+
+-- contents that are alike have the same cut
+cuts_alike : (capacity : ℕ) (now next before after : Content) → IsAlike now before → IsAlike next after → CutsSurplus capacity before after → CutsSurplus capacity now next
+cuts_alike capacity now next before after one two was = record {
+  id = was.id;
+  load = was.load;
+  grow = was.grow;
+  affords = ap (λ (l : VolumeState). cut_cost (room_with capacity (free_blocks l) l)) one.lists ∙ was.affords;
+  cuts = subst (λ (k : VolumeState × VolumeState). CutsAlone was.id data_kind (blocks_wanted k.0 was.id data_kind) k.0 k.1) {x = (volume_of before, volume_of after)} {y = (volume_of now, volume_of next)} (λ i. (sym one.lists i, sym two.lists i)) was.cuts;
+  keeps = record { sound = two.sound; tree = two.tree ∙ was.keeps.tree ∙ sym one.tree };
 }
 
 module _ (v w : Volume) (capacity : ℕ) (committed now : Content) (shrunk : Option ℕ) (a b : Space) (known : Knows v capacity committed now shrunk a) (below : IsDurable committed a) (reads : IsRead now a) (heads : KeepsHeading a) (leaves : Leaves v w committed a b) where
@@ -73,6 +88,19 @@ module _ (v w : Volume) (capacity : ℕ) (committed now : Content) (shrunk : Opt
         known = subst (λ (c : Content). Knows w capacity committed c shrunk b) is (knows_then v w capacity committed now shrunk a b known below reads heads leaves shrunk (kept ∙ known.shrunk_is));
       }
 
+  -- a file lost blocks past its size
+  cut : CutsSurplus capacity a.content b.content → shrunk_of w ≡ shrunk_of v → Tidied capacity (λ was is file. Knows w capacity was is file b) committed now shrunk b
+  cut was kept =
+      let f = follow v w capacity committed now shrunk a b known below reads heads leaves in
+      record {
+        next = f.next;
+        tidied = inr (inl (cuts_alike capacity now f.next a.content b.content known.alike f.alike was));
+        place = place_then v w capacity committed now shrunk a b known below reads heads leaves;
+        reads = reads_then v w capacity committed now shrunk a b known below reads heads leaves;
+        heads = heads_then v w capacity committed now shrunk a b known below reads heads leaves;
+        known = knows_then v w capacity committed now shrunk a b known below reads heads leaves shrunk (kept ∙ known.shrunk_is);
+      }
+
   pub answers : (number : ℕ) (line : List ℕ) (before after : ToTell) (o : Outcome) (s : Step) → AnswersAs o capacity number line a.content b.content → ShrinksBy o line a.content (shrunk_of v) (shrunk_of w) → TellsAs s o before after
       → AnswersTo s capacity (λ was is file. Knows w capacity was is file b) committed now shrunk b number line before after
   answers number line before after (outcome.Answered said changes) step.Answered was shrinks told = (record { replies = reply_text said; changes = changes }, told, answered number line said changes was shrinks)
@@ -81,6 +109,9 @@ module _ (v w : Volume) (capacity : ℕ) (committed now : Content) (shrunk : Opt
   answers number line before after outcome.CommitFirst step.Answered was shrinks told = absurd told
   answers number line before after outcome.CommitFirst step.Again was shrinks told = absurd told
   answers number line before after outcome.CommitFirst step.CommitFirst was shrinks told = (told, stays was shrinks)
+  answers number line before after outcome.Again step.Answered was shrinks told = absurd told
+  answers number line before after outcome.Again step.Again was shrinks told = (told, cut was shrinks)
+  answers number line before after outcome.Again step.CommitFirst was shrinks told = absurd told
 
 -- what a result's value has
 pub if_so : {A E : Type 0} (P Q : A → Type 0) (r : Result A E) → ((x : A) → P x → Q x) → IfOk r P → IfOk r Q

@@ -1,15 +1,16 @@
 -- A step of housekeeping, as serving sees it.
-use Rattle.std.proofs.Common.{◌≡◌, ℕ, Bool, true, false, List, inl, refl, sym, ◌∙◌, ap, subst}
-use Rattle.std.specs.Prelude.{Option, Some}
+use Rattle.std.proofs.Common.{◌≡◌, ℕ, inl, sym, ◌∙◌, ap, subst}
+use Rattle.std.specs.Prelude.{IfOk, Option, Result, Ok, Err}
+use Rattle.hx_bytes.specs.declared.faults.Trouble.{Trouble}
 use Rattle.jnl_format.specs.Recovery.{Content}
 use Rattle.sector_disk.specs.Space.{Space}
 use Rattle.hfs_volume.specs.Content.{VolumeState, volume_of}
 use Rattle.hfs_volume.specs.Reclaim.{Does, GrowsTrees, Reclaims, next_reclaim, reclaim_cost}
-use Rattle.hfs_volume.specs.TreeOf.{tree_of}
-use Rattle.hfs_volume.specs.declared.cost.Cost.TheVariants as cost
 use Rattle.hfs_serving.specs.Going.{Stays, Tidied, TidiesTo}
 use Rattle.hfs_serving.specs.Grounds.{KeepsHeading}
 use Rattle.hfs_serving.specs.Serving.{IsDurable, IsRead}
+use Rattle.hfs_serving.specs.declared.volume.Next.{Next}
+use Rattle.volume_runs.specs.Rest.{IsAtRest}
 use Rattle.volume_base.specs.Keeping.{shrunk_of}
 use Rattle.volume_space.specs.declared.tidying.Tidying.{Tidying}
 use Rattle.volume_space.specs.declared.tidying.Tidying.TheVariants as tidying
@@ -17,7 +18,6 @@ use Rattle.volume_base.specs.declared.volume.Volume.{Volume}
 use Rattle.volume_step.specs.Tidying.{ReclaimsAs}
 use Rattle.served_volume.specs.Knowing.{IsAlike, Knows}
 use Rattle.served_volume.specs.Tidying.{next_of}
-use Rattle.served_volume.proofs.Resting.{rests}
 use Rattle.served_volume.proofs.Stepping.{Leaves, follow, heads_then, knows_then, place_then, reads_then}
 
 -- contents that are alike have the same step of reclaiming
@@ -58,8 +58,12 @@ module _ (v w : Volume) (capacity : ℕ) (committed now : Content) (shrunk : Opt
           known = subst (λ (c : Content). Knows w capacity committed c shrunk b) is (knows_then v w capacity committed now shrunk a b known below reads heads leaves shrunk (kept ∙ known.shrunk_is));
         }
 
-    pub tidies : (fresh : Bool) (came : Tidying) → ReclaimsAs came capacity shrunk a.content b.content → TidiesTo (next_of fresh came) capacity (λ was is file. Knows w capacity was is file b) committed now shrunk b
-    tidies fresh tidying.Rest was = (stays was, rests capacity shrunk (volume_of now))
-    tidies fresh tidying.Made was = tidied was
-    tidies true tidying.CommitFirst was = (stays was, rests capacity shrunk (volume_of now))
-    tidies false tidying.CommitFirst was = stays was
+    tidies : (came : Tidying) → ReclaimsAs came capacity shrunk a.content b.content → TidiesTo (next_of came) capacity (λ was is file. Knows w capacity was is file b) committed now shrunk b
+    tidies tidying.Rest was = (stays was.0, subst (λ (l : VolumeState). IsAtRest capacity shrunk l) (sym known.alike.lists) was.1)
+    tidies tidying.Made was = tidied was
+    tidies tidying.CommitFirst was = stays was
+
+    -- what serving is answered
+    pub tidies_as : (came : Tidying) → ReclaimsAs came capacity shrunk a.content b.content → (r : Result Next Trouble) → IfOk r (λ (n : Next). n ≡ next_of came) → IfOk r (λ (n : Next). TidiesTo n capacity (λ was is file. Knows w capacity was is file b) committed now shrunk b)
+    tidies_as came was (Ok n) is = subst (λ (k : Next). TidiesTo k capacity (λ past here file. Knows w capacity past here file b) committed now shrunk b) (sym is) (tidies came was)
+    tidies_as came was (Err why) is = tt

@@ -13,7 +13,6 @@ mod LaidOut
 mod Limits
 mod Marked
 mod Refusing
-mod Resting
 mod Seen
 mod Service
 mod Stepping

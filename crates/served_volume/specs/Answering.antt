@@ -8,6 +8,7 @@ use Rattle.hfs_language.specs.declared.refusal.Refusal.{Refusal}
 use Rattle.hfs_language.specs.declared.refusal.Refusal.TheVariants as refusal
 use Rattle.hfs_language.specs.declared.reply.Reply.TheVariants as reply
 use Rattle.hfs_language.specs.Text.{reply_text}
+use Rattle.hfs_volume.specs.Reclaim.{CutsSurplus}
 use Rattle.volume_runs.specs.Run.{is_ok, or_before, shrunk_by}
 use Rattle.hfs_volume.specs.TreeOf.{tree_of}
 use Rattle.hfs_serving.specs.Said.{joined}
@@ -18,15 +19,17 @@ use Rattle.volume_step.specs.Steps.{IsServedAs}
 use Rattle.volume_step.specs.declared.outcome.Outcome.{Outcome}
 use Rattle.volume_step.specs.declared.outcome.Outcome.TheVariants as outcome
 
--- the line's entry is one of a run, and this is what it tells watchers; or nothing was changed
+-- the line's entry is one of a run, and this is what it tells watchers; or nothing was changed; or a file lost blocks past its size
 abbrev pub AnswersAs : Outcome → ℕ → ℕ → List ℕ → Content → Content → Type 0
 AnswersAs (outcome.Answered said changes) capacity number line before after = IsServedAs capacity number changes (record { line = line; reply = said; before = before; after = after })
 AnswersAs outcome.CommitFirst capacity number line before after = after ≡ before
+AnswersAs outcome.Again capacity number line before after = CutsSurplus capacity before after
 
 -- the file that was shrunk last, behind a line: the one that it shrank, where it was done and shrank one
 abbrev pub ShrinksBy : Outcome → List ℕ → Content → Option ℕ → Option ℕ → Type 0
 ShrinksBy (outcome.Answered said changes) line before old new = new ≡ (if is_ok said then or_before (shrunk_by (tree_of before) (command_of line)) old else old)
 ShrinksBy outcome.CommitFirst line before old new = new ≡ old
+ShrinksBy outcome.Again line before old new = new ≡ old
 
 -- a refusal
 abbrev pub refused : Refusal → Outcome
@@ -42,11 +45,13 @@ abbrev pub unless_short : Bool → Outcome → Outcome
 unless_short true outcome.CommitFirst = refused refusal.OutOfMemory
 unless_short false outcome.CommitFirst = outcome.CommitFirst
 unless_short fresh (outcome.Answered said changes) = outcome.Answered said changes
+unless_short fresh outcome.Again = outcome.Again
 
 -- what is to be told was added where a line was answered
 abbrev pub TellsAs : Step → Outcome → ToTell → ToTell → Type 0
 TellsAs step.Answered (outcome.Answered said changes) before after = after ≡ joined before (record { replies = reply_text said; changes = changes })
 TellsAs step.CommitFirst outcome.CommitFirst before after = after ≡ before
+TellsAs step.Again outcome.Again before after = after ≡ before
 TellsAs _ _ before after = ⊥
 
 -- the line spells no command for this reason, or memory is missing

@@ -59,6 +59,7 @@ fn unless_short(alloc: Global, fresh: bool, outcome: Outcome) -> Outcome
                 Outcome::CommitFirst
             }
         }
+        Outcome::Again => Outcome::Again,
     }
 }
 

@@ -12,8 +12,6 @@ pub struct ServedVolume {
     pub(crate) alloc: Global,
     /// How many sectors its space has.
     pub(crate) sectors: u64,
-    /// Whether something may be left to reclaim, which no step of housekeeping looked for yet.
-    pub(crate) waits: bool,
     // The volume is in service on each space of that size, whatever the space tells.
     ghost sized: { IsOfSize volume sectors } by { Prim.hlevel props },
 }

@@ -11,11 +11,6 @@ use hx_bytes::Trouble;
 use std::alloc::Global;
 use volume_step::tidy;
 
-/// Whether a line may take a name from a file, or blocks, so that something is left to reclaim behind it.
-fn takes_name(line: &[u8]) -> bool {
-    line.starts_with(b"rm ") || line.starts_with(b"trunc ") || line.starts_with(b"write ")
-}
-
 impl Volume for ServedVolume {
     ghost knows = { λ served space capacity committed now shrunk. Knows served.volume capacity committed now shrunk space };
 
@@ -30,16 +25,12 @@ impl Volume for ServedVolume {
                 volume,
                 alloc,
                 sectors,
-                waits: true,
             }),
             Err(trouble) => Err(trouble),
         }
     }
 
     fn tidy_step<G: Ground>(&mut self, base: &mut G) -> Result<Next, Trouble> {
-        if !self.waits {
-            return Ok(Next::Rest);
-        }
         if self.is_elsewhere(base) {
             return Err(Trouble::Memory);
         }
@@ -47,11 +38,7 @@ impl Volume for ServedVolume {
         let came = tidy(self.alloc, &mut self.volume, base);
         base.look();
         match came {
-            Ok(came) => {
-                let next = next_of(fresh, came);
-                self.waits = next != Next::Rest;
-                Ok(next)
-            }
+            Ok(came) => next_of(fresh, came),
             Err(trouble) => Err(trouble),
         }
     }
@@ -66,7 +53,6 @@ impl Volume for ServedVolume {
         if self.is_elsewhere(base) {
             return Err(Trouble::Memory);
         }
-        self.waits = self.waits | takes_name(line);
         let fresh = base.pending() == 0;
         let outcome = answer_line(self.alloc, &mut self.volume, base, fresh, number, line);
         base.look();

@@ -43,5 +43,6 @@ pub(crate) fn tell(alloc: Global, outcome: Outcome, told: &mut ToTell) -> Result
             Ok(Step::Answered)
         }
         Outcome::CommitFirst => Ok(Step::CommitFirst),
+        Outcome::Again => Ok(Step::Again),
     }
 }

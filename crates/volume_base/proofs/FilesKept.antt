@@ -1,5 +1,5 @@
 -- The bytes of files stay where no sector but the header's, the catalog's and the attributes file's is another.
-use Rattle.std.proofs.Common.{◌≡◌, ◌≢◌, ◌⊎◌, ◌<◌, ◌≤◌, ℕ, ◌-◌, ◌*◌, ◌/◌, List, ◌++◌, take, map, refl, sym, ◌∙◌, ap, subst, arith, inl, inr}
+use Rattle.std.proofs.Common.{◌≡◌, ◌≢◌, ◌⊎◌, ◌<◌, ◌≤◌, ℕ, ◌-◌, ◌*◌, ◌/◌, List, [], ◌++◌, take, map, refl, sym, ◌∙◌, ap, subst, arith, inl, inr}
 use Rattle.std.specs.Prelude.{Contains}
 use Rattle.std.specs.List.{range_with_len}
 use Rattle.std.proofs.lemmas.List.Elements.{Contains-append_left}
@@ -12,7 +12,7 @@ use Rattle.cat_records.specs.declared.record.CatRecord.TheVariants.{File}
 use Rattle.hfs_volume.specs.Blocks.{forks_of}
 use Rattle.hfs_volume.specs.Content.{VolumeState, volume_of, records_of, overflow_in_volume, block_bytes}
 use Rattle.hfs_volume.specs.Entries.{IsUserId}
-use Rattle.hfs_volume.specs.Forks.{Owned, per_block_of, parts_for, data_kind, allocation_id, catalog_id, attributes_id, extents_of, blocks_owned, reserved_blocks}
+use Rattle.hfs_volume.specs.Forks.{Owned, per_block_of, parts_for, data_kind, allocation_id, catalog_id, attributes_id, extents_id, extents_of, blocks_owned, reserved_blocks}
 use Rattle.hfs_volume.specs.Records.{Placed, entries_of, overflow_of, id_of, id_in}
 use Rattle.hfs_volume.specs.Sound.{IsSoundVolume}
 use Rattle.hfs_volume.specs.TreeOf.{tree_in, file_bytes}
@@ -38,6 +38,10 @@ catalog_sectors lists = sectors_of (per_block_of lists.head) (blocks_of (extents
 abbrev pub attributes_sectors : VolumeState → List ℕ
 attributes_sectors lists = sectors_of (per_block_of lists.head) (blocks_of (extents_of (overflow_in_volume lists) attributes_id data_kind lists.head.attributes_fork))
 
+-- and those of the extents overflow file, which lie in the extents of its record alone
+abbrev pub extents_sectors : VolumeState → List ℕ
+extents_sectors lists = sectors_of (per_block_of lists.head) (blocks_of (extents_of [] extents_id data_kind lists.head.extents_fork))
+
 -- and those of the bitmap's file
 abbrev pub allocation_sectors : VolumeState → List ℕ
 allocation_sectors lists = sectors_of (per_block_of lists.head) (blocks_of (extents_of (overflow_in_volume lists) allocation_id data_kind lists.head.allocation_fork))
@@ -61,6 +65,13 @@ module _ (lists : VolumeState) (sound : IsSoundVolume lists) where
   abbrev blocks_by : Owned → List ℕ
   blocks_by owned = blocks_owned (overflow_in_volume lists) owned
 
+  abbrev extents_owned : Owned
+  extents_owned = record { id = extents_id; kind = data_kind; fork = lists.head.extents_fork }
+
+  extents_alone : sectors_of per (blocks_by extents_owned) ≡ extents_sectors lists
+  unfolding extents_of
+  extents_alone = refl
+
   -- a sector of a file isn't the header's
   no_header : (owned : Owned) → (Contains (reserved_blocks lists.sectors lists.head) (2 / per) → Contains (blocks_by owned) (2 / per) → ⊥) → Contains (sectors_of per (blocks_by owned)) 2 → ⊥
   no_header owned apart has =
@@ -82,6 +93,11 @@ module _ (lists : VolumeState) (sound : IsSoundVolume lists) where
   pub attributes_off_map : (at : ℕ) → Contains (attributes_sectors lists) at → Contains (allocation_sectors lists) at → ⊥
   attributes_off_map at has there = not_in_both lists sound.blocks.forks allocation_owned attributes_owned (at / per) (special_stands lists allocation_owned (2, omega arith, refl)) (special_stands lists attributes_owned (4, omega arith, refl))
       (λ same. absurd (omega (arith, ap (λ (o : Owned). o.id) same))) (in_block per (blocks_by allocation_owned) at whole.some there) (in_block per (blocks_by attributes_owned) at whole.some has)
+
+  -- nor one of the extents overflow file
+  pub attributes_off_extents : (at : ℕ) → Contains (attributes_sectors lists) at → Contains (extents_sectors lists) at → ⊥
+  attributes_off_extents at has there = not_in_both lists sound.blocks.forks extents_owned attributes_owned (at / per) (special_stands lists extents_owned (0, omega arith, refl)) (special_stands lists attributes_owned (4, omega arith, refl))
+      (λ same. absurd (omega (arith, ap (λ (o : Owned). o.id) same))) (in_block per (blocks_by extents_owned) at whole.some (subst (λ (l : List ℕ). Contains l at) (sym extents_alone) there)) (in_block per (blocks_by attributes_owned) at whole.some has)
 
   module _ (p : Placed) (file : FileRecord) (stands : Contains (entries_of (records_of lists)) p) (is : p.value ≡ File file) where
     abbrev file_sectors : List ℕ
@@ -113,6 +129,9 @@ module _ (lists : VolumeState) (sound : IsSoundVolume lists) where
 
     not_in_attributes : (at : ℕ) → Contains file_sectors at → Contains (attributes_sectors lists) at → ⊥
     not_in_attributes at has there = not_in attributes_owned (special_stands lists attributes_owned (4, omega arith, refl)) (not_special attributes_owned (λ two. absurd (omega (arith, two))) (omega arith)) at has there
+
+    pub not_in_extents : (at : ℕ) → Contains file_sectors at → Contains (extents_sectors lists) at → ⊥
+    not_in_extents at has there = not_in extents_owned (special_stands lists extents_owned (0, omega arith, refl)) (not_special extents_owned (λ two. absurd (omega (arith, two))) (omega arith)) at has (subst (λ (l : List ℕ). Contains l at) (sym extents_alone) there)
 
     pub not_in_map : (at : ℕ) → Contains file_sectors at → Contains (allocation_sectors lists) at → ⊥
     not_in_map at has there = not_in allocation_owned (special_stands lists allocation_owned (2, omega arith, refl)) (not_special allocation_owned (λ two. absurd (omega (arith, two))) (omega arith)) at has there

@@ -1,12 +1,12 @@
 -- Room that the cost of edits tells.
-use Rattle.std.proofs.Common.{◌≡◌, ◌<◌, ◌≤◌, ℕ, ◌+◌, ◌-◌, ◌*◌, ◌/◌, ◌^◌, Bool, true, false, List, refl, sym, ◌∙◌, ap, subst, arith}
+use Rattle.std.proofs.Common.{◌≡◌, ◌<◌, ◌≤◌, ℕ, ◌+◌, ◌-◌, ◌*◌, ◌/◌, ◌^◌, Bool, true, false, List, refl, sym, ◌∙◌, ap, subst, arith, mul-le-mul_right}
 use Rattle.std.specs.Prelude.{◌==◌, ◌&&◌, nat_le, slice_index, IsTrue, if◌then◌else◌}
 use Rattle.std.proofs.lemmas.Bool.{and_parts, eqb-true, leb-true, true≢false}
 use Rattle.sector_disk.specs.Space.{Space}
 use Rattle.hfs_volume.specs.Content.{TreeFacts, VolumeState, has_attributes, volume_of}
 use Rattle.hfs_volume.specs.Cost.{attributes_key, catalog_key, cost_of, growth, growth_for, is_too_deep, node_sectors, no_tree, plan_of, tree_at, tree_load}
 use Rattle.hfs_volume.specs.Forks.{attributes_id, catalog_id}
-use Rattle.hfs_volume.specs.Weight.{cost_of_tree, extents_in_use, room_with}
+use Rattle.hfs_volume.specs.Weight.{Edits as Asked, cost_of_tree, extents_in_use, room_with}
 use Rattle.hfs_volume.specs.declared.cost.Cost.{Cost}
 use Rattle.hfs_volume.specs.declared.cost.Cost.TheVariants as cost
 use Rattle.hfs_volume.specs.declared.cost.Needs.{Needs}
@@ -16,7 +16,7 @@ use Rattle.volume_header.specs.declared.header.VolumeHeader.{VolumeHeader}
 use Rattle.tree_weights.specs.Weights.{IsAfforded, LoadIsOfParts, LoadSaysEnough, load_at}
 use Rattle.volume_base.specs.Attributing.{HasRoomToMark}
 use Rattle.volume_base.specs.Changing.{HasRoomToUpdate}
-use Rattle.volume_base.specs.Fitting.{is_met}
+use Rattle.volume_base.specs.Fitting.{AreMet, is_met}
 use Rattle.volume_base.specs.Lists.{facts_on}
 use Rattle.volume_base.specs.Making.{HasRoomToMake}
 use Rattle.volume_base.specs.Moving.{HasRoomToMove}
@@ -60,6 +60,10 @@ module _ (capacity : ℕ) (free : List Bool) (volume : VolumeState) where
   block_is : (room_with capacity free volume).block ≡ volume.head.block_size
   unfolding room_with
   block_is = refl
+
+  id_is : (room_with capacity free volume).next_id ≡ volume.head.next_catalog_id
+  unfolding room_with
+  id_is = refl
 
   catalog_is : tree_at (room_with capacity free volume) 1 ≡ cost_of_tree volume.catalog_tree (extents_in_use volume catalog_id volume.head.catalog_fork)
   unfolding room_with
@@ -157,11 +161,35 @@ module _ (says : LoadSaysEnough) (of_parts : LoadIsOfParts) (v : Volume) (a : Sp
     pub nodes_fit : asked.updates * (v.catalog.file.shape.node_size / 512) ≤ a.spare
     nodes_fit = omega (arith, parts, nodes_are)
 
+    -- there are as many CNIDs
+    pub ids_fit : v.header.next_catalog_id + asked.ids ≤ 4294967295
+    ids_fit = omega (arith, afforded.ids, id_is (capacity_of v) (free_in blocks.Takable v.map) (volume_of a.content), ap (λ (h : VolumeHeader). h.next_catalog_id) same_head)
+
+    -- and a sector may be put
+    pub some_fit : 1 ≤ a.spare
+    some_fit = omega (arith, parts)
+
 -- ---- the rooms
+
+mul_least : (n k : ℕ) → 1 ≤ k → n ≤ k * n
+mul_least n k some = let it : 1 * n ≤ k * n = mul-le-mul_right n some in omega (arith, it)
 
 module _ (says : LoadSaysEnough) (of_parts : LoadIsOfParts) (v : Volume) (a : Space) (settled : IsTrue a.tells → IsSettled v a.content) where
   abbrev Meets : Edits → Type 0
   Meets asked = IsTrue a.tells → is_met (cost_of (needs_asked asked) (room_with (capacity_of v) (free_in blocks.Takable v.map) (volume_of a.content))) a.spare ≡ true
+
+  abbrev counted : Asked → Edits
+  counted asked = record { ids = asked.ids; catalog = asked.catalog; attributes = asked.attributes; updates = asked.updates }
+
+  -- and the tests that stand before that of the cost
+  pub ids_pass : (asked : Asked) → IsTrue a.tells → AreMet asked v a → v.header.next_catalog_id + asked.ids ≤ 4294967295
+  ids_pass asked tells ok = ids_fit says of_parts v a (settled tells) (counted asked) ok
+
+  pub some_pass : (asked : Asked) → IsTrue a.tells → AreMet asked v a → 1 ≤ a.spare
+  some_pass asked tells ok = some_fit says of_parts v a (settled tells) (counted asked) ok
+
+  pub update_passes : (asked : Asked) → IsTrue a.tells → 1 ≤ asked.updates → AreMet asked v a → v.catalog.file.shape.node_size / 512 ≤ a.spare
+  update_passes asked tells some ok = let it = nodes_fit says of_parts v a (settled tells) (counted asked) ok in omega (arith, it, mul_least (v.catalog.file.shape.node_size / 512) asked.updates some)
 
   pub make_fits : Meets (record { ids = 1; catalog = 2; attributes = 0; updates = 1 }) → v.header.next_catalog_id + 1 < 2 ^ 32 → 1 ≤ a.spare → HasRoomToMake v a
   make_fits ok ids some = record {

@@ -47,6 +47,10 @@ listed_has v content id list listed some = by (has_attributes v.header) refl
         let none : list ≡ [] = listed ∙ ap (λ b. attributes_in (if b then pairs_in (sectors_of_tree v.attributes.file) content else []) id) is in
         absurd (omega (arith, some, ap (λ (l : List ListedName). length l) none))
 
+-- without an attributes file there are none
+pub none_counted : (v : Volume) (content : Content) (id : ℕ) → has_attributes v.header ≡ false → count_of id (lists_of v content).attribute_pairs ≡ 0
+none_counted v content id is = ap (λ b. count_of id (if b then pairs_in (sectors_of_tree v.attributes.file) content else [])) is
+
 -- the root isn't removed
 pub removed_some : (tree : PlainTree) (path : List (List ℕ)) (entry : PlainEntry) → length path ≡ 0 → to_rmdir tree path ≡ Ok entry → ⊥
 removed_some tree [] entry none is = let never : Err refusal.Root ≡ Ok entry = is in cc never

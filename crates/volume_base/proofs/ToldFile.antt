@@ -48,7 +48,7 @@ told_node tree path told is = by_own (is_private_path path) refl is
 
 module _ (tree : PlainTree) (path : List (List ℕ)) (told : Facts) (it : IsTold tree path told) where
   -- of a file its own size is told
-  about : it.node.folder ≡ false → IsAbout tree path told it.node
+  pub about : it.node.folder ≡ false → IsAbout tree path told it.node
   about kind = record {
     file = ap (λ r. then_ r (λ node. unless node.folder refusal.IsFolder node)) it.found ∙ ap (λ b. if b then Err refusal.IsFolder else Ok it.node) kind;
     id = sym (ap (λ (f : Facts). f.id) it.facts);

@@ -41,6 +41,7 @@ against_write from long told =
     else if nat_lt most_size (from + long) || nat_lt most_bytes long then Some refusal.TooLarge
     else against_growth told.size (size_written told.size from long)
 
+-- what speaks against giving a file another size, by what `stat` told of it
 abbrev pub against_trunc : ℕ → Facts → Option Refusal
 against_trunc size told =
     if told.folder then Some refusal.IsFolder

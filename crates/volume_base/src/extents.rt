@@ -21,7 +21,7 @@ fn push_used(list: &mut ExtentList, extents: &[Extent]) -> Result<(), OutOfMemor
 }
 
 /// The extents of a record that have blocks.
-pub fn extents_in_use(alloc: Global, eight: &ExtentRecord) -> Result<ExtentList, OutOfMemory>
+pub(crate) fn extents_in_use(alloc: Global, eight: &ExtentRecord) -> Result<ExtentList, OutOfMemory>
     ensures { IfOk result (λ list. list ≡ in_use eight.now.extents) }
 {
     let mut list = ExtentList::new(alloc);

@@ -1,11 +1,11 @@
 //! Whether there is room for a command now, by what its edits cost.
-ghost use Rattle.std.specs.Prelude.{◌≡◌, ◌<◌, ◌≤◌, ◌/◌, ◌==◌, not, IsTrue};
+ghost use Rattle.std.specs.Prelude.{◌≡◌, ◌<◌, ◌≤◌, ◌/◌, ◌==◌, false, not, IsTrue};
 ghost use Rattle.hfs_volume.specs.Content.{volume_of, has_attributes};
 ghost use Rattle.hfs_volume.specs.Cost.{cost_of};
 ghost use Rattle.hfs_volume.specs.Weight.{room_with};
 ghost use Rattle.volume_base.specs.Attributing.{HasRoomToMark};
 ghost use Rattle.volume_base.specs.Changing.{HasRoomToUpdate};
-ghost use Rattle.volume_base.specs.Fitting.{is_met};
+ghost use Rattle.volume_base.specs.Fitting.{AreMet, is_met, wants};
 ghost use Rattle.volume_base.specs.Removing.{HasRoomToRemove};
 ghost use Rattle.volume_base.specs.Room.{capacity_of, free_in};
 ghost use Rattle.volume_base.specs.declared.room.FreeBlocks.TheVariants as blocks;
@@ -32,14 +32,16 @@ fn is_met(cost: Cost, spare: u64) -> bool
 
 /// Whether a node of a tree with these numbers may be put.
 fn node_fits(shape: TreeShape, spare: u64) -> bool
-    ensures { IsTrue result → shape.node_size / 512 ≤ spare }
+    ensures fits { IsTrue result → shape.node_size / 512 ≤ spare }
+    ensures sure { shape.node_size / 512 ≤ spare → IsTrue result }
 {
     u64::from(shape.node_size / 512) <= spare
 }
 
 /// Whether a sector may be put.
 pub fn has_sector(spare: u64) -> bool
-    ensures { IsTrue result → 1 ≤ spare }
+    ensures fits { IsTrue result → 1 ≤ spare }
+    ensures sure { 1 ≤ spare → IsTrue result }
 {
     0 < spare
 }
@@ -66,7 +68,8 @@ impl Volume {
 
     /// Whether there is room to update a record of the catalog in place.
     pub fn fits_update<P: SectorSpace>(&self, space: &P) -> bool
-        ensures { IsTrue result → HasRoomToUpdate self.now (P.SectorView.space space.now) }
+        ensures room { IsTrue result → HasRoomToUpdate self.now (P.SectorView.space space.now) }
+        ensures met { self.now.catalog.file.shape.node_size / 512 ≤ (P.SectorView.space space.now).spare → IsTrue result }
     {
         node_fits(self.catalog.file.shape(), space.spare())
     }
@@ -75,7 +78,8 @@ impl Volume {
     pub fn fits_remove<P: SectorSpace>(&self, space: &P) -> bool
         requires stands { StandsOver self.now (P.SectorView.space space.now) }
         requires settled { IsTrue (P.SectorView.space space.now).tells → IsSettled self.now (P.SectorView.space space.now).content }
-        ensures { IsTrue result → HasRoomToRemove self.now (P.SectorView.space space.now) }
+        ensures room { IsTrue result → HasRoomToRemove self.now (P.SectorView.space space.now) }
+        ensures met { IsTrue (P.SectorView.space space.now).tells → AreMet (wants 0 2 0 1) self.now (P.SectorView.space space.now) → IsTrue result }
     {
         a_load_says_enough();
         a_load_is_of_parts();
@@ -95,7 +99,8 @@ impl Volume {
     pub fn fits_delattr<P: SectorSpace>(&self, space: &P) -> bool
         requires stands { StandsOver self.now (P.SectorView.space space.now) }
         requires settled { IsTrue (P.SectorView.space space.now).tells → IsSettled self.now (P.SectorView.space space.now).content }
-        ensures { IsTrue result → HasRoomToMark 1 self.now (P.SectorView.space space.now) }
+        ensures room { IsTrue result → HasRoomToMark 1 self.now (P.SectorView.space space.now) }
+        ensures met { IsTrue (P.SectorView.space space.now).tells → AreMet (wants 0 0 1 1) self.now (P.SectorView.space space.now) → IsTrue result }
     {
         a_load_says_enough();
         a_load_is_of_parts();

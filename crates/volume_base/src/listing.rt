@@ -28,7 +28,7 @@ use sector_disk::SectorSpace;
 use std::alloc::Global;
 
 /// The entries of a folder with their records, in the order of their names.
-pub fn list_children<P: SectorSpace>(
+pub(crate) fn list_children<P: SectorSpace>(
     alloc: Global,
     tree: &mut TreeFile,
     desk: &mut Desk,

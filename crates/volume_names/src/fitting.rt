@@ -1,7 +1,9 @@
 //! Whether there is room for a command now, by what its edits cost.
-ghost use Rattle.std.specs.Prelude.{◌<◌, ◌+◌, ◌^◌, ◌==◌, IsTrue};
+ghost use Rattle.std.specs.Prelude.{◌≡◌, ◌<◌, ◌+◌, ◌^◌, ◌==◌, false, None, IsTrue};
+ghost use Rattle.hfs_volume.specs.Content.{has_attributes};
 ghost use Rattle.volume_base.specs.Attributing.{HasRoomToMark};
-ghost use Rattle.volume_base.specs.Losing.{HasRoomToLose, lose_edits};
+ghost use Rattle.volume_base.specs.Fitting.{AreMet, wants};
+ghost use Rattle.volume_base.specs.Losing.{HasRoomToLose};
 ghost use Rattle.volume_base.specs.Making.{HasRoomToMake};
 ghost use Rattle.volume_base.specs.Moving.{HasRoomToMove};
 ghost use Rattle.volume_base.specs.Removing.{HasRoomToBare};
@@ -15,7 +17,8 @@ use volume_base::{Edits, Volume, has_sector, has_tree};
 
 /// Whether there is a CNID behind this one.
 fn leaves_id(next: u32) -> bool
-    ensures { IsTrue result → next + 1 < 2 ^ 32 }
+    ensures fits { IsTrue result → next + 1 < 2 ^ 32 }
+    ensures sure { next + 1 < 2 ^ 32 → IsTrue result }
 {
     next < u32::MAX
 }
@@ -31,7 +34,8 @@ fn leaves_two_ids(next: u32) -> bool
 pub fn fits_make<P: SectorSpace>(volume: &Volume, space: &P) -> bool
     requires stands { StandsOver volume.now (P.SectorView.space space.now) }
     requires settled { IsTrue (P.SectorView.space space.now).tells → IsSettled volume.now (P.SectorView.space space.now).content }
-    ensures { IsTrue result → HasRoomToMake volume.now (P.SectorView.space space.now) }
+    ensures room { IsTrue result → HasRoomToMake volume.now (P.SectorView.space space.now) }
+    ensures met { IsTrue (P.SectorView.space space.now).tells → AreMet (wants 1 2 0 1) volume.now (P.SectorView.space space.now) → IsTrue result }
 {
     a_load_says_enough();
     a_load_is_of_parts();
@@ -54,7 +58,8 @@ pub fn fits_make<P: SectorSpace>(volume: &Volume, space: &P) -> bool
 pub fn fits_bare<P: SectorSpace>(volume: &Volume, space: &P, many: u32) -> bool
     requires stands { StandsOver volume.now (P.SectorView.space space.now) }
     requires settled { IsTrue (P.SectorView.space space.now).tells → IsSettled volume.now (P.SectorView.space space.now).content }
-    ensures { IsTrue result → HasRoomToBare many volume.now (P.SectorView.space space.now) }
+    ensures room { IsTrue result → HasRoomToBare many volume.now (P.SectorView.space space.now) }
+    ensures met { IsTrue (P.SectorView.space space.now).tells → (has_attributes volume.now.header ≡ false → many ≡ 0) → AreMet (wants 0 2 many 1) volume.now (P.SectorView.space space.now) → IsTrue result }
 {
     a_load_says_enough();
     a_load_is_of_parts();
@@ -90,7 +95,8 @@ pub(crate) fn fits_owner<P: SectorSpace>(volume: &Volume, space: &P, many: usize
 pub fn fits_move<P: SectorSpace>(volume: &Volume, space: &P) -> bool
     requires stands { StandsOver volume.now (P.SectorView.space space.now) }
     requires settled { IsTrue (P.SectorView.space space.now).tells → IsSettled volume.now (P.SectorView.space space.now).content }
-    ensures { IsTrue result → HasRoomToMove volume.now (P.SectorView.space space.now) }
+    ensures room { IsTrue result → HasRoomToMove volume.now (P.SectorView.space space.now) }
+    ensures met { IsTrue (P.SectorView.space space.now).tells → AreMet (wants 0 3 0 3) volume.now (P.SectorView.space space.now) → IsTrue result }
 {
     a_load_says_enough();
     a_load_is_of_parts();
@@ -150,7 +156,8 @@ pub(crate) fn fits_unlink_last<P: SectorSpace>(volume: &Volume, space: &P) -> bo
 fn fits_open<P: SectorSpace>(volume: &Volume, space: &P) -> bool
     requires stands { StandsOver volume.now (P.SectorView.space space.now) }
     requires settled { IsTrue (P.SectorView.space space.now).tells → IsSettled volume.now (P.SectorView.space space.now).content }
-    ensures { IsTrue result → HasRoomToMake volume.now (P.SectorView.space space.now) }
+    ensures room { IsTrue result → HasRoomToMake volume.now (P.SectorView.space space.now) }
+    ensures met { IsTrue (P.SectorView.space space.now).tells → volume.now.private ≡ None → AreMet (wants 1 2 0 1) volume.now (P.SectorView.space space.now) → AreMet (wants 1 5 0 4) volume.now (P.SectorView.space space.now) → IsTrue result }
 {
     if !fits_make(volume, space) {
         return false;
@@ -163,7 +170,8 @@ fn fits_open<P: SectorSpace>(volume: &Volume, space: &P) -> bool
 pub fn fits_lose<P: SectorSpace>(volume: &Volume, space: &P) -> bool
     requires stands { StandsOver volume.now (P.SectorView.space space.now) }
     requires settled { IsTrue (P.SectorView.space space.now).tells → IsSettled volume.now (P.SectorView.space space.now).content }
-    ensures { IsTrue result → HasRoomToLose volume.now (P.SectorView.space space.now) }
+    ensures room { IsTrue result → HasRoomToLose volume.now (P.SectorView.space space.now) }
+    ensures met { IsTrue (P.SectorView.space space.now).tells → AreMet (wants 0 2 0 1) volume.now (P.SectorView.space space.now) → (volume.now.private ≡ None → AreMet (wants 1 2 0 1) volume.now (P.SectorView.space space.now) × AreMet (wants 1 5 0 4) volume.now (P.SectorView.space space.now)) → IsTrue result }
 {
     if !volume.fits_remove(space) {
         return false;
@@ -178,7 +186,8 @@ pub fn fits_lose<P: SectorSpace>(volume: &Volume, space: &P) -> bool
 pub fn fits_setattr<P: SectorSpace>(volume: &Volume, space: &P) -> bool
     requires stands { StandsOver volume.now (P.SectorView.space space.now) }
     requires settled { IsTrue (P.SectorView.space space.now).tells → IsSettled volume.now (P.SectorView.space space.now).content }
-    ensures { IsTrue result → HasRoomToMark 2 volume.now (P.SectorView.space space.now) }
+    ensures room { IsTrue result → HasRoomToMark 2 volume.now (P.SectorView.space space.now) }
+    ensures met { IsTrue (P.SectorView.space space.now).tells → AreMet (wants 0 0 2 1) volume.now (P.SectorView.space space.now) → IsTrue result }
 {
     a_load_says_enough();
     a_load_is_of_parts();

@@ -7,6 +7,7 @@ ghost use Rattle.hfs_language.specs.declared.command.Command.TheVariants as comm
 ghost use Rattle.hfs_model.specs.Step.{is_private_path};
 ghost use Rattle.hfs_model.specs.declared.plain.PlainEntry.{PlainEntry};
 ghost use Rattle.volume_runs.specs.Run.{attribute_edits};
+ghost use Rattle.hfs_volume.specs.Content.{has_attributes};
 ghost use Rattle.hfs_volume.specs.TreeOf.{tree_of};
 ghost use Rattle.volume_base.specs.Lists.{lists_of};
 ghost use Rattle.volume_base.specs.Looking.{ReadsVolume};
@@ -57,6 +58,7 @@ fn bare_count_under<P: SectorSpace>(
     requires fits { FitsPath (path_to above.now name.now) }
     ensures told { IsTrue (P.SectorView.space space.old).tells → is_private_path (path_to above.now name.now) ≡ false → (entry : PlainEntry) → MayRemove (tree_of (P.SectorView.space space.old).content) (path_to above.now name.now) entry
         → IfOk result (λ many. many ≡ attribute_edits (tree_of (P.SectorView.space space.old).content) (command.Rmdir (path_to above.now name.now))) }
+    ensures none { IsTrue (P.SectorView.space space.old).tells → has_attributes volume.old.header ≡ false → IfOk result (λ many. many ≡ 0) }
     ensures reads { ReadsVolume volume.old volume.new (P.SectorView.space space.old) (P.SectorView.space space.new) }
     ensures stands { StandsOver volume.new (P.SectorView.space space.new) }
     ensures settled { IsTrue (P.SectorView.space space.old).tells → IsSettled volume.new (P.SectorView.space space.new).content }
@@ -84,6 +86,8 @@ pub fn bare_count<P: SectorSpace>(
     // Told, it is their number on the plain tree, where the folder may be removed.
     ensures told { IsTrue (P.SectorView.space space.old).tells → is_private_path path.now ≡ false → (entry : PlainEntry) → MayRemove (tree_of (P.SectorView.space space.old).content) path.now entry
         → IfOk result (λ many. many ≡ attribute_edits (tree_of (P.SectorView.space space.old).content) (command.Rmdir path.now)) }
+    // Without an attributes file there are none.
+    ensures none { IsTrue (P.SectorView.space space.old).tells → has_attributes volume.old.header ≡ false → IfOk result (λ many. many ≡ 0) }
     ensures reads { ReadsVolume volume.old volume.new (P.SectorView.space space.old) (P.SectorView.space space.new) }
     ensures stands { StandsOver volume.new (P.SectorView.space space.new) }
     ensures settled { IsTrue (P.SectorView.space space.old).tells → IsSettled volume.new (P.SectorView.space space.new).content }

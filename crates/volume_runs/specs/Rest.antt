@@ -1,24 +1,42 @@
 -- Housekeeping that comes to rest.
-use Rattle.std.specs.Prelude.{◌≡◌, ◌⊎◌, ℕ, Bool, true, Option, Some, None, IsTrue}
+use Rattle.std.specs.Prelude.{◌≡◌, ◌⊎◌, ◌<◌, ℕ, ◌+◌, ◌*◌, min, nat_lt, Bool, false, List, slice_index, Option, Some, None, IsTrue}
 use Rattle.jnl_format.specs.Recovery.{Content}
 use Rattle.hfs_language.specs.declared.refusal.Refusal.{Refusal}
 use Rattle.hfs_volume.specs.declared.cost.Cost.TheVariants as cost
 use Rattle.hfs_volume.specs.Content.{VolumeState, volume_of}
+use Rattle.hfs_volume.specs.Cost.{node_sectors, tree_at}
+use Rattle.hfs_volume.specs.Forks.{parts_for}
+use Rattle.hfs_volume.specs.declared.cost.Room.{Room}
 use Rattle.hfs_volume.specs.Reclaim.{CutOrphan, CutShrunk, DropAttribute, DropOrphan, Reclaim, Tidies, next_reclaim, reclaim_cost}
+use Rattle.hfs_volume.specs.Weight.{free_blocks, room_with}
 
--- the steps that aren't built yet, by which what was left is kept as it is
-abbrev pub is_left : Reclaim → Bool
-is_left (CutShrunk id) = true
-is_left (CutOrphan id kind) = true
-is_left (DropAttribute id name) = true
-is_left (DropOrphan id) = true
+-- A tree has to grow for a step of reclaiming.
+pub record WantsGrowth (capacity : ℕ) (volume : VolumeState) (step : Reclaim) : Type 0 where
+  pub load : ℕ
+  pub grow : List ℕ
+  pub costs : reclaim_cost capacity volume step ≡ cost.Load load grow
+  pub some : 0 < slice_index grow 0 + slice_index grow 1 + slice_index grow 2
 
--- Nothing is left to reclaim, or something is missing for the next step, or that step is still to come.
+-- the sectors that a cut puts at most: the volume header's, a node of the catalog, those of the bitmap, and the nodes of two changes of the extents overflow file
+abbrev pub cut_puts : Room → ℕ
+cut_puts room =
+    1 + node_sectors (tree_at room 1) + min (parts_for room.total 4096) 10
+    + node_sectors (tree_at room 0) * min (2 * (4 * ((tree_at room 0).depth + 1) + 4)) (tree_at room 0).nodes
+
+-- a transaction holds less than that, where the step is a cut
+abbrev pub is_tight : ℕ → VolumeState → Reclaim → Bool
+is_tight capacity volume (CutShrunk id) = nat_lt capacity (cut_puts (room_with capacity (free_blocks volume) volume))
+is_tight capacity volume (CutOrphan id kind) = nat_lt capacity (cut_puts (room_with capacity (free_blocks volume) volume))
+is_tight capacity volume (DropAttribute id name) = false
+is_tight capacity volume (DropOrphan id) = false
+
+-- why a step of reclaiming isn't made: a resource is missing for it; a tree has to grow for it, which isn't built; or it is a cut for which a transaction may be too small
+abbrev pub IsHeldUp : ℕ → VolumeState → Reclaim → Type 0
+IsHeldUp capacity volume step = ((why : Refusal) × (reclaim_cost capacity volume step ≡ cost.Refused why)) ⊎ (WantsGrowth capacity volume step ⊎ IsTrue (is_tight capacity volume step))
+
+-- nothing is left to reclaim, or the next step is held up
 abbrev pub IsAtRest : ℕ → Option ℕ → VolumeState → Type 0
-IsAtRest capacity shrunk volume =
-    (next_reclaim volume shrunk ≡ None)
-    ⊎ (((step : Reclaim) × (why : Refusal) × (next_reclaim volume shrunk ≡ Some step) × (reclaim_cost capacity volume step ≡ cost.Refused why))
-    ⊎ ((step : Reclaim) × (next_reclaim volume shrunk ≡ Some step) × IsTrue (is_left step)))
+IsAtRest capacity shrunk volume = (next_reclaim volume shrunk ≡ None) ⊎ ((step : Reclaim) × (next_reclaim volume shrunk ≡ Some step) × IsHeldUp capacity volume step)
 
 -- Housekeeping from one content to another, which comes to rest on the way.
 pub record Rests (capacity : ℕ) (shrunk : Option ℕ) (old new : Content) : Type 0 where

@@ -103,12 +103,12 @@ pub record GrowsMore (capacity : ℕ) (asked : Command) (content : Content) : Ty
 abbrev pub overflow_edits : VolumeState → PlainTree → Command → ℕ
 overflow_edits volume tree asked = slice_index (needs_for (free_blocks volume) volume (edits_of tree asked) (data_of tree asked)).edits 0
 
--- Data is put into a file whose blocks past its size go first, or its cost counts overflow records of the file's fork.
+-- The cost of the data that a command puts counts overflow records of its file's fork.
 abbrev pub PutsMore : VolumeState → PlainTree → Command → Type 0
-PutsMore volume tree asked = (needs_cut volume (data_of tree asked) ≡ true) ⊎ (0 < overflow_edits volume tree asked)
+PutsMore volume tree asked = 0 < overflow_edits volume tree asked
 
--- The step doesn't refuse the command, but it asks for more than is built: trees grow for it otherwise than is built, or it puts data where blocks past a size
--- go first or overflow records are counted.
+-- The step doesn't refuse the command, but it asks for more than is built: trees grow for it otherwise than is built, or overflow records are counted for the
+-- data that it puts.
 pub record AsksMore (capacity : ℕ) (asked : Command) (content : Content) : Type 0 where
   pub no_refusal : refuses (tree_of content) (Ok asked) ≡ false
   pub more : GrowsMore capacity asked content ⊎ PutsMore (volume_of content) (tree_of content) asked

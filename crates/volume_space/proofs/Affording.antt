@@ -1,13 +1,13 @@
 -- What the drop of an entry costs, and a step that was made behind reads.
 use Rattle.std.proofs.Common.{◌≡◌, ℕ, Bool, true, false, List, [], ◌∷◌, inl, inr, refl, sym, ◌∙◌, ap, subst}
-use Rattle.std.specs.Prelude.{◌==◌, ◌&&◌, slice_index, IfOk, Option, None, Some, Result, Ok, Err}
+use Rattle.std.specs.Prelude.{◌==◌, ◌&&◌, slice_index, IfOk, Option, None, Some, Result}
 use Rattle.std.proofs.lemmas.Bool.{and_parts, eqb-true, true≢false}
 use Rattle.hx_bytes.specs.declared.faults.Trouble.{Trouble}
 use Rattle.sector_disk.specs.Lists.{Content}
 use Rattle.hfs_language.specs.declared.refusal.Refusal.{Refusal}
 use Rattle.hfs_volume.specs.Content.{volume_of}
 use Rattle.hfs_volume.specs.Cost.{cost_of, cost_or, load_of, load_refusal, plan_of, resource_refusal}
-use Rattle.hfs_volume.specs.Reclaim.{CutOrphan, CutShrunk, DropAttribute, DropOrphan, Reclaim, reclaim_cost, reclaim_cost_with}
+use Rattle.hfs_volume.specs.Reclaim.{DropAttribute, DropOrphan, Reclaim, reclaim_cost, reclaim_cost_with}
 use Rattle.hfs_volume.specs.Weight.{cut_cost, cut_load, free_blocks, room_with}
 use Rattle.hfs_volume.specs.declared.cost.Cost.{Cost}
 use Rattle.hfs_volume.specs.declared.cost.Cost.TheVariants as cost
@@ -49,10 +49,10 @@ zeros grow three none =
 
 -- ---- the steps
 
-abbrev drop_edits : Edits
+abbrev pub drop_edits : Edits
 drop_edits = record { ids = 0; catalog = 2; attributes = 0; updates = 1 }
 
-abbrev bare_edits : Edits
+abbrev pub bare_edits : Edits
 bare_edits = record { ids = 0; catalog = 0; attributes = 1; updates = 1 }
 
 module _ (v : Volume) (content : Content) (settled : IsSettled v content) (edits : Edits) where
@@ -77,7 +77,7 @@ affords_bare_by v content settled found is none id name = let it = load_by v con
 -- ---- cuts
 
 -- what a cut costs by the room that the volume keeps is what it costs by that of the content
-cut_cost_is : (v : Volume) (content : Content) → IsSettled v content → cut_cost (room_on blocks.All v) ≡ cut_cost (room_with (capacity_of v) (free_blocks (volume_of content)) (volume_of content))
+pub cut_cost_is : (v : Volume) (content : Content) → IsSettled v content → cut_cost (room_on blocks.All v) ≡ cut_cost (room_with (capacity_of v) (free_blocks (volume_of content)) (volume_of content))
 unfolding room_with
 cut_cost_is v content settled = sym (λ i. cut_cost (room_with (capacity_of v) (free_blocks (volume_of content)) (settled.lists i)))
 

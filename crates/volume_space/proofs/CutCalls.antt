@@ -34,8 +34,8 @@ pub is_split : (count : ℕ) (list stays goes : List Extent) (run : Extent) → 
     → length goes ≡ 1 → run ≡ get_or goes 0 run → 0 < run.count → IsSplit count list (record { stays = stays; goes = run })
 is_split count list stays goes run is stay go one first some = record { stays = is; stay = stay; go = ap blocks_of (sym (single goes run one first)) ∙ go; some = some }
 
-pub last_cut : (keep count : ℕ) (list : List Extent) (cut : Cut) → keep + count ≤ length (blocks_of list) → IsSplit count list cut → IsLastCut keep list cut
-last_cut keep count list cut least split = record {
+pub last_cut : (keep count : ℕ) (list : List Extent) (cut : Cut) → keep + count ≤ length (blocks_of list) → length (blocks_of (take (length list - 1) list)) + count ≤ length (blocks_of list) → IsSplit count list cut → IsLastCut keep list cut
+last_cut keep count list cut least near split = record {
   left = length (blocks_of list) - count;
   stays = split.stays;
   stay = split.stay;
@@ -43,6 +43,7 @@ last_cut keep count list cut least split = record {
   least = omega (arith, least);
   some = split.some;
   sum = omega (arith, least, ap (λ (l : List ℕ). length l) split.go, length_blocks cut.goes [], length-drop (length (blocks_of list) - count) (blocks_of list));
+  near = omega (arith, near);
 }
 
 pub few_blocks : (keep count : ℕ) (list : List Extent) (cut : Cut) → count ≤ 32768 → keep + count ≤ length (blocks_of list) → IsSplit count list cut → cut.goes.count ≤ 32768

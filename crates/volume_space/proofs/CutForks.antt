@@ -70,7 +70,7 @@ front_ends total n (e ∷ es) each x has = by (λ there. front_ends total (n - e
 
 -- ---- a fork of fewer than eight extents has no overflow records
 
-full_all : (xs : List Extent) → is_full xs ≡ true → in_use xs ≡ xs
+pub full_all : (xs : List Extent) → is_full xs ≡ true → in_use xs ≡ xs
 full_all [] full = refl
 full_all (x ∷ xs) full =
     let parts = and_parts (not (x.count == 0)) (is_full xs) full in

@@ -25,7 +25,7 @@ module _ (v w : Volume) (keeps : Keeps v w) where
   }
 
   pub load_kept : trim_load w ≡ trim_load v
-  load_kept = λ i. trim_load (record v { map = record v.map { used = keeps.same.used i }; catalog = keeps.same.catalog i })
+  load_kept = λ i. trim_load (record v { map = record v.map { used = keeps.same.used i }; extents = keeps.same.extents i; catalog = keeps.same.catalog i })
 
   pub used_kept : KeepsUsed v w
   used_kept = record { holds = λ committed was. holds_kept v w keeps committed was; shrunk = keeps.same.shrunk; capacity = keeps.same.capacity }

@@ -1,11 +1,12 @@
 -- The lists of a volume of which the end of a file's fork was given back: blocks at the end of that fork are cut.
 use Rattle.std.proofs.Common.{◌≡◌, ◌≢◌, ◌⊎◌, inl, inr, ◌<◌, ◌≤◌, ℕ, ◌+◌, ◌-◌, ◌*◌, ◌==◌, Bool, true, false, List, [], ◌∷◌, ◌++◌, length, take, drop, refl, sym, ◌∙◌, ap, subst, arith, length-append, length-take}
-use Rattle.std.specs.Prelude.{All, Contains, cond, count_by, find, not, Option, Some, if◌then◌else◌}
+use Rattle.std.specs.Prelude.{All, Contains, cond, count_by, find, map, not, Option, Some, if◌then◌else◌}
 use Rattle.std.specs.List.{flat_map}
 use Rattle.std.proofs.Math.ListN.{drop_of_length-le}
 use Rattle.std.proofs.lemmas.Bool.{true≢false}
 use Rattle.std.proofs.lemmas.Grind.{flat_map-append}
-use Rattle.std.proofs.lemmas.List.{append-nil, length-drop, take_all}
+use Rattle.std.proofs.lemmas.List.{append-nil, length-drop, take_all, take-append-drop}
+use Rattle.std.proofs.lemmas.List.Elements.{Contains-append_left, Contains-append_cases}
 use Rattle.std.proofs.lemmas.List.Sums.{sum_by-append}
 use Rattle.hx_bytes.specs.declared.extents.Extent.{Extent}
 use Rattle.hx_bytes.specs.declared.extents.ForkRecord.{ForkRecord}
@@ -16,36 +17,65 @@ use Rattle.cat_records.specs.declared.record.FileRecord.{FileRecord}
 use Rattle.catalog.specs.Entries.{UpdatesEntry}
 use Rattle.fork_map.specs.Blocks.{blocks_of}
 use Rattle.fork_map.specs.Cut.{front}
-use Rattle.hfs_volume.specs.Blocks.{GoOn, GoesOn, HasSizes, forks_of}
+use Rattle.hfs_model.specs.Sorted.{kept}
+use Rattle.hfs_volume.specs.Blocks.{GoesOn, HasSizes, forks_of}
 use Rattle.hfs_volume.specs.Changes.{FlipsBits, HasSameNodes, IsStored, SwapsFork, with_fork}
 use Rattle.hfs_volume.specs.Content.{TreeFacts, VolumeState, is_set, overflow_in_volume, records_of}
 use Rattle.hfs_volume.specs.Entries.{IsUserId}
-use Rattle.hfs_volume.specs.Forks.{Owned, all_forks, blocks_owned, data_kind, extents_of, forks_in, in_use, is_full, overflow_in, resource_kind}
+use Rattle.hfs_volume.specs.Forks.{Owned, all_forks, blocks_owned, data_kind, extents_id, extents_of, forks_in, in_use, is_of, overflow_in, resource_kind}
 use Rattle.hfs_volume.specs.Reclaim.{blocks_at, blocks_found, is_fork}
-use Rattle.hfs_volume.specs.Records.{Overflow, Placed, entries_of, id_in, id_of, is_empty, is_folder, is_link_type, is_placed_at, is_thread, placed_in}
+use Rattle.hfs_volume.specs.Records.{Overflow, Placed, overflow_of, entries_of, id_in, id_of, is_empty, is_folder, is_link_type, is_placed_at, is_thread, placed_in}
 use Rattle.hfs_volume.specs.Sound.{IsSoundVolume}
 use Rattle.hfs_volume.specs.Writing.{CutsBlocks, file_after, file_before, with_free}
 use Rattle.hfs_volume.proofs.Flat.{found_some}
 use Rattle.hfs_volume.proofs.Hiding.{one_there, same_entry}
 use Rattle.hfs_volume.proofs.Making.{pairs_split}
-use Rattle.hfs_volume.proofs.Members.{all_of, at_front, behind, each_of}
+use Rattle.hfs_volume.proofs.Members.{all_of, at_front, behind, each_of, kept_cases}
+use Rattle.hfs_volume.proofs.Reaching.{flat_cases}
 use Rattle.hfs_volume.proofs.Seeing.{same_number}
 use Rattle.hfs_volume.proofs.Sides.{is_entry_of}
 use Rattle.hfs_volume.proofs.Swapping.{Splits}
 use Rattle.overflow.specs.Records.{eight_at}
 use Rattle.overflow.proofs.Cutting.{AreUsed, eight_used, in_use_used}
+use Rattle.overflow.proofs.Whole.{stored_gives, stored_goes_on, used_by, whole_is}
 use Rattle.volume_space.specs.Cutting.{IsCutOf, cut_fork_of, fork_at, with_freed}
+use Rattle.volume_space.specs.Spreading.{StoresFork}
 use Rattle.volume_space.specs.declared.cutting.Cut.{Cut}
-use Rattle.volume_space.proofs.CutForks.{fork_found, fork_owned, front_ends, front_few, front_used, none_behind}
+use Rattle.volume_space.proofs.CutForks.{fork_found, fork_owned, front_ends, front_used}
 use Rattle.volume_space.proofs.NextDrop.{fork_stands}
 use Rattle.volume_base.proofs.PlainFiles.{shaped_of}
 
-module _ (old : VolumeState) (sound : IsSoundVolume old) (kind keep parent : ℕ) (name : List ℕ) (file : FileRecord) (cut : Cut) (pairs : List Pair) (tree : TreeFacts) (bits : List Bool)
+-- each extent of a fork has blocks
+used_both : (xs ys : List Extent) → AreUsed xs → AreUsed ys → AreUsed (xs ++ ys)
+used_both [] ys first later = later
+used_both (x ∷ xs) ys first later = (first.0, used_both xs ys first.1 later)
+
+used_more : (more : List Overflow) → AreUsed (used_by more)
+used_more [] = tt
+used_more (one ∷ more) = used_both (in_use one.extents) (used_by more) (in_use_used one.extents) (used_more more)
+
+pub extents_used : (overflow : List Overflow) (id kind : ℕ) (fork : ForkRecord) → AreUsed (extents_of overflow id kind fork)
+unfolding extents_of
+extents_used overflow id kind fork = used_both (in_use fork.extents.extents) (used_by (overflow_in overflow id kind)) (in_use_used fork.extents.extents) (used_more (overflow_in overflow id kind))
+
+-- and ends where the volume ends, or before
+pub extents_end : (total id kind : ℕ) (overflow : List Overflow) (fork : ForkRecord) → id ≢ extents_id → All (λ (e : Extent). e.start + e.count ≤ total) (in_use fork.extents.extents)
+    → All (λ (m : Overflow). All (λ (e : Extent). e.start + e.count ≤ total) (in_use m.extents)) overflow → (x : Extent) → Contains (extents_of overflow id kind fork) x → x.start + x.count ≤ total
+extents_end total id kind overflow fork other first later x has = elim (Contains-append_cases (in_use fork.extents.extents) (used_by (kept (is_of id kind) overflow)) x (subst (λ (l : List Extent). Contains l x) (whole_is overflow id kind fork other) has)) [
+  | inl own ↦ each_of (λ (e : Extent). e.start + e.count ≤ total) (in_use fork.extents.extents) first x own
+  | inr behind_it ↦
+      let found = flat_cases (λ (m : Overflow). in_use m.extents) (kept (is_of id kind) overflow) x behind_it in
+      each_of (λ (e : Extent). e.start + e.count ≤ total) (in_use found.0.extents)
+      (each_of (λ (m : Overflow). All (λ (e : Extent). e.start + e.count ≤ total) (in_use m.extents)) overflow later found.0 (kept_cases (is_of id kind) overflow found.0 found.1).0) x found.2
+]
+
+module _ (old : VolumeState) (sound : IsSoundVolume old) (kind keep parent : ℕ) (name : List ℕ) (file : FileRecord) (list : List Extent) (cut : Cut) (pairs : List Pair) (tree : TreeFacts) (more : List Pair) (extents : TreeFacts) (bits : List Bool)
     (u : UpdatesEntry parent name (File (with_fork kind (cut_fork_of old.head.block_size (fork_at kind file) cut) file)) old.catalog_pairs pairs) (value : u.entry.value ≡ File file) (no_link : is_link_type file.fields ≡ false)
-    (is_kind : (kind ≡ data_kind) ⊎ (kind ≡ resource_kind)) (eight : length (fork_at kind file).extents.extents ≡ 8) (is_cut : IsCutOf (fork_at kind file) keep cut) (nodes : HasSameNodes old.catalog_tree tree)
+    (is_kind : (kind ≡ data_kind) ⊎ (kind ≡ resource_kind)) (is_list : list ≡ extents_of (overflow_in_volume old) file.fields.id kind (fork_at kind file)) (is_cut : IsCutOf list (fork_at kind file) keep cut) (nodes : HasSameNodes old.catalog_tree tree)
+    (stores : StoresFork file.fields.id kind cut.stays old.overflow_pairs more) (extents_nodes : HasSameNodes old.extents_tree extents)
   where
     abbrev pub cut_lists : VolumeState
-    cut_lists = record old { head = with_freed cut.goes.count old.head; catalog_pairs = pairs; catalog_tree = tree; bits = bits }
+    cut_lists = record old { head = with_freed cut.goes.count old.head; catalog_pairs = pairs; catalog_tree = tree; overflow_pairs = more; extents_tree = extents; bits = bits }
 
     -- the volume before, with the header that it gets
     abbrev begun : VolumeState
@@ -56,9 +86,6 @@ module _ (old : VolumeState) (sound : IsSoundVolume old) (kind keep parent : ℕ
 
     abbrev shorter : ForkRecord
     shorter = cut_fork_of old.head.block_size (fork_at kind file) cut
-
-    abbrev list : List Extent
-    list = in_use (fork_at kind file).extents.extents
 
     abbrev left : ℕ
     left = is_cut.last.left
@@ -127,21 +154,17 @@ module _ (old : VolumeState) (sound : IsSoundVolume old) (kind keep parent : ℕ
     sizes : HasSizes old.head (overflow_in_volume old) (fork_owned kind file)
     sizes = each_of (HasSizes old.head (overflow_in_volume old)) (forks_of old) sound.blocks.forks.sizes (fork_owned kind file) owned_stands
 
-    goes_on : GoesOn (overflow_in_volume old) (fork_owned kind file)
-    goes_on = each_of (GoesOn (overflow_in_volume old)) (forks_of old) sound.blocks.forks.goes_on (fork_owned kind file) owned_stands
+    other_id : file.fields.id ≢ extents_id
+    other_id same = omega (arith, high, same)
 
-    none_over : overflow_in (overflow_in_volume old) file.fields.id kind ≡ []
-    none_over = none_behind (overflow_in_volume old) (fork_owned kind file) eight is_cut.few goes_on
-
-    pub extents_alone : (any : ForkRecord) → extents_of (overflow_in_volume old) file.fields.id kind any ≡ in_use any.extents.extents
-    unfolding extents_of
-    extents_alone any = ap (λ (l : List Overflow). in_use any.extents.extents ++ flat_map (λ (m : Overflow). in_use m.extents) l) none_over ∙ append-nil (in_use any.extents.extents)
+    list_used : AreUsed list
+    list_used = subst AreUsed (sym is_list) (extents_used (overflow_in_volume old) file.fields.id kind (fork_at kind file))
 
     pub was_at : blocks_at old file.fields.id kind ≡ blocks_of list
     was_at =
         ap (λ l. blocks_found (overflow_in_volume old) (find (is_fork file.fields.id kind) (all_forks old.head l))) parts.was
         ∙ ap (blocks_found (overflow_in_volume old)) (fork_found old.head parts.front parts.back u.entry file named value high alone kind is_kind)
-        ∙ ap blocks_of (extents_alone (fork_at kind file))
+        ∙ ap blocks_of (sym is_list)
 
     begun_at : (k : ℕ) → blocks_at begun file.fields.id k ≡ blocks_at old file.fields.id k
     unfolding all_forks
@@ -150,13 +173,17 @@ module _ (old : VolumeState) (sound : IsSoundVolume old) (kind keep parent : ℕ
     -- ---- and behind it
 
     used : AreUsed cut.stays
-    used = subst AreUsed (sym is_cut.last.stays) (front_used left list (in_use_used (fork_at kind file).extents.extents))
+    used = subst AreUsed (sym is_cut.last.stays) (front_used left list list_used)
 
-    few : length cut.stays ≤ 8
-    few = omega (arith, ap (λ (l : List Extent). length l) is_cut.last.stays, front_few left list, is_cut.few)
+    pub stays_are : extents_of (map overflow_of more) file.fields.id kind (cut_fork_of old.head.block_size (fork_at kind file) cut) ≡ cut.stays
+    unfolding extents_of
+    stays_are = stored_gives (map overflow_of more) file.fields.id kind cut.stays other_id used stores.records
 
-    pub stays_in : in_use (eight_at cut.stays 0).extents ≡ cut.stays
-    stays_in = eight_used cut.stays 0 used ∙ take_all 8 cut.stays (omega (arith, few))
+    stays_go_on : GoesOn (map overflow_of more) (record { id = file.fields.id; kind = kind; fork = shorter })
+    stays_go_on = stored_goes_on (map overflow_of more) file.fields.id kind cut.stays other_id used stores.records
+
+    front_in : in_use (eight_at cut.stays 0).extents ≡ take 8 cut.stays
+    front_in = eight_used cut.stays 0 used
 
     file_of_other : (k : ℕ) → (k ≡ data_kind) ⊎ (k ≡ resource_kind) → (any : ForkRecord) → fork_at k (with_fork k any file) ≡ any
     file_of_other k (inl is) any = subst (λ n. fork_at n (with_fork n any file) ≡ any) (sym is) refl
@@ -176,9 +203,9 @@ module _ (old : VolumeState) (sound : IsSoundVolume old) (kind keep parent : ℕ
 
     is_at : blocks_at cut_lists file.fields.id kind ≡ blocks_of cut.stays
     is_at =
-        ap (λ l. blocks_found (overflow_in_volume old) (find (is_fork file.fields.id kind) (all_forks cut_lists.head l))) parts.is
-        ∙ ap (blocks_found (overflow_in_volume old)) found_then
-        ∙ ap blocks_of (extents_alone shorter ∙ stays_in)
+        ap (λ l. blocks_found (map overflow_of more) (find (is_fork file.fields.id kind) (all_forks cut_lists.head l))) parts.is
+        ∙ ap (blocks_found (map overflow_of more)) found_then
+        ∙ ap blocks_of stays_are
 
     total_is : length (blocks_of list) ≡ (fork_at kind file).total_blocks
     total_is = is_cut.blocks
@@ -191,17 +218,20 @@ module _ (old : VolumeState) (sound : IsSoundVolume old) (kind keep parent : ℕ
 
     ends : (x : Extent) → Contains cut.stays x → x.start + x.count ≤ old.head.total_blocks
     ends x has =
-        front_ends old.head.total_blocks left list (λ y there. each_of (λ (e : Extent). e.start + e.count ≤ old.head.total_blocks) (in_use (fork_at kind file).extents.extents) sizes.inside y there) x
+        front_ends old.head.total_blocks left list (λ y there. extents_end old.head.total_blocks file.fields.id kind (overflow_in_volume old) (fork_at kind file) other_id sizes.inside sound.blocks.forks.more_inside y (subst (λ (l : List Extent). Contains l y) is_list there)) x
         (subst (λ (l : List Extent). Contains l x) is_cut.last.stays has)
+
+    in_front : (x : Extent) → Contains (take 8 cut.stays) x → Contains cut.stays x
+    in_front x has = subst (λ (l : List Extent). Contains l x) (take-append-drop 8 cut.stays) (Contains-append_left (take 8 cut.stays) (drop 8 cut.stays) x has)
 
     pub is_stored : IsStored file.fields.id kind shorter cut_lists
     is_stored = (
       record {
-        inside = subst (λ (es : List Extent). All (λ (e : Extent). e.start + e.count ≤ old.head.total_blocks) es) (sym stays_in) (all_of (λ (e : Extent). e.start + e.count ≤ old.head.total_blocks) cut.stays ends);
-        blocks = ap (λ (es : List Extent). length (blocks_of es)) (extents_alone shorter ∙ stays_in) ∙ stays_long ∙ sym left_is;
+        inside = subst (λ (es : List Extent). All (λ (e : Extent). e.start + e.count ≤ old.head.total_blocks) es) (sym front_in) (all_of (λ (e : Extent). e.start + e.count ≤ old.head.total_blocks) (take 8 cut.stays) (λ x has. ends x (in_front x has)));
+        blocks = ap (λ (es : List Extent). length (blocks_of es)) stays_are ∙ stays_long ∙ sym left_is;
         bytes = omega arith;
       },
-      subst (λ (more : List Overflow). GoOn (length (blocks_of shorter.extents.extents)) (is_full shorter.extents.extents) more) (sym none_over) tt,
+      stays_go_on,
     )
 
     pub swaps : SwapsFork file.fields.id kind old.catalog_pairs pairs
@@ -244,10 +274,10 @@ module _ (old : VolumeState) (sound : IsSoundVolume old) (kind keep parent : ℕ
                 ∙ ap (λ (l : List ℕ). take left (blocks_at begun file.fields.id kind) ++ l) (sym (drop_of_length-le (blocks_at begun file.fields.id kind) (omega (arith, ap (λ (l : List ℕ). length l) (begun_at kind ∙ was_at), is_cut.last.sum))));
             file = swaps;
             stored = is_stored;
-            others = refl;
+            others = stores.others;
             flips = subst (λ (l : List ℕ). FlipsBits [] l begun cut_lists) (sym freed_is) flips;
             catalog_nodes = nodes;
-            extents_nodes = record { total = refl; size = refl };
+            extents_nodes = extents_nodes;
             rest = refl;
           };
         };

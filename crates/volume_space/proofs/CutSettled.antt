@@ -3,6 +3,7 @@ use Rattle.std.proofs.Common.{◌≡◌, ◌≢◌, ◌⊎◌, inl, inr, ◌<◌
 use Rattle.std.specs.Prelude.{Contains, IsTrue, Option, None, Some}
 use Rattle.std.specs.Option.{option_map}
 use Rattle.std.proofs.lemmas.Bool.{true≢false}
+use Rattle.hx_bytes.specs.declared.extents.Extent.{Extent}
 use Rattle.hx_bytes.specs.declared.extents.ForkRecord.{ForkRecord}
 use Rattle.jnl_format.specs.Recovery.{header_of_volume}
 use Rattle.volume_header.specs.declared.header.VolumeHeader.{VolumeHeader}
@@ -43,6 +44,7 @@ use Rattle.volume_space.specs.Cutting.{IsCutOf, MayGive, PutsGiven, cut_fork_of,
 use Rattle.volume_base.specs.Lists.{bits_on, facts_on, lists_of}
 use Rattle.volume_space.specs.Mapping.{HoldsMap}
 use Rattle.volume_base.specs.Standing.{IsSettled, IsStanding, attribute_sectors, file_sectors, map_sectors, with_attributes_tree}
+use Rattle.volume_space.specs.Spreading.{StoresExtents, StoresFork}
 use Rattle.volume_space.specs.declared.cutting.Cut.{Cut}
 use Rattle.volume_base.specs.declared.entries.Entry.{Entry}
 use Rattle.volume_base.specs.declared.volume.Volume.{Volume}
@@ -73,18 +75,15 @@ alike_for entry file value any kind (inr is) = subst (λ n. SameKind entry (reco
   reference = λ _. sym (ap (λ (v : CatRecord). special_of (record entry { value = v })) value);
 })
 
-module _ (v w : Volume) (a c d : Space) (was : IsStanding v a) (settled : IsSettled v a.content) (entry : Entry) (file : FileRecord) (kind keep : ℕ) (cut : Cut) (may : MayGive cut.goes v) (unchanged : v.map.changed ≡ none (sectors_for (length v.map.used)))
-    (is_kind : (kind ≡ data_kind) ⊎ (kind ≡ resource_kind)) (eight : length (fork_at kind file).extents.extents ≡ 8) (is_cut : IsCutOf (fork_at kind file) keep cut) (no_link : is_link_type file.fields ≡ false)
+module _ (v x w : Volume) (a c e d : Space) (was : IsStanding v a) (settled : IsSettled v a.content) (entry : Entry) (file : FileRecord) (list : List Extent) (kind keep : ℕ) (cut : Cut) (may : MayGive cut.goes v) (unchanged : v.map.changed ≡ none (sectors_for (length v.map.used)))
+    (is_kind : (kind ≡ data_kind) ⊎ (kind ≡ resource_kind)) (is_list : list ≡ extents_of (overflow_in_volume (volume_of a.content)) file.fields.id kind (fork_at kind file)) (is_cut : IsCutOf list (fork_at kind file) keep cut) (no_link : is_link_type file.fields ≡ false)
     (there : value_at (lists_of v a.content).catalog_pairs entry.parent entry.name ≡ Some entry.rec) (is : entry.rec ≡ File file)
-    (puts : PutsGiven (given_back cut.goes v) a.content c.content)
-    (replaces : ReplacesRecord entry (File (with_fork kind (cut_fork_of v.header.block_size (fork_at kind file) cut) file)) (given_back cut.goes v) w c.content d.content)
+    (puts : PutsGiven (given_back cut.goes v) a.content c.content) (stores : StoresExtents file.fields.id kind cut.stays (given_back cut.goes v) x c.content e.content)
+    (replaces : ReplacesRecord entry (File (with_fork kind (cut_fork_of v.header.block_size (fork_at kind file) cut) file)) x w e.content d.content)
     (stands : IsStanding w d)
   where
     abbrev old : VolumeState
     old = volume_of a.content
-
-    abbrev v1 : Volume
-    v1 = given_back cut.goes v
 
     abbrev pairs : List Pair
     pairs = (lists_of w d.content).catalog_pairs
@@ -95,12 +94,12 @@ module _ (v w : Volume) (a c d : Space) (was : IsStanding v a) (settled : IsSett
     head_is : (volume_of a.content).head ≡ v.header
     head_is = ap (λ (l : VolumeState). l.head) settled.lists
 
-    pairs_are : (lists_of (given_back cut.goes v) c.content).catalog_pairs ≡ (volume_of a.content).catalog_pairs
-    pairs_are = ap (λ (l : VolumeState). l.catalog_pairs) puts.lists ∙ sym (ap (λ (l : VolumeState). l.catalog_pairs) settled.lists)
+    pairs_are : (lists_of x e.content).catalog_pairs ≡ (volume_of a.content).catalog_pairs
+    pairs_are = ap (λ (l : VolumeState). l.catalog_pairs) stores.lists ∙ ap (λ (l : VolumeState). l.catalog_pairs) puts.lists ∙ sym (ap (λ (l : VolumeState). l.catalog_pairs) settled.lists)
 
     pub updates : UpdatesEntry entry.parent entry.name (File (with_fork kind (cut_fork_of (volume_of a.content).head.block_size (fork_at kind file) cut) file)) (volume_of a.content).catalog_pairs (lists_of w d.content).catalog_pairs
     updates = subst (λ (k : ℕ × List Pair). UpdatesEntry entry.parent entry.name (File (with_fork kind (cut_fork_of k.0 (fork_at kind file) cut) file)) k.1 (lists_of w d.content).catalog_pairs)
-        {x = (v.header.block_size, (lists_of (given_back cut.goes v) c.content).catalog_pairs)} {y = ((volume_of a.content).head.block_size, (volume_of a.content).catalog_pairs)} (λ i. ((sym head_is i).block_size, pairs_are i)) replaces.updates
+        {x = (v.header.block_size, (lists_of x e.content).catalog_pairs)} {y = ((volume_of a.content).head.block_size, (volume_of a.content).catalog_pairs)} (λ i. ((sym head_is i).block_size, pairs_are i)) replaces.updates
 
     there_now : value_at (volume_of a.content).catalog_pairs entry.parent entry.name ≡ Some (File file)
     there_now = ap (λ (l : VolumeState). value_at l.catalog_pairs entry.parent entry.name) settled.lists ∙ there ∙ ap Some is
@@ -110,43 +109,65 @@ module _ (v w : Volume) (a c d : Space) (was : IsStanding v a) (settled : IsSett
 
     pub nodes : HasSameNodes (volume_of a.content).catalog_tree (facts_on w.catalog.file)
     nodes = record {
-      total = replaces.changes.nodes.0 ∙ sym (ap (λ (l : VolumeState). l.catalog_tree.shape.total) settled.lists);
-      size = replaces.changes.nodes.1 ∙ sym (ap (λ (l : VolumeState). l.catalog_tree.shape.node_size) settled.lists);
+      total = replaces.changes.nodes.0 ∙ ap (λ (y : Volume). y.catalog.file.shape.total) stores.rest ∙ sym (ap (λ (l : VolumeState). l.catalog_tree.shape.total) settled.lists);
+      size = replaces.changes.nodes.1 ∙ ap (λ (y : Volume). y.catalog.file.shape.node_size) stores.rest ∙ sym (ap (λ (l : VolumeState). l.catalog_tree.shape.node_size) settled.lists);
     }
+
+    pub extents_nodes : HasSameNodes (volume_of a.content).extents_tree (facts_on x.extents.file)
+    extents_nodes = record {
+      total = stores.file.total ∙ sym (ap (λ (l : VolumeState). l.extents_tree.shape.total) settled.lists);
+      size = stores.file.node_size ∙ sym (ap (λ (l : VolumeState). l.extents_tree.shape.node_size) settled.lists);
+    }
+
+    -- the overflow records that it leads to
+    abbrev pub more_pairs : List Pair
+    more_pairs = (lists_of x e.content).overflow_pairs
+
+    pub stored : StoresFork file.fields.id kind cut.stays (volume_of a.content).overflow_pairs (lists_of x e.content).overflow_pairs
+    stored = subst (λ (l : List Pair). StoresFork file.fields.id kind cut.stays l (lists_of x e.content).overflow_pairs) (ap (λ (l : VolumeState). l.overflow_pairs) puts.lists ∙ sym (ap (λ (l : VolumeState). l.overflow_pairs) settled.lists)) stores.stores
 
     -- the lists that it leads to
     abbrev pub lists_cut : VolumeState
-    lists_cut = cut_lists (volume_of a.content) settled.sound kind keep entry.parent entry.name file cut (lists_of w d.content).catalog_pairs (facts_on w.catalog.file) (bits_on (given_back cut.goes v)) updates (found_value updates) no_link is_kind eight is_cut nodes
+    lists_cut = cut_lists (volume_of a.content) settled.sound kind keep entry.parent entry.name file list cut (lists_of w d.content).catalog_pairs (facts_on w.catalog.file) (lists_of x e.content).overflow_pairs (facts_on x.extents.file) (bits_on (given_back cut.goes v)) updates (found_value updates) no_link is_kind is_list is_cut nodes stored extents_nodes
 
     pub does : CutsBlocks file.fields.id kind is_cut.last.left cut.goes.count (volume_of a.content) lists_cut
-    does = cuts (volume_of a.content) settled.sound kind keep entry.parent entry.name file cut (lists_of w d.content).catalog_pairs (facts_on w.catalog.file) (bits_on (given_back cut.goes v)) updates (found_value updates) no_link is_kind eight is_cut nodes
+    does = cuts (volume_of a.content) settled.sound kind keep entry.parent entry.name file list cut (lists_of w d.content).catalog_pairs (facts_on w.catalog.file) (lists_of x e.content).overflow_pairs (facts_on x.extents.file) (bits_on (given_back cut.goes v)) updates (found_value updates) no_link is_kind is_list is_cut nodes stored extents_nodes
         (flips_given cut.goes v may unchanged a was settled _ _ refl refl)
 
     pub does_after : (file_after does.puts ≡ with_fork kind (cut_fork_of (volume_of a.content).head.block_size (fork_at kind file) cut) file) × (file_before does.puts ≡ file)
     unfolding does
-    does_after = after_is (volume_of a.content) settled.sound kind keep entry.parent entry.name file cut (lists_of w d.content).catalog_pairs (facts_on w.catalog.file) (bits_on (given_back cut.goes v)) updates (found_value updates) no_link is_kind eight is_cut nodes
+    does_after = after_is (volume_of a.content) settled.sound kind keep entry.parent entry.name file list cut (lists_of w d.content).catalog_pairs (facts_on w.catalog.file) (lists_of x e.content).overflow_pairs (facts_on x.extents.file) (bits_on (given_back cut.goes v)) updates (found_value updates) no_link is_kind is_list is_cut nodes stored extents_nodes
         (flips_given cut.goes v may unchanged a was settled _ _ refl refl)
 
+    -- behind the record, header, bits and bitmap are those of the volume that gave the run back
+    rest_is : w ≡ record (given_back cut.goes v) { extents = x.extents; catalog = w.catalog }
+    rest_is = replaces.rest ∙ (λ i. record (stores.rest i) { catalog = w.catalog })
+
     pub header_same : w.header ≡ with_freed cut.goes.count v.header
-    header_same = ap (λ (x : Volume). x.header) replaces.rest
+    header_same = ap (λ (y : Volume). y.header) rest_is
 
     lists_then : record (lists_of w d.content) { attributes_tree = (volume_of a.content).attributes_tree } ≡ lists_cut
     lists_then =
         (λ i. record (replaces.changes.lists i) { attributes_tree = (volume_of a.content).attributes_tree })
-        ∙ (λ i. record (puts.lists i) { head = w.header; catalog_pairs = (lists_of w d.content).catalog_pairs; catalog_tree = facts_on w.catalog.file; attributes_tree = (volume_of a.content).attributes_tree })
-        ∙ (λ i. record (lists_of (given_back cut.goes v) a.content) { head = header_same i; catalog_pairs = (lists_of w d.content).catalog_pairs; catalog_tree = facts_on w.catalog.file; attributes_tree = (volume_of a.content).attributes_tree })
-        ∙ sym (λ i. record (settled.lists i) { head = with_freed cut.goes.count (settled.lists i).head; catalog_pairs = (lists_of w d.content).catalog_pairs; catalog_tree = facts_on w.catalog.file; bits = bits_on (given_back cut.goes v) })
+        ∙ (λ i. record (stores.lists i) { head = w.header; catalog_pairs = (lists_of w d.content).catalog_pairs; catalog_tree = facts_on w.catalog.file; attributes_tree = (volume_of a.content).attributes_tree })
+        ∙ (λ i. record (puts.lists i) { head = w.header; catalog_pairs = (lists_of w d.content).catalog_pairs; catalog_tree = facts_on w.catalog.file; overflow_pairs = (lists_of x e.content).overflow_pairs; extents_tree = facts_on x.extents.file; attributes_tree = (volume_of a.content).attributes_tree })
+        ∙ (λ i. record (lists_of (given_back cut.goes v) a.content) { head = header_same i; catalog_pairs = (lists_of w d.content).catalog_pairs; catalog_tree = facts_on w.catalog.file; overflow_pairs = (lists_of x e.content).overflow_pairs; extents_tree = facts_on x.extents.file; attributes_tree = (volume_of a.content).attributes_tree })
+        ∙ sym (λ i. record (settled.lists i) { head = with_freed cut.goes.count (settled.lists i).head; catalog_pairs = (lists_of w d.content).catalog_pairs; catalog_tree = facts_on w.catalog.file; overflow_pairs = (lists_of x e.content).overflow_pairs; extents_tree = facts_on x.extents.file; bits = bits_on (given_back cut.goes v) })
 
     -- ---- what is read
 
     pub headed : header_of_volume d.content ≡ w.header
-    headed = replaces.headed ∙ puts.headed ∙ sym header_same
+    headed = replaces.headed ∙ stores.headed ∙ puts.headed ∙ sym header_same
 
-    -- a sector of the bitmap is neither the header's nor one of the catalog's
-    map_off : (s : ℕ) → Contains (map_sectors v) s → (s ≢ 2) × (Contains (sectors_of_tree v.catalog.file) s → ⊥)
+    catalog_same : sectors_of_tree x.catalog.file ≡ sectors_of_tree v.catalog.file
+    catalog_same = ap (λ (y : Volume). sectors_of_tree y.catalog.file) stores.rest
+
+    -- a sector of the bitmap is neither the header's nor one of the catalog's or of the extents overflow file's
+    map_off : (s : ℕ) → Contains (map_sectors v) s → (s ≢ 2) × (Contains (sectors_of_tree v.catalog.file) s → ⊥) × (Contains (sectors_of_tree v.extents.file) s → ⊥)
     map_off s has = (
       λ two. omega (arith, counted, stands_once s (map_sectors v) has, stands_once s (2 ∷ []) (0, omega arith, sym two)),
       λ other. omega (arith, counted, stands_once s (map_sectors v) has, stands_once s (sectors_of_tree v.catalog.file) other),
+      λ other. omega (arith, counted, stands_once s (map_sectors v) has, stands_once s (sectors_of_tree v.extents.file) other),
     )
       where
         counted : times s (2 ∷ []) + (times s (sectors_of_tree v.extents.file) + (times s (sectors_of_tree v.catalog.file) + (times s (attribute_sectors v) + times s (map_sectors v)))) ≤ 1
@@ -159,15 +180,17 @@ module _ (v w : Volume) (a c d : Space) (was : IsStanding v a) (settled : IsSett
           times-append s (attribute_sectors v) (map_sectors v),
         )
 
-    replaced_elsewhere : (s : ℕ) → s ≢ 2 → (Contains (sectors_of_tree v.catalog.file) s → ⊥) → sector d.content s ≡ sector c.content s
-    replaced_elsewhere s differs none_there = ⊎_elim (λ same. same) (λ has. absurd (⊎_elim differs none_there has)) (replaces.changes.outside.each s)
+    replaced_elsewhere : (s : ℕ) → s ≢ 2 → (Contains (sectors_of_tree v.catalog.file) s → ⊥) → (Contains (sectors_of_tree v.extents.file) s → ⊥) → sector d.content s ≡ sector c.content s
+    replaced_elsewhere s differs none_there none_more =
+        ⊎_elim (λ same. same) (λ has. absurd (⊎_elim differs (λ here. none_there (subst (λ (l : List ℕ). Contains l s) catalog_same here)) has)) (replaces.changes.outside.each s)
+        ∙ ⊎_elim (λ same. same) (λ has. absurd (none_more has)) (stores.outside.each s)
 
-    pub elsewhere : (s : ℕ) → s ≢ 2 → (Contains (sectors_of_tree v.catalog.file) s → ⊥) → (Contains (map_sectors v) s → ⊥) → sector d.content s ≡ sector a.content s
-    elsewhere s differs none_there nor = replaced_elsewhere s differs none_there ∙ ⊎_elim (λ same. same) (λ has. absurd (⊎_elim differs nor has)) (puts.outside.each s)
+    pub elsewhere : (s : ℕ) → s ≢ 2 → (Contains (sectors_of_tree v.catalog.file) s → ⊥) → (Contains (sectors_of_tree v.extents.file) s → ⊥) → (Contains (map_sectors v) s → ⊥) → sector d.content s ≡ sector a.content s
+    elsewhere s differs none_there none_more nor = replaced_elsewhere s differs none_there none_more ∙ ⊎_elim (λ same. same) (λ has. absurd (⊎_elim differs nor has)) (puts.outside.each s)
 
     holds : HoldsMap w d.content
-    holds = subst (λ (x : Volume). HoldsMap x d.content) (sym replaces.rest) (λ k low.
-        bit_elsewhere (map_sectors v) c.content d.content (λ s has. replaced_elsewhere s (map_off s has).0 (map_off s has).1) k ∙ puts.holds k low)
+    holds = subst (λ (y : Volume). HoldsMap y d.content) (sym rest_is) (λ k low.
+        bit_elsewhere (map_sectors v) c.content d.content (λ s has. replaced_elsewhere s (map_off s has).0 (map_off s has).1 (map_off s has).2) k ∙ puts.holds k low)
 
     fits : length w.map.used ≤ 8 * w.header.allocation_fork.logical_size
     fits = omega (
@@ -198,7 +221,7 @@ module _ (v w : Volume) (a c d : Space) (was : IsStanding v a) (settled : IsSett
     module _ (sound : IsSoundVolume lists_cut) where
       pub settled_now : IsSettled w d.content
       settled_now = settles w d stands headed bits (volume_of a.content).attributes_tree (λ has. settled.attributes (subst (λ (h : VolumeHeader). IsTrue (has_attributes h)) header_same has) ∙ attributes_file_same) (subst IsSoundVolume (sym lists_then) sound)
-          (ap (λ (x : Volume). x.private) replaces.rest ∙ settled.private ∙ sym private)
+          (ap (λ (y : Volume). y.private) rest_is ∙ settled.private ∙ sym private)
         where
           attributes_file_same : facts_on v.attributes.file ≡ facts_on w.attributes.file
-          attributes_file_same = sym (ap (λ (x : Volume). facts_on x.attributes.file) replaces.rest)
+          attributes_file_same = sym (ap (λ (y : Volume). facts_on y.attributes.file) rest_is)

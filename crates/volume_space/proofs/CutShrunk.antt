@@ -35,13 +35,14 @@ use Rattle.volume_base.specs.Changing.{ReplacesRecord}
 use Rattle.volume_space.specs.Cutting.{CutsFile, IsCutOf, MayGive, PutsGiven, cut_fork_of, fork_at, given_back, with_freed}
 use Rattle.volume_base.specs.Lists.{bits_on, facts_on, lists_of}
 use Rattle.volume_base.specs.Standing.{IsSettled, IsStanding}
+use Rattle.volume_space.specs.Spreading.{StoresExtents}
 use Rattle.volume_space.specs.declared.cutting.Cut.{Cut}
 use Rattle.volume_base.specs.declared.entries.Entry.{Entry}
 use Rattle.volume_base.specs.declared.volume.Volume.{Volume}
 use Rattle.volume_space.proofs.CutDone.{entry_there, high_id, keeps, low_tree, off, others, tree_same}
-use Rattle.volume_space.proofs.CutLists.{extents_alone, left_is, stays_in}
-use Rattle.volume_space.proofs.CutSettled.{does, does_after, found_value, header_same, headed, lists_cut, nodes, settled_now, updates, volume_now}
-use Rattle.volume_base.proofs.FilesKept.{not_2, not_in_catalog, not_in_map}
+use Rattle.volume_space.proofs.CutLists.{left_is, stays_are}
+use Rattle.volume_space.proofs.CutSettled.{does, does_after, extents_nodes, found_value, header_same, headed, lists_cut, nodes, settled_now, stored, updates, volume_now}
+use Rattle.volume_base.proofs.FilesKept.{not_2, not_in_catalog, not_in_extents, not_in_map}
 use Rattle.volume_base.proofs.TreesSettled.{header_settled}
 
 -- ---- bytes of blocks
@@ -72,15 +73,15 @@ take_front (suc n) (x ∷ xs) ys less = ap (λ l. x ∷ l) (take_front n xs ys (
 lie_in : (size block left : ℕ) → 0 < block → parts_for size block ≤ left → size ≤ left * block
 lie_in size block left some least = ⊎_elim (λ (more : left * block < size). absurd (omega (arith, below_parts block size left some more, least))) (λ (enough : size ≤ left * block). enough) (cases_lt (left * block) size)
 
-module _ (v w : Volume) (a c d : Space) (was : IsStanding v a) (settled : IsSettled v a.content) (entry : Entry) (file : FileRecord) (keep : ℕ) (cut : Cut) (may : MayGive cut.goes v) (unchanged : v.map.changed ≡ none (sectors_for (length v.map.used)))
-    (eight : length (fork_at data_kind file).extents.extents ≡ 8) (is_cut : IsCutOf (fork_at data_kind file) keep cut) (no_link : is_link_type file.fields ≡ false)
+module _ (v x w : Volume) (a c e d : Space) (was : IsStanding v a) (settled : IsSettled v a.content) (entry : Entry) (file : FileRecord) (list : List Extent) (keep : ℕ) (cut : Cut) (may : MayGive cut.goes v) (unchanged : v.map.changed ≡ none (sectors_for (length v.map.used)))
+    (is_list : list ≡ extents_of (overflow_in_volume (volume_of a.content)) file.fields.id data_kind (fork_at data_kind file)) (is_cut : IsCutOf list (fork_at data_kind file) keep cut) (no_link : is_link_type file.fields ≡ false)
     (there : value_at (lists_of v a.content).catalog_pairs entry.parent entry.name ≡ Some entry.rec) (is : entry.rec ≡ File file)
-    (puts : PutsGiven (given_back cut.goes v) a.content c.content)
-    (replaces : ReplacesRecord entry (File (with_fork data_kind (cut_fork_of v.header.block_size (fork_at data_kind file) cut) file)) (given_back cut.goes v) w c.content d.content)
+    (puts : PutsGiven (given_back cut.goes v) a.content c.content) (stores : StoresExtents file.fields.id data_kind cut.stays (given_back cut.goes v) x c.content e.content)
+    (replaces : ReplacesRecord entry (File (with_fork data_kind (cut_fork_of v.header.block_size (fork_at data_kind file) cut) file)) x w e.content d.content)
     (stands : IsStanding w d) (wanted : parts_for file.data_fork.logical_size (volume_of a.content).head.block_size ≤ keep)
   where
     abbrev new : VolumeState
-    new = lists_cut v w a c d was settled entry file data_kind keep cut may unchanged (inl refl) eight is_cut no_link there is puts replaces stands
+    new = lists_cut v x w a c e d was settled entry file list data_kind keep cut may unchanged (inl refl) is_list is_cut no_link there is puts stores replaces stands
 
     abbrev head : VolumeHeader
     head = header_of_volume a.content
@@ -99,22 +100,18 @@ module _ (v w : Volume) (a c d : Space) (was : IsStanding v a) (settled : IsSett
     enough = lie_in file.data_fork.logical_size (volume_of a.content).head.block_size is_cut.last.left (omega (arith, blocks.whole, blocks.some)) (omega (arith, wanted, is_cut.last.least))
 
     size_is : (cut_fork_of (volume_of a.content).head.block_size file.data_fork cut).logical_size ≡ file.data_fork.logical_size
-    size_is = ap (λ n. min file.data_fork.logical_size (n * (volume_of a.content).head.block_size)) (left_is (volume_of a.content) settled.sound data_kind keep entry.parent entry.name file cut (lists_of w d.content).catalog_pairs (facts_on w.catalog.file) (bits_on (given_back cut.goes v)) (updates v w a c d was settled entry file data_kind keep cut may unchanged (inl refl) eight is_cut no_link there is puts replaces stands) (found_value v w a c d was settled entry file data_kind keep cut may unchanged (inl refl) eight is_cut no_link there is puts replaces stands (updates v w a c d was settled entry file data_kind keep cut may unchanged (inl refl) eight is_cut no_link there is puts replaces stands)) no_link (inl refl) eight is_cut (nodes v w a c d was settled entry file data_kind keep cut may unchanged (inl refl) eight is_cut no_link there is puts replaces stands)) ∙ omega (arith, enough)
+    size_is = ap (λ n. min file.data_fork.logical_size (n * (volume_of a.content).head.block_size)) (left_is (volume_of a.content) settled.sound data_kind keep entry.parent entry.name file list cut (lists_of w d.content).catalog_pairs (facts_on w.catalog.file) (lists_of x e.content).overflow_pairs (facts_on x.extents.file) (bits_on (given_back cut.goes v)) (updates v x w a c e d was settled entry file list data_kind keep cut may unchanged (inl refl) is_list is_cut no_link there is puts stores replaces stands) (found_value v x w a c e d was settled entry file list data_kind keep cut may unchanged (inl refl) is_list is_cut no_link there is puts stores replaces stands (updates v x w a c e d was settled entry file list data_kind keep cut may unchanged (inl refl) is_list is_cut no_link there is puts stores replaces stands)) no_link (inl refl) is_list is_cut (nodes v x w a c e d was settled entry file list data_kind keep cut may unchanged (inl refl) is_list is_cut no_link there is puts stores replaces stands) (stored v x w a c e d was settled entry file list data_kind keep cut may unchanged (inl refl) is_list is_cut no_link there is puts stores replaces stands) (extents_nodes v x w a c e d was settled entry file list data_kind keep cut may unchanged (inl refl) is_list is_cut no_link there is puts stores replaces stands)) ∙ omega (arith, enough)
 
     heads : header_of_volume d.content ≡ with_freed cut.goes.count (header_of_volume a.content)
-    heads = headed v w a c d was settled entry file data_kind keep cut may unchanged (inl refl) eight is_cut no_link there is puts replaces stands ∙ header_same v w a c d was settled entry file data_kind keep cut may unchanged (inl refl) eight is_cut no_link there is puts replaces stands ∙ ap (with_freed cut.goes.count) (sym (header_settled v a.content settled))
+    heads = headed v x w a c e d was settled entry file list data_kind keep cut may unchanged (inl refl) is_list is_cut no_link there is puts stores replaces stands ∙ header_same v x w a c e d was settled entry file list data_kind keep cut may unchanged (inl refl) is_list is_cut no_link there is puts stores replaces stands ∙ ap (with_freed cut.goes.count) (sym (header_settled v a.content settled))
 
-    overflow : overflow_in_volume (volume_of d.content) ≡ overflow_in_volume (volume_of a.content)
-    overflow = ap overflow_in_volume (volume_now v w a c d was settled entry file data_kind keep cut may unchanged (inl refl) eight is_cut no_link there is puts replaces stands)
+    stays : extents_of (overflow_in_volume (volume_of d.content)) file.fields.id data_kind (cut_fork_of (volume_of a.content).head.block_size file.data_fork cut) ≡ cut.stays
+    stays =
+        ap (λ (l : VolumeState). extents_of (overflow_in_volume l) file.fields.id data_kind (cut_fork_of (volume_of a.content).head.block_size file.data_fork cut)) (volume_now v x w a c e d was settled entry file list data_kind keep cut may unchanged (inl refl) is_list is_cut no_link there is puts stores replaces stands)
+        ∙ stays_are (volume_of a.content) settled.sound data_kind keep entry.parent entry.name file list cut (lists_of w d.content).catalog_pairs (facts_on w.catalog.file) (lists_of x e.content).overflow_pairs (facts_on x.extents.file) (bits_on (given_back cut.goes v)) (updates v x w a c e d was settled entry file list data_kind keep cut may unchanged (inl refl) is_list is_cut no_link there is puts stores replaces stands) (found_value v x w a c e d was settled entry file list data_kind keep cut may unchanged (inl refl) is_list is_cut no_link there is puts stores replaces stands (updates v x w a c e d was settled entry file list data_kind keep cut may unchanged (inl refl) is_list is_cut no_link there is puts stores replaces stands)) no_link (inl refl) is_list is_cut (nodes v x w a c e d was settled entry file list data_kind keep cut may unchanged (inl refl) is_list is_cut no_link there is puts stores replaces stands) (stored v x w a c e d was settled entry file list data_kind keep cut may unchanged (inl refl) is_list is_cut no_link there is puts stores replaces stands) (extents_nodes v x w a c e d was settled entry file list data_kind keep cut may unchanged (inl refl) is_list is_cut no_link there is puts stores replaces stands)
 
-    stays_are : extents_of (overflow_in_volume (volume_of a.content)) file.fields.id data_kind (cut_fork_of (volume_of a.content).head.block_size file.data_fork cut) ≡ cut.stays
-    stays_are = extents_alone (volume_of a.content) settled.sound data_kind keep entry.parent entry.name file cut (lists_of w d.content).catalog_pairs (facts_on w.catalog.file) (bits_on (given_back cut.goes v)) (updates v w a c d was settled entry file data_kind keep cut may unchanged (inl refl) eight is_cut no_link there is puts replaces stands) (found_value v w a c d was settled entry file data_kind keep cut may unchanged (inl refl) eight is_cut no_link there is puts replaces stands (updates v w a c d was settled entry file data_kind keep cut may unchanged (inl refl) eight is_cut no_link there is puts replaces stands)) no_link (inl refl) eight is_cut (nodes v w a c d was settled entry file data_kind keep cut may unchanged (inl refl) eight is_cut no_link there is puts replaces stands) (cut_fork_of (volume_of a.content).head.block_size file.data_fork cut) ∙ stays_in (volume_of a.content) settled.sound data_kind keep entry.parent entry.name file cut (lists_of w d.content).catalog_pairs (facts_on w.catalog.file) (bits_on (given_back cut.goes v)) (updates v w a c d was settled entry file data_kind keep cut may unchanged (inl refl) eight is_cut no_link there is puts replaces stands) (found_value v w a c d was settled entry file data_kind keep cut may unchanged (inl refl) eight is_cut no_link there is puts replaces stands (updates v w a c d was settled entry file data_kind keep cut may unchanged (inl refl) eight is_cut no_link there is puts replaces stands)) no_link (inl refl) eight is_cut (nodes v w a c d was settled entry file data_kind keep cut may unchanged (inl refl) eight is_cut no_link there is puts replaces stands)
-
-    were : extents_of (overflow_in_volume (volume_of a.content)) file.fields.id data_kind file.data_fork ≡ in_use file.data_fork.extents.extents
-    were = extents_alone (volume_of a.content) settled.sound data_kind keep entry.parent entry.name file cut (lists_of w d.content).catalog_pairs (facts_on w.catalog.file) (bits_on (given_back cut.goes v)) (updates v w a c d was settled entry file data_kind keep cut may unchanged (inl refl) eight is_cut no_link there is puts replaces stands) (found_value v w a c d was settled entry file data_kind keep cut may unchanged (inl refl) eight is_cut no_link there is puts replaces stands (updates v w a c d was settled entry file data_kind keep cut may unchanged (inl refl) eight is_cut no_link there is puts replaces stands)) no_link (inl refl) eight is_cut (nodes v w a c d was settled entry file data_kind keep cut may unchanged (inl refl) eight is_cut no_link there is puts replaces stands) file.data_fork
-
-    abbrev list : List Extent
-    list = in_use file.data_fork.extents.extents
+    were : extents_of (overflow_in_volume (volume_of a.content)) file.fields.id data_kind file.data_fork ≡ list
+    were = sym is_list
 
     -- the sectors of its blocks, in two parts
     parts : sectors_of (per_block_of head) (blocks_of list) ≡ sectors_of (per_block_of head) (blocks_of cut.stays) ++ sectors_of (per_block_of head) (drop is_cut.last.left (blocks_of list))
@@ -130,10 +127,10 @@ module _ (v w : Volume) (a c d : Space) (was : IsStanding v a) (settled : IsSett
 
     agrees : (s : ℕ) → Contains (sectors_of (per_block_of head) (blocks_of cut.stays)) s → sector d.content s ≡ sector a.content s
     agrees s has =
-        let value = found_value v w a c d was settled entry file data_kind keep cut may unchanged (inl refl) eight is_cut no_link there is puts replaces stands (updates v w a c d was settled entry file data_kind keep cut may unchanged (inl refl) eight is_cut no_link there is puts replaces stands) in
-        let stood = entry_there v w a c d was settled entry file data_kind keep cut may unchanged (inl refl) eight is_cut no_link there is puts replaces stands in
-        off v w a c d was settled entry file data_kind keep cut may unchanged (inl refl) eight is_cut no_link there is puts replaces stands s (not_2 (volume_of a.content) settled.sound (updates v w a c d was settled entry file data_kind keep cut may unchanged (inl refl) eight is_cut no_link there is puts replaces stands).entry file stood value s (its_sector s has))
-        (not_in_catalog (volume_of a.content) settled.sound (updates v w a c d was settled entry file data_kind keep cut may unchanged (inl refl) eight is_cut no_link there is puts replaces stands).entry file stood value s (its_sector s has)) (not_in_map (volume_of a.content) settled.sound (updates v w a c d was settled entry file data_kind keep cut may unchanged (inl refl) eight is_cut no_link there is puts replaces stands).entry file stood value s (its_sector s has))
+        let value = found_value v x w a c e d was settled entry file list data_kind keep cut may unchanged (inl refl) is_list is_cut no_link there is puts stores replaces stands (updates v x w a c e d was settled entry file list data_kind keep cut may unchanged (inl refl) is_list is_cut no_link there is puts stores replaces stands) in
+        let stood = entry_there v x w a c e d was settled entry file list data_kind keep cut may unchanged (inl refl) is_list is_cut no_link there is puts stores replaces stands in
+        off v x w a c e d was settled entry file list data_kind keep cut may unchanged (inl refl) is_list is_cut no_link there is puts stores replaces stands s (not_2 (volume_of a.content) settled.sound (updates v x w a c e d was settled entry file list data_kind keep cut may unchanged (inl refl) is_list is_cut no_link there is puts stores replaces stands).entry file stood value s (its_sector s has))
+        (not_in_catalog (volume_of a.content) settled.sound (updates v x w a c e d was settled entry file list data_kind keep cut may unchanged (inl refl) is_list is_cut no_link there is puts stores replaces stands).entry file stood value s (its_sector s has)) (not_in_extents (volume_of a.content) settled.sound (updates v x w a c e d was settled entry file list data_kind keep cut may unchanged (inl refl) is_list is_cut no_link there is puts stores replaces stands).entry file stood value s (its_sector s has)) (not_in_map (volume_of a.content) settled.sound (updates v x w a c e d was settled entry file list data_kind keep cut may unchanged (inl refl) is_list is_cut no_link there is puts stores replaces stands).entry file stood value s (its_sector s has))
 
     long_enough : file.data_fork.logical_size ≤ length (block_bytes a.content (block_limit a.content) (sectors_of (per_block_of head) (blocks_of cut.stays)))
     long_enough =
@@ -145,8 +142,8 @@ module _ (v w : Volume) (a c d : Space) (was : IsStanding v a) (settled : IsSett
     own_bytes : file_bytes d.content (with_fork data_kind (cut_fork_of (volume_of a.content).head.block_size (fork_at data_kind file) cut) file) ≡ file_bytes a.content file
     unfolding file_bytes
     own_bytes =
-        (λ i. take (size_is i) (block_bytes d.content ((heads i).total_blocks * per_block_of (heads i)) (sectors_of (per_block_of (heads i)) (blocks_of (extents_of (overflow i) file.fields.id data_kind (cut_fork_of (volume_of a.content).head.block_size file.data_fork cut))))))
-        ∙ (λ i. take size (block_bytes d.content (block_limit a.content) (sectors_of (per_block_of head) (blocks_of (stays_are i)))))
+        (λ i. take (size_is i) (block_bytes d.content ((heads i).total_blocks * per_block_of (heads i)) (sectors_of (per_block_of (heads i)) (blocks_of (extents_of (overflow_in_volume (volume_of d.content)) file.fields.id data_kind (cut_fork_of (volume_of a.content).head.block_size file.data_fork cut))))))
+        ∙ (λ i. take size (block_bytes d.content (block_limit a.content) (sectors_of (per_block_of head) (blocks_of (stays i)))))
         ∙ ap (take size) (same_bytes a.content d.content (block_limit a.content) (sectors_of (per_block_of head) (blocks_of cut.stays)) agrees)
         ∙ sym (take_front size (block_bytes a.content (block_limit a.content) (sectors_of (per_block_of head) (blocks_of cut.stays))) (block_bytes a.content (block_limit a.content) (sectors_of (per_block_of head) (drop is_cut.last.left (blocks_of list)))) long_enough)
         ∙ ap (take size) (sym (bytes_append a.content (block_limit a.content) (sectors_of (per_block_of head) (blocks_of cut.stays)) (sectors_of (per_block_of head) (drop is_cut.last.left (blocks_of list)))) ∙ ap (block_bytes a.content (block_limit a.content)) (sym parts))
@@ -154,18 +151,18 @@ module _ (v w : Volume) (a c d : Space) (was : IsStanding v a) (settled : IsSett
 
     module _ (law : ShrunkCut) (bytes : OthersKeepBytes) (user : IsUserFile file.fields.id (volume_of a.content)) (shrunk : Option ℕ) (next : next_reclaim (volume_of a.content) shrunk ≡ Some (CutShrunk file.fields.id)) (least : blocks_wanted (volume_of a.content) file.fields.id data_kind ≤ is_cut.last.left) where
       by_shrunk : IsSoundVolume new × (tree_in new (file_bytes d.content) ≡ tree_in (volume_of a.content) (file_bytes a.content)) × Does (CutShrunk file.fields.id) (volume_of a.content) new
-      by_shrunk = law file.fields.id is_cut.last.left cut.goes.count (volume_of a.content) new (file_bytes a.content) (file_bytes d.content) settled.sound user (does v w a c d was settled entry file data_kind keep cut may unchanged (inl refl) eight is_cut no_link there is puts replaces stands) least
-          (ap (file_bytes d.content) (does_after v w a c d was settled entry file data_kind keep cut may unchanged (inl refl) eight is_cut no_link there is puts replaces stands).0 ∙ own_bytes ∙ sym (ap (file_bytes a.content) (does_after v w a c d was settled entry file data_kind keep cut may unchanged (inl refl) eight is_cut no_link there is puts replaces stands).1)) (others v w a c d was settled entry file data_kind keep cut may unchanged (inl refl) eight is_cut no_link there is puts replaces stands bytes)
+      by_shrunk = law file.fields.id is_cut.last.left cut.goes.count (volume_of a.content) new (file_bytes a.content) (file_bytes d.content) settled.sound user (does v x w a c e d was settled entry file list data_kind keep cut may unchanged (inl refl) is_list is_cut no_link there is puts stores replaces stands) least
+          (ap (file_bytes d.content) (does_after v x w a c e d was settled entry file list data_kind keep cut may unchanged (inl refl) is_list is_cut no_link there is puts stores replaces stands).0 ∙ own_bytes ∙ sym (ap (file_bytes a.content) (does_after v x w a c e d was settled entry file list data_kind keep cut may unchanged (inl refl) is_list is_cut no_link there is puts stores replaces stands).1)) (others v x w a c e d was settled entry file list data_kind keep cut may unchanged (inl refl) is_list is_cut no_link there is puts stores replaces stands bytes)
 
       pub shrunk_done : IsSettled w d.content × CutsFile shrunk a.content d.content
       shrunk_done = (
-        settled_now v w a c d was settled entry file data_kind keep cut may unchanged (inl refl) eight is_cut no_link there is puts replaces stands by_shrunk.0,
+        settled_now v x w a c e d was settled entry file list data_kind keep cut may unchanged (inl refl) is_list is_cut no_link there is puts stores replaces stands by_shrunk.0,
         record {
           step = CutShrunk file.fields.id;
           is_cut = inl (file.fields.id, refl);
           next = next;
-          does = subst (λ (l : VolumeState). Does (CutShrunk file.fields.id) (volume_of a.content) l) (sym (volume_now v w a c d was settled entry file data_kind keep cut may unchanged (inl refl) eight is_cut no_link there is puts replaces stands)) (record { cut = by_shrunk.2.cut; others = by_shrunk.2.others });
-          keeps = keeps v w a c d was settled entry file data_kind keep cut may unchanged (inl refl) eight is_cut no_link there is puts replaces stands (λ id other tree. by_shrunk.2.others id other (inl (λ same. absurd (omega (arith, same, high_id v w a c d was settled entry file data_kind keep cut may unchanged (inl refl) eight is_cut no_link there is puts replaces stands, low_tree v w a c d was settled entry file data_kind keep cut may unchanged (inl refl) eight is_cut no_link there is puts replaces stands id tree)))));
-          tree = tree_same v w a c d was settled entry file data_kind keep cut may unchanged (inl refl) eight is_cut no_link there is puts replaces stands by_shrunk.1;
+          does = subst (λ (l : VolumeState). Does (CutShrunk file.fields.id) (volume_of a.content) l) (sym (volume_now v x w a c e d was settled entry file list data_kind keep cut may unchanged (inl refl) is_list is_cut no_link there is puts stores replaces stands)) (record { cut = by_shrunk.2.cut; others = by_shrunk.2.others });
+          keeps = keeps v x w a c e d was settled entry file list data_kind keep cut may unchanged (inl refl) is_list is_cut no_link there is puts stores replaces stands (λ id other tree. by_shrunk.2.others id other (inl (λ same. absurd (omega (arith, same, high_id v x w a c e d was settled entry file list data_kind keep cut may unchanged (inl refl) is_list is_cut no_link there is puts stores replaces stands, low_tree v x w a c e d was settled entry file list data_kind keep cut may unchanged (inl refl) is_list is_cut no_link there is puts stores replaces stands id tree)))));
+          tree = tree_same v x w a c e d was settled entry file list data_kind keep cut may unchanged (inl refl) is_list is_cut no_link there is puts stores replaces stands by_shrunk.1;
         },
       )

@@ -6,6 +6,7 @@ pub mod AttributesGrownSettled
 pub mod AttributesGrownStands
 pub mod AttributesGrownUnchanged
 pub mod AttributesGrownWhole
+pub mod BehindTemp
 pub mod CutCalls
 pub mod CutDone
 pub mod CutForks
@@ -14,6 +15,8 @@ pub mod CutLists
 pub mod CutSettled
 pub mod CutShrunk
 pub mod CutWhole
+pub mod ExtentsEdited
+pub mod FewChanges
 pub mod GivenBack
 pub mod GrownAhead
 pub mod GrownAlone
@@ -31,11 +34,14 @@ pub mod GrownSettled
 pub mod GrownStands
 pub mod GrownUnchanged
 pub mod GrownWhole
+pub mod HeldUp
 pub mod KeptUsed
 pub mod Mapped
 pub mod NextCut
 pub mod NextDrop
+pub mod Numerals
 pub mod OrphanFacts
+pub mod PastSizes
 pub mod PutAlike
 pub mod PutAllowed
 pub mod PutBits
@@ -63,6 +69,8 @@ pub mod Sounding
 pub mod Spilled
 pub mod SpilledBits
 pub mod SpilledFile
+pub mod SpreadFile
+pub mod SpreadForks
 pub mod Stripped
 pub mod TakenOut
 pub mod ToDrop

@@ -1,6 +1,6 @@
 -- The next step of reclaiming is a cut: of the file shrunk last where that has blocks past its size, or of the file of the least CNID that waits where
 -- that has blocks.
-use Rattle.std.proofs.Common.{◌≡◌, ◌⊎◌, inl, inr, ℕ, ◌<◌, ◌==◌, ◌&&◌, Bool, true, false, not, List, [], ◌∷◌, length, refl, sym, ◌∙◌, ap, subst, arith}
+use Rattle.std.proofs.Common.{◌≡◌, inl, inr, ℕ, ◌==◌, Bool, true, false, not, List, [], ◌∷◌, length, refl, sym, ◌∙◌, ap, subst}
 use Rattle.std.specs.Prelude.{Contains, IfSome, nat_lt, Option, None, Some, if◌then◌else◌}
 use Rattle.std.specs.Option.{option_map}
 use Rattle.std.proofs.lemmas.Bool.{eqb-true, true≢false}
@@ -16,7 +16,6 @@ use Rattle.cat_records.specs.declared.record.ThreadRecord.{ThreadRecord}
 use Rattle.catalog.specs.Pairs.{thread_at, value_at}
 use Rattle.fork_map.specs.Blocks.{blocks_of}
 use Rattle.sector_disk.specs.Lists.{Content}
-use Rattle.volume_header.specs.declared.header.VolumeHeader.{VolumeHeader}
 use Rattle.hfs_volume.specs.Content.{VolumeState, attributes_of, overflow_in_volume, records_of, volume_of}
 use Rattle.hfs_volume.specs.Forks.{Owned, data_kind, forks_in, parts_for, resource_kind}
 use Rattle.hfs_volume.specs.Links.{is_orphan, orphans_of}
@@ -158,7 +157,7 @@ module _ (v : Volume) (content : Content) (settled : IsSettled v content) where
   block_is : (volume_of content).head.block_size ≡ v.header.block_size
   block_is = ap (λ (l : VolumeState). l.head.block_size) settled.lists
 
-  stands_so : (entry : Entry) → is_thread entry.rec ≡ false → value_at (lists_of v content).catalog_pairs entry.parent entry.name ≡ Some entry.rec → (e : Placed) × Contains (entries_of (records_of (volume_of content))) e × (e.value ≡ entry.rec)
+  pub stands_so : (entry : Entry) → is_thread entry.rec ≡ false → value_at (lists_of v content).catalog_pairs entry.parent entry.name ≡ Some entry.rec → (e : Placed) × Contains (entries_of (records_of (volume_of content))) e × (e.value ≡ entry.rec)
   stands_so entry kind told = stands_there (volume_of content) settled.sound entry.parent entry.name entry.rec kind (ap (λ (l : List Pair). value_at l entry.parent entry.name) pairs_are ∙ told)
 
   -- what a file that was shrunk has past its size is the next cut

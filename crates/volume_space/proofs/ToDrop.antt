@@ -1,6 +1,6 @@
 -- The file with the least CNID of those that wait, as it is found by its CNID, is the one whose entry the next step of reclaiming drops.
-use Rattle.std.proofs.Common.{◌≡◌, ◌≤◌, ℕ, true, false, List, length, refl, sym, ◌∙◌, ap, subst}
-use Rattle.std.specs.Prelude.{Contains, IfOk, IfSome, Option, None, Some, Result, Ok, Err, map}
+use Rattle.std.proofs.Common.{◌≡◌, ◌≤◌, ℕ, true, false, List, length, sym, ◌∙◌, ap, subst}
+use Rattle.std.specs.Prelude.{Contains, IfOk, IfSome, Option, None, Some, Result, Ok, Err}
 use Rattle.hx_bytes.specs.declared.faults.Trouble.{Trouble}
 use Rattle.sector_disk.specs.Lists.{Content}
 use Rattle.attributes.specs.Owned.{names_of}
@@ -10,34 +10,35 @@ use Rattle.btree_node.specs.TreeFile.{store_of}
 use Rattle.btree_file.specs.Held.{file_in}
 use Rattle.btree_file.specs.State.{sectors_of_tree}
 use Rattle.catalog.specs.Children.{children_in}
-use Rattle.catalog.specs.declared.folder.Child.{Child}
-use Rattle.cat_records.specs.declared.record.CatRecord.{CatRecord}
 use Rattle.hfs_volume.specs.Content.{VolumeState, records_of, volume_of}
-use Rattle.hfs_volume.specs.Links.{is_orphan, orphans_of, private_id}
+use Rattle.hfs_volume.specs.Links.{is_orphan, orphans_of}
 use Rattle.hfs_volume.specs.Reclaim.{DropAttribute, DropOrphan, has_surplus_left, least, next_reclaim}
 use Rattle.hfs_volume.specs.Reclaiming.{DropIsOfBareOrphan, IsBareOrphan}
-use Rattle.hfs_volume.specs.Records.{Placed, entries_of, id_of, placed_in}
+use Rattle.hfs_volume.specs.Records.{Placed, entries_of, id_of}
 use Rattle.hfs_volume.proofs.Flat.{some_same}
 use Rattle.hfs_volume.proofs.Hiding.{same_entry}
 use Rattle.hfs_volume.proofs.Members.{kept_cases}
 use Rattle.volume_base.specs.Entering.{entry_by_id}
 use Rattle.volume_base.specs.Lists.{lists_of}
-use Rattle.volume_space.specs.Orphans.{IsFirstName, IsToDrop, is_blockless, least_clear, searched, unsearched}
+use Rattle.volume_space.specs.Orphans.{IsFirstName, IsToDrop, found_among, is_blockless}
 use Rattle.volume_base.specs.Standing.{HoldsTrees, IsSettled}
 use Rattle.volume_base.specs.declared.entries.Entry.{Entry}
 use Rattle.volume_base.specs.declared.volume.Volume.{Volume}
 use Rattle.volume_base.proofs.Entered.{entry_is, keys_are, short_names}
 use Rattle.volume_space.proofs.NextDrop.{least_is, next_is_bare, next_is_drop}
 use Rattle.volume_base.proofs.Rising.{settled_sorted}
-use Rattle.volume_space.proofs.Waiting.{least_found}
+use Rattle.volume_space.proofs.Waiting.{least_found, none_waits}
 
--- what a search among the entries of the private folder found
-pub waiting_found : (v : Volume) (content : Content) → IsSettled v content → (private : ℕ) → v.private ≡ Some private → (list : List Child) → list ≡ children_in private (lists_of v content).catalog_pairs → (looked : List Child) → looked ≡ list
-    → (found : Option ℕ) → found ≡ least_clear (searched unsearched looked) → IfSome found (λ id. least (orphans_of (records_of (volume_of content))) ≡ Some id)
-waiting_found v content settled private has list listed looked same None is = tt
-waiting_found v content settled private has list listed looked same (Some id) is =
-    least_found (volume_of content).catalog_pairs private id (sym settled.private ∙ has)
-    (ap (λ (l : List Child). least_clear (searched unsearched l)) (ap (children_in private) (ap (λ (l : VolumeState). l.catalog_pairs) settled.lists) ∙ sym listed ∙ sym same) ∙ sym is)
+-- what was found among the entries of the private folder
+pub waiting_told : (v : Volume) (content : Content) → IsSettled v content → (private : ℕ) → v.private ≡ Some private → (r : Result (Option ℕ) Trouble) → IfOk r (λ (found : Option ℕ). found ≡ found_among None (children_in private (lists_of v content).catalog_pairs))
+    → IfOk r (λ (found : Option ℕ). found ≡ least (orphans_of (records_of (volume_of content))))
+waiting_told v content settled private has (Ok found) told =
+    told ∙ ap (λ (l : VolumeState). found_among None (children_in private l.catalog_pairs)) (sym settled.lists) ∙ least_found (volume_of content).catalog_pairs private (sym settled.private ∙ has)
+waiting_told v content settled private has (Err why) told = tt
+
+-- without a private folder
+pub none_found : (v : Volume) (content : Content) → IsSettled v content → v.private ≡ None → None ≡ least (orphans_of (records_of (volume_of content)))
+none_found v content settled none = sym (none_waits (records_of (volume_of content)) (sym settled.private ∙ none))
 
 module _ (v : Volume) (content : Content) (holds : HoldsTrees v content) (settled : IsSettled v content) (id : ℕ) (lowest : least (orphans_of (records_of (volume_of content))) ≡ Some id) (law : DropIsOfBareOrphan) (shrunk : Option ℕ) (unshrunk : has_surplus_left (volume_of content) shrunk ≡ false) where
   found : (e : Placed) × Contains (orphans_of (records_of (volume_of content))) e × (id_of e ≡ id)

@@ -1,8 +1,9 @@
 -- Blocks at the end of a file's fork, which a step of housekeeping gives back.
-use Rattle.std.specs.Prelude.{◌≡◌, ◌⊎◌, ◌<◌, ◌≤◌, ℕ, ◌+◌, ◌-◌, ◌*◌, ◌^◌, ◌==◌, min, nat_le, nat_lt, not, Bool, true, false, List, [], ◌∷◌, length, take, drop, Option, None, Some, if◌then◌else◌}
+use Rattle.std.specs.Prelude.{◌≡◌, ◌⊎◌, ◌<◌, ◌≤◌, ℕ, ◌+◌, ◌-◌, ◌*◌, ◌/◌, ◌^◌, ◌==◌, min, nat_lt, not, true, false, List, [], ◌∷◌, length, take, drop, Option, None, Some, if◌then◌else◌}
 use Rattle.std.specs.List.{Contains}
 use Rattle.sector_disk.specs.Lists.{Content}
 use Rattle.sector_disk.specs.Space.{AgreesOutside}
+use Rattle.btree_edit.specs.Editing.{edit_writes}
 use Rattle.jnl_format.specs.Recovery.{header_of_volume}
 use Rattle.flag_rows.specs.Bits.{mark, sectors_for}
 use Rattle.fork_map.specs.Blocks.{blocks_of}
@@ -14,8 +15,8 @@ use Rattle.volume_header.specs.declared.header.VolumeHeader.{VolumeHeader}
 use Rattle.cat_records.specs.declared.record.CatRecord.{CatRecord}
 use Rattle.cat_records.specs.declared.record.CatRecord.TheVariants.{Folder, File, Thread}
 use Rattle.cat_records.specs.declared.record.FileRecord.{FileRecord}
-use Rattle.hfs_volume.specs.Content.{VolumeState, records_of, volume_of}
-use Rattle.hfs_volume.specs.Forks.{data_kind, in_use, parts_for, resource_kind}
+use Rattle.hfs_volume.specs.Content.{VolumeState, overflow_in_volume, records_of, volume_of}
+use Rattle.hfs_volume.specs.Forks.{data_kind, extents_of, parts_for, resource_kind}
 use Rattle.hfs_volume.specs.Links.{orphans_of}
 use Rattle.hfs_volume.specs.Reclaim.{CutOrphan, CutShrunk, Does, IsTreeFork, Reclaim, blocks_at, blocks_wanted, least, next_reclaim}
 use Rattle.hfs_volume.specs.TreeOf.{tree_of}
@@ -59,7 +60,7 @@ pub record IsSplit (count : ℕ) (list : List Extent) (cut : Cut) : Type 0 where
   pub go : blocks_of (cut.goes ∷ []) ≡ drop (length (blocks_of list) - count) (blocks_of list)
   pub some : 0 < cut.goes.count
 
--- A list of extents in two parts: those of the blocks in front, no fewer than these, and one run at the end.
+-- A list of extents in two parts: those of the blocks in front, no fewer than these, and one run at the end, which is the last extent or its end.
 pub record IsLastCut (keep : ℕ) (list : List Extent) (cut : Cut) : Type 0 where
   pub left : ℕ
   pub stays : cut.stays ≡ front left list
@@ -68,16 +69,12 @@ pub record IsLastCut (keep : ℕ) (list : List Extent) (cut : Cut) : Type 0 wher
   pub least : keep ≤ left
   pub some : 0 < cut.goes.count
   pub sum : left + cut.goes.count ≡ length (blocks_of list)
+  pub near : length (blocks_of (take (length list - 1) list)) ≤ left
 
--- its record has eight extents, so that other extents of the fork may stand in overflow records
-abbrev pub is_spread : ForkRecord → Bool
-is_spread stored = nat_le 8 (length (in_use stored.extents.extents))
-
--- The blocks of a fork that isn't spread, in two such parts.
-pub record IsCutOf (stored : ForkRecord) (keep : ℕ) (cut : Cut) : Type 0 where
-  pub few : length (in_use stored.extents.extents) < 8
-  pub blocks : length (blocks_of (in_use stored.extents.extents)) ≡ stored.total_blocks
-  pub last : IsLastCut keep (in_use stored.extents.extents) cut
+-- The blocks of a fork in these extents, in two such parts.
+pub record IsCutOf (list : List Extent) (stored : ForkRecord) (keep : ℕ) (cut : Cut) : Type 0 where
+  pub blocks : length (blocks_of list) ≡ stored.total_blocks
+  pub last : IsLastCut keep list cut
 
 -- the record of a fork of which this was cut
 abbrev pub cut_fork_of : ℕ → ForkRecord → Cut → ForkRecord
@@ -105,9 +102,17 @@ given_back run volume = record volume { map = without_run run volume.map; header
 abbrev pub given_load : Volume → ℕ
 given_load volume = min (sectors_for (length volume.map.used)) 10
 
--- the sectors that a cut puts at most: those of the bitmap, the header's, and those of a node of the catalog
+-- the sectors of the extents overflow file that two changes of its records put at most
+abbrev pub spread_load : Volume → ℕ
+spread_load volume = volume.extents.file.shape.node_size / 512 * min (2 * edit_writes volume.extents.file.shape.depth) volume.extents.file.shape.total
+
+-- the sectors that a cut puts at most: those of the bitmap, the header's, those of the extents overflow file, and those of a node of the catalog
 abbrev pub trim_load : Volume → ℕ
-trim_load volume = given_load volume + 1 + catalog_node volume
+trim_load volume = given_load volume + 1 + spread_load volume + catalog_node volume
+
+-- a file's fork of this kind has these extents
+abbrev pub IsForkOf : List Extent → ℕ → FileRecord → Content → Type 0
+IsForkOf list kind file content = list ≡ extents_of (overflow_in_volume (volume_of content)) file.fields.id kind (fork_at kind file)
 
 -- Bitmap and header of a volume were put: the content has them, and the volume's lists over it are as they were.
 pub record PutsGiven (volume : Volume) (before after : Content) : Type 0 where

@@ -1,8 +1,10 @@
 pub mod Cutting
+pub mod CuttingAhead
 pub mod Growing
 pub mod Mapping
 pub mod Orphans
 pub mod Resizing
 pub mod Spilling
+pub mod Spreading
 pub mod Standing
 pub mod Writing

@@ -1,5 +1,5 @@
 -- Files that lost their last name and wait in the private folder: how a step of housekeeping finds the first of them, and what it does to it.
-use Rattle.std.specs.Prelude.{◌≡◌, ◌⊎◌, ◌<◌, ◌==◌, ◌&&◌, ◌||◌, nat_lt, ℕ, Bool, true, false, not, List, [], ◌∷◌, length, drop, slice_index, slice_index_or, Option, Some, None, if◌then◌else◌}
+use Rattle.std.specs.Prelude.{◌≡◌, ◌⊎◌, ◌<◌, ◌==◌, ◌&&◌, ◌||◌, nat_lt, ℕ, Bool, false, not, List, [], ◌∷◌, length, drop, slice_index, slice_index_or, Option, Some, None, if◌then◌else◌}
 use Rattle.std.specs.List.{list_all}
 use Rattle.sector_disk.specs.Lists.{Content}
 use Rattle.jnl_format.specs.Recovery.{header_of_volume}
@@ -15,11 +15,11 @@ use Rattle.hfs_volume.specs.Records.{id_in, is_link_type}
 use Rattle.hfs_volume.specs.TreeOf.{tree_of}
 use Rattle.hfs_volume.specs.declared.cost.Cost.{Cost}
 use Rattle.hfs_volume.specs.declared.cost.Cost.TheVariants as cost
+use Rattle.volume_runs.specs.Rest.{IsAtRest}
 use Rattle.volume_base.specs.Changing.{ChangesCatalog}
 use Rattle.volume_space.specs.Cutting.{CutsFile}
 use Rattle.volume_base.specs.Lists.{lists_of}
 use Rattle.volume_base.specs.declared.entries.Entry.{Entry}
-use Rattle.volume_space.specs.declared.orphans.Search.{Search}
 use Rattle.volume_space.specs.declared.tidying.Tidying.{Tidying}
 use Rattle.volume_space.specs.declared.tidying.Tidying.TheVariants as tidying
 use Rattle.volume_base.specs.declared.volume.Volume.{Volume}
@@ -39,13 +39,13 @@ is_digit unit = nat_lt 47 unit && nat_lt unit 58
 abbrev pub is_led : ℕ → ℕ → Bool
 is_led first many = (many == 1) || not (first == 48)
 
--- nineteen digits of a decimal number or fewer
+-- a decimal number of 64 digits or fewer
 abbrev pub is_number : List ℕ → Bool
-is_number digits = if length digits == 0 then false else if nat_lt 19 (length digits) then false else if not (is_led (slice_index digits 0) (length digits)) then false else list_all is_digit digits
+is_number digits = if length digits == 0 then false else if nat_lt 64 (length digits) then false else if not (is_led (slice_index digits 0) (length digits)) then false else list_all is_digit digits
 
--- a name that begins with that word has nothing but such a number behind it
-abbrev pub is_clear : List ℕ → Bool
-is_clear name = if not (begins_temp name) then true else is_number (drop 4 name)
+-- a name is that word with such a number behind it
+abbrev pub is_temp : List ℕ → Bool
+is_temp name = if not (begins_temp name) then false else is_number (drop 4 name)
 
 -- a file's own record, and no further name of it
 abbrev pub is_own_record : CatRecord → Bool
@@ -55,7 +55,7 @@ is_own_record (Thread thread) = false
 
 -- an entry of the private folder that waits to be removed
 abbrev pub is_waiting : Child → Bool
-is_waiting child = is_own_record child.rec && begins_temp child.name
+is_waiting child = is_own_record child.rec && is_temp child.name
 
 -- the lesser of what was found before and this CNID
 abbrev pub lesser : Option ℕ → ℕ → ℕ
@@ -66,22 +66,10 @@ lesser (Some least) id = if nat_lt id least then id else least
 abbrev pub found_next : Option ℕ → Child → Option ℕ
 found_next found child = if is_waiting child then Some (lesser found (id_in child.rec)) else found
 
--- a search behind one entry more
-abbrev pub seen_next : Search → Child → Search
-seen_next search child = record { clear = search.clear && is_clear child.name; least = found_next search.least child }
-
--- behind all of them
-abbrev pub searched : Search → List Child → Search
-searched search [] = search
-searched search (child ∷ rest) = searched (seen_next search child) rest
-
--- before the first
-abbrev pub unsearched : Search
-unsearched = record { clear = true; least = None }
-
--- what a search found, where each name that begins so is clear
-abbrev pub least_clear : Search → Option ℕ
-least_clear search = if not search.clear then None else search.least
+-- what was found behind all of these
+abbrev pub found_among : Option ℕ → List Child → Option ℕ
+found_among found [] = found
+found_among found (child ∷ rest) = found_among (found_next found child) rest
 
 -- a file that has no blocks
 abbrev pub is_blockless : CatRecord → Bool
@@ -153,8 +141,8 @@ pub record HasCut (capacity : ℕ) (shrunk : Option ℕ) (before after : Content
   pub cuts : CutsFile shrunk before after
   pub affords : AffordsStep capacity before cuts.step
 
--- the next step of reclaiming was made, or nothing was changed
+-- Made: the next step of reclaiming was made. Rest: nothing was changed, and nothing is left to reclaim, or the next step is held up. CommitFirst: nothing was changed.
 abbrev pub TidiesAs : Tidying → ℕ → Option ℕ → Content → Content → Type 0
-TidiesAs tidying.Rest capacity shrunk before after = after ≡ before
+TidiesAs tidying.Rest capacity shrunk before after = (after ≡ before) × IsAtRest capacity shrunk (volume_of before)
 TidiesAs tidying.Made capacity shrunk before after = HasDropped capacity shrunk before after ⊎ (HasBared capacity shrunk before after ⊎ HasCut capacity shrunk before after)
 TidiesAs tidying.CommitFirst capacity shrunk before after = after ≡ before

@@ -1,5 +1,5 @@
 //! Blocks at the end of a file's fork, given back.
-ghost use Rattle.std.specs.Prelude.{◌≡◌, ◌<◌, ◌≤◌, ◌+◌, ◌^◌, Some, true, false, IsTrue, IfNone, nat_le, IfOk, IfSome, OnOk, OnErr, length};
+ghost use Rattle.std.specs.Prelude.{◌≡◌, ◌<◌, ◌≤◌, ◌+◌, ◌-◌, ◌^◌, Some, true, false, IsTrue, IfOk, IfSome, OnOk, OnErr, length, slice_index_or, take};
 ghost use Rattle.std.specs.List.{Contains};
 ghost use Rattle.sector_disk.specs.Lists.{Content};
 ghost use Rattle.alloc_bitmap.specs.Map.{none};
@@ -16,9 +16,10 @@ ghost use Rattle.hfs_volume.specs.Entries.{AreSpelled};
 ghost use Rattle.hfs_volume.specs.Records.{id_in, is_link_type, is_thread};
 ghost use Rattle.hx_bytes.specs.Fork.{FitsFork};
 ghost use Rattle.hfs_model.specs.Step.{is_private_name};
+ghost use Rattle.overflow.specs.Records.{no_extent};
 ghost use Rattle.volume_header.specs.Header.{FitsHeader};
 ghost use Rattle.volume_base.specs.Changing.{HasRoomToUpdate, ReplacesRecord};
-ghost use Rattle.volume_space.specs.Cutting.{CutsFile, IsCutOf, IsLastCut, IsNextCut, IsSplit, KeepsUsed, MayGive, PutsGiven, cut_fork_of, fork_at, given_back, given_load, is_spread, kind_of, shorter_fork, trim_load, with_freed};
+ghost use Rattle.volume_space.specs.Cutting.{CutsFile, IsCutOf, IsForkOf, IsLastCut, IsNextCut, IsSplit, KeepsUsed, MayGive, PutsGiven, cut_fork_of, fork_at, given_back, given_load, kind_of, shorter_fork, trim_load, with_freed};
 ghost use Rattle.volume_base.specs.Keeping.{shrunk_of};
 ghost use Rattle.volume_base.specs.Lists.{lists_of};
 ghost use Rattle.volume_base.specs.Service.{IsInService};
@@ -27,6 +28,7 @@ ghost use Rattle.volume_base.specs.Touching.{Touches};
 
 use crate::growing::first_eight;
 use crate::mapping::put_map;
+use crate::storing::{count_spread_sectors, fits_spread, number_of, store_extents};
 use alloc_bitmap::Bitmap;
 use cat_records::{CatRecord, FileRecord};
 use fork_map::ExtentList;
@@ -37,7 +39,7 @@ use hfs_volume::{
 use hx_bytes::{Extent, ForkRecord, OutOfMemory, Trouble};
 use sector_disk::SectorSpace;
 use std::alloc::Global;
-use volume_base::{Entry, Volume, extents_in_use};
+use volume_base::{Entry, Volume};
 use volume_header::VolumeHeader;
 
 /// How many blocks a step cuts at most.
@@ -150,13 +152,6 @@ fn is_one(list: &ExtentList) -> bool
     list.len() == 1
 }
 
-/// Whether a list has eight extents or more.
-fn is_full(list: &ExtentList) -> bool
-    ensures { result ≡ nat_le 8 (length list.now) }
-{
-    list.len() >= 8
-}
-
 /// Whether a run has a block.
 fn has_block(run: Extent) -> bool
     ensures { IsTrue result → 0 < run.count }
@@ -192,17 +187,26 @@ fn fit_load(load: u64, spare: u64) -> bool
     load <= spare
 }
 
+/// The last extent of a list, or one without blocks where there is none.
+fn last_extent(extents: &[Extent]) -> Extent
+    ensures { result ≡ slice_index_or extents.now (length extents.now - 1) no_extent }
+{
+    match extents.get(extents.len().saturating_sub(1)) {
+        Some(last) => *last,
+        None => Extent { start: 0, count: 0 },
+    }
+}
+
 /// How many blocks of the last extent lie behind the first so many blocks, or as many of them as a step cuts.
 fn count_last(list: &ExtentList, keep: u128) -> u32
     ensures least { keep < length (blocks_of list.now) → keep + result ≤ length (blocks_of list.now) }
+    ensures near { length (blocks_of (take (length list.now - 1) list.now)) + result ≤ length (blocks_of list.now) }
     ensures most { result ≤ 32768 }
 {
     let extents = list.as_slice();
     let behind = count_blocks(extents).saturating_sub(keep);
-    match extents.get(extents.len().saturating_sub(1)) {
-        Some(last) => behind.min(u128::from(last.count)).min(MOST_BLOCKS) as u32,
-        None => 0,
-    }
+    let last = last_extent(extents);
+    behind.min(u128::from(last.count)).min(MOST_BLOCKS) as u32
 }
 
 /// A list in two parts, of which the second has so many blocks and goes; none where that has no block, or they don't follow one another.
@@ -255,33 +259,28 @@ fn cut_last(
     Ok(cut)
 }
 
-/// What goes of a fork behind its first so many blocks; none where its record has eight extents, so that others may stand elsewhere.
-/// Memory is said to be wanting too where blocks aren't as those of a sound volume.
+/// What goes of a fork in these extents behind its first so many blocks. Memory is said to be wanting too where blocks aren't as those of a
+/// sound volume.
 pub(crate) fn cut_of(
     volume: &Volume,
     alloc: Global,
+    list: &ExtentList,
     fork: &ForkRecord,
     keep: u128,
-) -> Result<Option<Cut>, OutOfMemory>
-    ensures cut { IfOk result (λ found. IfSome found (λ cut. IsCutOf fork.now keep cut)) }
-    ensures gives { IfOk result (λ found. IfSome found (λ cut. MayGive cut.goes volume.now)) }
-    ensures full { IfOk result (λ found. IfNone found (is_spread fork.now ≡ true)) }
+) -> Result<Cut, OutOfMemory>
+    ensures cut { IfOk result (λ cut. IsCutOf list.now fork.now keep cut) }
+    ensures gives { IfOk result (λ cut. MayGive cut.goes volume.now) }
 {
-    let list = extents_in_use(alloc, &fork.extents)?;
-    if is_full(&list) {
-        return Ok(None);
-    }
-    if !are_so_many(&list, fork.total_blocks) {
+    if !are_so_many(list, fork.total_blocks) {
         return Err(OutOfMemory);
     }
-    if !have_more(&list, keep) {
+    if !have_more(list, keep) {
         return Err(OutOfMemory);
     }
-    if !all_used(&volume.map, &list) {
+    if !all_used(&volume.map, list) {
         return Err(OutOfMemory);
     }
-    let cut = cut_last(volume, alloc, &list, keep)?;
-    Ok(Some(cut))
+    cut_last(volume, alloc, list, keep)
 }
 
 /// How many sectors of the bitmap a run puts at most.
@@ -297,7 +296,8 @@ pub(crate) fn fits_cut<P: SectorSpace>(volume: &Volume, space: &P) -> bool
     ensures { IsTrue result → trim_load volume.now ≤ (P.SectorView.space space.now).spare }
 {
     let node = u64::from(volume.catalog.file.shape().node_size / 512);
-    fit_load(count_given_sectors(volume) + 1 + node, space.spare())
+    let load = count_given_sectors(volume) + 1 + count_spread_sectors(volume) + node;
+    fit_load(load, space.spare())
 }
 
 /// Gives a run back, and counts its blocks in the header; neither header nor bitmap is put.
@@ -373,8 +373,8 @@ fn put_shorter<P: SectorSpace>(
     volume.replace(alloc, space, entry, &rec)
 }
 
-/// Cuts a file's fork: what goes is given back, and bitmap, header and the file's record are put. The volume is settled again, and its
-/// tree is as it was.
+/// Cuts a file's fork: what goes is given back, bitmap and header are put, then the overflow records of what stays, and the file's record. The
+/// volume is settled again, and its tree is as it was. Memory is said to be wanting too where there is no room for them.
 pub(crate) fn cut_fork<P: SectorSpace>(
     volume: &mut Volume,
     alloc: Global,
@@ -383,6 +383,7 @@ pub(crate) fn cut_fork<P: SectorSpace>(
     file: &FileRecord,
     kind: ForkKind,
     _keep: u128,
+    list: &ExtentList,
     cut: &Cut,
 ) -> Result<(), Trouble>
     requires stands { StandsOver volume.old (P.SectorView.space space.old) }
@@ -391,7 +392,9 @@ pub(crate) fn cut_fork<P: SectorSpace>(
     requires is { entry.now.rec ≡ File file.now }
     requires there { IsTrue (P.SectorView.space space.old).tells → value_at (lists_of volume.old (P.SectorView.space space.old).content).catalog_pairs entry.now.parent entry.now.name ≡ Some entry.now.rec }
     requires fits { FitsFile file.now }
-    requires cut { IsCutOf (fork_at (kind_of kind) file.now) _keep cut.now }
+    requires number { 16 ≤ file.now.fields.id }
+    requires list { IsTrue (P.SectorView.space space.old).tells → IsForkOf list.now (kind_of kind) file.now (P.SectorView.space space.old).content }
+    requires cut { IsCutOf list.now (fork_at (kind_of kind) file.now) _keep cut.now }
     requires gives { MayGive cut.now.goes volume.old }
     requires no_link { is_link_type file.now.fields ≡ false }
     requires user { (entry.now.parent ≡ 2) × (is_private_name entry.now.name ≡ true) → ⊥ }
@@ -411,5 +414,13 @@ pub(crate) fn cut_fork<P: SectorSpace>(
     cut_of_an_orphan_keeps_the_tree();
     other_files_keep_their_bytes();
     put_back(volume, alloc, space, cut.goes)?;
+    if !fits_spread(volume, space) {
+        return Err(Trouble::Memory);
+    }
+    let id = file.fields.id;
+    store_extents(volume, alloc, space, id, number_of(kind), list, &cut.stays)?;
+    if !volume.fits_update(space) {
+        return Err(Trouble::Memory);
+    }
     put_shorter(volume, alloc, space, entry, file, kind, cut)
 }

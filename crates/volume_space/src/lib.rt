@@ -3,6 +3,7 @@
 
 mod ahead;
 mod cutting;
+mod cutting_ahead;
 mod growable;
 mod growing;
 mod growing_attributes;
@@ -11,13 +12,16 @@ mod orphans;
 mod putting;
 mod resizing;
 mod spilling;
+mod storing;
 mod stripping;
+mod temp_names;
 mod tidying;
 mod trimming;
 mod unfiling;
 mod writing;
 
 pub use ahead::{Growth, MoreNodes, grow_ahead};
+pub use cutting_ahead::{CutAhead, cut_ahead};
 pub use growable::{can_grow_attributes, can_grow_catalog};
 pub use growing::grow_catalog;
 pub use growing_attributes::grow_attributes;

@@ -2,7 +2,7 @@
 ghost use Rattle.std.specs.Prelude.{◌≡◌};
 ghost use Rattle.std.specs.List.{list_all};
 ghost use Rattle.hfs_volume.specs.Records.{id_in, is_link_type};
-ghost use Rattle.volume_space.specs.Orphans.{begins_temp, found_next, is_blockless, is_clear, is_digit, is_led, is_number, is_own_record, is_waiting, least_clear, lesser, searched, seen_next, unsearched};
+ghost use Rattle.volume_space.specs.Orphans.{begins_temp, found_next, is_blockless, is_digit, is_led, is_number, is_own_record, is_temp, is_waiting, lesser};
 
 use cat_records::{CatRecord, EntryFields};
 use catalog::Child;
@@ -13,15 +13,6 @@ const LINK_TYPE: u32 = 0x686C_6E6B;
 
 /// `hfs+`, its creator.
 const LINK_CREATOR: u32 = 0x6866_732B;
-
-/// What a search among the entries of the private folder found.
-#[derive(Clone, Copy)]
-pub(crate) struct Search {
-    /// Each name that begins with `temp` has nothing but a number behind it.
-    pub(crate) clear: bool,
-    /// The least CNID of the files that wait to be removed.
-    pub(crate) least: Option<u32>,
-}
 
 /// Whether a name begins with the word `temp`.
 fn begins_temp(name: &[u16]) -> bool
@@ -54,14 +45,14 @@ fn is_led(first: u16, many: usize) -> bool
     many == 1 || first != 48
 }
 
-/// Whether units are a decimal number of nineteen digits or fewer.
+/// Whether units are a decimal number of 64 digits or fewer.
 fn is_number(units: &[u16]) -> bool
     ensures { result ≡ is_number units.now }
 {
     if units.is_empty() {
         return false;
     }
-    if units.len() > 19 {
+    if units.len() > 64 {
         return false;
     }
     if !is_led(units[0], units.len()) {
@@ -70,15 +61,15 @@ fn is_number(units: &[u16]) -> bool
     are_digits(units)
 }
 
-/// Whether a name has nothing but a number behind the word `temp`, if it begins with it.
-fn is_clear(name: &[u16]) -> bool
-    ensures { result ≡ is_clear name.now }
+/// Whether a name is the word `temp` with a number behind it.
+fn is_temp(name: &[u16]) -> bool
+    ensures { result ≡ is_temp name.now }
 {
     if !begins_temp(name) {
-        return true;
+        return false;
     }
     if name.len() < 4 {
-        return true;
+        return false;
     }
     is_number(&name[4..])
 }
@@ -106,7 +97,7 @@ fn is_own_record(rec: &CatRecord) -> bool
 fn is_waiting(child: &Child) -> bool
     ensures { result ≡ is_waiting child.now }
 {
-    is_own_record(&child.rec) && begins_temp(child.name.as_slice())
+    is_own_record(&child.rec) && is_temp(child.name.as_slice())
 }
 
 /// The CNID in a folder's or file's record; 0 in a thread's.
@@ -131,7 +122,7 @@ fn lesser(found: Option<u32>, id: u32) -> u32
 }
 
 /// What was found behind one entry more.
-fn found_next(found: Option<u32>, child: &Child) -> Option<u32>
+pub(crate) fn found_next(found: Option<u32>, child: &Child) -> Option<u32>
     ensures { result ≡ found_next found child.now }
 {
     if is_waiting(child) {
@@ -139,42 +130,6 @@ fn found_next(found: Option<u32>, child: &Child) -> Option<u32>
     } else {
         found
     }
-}
-
-/// A search behind one entry more.
-fn seen_next(search: Search, child: &Child) -> Search
-    ensures { result ≡ seen_next search child.now }
-{
-    Search {
-        clear: search.clear && is_clear(child.name.as_slice()),
-        least: found_next(search.least, child),
-    }
-}
-
-/// A search among entries of the private folder.
-fn searched(children: &[Child]) -> Search
-    ensures { result ≡ searched unsearched children.now }
-{
-    let mut search = Search {
-        clear: true,
-        least: None,
-    };
-    for child in children {
-        search = seen_next(search, child);
-    }
-    search
-}
-
-/// The least CNID of the files among these entries of the private folder that wait to be removed. None is told where a name
-/// that begins with `temp` has anything but a number of nineteen digits or fewer behind it.
-pub(crate) fn least_waiting(children: &[Child]) -> Option<u32>
-    ensures { result ≡ least_clear (searched unsearched children.now) }
-{
-    let search = searched(children);
-    if !search.clear {
-        return None;
-    }
-    search.least
 }
 
 /// Whether a record is that of a file that has no blocks.

@@ -8,6 +8,7 @@ ghost use Rattle.btree_file.specs.Standing.{numbers_of};
 ghost use Rattle.hfs_volume.specs.Content.{has_attributes, records_of, volume_of};
 ghost use Rattle.hfs_volume.specs.Links.{orphans_of};
 ghost use Rattle.hfs_volume.specs.Reclaim.{DropAttribute, has_surplus_left, least, next_reclaim};
+ghost use Rattle.volume_runs.specs.Rest.{IsHeldUp};
 ghost use Rattle.volume_base.specs.Attributing.{HasRoomToMark};
 ghost use Rattle.volume_base.specs.Changing.{KeepsBlocks};
 ghost use Rattle.volume_space.specs.Cutting.{KeepsUsed};
@@ -99,7 +100,8 @@ fn affords_bare<P: SectorSpace>(volume: &Volume, space: &P) -> bool
     requires stands { StandsOver volume.now (P.SectorView.space space.now) }
     requires settled { IsTrue (P.SectorView.space space.now).tells → IsSettled volume.now (P.SectorView.space space.now).content }
     requires has { IsTrue (has_attributes volume.now.header) }
-    ensures { IsTrue (P.SectorView.space space.now).tells → IsTrue result → (id : ℕ) (name : List ℕ) → AffordsStep (capacity_of volume.now) (P.SectorView.space space.now).content (DropAttribute id name) }
+    ensures affords { IsTrue (P.SectorView.space space.now).tells → IsTrue result → (id : ℕ) (name : List ℕ) → AffordsStep (capacity_of volume.now) (P.SectorView.space space.now).content (DropAttribute id name) }
+    ensures held_up { IsTrue (P.SectorView.space space.now).tells → result ≡ false → (id : ℕ) (name : List ℕ) → IsHeldUp (capacity_of volume.now) (volume_of (P.SectorView.space space.now).content) (DropAttribute id name) }
 {
     let edits = Edits {
         ids: 0,
@@ -163,14 +165,14 @@ fn tidy_attribute<P: SectorSpace>(
 {
     // No name is longer (TN1150, "Attributes File").
     if name.len() > 127 {
-        return Ok(Tidying::Rest);
+        return Err(Trouble::Memory);
     }
     if volume.header.attributes_fork.logical_size == 0 {
-        return Ok(Tidying::Rest);
+        return Err(Trouble::Memory);
     }
     // The least node size that the format allows the attributes file (TN1150, "Attributes File").
     if volume.attributes.file.shape().node_size < 4096 {
-        return Ok(Tidying::Rest);
+        return Err(Trouble::Memory);
     }
     if !affords_bare(volume, space) {
         return Ok(Tidying::Rest);

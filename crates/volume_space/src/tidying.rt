@@ -4,10 +4,10 @@ ghost use Rattle.std.specs.List.{Contains};
 ghost use Rattle.sector_disk.specs.Lists.{Content};
 ghost use Rattle.attributes.specs.Owned.{names_of};
 ghost use Rattle.btree_edit.specs.Causes.{HasTroubleCause};
-ghost use Rattle.catalog.specs.Children.{children_in};
 ghost use Rattle.hfs_volume.specs.Content.{records_of, volume_of};
 ghost use Rattle.hfs_volume.specs.Links.{orphans_of};
 ghost use Rattle.hfs_volume.specs.Reclaim.{DropOrphan, has_surplus_left, least};
+ghost use Rattle.volume_runs.specs.Rest.{IsHeldUp};
 ghost use Rattle.volume_base.specs.Changing.{KeepsBlocks};
 ghost use Rattle.volume_space.specs.Cutting.{KeepsUsed};
 ghost use Rattle.volume_base.specs.Keeping.{shrunk_of};
@@ -19,21 +19,21 @@ ghost use Rattle.volume_base.specs.Service.{IsInService};
 ghost use Rattle.volume_base.specs.Standing.{IsSettled, StandsOver, own_sectors};
 ghost use Rattle.volume_base.specs.Touching.{Touches};
 
-use crate::orphans::{is_blockless, least_waiting};
+use crate::orphans::is_blockless;
 use crate::stripping::tidy_owner;
+use crate::temp_names::waiting_in;
 use crate::trimming::tidy_surplus;
 use crate::unfiling::drop_waiting;
-use catalog::Children;
 use hfs_volume::{Cost, reclaim_drops_entries_of_bare_orphans};
 use hx_bytes::Trouble;
 use sector_disk::SectorSpace;
 use std::alloc::Global;
-use volume_base::{Edits, Entry, FreeBlocks, Volume, list_children};
+use volume_base::{Edits, Entry, FreeBlocks, Volume};
 
 /// What a step of housekeeping came to.
 #[derive(Clone, Copy)]
 pub enum Tidying {
-    /// Nothing is left to reclaim, something is missing for the next step, or that step is still to come. Nothing was changed.
+    /// Nothing is left to reclaim, or the next step is held up. Nothing was changed.
     Rest,
     Made,
     /// The next step wants a commit before it. Nothing was changed.
@@ -50,33 +50,7 @@ pub(crate) fn grows_none(cost: Cost) -> bool
     }
 }
 
-/// The entries of a folder.
-fn children<P: SectorSpace>(
-    volume: &mut Volume,
-    alloc: Global,
-    space: &mut P,
-    folder: u32,
-) -> Result<Children, Trouble>
-    requires stands { StandsOver volume.old (P.SectorView.space space.old) }
-    requires settled { IsTrue (P.SectorView.space space.old).tells → IsSettled volume.old (P.SectorView.space space.old).content }
-    ensures listed { IsTrue (P.SectorView.space space.old).tells → IfOk result (λ list. list ≡ children_in folder (lists_of volume.old (P.SectorView.space space.old).content).catalog_pairs) }
-    ensures reads { ReadsVolume volume.old volume.new (P.SectorView.space space.old) (P.SectorView.space space.new) }
-    ensures stands { StandsOver volume.new (P.SectorView.space space.new) }
-    ensures settled { IsTrue (P.SectorView.space space.old).tells → IsSettled volume.new (P.SectorView.space space.new).content }
-    ensures below { P.SectorView.follows space.old space.new }
-    ensures cause { HasTroubleCause (P.SectorView.space space.old).faults (P.SectorView.space space.new).faults result }
-{
-    list_children(
-        alloc,
-        &mut volume.catalog.file,
-        &mut volume.catalog.desk,
-        space,
-        folder,
-    )
-}
-
-/// The least CNID of the files that lost their last name. None is told where the private folder has an entry whose name begins
-/// with `temp` and isn't that of such a file.
+/// The least CNID of the files that lost their last name.
 fn next_waiting<P: SectorSpace>(
     volume: &mut Volume,
     alloc: Global,
@@ -84,7 +58,7 @@ fn next_waiting<P: SectorSpace>(
 ) -> Result<Option<u32>, Trouble>
     requires stands { StandsOver volume.old (P.SectorView.space space.old) }
     requires settled { IsTrue (P.SectorView.space space.old).tells → IsSettled volume.old (P.SectorView.space space.old).content }
-    ensures found { IsTrue (P.SectorView.space space.old).tells → IfOk result (λ found. IfSome found (λ id. least (orphans_of (records_of (volume_of (P.SectorView.space space.old).content))) ≡ Some id)) }
+    ensures found { IsTrue (P.SectorView.space space.old).tells → IfOk result (λ found. found ≡ least (orphans_of (records_of (volume_of (P.SectorView.space space.old).content)))) }
     ensures reads { ReadsVolume volume.old volume.new (P.SectorView.space space.old) (P.SectorView.space space.new) }
     ensures stands { StandsOver volume.new (P.SectorView.space space.new) }
     ensures settled { IsTrue (P.SectorView.space space.old).tells → IsSettled volume.new (P.SectorView.space space.new).content }
@@ -92,10 +66,7 @@ fn next_waiting<P: SectorSpace>(
     ensures cause { HasTroubleCause (P.SectorView.space space.old).faults (P.SectorView.space space.new).faults result }
 {
     match volume.private {
-        Some(private) => {
-            let children = children(volume, alloc, space, private)?;
-            Ok(least_waiting(children.as_slice()))
-        }
+        Some(private) => waiting_in(volume, alloc, space, private),
         None => Ok(None),
     }
 }
@@ -158,7 +129,8 @@ fn bare_waiting<P: SectorSpace>(
 fn affords_drop<P: SectorSpace>(volume: &Volume, space: &P) -> bool
     requires stands { StandsOver volume.now (P.SectorView.space space.now) }
     requires settled { IsTrue (P.SectorView.space space.now).tells → IsSettled volume.now (P.SectorView.space space.now).content }
-    ensures { IsTrue (P.SectorView.space space.now).tells → IsTrue result → (id : ℕ) → AffordsStep (capacity_of volume.now) (P.SectorView.space space.now).content (DropOrphan id) }
+    ensures affords { IsTrue (P.SectorView.space space.now).tells → IsTrue result → (id : ℕ) → AffordsStep (capacity_of volume.now) (P.SectorView.space space.now).content (DropOrphan id) }
+    ensures held_up { IsTrue (P.SectorView.space space.now).tells → result ≡ false → (id : ℕ) → IsHeldUp (capacity_of volume.now) (volume_of (P.SectorView.space space.now).content) (DropOrphan id) }
 {
     let edits = Edits {
         ids: 0,
@@ -190,11 +162,11 @@ fn tidy_entry<P: SectorSpace>(
     ensures cause { HasTroubleCause (P.SectorView.space space.old).faults (P.SectorView.space space.new).faults result }
 {
     if entry.name.is_empty() {
-        return Ok(Tidying::Rest);
+        return Err(Trouble::Memory);
     }
     // The least node size that the format allows the catalog (TN1150, "Catalog File").
     if volume.catalog.file.shape().node_size < 4096 {
-        return Ok(Tidying::Rest);
+        return Err(Trouble::Memory);
     }
     if !affords_drop(volume, space) {
         return Ok(Tidying::Rest);
@@ -258,9 +230,9 @@ pub(crate) fn tidy_unshrunk<P: SectorSpace>(
 
 /// Makes the next step of reclaiming: it cuts the file that was shrunk last where that has blocks past its size, or, of the file with
 /// the least CNID of those that lost their last name, a fork, or drops the first of its attributes, or its entry. A cut is of one
-/// extent, or of its last 32,768 blocks. It is still to come for a fork whose record has eight extents, and where a name of the
-/// private folder begins with `temp` and has anything but a number of nineteen digits or fewer behind it. `Memory` comes where memory
-/// is wanting, `Disk` where a read failed.
+/// extent, or of its last 32,768 blocks. It rests where nothing is left to reclaim, where something is missing for the next step or a
+/// transaction may be too small for it, and where a tree has to grow for it, which is still to come. `Memory` comes where memory is
+/// wanting, `Disk` where a read failed.
 pub fn tidy<P: SectorSpace>(
     volume: &mut Volume,
     alloc: Global,
@@ -268,7 +240,8 @@ pub fn tidy<P: SectorSpace>(
 ) -> Result<Tidying, Trouble>
     requires stands { StandsOver volume.old (P.SectorView.space space.old) }
     requires settled { IsTrue (P.SectorView.space space.old).tells → IsSettled volume.old (P.SectorView.space space.old).content }
-    // Told, the next step was made, and nothing was missing for it; or nothing was changed.
+    // Told, the next step was made, and nothing was missing for it; or nothing was changed. It rests only where nothing is left to
+    // reclaim, or the next step is held up.
     ensures tidied { IsTrue (P.SectorView.space space.old).tells → IfOk result (λ came. TidiesAs came (capacity_of volume.old) (shrunk_of volume.old) (P.SectorView.space space.old).content (P.SectorView.space space.new).content) }
     ensures stands { OnOk result (StandsOver volume.new (P.SectorView.space space.new)) }
     ensures settled { IsTrue (P.SectorView.space space.old).tells → OnOk result (IsSettled volume.new (P.SectorView.space space.new).content) }

@@ -12,7 +12,8 @@ ghost use Rattle.hfs_volume.specs.Forks.{parts_for};
 ghost use Rattle.hfs_volume.specs.Links.{orphans_of};
 ghost use Rattle.hfs_volume.specs.Reclaim.{Reclaim, has_surplus_left, least};
 ghost use Rattle.hfs_volume.specs.Records.{id_in, is_link_type, is_thread};
-ghost use Rattle.volume_space.specs.Cutting.{IsCut, IsCutOf, IsNextCut, KeepsUsed, MayGive, blocks_left, fork_at, kind_of, surplus_in};
+ghost use Rattle.volume_runs.specs.Rest.{IsHeldUp, cut_puts};
+ghost use Rattle.volume_space.specs.Cutting.{IsCut, IsCutOf, IsForkOf, IsNextCut, KeepsUsed, MayGive, blocks_left, fork_at, kind_of, surplus_in};
 ghost use Rattle.volume_base.specs.Keeping.{shrunk_of};
 ghost use Rattle.volume_base.specs.Lists.{lists_of};
 ghost use Rattle.volume_space.specs.Orphans.{AffordsStep, TidiesAs};
@@ -23,8 +24,11 @@ ghost use Rattle.volume_base.specs.Touching.{Touches};
 
 use crate::cutting::{Cut, ForkKind, cut_fork, cut_of, fits_cut, fork_of};
 use crate::orphans::is_link;
+use crate::storing::{fork_extents, is_user_id};
 use crate::tidying::{Tidying, grows_none, tidy_unshrunk};
 use cat_records::{CatRecord, FileRecord};
+use fork_map::ExtentList;
+use hfs_volume::Room;
 use hx_bytes::Trouble;
 use sector_disk::SectorSpace;
 use std::alloc::Global;
@@ -54,7 +58,7 @@ fn is_exceeded(wanted: u128, total: u32) -> bool
 }
 
 /// What a file's data fork has past its size, where blocks have this size.
-fn surplus_in(rec: &CatRecord, block: u32) -> Option<Surplus>
+pub(crate) fn surplus_in(rec: &CatRecord, block: u32) -> Option<Surplus>
     requires { 0 < block }
     ensures { result ≡ surplus_in block rec.now }
 {
@@ -126,11 +130,37 @@ fn has_id(rec: &CatRecord, id: u32) -> bool
     }
 }
 
-/// Whether the journal has room for a cut.
-fn affords_cut(volume: &Volume) -> bool
-    ensures { (content : Content) → IsSettled volume.now content → IsTrue result → (step : Reclaim) → IsCut step → AffordsStep (capacity_of volume.now) content step }
+/// The sectors that a cut puts at most, with two changes of the extents overflow file.
+fn count_cut_sectors(room: &Room) -> u64
+    ensures { result ≡ cut_puts room.now }
 {
-    grows_none(cut_cost(&volume.room(FreeBlocks::All)))
+    let extents = room.trees[0];
+    let node = u64::from(room.trees[1].node_size / 512);
+    let map = (u64::from(room.total) + 4095) / 4096;
+    let nodes = (2 * (4 * (u64::from(extents.depth) + 1) + 4)).min(u64::from(extents.nodes));
+    1 + node + map.min(10) + u64::from(extents.node_size / 512) * nodes
+}
+
+/// Whether so many sectors are more than a transaction holds.
+fn exceeds(load: u64, capacity: u64) -> bool
+    ensures { result ≡ nat_lt capacity load }
+{
+    capacity < load
+}
+
+/// Whether the journal has room for a cut, by its cost and by what it puts at most.
+fn affords_cut(volume: &Volume) -> bool
+    ensures affords { (content : Content) → IsSettled volume.now content → IsTrue result → (step : Reclaim) → IsCut step → AffordsStep (capacity_of volume.now) content step }
+    ensures held_up { (content : Content) → IsSettled volume.now content → result ≡ false → (step : Reclaim) → IsCut step → IsHeldUp (capacity_of volume.now) (volume_of content) step }
+{
+    let all = volume.room(FreeBlocks::All);
+    if !grows_none(cut_cost(&all)) {
+        return false;
+    }
+    if exceeds(count_cut_sectors(&all), all.capacity) {
+        return false;
+    }
+    true
 }
 
 /// Cuts this of a file's fork, where nothing is missing for it.
@@ -141,6 +171,7 @@ fn tidy_part<P: SectorSpace>(
     entry: &Entry,
     file: &FileRecord,
     surplus: Surplus,
+    list: &ExtentList,
     cut: &Cut,
 ) -> Result<Tidying, Trouble>
     requires stands { StandsOver volume.old (P.SectorView.space space.old) }
@@ -151,7 +182,9 @@ fn tidy_part<P: SectorSpace>(
     requires fits { FitsFile file.now }
     requires no_link { is_link_type file.now.fields ≡ false }
     requires user { (entry.now.parent ≡ 2) × (is_private_name entry.now.name ≡ true) → ⊥ }
-    requires cut { IsCutOf (fork_at (kind_of surplus.kind) file.now) surplus.keep cut.now }
+    requires number { 16 ≤ file.now.fields.id }
+    requires list { IsTrue (P.SectorView.space space.old).tells → IsForkOf list.now (kind_of surplus.kind) file.now (P.SectorView.space space.old).content }
+    requires cut { IsCutOf list.now (fork_at (kind_of surplus.kind) file.now) surplus.keep cut.now }
     requires gives { MayGive cut.now.goes volume.old }
     requires next { IsTrue (P.SectorView.space space.old).tells → IsNextCut (shrunk_of volume.old) (P.SectorView.space space.old).content (id_in entry.now.rec) (kind_of surplus.kind) surplus.keep }
     ensures tidied { IsTrue (P.SectorView.space space.old).tells → IfOk result (λ came. TidiesAs came (capacity_of volume.old) (shrunk_of volume.old) (P.SectorView.space space.old).content (P.SectorView.space space.new).content) }
@@ -170,20 +203,57 @@ fn tidy_part<P: SectorSpace>(
         return Ok(Tidying::CommitFirst);
     }
     volume.keep();
+    let kind = surplus.kind;
     cut_fork(
         volume,
         alloc,
         space,
         entry,
         file,
-        surplus.kind,
+        kind,
         surplus.keep,
+        list,
         cut,
     )?;
     Ok(Tidying::Made)
 }
 
-/// Cuts a file's fork, where its blocks stand in its record.
+/// Cuts a file's fork that has these extents.
+fn tidy_extents<P: SectorSpace>(
+    volume: &mut Volume,
+    alloc: Global,
+    space: &mut P,
+    entry: &Entry,
+    file: &FileRecord,
+    surplus: Surplus,
+    list: &ExtentList,
+) -> Result<Tidying, Trouble>
+    requires stands { StandsOver volume.old (P.SectorView.space space.old) }
+    requires settled { IsTrue (P.SectorView.space space.old).tells → IsSettled volume.old (P.SectorView.space space.old).content }
+    requires name { length entry.now.name ≤ 255 }
+    requires there { IsTrue (P.SectorView.space space.old).tells → value_at (lists_of volume.old (P.SectorView.space space.old).content).catalog_pairs entry.now.parent entry.now.name ≡ Some entry.now.rec }
+    requires is { entry.now.rec ≡ File file.now }
+    requires fits { FitsFile file.now }
+    requires no_link { is_link_type file.now.fields ≡ false }
+    requires user { (entry.now.parent ≡ 2) × (is_private_name entry.now.name ≡ true) → ⊥ }
+    requires number { 16 ≤ file.now.fields.id }
+    requires list { IsTrue (P.SectorView.space space.old).tells → IsForkOf list.now (kind_of surplus.kind) file.now (P.SectorView.space space.old).content }
+    requires next { IsTrue (P.SectorView.space space.old).tells → IsNextCut (shrunk_of volume.old) (P.SectorView.space space.old).content (id_in entry.now.rec) (kind_of surplus.kind) surplus.keep }
+    ensures tidied { IsTrue (P.SectorView.space space.old).tells → IfOk result (λ came. TidiesAs came (capacity_of volume.old) (shrunk_of volume.old) (P.SectorView.space space.old).content (P.SectorView.space space.new).content) }
+    ensures stands { OnOk result (StandsOver volume.new (P.SectorView.space space.new)) }
+    ensures settled { IsTrue (P.SectorView.space space.old).tells → OnOk result (IsSettled volume.new (P.SectorView.space space.new).content) }
+    ensures service { IsInService volume.new (P.SectorView.space space.new) }
+    ensures used { KeepsUsed volume.old volume.new }
+    ensures touches { (committed : Content) → Touches committed (λ s. Contains (own_sectors volume.old) s) (P.SectorView.space space.old) (P.SectorView.space space.new) }
+    ensures below { P.SectorView.follows space.old space.new }
+    ensures cause { HasTroubleCause (P.SectorView.space space.old).faults (P.SectorView.space space.new).faults result }
+{
+    let fork = fork_of(surplus.kind, file);
+    let cut = cut_of(volume, alloc, list, &fork, surplus.keep)?;
+    tidy_part(volume, alloc, space, entry, file, surplus, list, &cut)
+}
+
+/// Cuts a file's fork.
 fn tidy_fork<P: SectorSpace>(
     volume: &mut Volume,
     alloc: Global,
@@ -214,15 +284,15 @@ fn tidy_fork<P: SectorSpace>(
     if is_own(entry) {
         return Err(Trouble::Memory);
     }
-    let fork = fork_of(surplus.kind, file);
-    match cut_of(volume, alloc, &fork, surplus.keep)? {
-        Some(cut) => tidy_part(volume, alloc, space, entry, file, surplus, &cut),
-        None => Ok(Tidying::Rest),
+    if !is_user_id(file.fields.id) {
+        return Err(Trouble::Memory);
     }
+    let list = fork_extents(volume, alloc, space, file, surplus.kind)?;
+    tidy_extents(volume, alloc, space, entry, file, surplus, &list)
 }
 
 /// Cuts a fork of the file that stands there.
-fn tidy_cut<P: SectorSpace>(
+pub(crate) fn tidy_cut<P: SectorSpace>(
     volume: &mut Volume,
     alloc: Global,
     space: &mut P,

@@ -156,7 +156,7 @@ module _ (capacity number : ℕ) (asked : Command) (before after : Content) (sou
         steps capacity number asked said before after (done_as capacity asked said before after sound_before sound_after unread no_put affords reply_is tree keeps) changes
         (told ∙ ap (λ r. changes_told number (tree_of before) asked r) (sym said_ok))
 
-free_path : (path : List (List ℕ)) → (is_private_path path || false) ≡ false → is_private_path path ≡ false
+pub free_path : (path : List (List ℕ)) → (is_private_path path || false) ≡ false → is_private_path path ≡ false
 free_path path is = or_none (is_private_path path) is
 
 pub first_free : (a b : Bool) → (a || (b || false)) ≡ false → (a ≡ false) × (b ≡ false)
@@ -175,7 +175,7 @@ has_tree capacity before path name value affords = by (has_attributes (volume_of
     by true is = refl
     by false is = absurd (let none : cost.Refused refusal.NoTree ≡ cost.Load affords.load (0 ∷ 0 ∷ 0 ∷ []) = is in cc none)
 
-reply_set : (has : Bool) (said r : Reply) → has ≡ true → said ≡ set_answer has r → said ≡ r
+pub reply_set : (has : Bool) (said r : Reply) → has ≡ true → said ≡ set_answer has r → said ≡ r
 reply_set true said r has is = is
 reply_set false said r has is = absurd (true≢false (sym has))
 
@@ -349,7 +349,7 @@ module _ (capacity number : ℕ) (path : List (List ℕ)) (before after : Conten
 -- ---- `rm`
 
 -- a file that may be removed was reached
-reached_rm : (tree : PlainTree) (path : List (List ℕ)) (entry : PlainEntry) → to_rm tree path ≡ Ok entry → reached tree path ≡ Ok entry
+pub reached_rm : (tree : PlainTree) (path : List (List ℕ)) (entry : PlainEntry) → to_rm tree path ≡ Ok entry → reached tree path ≡ Ok entry
 reached_rm tree path entry is = by_root (is_root path) is
   where
     by_kind : (at : PlainEntry) (b : Bool) → unless b refusal.IsFolder at ≡ Ok entry → at ≡ entry

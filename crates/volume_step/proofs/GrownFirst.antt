@@ -1,5 +1,5 @@
 -- A command ahead of which catalog or attributes file grew: the entry of its line, from the content before the growth.
-use Rattle.std.proofs.Common.{◌≡◌, ◌≢◌, ◌⊎◌, ◌<◌, ℕ, ◌+◌, ◌*◌, ◌/◌, Bool, true, false, List, [], ◌∷◌, inl, inr, length, take, refl, sym, ◌∙◌, ap, subst, arith, zero-mul}
+use Rattle.std.proofs.Common.{◌≡◌, ◌≢◌, ◌⊎◌, ◌<◌, ◌≤◌, ℕ, ◌+◌, ◌*◌, ◌/◌, Bool, true, false, List, [], ◌∷◌, inl, inr, length, take, refl, sym, ◌∙◌, ap, subst, arith, zero-mul}
 use Rattle.std.specs.Prelude.{IsTrue, None, Result, Ok, Err, not, slice_index, if◌then◌else◌}
 use Rattle.std.proofs.Math.Nat.{zero-div}
 use Rattle.std.proofs.lemmas.Bool.{true≢false}
@@ -19,7 +19,7 @@ use Rattle.hfs_language.specs.declared.reply.Reply.TheVariants as reply
 use Rattle.hfs_model.specs.Step.{only_reads, refuses, step_line}
 use Rattle.hfs_model.specs.declared.plain.PlainTree.{PlainTree}
 use Rattle.hfs_volume.specs.Content.{TreeFacts, VolumeState, facts_at, has_attributes, volume_of}
-use Rattle.hfs_volume.specs.Cost.{attributes_key, catalog_key, cost_of, growth, growth_for, no_tree, tree_at}
+use Rattle.hfs_volume.specs.Cost.{attributes_key, catalog_key, cost_of, growth, growth_for, no_tree, plan_of, tree_at}
 use Rattle.hfs_volume.specs.Forks.{attributes_id, catalog_id, data_kind, extents_id}
 use Rattle.hfs_volume.specs.Reclaim.{GrowsBy, GrowsTree, GrowsTrees, IsTreeFork, blocks_at}
 use Rattle.hfs_volume.specs.Data.{PutsInFork}
@@ -30,14 +30,17 @@ use Rattle.hfs_volume.specs.TreeOf.{tree_of}
 use Rattle.hfs_volume.specs.Weight.{Edits, cost_of_tree, cut_cost, data_of, edits_of, free_blocks, lacks_tree, needs_cut, needs_for, room_with, weight, weight_with}
 use Rattle.hfs_volume.specs.declared.cost.Cost.{Cost}
 use Rattle.hfs_volume.specs.declared.cost.Cost.TheVariants as cost
+use Rattle.hfs_volume.specs.declared.cost.Needs.{Needs}
 use Rattle.hfs_volume.specs.declared.cost.Room.{Room}
 use Rattle.hfs_volume.specs.declared.cost.TreeCost.{TreeCost}
 use Rattle.tree_weights.specs.Weights.{IsAfforded, LoadIsOfParts, LoadSaysEnough}
+use Rattle.volume_base.specs.Fitting.{is_met}
 use Rattle.volume_space.specs.Growing.{GrowsAhead, GrowsNumbers}
 use Rattle.volume_space.specs.declared.ahead.MoreNodes.{MoreNodes}
 use Rattle.volume_step.specs.Steps.{Affords, GrowsFirst, IsServedAs, KeepsJournal, StepsTo}
 use Rattle.volume_step.specs.declared.outcome.Outcome.{Outcome}
 use Rattle.volume_step.specs.declared.outcome.Outcome.TheVariants as outcome
+use Rattle.volume_step.proofs.Fewer.{met_load}
 use Rattle.volume_step.proofs.MetAgain.{IsLarger, load_then, met_again, needs_of_edits}
 
 -- ---- what the command weighs behind the growth
@@ -68,8 +71,15 @@ larger_if more x y t u m n same_if numbers total none = subst (λ (z : Bool). Is
     by true without = record { node_size = ap (λ (s : TreeShape). s.node_size) numbers; depth = ap (λ (s : TreeShape). s.depth) numbers; records = ap (λ (s : TreeShape). s.leaf_records) numbers; nodes = total }
     by false without = record { node_size = refl; depth = refl; records = refl; nodes = omega (arith, without refl) }
 
-module _ (says : LoadSaysEnough) (of_parts : LoadIsOfParts) (capacity : ℕ) (more : MoreNodes) (asked : Command) (before mid : Content) (unread : only_reads asked ≡ false) (no_put : (tree : PlainTree) → data_of tree asked ≡ None)
-    (lacks_same : (old new : VolumeState) → has_attributes new.head ≡ has_attributes old.head → lacks_tree new asked ≡ lacks_tree old asked) (first : GrowsFirst more capacity asked before) (ahead : GrowsAhead more before mid)
+-- What edits cost is a load without growth, and no larger than this.
+record IsCheap (needs : Needs) (room : Room) (load : ℕ) : Type 0 where
+  spent : ℕ
+  costs : cost_of needs room ≡ cost.Load spent (0 ∷ 0 ∷ 0 ∷ [])
+  low : spent ≤ load
+
+-- behind the growths that edits wanted, whichever blocks count as free before them and behind
+module _ (of_parts : LoadIsOfParts) (capacity : ℕ) (more : MoreNodes) (before mid : Content) (ahead : GrowsAhead more before mid) (many : Edits) (one other : List Bool) (load : ℕ)
+    (afforded : IsAfforded (needs_of_edits many) (room_with capacity one (volume_of before)) load (0 ∷ more.catalog ∷ more.attributes ∷ []))
   where
     abbrev old : VolumeState
     old = volume_of before
@@ -77,11 +87,62 @@ module _ (says : LoadSaysEnough) (of_parts : LoadIsOfParts) (capacity : ℕ) (mo
     abbrev new : VolumeState
     new = volume_of mid
 
+    abbrev a : Room
+    a = room_with capacity one (volume_of before)
+
+    abbrev b : Room
+    b = room_with capacity other (volume_of mid)
+
+    block_is : b.block ≡ a.block
+    unfolding room_with
+    block_is = ap (λ (h : VolumeHeader). h.block_size) ahead.lists.head
+
+    ids_are : b.next_id ≡ a.next_id
+    unfolding room_with
+    ids_are = ap (λ (h : VolumeHeader). h.next_catalog_id) ahead.lists.head
+
+    capacity_is : b.capacity ≡ a.capacity
+    unfolding room_with
+    capacity_is = refl
+
+    larger : IsLarger more.catalog (tree_at a 1) (tree_at b 1)
+    unfolding room_with
+    larger = record {
+      node_size = ap (λ (s : TreeShape). s.node_size) ahead.lists.catalog_grows.numbers;
+      depth = ap (λ (s : TreeShape). s.depth) ahead.lists.catalog_grows.numbers;
+      records = ap (λ (s : TreeShape). s.leaf_records) ahead.lists.catalog_grows.numbers;
+      nodes = ahead.grows.catalog.nodes;
+    }
+
+    own_if : more.attributes ≡ growth a.block attributes_key (tree_at a 2) many.attributes
+    own_if = ap (λ l. slice_index l 2) afforded.grows
+
+    larger_own : IsLarger more.attributes (tree_at a 2) (tree_at b 2)
+    unfolding room_with
+    larger_own = larger_if more.attributes (has_attributes old.head) (has_attributes new.head) old.attributes_tree new.attributes_tree _ _ ahead.lists.has ahead.lists.attributes_grow.numbers ahead.grows.attributes.nodes ahead.lists.none
+
+    catalog_still : growth b.block catalog_key (tree_at b 1) many.catalog ≡ 0
+    unfolding room_with growth_for
+    catalog_still = ap (λ n. growth n catalog_key (tree_at b 1) many.catalog) block_is ∙ ahead.lists.catalog_grows.suffices a.block many.catalog (ap (λ l. slice_index l 1) afforded.grows)
+
+    attributes_still : growth b.block attributes_key (tree_at b 2) many.attributes ≡ 0
+    unfolding room_with
+    attributes_still =
+        ap (λ n. growth n attributes_key (tree_at b 2) many.attributes) block_is
+        ∙ suffices_if a.block attributes_key many.attributes more.attributes (has_attributes old.head) (has_attributes new.head) old.attributes_tree new.attributes_tree _ _ ahead.lists.has ahead.lists.none ahead.lists.attributes_grow own_if
+
+    cheap_behind : IsCheap (needs_of_edits many) b load
+    cheap_behind = record {
+      spent = _;
+      costs = met_again of_parts many a b more.catalog more.attributes load afforded capacity_is ids_are larger larger_own catalog_still attributes_still;
+      low = load_then of_parts many a b more.catalog more.attributes load afforded capacity_is ids_are larger larger_own catalog_still attributes_still;
+    }
+
+module _ (says : LoadSaysEnough) (of_parts : LoadIsOfParts) (capacity : ℕ) (more : MoreNodes) (asked : Command) (before mid : Content) (unread : only_reads asked ≡ false) (no_put : (tree : PlainTree) → data_of tree asked ≡ None)
+    (lacks_same : (old new : VolumeState) → has_attributes new.head ≡ has_attributes old.head → lacks_tree new asked ≡ lacks_tree old asked) (first : GrowsFirst more capacity asked before) (ahead : GrowsAhead more before mid)
+  where
     abbrev many : Edits
     many = edits_of (tree_of before) asked
-
-    abbrev room : VolumeState → Room
-    room volume = room_with capacity (free_blocks volume) volume
 
     -- a load is told of a volume that lacks no tree
     no_lack : lacks_tree (volume_of before) asked ≡ false
@@ -92,65 +153,45 @@ module _ (says : LoadSaysEnough) (of_parts : LoadIsOfParts) (capacity : ℕ) (mo
         by false is = is
         by true is = absurd (
             let refused : weight capacity (volume_of before) (tree_of before) asked ≡ cost.Refused refusal.NoTree =
-            chosen (only_reads asked) (needs_cut (volume_of before) (data_of (tree_of before) asked)) (lacks_tree (volume_of before) asked) (cost.Load 0 (0 ∷ 0 ∷ 0 ∷ [])) (cut_cost (room (volume_of before))) (cost.Refused refusal.NoTree) (cost_of (needs_for (free_blocks (volume_of before)) (volume_of before) (edits_of (tree_of before) asked) (data_of (tree_of before) asked)) (room (volume_of before)))
+            chosen (only_reads asked) (needs_cut (volume_of before) (data_of (tree_of before) asked)) (lacks_tree (volume_of before) asked) (cost.Load 0 (0 ∷ 0 ∷ 0 ∷ [])) (cut_cost (room_with capacity (free_blocks (volume_of before)) (volume_of before))) (cost.Refused refusal.NoTree)
+            (cost_of (needs_for (free_blocks (volume_of before)) (volume_of before) (edits_of (tree_of before) asked) (data_of (tree_of before) asked)) (room_with capacity (free_blocks (volume_of before)) (volume_of before)))
             true unread (ap (needs_cut (volume_of before)) (no_put (tree_of before))) is in
             let both : cost.Refused refusal.NoTree ≡ cost.Load first.load (0 ∷ more.catalog ∷ more.attributes ∷ []) = sym refused ∙ first.weighs in cc both)
 
-    weight_is : (volume : VolumeState) (tree : PlainTree) → lacks_tree volume asked ≡ false → weight capacity volume tree asked ≡ cost_of (needs_of_edits (edits_of tree asked)) (room volume)
+    weight_is : (free : List Bool) (volume : VolumeState) (tree : PlainTree) → lacks_tree volume asked ≡ false → weight_with capacity free volume tree asked ≡ cost_of (needs_of_edits (edits_of tree asked)) (room_with capacity free volume)
     unfolding weight_with
-    weight_is volume tree lacks =
-        chosen (only_reads asked) (needs_cut volume (data_of tree asked)) (lacks_tree volume asked) (cost.Load 0 (0 ∷ 0 ∷ 0 ∷ [])) (cut_cost (room volume)) (cost.Refused refusal.NoTree) (cost_of (needs_for (free_blocks volume) volume (edits_of tree asked) (data_of tree asked)) (room volume))
+    weight_is free volume tree lacks =
+        chosen (only_reads asked) (needs_cut volume (data_of tree asked)) (lacks_tree volume asked) (cost.Load 0 (0 ∷ 0 ∷ 0 ∷ [])) (cut_cost (room_with capacity free volume)) (cost.Refused refusal.NoTree) (cost_of (needs_for free volume (edits_of tree asked) (data_of tree asked)) (room_with capacity free volume))
         false unread (ap (needs_cut volume) (no_put tree)) lacks
-        ∙ ap (λ d. cost_of (needs_for (free_blocks volume) volume (edits_of tree asked) d) (room volume)) (no_put tree)
+        ∙ ap (λ d. cost_of (needs_for free volume (edits_of tree asked) d) (room_with capacity free volume)) (no_put tree)
 
-    afforded : IsAfforded (needs_of_edits many) (room old) first.load (0 ∷ more.catalog ∷ more.attributes ∷ [])
-    afforded = says (needs_of_edits many) (room old) first.load (0 ∷ more.catalog ∷ more.attributes ∷ []) (sym (weight_is old (tree_of before) no_lack) ∙ first.weighs)
-
-    block_is : (room new).block ≡ (room old).block
-    unfolding room_with
-    block_is = ap (λ (h : VolumeHeader). h.block_size) ahead.lists.head
-
-    ids_are : (room new).next_id ≡ (room old).next_id
-    unfolding room_with
-    ids_are = ap (λ (h : VolumeHeader). h.next_catalog_id) ahead.lists.head
-
-    capacity_is : (room new).capacity ≡ (room old).capacity
-    unfolding room_with
-    capacity_is = refl
-
-    larger : IsLarger more.catalog (tree_at (room old) 1) (tree_at (room new) 1)
-    unfolding room_with
-    larger = record {
-      node_size = ap (λ (s : TreeShape). s.node_size) ahead.lists.catalog_grows.numbers;
-      depth = ap (λ (s : TreeShape). s.depth) ahead.lists.catalog_grows.numbers;
-      records = ap (λ (s : TreeShape). s.leaf_records) ahead.lists.catalog_grows.numbers;
-      nodes = ahead.grows.catalog.nodes;
-    }
-
-    own_if : more.attributes ≡ growth (room old).block attributes_key (tree_at (room old) 2) many.attributes
-    own_if = ap (λ l. slice_index l 2) afforded.grows
-
-    larger_own : IsLarger more.attributes (tree_at (room old) 2) (tree_at (room new) 2)
-    unfolding room_with
-    larger_own = larger_if more.attributes (has_attributes old.head) (has_attributes new.head) old.attributes_tree new.attributes_tree _ _ ahead.lists.has ahead.lists.attributes_grow.numbers ahead.grows.attributes.nodes ahead.lists.none
-
-    catalog_still : growth (room new).block catalog_key (tree_at (room new) 1) many.catalog ≡ 0
-    unfolding room_with growth_for
-    catalog_still = ap (λ n. growth n catalog_key (tree_at (room new) 1) many.catalog) block_is ∙ ahead.lists.catalog_grows.suffices (room old).block many.catalog (ap (λ l. slice_index l 1) afforded.grows)
-
-    attributes_still : growth (room new).block attributes_key (tree_at (room new) 2) many.attributes ≡ 0
-    unfolding room_with
-    attributes_still =
-        ap (λ n. growth n attributes_key (tree_at (room new) 2) many.attributes) block_is
-        ∙ suffices_if (room old).block attributes_key many.attributes more.attributes (has_attributes old.head) (has_attributes new.head) old.attributes_tree new.attributes_tree _ _ ahead.lists.has ahead.lists.none ahead.lists.attributes_grow own_if
+    afforded : IsAfforded (needs_of_edits many) (room_with capacity (free_blocks (volume_of before)) (volume_of before)) first.load (0 ∷ more.catalog ∷ more.attributes ∷ [])
+    afforded = says (needs_of_edits many) (room_with capacity (free_blocks (volume_of before)) (volume_of before)) first.load (0 ∷ more.catalog ∷ more.attributes ∷ []) (sym (weight_is (free_blocks (volume_of before)) (volume_of before) (tree_of before) no_lack) ∙ first.weighs)
 
     pub affords_then : Affords capacity asked mid
     affords_then = record {
       no_refusal = subst (λ (t : PlainTree). refuses t (Ok asked) ≡ false) (sym ahead.tree) first.no_refusal;
       load = _;
-      affords = weight_is new (tree_of mid) (lacks_same old new ahead.lists.has ∙ no_lack) ∙ ap (λ (t : PlainTree). cost_of (needs_of_edits (edits_of t asked)) (room new)) ahead.tree
-          ∙ met_again of_parts many (room old) (room new) more.catalog more.attributes first.load afforded capacity_is ids_are larger larger_own catalog_still attributes_still;
+      affords = weight_is (free_blocks (volume_of mid)) (volume_of mid) (tree_of mid) (lacks_same (volume_of before) (volume_of mid) ahead.lists.has ∙ no_lack) ∙ ap (λ (t : PlainTree). cost_of (needs_of_edits (edits_of t asked)) (room_with capacity (free_blocks (volume_of mid)) (volume_of mid))) ahead.tree
+          ∙ (cheap_behind of_parts capacity more before mid ahead many (free_blocks (volume_of before)) (free_blocks (volume_of mid)) first.load afforded).costs;
     }
+
+    -- ---- what may be taken
+
+    -- the trees grow as much, whichever blocks count as free
+    plan_same : (one other : List Bool) → (plan_of (needs_of_edits many) (room_with capacity one (volume_of before))).grow ≡ (plan_of (needs_of_edits many) (room_with capacity other (volume_of before))).grow
+    unfolding room_with
+    plan_same one other = refl
+
+    -- so what the blocks that may be taken cost is met behind the growth
+    pub met_then : (takable other : List Bool) (load spare : ℕ) (grow : List ℕ) → weight_with capacity takable (volume_of before) (tree_of before) asked ≡ cost.Load load grow → load ≤ spare
+        → is_met (cost_of (needs_of_edits (edits_of (tree_of mid) asked)) (room_with capacity other (volume_of mid))) spare ≡ true
+    met_then takable other load spare grow weighs fits =
+        let taken = says (needs_of_edits many) (room_with capacity takable (volume_of before)) load grow (sym (weight_is takable (volume_of before) (tree_of before) no_lack) ∙ weighs) in
+        let cheap = cheap_behind of_parts capacity more before mid ahead many takable other load
+        (subst (λ (l : List ℕ). IsAfforded (needs_of_edits many) (room_with capacity takable (volume_of before)) load l) (taken.grows ∙ plan_same takable (free_blocks (volume_of before)) ∙ sym afforded.grows) taken) in
+        subst (λ (t : PlainTree). is_met (cost_of (needs_of_edits (edits_of t asked)) (room_with capacity other (volume_of mid))) spare ≡ true) (sym ahead.tree)
+        (met_load (cost_of (needs_of_edits many) (room_with capacity other (volume_of mid))) cheap.spent spare cheap.costs (omega (arith, cheap.low, fits)))
 
     -- ---- the journal's place
 

@@ -74,6 +74,7 @@ module _ (capacity number : ℕ) (more : MoreNodes) (asked : Command) (before mi
   shrinks_grown : (old kept new : Option ℕ) → kept ≡ old → (o : Outcome) → ShrinksAs o asked mid kept new → ShrinksAs o asked before old new
   shrinks_grown old kept new same (outcome.Answered said changes) is = is ∙ (λ i. if is_ok said then or_before (shrunk_by (ahead.tree i) (Ok asked)) (same i) else same i)
   shrinks_grown old kept new same outcome.CommitFirst is = is ∙ same
+  shrinks_grown old kept new same outcome.Again is = is ∙ same
 
   pub result_shrinks : (old kept new : Option ℕ) → kept ≡ old → (r : Result Outcome Trouble) → IfOk r (λ o. ShrinksAs o asked mid kept new) → IfOk r (λ o. ShrinksAs o asked before old new)
   result_shrinks old kept new same (Ok o) is = shrinks_grown old kept new same o is
@@ -89,6 +90,7 @@ module _ (capacity number : ℕ) (more : MoreNodes) (asked : Command) (before mi
     answered_grown (outcome.Answered (reply.Content bytes) changes) done steps = absurd done
     answered_grown (outcome.Answered (reply.Gauge gauge) changes) done steps = absurd done
     answered_grown outcome.CommitFirst done steps = absurd done
+    answered_grown outcome.Again done steps = absurd done
 
     pub result_answered : (r : Result Outcome Trouble) → IfOk r IsDoneOk → IfOk r (λ o. StepsTo o capacity number asked mid after) → IfOk r (λ o. StepsTo o capacity number asked before after)
     result_answered (Ok o) done steps = answered_grown o done steps

@@ -17,11 +17,11 @@ use Rattle.hfs_volume.specs.declared.cost.Cost.{Cost}
 use Rattle.hfs_volume.specs.declared.cost.Cost.TheVariants as cost
 use Rattle.hfs_volume.specs.declared.cost.Needs.{Needs}
 use Rattle.hfs_volume.specs.declared.cost.Room.{Room}
-use Rattle.volume_runs.specs.Run.{AsksMore, PutsMore}
+use Rattle.volume_weights.specs.DataWeighing.{WaitsForMore}
 use Rattle.volume_base.specs.Weighing.{joined, refused_or, weighed}
 use Rattle.volume_base.specs.declared.weighing.Weight.{Weight}
 use Rattle.volume_base.specs.declared.weighing.Weight.TheVariants as answer
-use Rattle.volume_step.specs.Steps.{IsJudged, growth_of, grows_in, verdict_of}
+use Rattle.volume_step.specs.Steps.{IsHeldBack, IsJudged, IsTaken, growth_of, grows_in, verdict_of}
 use Rattle.volume_step.specs.declared.judging.Verdict.TheVariants as verdict
 
 -- ---- three numbers
@@ -93,9 +93,9 @@ weight_found said found is same told = subst (λ (o : Option Weight). IfSome o (
 pub not_weighed : {P : Type 0} (said : Option Weight) → said ≡ None → (is_some said ≡ false → P) → P
 not_weighed said none told = told (ap is_some none)
 
--- so it puts data where more is asked than is built
-pub waits_by : (capacity : ℕ) (asked : Command) (content : Content) → (refuses (tree_of content) (Ok asked) ≡ false) × PutsMore (volume_of content) (tree_of content) asked → AsksMore capacity asked content
-waits_by capacity asked content said = record { no_refusal = said.0; more = inr said.1 }
+-- so it puts data where blocks go first or overflow records are counted
+pub waits_by : (capacity : ℕ) (asked : Command) (content : Content) → WaitsForMore content asked → IsHeldBack capacity asked content
+waits_by capacity asked content said = record { no_refusal = said.0; why = inr said.1 }
 
 -- ---- the verdict
 
@@ -120,7 +120,7 @@ module _ (capacity : ℕ) (takable : List Bool) (content : Content) (asked : Com
             load = s;
             weighs = is ∙ ap (cost.Load s) (is_three ∙ alone);
           }
-      by_alone false one any = record { no_refusal = fine; more = inl (record { load = s; grow = grow; weighs = is; later = inl (some (slice_index grow 0) one) }) }
+      by_alone false one any = record { no_refusal = fine; why = inl (record { load = s; grow = grow; weighs = is; later = inl (some (slice_index grow 0) one) }) }
 
       by_grow : (b : Bool) → grows_in grow ≡ b → IsJudged (if b then growth_of grow t else if nat_lt spare t then verdict.CommitFirst else verdict.Fits) capacity asked content
       by_grow true any = by_alone (slice_index grow 0 == 0) refl (subst (λ (l : List ℕ). 0 < sum l) (sym is_three) (grows_some (slice_index grow 0) (slice_index grow 1) (slice_index grow 2) any))
@@ -148,3 +148,47 @@ module _ (capacity : ℕ) (takable : List Bool) (content : Content) (asked : Com
 
   pub judged_weight : (weighs : Weight) → weighs ≡ weighed capacity takable (volume_of content) (tree_of content) asked → IsJudged (verdict_of weighs spare) capacity asked content
   judged_weight weighs is = subst (λ (w : Weight). IsJudged (verdict_of w spare) capacity asked content) (sym is) judged
+
+-- ---- what may be taken
+
+module _ (capacity : ℕ) (takable : List Bool) (content : Content) (asked : Command) (spare : ℕ) where
+  abbrev Takes : Weight → Type 0
+  Takes weighs = IsTaken (verdict_of weighs spare) capacity takable asked content
+
+  taken_load : (t : ℕ) (grow more : List ℕ) → weight_with capacity takable (volume_of content) (tree_of content) asked ≡ cost.Load t more → Takes (answer.Load t grow)
+  taken_load t grow more is = by (grows_in grow)
+    where
+      by_spare : (b : Bool) → IsTaken (if b then verdict.CommitFirst else verdict.Fits) capacity takable asked content
+      by_spare true = tt
+      by_spare false = tt
+
+      by_alone : (x : Bool) → IsTaken (if x then verdict.Grows (record { catalog = slice_index grow 1; attributes = slice_index grow 2 }) t else verdict.ToCome) capacity takable asked content
+      by_alone true = (more, is)
+      by_alone false = tt
+
+      by : (b : Bool) → IsTaken (if b then growth_of grow t else if nat_lt spare t then verdict.CommitFirst else verdict.Fits) capacity takable asked content
+      by true = by_alone (slice_index grow 0 == 0)
+      by false = by_spare (nat_lt spare t)
+
+  taken_costs : (one other : Cost) → weight_with capacity takable (volume_of content) (tree_of content) asked ≡ other → Takes (joined one other)
+  taken_costs (cost.Refused why) other is = tt
+  taken_costs (cost.Load s grow) (cost.Refused why) is = tt
+  taken_costs (cost.Load s grow) (cost.Load t more) is = by (slice_index grow 0 == slice_index more 0)
+    where
+      by : (b : Bool) → Takes (if b then answer.Load t grow else answer.CommitFirst)
+      by true = taken_load t grow more is
+      by false = tt
+
+  taken_reply : (said : Reply) (weighs : Weight) → Takes weighs → Takes (refused_or said weighs)
+  taken_reply (reply.No why) weighs takes = tt
+  taken_reply reply.Ok weighs takes = takes
+  taken_reply (reply.Listing list) weighs takes = takes
+  taken_reply (reply.Facts facts) weighs takes = takes
+  taken_reply (reply.Content bytes) weighs takes = takes
+  taken_reply (reply.Gauge gauge) weighs takes = takes
+
+  pub taken_weight : (weighs : Weight) → weighs ≡ weighed capacity takable (volume_of content) (tree_of content) asked → Takes weighs
+  taken_weight weighs is =
+      subst Takes (sym is)
+      (taken_reply (step_line (tree_of content) (Ok asked)).0 (joined (weight capacity (volume_of content) (tree_of content) asked) (weight_with capacity takable (volume_of content) (tree_of content) asked))
+      (taken_costs (weight capacity (volume_of content) (tree_of content) asked) (weight_with capacity takable (volume_of content) (tree_of content) asked) refl))

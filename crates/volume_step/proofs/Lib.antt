@@ -1,8 +1,9 @@
+pub mod CutSteps
 pub mod Done
+pub mod Fewer
 pub mod Forks
 pub mod GrownFirst
 pub mod GrownSteps
-pub mod Handing
 pub mod Judged
 pub mod Kept
 pub mod KeptEntries
@@ -10,6 +11,7 @@ pub mod KeptFirst
 pub mod KeptLinks
 pub mod Linked
 pub mod MetAgain
+pub mod MetNow
 pub mod Putting
 pub mod Reclaimed
 pub mod Served

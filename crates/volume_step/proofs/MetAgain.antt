@@ -20,13 +20,13 @@ abbrev pub needs_of_edits : Edits → Needs
 needs_of_edits many = record { ids = many.ids; edits = 0 ∷ many.catalog ∷ many.attributes ∷ []; updates = many.updates; new_blocks = 0; old_blocks = 0; runs = 0 }
 
 -- no edit lacks a node
-none_lacks : (block key : ℕ) (tree : TreeCost) → growth block key tree 0 ≡ 0
+pub none_lacks : (block key : ℕ) (tree : TreeCost) → growth block key tree 0 ≡ 0
 none_lacks block key tree = ap (λ n. if n == 0 then 0 else growth_for block tree n) none
   where
     none : missing key tree 0 ≡ 0
     none = let it : 0 * (depth_of tree + 2 + rises key tree 0) ≡ 0 = zero-mul (depth_of tree + 2 + rises key tree 0) in omega (arith, it)
 
-no_blocks : (block : ℕ) (tree : TreeCost) → blocks_of_nodes block tree 0 ≡ 0
+pub no_blocks : (block : ℕ) (tree : TreeCost) → blocks_of_nodes block tree 0 ≡ 0
 no_blocks block tree = ap (λ n. n / block) (zero-mul tree.node_size) ∙ zero-div block
 
 -- ---- one tree, larger

@@ -1,14 +1,12 @@
 -- The drop of an entry is a step of reclaiming that grows no tree, and keeps the place of the journal.
-use Rattle.std.proofs.Common.{◌≡◌, ◌⊎◌, ℕ, ◌≤◌, Bool, true, false, List, [], ◌∷◌, inl, inr, refl, sym, ◌∙◌, ap, subst, arith}
-use Rattle.std.specs.Prelude.{Contains, ◌==◌, find, IfOk, OnOk, Option, Result, Ok, Err}
-use Rattle.std.specs.List.{flat_map}
-use Rattle.std.proofs.lemmas.Bool.{true≢false}
+use Rattle.std.proofs.Common.{◌≡◌, ◌⊎◌, ℕ, Bool, true, false, [], ◌∷◌, inl, inr, refl, sym, ◌∙◌, ap, arith}
+use Rattle.std.specs.Prelude.{Contains, ◌==◌, IfOk, OnOk, Option, Result, Ok, Err}
 use Rattle.hx_bytes.specs.declared.faults.Trouble.{Trouble}
 use Rattle.jnl_format.specs.Recovery.{Content}
 use Rattle.hfs_volume.specs.Content.{VolumeState, overflow_in_volume, records_of, volume_of}
 use Rattle.hfs_volume.specs.Changes.{DropsAttribute}
 use Rattle.hfs_volume.specs.Commands.{IsRecounted}
-use Rattle.hfs_volume.specs.Forks.{Owned, all_forks, blocks_owned, forks_in}
+use Rattle.hfs_volume.specs.Forks.{all_forks, blocks_owned, forks_in}
 use Rattle.hfs_volume.specs.Naming.{one_file_less}
 use Rattle.hfs_volume.specs.Reclaim.{DropAttribute, DropOrphan, Reclaims, blocks_at}
 use Rattle.hfs_volume.specs.Reclaiming.{DropsOrphanEntry}
@@ -164,7 +162,7 @@ module _ (halves : (volume : VolumeState) → SoundIsBoth volume) (capacity : �
   reclaims_as (Err why) sound_after was = tt
 
   pub places_as : (r : Result Tidying Trouble) → OnOk r (IsSound after) → IfOk r (λ (came : Tidying). TidiesAs came capacity shrunk before after) → OnOk r (KeepsJournal before after)
-  places_as (Ok tidying.Rest) sound_after was = same_place before after was
+  places_as (Ok tidying.Rest) sound_after was = same_place before after was.0
   places_as (Ok tidying.Made) sound_after was = placed halves capacity shrunk before after sound sound_after was
   places_as (Ok tidying.CommitFirst) sound_after was = same_place before after was
   places_as (Err why) sound_after was = tt

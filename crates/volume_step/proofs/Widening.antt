@@ -81,6 +81,7 @@ shrinks_none asked before old new none same (outcome.Answered said changes) = sa
     by true = sym (ap (λ (s : Option ℕ). or_before s old) none)
     by false = refl
 shrinks_none asked before old new none same outcome.CommitFirst = same
+shrinks_none asked before old new none same outcome.Again = same
 
 pub keeps_shrunk : (asked : Command) (before : Content) (old new : Option ℕ) → shrunk_by (tree_of before) (Ok asked) ≡ None → new ≡ old → (r : Result Outcome Trouble) → IfOk r (λ (o : Outcome). ShrinksAs o asked before old new)
 keeps_shrunk asked before old new none same (Ok o) = shrinks_none asked before old new none same o

@@ -1,24 +1,31 @@
 -- What a command on a volume in service came to.
-use Rattle.std.specs.Prelude.{◌≡◌, ◌⊎◌, ◌<◌, ℕ, ◌+◌, ◌==◌, ◌||◌, nat_lt, not, slice_index, Bool, false, IsTrue, List, [], ◌∷◌, Ok, Option, if◌then◌else◌}
+use Rattle.std.specs.Prelude.{◌≡◌, ◌⊎◌, ◌<◌, ℕ, ◌+◌, ◌==◌, ◌||◌, nat_lt, not, slice_index, Bool, true, false, IsTrue, List, [], ◌∷◌, length, Ok, Option, None, Some, if◌then◌else◌}
 use Rattle.std.specs.List.{Contains}
 use Rattle.jnl_format.specs.Keeping.{IsSame}
 use Rattle.jnl_format.specs.Recovery.{Content, header_of_volume}
 use Rattle.volume_header.specs.Refusal.{is_locked}
 use Rattle.hfs_language.specs.Language.{command_of}
 use Rattle.hfs_language.specs.declared.command.Command.{Command}
+use Rattle.hfs_language.specs.declared.command.Command.TheVariants as command
+use Rattle.hfs_language.specs.declared.refusal.Refusal.TheVariants as refusal
 use Rattle.hfs_language.specs.declared.reply.Change.{Change}
 use Rattle.hfs_language.specs.declared.reply.Reply.{Reply}
 use Rattle.hfs_language.specs.declared.reply.Reply.TheVariants as reply
 use Rattle.hfs_model.specs.Step.{refuses, step_line}
 use Rattle.hfs_volume.specs.Content.{volume_of}
-use Rattle.volume_runs.specs.Run.{AsksMore, Entry, IsServed, is_ok, or_before, shrunk_by}
+use Rattle.hfs_volume.specs.Reclaim.{CutsSurplus}
+use Rattle.volume_runs.specs.Run.{Entry, GrowsMore, IsServed, is_ok, or_before, overflow_edits, shrunk_by}
 use Rattle.volume_runs.specs.Told.{changes_by}
 use Rattle.hfs_volume.specs.TreeOf.{tree_of}
-use Rattle.hfs_volume.specs.Weight.{weight}
+use Rattle.hfs_volume.specs.Weight.{data_of, edits_of, needs_cut, weight, weight_with}
 use Rattle.hfs_volume.specs.declared.cost.Cost.TheVariants as cost
+use Rattle.sector_disk.specs.Space.{Space}
+use Rattle.volume_base.specs.Fitting.{AreMet}
 use Rattle.volume_space.specs.Growing.{IsOwnOrFree}
 use Rattle.volume_base.specs.Standing.{own_sectors}
 use Rattle.volume_space.specs.declared.ahead.MoreNodes.{MoreNodes}
+use Rattle.volume_space.specs.declared.cutting_ahead.CutAhead.{CutAhead}
+use Rattle.volume_space.specs.declared.cutting_ahead.CutAhead.TheVariants as ahead
 use Rattle.volume_base.specs.declared.volume.Volume.{Volume}
 use Rattle.volume_base.specs.declared.weighing.Weight.{Weight}
 use Rattle.volume_base.specs.declared.weighing.Weight.TheVariants as answer
@@ -38,16 +45,24 @@ pub record IsServedAs (capacity number : ℕ) (changes : List Change) (entry : E
   pub served : IsServed capacity entry
   pub told : changes ≡ changes_by number entry
 
--- what a command came to: the entry of each line that spells it is one of a run; or nothing was changed
+-- The step doesn't refuse the command, but blocks past the size of the file that it puts data into go first: some of them were cut.
+pub record CutsFirst (capacity : ℕ) (asked : Command) (before after : Content) : Type 0 where
+  pub no_refusal : refuses (tree_of before) (Ok asked) ≡ false
+  pub needs : needs_cut (volume_of before) (data_of (tree_of before) asked) ≡ true
+  pub cuts : CutsSurplus capacity before after
+
+-- what a command came to: the entry of each line that spells it is one of a run; or nothing was changed; or a cut went first
 abbrev pub StepsTo : Outcome → ℕ → ℕ → Command → Content → Content → Type 0
 StepsTo (outcome.Answered reply changes) capacity number asked before after =
     (line : List ℕ) → command_of line ≡ Ok asked → IsServedAs capacity number changes (record { line = line; reply = reply; before = before; after = after })
 StepsTo outcome.CommitFirst capacity number asked before after = after ≡ before
+StepsTo outcome.Again capacity number asked before after = CutsFirst capacity asked before after
 
 -- the file that was shrunk last, behind a command: the one that it shrank, where it was done and shrank one
 abbrev pub ShrinksAs : Outcome → Command → Content → Option ℕ → Option ℕ → Type 0
 ShrinksAs (outcome.Answered reply changes) asked before old new = new ≡ (if is_ok reply then or_before (shrunk_by (tree_of before) (Ok asked)) old else old)
 ShrinksAs outcome.CommitFirst asked before old new = new ≡ old
+ShrinksAs outcome.Again asked before old new = new ≡ old
 
 -- the sectors that are a volume's own before a call or behind it, or lie in blocks that were free before it
 abbrev pub OwnOf : Volume → Volume → ℕ → Type 0
@@ -83,16 +98,68 @@ pub record GrowsFirst (more : MoreNodes) (capacity : ℕ) (asked : Command) (con
   pub load : ℕ
   pub weighs : weight capacity (volume_of content) (tree_of content) asked ≡ cost.Load load (0 ∷ more.catalog ∷ more.attributes ∷ [])
 
+-- The step doesn't refuse the command, but trees have to grow for it otherwise than is built, or it puts data where blocks past a file's size go first or
+-- overflow records are counted.
+pub record IsHeldBack (capacity : ℕ) (asked : Command) (content : Content) : Type 0 where
+  pub no_refusal : refuses (tree_of content) (Ok asked) ≡ false
+  pub why : GrowsMore capacity asked content ⊎ ((needs_cut (volume_of content) (data_of (tree_of content) asked) ≡ true) ⊎ (0 < overflow_edits (volume_of content) (tree_of content) asked))
+
 -- the verdict stands
 abbrev pub IsJudged : Verdict → ℕ → Command → Content → Type 0
 IsJudged (verdict.Refused why) capacity asked content =
     (reply.No why ≡ (step_line (tree_of content) (Ok asked)).0) ⊎ ((refuses (tree_of content) (Ok asked) ≡ false) × (weight capacity (volume_of content) (tree_of content) asked ≡ cost.Refused why))
-IsJudged verdict.ToCome capacity asked content = AsksMore capacity asked content
+IsJudged verdict.ToCome capacity asked content = IsHeldBack capacity asked content
 IsJudged verdict.CommitFirst capacity asked content = Unit {0}
 IsJudged (verdict.Grows more load) capacity asked content = GrowsFirst more capacity asked content
 IsJudged verdict.Fits capacity asked content = Affords capacity asked content
 
+-- ---- a cut that goes first
+
+-- up to where a command puts data, where it may put some
+abbrev pub data_end : Command → Option ℕ
+data_end (command.Write path from value) = if length value == 0 then None else Some (from + length value)
+data_end (command.Trunc path size) = Some size
+data_end asked = None
+
+-- the path of the file that it puts data into
+abbrev pub data_path : Command → List (List ℕ)
+data_path (command.Write path from value) = path
+data_path (command.Trunc path size) = path
+data_path asked = []
+
+-- what a cut comes to for its command
+abbrev pub outcome_of : CutAhead → Outcome
+outcome_of ahead.NotNeeded = outcome.Answered (reply.No refusal.NotBuilt) []
+outcome_of ahead.Made = outcome.Again
+outcome_of ahead.CommitFirst = outcome.CommitFirst
+outcome_of (ahead.Refused why) = outcome.Answered (reply.No why) []
+
+-- so many sectors are what the command costs of the blocks that may be taken
+abbrev pub CostsTaken : ℕ → ℕ → List Bool → Command → Content → Type 0
+CostsTaken load capacity takable asked content = (grow : List ℕ) × (weight_with capacity takable (volume_of content) (tree_of content) asked ≡ cost.Load load grow)
+
+-- where a tree is to grow before, the verdict tells it
+abbrev pub IsTaken : Verdict → ℕ → List Bool → Command → Content → Type 0
+IsTaken (verdict.Grows more load) capacity takable asked content = CostsTaken load capacity takable asked content
+IsTaken _ capacity takable asked content = Unit {0}
+
 -- ---- behind a growth
+
+-- the command edits the catalog's tree or that of the attributes: no other wants more nodes of them
+abbrev pub edits_tree : Command → Bool
+edits_tree (command.Mkdir path) = true
+edits_tree (command.Create path) = true
+edits_tree (command.Rm path) = true
+edits_tree (command.Rmdir path) = true
+edits_tree (command.Mv from to) = true
+edits_tree (command.Ln from to) = true
+edits_tree (command.SetAttr path name value) = true
+edits_tree (command.DelAttr path name) = true
+edits_tree _ = false
+
+-- the edits of a command can be made now
+abbrev pub IsMet : Command → Volume → Space → Type 0
+IsMet asked volume space = AreMet (edits_of (tree_of space.content) asked) volume space
 
 -- it was done, and answered with ok
 abbrev pub IsDoneOk : Outcome → Type 0

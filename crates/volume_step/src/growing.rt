@@ -1,18 +1,16 @@
 //! Commands ahead of which the catalog or the attributes file grows.
-ghost use Rattle.std.specs.Prelude.{◌≡◌, true, false, IfOk, IsErrOf, None};
+ghost use Rattle.std.specs.Prelude.{◌≡◌, true, false, None};
 ghost use Rattle.hfs_model.specs.declared.plain.PlainTree.{PlainTree};
 ghost use Rattle.hfs_volume.specs.Content.{VolumeState, has_attributes};
 ghost use Rattle.hfs_volume.specs.Weight.{data_of, lacks_tree};
-ghost use Rattle.hx_bytes.specs.declared.faults.Trouble.TheVariants as trouble;
-ghost use Rattle.volume_step.specs.Steps.{IsDoneOk};
+ghost use Rattle.volume_step.specs.Steps.{edits_tree};
 
-use crate::outcome::Outcome;
-use hfs_language::{Command, Reply};
-use hx_bytes::Trouble;
+use hfs_language::Command;
 
 /// Whether a command edits the catalog's tree or that of the attributes: no other wants more nodes of them. Such a command puts no data, and
 /// it lacks an attributes file or not by the header alone.
 pub(crate) fn edits_tree(command: &Command) -> bool
+    ensures same { result ≡ edits_tree command.now }
     ensures data { result ≡ true → (tree : PlainTree) → data_of tree command.now ≡ None }
     ensures tree { (old new : VolumeState) → has_attributes new.head ≡ has_attributes old.head → lacks_tree new command.now ≡ lacks_tree old command.now }
 {
@@ -30,23 +28,5 @@ pub(crate) fn edits_tree(command: &Command) -> bool
         } => true,
         Command::DelAttr { path: _, name: _ } => true,
         _ => false,
-    }
-}
-
-/// What a command came to that was done. Behind a growth there is no other answer: its step doesn't refuse it, and there was room for both.
-pub(crate) fn done_or_short(outcome: Outcome) -> Result<Outcome, Trouble>
-    ensures same { IfOk result (λ it. it ≡ outcome) }
-    ensures done { IfOk result IsDoneOk }
-    ensures memory { IsErrOf result trouble.Disk → ⊥ }
-{
-    match outcome {
-        Outcome::Answered { reply, changes } => match reply {
-            Reply::Ok => Ok(Outcome::Answered {
-                reply: Reply::Ok,
-                changes,
-            }),
-            _ => Err(Trouble::Memory),
-        },
-        Outcome::CommitFirst => Err(Trouble::Memory),
     }
 }

@@ -3,10 +3,11 @@ ghost use Rattle.std.specs.Prelude.{◌≡◌, false, IsTrue, IfOk};
 ghost use Rattle.btree_edit.specs.Causes.{HasTroubleCause};
 ghost use Rattle.hfs_language.specs.Written.{FitsCommand};
 ghost use Rattle.hfs_model.specs.Step.{only_reads};
+ghost use Rattle.volume_base.specs.Fitting.{takable_of};
 ghost use Rattle.volume_base.specs.Looking.{ReadsVolume};
 ghost use Rattle.volume_base.specs.Room.{capacity_of};
 ghost use Rattle.volume_base.specs.Standing.{IsSettled, StandsOver};
-ghost use Rattle.volume_step.specs.Steps.{IsJudged, growth_of, grows_in, verdict_of};
+ghost use Rattle.volume_step.specs.Steps.{IsJudged, IsTaken, growth_of, grows_in, verdict_of};
 
 use hfs_language::{Command, Refusal};
 use hx_bytes::Trouble;
@@ -21,7 +22,7 @@ use volume_weights::weigh;
 pub(crate) enum Verdict {
     /// Its step refuses it, or a resource is missing.
     Refused(Refusal),
-    /// It is still to come, or the extents file has to grow for it, which is still to come.
+    /// The extents file has to grow for it, blocks past the size of its file go first, or its data counts overflow records.
     ToCome,
     /// It wants a commit before it.
     CommitFirst,
@@ -74,7 +75,7 @@ fn verdict_of(weight: Weight, spare: u64) -> Verdict
     }
 }
 
-/// Judges a command that changes the volume. One that isn't weighed is still to come.
+/// Judges a command that changes the volume. One that isn't weighed is held back.
 pub(crate) fn judge<P: SectorSpace>(
     alloc: Global,
     volume: &mut Volume,
@@ -86,6 +87,7 @@ pub(crate) fn judge<P: SectorSpace>(
     requires fits { FitsCommand command.now }
     requires changes { only_reads command.now ≡ false }
     ensures judged { IsTrue (P.SectorView.space space.old).tells → IfOk result (λ verdict. IsJudged verdict (capacity_of volume.old) command.now (P.SectorView.space space.old).content) }
+    ensures taken { IsTrue (P.SectorView.space space.old).tells → IfOk result (λ verdict. IsTaken verdict (capacity_of volume.old) (takable_of volume.old) command.now (P.SectorView.space space.old).content) }
     ensures reads { ReadsVolume volume.old volume.new (P.SectorView.space space.old) (P.SectorView.space space.new) }
     ensures stands { StandsOver volume.new (P.SectorView.space space.new) }
     ensures settled { IsTrue (P.SectorView.space space.old).tells → IsSettled volume.new (P.SectorView.space space.new).content }

@@ -2,6 +2,7 @@
 #![tactic(auto)]
 
 mod answering;
+mod cutting;
 mod growing;
 mod judging;
 mod linking;

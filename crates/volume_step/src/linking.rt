@@ -11,13 +11,16 @@ ghost use Rattle.volume_base.specs.Service.{IsInService};
 ghost use Rattle.volume_space.specs.Standing.{HoldsOn};
 ghost use Rattle.volume_base.specs.Standing.{IsSettled, StandsOver, own_sectors};
 ghost use Rattle.volume_base.specs.Touching.{Touches};
-ghost use Rattle.volume_step.specs.Steps.{Affords, KeepsJournal, StepsTo};
+ghost use Rattle.volume_step.specs.Steps.{Affords, IsDoneOk, IsMet, KeepsJournal, StepsTo};
 
 use crate::outcome::Outcome;
 use hfs_language::Path;
 use hx_bytes::Trouble;
 use sector_disk::SectorSpace;
 use std::alloc::Global;
+use tree_weights::{
+    a_load_is_of_parts, a_load_says_enough, trees_grow_by_enough, trees_hold_three,
+};
 use volume_base::Volume;
 use volume_names::{fits_make, ln};
 
@@ -36,6 +39,7 @@ pub(crate) fn link_file<P: SectorSpace>(
     requires to_fits { FitsPath to.now }
     requires affords { IsTrue (P.SectorView.space space.old).tells → Affords (capacity_of volume.old) (command.Ln from.now to.now) (P.SectorView.space space.old).content }
     ensures answered { IsTrue (P.SectorView.space space.old).tells → IfOk result (λ outcome. StepsTo outcome (capacity_of volume.old) number (command.Ln from.now to.now) (P.SectorView.space space.old).content (P.SectorView.space space.new).content) }
+    ensures done { IsTrue (P.SectorView.space space.old).tells → IsMet (command.Ln from.now to.now) volume.old (P.SectorView.space space.old) → IfOk result IsDoneOk }
     ensures place { IsTrue (P.SectorView.space space.old).tells → OnOk result (KeepsJournal (P.SectorView.space space.old).content (P.SectorView.space space.new).content) }
     ensures stands { OnOk result (StandsOver volume.new (P.SectorView.space space.new)) }
     ensures settled { IsTrue (P.SectorView.space space.old).tells → OnOk result (IsSettled volume.new (P.SectorView.space space.new).content) }
@@ -47,6 +51,10 @@ pub(crate) fn link_file<P: SectorSpace>(
     ensures below { P.SectorView.follows space.old space.new }
     ensures cause { HasTroubleCause (P.SectorView.space space.old).faults (P.SectorView.space space.new).faults result }
 {
+    a_load_says_enough();
+    a_load_is_of_parts();
+    trees_grow_by_enough();
+    trees_hold_three();
     let changes = volume.change_linked(alloc, space, number, from, to)?;
     if !fits_make(volume, space) {
         return Ok(Outcome::CommitFirst);

@@ -11,7 +11,7 @@ ghost use Rattle.volume_base.specs.Service.{IsInService};
 ghost use Rattle.volume_space.specs.Standing.{HoldsOn};
 ghost use Rattle.volume_base.specs.Standing.{IsSettled, StandsOver, own_sectors};
 ghost use Rattle.volume_base.specs.Touching.{Touches};
-ghost use Rattle.volume_step.specs.Steps.{Affords, KeepsJournal, StepsTo};
+ghost use Rattle.volume_step.specs.Steps.{Affords, IsDoneOk, IsMet, KeepsJournal, StepsTo};
 
 use crate::outcome::Outcome;
 use hfs_language::Path;
@@ -34,6 +34,7 @@ pub(crate) fn make_folder<P: SectorSpace>(
     requires fits { FitsPath path.now }
     requires affords { IsTrue (P.SectorView.space space.old).tells → Affords (capacity_of volume.old) (command.Mkdir path.now) (P.SectorView.space space.old).content }
     ensures answered { IsTrue (P.SectorView.space space.old).tells → IfOk result (λ outcome. StepsTo outcome (capacity_of volume.old) number (command.Mkdir path.now) (P.SectorView.space space.old).content (P.SectorView.space space.new).content) }
+    ensures done { IsTrue (P.SectorView.space space.old).tells → IsMet (command.Mkdir path.now) volume.old (P.SectorView.space space.old) → IfOk result IsDoneOk }
     ensures place { IsTrue (P.SectorView.space space.old).tells → OnOk result (KeepsJournal (P.SectorView.space space.old).content (P.SectorView.space space.new).content) }
     ensures stands { OnOk result (StandsOver volume.new (P.SectorView.space space.new)) }
     ensures settled { IsTrue (P.SectorView.space space.old).tells → OnOk result (IsSettled volume.new (P.SectorView.space space.new).content) }
@@ -66,6 +67,7 @@ pub(crate) fn make_file<P: SectorSpace>(
     requires fits { FitsPath path.now }
     requires affords { IsTrue (P.SectorView.space space.old).tells → Affords (capacity_of volume.old) (command.Create path.now) (P.SectorView.space space.old).content }
     ensures answered { IsTrue (P.SectorView.space space.old).tells → IfOk result (λ outcome. StepsTo outcome (capacity_of volume.old) number (command.Create path.now) (P.SectorView.space space.old).content (P.SectorView.space space.new).content) }
+    ensures done { IsTrue (P.SectorView.space space.old).tells → IsMet (command.Create path.now) volume.old (P.SectorView.space space.old) → IfOk result IsDoneOk }
     ensures place { IsTrue (P.SectorView.space space.old).tells → OnOk result (KeepsJournal (P.SectorView.space space.old).content (P.SectorView.space space.new).content) }
     ensures stands { OnOk result (StandsOver volume.new (P.SectorView.space space.new)) }
     ensures settled { IsTrue (P.SectorView.space space.old).tells → OnOk result (IsSettled volume.new (P.SectorView.space space.new).content) }
@@ -100,6 +102,7 @@ pub(crate) fn move_entry<P: SectorSpace>(
     requires to_fits { FitsPath to.now }
     requires affords { IsTrue (P.SectorView.space space.old).tells → Affords (capacity_of volume.old) (command.Mv from.now to.now) (P.SectorView.space space.old).content }
     ensures answered { IsTrue (P.SectorView.space space.old).tells → IfOk result (λ outcome. StepsTo outcome (capacity_of volume.old) number (command.Mv from.now to.now) (P.SectorView.space space.old).content (P.SectorView.space space.new).content) }
+    ensures done { IsTrue (P.SectorView.space space.old).tells → IsMet (command.Mv from.now to.now) volume.old (P.SectorView.space space.old) → IfOk result IsDoneOk }
     ensures place { IsTrue (P.SectorView.space space.old).tells → OnOk result (KeepsJournal (P.SectorView.space space.old).content (P.SectorView.space space.new).content) }
     ensures stands { OnOk result (StandsOver volume.new (P.SectorView.space space.new)) }
     ensures settled { IsTrue (P.SectorView.space space.old).tells → OnOk result (IsSettled volume.new (P.SectorView.space space.new).content) }

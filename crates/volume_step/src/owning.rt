@@ -11,7 +11,7 @@ ghost use Rattle.volume_base.specs.Service.{IsInService};
 ghost use Rattle.volume_space.specs.Standing.{HoldsOn};
 ghost use Rattle.volume_base.specs.Standing.{IsSettled, StandsOver, own_sectors};
 ghost use Rattle.volume_base.specs.Touching.{Touches};
-ghost use Rattle.volume_step.specs.Steps.{Affords, KeepsJournal, StepsTo};
+ghost use Rattle.volume_step.specs.Steps.{Affords, IsDoneOk, IsMet, KeepsJournal, StepsTo};
 
 use crate::outcome::Outcome;
 use hfs_language::{ChangeKind, Path};
@@ -37,6 +37,7 @@ pub(crate) fn set_attribute<P: SectorSpace>(
     requires name { IsName 127 name.now }
     requires affords { IsTrue (P.SectorView.space space.old).tells → Affords (capacity_of volume.old) (command.SetAttr path.now name.now value.now) (P.SectorView.space space.old).content }
     ensures answered { IsTrue (P.SectorView.space space.old).tells → IfOk result (λ outcome. StepsTo outcome (capacity_of volume.old) number (command.SetAttr path.now name.now value.now) (P.SectorView.space space.old).content (P.SectorView.space space.new).content) }
+    ensures done { IsTrue (P.SectorView.space space.old).tells → IsMet (command.SetAttr path.now name.now value.now) volume.old (P.SectorView.space space.old) → IfOk result IsDoneOk }
     ensures place { IsTrue (P.SectorView.space space.old).tells → OnOk result (KeepsJournal (P.SectorView.space space.old).content (P.SectorView.space space.new).content) }
     ensures stands { OnOk result (StandsOver volume.new (P.SectorView.space space.new)) }
     ensures settled { IsTrue (P.SectorView.space space.old).tells → OnOk result (IsSettled volume.new (P.SectorView.space space.new).content) }
@@ -71,6 +72,7 @@ pub(crate) fn delete_attribute<P: SectorSpace>(
     requires name { IsName 127 name.now }
     requires affords { IsTrue (P.SectorView.space space.old).tells → Affords (capacity_of volume.old) (command.DelAttr path.now name.now) (P.SectorView.space space.old).content }
     ensures answered { IsTrue (P.SectorView.space space.old).tells → IfOk result (λ outcome. StepsTo outcome (capacity_of volume.old) number (command.DelAttr path.now name.now) (P.SectorView.space space.old).content (P.SectorView.space space.new).content) }
+    ensures done { IsTrue (P.SectorView.space space.old).tells → IsMet (command.DelAttr path.now name.now) volume.old (P.SectorView.space space.old) → IfOk result IsDoneOk }
     ensures place { IsTrue (P.SectorView.space space.old).tells → OnOk result (KeepsJournal (P.SectorView.space space.old).content (P.SectorView.space space.new).content) }
     ensures stands { OnOk result (StandsOver volume.new (P.SectorView.space space.new)) }
     ensures settled { IsTrue (P.SectorView.space space.old).tells → OnOk result (IsSettled volume.new (P.SectorView.space space.new).content) }

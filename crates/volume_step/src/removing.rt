@@ -1,23 +1,30 @@
 //! `rmdir` and `rm`, for which nothing is missing.
-ghost use Rattle.std.specs.Prelude.{◌≡◌, IsTrue, IfOk, OnOk};
+ghost use Rattle.std.specs.Prelude.{◌≡◌, false, IsTrue, IfOk, OnOk};
 ghost use Rattle.std.specs.List.{Contains};
 ghost use Rattle.sector_disk.specs.Lists.{Content};
 ghost use Rattle.btree_edit.specs.Causes.{HasTroubleCause};
 ghost use Rattle.hfs_language.specs.Written.{FitsPath};
 ghost use Rattle.hfs_language.specs.declared.command.Command.TheVariants as command;
+ghost use Rattle.hfs_volume.specs.Content.{has_attributes, volume_of};
+ghost use Rattle.hfs_volume.specs.Weight.{edits};
+ghost use Rattle.volume_base.specs.Fitting.{AreMet};
 ghost use Rattle.volume_base.specs.Keeping.{shrunk_of};
 ghost use Rattle.volume_base.specs.Room.{capacity_of};
 ghost use Rattle.volume_base.specs.Service.{IsInService};
 ghost use Rattle.volume_space.specs.Standing.{HoldsOn};
 ghost use Rattle.volume_base.specs.Standing.{IsSettled, StandsOver, own_sectors};
 ghost use Rattle.volume_base.specs.Touching.{Touches};
-ghost use Rattle.volume_step.specs.Steps.{Affords, KeepsJournal, StepsTo};
+ghost use Rattle.volume_step.specs.Steps.{Affords, IsDoneOk, IsMet, KeepsJournal, StepsTo};
 
 use crate::outcome::Outcome;
 use hfs_language::{ChangeKind, Path};
+use hfs_volume::sound_has_plain_tree;
 use hx_bytes::Trouble;
 use sector_disk::SectorSpace;
 use std::alloc::Global;
+use tree_weights::{
+    a_load_is_of_parts, a_load_says_enough, trees_grow_by_enough, trees_hold_three,
+};
 use volume_base::Volume;
 use volume_names::{bare_count, fits_bare, fits_lose, rm, rmdir};
 
@@ -35,6 +42,7 @@ fn remove_with<P: SectorSpace>(
     requires fits { FitsPath path.now }
     requires affords { IsTrue (P.SectorView.space space.old).tells → Affords (capacity_of volume.old) (command.Rmdir path.now) (P.SectorView.space space.old).content }
     ensures answered { IsTrue (P.SectorView.space space.old).tells → IfOk result (λ outcome. StepsTo outcome (capacity_of volume.old) number (command.Rmdir path.now) (P.SectorView.space space.old).content (P.SectorView.space space.new).content) }
+    ensures done { IsTrue (P.SectorView.space space.old).tells → AreMet (edits 0 2 many 1) volume.old (P.SectorView.space space.old) → (has_attributes (volume_of (P.SectorView.space space.old).content).head ≡ false → many ≡ 0) → IfOk result IsDoneOk }
     ensures place { IsTrue (P.SectorView.space space.old).tells → OnOk result (KeepsJournal (P.SectorView.space space.old).content (P.SectorView.space space.new).content) }
     ensures stands { OnOk result (StandsOver volume.new (P.SectorView.space space.new)) }
     ensures settled { IsTrue (P.SectorView.space space.old).tells → OnOk result (IsSettled volume.new (P.SectorView.space space.new).content) }
@@ -46,6 +54,10 @@ fn remove_with<P: SectorSpace>(
     ensures below { P.SectorView.follows space.old space.new }
     ensures cause { HasTroubleCause (P.SectorView.space space.old).faults (P.SectorView.space space.new).faults result }
 {
+    a_load_says_enough();
+    a_load_is_of_parts();
+    trees_grow_by_enough();
+    trees_hold_three();
     let changes = volume.change_at(alloc, space, number, ChangeKind::Removed, path)?;
     if !volume.fits_remove(space) {
         return Ok(Outcome::CommitFirst);
@@ -70,6 +82,7 @@ pub(crate) fn remove_folder<P: SectorSpace>(
     requires fits { FitsPath path.now }
     requires affords { IsTrue (P.SectorView.space space.old).tells → Affords (capacity_of volume.old) (command.Rmdir path.now) (P.SectorView.space space.old).content }
     ensures answered { IsTrue (P.SectorView.space space.old).tells → IfOk result (λ outcome. StepsTo outcome (capacity_of volume.old) number (command.Rmdir path.now) (P.SectorView.space space.old).content (P.SectorView.space space.new).content) }
+    ensures done { IsTrue (P.SectorView.space space.old).tells → IsMet (command.Rmdir path.now) volume.old (P.SectorView.space space.old) → IfOk result IsDoneOk }
     ensures place { IsTrue (P.SectorView.space space.old).tells → OnOk result (KeepsJournal (P.SectorView.space space.old).content (P.SectorView.space space.new).content) }
     ensures stands { OnOk result (StandsOver volume.new (P.SectorView.space space.new)) }
     ensures settled { IsTrue (P.SectorView.space space.old).tells → OnOk result (IsSettled volume.new (P.SectorView.space space.new).content) }
@@ -98,6 +111,7 @@ pub(crate) fn remove_file<P: SectorSpace>(
     requires fits { FitsPath path.now }
     requires affords { IsTrue (P.SectorView.space space.old).tells → Affords (capacity_of volume.old) (command.Rm path.now) (P.SectorView.space space.old).content }
     ensures answered { IsTrue (P.SectorView.space space.old).tells → IfOk result (λ outcome. StepsTo outcome (capacity_of volume.old) number (command.Rm path.now) (P.SectorView.space space.old).content (P.SectorView.space space.new).content) }
+    ensures done { IsTrue (P.SectorView.space space.old).tells → IsMet (command.Rm path.now) volume.old (P.SectorView.space space.old) → IfOk result IsDoneOk }
     ensures place { IsTrue (P.SectorView.space space.old).tells → OnOk result (KeepsJournal (P.SectorView.space space.old).content (P.SectorView.space space.new).content) }
     ensures stands { OnOk result (StandsOver volume.new (P.SectorView.space space.new)) }
     ensures settled { IsTrue (P.SectorView.space space.old).tells → OnOk result (IsSettled volume.new (P.SectorView.space space.new).content) }
@@ -109,6 +123,11 @@ pub(crate) fn remove_file<P: SectorSpace>(
     ensures below { P.SectorView.follows space.old space.new }
     ensures cause { HasTroubleCause (P.SectorView.space space.old).faults (P.SectorView.space space.new).faults result }
 {
+    a_load_says_enough();
+    a_load_is_of_parts();
+    trees_grow_by_enough();
+    trees_hold_three();
+    sound_has_plain_tree();
     let changes = volume.change_at(alloc, space, number, ChangeKind::Removed, path)?;
     if !fits_lose(volume, space) {
         return Ok(Outcome::CommitFirst);

@@ -1,11 +1,12 @@
 //! A command on a volume in service, weighed and done.
-ghost use Rattle.std.specs.Prelude.{◌≡◌, ℕ, false, IsTrue, IfOk, OnOk};
+ghost use Rattle.std.specs.Prelude.{◌≡◌, ℕ, true, false, IsTrue, IfOk, OnOk};
 ghost use Rattle.sector_disk.specs.Lists.{Content};
 ghost use Rattle.sector_disk.specs.Space.{SameSpace};
 ghost use Rattle.btree_edit.specs.Causes.{HasTroubleCause};
 ghost use Rattle.hfs_language.specs.Written.{FitsCommand};
 ghost use Rattle.hfs_model.specs.Step.{only_reads};
 ghost use Rattle.hfs_volume.specs.Aside.{IsJournalSector};
+ghost use Rattle.volume_base.specs.Fitting.{takable_of};
 ghost use Rattle.volume_base.specs.Keeping.{shrunk_of};
 ghost use Rattle.volume_base.specs.Room.{capacity_of};
 ghost use Rattle.volume_base.specs.Service.{IsInService};
@@ -13,10 +14,11 @@ ghost use Rattle.volume_space.specs.Spilling.{IsLaidOutAs};
 ghost use Rattle.volume_space.specs.Standing.{HoldsOn};
 ghost use Rattle.volume_base.specs.Standing.{IsSettled, StandsOver};
 ghost use Rattle.volume_base.specs.Touching.{Touches};
-ghost use Rattle.volume_step.specs.Steps.{Affords, GrowsFirst, IsDoneOk, KeepsJournal, OwnOf, ShrinksAs, StepsTo};
+ghost use Rattle.volume_step.specs.Steps.{Affords, CostsTaken, GrowsFirst, IsDoneOk, IsMet, KeepsJournal, OwnOf, ShrinksAs, StepsTo, edits_tree};
 
 use crate::answering::{answer, only_reads, refusal};
-use crate::growing::{done_or_short, edits_tree};
+use crate::cutting::cut_or_wait;
+use crate::growing::edits_tree;
 use crate::judging::{Verdict, judge};
 use crate::linking::link_file;
 use crate::making::{make_file, make_folder, move_entry};
@@ -33,7 +35,8 @@ use tree_weights::{a_load_is_of_parts, a_load_says_enough};
 use volume_base::Volume;
 use volume_space::{Growth, MoreNodes, grow_ahead};
 
-/// Does a command for which nothing is missing, and which puts no data into a file. Another waits.
+/// Does a command for which nothing is missing, and which puts no data into a file. Another waits. One that edits a tree is done where its
+/// edits are met.
 fn perform_without_data<P: SectorSpace>(
     alloc: Global,
     volume: &mut Volume,
@@ -46,6 +49,7 @@ fn perform_without_data<P: SectorSpace>(
     requires fits { FitsCommand command.now }
     requires affords { IsTrue (P.SectorView.space space.old).tells → Affords (capacity_of volume.old) command.now (P.SectorView.space space.old).content }
     ensures answered { IsTrue (P.SectorView.space space.old).tells → IfOk result (λ outcome. StepsTo outcome (capacity_of volume.old) number command.now (P.SectorView.space space.old).content (P.SectorView.space space.new).content) }
+    ensures done { IsTrue (P.SectorView.space space.old).tells → edits_tree command.now ≡ true → IsMet command.now volume.old (P.SectorView.space space.old) → IfOk result IsDoneOk }
     ensures place { IsTrue (P.SectorView.space space.old).tells → OnOk result (KeepsJournal (P.SectorView.space space.old).content (P.SectorView.space space.new).content) }
     ensures stands { OnOk result (StandsOver volume.new (P.SectorView.space space.new)) }
     ensures settled { IsTrue (P.SectorView.space space.old).tells → OnOk result (IsSettled volume.new (P.SectorView.space space.new).content) }
@@ -119,35 +123,6 @@ fn perform<P: SectorSpace>(
     }
 }
 
-/// Does a command for which nothing is missing, behind the growth of a tree: it is answered with ok.
-fn do_grown<P: SectorSpace>(
-    alloc: Global,
-    volume: &mut Volume,
-    space: &mut P,
-    number: u64,
-    command: &Command,
-) -> Result<Outcome, Trouble>
-    requires stands { StandsOver volume.old (P.SectorView.space space.old) }
-    requires settled { IsTrue (P.SectorView.space space.old).tells → IsSettled volume.old (P.SectorView.space space.old).content }
-    requires fits { FitsCommand command.now }
-    requires affords { IsTrue (P.SectorView.space space.old).tells → Affords (capacity_of volume.old) command.now (P.SectorView.space space.old).content }
-    ensures done { IfOk result IsDoneOk }
-    ensures answered { IsTrue (P.SectorView.space space.old).tells → IfOk result (λ outcome. StepsTo outcome (capacity_of volume.old) number command.now (P.SectorView.space space.old).content (P.SectorView.space space.new).content) }
-    ensures place { IsTrue (P.SectorView.space space.old).tells → OnOk result (KeepsJournal (P.SectorView.space space.old).content (P.SectorView.space space.new).content) }
-    ensures stands { OnOk result (StandsOver volume.new (P.SectorView.space space.new)) }
-    ensures settled { IsTrue (P.SectorView.space space.old).tells → OnOk result (IsSettled volume.new (P.SectorView.space space.new).content) }
-    ensures service { IsInService volume.new (P.SectorView.space space.new) }
-    ensures holds { (committed : Content) → HoldsOn committed volume.old → OnOk result (HoldsOn committed volume.new) }
-    ensures capacity { capacity_of volume.new ≡ capacity_of volume.old }
-    ensures shrunk { IsTrue (P.SectorView.space space.old).tells → IfOk result (λ outcome. ShrinksAs outcome command.now (P.SectorView.space space.old).content (shrunk_of volume.old) (shrunk_of volume.new)) }
-    ensures touches { (committed : Content) → Touches committed (OwnOf volume.old volume.new) (P.SectorView.space space.old) (P.SectorView.space space.new) }
-    ensures below { P.SectorView.follows space.old space.new }
-    ensures cause { HasTroubleCause (P.SectorView.space space.old).faults (P.SectorView.space space.new).faults result }
-{
-    let outcome = perform_without_data(alloc, volume, space, number, command)?;
-    done_or_short(outcome)
-}
-
 /// Does a command ahead of which a tree has to grow by so many nodes; its load is so many sectors, with the growth. Where it can't
 /// grow so the command is still to come, and where there is too little room for both a commit comes first.
 fn grow_first<P: SectorSpace>(
@@ -165,6 +140,7 @@ fn grow_first<P: SectorSpace>(
     requires changes { only_reads command.now ≡ false }
     requires closed { IsTrue (P.SectorView.space space.old).tells → (at : ℕ) → (P.SectorView.space space.old).closed at → IsJournalSector (P.SectorView.space space.old).content at }
     requires grows { IsTrue (P.SectorView.space space.old).tells → GrowsFirst more (capacity_of volume.old) command.now (P.SectorView.space space.old).content }
+    requires taken { IsTrue (P.SectorView.space space.old).tells → CostsTaken load (capacity_of volume.old) (takable_of volume.old) command.now (P.SectorView.space space.old).content }
     ensures answered { IsTrue (P.SectorView.space space.old).tells → IfOk result (λ outcome. StepsTo outcome (capacity_of volume.old) number command.now (P.SectorView.space space.old).content (P.SectorView.space space.new).content) }
     ensures place { IsTrue (P.SectorView.space space.old).tells → OnOk result (KeepsJournal (P.SectorView.space space.old).content (P.SectorView.space space.new).content) }
     ensures stands { OnOk result (StandsOver volume.new (P.SectorView.space space.new)) }
@@ -183,7 +159,7 @@ fn grow_first<P: SectorSpace>(
         return Ok(Outcome::CommitFirst);
     }
     match grow_ahead(volume, alloc, space, more, load)? {
-        Growth::Grown => do_grown(alloc, volume, space, number, command),
+        Growth::Grown => perform_without_data(alloc, volume, space, number, command),
         Growth::CommitFirst => Ok(Outcome::CommitFirst),
         Growth::ToCome => Ok(refusal(alloc, Refusal::NotBuilt)),
     }
@@ -217,7 +193,7 @@ fn change<P: SectorSpace>(
 {
     match judge(alloc, volume, space, command)? {
         Verdict::Refused(why) => Ok(refusal(alloc, why)),
-        Verdict::ToCome => Ok(refusal(alloc, Refusal::NotBuilt)),
+        Verdict::ToCome => cut_or_wait(alloc, volume, space, number, command),
         Verdict::CommitFirst => Ok(Outcome::CommitFirst),
         Verdict::Grows { more, load } => {
             grow_first(alloc, volume, space, number, command, more, load)

@@ -20,8 +20,8 @@ use volume_base::Volume;
 use volume_space::Tidying;
 
 /// Makes the next step of reclaiming: it cuts the file that was shrunk last where that has blocks past its size, or, of the file with
-/// the least CNID of those that lost their last name, a fork, or drops the first of its attributes, or its entry. A cut of a fork whose
-/// record has eight extents is still to come. `Memory` comes where memory is wanting, `Disk` where a read failed.
+/// the least CNID of those that lost their last name, a fork, or drops the first of its attributes, or its entry. Still to come is a step
+/// for which a tree has to grow. `Memory` comes where memory is wanting, `Disk` where a read failed.
 pub fn tidy<P: SectorSpace>(
     alloc: Global,
     volume: &mut Volume,
@@ -29,7 +29,8 @@ pub fn tidy<P: SectorSpace>(
 ) -> Result<Tidying, Trouble>
     requires stands { StandsOver volume.old (P.SectorView.space space.old) }
     requires settled { IsTrue (P.SectorView.space space.old).tells → IsSettled volume.old (P.SectorView.space space.old).content }
-    // Told, the next step of reclaiming was made, and nothing was missing for it; or nothing was changed.
+    // Told, the next step of reclaiming was made, and nothing was missing for it; or nothing was changed. It rests only where nothing
+    // is left to reclaim, or the next step is held up.
     ensures reclaims { IsTrue (P.SectorView.space space.old).tells → IfOk result (λ came. ReclaimsAs came (capacity_of volume.old) (shrunk_of volume.old) (P.SectorView.space space.old).content (P.SectorView.space space.new).content) }
     // The journal lies where it lay, and the header is one of the same volume.
     ensures place { IsTrue (P.SectorView.space space.old).tells → OnOk result (KeepsJournal (P.SectorView.space space.old).content (P.SectorView.space space.new).content) }

@@ -1,9 +1,15 @@
 -- What `rm` weighs, by the record of what it removes.
-use Rattle.std.proofs.Common.{◌≡◌, ℕ, ◌+◌, ◌*◌, Bool, true, false, List, length, refl, sym, ◌∙◌, ap, subst}
+use Rattle.std.proofs.Common.{◌≡◌, ℕ, ◌+◌, ◌*◌, Bool, true, false, List, [], ◌∷◌, length, refl, sym, ◌∙◌, ap, subst}
 use Rattle.std.specs.Prelude.{◌==◌, nat_lt, is_some, Option, Some, None, Result, Ok, Err, if◌then◌else◌}
 use Rattle.std.specs.Option.{ok_or}
 use Rattle.std.proofs.lemmas.Bool.{true≢false}
 use Rattle.sector_disk.specs.Lists.{Content}
+use Rattle.btree_node.specs.Levels.{Pair}
+use Rattle.cat_records.specs.declared.record.CatRecord.{CatRecord}
+use Rattle.cat_records.specs.declared.record.CatRecord.TheVariants.{Folder, File, Thread}
+use Rattle.cat_records.specs.declared.record.FileRecord.{FileRecord}
+use Rattle.catalog.specs.Children.{children_in}
+use Rattle.catalog.specs.declared.folder.Child.{Child}
 use Rattle.hfs_language.specs.Written.{FitsPath}
 use Rattle.hfs_language.specs.declared.command.Command.TheVariants as command
 use Rattle.hfs_language.specs.declared.refusal.Refusal.{Refusal}
@@ -22,7 +28,10 @@ use Rattle.hfs_volume.specs.Weight.{Edits as Asked, edits, edits_of, folders_mad
 use Rattle.volume_base.specs.Lists.{lists_of}
 use Rattle.volume_base.specs.Losing.{lose_edits}
 use Rattle.volume_weights.specs.Losing.{loss_weighed, last_edits, unlink_edits}
-use Rattle.volume_base.specs.Nodes.{node_in}
+use Rattle.volume_base.specs.Nodes.{folder_node, node_in, node_reached, root_node}
+use Rattle.volume_base.specs.Reaching.{walk_in}
+use Rattle.volume_base.specs.declared.reaching.Reached.{Reached}
+use Rattle.volume_base.specs.declared.reaching.Reached.TheVariants as reached_as
 use Rattle.volume_base.specs.Standing.{HoldsTrees, IsSettled}
 use Rattle.volume_base.specs.Weighing.{edits_weighed, joined, refused_or, weighed}
 use Rattle.volume_base.specs.declared.nodes.Node.{Node}
@@ -86,6 +95,30 @@ module _ (tree : PlainTree) (path : List (List ℕ)) (some : is_root path ≡ fa
         by (Ok e) found same =
             let kind = reached_kind tree plain path e found in
             absurd (let none : Ok kind.0 ≡ Err why = sym (ap (λ (o : Option PlainNode). ok_or o refusal.NotFound) kind.1) ∙ same in cc none)
+
+-- ---- over records
+
+-- the record of a file is a link's, if it is one
+abbrev linked_in : Result Node Refusal → Bool
+linked_in (Ok (node.File own b)) = b
+linked_in (Ok (node.Folder folder)) = false
+linked_in (Err why) = false
+
+folder_alone : (own : FileRecord) (b : Bool) (value : CatRecord) → folder_node value ≡ Ok (node.File own b) → b ≡ false
+folder_alone own b (Folder folder) same = absurd (cc same)
+folder_alone own b (File file) same = absurd (cc same)
+folder_alone own b (Thread thread) same = absurd (cc same)
+
+root_alone : (own : FileRecord) (b : Bool) (children : List Child) → root_node children ≡ Ok (node.File own b) → b ≡ false
+root_alone own b [] same = absurd (cc same)
+root_alone own b (child ∷ rest) same = folder_alone own b child.rec same
+
+-- without a private folder no record is
+no_link : (pairs : List Pair) (own : FileRecord) (b : Bool) (r : Result Reached Refusal) → then_ r (node_reached pairs None) ≡ Ok (node.File own b) → b ≡ false
+no_link pairs own b (Err why) same = absurd (cc same)
+no_link pairs own b (Ok reached_as.Root) same = root_alone own b (children_in 1 pairs) same
+no_link pairs own b (Ok (reached_as.Folder folder)) same = absurd (cc same)
+no_link pairs own b (Ok (reached_as.File file)) same = sym (ap linked_in same)
 
 -- ---- over a settled volume
 
@@ -184,10 +217,14 @@ module _ (law : SoundHasPlainTree) (v : Volume) (content : Content) (holds : Hol
       edits_here : (kind : n.folder ≡ false) → edits_of (tree_of content) (command.Rm path) ≡ rm_edits (tree_of content) (Some n)
       edits_here kind = ap (rm_edits_at (tree_of content)) (at.removal ∙ ap (λ (b : Bool). if b then Err refusal.IsFolder else Ok at.entry) kind) ∙ ap (rm_edits (tree_of content)) at.found
 
+      -- what its removal edits, where it has one name and is no link's
+      of_alone : n.folder ≡ false → n.linked ≡ false → names_of (tree_of content) n.id ≡ 1 → edits_of (tree_of content) (command.Rm path) ≡ asked_to_lose v.private
+      of_alone kind plain_file one =
+          edits_here kind ∙ (λ i. if nat_lt 1 (one i) then edits 0 2 0 4 else if plain_file i then edits 0 5 0 4 else edits (if sym private_here i then 0 else 1) (3 + 2 * (if sym private_here i then 0 else 1)) 0 4) ∙ asked_is v.private
+
       of_file : n.folder ≡ false → n.linked ≡ false → names_of (tree_of content) n.id ≡ 1 → loss_here ≡ words_here
       of_file kind plain_file one =
-          lose_allowed v.capacity takable (volume_of content) (tree_of content) path not_own v.private at.entry (at.removal ∙ ap (λ (b : Bool). if b then Err refusal.IsFolder else Ok at.entry) kind)
-          (edits_here kind ∙ (λ i. if nat_lt 1 (one i) then edits 0 2 0 4 else if plain_file i then edits 0 5 0 4 else edits (if sym private_here i then 0 else 1) (3 + 2 * (if sym private_here i then 0 else 1)) 0 4) ∙ asked_is v.private)
+          lose_allowed v.capacity takable (volume_of content) (tree_of content) path not_own v.private at.entry (at.removal ∙ ap (λ (b : Bool). if b then Err refusal.IsFolder else Ok at.entry) kind) (of_alone kind plain_file one)
 
       of_link : n.folder ≡ false → n.linked ≡ true → (links : ℕ) → names_of (tree_of content) n.id ≡ links → (b : Bool) → nat_lt 1 links ≡ b → unlink_here (if b then unlink_edits else last_edits) ≡ words_here
       of_link kind linked links many false is =
@@ -216,3 +253,24 @@ module _ (law : SoundHasPlainTree) (v : Volume) (content : Content) (holds : Hol
         by : (s : Result PlainNode Refusal) → to_node (tree_of content) path ≡ s → Agree IsIt (Ok f) s → loss_weighed f loss_here unlink_here ≡ words_here
         by (Ok n) at it = by_node f n at it
         by (Err why) at never = absurd never
+
+    -- ---- where there is no private folder
+
+    module _ (absent : v.private ≡ None) (e : PlainEntry) (loses : to_rm (tree_of content) path ≡ Ok e) where
+      alone : (f : Node) → said ≡ Ok f → (s : Result PlainNode Refusal) → to_node (tree_of content) path ≡ s → Agree IsIt (Ok f) s → edits_of (tree_of content) (command.Rm path) ≡ asked_to_lose v.private
+      alone f is (Err why) same never = absurd never
+      alone (node.Folder folder) is (Ok n) same it =
+          let at = there (tree_of content) path some plain n same in
+          absurd (let both : Err refusal.IsFolder ≡ Ok e = sym (at.removal ∙ ap (λ (m : PlainNode). if m.folder then Err refusal.IsFolder else Ok at.entry) it.is) ∙ loses in cc both)
+      alone (node.File own true) is (Ok n) same it =
+          absurd (true≢false (no_link (lists_of v content).catalog_pairs own true (walk_in (lists_of v content).catalog_pairs reached_as.Root path) (sym (found ∙ ap (λ (p : Option ℕ). node_in (lists_of v content).catalog_pairs p path) absent) ∙ is)))
+      alone (node.File own false) is (Ok n) same it =
+          of_alone n (there (tree_of content) path some plain n same) (ap (λ (m : PlainNode). m.folder) it.is) (ap (λ (m : PlainNode). m.linked) it.is) (ap (λ (m : PlainNode). names_of (tree_of content) m.id) it.is ∙ it.counts)
+
+      -- a file has one name, and is no link's
+      pub rm_alone : edits_of (tree_of content) (command.Rm path) ≡ edits 1 5 0 4
+      rm_alone = by said refl ∙ ap (λ (p : Option ℕ). asked_to_lose p) absent
+        where
+          by : (r : Result Node Refusal) → said ≡ r → edits_of (tree_of content) (command.Rm path) ≡ asked_to_lose v.private
+          by (Err why) is = absurd (let both : Err why ≡ Ok e = sym (rm_missing why is) ∙ loses in cc both)
+          by (Ok f) is = alone f is (to_node (tree_of content) path) refl (subst (λ (r : Result Node Refusal). Agree IsIt r (to_node (tree_of content) path)) is agrees)

@@ -13,9 +13,9 @@ use Rattle.hfs_volume.specs.Records.{entry_of}
 use Rattle.hfs_volume.specs.TreeOf.{tree_of}
 use Rattle.hfs_volume.specs.Weight.{Data, edits, extents_edits, file_blocks, file_fork, free_runs, new_blocks_of, old_blocks_of}
 use Rattle.hfs_volume.specs.declared.cost.Needs.{Needs}
-use Rattle.volume_runs.specs.Run.{PutsMore}
 use Rattle.volume_base.specs.Reading.{HasFile}
 use Rattle.volume_base.specs.declared.data_cost.Put.{Put}
+use Rattle.volume_base.specs.DataWeighing.{PutsLater}
 
 -- blocks have 512 bytes at least, a file at most 2^48, and data ends by 2^40
 abbrev pub are_usual : ℕ → Put → Bool
@@ -34,7 +34,7 @@ has_more block blocks put = nat_lt put.old_size (max put.old_size put.end) && na
 
 -- Its step doesn't refuse the command, but it puts data where blocks past a file's size go first, or its cost counts overflow records.
 abbrev pub WaitsForMore : Content → Command → Type 0
-WaitsForMore content asked = (refuses (tree_of content) (Ok asked) ≡ false) × PutsMore (volume_of content) (tree_of content) asked
+WaitsForMore content asked = (refuses (tree_of content) (Ok asked) ≡ false) × PutsLater (volume_of content) (tree_of content) asked
 
 -- the file whose record this is
 abbrev pub file_of_record : CatRecord → Option FileRecord

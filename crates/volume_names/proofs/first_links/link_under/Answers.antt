@@ -29,7 +29,7 @@ touch-requires-clause-there g c tells =
     private_linked c.args.volume.now (g.P.SectorView.space c.args.space.now) (c.requires.settled before) (c.requires.stands.stands before) links.0 links.1 links.2 c.args.way.now.parent c.args.old.now c.args.way.now.id c.args.way.now.folder c.args.name.now links.3 (c.requires.only before) c.args.private c.requires.private c.requires.room.ids c.args.number (lt-ltb c.args.number (2 ^ 32) c.ranges.number.fits) (c.requires.free before) c.args.created c.share.new.volume (g.P.SectorView.space c.share.new.space).content (c.in_ok-share.ensures.both before)
 
 pub touch-requires-clause-room : goal.touch-requires-clause-room
-touch-requires-clause-room g c = c.fits_update.ensures c.if-not-fits_update.false
+touch-requires-clause-room g c = c.fits_update.ensures.room c.if-not-fits_update.false
 
 pub say_two-requires-clause-threads : goal.say_two-requires-clause-threads
 say_two-requires-clause-threads g c tells =
@@ -46,7 +46,7 @@ say_two-requires-clause-there g c tells =
     shared_filled c.args.volume.now (g.P.SectorView.space c.args.space.now) (c.requires.settled before) (c.requires.stands.stands before) links.0 links.1 links.2 c.args.way.now.parent c.args.old.now c.args.way.now.id c.args.way.now.folder c.args.name.now links.3 (c.requires.only before) c.args.private c.requires.private c.requires.room.ids c.args.number (lt-ltb c.args.number (2 ^ 32) c.ranges.number.fits) (c.requires.free before) c.args.created c.share.new.volume (g.P.SectorView.space c.share.new.space).content (c.in_ok-share.ensures.both before) c.touch.new.self (g.P.SectorView.space c.touch.new.space).content (c.in_ok-touch.ensures.counts middle)
 
 pub say_two-requires-clause-room : goal.say_two-requires-clause-room
-say_two-requires-clause-room g c = c.fits_update-2.ensures c.if-not-fits_update-2.false
+say_two-requires-clause-room g c = c.fits_update-2.ensures.room c.if-not-fits_update-2.false
 
 pub touch-requires-2-clause-threads : goal.touch-requires-2-clause-threads
 touch-requires-2-clause-threads g c tells =
@@ -65,7 +65,7 @@ touch-requires-2-clause-there g c tells =
     goal_said c.args.volume.now (g.P.SectorView.space c.args.space.now) (c.requires.settled before) (c.requires.stands.stands before) links.0 links.1 links.2 c.args.way.now.parent c.args.old.now c.args.way.now.id c.args.way.now.folder c.args.name.now links.3 (c.requires.only before) c.args.private c.requires.private c.requires.room.ids c.args.number (lt-ltb c.args.number (2 ^ 32) c.ranges.number.fits) (c.requires.free before) c.args.created c.share.new.volume (g.P.SectorView.space c.share.new.space).content (c.in_ok-share.ensures.both before) c.touch.new.self (g.P.SectorView.space c.touch.new.space).content (c.in_ok-touch.ensures.counts middle) c.say_two.new.volume (g.P.SectorView.space c.say_two.new.space).content (c.in_ok-say_two.ensures.says later)
 
 pub touch-requires-2-clause-room : goal.touch-requires-2-clause-room
-touch-requires-2-clause-room g c = c.fits_update-3.ensures c.if-not-fits_update-3.false
+touch-requires-2-clause-room g c = c.fits_update-3.ensures.room c.if-not-fits_update-3.false
 
 pub returns-clause-does : goal.returns-clause-does
 returns-clause-does g c tells from to entry linking =

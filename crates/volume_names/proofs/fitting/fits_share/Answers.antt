@@ -3,4 +3,4 @@ use Rattle.volume_base.proofs.Fitted.{share_fits}
 use Rattle.volume_names.proofs.fitting.fits_share.Goals as goal
 
 pub returns : goal.returns
-returns g c fits = share_fits c.a_load_says_enough.ensures c.a_load_is_of_parts.ensures c.args.volume.now (g.P.SectorView.space c.args.space.now) c.requires.settled (λ tells. sym (c.can_edit.ensures tells) ∙ fits) (c.leaves_two_ids.ensures c.if-not-leaves_two_ids.false) (omega (arith, c.spare.ensures, c.has_sector.ensures c.if-not-has_sector.false))
+returns g c fits = share_fits c.a_load_says_enough.ensures c.a_load_is_of_parts.ensures c.args.volume.now (g.P.SectorView.space c.args.space.now) c.requires.settled (λ tells. sym (c.can_edit.ensures tells) ∙ fits) (c.leaves_two_ids.ensures c.if-not-leaves_two_ids.false) (omega (arith, c.spare.ensures, c.has_sector.ensures.fits c.if-not-has_sector.false))

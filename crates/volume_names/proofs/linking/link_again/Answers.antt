@@ -28,7 +28,7 @@ pub count_up-requires-clause-room : goal.count_up-requires-clause-room
 count_up-requires-clause-room g c = c.in_ok-add_name.ensures.room
 
 pub touch-requires-clause-room : goal.touch-requires-clause-room
-touch-requires-clause-room g c = c.fits_update.ensures c.if-not-fits_update.false
+touch-requires-clause-room g c = c.fits_update.ensures.room c.if-not-fits_update.false
 
 pub count_up-requires-clause-threads : goal.count_up-requires-clause-threads
 count_up-requires-clause-threads g c tells =

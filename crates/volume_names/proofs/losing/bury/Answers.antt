@@ -63,7 +63,7 @@ pub returns-then-shape-lt4096-clause-service : goal.returns-then-shape-lt4096-cl
 returns-then-shape-lt4096-clause-service g c = c.requires.stands.service
 
 pub touch-requires-clause-room : goal.touch-requires-clause-room
-touch-requires-clause-room g c = c.fits_update.ensures c.if-not-fits_update.false
+touch-requires-clause-room g c = c.fits_update.ensures.room c.if-not-fits_update.false
 
 pub returns-then-not-fits_update-clause-touches : goal.returns-then-not-fits_update-clause-touches
 returns-then-not-fits_update-clause-touches g c committed = c.hide.ensures.touches committed

@@ -19,7 +19,7 @@ pub bury-requires-clause-settled : goal.bury-requires-clause-settled
 bury-requires-clause-settled g c tells = (c.in_ok-open_private.ensures.opens (sym (c.open_private.ensures.touches (g.P.SectorView.space c.args.space.now).content).same.tells ∙ tells)).settled
 
 pub bury-requires-clause-room : goal.bury-requires-clause-room
-bury-requires-clause-room g c = c.fits_move.ensures c.if-not-fits_move.false
+bury-requires-clause-room g c = c.fits_move.ensures.room c.if-not-fits_move.false
 
 pub bury-requires-clause-only : goal.bury-requires-clause-only
 bury-requires-clause-only g c tells =

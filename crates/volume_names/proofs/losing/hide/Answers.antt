@@ -61,7 +61,7 @@ pub returns-in_err-set_aside-clause-own : goal.returns-in_err-set_aside-clause-o
 returns-in_err-set_aside-clause-own g c = own_edited c.args.volume.now c.set_aside.new.volume (g.P.SectorView.space c.args.space.now) (g.P.SectorView.space c.set_aside.new.space) c.set_aside.ensures.frame c.set_aside.ensures.rest
 
 pub touch-requires-clause-room : goal.touch-requires-clause-room
-touch-requires-clause-room g c = c.fits_update.ensures c.if-not-fits_update.false
+touch-requires-clause-room g c = c.fits_update.ensures.room c.if-not-fits_update.false
 
 pub returns-then-not-fits_update-clause-touches : goal.returns-then-not-fits_update-clause-touches
 returns-then-not-fits_update-clause-touches g c committed = c.set_aside.ensures.touches committed

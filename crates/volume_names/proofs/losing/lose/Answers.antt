@@ -74,7 +74,7 @@ pub lose_link-requires-clause-room : goal.lose_link-requires-clause-room
 lose_link-requires-clause-room g c = c.requires.room.drops
 
 pub bury-requires-clause-room : goal.bury-requires-clause-room
-bury-requires-clause-room g c = c.fits_move.ensures c.if-not-fits_move.false
+bury-requires-clause-room g c = c.fits_move.ensures.room c.if-not-fits_move.false
 
 pub returns-then-at-clause-does : goal.returns-then-at-clause-does
 returns-then-at-clause-does g c tells entry loss =

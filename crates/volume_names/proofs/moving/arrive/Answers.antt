@@ -40,10 +40,10 @@ pub returns-clause-blocks : goal.returns-clause-blocks
 returns-clause-blocks g c = blocks_both c.args.volume.now c.touch.new.self c.date.new.volume c.touch.ensures.blocks c.date.ensures.blocks
 
 pub touch-requires-clause-room : goal.touch-requires-clause-room
-touch-requires-clause-room g c = c.fits_update.ensures c.if-not-fits_update.false
+touch-requires-clause-room g c = c.fits_update.ensures.room c.if-not-fits_update.false
 
 pub date-requires-clause-room : goal.date-requires-clause-room
-date-requires-clause-room g c = c.fits_update-2.ensures c.if-not-fits_update-2.false
+date-requires-clause-room g c = c.fits_update-2.ensures.room c.if-not-fits_update-2.false
 
 pub returns-then-not-fits_update-clause-touches : goal.returns-then-not-fits_update-clause-touches
 returns-then-not-fits_update-clause-touches g c committed = touches_none committed _ (g.P.SectorView.space c.args.space.now)

@@ -64,7 +64,7 @@ pub returns-in_err-relocate-clause-blocks : goal.returns-in_err-relocate-clause-
 returns-in_err-relocate-clause-blocks g c = blocks_edit c.args.volume.now c.relocate.new.volume c.relocate.ensures.rest
 
 pub touch-requires-clause-room : goal.touch-requires-clause-room
-touch-requires-clause-room g c = c.fits_update.ensures c.if-not-fits_update.false
+touch-requires-clause-room g c = c.fits_update.ensures.room c.if-not-fits_update.false
 
 pub returns-then-not-fits_update-clause-touches : goal.returns-then-not-fits_update-clause-touches
 returns-then-not-fits_update-clause-touches g c committed = c.relocate.ensures.touches committed

@@ -5,14 +5,16 @@ use Rattle.hfs_language.specs.declared.refusal.Refusal.{Refusal}
 use Rattle.hfs_model.specs.Plain.{node_at}
 use Rattle.hfs_model.specs.Step.{to_rmdir}
 use Rattle.hfs_model.specs.declared.plain.PlainEntry.{PlainEntry}
-use Rattle.hfs_volume.specs.Content.{VolumeState, volume_of}
+use Rattle.hfs_volume.specs.Content.{VolumeState, has_attributes, volume_of}
 use Rattle.hfs_volume.specs.TreeOf.{tree_of}
 use Rattle.hfs_volume.specs.Weight.{attribute_count, rmdir_edits}
+use Rattle.volume_header.specs.declared.header.VolumeHeader.{VolumeHeader}
 use Rattle.volume_base.specs.Lists.{lists_of}
 use Rattle.volume_base.specs.Making.{path_to}
 use Rattle.volume_base.proofs.BareLoads.{count_still, owner_count}
 use Rattle.volume_base.proofs.LeavingFound.{is_leaving, leaving_refused, leaving_told}
 use Rattle.volume_base.proofs.Noticed.{not_told}
+use Rattle.volume_base.proofs.RemoveWeight.{none_counted}
 use Rattle.volume_base.proofs.Sited.{fits_above, fits_name}
 use Rattle.volume_base.proofs.Still.{volume_both}
 use Rattle.volume_names.proofs.remove_room.bare_count_under.Goals as goal
@@ -36,6 +38,11 @@ returns-in-Ok-clause-told g c tells not_own entry is =
     ∙ sym (owner_count c.sound_has_plain_tree.ensures c.args.volume.now (g.P.SectorView.space c.args.space.now) (c.requires.stands.stands tells) (c.requires.settled tells) c.in-Ok.at c.args.name.now leaves)
     ∙ sym (ap (λ (r : Result PlainEntry Refusal). (rmdir_edits (tree_of (g.P.SectorView.space c.args.space.now).content) r).attributes) told) in
     subst (λ (n : ℕ). IfOk c.count_attributes.result (λ (many : ℕ). many ≡ n)) counted (c.count_attributes.ensures.counted (c.leaving.ensures.reads.looks.same.tells ∙ tells))
+
+pub returns-in-Ok-clause-none : goal.returns-in-Ok-clause-none
+returns-in-Ok-clause-none g c tells is =
+    subst (λ (n : ℕ). IfOk c.count_attributes.result (λ (many : ℕ). many ≡ n)) (none_counted c.leaving.new.self (g.P.SectorView.space c.leaving.new.space).content c.in-Ok.at.id (ap (λ (h : VolumeHeader). has_attributes h) c.leaving.ensures.reads.keeps.header ∙ is))
+    (c.count_attributes.ensures.counted (c.leaving.ensures.reads.looks.same.tells ∙ tells))
 
 pub returns-in-Ok-clause-reads : goal.returns-in-Ok-clause-reads
 returns-in-Ok-clause-reads g c = volume_both c.args.volume.now c.leaving.new.self c.count_attributes.new.volume (g.P.SectorView.space c.args.space.now) (g.P.SectorView.space c.leaving.new.space) (g.P.SectorView.space c.count_attributes.new.space) c.leaving.ensures.reads c.count_attributes.ensures.reads

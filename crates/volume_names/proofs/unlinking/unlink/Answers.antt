@@ -22,7 +22,7 @@ pub count_down-requires-clause-room : goal.count_down-requires-clause-room
 count_down-requires-clause-room g c = c.in_ok-drop_name.ensures.room
 
 pub touch-requires-clause-room : goal.touch-requires-clause-room
-touch-requires-clause-room g c = c.fits_update.ensures c.if-not-fits_update.false
+touch-requires-clause-room g c = c.fits_update.ensures.room c.if-not-fits_update.false
 
 pub count_down-requires-clause-threads : goal.count_down-requires-clause-threads
 count_down-requires-clause-threads g c tells =

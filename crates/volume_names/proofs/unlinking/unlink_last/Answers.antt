@@ -22,7 +22,7 @@ pub drop_name-requires-clause-size : goal.drop_name-requires-clause-size
 drop_name-requires-clause-size g c = omega (arith, c.if-shape-lt4096.false, ap (λ (s : TreeShape). s.node_size) c.shape.ensures)
 
 pub touch-requires-clause-room : goal.touch-requires-clause-room
-touch-requires-clause-room g c = c.fits_update.ensures c.if-not-fits_update.false
+touch-requires-clause-room g c = c.fits_update.ensures.room c.if-not-fits_update.false
 
 pub returns-clause-touches : goal.returns-clause-touches
 returns-clause-touches g c committed =

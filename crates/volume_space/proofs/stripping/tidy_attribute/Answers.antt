@@ -1,4 +1,4 @@
-use Rattle.std.proofs.Common.{◌≡◌, ◌≤◌, inl, inr, ℕ, List, length, sym, ◌∙◌, ap, subst, arith}
+use Rattle.std.proofs.Common.{inl, inr, refl, ℕ, List, sym, ap, subst, arith}
 use Rattle.btree_node.specs.declared.store.TreeShape.{TreeShape}
 use Rattle.hfs_volume.specs.Reclaim.{DropAttribute}
 use Rattle.volume_space.specs.Orphans.{AffordsStep}
@@ -18,14 +18,14 @@ pub strip-requires-clause-size : goal.strip-requires-clause-size
 strip-requires-clause-size g c = omega (arith, c.if-shape-lt4096.false, ap (λ (s : TreeShape). s.node_size) c.shape.ensures)
 
 pub strip-requires-clause-room : goal.strip-requires-clause-room
-strip-requires-clause-room g c = c.fits_delattr.ensures c.if-not-fits_delattr.false
+strip-requires-clause-room g c = c.fits_delattr.ensures.room c.if-not-fits_delattr.false
 
 pub returns-clause-tidied : goal.returns-clause-tidied
 returns-clause-tidied g c tells =
     let done = (c.in_ok-strip.ensures.does tells).1 in
     inr (inl (record {
       waiting = done.0;
-      affords = subst (λ (k : ℕ × List ℕ). AffordsStep (capacity_of c.args.volume.now) (g.P.SectorView.space c.args.space.now).content (DropAttribute k.0 k.1)) {x = (c.args.id, c.args.name.now)} {y = (done.0.id, done.0.name)} (λ i. (sym done.1 i, sym done.2 i)) (c.affords_bare.ensures tells c.if-not-affords_bare.false c.args.id c.args.name.now);
+      affords = subst (λ (k : ℕ × List ℕ). AffordsStep (capacity_of c.args.volume.now) (g.P.SectorView.space c.args.space.now).content (DropAttribute k.0 k.1)) {x = (c.args.id, c.args.name.now)} {y = (done.0.id, done.0.name)} (λ i. (sym done.1 i, sym done.2 i)) (c.affords_bare.ensures.affords tells c.if-not-affords_bare.false c.args.id c.args.name.now);
     }))
 
 pub returns-clause-settled : goal.returns-clause-settled
@@ -75,3 +75,15 @@ returns-then-not-fits_delattr-clause-service g c = c.requires.stands.service
 
 pub returns-then-not-fits_delattr-clause-blocks : goal.returns-then-not-fits_delattr-clause-blocks
 returns-then-not-fits_delattr-clause-blocks g c = blocks_none c.args.volume.now
+
+pub returns-then-not-affords_bare-clause-tidied : goal.returns-then-not-affords_bare-clause-tidied
+returns-then-not-affords_bare-clause-tidied g c tells = (refl, inr (DropAttribute c.args.id c.args.name.now, c.requires.waits tells, c.affords_bare.ensures.held_up tells c.if-not-affords_bare.true c.args.id c.args.name.now))
+
+pub returns-then-len-gt127-clause-cause : goal.returns-then-len-gt127-clause-cause
+returns-then-len-gt127-clause-cause g c = record { later = omega arith; failed = tt }
+
+pub returns-then-volume-eq0-clause-cause : goal.returns-then-volume-eq0-clause-cause
+returns-then-volume-eq0-clause-cause g c = record { later = omega arith; failed = tt }
+
+pub returns-then-shape-lt4096-clause-cause : goal.returns-then-shape-lt4096-clause-cause
+returns-then-shape-lt4096-clause-cause g c = record { later = omega arith; failed = tt }

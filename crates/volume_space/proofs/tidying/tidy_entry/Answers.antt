@@ -1,6 +1,6 @@
-use Rattle.std.proofs.Common.{inl, ◌≡◌, ◌≤◌, length, sym, ◌∙◌, ap, arith}
-use Rattle.std.proofs.lemmas.Bool.{eqb-false}
+use Rattle.std.proofs.Common.{inl, inr, refl, ap, arith}
 use Rattle.btree_node.specs.declared.store.TreeShape.{TreeShape}
+use Rattle.hfs_volume.specs.Reclaim.{DropOrphan}
 use Rattle.volume_base.proofs.Besides.{blocks_none}
 use Rattle.volume_base.proofs.Commanding.{touches_none}
 use Rattle.volume_space.proofs.tidying.tidy_entry.Goals as goal
@@ -9,12 +9,12 @@ pub drop_waiting-requires-clause-size : goal.drop_waiting-requires-clause-size
 drop_waiting-requires-clause-size g c = omega (arith, c.if-shape-lt4096.false, ap (λ (s : TreeShape). s.node_size) c.shape.ensures)
 
 pub drop_waiting-requires-clause-room : goal.drop_waiting-requires-clause-room
-drop_waiting-requires-clause-room g c = c.fits_remove.ensures c.if-not-fits_remove.false
+drop_waiting-requires-clause-room g c = c.fits_remove.ensures.room c.if-not-fits_remove.false
 
 pub returns-clause-tidied : goal.returns-clause-tidied
 returns-clause-tidied g c tells =
     let done = c.in_ok-drop_waiting.ensures.does tells in
-    inl (record { waiting = done.1; affords = c.affords_drop.ensures tells c.if-not-affords_drop.false done.1.id })
+    inl (record { waiting = done.1; affords = c.affords_drop.ensures.affords tells c.if-not-affords_drop.false done.1.id })
 
 pub returns-clause-settled : goal.returns-clause-settled
 returns-clause-settled g c tells = (c.in_ok-drop_waiting.ensures.does tells).0
@@ -54,3 +54,14 @@ returns-then-not-fits_remove-clause-service g c = c.requires.stands.service
 
 pub returns-then-not-fits_remove-clause-blocks : goal.returns-then-not-fits_remove-clause-blocks
 returns-then-not-fits_remove-clause-blocks g c = blocks_none c.args.volume.now
+
+pub returns-then-not-affords_drop-clause-tidied : goal.returns-then-not-affords_drop-clause-tidied
+returns-then-not-affords_drop-clause-tidied g c tells =
+    let waits = c.requires.waits tells in
+    (refl, inr (DropOrphan waits.id, waits.next, c.affords_drop.ensures.held_up tells c.if-not-affords_drop.true waits.id))
+
+pub returns-then-is_empty-clause-cause : goal.returns-then-is_empty-clause-cause
+returns-then-is_empty-clause-cause g c = record { later = omega arith; failed = tt }
+
+pub returns-then-shape-lt4096-clause-cause : goal.returns-then-shape-lt4096-clause-cause
+returns-then-shape-lt4096-clause-cause g c = record { later = omega arith; failed = tt }

@@ -1,18 +1,15 @@
-use Rattle.std.proofs.Common.{◌≡◌, ◌≤◌, ℕ, false, true, length, List, arith, sym, ◌∙◌, ap, subst, refl}
-use Rattle.std.specs.Prelude.{Option, IfSome, Some, None, IsTrue}
+use Rattle.std.proofs.Common.{ℕ, List, sym, ◌∙◌, ap, subst}
 use Rattle.std.specs.List.{Contains}
 use Rattle.sector_disk.specs.Lists.{Content}
-use Rattle.cat_records.specs.Fits.{FitsRecord}
-use Rattle.catalog.specs.Pairs.{value_at}
-use Rattle.hfs_volume.specs.Content.{VolumeState, records_of, volume_of}
+use Rattle.hfs_volume.specs.Content.{records_of, volume_of}
 use Rattle.hfs_volume.specs.Links.{orphans_of}
-use Rattle.hfs_volume.specs.Records.{is_thread}
-use Rattle.hfs_volume.specs.Reclaim.{DropAttribute, has_surplus_left, least, next_reclaim}
+use Rattle.hfs_volume.specs.Reclaim.{has_surplus_left, least}
 use Rattle.volume_base.specs.Keeping.{shrunk_of}
 use Rattle.volume_base.specs.Room.{capacity_of}
 use Rattle.volume_base.specs.Touching.{Touches}
 use Rattle.volume_space.proofs.Affording.{tidied_behind}
 use Rattle.volume_base.proofs.Commanding.{touches_both, touches_looks}
+use Rattle.volume_space.proofs.HeldUp.{rests_none}
 use Rattle.volume_space.proofs.KeptUsed.{used_both, used_read}
 use Rattle.volume_base.proofs.Seeing.{cause_since}
 use Rattle.volume_base.proofs.Still.{own_still}
@@ -30,7 +27,7 @@ pub tidy_waiting-requires-clause-lowest : goal.tidy_waiting-requires-clause-lowe
 tidy_waiting-requires-clause-lowest g c tells =
     let before = sym c.next_waiting.ensures.reads.looks.same.tells ∙ tells in
     ap (λ (k : Content). least (orphans_of (records_of (volume_of k)))) (c.next_waiting.ensures.reads.looks.content before)
-    ∙ subst (λ (o : Option ℕ). IfSome o (λ id. least (orphans_of (records_of (volume_of (g.P.SectorView.space c.args.space.now).content))) ≡ Some id)) c.in-Some.is (c.in_ok-id.ensures.found before)
+    ∙ sym (c.in_ok-id.ensures.found before) ∙ c.in-Some.is
 
 pub returns-in-Some-clause-tidied : goal.returns-in-Some-clause-tidied
 returns-in-Some-clause-tidied g c tells =
@@ -63,3 +60,7 @@ returns-in_err-id-clause-touches g c committed = touches_looks committed _ (g.P.
 
 pub returns-in_err-id-clause-used : goal.returns-in_err-id-clause-used
 returns-in_err-id-clause-used g c = used_read c.args.volume.now c.next_waiting.new.volume (g.P.SectorView.space c.args.space.now) (g.P.SectorView.space c.next_waiting.new.space) c.next_waiting.ensures.reads
+
+pub returns-in-None-clause-tidied : goal.returns-in-None-clause-tidied
+returns-in-None-clause-tidied g c tells =
+    (c.next_waiting.ensures.reads.looks.content tells, rests_none (capacity_of c.args.volume.now) (shrunk_of c.args.volume.now) (volume_of (g.P.SectorView.space c.args.space.now).content) (c.requires.kept tells) (sym (c.in_ok-id.ensures.found tells) ∙ c.in-None.is))

@@ -4,7 +4,6 @@ use Rattle.std.specs.List.{Contains}
 use Rattle.std.proofs.lemmas.Result.{err_from_is_err_and}
 use Rattle.hx_bytes.specs.declared.faults.Trouble.{Trouble}
 use Rattle.btree_edit.specs.Causes.{HasTroubleCause}
-use Rattle.volume_space.specs.declared.tidying.Tidying.{Tidying}
 use Rattle.std.proofs.lemmas.Bool.{true≢false, eq-eqb, eqb-true}
 use Rattle.sector_disk.specs.Lists.{Content}
 use Rattle.cat_records.specs.Fits.{FitsRecord}
@@ -14,11 +13,18 @@ use Rattle.hfs_volume.specs.Content.{VolumeState, records_of, volume_of}
 use Rattle.hfs_volume.specs.Links.{orphans_of}
 use Rattle.hfs_volume.specs.Records.{id_in, is_thread}
 use Rattle.hfs_volume.specs.Reclaim.{DropAttribute, has_surplus_left, least, next_reclaim}
-use Rattle.volume_base.proofs.Commanding.{touches_none}
-use Rattle.volume_space.proofs.KeptUsed.{used_none}
+use Rattle.volume_space.specs.Cutting.{IsNextCut, kind_of}
+use Rattle.volume_base.specs.Keeping.{shrunk_of}
+use Rattle.volume_base.specs.Room.{capacity_of}
+use Rattle.volume_base.specs.Touching.{Touches}
+use Rattle.volume_space.proofs.Affording.{tidied_behind}
+use Rattle.volume_base.proofs.Commanding.{touches_both, touches_looks, touches_none}
+use Rattle.volume_space.proofs.KeptUsed.{used_both, used_none, used_read}
+use Rattle.volume_base.proofs.Seeing.{cause_since}
+use Rattle.volume_space.proofs.SpreadFile.{has_file}
+use Rattle.volume_base.proofs.Still.{lists_still, own_still}
 use Rattle.hx_bytes.specs.declared.extents.ForkRecord.{ForkRecord}
-use Rattle.volume_space.specs.Cutting.{IsCutOf, MayGive}
-use Rattle.volume_space.specs.declared.cutting.Cut.{Cut}
+use Rattle.volume_space.specs.Cutting.{IsForkOf}
 use Rattle.volume_space.proofs.trimming.tidy_fork.Goals as goal
 
 pub returns-then-is_link-clause-touches : goal.returns-then-is_link-clause-touches
@@ -45,37 +51,71 @@ returns-then-is_own-clause-service g c = c.requires.stands.service
 pub returns-then-is_own-clause-cause : goal.returns-then-is_own-clause-cause
 returns-then-is_own-clause-cause g c = record { later = omega arith; failed = tt }
 
-pub returns-in-None-clause-touches : goal.returns-in-None-clause-touches
-returns-in-None-clause-touches g c committed = touches_none committed _ (g.P.SectorView.space c.args.space.now)
+pub returns-then-not-is_user_id-clause-touches : goal.returns-then-not-is_user_id-clause-touches
+returns-then-not-is_user_id-clause-touches g c committed = touches_none committed _ (g.P.SectorView.space c.args.space.now)
 
-pub returns-in-None-clause-used : goal.returns-in-None-clause-used
-returns-in-None-clause-used g c = used_none c.args.volume.now
+pub returns-then-not-is_user_id-clause-used : goal.returns-then-not-is_user_id-clause-used
+returns-then-not-is_user_id-clause-used g c = used_none c.args.volume.now
 
-pub returns-in-None-clause-service : goal.returns-in-None-clause-service
-returns-in-None-clause-service g c = c.requires.stands.service
+pub returns-then-not-is_user_id-clause-service : goal.returns-then-not-is_user_id-clause-service
+returns-then-not-is_user_id-clause-service g c = c.requires.stands.service
 
-pub returns-in_err-cut-clause-touches : goal.returns-in_err-cut-clause-touches
-returns-in_err-cut-clause-touches g c committed = touches_none committed _ (g.P.SectorView.space c.args.space.now)
+pub returns-then-not-is_user_id-clause-cause : goal.returns-then-not-is_user_id-clause-cause
+returns-then-not-is_user_id-clause-cause g c = record { later = omega arith; failed = tt }
 
-pub returns-in_err-cut-clause-used : goal.returns-in_err-cut-clause-used
-returns-in_err-cut-clause-used g c = used_none c.args.volume.now
+pub fork_extents-requires-clause-there : goal.fork_extents-requires-clause-there
+fork_extents-requires-clause-there g c tells = has_file c.args.volume.now (g.P.SectorView.space c.args.space.now).content (c.requires.settled tells) c.args.entry.now c.args.file.now (c.requires.there tells) c.requires.is
 
-pub returns-in_err-cut-clause-service : goal.returns-in_err-cut-clause-service
-returns-in_err-cut-clause-service g c = c.requires.stands.service
+pub tidy_extents-requires-clause-no_link : goal.tidy_extents-requires-clause-no_link
+tidy_extents-requires-clause-no_link g c = sym c.is_link.ensures ∙ c.if-is_link.false
 
-pub tidy_part-requires-clause-no_link : goal.tidy_part-requires-clause-no_link
-tidy_part-requires-clause-no_link g c = sym c.is_link.ensures ∙ c.if-is_link.false
+pub tidy_extents-requires-clause-user : goal.tidy_extents-requires-clause-user
+tidy_extents-requires-clause-user g c = λ both. true≢false (sym (λ i. eq-eqb c.args.entry.now.parent 2 both.0 i && both.1 i) ∙ sym c.is_own.ensures ∙ c.if-is_own.false)
 
-pub tidy_part-requires-clause-user : goal.tidy_part-requires-clause-user
-tidy_part-requires-clause-user g c = λ both. true≢false (sym (λ i. eq-eqb c.args.entry.now.parent 2 both.0 i && both.1 i) ∙ sym c.is_own.ensures ∙ c.if-is_own.false)
+pub tidy_extents-requires-clause-number : goal.tidy_extents-requires-clause-number
+tidy_extents-requires-clause-number g c = c.is_user_id.ensures c.if-not-is_user_id.false
 
-pub tidy_part-requires-clause-cut : goal.tidy_part-requires-clause-cut
-tidy_part-requires-clause-cut g c = subst (λ (f : ForkRecord). IsCutOf f c.args.surplus.keep c.in-Some.cut) c.fork_of-fork.ensures (subst (λ (o : Option Cut). IfSome o (λ cut. IsCutOf c.fork_of-fork.result c.args.surplus.keep cut)) c.in-Some.is c.in_ok-cut.ensures.cut)
+pub tidy_extents-requires-clause-there : goal.tidy_extents-requires-clause-there
+tidy_extents-requires-clause-there g c tells =
+    let before = sym c.fork_extents.ensures.reads.looks.same.tells ∙ tells in
+    ap (λ (l : VolumeState). value_at l.catalog_pairs c.args.entry.now.parent c.args.entry.now.name) (lists_still c.args.volume.now c.fork_extents.new.volume (g.P.SectorView.space c.args.space.now) (g.P.SectorView.space c.fork_extents.new.space) c.fork_extents.ensures.reads before) ∙ c.requires.there before
 
-pub tidy_part-requires-clause-gives : goal.tidy_part-requires-clause-gives
-tidy_part-requires-clause-gives g c = subst (λ (o : Option Cut). IfSome o (λ cut. MayGive cut.goes c.args.volume.now)) c.in-Some.is c.in_ok-cut.ensures.gives
+pub tidy_extents-requires-clause-list : goal.tidy_extents-requires-clause-list
+tidy_extents-requires-clause-list g c tells =
+    let before = sym c.fork_extents.ensures.reads.looks.same.tells ∙ tells in
+    subst (λ (l : Content). IsForkOf c.in_ok-list.list (kind_of c.args.surplus.kind) c.args.file.now l) (sym (c.fork_extents.ensures.reads.looks.content before)) (c.in_ok-list.ensures.found before)
 
-pub returns-in_err-cut-clause-cause : goal.returns-in_err-cut-clause-cause
-returns-in_err-cut-clause-cause g c =
-    let p = err_from_is_err_and c.from_residual.result c.from_residual.ensures.1 in
-    subst (λ (r : Result Tidying Trouble). HasTroubleCause (g.P.SectorView.space c.args.space.now).faults (g.P.SectorView.space c.args.space.now).faults r) (sym (p.1 ∙ ap Err p.2)) (record { later = omega arith; failed = tt })
+pub tidy_extents-requires-clause-next : goal.tidy_extents-requires-clause-next
+tidy_extents-requires-clause-next g c tells =
+    let before = sym c.fork_extents.ensures.reads.looks.same.tells ∙ tells in
+    subst (λ (k : Option ℕ × Content). IsNextCut k.0 k.1 (id_in c.args.entry.now.rec) (kind_of c.args.surplus.kind) c.args.surplus.keep)
+    {x = (shrunk_of c.args.volume.now, (g.P.SectorView.space c.args.space.now).content)} {y = (shrunk_of c.fork_extents.new.volume, (g.P.SectorView.space c.fork_extents.new.space).content)} (λ i. (sym c.fork_extents.ensures.reads.keeps.shrunk i, sym (c.fork_extents.ensures.reads.looks.content before) i)) (c.requires.next before)
+
+pub returns-clause-tidied : goal.returns-clause-tidied
+returns-clause-tidied g c tells =
+    tidied_behind (g.P.SectorView.space c.args.space.now).content (g.P.SectorView.space c.fork_extents.new.space).content (g.P.SectorView.space c.tidy_extents.new.space).content (c.fork_extents.ensures.reads.looks.content tells) (capacity_of c.args.volume.now) (capacity_of c.fork_extents.new.volume) c.fork_extents.ensures.reads.keeps.capacity (shrunk_of c.args.volume.now) (shrunk_of c.fork_extents.new.volume) c.fork_extents.ensures.reads.keeps.shrunk c.tidy_extents.result
+    (c.tidy_extents.ensures.tidied (c.fork_extents.ensures.reads.looks.same.tells ∙ tells))
+
+pub returns-clause-touches : goal.returns-clause-touches
+returns-clause-touches g c committed =
+    touches_both committed _ (g.P.SectorView.space c.args.space.now) (g.P.SectorView.space c.fork_extents.new.space) (g.P.SectorView.space c.tidy_extents.new.space) (touches_looks committed _ (g.P.SectorView.space c.args.space.now) (g.P.SectorView.space c.fork_extents.new.space) c.fork_extents.ensures.reads.looks)
+    (subst (λ (l : List ℕ). Touches committed (λ s. Contains l s) (g.P.SectorView.space c.fork_extents.new.space) (g.P.SectorView.space c.tidy_extents.new.space)) (own_still c.args.volume.now c.fork_extents.new.volume (g.P.SectorView.space c.args.space.now) (g.P.SectorView.space c.fork_extents.new.space) c.fork_extents.ensures.reads) (c.tidy_extents.ensures.touches committed))
+
+pub returns-clause-used : goal.returns-clause-used
+returns-clause-used g c =
+    used_both c.args.volume.now c.fork_extents.new.volume c.tidy_extents.new.volume (used_read c.args.volume.now c.fork_extents.new.volume (g.P.SectorView.space c.args.space.now) (g.P.SectorView.space c.fork_extents.new.space) c.fork_extents.ensures.reads) c.tidy_extents.ensures.used
+
+pub returns-clause-below : goal.returns-clause-below
+returns-clause-below g c = g.met.P.SectorView.follows_trans c.args.space.now c.fork_extents.new.space c.tidy_extents.new.space c.fork_extents.ensures.below c.tidy_extents.ensures.below
+
+pub returns-clause-cause : goal.returns-clause-cause
+returns-clause-cause g c = cause_since (g.P.SectorView.space c.args.space.now).faults (g.P.SectorView.space c.fork_extents.new.space).faults (g.P.SectorView.space c.tidy_extents.new.space).faults c.tidy_extents.result c.fork_extents.ensures.reads.looks.faults c.tidy_extents.ensures.cause
+
+pub returns-in_err-list-clause-touches : goal.returns-in_err-list-clause-touches
+returns-in_err-list-clause-touches g c committed = touches_looks committed _ (g.P.SectorView.space c.args.space.now) (g.P.SectorView.space c.fork_extents.new.space) c.fork_extents.ensures.reads.looks
+
+pub returns-in_err-list-clause-used : goal.returns-in_err-list-clause-used
+returns-in_err-list-clause-used g c = used_read c.args.volume.now c.fork_extents.new.volume (g.P.SectorView.space c.args.space.now) (g.P.SectorView.space c.fork_extents.new.space) c.fork_extents.ensures.reads
+
+pub returns-in_err-list-clause-service : goal.returns-in_err-list-clause-service
+returns-in_err-list-clause-service g c = c.fork_extents.ensures.stands.service

@@ -1,21 +1,16 @@
-use Rattle.std.proofs.Common.{◌≡◌, ◌≤◌, ℕ, false, true, length, List, inl, inr, arith, sym, ◌∙◌, ap, subst, refl}
-use Rattle.std.specs.Prelude.{Option, IfSome, Some, None, IsTrue}
+use Rattle.std.proofs.Common.{ℕ, false, true, List, inr, arith, sym, ◌∙◌, ap, subst, refl}
+use Rattle.std.specs.Prelude.{Option}
 use Rattle.std.specs.List.{Contains}
-use Rattle.std.proofs.lemmas.Bool.{true≢false, eq-eqb, eqb-true}
-use Rattle.sector_disk.specs.Lists.{Content}
-use Rattle.cat_records.specs.Fits.{FitsRecord}
-use Rattle.cat_records.specs.declared.record.CatRecord.{CatRecord}
 use Rattle.catalog.specs.Pairs.{value_at}
-use Rattle.hfs_volume.specs.Content.{VolumeState, records_of, volume_of}
-use Rattle.hfs_volume.specs.Links.{orphans_of}
-use Rattle.hfs_volume.specs.Records.{id_in, is_thread}
-use Rattle.hfs_volume.specs.Reclaim.{DropAttribute, has_surplus_left, least, next_reclaim}
+use Rattle.hfs_volume.specs.Content.{VolumeState}
+use Rattle.hfs_volume.specs.Records.{id_in}
 use Rattle.volume_space.specs.Cutting.{IsNextCut, kind_of}
+use Rattle.volume_base.specs.Keeping.{shrunk_of}
+use Rattle.volume_base.specs.Room.{capacity_of}
 use Rattle.volume_base.specs.Touching.{Touches}
 use Rattle.volume_base.proofs.Commanding.{touches_none}
+use Rattle.volume_space.proofs.HeldUp.{rests_cut}
 use Rattle.volume_space.proofs.KeptUsed.{used_both, used_none}
-use Rattle.btree_file.specs.Standing.{pairs_in}
-use Rattle.btree_file.specs.State.{sectors_of_tree}
 use Rattle.volume_space.specs.Cutting.{CutsFile}
 use Rattle.volume_space.proofs.CutKept.{load_kept, may_kept, own_kept, used_kept}
 use Rattle.volume_space.proofs.WhenKept.{lists_kept, settled_kept, stands_kept, unchanged_kept}
@@ -63,7 +58,7 @@ cut_fork-requires-clause-room g c = omega (arith, load_kept c.args.volume.now c.
 pub returns-clause-tidied : goal.returns-clause-tidied
 returns-clause-tidied g c tells =
     let done = subst (λ (o : Option ℕ). CutsFile o (g.P.SectorView.space c.args.space.now).content (g.P.SectorView.space c.cut_fork.new.space).content) c.keep.ensures.same.shrunk (c.in_ok-cut_fork.ensures.cuts tells).1 in
-    inr (inr (record { cuts = done; affords = c.affords_cut.ensures (g.P.SectorView.space c.args.space.now).content (c.requires.settled tells) c.if-not-affords_cut.false done.step done.is_cut }))
+    inr (inr (record { cuts = done; affords = c.affords_cut.ensures.affords (g.P.SectorView.space c.args.space.now).content (c.requires.settled tells) c.if-not-affords_cut.false done.step done.is_cut }))
 
 pub returns-clause-settled : goal.returns-clause-settled
 returns-clause-settled g c tells = (c.in_ok-cut_fork.ensures.cuts tells).0
@@ -79,3 +74,10 @@ returns-in_err-cut_fork-clause-used g c = used_both c.args.volume.now c.keep.new
 
 pub returns-in_err-cut_fork-clause-touches : goal.returns-in_err-cut_fork-clause-touches
 returns-in_err-cut_fork-clause-touches g c committed = subst (λ (l : List ℕ). Touches committed (λ s. Contains l s) (g.P.SectorView.space c.args.space.now) (g.P.SectorView.space c.cut_fork.new.space)) (own_kept c.args.volume.now c.keep.new.self c.keep.ensures) (c.cut_fork.ensures.touches committed)
+
+pub returns-then-not-affords_cut-clause-tidied : goal.returns-then-not-affords_cut-clause-tidied
+returns-then-not-affords_cut-clause-tidied g c tells = (
+  refl,
+  rests_cut (capacity_of c.args.volume.now) (shrunk_of c.args.volume.now) (g.P.SectorView.space c.args.space.now).content (id_in c.args.entry.now.rec) (kind_of c.args.surplus.kind) c.args.surplus.keep (c.requires.next tells)
+      (c.affords_cut.ensures.held_up (g.P.SectorView.space c.args.space.now).content (c.requires.settled tells) c.if-not-affords_cut.true),
+)

@@ -1,4 +1,4 @@
-use Rattle.std.proofs.Common.{ℕ, List, sym, ◌∙◌, ap, subst}
+use Rattle.std.proofs.Common.{ℕ, List, sym, ◌∙◌, ap, subst, refl}
 use Rattle.std.specs.List.{Contains}
 use Rattle.sector_disk.specs.Lists.{Content}
 use Rattle.hfs_language.specs.declared.command.Command.TheVariants as command
@@ -13,6 +13,9 @@ use Rattle.volume_step.specs.Steps.{Affords, KeepsJournal, StepsTo}
 use Rattle.volume_step.specs.declared.outcome.Outcome.TheVariants as outcome
 use Rattle.volume_step.proofs.Done.{holds_kept}
 use Rattle.volume_step.proofs.Linked.{link_place, link_steps}
+use Rattle.std.proofs.lemmas.Bool.{true≢false}
+use Rattle.hfs_volume.specs.Weight.{edits, edits_of}
+use Rattle.volume_step.proofs.MetNow.{fewer_are, link_fewer, met_still, replied}
 use Rattle.volume_step.proofs.linking.link_file.Goals as goal
 
 pub returns-clause-answered : goal.returns-clause-answered
@@ -65,3 +68,15 @@ returns-in_err-reply-clause-capacity g c = c.ln.ensures.blocks.capacity ∙ c.ch
 
 pub returns-in_err-reply-clause-shrunk : goal.returns-in_err-reply-clause-shrunk
 returns-in_err-reply-clause-shrunk g c = c.ln.ensures.blocks.shrunk ∙ c.change_linked.ensures.reads.keeps.shrunk
+
+pub returns-clause-done : goal.returns-clause-done
+returns-clause-done g c tells met =
+    replied (capacity_of c.args.volume.now) (command.Ln c.args.from.now c.args.to.now) (g.P.SectorView.space c.args.space.now).content (g.P.SectorView.space c.change_linked.new.space).content (c.change_linked.ensures.reads.looks.content tells) refl (c.requires.affords tells) c.in_ok-reply.reply c.in_ok-changes.changes (c.in_ok-reply.ensures.reply (c.change_linked.ensures.reads.looks.same.tells ∙ tells))
+
+pub returns-then-not-fits_make-clause-done : goal.returns-then-not-fits_make-clause-done
+returns-then-not-fits_make-clause-done g c tells met =
+    let asked = edits_of (tree_of (g.P.SectorView.space c.args.space.now).content) (command.Ln c.args.from.now c.args.to.now) in
+    absurd (true≢false (sym (c.fits_make.ensures.met (c.change_linked.ensures.reads.looks.same.tells ∙ tells)
+    (fewer_are c.a_load_says_enough.ensures c.a_load_is_of_parts.ensures c.trees_grow_by_enough.ensures c.trees_hold_three.ensures c.change_linked.new.self (g.P.SectorView.space c.change_linked.new.space) (sound_here c.change_linked.new.self (g.P.SectorView.space c.change_linked.new.space) (c.change_linked.ensures.stands.stands (c.change_linked.ensures.reads.looks.same.tells ∙ tells)) (c.change_linked.ensures.settled tells)) (edits 1 2 0 1) asked (link_fewer (tree_of (g.P.SectorView.space c.args.space.now).content) c.args.from.now c.args.to.now (c.requires.affords tells).no_refusal)
+    (met_still c.args.volume.now c.change_linked.new.self (g.P.SectorView.space c.args.space.now) (g.P.SectorView.space c.change_linked.new.space) c.change_linked.ensures.reads tells asked met)))
+    ∙ c.if-not-fits_make.true))

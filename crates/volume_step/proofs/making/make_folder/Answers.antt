@@ -1,4 +1,5 @@
-use Rattle.std.proofs.Common.{ℕ, List, sym, ◌∙◌, ap, subst}
+use Rattle.std.proofs.Common.{ℕ, List, sym, ◌∙◌, ap, subst, refl}
+use Rattle.std.proofs.lemmas.Bool.{true≢false}
 use Rattle.std.specs.Prelude.{Ok}
 use Rattle.std.specs.List.{Contains}
 use Rattle.sector_disk.specs.Lists.{Content}
@@ -6,6 +7,7 @@ use Rattle.hfs_language.specs.declared.command.Command.TheVariants as command
 use Rattle.hfs_model.specs.Step.{to_make}
 use Rattle.volume_runs.specs.Told.{of_made}
 use Rattle.hfs_volume.specs.TreeOf.{tree_of}
+use Rattle.hfs_volume.specs.Weight.{edits}
 use Rattle.volume_base.specs.Room.{capacity_of}
 use Rattle.volume_base.specs.Touching.{Touches}
 use Rattle.volume_base.proofs.Commanding.{touches_both, touches_looks}
@@ -14,6 +16,7 @@ use Rattle.volume_base.proofs.Still.{own_still}
 use Rattle.volume_step.specs.Steps.{Affords, KeepsJournal, StepsTo}
 use Rattle.volume_step.specs.declared.outcome.Outcome.TheVariants as outcome
 use Rattle.volume_step.proofs.Done.{mkdir_place, mkdir_steps, holds_kept}
+use Rattle.volume_step.proofs.MetNow.{replied, met_still}
 use Rattle.volume_step.proofs.making.make_folder.Goals as goal
 
 pub returns-clause-answered : goal.returns-clause-answered
@@ -66,3 +69,14 @@ returns-in_err-reply-clause-capacity g c = c.mkdir.ensures.blocks.capacity ∙ c
 
 pub returns-in_err-reply-clause-shrunk : goal.returns-in_err-reply-clause-shrunk
 returns-in_err-reply-clause-shrunk g c = c.mkdir.ensures.blocks.shrunk ∙ c.change_made.ensures.reads.keeps.shrunk
+
+pub returns-clause-done : goal.returns-clause-done
+returns-clause-done g c tells met =
+    replied (capacity_of c.args.volume.now) (command.Mkdir c.args.path.now) (g.P.SectorView.space c.args.space.now).content (g.P.SectorView.space c.change_made.new.space).content (c.change_made.ensures.reads.looks.content tells) refl (c.requires.affords tells) c.in_ok-reply.reply c.in_ok-changes.changes (c.in_ok-reply.ensures.reply (c.change_made.ensures.reads.looks.same.tells ∙ tells))
+
+pub returns-then-not-fits_make-clause-done : goal.returns-then-not-fits_make-clause-done
+returns-then-not-fits_make-clause-done g c tells met =
+    absurd (true≢false (sym (c.fits_make.ensures.met (c.change_made.ensures.reads.looks.same.tells ∙ tells) (met_still c.args.volume.now c.change_made.new.self (g.P.SectorView.space c.args.space.now) (g.P.SectorView.space c.change_made.new.space) c.change_made.ensures.reads tells (edits 1 2 0 1) met)) ∙ c.if-not-fits_make.true))
+
+pub returns-in_err-reply-clause-below : goal.returns-in_err-reply-clause-below
+returns-in_err-reply-clause-below g c = g.met.P.SectorView.follows_trans c.args.space.now c.change_made.new.space c.mkdir.new.space c.change_made.ensures.below c.mkdir.ensures.below

@@ -1,9 +1,11 @@
-use Rattle.std.proofs.Common.{ℕ, List, sym, ◌∙◌, ap, subst}
+use Rattle.std.proofs.Common.{ℕ, List, sym, ◌∙◌, ap, subst, refl}
+use Rattle.std.proofs.lemmas.Bool.{true≢false}
 use Rattle.std.specs.List.{Contains}
 use Rattle.sector_disk.specs.Lists.{Content}
 use Rattle.hfs_language.specs.declared.command.Command.TheVariants as command
 use Rattle.hfs_model.specs.Step.{to_mv}
 use Rattle.hfs_volume.specs.TreeOf.{tree_of}
+use Rattle.hfs_volume.specs.Weight.{edits}
 use Rattle.volume_base.specs.Room.{capacity_of}
 use Rattle.volume_base.specs.Touching.{Touches}
 use Rattle.volume_base.proofs.Commanding.{touches_both, touches_looks}
@@ -12,6 +14,7 @@ use Rattle.volume_base.proofs.Still.{own_still}
 use Rattle.volume_step.specs.Steps.{Affords, KeepsJournal, StepsTo}
 use Rattle.volume_step.specs.declared.outcome.Outcome.TheVariants as outcome
 use Rattle.volume_step.proofs.Done.{move_place, move_steps, holds_kept}
+use Rattle.volume_step.proofs.MetNow.{replied, met_still}
 use Rattle.volume_step.proofs.making.move_entry.Goals as goal
 
 pub returns-clause-answered : goal.returns-clause-answered
@@ -64,3 +67,14 @@ returns-in_err-reply-clause-capacity g c = c.mv.ensures.blocks.capacity ∙ c.ch
 
 pub returns-in_err-reply-clause-shrunk : goal.returns-in_err-reply-clause-shrunk
 returns-in_err-reply-clause-shrunk g c = c.mv.ensures.blocks.shrunk ∙ c.change_moved.ensures.reads.keeps.shrunk
+
+pub returns-clause-done : goal.returns-clause-done
+returns-clause-done g c tells met =
+    replied (capacity_of c.args.volume.now) (command.Mv c.args.from.now c.args.to.now) (g.P.SectorView.space c.args.space.now).content (g.P.SectorView.space c.change_moved.new.space).content (c.change_moved.ensures.reads.looks.content tells) refl (c.requires.affords tells) c.in_ok-reply.reply c.in_ok-changes.changes (c.in_ok-reply.ensures.reply (c.change_moved.ensures.reads.looks.same.tells ∙ tells))
+
+pub returns-then-not-fits_move-clause-done : goal.returns-then-not-fits_move-clause-done
+returns-then-not-fits_move-clause-done g c tells met =
+    absurd (true≢false (sym (c.fits_move.ensures.met (c.change_moved.ensures.reads.looks.same.tells ∙ tells) (met_still c.args.volume.now c.change_moved.new.self (g.P.SectorView.space c.args.space.now) (g.P.SectorView.space c.change_moved.new.space) c.change_moved.ensures.reads tells (edits 0 3 0 3) met)) ∙ c.if-not-fits_move.true))
+
+pub returns-in_err-reply-clause-below : goal.returns-in_err-reply-clause-below
+returns-in_err-reply-clause-below g c = g.met.P.SectorView.follows_trans c.args.space.now c.change_moved.new.space c.mv.new.space c.change_moved.ensures.below c.mv.ensures.below

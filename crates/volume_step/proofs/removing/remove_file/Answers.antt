@@ -1,4 +1,4 @@
-use Rattle.std.proofs.Common.{ℕ, List, sym, ◌∙◌, ap, subst}
+use Rattle.std.proofs.Common.{ℕ, List, sym, ◌∙◌, ap, subst, refl, []}
 use Rattle.std.specs.List.{Contains}
 use Rattle.sector_disk.specs.Lists.{Content}
 use Rattle.hfs_language.specs.declared.command.Command.TheVariants as command
@@ -11,7 +11,13 @@ use Rattle.volume_space.proofs.Sounding.{sound_here}
 use Rattle.volume_base.proofs.Still.{own_still}
 use Rattle.volume_step.specs.Steps.{Affords, KeepsJournal, StepsTo}
 use Rattle.volume_step.specs.declared.outcome.Outcome.TheVariants as outcome
-use Rattle.volume_step.proofs.Done.{lose_place, lose_steps, holds_kept}
+use Rattle.volume_step.proofs.Done.{free_path, holds_kept, line_free, lose_place, lose_steps}
+use Rattle.std.proofs.lemmas.Bool.{true≢false}
+use Rattle.hfs_volume.specs.Weight.{Edits, edits, edits_of}
+use Rattle.volume_base.specs.Fitting.{AreMet}
+use Rattle.volume_weights.proofs.LoseWeight.{rm_alone}
+use Rattle.volume_base.proofs.Rising.{settled_is_plain}
+use Rattle.volume_step.proofs.MetNow.{fewer_are, loses_one, loss_fewer, met_still, not_root, opens_fewer, replied}
 use Rattle.volume_step.proofs.removing.remove_file.Goals as goal
 
 pub returns-clause-answered : goal.returns-clause-answered
@@ -67,3 +73,23 @@ returns-in_err-reply-clause-shrunk g c = c.rm.ensures.blocks.shrunk ∙ c.change
 
 pub returns-in_err-reply-clause-below : goal.returns-in_err-reply-clause-below
 returns-in_err-reply-clause-below g c = g.met.P.SectorView.follows_trans c.args.space.now c.change_at.new.space c.rm.new.space c.change_at.ensures.below c.rm.ensures.below
+
+pub returns-clause-done : goal.returns-clause-done
+returns-clause-done g c tells met =
+    replied (capacity_of c.args.volume.now) (command.Rm c.args.path.now) (g.P.SectorView.space c.args.space.now).content (g.P.SectorView.space c.change_at.new.space).content (c.change_at.ensures.reads.looks.content tells) refl (c.requires.affords tells) c.in_ok-reply.reply c.in_ok-changes.changes (c.in_ok-reply.ensures.reply (c.change_at.ensures.reads.looks.same.tells ∙ tells))
+
+pub returns-then-not-fits_lose-clause-done : goal.returns-then-not-fits_lose-clause-done
+returns-then-not-fits_lose-clause-done g c tells met =
+    let tree = tree_of (g.P.SectorView.space c.args.space.now).content in
+    let asked = edits_of tree (command.Rm c.args.path.now) in
+    let trees = (c.requires.stands.stands tells).trees in
+    let settled = c.requires.settled tells in
+    let one = loses_one tree c.args.path.now (c.requires.affords tells).no_refusal in
+    let now : AreMet asked c.change_at.new.self (g.P.SectorView.space c.change_at.new.space) = met_still c.args.volume.now c.change_at.new.self (g.P.SectorView.space c.args.space.now) (g.P.SectorView.space c.change_at.new.space) c.change_at.ensures.reads tells asked met in
+    absurd (true≢false (sym (c.fits_lose.ensures.met (c.change_at.ensures.reads.looks.same.tells ∙ tells)
+    (fewer_are c.a_load_says_enough.ensures c.a_load_is_of_parts.ensures c.trees_grow_by_enough.ensures c.trees_hold_three.ensures c.change_at.new.self (g.P.SectorView.space c.change_at.new.space) (sound_here c.change_at.new.self (g.P.SectorView.space c.change_at.new.space) (c.change_at.ensures.stands.stands (c.change_at.ensures.reads.looks.same.tells ∙ tells)) (c.change_at.ensures.settled tells)) (edits 0 2 0 1) asked (loss_fewer tree (settled_is_plain c.sound_has_plain_tree.ensures c.args.volume.now (g.P.SectorView.space c.args.space.now).content trees settled) c.args.path.now one.0 one.1) now)
+    (λ absent.
+    let alone = rm_alone c.sound_has_plain_tree.ensures c.args.volume.now (g.P.SectorView.space c.args.space.now).content trees settled c.args.path.now (free_path c.args.path.now (line_free tree (command.Rm c.args.path.now) (c.requires.affords tells).no_refusal)) c.requires.fits (not_root tree c.args.path.now one.0 one.1) _ refl [] (sym c.change_at.ensures.reads.keeps.private ∙ absent) one.0 one.1 in
+    let opens : AreMet (edits 1 5 0 4) c.change_at.new.self (g.P.SectorView.space c.change_at.new.space) = subst (λ (e : Edits). AreMet e c.change_at.new.self (g.P.SectorView.space c.change_at.new.space)) alone now in
+    (fewer_are c.a_load_says_enough.ensures c.a_load_is_of_parts.ensures c.trees_grow_by_enough.ensures c.trees_hold_three.ensures c.change_at.new.self (g.P.SectorView.space c.change_at.new.space) (sound_here c.change_at.new.self (g.P.SectorView.space c.change_at.new.space) (c.change_at.ensures.stands.stands (c.change_at.ensures.reads.looks.same.tells ∙ tells)) (c.change_at.ensures.settled tells)) (edits 1 2 0 1) (edits 1 5 0 4) opens_fewer opens, opens)))
+    ∙ c.if-not-fits_lose.true))

@@ -1,4 +1,4 @@
-use Rattle.std.proofs.Common.{ℕ, List, sym, ◌∙◌, subst}
+use Rattle.std.proofs.Common.{ℕ, List, sym, ◌∙◌, subst, ap}
 use Rattle.std.specs.List.{Contains}
 use Rattle.std.specs.Prelude.{IfOk, OnOk}
 use Rattle.sector_disk.specs.Lists.{Content}
@@ -9,7 +9,12 @@ use Rattle.volume_base.proofs.Commanding.{touches_both, touches_looks}
 use Rattle.volume_base.proofs.Still.{own_still}
 use Rattle.volume_step.specs.Steps.{Affords, KeepsJournal, StepsTo}
 use Rattle.volume_step.specs.declared.outcome.Outcome.{Outcome}
-use Rattle.volume_step.proofs.Done.{holds_kept}
+use Rattle.volume_step.proofs.Done.{free_path, holds_kept, line_free}
+use Rattle.hfs_volume.specs.Content.{VolumeState, has_attributes, volume_of}
+use Rattle.hfs_volume.specs.TreeOf.{tree_of}
+use Rattle.hfs_volume.specs.Weight.{Edits, edits}
+use Rattle.volume_base.specs.Fitting.{AreMet}
+use Rattle.volume_step.proofs.MetNow.{met_still, removal_edits, removes_one}
 use Rattle.volume_step.proofs.removing.remove_folder.Goals as goal
 
 pub remove_with-requires-clause-affords : goal.remove_with-requires-clause-affords
@@ -37,3 +42,12 @@ returns-in_err-many-clause-touches g c committed = touches_looks committed _ (g.
 
 pub returns-clause-settled : goal.returns-clause-settled
 returns-clause-settled g c tells = c.remove_with.ensures.settled (c.bare_count.ensures.reads.looks.same.tells ∙ tells)
+
+pub returns-clause-done : goal.returns-clause-done
+returns-clause-done g c tells met =
+    let tree = tree_of (g.P.SectorView.space c.args.space.now).content in
+    let one = removes_one tree c.args.path.now (c.requires.affords tells).no_refusal in
+    let many = c.in_ok-many.ensures.told tells (free_path c.args.path.now (line_free tree (command.Rmdir c.args.path.now) (c.requires.affords tells).no_refusal)) one.0 one.1 in
+    c.remove_with.ensures.done (c.bare_count.ensures.reads.looks.same.tells ∙ tells)
+    (met_still c.args.volume.now c.bare_count.new.volume (g.P.SectorView.space c.args.space.now) (g.P.SectorView.space c.bare_count.new.space) c.bare_count.ensures.reads tells (edits 0 2 c.in_ok-many.many 1) (subst (λ (e : Edits). AreMet e c.args.volume.now (g.P.SectorView.space c.args.space.now)) (removal_edits tree c.args.path.now one.0 one.1 ∙ (λ i. edits 0 2 (sym many i) 1)) met))
+    (λ lacks. c.in_ok-many.ensures.none tells (sym (ap (λ (l : VolumeState). has_attributes l.head) (c.requires.settled tells).lists) ∙ ap (λ (k : Content). has_attributes (volume_of k).head) (sym (c.bare_count.ensures.reads.looks.content tells)) ∙ lacks))

@@ -1,4 +1,4 @@
-use Rattle.std.proofs.Common.{ℕ, List, sym, ◌∙◌, ap, subst}
+use Rattle.std.proofs.Common.{ℕ, List, sym, ◌∙◌, ap, subst, refl}
 use Rattle.std.specs.List.{Contains}
 use Rattle.sector_disk.specs.Lists.{Content}
 use Rattle.hfs_language.specs.declared.command.Command.TheVariants as command
@@ -12,6 +12,11 @@ use Rattle.volume_base.proofs.Still.{own_still}
 use Rattle.volume_step.specs.Steps.{Affords, KeepsJournal, StepsTo}
 use Rattle.volume_step.specs.declared.outcome.Outcome.TheVariants as outcome
 use Rattle.volume_step.proofs.Done.{remove_place, remove_steps, holds_kept}
+use Rattle.std.proofs.lemmas.Bool.{true≢false}
+use Rattle.hfs_volume.specs.Content.{VolumeState, has_attributes}
+use Rattle.hfs_volume.specs.Weight.{edits}
+use Rattle.volume_header.specs.declared.header.VolumeHeader.{VolumeHeader}
+use Rattle.volume_step.proofs.MetNow.{bare_fewer, fewer_are, met_still, replied}
 use Rattle.volume_step.proofs.removing.remove_with.Goals as goal
 
 pub returns-clause-answered : goal.returns-clause-answered
@@ -70,3 +75,20 @@ returns-in_err-reply-clause-capacity g c = c.rmdir.ensures.blocks.capacity ∙ c
 
 pub returns-in_err-reply-clause-shrunk : goal.returns-in_err-reply-clause-shrunk
 returns-in_err-reply-clause-shrunk g c = c.rmdir.ensures.blocks.shrunk ∙ c.change_at.ensures.reads.keeps.shrunk
+
+pub returns-clause-done : goal.returns-clause-done
+returns-clause-done g c tells met none =
+    replied (capacity_of c.args.volume.now) (command.Rmdir c.args.path.now) (g.P.SectorView.space c.args.space.now).content (g.P.SectorView.space c.change_at.new.space).content (c.change_at.ensures.reads.looks.content tells) refl (c.requires.affords tells) c.in_ok-reply.reply c.in_ok-changes.changes (c.in_ok-reply.ensures.reply (c.change_at.ensures.reads.looks.same.tells ∙ tells))
+
+pub returns-then-not-fits_remove-clause-done : goal.returns-then-not-fits_remove-clause-done
+returns-then-not-fits_remove-clause-done g c tells met none =
+    absurd (true≢false (sym (c.fits_remove.ensures.met (c.change_at.ensures.reads.looks.same.tells ∙ tells)
+    (fewer_are c.a_load_says_enough.ensures c.a_load_is_of_parts.ensures c.trees_grow_by_enough.ensures c.trees_hold_three.ensures c.change_at.new.self (g.P.SectorView.space c.change_at.new.space) (sound_here c.change_at.new.self (g.P.SectorView.space c.change_at.new.space) (c.change_at.ensures.stands.stands (c.change_at.ensures.reads.looks.same.tells ∙ tells)) (c.change_at.ensures.settled tells)) (edits 0 2 0 1) (edits 0 2 c.args.many 1) (bare_fewer c.args.many) (met_still c.args.volume.now c.change_at.new.self (g.P.SectorView.space c.args.space.now) (g.P.SectorView.space c.change_at.new.space) c.change_at.ensures.reads tells (edits 0 2 c.args.many 1) met)))
+    ∙ c.if-not-fits_remove.true))
+
+pub returns-then-not-fits_bare-clause-done : goal.returns-then-not-fits_bare-clause-done
+returns-then-not-fits_bare-clause-done g c tells met none =
+    absurd (true≢false (sym (c.fits_bare.ensures.met (c.change_at.ensures.reads.looks.same.tells ∙ tells)
+    (λ lacks. none (ap (λ (l : VolumeState). has_attributes l.head) (c.requires.settled tells).lists ∙ sym (ap (λ (h : VolumeHeader). has_attributes h) c.change_at.ensures.reads.keeps.header) ∙ lacks))
+    (met_still c.args.volume.now c.change_at.new.self (g.P.SectorView.space c.args.space.now) (g.P.SectorView.space c.change_at.new.space) c.change_at.ensures.reads tells (edits 0 2 c.args.many 1) met))
+    ∙ c.if-not-fits_bare.true))

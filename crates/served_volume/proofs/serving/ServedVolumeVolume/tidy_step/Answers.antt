@@ -1,26 +1,20 @@
-use Rattle.std.proofs.Common.{◌≡◌, ℕ, [], refl, sym, ◌∙◌, ap, subst, arith}
-use Rattle.std.specs.Prelude.{Option, Result, Ok, Err}
+use Rattle.std.proofs.Common.{ℕ, [], refl, sym, ◌∙◌, subst}
+use Rattle.std.specs.Prelude.{Option, Result}
 use Rattle.alloc_bitmap.specs.Untold.{told_none}
 use Rattle.hx_bytes.specs.declared.faults.Trouble.{Trouble}
 use Rattle.hfs_serving.specs.Faults.{Faults}
-use Rattle.hfs_serving.specs.Going.{TidiesTo}
-use Rattle.hfs_serving.specs.declared.volume.Next.{Next}
-use Rattle.hfs_serving.proofs.Causes.{counts_none, fine, handed}
+use Rattle.hfs_serving.proofs.Causes.{counts_none, handed}
 use Rattle.volume_space.proofs.Sounding.{sound_here}
 use Rattle.volume_base.specs.Keeping.{shrunk_of}
 use Rattle.volume_base.specs.Room.{capacity_of}
-use Rattle.volume_space.specs.Standing.{HoldsOn}
 use Rattle.volume_base.specs.Standing.{IsSettled, StandsOver}
 use Rattle.volume_space.specs.declared.tidying.Tidying.{Tidying}
 use Rattle.volume_step.specs.Steps.{KeepsJournal}
 use Rattle.volume_step.specs.Tidying.{ReclaimsAs}
-use Rattle.served_volume.specs.Knowing.{Knows}
-use Rattle.served_volume.proofs.Calls.{faults_of_call, on_value, quiet, short, value_of}
+use Rattle.served_volume.proofs.Calls.{faults_of_call, on_any, on_value, quiet, short, value_of}
 use Rattle.served_volume.proofs.Seen.{touches_space}
 use Rattle.served_volume.proofs.Service.{service_on}
-use Rattle.served_volume.proofs.Housekeeping.{tidies}
-use Rattle.served_volume.proofs.Resting.{rests}
-use Rattle.hfs_volume.specs.Content.{volume_of}
+use Rattle.served_volume.proofs.Housekeeping.{tidies_as}
 use Rattle.served_volume.proofs.serving.ServedVolumeVolume.tidy_step.Goals as goal
 
 pub tidy-came-requires-clause-stands : goal.tidy-came-requires-clause-stands
@@ -61,8 +55,7 @@ returns-in-Ok-clause-tidied g c tells capacity committed now shrunk stands =
     let settled = on_value (IsSettled w b.content) r o is (c.tidy-came.ensures.settled tells) in
     let tells_then = (c.tidy-came.ensures.touches committed).same.tells ∙ tells in
     let was = value_of (λ (q : Tidying). ReclaimsAs q (capacity_of v) (shrunk_of v) a.content b.content) r o is (c.tidy-came.ensures.reclaims tells) in
-    subst (λ (n : Next). TidiesTo n capacity (λ past here file. Knows w capacity past here file b) committed now shrunk b) (sym c.next_of-next.ensures)
-    (tidies v w capacity committed now shrunk a b stands.known stands.below stands.reads stands.heads
+    tidies_as v w capacity committed now shrunk a b stands.known stands.below stands.reads stands.heads
     (record {
       touches = touches_space committed _ a b tells (c.tidy-came.ensures.touches committed);
       keeps = on_value (KeepsJournal a.content b.content) r o is (c.tidy-came.ensures.place tells);
@@ -71,12 +64,12 @@ returns-in-Ok-clause-tidied g c tells capacity committed now shrunk stands =
       holds = λ held. c.tidy-came.ensures.holds committed held;
       capacity = c.tidy-came.ensures.capacity;
       sound = sound_here w b (there.stands tells_then) settled;
-    }) c.tidy-came.ensures.shrunk _ o (subst (λ (k : ℕ × Option ℕ). ReclaimsAs o k.0 k.1 a.content b.content) {x = (capacity_of v, shrunk_of v)} {y = (capacity, shrunk)} (λ i. (stands.known.capacity_is i, stands.known.shrunk_is i)) was))
+    }) c.tidy-came.ensures.shrunk o (subst (λ (k : ℕ × Option ℕ). ReclaimsAs o k.0 k.1 a.content b.content) {x = (capacity_of v, shrunk_of v)} {y = (capacity, shrunk)} (λ i. (stands.known.capacity_is i, stands.known.shrunk_is i)) was) c.next_of.result c.next_of.ensures.same
 
 pub returns-in-Ok-clause-still : goal.returns-in-Ok-clause-still
 returns-in-Ok-clause-still g c capacity serves few =
     let now = c.look.ensures.still capacity c.args.base.now c.tidy-came.ensures.below serves in
-    (now, c.look.ensures.most capacity now)
+    on_any _ c.next_of.result (now, c.look.ensures.most capacity now)
 
 pub returns-in-Ok-clause-tells : goal.returns-in-Ok-clause-tells
 returns-in-Ok-clause-tells g c = (c.tidy-came.ensures.touches []).same.tells
@@ -91,7 +84,7 @@ pub returns-in-Err-clause-anchor : goal.returns-in-Err-clause-anchor
 returns-in-Err-clause-anchor g c = c.look.ensures.anchor c.args.base.now c.tidy-came.ensures.below (c.tidy-came.ensures.touches []).same.names
 
 pub returns-in-Ok-clause-faults : goal.returns-in-Ok-clause-faults
-returns-in-Ok-clause-faults g c = fine (c.look.ensures.counts c.args.base.now c.tidy-came.ensures.below (c.tidy-came.ensures.touches []).same.sink_faults) _
+returns-in-Ok-clause-faults g c = record { counts = c.look.ensures.counts c.args.base.now c.tidy-came.ensures.below (c.tidy-came.ensures.touches []).same.sink_faults; disk = λ is. absurd (c.next_of.ensures.memory is) }
 
 pub returns-in-Err-clause-faults : goal.returns-in-Err-clause-faults
 returns-in-Err-clause-faults g c =
@@ -103,14 +96,3 @@ pub invariant_of-self : goal.invariant_of-self
 invariant_of-self g c =
     let sectors = (c.tidy-came.ensures.touches []).same.sectors ∙ c.is_elsewhere.ensures c.if-is_elsewhere.false in
     record { sized = service_on c.tidy-came.new.volume (g.G.SectorView.space c.tidy-came.new.space) (told_none c.args.self.now.sectors) (sym sectors) c.tidy-came.ensures.service }
-
-pub invariant_of-self-in-Err-1 : goal.invariant_of-self-in-Err-1
-invariant_of-self-in-Err-1 g c =
-    let sectors = (c.tidy-came.ensures.touches []).same.sectors ∙ c.is_elsewhere.ensures c.if-is_elsewhere.false in
-    record { sized = service_on c.tidy-came.new.volume (g.G.SectorView.space c.tidy-came.new.space) (told_none c.args.self.now.sectors) (sym sectors) c.tidy-came.ensures.service }
-
-pub returns-then-not-self-clause-touches : goal.returns-then-not-self-clause-touches
-returns-then-not-self-clause-touches g c tells capacity committed now shrunk stands = quiet committed _ _ stands.leaves
-
-pub returns-then-not-self-clause-tidied : goal.returns-then-not-self-clause-tidied
-returns-then-not-self-clause-tidied g c tells capacity committed now shrunk stands = (record { reads = stands.reads; heads = stands.heads; known = stands.known }, rests capacity shrunk (volume_of now))

@@ -1,0 +1,84 @@
+-- Why the next step of reclaiming isn't made: what its cost says, or that a transaction may be too small for a cut.
+use Rattle.std.proofs.Common.{◌≡◌, ◌<◌, ℕ, ◌+◌, Bool, true, false, List, inl, inr, refl, sym, ◌∙◌, ap, arith}
+use Rattle.std.specs.Prelude.{◌==◌, ◌&&◌, nat_lt, slice_index, Option, None, if◌then◌else◌}
+use Rattle.std.proofs.lemmas.Bool.{cases_lt, eq-eqb, true≢false}
+use Rattle.sector_disk.specs.Lists.{Content}
+use Rattle.hfs_volume.specs.Content.{VolumeState, records_of, volume_of}
+use Rattle.hfs_volume.specs.Cost.{cost_of}
+use Rattle.hfs_volume.specs.Links.{orphans_of}
+use Rattle.hfs_volume.specs.Reclaim.{CutOrphan, CutShrunk, DropAttribute, DropOrphan, Reclaim, has_surplus_left, least, next_reclaim, orphan_steps, reclaim_cost, reclaim_cost_with, shrunk_step}
+use Rattle.hfs_volume.specs.Weight.{cut_cost, free_blocks, room_with}
+use Rattle.hfs_volume.specs.declared.cost.Cost.{Cost}
+use Rattle.hfs_volume.specs.declared.cost.Cost.TheVariants as cost
+use Rattle.hfs_volume.specs.declared.cost.Room.{Room}
+use Rattle.volume_runs.specs.Rest.{IsAtRest, IsHeldUp, cut_puts, is_tight}
+use Rattle.volume_space.specs.Cutting.{IsCut, IsNextCut}
+use Rattle.volume_space.specs.Orphans.{grows_none}
+use Rattle.volume_base.specs.Room.{capacity_of, free_in, room_on}
+use Rattle.volume_base.specs.Standing.{IsSettled}
+use Rattle.volume_base.specs.Weighing.{needs_asked}
+use Rattle.volume_base.specs.declared.room.FreeBlocks.TheVariants as blocks
+use Rattle.volume_base.specs.declared.volume.Volume.{Volume}
+use Rattle.volume_base.specs.declared.weighing.Edits.{Edits}
+use Rattle.volume_space.proofs.Affording.{bare_edits, cut_cost_is, drop_edits}
+use Rattle.volume_base.proofs.RoomKept.{free_content}
+
+-- ---- by its cost
+
+some_grows : (a b c : ℕ) → ((a == 0) && ((b == 0) && (c == 0))) ≡ false → 0 < a + b + c
+some_grows a b c is = elim (cases_lt 0 (a + b + c)) [
+  | inl some ↦ some
+  | inr none ↦ absurd (true≢false (sym (λ i. eq-eqb a 0 (omega (arith, none)) i && (eq-eqb b 0 (omega (arith, none)) i && eq-eqb c 0 (omega (arith, none)) i)) ∙ is))
+]
+
+held_cost : (capacity : ℕ) (volume : VolumeState) (step : Reclaim) (found : Cost) → grows_none found ≡ false → reclaim_cost capacity volume step ≡ found → IsHeldUp capacity volume step
+held_cost capacity volume step (cost.Refused why) some is = inl (why, is)
+held_cost capacity volume step (cost.Load load grow) some is = inr (inl (record { load = load; grow = grow; costs = is; some = some_grows (slice_index grow 0) (slice_index grow 1) (slice_index grow 2) some }))
+
+module _ (v : Volume) (content : Content) (settled : IsSettled v content) where
+  by_edits : (edits : Edits) (found : Cost) → found ≡ cost_of (needs_asked edits) (room_with (capacity_of v) (free_in blocks.All v.map) (volume_of content))
+      → cost_of (needs_asked edits) (room_with (capacity_of v) (free_blocks (volume_of content)) (volume_of content)) ≡ found
+  by_edits edits found is = ap (λ (f : List Bool). cost_of (needs_asked edits) (room_with (capacity_of v) f (volume_of content))) (sym (free_content v content settled)) ∙ sym is
+
+  pub held_drop : (found : Cost) → found ≡ cost_of (needs_asked drop_edits) (room_with (capacity_of v) (free_in blocks.All v.map) (volume_of content)) → grows_none found ≡ false → (id : ℕ) → IsHeldUp (capacity_of v) (volume_of content) (DropOrphan id)
+  unfolding reclaim_cost_with
+  held_drop found is some id = held_cost (capacity_of v) (volume_of content) (DropOrphan id) found some (by_edits drop_edits found is)
+
+  pub held_bare : (found : Cost) → found ≡ cost_of (needs_asked bare_edits) (room_with (capacity_of v) (free_in blocks.All v.map) (volume_of content)) → grows_none found ≡ false → (id : ℕ) (name : List ℕ) → IsHeldUp (capacity_of v) (volume_of content) (DropAttribute id name)
+  unfolding reclaim_cost_with
+  held_bare found is some id name = held_cost (capacity_of v) (volume_of content) (DropAttribute id name) found some (by_edits bare_edits found is)
+
+  cut_costs : (step : Reclaim) → IsCut step → reclaim_cost (capacity_of v) (volume_of content) step ≡ cut_cost (room_with (capacity_of v) (free_blocks (volume_of content)) (volume_of content))
+  unfolding reclaim_cost_with
+  cut_costs step (inl (id, same)) = ap (reclaim_cost (capacity_of v) (volume_of content)) same
+  cut_costs step (inr (id, kind, same)) = ap (reclaim_cost (capacity_of v) (volume_of content)) same
+
+  pub held_cut : (found : Cost) → found ≡ cut_cost (room_on blocks.All v) → grows_none found ≡ false → (step : Reclaim) → IsCut step → IsHeldUp (capacity_of v) (volume_of content) step
+  held_cut found is some step cut = held_cost (capacity_of v) (volume_of content) step found some (cut_costs step cut ∙ sym (cut_cost_is v content settled) ∙ sym is)
+
+-- ---- by what a cut puts at most
+
+-- what it puts by the room that the volume keeps is what it puts by that of the content
+cut_puts_is : (v : Volume) (content : Content) → IsSettled v content → cut_puts (room_on blocks.All v) ≡ cut_puts (room_with (capacity_of v) (free_blocks (volume_of content)) (volume_of content))
+unfolding room_with
+cut_puts_is v content settled = sym (λ i. cut_puts (room_with (capacity_of v) (free_blocks (volume_of content)) (settled.lists i)))
+
+tight_step : (capacity : ℕ) (volume : VolumeState) (step : Reclaim) → IsCut step → nat_lt capacity (cut_puts (room_with capacity (free_blocks volume) volume)) ≡ true → is_tight capacity volume step ≡ true
+tight_step capacity volume step (inl (id, same)) tight = ap (is_tight capacity volume) same ∙ tight
+tight_step capacity volume step (inr (id, kind, same)) tight = ap (is_tight capacity volume) same ∙ tight
+
+pub held_tight : (v : Volume) (content : Content) → IsSettled v content → (room : Room) → room ≡ room_on blocks.All v → (load : ℕ) → load ≡ cut_puts room → nat_lt room.capacity load ≡ true → (step : Reclaim) → IsCut step → IsHeldUp (capacity_of v) (volume_of content) step
+held_tight v content settled room is load load_is tight step cut =
+    inr (inr (tight_step (capacity_of v) (volume_of content) step cut (ap (λ n. nat_lt (capacity_of v) n) (sym (load_is ∙ ap cut_puts is ∙ cut_puts_is v content settled)) ∙ ap (λ (r : Room). nat_lt r.capacity load) (sym is) ∙ tight)))
+
+-- ---- the next step
+
+-- it is a cut that is held up
+pub rests_cut : (capacity : ℕ) (shrunk : Option ℕ) (content : Content) (id kind keep : ℕ) → IsNextCut shrunk content id kind keep → ((step : Reclaim) → IsCut step → IsHeldUp capacity (volume_of content) step) → IsAtRest capacity shrunk (volume_of content)
+rests_cut capacity shrunk content id kind keep (inl next) held = inr (CutShrunk id, next.0, held (CutShrunk id) (inl (id, refl)))
+rests_cut capacity shrunk content id kind keep (inr next) held = inr (CutOrphan id kind, next.0, held (CutOrphan id kind) (inr (id, kind, refl)))
+
+-- there is none
+pub rests_none : (capacity : ℕ) (shrunk : Option ℕ) (volume : VolumeState) → has_surplus_left volume shrunk ≡ false → least (orphans_of (records_of volume)) ≡ None → IsAtRest capacity shrunk volume
+unfolding next_reclaim
+rests_none capacity shrunk volume kept none = inl (ap (λ b. if b then shrunk_step shrunk else orphan_steps volume (least (orphans_of (records_of volume)))) kept ∙ ap (orphan_steps volume) none)

@@ -1,0 +1,46 @@
+use Rattle.std.proofs.Common.{◌≡◌, ℕ, refl, sym, ◌∙◌, subst}
+use Rattle.std.specs.Prelude.{IfSome, Option}
+use Rattle.hfs_language.specs.declared.refusal.Refusal.{Refusal}
+use Rattle.hfs_volume.specs.Content.{volume_of}
+use Rattle.hfs_volume.specs.Weight.{cut_cost, free_blocks, room_with}
+use Rattle.hfs_volume.specs.declared.cost.Cost.TheVariants as cost
+use Rattle.volume_base.specs.Keeping.{shrunk_of}
+use Rattle.volume_space.specs.Orphans.{TidiesAs}
+use Rattle.volume_base.specs.Room.{capacity_of}
+use Rattle.volume_space.specs.declared.tidying.Tidying.{Tidying}
+use Rattle.volume_base.proofs.Commanding.{touches_none}
+use Rattle.volume_space.proofs.KeptUsed.{used_none}
+use Rattle.volume_space.proofs.NextCut.{shrunk_next}
+use Rattle.volume_space.proofs.PastSizes.{past_next, sized_id}
+use Rattle.volume_space.proofs.cutting_ahead.cut_past.Goals as goal
+
+pub tidy_cut-requires-clause-next : goal.tidy_cut-requires-clause-next
+tidy_cut-requires-clause-next g c tells =
+    shrunk_next c.args.volume.now (g.P.SectorView.space c.args.space.now).content (c.requires.settled tells) c.args.entry.now c.args.entry.now.rec refl (c.requires.there tells) c.args.id
+    (sized_id c.args.volume.now (g.P.SectorView.space c.args.space.now).content (c.requires.settled tells) c.args.entry.now (c.requires.there tells) c.args.id c.args.size c.args.entry.now.rec refl c.requires.file)
+    (shrunk_of c.args.volume.now) c.requires.shrunk c.args.surplus c.requires.some
+
+pub returns-in-Some-clause-came : goal.returns-in-Some-clause-came
+returns-in-Some-clause-came g c tells = (
+  refl,
+  subst (λ (o : Option Refusal). IfSome o (λ why. cut_cost (room_with (capacity_of c.args.volume.now) (free_blocks (volume_of (g.P.SectorView.space c.args.space.now).content)) (volume_of (g.P.SectorView.space c.args.space.now).content)) ≡ cost.Refused why)) c.in-Some.is
+      (c.refused_cut.ensures (g.P.SectorView.space c.args.space.now).content (c.requires.settled tells)),
+)
+
+pub returns-in-Some-clause-touches : goal.returns-in-Some-clause-touches
+returns-in-Some-clause-touches g c committed = touches_none committed _ (g.P.SectorView.space c.args.space.now)
+
+pub returns-in-Some-clause-used : goal.returns-in-Some-clause-used
+returns-in-Some-clause-used g c = used_none c.args.volume.now
+
+pub returns-in-Some-clause-service : goal.returns-in-Some-clause-service
+returns-in-Some-clause-service g c = c.requires.stands.service
+
+pub returns-in-Made-clause-came : goal.returns-in-Made-clause-came
+returns-in-Made-clause-came g c tells = record {
+  next = past_next c.args.volume.now (g.P.SectorView.space c.args.space.now).content (c.requires.settled tells) c.args.entry.now (c.requires.there tells) c.args.id c.args.size c.args.entry.now.rec refl c.requires.file c.args.surplus c.requires.some;
+  made = subst (λ (k : Option ℕ × Tidying). TidiesAs k.1 (capacity_of c.args.volume.now) k.0 (g.P.SectorView.space c.args.space.now).content (g.P.SectorView.space c.tidy_cut.new.space).content) (λ i. (c.requires.shrunk i, c.in-Made.is i)) (c.in_ok-tidy_cut.ensures.tidied tells);
+}
+
+pub returns-in-Rest-clause-came : goal.returns-in-Rest-clause-came
+returns-in-Rest-clause-came g c tells = (subst (λ (t : Tidying). TidiesAs t (capacity_of c.args.volume.now) (shrunk_of c.args.volume.now) (g.P.SectorView.space c.args.space.now).content (g.P.SectorView.space c.tidy_cut.new.space).content) c.in-Rest.is (c.in_ok-tidy_cut.ensures.tidied tells)).0

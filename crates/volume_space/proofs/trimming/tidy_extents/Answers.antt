@@ -1,0 +1,38 @@
+use Rattle.std.proofs.Common.{◌≡◌, ◌≤◌, ℕ, false, true, length, List, inl, inr, arith, sym, ◌∙◌, ap, subst, refl}
+use Rattle.std.specs.Prelude.{Option, IfSome, Some, None, IsTrue, Result, Ok, Err, ◌&&◌}
+use Rattle.std.specs.List.{Contains}
+use Rattle.std.proofs.lemmas.Result.{err_from_is_err_and}
+use Rattle.hx_bytes.specs.declared.faults.Trouble.{Trouble}
+use Rattle.btree_edit.specs.Causes.{HasTroubleCause}
+use Rattle.volume_space.specs.declared.tidying.Tidying.{Tidying}
+use Rattle.std.proofs.lemmas.Bool.{true≢false, eq-eqb, eqb-true}
+use Rattle.sector_disk.specs.Lists.{Content}
+use Rattle.cat_records.specs.Fits.{FitsRecord}
+use Rattle.cat_records.specs.declared.record.CatRecord.{CatRecord}
+use Rattle.catalog.specs.Pairs.{value_at}
+use Rattle.hfs_volume.specs.Content.{VolumeState, records_of, volume_of}
+use Rattle.hfs_volume.specs.Links.{orphans_of}
+use Rattle.hfs_volume.specs.Records.{id_in, is_thread}
+use Rattle.hfs_volume.specs.Reclaim.{DropAttribute, has_surplus_left, least, next_reclaim}
+use Rattle.volume_base.proofs.Commanding.{touches_none}
+use Rattle.volume_space.proofs.KeptUsed.{used_none}
+use Rattle.hx_bytes.specs.declared.extents.ForkRecord.{ForkRecord}
+use Rattle.volume_space.specs.Cutting.{IsCutOf}
+use Rattle.volume_space.proofs.trimming.tidy_extents.Goals as goal
+
+pub returns-in_err-cut-clause-touches : goal.returns-in_err-cut-clause-touches
+returns-in_err-cut-clause-touches g c committed = touches_none committed _ (g.P.SectorView.space c.args.space.now)
+
+pub returns-in_err-cut-clause-used : goal.returns-in_err-cut-clause-used
+returns-in_err-cut-clause-used g c = used_none c.args.volume.now
+
+pub returns-in_err-cut-clause-service : goal.returns-in_err-cut-clause-service
+returns-in_err-cut-clause-service g c = c.requires.stands.service
+
+pub returns-in_err-cut-clause-cause : goal.returns-in_err-cut-clause-cause
+returns-in_err-cut-clause-cause g c =
+    let p = err_from_is_err_and c.from_residual.result c.from_residual.ensures.1 in
+    subst (λ (r : Result Tidying Trouble). HasTroubleCause (g.P.SectorView.space c.args.space.now).faults (g.P.SectorView.space c.args.space.now).faults r) (sym (p.1 ∙ ap Err p.2)) (record { later = omega arith; failed = tt })
+
+pub tidy_part-requires-clause-cut : goal.tidy_part-requires-clause-cut
+tidy_part-requires-clause-cut g c = subst (λ (f : ForkRecord). IsCutOf c.args.list.now f c.args.surplus.keep c.in_ok-cut.cut) c.fork_of-fork.ensures c.in_ok-cut.ensures.cut

@@ -1,0 +1,168 @@
+-- A cut of blocks past a file's size, as a step of the command that puts data into the file.
+use Rattle.std.proofs.Common.{◌≡◌, ℕ, ◌+◌, ◌==◌, ◌&&◌, Bool, true, false, [], ◌∷◌, length, inl, inr, refl, sym, ◌∙◌, ap, subst, arith, ⊎_elim}
+use Rattle.std.specs.Prelude.{nat_lt, Option, None, Some, Result, Ok, Err, if◌then◌else◌}
+use Rattle.std.proofs.lemmas.Bool.{le-ltb, true≢false}
+use Rattle.sector_disk.specs.Lists.{Content}
+use Rattle.hfs_language.specs.declared.command.Command.{Command}
+use Rattle.hfs_language.specs.declared.command.Command.TheVariants as command
+use Rattle.hfs_language.specs.declared.refusal.Refusal.{Refusal}
+use Rattle.hfs_language.specs.declared.refusal.Refusal.TheVariants as refusal
+use Rattle.hfs_language.specs.declared.reply.Reply.TheVariants as reply
+use Rattle.hfs_model.specs.Step.{only_reads, size_written, to_file}
+use Rattle.hfs_model.specs.declared.plain.PlainNode.{PlainNode}
+use Rattle.hfs_model.specs.declared.plain.PlainTree.{PlainTree}
+use Rattle.hfs_volume.specs.Content.{VolumeState, volume_of}
+use Rattle.hfs_volume.specs.Cost.{cost_of}
+use Rattle.hfs_volume.specs.Laws.{SoundIsBoth}
+use Rattle.hfs_volume.specs.Reclaim.{CutShrunk, CutsSurplus, Does, Reclaim, Reclaims, next_reclaim, reclaim_cost, reclaim_cost_with}
+use Rattle.hfs_volume.specs.Sound.{IsSound}
+use Rattle.hfs_volume.specs.TreeOf.{tree_of}
+use Rattle.hfs_volume.specs.Weight.{Data, cut_cost, data_of, edits_of, free_blocks, grown_data, has_surplus, lacks_tree, needs_cut, needs_for, room_with, weight, weight_with, written_data}
+use Rattle.hfs_volume.specs.declared.cost.Cost.TheVariants as cost
+use Rattle.hfs_volume.proofs.Flat.{none_or_some, some_same}
+use Rattle.volume_runs.specs.Run.{AsksMore}
+use Rattle.volume_space.specs.CuttingAhead.{CutsAhead, cuts_first}
+use Rattle.volume_space.specs.declared.cutting_ahead.CutAhead.{CutAhead}
+use Rattle.volume_space.specs.declared.cutting_ahead.CutAhead.TheVariants as ahead
+use Rattle.volume_space.specs.declared.tidying.Tidying.TheVariants as tidying
+use Rattle.volume_step.specs.Steps.{IsHeldBack, KeepsJournal, ShrinksAs, StepsTo, data_end, data_path, outcome_of}
+use Rattle.volume_step.specs.declared.outcome.Outcome.{Outcome}
+use Rattle.volume_step.specs.declared.outcome.Outcome.TheVariants as outcome
+use Rattle.volume_step.proofs.Done.{refused_steps, same_place, waits_steps}
+use Rattle.volume_step.proofs.Reclaimed.{places_as, reclaims_as}
+
+-- ---- the data that a command puts
+
+-- it ends past the file's end exactly where the file gets longer
+end_past : (size from long : ℕ) → (long == 0) ≡ false → nat_lt size (size_written size from long) ≡ nat_lt size (from + long)
+end_past size from long some = ap (λ b. nat_lt size (if b then size else if nat_lt size (from + long) then from + long else size)) some ∙ by (nat_lt size (from + long)) refl
+  where
+    by : (b : Bool) → nat_lt size (from + long) ≡ b → nat_lt size (if b then from + long else size) ≡ b
+    by true more = more
+    by false less = le-ltb size size (omega arith)
+
+written_first : (volume : VolumeState) (node : PlainNode) (from long end : ℕ) (b : Bool) → (long == 0) ≡ b → (if b then None else Some (from + long)) ≡ Some end
+    → needs_cut volume (if◌then◌else◌ {A = Option Data} b None (Some (record { id = node.id; old_size = length node.bytes; new_size = size_written (length node.bytes) from long; from = from; end = from + long }))) ≡ cuts_first volume node.id (length node.bytes) end
+written_first volume node from long end true none is = absurd (none_or_some end is)
+written_first volume node from long end false some is =
+    ap (λ b. b && has_surplus volume node.id (length node.bytes)) (end_past (length node.bytes) from long some ∙ ap (nat_lt (length node.bytes)) (some_same (from + long) end is))
+
+grown_first : (volume : VolumeState) (node : PlainNode) (size : ℕ) (b : Bool) → nat_lt (length node.bytes) size ≡ b
+    → needs_cut volume (if◌then◌else◌ {A = Option Data} b (Some (record { id = node.id; old_size = length node.bytes; new_size = size; from = length node.bytes; end = size })) None) ≡ b && has_surplus volume node.id (length node.bytes)
+grown_first volume node size true more = ap (λ b. b && has_surplus volume node.id (length node.bytes)) more
+grown_first volume node size false less = refl
+
+-- a cut goes first exactly where data up to the command's end makes its file longer, and the file has blocks past its size
+pub needs_first : (volume : VolumeState) (tree : PlainTree) (asked : Command) (end : ℕ) → data_end asked ≡ Some end → (node : PlainNode) → to_file tree (data_path asked) ≡ Ok node
+    → needs_cut volume (data_of tree asked) ≡ cuts_first volume node.id (length node.bytes) end
+needs_first volume tree (command.Write path from value) end is node file = ap (λ r. needs_cut volume (written_data from (length value) r)) file ∙ written_first volume node from (length value) end (length value == 0) refl is
+needs_first volume tree (command.Trunc path size) end is node file =
+    ap (λ r. needs_cut volume (grown_data size r)) file ∙ grown_first volume node size (nat_lt (length node.bytes) size) refl ∙ ap (λ n. nat_lt (length node.bytes) n && has_surplus volume node.id (length node.bytes)) (some_same size end is)
+needs_first volume tree (command.Mkdir p) end is node file = absurd (none_or_some end is)
+needs_first volume tree (command.Create p) end is node file = absurd (none_or_some end is)
+needs_first volume tree (command.Rm p) end is node file = absurd (none_or_some end is)
+needs_first volume tree (command.Rmdir p) end is node file = absurd (none_or_some end is)
+needs_first volume tree (command.Mv p q) end is node file = absurd (none_or_some end is)
+needs_first volume tree (command.Ln p q) end is node file = absurd (none_or_some end is)
+needs_first volume tree (command.Read p n m) end is node file = absurd (none_or_some end is)
+needs_first volume tree (command.Ls p) end is node file = absurd (none_or_some end is)
+needs_first volume tree (command.Stat p) end is node file = absurd (none_or_some end is)
+needs_first volume tree (command.Chmod p m) end is node file = absurd (none_or_some end is)
+needs_first volume tree (command.SetAttr p n v) end is node file = absurd (none_or_some end is)
+needs_first volume tree (command.GetAttr p n) end is node file = absurd (none_or_some end is)
+needs_first volume tree (command.DelAttr p n) end is node file = absurd (none_or_some end is)
+needs_first volume tree (command.LsAttr p) end is node file = absurd (none_or_some end is)
+needs_first volume tree (command.At n) end is node file = absurd (none_or_some end is)
+needs_first volume tree command.Df end is node file = absurd (none_or_some end is)
+needs_first volume tree command.Sync end is node file = absurd (none_or_some end is)
+
+-- a command that puts no data
+no_end : (tree : PlainTree) (asked : Command) → data_end asked ≡ None → data_of tree asked ≡ None
+no_end tree (command.Write path from value) is = by (length value == 0) refl is (to_file tree path)
+  where
+    by : (b : Bool) → (length value == 0) ≡ b → (if b then None else Some (from + length value)) ≡ None → (r : Result PlainNode Refusal) → written_data from (length value) r ≡ None
+    by true none same (Ok file) = ap (λ b. if◌then◌else◌ {A = Option Data} b None (Some (record { id = file.id; old_size = length file.bytes; new_size = size_written (length file.bytes) from (length value); from = from; end = from + length value }))) none
+    by true none same (Err why) = refl
+    by false some same r = absurd (none_or_some (from + length value) (sym same))
+no_end tree (command.Trunc path size) is = absurd (none_or_some size (sym is))
+no_end tree (command.Mkdir p) is = refl
+no_end tree (command.Create p) is = refl
+no_end tree (command.Rm p) is = refl
+no_end tree (command.Rmdir p) is = refl
+no_end tree (command.Mv p q) is = refl
+no_end tree (command.Ln p q) is = refl
+no_end tree (command.Read p n m) is = refl
+no_end tree (command.Ls p) is = refl
+no_end tree (command.Stat p) is = refl
+no_end tree (command.Chmod p m) is = refl
+no_end tree (command.SetAttr p n v) is = refl
+no_end tree (command.GetAttr p n) is = refl
+no_end tree (command.DelAttr p n) is = refl
+no_end tree (command.LsAttr p) is = refl
+no_end tree (command.At n) is = refl
+no_end tree command.Df is = refl
+no_end tree command.Sync is = refl
+
+-- ---- the cut
+
+-- the step of reclaiming that is the next one where the file was shrunk last cuts its blocks past its size
+surplus_cut : (capacity id : ℕ) (before after : Content) → next_reclaim (volume_of before) (Some id) ≡ Some (CutShrunk id) → Reclaims capacity (Some id) before after → CutsSurplus capacity before after
+unfolding reclaim_cost_with
+surplus_cut capacity id before after next was =
+    let step : was.step ≡ CutShrunk id = some_same was.step (CutShrunk id) (sym was.next ∙ next) in
+    let costs : reclaim_cost capacity (volume_of before) (CutShrunk id) ≡ cost.Load was.load was.grow = ap (reclaim_cost capacity (volume_of before)) (sym step) ∙ was.affords in
+    record {
+      id = id;
+      load = was.load;
+      grow = was.grow;
+      affords = costs;
+      cuts = subst (λ (s : Reclaim). Does s (volume_of before) (volume_of after)) step was.does;
+      keeps = was.keeps;
+    }
+
+-- a command weighs what the cut costs that goes first
+weighs_cut : (capacity : ℕ) (content : Content) (asked : Command) → only_reads asked ≡ false → needs_cut (volume_of content) (data_of (tree_of content) asked) ≡ true
+    → weight capacity (volume_of content) (tree_of content) asked ≡ cut_cost (room_with capacity (free_blocks (volume_of content)) (volume_of content))
+unfolding weight_with
+weighs_cut capacity content asked unread needs =
+    λ i. if unread i then cost.Load 0 (0 ∷ 0 ∷ 0 ∷ []) else (if needs i then cut_cost (room_with capacity (free_blocks (volume_of content)) (volume_of content))
+    else if lacks_tree (volume_of content) asked then cost.Refused refusal.NoTree
+    else cost_of (needs_for (free_blocks (volume_of content)) (volume_of content) (edits_of (tree_of content) asked) (data_of (tree_of content) asked)) (room_with capacity (free_blocks (volume_of content)) (volume_of content)))
+
+module _ (capacity number : ℕ) (asked : Command) (before after : Content) (held : IsHeldBack capacity asked before) where
+  -- a command for which no cut goes first is still to come
+  later : needs_cut (volume_of before) (data_of (tree_of before) asked) ≡ false → AsksMore capacity asked before
+  later none = record { no_refusal = held.no_refusal; more = ⊎_elim (λ grows. inl grows) (λ puts. ⊎_elim (λ needs. absurd (true≢false (sym needs ∙ none))) (λ records. inr records) puts) held.why }
+
+  -- one that puts no data
+  pub dry_steps : IsSound before → data_end asked ≡ None → after ≡ before → (it : Outcome) → it ≡ outcome.Answered (reply.No refusal.NotBuilt) [] → StepsTo it capacity number asked before after
+  dry_steps sound none same it it_is = waits_steps capacity number asked before after same sound (later (ap (needs_cut (volume_of before)) (no_end (tree_of before) asked none))) it it_is
+
+  module _ (halves : (volume : VolumeState) → SoundIsBoth volume) (unread : only_reads asked ≡ false) (sound : IsSound before) (end : ℕ) (is : data_end asked ≡ Some end) where
+    pub steps_by : (came : CutAhead) → IsSound after → CutsAhead came capacity (data_path asked) end before after → StepsTo (outcome_of came) capacity number asked before after
+    steps_by ahead.NotNeeded sound_after (node, file, (first, same)) =
+        waits_steps capacity number asked before after same sound (later (needs_first (volume_of before) (tree_of before) asked end is node file ∙ first)) (outcome_of ahead.NotNeeded) refl
+    steps_by ahead.Made sound_after (node, file, (first, past)) = record {
+      no_refusal = held.no_refusal;
+      needs = needs_first (volume_of before) (tree_of before) asked end is node file ∙ first;
+      cuts = surplus_cut capacity node.id before after past.next (reclaims_as halves capacity (Some node.id) before after sound.volume (Ok tidying.Made) sound_after past.made);
+    }
+    steps_by ahead.CommitFirst sound_after (node, file, (first, same)) = same
+    steps_by (ahead.Refused why) sound_after (node, file, (first, (same, costs))) =
+        refused_steps capacity number asked before after same sound unread why (inr (held.no_refusal, weighs_cut capacity before asked unread (needs_first (volume_of before) (tree_of before) asked end is node file ∙ first) ∙ costs)) (outcome_of (ahead.Refused why)) refl
+
+    pub place_by : (came : CutAhead) → IsSound after → CutsAhead came capacity (data_path asked) end before after → KeepsJournal before after
+    place_by ahead.NotNeeded sound_after (node, file, (first, same)) = same_place before after same
+    place_by ahead.Made sound_after (node, file, (first, past)) = places_as halves capacity (Some node.id) before after sound.volume (Ok tidying.Made) sound_after past.made
+    place_by ahead.CommitFirst sound_after (node, file, (first, same)) = same_place before after same
+    place_by (ahead.Refused why) sound_after (node, file, (first, (same, costs))) = same_place before after same
+
+  -- the file that was shrunk last
+  pub cut_shrinks : (old new : Option ℕ) → new ≡ old → (came : CutAhead) (it : Outcome) → it ≡ outcome_of came → ShrinksAs it asked before old new
+  cut_shrinks old new same came it it_is = subst (λ (o : Outcome). ShrinksAs o asked before old new) (sym it_is) (by came)
+    where
+      by : (c : CutAhead) → ShrinksAs (outcome_of c) asked before old new
+      by ahead.NotNeeded = same
+      by ahead.Made = same
+      by ahead.CommitFirst = same
+      by (ahead.Refused why) = same

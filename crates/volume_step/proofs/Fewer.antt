@@ -1,0 +1,198 @@
+-- Fewer edits are met where more are.
+use Rattle.std.proofs.Common.{◌≡◌, ◌⊎◌, ◌<◌, ◌≤◌, ℕ, ◌+◌, ◌-◌, ◌*◌, ◌/◌, min, Bool, true, false, List, [], ◌∷◌, inl, inr, refl, sym, ◌∙◌, ap, subst, arith, le-ltb, mul-le-mul, mul-le-mul_left, mul-le-mul_right, div-mul-le_self}
+use Rattle.std.specs.Prelude.{◌==◌, ◌&&◌, ◌||◌, nat_lt, nat_le, not, slice_index, Option, None, if◌then◌else◌}
+use Rattle.std.proofs.lemmas.Nat.{le-div}
+use Rattle.std.proofs.lemmas.Bool.{eq-eqb, eqb-true, ltb-false, leb-true, le-leb, and_parts, true≢false}
+use Rattle.hfs_language.specs.declared.refusal.Refusal.{Refusal}
+use Rattle.hfs_language.specs.declared.refusal.Refusal.TheVariants as refusal
+use Rattle.hfs_volume.specs.Cost.{Plan, attributes_key, bitmap_load, catalog_key, cost_of, cost_or, deep_refusal, depth_of, extents_key, first_refusal, growth, growth_blocks, growth_for, is_too_deep, load_of, load_refusal, missing, need, node_sectors, plan_of, resource_refusal, rises, takes_extent, tree_at, tree_load, where_}
+use Rattle.hfs_volume.specs.Forks.{parts_for}
+use Rattle.hfs_volume.specs.Weight.{Edits}
+use Rattle.hfs_volume.specs.declared.cost.Cost.{Cost}
+use Rattle.hfs_volume.specs.declared.cost.Cost.TheVariants as cost
+use Rattle.hfs_volume.specs.declared.cost.Needs.{Needs}
+use Rattle.hfs_volume.specs.declared.cost.Room.{Room}
+use Rattle.hfs_volume.specs.declared.cost.TreeCost.{TreeCost}
+use Rattle.tree_weights.specs.Weights.{GrowsByEnough, HoldsThree, IsAfforded, LoadIsOfParts, LoadSaysEnough, load_at}
+use Rattle.volume_base.specs.Fitting.{is_met}
+use Rattle.volume_step.proofs.MetAgain.{needs_of_edits, no_blocks, none_lacks}
+
+-- ---- a load that is met
+
+pub met_load : (cost_ : Cost) (load spare : ℕ) → cost_ ≡ cost.Load load (0 ∷ 0 ∷ 0 ∷ []) → load ≤ spare → is_met cost_ spare ≡ true
+met_load cost_ load spare is fits = ap (λ (c : Cost). is_met c spare) is ∙ le-leb load spare fits
+
+record IsLoad (cost_ : Cost) (spare : ℕ) : Type 0 where
+  load : ℕ
+  grow : List ℕ
+  is : cost_ ≡ cost.Load load grow
+  catalog : slice_index grow 1 ≡ 0
+  attributes : slice_index grow 2 ≡ 0
+  fits : load ≤ spare
+
+loads : (cost_ : Cost) (spare : ℕ) → is_met cost_ spare ≡ true → IsLoad cost_ spare
+loads (cost.Refused why) spare is = absurd (true≢false (sym is))
+loads (cost.Load load grow) spare is =
+    let first = and_parts (slice_index grow 1 == 0) ((slice_index grow 2 == 0) && nat_le load spare) is in
+    let second = and_parts (slice_index grow 2 == 0) (nat_le load spare) first.1 in
+    record { load = load; grow = grow; is = refl; catalog = eqb-true (slice_index grow 1) 0 first.0; attributes = eqb-true (slice_index grow 2) 0 second.0; fits = leb-true load spare second.1 }
+
+-- ---- one tree
+
+or_parts : (a b c : Bool) → (a || b || c) ≡ false → (a ≡ false) × (b ≡ false) × (c ≡ false)
+or_parts true b c is = absurd (true≢false is)
+or_parts false true c is = absurd (true≢false is)
+or_parts false false c is = (refl, refl, is)
+
+some_more : (few many : ℕ) → few ≤ many → (few == 0) ≡ false → (many == 0) ≡ false
+some_more few many fewer is = by (many == 0) refl
+  where
+    by : (b : Bool) → (many == 0) ≡ b → b ≡ false
+    by true zero = absurd (true≢false (sym (eq-eqb few 0 (omega (arith, fewer, eqb-true many 0 zero))) ∙ is))
+    by false zero = refl
+
+div_low : (n m k : ℕ) → 0 < k → n ≤ m → n / k ≤ m / k
+div_low n m k some less = let it = div-mul-le_self n k in le-div (n / k) m k some (omega (arith, it, less))
+
+module _ (key few many : ℕ) (tree : TreeCost) (three : HoldsThree key tree) (fewer : few ≤ many) where
+  abbrev each : ℕ
+  each = (tree.node_size - 16) / (key + 8) - 2
+
+  some_each : 0 < each
+  some_each = let it = le-div 3 (tree.node_size - 16) (key + 8) (omega arith) three in omega (arith, it)
+
+  rises_low : rises key tree few ≤ rises key tree many
+  rises_low = div_low few many each some_each fewer
+
+  need_low : need key tree few ≤ need key tree many
+  need_low = mul-le-mul {n₁ = few} {m₁ = depth_of tree + 2 + rises key tree few} {n₂ = many} {m₂ = depth_of tree + 2 + rises key tree many} fewer (omega (arith, rises_low))
+
+  -- fewer lack no node where more lack none
+  pub growth_low : (block : ℕ) → GrowsByEnough → growth block key tree many ≡ 0 → growth block key tree few ≡ 0
+  growth_low block enough none = ap (λ n. if n == 0 then 0 else growth_for block tree n) lacks
+    where
+      lacks : missing key tree few ≡ 0
+      lacks = let it = enough block key many tree three in omega (arith, it, none, need_low)
+
+  pub not_deep : is_too_deep key tree many ≡ false → is_too_deep key tree few ≡ false
+  not_deep shallow = by (few == 0) refl
+    where
+      by : (b : Bool) → (few == 0) ≡ b → is_too_deep key tree few ≡ false
+      by true is = ap (λ c. not c && (nat_le 8 tree.depth || nat_lt 11 (depth_of tree + 1 + rises key tree few) || nat_lt 4294967295 (tree.records + few))) is
+      by false is =
+          let parts = or_parts (nat_le 8 tree.depth) (nat_lt 11 (depth_of tree + 1 + rises key tree many)) (nat_lt 4294967295 (tree.records + many))
+          (sym (ap (λ c. not c && (nat_le 8 tree.depth || nat_lt 11 (depth_of tree + 1 + rises key tree many) || nat_lt 4294967295 (tree.records + many))) (some_more few many fewer is)) ∙ shallow) in
+          λ i. not (is i)
+          && (parts.0 i
+          || le-ltb 11 (depth_of tree + 1 + rises key tree few) (omega (arith, ltb-false 11 (depth_of tree + 1 + rises key tree many) parts.1, rises_low)) i
+          || le-ltb 4294967295 (tree.records + few) (omega (arith, ltb-false 4294967295 (tree.records + many) parts.2, fewer)) i)
+
+  writes_low : few * (4 * (depth_of tree + 2 + rises key tree few) + 4) ≤ many * (4 * (depth_of tree + 2 + rises key tree many) + 4)
+  writes_low = mul-le-mul {n₁ = few} {m₁ = 4 * (depth_of tree + 2 + rises key tree few) + 4} {n₂ = many} {m₂ = 4 * (depth_of tree + 2 + rises key tree many) + 4} fewer (omega (arith, rises_low))
+
+  pub load_low : tree_load key tree few 0 ≤ tree_load key tree many 0
+  load_low = by (few == 0) refl
+    where
+      by : (b : Bool) → (few == 0) ≡ b → tree_load key tree few 0 ≤ tree_load key tree many 0
+      by true is = subst (λ c. (if c && true then 0 else node_sectors tree * min (few * (4 * (depth_of tree + 2 + rises key tree few) + 4) + 0) (tree.nodes + 0)) ≤ tree_load key tree many 0) (sym is) (omega arith)
+      by false is =
+          subst (λ (k : Bool × Bool). (if k.0 && true then 0 else node_sectors tree * min (few * (4 * (depth_of tree + 2 + rises key tree few) + 4) + 0) (tree.nodes + 0)) ≤ (if k.1 && true then 0 else node_sectors tree * min (many * (4 * (depth_of tree + 2 + rises key tree many) + 4) + 0) (tree.nodes + 0)))
+          {x = (false, false)} {y = (few == 0, many == 0)} (λ i. (sym is i, sym (some_more few many fewer is) i))
+          (mul-le-mul_left (node_sectors tree) (omega (arith, writes_low)))
+
+-- ---- all of them
+
+module _ (says : LoadSaysEnough) (of_parts : LoadIsOfParts) (enough : GrowsByEnough) (few many : Edits) (room : Room) (spare : ℕ) (three : HoldsThree catalog_key (tree_at room 1)) (ids : few.ids ≤ many.ids) (catalog : few.catalog ≤ many.catalog) (attributes : (few.attributes ≡ many.attributes) ⊎ (few.attributes ≡ 0)) (updates : few.updates ≤ many.updates)
+    (met : is_met (cost_of (needs_of_edits many) room) spare ≡ true)
+  where
+    is : IsLoad (cost_of (needs_of_edits many) room) spare
+    is = loads (cost_of (needs_of_edits many) room) spare met
+
+    afforded : IsAfforded (needs_of_edits many) room is.load is.grow
+    afforded = says (needs_of_edits many) room is.load is.grow is.is
+
+    catalog_many : growth room.block catalog_key (tree_at room 1) many.catalog ≡ 0
+    catalog_many = sym (ap (λ l. slice_index l 1) afforded.grows) ∙ is.catalog
+
+    attributes_many : growth room.block attributes_key (tree_at room 2) many.attributes ≡ 0
+    attributes_many = sym (ap (λ l. slice_index l 2) afforded.grows) ∙ is.attributes
+
+    catalog_none : growth room.block catalog_key (tree_at room 1) few.catalog ≡ 0
+    catalog_none = growth_low catalog_key few.catalog many.catalog (tree_at room 1) three catalog room.block enough catalog_many
+
+    attributes_none : growth room.block attributes_key (tree_at room 2) few.attributes ≡ 0
+    attributes_none = elim attributes [
+      | inl same ↦ ap (growth room.block attributes_key (tree_at room 2)) same ∙ attributes_many
+      | inr none ↦ ap (growth room.block attributes_key (tree_at room 2)) none ∙ none_lacks room.block attributes_key (tree_at room 2)
+    ]
+
+    deep_attributes : is_too_deep attributes_key (tree_at room 2) few.attributes ≡ false
+    deep_attributes = elim attributes [
+      | inl same ↦ ap (is_too_deep attributes_key (tree_at room 2)) same ∙ afforded.attributes
+      | inr none ↦ ap (is_too_deep attributes_key (tree_at room 2)) none
+    ]
+
+    attributes_low : tree_load attributes_key (tree_at room 2) few.attributes 0 ≤ load_at (needs_of_edits many) room 2
+    attributes_low = elim attributes [
+      | inl same ↦ subst (λ (k : ℕ × ℕ). tree_load attributes_key (tree_at room 2) k.0 0 ≤ tree_load attributes_key (tree_at room 2) many.attributes k.1) {x = (many.attributes, 0)} {y = (few.attributes, slice_index (plan_of (needs_of_edits many) room).grow 2)} (λ i. (sym same i, sym attributes_many i)) (omega arith)
+      | inr none ↦ subst (λ n. tree_load attributes_key (tree_at room 2) n 0 ≤ load_at (needs_of_edits many) room 2) (sym none) (omega arith)
+    ]
+
+    catalog_low : tree_load catalog_key (tree_at room 1) few.catalog 0 ≤ load_at (needs_of_edits many) room 1
+    catalog_low = subst (λ n. tree_load catalog_key (tree_at room 1) few.catalog 0 ≤ tree_load catalog_key (tree_at room 1) many.catalog n) (sym catalog_many) (load_low catalog_key few.catalog many.catalog (tree_at room 1) three catalog)
+
+    updates_low : few.updates * node_sectors (tree_at room 1) ≤ many.updates * node_sectors (tree_at room 1)
+    updates_low = mul-le-mul_right (node_sectors (tree_at room 1)) updates
+
+    -- the plan
+    planned : ℕ → ℕ → Plan
+    planned c t = record {
+      edits = (0 + takes_extent (tree_at room 1) c + takes_extent (tree_at room 2) t) ∷ few.catalog ∷ few.attributes ∷ [];
+      grow = growth room.block extents_key (tree_at room 0) (0 + takes_extent (tree_at room 1) c + takes_extent (tree_at room 2) t) ∷ c ∷ t ∷ [];
+    }
+
+    abbrev still : Plan
+    still = record { edits = 0 ∷ few.catalog ∷ few.attributes ∷ []; grow = 0 ∷ 0 ∷ 0 ∷ [] }
+
+    plan_is : plan_of (needs_of_edits few) room ≡ still
+    unfolding planned
+    plan_is = (λ i. planned (catalog_none i) (attributes_none i)) ∙ (λ i. record { edits = 0 ∷ few.catalog ∷ few.attributes ∷ []; grow = none_lacks room.block extents_key (tree_at room 0) i ∷ 0 ∷ 0 ∷ [] })
+
+    blocks_none : growth_blocks still room ≡ 0
+    blocks_none = omega (arith, no_blocks room.block (tree_at room 0), no_blocks room.block (tree_at room 1), no_blocks room.block (tree_at room 2))
+
+    bitmap_none : bitmap_load (needs_of_edits few) room (growth_blocks still room) ≡ 0
+    bitmap_none = ap (bitmap_load (needs_of_edits few) room) blocks_none ∙ none_least (parts_for room.total 4096)
+      where
+        none_least : (n : ℕ) → min n 0 ≡ 0
+        none_least n = omega arith
+
+    load_then : load_of (needs_of_edits few) room still ≤ is.load
+    unfolding load_of
+    load_then = let parts = of_parts (needs_of_edits many) room is.load is.grow afforded in omega (arith, parts, catalog_low, attributes_low, updates_low, bitmap_none)
+
+    nothing_missing : resource_refusal (needs_of_edits few) room still ≡ None
+    nothing_missing =
+        (λ i. first_refusal
+        (where_ (le-ltb 4294967295 (room.next_id + few.ids) (omega (arith, afforded.ids, ids)) i) (refusal.NoIds room.next_id)
+        ∷ deep_refusal extents_key (tree_at room 0) 0
+        ∷ where_ (not_deep catalog_key few.catalog many.catalog (tree_at room 1) three catalog afforded.catalog i) (refusal.TooDeep (tree_at room 1).depth)
+        ∷ where_ (deep_attributes i) (refusal.TooDeep (tree_at room 2).depth)
+        ∷ where_ (not (0 == 0) && ((tree_at room 0).extents == 8)) (refusal.OverflowFull 8)
+        ∷ where_ (le-ltb room.free (0 + growth_blocks still room) (omega (arith, blocks_none)) i) (refusal.NoSpace room.free (0 + growth_blocks still room))
+        ∷ where_ (not (growth_blocks still room == 0) && nat_lt room.longest (0 + growth_blocks still room)) (refusal.NoRun room.longest (0 + growth_blocks still room))
+        ∷ load_refusal (load_of (needs_of_edits few) room still) room.capacity
+        ∷ []))
+        ∙ (λ i. first_refusal
+        (where_ (not (blocks_none i == 0) && nat_lt room.longest (0 + blocks_none i)) (refusal.NoRun room.longest (0 + blocks_none i))
+        ∷ where_ (le-ltb room.capacity (load_of (needs_of_edits few) room still) (omega (arith, load_then, afforded.within)) i) (refusal.TooBig (load_of (needs_of_edits few) room still) room.capacity)
+        ∷ []))
+
+    cost_is : cost_of (needs_of_edits few) room ≡ cost.Load (load_of (needs_of_edits few) room still) (0 ∷ 0 ∷ 0 ∷ [])
+    unfolding cost_of
+    cost_is =
+        ap (λ (p : Plan). cost_or (resource_refusal (needs_of_edits few) room p) (load_of (needs_of_edits few) room p) p.grow) plan_is
+        ∙ ap (λ (r : Option Refusal). cost_or r (load_of (needs_of_edits few) room still) (0 ∷ 0 ∷ 0 ∷ [])) nothing_missing
+
+    pub fewer_met : is_met (cost_of (needs_of_edits few) room) spare ≡ true
+    fewer_met = met_load (cost_of (needs_of_edits few) room) (load_of (needs_of_edits few) room still) spare cost_is (omega (arith, load_then, is.fits))

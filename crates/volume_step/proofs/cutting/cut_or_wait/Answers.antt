@@ -1,0 +1,28 @@
+use Rattle.std.proofs.Common.{refl, sym, ◌∙◌}
+use Rattle.volume_base.specs.Room.{capacity_of}
+use Rattle.volume_base.proofs.Commanding.{touches_none}
+use Rattle.volume_space.proofs.Sounding.{sound_here}
+use Rattle.volume_step.proofs.CutSteps.{dry_steps}
+use Rattle.volume_step.proofs.Done.{same_place}
+use Rattle.volume_step.proofs.Widening.{refused_shrinks}
+use Rattle.volume_step.proofs.cutting.cut_or_wait.Goals as goal
+
+pub cut_first-requires-clause-end : goal.cut_first-requires-clause-end
+cut_first-requires-clause-end g c = sym c.data_end.ensures ∙ c.in-Some.is
+
+pub returns-in-None-clause-answered : goal.returns-in-None-clause-answered
+returns-in-None-clause-answered g c tells =
+    let a = (g.P.SectorView.space c.args.space.now) in
+    dry_steps (capacity_of c.args.volume.now) c.args.number c.args.command.now a.content a.content (c.requires.held tells) (sound_here c.args.volume.now a (c.requires.stands.stands tells) (c.requires.settled tells)) (sym c.data_end.ensures ∙ c.in-None.is) refl c.refusal.result c.refusal.ensures
+
+pub returns-in-None-clause-place : goal.returns-in-None-clause-place
+returns-in-None-clause-place g c tells = same_place (g.P.SectorView.space c.args.space.now).content (g.P.SectorView.space c.args.space.now).content refl
+
+pub returns-in-None-clause-shrunk : goal.returns-in-None-clause-shrunk
+returns-in-None-clause-shrunk g c tells = refused_shrinks _ _ _ _ _ c.refusal.result c.refusal.ensures refl
+
+pub returns-in-None-clause-touches : goal.returns-in-None-clause-touches
+returns-in-None-clause-touches g c committed = touches_none committed _ (g.P.SectorView.space c.args.space.now)
+
+pub returns-in-None-clause-service : goal.returns-in-None-clause-service
+returns-in-None-clause-service g c = c.requires.stands.service
