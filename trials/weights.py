@@ -128,7 +128,7 @@ def weigh(gauge, plain, verb, words, fork):
     ids, catalog, attributes, updates = edits_of(plain, verb, words)
     runs = fork.fewest(data.new) if data else 0
     edits = [records(fork.extents) + records(fork.extents + 1 + runs) if data else 0, catalog, attributes]
-    waits = edits[0] > 0
+    waits = False
     if plain.next + ids > 4294967295:
         return Weight(b"no NoIds %d" % plain.next, waits)
     grown = [None] + [growth(trees[it], KEYS[it], edits[it], gauge.block) for it in (1, 2)]

@@ -17,7 +17,7 @@ use Rattle.hfs_volume.specs.declared.cost.Cost.TheVariants as cost
 use Rattle.hfs_volume.specs.Content.{VolumeState, volume_of}
 use Rattle.hfs_volume.specs.Reclaim.{GrowsTrees}
 use Rattle.hfs_volume.specs.Data.{PutsInFork}
-use Rattle.volume_runs.specs.Run.{AsksMore, DoesLine, Entry, IsAnswered, IsDone, IsLater, IsServed, IsToCome, LacksMemory, LacksResource, PutsMore, is_ok, reply_to}
+use Rattle.volume_runs.specs.Run.{AsksMore, DoesLine, Entry, IsAnswered, IsDone, IsLater, IsServed, IsToCome, LacksMemory, LacksResource, is_ok, reply_to}
 use Rattle.hfs_volume.specs.Sound.{IsSound}
 use Rattle.volume_runs.specs.Told.{changes_by, changes_of}
 use Rattle.hfs_volume.specs.TreeOf.{tree_of}
@@ -112,9 +112,7 @@ module _ (capacity : ℕ) (line : List ℕ) (said : Reply) (now next old new : C
   more_alike : (asked : Command) → AsksMore capacity asked old → AsksMore capacity asked now
   more_alike asked was = record {
     no_refusal = refuses_none (Ok asked) was.no_refusal;
-    more = ⊎_elim
-        (λ grows. inl (record { load = grows.load; grow = grows.grow; weighs = weighs asked ∙ grows.weighs; later = subst (λ (v : VolumeState). IsLater grows.grow v) (sym before.lists) grows.later }))
-        (λ puts. inr (subst (λ (k : VolumeState × PlainTree). PutsMore k.0 k.1 asked) {x = (volume_of old, tree_of old)} {y = (volume_of now, tree_of now)} (λ i. (sym before.lists i, sym before.tree i)) puts)) was.more;
+    grows = record { load = was.grows.load; grow = was.grows.grow; weighs = weighs asked ∙ was.grows.weighs; later = subst (λ (v : VolumeState). IsLater was.grows.grow v) (sym before.lists) was.grows.later };
   }
 
   to_come_alike : IsToCome capacity own → IsToCome capacity other

@@ -1,6 +1,6 @@
 -- What `write` and `trunc` weigh that put data.
-use Rattle.std.proofs.Common.{◌≡◌, ◌<◌, ◌≤◌, ℕ, ◌+◌, ◌^◌, Bool, true, false, List, [], ◌∷◌, length, inl, inr, ⊎_elim, refl, sym, ◌∙◌, ap, subst, arith}
-use Rattle.std.specs.Prelude.{◌⊎◌, ◌==◌, ◌||◌, nat_lt, max, slice_index, Option, Some, None, Result, Ok, Err, Contains, IfNone, IfOk, IfSome, is_some, if◌then◌else◌}
+use Rattle.std.proofs.Common.{◌≡◌, ◌<◌, ◌≤◌, ℕ, ◌+◌, ◌^◌, Bool, true, false, List, [], ◌∷◌, length, refl, sym, ◌∙◌, ap, subst, arith}
+use Rattle.std.specs.Prelude.{◌==◌, ◌||◌, nat_lt, max, Option, Some, None, Result, Ok, Err, Contains, IfNone, IfOk, IfSome, is_some, if◌then◌else◌}
 use Rattle.std.proofs.lemmas.Bool.{cases_lt, lt-ltb, le-ltb, ltb-false, ltb-true, ne_eqb}
 use Rattle.hfs_language.specs.declared.command.Command.TheVariants as command
 use Rattle.hfs_language.specs.declared.refusal.Refusal.TheVariants as refusal
@@ -14,7 +14,7 @@ use Rattle.hfs_volume.specs.Content.{VolumeState}
 use Rattle.hfs_volume.specs.Cost.{cost_of}
 use Rattle.hfs_volume.specs.Weight.{Data, cut_cost, data_of, edits, free_blocks, grown_data, needs_cut, needs_for, room_with, weight, weight_with, written_data}
 use Rattle.hfs_volume.proofs.Reaching.{then_ok, unless_ok}
-use Rattle.volume_base.specs.DataWeighing.{IsMoreData, PutsLater, data_as, data_weighed, needs_data}
+use Rattle.volume_base.specs.DataWeighing.{data_as, data_weighed, needs_data}
 use Rattle.volume_base.specs.Refusing.{against_growth, against_trunc, against_write}
 use Rattle.volume_base.specs.Weighing.{joined, refused_or, weighed}
 use Rattle.volume_base.specs.declared.data_cost.Put.{Put}
@@ -49,11 +49,11 @@ module _ (capacity : ℕ) (takable : List Bool) (volume : VolumeState) (tree : P
       ∙ sym (ap (λ (s : Step). refused_or s.0 (joined (weight capacity volume tree (command.Write path from value)) (weight_with capacity takable volume tree (command.Write path from value)))) line)
 
 -- what it waits for
-pub trunc_more : (volume : VolumeState) (tree : PlainTree) (path : List (List ℕ)) (size : ℕ) (put : Data) → data_of tree (command.Trunc path size) ≡ Some put → IsMoreData volume put → PutsLater volume tree (command.Trunc path size)
-trunc_more volume tree path size put is more = subst (λ (d : Option Data). (needs_cut volume d ≡ true) ⊎ (0 < slice_index (needs_for (free_blocks volume) volume (edits 0 0 0 1) d).edits 0)) (sym is) more
+pub trunc_more : (volume : VolumeState) (tree : PlainTree) (path : List (List ℕ)) (size : ℕ) (put : Data) → data_of tree (command.Trunc path size) ≡ Some put → needs_cut volume (Some put) ≡ true → needs_cut volume (data_of tree (command.Trunc path size)) ≡ true
+trunc_more volume tree path size put is more = ap (needs_cut volume) is ∙ more
 
-pub write_more : (volume : VolumeState) (tree : PlainTree) (path : List (List ℕ)) (from : ℕ) (value : List ℕ) (put : Data) → data_of tree (command.Write path from value) ≡ Some put → IsMoreData volume put → PutsLater volume tree (command.Write path from value)
-write_more volume tree path from value put is more = subst (λ (d : Option Data). (needs_cut volume d ≡ true) ⊎ (0 < slice_index (needs_for (free_blocks volume) volume (edits 0 0 0 1) d).edits 0)) (sym is) more
+pub write_more : (volume : VolumeState) (tree : PlainTree) (path : List (List ℕ)) (from : ℕ) (value : List ℕ) (put : Data) → data_of tree (command.Write path from value) ≡ Some put → needs_cut volume (Some put) ≡ true → needs_cut volume (data_of tree (command.Write path from value)) ≡ true
+write_more volume tree path from value put is more = ap (needs_cut volume) is ∙ more
 
 -- ---- the file
 

@@ -10,6 +10,8 @@ pub mod CatalogEdited
 pub mod Commanding
 pub mod CostSame
 pub mod Counted
+pub mod CutForks
+pub mod CutLists
 pub mod DataCommands
 pub mod DataWeights
 pub mod EditsOn
@@ -35,6 +37,7 @@ pub mod Lost
 pub mod MakeRoom
 pub mod MarkRoom
 pub mod Marked
+pub mod NextDrop
 pub mod NodeIs
 pub mod NodesRead
 pub mod Noticed

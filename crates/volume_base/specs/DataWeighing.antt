@@ -1,12 +1,9 @@
 -- What data weighs that a command puts into a file.
-use Rattle.std.specs.Prelude.{◌≡◌, ◌⊎◌, ◌<◌, ℕ, max, slice_index, Bool, true, List, Some}
-use Rattle.hfs_language.specs.declared.command.Command.{Command}
-use Rattle.hfs_model.specs.declared.plain.PlainTree.{PlainTree}
+use Rattle.std.specs.Prelude.{ℕ, max, Bool, List, Some}
 use Rattle.hfs_volume.specs.Content.{VolumeState}
 use Rattle.hfs_volume.specs.Cost.{cost_of}
-use Rattle.hfs_volume.specs.Weight.{Data, data_of, edits, free_blocks, needs_cut, needs_for, room_with}
+use Rattle.hfs_volume.specs.Weight.{Data, edits, free_blocks, needs_for, room_with}
 use Rattle.hfs_volume.specs.declared.cost.Needs.{Needs}
-use Rattle.volume_runs.specs.Run.{overflow_edits}
 use Rattle.volume_base.specs.Weighing.{joined}
 use Rattle.volume_base.specs.declared.data_cost.Put.{Put}
 use Rattle.volume_base.specs.declared.weighing.Weight.{Weight}
@@ -23,11 +20,3 @@ needs_data free volume put = needs_for free volume (edits 0 0 0 1) (Some put)
 abbrev pub data_weighed : ℕ → List Bool → VolumeState → Data → Weight
 data_weighed capacity takable volume put =
     joined (cost_of (needs_data (free_blocks volume) volume put) (room_with capacity (free_blocks volume) volume)) (cost_of (needs_data takable volume put) (room_with capacity takable volume))
-
--- It is put where blocks past a file's size go first, or its cost counts overflow records.
-abbrev pub IsMoreData : VolumeState → Data → Type 0
-IsMoreData volume put = (needs_cut volume (Some put) ≡ true) ⊎ (0 < slice_index (needs_data (free_blocks volume) volume put).edits 0)
-
--- Data is put where blocks past a file's size go first, or its cost counts overflow records.
-abbrev pub PutsLater : VolumeState → PlainTree → Command → Type 0
-PutsLater volume tree asked = (needs_cut volume (data_of tree asked) ≡ true) ⊎ (0 < overflow_edits volume tree asked)

@@ -1,5 +1,6 @@
 pub mod Attributing
 pub mod Changing
+pub mod Cutting
 pub mod DataWeighing
 pub mod Entering
 pub mod Fitting
@@ -23,6 +24,7 @@ pub mod Resizing
 pub mod Room
 pub mod Service
 pub mod Sharing
+pub mod Spreading
 pub mod Standing
 pub mod Stating
 pub mod Touching

@@ -8,6 +8,7 @@ mod attributing;
 mod baring;
 mod beginning;
 mod changing;
+mod cutting;
 mod data_cost;
 mod editing;
 mod entries;
@@ -46,6 +47,7 @@ mod watching;
 mod weighing;
 
 pub use beginning::{Front, Trees};
+pub use cutting::Cut;
 pub use data_cost::Put;
 pub use entries::Entry;
 pub use extents::all_inside;

@@ -17,7 +17,7 @@ use Rattle.hfs_volume.specs.Content.{VolumeState, volume_of}
 use Rattle.hfs_volume.specs.Forks.{attributes_id, catalog_id}
 use Rattle.hfs_volume.specs.Sound.{IsSound}
 use Rattle.hfs_volume.specs.TreeOf.{tree_of}
-use Rattle.hfs_volume.specs.Weight.{data_of, weight, gauge, edits_of, extents_in_use, free_blocks, needs_cut, needs_for}
+use Rattle.hfs_volume.specs.Weight.{data_of, weight, gauge, edits_of, extents_in_use, needs_cut}
 use Rattle.hfs_volume.specs.Data.{PutsInFork}
 use Rattle.hfs_volume.specs.Reclaim.{GrowsTrees}
 use Rattle.volume_runs.specs.Rest.{Rests}
@@ -99,19 +99,10 @@ pub record GrowsMore (capacity : ℕ) (asked : Command) (content : Content) : Ty
   pub weighs : weight capacity (volume_of content) (tree_of content) asked ≡ cost.Load load grow
   pub later : IsLater grow (volume_of content)
 
--- how many edits of the extents file the cost of a command counts, where no block is held: overflow records of the fork that data is put into
-abbrev pub overflow_edits : VolumeState → PlainTree → Command → ℕ
-overflow_edits volume tree asked = slice_index (needs_for (free_blocks volume) volume (edits_of tree asked) (data_of tree asked)).edits 0
-
--- The cost of the data that a command puts counts overflow records of its file's fork.
-abbrev pub PutsMore : VolumeState → PlainTree → Command → Type 0
-PutsMore volume tree asked = 0 < overflow_edits volume tree asked
-
--- The step doesn't refuse the command, but it asks for more than is built: trees grow for it otherwise than is built, or overflow records are counted for the
--- data that it puts.
+-- The step doesn't refuse the command, but it asks for more than is built: trees have to grow for it as isn't built yet.
 pub record AsksMore (capacity : ℕ) (asked : Command) (content : Content) : Type 0 where
   pub no_refusal : refuses (tree_of content) (Ok asked) ≡ false
-  pub more : GrowsMore capacity asked content ⊎ PutsMore (volume_of content) (tree_of content) asked
+  pub grows : GrowsMore capacity asked content
 
 -- The step doesn't refuse the command, but it asks for more than is built, and nothing was changed.
 pub record IsToCome (capacity : ℕ) (entry : Entry) : Type 0 where

@@ -12,8 +12,9 @@ use Rattle.alloc_bitmap.proofs.ApartLaws.{length_blocks}
 use Rattle.file_io.specs.Places.{AreUsed}
 use Rattle.hfs_volume.proofs.BlockWants.{range_bounds}
 use Rattle.hfs_volume.proofs.Members.{all_of, each_of}
-use Rattle.volume_space.specs.Cutting.{IsLastCut, IsSplit}
-use Rattle.volume_space.specs.declared.cutting.Cut.{Cut}
+use Rattle.volume_base.specs.Cutting.{IsLastCut}
+use Rattle.volume_space.specs.Cutting.{IsSplit}
+use Rattle.volume_base.specs.declared.cutting.Cut.{Cut}
 
 used_more : (map : BlockMap) (e : Extent) (rest : List Extent) → Have map.used e true → AreUsed map (blocks_of rest) → AreUsed map (blocks_of (e ∷ rest))
 used_more map e rest have used = all_of (λ (block : ℕ). get_or map.used block false ≡ true) (blocks_of (e ∷ rest)) (λ block has. ⊎_elim

@@ -38,14 +38,15 @@ use Rattle.hfs_volume.proofs.Rereading.{same_tree}
 use Rattle.hfs_volume.proofs.Sectors.{in_block, in_front}
 use Rattle.hfs_volume.proofs.Untouched.{HasWholeBlocks, whole_blocks}
 use Rattle.volume_base.specs.Changing.{ReplacesRecord}
-use Rattle.volume_space.specs.Cutting.{CutsFile, IsCutOf, KeepsTrees, MayGive, PutsGiven, cut_fork_of, fork_at, given_back, with_freed}
+use Rattle.volume_space.specs.Cutting.{CutsFile, KeepsTrees, MayGive, PutsGiven, given_back}
+use Rattle.volume_base.specs.Cutting.{IsCutOf, cut_fork_of, fork_at, with_freed}
 use Rattle.volume_base.specs.Lists.{bits_on, facts_on, lists_of}
 use Rattle.volume_base.specs.Standing.{IsSettled, IsStanding, map_sectors}
 use Rattle.volume_space.specs.Spreading.{StoresExtents}
-use Rattle.volume_space.specs.declared.cutting.Cut.{Cut}
+use Rattle.volume_base.specs.declared.cutting.Cut.{Cut}
 use Rattle.volume_base.specs.declared.entries.Entry.{Entry}
 use Rattle.volume_base.specs.declared.volume.Volume.{Volume}
-use Rattle.volume_space.proofs.CutLists.{high, stood}
+use Rattle.volume_base.proofs.CutLists.{high, stood}
 use Rattle.volume_space.proofs.SpreadForks.{extents_alike}
 use Rattle.volume_space.proofs.CutSettled.{does, elsewhere, extents_nodes, found_value, header_same, headed, lists_cut, nodes, settled_now, stored, updates, volume_now}
 use Rattle.volume_base.proofs.FilesKept.{allocation_sectors, attributes_apart, attributes_off_extents, attributes_off_map, attributes_sectors, catalog_sectors, extents_sectors}

@@ -40,15 +40,17 @@ use Rattle.hfs_volume.proofs.Sectors.{in_block, in_front}
 use Rattle.hfs_volume.proofs.Swapping.{private_same}
 use Rattle.hfs_volume.proofs.Untouched.{HasWholeBlocks, whole_blocks}
 use Rattle.volume_base.specs.Changing.{ReplacesRecord}
-use Rattle.volume_space.specs.Cutting.{IsCutOf, MayGive, PutsGiven, cut_fork_of, fork_at, given_back, with_freed}
+use Rattle.volume_base.specs.Cutting.{IsCutOf, cut_fork_of, fork_at, with_freed}
+use Rattle.volume_space.specs.Cutting.{MayGive, PutsGiven, given_back}
 use Rattle.volume_base.specs.Lists.{bits_on, facts_on, lists_of}
 use Rattle.volume_space.specs.Mapping.{HoldsMap}
 use Rattle.volume_base.specs.Standing.{IsSettled, IsStanding, attribute_sectors, file_sectors, map_sectors, with_attributes_tree}
-use Rattle.volume_space.specs.Spreading.{StoresExtents, StoresFork}
-use Rattle.volume_space.specs.declared.cutting.Cut.{Cut}
+use Rattle.volume_space.specs.Spreading.{StoresExtents}
+use Rattle.volume_base.specs.Spreading.{StoresFork}
+use Rattle.volume_base.specs.declared.cutting.Cut.{Cut}
 use Rattle.volume_base.specs.declared.entries.Entry.{Entry}
 use Rattle.volume_base.specs.declared.volume.Volume.{Volume}
-use Rattle.volume_space.proofs.CutLists.{after_is, cut_lists, cuts}
+use Rattle.volume_base.proofs.CutLists.{after_is, cut_lists, cuts}
 use Rattle.volume_space.proofs.GivenBack.{flips_given}
 use Rattle.volume_space.proofs.GrownBits.{bit_elsewhere, bits_read}
 use Rattle.volume_base.proofs.Placing.{stands_once}

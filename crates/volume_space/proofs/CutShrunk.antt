@@ -32,15 +32,16 @@ use Rattle.hfs_volume.proofs.Rereading.{same_bytes}
 use Rattle.hfs_volume.proofs.Sectors.{below_parts}
 use Rattle.hfs_volume.proofs.Untouched.{HasWholeBlocks, whole_blocks}
 use Rattle.volume_base.specs.Changing.{ReplacesRecord}
-use Rattle.volume_space.specs.Cutting.{CutsFile, IsCutOf, MayGive, PutsGiven, cut_fork_of, fork_at, given_back, with_freed}
+use Rattle.volume_space.specs.Cutting.{CutsFile, MayGive, PutsGiven, given_back}
+use Rattle.volume_base.specs.Cutting.{IsCutOf, cut_fork_of, fork_at, with_freed}
 use Rattle.volume_base.specs.Lists.{bits_on, facts_on, lists_of}
 use Rattle.volume_base.specs.Standing.{IsSettled, IsStanding}
 use Rattle.volume_space.specs.Spreading.{StoresExtents}
-use Rattle.volume_space.specs.declared.cutting.Cut.{Cut}
+use Rattle.volume_base.specs.declared.cutting.Cut.{Cut}
 use Rattle.volume_base.specs.declared.entries.Entry.{Entry}
 use Rattle.volume_base.specs.declared.volume.Volume.{Volume}
 use Rattle.volume_space.proofs.CutDone.{entry_there, high_id, keeps, low_tree, off, others, tree_same}
-use Rattle.volume_space.proofs.CutLists.{left_is, stays_are}
+use Rattle.volume_base.proofs.CutLists.{left_is, stays_are}
 use Rattle.volume_space.proofs.CutSettled.{does, does_after, extents_nodes, found_value, header_same, headed, lists_cut, nodes, settled_now, stored, updates, volume_now}
 use Rattle.volume_base.proofs.FilesKept.{not_2, not_in_catalog, not_in_extents, not_in_map}
 use Rattle.volume_base.proofs.TreesSettled.{header_settled}

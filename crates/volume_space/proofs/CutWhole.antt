@@ -24,18 +24,19 @@ use Rattle.hfs_volume.specs.Writing.{OrphanCut, OthersKeepBytes, ShrunkCut}
 use Rattle.hfs_volume.proofs.Flat.{found_some}
 use Rattle.hfs_volume.proofs.Hiding.{same_entry}
 use Rattle.volume_base.specs.Changing.{ReplacesRecord}
-use Rattle.volume_space.specs.Cutting.{CutsFile, IsCutOf, IsNextCut, MayGive, PutsGiven, cut_fork_of, fork_at, given_back}
+use Rattle.volume_space.specs.Cutting.{CutsFile, IsNextCut, MayGive, PutsGiven, given_back}
+use Rattle.volume_base.specs.Cutting.{IsCutOf, cut_fork_of, fork_at}
 use Rattle.volume_base.specs.Lists.{lists_of}
 use Rattle.volume_base.specs.Standing.{IsSettled, IsStanding}
 use Rattle.volume_space.specs.Spreading.{StoresExtents}
-use Rattle.volume_space.specs.declared.cutting.Cut.{Cut}
+use Rattle.volume_base.specs.declared.cutting.Cut.{Cut}
 use Rattle.volume_base.specs.declared.entries.Entry.{Entry}
 use Rattle.volume_base.specs.declared.volume.Volume.{Volume}
 use Rattle.volume_space.proofs.CutDone.{entry_there, orphan_done, the_file}
 use Rattle.volume_space.proofs.CutSettled.{found_value, updates}
 use Rattle.volume_space.proofs.CutShrunk.{shrunk_done}
 use Rattle.volume_space.proofs.NextCut.{wanted_is}
-use Rattle.volume_space.proofs.NextDrop.{least_is}
+use Rattle.volume_base.proofs.NextDrop.{least_is}
 
 module _ (v x w : Volume) (a c e d : Space) (was : IsStanding v a) (settled : IsSettled v a.content) (entry : Entry) (file : FileRecord) (list : List Extent) (kind keep : ℕ) (cut : Cut) (may : MayGive cut.goes v) (unchanged : v.map.changed ≡ none (sectors_for (length v.map.used)))
     (is_kind : (kind ≡ data_kind) ⊎ (kind ≡ resource_kind)) (is_list : list ≡ extents_of (overflow_in_volume (volume_of a.content)) file.fields.id kind (fork_at kind file)) (is_cut : IsCutOf list (fork_at kind file) keep cut) (no_link : is_link_type file.fields ≡ false)

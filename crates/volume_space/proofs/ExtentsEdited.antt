@@ -30,7 +30,8 @@ use Rattle.hfs_volume.specs.Records.{Overflow, overflow_of}
 use Rattle.overflow.specs.Records.{records_for, under}
 use Rattle.volume_base.specs.Lists.{lists_of, facts_on, bits_on}
 use Rattle.volume_base.specs.Service.{IsInService}
-use Rattle.volume_space.specs.Spreading.{StoresExtents, StoresFork}
+use Rattle.volume_space.specs.Spreading.{StoresExtents}
+use Rattle.volume_base.specs.Spreading.{StoresFork}
 use Rattle.volume_base.specs.Standing.{IsStanding, StandsOver, attribute_sectors, map_sectors, file_sectors, own_sectors}
 use Rattle.volume_base.specs.Touching.{Touches}
 use Rattle.volume_base.specs.declared.volume.Tree.{Tree}

@@ -18,7 +18,7 @@ use Rattle.overflow.specs.declared.changes.Change.TheVariants.{Remove, Insert, R
 use Rattle.overflow.specs.declared.record.OverflowRecord.{OverflowRecord}
 use Rattle.overflow.proofs.Cutting.{AreUsed, eight_full, eight_used}
 use Rattle.overflow.proofs.Whole.{HaveEight, used_by}
-use Rattle.volume_space.proofs.CutForks.{full_all as full_used}
+use Rattle.volume_base.proofs.CutForks.{full_all as full_used}
 
 -- changes that put no record where none was, so many at most
 abbrev pub AreFew : ℕ → List Change → Type 0

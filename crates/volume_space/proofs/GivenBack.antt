@@ -23,7 +23,8 @@ use Rattle.hfs_volume.specs.Content.{VolumeState, is_set, volume_of}
 use Rattle.hfs_volume.proofs.BlockWants.{in_range, range_bounds}
 use Rattle.hfs_volume.proofs.Members.{all_of, first_or_later}
 use Rattle.volume_base.specs.Changing.{PutsHeader}
-use Rattle.volume_space.specs.Cutting.{KeepsUsed, MayGive, PutsGiven, given_back, given_load, with_freed, without_run}
+use Rattle.volume_space.specs.Cutting.{KeepsUsed, MayGive, PutsGiven, given_back, given_load, without_run}
+use Rattle.volume_base.specs.Cutting.{with_freed}
 use Rattle.volume_base.specs.Lists.{bits_on}
 use Rattle.volume_space.specs.Mapping.{HoldsUnchanged, PutsMap, changed_sectors}
 use Rattle.volume_space.specs.Standing.{HoldsOn}

@@ -9,12 +9,11 @@ pub mod AttributesGrownWhole
 pub mod BehindTemp
 pub mod CutCalls
 pub mod CutDone
-pub mod CutForks
 pub mod CutKept
-pub mod CutLists
 pub mod CutSettled
 pub mod CutShrunk
 pub mod CutWhole
+pub mod ExtentRoom
 pub mod ExtentsEdited
 pub mod FewChanges
 pub mod GivenBack
@@ -38,7 +37,6 @@ pub mod HeldUp
 pub mod KeptUsed
 pub mod Mapped
 pub mod NextCut
-pub mod NextDrop
 pub mod Numerals
 pub mod OrphanFacts
 pub mod PastSizes
@@ -71,6 +69,7 @@ pub mod SpilledBits
 pub mod SpilledFile
 pub mod SpreadFile
 pub mod SpreadForks
+pub mod Spreads
 pub mod Stripped
 pub mod TakenOut
 pub mod ToDrop

@@ -36,7 +36,7 @@ use Rattle.volume_base.specs.declared.entries.Entry.{Entry}
 use Rattle.volume_space.specs.declared.trimming.Surplus.{Surplus}
 use Rattle.volume_base.specs.declared.volume.Volume.{Volume}
 use Rattle.volume_base.proofs.Entered.{entry_is, keys_are, short_names}
-use Rattle.volume_space.proofs.NextDrop.{least_is, many_are}
+use Rattle.volume_base.proofs.NextDrop.{least_is, many_are}
 use Rattle.volume_base.proofs.Rising.{settled_sorted}
 
 -- ---- an entry that was found by its CNID

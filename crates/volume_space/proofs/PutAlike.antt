@@ -53,6 +53,9 @@ module _ (v u : Volume) (like : IsAlike v u) where
     pub load_alike : put_load u size from long ≡ put_load v size from long
     load_alike = λ i. 1 + node_alike i + min (sectors_for (length (like.used i))) (put_alike i / 4096 + 2 * fewest_of (put_alike i) (free_runs (free_alike i)) + freed_alike i)
 
+    pub fewest_still : fewest_of (blocks_put u size from long) (free_runs (free_of u.map)) ≡ fewest_of (blocks_put v size from long) (free_runs (free_of v.map))
+    fewest_still = λ i. fewest_of (put_alike i) (free_runs (free_alike i))
+
     pub can_alike : (spare extents total : ℕ) → can_put u spare extents total size from long ≡ can_put v spare extents total size from long
     can_alike spare extents total =
         λ i. not (has_more size (from + long) (blocks_for (like.header i).block_size size) total)
@@ -83,7 +86,7 @@ module _ (v u : Volume) (like : IsAlike v u) where
   puts_alike file from value w before was after same puts = from_header (subst (λ (k : VolumeHeader × Content). PutsValue file from value (record u { header = k.0 }) w k.1 after) {x = (u.header, before)} {y = (v.header, was)} (λ i. (like.header i, same i)) puts)
     where
       from_header : PutsValue file from value (record u { header = v.header }) w was after → PutsValue file from value v w was after
-      from_header p = record { lists = p.lists; fresh = p.fresh; many = p.many; rewrites = p.rewrites; same_file = p.same_file; makes = p.makes; settles = p.settles; tree = p.tree; now = p.now; overflow = p.overflow }
+      from_header p = record { lists = p.lists; fresh = p.fresh; many = p.many; rewrites = p.rewrites; same_file = p.same_file; makes = p.makes; settles = p.settles; tree = p.tree; now = p.now }
 
   pub at_alike : (id from : ℕ) (value : List ℕ) (w : Volume) (before was after : Content) → before ≡ was → PutsAt id from value u w before after → PutsAt id from value v w was after
   at_alike id from value w before was after same puts = from_content (subst (λ (c : Content). PutsAt id from value u w c after) same puts)

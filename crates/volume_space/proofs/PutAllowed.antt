@@ -56,6 +56,17 @@ can_parts v spare extents total size from long is =
         (λ (less : extents + 1 + runs ≤ 8). omega (arith, less))
         (cases_lt 8 (extents + 1 + runs))
 
+-- and no block of it goes first
+pub can_no_more : (v : Volume) (spare extents total size from long : ℕ) → can_put v spare extents total size from long ≡ true → has_more size (from + long) (blocks_for v.header.block_size size) total ≡ false
+can_no_more v spare extents total size from long is =
+    let fewest = fewest_of (blocks_put v size from long) (free_runs (free_of v.map)) in
+    none (has_more size (from + long) (blocks_for v.header.block_size size) total)
+    (and_parts (not (has_more size (from + long) (blocks_for v.header.block_size size) total)) (nat_le (blocks_put v size from long) (count_set (free_of v.map)) && (nat_le (put_load v size from long) spare && not (may_overflow extents fewest))) is).0
+  where
+    none : (b : Bool) → not b ≡ true → b ≡ false
+    none true is = sym is
+    none false is = refl
+
 -- ---- a zero at the last place
 
 zeros_more : (k : ℕ) → replicate {A = ℕ} k 0 ++ (0 ∷ []) ≡ replicate {A = ℕ} (k + 1) 0

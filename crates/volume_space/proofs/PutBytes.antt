@@ -22,7 +22,7 @@ use Rattle.hfs_volume.specs.Blocks.{forks_of, used_in}
 use Rattle.hfs_volume.specs.Content.{VolumeState, block_bytes, block_sector, is_set, overflow_in_volume, records_of, volume_of}
 use Rattle.hfs_volume.specs.Data.{AreFresh}
 use Rattle.hfs_volume.specs.Entries.{IsUserId}
-use Rattle.hfs_volume.specs.Forks.{Owned, allocation_id, blocks_owned, catalog_id, data_kind, extents_of, parts_for, per_block_of, reserved_blocks, special_forks}
+use Rattle.hfs_volume.specs.Forks.{Owned, allocation_id, blocks_owned, catalog_id, extents_id, data_kind, extents_of, parts_for, per_block_of, reserved_blocks, special_forks}
 use Rattle.hfs_volume.specs.Records.{Overflow, Placed, entries_of, id_in, id_of, overflow_of}
 use Rattle.hfs_volume.specs.Sound.{IsSound, IsSoundVolume}
 use Rattle.hfs_volume.specs.TreeOf.{file_bytes}
@@ -33,7 +33,7 @@ use Rattle.hfs_volume.proofs.Flat.{flat_agree}
 use Rattle.hfs_volume.proofs.Members.{each_of, first_or_later}
 use Rattle.hfs_volume.proofs.Sectors.{in_block, in_front}
 use Rattle.hfs_volume.proofs.Untouched.{HasWholeBlocks, data_fork_of, file_fork_stands, special_stands, whole_blocks}
-use Rattle.volume_base.proofs.FilesKept.{ReadsAs, allocation_sectors, catalog_sectors}
+use Rattle.volume_base.proofs.FilesKept.{ReadsAs, allocation_sectors, catalog_sectors, extents_sectors}
 use Rattle.volume_space.proofs.PutFork.{file_high}
 
 -- ---- lists of bytes
@@ -78,9 +78,9 @@ each_low (x ∷ xs) low owned has = elim (first_or_later x owned xs has) [
 
 -- ---- what was written
 
--- a sector of the header, the catalog or the bitmap
+-- a sector of the header, the extents overflow file, the catalog or the bitmap
 abbrev pub IsSpecial : VolumeState → ℕ → Type 0
-IsSpecial lists s = (s ≡ 2) ⊎ (Contains (catalog_sectors lists) s ⊎ Contains (allocation_sectors lists) s)
+IsSpecial lists s = (s ≡ 2) ⊎ (Contains (catalog_sectors lists) s ⊎ (Contains (allocation_sectors lists) s ⊎ Contains (extents_sectors lists) s))
 
 module _ (content between after : Content) (sound : IsSound content) (fresh : List ℕ) (are_fresh : AreFresh (volume_of content) fresh)
     (spilled : AgreesOutside (IsOneOf (sectors_of (per_block_of (volume_of content).head) fresh)) content between) (later : AgreesOutside (IsSpecial (volume_of content)) between after)
@@ -96,6 +96,13 @@ module _ (content between after : Content) (sound : IsSound content) (fresh : Li
 
     abbrev catalog_owned : Owned
     catalog_owned = record { id = catalog_id; kind = data_kind; fork = (volume_of content).head.catalog_fork }
+
+    abbrev extents_owned : Owned
+    extents_owned = record { id = extents_id; kind = data_kind; fork = (volume_of content).head.extents_fork }
+
+    extents_alone : (s : ℕ) → Contains (extents_sectors (volume_of content)) s → Contains (sectors_of (per_block_of (volume_of content).head) (blocks_owned (overflow_in_volume (volume_of content)) extents_owned)) s
+    unfolding extents_of
+    extents_alone s has = has
 
     abbrev allocation_owned : Owned
     allocation_owned = record { id = allocation_id; kind = data_kind; fork = (volume_of content).head.allocation_fork }
@@ -116,7 +123,8 @@ module _ (content between after : Content) (sound : IsSound content) (fresh : Li
     pub special_block : (s : ℕ) → IsSpecial (volume_of content) s → IsSpecialBlock (s / per_block_of (volume_of content).head)
     special_block s (inl two) = inl (subst (λ n. Contains (reserved_blocks (volume_of content).sectors (volume_of content).head) (n / per_block_of (volume_of content).head)) (sym two) reserved_2)
     special_block s (inr (inl has)) = inr (catalog_owned, (1, omega arith, refl), in_block per (blocks_owned (overflow_in_volume lists) catalog_owned) s whole.some has)
-    special_block s (inr (inr has)) = inr (allocation_owned, (2, omega arith, refl), in_block per (blocks_owned (overflow_in_volume lists) allocation_owned) s whole.some has)
+    special_block s (inr (inr (inl has))) = inr (allocation_owned, (2, omega arith, refl), in_block per (blocks_owned (overflow_in_volume lists) allocation_owned) s whole.some has)
+    special_block s (inr (inr (inr has))) = inr (extents_owned, (0, omega arith, refl), in_block per (blocks_owned (overflow_in_volume lists) extents_owned) s whole.some (extents_alone s has))
 
     put_block : (s : ℕ) → IsSpecialBlock (s / per_block_of (volume_of content).head) → IsPutSector content s
     unfolding volume_of

@@ -24,6 +24,7 @@ use Rattle.volume_base.specs.Standing.{IsSettled, StandsOver}
 use Rattle.volume_space.specs.Writing.{HasData, IsAt, PutsAt, fits_data, fresh_runs, is_put_later, is_put_now, may_overflow}
 use Rattle.volume_base.specs.declared.volume.Volume.{Volume}
 use Rattle.volume_space.proofs.PutAllowed.{zero_last}
+use Rattle.volume_space.proofs.PutFork.{file_high}
 use Rattle.volume_space.proofs.PutFile.{its, long_is, only}
 use Rattle.volume_space.proofs.PutNumbers.{first_is, freed_is, fresh_is}
 use Rattle.volume_space.proofs.PutUser.{is_users}
@@ -94,7 +95,7 @@ module _ (v w : Volume) (a : Space) (after : Content) (holds : StandsOver v a) (
 
     -- ---- the lists
 
-    module _ (put : Data) (number : put.id ≡ node.id) (at : IsAt put (length node.bytes) from (from + length value)) (spare : ℕ) (now : is_put_now v spare (volume_of a.content) (Some put) ≡ true) (law : RewritePuts) where
+    module _ (put : Data) (number : put.id ≡ node.id) (at : IsAt put (length node.bytes) from (from + length value)) (no_cut : needs_cut (volume_of a.content) (Some put) ≡ false) (law : RewritePuts) where
       here : IsAt put puts.file.data_fork.logical_size from (from + length value)
       here = subst (λ n. IsAt put n from (from + length value)) long at
 
@@ -128,9 +129,9 @@ module _ (v w : Volume) (a : Space) (after : Content) (holds : StandsOver v a) (
       data_done asked is = record {
         put = put;
         is_asked = is;
-        no_cut = no_cut_now v spare (volume_of a.content) put now;
+        no_cut = no_cut;
         fresh = puts.puts.fresh;
         rewrites = rewritten;
         forks = law put puts.puts.fresh (volume_of a.content) (volume_of after) settled.sound (subst (λ id. IsUserFile id (volume_of a.content)) (sym number) (is_users (volume_of a.content) settled.sound (file_bytes a.content) node (its v a holds tells settled node stands kind))) rewritten many;
-        overflow = ap (λ (l : VolumeState). l.overflow_pairs) puts.puts.now ∙ puts.puts.overflow;
+        user = subst (λ n. 16 ≤ n) (puts.number ∙ sym number) (file_high (volume_of a.content) settled.sound puts.stands.entry puts.stands.stands puts.file puts.stands.value);
       }

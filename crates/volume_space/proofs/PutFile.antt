@@ -12,12 +12,16 @@ use Rattle.hfs_model.specs.declared.plain.PlainNode.{PlainNode}
 use Rattle.hfs_volume.specs.Content.{VolumeState, records_of, volume_of}
 use Rattle.hfs_volume.specs.Records.{Placed, entries_of, id_in}
 use Rattle.hfs_volume.specs.TreeOf.{file_bytes, tree_of}
-use Rattle.hfs_volume.specs.Weight.{Data}
+use Rattle.alloc_bitmap.specs.Map.{free_of}
+use Rattle.file_io.specs.Places.{blocks_for}
+use Rattle.flag_rows.specs.Runs.{fewest_of}
+use Rattle.hfs_volume.specs.Forks.{data_kind}
+use Rattle.hfs_volume.specs.Weight.{Data, file_extents, free_runs, needs_cut}
 use Rattle.hfs_volume.proofs.Hiding.{same_entry}
 use Rattle.volume_base.specs.Lists.{lists_of}
 use Rattle.volume_base.specs.Reading.{HasFile}
 use Rattle.volume_base.specs.Standing.{IsSettled, StandsOver}
-use Rattle.volume_space.specs.Writing.{IsAt, IsToldFile, can_put, data_load, extents_in, is_put_now, put_load}
+use Rattle.volume_space.specs.Writing.{IsAt, IsToldFile, blocks_put, can_put, data_load, extents_in, fresh_runs, has_more, is_put_now, may_overflow, put_load}
 use Rattle.volume_base.specs.declared.entries.Entry.{Entry}
 use Rattle.volume_base.specs.declared.volume.Volume.{Volume}
 use Rattle.volume_base.proofs.FileBytes.{bytes_long}
@@ -25,7 +29,8 @@ use Rattle.volume_base.proofs.FoundEntry.{IsThere}
 use Rattle.volume_space.proofs.NextCut.{stands_there}
 use Rattle.volume_base.proofs.PlainFiles.{IsFileOf, file_of_node}
 use Rattle.volume_space.proofs.PutAllowed.{load_is}
-use Rattle.volume_space.proofs.PutWhere.{put_now}
+use Rattle.volume_space.proofs.PutNumbers.{fresh_is}
+use Rattle.volume_space.proofs.PutWhere.{many, put_now, surplus}
 use Rattle.volume_base.proofs.Rising.{settled_sorted}
 
 abbrev file_or : FileRecord → CatRecord → FileRecord
@@ -80,6 +85,20 @@ module _ (v : Volume) (a : Space) (holds : StandsOver v a) (tells : IsTrue a.tel
         → can_put v spare (length (extents_in a.content file)) file.data_fork.total_blocks file.data_fork.logical_size from long ≡ is_put_now v spare (volume_of a.content) (Some put)
     now_is put from long spare number at =
         put_now v a.content settled file has_it put from long (number ∙ sym number_is) (subst (λ n. IsAt put n from (from + long)) long_is at) (omega (arith, holds.service.least)) spare
+
+    -- whether blocks of it go first
+    pub cut_is : (put : Data) (from long : ℕ) → put.id ≡ node.id → IsAt put (length node.bytes) from (from + long)
+        → has_more file.data_fork.logical_size (from + long) (blocks_for v.header.block_size file.data_fork.logical_size) file.data_fork.total_blocks ≡ needs_cut (volume_of a.content) (Some put)
+    cut_is put from long number at =
+        surplus v a.content settled file has_it put from long (number ∙ sym number_is) (subst (λ n. IsAt put n from (from + long)) long_is at) (omega (arith, holds.service.least))
+
+    -- whether its record may not hold its extents then
+    pub over_is : (put : Data) (from long : ℕ) → put.id ≡ node.id → IsAt put (length node.bytes) from (from + long)
+        → may_overflow (length (extents_in a.content file)) (fewest_of (blocks_put v file.data_fork.logical_size from long) (free_runs (free_of v.map))) ≡ may_overflow (length (file_extents (volume_of a.content) put.id data_kind)) (fresh_runs v put)
+    over_is put from long number at =
+        let here : IsAt put file.data_fork.logical_size from (from + long) = subst (λ n. IsAt put n from (from + long)) long_is at in
+        λ i. may_overflow (many v a.content settled file has_it put from long (number ∙ sym number_is) here (omega (arith, holds.service.least)) i)
+        (fewest_of (sym (fresh_is put file.data_fork.logical_size from (from + long) v.header.block_size here (omega (arith, holds.service.least))) i) (free_runs (free_of v.map)))
 
     -- and what it loads
     pub load_now : (put : Data) (from long : ℕ) → IsAt put (length node.bytes) from (from + long) → put_load v file.data_fork.logical_size from long ≡ data_load v put

@@ -1,10 +1,10 @@
 -- What a put of data does to the lists of a volume: the file's record has another fork, whose extents have room in the record, and other dates; some
 -- blocks have fresh ones in their place, and the header counts the free blocks anew.
-use Rattle.std.proofs.Common.{◌≡◌, inl, inr, ◌<◌, ◌≤◌, ℕ, ◌+◌, ◌-◌, ◌*◌, ◌==◌, Bool, true, false, not, List, [], ◌∷◌, ◌++◌, length, take, drop, refl, sym, ◌∙◌, ap, subst, arith, length-append}
-use Rattle.std.specs.Prelude.{All, Contains, count_by, find, if◌then◌else◌}
+use Rattle.std.proofs.Common.{◌≡◌, ◌≢◌, inl, inr, ◌<◌, ◌≤◌, ℕ, ◌+◌, ◌-◌, ◌*◌, ◌==◌, Bool, true, false, not, List, [], ◌∷◌, ◌++◌, length, take, drop, refl, sym, ◌∙◌, ap, subst, arith, length-append}
+use Rattle.std.specs.Prelude.{All, Contains, count_by, find, map, if◌then◌else◌}
 use Rattle.std.specs.List.{flat_map, range_with_len}
 use Rattle.std.proofs.lemmas.Bool.{eqb-true, eqb-false}
-use Rattle.std.proofs.lemmas.List.{append-nil}
+use Rattle.std.proofs.lemmas.List.{append-nil, take-append-drop}
 use Rattle.std.proofs.lemmas.List.Elements.{Contains-append_left, Contains-append_right}
 use Rattle.std.proofs.lemmas.Grind.{flat_map-append}
 use Rattle.hx_bytes.specs.declared.extents.Extent.{Extent}
@@ -21,9 +21,9 @@ use Rattle.hfs_volume.specs.Changes.{FlipsBits, HasSameNodes, IsStored}
 use Rattle.hfs_volume.specs.Commands.{ChangesFields}
 use Rattle.hfs_volume.specs.Content.{VolumeState, is_set, overflow_in_volume, records_of}
 use Rattle.hfs_volume.specs.Data.{AreFresh}
-use Rattle.hfs_volume.specs.Forks.{Owned, all_forks, blocks_owned, data_kind, extents_of, in_use, is_full, overflow_in}
+use Rattle.hfs_volume.specs.Forks.{Owned, all_forks, blocks_owned, data_kind, extents_id, extents_of, in_use, is_full, is_of, overflow_in}
 use Rattle.hfs_volume.specs.Reclaim.{blocks_at, blocks_found, is_fork}
-use Rattle.hfs_volume.specs.Records.{Overflow, Placed, entries_of, id_in, id_of, is_empty}
+use Rattle.hfs_volume.specs.Records.{Overflow, Placed, overflow_of, entries_of, id_in, id_of, is_empty}
 use Rattle.hfs_volume.specs.Sound.{IsSoundVolume}
 use Rattle.hfs_volume.specs.Writing.{IsRewritten, KeepsOthers, MakesBytes, RewritesFile, file_before, with_free}
 use Rattle.hfs_volume.proofs.BlockWants.{in_range}
@@ -31,6 +31,11 @@ use Rattle.hfs_volume.proofs.Making.{alone_in}
 use Rattle.hfs_volume.proofs.Members.{all_of, at_front, each_of, first_or_later}
 use Rattle.hfs_volume.proofs.Seeing.{same_number}
 use Rattle.hfs_volume.proofs.Untouched.{data_fork_of, file_fork_stands}
+use Rattle.overflow.proofs.Cutting.{AreUsed, eight_used}
+use Rattle.overflow.proofs.Whole.{stored_gives, stored_goes_on}
+use Rattle.volume_space.specs.Spreading.{HoldsFork}
+use Rattle.volume_base.specs.Spreading.{StoresFork}
+use Rattle.volume_space.proofs.SpreadFile.{all_in_use}
 use Rattle.volume_space.proofs.GrownForks.{no_more}
 use Rattle.volume_space.proofs.PutFork.{file_high, fork_found}
 use Rattle.volume_space.proofs.Resized.{IsRecordOf, between, dated, halfway, middle, named, stood, swaps, with_data}
@@ -78,12 +83,43 @@ entries_around front back entry named =
     flat_map-append (λ (p : Placed). if not (is_empty p.name) then p ∷ [] else []) front (entry ∷ back)
     ∙ ap (λ l. entries_of front ++ (l ++ entries_of back)) (ap (λ b. if not b then entry ∷ [] else []) named)
 
+-- so it is where the fork had fewer than eight extents and has eight at most
+pub holds_few : (id : ℕ) (was fork : ForkRecord) (more : List Extent) (overflow : List Overflow) → length was.extents.extents ≡ 8 → length (extents_of overflow id data_kind was) < 8 → fork.extents ≡ eight_at more 0 → length more ≤ 8
+    → GoesOn overflow (record { id = id; kind = data_kind; fork = was }) → HoldsFork id fork more overflow overflow
+unfolding extents_of
+holds_few id was fork more overflow eight few gets many goes = record {
+  blocks = ap (λ (l : List Overflow). blocks_of (in_use fork.extents.extents ++ flat_map (λ (m : Overflow). in_use m.extents) l)) none_over ∙ ap blocks_of (append-nil (in_use fork.extents.extents)) ∙ used_blocks_same fork.extents.extents ∙ in_record;
+  goes_on = subst (λ (l : List Overflow). GoOn (length (blocks_of fork.extents.extents)) (is_full fork.extents.extents) l) (sym none_over) tt;
+  inside = λ total below. all_of (λ (e : Extent). e.start + e.count ≤ total) (in_use fork.extents.extents) (λ e has. ends_below total fork.extents.extents (λ block here. below block (subst (λ (l : List ℕ). Contains l block) in_record here)) e has);
+  others = refl;
+}
+  where
+    none_over : overflow_in overflow id data_kind ≡ []
+    none_over = no_more _ was.extents.extents (overflow_in overflow id data_kind) eight (omega (arith, few, length-append (in_use was.extents.extents) (flat_map (λ (m : Overflow). in_use m.extents) (overflow_in overflow id data_kind)))) goes
+
+    in_record : blocks_of fork.extents.extents ≡ blocks_of more
+    in_record = ap (λ e. blocks_of e.extents) gets ∙ eight_blocks more many
+
+-- and where its overflow records were stored
+pub holds_stored : (id : ℕ) (fork : ForkRecord) (more : List Extent) (old new : List Pair) → 16 ≤ id → fork.extents ≡ eight_at more 0 → AreUsed more → StoresFork id data_kind more old new → HoldsFork id fork more (map overflow_of old) (map overflow_of new)
+unfolding extents_of
+holds_stored id fork more old new user gets used stores = record {
+  blocks = ap blocks_of (ap (λ e. in_use e.extents ++ flat_map (λ (m : Overflow). in_use m.extents) (overflow_in (map overflow_of new) id data_kind)) gets ∙ stored_gives (map overflow_of new) id data_kind more other used stores.records);
+  goes_on = subst (λ e. GoOn (length (blocks_of e.extents)) (is_full e.extents) (overflow_in (map overflow_of new) id data_kind)) (sym gets) (stored_goes_on (map overflow_of new) id data_kind more other used stores.records);
+  inside = λ total below. subst (λ e. LieInside total e.extents) (sym gets)
+      (subst (λ (l : List Extent). All (λ (e : Extent). e.start + e.count ≤ total) l) (sym (eight_used more 0 used))
+      (all_of (λ (e : Extent). e.start + e.count ≤ total) (take 8 more) (λ e has. ends_below total more below e (subst (λ (l : List Extent). Contains l e) (sym (all_in_use more used)) (subst (λ (l : List Extent). Contains l e) (take-append-drop 8 more) (Contains-append_left (take 8 more) (drop 8 more) e has))))));
+  others = stores.others;
+}
+  where
+    other : id ≢ extents_id
+    other same = omega (arith, same, user)
+
 module _ (from count moment parent : ℕ) (name : List ℕ) (fork : ForkRecord) (file : FileRecord) (fresh : List ℕ) (old new : VolumeState)
     (it : IsRecordOf moment parent name fork file old.catalog_pairs new.catalog_pairs) (sound : IsSoundVolume old) (is_moment : moment ≡ old.head.modify_date) (nodes : HasSameNodes old.catalog_tree new.catalog_tree)
     (free : ℕ) (counts : free + length fresh ≡ old.head.free_blocks + count)
-    (rest : new ≡ record old { head = with_free free old.head.next_allocation old.head; catalog_pairs = new.catalog_pairs; catalog_tree = new.catalog_tree; bits = new.bits })
-    (are_fresh : AreFresh old fresh) (more : List Extent) (eight : length file.data_fork.extents.extents ≡ 8)
-    (few : length (extents_of (overflow_in_volume old) file.fields.id data_kind file.data_fork) < 8) (gets : fork.extents ≡ eight_at more 0) (many : length more ≤ 8)
+    (rest : new ≡ record old { head = with_free free old.head.next_allocation old.head; catalog_pairs = new.catalog_pairs; catalog_tree = new.catalog_tree; overflow_pairs = new.overflow_pairs; extents_tree = new.extents_tree; bits = new.bits })
+    (are_fresh : AreFresh old fresh) (more : List Extent) (keeps_it : HoldsFork file.fields.id fork more (overflow_in_volume old) (overflow_in_volume new)) (extents_nodes : HasSameNodes old.extents_tree new.extents_tree)
     (total : fork.total_blocks ≡ length (blocks_of more)) (holds : fork.logical_size ≤ length (blocks_of more) * old.head.block_size)
     (blocks : blocks_of more ≡ take from (blocks_of (extents_of (overflow_in_volume old) file.fields.id data_kind file.data_fork)) ++ (fresh ++ drop (from + count) (blocks_of (extents_of (overflow_in_volume old) file.fields.id data_kind file.data_fork))))
     (within : from + count ≤ length (blocks_of (extents_of (overflow_in_volume old) file.fields.id data_kind file.data_fork)))
@@ -103,7 +139,7 @@ module _ (from count moment parent : ℕ) (name : List ℕ) (fork : ForkRecord) 
     begun = record old { head = with_free free old.head.next_allocation old.head }
 
     abbrev put : VolumeState
-    put = record old { head = with_free free old.head.next_allocation old.head; catalog_pairs = between moment parent name fork file old.catalog_pairs new.catalog_pairs it; bits = new.bits }
+    put = record old { head = with_free free old.head.next_allocation old.head; catalog_pairs = between moment parent name fork file old.catalog_pairs new.catalog_pairs it; overflow_pairs = new.overflow_pairs; extents_tree = new.extents_tree; bits = new.bits }
 
     is_named : is_empty it.updates.entry.name ≡ false
     is_named = named moment parent name fork file old new it sound
@@ -135,35 +171,19 @@ module _ (from count moment parent : ℕ) (name : List ℕ) (fork : ForkRecord) 
         ap (λ l. blocks_found (overflow_in_volume old) (find (is_fork file.fields.id data_kind) (all_forks head l))) (halfway moment parent name fork file old.catalog_pairs new.catalog_pairs it).was
         ∙ fork_found head (overflow_in_volume old) parts_front parts_back it.updates.entry file is_named it.value high alone
 
-    none_over : overflow_in (overflow_in_volume old) file.fields.id data_kind ≡ []
-    unfolding extents_of
-    none_over = no_more _ file.data_fork.extents.extents (overflow_in (overflow_in_volume old) file.fields.id data_kind) eight
-        (omega (arith, few, length-append (in_use file.data_fork.extents.extents) (flat_map (λ (m : Overflow). in_use m.extents) (overflow_in (overflow_in_volume old) file.fields.id data_kind))))
-        (each_of (GoesOn (overflow_in_volume old)) (forks_of old) sound.blocks.forks.goes_on (data_fork_of file) (file_fork_stands old it.updates.entry file there it.value))
-
-    in_record : blocks_of fork.extents.extents ≡ blocks_of more
-    in_record = ap (λ e. blocks_of e.extents) gets ∙ eight_blocks more many
-
-    pub now_blocks : blocks_of (extents_of (overflow_in_volume old) file.fields.id data_kind fork) ≡ blocks_of more
-    unfolding extents_of
-    now_blocks =
-        ap (λ (l : List Overflow). blocks_of (in_use fork.extents.extents ++ flat_map (λ (m : Overflow). in_use m.extents) l)) none_over
-        ∙ ap blocks_of (append-nil (in_use fork.extents.extents)) ∙ used_blocks_same fork.extents.extents ∙ in_record
+    pub now_blocks : blocks_of (extents_of (overflow_in_volume new) file.fields.id data_kind fork) ≡ blocks_of more
+    now_blocks = keeps_it.blocks
 
     is_at : blocks_at put file.fields.id data_kind ≡ blocks_of more
     is_at =
-        ap (λ l. blocks_found (overflow_in_volume old) (find (is_fork file.fields.id data_kind) (all_forks put.head l))) (halfway moment parent name fork file old.catalog_pairs new.catalog_pairs it).is
-        ∙ fork_found put.head (overflow_in_volume old) parts_front parts_back (middle moment parent name fork file old.catalog_pairs new.catalog_pairs it) (with_data fork file) is_named refl high alone
+        ap (λ l. blocks_found (overflow_in_volume new) (find (is_fork file.fields.id data_kind) (all_forks put.head l))) (halfway moment parent name fork file old.catalog_pairs new.catalog_pairs it).is
+        ∙ fork_found put.head (overflow_in_volume new) parts_front parts_back (middle moment parent name fork file old.catalog_pairs new.catalog_pairs it) (with_data fork file) is_named refl high alone
         ∙ now_blocks
-
-    lie_inside : LieInside old.head.total_blocks fork.extents.extents
-    lie_inside = all_of (λ (e : Extent). e.start + e.count ≤ old.head.total_blocks) (in_use fork.extents.extents)
-        (λ e has. ends_below old.head.total_blocks fork.extents.extents (λ block here. below block (subst (λ (l : List ℕ). Contains l block) in_record here)) e has)
 
     stored : IsStored file.fields.id data_kind fork put
     stored = (
-      record { inside = lie_inside; blocks = ap (λ (l : List ℕ). length l) now_blocks ∙ sym total; bytes = subst (λ n. fork.logical_size ≤ n * old.head.block_size) (sym total) holds },
-      subst (λ (l : List Overflow). GoOn (length (blocks_of fork.extents.extents)) (is_full fork.extents.extents) l) (sym none_over) tt,
+      record { inside = keeps_it.inside old.head.total_blocks below; blocks = ap (λ (l : List ℕ). length l) now_blocks ∙ sym total; bytes = subst (λ n. fork.logical_size ≤ n * old.head.block_size) (sym total) holds },
+      keeps_it.goes_on,
     )
 
     pub rewrites : RewritesFile file.fields.id from count fresh old new
@@ -180,10 +200,10 @@ module _ (from count moment parent : ℕ) (name : List ℕ) (fork : ForkRecord) 
           is = is_at ∙ blocks ∙ (λ i. take from (sym (was_at begun.head) i) ++ (fresh ++ drop (from + count) (sym (was_at begun.head) i)));
           file = swaps moment parent name fork file old.catalog_pairs new.catalog_pairs it file.fields.id refl;
           stored = stored;
-          others = refl;
+          others = keeps_it.others;
           flips = subst (λ (l : List ℕ). FlipsBits fresh (take count (drop from l)) begun put) (sym (was_at begun.head)) (record { size = flips.size; taken = flips.taken; given = flips.given; others = flips.others });
           catalog_nodes = record { total = refl; size = refl };
-          extents_nodes = record { total = refl; size = refl };
+          extents_nodes = extents_nodes;
           rest = refl;
         };
       };
@@ -195,8 +215,8 @@ module _ (from count moment parent : ℕ) (name : List ℕ) (fork : ForkRecord) 
     unfolding rewrites
     makes make bytes_of bytes_after made others = record { made = made; others = others }
 
-    -- in between the fork is another one, the header and the bits are those behind it, and the overflow records are as they were
-    pub put_is : (rewrites.put.head ≡ with_free free old.head.next_allocation old.head) × (rewrites.put.overflow_pairs ≡ old.overflow_pairs)
+    -- in between the fork is another one, and the header, the bits and the overflow records are those behind it
+    pub put_is : (rewrites.put.head ≡ with_free free old.head.next_allocation old.head) × (rewrites.put.overflow_pairs ≡ new.overflow_pairs)
     unfolding rewrites
     put_is = (refl, refl)
 

@@ -17,7 +17,8 @@ use Rattle.cat_records.specs.declared.record.FileRecord.{FileRecord}
 use Rattle.volume_base.specs.Changing.{ReplacesRecord}
 use Rattle.volume_base.specs.Lists.{bits_on, lists_of}
 use Rattle.volume_base.specs.Standing.{StandsOver}
-use Rattle.volume_space.specs.Writing.{PlacesData, blocks_put, fork_with, record_with, with_record, with_spill}
+use Rattle.volume_space.specs.Spreading.{SpreadsExtents}
+use Rattle.volume_space.specs.Writing.{PlacesData, blocks_put, fork_with, record_with, with_record, with_spill, with_stored}
 use Rattle.volume_base.specs.declared.entries.Entry.{Entry}
 use Rattle.volume_base.specs.declared.volume.Volume.{Volume}
 
@@ -96,25 +97,24 @@ stands_free free volume a low was = record {
       };
 }
 
-module _ (entry : Entry) (file : FileRecord) (extents : List Extent) (from : ℕ) (value : List ℕ) (total free : ℕ) (v : Volume) (a b c : Content) (mid next : Volume) (later : List Extent) (rec : FileRecord) where
+module _ (entry : Entry) (file : FileRecord) (extents : List Extent) (from : ℕ) (value : List ℕ) (total free : ℕ) (v : Volume) (a b m c : Content) (mid kept next : Volume) (later : List Extent) (rec : FileRecord) where
   abbrev size : ℕ
   size = file.data_fork.logical_size
 
   abbrev block : ℕ
   block = v.header.block_size
 
-  pub placed : length later ≤ 8
-      → blocks_of later ≡ take (first_block block size from) (blocks_of extents) ++ blocks_of (fresh_of v.map (blocks_put v size from (length value))) ++ drop (old_end block size (from + length value)) (blocks_of extents)
+  pub placed : blocks_of later ≡ take (first_block block size from) (blocks_of extents) ++ blocks_of (fresh_of v.map (blocks_put v size from (length value))) ++ drop (old_end block size (from + length value)) (blocks_of extents)
       → take (max size (from + length value)) (fork_bytes b block later) ≡ written (take size (fork_bytes a block extents)) from value
       → (AreApart (blocks_of extents) → mid.map ≡ given (middle (first_block block size from) (old_end block size (from + length value)) extents) (taken (blocks_put v size from (length value)) v.map))
       → KeepsMap v.map mid.map → AgreesOutside (IsOneOf (sectors_in block (fresh_of v.map (blocks_put v size from (length value))))) a b
-      → lists_of mid b ≡ record (lists_of v a) { bits = bits_on mid } → mid ≡ record v { map = mid.map } → next ≡ record mid { catalog = next.catalog }
-      → ReplacesRecord entry (File rec) mid next b c → FitsFile rec → rec ≡ record_with v.header.modify_date (fork_with (max size (from + length value)) total later file.data_fork) file
+      → lists_of mid b ≡ record (lists_of v a) { bits = bits_on mid } → mid ≡ record v { map = mid.map } → kept ≡ record mid { extents = kept.extents } → SpreadsExtents file.fields.id later mid kept b m → next ≡ record kept { catalog = next.catalog }
+      → ReplacesRecord entry (File rec) kept next m c → FitsFile rec → rec ≡ record_with v.header.modify_date (fork_with (max size (from + length value)) total later file.data_fork) file
       → PlacesData entry file extents from value total free v (with_free_blocks free next) a c
-  placed few blocks bytes map keeps spilled lists mid_is next_is replaces fits rec_is = record {
+  placed blocks bytes map keeps spilled lists mid_is kept_is spreads next_is replaces fits rec_is = record {
     later = later;
     between = b;
-    few = few;
+    stored = m;
     blocks = blocks;
     bytes = bytes;
     map = λ apart. map_is ∙ map apart;
@@ -122,15 +122,22 @@ module _ (entry : Entry) (file : FileRecord) (extents : List Extent) (from : ℕ
     keeps = subst (λ (m : BlockMap). KeepsMap v.map m) (sym map_is) keeps;
     spilled = spilled;
     lists = subst (λ (x : Volume). lists_of x b ≡ record (lists_of v a) { bits = bits_on x }) first lists;
-    replaces = subst (λ (k : Volume × (Volume × FileRecord)). ReplacesRecord entry (File k.1.1) k.0 k.1.0 b c) {x = (mid, (next, rec))} {y = (with_spill v next.map, (with_record v next.map next.catalog, record_with v.header.modify_date (fork_with (max size (from + length value)) total later file.data_fork) file))} (λ i. (first i, (second i, rec_is i))) replaces;
+    spreads = subst (λ (k : Volume × Volume). SpreadsExtents file.fields.id later k.0 k.1 b m) {x = (mid, kept)} {y = (with_spill v next.map, with_stored v next.map next.extents)} (λ i. (first i, between i)) spreads;
+    replaces = subst (λ (k : Volume × (Volume × FileRecord)). ReplacesRecord entry (File k.1.1) k.0 k.1.0 m c) {x = (kept, (next, rec))} {y = (with_stored v next.map next.extents, (with_record v next.map next.extents next.catalog, record_with v.header.modify_date (fork_with (max size (from + length value)) total later file.data_fork) file))} (λ i. (between i, (second i, rec_is i))) replaces;
     rest = λ i. record (second i) { header = record (second i).header { free_blocks = free } };
   }
     where
       map_is : next.map ≡ mid.map
-      map_is = ap (λ (x : Volume). x.map) next_is
+      map_is = ap (λ (x : Volume). x.map) next_is ∙ ap (λ (x : Volume). x.map) kept_is
+
+      extents_is : next.extents ≡ kept.extents
+      extents_is = ap (λ (x : Volume). x.extents) next_is
 
       first : mid ≡ with_spill v next.map
       first = mid_is ∙ (λ i. record v { map = sym map_is i })
 
-      second : next ≡ with_record v next.map next.catalog
-      second = next_is ∙ (λ i. record (first i) { catalog = next.catalog })
+      between : kept ≡ with_stored v next.map next.extents
+      between = kept_is ∙ (λ i. record (first i) { extents = sym extents_is i })
+
+      second : next ≡ with_record v next.map next.extents next.catalog
+      second = next_is ∙ (λ i. record (between i) { catalog = next.catalog })

@@ -32,9 +32,9 @@ use Rattle.hfs_volume.specs.Changes.{FlipsBits, HasSameNodes}
 use Rattle.hfs_volume.specs.Commands.{AreBytesOf}
 use Rattle.hfs_volume.specs.Content.{VolumeState, block_limit, overflow_in_volume, records_of, volume_of}
 use Rattle.hfs_volume.specs.Data.{AreFresh}
-use Rattle.hfs_volume.specs.Forks.{Owned, attributes_id, blocks_owned, data_kind, extents_of, per_block_of}
+use Rattle.hfs_volume.specs.Forks.{Owned, allocation_id, attributes_id, blocks_owned, data_kind, extents_of, per_block_of}
 use Rattle.hfs_volume.specs.Links.{private_id}
-use Rattle.hfs_volume.specs.Records.{Placed, entries_of, is_link_type, placed_in}
+use Rattle.hfs_volume.specs.Records.{Overflow, Placed, entries_of, is_link_type, placed_in}
 use Rattle.hfs_volume.specs.Sound.{IsSoundVolume}
 use Rattle.hfs_volume.specs.TreeOf.{file_bytes, tree_in, tree_of}
 use Rattle.hfs_volume.specs.Writing.{KeepsOthers, MakesBytes, OthersKeepBytes, RewritesFile, file_before, with_free, written_bytes}
@@ -47,15 +47,18 @@ use Rattle.volume_base.specs.Changing.{ChangesCatalog}
 use Rattle.volume_base.specs.Lists.{bits_on, facts_on, lists_of}
 use Rattle.volume_space.specs.Mapping.{HoldsMap}
 use Rattle.volume_base.specs.Standing.{IsSettled, IsStanding, map_sectors, with_attributes_tree}
-use Rattle.volume_space.specs.Writing.{extents_in, with_data_put, with_record, with_spill}
+use Rattle.volume_space.specs.Spreading.{HoldsFork, SpreadsExtents}
+use Rattle.volume_space.specs.Writing.{extents_in, with_data_put, with_record, with_spill, with_stored}
 use Rattle.volume_base.specs.declared.volume.Tree.{Tree}
 use Rattle.volume_base.specs.declared.volume.Volume.{Volume}
 use Rattle.volume_base.proofs.FileBytes.{bytes_are}
-use Rattle.volume_base.proofs.FilesKept.{ReadsAs, allocation_sectors, attributes_apart, attributes_off_map, attributes_sectors, catalog_sectors}
+use Rattle.volume_base.proofs.FilesKept.{ReadsAs, allocation_sectors, attributes_apart, attributes_off_extents, attributes_off_map, attributes_sectors, catalog_sectors, extents_sectors}
 use Rattle.volume_space.proofs.GrownBits.{bits_read}
 use Rattle.volume_space.proofs.GrownFree.{below_product}
 use Rattle.volume_base.proofs.ListsAgain.{attributes_again}
 use Rattle.volume_space.proofs.PutBytes.{IsSpecial, block_fresh, bytes_then, fresh_apart, put_agrees, written_is}
+use Rattle.volume_space.proofs.PutFork.{file_high}
+use Rattle.volume_space.proofs.SpreadForks.{extents_alike}
 use Rattle.volume_space.proofs.PutLists.{before_is, makes, now_blocks, put_is, rewrites}
 use Rattle.volume_base.proofs.Resettling.{bits_at, lists_anew, settles}
 use Rattle.volume_space.proofs.Resized.{IsRecordOf, private_again, rewritten, stood, with_data}
@@ -71,24 +74,23 @@ pub in_drop : (n : ℕ) (xs : List ℕ) (x : ℕ) → Contains (drop n xs) x →
 in_drop n xs x stands = subst (λ l. Contains l x) (take-append-drop n xs) (Contains-append_right (take n xs) (drop n xs) x stands)
 
 -- What was done, stage by stage, to put a value into a file.
-pub record IsPutThrough (v : Volume) (a : Space) (later : BlockMap) (cat : Tree) (free : ℕ) (b c : Content) (e : Space) (n parent : ℕ) (name : List ℕ) (fork : ForkRecord) (file : FileRecord) (from count : ℕ) (more : List Extent) (place : ℕ) (value : List ℕ) : Type 0 where
+pub record IsPutThrough (v : Volume) (a : Space) (later : BlockMap) (ext cat : Tree) (free : ℕ) (b m c : Content) (e : Space) (n parent : ℕ) (name : List ℕ) (fork : ForkRecord) (file : FileRecord) (from count : ℕ) (more : List Extent) (place : ℕ) (value : List ℕ) : Type 0 where
   pub enough : n ≤ count_set (free_of v.map)
   pub spilled : AgreesOutside (IsOneOf (sectors_of (per_block_of v.header) (blocks_of (fresh_of v.map n)))) a.content b
   pub spill_lists : lists_of (with_spill v later) b ≡ record (lists_of v a.content) { bits = bits_on (with_spill v later) }
-  pub updates : UpdatesEntry parent name (File (rewritten v.header.modify_date fork file)) (lists_of (with_spill v later) b).catalog_pairs (lists_of (with_record v later cat) c).catalog_pairs
-  pub changes : ChangesCatalog (with_spill v later) (with_record v later cat) b c
+  pub spreads : SpreadsExtents file.fields.id more (with_spill v later) (with_stored v later ext) b m
+  pub updates : UpdatesEntry parent name (File (rewritten v.header.modify_date fork file)) (lists_of (with_stored v later ext) m).catalog_pairs (lists_of (with_record v later ext cat) c).catalog_pairs
+  pub changes : ChangesCatalog (with_stored v later ext) (with_record v later ext cat) m c
   pub there : value_at (lists_of v a.content).catalog_pairs parent name ≡ Some (File file)
   pub no_link : is_link_type file.fields ≡ false
   pub fits : FitsFile file
   pub fits_fork : FitsFork fork
-  pub stands : IsStanding (with_data_put v later cat free) e
-  pub headed : header_of_volume e.content ≡ (with_data_put v later cat free).header
-  pub map_held : HoldsMap (with_data_put v later cat free) e.content
-  pub lists_after : lists_of (with_data_put v later cat free) e.content ≡ lists_of (with_data_put v later cat free) c
-  pub outside : AgreesOutside (λ s. (s ≡ 2) ⊎ Contains (map_sectors (with_data_put v later cat free)) s) c e.content
-  pub few : length (extents_in a.content file) < 8
+  pub stands : IsStanding (with_data_put v later ext cat free) e
+  pub headed : header_of_volume e.content ≡ (with_data_put v later ext cat free).header
+  pub map_held : HoldsMap (with_data_put v later ext cat free) e.content
+  pub lists_after : lists_of (with_data_put v later ext cat free) e.content ≡ lists_of (with_data_put v later ext cat free) c
+  pub outside : AgreesOutside (λ s. (s ≡ 2) ⊎ Contains (map_sectors (with_data_put v later ext cat free)) s) c e.content
   pub gets : fork.extents ≡ eight_at more 0
-  pub many : length more ≤ 8
   pub total : fork.total_blocks ≡ length (blocks_of more)
   pub size_held : fork.logical_size ≤ length (blocks_of more) * v.header.block_size
   pub blocks : blocks_of more ≡ take from (blocks_of (extents_in a.content file)) ++ (blocks_of (fresh_of v.map n) ++ drop (from + count) (blocks_of (extents_in a.content file)))
@@ -97,11 +99,11 @@ pub record IsPutThrough (v : Volume) (a : Space) (later : BlockMap) (cat : Tree)
   pub counts : free + length (blocks_of (fresh_of v.map n)) ≡ v.header.free_blocks + count
   pub bytes : take fork.logical_size (bytes_read b v.header.block_size more) ≡ written (take file.data_fork.logical_size (bytes_read a.content v.header.block_size (extents_in a.content file))) place value
 
-module _ (v : Volume) (a : Space) (was : IsStanding v a) (settled : IsSettled v a.content) (later : BlockMap) (cat : Tree) (free : ℕ) (b c : Content) (e : Space) (n parent : ℕ) (name : List ℕ) (fork : ForkRecord) (file : FileRecord) (from count : ℕ) (more : List Extent)
-    (place : ℕ) (value : List ℕ) (does : IsPutThrough v a later cat free b c e n parent name fork file from count more place value)
+module _ (v : Volume) (a : Space) (was : IsStanding v a) (settled : IsSettled v a.content) (later : BlockMap) (ext cat : Tree) (free : ℕ) (b m c : Content) (e : Space) (n parent : ℕ) (name : List ℕ) (fork : ForkRecord) (file : FileRecord) (from count : ℕ) (more : List Extent)
+    (place : ℕ) (value : List ℕ) (does : IsPutThrough v a later ext cat free b m c e n parent name fork file from count more place value)
   where
     abbrev w : Volume
-    w = with_data_put v later cat free
+    w = with_data_put v later ext cat free
 
     abbrev old : VolumeState
     old = volume_of a.content
@@ -110,17 +112,20 @@ module _ (v : Volume) (a : Space) (was : IsStanding v a) (settled : IsSettled v 
     fresh = blocks_of (fresh_of v.map n)
 
     abbrev pairs : List Pair
-    pairs = (lists_of (with_record v later cat) c).catalog_pairs
+    pairs = (lists_of (with_record v later ext cat) c).catalog_pairs
+
+    abbrev more_pairs : List Pair
+    more_pairs = (lists_of (with_stored v later ext) m).overflow_pairs
 
     -- the lists that it leads to
     abbrev pub lists_put : VolumeState
-    lists_put = record (volume_of a.content) { head = with_free free (volume_of a.content).head.next_allocation (volume_of a.content).head; catalog_pairs = (lists_of (with_record v later cat) c).catalog_pairs; catalog_tree = facts_on cat.file; bits = bits_on (with_data_put v later cat free) }
+    lists_put = record (volume_of a.content) { head = with_free free (volume_of a.content).head.next_allocation (volume_of a.content).head; catalog_pairs = (lists_of (with_record v later ext cat) c).catalog_pairs; catalog_tree = facts_on cat.file; overflow_pairs = (lists_of (with_stored v later ext) m).overflow_pairs; extents_tree = facts_on ext.file; bits = bits_on (with_data_put v later ext cat free) }
 
     head_is : (volume_of a.content).head ≡ v.header
     head_is = ap (λ (l : VolumeState). l.head) settled.lists
 
-    pairs_are : (lists_of (with_spill v later) b).catalog_pairs ≡ (volume_of a.content).catalog_pairs
-    pairs_are = ap (λ (l : VolumeState). l.catalog_pairs) does.spill_lists ∙ sym (ap (λ (l : VolumeState). l.catalog_pairs) settled.lists)
+    pairs_are : (lists_of (with_stored v later ext) m).catalog_pairs ≡ (volume_of a.content).catalog_pairs
+    pairs_are = ap (λ (l : VolumeState). l.catalog_pairs) does.spreads.lists ∙ ap (λ (l : VolumeState). l.catalog_pairs) does.spill_lists ∙ sym (ap (λ (l : VolumeState). l.catalog_pairs) settled.lists)
 
     updated : UpdatesEntry parent name (File (rewritten v.header.modify_date fork file)) (volume_of a.content).catalog_pairs pairs
     updated = subst (λ (l : List Pair). UpdatesEntry parent name (File (rewritten v.header.modify_date fork file)) l pairs) pairs_are does.updates
@@ -144,6 +149,20 @@ module _ (v : Volume) (a : Space) (was : IsStanding v a) (settled : IsSettled v 
     nodes = record {
       total = does.changes.nodes.0 ∙ sym (ap (λ (l : VolumeState). l.catalog_tree.shape.total) settled.lists);
       size = does.changes.nodes.1 ∙ sym (ap (λ (l : VolumeState). l.catalog_tree.shape.node_size) settled.lists);
+    }
+
+    -- the overflow records
+
+    overflow_was : overflow_in_volume (lists_of (with_spill v later) b) ≡ overflow_in_volume (volume_of a.content)
+    overflow_was = ap (λ (l : VolumeState). overflow_in_volume l) does.spill_lists ∙ sym (ap (λ (l : VolumeState). overflow_in_volume l) settled.lists)
+
+    holds_it : HoldsFork file.fields.id fork more (overflow_in_volume (volume_of a.content)) (overflow_in_volume (lists_of (with_stored v later ext) m))
+    holds_it = subst (λ (o : List Overflow). HoldsFork file.fields.id fork more o (overflow_in_volume (lists_of (with_stored v later ext) m))) overflow_was (does.spreads.holds fork does.gets)
+
+    extents_nodes : HasSameNodes (volume_of a.content).extents_tree (facts_on ext.file)
+    extents_nodes = record {
+      total = does.spreads.file.total ∙ sym (ap (λ (l : VolumeState). l.extents_tree.shape.total) settled.lists);
+      size = does.spreads.file.node_size ∙ sym (ap (λ (l : VolumeState). l.extents_tree.shape.node_size) settled.lists);
     }
 
     are_fresh : AreFresh (volume_of a.content) (blocks_of (fresh_of v.map n))
@@ -174,22 +193,23 @@ module _ (v : Volume) (a : Space) (was : IsStanding v a) (settled : IsSettled v 
 
     pub rewrites_it : RewritesFile file.fields.id from count (blocks_of (fresh_of v.map n)) (volume_of a.content) lists_put
     rewrites_it = rewrites from count v.header.modify_date parent name fork file fresh (volume_of a.content) lists_put is_record settled.sound (sym (ap (λ (h : VolumeHeader). h.modify_date) head_is)) nodes free counted refl are_fresh more
-        does.fits.data_fork.extents.eight does.few does.gets does.many does.total size_held does.blocks does.within does.flips below
+        holds_it extents_nodes does.total size_held does.blocks does.within does.flips below
 
     pub before_it : file_before rewrites_it.puts ≡ file
     unfolding rewrites_it
     before_it = before_is from count v.header.modify_date parent name fork file fresh (volume_of a.content) lists_put is_record settled.sound (sym (ap (λ (h : VolumeHeader). h.modify_date) head_is)) nodes free counted refl are_fresh more
-        does.fits.data_fork.extents.eight does.few does.gets does.many does.total size_held does.blocks does.within does.flips below
+        holds_it extents_nodes does.total size_held does.blocks does.within does.flips below
 
     -- ---- the content behind it
 
-    lists_are : record (lists_of (with_data_put v later cat free) e.content) { attributes_tree = (volume_of a.content).attributes_tree } ≡ lists_put
+    lists_are : record (lists_of (with_data_put v later ext cat free) e.content) { attributes_tree = (volume_of a.content).attributes_tree } ≡ lists_put
     lists_are =
         (λ i. record (does.lists_after i) { attributes_tree = (volume_of a.content).attributes_tree })
         ∙ (λ i. record (does.changes.lists i) { head = w.header; attributes_tree = (volume_of a.content).attributes_tree })
-        ∙ (λ i. record (does.spill_lists i) { head = w.header; catalog_pairs = pairs; catalog_tree = facts_on cat.file; attributes_tree = (volume_of a.content).attributes_tree })
-        ∙ sym (λ i. record (settled.lists i) { head = w.header; catalog_pairs = pairs; catalog_tree = facts_on cat.file; bits = bits_on w })
-        ∙ (λ i. record (volume_of a.content) { head = record (sym head_is i) { free_blocks = free }; catalog_pairs = pairs; catalog_tree = facts_on cat.file; bits = bits_on w })
+        ∙ (λ i. record (does.spreads.lists i) { head = w.header; catalog_pairs = pairs; catalog_tree = facts_on cat.file; attributes_tree = (volume_of a.content).attributes_tree })
+        ∙ (λ i. record (does.spill_lists i) { head = w.header; catalog_pairs = pairs; catalog_tree = facts_on cat.file; overflow_pairs = more_pairs; extents_tree = facts_on ext.file; attributes_tree = (volume_of a.content).attributes_tree })
+        ∙ sym (λ i. record (settled.lists i) { head = w.header; catalog_pairs = pairs; catalog_tree = facts_on cat.file; overflow_pairs = more_pairs; extents_tree = facts_on ext.file; bits = bits_on w })
+        ∙ (λ i. record (volume_of a.content) { head = record (sym head_is i) { free_blocks = free }; catalog_pairs = pairs; catalog_tree = facts_on cat.file; overflow_pairs = more_pairs; extents_tree = facts_on ext.file; bits = bits_on w })
 
     bits_fit : length later.used ≤ 8 * v.header.allocation_fork.logical_size
     bits_fit = omega (
@@ -220,7 +240,7 @@ module _ (v : Volume) (a : Space) (was : IsStanding v a) (settled : IsSettled v 
     -- ---- where a law says that these lists are a sound volume's, with a tree
 
     module _ (sound : IsSoundVolume lists_put) where
-      pub settled_put : IsSettled (with_data_put v later cat free) e.content
+      pub settled_put : IsSettled (with_data_put v later ext cat free) e.content
       settled_put = settles w e does.stands does.headed bits (volume_of a.content).attributes_tree settled.attributes (subst IsSoundVolume (sym lists_are) sound)
           (settled.private ∙ sym (private_again v.header.modify_date parent name fork file (volume_of a.content) lists_put is_record settled.sound) ∙ ap (λ (l : VolumeState). private_id (placed_in l.catalog_pairs)) (sym lists_are))
 
@@ -229,21 +249,32 @@ module _ (v : Volume) (a : Space) (was : IsStanding v a) (settled : IsSettled v 
     catalog_are : sectors_of_tree v.catalog.file ≡ catalog_sectors (volume_of a.content)
     catalog_are = (λ i. sectors_of (was.forks.catalog_per i) (blocks_of (was.forks.catalog i))) ∙ sym (ap (λ (l : VolumeState). catalog_sectors l) settled.lists)
 
+    -- the forks of special files have the extents that they had
+    special_same : (low : ℕ) (special : ForkRecord) → low < 16 → extents_of (overflow_in_volume (lists_of (with_stored v later ext) m)) low data_kind special ≡ extents_of (overflow_in_volume (volume_of a.content)) low data_kind special
+    special_same low special less = extents_alike file.fields.id data_kind (overflow_in_volume (volume_of a.content)) (overflow_in_volume (lists_of (with_stored v later ext) m)) holds_it.others low data_kind special
+        (λ same. absurd (omega (arith, same, less, file_high (volume_of a.content) settled.sound is_record.updates.entry entry_there file is_record.value)))
+
     map_are : map_sectors w ≡ allocation_sectors (volume_of a.content)
     map_are = (λ i. sectors_of (does.stands.forks.map_per i) (blocks_of (does.stands.forks.map i))) ∙ ap (λ (l : VolumeState). allocation_sectors l) lists_are
+        ∙ ap (λ (l : List Extent). sectors_of (per_block_of (volume_of a.content).head) (blocks_of l)) (special_same allocation_id (volume_of a.content).head.allocation_fork (omega arith))
+
+    extents_are : sectors_of_tree v.extents.file ≡ extents_sectors (volume_of a.content)
+    extents_are = (λ i. sectors_of (was.forks.extents_per i) (blocks_of (was.forks.extents i))) ∙ sym (ap (λ (l : VolumeState). extents_sectors l) settled.lists)
 
     later_agrees : AgreesOutside (IsSpecial (volume_of a.content)) b e.content
     later_agrees = record {
-      size = does.outside.size ∙ does.changes.outside.size;
-      each = λ s. by s (does.changes.outside.each s) (does.outside.each s);
+      size = does.outside.size ∙ does.changes.outside.size ∙ does.spreads.outside.size;
+      each = λ s. by s (does.spreads.outside.each s) (does.changes.outside.each s) (does.outside.each s);
     }
       where
-        by : (s : ℕ) → (sector c s ≡ sector b s) ⊎ ((s ≡ 2) ⊎ Contains (sectors_of_tree v.catalog.file) s) → (sector e.content s ≡ sector c s) ⊎ ((s ≡ 2) ⊎ Contains (map_sectors w) s) → (sector e.content s ≡ sector b s) ⊎ IsSpecial (volume_of a.content) s
-        by s first (inr (inl two)) = inr (inl two)
-        by s first (inr (inr map)) = inr (inr (inr (subst (λ (l : List ℕ). Contains l s) map_are map)))
-        by s (inr (inl two)) (inl same) = inr (inl two)
-        by s (inr (inr has)) (inl same) = inr (inr (inl (subst (λ (l : List ℕ). Contains l s) catalog_are has)))
-        by s (inl was_same) (inl same) = inl (same ∙ was_same)
+        by : (s : ℕ) → (sector m s ≡ sector b s) ⊎ Contains (sectors_of_tree v.extents.file) s → (sector c s ≡ sector m s) ⊎ ((s ≡ 2) ⊎ Contains (sectors_of_tree v.catalog.file) s) → (sector e.content s ≡ sector c s) ⊎ ((s ≡ 2) ⊎ Contains (map_sectors w) s)
+            → (sector e.content s ≡ sector b s) ⊎ IsSpecial (volume_of a.content) s
+        by s store first (inr (inl two)) = inr (inl two)
+        by s store first (inr (inr map)) = inr (inr (inr (inl (subst (λ (l : List ℕ). Contains l s) map_are map))))
+        by s store (inr (inl two)) (inl same) = inr (inl two)
+        by s store (inr (inr has)) (inl same) = inr (inr (inl (subst (λ (l : List ℕ). Contains l s) catalog_are has)))
+        by s (inr has) (inl was_same) (inl same) = inr (inr (inr (inr (subst (λ (l : List ℕ). Contains l s) extents_are has))))
+        by s (inl stored) (inl was_same) (inl same) = inl (same ∙ was_same ∙ stored)
 
     spilled : AgreesOutside (IsOneOf (sectors_of (per_block_of (volume_of a.content).head) (blocks_of (fresh_of v.map n)))) a.content b
     spilled = subst (λ (h : VolumeHeader). AgreesOutside (IsOneOf (sectors_of (per_block_of h) (blocks_of (fresh_of v.map n)))) a.content b) (sym head_is) does.spilled
@@ -259,7 +290,7 @@ module _ (v : Volume) (a : Space) (was : IsStanding v a) (settled : IsSettled v 
     attributes_still : (s : ℕ) → Contains (attributes_sectors (volume_of a.content)) s → sector e.content s ≡ sector a.content s
     attributes_still s has =
         let apart = attributes_apart (volume_of a.content) settled.sound s has in
-        ⊎_elim (λ same. same) (λ special. absurd (⊎_elim (λ two. apart.0 two) (λ others. ⊎_elim (λ there. apart.1 there) (λ map. attributes_off_map (volume_of a.content) settled.sound s has map) others) special)) (later_agrees.each s)
+        ⊎_elim (λ same. same) (λ special. absurd (⊎_elim (λ two. apart.0 two) (λ others. ⊎_elim (λ there. apart.1 there) (λ more. ⊎_elim (λ map. attributes_off_map (volume_of a.content) settled.sound s has map) (λ extents. attributes_off_extents (volume_of a.content) settled.sound s has extents) more) others) special)) (later_agrees.each s)
         ∙ ⊎_elim (λ same. same)
         (λ is. absurd (fresh_apart a.content b e.content (sound_here v a was settled) fresh are_fresh spilled later_agrees (s / per_block_of (volume_of a.content).head)
         (block_fresh a.content b e.content (sound_here v a was settled) fresh are_fresh spilled later_agrees s is) (inr (own_attributes, (4, omega arith, refl), special_there s has))))
@@ -269,7 +300,7 @@ module _ (v : Volume) (a : Space) (was : IsStanding v a) (settled : IsSettled v 
     limit_same = ap (λ (h : VolumeHeader). h.total_blocks * per_block_of h) does.headed ∙ sym (ap (λ (h : VolumeHeader). h.total_blocks * per_block_of h) (header_settled v a.content settled))
 
     attributes_same : (volume_of e.content).attributes_tree ≡ (volume_of a.content).attributes_tree
-    attributes_same = attributes_again a.content e.content limit_same (ap (λ (l : VolumeState). attributes_sectors l) volume_now) attributes_still
+    attributes_same = attributes_again a.content e.content limit_same (ap (λ (l : VolumeState). attributes_sectors l) volume_now ∙ ap (λ (l : List Extent). sectors_of (per_block_of (volume_of a.content).head) (blocks_of l)) (special_same attributes_id (volume_of a.content).head.attributes_fork (omega arith))) attributes_still
 
     pub volume_is : volume_of e.content ≡ lists_put
     volume_is = volume_now ∙ (λ i. record lists_put { attributes_tree = attributes_same i })
@@ -281,7 +312,7 @@ module _ (v : Volume) (a : Space) (was : IsStanding v a) (settled : IsSettled v 
       unfolding rewrites_it
       others =
           let put = put_is from count v.header.modify_date parent name fork file fresh (volume_of a.content) lists_put is_record settled.sound (sym (ap (λ (h : VolumeHeader). h.modify_date) head_is)) nodes free counted refl are_fresh more
-          does.fits.data_fork.extents.eight does.few does.gets does.many does.total size_held does.blocks does.within does.flips below in
+          holds_it extents_nodes does.total size_held does.blocks does.within does.flips below in
           others_law file.fields.id data_kind from count fresh a.content e.content rewrites_it.put (sound_here v a was settled) rewrites_it.puts (ap (λ (l : VolumeState). l.head) volume_now ∙ sym put.0) (ap (λ (l : VolumeState). l.overflow_pairs) volume_now ∙ sym put.1)
           (put_agrees a.content b e.content (sound_here v a was settled) fresh are_fresh spilled later_agrees)
 
@@ -289,7 +320,7 @@ module _ (v : Volume) (a : Space) (was : IsStanding v a) (settled : IsSettled v 
       made =
           bytes_then a.content b e.content (sound_here v a was settled) fresh are_fresh spilled later_agrees is_record.updates.entry file entry_there is_record.value (blocks_of more) cases lists_put reads refl (with_data fork file)
           (now_blocks from count v.header.modify_date parent name fork file fresh (volume_of a.content) lists_put is_record settled.sound (sym (ap (λ (h : VolumeHeader). h.modify_date) head_is)) nodes free counted refl are_fresh more
-          does.fits.data_fork.extents.eight does.few does.gets does.many does.total size_held does.blocks does.within does.flips below)
+          holds_it extents_nodes does.total size_held does.blocks does.within does.flips below)
           (λ s has. below_product s (per_block_of (volume_of a.content).head) (volume_of a.content).head.total_blocks some (below (s / per_block_of (volume_of a.content).head) (in_block (per_block_of (volume_of a.content).head) (blocks_of more) s some has)))
           ∙ ap (λ (h : VolumeHeader). take fork.logical_size (bytes_read b h.block_size more)) head_is
           ∙ does.bytes
@@ -303,4 +334,4 @@ module _ (v : Volume) (a : Space) (was : IsStanding v a) (settled : IsSettled v 
       pub makes_it : MakesBytes (written_bytes place value) rewrites_it (file_bytes a.content) (file_bytes e.content)
       unfolding rewrites_it
       makes_it = makes from count v.header.modify_date parent name fork file fresh (volume_of a.content) lists_put is_record settled.sound (sym (ap (λ (h : VolumeHeader). h.modify_date) head_is)) nodes free counted refl are_fresh more
-          does.fits.data_fork.extents.eight does.few does.gets does.many does.total size_held does.blocks does.within does.flips below (written_bytes place value) (file_bytes a.content) (file_bytes e.content) made others
+          holds_it extents_nodes does.total size_held does.blocks does.within does.flips below (written_bytes place value) (file_bytes a.content) (file_bytes e.content) made others

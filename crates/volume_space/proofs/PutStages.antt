@@ -135,7 +135,7 @@ in_part blocks all first many part is used = all_of (λ (k : ℕ). slice_index_o
 
 module _ (v w : Volume) (a c d e : Space) (was : IsStanding v a) (settled : IsSettled v a.content) (entry : Entry) (file : FileRecord) (list : List Extent) (from : ℕ) (value : List ℕ) (total free : ℕ)
     (places : PlacesData entry file list from value total free v w a.content c.content) (sure : IsSureToPut list file.data_fork.logical_size v a) (some : 0 < length value) (enough : blocks_put v file.data_fork.logical_size from (length value) ≤ count_set (free_of v.map))
-    (p : Placed) (stands_there : Contains (entries_of (records_of (volume_of a.content))) p) (value_is : p.value ≡ File file) (list_is : list ≡ extents_in a.content file) (few : length list < 8)
+    (p : Placed) (stands_there : Contains (entries_of (records_of (volume_of a.content))) p) (value_is : p.value ≡ File file) (list_is : list ≡ extents_in a.content file)
     (there : value_at (lists_of v a.content).catalog_pairs entry.parent entry.name ≡ Some (File file)) (no_link : is_link_type file.fields ≡ false) (fits : FitsFile file)
     (counted : free + blocks_put v file.data_fork.logical_size from (length value) ≡ v.header.free_blocks + (old_end v.header.block_size file.data_fork.logical_size (from + length value) - first_block v.header.block_size file.data_fork.logical_size from))
     (totals : total + (old_end v.header.block_size file.data_fork.logical_size (from + length value) - first_block v.header.block_size file.data_fork.logical_size from) ≡ file.data_fork.total_blocks + blocks_put v file.data_fork.logical_size from (length value))
@@ -231,11 +231,12 @@ module _ (v w : Volume) (a c d e : Space) (was : IsStanding v a) (settled : IsSe
           ((header_within.content told).each s);
     }
 
-    pub put_through : IsPutThrough v a w.map w.catalog free places.between c.content e n entry.parent entry.name (fork_with (max size end) total places.later file.data_fork) file start (behind - start) places.later from value
+    pub put_through : IsPutThrough v a w.map w.extents w.catalog free places.between places.stored c.content e n entry.parent entry.name (fork_with (max size end) total places.later file.data_fork) file start (behind - start) places.later from value
     put_through = record {
       enough = enough;
       spilled = places.spilled;
       spill_lists = places.lists;
+      spreads = places.spreads;
       updates = places.replaces.updates;
       changes = places.replaces.changes;
       there = there;
@@ -247,9 +248,7 @@ module _ (v w : Volume) (a c d e : Space) (was : IsStanding v a) (settled : IsSe
       map_held = subst (λ (x : Volume). HoldsMap x e.content) places.rest map_held;
       lists_after = subst (λ (x : Volume). lists_of x e.content ≡ lists_of x c.content) places.rest (header_put.lists ∙ map_put.lists);
       outside = subst (λ (x : Volume). AgreesOutside (λ s. (s ≡ 2) ⊎ Contains (map_sectors x) s) c.content e.content) places.rest outside;
-      few = subst (λ (l : List Extent). length l < 8) list_is few;
       gets = refl;
-      many = places.few;
       total = total_is;
       size_held = subst (λ (l : List ℕ). max size end ≤ length l * block) (sym blocks_are) (still_held block size from end (blocks_of list) fresh some_block (omega (arith, some)) sure.holds fresh_many);
       blocks = blocks_are ∙ (λ i. take start (blocks_of (list_is i)) ++ (fresh ++ drop (sym whole i) (blocks_of (list_is i))));
@@ -262,15 +261,14 @@ module _ (v w : Volume) (a c d e : Space) (was : IsStanding v a) (settled : IsSe
     module _ (others_law : OthersKeepBytes) where
       pub value_put : PutsValue file from value v w a.content e.content
       value_put = record {
-        lists = lists_put v a was settled w.map w.catalog free places.between c.content e n entry.parent entry.name (fork_with (max size end) total places.later file.data_fork) file start (behind - start) places.later from value put_through;
+        lists = lists_put v a was settled w.map w.extents w.catalog free places.between places.stored c.content e n entry.parent entry.name (fork_with (max size end) total places.later file.data_fork) file start (behind - start) places.later from value put_through;
         fresh = fresh;
         many = fresh_many;
-        rewrites = rewrites_it v a was settled w.map w.catalog free places.between c.content e n entry.parent entry.name (fork_with (max size end) total places.later file.data_fork) file start (behind - start) places.later from value put_through;
-        same_file = before_it v a was settled w.map w.catalog free places.between c.content e n entry.parent entry.name (fork_with (max size end) total places.later file.data_fork) file start (behind - start) places.later from value put_through;
-        makes = makes_it v a was settled w.map w.catalog free places.between c.content e n entry.parent entry.name (fork_with (max size end) total places.later file.data_fork) file start (behind - start) places.later from value put_through others_law;
+        rewrites = rewrites_it v a was settled w.map w.extents w.catalog free places.between places.stored c.content e n entry.parent entry.name (fork_with (max size end) total places.later file.data_fork) file start (behind - start) places.later from value put_through;
+        same_file = before_it v a was settled w.map w.extents w.catalog free places.between places.stored c.content e n entry.parent entry.name (fork_with (max size end) total places.later file.data_fork) file start (behind - start) places.later from value put_through;
+        makes = makes_it v a was settled w.map w.extents w.catalog free places.between places.stored c.content e n entry.parent entry.name (fork_with (max size end) total places.later file.data_fork) file start (behind - start) places.later from value put_through others_law;
         settles = λ sound. subst (λ (x : Volume). IsSettled x e.content) (sym places.rest)
-            (settled_put v a was settled w.map w.catalog free places.between c.content e n entry.parent entry.name (fork_with (max size end) total places.later file.data_fork) file start (behind - start) places.later from value put_through sound);
-        tree = tree_put v a was settled w.map w.catalog free places.between c.content e n entry.parent entry.name (fork_with (max size end) total places.later file.data_fork) file start (behind - start) places.later from value put_through;
-        now = volume_is v a was settled w.map w.catalog free places.between c.content e n entry.parent entry.name (fork_with (max size end) total places.later file.data_fork) file start (behind - start) places.later from value put_through;
-        overflow = refl;
+            (settled_put v a was settled w.map w.extents w.catalog free places.between places.stored c.content e n entry.parent entry.name (fork_with (max size end) total places.later file.data_fork) file start (behind - start) places.later from value put_through sound);
+        tree = tree_put v a was settled w.map w.extents w.catalog free places.between places.stored c.content e n entry.parent entry.name (fork_with (max size end) total places.later file.data_fork) file start (behind - start) places.later from value put_through;
+        now = volume_is v a was settled w.map w.extents w.catalog free places.between places.stored c.content e n entry.parent entry.name (fork_with (max size end) total places.later file.data_fork) file start (behind - start) places.later from value put_through;
       }

@@ -59,7 +59,7 @@ module _ (v w : Volume) (a : Space) (c : Content) (was : IsStanding v a) (settle
         let none_later : AgreesOutside _ places.between places.between = record { size = refl; each = λ at. inl refl } in
         fresh_apart a.content places.between places.between (sound_here v a was settled) fresh (fresh_are v a was settled n enough) spilled none_later (s / per_block_of (volume_of a.content).head)
         (block_fresh a.content places.between places.between (sound_here v a was settled) fresh (fresh_are v a was settled n enough) spilled none_later s is)
-        (special_block a.content places.between places.between (sound_here v a was settled) fresh (fresh_are v a was settled n enough) spilled none_later s (inr (inr (subst (λ (l : List ℕ). Contains l s) map_are has))))
+        (special_block a.content places.between places.between (sound_here v a was settled) fresh (fresh_are v a was settled n enough) spilled none_later s (inr (inr (inl (subst (λ (l : List ℕ). Contains l s) map_are has)))))
 
     once : (s : ℕ) → Contains (map_sectors v) s → (s ≡ 2) ⊎ Contains (sectors_of_tree v.catalog.file) s → ⊥
     once s has (inl two) =
@@ -85,9 +85,23 @@ module _ (v w : Volume) (a : Space) (c : Content) (was : IsStanding v a) (settle
           stands_once s (sectors_of_tree v.catalog.file) there,
         )
 
+    off_extents : (s : ℕ) → Contains (map_sectors v) s → Contains (sectors_of_tree v.extents.file) s → ⊥
+    off_extents s has there =
+        omega (
+          arith,
+          was.apart s,
+          times-append s (2 ∷ []) (file_sectors v),
+          times-append s (sectors_of_tree v.extents.file) (sectors_of_tree v.catalog.file ++ (attribute_sectors v ++ map_sectors v)),
+          times-append s (sectors_of_tree v.catalog.file) (attribute_sectors v ++ map_sectors v),
+          times-append s (attribute_sectors v) (map_sectors v),
+          stands_once s (map_sectors v) has,
+          stands_once s (sectors_of_tree v.extents.file) there,
+        )
+
     same_sector : (s : ℕ) → Contains (map_sectors v) s → sector c s ≡ sector a.content s
     same_sector s has =
-        ⊎_elim (λ same. same) (λ there. absurd (once s has there)) (places.replaces.changes.outside.each s) ∙ ⊎_elim (λ same. same) (λ is. absurd (not_spilled s has is)) (spilled.each s)
+        ⊎_elim (λ same. same) (λ there. absurd (once s has there)) (places.replaces.changes.outside.each s) ∙ ⊎_elim (λ same. same) (λ there. absurd (off_extents s has there)) (places.spreads.outside.each s)
+        ∙ ⊎_elim (λ same. same) (λ is. absurd (not_spilled s has is)) (spilled.each s)
 
     map_same : map_sectors w ≡ map_sectors v
     map_same = λ i. fork_sectors (places.keeps.fork i) (places.keeps.per_block i)

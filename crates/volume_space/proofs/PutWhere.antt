@@ -50,10 +50,10 @@ module _ (v : Volume) (content : Content) (settled : IsSettled v content) (file 
     wanted : blocks_for v.header.block_size file.data_fork.logical_size ≡ parts_for put.old_size (volume_of content).head.block_size
     wanted = sym (parts_are file.data_fork.logical_size v.header.block_size some) ∙ (λ i. parts_for (sym at.size_is i) (sym head_is i).block_size)
 
-    surplus : has_more file.data_fork.logical_size (from + long) (blocks_for v.header.block_size file.data_fork.logical_size) file.data_fork.total_blocks ≡ needs_cut (volume_of content) (Some put)
+    pub surplus : has_more file.data_fork.logical_size (from + long) (blocks_for v.header.block_size file.data_fork.logical_size) file.data_fork.total_blocks ≡ needs_cut (volume_of content) (Some put)
     surplus = λ i. longer i && nat_lt (wanted i) (sym blocks_many i)
 
-    many : length (extents_in content file) ≡ length (file_extents (volume_of content) put.id data_kind)
+    pub many : length (extents_in content file) ≡ length (file_extents (volume_of content) put.id data_kind)
     many = sym (ap (λ n. length (file_extents (volume_of content) n data_kind)) number ∙ ap (λ (l : List Extent). length l) extents_same)
 
     -- whether the data can be put now, as the weight says it

@@ -42,20 +42,21 @@ use Rattle.overflow.specs.declared.changes.Change.{Change}
 use Rattle.overflow.proofs.Cutting.{AreUsed}
 use Rattle.overflow.proofs.Whole.{goes_on_in, pairs_eight, used_by, whole_is}
 use Rattle.volume_base.specs.Changing.{KeepsBlocks}
-use Rattle.volume_space.specs.Cutting.{IsCutOf, IsForkOf, IsLastCut, fork_at, kind_of}
+use Rattle.volume_base.specs.Cutting.{IsCutOf, IsLastCut, fork_at}
+use Rattle.volume_space.specs.Cutting.{IsForkOf, kind_of}
 use Rattle.volume_base.specs.Lists.{lists_of}
 use Rattle.volume_base.specs.Reading.{HasFile}
 use Rattle.volume_base.specs.Standing.{IsSettled}
-use Rattle.volume_space.specs.declared.cutting.Cut.{Cut}
+use Rattle.volume_base.specs.declared.cutting.Cut.{Cut}
 use Rattle.volume_space.specs.declared.cutting.ForkKind.{ForkKind}
 use Rattle.volume_space.specs.declared.cutting.ForkKind.TheVariants as kinds
 use Rattle.volume_base.specs.declared.entries.Entry.{Entry}
 use Rattle.volume_base.specs.declared.volume.Volume.{Volume}
-use Rattle.volume_space.proofs.CutForks.{fork_owned, front_few, front_used, full_all}
-use Rattle.volume_space.proofs.CutLists.{extents_used}
+use Rattle.volume_base.proofs.CutForks.{fork_owned, front_few, front_used, full_all}
+use Rattle.volume_base.proofs.CutLists.{extents_used}
 use Rattle.volume_base.proofs.Extending.{overflow_told}
 use Rattle.volume_space.proofs.FewChanges.{AreFew, blocks_both, few, past_eight}
-use Rattle.volume_space.proofs.NextDrop.{fork_stands}
+use Rattle.volume_base.proofs.NextDrop.{fork_stands}
 
 -- ---- a file and its forks
 

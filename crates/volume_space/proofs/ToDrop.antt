@@ -20,12 +20,13 @@ use Rattle.hfs_volume.proofs.Hiding.{same_entry}
 use Rattle.hfs_volume.proofs.Members.{kept_cases}
 use Rattle.volume_base.specs.Entering.{entry_by_id}
 use Rattle.volume_base.specs.Lists.{lists_of}
-use Rattle.volume_space.specs.Orphans.{IsFirstName, IsToDrop, found_among, is_blockless}
+use Rattle.volume_base.specs.Orphans.{IsFirstName, is_blockless}
+use Rattle.volume_space.specs.Orphans.{IsToDrop, found_among}
 use Rattle.volume_base.specs.Standing.{HoldsTrees, IsSettled}
 use Rattle.volume_base.specs.declared.entries.Entry.{Entry}
 use Rattle.volume_base.specs.declared.volume.Volume.{Volume}
 use Rattle.volume_base.proofs.Entered.{entry_is, keys_are, short_names}
-use Rattle.volume_space.proofs.NextDrop.{least_is, next_is_bare, next_is_drop}
+use Rattle.volume_base.proofs.NextDrop.{least_is, next_is_bare, next_is_drop}
 use Rattle.volume_base.proofs.Rising.{settled_sorted}
 use Rattle.volume_space.proofs.Waiting.{least_found, none_waits}
 

@@ -10,8 +10,6 @@ use Rattle.fork_map.specs.Blocks.{blocks_of}
 use Rattle.fork_map.specs.Cut.{front}
 use Rattle.alloc_bitmap.specs.Map.{BlockMap, Have, touched_by}
 use Rattle.hx_bytes.specs.declared.extents.Extent.{Extent}
-use Rattle.hx_bytes.specs.declared.extents.ForkRecord.{ForkRecord}
-use Rattle.volume_header.specs.declared.header.VolumeHeader.{VolumeHeader}
 use Rattle.cat_records.specs.declared.record.CatRecord.{CatRecord}
 use Rattle.cat_records.specs.declared.record.CatRecord.TheVariants.{Folder, File, Thread}
 use Rattle.cat_records.specs.declared.record.FileRecord.{FileRecord}
@@ -20,17 +18,17 @@ use Rattle.hfs_volume.specs.Forks.{data_kind, extents_of, parts_for, resource_ki
 use Rattle.hfs_volume.specs.Links.{orphans_of}
 use Rattle.hfs_volume.specs.Reclaim.{CutOrphan, CutShrunk, Does, IsTreeFork, Reclaim, blocks_at, blocks_wanted, least, next_reclaim}
 use Rattle.hfs_volume.specs.TreeOf.{tree_of}
-use Rattle.overflow.specs.Records.{eight_at}
 use Rattle.volume_base.specs.Changing.{catalog_node}
 use Rattle.volume_base.specs.Lists.{lists_of}
 use Rattle.volume_space.specs.Mapping.{HoldsMap}
 use Rattle.volume_space.specs.Standing.{HoldsOn}
 use Rattle.volume_base.specs.Standing.{map_sectors}
-use Rattle.volume_space.specs.declared.cutting.Cut.{Cut}
+use Rattle.volume_base.specs.declared.cutting.Cut.{Cut}
 use Rattle.volume_space.specs.declared.cutting.ForkKind.{ForkKind}
 use Rattle.volume_space.specs.declared.cutting.ForkKind.TheVariants as kinds
 use Rattle.volume_space.specs.declared.trimming.Surplus.{Surplus}
 use Rattle.volume_base.specs.declared.volume.Volume.{Volume}
+use Rattle.volume_base.specs.Cutting.{fork_at, with_freed}
 
 -- ---- forks
 
@@ -39,19 +37,6 @@ abbrev pub kind_of : ForkKind → ℕ
 kind_of kinds.Data = data_kind
 kind_of kinds.Resource = resource_kind
 
--- a file's fork of this kind
-abbrev pub fork_at : ℕ → FileRecord → ForkRecord
-fork_at kind file = if kind == data_kind then file.data_fork else file.resource_fork
-
--- a fork that has so many blocks of this size, in these extents, and no bytes past them
-abbrev pub shorter_fork : ℕ → ℕ → List Extent → ForkRecord → ForkRecord
-shorter_fork blocks block extents stored = record {
-  logical_size = min stored.logical_size (blocks * block);
-  clump_size = stored.clump_size;
-  total_blocks = blocks;
-  extents = eight_at extents 0;
-}
-
 -- ---- the run that goes
 -- A list of extents in two parts: those of the blocks in front, and one run at the end, of so many blocks.
 pub record IsSplit (count : ℕ) (list : List Extent) (cut : Cut) : Type 0 where
@@ -59,26 +44,6 @@ pub record IsSplit (count : ℕ) (list : List Extent) (cut : Cut) : Type 0 where
   pub stay : blocks_of cut.stays ≡ take (length (blocks_of list) - count) (blocks_of list)
   pub go : blocks_of (cut.goes ∷ []) ≡ drop (length (blocks_of list) - count) (blocks_of list)
   pub some : 0 < cut.goes.count
-
--- A list of extents in two parts: those of the blocks in front, no fewer than these, and one run at the end, which is the last extent or its end.
-pub record IsLastCut (keep : ℕ) (list : List Extent) (cut : Cut) : Type 0 where
-  pub left : ℕ
-  pub stays : cut.stays ≡ front left list
-  pub stay : blocks_of cut.stays ≡ take left (blocks_of list)
-  pub go : blocks_of (cut.goes ∷ []) ≡ drop left (blocks_of list)
-  pub least : keep ≤ left
-  pub some : 0 < cut.goes.count
-  pub sum : left + cut.goes.count ≡ length (blocks_of list)
-  pub near : length (blocks_of (take (length list - 1) list)) ≤ left
-
--- The blocks of a fork in these extents, in two such parts.
-pub record IsCutOf (list : List Extent) (stored : ForkRecord) (keep : ℕ) (cut : Cut) : Type 0 where
-  pub blocks : length (blocks_of list) ≡ stored.total_blocks
-  pub last : IsLastCut keep list cut
-
--- the record of a fork of which this was cut
-abbrev pub cut_fork_of : ℕ → ForkRecord → Cut → ForkRecord
-cut_fork_of block stored cut = shorter_fork (stored.total_blocks - cut.goes.count) block cut.stays stored
 
 -- The blocks of a run are in use, and the header can count them as free.
 pub record MayGive (run : Extent) (volume : Volume) : Type 0 where
@@ -89,10 +54,6 @@ pub record MayGive (run : Extent) (volume : Volume) : Type 0 where
 -- a bitmap that gave a run back, and holds its blocks
 abbrev pub without_run : Extent → BlockMap → BlockMap
 without_run run map = record map { used = mark map.used run false; held = mark map.held run true; changed = mark map.changed (touched_by run) true }
-
--- a header that counts so many free blocks more
-abbrev pub with_freed : ℕ → VolumeHeader → VolumeHeader
-with_freed count head = record head { free_blocks = head.free_blocks + count }
 
 -- a volume that gave a run back
 abbrev pub given_back : Extent → Volume → Volume

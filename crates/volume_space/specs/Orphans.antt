@@ -1,5 +1,5 @@
 -- Files that lost their last name and wait in the private folder: how a step of housekeeping finds the first of them, and what it does to it.
-use Rattle.std.specs.Prelude.{◌≡◌, ◌⊎◌, ◌<◌, ◌==◌, ◌&&◌, ◌||◌, nat_lt, ℕ, Bool, false, not, List, [], ◌∷◌, length, drop, slice_index, slice_index_or, Option, Some, None, if◌then◌else◌}
+use Rattle.std.specs.Prelude.{◌≡◌, ◌⊎◌, ◌==◌, ◌&&◌, ◌||◌, nat_lt, ℕ, Bool, false, not, List, [], ◌∷◌, length, drop, slice_index, Option, Some, None, if◌then◌else◌}
 use Rattle.std.specs.List.{list_all}
 use Rattle.sector_disk.specs.Lists.{Content}
 use Rattle.jnl_format.specs.Recovery.{header_of_volume}
@@ -71,12 +71,6 @@ abbrev pub found_among : Option ℕ → List Child → Option ℕ
 found_among found [] = found
 found_among found (child ∷ rest) = found_among (found_next found child) rest
 
--- a file that has no blocks
-abbrev pub is_blockless : CatRecord → Bool
-is_blockless (Folder folder) = false
-is_blockless (File file) = (file.data_fork.total_blocks == 0) && (file.resource_fork.total_blocks == 0)
-is_blockless (Thread thread) = false
-
 -- ---- the entry that goes
 -- The next step of reclaiming drops this entry: it is that of a file that lost its last name, and has neither blocks nor attributes.
 pub record IsToDrop (shrunk : Option ℕ) (content : Content) (entry : Entry) : Type 0 where
@@ -100,11 +94,6 @@ pub record DropsWaiting (shrunk : Option ℕ) (before after : Content) : Type 0 
   pub drops : DropsOrphanEntry id (volume_of before) (volume_of after)
   pub does : Does (DropOrphan id) (volume_of before) (volume_of after)
   pub tree : tree_of after ≡ tree_of before
-
--- ---- the attribute that goes
--- the name is the first of these
-abbrev pub IsFirstName : List ℕ → List (List ℕ) → Type 0
-IsFirstName name names = (0 < length names) × (name ≡ slice_index_or names 0 [])
 
 -- An attribute of a file that waits goes, in the lists of the content, and the tree is as it was.
 pub record BaresWaiting (shrunk : Option ℕ) (before after : Content) : Type 0 where

@@ -1,24 +1,26 @@
 -- The extents of a fork, of which those behind the eight of its record stand in overflow records.
-use Rattle.std.specs.Prelude.{◌≡◌, ℕ, not, List, map}
+use Rattle.std.specs.Prelude.{◌≡◌, ◌<◌, ℕ, ◌==◌, ◌&&◌, Bool, false, not, nat_le, List, [], ◌∷◌, slice_index}
 use Rattle.std.specs.List.{Contains}
 use Rattle.hx_bytes.specs.declared.extents.Extent.{Extent}
+use Rattle.hx_bytes.specs.declared.extents.ForkRecord.{ForkRecord}
+use Rattle.fork_map.specs.Blocks.{blocks_of}
 use Rattle.jnl_format.specs.Recovery.{header_of_volume}
 use Rattle.sector_disk.specs.Lists.{Content}
 use Rattle.sector_disk.specs.Space.{AgreesOutside}
-use Rattle.btree_node.specs.Levels.{Pair}
 use Rattle.btree_file.specs.State.{sectors_of_tree}
 use Rattle.hfs_model.specs.Sorted.{kept}
-use Rattle.hfs_volume.specs.Forks.{is_of}
-use Rattle.hfs_volume.specs.Records.{overflow_of}
-use Rattle.overflow.specs.Records.{records_for, under}
+use Rattle.hfs_volume.specs.Blocks.{GoesOn, LieInside}
+use Rattle.hfs_volume.specs.Content.{overflow_in_volume}
+use Rattle.hfs_volume.specs.Forks.{data_kind, extents_of, is_of}
+use Rattle.hfs_volume.specs.declared.cost.Cost.{Cost}
+use Rattle.hfs_volume.specs.declared.cost.Cost.TheVariants as cost
+use Rattle.hfs_volume.specs.declared.cost.Needs.{Needs}
+use Rattle.hfs_volume.specs.Records.{Overflow}
+use Rattle.overflow.specs.Records.{eight_at}
 use Rattle.volume_base.specs.Lists.{lists_of, facts_on}
 use Rattle.volume_base.specs.Trees.{IsSameFile}
 use Rattle.volume_base.specs.declared.volume.Volume.{Volume}
-
--- The overflow records of a fork are those for these extents, and all others are as they were.
-pub record StoresFork (id kind : ℕ) (extents : List Extent) (old new : List Pair) : Type 0 where
-  pub records : kept (is_of id kind) (map overflow_of new) ≡ map (under id kind) (records_for extents)
-  pub others : kept (λ more. not (is_of id kind more)) (map overflow_of new) ≡ kept (λ more. not (is_of id kind more)) (map overflow_of old)
+use Rattle.volume_base.specs.Spreading.{StoresFork}
 
 -- The overflow records of a fork are those for these extents, and nothing else of the volume is changed; the header wasn't put.
 pub record StoresExtents (id kind : ℕ) (extents : List Extent) (old new : Volume) (before after : Content) : Type 0 where
@@ -28,3 +30,28 @@ pub record StoresExtents (id kind : ℕ) (extents : List Extent) (old new : Volu
   pub file : IsSameFile old.extents.file new.extents.file
   pub headed : header_of_volume after ≡ header_of_volume before
   pub outside : AgreesOutside (λ s. Contains (sectors_of_tree old.extents.file) s) before after
+
+-- A data fork has these blocks by its record and its overflow records, which go on behind it, and all other overflow records are as they were.
+pub record HoldsFork (id : ℕ) (fork : ForkRecord) (more : List Extent) (old new : List Overflow) : Type 0 where
+  pub blocks : blocks_of (extents_of new id data_kind fork) ≡ blocks_of more
+  pub goes_on : GoesOn new (record { id = id; kind = data_kind; fork = fork })
+  pub inside : (total : ℕ) → ((block : ℕ) → Contains (blocks_of more) block → block < total) → LieInside total fork.extents.extents
+  pub others : kept (λ one. not (is_of id data_kind one)) new ≡ kept (λ one. not (is_of id data_kind one)) old
+
+-- The overflow records of a file's data fork go with a record that has the first eight of these extents, and nothing else of the volume is changed; the
+-- header wasn't put.
+pub record SpreadsExtents (id : ℕ) (more : List Extent) (old new : Volume) (before after : Content) : Type 0 where
+  pub holds : (fork : ForkRecord) → fork.extents ≡ eight_at more 0 → HoldsFork id fork more (overflow_in_volume (lists_of old before)) (overflow_in_volume (lists_of new after))
+  pub lists : lists_of new after ≡ record (lists_of old before) { overflow_pairs = (lists_of new after).overflow_pairs; extents_tree = facts_on new.extents.file }
+  pub rest : new ≡ record old { extents = new.extents }
+  pub file : IsSameFile old.extents.file new.extents.file
+  pub outside : AgreesOutside (λ s. Contains (sectors_of_tree old.extents.file) s) before after
+
+-- what so many edits of the extents overflow file need
+abbrev pub needs_extents : ℕ → Needs
+needs_extents edits = record { ids = 0; edits = edits ∷ 0 ∷ 0 ∷ []; updates = 0; new_blocks = 0; old_blocks = 0; runs = 0 }
+
+-- this is a load that so many sectors suffice for, without growth of the extents overflow file
+abbrev pub is_met_extents : Cost → ℕ → Bool
+is_met_extents (cost.Refused why) spare = false
+is_met_extents (cost.Load load grow) spare = (slice_index grow 0 == 0) && nat_le load spare

@@ -30,6 +30,7 @@ use Rattle.hfs_volume.specs.Writing.{MakesBytes, RewritesFile, file_before, writ
 use Rattle.volume_base.specs.Changing.{ReplacesRecord, catalog_node}
 use Rattle.volume_base.specs.Lists.{bits_on, lists_of}
 use Rattle.volume_base.specs.Reading.{HasFile}
+use Rattle.volume_space.specs.Spreading.{SpreadsExtents}
 use Rattle.volume_base.specs.Standing.{IsSettled}
 use Rattle.volume_base.specs.declared.entries.Entry.{Entry}
 use Rattle.volume_base.specs.declared.volume.Tree.{Tree}
@@ -72,6 +73,10 @@ may_overflow extents runs = nat_lt 8 (extents + 1 + runs)
 abbrev pub is_put_later : Volume → VolumeState → Data → Bool
 is_put_later volume lists put = needs_cut lists (Some put) || may_overflow (length (file_extents lists put.id data_kind)) (fresh_runs volume put)
 
+-- where a command puts data, the file's record holds the extents that it gets
+abbrev pub IsFlat : Command → Volume → Content → Type 0
+IsFlat asked volume content = (put : Data) → data_of (tree_of content) asked ≡ Some put → may_overflow (length (file_extents (volume_of content) put.id data_kind)) (fresh_runs volume put) ≡ false
+
 -- there is data to put, it isn't still to come to put it, and there is room for it, where so many sectors may be put
 abbrev pub is_put_now : Volume → ℕ → VolumeState → Option Data → Bool
 is_put_now volume spare lists None = false
@@ -86,7 +91,7 @@ pub record HasData (asked : Command) (before after : Content) : Type 0 where
   pub fresh : List ℕ
   pub rewrites : RewritesFile put.id (first_block (volume_of before).head.block_size put) (old_blocks_of (volume_of before).head.block_size put) fresh (volume_of before) (volume_of after)
   pub forks : PutsInFork (Some put) (volume_of before) (volume_of after)
-  pub overflow : (volume_of after).overflow_pairs ≡ (volume_of before).overflow_pairs
+  pub user : 16 ≤ put.id
 
 -- ---- the stages of a put
 -- a fork of this size in so many blocks, with these extents
@@ -108,15 +113,18 @@ pub record IsSureToPut (extents : List Extent) (size : ℕ) (volume : Volume) (s
   pub apart : AreApart (blocks_of extents)
   pub fit : Fit (length volume.map.used) extents
 
--- the volume behind a spill, behind the new record, and with another number of free blocks
+-- the volume behind a spill, behind the new overflow records, behind the new record, and with another number of free blocks
 abbrev pub with_spill : Volume → BlockMap → Volume
 with_spill volume later = record volume { map = later }
 
-abbrev pub with_record : Volume → BlockMap → Tree → Volume
-with_record volume later catalog = record volume { map = later; catalog = catalog }
+abbrev pub with_stored : Volume → BlockMap → Tree → Volume
+with_stored volume later extents = record volume { map = later; extents = extents }
 
-abbrev pub with_data_put : Volume → BlockMap → Tree → ℕ → Volume
-with_data_put volume later catalog free = record volume { map = later; catalog = catalog; header = record volume.header { free_blocks = free } }
+abbrev pub with_record : Volume → BlockMap → Tree → Tree → Volume
+with_record volume later extents catalog = record volume { map = later; extents = extents; catalog = catalog }
+
+abbrev pub with_data_put : Volume → BlockMap → Tree → Tree → ℕ → Volume
+with_data_put volume later extents catalog free = record volume { map = later; extents = extents; catalog = catalog; header = record volume.header { free_blocks = free } }
 
 -- how many blocks a value takes that is put into a file of this size
 abbrev pub blocks_put : Volume → (size from long : ℕ) → ℕ
@@ -126,7 +134,7 @@ blocks_put volume size from long = new_blocks volume.header.block_size size from
 pub record PlacesData (entry : Entry) (file : FileRecord) (extents : List Extent) (from : ℕ) (value : List ℕ) (total free : ℕ) (old new : Volume) (before after : Content) : Type 0 where
   pub later : List Extent
   pub between : Content
-  pub few : length later ≤ 8
+  pub stored : Content
   pub blocks : blocks_of later ≡ take (first_of old.header.block_size file.data_fork.logical_size from) (blocks_of extents)
       ++ blocks_of (fresh_of old.map (blocks_put old file.data_fork.logical_size from (length value)))
       ++ drop (old_end old.header.block_size file.data_fork.logical_size (from + length value)) (blocks_of extents)
@@ -138,8 +146,9 @@ pub record PlacesData (entry : Entry) (file : FileRecord) (extents : List Extent
   pub keeps : KeepsMap old.map new.map
   pub spilled : AgreesOutside (IsOneOf (sectors_in old.header.block_size (fresh_of old.map (blocks_put old file.data_fork.logical_size from (length value))))) before between
   pub lists : lists_of (with_spill old new.map) between ≡ record (lists_of old before) { bits = bits_on (with_spill old new.map) }
-  pub replaces : ReplacesRecord entry (File (record_with old.header.modify_date (fork_with (max file.data_fork.logical_size (from + length value)) total later file.data_fork) file)) (with_spill old new.map) (with_record old new.map new.catalog) between after
-  pub rest : new ≡ with_data_put old new.map new.catalog free
+  pub spreads : SpreadsExtents file.fields.id later (with_spill old new.map) (with_stored old new.map new.extents) between stored
+  pub replaces : ReplacesRecord entry (File (record_with old.header.modify_date (fork_with (max file.data_fork.logical_size (from + length value)) total later file.data_fork) file)) (with_stored old new.map new.extents) (with_record old new.map new.extents new.catalog) stored after
+  pub rest : new ≡ with_data_put old new.map new.extents new.catalog free
 
 -- A value was put into a file: these are the lists that the laws of `write` and `trunc` speak of, and the bytes are made so. Where they are a sound volume's, the
 -- volume is settled, and stands for their tree.
@@ -153,7 +162,6 @@ pub record PutsValue (file : FileRecord) (from : ℕ) (value : List ℕ) (old ne
   pub settles : IsSoundVolume lists → IsSettled new after
   pub tree : tree_of after ≡ tree_in lists (file_bytes after)
   pub now : volume_of after ≡ lists
-  pub overflow : lists.overflow_pairs ≡ (volume_of before).overflow_pairs
 
 -- the sectors that a put of so many bytes puts at most into a file of this size
 abbrev pub put_load : Volume → (size from long : ℕ) → ℕ

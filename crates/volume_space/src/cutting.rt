@@ -19,7 +19,8 @@ ghost use Rattle.hfs_model.specs.Step.{is_private_name};
 ghost use Rattle.overflow.specs.Records.{no_extent};
 ghost use Rattle.volume_header.specs.Header.{FitsHeader};
 ghost use Rattle.volume_base.specs.Changing.{HasRoomToUpdate, ReplacesRecord};
-ghost use Rattle.volume_space.specs.Cutting.{CutsFile, IsCutOf, IsForkOf, IsLastCut, IsNextCut, IsSplit, KeepsUsed, MayGive, PutsGiven, cut_fork_of, fork_at, given_back, given_load, kind_of, shorter_fork, trim_load, with_freed};
+ghost use Rattle.volume_space.specs.Cutting.{CutsFile, IsForkOf, IsNextCut, IsSplit, KeepsUsed, MayGive, PutsGiven, given_back, given_load, kind_of, trim_load};
+ghost use Rattle.volume_base.specs.Cutting.{IsCutOf, IsLastCut, cut_fork_of, fork_at, shorter_fork, with_freed};
 ghost use Rattle.volume_base.specs.Keeping.{shrunk_of};
 ghost use Rattle.volume_base.specs.Lists.{lists_of};
 ghost use Rattle.volume_base.specs.Service.{IsInService};
@@ -39,7 +40,7 @@ use hfs_volume::{
 use hx_bytes::{Extent, ForkRecord, OutOfMemory, Trouble};
 use sector_disk::SectorSpace;
 use std::alloc::Global;
-use volume_base::{Entry, Volume};
+use volume_base::{Cut, Entry, Volume};
 use volume_header::VolumeHeader;
 
 /// How many blocks a step cuts at most.
@@ -50,13 +51,6 @@ const MOST_BLOCKS: u128 = 32_768;
 pub(crate) enum ForkKind {
     Data,
     Resource,
-}
-
-/// A fork of which one extent at the end goes, or the end of one.
-#[derive(Drop)]
-pub(crate) struct Cut {
-    pub(crate) stays: ExtentList,
-    pub(crate) goes: Extent,
 }
 
 /// A fork of a file.
@@ -116,7 +110,7 @@ fn with_freed(head: &VolumeHeader, count: u32) -> VolumeHeader
 }
 
 /// How many blocks extents have.
-fn count_blocks(extents: &[Extent]) -> u128
+pub(crate) fn count_blocks(extents: &[Extent]) -> u128
     ensures { result ≡ length (blocks_of extents.now) }
 {
     let mut count: u128 = 0;

@@ -2,7 +2,8 @@
 ghost use Rattle.std.specs.Prelude.{◌≡◌};
 ghost use Rattle.std.specs.List.{list_all};
 ghost use Rattle.hfs_volume.specs.Records.{id_in, is_link_type};
-ghost use Rattle.volume_space.specs.Orphans.{begins_temp, found_next, is_blockless, is_digit, is_led, is_number, is_own_record, is_temp, is_waiting, lesser};
+ghost use Rattle.volume_space.specs.Orphans.{begins_temp, found_next, is_digit, is_led, is_number, is_own_record, is_temp, is_waiting, lesser};
+ghost use Rattle.volume_base.specs.Orphans.{is_blockless};
 
 use cat_records::{CatRecord, EntryFields};
 use catalog::Child;

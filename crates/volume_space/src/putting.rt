@@ -1,5 +1,5 @@
 //! Data put into a file of a volume in service.
-ghost use Rattle.std.specs.Prelude.{◌≡◌, ◌⊎◌, ◌<◌, ◌≤◌, ◌+◌, ◌-◌, ◌*◌, ◌/◌, ◌%◌, ◌^◌, ℕ, Some, true, false, max, min, nat_le, IsTrue, IfOk, IfSome, OnOk, length};
+ghost use Rattle.std.specs.Prelude.{◌≡◌, ◌⊎◌, ◌<◌, ◌≤◌, ◌+◌, ◌-◌, ◌*◌, ◌/◌, ◌%◌, ◌^◌, ℕ, Some, true, false, max, min, nat_le, IsTrue, IfNone, IfOk, IfSome, OnOk, length, slice_index};
 ghost use Rattle.std.specs.List.{Contains};
 ghost use Rattle.sector_disk.specs.Lists.{Content};
 ghost use Rattle.sector_disk.specs.Space.{SameSpace};
@@ -14,9 +14,10 @@ ghost use Rattle.flag_rows.specs.Bits.{count_set, sectors_for};
 ghost use Rattle.flag_rows.specs.Runs.{fewest_of};
 ghost use Rattle.hfs_model.specs.declared.plain.PlainNode.{PlainNode};
 ghost use Rattle.hfs_volume.specs.TreeOf.{tree_of};
-ghost use Rattle.hfs_volume.specs.Weight.{Data, free_runs};
+ghost use Rattle.hfs_volume.specs.Weight.{Data, file_extents, free_runs, needs_cut};
 ghost use Rattle.hfs_volume.specs.Aside.{IsJournalSector};
-ghost use Rattle.volume_base.specs.Changing.{HasRoomToUpdate, catalog_node};
+ghost use Rattle.volume_cost.specs.Sizes.{AreSmall};
+ghost use Rattle.volume_base.specs.Changing.{catalog_node};
 ghost use Rattle.volume_base.specs.Lists.{lists_of};
 ghost use Rattle.hfs_volume.specs.Content.{overflow_in_volume, records_of, volume_of};
 ghost use Rattle.hfs_volume.specs.Forks.{data_kind, extents_of};
@@ -28,20 +29,24 @@ ghost use Rattle.volume_space.specs.Spilling.{IsLaidOutAs};
 ghost use Rattle.volume_space.specs.Standing.{HoldsOn};
 ghost use Rattle.volume_base.specs.Standing.{IsSettled, StandsOver, own_sectors};
 ghost use Rattle.volume_base.specs.Touching.{Touches};
-ghost use Rattle.volume_space.specs.Writing.{AreHad, IsAt, IsSureToPut, IsToldFile, PlacesData, PutsAt, PutsValue, are_apart, blocks_put, can_put, data_load, ends_before, extents_in, fork_with, has_more, is_apart_from, is_put_now, may_overflow, put_load, record_with};
+ghost use Rattle.volume_space.specs.Writing.{AreHad, IsAt, IsSureToPut, IsToldFile, PlacesData, PutsAt, PutsValue, are_apart, blocks_put, can_put, data_load, ends_before, extents_in, fork_with, fresh_runs, has_more, is_apart_from, is_put_now, may_overflow, put_load, record_with};
 
 use crate::growing::first_eight;
 use crate::mapping::put_map;
 use crate::resizing::with_change;
 use crate::spilling::spill;
+use crate::storing::{count_edits, eighths, fits_extent_edits, is_met, store_later};
 use alloc_bitmap::Bitmap;
 use cat_records::{CatRecord, FileRecord};
 use fork_map::ExtentList;
-use hfs_volume::other_files_keep_their_bytes;
+use hfs_volume::{Needs, other_files_keep_their_bytes};
 use hx_bytes::{Extent, ForkRecord, Trouble};
 use sector_disk::SectorSpace;
 use std::alloc::Global;
-use volume_base::{DATA, Entry, Volume, all_inside, load_extents, size_held};
+use volume_base::{
+    DATA, Entry, FreeBlocks, Volume, all_inside, is_measured, load_extents, size_held,
+};
+use volume_cost::cost;
 
 /// What is put into a file: the size that it has, and the bytes that are new, from a place up to an end.
 #[derive(Clone, Copy)]
@@ -160,6 +165,37 @@ fn may_overflow(extents: usize, runs: u32) -> bool
     8 < extents as u64 + 1 + u64::from(runs)
 }
 
+/// How many edits of the extents overflow file a fork of so many extents costs that gets blocks of so many runs; none where there are too many.
+fn count_spread_edits(extents: usize, runs: u32) -> Option<u32>
+    requires { extents < 2 ^ 60 }
+{
+    let old = (extents as u64).saturating_sub(8);
+    let new = (extents as u64 + 1 + u64::from(runs)).saturating_sub(8);
+    let all = eighths(old) + eighths(new);
+    if all > 0xFFFF_FFFF {
+        return None;
+    }
+    Some(all as u32)
+}
+
+/// What so much data needs with so many edits of the extents overflow file, whose blocks are of so many runs.
+fn needs_of_data(edits: u32, counts: Counts, runs: u32) -> Needs
+    requires fresh { counts.fresh < 2 ^ 32 }
+    requires freed { counts.freed < 2 ^ 32 }
+    ensures small { AreSmall result }
+    ensures catalog { slice_index result.edits 1 ≡ 0 }
+    ensures attributes { slice_index result.edits 2 ≡ 0 }
+{
+    Needs {
+        ids: 0,
+        edits: [edits as u64, 0, 0],
+        updates: 1,
+        new_blocks: counts.fresh,
+        old_blocks: counts.freed,
+        runs: runs as u64,
+    }
+}
+
 /// Whether so many extents can be counted with those that are to come.
 fn are_countable(extents: usize) -> bool
     ensures { IsTrue result → extents < 2 ^ 60 }
@@ -225,16 +261,6 @@ fn are_apart(extents: &[Extent]) -> bool
         if !is_apart_from(extents[at], &extents[at + 1..]) {
             return false;
         }
-    }
-    true
-}
-
-/// Whether a file's record has room for these extents.
-fn is_in_record(extents: &[Extent]) -> bool
-    ensures { IsTrue result → length extents.now ≤ 8 }
-{
-    if extents.len() > 8 {
-        return false;
     }
     true
 }
@@ -318,6 +344,109 @@ fn is_put_now<P: SectorSpace>(
     !may_overflow(extents, runs)
 }
 
+/// Whether a transaction has room for what a put of so much data costs whose fork has so many extents, and may get more than its record
+/// holds.
+fn affords_spread<P: SectorSpace>(
+    volume: &Volume,
+    space: &P,
+    extents: usize,
+    counts: Counts,
+    runs: u32,
+) -> bool
+    requires few { extents < 2 ^ 60 }
+    requires fresh { counts.fresh < 2 ^ 32 }
+    requires freed { counts.freed < 2 ^ 32 }
+{
+    let room = volume.room(FreeBlocks::Takable);
+    if !is_measured(&room) {
+        return false;
+    }
+    let Some(edits) = count_spread_edits(extents, runs) else {
+        return false;
+    };
+    if !is_met(
+        cost(&needs_of_data(edits, counts, runs), &room),
+        space.spare(),
+    ) {
+        return false;
+    }
+    // The overflow records are stored first, and are counted then as if the last of them might be without an extent.
+    let Some(most) = count_edits(extents, extents + 1 + runs as usize) else {
+        return false;
+    };
+    fits_extent_edits(volume, space, most)
+}
+
+/// Whether so many bytes can be put into a file of this size from a place on, which has so many blocks, in these extents, though its record may
+/// not hold those that it gets: none of its blocks is past its size, or it doesn't grow; there are free blocks, and room.
+fn is_put_spread<P: SectorSpace>(
+    volume: &Volume,
+    space: &P,
+    extents: usize,
+    total: u32,
+    size: u64,
+    from: u64,
+    long: usize,
+) -> bool
+    requires service { IsInService volume.now (P.SectorView.space space.now) }
+    requires few { extents < 2 ^ 60 }
+    requires small { from + long ≤ 2 ^ 40 }
+    ensures cut { IsTrue result → has_more size (from + long) (blocks_for volume.now.header.block_size size) total ≡ false }
+    ensures free { IsTrue result → blocks_put volume.now size from long ≤ count_set (free_of volume.now.map) }
+    ensures room { IsTrue result → put_load volume.now size from long ≤ (P.SectorView.space space.now).spare }
+    ensures spread { IsTrue result → may_overflow extents (fewest_of (blocks_put volume.now size from long) (free_runs (free_of volume.now.map))) ≡ true }
+{
+    let block = volume.header.block_size;
+    let end = from + long as u64;
+    let wanted = blocks_for(block, size);
+    if has_more(size, end, wanted, total) {
+        return false;
+    }
+    let counts = count_blocks(block, Place { size, from, end });
+    if !is_at_most(counts.fresh, u64::from(volume.map.count_free())) {
+        return false;
+    }
+    if !is_at_most(count_data_sectors(volume, counts), space.spare()) {
+        return false;
+    }
+    let runs = volume.map.fewest(counts.fresh as u32);
+    if !may_overflow(extents, runs) {
+        return false;
+    }
+    affords_spread(volume, space, extents, counts, runs)
+}
+
+/// Whether so many bytes can be put now into a file as `is_put_now` and `is_put_spread` say, and if so whether its record may not hold the
+/// extents that it gets.
+fn how_to_put<P: SectorSpace>(
+    volume: &Volume,
+    space: &P,
+    extents: usize,
+    total: u32,
+    size: u64,
+    from: u64,
+    long: usize,
+) -> Option<bool>
+    requires service { IsInService volume.now (P.SectorView.space space.now) }
+    requires few { extents < 2 ^ 60 }
+    requires small { from + long ≤ 2 ^ 40 }
+    ensures cut { IfSome result (λ spread. has_more size (from + long) (blocks_for volume.now.header.block_size size) total ≡ false) }
+    ensures free { IfSome result (λ spread. blocks_put volume.now size from long ≤ count_set (free_of volume.now.map)) }
+    ensures room { IfSome result (λ spread. put_load volume.now size from long ≤ (P.SectorView.space space.now).spare) }
+    ensures short { IfSome result (λ spread. spread ≡ false → extents < 8) }
+    ensures flat { IfSome result (λ spread. may_overflow extents (fewest_of (blocks_put volume.now size from long) (free_runs (free_of volume.now.map))) ≡ false
+        → (spread ≡ false) × (can_put volume.now (P.SectorView.space space.now).spare extents total size from long ≡ true)) }
+    ensures exactly { IfNone result (can_put volume.now (P.SectorView.space space.now).spare extents total size from long ≡ false) }
+{
+    if is_put_now(volume, space, extents, total, size, from, long) {
+        return Some(false);
+    }
+    if is_put_spread(volume, space, extents, total, size, from, long) {
+        return Some(true);
+    }
+    None
+}
+
 /// Whether the extents of a file of this size are such as a sound volume's: they lie in the space, hold its bytes, and are in use; and
 /// so is the block of the header.
 fn is_sure<P: SectorSpace>(volume: &Volume, space: &P, list: &ExtentList, size: u64) -> bool
@@ -366,6 +495,7 @@ fn place_data<P: SectorSpace>(
     value: &[u8],
     total: u32,
     free: u32,
+    spread: bool,
 ) -> Result<(), Trouble>
     requires stands { StandsOver volume.old (P.SectorView.space space.old) }
     requires settled { IsTrue (P.SectorView.space space.old).tells → IsSettled volume.old (P.SectorView.space space.old).content }
@@ -378,7 +508,8 @@ fn place_data<P: SectorSpace>(
     requires there { IsTrue (P.SectorView.space space.old).tells → value_at (lists_of volume.old (P.SectorView.space space.old).content).catalog_pairs entry.now.parent entry.now.name ≡ Some entry.now.rec }
     requires kind { entry.now.rec ≡ File file.now }
     requires fits { FitsFile file.now }
-    requires room { HasRoomToUpdate volume.old (P.SectorView.space space.old) }
+    requires told { IsTrue (P.SectorView.space space.old).tells → IsToldFile file.now list.now (P.SectorView.space space.old).content }
+    requires short { spread ≡ false → length list.now < 8 }
     ensures stands { OnOk result (StandsOver volume.new (P.SectorView.space space.new)) }
     ensures service { IsInService volume.new (P.SectorView.space space.new) }
     ensures places { IsTrue (P.SectorView.space space.old).tells → OnOk result (PlacesData entry.now file.now list.now from value.now total free volume.old volume.new (P.SectorView.space space.old).content (P.SectorView.space space.new).content) }
@@ -386,7 +517,7 @@ fn place_data<P: SectorSpace>(
     ensures own { own_sectors volume.new ≡ own_sectors volume.old }
     ensures same { (volume.new.private ≡ volume.old.private) × (volume.new.shrunk ≡ volume.old.shrunk) × (volume.new.capacity ≡ volume.old.capacity) }
     ensures commit { (committed : Content) → HoldsOn committed volume.old → IsLaidOutAs committed volume.old → Touches committed (λ s. Contains (own_sectors volume.old) s) (P.SectorView.space space.old) (P.SectorView.space space.new) }
-    ensures spent { IsTrue (P.SectorView.space space.old).tells → (P.SectorView.space space.old).spare ≤ (P.SectorView.space space.new).spare + catalog_node volume.old }
+    ensures spent { IsTrue (P.SectorView.space space.old).tells → spread ≡ false → (P.SectorView.space space.old).spare ≤ (P.SectorView.space space.new).spare + catalog_node volume.old }
     ensures space { SameSpace (P.SectorView.space space.old) (P.SectorView.space space.new) }
     ensures below { P.SectorView.follows space.old space.new }
     ensures cause { HasTroubleCause (P.SectorView.space space.old).faults (P.SectorView.space space.new).faults result }
@@ -395,11 +526,11 @@ fn place_data<P: SectorSpace>(
     let size = file.data_fork.logical_size;
     let long = size.max(from + value.len() as u64);
     let later = spill(volume, alloc, space, list, size, from, value)?;
-    let extents = later.as_slice();
-    if !is_in_record(extents) {
+    store_later(volume, alloc, space, file.fields.id, list, &later, spread)?;
+    if !volume.fits_update(space) {
         return Err(Trouble::Memory);
     }
-    let rec = with_data(moment, long, total, extents, file);
+    let rec = with_data(moment, long, total, later.as_slice(), file);
     volume.replace(alloc, space, entry, &CatRecord::File(rec))?;
     volume.header.free_blocks = free;
     Ok(())
@@ -415,6 +546,7 @@ fn put_over<P: SectorSpace>(
     list: &ExtentList,
     from: u64,
     value: &[u8],
+    spread: bool,
 ) -> Result<(), Trouble>
     requires stands { StandsOver volume.old (P.SectorView.space space.old) }
     requires settled { IsTrue (P.SectorView.space space.old).tells → IsSettled volume.old (P.SectorView.space space.old).content }
@@ -423,7 +555,7 @@ fn put_over<P: SectorSpace>(
     requires some { 0 < length value.now }
     requires small { from + length value.now ≤ 2 ^ 40 }
     requires free { blocks_put volume.old file.now.data_fork.logical_size from (length value.now) ≤ count_set (free_of volume.old.map) }
-    requires few { length list.now < 8 }
+    requires short { spread ≡ false → length list.now < 8 }
     requires name { length entry.now.name ≤ 255 }
     requires there { IsTrue (P.SectorView.space space.old).tells → value_at (lists_of volume.old (P.SectorView.space space.old).content).catalog_pairs entry.now.parent entry.now.name ≡ Some entry.now.rec }
     requires kind { entry.now.rec ≡ File file.now }
@@ -436,7 +568,7 @@ fn put_over<P: SectorSpace>(
     ensures same { (volume.new.private ≡ volume.old.private) × (volume.new.shrunk ≡ volume.old.shrunk) × (volume.new.capacity ≡ volume.old.capacity) }
     ensures commit { (committed : Content) → HoldsOn committed volume.old → IsLaidOutAs committed volume.old → Touches committed (λ s. Contains (own_sectors volume.old) s) (P.SectorView.space space.old) (P.SectorView.space space.new) }
     ensures holds { (committed : Content) → HoldsOn committed volume.old → OnOk result (HoldsOn committed volume.new) }
-    ensures spent { IsTrue (P.SectorView.space space.old).tells → (P.SectorView.space space.old).spare ≤ (P.SectorView.space space.new).spare + put_load volume.old file.now.data_fork.logical_size from (length value.now) }
+    ensures spent { IsTrue (P.SectorView.space space.old).tells → spread ≡ false → (P.SectorView.space space.old).spare ≤ (P.SectorView.space space.new).spare + put_load volume.old file.now.data_fork.logical_size from (length value.now) }
     ensures space { SameSpace (P.SectorView.space space.old) (P.SectorView.space space.new) }
     ensures below { P.SectorView.follows space.old space.new }
     ensures cause { HasTroubleCause (P.SectorView.space space.old).faults (P.SectorView.space space.new).faults result }
@@ -457,7 +589,7 @@ fn put_over<P: SectorSpace>(
     }
     let bits = count_bits(volume, counts);
     place_data(
-        volume, alloc, space, entry, file, list, from, value, sums.total, sums.free,
+        volume, alloc, space, entry, file, list, from, value, sums.total, sums.free, spread,
     )?;
     if !has_room(bits, space.spare()) {
         return Err(Trouble::Memory);
@@ -519,13 +651,14 @@ fn put_in_file<P: SectorSpace>(
     requires told { IsTrue (P.SectorView.space space.old).tells → IsToldFile file.now (extents_in (P.SectorView.space space.old).content file.now) (P.SectorView.space space.old).content }
     ensures stands { OnOk result (StandsOver volume.new (P.SectorView.space space.new)) }
     ensures service { IsInService volume.new (P.SectorView.space space.new) }
-    ensures exactly { IsTrue (P.SectorView.space space.old).tells → IfOk result (λ put. put ≡ can_put volume.old (P.SectorView.space space.old).spare (length (extents_in (P.SectorView.space space.old).content file.now)) file.now.data_fork.total_blocks file.now.data_fork.logical_size from (length value.now)) }
+    ensures exactly { IsTrue (P.SectorView.space space.old).tells → IfOk result (λ put. put ≡ false → can_put volume.old (P.SectorView.space space.old).spare (length (extents_in (P.SectorView.space space.old).content file.now)) file.now.data_fork.total_blocks file.now.data_fork.logical_size from (length value.now) ≡ false) }
+    ensures no_cut { IsTrue (P.SectorView.space space.old).tells → IfOk result (λ put. IsTrue put → has_more file.now.data_fork.logical_size (from + length value.now) (blocks_for volume.old.header.block_size file.now.data_fork.logical_size) file.now.data_fork.total_blocks ≡ false) }
     ensures puts { IsTrue (P.SectorView.space space.old).tells → IfOk result (λ put. IsTrue put → PutsValue file.now from value.now volume.old volume.new (P.SectorView.space space.old).content (P.SectorView.space space.new).content) }
     ensures waits { IsTrue (P.SectorView.space space.old).tells → IfOk result (λ put. put ≡ false → IsSettled volume.new (P.SectorView.space space.new).content × ((P.SectorView.space space.new).content ≡ (P.SectorView.space space.old).content)) }
     ensures same { (volume.new.private ≡ volume.old.private) × (volume.new.shrunk ≡ volume.old.shrunk) × (volume.new.capacity ≡ volume.old.capacity) }
     ensures commit { (committed : Content) → HoldsOn committed volume.old → IsLaidOutAs committed volume.old → Touches committed (λ s. Contains (own_sectors volume.old) s) (P.SectorView.space space.old) (P.SectorView.space space.new) }
     ensures holds { (committed : Content) → HoldsOn committed volume.old → OnOk result (HoldsOn committed volume.new) }
-    ensures spent { IsTrue (P.SectorView.space space.old).tells → ((P.SectorView.space space.old).spare ≤ (P.SectorView.space space.new).spare) ⊎ ((can_put volume.old (P.SectorView.space space.old).spare (length (extents_in (P.SectorView.space space.old).content file.now)) file.now.data_fork.total_blocks file.now.data_fork.logical_size from (length value.now) ≡ true) × ((P.SectorView.space space.old).spare ≤ (P.SectorView.space space.new).spare + put_load volume.old file.now.data_fork.logical_size from (length value.now))) }
+    ensures spent { IsTrue (P.SectorView.space space.old).tells → may_overflow (length (extents_in (P.SectorView.space space.old).content file.now)) (fewest_of (blocks_put volume.old file.now.data_fork.logical_size from (length value.now)) (free_runs (free_of volume.old.map))) ≡ false → ((P.SectorView.space space.old).spare ≤ (P.SectorView.space space.new).spare) ⊎ ((can_put volume.old (P.SectorView.space space.old).spare (length (extents_in (P.SectorView.space space.old).content file.now)) file.now.data_fork.total_blocks file.now.data_fork.logical_size from (length value.now) ≡ true) × ((P.SectorView.space space.old).spare ≤ (P.SectorView.space space.new).spare + put_load volume.old file.now.data_fork.logical_size from (length value.now))) }
     ensures space { SameSpace (P.SectorView.space space.old) (P.SectorView.space space.new) }
     ensures below { P.SectorView.follows space.old space.new }
     ensures cause { HasTroubleCause (P.SectorView.space space.old).faults (P.SectorView.space space.new).faults result }
@@ -537,11 +670,14 @@ fn put_in_file<P: SectorSpace>(
     if !are_countable(extents) {
         return Err(Trouble::Memory);
     }
-    if !is_put_now(volume, space, extents, total, size, from, value.len()) {
-        return Ok(false);
+    let how = how_to_put(volume, space, extents, total, size, from, value.len());
+    if let Some(spread) = how {
+        put_over(
+            volume, alloc, space, entry, file, &list, from, value, spread,
+        )?;
+        return Ok(true);
     }
-    put_over(volume, alloc, space, entry, file, &list, from, value)?;
-    Ok(true)
+    Ok(false)
 }
 
 /// Puts a value into the file of an entry where that can be done now, and says whether it did.
@@ -566,13 +702,15 @@ fn put_in_entry<P: SectorSpace>(
     ensures stands { OnOk result (StandsOver volume.new (P.SectorView.space space.new)) }
     ensures service { IsInService volume.new (P.SectorView.space space.new) }
     ensures exactly { IsTrue (P.SectorView.space space.old).tells → (file : FileRecord) → entry.now.rec ≡ File file
-        → IfOk result (λ put. put ≡ can_put volume.old (P.SectorView.space space.old).spare (length (extents_in (P.SectorView.space space.old).content file)) file.data_fork.total_blocks file.data_fork.logical_size from (length value.now)) }
+        → IfOk result (λ put. put ≡ false → can_put volume.old (P.SectorView.space space.old).spare (length (extents_in (P.SectorView.space space.old).content file)) file.data_fork.total_blocks file.data_fork.logical_size from (length value.now) ≡ false) }
+    ensures no_cut { IsTrue (P.SectorView.space space.old).tells → (file : FileRecord) → entry.now.rec ≡ File file
+        → IfOk result (λ put. IsTrue put → has_more file.data_fork.logical_size (from + length value.now) (blocks_for volume.old.header.block_size file.data_fork.logical_size) file.data_fork.total_blocks ≡ false) }
     ensures puts { IsTrue (P.SectorView.space space.old).tells → (file : FileRecord) → entry.now.rec ≡ File file → IfOk result (λ put. IsTrue put → PutsValue file from value.now volume.old volume.new (P.SectorView.space space.old).content (P.SectorView.space space.new).content) }
     ensures waits { IsTrue (P.SectorView.space space.old).tells → IfOk result (λ put. put ≡ false → IsSettled volume.new (P.SectorView.space space.new).content × ((P.SectorView.space space.new).content ≡ (P.SectorView.space space.old).content)) }
     ensures same { (volume.new.private ≡ volume.old.private) × (volume.new.shrunk ≡ volume.old.shrunk) × (volume.new.capacity ≡ volume.old.capacity) }
     ensures commit { (committed : Content) → HoldsOn committed volume.old → IsLaidOutAs committed volume.old → Touches committed (λ s. Contains (own_sectors volume.old) s) (P.SectorView.space space.old) (P.SectorView.space space.new) }
     ensures holds { (committed : Content) → HoldsOn committed volume.old → OnOk result (HoldsOn committed volume.new) }
-    ensures spent { IsTrue (P.SectorView.space space.old).tells → (file : FileRecord) → entry.now.rec ≡ File file → ((P.SectorView.space space.old).spare ≤ (P.SectorView.space space.new).spare) ⊎ ((can_put volume.old (P.SectorView.space space.old).spare (length (extents_in (P.SectorView.space space.old).content file)) file.data_fork.total_blocks file.data_fork.logical_size from (length value.now) ≡ true) × ((P.SectorView.space space.old).spare ≤ (P.SectorView.space space.new).spare + put_load volume.old file.data_fork.logical_size from (length value.now))) }
+    ensures spent { IsTrue (P.SectorView.space space.old).tells → (file : FileRecord) → entry.now.rec ≡ File file → may_overflow (length (extents_in (P.SectorView.space space.old).content file)) (fewest_of (blocks_put volume.old file.data_fork.logical_size from (length value.now)) (free_runs (free_of volume.old.map))) ≡ false → ((P.SectorView.space space.old).spare ≤ (P.SectorView.space space.new).spare) ⊎ ((can_put volume.old (P.SectorView.space space.old).spare (length (extents_in (P.SectorView.space space.old).content file)) file.data_fork.total_blocks file.data_fork.logical_size from (length value.now) ≡ true) × ((P.SectorView.space space.old).spare ≤ (P.SectorView.space space.new).spare + put_load volume.old file.data_fork.logical_size from (length value.now))) }
     ensures space { SameSpace (P.SectorView.space space.old) (P.SectorView.space space.new) }
     ensures below { P.SectorView.follows space.old space.new }
     ensures cause { HasTroubleCause (P.SectorView.space space.old).faults (P.SectorView.space space.new).faults result }
@@ -602,14 +740,16 @@ pub(crate) fn put_data<P: SectorSpace>(
     ensures stands { OnOk result (StandsOver volume.new (P.SectorView.space space.new)) }
     ensures service { IsInService volume.new (P.SectorView.space space.new) }
     ensures exactly { IsTrue (P.SectorView.space space.old).tells → (node : PlainNode) → Contains (tree_of (P.SectorView.space space.old).content).nodes node → node.id ≡ id → node.folder ≡ false
-        → (put : Data) → put.id ≡ id → IsAt put (length node.bytes) from (from + length value.now) → IfOk result (λ said. said ≡ is_put_now volume.old (P.SectorView.space space.old).spare (volume_of (P.SectorView.space space.old).content) (Some put)) }
+        → (put : Data) → put.id ≡ id → IsAt put (length node.bytes) from (from + length value.now) → IfOk result (λ said. said ≡ false → is_put_now volume.old (P.SectorView.space space.old).spare (volume_of (P.SectorView.space space.old).content) (Some put) ≡ false) }
+    ensures no_cut { IsTrue (P.SectorView.space space.old).tells → (node : PlainNode) → Contains (tree_of (P.SectorView.space space.old).content).nodes node → node.id ≡ id → node.folder ≡ false
+        → (put : Data) → put.id ≡ id → IsAt put (length node.bytes) from (from + length value.now) → IfOk result (λ said. IsTrue said → needs_cut (volume_of (P.SectorView.space space.old).content) (Some put) ≡ false) }
     ensures puts { IsTrue (P.SectorView.space space.old).tells → IfOk result (λ said. IsTrue said → PutsAt id from value.now volume.old volume.new (P.SectorView.space space.old).content (P.SectorView.space space.new).content) }
     ensures waits { IsTrue (P.SectorView.space space.old).tells → IfOk result (λ said. said ≡ false → IsSettled volume.new (P.SectorView.space space.new).content × ((P.SectorView.space space.new).content ≡ (P.SectorView.space space.old).content)) }
     ensures same { (volume.new.private ≡ volume.old.private) × (volume.new.shrunk ≡ volume.old.shrunk) × (volume.new.capacity ≡ volume.old.capacity) }
     ensures commit { (committed : Content) → HoldsOn committed volume.old → IsLaidOutAs committed volume.old → Touches committed (λ s. Contains (own_sectors volume.old) s) (P.SectorView.space space.old) (P.SectorView.space space.new) }
     ensures holds { (committed : Content) → HoldsOn committed volume.old → OnOk result (HoldsOn committed volume.new) }
     ensures spent { IsTrue (P.SectorView.space space.old).tells → (node : PlainNode) → Contains (tree_of (P.SectorView.space space.old).content).nodes node → node.id ≡ id → node.folder ≡ false → (put : Data) → put.id ≡ id → IsAt put (length node.bytes) from (from + length value.now)
-        → ((P.SectorView.space space.old).spare ≤ (P.SectorView.space space.new).spare) ⊎ ((is_put_now volume.old (P.SectorView.space space.old).spare (volume_of (P.SectorView.space space.old).content) (Some put) ≡ true) × ((P.SectorView.space space.old).spare ≤ (P.SectorView.space space.new).spare + data_load volume.old put)) }
+        → may_overflow (length (file_extents (volume_of (P.SectorView.space space.old).content) put.id data_kind)) (fresh_runs volume.old put) ≡ false → ((P.SectorView.space space.old).spare ≤ (P.SectorView.space space.new).spare) ⊎ ((is_put_now volume.old (P.SectorView.space space.old).spare (volume_of (P.SectorView.space space.old).content) (Some put) ≡ true) × ((P.SectorView.space space.old).spare ≤ (P.SectorView.space space.new).spare + data_load volume.old put)) }
     ensures space { SameSpace (P.SectorView.space space.old) (P.SectorView.space space.new) }
     ensures below { P.SectorView.follows space.old space.new }
     ensures cause { HasTroubleCause (P.SectorView.space space.old).faults (P.SectorView.space space.new).faults result }

@@ -1,5 +1,5 @@
 //! The extents of a file's fork, read and stored: those behind the eight of its record stand in overflow records (TN1150, "Extents Overflow File").
-ghost use Rattle.std.specs.Prelude.{◌≡◌, ◌≢◌, ◌⊎◌, ◌<◌, ◌≤◌, ◌+◌, ◌*◌, ◌/◌, ◌^◌, ℕ, List, map, min, IsTrue, IfOk, OnOk, length};
+ghost use Rattle.std.specs.Prelude.{◌≡◌, ◌≢◌, ◌⊎◌, ◌<◌, ◌≤◌, ◌+◌, ◌-◌, ◌*◌, ◌/◌, ◌^◌, ℕ, List, false, true, map, min, IsTrue, IfOk, IfSome, OnOk, length};
 ghost use Rattle.std.specs.List.{Contains};
 ghost use Rattle.sector_disk.specs.Lists.{Content};
 ghost use Rattle.btree_node.specs.Keys.{IsExtentKey, extent_cmp, is_eight_extents};
@@ -8,35 +8,41 @@ ghost use Rattle.btree_node.specs.TreeFile.{extents_form};
 ghost use Rattle.btree_edit.specs.Causes.{HasTroubleCause};
 ghost use Rattle.btree_edit.specs.Desk.{IsDeskOf};
 ghost use Rattle.btree_edit.specs.Editing.{edit_writes};
+ghost use Rattle.btree_edit.specs.Edits.{EditRoom};
 ghost use Rattle.btree_file.specs.Frame.{FollowsOn};
 ghost use Rattle.btree_file.specs.Standing.{HoldsTree, LiesInside, LiesOpen, numbers_of, pairs_in};
 ghost use Rattle.btree_file.specs.State.{sectors_of_tree, state_of};
 ghost use Rattle.fork_map.specs.Blocks.{blocks_of};
 ghost use Rattle.hfs_volume.specs.Content.{records_of, volume_of};
-ghost use Rattle.hfs_volume.specs.Forks.{extents_id, in_use};
+ghost use Rattle.hfs_volume.specs.Forks.{extents_id, in_use, is_full, parts_for};
 ghost use Rattle.hfs_volume.specs.Records.{overflow_of};
-ghost use Rattle.overflow.specs.Reading.{HasExtents};
+ghost use Rattle.overflow.specs.Reading.{HasExtents, overflow_in_store};
 ghost use Rattle.overflow.specs.Room.{HasStoreRoom};
+ghost use Rattle.volume_cost.specs.Sizes.{AreSmall};
 ghost use Rattle.volume_space.specs.Cutting.{IsForkOf, kind_of, spread_load};
 ghost use Rattle.volume_base.specs.Lists.{lists_of};
 ghost use Rattle.volume_base.specs.Looking.{ReadsVolume};
 ghost use Rattle.volume_base.specs.Reading.{HasFile};
 ghost use Rattle.volume_base.specs.Service.{IsInService};
-ghost use Rattle.volume_space.specs.Spreading.{StoresExtents, StoresFork};
+ghost use Rattle.volume_space.specs.Spreading.{SpreadsExtents, StoresExtents, is_met_extents, needs_extents};
+ghost use Rattle.volume_base.specs.Spreading.{StoresFork};
 ghost use Rattle.volume_base.specs.Standing.{IsSettled, StandsOver, own_sectors};
 ghost use Rattle.volume_base.specs.Touching.{Touches};
 
-use crate::cutting::{ForkKind, fork_of};
+use crate::cutting::{ForkKind, count_blocks, fork_of};
 use btree_edit::Desk;
 use btree_file::{TreeFile, TreeOn};
 use btree_node::TreeShape;
 use cat_records::FileRecord;
 use fork_map::ExtentList;
-use hx_bytes::{ForkRecord, Trouble};
+use hfs_volume::{Cost, Needs};
+use hx_bytes::{Extent, ForkRecord, Trouble};
 use overflow::store_fork;
 use sector_disk::SectorSpace;
 use std::alloc::Global;
-use volume_base::{Volume, load_extents};
+use tree_weights::{a_load_is_of_parts, a_load_says_enough, commands_have_room};
+use volume_base::{FreeBlocks, Volume, is_measured, load_extents};
+use volume_cost::cost;
 
 /// The number that stands for a kind of fork in keys (TN1150, "Extents Overflow File Keys").
 pub(crate) fn number_of(kind: ForkKind) -> u8
@@ -71,6 +77,82 @@ fn fit_nodes(node: u64, nodes: u64, spare: u64) -> bool
         return false;
     }
     nodes <= spare / node
+}
+
+/// What so many edits of the extents overflow file need.
+fn needs_of_extents(edits: u32) -> Needs
+    ensures same { result ≡ needs_extents edits }
+    ensures small { AreSmall result }
+{
+    Needs {
+        ids: 0,
+        edits: [edits as u64, 0, 0],
+        updates: 0,
+        new_blocks: 0,
+        old_blocks: 0,
+        runs: 0,
+    }
+}
+
+/// Whether this is a load that so many sectors suffice for, without growth of the extents overflow file.
+pub(crate) fn is_met(cost: Cost, spare: u64) -> bool
+    ensures { result ≡ is_met_extents cost spare }
+{
+    match cost {
+        Cost::Refused(_) => false,
+        Cost::Load { sectors, grow } => grow[0] == 0 && sectors <= spare,
+    }
+}
+
+/// An eighth of a number, rounded up.
+pub(crate) fn eighths(number: u64) -> u64
+    ensures { result ≡ parts_for number 8 }
+{
+    if number == 0 {
+        return 0;
+    }
+    (number - 1) / 8 + 1
+}
+
+/// How many edits at most make the overflow records of a fork of so many extents those of so many others, and one at least; none where there are too
+/// many.
+pub(crate) fn count_edits(old: usize, new: usize) -> Option<u32>
+    ensures some { IfSome result (λ edits. 0 < edits) }
+    ensures enough { IfSome result (λ edits. old / 8 + parts_for (new - 8) 8 ≤ edits) }
+{
+    let all = (old as u64) / 8 + eighths((new as u64).saturating_sub(8));
+    if all > 0xFFFF_FFFF {
+        return None;
+    }
+    Some((all as u32).max(1))
+}
+
+/// Whether each extent has blocks.
+fn have_blocks(extents: &[Extent]) -> bool
+    ensures { result ≡ is_full extents.now }
+{
+    extents.iter().all(|extent| extent.count != 0)
+}
+
+/// Whether a fork may have so many blocks as these.
+fn are_few(list: &ExtentList) -> bool
+    ensures { IsTrue result → length (blocks_of list.now) < 2 ^ 32 }
+{
+    count_blocks(list.as_slice()) <= 0xFFFF_FFFF
+}
+
+/// Whether all extents of a list have blocks.
+fn all_have_blocks(list: &ExtentList) -> bool
+    ensures { result ≡ is_full list.now }
+{
+    have_blocks(list.as_slice())
+}
+
+/// Whether a file's record holds all extents of a list.
+fn is_in_record(list: &ExtentList) -> bool
+    ensures { IsTrue result → length list.now ≤ 8 }
+{
+    list.len() <= 8
 }
 
 /// Makes the overflow records of a fork those of other extents. The kind of a fork is 0 for data and 255 for resources.
@@ -194,4 +276,132 @@ pub(crate) fn store_extents<P: SectorSpace>(
         old,
         new,
     )
+}
+
+/// Whether there is room for so many edits of the extents overflow file, by what they cost.
+pub(crate) fn fits_extent_edits<P: SectorSpace>(volume: &Volume, space: &P, edits: u32) -> bool
+    requires { 0 < edits }
+    ensures { IsTrue result → (names : List ℕ) → IsTrue (P.SectorView.space space.now).tells → EditRoom edits 10 (state_of names volume.now.extents.file (P.SectorView.space space.now)) }
+{
+    commands_have_room();
+    a_load_says_enough();
+    a_load_is_of_parts();
+    let room = volume.room(FreeBlocks::Takable);
+    if !is_measured(&room) {
+        return false;
+    }
+    is_met(cost(&needs_of_extents(edits), &room), space.spare())
+}
+
+/// Whether the overflow records of a file's fork can be made those of other extents.
+fn can_spread<P: SectorSpace>(
+    volume: &Volume,
+    space: &P,
+    id: u32,
+    list: &ExtentList,
+    later: &ExtentList,
+) -> bool
+    ensures user { IsTrue result → 16 ≤ id }
+    ensures full { IsTrue result → is_full later.now ≡ true }
+    ensures few { IsTrue result → length (blocks_of later.now) < 2 ^ 32 }
+    ensures room { IsTrue result → (names : List ℕ) → IsTrue (P.SectorView.space space.now).tells → HasExtents (overflow_in_store (state_of names volume.now.extents.file (P.SectorView.space space.now))) id 0 list.now
+        → HasStoreRoom (state_of names volume.now.extents.file (P.SectorView.space space.now)) id 0 later.now }
+{
+    if !is_user_id(id) {
+        return false;
+    }
+    if !all_have_blocks(later) {
+        return false;
+    }
+    if !are_few(later) {
+        return false;
+    }
+    let Some(edits) = count_edits(list.len(), later.len()) else {
+        return false;
+    };
+    fits_extent_edits(volume, space, edits)
+}
+
+/// Nothing is stored of a fork of fewer than eight extents that has eight at most.
+fn keep_extents<P: SectorSpace>(
+    volume: &mut Volume,
+    space: &mut P,
+    _id: u32,
+    _list: &ExtentList,
+    later: &ExtentList,
+) -> Result<(), Trouble>
+    requires stands { StandsOver volume.old (P.SectorView.space space.old) }
+    requires short { length _list.now < 8 }
+    requires has { IsTrue (P.SectorView.space space.old).tells → HasExtents (map overflow_of (lists_of volume.old (P.SectorView.space space.old).content).overflow_pairs) _id 0 _list.now }
+    ensures stands { OnOk result (StandsOver volume.new (P.SectorView.space space.new)) }
+    ensures service { IsInService volume.new (P.SectorView.space space.new) }
+    ensures rest { volume.new ≡ record volume.old { extents = volume.new.extents } }
+    ensures spreads { IsTrue (P.SectorView.space space.old).tells → OnOk result (SpreadsExtents _id later.now volume.old volume.new (P.SectorView.space space.old).content (P.SectorView.space space.new).content) }
+    ensures own { own_sectors volume.new ≡ own_sectors volume.old }
+    ensures touches { (committed : Content) → Touches committed (λ s. Contains (own_sectors volume.old) s) (P.SectorView.space space.old) (P.SectorView.space space.new) }
+    ensures spent { (P.SectorView.space space.old).spare ≤ (P.SectorView.space space.new).spare }
+    ensures below { P.SectorView.follows space.old space.new }
+    ensures cause { HasTroubleCause (P.SectorView.space space.old).faults (P.SectorView.space space.new).faults result }
+{
+    if !is_in_record(later) {
+        return Err(Trouble::Memory);
+    }
+    Ok(())
+}
+
+/// Stores a fork that has overflow records then, or had them before. Memory is said to be wanting too where they can't be stored.
+fn spread_extents<P: SectorSpace>(
+    volume: &mut Volume,
+    alloc: Global,
+    space: &mut P,
+    id: u32,
+    list: &ExtentList,
+    later: &ExtentList,
+) -> Result<(), Trouble>
+    requires stands { StandsOver volume.old (P.SectorView.space space.old) }
+    requires has { IsTrue (P.SectorView.space space.old).tells → HasExtents (map overflow_of (lists_of volume.old (P.SectorView.space space.old).content).overflow_pairs) id 0 list.now }
+    ensures stands { OnOk result (StandsOver volume.new (P.SectorView.space space.new)) }
+    ensures service { IsInService volume.new (P.SectorView.space space.new) }
+    ensures rest { volume.new ≡ record volume.old { extents = volume.new.extents } }
+    ensures spreads { IsTrue (P.SectorView.space space.old).tells → OnOk result (SpreadsExtents id later.now volume.old volume.new (P.SectorView.space space.old).content (P.SectorView.space space.new).content) }
+    ensures own { own_sectors volume.new ≡ own_sectors volume.old }
+    ensures touches { (committed : Content) → Touches committed (λ s. Contains (own_sectors volume.old) s) (P.SectorView.space space.old) (P.SectorView.space space.new) }
+    ensures below { P.SectorView.follows space.old space.new }
+    ensures cause { HasTroubleCause (P.SectorView.space space.old).faults (P.SectorView.space space.new).faults result }
+{
+    if !can_spread(volume, space, id, list, later) {
+        return Err(Trouble::Memory);
+    }
+    store_extents(volume, alloc, space, id, 0, list, later)?;
+    Ok(())
+}
+
+/// Makes the overflow records of a file's data fork go with a record of the first eight of these extents. Where it isn't spread it has none, and
+/// had none before.
+pub(crate) fn store_later<P: SectorSpace>(
+    volume: &mut Volume,
+    alloc: Global,
+    space: &mut P,
+    id: u32,
+    list: &ExtentList,
+    later: &ExtentList,
+    spread: bool,
+) -> Result<(), Trouble>
+    requires stands { StandsOver volume.old (P.SectorView.space space.old) }
+    requires short { spread ≡ false → length list.now < 8 }
+    requires has { IsTrue (P.SectorView.space space.old).tells → HasExtents (map overflow_of (lists_of volume.old (P.SectorView.space space.old).content).overflow_pairs) id 0 list.now }
+    ensures stands { OnOk result (StandsOver volume.new (P.SectorView.space space.new)) }
+    ensures service { IsInService volume.new (P.SectorView.space space.new) }
+    ensures rest { volume.new ≡ record volume.old { extents = volume.new.extents } }
+    ensures spreads { IsTrue (P.SectorView.space space.old).tells → OnOk result (SpreadsExtents id later.now volume.old volume.new (P.SectorView.space space.old).content (P.SectorView.space space.new).content) }
+    ensures own { own_sectors volume.new ≡ own_sectors volume.old }
+    ensures touches { (committed : Content) → Touches committed (λ s. Contains (own_sectors volume.old) s) (P.SectorView.space space.old) (P.SectorView.space space.new) }
+    ensures spent { spread ≡ false → (P.SectorView.space space.old).spare ≤ (P.SectorView.space space.new).spare }
+    ensures below { P.SectorView.follows space.old space.new }
+    ensures cause { HasTroubleCause (P.SectorView.space space.old).faults (P.SectorView.space space.new).faults result }
+{
+    if spread {
+        return spread_extents(volume, alloc, space, id, list, later);
+    }
+    keep_extents(volume, space, id, list, later)
 }

@@ -13,7 +13,8 @@ ghost use Rattle.hfs_volume.specs.Links.{orphans_of};
 ghost use Rattle.hfs_volume.specs.Reclaim.{Reclaim, has_surplus_left, least};
 ghost use Rattle.hfs_volume.specs.Records.{id_in, is_link_type, is_thread};
 ghost use Rattle.volume_runs.specs.Rest.{IsHeldUp, cut_puts};
-ghost use Rattle.volume_space.specs.Cutting.{IsCut, IsCutOf, IsForkOf, IsNextCut, KeepsUsed, MayGive, blocks_left, fork_at, kind_of, surplus_in};
+ghost use Rattle.volume_space.specs.Cutting.{IsCut, IsForkOf, IsNextCut, KeepsUsed, MayGive, blocks_left, kind_of, surplus_in};
+ghost use Rattle.volume_base.specs.Cutting.{IsCutOf, fork_at};
 ghost use Rattle.volume_base.specs.Keeping.{shrunk_of};
 ghost use Rattle.volume_base.specs.Lists.{lists_of};
 ghost use Rattle.volume_space.specs.Orphans.{AffordsStep, TidiesAs};
@@ -22,7 +23,7 @@ ghost use Rattle.volume_base.specs.Service.{IsInService};
 ghost use Rattle.volume_base.specs.Standing.{IsSettled, StandsOver, own_sectors};
 ghost use Rattle.volume_base.specs.Touching.{Touches};
 
-use crate::cutting::{Cut, ForkKind, cut_fork, cut_of, fits_cut, fork_of};
+use crate::cutting::{ForkKind, cut_fork, cut_of, fits_cut, fork_of};
 use crate::orphans::is_link;
 use crate::storing::{fork_extents, is_user_id};
 use crate::tidying::{Tidying, grows_none, tidy_unshrunk};
@@ -32,7 +33,7 @@ use hfs_volume::Room;
 use hx_bytes::Trouble;
 use sector_disk::SectorSpace;
 use std::alloc::Global;
-use volume_base::{Entry, FreeBlocks, ROOT, Volume, is_private_name};
+use volume_base::{Cut, Entry, FreeBlocks, ROOT, Volume, is_private_name};
 use volume_cost::cut_cost;
 
 /// A fork that is to be cut, and how many of its first blocks stay at least.

@@ -1,5 +1,5 @@
 -- A cut of blocks past a file's size, as a step of the command that puts data into the file.
-use Rattle.std.proofs.Common.{◌≡◌, ℕ, ◌+◌, ◌==◌, ◌&&◌, Bool, true, false, [], ◌∷◌, length, inl, inr, refl, sym, ◌∙◌, ap, subst, arith, ⊎_elim}
+use Rattle.std.proofs.Common.{◌≡◌, ℕ, ◌+◌, ◌==◌, ◌&&◌, Bool, true, false, [], ◌∷◌, length, inr, refl, sym, ◌∙◌, ap, subst, arith}
 use Rattle.std.specs.Prelude.{nat_lt, Option, None, Some, Result, Ok, Err, if◌then◌else◌}
 use Rattle.std.proofs.lemmas.Bool.{le-ltb, true≢false}
 use Rattle.sector_disk.specs.Lists.{Content}
@@ -7,7 +7,6 @@ use Rattle.hfs_language.specs.declared.command.Command.{Command}
 use Rattle.hfs_language.specs.declared.command.Command.TheVariants as command
 use Rattle.hfs_language.specs.declared.refusal.Refusal.{Refusal}
 use Rattle.hfs_language.specs.declared.refusal.Refusal.TheVariants as refusal
-use Rattle.hfs_language.specs.declared.reply.Reply.TheVariants as reply
 use Rattle.hfs_model.specs.Step.{only_reads, size_written, to_file}
 use Rattle.hfs_model.specs.declared.plain.PlainNode.{PlainNode}
 use Rattle.hfs_model.specs.declared.plain.PlainTree.{PlainTree}
@@ -20,15 +19,14 @@ use Rattle.hfs_volume.specs.TreeOf.{tree_of}
 use Rattle.hfs_volume.specs.Weight.{Data, cut_cost, data_of, edits_of, free_blocks, grown_data, has_surplus, lacks_tree, needs_cut, needs_for, room_with, weight, weight_with, written_data}
 use Rattle.hfs_volume.specs.declared.cost.Cost.TheVariants as cost
 use Rattle.hfs_volume.proofs.Flat.{none_or_some, some_same}
-use Rattle.volume_runs.specs.Run.{AsksMore}
 use Rattle.volume_space.specs.CuttingAhead.{CutsAhead, cuts_first}
+use Rattle.volume_weights.specs.DataWeighing.{WaitsForCut}
 use Rattle.volume_space.specs.declared.cutting_ahead.CutAhead.{CutAhead}
 use Rattle.volume_space.specs.declared.cutting_ahead.CutAhead.TheVariants as ahead
 use Rattle.volume_space.specs.declared.tidying.Tidying.TheVariants as tidying
-use Rattle.volume_step.specs.Steps.{IsHeldBack, KeepsJournal, ShrinksAs, StepsTo, data_end, data_path, outcome_of}
+use Rattle.volume_step.specs.Steps.{KeepsJournal, ShrinksAs, StepsTo, data_end, data_path, outcome_of}
 use Rattle.volume_step.specs.declared.outcome.Outcome.{Outcome}
-use Rattle.volume_step.specs.declared.outcome.Outcome.TheVariants as outcome
-use Rattle.volume_step.proofs.Done.{refused_steps, same_place, waits_steps}
+use Rattle.volume_step.proofs.Done.{refused_steps, same_place}
 use Rattle.volume_step.proofs.Reclaimed.{places_as, reclaims_as}
 
 -- ---- the data that a command puts
@@ -129,27 +127,23 @@ weighs_cut capacity content asked unread needs =
     else if lacks_tree (volume_of content) asked then cost.Refused refusal.NoTree
     else cost_of (needs_for (free_blocks (volume_of content)) (volume_of content) (edits_of (tree_of content) asked) (data_of (tree_of content) asked)) (room_with capacity (free_blocks (volume_of content)) (volume_of content)))
 
-module _ (capacity number : ℕ) (asked : Command) (before after : Content) (held : IsHeldBack capacity asked before) where
-  -- a command for which no cut goes first is still to come
-  later : needs_cut (volume_of before) (data_of (tree_of before) asked) ≡ false → AsksMore capacity asked before
-  later none = record { no_refusal = held.no_refusal; more = ⊎_elim (λ grows. inl grows) (λ puts. ⊎_elim (λ needs. absurd (true≢false (sym needs ∙ none))) (λ records. inr records) puts) held.why }
-
-  -- one that puts no data
-  pub dry_steps : IsSound before → data_end asked ≡ None → after ≡ before → (it : Outcome) → it ≡ outcome.Answered (reply.No refusal.NotBuilt) [] → StepsTo it capacity number asked before after
-  dry_steps sound none same it it_is = waits_steps capacity number asked before after same sound (later (ap (needs_cut (volume_of before)) (no_end (tree_of before) asked none))) it it_is
+module _ (capacity number : ℕ) (asked : Command) (before after : Content) (waits : WaitsForCut before asked) where
+  -- it puts data
+  pub dry_steps : data_end asked ≡ None → (it : Outcome) → StepsTo it capacity number asked before after
+  dry_steps none it = absurd (true≢false (sym waits.1 ∙ ap (needs_cut (volume_of before)) (no_end (tree_of before) asked none)))
 
   module _ (halves : (volume : VolumeState) → SoundIsBoth volume) (unread : only_reads asked ≡ false) (sound : IsSound before) (end : ℕ) (is : data_end asked ≡ Some end) where
     pub steps_by : (came : CutAhead) → IsSound after → CutsAhead came capacity (data_path asked) end before after → StepsTo (outcome_of came) capacity number asked before after
     steps_by ahead.NotNeeded sound_after (node, file, (first, same)) =
-        waits_steps capacity number asked before after same sound (later (needs_first (volume_of before) (tree_of before) asked end is node file ∙ first)) (outcome_of ahead.NotNeeded) refl
+        absurd (true≢false (sym waits.1 ∙ needs_first (volume_of before) (tree_of before) asked end is node file ∙ first))
     steps_by ahead.Made sound_after (node, file, (first, past)) = record {
-      no_refusal = held.no_refusal;
-      needs = needs_first (volume_of before) (tree_of before) asked end is node file ∙ first;
+      no_refusal = waits.0;
+      needs = waits.1;
       cuts = surplus_cut capacity node.id before after past.next (reclaims_as halves capacity (Some node.id) before after sound.volume (Ok tidying.Made) sound_after past.made);
     }
     steps_by ahead.CommitFirst sound_after (node, file, (first, same)) = same
     steps_by (ahead.Refused why) sound_after (node, file, (first, (same, costs))) =
-        refused_steps capacity number asked before after same sound unread why (inr (held.no_refusal, weighs_cut capacity before asked unread (needs_first (volume_of before) (tree_of before) asked end is node file ∙ first) ∙ costs)) (outcome_of (ahead.Refused why)) refl
+        refused_steps capacity number asked before after same sound unread why (inr (waits.0, weighs_cut capacity before asked unread waits.1 ∙ costs)) (outcome_of (ahead.Refused why)) refl
 
     pub place_by : (came : CutAhead) → IsSound after → CutsAhead came capacity (data_path asked) end before after → KeepsJournal before after
     place_by ahead.NotNeeded sound_after (node, file, (first, same)) = same_place before after same

@@ -34,7 +34,7 @@ went more before after said is same goes = subst (λ (g : Growth). GoesAhead g m
 
 -- it is still to come where the trees can't grow so
 pub waits_grown : (more : MoreNodes) (capacity : ℕ) (asked : Command) (content : Content) → GrowsFirst more capacity asked content → IsLater more (volume_of content) → AsksMore capacity asked content
-waits_grown more capacity asked content first later = record { no_refusal = first.no_refusal; more = inl (record { load = first.load; grow = 0 ∷ more.catalog ∷ more.attributes ∷ []; weighs = first.weighs; later = inr (by later) }) }
+waits_grown more capacity asked content first later = record { no_refusal = first.no_refusal; grows = record { load = first.load; grow = 0 ∷ more.catalog ∷ more.attributes ∷ []; weighs = first.weighs; later = inr (by later) } }
   where
     by : IsLater more (volume_of content)
         → ((0 < more.catalog) × (0 < more.attributes)) ⊎ (((0 < more.catalog) × (8 ≤ extents_in_use (volume_of content) catalog_id (volume_of content).head.catalog_fork)) ⊎ ((0 < more.attributes) × (8 ≤ extents_in_use (volume_of content) attributes_id (volume_of content).head.attributes_fork)))

@@ -1,5 +1,5 @@
 -- A verdict stands by what the command weighs.
-use Rattle.std.proofs.Common.{◌≡◌, ◌⊎◌, ⊎_elim, ◌<◌, ◌≤◌, ℕ, zero, suc, ◌+◌, Bool, true, false, List, [], ◌∷◌, inl, inr, refl, sym, ◌∙◌, ap, subst, arith}
+use Rattle.std.proofs.Common.{◌≡◌, ◌<◌, ◌≤◌, ℕ, zero, suc, ◌+◌, Bool, true, false, List, [], ◌∷◌, inl, inr, refl, sym, ◌∙◌, ap, subst, arith}
 use Rattle.std.specs.Prelude.{◌==◌, ◌&&◌, ◌||◌, nat_lt, not, is_some, IfSome, Option, None, Some, Ok, sum, slice_index, if◌then◌else◌}
 use Rattle.std.proofs.lemmas.Bool.{eqb-true, true≢false}
 use Rattle.jnl_format.specs.Recovery.{Content}
@@ -17,11 +17,10 @@ use Rattle.hfs_volume.specs.declared.cost.Cost.{Cost}
 use Rattle.hfs_volume.specs.declared.cost.Cost.TheVariants as cost
 use Rattle.hfs_volume.specs.declared.cost.Needs.{Needs}
 use Rattle.hfs_volume.specs.declared.cost.Room.{Room}
-use Rattle.volume_weights.specs.DataWeighing.{WaitsForMore}
 use Rattle.volume_base.specs.Weighing.{joined, refused_or, weighed}
 use Rattle.volume_base.specs.declared.weighing.Weight.{Weight}
 use Rattle.volume_base.specs.declared.weighing.Weight.TheVariants as answer
-use Rattle.volume_step.specs.Steps.{IsHeldBack, IsJudged, IsTaken, growth_of, grows_in, verdict_of}
+use Rattle.volume_step.specs.Steps.{IsJudged, IsTaken, growth_of, grows_in, verdict_of}
 use Rattle.volume_step.specs.declared.judging.Verdict.TheVariants as verdict
 
 -- ---- three numbers
@@ -93,10 +92,6 @@ weight_found said found is same told = subst (λ (o : Option Weight). IfSome o (
 pub not_weighed : {P : Type 0} (said : Option Weight) → said ≡ None → (is_some said ≡ false → P) → P
 not_weighed said none told = told (ap is_some none)
 
--- so it puts data where blocks go first or overflow records are counted
-pub waits_by : (capacity : ℕ) (asked : Command) (content : Content) → WaitsForMore content asked → IsHeldBack capacity asked content
-waits_by capacity asked content said = record { no_refusal = said.0; why = inr said.1 }
-
 -- ---- the verdict
 
 module _ (capacity : ℕ) (takable : List Bool) (content : Content) (asked : Command) (spare : ℕ) where
@@ -120,7 +115,7 @@ module _ (capacity : ℕ) (takable : List Bool) (content : Content) (asked : Com
             load = s;
             weighs = is ∙ ap (cost.Load s) (is_three ∙ alone);
           }
-      by_alone false one any = record { no_refusal = fine; why = inl (record { load = s; grow = grow; weighs = is; later = inl (some (slice_index grow 0) one) }) }
+      by_alone false one any = record { no_refusal = fine; grows = record { load = s; grow = grow; weighs = is; later = inl (some (slice_index grow 0) one) } }
 
       by_grow : (b : Bool) → grows_in grow ≡ b → IsJudged (if b then growth_of grow t else if nat_lt spare t then verdict.CommitFirst else verdict.Fits) capacity asked content
       by_grow true any = by_alone (slice_index grow 0 == 0) refl (subst (λ (l : List ℕ). 0 < sum l) (sym is_three) (grows_some (slice_index grow 0) (slice_index grow 1) (slice_index grow 2) any))

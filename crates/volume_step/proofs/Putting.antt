@@ -1,6 +1,6 @@
 -- `write` of bytes and `trunc` to a larger size: what they answer, and what watchers are told.
-use Rattle.std.proofs.Common.{◌≡◌, ◌≢◌, ◌≤◌, ℕ, ◌+◌, ◌*◌, ◌/◌, inl, Bool, true, false, List, [], ◌∷◌, ◌++◌, length, take, refl, sym, ◌∙◌, ap, subst, arith}
-use Rattle.std.specs.Prelude.{◌||◌, nat_lt, is_some, Option, Some, None, Result, Ok, Err, map, if◌then◌else◌}
+use Rattle.std.proofs.Common.{◌≡◌, ◌≢◌, ◌<◌, ◌≤◌, ℕ, ◌+◌, ◌*◌, ◌/◌, inl, Bool, true, false, List, [], ◌∷◌, ◌++◌, length, take, refl, sym, ◌∙◌, ap, subst, arith}
+use Rattle.std.specs.Prelude.{◌||◌, nat_lt, is_some, not, Option, Some, None, Result, Ok, Err, map, if◌then◌else◌}
 use Rattle.std.proofs.Math.Nat.{div-le_self}
 use Rattle.std.proofs.lemmas.Bool.{le-ltb, ltb-true, true≢false}
 use Rattle.std.proofs.lemmas.List.{take_all}
@@ -21,9 +21,12 @@ use Rattle.hfs_model.specs.Step.{is_private_path, only_reads, reached, step_line
 use Rattle.hfs_model.specs.declared.plain.PlainEntry.{PlainEntry}
 use Rattle.hfs_model.specs.declared.plain.PlainNode.{PlainNode}
 use Rattle.hfs_model.specs.declared.plain.PlainTree.{PlainTree}
-use Rattle.hfs_volume.specs.Content.{VolumeState, volume_of}
+use Rattle.hx_bytes.specs.declared.extents.ForkRecord.{ForkRecord}
+use Rattle.fork_map.specs.Blocks.{blocks_of}
+use Rattle.hfs_model.specs.Sorted.{kept}
+use Rattle.hfs_volume.specs.Content.{VolumeState, overflow_in_volume, volume_of}
 use Rattle.hfs_volume.specs.Data.{PutsInFork}
-use Rattle.hfs_volume.specs.Forks.{all_forks, attributes_id, blocks_owned, catalog_id, data_kind, extents_id}
+use Rattle.hfs_volume.specs.Forks.{all_forks, attributes_id, blocks_owned, catalog_id, data_kind, extents_id, is_of}
 use Rattle.hfs_volume.specs.Reclaim.{GrowsBy, GrowsTrees, blocks_at}
 use Rattle.hfs_volume.specs.Records.{overflow_of}
 use Rattle.hfs_volume.specs.Sound.{IsSound}
@@ -34,6 +37,7 @@ use Rattle.hfs_volume.proofs.Reaching.{then_ok, unless_ok}
 use Rattle.volume_runs.specs.Run.{DoesLine, reply_to, shrunk_by}
 use Rattle.volume_runs.specs.Told.{changes_of, of_entry}
 use Rattle.volume_space.specs.Writing.{HasData}
+use Rattle.volume_space.proofs.SpreadForks.{extents_alike}
 use Rattle.volume_step.specs.Steps.{Affords, KeepsJournal, StepsTo}
 use Rattle.volume_step.specs.declared.outcome.Outcome.TheVariants as outcome
 use Rattle.volume_step.proofs.Done.{line_free, line_ok, or_none, reached_node}
@@ -53,21 +57,28 @@ stays more old new none same = record {
   longer = omega (arith, none, ap (λ (l : List ℕ). length l) same);
 }
 
-module _ (id from count : ℕ) (fresh : List ℕ) (old new : VolumeState) (does : RewritesFile id from count fresh old new) (overflow : new.overflow_pairs ≡ old.overflow_pairs) where
+module _ (id from count : ℕ) (fresh : List ℕ) (old new : VolumeState) (does : RewritesFile id from count fresh old new) (user : 16 ≤ id) where
   head_is : new.head ≡ with_free does.puts.free does.puts.next old.head
   head_is = ap (λ (v : VolumeState). v.head) does.dates.changes.rest ∙ ap (λ (v : VolumeState). v.head) does.puts.puts.rest
 
+  -- no overflow record but the file's is another one
+  others : kept (λ more. not (is_of id data_kind more)) (overflow_in_volume new) ≡ kept (λ more. not (is_of id data_kind more)) (overflow_in_volume old)
+  others = ap (λ (v : VolumeState). kept (λ more. not (is_of id data_kind more)) (overflow_in_volume v)) does.dates.changes.rest ∙ does.puts.puts.others
+
+  special_stays : (low : ℕ) (fork : ForkRecord) → low < 16 → blocks_owned (overflow_in_volume new) (record { id = low; kind = data_kind; fork = fork }) ≡ blocks_owned (overflow_in_volume old) (record { id = low; kind = data_kind; fork = fork })
+  special_stays low fork less = ap blocks_of (extents_alike id data_kind (overflow_in_volume old) (overflow_in_volume new) others low data_kind fork (λ same. absurd (omega (arith, same, less, user))))
+
   extents_stay : blocks_at new extents_id data_kind ≡ blocks_at old extents_id data_kind
   unfolding all_forks
-  extents_stay = λ i. blocks_owned (map overflow_of (overflow i)) (record { id = extents_id; kind = data_kind; fork = (head_is i).extents_fork })
+  extents_stay = (λ i. blocks_owned (overflow_in_volume new) (record { id = extents_id; kind = data_kind; fork = (head_is i).extents_fork })) ∙ special_stays extents_id old.head.extents_fork (omega arith)
 
   catalog_stays : blocks_at new catalog_id data_kind ≡ blocks_at old catalog_id data_kind
   unfolding all_forks
-  catalog_stays = λ i. blocks_owned (map overflow_of (overflow i)) (record { id = catalog_id; kind = data_kind; fork = (head_is i).catalog_fork })
+  catalog_stays = (λ i. blocks_owned (overflow_in_volume new) (record { id = catalog_id; kind = data_kind; fork = (head_is i).catalog_fork })) ∙ special_stays catalog_id old.head.catalog_fork (omega arith)
 
   attributes_stay : blocks_at new attributes_id data_kind ≡ blocks_at old attributes_id data_kind
   unfolding all_forks
-  attributes_stay = λ i. blocks_owned (map overflow_of (overflow i)) (record { id = attributes_id; kind = data_kind; fork = (head_is i).attributes_fork })
+  attributes_stay = (λ i. blocks_owned (overflow_in_volume new) (record { id = attributes_id; kind = data_kind; fork = (head_is i).attributes_fork })) ∙ special_stays attributes_id old.head.attributes_fork (omega arith)
 
   trees_stay : GrowsTrees (0 ∷ 0 ∷ 0 ∷ []) old new
   trees_stay = record {
@@ -123,7 +134,7 @@ module _ (capacity number : ℕ) (asked : Command) (before after : Content) (sou
                   grow = 0 ∷ 0 ∷ 0 ∷ [];
                   affords = affords.affords;
                   no_surplus = ap (needs_cut (volume_of before)) it.is_asked ∙ it.no_cut;
-                  grows = trees_stay it.put.id _ _ it.fresh (volume_of before) (volume_of after) it.rewrites it.overflow;
+                  grows = trees_stay it.put.id _ _ it.fresh (volume_of before) (volume_of after) it.rewrites it.user;
                   forks = subst (λ d. PutsInFork d (volume_of before) (volume_of after)) (sym it.is_asked) it.forks;
                   reads = λ does_read. absurd (true≢false (sym does_read ∙ unread));
                 },
@@ -140,9 +151,9 @@ module _ (capacity number : ℕ) (asked : Command) (before after : Content) (sou
     put_place =
         let it = lists fine in
         record {
-          journal = journal_is it.put.id _ _ it.fresh (volume_of before) (volume_of after) it.rewrites it.overflow;
-          locked = ap is_locked (flags_are it.put.id _ _ it.fresh (volume_of before) (volume_of after) it.rewrites it.overflow);
-          heading = numbers_are it.put.id _ _ it.fresh (volume_of before) (volume_of after) it.rewrites it.overflow;
+          journal = journal_is it.put.id _ _ it.fresh (volume_of before) (volume_of after) it.rewrites it.user;
+          locked = ap is_locked (flags_are it.put.id _ _ it.fresh (volume_of before) (volume_of after) it.rewrites it.user);
+          heading = numbers_are it.put.id _ _ it.fresh (volume_of before) (volume_of after) it.rewrites it.user;
         }
 
 -- ---- what watchers are told

@@ -14,12 +14,13 @@ use Rattle.hfs_language.specs.declared.reply.Reply.TheVariants as reply
 use Rattle.hfs_model.specs.Step.{refuses, step_line}
 use Rattle.hfs_volume.specs.Content.{volume_of}
 use Rattle.hfs_volume.specs.Reclaim.{CutsSurplus}
-use Rattle.volume_runs.specs.Run.{Entry, GrowsMore, IsServed, is_ok, or_before, overflow_edits, shrunk_by}
+use Rattle.volume_runs.specs.Run.{AsksMore, Entry, IsServed, is_ok, or_before, shrunk_by}
 use Rattle.volume_runs.specs.Told.{changes_by}
 use Rattle.hfs_volume.specs.TreeOf.{tree_of}
 use Rattle.hfs_volume.specs.Weight.{data_of, edits_of, needs_cut, weight, weight_with}
 use Rattle.hfs_volume.specs.declared.cost.Cost.TheVariants as cost
 use Rattle.sector_disk.specs.Space.{Space}
+use Rattle.volume_weights.specs.DataWeighing.{WaitsForCut}
 use Rattle.volume_base.specs.Fitting.{AreMet}
 use Rattle.volume_space.specs.Growing.{IsOwnOrFree}
 use Rattle.volume_base.specs.Standing.{own_sectors}
@@ -98,17 +99,12 @@ pub record GrowsFirst (more : MoreNodes) (capacity : ℕ) (asked : Command) (con
   pub load : ℕ
   pub weighs : weight capacity (volume_of content) (tree_of content) asked ≡ cost.Load load (0 ∷ more.catalog ∷ more.attributes ∷ [])
 
--- The step doesn't refuse the command, but trees have to grow for it otherwise than is built, or it puts data where blocks past a file's size go first or
--- overflow records are counted.
-pub record IsHeldBack (capacity : ℕ) (asked : Command) (content : Content) : Type 0 where
-  pub no_refusal : refuses (tree_of content) (Ok asked) ≡ false
-  pub why : GrowsMore capacity asked content ⊎ ((needs_cut (volume_of content) (data_of (tree_of content) asked) ≡ true) ⊎ (0 < overflow_edits (volume_of content) (tree_of content) asked))
-
 -- the verdict stands
 abbrev pub IsJudged : Verdict → ℕ → Command → Content → Type 0
 IsJudged (verdict.Refused why) capacity asked content =
     (reply.No why ≡ (step_line (tree_of content) (Ok asked)).0) ⊎ ((refuses (tree_of content) (Ok asked) ≡ false) × (weight capacity (volume_of content) (tree_of content) asked ≡ cost.Refused why))
-IsJudged verdict.ToCome capacity asked content = IsHeldBack capacity asked content
+IsJudged verdict.ToCome capacity asked content = AsksMore capacity asked content
+IsJudged verdict.CutFirst capacity asked content = WaitsForCut content asked
 IsJudged verdict.CommitFirst capacity asked content = Unit {0}
 IsJudged (verdict.Grows more load) capacity asked content = GrowsFirst more capacity asked content
 IsJudged verdict.Fits capacity asked content = Affords capacity asked content

@@ -7,13 +7,14 @@ ghost use Rattle.hfs_language.specs.Written.{FitsCommand};
 ghost use Rattle.hfs_model.specs.Step.{only_reads};
 ghost use Rattle.volume_space.specs.Cutting.{KeepsUsed};
 ghost use Rattle.volume_space.specs.CuttingAhead.{CutsAhead};
+ghost use Rattle.volume_weights.specs.DataWeighing.{WaitsForCut};
 ghost use Rattle.volume_base.specs.Keeping.{shrunk_of};
 ghost use Rattle.volume_base.specs.Room.{capacity_of};
 ghost use Rattle.volume_base.specs.Service.{IsInService};
 ghost use Rattle.volume_space.specs.Standing.{HoldsOn};
 ghost use Rattle.volume_base.specs.Standing.{IsSettled, StandsOver, own_sectors};
 ghost use Rattle.volume_base.specs.Touching.{Touches};
-ghost use Rattle.volume_step.specs.Steps.{IsHeldBack, KeepsJournal, ShrinksAs, StepsTo, data_end, data_path, outcome_of};
+ghost use Rattle.volume_step.specs.Steps.{KeepsJournal, ShrinksAs, StepsTo, data_end, data_path, outcome_of};
 
 use crate::answering::refusal;
 use crate::outcome::Outcome;
@@ -77,9 +78,8 @@ fn cut_for<P: SectorSpace>(
     }
 }
 
-/// Cuts blocks past the size of the file that a command puts data into, which go first where the file has some; else the command is
-/// still to come.
-fn cut_first<P: SectorSpace>(
+/// Cuts blocks past the size of the file that a command puts data into, which go first; the data ends here.
+fn cut_up_to<P: SectorSpace>(
     alloc: Global,
     volume: &mut Volume,
     space: &mut P,
@@ -92,7 +92,7 @@ fn cut_first<P: SectorSpace>(
     requires fits { FitsCommand command.now }
     requires changes { only_reads command.now ≡ false }
     requires end { data_end command.now ≡ Some end }
-    requires held { IsTrue (P.SectorView.space space.old).tells → IsHeldBack (capacity_of volume.old) command.now (P.SectorView.space space.old).content }
+    requires waits { IsTrue (P.SectorView.space space.old).tells → WaitsForCut (P.SectorView.space space.old).content command.now }
     ensures answered { IsTrue (P.SectorView.space space.old).tells → IfOk result (λ outcome. StepsTo outcome (capacity_of volume.old) _number command.now (P.SectorView.space space.old).content (P.SectorView.space space.new).content) }
     ensures place { IsTrue (P.SectorView.space space.old).tells → OnOk result (KeepsJournal (P.SectorView.space space.old).content (P.SectorView.space space.new).content) }
     ensures stands { OnOk result (StandsOver volume.new (P.SectorView.space space.new)) }
@@ -110,11 +110,12 @@ fn cut_first<P: SectorSpace>(
     Ok(outcome_of(alloc, came))
 }
 
-/// What a cut comes to for its command.
+/// What a cut comes to for a command ahead of which one goes.
 fn outcome_of(alloc: Global, came: CutAhead) -> Outcome
     ensures { result ≡ outcome_of came }
 {
     match came {
+        // Where the space tells, its file has blocks past its size.
         CutAhead::NotNeeded => refusal(alloc, Refusal::NotBuilt),
         CutAhead::Made => Outcome::Again,
         CutAhead::CommitFirst => Outcome::CommitFirst,
@@ -122,9 +123,8 @@ fn outcome_of(alloc: Global, came: CutAhead) -> Outcome
     }
 }
 
-/// Cuts blocks past the size of the file that a command puts data into, which go first where the file has some: then it is to be
-/// tried again. Another command that is held back is still to come.
-pub(crate) fn cut_or_wait<P: SectorSpace>(
+/// Cuts blocks past the size of the file that a command puts data into, which go first: then it is to be tried again.
+pub(crate) fn cut_first<P: SectorSpace>(
     alloc: Global,
     volume: &mut Volume,
     space: &mut P,
@@ -135,7 +135,7 @@ pub(crate) fn cut_or_wait<P: SectorSpace>(
     requires settled { IsTrue (P.SectorView.space space.old).tells → IsSettled volume.old (P.SectorView.space space.old).content }
     requires fits { FitsCommand command.now }
     requires changes { only_reads command.now ≡ false }
-    requires held { IsTrue (P.SectorView.space space.old).tells → IsHeldBack (capacity_of volume.old) command.now (P.SectorView.space space.old).content }
+    requires waits { IsTrue (P.SectorView.space space.old).tells → WaitsForCut (P.SectorView.space space.old).content command.now }
     ensures answered { IsTrue (P.SectorView.space space.old).tells → IfOk result (λ outcome. StepsTo outcome (capacity_of volume.old) number command.now (P.SectorView.space space.old).content (P.SectorView.space space.new).content) }
     ensures place { IsTrue (P.SectorView.space space.old).tells → OnOk result (KeepsJournal (P.SectorView.space space.old).content (P.SectorView.space space.new).content) }
     ensures stands { OnOk result (StandsOver volume.new (P.SectorView.space space.new)) }
@@ -149,7 +149,8 @@ pub(crate) fn cut_or_wait<P: SectorSpace>(
     ensures cause { HasTroubleCause (P.SectorView.space space.old).faults (P.SectorView.space space.new).faults result }
 {
     match data_end(command) {
-        Some(end) => cut_first(alloc, volume, space, number, command, end),
+        Some(end) => cut_up_to(alloc, volume, space, number, command, end),
+        // Where the space tells, the command puts data.
         None => Ok(refusal(alloc, Refusal::NotBuilt)),
     }
 }

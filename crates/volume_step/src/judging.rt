@@ -22,8 +22,10 @@ use volume_weights::weigh;
 pub(crate) enum Verdict {
     /// Its step refuses it, or a resource is missing.
     Refused(Refusal),
-    /// The extents file has to grow for it, blocks past the size of its file go first, or its data counts overflow records.
+    /// The extents file has to grow for it, which isn't built yet.
     ToCome,
+    /// Blocks past the size of the file that it puts data into go first.
+    CutFirst,
     /// It wants a commit before it.
     CommitFirst,
     /// The catalog or the attributes file has to grow before it, by so many nodes; its load is so many sectors, with the growth.
@@ -75,7 +77,7 @@ fn verdict_of(weight: Weight, spare: u64) -> Verdict
     }
 }
 
-/// Judges a command that changes the volume. One that isn't weighed is held back.
+/// Judges a command that changes the volume. Ahead of one that isn't weighed goes a cut.
 pub(crate) fn judge<P: SectorSpace>(
     alloc: Global,
     volume: &mut Volume,
@@ -96,6 +98,6 @@ pub(crate) fn judge<P: SectorSpace>(
 {
     match weigh(volume, alloc, space, command)? {
         Some(weight) => Ok(verdict_of(weight, space.spare())),
-        None => Ok(Verdict::ToCome),
+        None => Ok(Verdict::CutFirst),
     }
 }

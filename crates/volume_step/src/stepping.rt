@@ -17,7 +17,7 @@ ghost use Rattle.volume_base.specs.Touching.{Touches};
 ghost use Rattle.volume_step.specs.Steps.{Affords, CostsTaken, GrowsFirst, IsDoneOk, IsMet, KeepsJournal, OwnOf, ShrinksAs, StepsTo, edits_tree};
 
 use crate::answering::{answer, only_reads, refusal};
-use crate::cutting::cut_or_wait;
+use crate::cutting::cut_first;
 use crate::growing::edits_tree;
 use crate::judging::{Verdict, judge};
 use crate::linking::link_file;
@@ -193,7 +193,8 @@ fn change<P: SectorSpace>(
 {
     match judge(alloc, volume, space, command)? {
         Verdict::Refused(why) => Ok(refusal(alloc, why)),
-        Verdict::ToCome => cut_or_wait(alloc, volume, space, number, command),
+        Verdict::ToCome => Ok(refusal(alloc, Refusal::NotBuilt)),
+        Verdict::CutFirst => cut_first(alloc, volume, space, number, command),
         Verdict::CommitFirst => Ok(Outcome::CommitFirst),
         Verdict::Grows { more, load } => {
             grow_first(alloc, volume, space, number, command, more, load)

@@ -1,5 +1,5 @@
 -- What data weighs that a command puts into a file.
-use Rattle.std.specs.Prelude.{◌≡◌, ◌≤◌, ℕ, ◌^◌, ◌&&◌, nat_le, nat_lt, max, Bool, false, List, [], ◌∷◌, length, Ok, Option, None, Some}
+use Rattle.std.specs.Prelude.{◌≡◌, ◌≤◌, ℕ, ◌^◌, ◌&&◌, nat_le, nat_lt, max, Bool, true, false, List, [], ◌∷◌, length, Ok, Option, None, Some}
 use Rattle.flag_rows.specs.Runs.{fewest_of}
 use Rattle.cat_records.specs.declared.record.CatRecord.{CatRecord}
 use Rattle.cat_records.specs.declared.record.CatRecord.TheVariants.{Folder, File, Thread}
@@ -11,11 +11,10 @@ use Rattle.hfs_volume.specs.Content.{VolumeState, records_of, volume_of}
 use Rattle.hfs_volume.specs.Forks.{data_kind, parts_for}
 use Rattle.hfs_volume.specs.Records.{entry_of}
 use Rattle.hfs_volume.specs.TreeOf.{tree_of}
-use Rattle.hfs_volume.specs.Weight.{Data, edits, extents_edits, file_blocks, file_fork, free_runs, new_blocks_of, old_blocks_of}
+use Rattle.hfs_volume.specs.Weight.{Data, data_of, edits, extents_edits, file_blocks, file_fork, free_runs, needs_cut, new_blocks_of, old_blocks_of}
 use Rattle.hfs_volume.specs.declared.cost.Needs.{Needs}
 use Rattle.volume_base.specs.Reading.{HasFile}
 use Rattle.volume_base.specs.declared.data_cost.Put.{Put}
-use Rattle.volume_base.specs.DataWeighing.{PutsLater}
 
 -- blocks have 512 bytes at least, a file at most 2^48, and data ends by 2^40
 abbrev pub are_usual : ℕ → Put → Bool
@@ -32,9 +31,9 @@ needs_put free block extents put =
 abbrev pub has_more : ℕ → ℕ → Put → Bool
 has_more block blocks put = nat_lt put.old_size (max put.old_size put.end) && nat_lt (parts_for put.old_size block) blocks
 
--- Its step doesn't refuse the command, but it puts data where blocks past a file's size go first, or its cost counts overflow records.
-abbrev pub WaitsForMore : Content → Command → Type 0
-WaitsForMore content asked = (refuses (tree_of content) (Ok asked) ≡ false) × PutsLater (volume_of content) (tree_of content) asked
+-- Its step doesn't refuse the command, but it puts data where blocks past a file's size go first.
+abbrev pub WaitsForCut : Content → Command → Type 0
+WaitsForCut content asked = (refuses (tree_of content) (Ok asked) ≡ false) × (needs_cut (volume_of content) (data_of (tree_of content) asked) ≡ true)
 
 -- the file whose record this is
 abbrev pub file_of_record : CatRecord → Option FileRecord

@@ -11,7 +11,7 @@ ghost use Rattle.hfs_volume.specs.TreeOf.{tree_of};
 ghost use Rattle.hfs_volume.specs.Weight.{file_blocks, file_extents, free_runs, needs_cut, new_blocks_of, old_blocks_of, room_with};
 ghost use Rattle.volume_cost.specs.Sizes.{AreSmall};
 ghost use Rattle.volume_weights.specs.DataWeighing.{IsFileOfPut, are_usual, file_of_record, has_more, needs_put};
-ghost use Rattle.volume_base.specs.DataWeighing.{IsMoreData, data_as, data_weighed};
+ghost use Rattle.volume_base.specs.DataWeighing.{data_as, data_weighed};
 ghost use Rattle.volume_base.specs.Looking.{ReadsVolume};
 ghost use Rattle.volume_base.specs.Reading.{HasFile};
 ghost use Rattle.volume_base.specs.Room.{capacity_of, free_in};
@@ -127,7 +127,7 @@ fn cost_of_put<P: SectorSpace>(
 }
 
 /// What data weighs that is put into a file whose fork has so many extents and blocks; nothing is told where it grows and has blocks past
-/// its size, or where its cost counts overflow records.
+/// its size.
 fn weigh_fork<P: SectorSpace>(
     volume: &Volume,
     space: &P,
@@ -143,17 +143,13 @@ fn weigh_fork<P: SectorSpace>(
     requires held { IsTrue (P.SectorView.space space.now).tells → held ≡ length (file_blocks (volume_of (P.SectorView.space space.now).content) put.id data_kind) }
     ensures answer { IsTrue (P.SectorView.space space.now).tells → IfSome result (λ weighs. weighs ≡ data_weighed (capacity_of volume.now) (free_in blocks.Takable volume.now.map) (volume_of (P.SectorView.space space.now).content) (data_as put)) }
     ensures no_cut { IsTrue (P.SectorView.space space.now).tells → is_some result ≡ true → needs_cut (volume_of (P.SectorView.space space.now).content) (Some (data_as put)) ≡ false }
-    ensures waits { IsTrue (P.SectorView.space space.now).tells → is_some result ≡ false → IsMoreData (volume_of (P.SectorView.space space.now).content) (data_as put) }
+    ensures waits { IsTrue (P.SectorView.space space.now).tells → is_some result ≡ false → needs_cut (volume_of (P.SectorView.space space.now).content) (Some (data_as put)) ≡ true }
 {
     // A space that tells its sectors has a volume with usual numbers.
     if !are_usual(volume.header.block_size, put) {
         return Some(Weight::Refused(Refusal::NoSpace(0, 0)));
     }
     if has_more(volume.header.block_size, held, put) {
-        return None;
-    }
-    let needs = needs_put(volume, FreeBlocks::All, extents, put);
-    if needs.edits[0] != 0 {
         return None;
     }
     let all = cost_of_put(volume, space, FreeBlocks::All, extents, put);
@@ -189,8 +185,7 @@ fn load_data_fork<P: SectorSpace>(
     )
 }
 
-/// What data weighs that is put into the file of this record; nothing is told where it grows and has blocks past its size, or where its
-/// cost counts overflow records.
+/// What data weighs that is put into the file of this record; nothing is told where it grows and has blocks past its size.
 fn weigh_file<P: SectorSpace>(
     volume: &mut Volume,
     alloc: Global,
@@ -204,7 +199,7 @@ fn weigh_file<P: SectorSpace>(
     requires there { IsTrue (P.SectorView.space space.old).tells → IsFileOfPut (volume_of (P.SectorView.space space.old).content) file.now put }
     ensures answer { IsTrue (P.SectorView.space space.old).tells → IfOk result (λ said. IfSome said (λ weighs. weighs ≡ data_weighed (capacity_of volume.old) (free_in blocks.Takable volume.old.map) (volume_of (P.SectorView.space space.old).content) (data_as put))) }
     ensures no_cut { IsTrue (P.SectorView.space space.old).tells → IfOk result (λ said. is_some said ≡ true → needs_cut (volume_of (P.SectorView.space space.old).content) (Some (data_as put)) ≡ false) }
-    ensures waits { IsTrue (P.SectorView.space space.old).tells → IfOk result (λ said. is_some said ≡ false → IsMoreData (volume_of (P.SectorView.space space.old).content) (data_as put)) }
+    ensures waits { IsTrue (P.SectorView.space space.old).tells → IfOk result (λ said. is_some said ≡ false → needs_cut (volume_of (P.SectorView.space space.old).content) (Some (data_as put)) ≡ true) }
     ensures reads { ReadsVolume volume.old volume.new (P.SectorView.space space.old) (P.SectorView.space space.new) }
     ensures stands { StandsOver volume.new (P.SectorView.space space.new) }
     ensures settled { IsTrue (P.SectorView.space space.old).tells → IsSettled volume.new (P.SectorView.space space.new).content }
@@ -240,8 +235,7 @@ fn file_of_put<P: SectorSpace>(
     }
 }
 
-/// What data weighs that is put into the file with a CNID; nothing is told where it grows and has blocks past its size, or where its cost
-/// counts overflow records.
+/// What data weighs that is put into the file with a CNID; nothing is told where it grows and has blocks past its size.
 pub(crate) fn weigh_put<P: SectorSpace>(
     volume: &mut Volume,
     alloc: Global,
@@ -254,7 +248,7 @@ pub(crate) fn weigh_put<P: SectorSpace>(
     requires there { IsTrue (P.SectorView.space space.old).tells → (node : PlainNode) × Contains (tree_of (P.SectorView.space space.old).content).nodes node × (node.folder ≡ false) × (node.id ≡ put.id) × (length node.bytes ≡ put.old_size) }
     ensures answer { IsTrue (P.SectorView.space space.old).tells → IfOk result (λ said. IfSome said (λ weighs. weighs ≡ data_weighed (capacity_of volume.old) (free_in blocks.Takable volume.old.map) (volume_of (P.SectorView.space space.old).content) (data_as put))) }
     ensures no_cut { IsTrue (P.SectorView.space space.old).tells → IfOk result (λ said. is_some said ≡ true → needs_cut (volume_of (P.SectorView.space space.old).content) (Some (data_as put)) ≡ false) }
-    ensures waits { IsTrue (P.SectorView.space space.old).tells → IfOk result (λ said. is_some said ≡ false → IsMoreData (volume_of (P.SectorView.space space.old).content) (data_as put)) }
+    ensures waits { IsTrue (P.SectorView.space space.old).tells → IfOk result (λ said. is_some said ≡ false → needs_cut (volume_of (P.SectorView.space space.old).content) (Some (data_as put)) ≡ true) }
     ensures reads { ReadsVolume volume.old volume.new (P.SectorView.space space.old) (P.SectorView.space space.new) }
     ensures stands { StandsOver volume.new (P.SectorView.space space.new) }
     ensures settled { IsTrue (P.SectorView.space space.old).tells → IsSettled volume.new (P.SectorView.space space.new).content }

@@ -6,7 +6,7 @@ ghost use Rattle.hfs_language.specs.declared.command.Command.TheVariants as comm
 ghost use Rattle.hfs_model.specs.Step.{step_line};
 ghost use Rattle.hfs_volume.specs.Content.{volume_of};
 ghost use Rattle.hfs_volume.specs.TreeOf.{tree_of};
-ghost use Rattle.volume_weights.specs.DataWeighing.{WaitsForMore};
+ghost use Rattle.volume_weights.specs.DataWeighing.{WaitsForCut};
 ghost use Rattle.volume_base.specs.Looking.{ReadsVolume};
 ghost use Rattle.volume_base.specs.Refusing.{facts_or};
 ghost use Rattle.volume_base.specs.Room.{capacity_of, free_in};
@@ -46,8 +46,7 @@ fn weigh_update<P: SectorSpace>(volume: &Volume, space: &P) -> Weight
     weigh_edits(volume, space, edits)
 }
 
-/// What `trunc` to a size needs of a file of which this is told; nothing is told where the file would grow and has blocks past its size, or
-/// where its cost counts overflow records, which is still to come.
+/// What `trunc` to a size needs of a file of which this is told; nothing is told where the file would grow and has blocks past its size.
 fn weigh_size<P: SectorSpace>(
     volume: &mut Volume,
     alloc: Global,
@@ -61,7 +60,7 @@ fn weigh_size<P: SectorSpace>(
     requires told { IsTrue (P.SectorView.space space.old).tells → Ok told.now ≡ facts_or (step_line (tree_of (P.SectorView.space space.old).content) (Ok (command.Stat _path.now))).0 }
     ensures answer { IsTrue (P.SectorView.space space.old).tells
         → IfOk result (λ said. IfSome said (λ weighs. weighs ≡ weighed (capacity_of volume.old) (free_in blocks.Takable volume.old.map) (volume_of (P.SectorView.space space.old).content) (tree_of (P.SectorView.space space.old).content) (command.Trunc _path.now size))) }
-    ensures waits { IsTrue (P.SectorView.space space.old).tells → IfOk result (λ said. is_some said ≡ false → WaitsForMore (P.SectorView.space space.old).content (command.Trunc _path.now size)) }
+    ensures waits { IsTrue (P.SectorView.space space.old).tells → IfOk result (λ said. is_some said ≡ false → WaitsForCut (P.SectorView.space space.old).content (command.Trunc _path.now size)) }
     ensures reads { ReadsVolume volume.old volume.new (P.SectorView.space space.old) (P.SectorView.space space.new) }
     ensures stands { StandsOver volume.new (P.SectorView.space space.new) }
     ensures settled { IsTrue (P.SectorView.space space.old).tells → IsSettled volume.new (P.SectorView.space space.new).content }
@@ -84,8 +83,7 @@ fn weigh_size<P: SectorSpace>(
     Ok(Some(weigh_update(volume, space)))
 }
 
-/// What `trunc` needs; nothing is told where the file would grow and has blocks past its size, or where its cost counts overflow records,
-/// which is still to come.
+/// What `trunc` needs; nothing is told where the file would grow and has blocks past its size.
 pub(crate) fn weigh_trunc<P: SectorSpace>(
     volume: &mut Volume,
     alloc: Global,
@@ -98,7 +96,7 @@ pub(crate) fn weigh_trunc<P: SectorSpace>(
     requires fits { FitsPath path.now }
     ensures answer { IsTrue (P.SectorView.space space.old).tells
         → IfOk result (λ said. IfSome said (λ weighs. weighs ≡ weighed (capacity_of volume.old) (free_in blocks.Takable volume.old.map) (volume_of (P.SectorView.space space.old).content) (tree_of (P.SectorView.space space.old).content) (command.Trunc path.now size))) }
-    ensures waits { IsTrue (P.SectorView.space space.old).tells → IfOk result (λ said. is_some said ≡ false → WaitsForMore (P.SectorView.space space.old).content (command.Trunc path.now size)) }
+    ensures waits { IsTrue (P.SectorView.space space.old).tells → IfOk result (λ said. is_some said ≡ false → WaitsForCut (P.SectorView.space space.old).content (command.Trunc path.now size)) }
     ensures reads { ReadsVolume volume.old volume.new (P.SectorView.space space.old) (P.SectorView.space space.new) }
     ensures stands { StandsOver volume.new (P.SectorView.space space.new) }
     ensures settled { IsTrue (P.SectorView.space space.old).tells → IsSettled volume.new (P.SectorView.space space.new).content }
@@ -113,7 +111,7 @@ pub(crate) fn weigh_trunc<P: SectorSpace>(
 }
 
 /// What `write` of a value from a place on needs of a file of which this is told; nothing is told where the file would grow and has blocks
-/// past its size, or where its cost counts overflow records, which is still to come.
+/// past its size.
 fn weigh_value<P: SectorSpace>(
     volume: &mut Volume,
     alloc: Global,
@@ -128,7 +126,7 @@ fn weigh_value<P: SectorSpace>(
     requires told { IsTrue (P.SectorView.space space.old).tells → Ok told.now ≡ facts_or (step_line (tree_of (P.SectorView.space space.old).content) (Ok (command.Stat _path.now))).0 }
     ensures answer { IsTrue (P.SectorView.space space.old).tells
         → IfOk result (λ said. IfSome said (λ weighs. weighs ≡ weighed (capacity_of volume.old) (free_in blocks.Takable volume.old.map) (volume_of (P.SectorView.space space.old).content) (tree_of (P.SectorView.space space.old).content) (command.Write _path.now from value.now))) }
-    ensures waits { IsTrue (P.SectorView.space space.old).tells → IfOk result (λ said. is_some said ≡ false → WaitsForMore (P.SectorView.space space.old).content (command.Write _path.now from value.now)) }
+    ensures waits { IsTrue (P.SectorView.space space.old).tells → IfOk result (λ said. is_some said ≡ false → WaitsForCut (P.SectorView.space space.old).content (command.Write _path.now from value.now)) }
     ensures reads { ReadsVolume volume.old volume.new (P.SectorView.space space.old) (P.SectorView.space space.new) }
     ensures stands { StandsOver volume.new (P.SectorView.space space.new) }
     ensures settled { IsTrue (P.SectorView.space space.old).tells → IsSettled volume.new (P.SectorView.space space.new).content }
@@ -151,8 +149,7 @@ fn weigh_value<P: SectorSpace>(
     Ok(Some(weigh_update(volume, space)))
 }
 
-/// What `write` needs; nothing is told where the file would grow and has blocks past its size, or where its cost counts overflow records,
-/// which is still to come.
+/// What `write` needs; nothing is told where the file would grow and has blocks past its size.
 pub(crate) fn weigh_write<P: SectorSpace>(
     volume: &mut Volume,
     alloc: Global,
@@ -166,7 +163,7 @@ pub(crate) fn weigh_write<P: SectorSpace>(
     requires fits { FitsPath path.now }
     ensures answer { IsTrue (P.SectorView.space space.old).tells
         → IfOk result (λ said. IfSome said (λ weighs. weighs ≡ weighed (capacity_of volume.old) (free_in blocks.Takable volume.old.map) (volume_of (P.SectorView.space space.old).content) (tree_of (P.SectorView.space space.old).content) (command.Write path.now from value.now))) }
-    ensures waits { IsTrue (P.SectorView.space space.old).tells → IfOk result (λ said. is_some said ≡ false → WaitsForMore (P.SectorView.space space.old).content (command.Write path.now from value.now)) }
+    ensures waits { IsTrue (P.SectorView.space space.old).tells → IfOk result (λ said. is_some said ≡ false → WaitsForCut (P.SectorView.space space.old).content (command.Write path.now from value.now)) }
     ensures reads { ReadsVolume volume.old volume.new (P.SectorView.space space.old) (P.SectorView.space space.new) }
     ensures stands { StandsOver volume.new (P.SectorView.space space.new) }
     ensures settled { IsTrue (P.SectorView.space space.old).tells → IsSettled volume.new (P.SectorView.space space.new).content }

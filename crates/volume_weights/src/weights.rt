@@ -6,7 +6,7 @@ ghost use Rattle.hfs_language.specs.declared.command.Command.TheVariants as comm
 ghost use Rattle.hfs_model.specs.Step.{is_private_path, only_reads};
 ghost use Rattle.hfs_volume.specs.Content.{volume_of};
 ghost use Rattle.hfs_volume.specs.TreeOf.{tree_of};
-ghost use Rattle.volume_weights.specs.DataWeighing.{WaitsForMore};
+ghost use Rattle.volume_weights.specs.DataWeighing.{WaitsForCut};
 ghost use Rattle.volume_base.specs.Looking.{ReadsVolume};
 ghost use Rattle.volume_base.specs.Making.{making, path_to};
 ghost use Rattle.volume_base.specs.Room.{capacity_of, free_in};
@@ -269,7 +269,7 @@ fn weigh_create<P: SectorSpace>(
 /// What a command needs before its step: that it is refused, by its step or for want of a resource; that a commit comes
 /// first; or how many sectors it puts at most, and by how much the trees grow before. It changes nothing. Of a command that
 /// only reads nothing is told, nor, where its step doesn't refuse it, of `write` and `trunc` that put data where blocks past a file's size
-/// go first or overflow records are counted. `Memory` comes where memory is wanting, `Disk` where a read failed.
+/// go first. `Memory` comes where memory is wanting, `Disk` where a read failed.
 pub fn weigh<P: SectorSpace>(
     volume: &mut Volume,
     alloc: Global,
@@ -283,9 +283,9 @@ pub fn weigh<P: SectorSpace>(
     ensures answer { IsTrue (P.SectorView.space space.old).tells
         → IfOk result (λ said. IfSome said (λ weighs. weighs ≡ weighed (capacity_of volume.old) (free_in blocks.Takable volume.old.map) (volume_of (P.SectorView.space space.old).content) (tree_of (P.SectorView.space space.old).content) command.now)) }
     // Nothing is told of a command that only reads, or of one that its step doesn't refuse and that puts data where blocks past a file's
-    // size go first or overflow records are counted.
+    // size go first.
     ensures waits { IsTrue (P.SectorView.space space.old).tells → only_reads command.now ≡ false
-        → IfOk result (λ said. is_some said ≡ false → WaitsForMore (P.SectorView.space space.old).content command.now) }
+        → IfOk result (λ said. is_some said ≡ false → WaitsForCut (P.SectorView.space space.old).content command.now) }
     ensures reads { ReadsVolume volume.old volume.new (P.SectorView.space space.old) (P.SectorView.space space.new) }
     ensures stands { StandsOver volume.new (P.SectorView.space space.new) }
     ensures settled { IsTrue (P.SectorView.space space.old).tells → IsSettled volume.new (P.SectorView.space space.new).content }

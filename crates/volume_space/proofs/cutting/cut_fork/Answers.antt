@@ -15,7 +15,8 @@ use Rattle.hfs_volume.specs.Entries.{AreSpelled}
 use Rattle.hfs_volume.specs.Records.{overflow_of}
 use Rattle.overflow.specs.Reading.{overflow_in_store}
 use Rattle.volume_base.specs.Changing.{ReplacesRecord}
-use Rattle.volume_space.specs.Cutting.{CutsFile, PutsGiven, cut_fork_of, fork_at, kind_of}
+use Rattle.volume_space.specs.Cutting.{CutsFile, PutsGiven, kind_of}
+use Rattle.volume_base.specs.Cutting.{cut_fork_of, fork_at}
 use Rattle.volume_base.specs.Keeping.{shrunk_of}
 use Rattle.volume_base.specs.Lists.{lists_of}
 use Rattle.volume_space.specs.Spreading.{StoresExtents}

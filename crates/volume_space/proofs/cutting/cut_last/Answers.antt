@@ -3,7 +3,7 @@ use Rattle.std.specs.Prelude.{IfSome, Option}
 use Rattle.fork_map.specs.Blocks.{blocks_of}
 use Rattle.file_io.proofs.CutLaws.{numbers_used}
 use Rattle.volume_space.specs.Cutting.{IsSplit}
-use Rattle.volume_space.specs.declared.cutting.Cut.{Cut}
+use Rattle.volume_base.specs.declared.cutting.Cut.{Cut}
 use Rattle.volume_space.proofs.CutCalls.{few_blocks, last_cut}
 use Rattle.volume_space.proofs.cutting.cut_last.Goals as goal
 

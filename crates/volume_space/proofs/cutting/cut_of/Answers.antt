@@ -1,4 +1,4 @@
-use Rattle.volume_space.specs.Cutting.{IsCutOf, IsLastCut}
+use Rattle.volume_base.specs.Cutting.{IsCutOf, IsLastCut}
 use Rattle.volume_base.proofs.Seeing.{if_so}
 use Rattle.volume_space.proofs.cutting.cut_of.Goals as goal
 

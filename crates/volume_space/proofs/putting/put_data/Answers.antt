@@ -11,14 +11,16 @@ use Rattle.hfs_volume.specs.Aside.{IsJournalSector}
 use Rattle.hfs_volume.specs.Content.{VolumeState, volume_of}
 use Rattle.hfs_volume.specs.Records.{is_thread}
 use Rattle.volume_base.specs.Touching.{Touches}
-use Rattle.volume_space.specs.Writing.{IsToldFile, extents_in}
+use Rattle.file_io.specs.Places.{blocks_for}
+use Rattle.volume_header.specs.declared.header.VolumeHeader.{VolumeHeader}
+use Rattle.volume_space.specs.Writing.{IsToldFile, extents_in, has_more, may_overflow}
 use Rattle.volume_base.specs.declared.entries.Entry.{Entry}
 use Rattle.volume_base.proofs.Commanding.{touches_both, touches_looks}
 use Rattle.volume_space.proofs.CutKept.{own_kept}
 use Rattle.volume_base.proofs.FoundEntry.{IsThere, entry_there, not_none, settled_spelled}
 use Rattle.volume_space.proofs.KeptUsed.{used_read}
-use Rattle.volume_space.proofs.PutAlike.{alike_both, alike_kept, alike_read, can_still, laid_alike, load_alike, puts_alike}
-use Rattle.volume_space.proofs.PutFile.{entry_is, has_it, its, load_now, now_is, number_is, same_file, same_files, told_is}
+use Rattle.volume_space.proofs.PutAlike.{alike_both, alike_kept, alike_read, can_still, fewest_still, laid_alike, load_alike, puts_alike}
+use Rattle.volume_space.proofs.PutFile.{cut_is, over_is, entry_is, has_it, its, load_now, now_is, number_is, same_file, same_files, told_is}
 use Rattle.volume_base.proofs.Seeing.{if_so}
 use Rattle.volume_base.proofs.Still.{lists_still, own_still, settled_still}
 use Rattle.volume_space.proofs.WhenKept.{holds_kept, settled_kept, stands_kept, unchanged_kept}
@@ -68,12 +70,21 @@ returns-in-Some-clause-exactly g c tells node stands number kind put put_id at =
     let it : IsThere _ c.args.id c.in-Some.entry = entry_there c.keep.new.self (g.P.SectorView.space c.args.space.now).content ((stands_kept c.args.volume.now c.keep.new.self c.keep.ensures (g.P.SectorView.space c.args.space.now) c.requires.stands).stands tells).trees (settled_kept c.args.volume.now c.keep.new.self c.keep.ensures (g.P.SectorView.space c.args.space.now) (c.requires.settled tells)) c.args.id node stands number c.in-Some.entry (sym c.in-Some.is ∙ c.in_ok-entry.ensures.found tells) in
     let file = (its c.keep.new.self (g.P.SectorView.space c.args.space.now) (stands_kept c.args.volume.now c.keep.new.self c.keep.ensures (g.P.SectorView.space c.args.space.now) c.requires.stands) tells (settled_kept c.args.volume.now c.keep.new.self c.keep.ensures (g.P.SectorView.space c.args.space.now) (c.requires.settled tells)) node stands kind).file in
     if_so _ _ c.put_in_entry.result
-    (λ said is. can_still c.args.volume.now c.entry.new.self (alike_both c.args.volume.now c.keep.new.self c.entry.new.self (alike_kept c.args.volume.now c.keep.new.self c.keep.ensures) (alike_read c.keep.new.self c.entry.new.self (g.P.SectorView.space c.args.space.now) (g.P.SectorView.space c.entry.new.space) c.entry.ensures.reads)) file.data_fork.logical_size c.args.from (length c.args.value.now) (g.P.SectorView.space c.entry.new.space).spare (g.P.SectorView.space c.args.space.now).spare (length (extents_in (g.P.SectorView.space c.entry.new.space).content file)) (length (extents_in (g.P.SectorView.space c.args.space.now).content file)) file.data_fork.total_blocks c.entry.ensures.reads.looks.spare (ap (λ (k : Content). length (extents_in k file)) (c.entry.ensures.reads.looks.content tells)) said is
-    ∙ now_is c.args.volume.now (g.P.SectorView.space c.args.space.now) c.requires.stands tells (c.requires.settled tells) node stands kind file (same_files c.args.volume.now c.keep.new.self (g.P.SectorView.space c.args.space.now) c.requires.stands (stands_kept c.args.volume.now c.keep.new.self c.keep.ensures (g.P.SectorView.space c.args.space.now) c.requires.stands) tells (c.requires.settled tells) (settled_kept c.args.volume.now c.keep.new.self c.keep.ensures (g.P.SectorView.space c.args.space.now) (c.requires.settled tells)) node stands kind) put c.args.from (length c.args.value.now) (g.P.SectorView.space c.args.space.now).spare (put_id ∙ sym number) at)
+    (λ said is other. sym (can_still c.args.volume.now c.entry.new.self (alike_both c.args.volume.now c.keep.new.self c.entry.new.self (alike_kept c.args.volume.now c.keep.new.self c.keep.ensures) (alike_read c.keep.new.self c.entry.new.self (g.P.SectorView.space c.args.space.now) (g.P.SectorView.space c.entry.new.space) c.entry.ensures.reads)) file.data_fork.logical_size c.args.from (length c.args.value.now) (g.P.SectorView.space c.entry.new.space).spare (g.P.SectorView.space c.args.space.now).spare (length (extents_in (g.P.SectorView.space c.entry.new.space).content file)) (length (extents_in (g.P.SectorView.space c.args.space.now).content file)) file.data_fork.total_blocks c.entry.ensures.reads.looks.spare (ap (λ (k : Content). length (extents_in k file)) (c.entry.ensures.reads.looks.content tells)) _ refl
+    ∙ now_is c.args.volume.now (g.P.SectorView.space c.args.space.now) c.requires.stands tells (c.requires.settled tells) node stands kind file (same_files c.args.volume.now c.keep.new.self (g.P.SectorView.space c.args.space.now) c.requires.stands (stands_kept c.args.volume.now c.keep.new.self c.keep.ensures (g.P.SectorView.space c.args.space.now) c.requires.stands) tells (c.requires.settled tells) (settled_kept c.args.volume.now c.keep.new.self c.keep.ensures (g.P.SectorView.space c.args.space.now) (c.requires.settled tells)) node stands kind) put c.args.from (length c.args.value.now) (g.P.SectorView.space c.args.space.now).spare (put_id ∙ sym number) at) ∙ is other)
     (c.put_in_entry.ensures.exactly (c.entry.ensures.reads.looks.same.tells ∙ tells) file (entry_is c.keep.new.self (g.P.SectorView.space c.args.space.now) (stands_kept c.args.volume.now c.keep.new.self c.keep.ensures (g.P.SectorView.space c.args.space.now) c.requires.stands) tells (settled_kept c.args.volume.now c.keep.new.self c.keep.ensures (g.P.SectorView.space c.args.space.now) (c.requires.settled tells)) node stands kind c.args.id c.in-Some.entry number it))
 
+pub returns-in-Some-clause-no_cut : goal.returns-in-Some-clause-no_cut
+returns-in-Some-clause-no_cut g c tells node stands number kind put put_id at =
+    let it : IsThere _ c.args.id c.in-Some.entry = entry_there c.keep.new.self (g.P.SectorView.space c.args.space.now).content ((stands_kept c.args.volume.now c.keep.new.self c.keep.ensures (g.P.SectorView.space c.args.space.now) c.requires.stands).stands tells).trees (settled_kept c.args.volume.now c.keep.new.self c.keep.ensures (g.P.SectorView.space c.args.space.now) (c.requires.settled tells)) c.args.id node stands number c.in-Some.entry (sym c.in-Some.is ∙ c.in_ok-entry.ensures.found tells) in
+    let file = (its c.keep.new.self (g.P.SectorView.space c.args.space.now) (stands_kept c.args.volume.now c.keep.new.self c.keep.ensures (g.P.SectorView.space c.args.space.now) c.requires.stands) tells (settled_kept c.args.volume.now c.keep.new.self c.keep.ensures (g.P.SectorView.space c.args.space.now) (c.requires.settled tells)) node stands kind).file in
+    if_so _ _ c.put_in_entry.result
+    (λ said is so. sym (cut_is c.args.volume.now (g.P.SectorView.space c.args.space.now) c.requires.stands tells (c.requires.settled tells) node stands kind file (same_files c.args.volume.now c.keep.new.self (g.P.SectorView.space c.args.space.now) c.requires.stands (stands_kept c.args.volume.now c.keep.new.self c.keep.ensures (g.P.SectorView.space c.args.space.now) c.requires.stands) tells (c.requires.settled tells) (settled_kept c.args.volume.now c.keep.new.self c.keep.ensures (g.P.SectorView.space c.args.space.now) (c.requires.settled tells)) node stands kind) put c.args.from (length c.args.value.now) (put_id ∙ sym number) at)
+    ∙ subst (λ (h : VolumeHeader). has_more file.data_fork.logical_size (c.args.from + length c.args.value.now) (blocks_for h.block_size file.data_fork.logical_size) file.data_fork.total_blocks ≡ false) (c.entry.ensures.reads.keeps.header ∙ c.keep.ensures.same.header) (is so))
+    (c.put_in_entry.ensures.no_cut (c.entry.ensures.reads.looks.same.tells ∙ tells) file (entry_is c.keep.new.self (g.P.SectorView.space c.args.space.now) (stands_kept c.args.volume.now c.keep.new.self c.keep.ensures (g.P.SectorView.space c.args.space.now) c.requires.stands) tells (settled_kept c.args.volume.now c.keep.new.self c.keep.ensures (g.P.SectorView.space c.args.space.now) (c.requires.settled tells)) node stands kind c.args.id c.in-Some.entry number it))
+
 pub returns-in-Some-clause-spent : goal.returns-in-Some-clause-spent
-returns-in-Some-clause-spent g c tells node stands number kind put put_id at =
+returns-in-Some-clause-spent g c tells node stands number kind put put_id at flat =
     let it : IsThere _ c.args.id c.in-Some.entry = entry_there c.keep.new.self (g.P.SectorView.space c.args.space.now).content ((stands_kept c.args.volume.now c.keep.new.self c.keep.ensures (g.P.SectorView.space c.args.space.now) c.requires.stands).stands tells).trees (settled_kept c.args.volume.now c.keep.new.self c.keep.ensures (g.P.SectorView.space c.args.space.now) (c.requires.settled tells)) c.args.id node stands number c.in-Some.entry (sym c.in-Some.is ∙ c.in_ok-entry.ensures.found tells) in
     let file = (its c.keep.new.self (g.P.SectorView.space c.args.space.now) (stands_kept c.args.volume.now c.keep.new.self c.keep.ensures (g.P.SectorView.space c.args.space.now) c.requires.stands) tells (settled_kept c.args.volume.now c.keep.new.self c.keep.ensures (g.P.SectorView.space c.args.space.now) (c.requires.settled tells)) node stands kind).file in
     let same = same_files c.args.volume.now c.keep.new.self (g.P.SectorView.space c.args.space.now) c.requires.stands (stands_kept c.args.volume.now c.keep.new.self c.keep.ensures (g.P.SectorView.space c.args.space.now) c.requires.stands) tells (c.requires.settled tells) (settled_kept c.args.volume.now c.keep.new.self c.keep.ensures (g.P.SectorView.space c.args.space.now) (c.requires.settled tells)) node stands kind in
@@ -84,7 +95,9 @@ returns-in-Some-clause-spent g c tells node stands number kind put put_id at =
           ∙ now_is c.args.volume.now (g.P.SectorView.space c.args.space.now) c.requires.stands tells (c.requires.settled tells) node stands kind file same put c.args.from (length c.args.value.now) (g.P.SectorView.space c.args.space.now).spare (put_id ∙ sym number) at) ∙ some_put.0,
       omega (arith, some_put.1, c.entry.ensures.reads.looks.spare, load_alike c.args.volume.now c.entry.new.self (alike_both c.args.volume.now c.keep.new.self c.entry.new.self (alike_kept c.args.volume.now c.keep.new.self c.keep.ensures) (alike_read c.keep.new.self c.entry.new.self (g.P.SectorView.space c.args.space.now) (g.P.SectorView.space c.entry.new.space) c.entry.ensures.reads)) file.data_fork.logical_size c.args.from (length c.args.value.now), load_now c.args.volume.now (g.P.SectorView.space c.args.space.now) c.requires.stands tells (c.requires.settled tells) node stands kind file same put c.args.from (length c.args.value.now) at),
     ))
-    (c.put_in_entry.ensures.spent (c.entry.ensures.reads.looks.same.tells ∙ tells) file (entry_is c.keep.new.self (g.P.SectorView.space c.args.space.now) (stands_kept c.args.volume.now c.keep.new.self c.keep.ensures (g.P.SectorView.space c.args.space.now) c.requires.stands) tells (settled_kept c.args.volume.now c.keep.new.self c.keep.ensures (g.P.SectorView.space c.args.space.now) (c.requires.settled tells)) node stands kind c.args.id c.in-Some.entry number it))
+    (c.put_in_entry.ensures.spent (c.entry.ensures.reads.looks.same.tells ∙ tells) file (entry_is c.keep.new.self (g.P.SectorView.space c.args.space.now) (stands_kept c.args.volume.now c.keep.new.self c.keep.ensures (g.P.SectorView.space c.args.space.now) c.requires.stands) tells (settled_kept c.args.volume.now c.keep.new.self c.keep.ensures (g.P.SectorView.space c.args.space.now) (c.requires.settled tells)) node stands kind c.args.id c.in-Some.entry number it)
+    ((λ i. may_overflow (length (extents_in (c.entry.ensures.reads.looks.content tells i) file)) (fewest_still c.args.volume.now c.entry.new.self (alike_both c.args.volume.now c.keep.new.self c.entry.new.self (alike_kept c.args.volume.now c.keep.new.self c.keep.ensures) (alike_read c.keep.new.self c.entry.new.self (g.P.SectorView.space c.args.space.now) (g.P.SectorView.space c.entry.new.space) c.entry.ensures.reads)) file.data_fork.logical_size c.args.from (length c.args.value.now) i))
+    ∙ over_is c.args.volume.now (g.P.SectorView.space c.args.space.now) c.requires.stands tells (c.requires.settled tells) node stands kind file same put c.args.from (length c.args.value.now) (put_id ∙ sym number) at ∙ flat))
 
 pub returns-in-Some-clause-puts : goal.returns-in-Some-clause-puts
 returns-in-Some-clause-puts g c tells =
@@ -131,7 +144,7 @@ pub returns-in-None-clause-space : goal.returns-in-None-clause-space
 returns-in-None-clause-space g c = c.entry.ensures.reads.looks.same
 
 pub returns-in-None-clause-spent : goal.returns-in-None-clause-spent
-returns-in-None-clause-spent g c tells node stands number kind put put_id at = inl (omega (arith, c.entry.ensures.reads.looks.spare))
+returns-in-None-clause-spent g c tells node stands number kind put put_id at flat = inl (omega (arith, c.entry.ensures.reads.looks.spare))
 
 pub returns-in-None-clause-service : goal.returns-in-None-clause-service
 returns-in-None-clause-service g c = c.entry.ensures.stands.service
@@ -146,13 +159,16 @@ pub returns-in_err-entry-clause-space : goal.returns-in_err-entry-clause-space
 returns-in_err-entry-clause-space g c = c.entry.ensures.reads.looks.same
 
 pub returns-in_err-entry-clause-spent : goal.returns-in_err-entry-clause-spent
-returns-in_err-entry-clause-spent g c tells node stands number kind put put_id at = inl (omega (arith, c.entry.ensures.reads.looks.spare))
+returns-in_err-entry-clause-spent g c tells node stands number kind put put_id at flat = inl (omega (arith, c.entry.ensures.reads.looks.spare))
 
 pub returns-in_err-entry-clause-service : goal.returns-in_err-entry-clause-service
 returns-in_err-entry-clause-service g c = c.entry.ensures.stands.service
 
 pub returns-in-None-clause-exactly : goal.returns-in-None-clause-exactly
-returns-in-None-clause-exactly g c tells node stands number kind put put_id at = absurd (not_none c.keep.new.self (g.P.SectorView.space c.args.space.now).content ((stands_kept c.args.volume.now c.keep.new.self c.keep.ensures (g.P.SectorView.space c.args.space.now) c.requires.stands).stands tells).trees (settled_kept c.args.volume.now c.keep.new.self c.keep.ensures (g.P.SectorView.space c.args.space.now) (c.requires.settled tells)) c.args.id node stands number (sym c.in-None.is ∙ c.in_ok-entry.ensures.found tells))
+returns-in-None-clause-exactly g c tells node stands number kind put put_id at other = absurd (not_none c.keep.new.self (g.P.SectorView.space c.args.space.now).content ((stands_kept c.args.volume.now c.keep.new.self c.keep.ensures (g.P.SectorView.space c.args.space.now) c.requires.stands).stands tells).trees (settled_kept c.args.volume.now c.keep.new.self c.keep.ensures (g.P.SectorView.space c.args.space.now) (c.requires.settled tells)) c.args.id node stands number (sym c.in-None.is ∙ c.in_ok-entry.ensures.found tells))
+
+pub returns-in-None-clause-no_cut : goal.returns-in-None-clause-no_cut
+returns-in-None-clause-no_cut g c tells node stands number kind put put_id at so = absurd (true≢false (sym so))
 
 pub returns-in-None-clause-puts : goal.returns-in-None-clause-puts
 returns-in-None-clause-puts g c tells so = absurd (true≢false (sym so))

@@ -3,7 +3,11 @@ use Rattle.std.specs.Prelude.{IfOk, IsTrue}
 use Rattle.cat_records.specs.Fits.{FitsRecord}
 use Rattle.cat_records.specs.declared.record.FileRecord.{FileRecord}
 use Rattle.hfs_volume.specs.Records.{is_thread}
-use Rattle.volume_space.specs.Writing.{PutsValue, can_put, extents_in, put_load}
+use Rattle.alloc_bitmap.specs.Map.{free_of}
+use Rattle.file_io.specs.Places.{blocks_for}
+use Rattle.flag_rows.specs.Runs.{fewest_of}
+use Rattle.hfs_volume.specs.Weight.{free_runs}
+use Rattle.volume_space.specs.Writing.{PutsValue, blocks_put, can_put, extents_in, has_more, may_overflow, put_load}
 use Rattle.volume_base.proofs.Commanding.{touches_none}
 use Rattle.volume_space.proofs.PutFile.{not_folder, not_thread, same_file}
 use Rattle.volume_space.proofs.putting.put_in_entry.Goals as goal
@@ -19,7 +23,7 @@ put_in_file-requires-clause-told g c tells = c.requires.told tells c.in-File.fil
 
 pub returns-in-File-clause-exactly : goal.returns-in-File-clause-exactly
 returns-in-File-clause-exactly g c tells file is =
-    subst (λ (f : FileRecord). IfOk c.put_in_file.result (λ put. put ≡ can_put c.args.volume.now (g.P.SectorView.space c.args.space.now).spare (length (extents_in (g.P.SectorView.space c.args.space.now).content f)) f.data_fork.total_blocks f.data_fork.logical_size c.args.from (length c.args.value.now))) (same_file c.in-File.file file (sym c.in-File.is ∙ is)) (c.put_in_file.ensures.exactly tells)
+    subst (λ (f : FileRecord). IfOk c.put_in_file.result (λ put. put ≡ false → can_put c.args.volume.now (g.P.SectorView.space c.args.space.now).spare (length (extents_in (g.P.SectorView.space c.args.space.now).content f)) f.data_fork.total_blocks f.data_fork.logical_size c.args.from (length c.args.value.now) ≡ false)) (same_file c.in-File.file file (sym c.in-File.is ∙ is)) (c.put_in_file.ensures.exactly tells)
 
 pub returns-in-File-clause-puts : goal.returns-in-File-clause-puts
 returns-in-File-clause-puts g c tells file is =
@@ -27,7 +31,7 @@ returns-in-File-clause-puts g c tells file is =
 
 pub returns-in-File-clause-spent : goal.returns-in-File-clause-spent
 returns-in-File-clause-spent g c tells file is =
-    subst (λ (f : FileRecord). ((g.P.SectorView.space c.args.space.now).spare ≤ (g.P.SectorView.space c.put_in_file.new.space).spare) ⊎ ((can_put c.args.volume.now (g.P.SectorView.space c.args.space.now).spare (length (extents_in (g.P.SectorView.space c.args.space.now).content f)) f.data_fork.total_blocks f.data_fork.logical_size c.args.from (length c.args.value.now) ≡ true) × ((g.P.SectorView.space c.args.space.now).spare ≤ (g.P.SectorView.space c.put_in_file.new.space).spare + put_load c.args.volume.now f.data_fork.logical_size c.args.from (length c.args.value.now)))) (same_file c.in-File.file file (sym c.in-File.is ∙ is)) (c.put_in_file.ensures.spent tells)
+    subst (λ (f : FileRecord). may_overflow (length (extents_in (g.P.SectorView.space c.args.space.now).content f)) (fewest_of (blocks_put c.args.volume.now f.data_fork.logical_size c.args.from (length c.args.value.now)) (free_runs (free_of c.args.volume.now.map))) ≡ false → ((g.P.SectorView.space c.args.space.now).spare ≤ (g.P.SectorView.space c.put_in_file.new.space).spare) ⊎ ((can_put c.args.volume.now (g.P.SectorView.space c.args.space.now).spare (length (extents_in (g.P.SectorView.space c.args.space.now).content f)) f.data_fork.total_blocks f.data_fork.logical_size c.args.from (length c.args.value.now) ≡ true) × ((g.P.SectorView.space c.args.space.now).spare ≤ (g.P.SectorView.space c.put_in_file.new.space).spare + put_load c.args.volume.now f.data_fork.logical_size c.args.from (length c.args.value.now)))) (same_file c.in-File.file file (sym c.in-File.is ∙ is)) (c.put_in_file.ensures.spent tells)
 
 pub returns-in-Folder-clause-exactly : goal.returns-in-Folder-clause-exactly
 returns-in-Folder-clause-exactly g c tells file is = absurd (not_folder c.in-Folder._folder file (sym c.in-Folder.is ∙ is))
@@ -39,7 +43,7 @@ pub returns-in-Folder-clause-waits : goal.returns-in-Folder-clause-waits
 returns-in-Folder-clause-waits g c tells other = (c.requires.settled tells, refl)
 
 pub returns-in-Folder-clause-spent : goal.returns-in-Folder-clause-spent
-returns-in-Folder-clause-spent g c tells file is = inl (omega arith)
+returns-in-Folder-clause-spent g c tells file is flat = inl (omega arith)
 
 pub returns-in-Folder-clause-commit : goal.returns-in-Folder-clause-commit
 returns-in-Folder-clause-commit g c committed holds alike = touches_none committed _ (g.P.SectorView.space c.args.space.now)
@@ -60,7 +64,7 @@ pub returns-in-Thread-clause-waits : goal.returns-in-Thread-clause-waits
 returns-in-Thread-clause-waits g c tells other = (c.requires.settled tells, refl)
 
 pub returns-in-Thread-clause-spent : goal.returns-in-Thread-clause-spent
-returns-in-Thread-clause-spent g c tells file is = inl (omega arith)
+returns-in-Thread-clause-spent g c tells file is flat = inl (omega arith)
 
 pub returns-in-Thread-clause-commit : goal.returns-in-Thread-clause-commit
 returns-in-Thread-clause-commit g c committed holds alike = touches_none committed _ (g.P.SectorView.space c.args.space.now)
@@ -70,3 +74,13 @@ returns-in-Thread-clause-service g c = c.requires.stands.service
 
 pub returns-in-Thread-clause-cause : goal.returns-in-Thread-clause-cause
 returns-in-Thread-clause-cause g c = record { later = omega arith; failed = tt }
+
+pub returns-in-File-clause-no_cut : goal.returns-in-File-clause-no_cut
+returns-in-File-clause-no_cut g c tells file is =
+    subst (λ (f : FileRecord). IfOk c.put_in_file.result (λ put. IsTrue put → has_more f.data_fork.logical_size (c.args.from + length c.args.value.now) (blocks_for c.args.volume.now.header.block_size f.data_fork.logical_size) f.data_fork.total_blocks ≡ false)) (same_file c.in-File.file file (sym c.in-File.is ∙ is)) (c.put_in_file.ensures.no_cut tells)
+
+pub returns-in-Folder-clause-no_cut : goal.returns-in-Folder-clause-no_cut
+returns-in-Folder-clause-no_cut g c tells file is = absurd (not_folder c.in-Folder._folder file (sym c.in-Folder.is ∙ is))
+
+pub returns-in-Thread-clause-no_cut : goal.returns-in-Thread-clause-no_cut
+returns-in-Thread-clause-no_cut g c tells file is = absurd (not_thread c.in-Thread._thread file (sym c.in-Thread.is ∙ is))

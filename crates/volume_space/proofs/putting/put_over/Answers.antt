@@ -20,9 +20,6 @@ use Rattle.volume_space.proofs.putting.put_over.Goals as goal
 pub count_blocks-counts-requires : goal.count_blocks-counts-requires
 count_blocks-counts-requires g c = omega (arith, c.requires.stands.service.least)
 
-pub place_data-requires-clause-room : goal.place_data-requires-clause-room
-place_data-requires-clause-room g c = record { told = λ told. omega (arith, c.requires.room) }
-
 pub put_map-requires-clause-stands : goal.put_map-requires-clause-stands
 put_map-requires-clause-stands g c = c.in_ok-place_data.ensures.stands
 
@@ -71,7 +68,7 @@ returns-clause-puts g c tells =
     let of = c.requires.told tells in
     let sums = subst (λ (o : Option Sums). IfSome o (λ sums. (sums.free + c.count_blocks-counts.result.fresh ≡ v.header.free_blocks + c.count_blocks-counts.result.freed) × (sums.total + c.count_blocks-counts.result.freed ≡ c.args.file.now.data_fork.total_blocks + c.count_blocks-counts.result.fresh))) c.in-Some.is c.count_sums.ensures in
     value_put v w (g.P.SectorView.space c.args.space.now) (g.P.SectorView.space c.place_data.new.space) (g.P.SectorView.space c.put_map.new.space) (g.P.SectorView.space c.put_header.new.space) (c.requires.stands.stands tells) (c.requires.settled tells) c.args.entry.now c.args.file.now c.args.list.now c.args.from c.args.value.now c.in-Some.sums.total c.in-Some.sums.free
-    (c.in_ok-place_data.ensures.places tells) (c.is_sure.ensures c.if-not-is_sure.false) c.requires.some c.requires.free of.entry of.stands of.value of.extents_are c.requires.few
+    (c.in_ok-place_data.ensures.places tells) (c.is_sure.ensures c.if-not-is_sure.false) c.requires.some c.requires.free of.entry of.stands of.value of.extents_are
     (c.requires.there tells ∙ ap (λ (r : CatRecord). Some r) c.requires.kind) of.no_link c.requires.fits
     (omega (arith, sums.0, c.count_blocks-counts.ensures.fresh, c.count_blocks-counts.ensures.freed)) (omega (arith, sums.1, c.count_blocks-counts.ensures.fresh, c.count_blocks-counts.ensures.freed))
     (c.put_header.ensures.stands.stands (c.put_header.ensures.within.same.tells ∙ then)) then (c.put_map.ensures.put told) (c.put_header.ensures.put then) c.put_header.ensures.within c.other_files_keep_their_bytes.ensures
@@ -86,10 +83,10 @@ returns-clause-commit g c committed holds alike =
     (touches_header c.place_data.new.volume committed (g.P.SectorView.space c.put_map.new.space) (g.P.SectorView.space c.put_header.new.space) c.put_header.ensures.within))
 
 pub returns-clause-spent : goal.returns-clause-spent
-returns-clause-spent g c tells =
+returns-clause-spent g c tells flat =
     omega (
       arith,
-      c.place_data.ensures.spent tells,
+      c.place_data.ensures.spent tells flat,
       c.put_map.ensures.spent,
       count_by-le-length (λ (s : ℕ). not ((g.P.SectorView.space c.place_data.new.space).put s)) (changed_sectors c.place_data.new.volume),
       changed_few c.args.volume.now c.place_data.new.volume (g.P.SectorView.space c.args.space.now) c.args.file.now.data_fork.logical_size c.args.from (length c.args.value.now) c.args.list.now (c.is_sure.ensures c.if-not-is_sure.false) c.requires.some c.requires.free c.requires.unchanged c.in_ok-place_data.ensures.map,

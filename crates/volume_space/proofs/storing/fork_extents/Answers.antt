@@ -8,7 +8,8 @@ use Rattle.btree_file.specs.State.{sectors_of_tree}
 use Rattle.hfs_volume.specs.Blocks.{GoesOn}
 use Rattle.hfs_volume.specs.Forks.{extents_of}
 use Rattle.hfs_volume.specs.Records.{Overflow, overflow_of}
-use Rattle.volume_space.specs.Cutting.{fork_at, kind_of}
+use Rattle.volume_base.specs.Cutting.{fork_at}
+use Rattle.volume_space.specs.Cutting.{kind_of}
 use Rattle.volume_base.proofs.Extending.{extents_open, extents_read, overflow_told}
 use Rattle.volume_base.proofs.Seeing.{if_so}
 use Rattle.volume_space.proofs.SpreadFile.{goes_on_told}

@@ -8,7 +8,7 @@ use Rattle.btree_file.proofs.StandingLaws.{tree_held, pairs_held, values_held}
 use Rattle.hfs_volume.specs.Forks.{in_use}
 use Rattle.hfs_volume.specs.Records.{overflow_of}
 use Rattle.overflow.specs.Reading.{HasExtents}
-use Rattle.volume_space.specs.Spreading.{StoresFork}
+use Rattle.volume_base.specs.Spreading.{StoresFork}
 use Rattle.volume_base.proofs.EditsOn.{pairs_again}
 use Rattle.volume_space.proofs.ExtentsEdited.{holds_again, stores_both, told_so}
 use Rattle.volume_space.proofs.storing.store_records.Goals as goal

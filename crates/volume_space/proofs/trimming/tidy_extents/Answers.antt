@@ -17,7 +17,7 @@ use Rattle.hfs_volume.specs.Reclaim.{DropAttribute, has_surplus_left, least, nex
 use Rattle.volume_base.proofs.Commanding.{touches_none}
 use Rattle.volume_space.proofs.KeptUsed.{used_none}
 use Rattle.hx_bytes.specs.declared.extents.ForkRecord.{ForkRecord}
-use Rattle.volume_space.specs.Cutting.{IsCutOf}
+use Rattle.volume_base.specs.Cutting.{IsCutOf}
 use Rattle.volume_space.proofs.trimming.tidy_extents.Goals as goal
 
 pub returns-in_err-cut-clause-touches : goal.returns-in_err-cut-clause-touches

@@ -60,7 +60,7 @@ returns-then-put-clause-lists g c tells said =
     let it = told_node (tree_of (g.P.SectorView.space c.args.space.now).content) c.args._path.now c.args.told.now (c.requires.told tells) in
     let about = trunc_told (tree_of (g.P.SectorView.space c.args.space.now).content) c.args._path.now c.args.told.now it c.args.size (sym c.in_default.is ∙ c.against_trunc.ensures) in
     let there = file_there (tree_of (g.P.SectorView.space c.args.space.now).content) c.args._path.now it.node about.0.file in
-    data_done c.args.volume.now c.put_data.new.volume (g.P.SectorView.space c.args.space.now) (g.P.SectorView.space c.put_data.new.space).content c.requires.stands tells (c.requires.settled tells) it.node there.0 there.1 (c.args.size - 1) (0 ∷ []) (subst (λ id. PutsAt id (c.args.size - 1) (0 ∷ []) c.args.volume.now c.put_data.new.volume (g.P.SectorView.space c.args.space.now).content (g.P.SectorView.space c.put_data.new.space).content) (sym about.0.id) (c.in_ok-put.ensures.puts tells c.if-put.true)) (put_by_trunc (tree_of (g.P.SectorView.space c.args.space.now).content) c.args._path.now c.args.told.now it.node about.0 c.args.size (c.is_no_longer.ensures.long c.if-is_no_longer.false)) ((trunc_id (tree_of (g.P.SectorView.space c.args.space.now).content) c.args._path.now c.args.told.now it.node about.0 c.args.size (c.is_no_longer.ensures.long c.if-is_no_longer.false)) ∙ sym about.0.id) (trunc_at (tree_of (g.P.SectorView.space c.args.space.now).content) c.args._path.now c.args.told.now it.node about.0 c.args.size (c.is_no_longer.ensures.long c.if-is_no_longer.false)) (g.P.SectorView.space c.args.space.now).spare (sym (c.in_ok-put.ensures.exactly tells it.node there.0 about.0.id there.1 (put_by_trunc (tree_of (g.P.SectorView.space c.args.space.now).content) c.args._path.now c.args.told.now it.node about.0 c.args.size (c.is_no_longer.ensures.long c.if-is_no_longer.false)) (trunc_id (tree_of (g.P.SectorView.space c.args.space.now).content) c.args._path.now c.args.told.now it.node about.0 c.args.size (c.is_no_longer.ensures.long c.if-is_no_longer.false)) (trunc_at (tree_of (g.P.SectorView.space c.args.space.now).content) c.args._path.now c.args.told.now it.node about.0 c.args.size (c.is_no_longer.ensures.long c.if-is_no_longer.false))) ∙ c.if-put.true) c.rewrite_puts_its_blocks_alone.ensures (command.Trunc c.args._path.now c.args.size) (trunc_data (tree_of (g.P.SectorView.space c.args.space.now).content) c.args._path.now c.args.told.now it.node about.0 c.args.size (c.is_no_longer.ensures.long c.if-is_no_longer.false))
+    data_done c.args.volume.now c.put_data.new.volume (g.P.SectorView.space c.args.space.now) (g.P.SectorView.space c.put_data.new.space).content c.requires.stands tells (c.requires.settled tells) it.node there.0 there.1 (c.args.size - 1) (0 ∷ []) (subst (λ id. PutsAt id (c.args.size - 1) (0 ∷ []) c.args.volume.now c.put_data.new.volume (g.P.SectorView.space c.args.space.now).content (g.P.SectorView.space c.put_data.new.space).content) (sym about.0.id) (c.in_ok-put.ensures.puts tells c.if-put.true)) (put_by_trunc (tree_of (g.P.SectorView.space c.args.space.now).content) c.args._path.now c.args.told.now it.node about.0 c.args.size (c.is_no_longer.ensures.long c.if-is_no_longer.false)) ((trunc_id (tree_of (g.P.SectorView.space c.args.space.now).content) c.args._path.now c.args.told.now it.node about.0 c.args.size (c.is_no_longer.ensures.long c.if-is_no_longer.false)) ∙ sym about.0.id) (trunc_at (tree_of (g.P.SectorView.space c.args.space.now).content) c.args._path.now c.args.told.now it.node about.0 c.args.size (c.is_no_longer.ensures.long c.if-is_no_longer.false)) (c.in_ok-put.ensures.no_cut tells it.node there.0 about.0.id there.1 (put_by_trunc (tree_of (g.P.SectorView.space c.args.space.now).content) c.args._path.now c.args.told.now it.node about.0 c.args.size (c.is_no_longer.ensures.long c.if-is_no_longer.false)) (trunc_id (tree_of (g.P.SectorView.space c.args.space.now).content) c.args._path.now c.args.told.now it.node about.0 c.args.size (c.is_no_longer.ensures.long c.if-is_no_longer.false)) (trunc_at (tree_of (g.P.SectorView.space c.args.space.now).content) c.args._path.now c.args.told.now it.node about.0 c.args.size (c.is_no_longer.ensures.long c.if-is_no_longer.false)) c.if-put.true) c.rewrite_puts_its_blocks_alone.ensures (command.Trunc c.args._path.now c.args.size) (trunc_data (tree_of (g.P.SectorView.space c.args.space.now).content) c.args._path.now c.args.told.now it.node about.0 c.args.size (c.is_no_longer.ensures.long c.if-is_no_longer.false))
 
 pub returns-clause-waits : goal.returns-clause-waits
 returns-clause-waits g c tells = (c.in_ok-put.ensures.waits tells c.if-put.false).1
@@ -79,40 +79,40 @@ returns-clause-exactly g c tells =
     let it = told_node (tree_of (g.P.SectorView.space c.args.space.now).content) c.args._path.now c.args.told.now (c.requires.told tells) in
     let about = trunc_told (tree_of (g.P.SectorView.space c.args.space.now).content) c.args._path.now c.args.told.now it c.args.size (sym c.in_default.is ∙ c.against_trunc.ensures) in
     let there = file_there (tree_of (g.P.SectorView.space c.args.space.now).content) c.args._path.now it.node about.0.file in
-    ap (λ (o : Option Data). is_put_now c.args.volume.now (g.P.SectorView.space c.args.space.now).spare (volume_of (g.P.SectorView.space c.args.space.now).content) o) (trunc_data (tree_of (g.P.SectorView.space c.args.space.now).content) c.args._path.now c.args.told.now it.node about.0 c.args.size (c.is_no_longer.ensures.long c.if-is_no_longer.false)) ∙ sym (c.in_ok-put.ensures.exactly tells it.node there.0 about.0.id there.1 (put_by_trunc (tree_of (g.P.SectorView.space c.args.space.now).content) c.args._path.now c.args.told.now it.node about.0 c.args.size (c.is_no_longer.ensures.long c.if-is_no_longer.false)) (trunc_id (tree_of (g.P.SectorView.space c.args.space.now).content) c.args._path.now c.args.told.now it.node about.0 c.args.size (c.is_no_longer.ensures.long c.if-is_no_longer.false)) (trunc_at (tree_of (g.P.SectorView.space c.args.space.now).content) c.args._path.now c.args.told.now it.node about.0 c.args.size (c.is_no_longer.ensures.long c.if-is_no_longer.false))) ∙ c.if-put.false
+    ap (λ (o : Option Data). is_put_now c.args.volume.now (g.P.SectorView.space c.args.space.now).spare (volume_of (g.P.SectorView.space c.args.space.now).content) o) (trunc_data (tree_of (g.P.SectorView.space c.args.space.now).content) c.args._path.now c.args.told.now it.node about.0 c.args.size (c.is_no_longer.ensures.long c.if-is_no_longer.false)) ∙ c.in_ok-put.ensures.exactly tells it.node there.0 about.0.id there.1 (put_by_trunc (tree_of (g.P.SectorView.space c.args.space.now).content) c.args._path.now c.args.told.now it.node about.0 c.args.size (c.is_no_longer.ensures.long c.if-is_no_longer.false)) (trunc_id (tree_of (g.P.SectorView.space c.args.space.now).content) c.args._path.now c.args.told.now it.node about.0 c.args.size (c.is_no_longer.ensures.long c.if-is_no_longer.false)) (trunc_at (tree_of (g.P.SectorView.space c.args.space.now).content) c.args._path.now c.args.told.now it.node about.0 c.args.size (c.is_no_longer.ensures.long c.if-is_no_longer.false)) c.if-put.false
 
 pub returns-then-put-clause-loads : goal.returns-then-put-clause-loads
-returns-then-put-clause-loads g c tells n grow is =
+returns-then-put-clause-loads g c tells flat n grow is =
     let it = told_node (tree_of (g.P.SectorView.space c.args.space.now).content) c.args._path.now c.args.told.now (c.requires.told tells) in
     let about = trunc_told (tree_of (g.P.SectorView.space c.args.space.now).content) c.args._path.now c.args.told.now it c.args.size (sym c.in_default.is ∙ c.against_trunc.ensures) in
     let there = file_there (tree_of (g.P.SectorView.space c.args.space.now).content) c.args._path.now it.node about.0.file in
     ⊎_elim (λ none_put. omega (arith, none_put))
     (λ some_put. omega (arith, some_put.1, trunc_loaded c.args.volume.now (g.P.SectorView.space c.args.space.now).content (c.requires.settled tells) c.args.volume.now.capacity (tree_of (g.P.SectorView.space c.args.space.now).content) c.args._path.now (put_by_trunc (tree_of (g.P.SectorView.space c.args.space.now).content) c.args._path.now c.args.told.now it.node about.0 c.args.size (c.is_no_longer.ensures.long c.if-is_no_longer.false)) (no_cut_now c.args.volume.now (g.P.SectorView.space c.args.space.now).spare (volume_of (g.P.SectorView.space c.args.space.now).content) (put_by_trunc (tree_of (g.P.SectorView.space c.args.space.now).content) c.args._path.now c.args.told.now it.node about.0 c.args.size (c.is_no_longer.ensures.long c.if-is_no_longer.false)) some_put.0) n grow c.args.size (trunc_data (tree_of (g.P.SectorView.space c.args.space.now).content) c.args._path.now c.args.told.now it.node about.0 c.args.size (c.is_no_longer.ensures.long c.if-is_no_longer.false)) is))
-    (c.put_data.ensures.spent tells it.node there.0 about.0.id there.1 (put_by_trunc (tree_of (g.P.SectorView.space c.args.space.now).content) c.args._path.now c.args.told.now it.node about.0 c.args.size (c.is_no_longer.ensures.long c.if-is_no_longer.false)) (trunc_id (tree_of (g.P.SectorView.space c.args.space.now).content) c.args._path.now c.args.told.now it.node about.0 c.args.size (c.is_no_longer.ensures.long c.if-is_no_longer.false)) (trunc_at (tree_of (g.P.SectorView.space c.args.space.now).content) c.args._path.now c.args.told.now it.node about.0 c.args.size (c.is_no_longer.ensures.long c.if-is_no_longer.false)))
+    (c.put_data.ensures.spent tells it.node there.0 about.0.id there.1 (put_by_trunc (tree_of (g.P.SectorView.space c.args.space.now).content) c.args._path.now c.args.told.now it.node about.0 c.args.size (c.is_no_longer.ensures.long c.if-is_no_longer.false)) (trunc_id (tree_of (g.P.SectorView.space c.args.space.now).content) c.args._path.now c.args.told.now it.node about.0 c.args.size (c.is_no_longer.ensures.long c.if-is_no_longer.false)) (trunc_at (tree_of (g.P.SectorView.space c.args.space.now).content) c.args._path.now c.args.told.now it.node about.0 c.args.size (c.is_no_longer.ensures.long c.if-is_no_longer.false)) (flat (put_by_trunc (tree_of (g.P.SectorView.space c.args.space.now).content) c.args._path.now c.args.told.now it.node about.0 c.args.size (c.is_no_longer.ensures.long c.if-is_no_longer.false)) (trunc_data (tree_of (g.P.SectorView.space c.args.space.now).content) c.args._path.now c.args.told.now it.node about.0 c.args.size (c.is_no_longer.ensures.long c.if-is_no_longer.false))))
 
 pub returns-then-put-clause-service : goal.returns-then-put-clause-service
 returns-then-put-clause-service g c = c.put_data.ensures.service
 
 pub returns-clause-loads : goal.returns-clause-loads
-returns-clause-loads g c tells n grow is =
+returns-clause-loads g c tells flat n grow is =
     let it = told_node (tree_of (g.P.SectorView.space c.args.space.now).content) c.args._path.now c.args.told.now (c.requires.told tells) in
     let about = trunc_told (tree_of (g.P.SectorView.space c.args.space.now).content) c.args._path.now c.args.told.now it c.args.size (sym c.in_default.is ∙ c.against_trunc.ensures) in
     let there = file_there (tree_of (g.P.SectorView.space c.args.space.now).content) c.args._path.now it.node about.0.file in
     ⊎_elim (λ none_put. omega (arith, none_put))
     (λ some_put. omega (arith, some_put.1, trunc_loaded c.args.volume.now (g.P.SectorView.space c.args.space.now).content (c.requires.settled tells) c.args.volume.now.capacity (tree_of (g.P.SectorView.space c.args.space.now).content) c.args._path.now (put_by_trunc (tree_of (g.P.SectorView.space c.args.space.now).content) c.args._path.now c.args.told.now it.node about.0 c.args.size (c.is_no_longer.ensures.long c.if-is_no_longer.false)) (no_cut_now c.args.volume.now (g.P.SectorView.space c.args.space.now).spare (volume_of (g.P.SectorView.space c.args.space.now).content) (put_by_trunc (tree_of (g.P.SectorView.space c.args.space.now).content) c.args._path.now c.args.told.now it.node about.0 c.args.size (c.is_no_longer.ensures.long c.if-is_no_longer.false)) some_put.0) n grow c.args.size (trunc_data (tree_of (g.P.SectorView.space c.args.space.now).content) c.args._path.now c.args.told.now it.node about.0 c.args.size (c.is_no_longer.ensures.long c.if-is_no_longer.false)) is))
-    (c.put_data.ensures.spent tells it.node there.0 about.0.id there.1 (put_by_trunc (tree_of (g.P.SectorView.space c.args.space.now).content) c.args._path.now c.args.told.now it.node about.0 c.args.size (c.is_no_longer.ensures.long c.if-is_no_longer.false)) (trunc_id (tree_of (g.P.SectorView.space c.args.space.now).content) c.args._path.now c.args.told.now it.node about.0 c.args.size (c.is_no_longer.ensures.long c.if-is_no_longer.false)) (trunc_at (tree_of (g.P.SectorView.space c.args.space.now).content) c.args._path.now c.args.told.now it.node about.0 c.args.size (c.is_no_longer.ensures.long c.if-is_no_longer.false)))
+    (c.put_data.ensures.spent tells it.node there.0 about.0.id there.1 (put_by_trunc (tree_of (g.P.SectorView.space c.args.space.now).content) c.args._path.now c.args.told.now it.node about.0 c.args.size (c.is_no_longer.ensures.long c.if-is_no_longer.false)) (trunc_id (tree_of (g.P.SectorView.space c.args.space.now).content) c.args._path.now c.args.told.now it.node about.0 c.args.size (c.is_no_longer.ensures.long c.if-is_no_longer.false)) (trunc_at (tree_of (g.P.SectorView.space c.args.space.now).content) c.args._path.now c.args.told.now it.node about.0 c.args.size (c.is_no_longer.ensures.long c.if-is_no_longer.false)) (flat (put_by_trunc (tree_of (g.P.SectorView.space c.args.space.now).content) c.args._path.now c.args.told.now it.node about.0 c.args.size (c.is_no_longer.ensures.long c.if-is_no_longer.false)) (trunc_data (tree_of (g.P.SectorView.space c.args.space.now).content) c.args._path.now c.args.told.now it.node about.0 c.args.size (c.is_no_longer.ensures.long c.if-is_no_longer.false))))
 
 pub returns-clause-service : goal.returns-clause-service
 returns-clause-service g c = c.put_data.ensures.service
 
 pub returns-in_err-put-clause-loads : goal.returns-in_err-put-clause-loads
-returns-in_err-put-clause-loads g c tells n grow is =
+returns-in_err-put-clause-loads g c tells flat n grow is =
     let it = told_node (tree_of (g.P.SectorView.space c.args.space.now).content) c.args._path.now c.args.told.now (c.requires.told tells) in
     let about = trunc_told (tree_of (g.P.SectorView.space c.args.space.now).content) c.args._path.now c.args.told.now it c.args.size (sym c.in_default.is ∙ c.against_trunc.ensures) in
     let there = file_there (tree_of (g.P.SectorView.space c.args.space.now).content) c.args._path.now it.node about.0.file in
     ⊎_elim (λ none_put. omega (arith, none_put))
     (λ some_put. omega (arith, some_put.1, trunc_loaded c.args.volume.now (g.P.SectorView.space c.args.space.now).content (c.requires.settled tells) c.args.volume.now.capacity (tree_of (g.P.SectorView.space c.args.space.now).content) c.args._path.now (put_by_trunc (tree_of (g.P.SectorView.space c.args.space.now).content) c.args._path.now c.args.told.now it.node about.0 c.args.size (c.is_no_longer.ensures.long c.if-is_no_longer.false)) (no_cut_now c.args.volume.now (g.P.SectorView.space c.args.space.now).spare (volume_of (g.P.SectorView.space c.args.space.now).content) (put_by_trunc (tree_of (g.P.SectorView.space c.args.space.now).content) c.args._path.now c.args.told.now it.node about.0 c.args.size (c.is_no_longer.ensures.long c.if-is_no_longer.false)) some_put.0) n grow c.args.size (trunc_data (tree_of (g.P.SectorView.space c.args.space.now).content) c.args._path.now c.args.told.now it.node about.0 c.args.size (c.is_no_longer.ensures.long c.if-is_no_longer.false)) is))
-    (c.put_data.ensures.spent tells it.node there.0 about.0.id there.1 (put_by_trunc (tree_of (g.P.SectorView.space c.args.space.now).content) c.args._path.now c.args.told.now it.node about.0 c.args.size (c.is_no_longer.ensures.long c.if-is_no_longer.false)) (trunc_id (tree_of (g.P.SectorView.space c.args.space.now).content) c.args._path.now c.args.told.now it.node about.0 c.args.size (c.is_no_longer.ensures.long c.if-is_no_longer.false)) (trunc_at (tree_of (g.P.SectorView.space c.args.space.now).content) c.args._path.now c.args.told.now it.node about.0 c.args.size (c.is_no_longer.ensures.long c.if-is_no_longer.false)))
+    (c.put_data.ensures.spent tells it.node there.0 about.0.id there.1 (put_by_trunc (tree_of (g.P.SectorView.space c.args.space.now).content) c.args._path.now c.args.told.now it.node about.0 c.args.size (c.is_no_longer.ensures.long c.if-is_no_longer.false)) (trunc_id (tree_of (g.P.SectorView.space c.args.space.now).content) c.args._path.now c.args.told.now it.node about.0 c.args.size (c.is_no_longer.ensures.long c.if-is_no_longer.false)) (trunc_at (tree_of (g.P.SectorView.space c.args.space.now).content) c.args._path.now c.args.told.now it.node about.0 c.args.size (c.is_no_longer.ensures.long c.if-is_no_longer.false)) (flat (put_by_trunc (tree_of (g.P.SectorView.space c.args.space.now).content) c.args._path.now c.args.told.now it.node about.0 c.args.size (c.is_no_longer.ensures.long c.if-is_no_longer.false)) (trunc_data (tree_of (g.P.SectorView.space c.args.space.now).content) c.args._path.now c.args.told.now it.node about.0 c.args.size (c.is_no_longer.ensures.long c.if-is_no_longer.false))))
 
 pub returns-in_err-put-clause-service : goal.returns-in_err-put-clause-service
 returns-in_err-put-clause-service g c = c.put_data.ensures.service
@@ -133,7 +133,7 @@ pub returns-then-is_no_longer-clause-touches : goal.returns-then-is_no_longer-cl
 returns-then-is_no_longer-clause-touches g c committed holds alike = touches_none committed _ (g.P.SectorView.space c.args.space.now)
 
 pub returns-then-is_no_longer-clause-loads : goal.returns-then-is_no_longer-clause-loads
-returns-then-is_no_longer-clause-loads g c tells n grow is = omega arith
+returns-then-is_no_longer-clause-loads g c tells flat n grow is = omega arith
 
 pub returns-then-is_no_longer-clause-service : goal.returns-then-is_no_longer-clause-service
 returns-then-is_no_longer-clause-service g c = c.requires.stands.service
@@ -151,7 +151,7 @@ pub returns-in-Some-clause-touches : goal.returns-in-Some-clause-touches
 returns-in-Some-clause-touches g c committed holds alike = touches_none committed _ (g.P.SectorView.space c.args.space.now)
 
 pub returns-in-Some-clause-loads : goal.returns-in-Some-clause-loads
-returns-in-Some-clause-loads g c tells n grow is = omega arith
+returns-in-Some-clause-loads g c tells flat n grow is = omega arith
 
 pub returns-in-Some-clause-service : goal.returns-in-Some-clause-service
 returns-in-Some-clause-service g c = c.requires.stands.service

@@ -59,7 +59,7 @@ returns-then-put-clause-lists g c tells said =
     let it = told_node (tree_of (g.P.SectorView.space c.args.space.now).content) c.args._path.now c.args.told.now (c.requires.told tells) in
     let about = write_told (tree_of (g.P.SectorView.space c.args.space.now).content) c.args._path.now c.args.told.now it c.args.from c.args.value.now (sym c.in_default.is ∙ c.against_write.ensures) in
     let there = file_there (tree_of (g.P.SectorView.space c.args.space.now).content) c.args._path.now it.node about.0.file in
-    data_done c.args.volume.now c.put_data.new.volume (g.P.SectorView.space c.args.space.now) (g.P.SectorView.space c.put_data.new.space).content c.requires.stands tells (c.requires.settled tells) it.node there.0 there.1 c.args.from c.args.value.now (subst (λ id. PutsAt id c.args.from c.args.value.now c.args.volume.now c.put_data.new.volume (g.P.SectorView.space c.args.space.now).content (g.P.SectorView.space c.put_data.new.space).content) (sym about.0.id) (c.in_ok-put.ensures.puts tells c.if-put.true)) (put_by_write (tree_of (g.P.SectorView.space c.args.space.now).content) c.args._path.now c.args.told.now it.node about.0 c.args.from c.args.value.now) ((write_id (tree_of (g.P.SectorView.space c.args.space.now).content) c.args._path.now c.args.told.now it.node about.0 c.args.from c.args.value.now) ∙ sym about.0.id) (write_at (tree_of (g.P.SectorView.space c.args.space.now).content) c.args._path.now c.args.told.now it.node about.0 c.args.from c.args.value.now (c.is_nothing.ensures.some c.if-is_nothing.false)) (g.P.SectorView.space c.args.space.now).spare (sym (c.in_ok-put.ensures.exactly tells it.node there.0 about.0.id there.1 (put_by_write (tree_of (g.P.SectorView.space c.args.space.now).content) c.args._path.now c.args.told.now it.node about.0 c.args.from c.args.value.now) (write_id (tree_of (g.P.SectorView.space c.args.space.now).content) c.args._path.now c.args.told.now it.node about.0 c.args.from c.args.value.now) (write_at (tree_of (g.P.SectorView.space c.args.space.now).content) c.args._path.now c.args.told.now it.node about.0 c.args.from c.args.value.now (c.is_nothing.ensures.some c.if-is_nothing.false))) ∙ c.if-put.true) c.rewrite_puts_its_blocks_alone.ensures (command.Write c.args._path.now c.args.from c.args.value.now) (write_data (tree_of (g.P.SectorView.space c.args.space.now).content) c.args._path.now c.args.told.now it.node about.0 c.args.from c.args.value.now (c.is_nothing.ensures.some c.if-is_nothing.false))
+    data_done c.args.volume.now c.put_data.new.volume (g.P.SectorView.space c.args.space.now) (g.P.SectorView.space c.put_data.new.space).content c.requires.stands tells (c.requires.settled tells) it.node there.0 there.1 c.args.from c.args.value.now (subst (λ id. PutsAt id c.args.from c.args.value.now c.args.volume.now c.put_data.new.volume (g.P.SectorView.space c.args.space.now).content (g.P.SectorView.space c.put_data.new.space).content) (sym about.0.id) (c.in_ok-put.ensures.puts tells c.if-put.true)) (put_by_write (tree_of (g.P.SectorView.space c.args.space.now).content) c.args._path.now c.args.told.now it.node about.0 c.args.from c.args.value.now) ((write_id (tree_of (g.P.SectorView.space c.args.space.now).content) c.args._path.now c.args.told.now it.node about.0 c.args.from c.args.value.now) ∙ sym about.0.id) (write_at (tree_of (g.P.SectorView.space c.args.space.now).content) c.args._path.now c.args.told.now it.node about.0 c.args.from c.args.value.now (c.is_nothing.ensures.some c.if-is_nothing.false)) (c.in_ok-put.ensures.no_cut tells it.node there.0 about.0.id there.1 (put_by_write (tree_of (g.P.SectorView.space c.args.space.now).content) c.args._path.now c.args.told.now it.node about.0 c.args.from c.args.value.now) (write_id (tree_of (g.P.SectorView.space c.args.space.now).content) c.args._path.now c.args.told.now it.node about.0 c.args.from c.args.value.now) (write_at (tree_of (g.P.SectorView.space c.args.space.now).content) c.args._path.now c.args.told.now it.node about.0 c.args.from c.args.value.now (c.is_nothing.ensures.some c.if-is_nothing.false)) c.if-put.true) c.rewrite_puts_its_blocks_alone.ensures (command.Write c.args._path.now c.args.from c.args.value.now) (write_data (tree_of (g.P.SectorView.space c.args.space.now).content) c.args._path.now c.args.told.now it.node about.0 c.args.from c.args.value.now (c.is_nothing.ensures.some c.if-is_nothing.false))
 
 pub returns-clause-waits : goal.returns-clause-waits
 returns-clause-waits g c tells = (c.in_ok-put.ensures.waits tells c.if-put.false).1
@@ -78,40 +78,40 @@ returns-clause-exactly g c tells =
     let it = told_node (tree_of (g.P.SectorView.space c.args.space.now).content) c.args._path.now c.args.told.now (c.requires.told tells) in
     let about = write_told (tree_of (g.P.SectorView.space c.args.space.now).content) c.args._path.now c.args.told.now it c.args.from c.args.value.now (sym c.in_default.is ∙ c.against_write.ensures) in
     let there = file_there (tree_of (g.P.SectorView.space c.args.space.now).content) c.args._path.now it.node about.0.file in
-    ap (λ (o : Option Data). is_put_now c.args.volume.now (g.P.SectorView.space c.args.space.now).spare (volume_of (g.P.SectorView.space c.args.space.now).content) o) (write_data (tree_of (g.P.SectorView.space c.args.space.now).content) c.args._path.now c.args.told.now it.node about.0 c.args.from c.args.value.now (c.is_nothing.ensures.some c.if-is_nothing.false)) ∙ sym (c.in_ok-put.ensures.exactly tells it.node there.0 about.0.id there.1 (put_by_write (tree_of (g.P.SectorView.space c.args.space.now).content) c.args._path.now c.args.told.now it.node about.0 c.args.from c.args.value.now) (write_id (tree_of (g.P.SectorView.space c.args.space.now).content) c.args._path.now c.args.told.now it.node about.0 c.args.from c.args.value.now) (write_at (tree_of (g.P.SectorView.space c.args.space.now).content) c.args._path.now c.args.told.now it.node about.0 c.args.from c.args.value.now (c.is_nothing.ensures.some c.if-is_nothing.false))) ∙ c.if-put.false
+    ap (λ (o : Option Data). is_put_now c.args.volume.now (g.P.SectorView.space c.args.space.now).spare (volume_of (g.P.SectorView.space c.args.space.now).content) o) (write_data (tree_of (g.P.SectorView.space c.args.space.now).content) c.args._path.now c.args.told.now it.node about.0 c.args.from c.args.value.now (c.is_nothing.ensures.some c.if-is_nothing.false)) ∙ c.in_ok-put.ensures.exactly tells it.node there.0 about.0.id there.1 (put_by_write (tree_of (g.P.SectorView.space c.args.space.now).content) c.args._path.now c.args.told.now it.node about.0 c.args.from c.args.value.now) (write_id (tree_of (g.P.SectorView.space c.args.space.now).content) c.args._path.now c.args.told.now it.node about.0 c.args.from c.args.value.now) (write_at (tree_of (g.P.SectorView.space c.args.space.now).content) c.args._path.now c.args.told.now it.node about.0 c.args.from c.args.value.now (c.is_nothing.ensures.some c.if-is_nothing.false)) c.if-put.false
 
 pub returns-then-put-clause-loads : goal.returns-then-put-clause-loads
-returns-then-put-clause-loads g c tells n grow is =
+returns-then-put-clause-loads g c tells flat n grow is =
     let it = told_node (tree_of (g.P.SectorView.space c.args.space.now).content) c.args._path.now c.args.told.now (c.requires.told tells) in
     let about = write_told (tree_of (g.P.SectorView.space c.args.space.now).content) c.args._path.now c.args.told.now it c.args.from c.args.value.now (sym c.in_default.is ∙ c.against_write.ensures) in
     let there = file_there (tree_of (g.P.SectorView.space c.args.space.now).content) c.args._path.now it.node about.0.file in
     ⊎_elim (λ none_put. omega (arith, none_put))
     (λ some_put. omega (arith, some_put.1, write_loaded c.args.volume.now (g.P.SectorView.space c.args.space.now).content (c.requires.settled tells) c.args.volume.now.capacity (tree_of (g.P.SectorView.space c.args.space.now).content) c.args._path.now (put_by_write (tree_of (g.P.SectorView.space c.args.space.now).content) c.args._path.now c.args.told.now it.node about.0 c.args.from c.args.value.now) (no_cut_now c.args.volume.now (g.P.SectorView.space c.args.space.now).spare (volume_of (g.P.SectorView.space c.args.space.now).content) (put_by_write (tree_of (g.P.SectorView.space c.args.space.now).content) c.args._path.now c.args.told.now it.node about.0 c.args.from c.args.value.now) some_put.0) n grow c.args.from c.args.value.now (write_data (tree_of (g.P.SectorView.space c.args.space.now).content) c.args._path.now c.args.told.now it.node about.0 c.args.from c.args.value.now (c.is_nothing.ensures.some c.if-is_nothing.false)) is))
-    (c.put_data.ensures.spent tells it.node there.0 about.0.id there.1 (put_by_write (tree_of (g.P.SectorView.space c.args.space.now).content) c.args._path.now c.args.told.now it.node about.0 c.args.from c.args.value.now) (write_id (tree_of (g.P.SectorView.space c.args.space.now).content) c.args._path.now c.args.told.now it.node about.0 c.args.from c.args.value.now) (write_at (tree_of (g.P.SectorView.space c.args.space.now).content) c.args._path.now c.args.told.now it.node about.0 c.args.from c.args.value.now (c.is_nothing.ensures.some c.if-is_nothing.false)))
+    (c.put_data.ensures.spent tells it.node there.0 about.0.id there.1 (put_by_write (tree_of (g.P.SectorView.space c.args.space.now).content) c.args._path.now c.args.told.now it.node about.0 c.args.from c.args.value.now) (write_id (tree_of (g.P.SectorView.space c.args.space.now).content) c.args._path.now c.args.told.now it.node about.0 c.args.from c.args.value.now) (write_at (tree_of (g.P.SectorView.space c.args.space.now).content) c.args._path.now c.args.told.now it.node about.0 c.args.from c.args.value.now (c.is_nothing.ensures.some c.if-is_nothing.false)) (flat (put_by_write (tree_of (g.P.SectorView.space c.args.space.now).content) c.args._path.now c.args.told.now it.node about.0 c.args.from c.args.value.now) (write_data (tree_of (g.P.SectorView.space c.args.space.now).content) c.args._path.now c.args.told.now it.node about.0 c.args.from c.args.value.now (c.is_nothing.ensures.some c.if-is_nothing.false))))
 
 pub returns-then-put-clause-service : goal.returns-then-put-clause-service
 returns-then-put-clause-service g c = c.put_data.ensures.service
 
 pub returns-clause-loads : goal.returns-clause-loads
-returns-clause-loads g c tells n grow is =
+returns-clause-loads g c tells flat n grow is =
     let it = told_node (tree_of (g.P.SectorView.space c.args.space.now).content) c.args._path.now c.args.told.now (c.requires.told tells) in
     let about = write_told (tree_of (g.P.SectorView.space c.args.space.now).content) c.args._path.now c.args.told.now it c.args.from c.args.value.now (sym c.in_default.is ∙ c.against_write.ensures) in
     let there = file_there (tree_of (g.P.SectorView.space c.args.space.now).content) c.args._path.now it.node about.0.file in
     ⊎_elim (λ none_put. omega (arith, none_put))
     (λ some_put. omega (arith, some_put.1, write_loaded c.args.volume.now (g.P.SectorView.space c.args.space.now).content (c.requires.settled tells) c.args.volume.now.capacity (tree_of (g.P.SectorView.space c.args.space.now).content) c.args._path.now (put_by_write (tree_of (g.P.SectorView.space c.args.space.now).content) c.args._path.now c.args.told.now it.node about.0 c.args.from c.args.value.now) (no_cut_now c.args.volume.now (g.P.SectorView.space c.args.space.now).spare (volume_of (g.P.SectorView.space c.args.space.now).content) (put_by_write (tree_of (g.P.SectorView.space c.args.space.now).content) c.args._path.now c.args.told.now it.node about.0 c.args.from c.args.value.now) some_put.0) n grow c.args.from c.args.value.now (write_data (tree_of (g.P.SectorView.space c.args.space.now).content) c.args._path.now c.args.told.now it.node about.0 c.args.from c.args.value.now (c.is_nothing.ensures.some c.if-is_nothing.false)) is))
-    (c.put_data.ensures.spent tells it.node there.0 about.0.id there.1 (put_by_write (tree_of (g.P.SectorView.space c.args.space.now).content) c.args._path.now c.args.told.now it.node about.0 c.args.from c.args.value.now) (write_id (tree_of (g.P.SectorView.space c.args.space.now).content) c.args._path.now c.args.told.now it.node about.0 c.args.from c.args.value.now) (write_at (tree_of (g.P.SectorView.space c.args.space.now).content) c.args._path.now c.args.told.now it.node about.0 c.args.from c.args.value.now (c.is_nothing.ensures.some c.if-is_nothing.false)))
+    (c.put_data.ensures.spent tells it.node there.0 about.0.id there.1 (put_by_write (tree_of (g.P.SectorView.space c.args.space.now).content) c.args._path.now c.args.told.now it.node about.0 c.args.from c.args.value.now) (write_id (tree_of (g.P.SectorView.space c.args.space.now).content) c.args._path.now c.args.told.now it.node about.0 c.args.from c.args.value.now) (write_at (tree_of (g.P.SectorView.space c.args.space.now).content) c.args._path.now c.args.told.now it.node about.0 c.args.from c.args.value.now (c.is_nothing.ensures.some c.if-is_nothing.false)) (flat (put_by_write (tree_of (g.P.SectorView.space c.args.space.now).content) c.args._path.now c.args.told.now it.node about.0 c.args.from c.args.value.now) (write_data (tree_of (g.P.SectorView.space c.args.space.now).content) c.args._path.now c.args.told.now it.node about.0 c.args.from c.args.value.now (c.is_nothing.ensures.some c.if-is_nothing.false))))
 
 pub returns-clause-service : goal.returns-clause-service
 returns-clause-service g c = c.put_data.ensures.service
 
 pub returns-in_err-put-clause-loads : goal.returns-in_err-put-clause-loads
-returns-in_err-put-clause-loads g c tells n grow is =
+returns-in_err-put-clause-loads g c tells flat n grow is =
     let it = told_node (tree_of (g.P.SectorView.space c.args.space.now).content) c.args._path.now c.args.told.now (c.requires.told tells) in
     let about = write_told (tree_of (g.P.SectorView.space c.args.space.now).content) c.args._path.now c.args.told.now it c.args.from c.args.value.now (sym c.in_default.is ∙ c.against_write.ensures) in
     let there = file_there (tree_of (g.P.SectorView.space c.args.space.now).content) c.args._path.now it.node about.0.file in
     ⊎_elim (λ none_put. omega (arith, none_put))
     (λ some_put. omega (arith, some_put.1, write_loaded c.args.volume.now (g.P.SectorView.space c.args.space.now).content (c.requires.settled tells) c.args.volume.now.capacity (tree_of (g.P.SectorView.space c.args.space.now).content) c.args._path.now (put_by_write (tree_of (g.P.SectorView.space c.args.space.now).content) c.args._path.now c.args.told.now it.node about.0 c.args.from c.args.value.now) (no_cut_now c.args.volume.now (g.P.SectorView.space c.args.space.now).spare (volume_of (g.P.SectorView.space c.args.space.now).content) (put_by_write (tree_of (g.P.SectorView.space c.args.space.now).content) c.args._path.now c.args.told.now it.node about.0 c.args.from c.args.value.now) some_put.0) n grow c.args.from c.args.value.now (write_data (tree_of (g.P.SectorView.space c.args.space.now).content) c.args._path.now c.args.told.now it.node about.0 c.args.from c.args.value.now (c.is_nothing.ensures.some c.if-is_nothing.false)) is))
-    (c.put_data.ensures.spent tells it.node there.0 about.0.id there.1 (put_by_write (tree_of (g.P.SectorView.space c.args.space.now).content) c.args._path.now c.args.told.now it.node about.0 c.args.from c.args.value.now) (write_id (tree_of (g.P.SectorView.space c.args.space.now).content) c.args._path.now c.args.told.now it.node about.0 c.args.from c.args.value.now) (write_at (tree_of (g.P.SectorView.space c.args.space.now).content) c.args._path.now c.args.told.now it.node about.0 c.args.from c.args.value.now (c.is_nothing.ensures.some c.if-is_nothing.false)))
+    (c.put_data.ensures.spent tells it.node there.0 about.0.id there.1 (put_by_write (tree_of (g.P.SectorView.space c.args.space.now).content) c.args._path.now c.args.told.now it.node about.0 c.args.from c.args.value.now) (write_id (tree_of (g.P.SectorView.space c.args.space.now).content) c.args._path.now c.args.told.now it.node about.0 c.args.from c.args.value.now) (write_at (tree_of (g.P.SectorView.space c.args.space.now).content) c.args._path.now c.args.told.now it.node about.0 c.args.from c.args.value.now (c.is_nothing.ensures.some c.if-is_nothing.false)) (flat (put_by_write (tree_of (g.P.SectorView.space c.args.space.now).content) c.args._path.now c.args.told.now it.node about.0 c.args.from c.args.value.now) (write_data (tree_of (g.P.SectorView.space c.args.space.now).content) c.args._path.now c.args.told.now it.node about.0 c.args.from c.args.value.now (c.is_nothing.ensures.some c.if-is_nothing.false))))
 
 pub returns-in_err-put-clause-service : goal.returns-in_err-put-clause-service
 returns-in_err-put-clause-service g c = c.put_data.ensures.service
@@ -132,7 +132,7 @@ pub returns-then-is_nothing-clause-touches : goal.returns-then-is_nothing-clause
 returns-then-is_nothing-clause-touches g c committed holds alike = touches_none committed _ (g.P.SectorView.space c.args.space.now)
 
 pub returns-then-is_nothing-clause-loads : goal.returns-then-is_nothing-clause-loads
-returns-then-is_nothing-clause-loads g c tells n grow is = omega arith
+returns-then-is_nothing-clause-loads g c tells flat n grow is = omega arith
 
 pub returns-then-is_nothing-clause-service : goal.returns-then-is_nothing-clause-service
 returns-then-is_nothing-clause-service g c = c.requires.stands.service
@@ -150,7 +150,7 @@ pub returns-in-Some-clause-touches : goal.returns-in-Some-clause-touches
 returns-in-Some-clause-touches g c committed holds alike = touches_none committed _ (g.P.SectorView.space c.args.space.now)
 
 pub returns-in-Some-clause-loads : goal.returns-in-Some-clause-loads
-returns-in-Some-clause-loads g c tells n grow is = omega arith
+returns-in-Some-clause-loads g c tells flat n grow is = omega arith
 
 pub returns-in-Some-clause-service : goal.returns-in-Some-clause-service
 returns-in-Some-clause-service g c = c.requires.stands.service

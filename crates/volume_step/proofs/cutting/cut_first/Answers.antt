@@ -1,35 +1,27 @@
-use Rattle.std.proofs.Common.{[], sym, ◌∙◌, subst}
-use Rattle.volume_base.specs.Keeping.{shrunk_of}
+use Rattle.std.proofs.Common.{refl, sym, ◌∙◌}
 use Rattle.volume_base.specs.Room.{capacity_of}
-use Rattle.volume_space.proofs.Sounding.{sound_here}
-use Rattle.volume_step.specs.Steps.{StepsTo}
-use Rattle.volume_step.specs.declared.outcome.Outcome.{Outcome}
-use Rattle.volume_step.proofs.CutSteps.{cut_shrinks, place_by, steps_by}
+use Rattle.volume_base.proofs.Commanding.{touches_none}
+use Rattle.volume_step.proofs.CutSteps.{dry_steps}
+use Rattle.volume_step.proofs.Done.{same_place}
+use Rattle.volume_step.proofs.Widening.{refused_shrinks}
 use Rattle.volume_step.proofs.cutting.cut_first.Goals as goal
 
-pub returns-clause-answered : goal.returns-clause-answered
-returns-clause-answered g c tells =
+pub cut_up_to-requires-clause-end : goal.cut_up_to-requires-clause-end
+cut_up_to-requires-clause-end g c = sym c.data_end.ensures ∙ c.in-Some.is
+
+pub returns-in-None-clause-answered : goal.returns-in-None-clause-answered
+returns-in-None-clause-answered g c tells =
     let a = (g.P.SectorView.space c.args.space.now) in
-    let b = g.P.SectorView.space c.cut_for.new.space in
-    let later = (c.cut_for.ensures.touches []).same.tells ∙ tells in
-    subst (λ (o : Outcome). StepsTo o (capacity_of c.args.volume.now) c.args._number c.args.command.now a.content b.content) (sym c.outcome_of.ensures)
-    (steps_by (capacity_of c.args.volume.now) c.args._number c.args.command.now a.content b.content (c.requires.held tells) c.soundness_has_two_halves.ensures c.requires.changes (sound_here c.args.volume.now a (c.requires.stands.stands tells) (c.requires.settled tells)) c.args.end c.requires.end c.in_ok-came.came
-    (sound_here c.cut_for.new.volume b (c.in_ok-came.ensures.stands.stands later) (c.in_ok-came.ensures.settled tells)) (c.in_ok-came.ensures.came tells))
+    dry_steps (capacity_of c.args.volume.now) c.args.number c.args.command.now a.content a.content (c.requires.waits tells) (sym c.data_end.ensures ∙ c.in-None.is) c.refusal.result
 
-pub returns-clause-place : goal.returns-clause-place
-returns-clause-place g c tells =
-    let a = (g.P.SectorView.space c.args.space.now) in
-    let b = g.P.SectorView.space c.cut_for.new.space in
-    let later = (c.cut_for.ensures.touches []).same.tells ∙ tells in
-    place_by (capacity_of c.args.volume.now) c.args._number c.args.command.now a.content b.content (c.requires.held tells) c.soundness_has_two_halves.ensures c.requires.changes (sound_here c.args.volume.now a (c.requires.stands.stands tells) (c.requires.settled tells)) c.args.end c.requires.end c.in_ok-came.came
-    (sound_here c.cut_for.new.volume b (c.in_ok-came.ensures.stands.stands later) (c.in_ok-came.ensures.settled tells)) (c.in_ok-came.ensures.came tells)
+pub returns-in-None-clause-place : goal.returns-in-None-clause-place
+returns-in-None-clause-place g c tells = same_place (g.P.SectorView.space c.args.space.now).content (g.P.SectorView.space c.args.space.now).content refl
 
-pub returns-clause-shrunk : goal.returns-clause-shrunk
-returns-clause-shrunk g c tells =
-    cut_shrinks (capacity_of c.args.volume.now) c.args._number c.args.command.now (g.P.SectorView.space c.args.space.now).content (g.P.SectorView.space c.cut_for.new.space).content (c.requires.held tells) (shrunk_of c.args.volume.now) (shrunk_of c.cut_for.new.volume) c.cut_for.ensures.used.shrunk c.in_ok-came.came c.outcome_of.result c.outcome_of.ensures
+pub returns-in-None-clause-shrunk : goal.returns-in-None-clause-shrunk
+returns-in-None-clause-shrunk g c tells = refused_shrinks _ _ _ _ _ c.refusal.result c.refusal.ensures refl
 
-pub returns-clause-holds : goal.returns-clause-holds
-returns-clause-holds g c committed was = c.cut_for.ensures.used.holds committed was
+pub returns-in-None-clause-touches : goal.returns-in-None-clause-touches
+returns-in-None-clause-touches g c committed = touches_none committed _ (g.P.SectorView.space c.args.space.now)
 
-pub returns-clause-capacity : goal.returns-clause-capacity
-returns-clause-capacity g c = c.cut_for.ensures.used.capacity
+pub returns-in-None-clause-service : goal.returns-in-None-clause-service
+returns-in-None-clause-service g c = c.requires.stands.service

@@ -4,14 +4,15 @@ use Rattle.sector_disk.specs.Lists.{Content}
 use Rattle.sector_disk.proofs.SpaceLaws.{space_both}
 use Rattle.hfs_volume.specs.Aside.{IsJournalSector}
 use Rattle.alloc_bitmap.specs.declared.bitmap.Bitmap.{Bitmap}
+use Rattle.volume_weights.specs.DataWeighing.{WaitsForCut}
 use Rattle.volume_base.specs.Fitting.{takable_in, takable_of}
 use Rattle.volume_base.specs.Room.{capacity_of}
 use Rattle.volume_base.specs.Keeping.{shrunk_of}
 use Rattle.volume_space.proofs.Sounding.{sound_here}
-use Rattle.volume_step.specs.Steps.{Affords, CostsTaken, GrowsFirst, IsHeldBack, IsJudged, IsTaken, KeepsJournal, ShrinksAs, StepsTo}
+use Rattle.volume_step.specs.Steps.{Affords, CostsTaken, GrowsFirst, IsJudged, IsTaken, KeepsJournal, ShrinksAs, StepsTo}
 use Rattle.volume_step.specs.declared.judging.Verdict.{Verdict}
 use Rattle.volume_step.specs.declared.outcome.Outcome.{Outcome}
-use Rattle.volume_step.proofs.Done.{holds_kept, refused_steps, same_place}
+use Rattle.volume_step.proofs.Done.{holds_kept, refused_steps, same_place, waits_steps}
 use Rattle.volume_step.proofs.Widening.{laid_still, own_or_free_still, refused_shrinks, touches_behind, touches_looked, touches_own}
 use Rattle.volume_step.proofs.stepping.change.Goals as goal
 
@@ -113,35 +114,35 @@ returns-in-Grows-clause-same g c = space_both _ _ _ c.judge.ensures.reads.looks.
 
 -- ---- ahead of which a file is cut
 
-pub cut_or_wait-requires-clause-held : goal.cut_or_wait-requires-clause-held
-cut_or_wait-requires-clause-held g c told =
+pub cut_first-requires-clause-waits : goal.cut_first-requires-clause-waits
+cut_first-requires-clause-waits g c told =
     let tells = sym c.judge.ensures.reads.looks.same.tells ∙ told in
-    subst (λ (k : ℕ × Content). IsHeldBack k.0 c.args.command.now k.1) {x = ((capacity_of c.args.volume.now), (g.P.SectorView.space c.args.space.now).content)} {y = (capacity_of c.judge.new.volume, (g.P.SectorView.space c.judge.new.space).content)} (λ i. (sym c.judge.ensures.reads.keeps.capacity i, sym (c.judge.ensures.reads.looks.content (sym c.judge.ensures.reads.looks.same.tells ∙ told)) i))
-    (subst (λ (v : Verdict). IsJudged v (capacity_of c.args.volume.now) c.args.command.now (g.P.SectorView.space c.args.space.now).content) c.in-ToCome.is (c.in_ok-why.ensures.judged tells))
+    subst (λ (k : Content). WaitsForCut k c.args.command.now) (sym (c.judge.ensures.reads.looks.content tells))
+    (subst (λ (v : Verdict). IsJudged v (capacity_of c.args.volume.now) c.args.command.now (g.P.SectorView.space c.args.space.now).content) c.in-CutFirst.is (c.in_ok-why.ensures.judged tells))
 
-pub returns-in-ToCome-clause-answered : goal.returns-in-ToCome-clause-answered
-returns-in-ToCome-clause-answered g c tells =
-    subst (λ (k : ℕ × Content). IfOk c.cut_or_wait.result (λ (o : Outcome). StepsTo o k.0 c.args.number c.args.command.now k.1 (g.P.SectorView.space c.cut_or_wait.new.space).content)) {x = (capacity_of c.judge.new.volume, (g.P.SectorView.space c.judge.new.space).content)} {y = ((capacity_of c.args.volume.now), (g.P.SectorView.space c.args.space.now).content)} (λ i. (c.judge.ensures.reads.keeps.capacity i, c.judge.ensures.reads.looks.content tells i)) (c.cut_or_wait.ensures.answered (c.judge.ensures.reads.looks.same.tells ∙ tells))
+pub returns-in-CutFirst-clause-answered : goal.returns-in-CutFirst-clause-answered
+returns-in-CutFirst-clause-answered g c tells =
+    subst (λ (k : ℕ × Content). IfOk c.cut_first.result (λ (o : Outcome). StepsTo o k.0 c.args.number c.args.command.now k.1 (g.P.SectorView.space c.cut_first.new.space).content)) {x = (capacity_of c.judge.new.volume, (g.P.SectorView.space c.judge.new.space).content)} {y = ((capacity_of c.args.volume.now), (g.P.SectorView.space c.args.space.now).content)} (λ i. (c.judge.ensures.reads.keeps.capacity i, c.judge.ensures.reads.looks.content tells i)) (c.cut_first.ensures.answered (c.judge.ensures.reads.looks.same.tells ∙ tells))
 
-pub returns-in-ToCome-clause-place : goal.returns-in-ToCome-clause-place
-returns-in-ToCome-clause-place g c tells = subst (λ (k : Content). OnOk c.cut_or_wait.result (KeepsJournal k (g.P.SectorView.space c.cut_or_wait.new.space).content)) (c.judge.ensures.reads.looks.content tells) (c.cut_or_wait.ensures.place (c.judge.ensures.reads.looks.same.tells ∙ tells))
+pub returns-in-CutFirst-clause-place : goal.returns-in-CutFirst-clause-place
+returns-in-CutFirst-clause-place g c tells = subst (λ (k : Content). OnOk c.cut_first.result (KeepsJournal k (g.P.SectorView.space c.cut_first.new.space).content)) (c.judge.ensures.reads.looks.content tells) (c.cut_first.ensures.place (c.judge.ensures.reads.looks.same.tells ∙ tells))
 
-pub returns-in-ToCome-clause-holds : goal.returns-in-ToCome-clause-holds
-returns-in-ToCome-clause-holds g c committed was = c.cut_or_wait.ensures.holds committed (holds_kept committed c.args.volume.now c.judge.new.volume c.judge.ensures.reads.keeps.map was)
+pub returns-in-CutFirst-clause-holds : goal.returns-in-CutFirst-clause-holds
+returns-in-CutFirst-clause-holds g c committed was = c.cut_first.ensures.holds committed (holds_kept committed c.args.volume.now c.judge.new.volume c.judge.ensures.reads.keeps.map was)
 
-pub returns-in-ToCome-clause-touches : goal.returns-in-ToCome-clause-touches
-returns-in-ToCome-clause-touches g c committed holds laid =
-    touches_behind committed c.args.volume.now c.judge.new.volume c.cut_or_wait.new.volume (g.P.SectorView.space c.args.space.now) (g.P.SectorView.space c.judge.new.space) (g.P.SectorView.space c.cut_or_wait.new.space)
+pub returns-in-CutFirst-clause-touches : goal.returns-in-CutFirst-clause-touches
+returns-in-CutFirst-clause-touches g c committed holds laid =
+    touches_behind committed c.args.volume.now c.judge.new.volume c.cut_first.new.volume (g.P.SectorView.space c.args.space.now) (g.P.SectorView.space c.judge.new.space) (g.P.SectorView.space c.cut_first.new.space)
     (own_or_free_still c.args.volume.now c.judge.new.volume (g.P.SectorView.space c.args.space.now) (g.P.SectorView.space c.judge.new.space) c.judge.ensures.reads) c.judge.ensures.reads.looks
-    (touches_own committed c.judge.new.volume c.cut_or_wait.new.volume (g.P.SectorView.space c.judge.new.space) (g.P.SectorView.space c.cut_or_wait.new.space) (c.cut_or_wait.ensures.touches committed))
+    (touches_own committed c.judge.new.volume c.cut_first.new.volume (g.P.SectorView.space c.judge.new.space) (g.P.SectorView.space c.cut_first.new.space) (c.cut_first.ensures.touches committed))
 
-pub returns-in-ToCome-clause-shrunk : goal.returns-in-ToCome-clause-shrunk
-returns-in-ToCome-clause-shrunk g c tells =
-    subst (λ (k : Option ℕ × Content). IfOk c.cut_or_wait.result (λ (o : Outcome). ShrinksAs o c.args.command.now k.1 k.0 (shrunk_of c.cut_or_wait.new.volume))) {x = (shrunk_of c.judge.new.volume, (g.P.SectorView.space c.judge.new.space).content)} {y = (shrunk_of c.args.volume.now, (g.P.SectorView.space c.args.space.now).content)}
-    (λ i. (c.judge.ensures.reads.keeps.shrunk i, c.judge.ensures.reads.looks.content tells i)) (c.cut_or_wait.ensures.shrunk (c.judge.ensures.reads.looks.same.tells ∙ tells))
+pub returns-in-CutFirst-clause-shrunk : goal.returns-in-CutFirst-clause-shrunk
+returns-in-CutFirst-clause-shrunk g c tells =
+    subst (λ (k : Option ℕ × Content). IfOk c.cut_first.result (λ (o : Outcome). ShrinksAs o c.args.command.now k.1 k.0 (shrunk_of c.cut_first.new.volume))) {x = (shrunk_of c.judge.new.volume, (g.P.SectorView.space c.judge.new.space).content)} {y = (shrunk_of c.args.volume.now, (g.P.SectorView.space c.args.space.now).content)}
+    (λ i. (c.judge.ensures.reads.keeps.shrunk i, c.judge.ensures.reads.looks.content tells i)) (c.cut_first.ensures.shrunk (c.judge.ensures.reads.looks.same.tells ∙ tells))
 
-pub returns-in-ToCome-clause-same : goal.returns-in-ToCome-clause-same
-returns-in-ToCome-clause-same g c = space_both _ _ _ c.judge.ensures.reads.looks.same (c.cut_or_wait.ensures.touches []).same
+pub returns-in-CutFirst-clause-same : goal.returns-in-CutFirst-clause-same
+returns-in-CutFirst-clause-same g c = space_both _ _ _ c.judge.ensures.reads.looks.same (c.cut_first.ensures.touches []).same
 
 pub grow_first-requires-clause-taken : goal.grow_first-requires-clause-taken
 grow_first-requires-clause-taken g c told =
@@ -150,3 +151,19 @@ grow_first-requires-clause-taken g c told =
     {x = (capacity_of c.args.volume.now, c.args.volume.now.map, (g.P.SectorView.space c.args.space.now).content)} {y = (capacity_of c.judge.new.volume, c.judge.new.volume.map, (g.P.SectorView.space c.judge.new.space).content)}
     (λ i. (sym c.judge.ensures.reads.keeps.capacity i, sym c.judge.ensures.reads.keeps.map i, sym (c.judge.ensures.reads.looks.content (sym c.judge.ensures.reads.looks.same.tells ∙ told)) i))
     (subst (λ (v : Verdict). IsTaken v (capacity_of c.args.volume.now) (takable_of c.args.volume.now) c.args.command.now (g.P.SectorView.space c.args.space.now).content) c.in-Grows.is (c.in_ok-why.ensures.taken (sym c.judge.ensures.reads.looks.same.tells ∙ told)))
+
+-- ---- for which trees have to grow as isn't built
+
+pub returns-in-ToCome-clause-answered : goal.returns-in-ToCome-clause-answered
+returns-in-ToCome-clause-answered g c tells =
+    waits_steps (capacity_of c.args.volume.now) c.args.number c.args.command.now (g.P.SectorView.space c.args.space.now).content (g.P.SectorView.space c.judge.new.space).content (c.judge.ensures.reads.looks.content tells) (sound_here c.args.volume.now (g.P.SectorView.space c.args.space.now) (c.requires.stands.stands tells) (c.requires.settled tells))
+    (subst (λ (v : Verdict). IsJudged v (capacity_of c.args.volume.now) c.args.command.now (g.P.SectorView.space c.args.space.now).content) c.in-ToCome.is (c.in_ok-why.ensures.judged tells)) c.refusal-in-ToCome.result c.refusal-in-ToCome.ensures
+
+pub returns-in-ToCome-clause-shrunk : goal.returns-in-ToCome-clause-shrunk
+returns-in-ToCome-clause-shrunk g c tells = refused_shrinks _ _ _ _ _ c.refusal-in-ToCome.result c.refusal-in-ToCome.ensures c.judge.ensures.reads.keeps.shrunk
+
+pub returns-in-ToCome-clause-place : goal.returns-in-ToCome-clause-place
+returns-in-ToCome-clause-place g c tells = same_place (g.P.SectorView.space c.args.space.now).content (g.P.SectorView.space c.judge.new.space).content (c.judge.ensures.reads.looks.content tells)
+
+pub returns-in-ToCome-clause-touches : goal.returns-in-ToCome-clause-touches
+returns-in-ToCome-clause-touches g c committed holds laid = touches_looked committed c.args.volume.now c.judge.new.volume (g.P.SectorView.space c.args.space.now) (g.P.SectorView.space c.judge.new.space) c.judge.ensures.reads.looks

@@ -6,7 +6,7 @@ use Rattle.alloc_bitmap.specs.Map.{BlockMap}
 use Rattle.hfs_volume.specs.Content.{volume_of}
 use Rattle.hfs_volume.specs.Forks.{data_kind}
 use Rattle.hfs_volume.specs.Weight.{file_blocks, file_extents, needs_cut}
-use Rattle.volume_base.specs.DataWeighing.{IsMoreData, data_as, data_weighed}
+use Rattle.volume_base.specs.DataWeighing.{data_as, data_weighed}
 use Rattle.volume_base.specs.Room.{free_in}
 use Rattle.volume_base.specs.declared.room.FreeBlocks.TheVariants as blocks
 use Rattle.volume_weights.proofs.DataFork.{extents_at}
@@ -46,4 +46,4 @@ returns-clause-no_cut g c tells some =
 
 pub returns-clause-waits : goal.returns-clause-waits
 returns-clause-waits g c tells none =
-    subst (λ (k : Content). IsMoreData (volume_of k) (data_as c.args.put)) (c.load_data_fork.ensures.reads.looks.content tells) (c.weigh_fork.ensures.waits (c.load_data_fork.ensures.reads.looks.same.tells ∙ tells) none)
+    subst (λ (k : Content). needs_cut (volume_of k) (Some (data_as c.args.put)) ≡ true) (c.load_data_fork.ensures.reads.looks.content tells) (c.weigh_fork.ensures.waits (c.load_data_fork.ensures.reads.looks.same.tells ∙ tells) none)

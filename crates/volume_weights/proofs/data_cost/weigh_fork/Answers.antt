@@ -1,10 +1,8 @@
-use Rattle.std.proofs.Common.{◌≡◌, ◌<◌, ℕ, true, false, inl, inr, sym, ◌∙◌, ap, subst, arith}
-use Rattle.std.specs.Prelude.{slice_index}
+use Rattle.std.proofs.Common.{◌≡◌, ℕ, true, false, sym, ◌∙◌, ap, subst, arith}
 use Rattle.std.proofs.lemmas.Bool.{true≢false}
-use Rattle.hfs_volume.specs.declared.cost.Needs.{Needs}
 use Rattle.volume_base.specs.Room.{capacity_of}
 use Rattle.volume_base.specs.Weighing.{joined}
-use Rattle.volume_weights.proofs.DataNeeds.{all_costs, counts_some, cut_is, takable_costs, usual_told}
+use Rattle.volume_weights.proofs.DataNeeds.{all_costs, cut_is, extents_low, takable_costs, usual_told}
 use Rattle.volume_weights.proofs.data_cost.weigh_fork.Goals as goal
 
 pub returns-then-not-are_usual-clause-answer : goal.returns-then-not-are_usual-clause-answer
@@ -15,17 +13,14 @@ returns-then-not-are_usual-clause-no_cut g c tells some = absurd (true≢false (
 
 pub returns-then-has_more-clause-waits : goal.returns-then-has_more-clause-waits
 returns-then-has_more-clause-waits g c tells none =
-    inl (sym (cut_is c.args.volume.now (g.P.SectorView.space c.args.space.now).content (c.requires.settled tells) c.args.put c.args.held (c.requires.held tells)) ∙ sym c.has_more.ensures ∙ c.if-has_more.true)
-
-pub returns-then-needs-ne0-clause-waits : goal.returns-then-needs-ne0-clause-waits
-returns-then-needs-ne0-clause-waits g c tells none = inr (counts_some c.args.volume.now (g.P.SectorView.space c.args.space.now).content (c.requires.settled tells) c.args.put c.args.extents (c.requires.extents tells) (omega (arith, c.if-needs-ne0.true, ap (λ (n : Needs). slice_index n.edits 0) c.needs_put-needs.ensures.same)))
+    sym (cut_is c.args.volume.now (g.P.SectorView.space c.args.space.now).content (c.requires.settled tells) c.args.put c.args.held (c.requires.held tells)) ∙ sym c.has_more.ensures ∙ c.if-has_more.true
 
 pub returns-clause-answer : goal.returns-clause-answer
 returns-clause-answer g c tells =
-    let none : slice_index c.needs_put-needs.result.edits 0 ≡ 0 = c.if-needs-ne0.false in
+    let few = extents_low c.args.volume.now (g.P.SectorView.space c.args.space.now).content (c.requires.settled tells) c.args.put c.args.held (c.requires.held tells) (omega (arith, c.ranges.held.fits)) in
     c.joined.ensures ∙ (λ i. joined
-    (all_costs c.args.volume.now (g.P.SectorView.space c.args.space.now).content (c.requires.settled tells) c.args.put (capacity_of c.args.volume.now) c.args.extents (c.requires.extents tells) (sym (ap (λ (n : Needs). slice_index n.edits 0) c.needs_put-needs.ensures.same) ∙ none) c.cost_of_put-all.result (c.cost_of_put-all.ensures.exact tells) i)
-    (takable_costs c.args.volume.now (g.P.SectorView.space c.args.space.now).content (c.requires.settled tells) c.args.put (capacity_of c.args.volume.now) c.args.extents (c.requires.extents tells) (sym (ap (λ (n : Needs). slice_index n.edits 0) c.needs_put-needs.ensures.same) ∙ none) c.cost_of_put-takable.result (c.cost_of_put-takable.ensures.exact tells) i))
+    (all_costs c.args.volume.now (g.P.SectorView.space c.args.space.now).content (c.requires.settled tells) c.args.put (capacity_of c.args.volume.now) c.args.extents (c.requires.extents tells) few c.cost_of_put-all.result (c.cost_of_put-all.ensures.exact tells) i)
+    (takable_costs c.args.volume.now (g.P.SectorView.space c.args.space.now).content (c.requires.settled tells) c.args.put (capacity_of c.args.volume.now) c.args.extents (c.requires.extents tells) few c.cost_of_put-takable.result (c.cost_of_put-takable.ensures.exact tells) i))
 
 pub returns-clause-no_cut : goal.returns-clause-no_cut
 returns-clause-no_cut g c tells some = sym (cut_is c.args.volume.now (g.P.SectorView.space c.args.space.now).content (c.requires.settled tells) c.args.put c.args.held (c.requires.held tells)) ∙ sym c.has_more.ensures ∙ c.if-has_more.false

@@ -7,7 +7,7 @@ use Rattle.cat_records.specs.declared.record.FileRecord.{FileRecord}
 use Rattle.hfs_volume.specs.Content.{volume_of}
 use Rattle.hfs_volume.specs.Weight.{needs_cut}
 use Rattle.volume_weights.specs.DataWeighing.{IsFileOfPut}
-use Rattle.volume_base.specs.DataWeighing.{IsMoreData, data_as, data_weighed}
+use Rattle.volume_base.specs.DataWeighing.{data_as, data_weighed}
 use Rattle.volume_base.specs.Room.{free_in}
 use Rattle.volume_base.specs.declared.room.FreeBlocks.TheVariants as blocks
 use Rattle.volume_base.specs.declared.weighing.Weight.{Weight}
@@ -36,7 +36,7 @@ returns-in-Some-clause-no_cut g c tells =
 
 pub returns-in-Some-clause-waits : goal.returns-in-Some-clause-waits
 returns-in-Some-clause-waits g c tells =
-    subst (λ (k : Content). IfOk c.weigh_file.result (λ (said : Option Weight). is_some said ≡ false → IsMoreData (volume_of k) (data_as c.args.put))) (c.file_of_put.ensures.reads.looks.content tells) (c.weigh_file.ensures.waits (c.file_of_put.ensures.reads.looks.same.tells ∙ tells))
+    subst (λ (k : Content). IfOk c.weigh_file.result (λ (said : Option Weight). is_some said ≡ false → needs_cut (volume_of k) (Some (data_as c.args.put)) ≡ true)) (c.file_of_put.ensures.reads.looks.content tells) (c.weigh_file.ensures.waits (c.file_of_put.ensures.reads.looks.same.tells ∙ tells))
 
 pub returns-in-Some-clause-reads : goal.returns-in-Some-clause-reads
 returns-in-Some-clause-reads g c = volume_both c.args.volume.now c.file_of_put.new.volume c.weigh_file.new.volume (g.P.SectorView.space c.args.space.now) (g.P.SectorView.space c.file_of_put.new.space) (g.P.SectorView.space c.weigh_file.new.space) c.file_of_put.ensures.reads c.weigh_file.ensures.reads

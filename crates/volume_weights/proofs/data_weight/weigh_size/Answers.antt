@@ -7,8 +7,8 @@ use Rattle.hfs_model.specs.Step.{refuses}
 use Rattle.hfs_volume.specs.Content.{volume_of}
 use Rattle.hfs_volume.specs.TreeOf.{tree_of}
 use Rattle.hfs_volume.specs.Weight.{needs_cut}
-use Rattle.volume_base.specs.DataWeighing.{IsMoreData, data_as, data_weighed}
-use Rattle.volume_weights.specs.DataWeighing.{WaitsForMore}
+use Rattle.volume_weights.specs.DataWeighing.{WaitsForCut}
+use Rattle.volume_base.specs.DataWeighing.{data_as, data_weighed}
 use Rattle.volume_base.specs.Room.{free_in}
 use Rattle.volume_base.specs.Weighing.{weighed}
 use Rattle.volume_base.specs.declared.room.FreeBlocks.TheVariants as blocks
@@ -56,8 +56,8 @@ pub returns-then-told-size-clause-waits : goal.returns-then-told-size-clause-wai
 returns-then-told-size-clause-waits g c tells =
     let it = (told_node (tree_of (g.P.SectorView.space c.args.space.now).content) c.args._path.now c.args.told.now (c.requires.told tells)) in
     let about = (trunc_told (tree_of (g.P.SectorView.space c.args.space.now).content) c.args._path.now c.args.told.now (told_node (tree_of (g.P.SectorView.space c.args.space.now).content) c.args._path.now c.args.told.now (c.requires.told tells)) c.args.size (sym c.in_default.is ∙ c.against_trunc.ensures)) in
-    if_so (λ (said : Option Weight). is_some said ≡ false → IsMoreData (volume_of (g.P.SectorView.space c.args.space.now).content) (data_as (record { id = c.args.told.now.id; old_size = c.args.told.now.size; from = c.args.told.now.size; end = c.args.size })))
-    (λ (said : Option Weight). is_some said ≡ false → WaitsForMore (g.P.SectorView.space c.args.space.now).content (command.Trunc c.args._path.now c.args.size)) c.weigh_put.result
+    if_so (λ (said : Option Weight). is_some said ≡ false → needs_cut (volume_of (g.P.SectorView.space c.args.space.now).content) (Some (data_as (record { id = c.args.told.now.id; old_size = c.args.told.now.size; from = c.args.told.now.size; end = c.args.size }))) ≡ true)
+    (λ (said : Option Weight). is_some said ≡ false → WaitsForCut (g.P.SectorView.space c.args.space.now).content (command.Trunc c.args._path.now c.args.size)) c.weigh_put.result
     (λ said is none. (
       not_refused (tree_of (g.P.SectorView.space c.args.space.now).content) (command.Trunc c.args._path.now c.args.size) (sym c.in_default.is ∙ c.against_trunc.ensures ∙ trunc_refusal (tree_of (g.P.SectorView.space c.args.space.now).content) (settled_is_plain c.sound_has_plain_tree.ensures c.args.volume.now (g.P.SectorView.space c.args.space.now).content (c.requires.stands.stands tells).trees (c.requires.settled tells)) c.args._path.now c.args.size (Ok c.args.told.now) (c.requires.told tells)),
       trunc_more (volume_of (g.P.SectorView.space c.args.space.now).content) (tree_of (g.P.SectorView.space c.args.space.now).content) c.args._path.now c.args.size (data_as (record { id = c.args.told.now.id; old_size = c.args.told.now.size; from = c.args.told.now.size; end = c.args.size })) (trunc_put (tree_of (g.P.SectorView.space c.args.space.now).content) c.args._path.now c.args.told.now it.node about.0 (record { id = c.args.told.now.id; old_size = c.args.told.now.size; from = c.args.told.now.size; end = c.args.size }) refl refl c.args.size c.if-told-size.true refl refl) (is none),

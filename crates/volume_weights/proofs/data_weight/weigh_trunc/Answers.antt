@@ -3,7 +3,7 @@ use Rattle.std.specs.Prelude.{is_some, IfOk, IfSome, Option, Result, Ok, Err}
 use Rattle.sector_disk.specs.Lists.{Content}
 use Rattle.alloc_bitmap.specs.Map.{BlockMap}
 use Rattle.hfs_model.specs.Step.{step_line}
-use Rattle.volume_weights.specs.DataWeighing.{WaitsForMore}
+use Rattle.volume_weights.specs.DataWeighing.{WaitsForCut}
 use Rattle.volume_base.specs.declared.weighing.Weight.{Weight}
 use Rattle.volume_base.proofs.Still.{volume_both}
 use Rattle.volume_base.specs.Refusing.{facts_or}
@@ -33,7 +33,7 @@ returns-in-Ok-clause-answer g c tells =
 
 pub returns-in-Ok-clause-waits : goal.returns-in-Ok-clause-waits
 returns-in-Ok-clause-waits g c tells =
-    subst (λ (k : Content). IfOk c.weigh_size.result (λ (said : Option Weight). is_some said ≡ false → WaitsForMore k (command.Trunc c.args.path.now c.args.size))) (c.facts.ensures.reads.looks.content tells) (c.weigh_size.ensures.waits (c.facts.ensures.reads.looks.same.tells ∙ tells))
+    subst (λ (k : Content). IfOk c.weigh_size.result (λ (said : Option Weight). is_some said ≡ false → WaitsForCut k (command.Trunc c.args.path.now c.args.size))) (c.facts.ensures.reads.looks.content tells) (c.weigh_size.ensures.waits (c.facts.ensures.reads.looks.same.tells ∙ tells))
 
 pub returns-in-Ok-clause-reads : goal.returns-in-Ok-clause-reads
 returns-in-Ok-clause-reads g c = volume_both c.args.volume.now c.facts.new.self c.weigh_size.new.volume (g.P.SectorView.space c.args.space.now) (g.P.SectorView.space c.facts.new.space) (g.P.SectorView.space c.weigh_size.new.space) c.facts.ensures.reads c.weigh_size.ensures.reads

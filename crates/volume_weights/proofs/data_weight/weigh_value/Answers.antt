@@ -7,8 +7,8 @@ use Rattle.hfs_model.specs.Step.{refuses}
 use Rattle.hfs_volume.specs.Content.{volume_of}
 use Rattle.hfs_volume.specs.TreeOf.{tree_of}
 use Rattle.hfs_volume.specs.Weight.{needs_cut}
-use Rattle.volume_base.specs.DataWeighing.{IsMoreData, data_as, data_weighed}
-use Rattle.volume_weights.specs.DataWeighing.{WaitsForMore}
+use Rattle.volume_weights.specs.DataWeighing.{WaitsForCut}
+use Rattle.volume_base.specs.DataWeighing.{data_as, data_weighed}
 use Rattle.volume_base.specs.Room.{free_in}
 use Rattle.volume_base.specs.Weighing.{weighed}
 use Rattle.volume_base.specs.declared.room.FreeBlocks.TheVariants as blocks
@@ -56,8 +56,8 @@ pub returns-then-not-is_empty-clause-waits : goal.returns-then-not-is_empty-clau
 returns-then-not-is_empty-clause-waits g c tells =
     let it = (told_node (tree_of (g.P.SectorView.space c.args.space.now).content) c.args._path.now c.args.told.now (c.requires.told tells)) in
     let about = (write_told (tree_of (g.P.SectorView.space c.args.space.now).content) c.args._path.now c.args.told.now (told_node (tree_of (g.P.SectorView.space c.args.space.now).content) c.args._path.now c.args.told.now (c.requires.told tells)) c.args.from c.args.value.now (sym c.in_default.is ∙ c.against_write.ensures)) in
-    if_so (λ (said : Option Weight). is_some said ≡ false → IsMoreData (volume_of (g.P.SectorView.space c.args.space.now).content) (data_as (record { id = c.args.told.now.id; old_size = c.args.told.now.size; from = c.args.from; end = c.end_of.result })))
-    (λ (said : Option Weight). is_some said ≡ false → WaitsForMore (g.P.SectorView.space c.args.space.now).content (command.Write c.args._path.now c.args.from c.args.value.now)) c.weigh_put.result
+    if_so (λ (said : Option Weight). is_some said ≡ false → needs_cut (volume_of (g.P.SectorView.space c.args.space.now).content) (Some (data_as (record { id = c.args.told.now.id; old_size = c.args.told.now.size; from = c.args.from; end = c.end_of.result }))) ≡ true)
+    (λ (said : Option Weight). is_some said ≡ false → WaitsForCut (g.P.SectorView.space c.args.space.now).content (command.Write c.args._path.now c.args.from c.args.value.now)) c.weigh_put.result
     (λ said is none. (
       not_refused (tree_of (g.P.SectorView.space c.args.space.now).content) (command.Write c.args._path.now c.args.from c.args.value.now) (sym c.in_default.is ∙ c.against_write.ensures ∙ write_refusal (tree_of (g.P.SectorView.space c.args.space.now).content) (settled_is_plain c.sound_has_plain_tree.ensures c.args.volume.now (g.P.SectorView.space c.args.space.now).content (c.requires.stands.stands tells).trees (c.requires.settled tells)) c.args._path.now c.args.from c.args.value.now (Ok c.args.told.now) (c.requires.told tells)),
       write_more (volume_of (g.P.SectorView.space c.args.space.now).content) (tree_of (g.P.SectorView.space c.args.space.now).content) c.args._path.now c.args.from c.args.value.now (data_as (record { id = c.args.told.now.id; old_size = c.args.told.now.size; from = c.args.from; end = c.end_of.result })) (write_put (tree_of (g.P.SectorView.space c.args.space.now).content) c.args._path.now c.args.told.now it.node about.0 (record { id = c.args.told.now.id; old_size = c.args.told.now.size; from = c.args.from; end = c.end_of.result }) refl refl c.args.from c.args.value.now (sym c.is_empty.ensures ∙ c.if-not-is_empty.true) refl c.end_of.ensures) (is none),

@@ -1,11 +1,10 @@
-use Rattle.std.proofs.Common.{◌≡◌, ◌⊎◌, inl, inr, ℕ, true, false, List, sym, ◌∙◌, ap, subst}
+use Rattle.std.proofs.Common.{◌≡◌, ℕ, false, List, sym, ◌∙◌, ap, subst}
 use Rattle.std.specs.Prelude.{is_some, IfOk, IfSome, Option, Ok}
 use Rattle.hfs_language.specs.declared.command.Command.{Command}
 use Rattle.hfs_language.specs.declared.command.Command.TheVariants as command
-use Rattle.hfs_model.specs.Step.{refuses}
 use Rattle.hfs_volume.specs.Content.{volume_of}
 use Rattle.hfs_volume.specs.TreeOf.{tree_of}
-use Rattle.volume_weights.specs.DataWeighing.{WaitsForMore}
+use Rattle.volume_weights.specs.DataWeighing.{WaitsForCut}
 use Rattle.volume_base.specs.Room.{free_in}
 use Rattle.volume_base.specs.Weighing.{weighed}
 use Rattle.volume_base.specs.declared.room.FreeBlocks.TheVariants as blocks
@@ -30,9 +29,9 @@ returns-in-Write-clause-answer g c tells =
 
 pub returns-in-Write-clause-waits : goal.returns-in-Write-clause-waits
 returns-in-Write-clause-waits g c tells unread =
-    if_so (λ (said : Option Weight). is_some said ≡ false → WaitsForMore (g.P.SectorView.space c.args.space.now).content (command.Write c.in-Write.path c.in-Write.from c.as_slice-in-Write.result.now))
-    (λ (said : Option Weight). is_some said ≡ false → WaitsForMore (g.P.SectorView.space c.args.space.now).content c.args.command.now) c.weigh_write.result
-    (λ said it none. subst (λ (k : Command). WaitsForMore (g.P.SectorView.space c.args.space.now).content k) (ap (λ (v : List ℕ). command.Write c.in-Write.path c.in-Write.from v) c.as_slice-in-Write.ensures ∙ sym c.in-Write.is) (it none)) (c.weigh_write.ensures.waits tells)
+    if_so (λ (said : Option Weight). is_some said ≡ false → WaitsForCut (g.P.SectorView.space c.args.space.now).content (command.Write c.in-Write.path c.in-Write.from c.as_slice-in-Write.result.now))
+    (λ (said : Option Weight). is_some said ≡ false → WaitsForCut (g.P.SectorView.space c.args.space.now).content c.args.command.now) c.weigh_write.result
+    (λ said it none. subst (λ (k : Command). WaitsForCut (g.P.SectorView.space c.args.space.now).content k) (ap (λ (v : List ℕ). command.Write c.in-Write.path c.in-Write.from v) c.as_slice-in-Write.ensures ∙ sym c.in-Write.is) (it none)) (c.weigh_write.ensures.waits tells)
 
 pub returns-in-Trunc-clause-answer : goal.returns-in-Trunc-clause-answer
 returns-in-Trunc-clause-answer g c tells =
@@ -41,6 +40,6 @@ returns-in-Trunc-clause-answer g c tells =
 
 pub returns-in-Trunc-clause-waits : goal.returns-in-Trunc-clause-waits
 returns-in-Trunc-clause-waits g c tells unread =
-    if_so (λ (said : Option Weight). is_some said ≡ false → WaitsForMore (g.P.SectorView.space c.args.space.now).content (command.Trunc c.in-Trunc.path c.in-Trunc.size))
-    (λ (said : Option Weight). is_some said ≡ false → WaitsForMore (g.P.SectorView.space c.args.space.now).content c.args.command.now) c.weigh_trunc.result
-    (λ said it none. subst (λ (k : Command). WaitsForMore (g.P.SectorView.space c.args.space.now).content k) (sym c.in-Trunc.is) (it none)) (c.weigh_trunc.ensures.waits tells)
+    if_so (λ (said : Option Weight). is_some said ≡ false → WaitsForCut (g.P.SectorView.space c.args.space.now).content (command.Trunc c.in-Trunc.path c.in-Trunc.size))
+    (λ (said : Option Weight). is_some said ≡ false → WaitsForCut (g.P.SectorView.space c.args.space.now).content c.args.command.now) c.weigh_trunc.result
+    (λ said it none. subst (λ (k : Command). WaitsForCut (g.P.SectorView.space c.args.space.now).content k) (sym c.in-Trunc.is) (it none)) (c.weigh_trunc.ensures.waits tells)

@@ -22,7 +22,7 @@ use Rattle.hfs_volume.proofs.Members.{at_front, behind, first_or_later, in_one}
 use Rattle.hfs_volume.proofs.Reaching.{flat_cases}
 use Rattle.hfs_volume.proofs.Seeing.{same_number}
 use Rattle.overflow.proofs.Cutting.{AreUsed}
-use Rattle.volume_space.specs.Cutting.{fork_at}
+use Rattle.volume_base.specs.Cutting.{fork_at}
 
 -- ---- the first blocks of extents
 

@@ -21,7 +21,7 @@ use Rattle.hfs_volume.proofs.Flat.{found_some}
 use Rattle.hfs_volume.proofs.Members.{at_front, behind, each_of, kept_cases, kept_stands}
 use Rattle.hfs_volume.proofs.NodesOf.{entry_of_is}
 use Rattle.hfs_volume.proofs.Reaching.{flat_stands}
-use Rattle.volume_space.specs.Orphans.{IsFirstName, is_blockless}
+use Rattle.volume_base.specs.Orphans.{IsFirstName, is_blockless}
 
 -- ---- the orphan with the least CNID
 

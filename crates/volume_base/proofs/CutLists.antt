@@ -38,11 +38,11 @@ use Rattle.hfs_volume.proofs.Swapping.{Splits}
 use Rattle.overflow.specs.Records.{eight_at}
 use Rattle.overflow.proofs.Cutting.{AreUsed, eight_used, in_use_used}
 use Rattle.overflow.proofs.Whole.{stored_gives, stored_goes_on, used_by, whole_is}
-use Rattle.volume_space.specs.Cutting.{IsCutOf, cut_fork_of, fork_at, with_freed}
-use Rattle.volume_space.specs.Spreading.{StoresFork}
-use Rattle.volume_space.specs.declared.cutting.Cut.{Cut}
-use Rattle.volume_space.proofs.CutForks.{fork_found, fork_owned, front_ends, front_used}
-use Rattle.volume_space.proofs.NextDrop.{fork_stands}
+use Rattle.volume_base.specs.Cutting.{IsCutOf, cut_fork_of, fork_at, with_freed}
+use Rattle.volume_base.specs.Spreading.{StoresFork}
+use Rattle.volume_base.specs.declared.cutting.Cut.{Cut}
+use Rattle.volume_base.proofs.CutForks.{fork_found, fork_owned, front_ends, front_used}
+use Rattle.volume_base.proofs.NextDrop.{fork_stands}
 use Rattle.volume_base.proofs.PlainFiles.{shaped_of}
 
 -- each extent of a fork has blocks

@@ -1,0 +1,20 @@
+use Rattle.std.proofs.Common.{◌≡◌, ℕ, inl, List, map, refl, sym, ◌∙◌, ap, subst}
+use Rattle.std.specs.Prelude.{Result, Ok, OnOk}
+use Rattle.btree_node.specs.Keys.{IsExtentKey, extent_cmp, is_eight_extents}
+use Rattle.btree_node.specs.TreeFile.{extents_form}
+use Rattle.btree_file.proofs.StandingLaws.{pairs_held}
+use Rattle.hfs_volume.specs.Records.{Overflow, overflow_of}
+use Rattle.overflow.specs.Reading.{HasExtents}
+use Rattle.volume_space.proofs.Spreads.{stored_spreads}
+use Rattle.volume_space.proofs.storing.spread_extents.Goals as goal
+
+pub store_extents-requires-clause-room : goal.store_extents-requires-clause-room
+store_extents-requires-clause-room g c names tells =
+    c.can_spread.ensures.room c.if-not-can_spread.false names tells
+    (subst (λ (o : List Overflow). HasExtents o c.args.id 0 c.args.list.now)
+    (sym (ap (map overflow_of) (pairs_held extents_form IsExtentKey is_eight_extents extent_cmp names c.args.volume.now.extents.file (g.P.SectorView.space c.args.space.now) (c.requires.stands.stands tells).trees.extents))) (c.requires.has tells))
+
+pub returns-clause-spreads : goal.returns-clause-spreads
+returns-clause-spreads g c tells =
+    stored_spreads c.args.volume.now c.store_extents.new.volume (g.P.SectorView.space c.args.space.now).content (g.P.SectorView.space c.store_extents.new.space).content c.args.id c.args.later.now (c.can_spread.ensures.user c.if-not-can_spread.false) (c.can_spread.ensures.full c.if-not-can_spread.false)
+    (c.in_ok-store_extents.ensures.stores tells)
