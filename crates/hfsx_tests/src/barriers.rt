@@ -65,11 +65,15 @@ fn more_lines_that_read_the_same_make_no_more_calls(rt: HostRuntime) -> Result<(
     let alloc = rt.alloc();
     let mut one = fresh_rig(alloc)?;
     let mut other = fresh_rig(alloc)?;
-    for (rig, count) in [(&mut one, 100), (&mut other, 200)] {
-        let input = repeated(alloc, b"ls /\n", count)?;
-        assert_eq!(rt; run_on(alloc, "run v.img", rig, &input)?, Status::Done);
-        assert_eq!(rt; rig.told(), repeated(alloc, b"ok 0\n", count)?.as_slice());
-    }
+    let few = repeated(alloc, b"ls /\n", 100)?;
+    let many = repeated(alloc, b"ls /\n", 200)?;
+    assert_eq!(rt; run_on(alloc, "run v.img", &mut one, &few)?, Status::Done);
+    assert_eq!(rt;
+        run_on(alloc, "run v.img", &mut other, &many)?,
+        Status::Done
+    );
+    assert_eq!(rt; one.told(), repeated(alloc, b"ok 0\n", 100)?.as_slice());
+    assert_eq!(rt; other.told(), repeated(alloc, b"ok 0\n", 200)?.as_slice());
     assert_eq!(rt; one.calls(), other.calls());
     Ok(())
 }
