@@ -48,6 +48,7 @@ journal_info_name = codes ".journal_info_block"
 abbrev pub private_name : List ℕ
 private_name = 0 ∷ 0 ∷ 0 ∷ 0 ∷ codes "HFS+ Private Data"
 
+-- a name of the root that no command may speak of: the two files of the journal and the private folder
 abbrev pub is_private_name : List ℕ → Bool
 is_private_name name = bytes_eq name journal_name || bytes_eq name journal_info_name || bytes_eq name private_name
 

@@ -128,6 +128,7 @@ pub record Overflow : Type 0 where
   pub start : ℕ
   pub extents : List Extent
 
+-- the overflow record that a key and a value of the extents file spell
 unfoldable pub overflow_of : Pair → Overflow
 overflow_of pair = record { fork = extent_fork pair.0; id = extent_file pair.0; start = extent_start pair.0; extents = (extents_at pair.1 0).extents }
 
