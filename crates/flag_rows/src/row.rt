@@ -241,11 +241,14 @@ impl Row {
         if n == 0 {
             return 0;
         }
+        let best = self.longest();
+        if n <= best {
+            return 1;
+        }
         let all = self.tally(1, n);
         if all.blocks < n {
             return all.count;
         }
-        let best = self.longest();
         let length = self.least_length(n, best);
         if length == best {
             return (n - 1) / length + 1;
