@@ -1,13 +1,15 @@
 -- Housekeeping: steps that give blocks, attributes and entries back which no name leads to any more.
-use Rattle.std.specs.Prelude.{◌≡◌, ◌≢◌, ◌⊎◌, ◌<◌, ◌≤◌, ℕ, ◌+◌, ◌-◌, ◌*◌, ◌/◌, ◌%◌, ◌^◌, ◌==◌, ◌&&◌, nat_lt, Bool, false, not, List, [], ◌∷◌, length, take, find, slice_index, Option, Some, None, IsTrue, true, if◌then◌else◌}
+use Rattle.std.specs.Prelude.{◌≡◌, ◌≢◌, ◌⊎◌, ◌<◌, ◌≤◌, ℕ, ◌+◌, ◌-◌, ◌*◌, ◌/◌, ◌%◌, ◌^◌, ◌==◌, ◌&&◌, nat_lt, Bool, false, not, List, [], ◌∷◌, length, take, find, slice_index, Option, Some, None, IsTrue, true, Ok, if◌then◌else◌}
 use Rattle.std.specs.Str.{bytes_eq}
 use Rattle.jnl_format.specs.Recovery.{Content}
 use Rattle.volume_header.specs.declared.header.VolumeHeader.{VolumeHeader}
 use Rattle.hx_bytes.specs.declared.extents.ForkRecord.{ForkRecord}
+use Rattle.hfs_language.specs.declared.command.Command.{Command}
 use Rattle.hfs_language.specs.declared.refusal.Refusal.{Refusal}
 use Rattle.hfs_volume.specs.declared.cost.Cost.{Cost}
 use Rattle.hfs_volume.specs.declared.cost.Cost.TheVariants as cost
 use Rattle.hfs_model.specs.Sorted.{kept}
+use Rattle.hfs_model.specs.Step.{refuses}
 use Rattle.hfs_volume.specs.Records.{Placed, Overflow, Attribute, entry_of, id_of}
 use Rattle.hfs_volume.specs.Forks.{Owned, blocks_owned, parts_for, data_kind, resource_kind, extents_id, catalog_id, attributes_id}
 use Rattle.hfs_volume.specs.Content.{facts_at, VolumeState, volume_of, records_of, overflow_in_volume, attributes_of}
@@ -16,7 +18,7 @@ use Rattle.hfs_volume.specs.Blocks.{forks_of}
 use Rattle.hfs_volume.specs.Sound.{IsSound}
 use Rattle.hfs_volume.specs.TreeOf.{tree_of}
 use Rattle.hfs_volume.specs.Cost.{cost_of}
-use Rattle.hfs_volume.specs.Weight.{free_blocks, room_with, needs_for, edits, cut_cost, file_fork, file_blocks}
+use Rattle.hfs_volume.specs.Weight.{free_blocks, room_with, needs_for, edits, cut_cost, file_fork, file_blocks, weight}
 
 -- ---- forks of a volume, by their file and kind
 
@@ -182,6 +184,36 @@ pub record CutsSurplus (capacity : ℕ) (old new : Content) : Type 0 where
   pub cuts : CutsAlone id data_kind (blocks_wanted (volume_of old) id data_kind) (volume_of old) (volume_of new)
   pub keeps : KeepsTree old new
 
+-- A command that its step doesn't refuse wants these nodes, and nothing is missing for it.
+pub record CommandWants (capacity : ℕ) (content : Content) (grow : List ℕ) : Type 0 where
+  pub asked : Command
+  pub no_refusal : refuses (tree_of content) (Ok asked) ≡ false
+  pub load : ℕ
+  pub affords : weight capacity (volume_of content) (tree_of content) asked ≡ cost.Load load grow
+
+-- The next step of reclaiming wants these nodes, and nothing is missing for it.
+pub record StepWants (capacity : ℕ) (shrunk : Option ℕ) (content : Content) (grow : List ℕ) : Type 0 where
+  pub step : Reclaim
+  pub next : next_reclaim (volume_of content) shrunk ≡ Some step
+  pub load : ℕ
+  pub affords : reclaim_cost capacity (volume_of content) step ≡ cost.Load load grow
+
+-- of the trees that are to grow the first: the extents overflow file, the catalog, the attributes file
+abbrev pub first_growth : List ℕ → List ℕ
+first_growth grow =
+    if nat_lt 0 (slice_index grow 0) then slice_index grow 0 ∷ 0 ∷ 0 ∷ []
+    else if nat_lt 0 (slice_index grow 1) then 0 ∷ slice_index grow 1 ∷ 0 ∷ []
+    else 0 ∷ 0 ∷ slice_index grow 2 ∷ []
+
+-- One tree got more nodes ahead of the command or the step of reclaiming that wants them, just as many as its cost says.
+pub record GrowsTreeFirst (capacity : ℕ) (shrunk : Option ℕ) (old new : Content) : Type 0 where
+  pub grow : List ℕ
+  pub wanted : CommandWants capacity old grow ⊎ StepWants capacity shrunk old grow
+  pub some : 0 < slice_index grow 0 + slice_index grow 1 + slice_index grow 2
+  pub grows : GrowsTrees (first_growth grow) (volume_of old) (volume_of new)
+  pub files : SameFiles (volume_of old) (volume_of new)
+  pub keeps : KeepsTree old new
+
 -- the header as a mount writes it: by a system that keeps the journal, not unmounted, and written once more
 abbrev pub mounted_header : VolumeHeader → VolumeHeader
 mounted_header head = record head {
@@ -197,7 +229,8 @@ pub record MarksHeader (old new : Content) : Type 0 where
 
 -- one step of housekeeping
 abbrev pub IsTidied : ℕ → Option ℕ → Content → Content → Type 0
-IsTidied capacity shrunk old new = Reclaims capacity shrunk old new ⊎ (CutsSurplus capacity old new ⊎ MarksHeader old new)
+IsTidied capacity shrunk old new =
+    Reclaims capacity shrunk old new ⊎ (CutsSurplus capacity old new ⊎ (GrowsTreeFirst capacity shrunk old new ⊎ MarksHeader old new))
 
 -- Steps of housekeeping, one after the other.
 pub data Tidies (capacity : ℕ) (shrunk : Option ℕ) : Content → Content → Type 0 where
