@@ -39,7 +39,7 @@ module _ (capacity : â„•) (knows : Knowing) (start : Content) (shrunk : Option â
     marked_stands = record { known = marked.known; below = below_put; reads = marked.reads; heads = marked.heads; leaves = touches.leaves }
 
     tidies : Tidies capacity shrunk start marked.begun
-    tidies = one_more start marked.begun marked.begun (inr (inr marked.marks)) (none marked.begun)
+    tidies = one_more start marked.begun marked.begun (inr (inr (inr marked.marks))) (none marked.begun)
 
     module _ (after : Outside) (commit : MayCommit new mid after) where
       begun_turn : MayTurn start marked.begun before after

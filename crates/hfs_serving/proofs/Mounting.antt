@@ -28,7 +28,8 @@ use Rattle.hfs_serving.proofs.Leading.{tidies_of}
 pub step_keeps : (capacity : ℕ) (shrunk : Option ℕ) (a b : Content) → IsTidied capacity shrunk a b → KeepsTree a b
 step_keeps capacity shrunk a b (inl reclaims) = reclaims.keeps
 step_keeps capacity shrunk a b (inr (inl cuts)) = cuts.keeps
-step_keeps capacity shrunk a b (inr (inr marks)) = marks.keeps
+step_keeps capacity shrunk a b (inr (inr (inl grows))) = grows.keeps
+step_keeps capacity shrunk a b (inr (inr (inr marks))) = marks.keeps
 
 pub tidied_tree : (capacity : ℕ) (shrunk : Option ℕ) (a b : Content) → Tidies capacity shrunk a b → tree_of b ≡ tree_of a
 tidied_tree capacity shrunk a _ (none _) = refl

@@ -19,7 +19,7 @@ use Rattle.hfs_volume.specs.Sound.{IsSound}
 use Rattle.hfs_volume.specs.TreeOf.{tree_of}
 use Rattle.hfs_volume.specs.Weight.{data_of, weight, gauge, edits_of, extents_in_use, needs_cut}
 use Rattle.hfs_volume.specs.Data.{PutsInFork}
-use Rattle.hfs_volume.specs.Reclaim.{GrowsTrees}
+use Rattle.hfs_volume.specs.Reclaim.{GrowsTrees, first_growth}
 use Rattle.volume_runs.specs.Rest.{Rests}
 
 -- ---- entries
@@ -40,14 +40,13 @@ abbrev pub reply_to : ℕ → Content → Result Command Refusal → Reply
 reply_to capacity content (Ok command.Df) = reply.Gauge (gauge capacity (volume_of content))
 reply_to capacity content asked = (step_line (tree_of content) asked).0
 
--- A command that its step doesn't refuse was done: nothing was missing for it, no blocks past the size stood in its way,
--- each tree has grown by just the nodes that its cost says, and of the forks only the one that it writes has other blocks.
+-- A command that its step doesn't refuse was done: nothing was missing for it, no tree had to grow for it any more, and no blocks past the size
+-- stood in its way; no tree has other nodes, and of the forks only the one that it writes has other blocks.
 pub record IsDone (capacity : ℕ) (asked : Command) (old new : Content) : Type 0 where
   pub load : ℕ
-  pub grow : List ℕ
-  pub affords : weight capacity (volume_of old) (tree_of old) asked ≡ cost.Load load grow
+  pub affords : weight capacity (volume_of old) (tree_of old) asked ≡ cost.Load load (0 ∷ 0 ∷ 0 ∷ [])
   pub no_surplus : needs_cut (volume_of old) (data_of (tree_of old) asked) ≡ false
-  pub grows : GrowsTrees grow (volume_of old) (volume_of new)
+  pub grows : GrowsTrees (0 ∷ 0 ∷ 0 ∷ []) (volume_of old) (volume_of new)
   pub forks : PutsInFork (data_of (tree_of old) asked) (volume_of old) (volume_of new)
   pub reads : IsTrue (only_reads asked) → new ≡ old
 
@@ -84,22 +83,20 @@ pub record LacksMemory (capacity : ℕ) (entry : Entry) : Type 0 where
 abbrev pub attribute_edits : PlainTree → Command → ℕ
 attribute_edits tree asked = (edits_of tree asked).attributes
 
--- a growth of the extents file, of catalog and attributes file both, or of one of these, where its fork has eight extents already
+-- of the trees that are to grow the first is the catalog or the attributes file, and its fork has eight extents or more
 abbrev pub IsLater : List ℕ → VolumeState → Type 0
 IsLater grow volume =
-    (0 < slice_index grow 0)
-    ⊎ (((0 < slice_index grow 1) × (0 < slice_index grow 2))
-    ⊎ (((0 < slice_index grow 1) × (8 ≤ extents_in_use volume catalog_id volume.head.catalog_fork))
-    ⊎ ((0 < slice_index grow 2) × (8 ≤ extents_in_use volume attributes_id volume.head.attributes_fork))))
+    ((0 < slice_index (first_growth grow) 1) × (8 ≤ extents_in_use volume catalog_id volume.head.catalog_fork))
+    ⊎ ((0 < slice_index (first_growth grow) 2) × (8 ≤ extents_in_use volume attributes_id volume.head.attributes_fork))
 
--- Trees have to grow for a command as isn't built yet.
+-- A tree has to grow ahead of a command as isn't built yet.
 pub record GrowsMore (capacity : ℕ) (asked : Command) (content : Content) : Type 0 where
   pub load : ℕ
   pub grow : List ℕ
   pub weighs : weight capacity (volume_of content) (tree_of content) asked ≡ cost.Load load grow
   pub later : IsLater grow (volume_of content)
 
--- The step doesn't refuse the command, but it asks for more than is built: trees have to grow for it as isn't built yet.
+-- The step doesn't refuse the command, but it asks for more than is built: a tree has to grow ahead of it as isn't built yet.
 pub record AsksMore (capacity : ℕ) (asked : Command) (content : Content) : Type 0 where
   pub no_refusal : refuses (tree_of content) (Ok asked) ≡ false
   pub grows : GrowsMore capacity asked content
