@@ -103,11 +103,10 @@ class Fork:
 
 
 class Weight:
-    """What a command takes: the refusal for want of a resource, or None, whether it asks for more than is built, and may wait, and whether a whole
-    transaction may have too little room for a growth beside the load, so that the answer may be `no OutOfMemory`."""
+    """What a command takes: the refusal for want of a resource, or None, and whether it asks for more than is built, and may wait."""
 
-    def __init__(self, refused=None, waits=False, is_tight=False):
-        self.refused, self.waits, self.is_tight = refused, waits, is_tight
+    def __init__(self, refused=None, waits=False):
+        self.refused, self.waits = refused, waits
 
 
 def weigh(gauge, plain, verb, words, fork):
@@ -141,7 +140,7 @@ def weigh(gauge, plain, verb, words, fork):
         blocks += more * size // gauge.block
         if many or more:
             load += size // 512 * min(many * (4 * (max(depth, 1) + 2 + rises) + 4) + (2 + maps if more else 0), nodes + more)
-    waits |= grown[0][1] > 0 or grown[1][1] > 0 and grown[2][1] > 0 or any(grown[it][1] > 0 and fork.trees[it] >= 8 for it in (1, 2))
+    waits |= any(grown[it][1] > 0 and fork.trees[it] >= 8 for it in (1, 2))
     if grown[0][1] and fork.trees[0] == 8:
         return Weight(b"no OverflowFull 8", waits)
     wanted = blocks + (data.new if data else 0)
@@ -153,10 +152,7 @@ def weigh(gauge, plain, verb, words, fork):
     load += min(up(gauge.total, 4096), bits)
     if verb not in ("at", *CHANGES):
         load = 0
-    # A growth puts the header's node, another one and the new map nodes, sectors of the bitmap and the volume header; what it puts at most may be asked for twice.
-    ahead = sum(size * (2 + maps) // 512 for (size, _, _, _), (_, more, maps) in zip(trees, grown) if more)
-    is_tight = blocks > 0 and load + 2 * (ahead + blocks // 4096 + 3) > gauge.capacity
-    return Weight(b"no TooBig %d %d" % (load, gauge.capacity) if load > gauge.capacity else None, waits, is_tight)
+    return Weight(b"no TooBig %d %d" % (load, gauge.capacity) if load > gauge.capacity else None, waits)
 
 
 CHANGES = ("mkdir", "create", "rm", "rmdir", "mv", "ln", "chmod", "setattr", "delattr", "write", "trunc")
