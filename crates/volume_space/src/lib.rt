@@ -11,6 +11,7 @@ mod growing_extents;
 mod mapping;
 mod orphans;
 mod putting;
+mod recorded;
 mod resizing;
 mod spilling;
 mod storing;
