@@ -2,15 +2,13 @@ pub mod CutSteps
 pub mod Done
 pub mod Fewer
 pub mod Forks
-pub mod GrownFirst
-pub mod GrownSteps
+pub mod GrowthSteps
 pub mod Judged
 pub mod Kept
 pub mod KeptEntries
 pub mod KeptFirst
 pub mod KeptLinks
 pub mod Linked
-pub mod MetAgain
 pub mod MetNow
 pub mod Putting
 pub mod Reclaimed

@@ -1,9 +1,8 @@
 use Rattle.std.proofs.Common.{sym, subst}
-use Rattle.volume_base.specs.Fitting.{takable_of}
 use Rattle.volume_base.specs.Room.{capacity_of}
-use Rattle.volume_step.specs.Steps.{IsJudged, IsTaken}
+use Rattle.volume_step.specs.Steps.{IsJudged}
 use Rattle.volume_step.specs.declared.judging.Verdict.{Verdict}
-use Rattle.volume_step.proofs.Judged.{judged_weight, not_weighed, taken_weight, weight_found}
+use Rattle.volume_step.proofs.Judged.{judged_weight, not_weighed, weight_found}
 use Rattle.volume_step.proofs.judging.judge.Goals as goal
 
 pub returns-in-Some-clause-judged : goal.returns-in-Some-clause-judged
@@ -14,8 +13,3 @@ returns-in-Some-clause-judged g c tells =
 pub returns-in-None-clause-judged : goal.returns-in-None-clause-judged
 returns-in-None-clause-judged g c tells =
     not_weighed c.in_ok-weight.field-0 c.in-None.is (c.in_ok-weight.ensures.waits tells c.requires.changes)
-
-pub returns-in-Some-clause-taken : goal.returns-in-Some-clause-taken
-returns-in-Some-clause-taken g c tells =
-    subst (λ (v : Verdict). IsTaken v (capacity_of c.args.volume.now) (takable_of c.args.volume.now) c.args.command.now (g.P.SectorView.space c.args.space.now).content) (sym c.verdict_of.ensures)
-    (taken_weight (capacity_of c.args.volume.now) _ (g.P.SectorView.space c.args.space.now).content c.args.command.now c.spare.result c.in-Some.weight (weight_found c.in_ok-weight.field-0 c.in-Some.weight _ c.in-Some.is (c.in_ok-weight.ensures.answer tells)))
