@@ -11,6 +11,7 @@ pub mod KeptLinks
 pub mod Linked
 pub mod MetNow
 pub mod Putting
+pub mod Ready
 pub mod Reclaimed
 pub mod Served
 pub mod Shortened

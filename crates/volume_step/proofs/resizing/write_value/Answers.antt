@@ -20,6 +20,7 @@ use Rattle.volume_step.proofs.Done.{holds_kept, same_place}
 use Rattle.volume_step.proofs.Putting.{value_place, value_steps}
 use Rattle.volume_step.proofs.Shortened.{nothing_steps}
 use Rattle.volume_step.proofs.Widening.{laid_still}
+use Rattle.volume_step.proofs.Ready.{written_none}
 use Rattle.volume_step.proofs.resizing.write_value.Goals as goal
 
 pub write-requires-clause-closed : goal.write-requires-clause-closed
@@ -111,3 +112,7 @@ returns-then-is_empty-clause-same g c = (touches_none [] (λ s. ⊥) (g.P.Sector
 
 pub returns-then-is_empty-clause-service : goal.returns-then-is_empty-clause-service
 returns-then-is_empty-clause-service g c = c.requires.stands.service
+
+pub returns-in-None-clause-ready : goal.returns-in-None-clause-ready
+returns-in-None-clause-ready g c tells no_data =
+    absurd (true≢false (sym (written_none (capacity_of c.args.volume.now) c.args.path.now c.args.from c.args.value.now (g.P.SectorView.space c.args.space.now).content (c.requires.affords tells) no_data) ∙ sym c.is_empty.ensures ∙ c.if-is_empty.false))
