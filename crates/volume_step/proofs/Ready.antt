@@ -90,12 +90,12 @@ unfolding load_in grow_in
 of_or None n m grow other is = (sym (ap (load_in n) is), sym (ap (grow_in grow) is))
 of_or (Some why) n m grow other is = absurd (let same : cost.Refused why ≡ cost.Load m other = is in cc same)
 
-of_cost : (needs : Needs) (room : Room) (n : ℕ) (grow : List ℕ) → cost_of needs room ≡ cost.Load n grow → (n ≡ load_of needs room (plan_of needs room)) × (grow ≡ (plan_of needs room).grow)
+pub of_cost : (needs : Needs) (room : Room) (n : ℕ) (grow : List ℕ) → cost_of needs room ≡ cost.Load n grow → (n ≡ load_of needs room (plan_of needs room)) × (grow ≡ (plan_of needs room).grow)
 unfolding cost_of
 of_cost needs room n grow is = of_or (resource_refusal needs room (plan_of needs room)) (load_of needs room (plan_of needs room)) n (plan_of needs room).grow grow is
 
 -- it counts the header and the records that are updated in place
-load_low : (needs : Needs) (room : Room) (n : ℕ) (grow : List ℕ) → cost_of needs room ≡ cost.Load n grow → 1 + needs.updates * node_sectors (tree_at room 1) ≤ n
+pub load_low : (needs : Needs) (room : Room) (n : ℕ) (grow : List ℕ) → cost_of needs room ≡ cost.Load n grow → 1 + needs.updates * node_sectors (tree_at room 1) ≤ n
 unfolding load_of
 load_low needs room n grow is = omega (arith, (of_cost needs room n grow is).0)
 
@@ -117,7 +117,7 @@ pub moment_fits : (moment : ℕ) (v : Volume) (a : Space) → IsMet (command.At 
 moment_fits moment v a met = let it = met_low (needs_of (edits_of (tree_of a.content) (command.At moment))) (room_with (capacity_of v) (takable_of v) (volume_of a.content)) a.spare met in omega (arith, it)
 
 -- a record that is updated a node of the catalog
-catalog_node : (capacity : ℕ) (free : List Bool) (v : Volume) (content : Content) → IsSettled v content → node_sectors (tree_at (room_with capacity free (volume_of content)) 1) ≡ v.catalog.file.shape.node_size / 512
+pub catalog_node : (capacity : ℕ) (free : List Bool) (v : Volume) (content : Content) → IsSettled v content → node_sectors (tree_at (room_with capacity free (volume_of content)) 1) ≡ v.catalog.file.shape.node_size / 512
 unfolding room_with
 catalog_node capacity free v content settled = ap (λ (l : VolumeState). l.catalog_tree.shape.node_size / 512) settled.lists
 

@@ -25,6 +25,7 @@ use Rattle.volume_base.specs.Fitting.{AreMet, takable_of}
 use Rattle.volume_space.specs.Growing.{GrowthFits, IsOwnOrFree, alone}
 use Rattle.volume_base.specs.Room.{capacity_of}
 use Rattle.volume_base.specs.Standing.{own_sectors}
+use Rattle.volume_space.specs.Writing.{is_data_met}
 use Rattle.volume_space.specs.declared.ahead.Growth.{Growth}
 use Rattle.volume_space.specs.declared.ahead.Growth.TheVariants as growing
 use Rattle.volume_space.specs.declared.ahead.WhichTree.{WhichTree}
@@ -178,6 +179,18 @@ pub record FitsNow (asked : Command) (volume : Volume) (space : Space) : Type 0 
 pub record IsReady (asked : Command) (volume : Volume) (space : Space) : Type 0 where
   pub now : FitsNow asked volume space
   pub growth : (tree : WhichTree) (more : ℕ) → 0 < more → first_growth now.grow ≡ alone tree more → GrowthFits tree more volume space
+
+-- The command puts data into a file, what it costs of the blocks that may be taken is met, and of all that are free it costs no growth of the extents
+-- overflow file either.
+pub record PutsNow (asked : Command) (volume : Volume) (space : Space) : Type 0 where
+  pub met : is_data_met volume space.spare (volume_of space.content) (data_of (tree_of space.content) asked) ≡ true
+  pub alike : (load : ℕ) (grow : List ℕ) → weight (capacity_of volume) (volume_of space.content) (tree_of space.content) asked ≡ cost.Load load grow → slice_index grow 0 ≡ 0
+
+-- the verdict lets nothing go ahead of the command
+abbrev pub IsDirect : Verdict → Type 0
+IsDirect (verdict.Refused why) = Unit {0}
+IsDirect verdict.Fits = Unit {0}
+IsDirect _ = ⊥
 
 -- the verdict on a command that fits now, ahead of which trees grow by so many nodes: neither a commit nor a cut comes first; the first of these trees grows, or none is to
 abbrev pub IsTaken : Verdict → List ℕ → Type 0

@@ -19,5 +19,8 @@ returns-then-only_reads-clause-same g c = (c.answer.ensures.touches []).same
 pub returns-clause-ready : goal.returns-clause-ready
 returns-clause-ready g c tells ready = elim ready [
   | inl reads ↦ absurd (true≢false (sym reads ∙ sym c.only_reads.ensures ∙ c.if-only_reads.false))
-  | inr is ↦ c.change.ensures.ready tells is
+  | inr does ↦ elim does [
+    | inl is ↦ c.change.ensures.ready tells is
+    | inr puts ↦ c.change.ensures.puts tells puts
+  ]
 ]
