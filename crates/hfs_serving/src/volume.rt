@@ -29,7 +29,7 @@ pub enum Next {
 #[derive(Clone, Copy, PartialEq, Eq)]
 pub enum Step {
     Answered,
-    /// A file lost blocks past its size; the line is to be tried again.
+    /// A file lost blocks past its size, or a tree grew that had to; the line is to be tried again.
     Again,
     /// The line wants a commit before it.
     CommitFirst,

@@ -68,10 +68,9 @@ module _ (capacity : ℕ) (line : List ℕ) (said : Reply) (now next old new : C
   done_alike : (asked : Command) → IsDone capacity asked old new → IsDone capacity asked now next
   done_alike asked was = record {
     load = was.load;
-    grow = was.grow;
     affords = weighs asked ∙ was.affords;
     no_surplus = (λ i. needs_cut (before.lists i) (data_of (before.tree i) asked)) ∙ was.no_surplus;
-    grows = subst (λ (k : VolumeState × VolumeState). GrowsTrees was.grow k.0 k.1) {x = (volume_of old, volume_of new)} {y = (volume_of now, volume_of next)} (λ i. (sym before.lists i, sym after.lists i)) was.grows;
+    grows = subst (λ (k : VolumeState × VolumeState). GrowsTrees (0 ∷ 0 ∷ 0 ∷ []) k.0 k.1) {x = (volume_of old, volume_of new)} {y = (volume_of now, volume_of next)} (λ i. (sym before.lists i, sym after.lists i)) was.grows;
     forks = subst (λ (k : PlainTree × VolumeState × VolumeState). PutsInFork (data_of k.0 asked) k.1 k.2) {x = (tree_of old, volume_of old, volume_of new)} {y = (tree_of now, volume_of now, volume_of next)}
         (λ i. (sym before.tree i, sym before.lists i, sym after.lists i)) was.forks;
     reads = λ only. still (was.reads only);

@@ -1,5 +1,5 @@
 -- A line that was answered, as serving sees it.
-use Rattle.std.proofs.Common.{◌≡◌, ℕ, List, [], ◌∷◌, inl, inr, refl, sym, ◌∙◌, ap, subst}
+use Rattle.std.proofs.Common.{◌≡◌, ◌⊎◌, ⊎_elim, ℕ, List, [], ◌∷◌, inl, inr, refl, sym, ◌∙◌, ap, subst}
 use Rattle.std.specs.Prelude.{IsErrOf, IsTrue, Option, Result, Ok, Err, IfOk, if◌then◌else◌}
 use Rattle.std.proofs.lemmas.List.{append-nil}
 use Rattle.hx_bytes.specs.declared.faults.Trouble.{Trouble}
@@ -9,13 +9,15 @@ use Rattle.hfs_language.specs.Text.{reply_text}
 use Rattle.hfs_language.specs.declared.reply.Change.{Change}
 use Rattle.hfs_language.specs.declared.reply.Reply.{Reply}
 use Rattle.hfs_language.specs.Language.{command_of}
+use Rattle.hfs_model.specs.Step.{refuses}
+use Rattle.hfs_model.specs.declared.plain.PlainTree.{PlainTree}
 use Rattle.volume_runs.specs.Run.{Entry, IsServed, is_ok, or_before, replies_of, shrunk_after, shrunk_by}
 use Rattle.volume_runs.specs.Told.{changes_by, changes_in}
 use Rattle.hfs_volume.specs.Content.{VolumeState, volume_of}
 use Rattle.hfs_volume.specs.Forks.{data_kind}
-use Rattle.hfs_volume.specs.Reclaim.{CutsAlone, CutsSurplus, blocks_wanted}
+use Rattle.hfs_volume.specs.Reclaim.{CutsAlone, CutsSurplus, GrowsTreeFirst, GrowsTrees, SameFiles, blocks_wanted, first_growth}
 use Rattle.hfs_volume.specs.TreeOf.{tree_of}
-use Rattle.hfs_volume.specs.Weight.{cut_cost, free_blocks, room_with}
+use Rattle.hfs_volume.specs.Weight.{cut_cost, free_blocks, room_with, weight}
 use Rattle.hfs_serving.specs.Going.{Answered, AnswersTo, Stays, Tidied}
 use Rattle.hfs_serving.specs.Grounds.{KeepsHeading}
 use Rattle.hfs_serving.specs.Said.{joined, said_of}
@@ -28,7 +30,7 @@ use Rattle.volume_base.specs.declared.volume.Volume.{Volume}
 use Rattle.volume_step.specs.Steps.{IsServedAs}
 use Rattle.volume_step.specs.declared.outcome.Outcome.{Outcome}
 use Rattle.volume_step.specs.declared.outcome.Outcome.TheVariants as outcome
-use Rattle.served_volume.specs.Answering.{AnswersAs, ShrinksBy, TellsAs}
+use Rattle.served_volume.specs.Answering.{AnswersAs, GrowsForLine, ShrinksBy, TellsAs}
 use Rattle.served_volume.specs.Knowing.{IsAlike, Knows}
 use Rattle.served_volume.proofs.Alike.{served_alike, told_alike}
 use Rattle.served_volume.proofs.Stepping.{Leaves, follow, heads_then, knows_then, place_then, reads_then}
@@ -50,6 +52,22 @@ cuts_alike capacity now next before after one two was = record {
   affords = ap (λ (l : VolumeState). cut_cost (room_with capacity (free_blocks l) l)) one.lists ∙ was.affords;
   cuts = subst (λ (k : VolumeState × VolumeState). CutsAlone was.id data_kind (blocks_wanted k.0 was.id data_kind) k.0 k.1) {x = (volume_of before, volume_of after)} {y = (volume_of now, volume_of next)} (λ i. (sym one.lists i, sym two.lists i)) was.cuts;
   keeps = record { sound = two.sound; tree = two.tree ∙ was.keeps.tree ∙ sym one.tree };
+}
+
+-- and the same growth of a tree
+grows_alike : (capacity : ℕ) (shrunk : Option ℕ) (line : List ℕ) (now next before after : Content) → IsAlike now before → IsAlike next after → GrowsForLine capacity line before after → GrowsTreeFirst capacity shrunk now next
+grows_alike capacity shrunk line now next before after one two was = record {
+  grow = was.first.grow;
+  wanted = inl (record {
+    asked = was.asked;
+    no_refusal = ap (λ (t : PlainTree). refuses t (Ok was.asked)) one.tree ∙ was.first.no_refusal;
+    load = was.first.load;
+    affords = (λ i. weight capacity (one.lists i) (one.tree i) was.asked) ∙ was.first.affords;
+  });
+  some = was.first.some;
+  grows = subst (λ (k : VolumeState × VolumeState). GrowsTrees (first_growth was.first.grow) k.0 k.1) {x = (volume_of before, volume_of after)} {y = (volume_of now, volume_of next)} (λ i. (sym one.lists i, sym two.lists i)) was.first.grows;
+  files = subst (λ (k : VolumeState × VolumeState). SameFiles k.0 k.1) {x = (volume_of before, volume_of after)} {y = (volume_of now, volume_of next)} (λ i. (sym one.lists i, sym two.lists i)) was.first.files;
+  keeps = record { sound = two.sound; tree = two.tree ∙ was.first.keeps.tree ∙ sym one.tree };
 }
 
 module _ (v w : Volume) (capacity : ℕ) (committed now : Content) (shrunk : Option ℕ) (a b : Space) (known : Knows v capacity committed now shrunk a) (below : IsDurable committed a) (reads : IsRead now a) (heads : KeepsHeading a) (leaves : Leaves v w committed a b) where
@@ -88,13 +106,13 @@ module _ (v w : Volume) (capacity : ℕ) (committed now : Content) (shrunk : Opt
         known = subst (λ (c : Content). Knows w capacity committed c shrunk b) is (knows_then v w capacity committed now shrunk a b known below reads heads leaves shrunk (kept ∙ known.shrunk_is));
       }
 
-  -- a file lost blocks past its size
-  cut : CutsSurplus capacity a.content b.content → shrunk_of w ≡ shrunk_of v → Tidied capacity (λ was is file. Knows w capacity was is file b) committed now shrunk b
-  cut was kept =
+  -- a file lost blocks past its size, or a tree has grown
+  went : (line : List ℕ) → CutsSurplus capacity a.content b.content ⊎ GrowsForLine capacity line a.content b.content → shrunk_of w ≡ shrunk_of v → Tidied capacity (λ was is file. Knows w capacity was is file b) committed now shrunk b
+  went line was kept =
       let f = follow v w capacity committed now shrunk a b known below reads heads leaves in
       record {
         next = f.next;
-        tidied = inr (inl (cuts_alike capacity now f.next a.content b.content known.alike f.alike was));
+        tidied = inr (⊎_elim (λ cuts. inl (cuts_alike capacity now f.next a.content b.content known.alike f.alike cuts)) (λ grows. inr (inl (grows_alike capacity shrunk line now f.next a.content b.content known.alike f.alike grows))) was);
         place = place_then v w capacity committed now shrunk a b known below reads heads leaves;
         reads = reads_then v w capacity committed now shrunk a b known below reads heads leaves;
         heads = heads_then v w capacity committed now shrunk a b known below reads heads leaves;
@@ -110,7 +128,7 @@ module _ (v w : Volume) (capacity : ℕ) (committed now : Content) (shrunk : Opt
   answers number line before after outcome.CommitFirst step.Again was shrinks told = absurd told
   answers number line before after outcome.CommitFirst step.CommitFirst was shrinks told = (told, stays was shrinks)
   answers number line before after outcome.Again step.Answered was shrinks told = absurd told
-  answers number line before after outcome.Again step.Again was shrinks told = (told, cut was shrinks)
+  answers number line before after outcome.Again step.Again was shrinks told = (told, went line was shrinks)
   answers number line before after outcome.Again step.CommitFirst was shrinks told = absurd told
 
 -- what a result's value has

@@ -1,5 +1,5 @@
 -- A cut of blocks past a file's size, as a step of the command that puts data into the file.
-use Rattle.std.proofs.Common.{◌≡◌, ℕ, ◌+◌, ◌==◌, ◌&&◌, Bool, true, false, [], ◌∷◌, length, inr, refl, sym, ◌∙◌, ap, subst, arith}
+use Rattle.std.proofs.Common.{◌≡◌, ℕ, ◌+◌, ◌==◌, ◌&&◌, Bool, true, false, [], ◌∷◌, length, inl, inr, refl, sym, ◌∙◌, ap, subst, arith}
 use Rattle.std.specs.Prelude.{nat_lt, Option, None, Some, Result, Ok, Err, if◌then◌else◌}
 use Rattle.std.proofs.lemmas.Bool.{le-ltb, true≢false}
 use Rattle.sector_disk.specs.Lists.{Content}
@@ -136,11 +136,11 @@ module _ (capacity number : ℕ) (asked : Command) (before after : Content) (wai
     pub steps_by : (came : CutAhead) → IsSound after → CutsAhead came capacity (data_path asked) end before after → StepsTo (outcome_of came) capacity number asked before after
     steps_by ahead.NotNeeded sound_after (node, file, (first, same)) =
         absurd (true≢false (sym waits.1 ∙ needs_first (volume_of before) (tree_of before) asked end is node file ∙ first))
-    steps_by ahead.Made sound_after (node, file, (first, past)) = record {
+    steps_by ahead.Made sound_after (node, file, (first, past)) = inl (record {
       no_refusal = waits.0;
       needs = waits.1;
       cuts = surplus_cut capacity node.id before after past.next (reclaims_as halves capacity (Some node.id) before after sound.volume (Ok tidying.Made) sound_after past.made);
-    }
+    })
     steps_by ahead.CommitFirst sound_after (node, file, (first, same)) = same
     steps_by (ahead.Refused why) sound_after (node, file, (first, (same, costs))) =
         refused_steps capacity number asked before after same sound unread why (inr (waits.0, weighs_cut capacity before asked unread waits.1 ∙ costs)) (outcome_of (ahead.Refused why)) refl

@@ -1,11 +1,12 @@
 -- Fewer edits are met where more are.
-use Rattle.std.proofs.Common.{◌≡◌, ◌⊎◌, ◌<◌, ◌≤◌, ℕ, ◌+◌, ◌-◌, ◌*◌, ◌/◌, min, Bool, true, false, List, [], ◌∷◌, inl, inr, refl, sym, ◌∙◌, ap, subst, arith, le-ltb, mul-le-mul, mul-le-mul_left, mul-le-mul_right, div-mul-le_self}
+use Rattle.std.proofs.Common.{◌≡◌, ◌⊎◌, ◌<◌, ◌≤◌, ℕ, ◌+◌, ◌-◌, ◌*◌, ◌/◌, min, Bool, true, false, List, [], ◌∷◌, inl, inr, refl, sym, ◌∙◌, ap, subst, arith, le-ltb, mul-le-mul, mul-le-mul_left, mul-le-mul_right, div-mul-le_self, zero-mul}
 use Rattle.std.specs.Prelude.{◌==◌, ◌&&◌, ◌||◌, nat_lt, nat_le, not, slice_index, Option, None, if◌then◌else◌}
+use Rattle.std.proofs.Math.Nat.{zero-div}
 use Rattle.std.proofs.lemmas.Nat.{le-div}
 use Rattle.std.proofs.lemmas.Bool.{eq-eqb, eqb-true, ltb-false, leb-true, le-leb, and_parts, true≢false}
 use Rattle.hfs_language.specs.declared.refusal.Refusal.{Refusal}
 use Rattle.hfs_language.specs.declared.refusal.Refusal.TheVariants as refusal
-use Rattle.hfs_volume.specs.Cost.{Plan, attributes_key, bitmap_load, catalog_key, cost_of, cost_or, deep_refusal, depth_of, extents_key, first_refusal, growth, growth_blocks, growth_for, is_too_deep, load_of, load_refusal, missing, need, node_sectors, plan_of, resource_refusal, rises, takes_extent, tree_at, tree_load, where_}
+use Rattle.hfs_volume.specs.Cost.{Plan, attributes_key, bitmap_load, blocks_of_nodes, catalog_key, cost_of, cost_or, deep_refusal, depth_of, extents_key, first_refusal, growth, growth_blocks, growth_for, is_too_deep, load_of, load_refusal, missing, need, node_sectors, plan_of, resource_refusal, rises, takes_extent, tree_at, tree_load, where_}
 use Rattle.hfs_volume.specs.Forks.{parts_for}
 use Rattle.hfs_volume.specs.Weight.{Edits}
 use Rattle.hfs_volume.specs.declared.cost.Cost.{Cost}
@@ -15,7 +16,22 @@ use Rattle.hfs_volume.specs.declared.cost.Room.{Room}
 use Rattle.hfs_volume.specs.declared.cost.TreeCost.{TreeCost}
 use Rattle.tree_weights.specs.Weights.{GrowsByEnough, HoldsThree, IsAfforded, LoadIsOfParts, LoadSaysEnough, load_at}
 use Rattle.volume_base.specs.Fitting.{is_met}
-use Rattle.volume_step.proofs.MetAgain.{needs_of_edits, no_blocks, none_lacks}
+
+-- ---- no edits
+
+-- what edits need, where no data is put
+abbrev pub needs_of_edits : Edits → Needs
+needs_of_edits many = record { ids = many.ids; edits = 0 ∷ many.catalog ∷ many.attributes ∷ []; updates = many.updates; new_blocks = 0; old_blocks = 0; runs = 0 }
+
+-- no edit lacks a node
+pub none_lacks : (block key : ℕ) (tree : TreeCost) → growth block key tree 0 ≡ 0
+none_lacks block key tree = ap (λ n. if n == 0 then 0 else growth_for block tree n) none
+  where
+    none : missing key tree 0 ≡ 0
+    none = let it : 0 * (depth_of tree + 2 + rises key tree 0) ≡ 0 = zero-mul (depth_of tree + 2 + rises key tree 0) in omega (arith, it)
+
+pub no_blocks : (block : ℕ) (tree : TreeCost) → blocks_of_nodes block tree 0 ≡ 0
+no_blocks block tree = ap (λ n. n / block) (zero-mul tree.node_size) ∙ zero-div block
 
 -- ---- a load that is met
 

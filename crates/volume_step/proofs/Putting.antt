@@ -131,7 +131,6 @@ module _ (capacity number : ℕ) (asked : Command) (before after : Content) (sou
                 λ refused_it. absurd (true≢false (sym refused_it ∙ affords.no_refusal)),
                 λ not_refused. record {
                   load = affords.load;
-                  grow = 0 ∷ 0 ∷ 0 ∷ [];
                   affords = affords.affords;
                   no_surplus = ap (needs_cut (volume_of before)) it.is_asked ∙ it.no_cut;
                   grows = trees_stay it.put.id _ _ it.fresh (volume_of before) (volume_of after) it.rewrites it.user;

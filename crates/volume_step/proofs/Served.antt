@@ -252,7 +252,6 @@ module _ (capacity : ℕ) (asked : Command) (before : Content) (sound : IsSound 
       done : IsDone capacity asked before before
       done = record {
         load = 0;
-        grow = 0 ∷ 0 ∷ 0 ∷ [];
         affords = weighs_nothing capacity before asked reads;
         no_surplus = ap (needs_cut (volume_of before)) (no_data (tree_of before) asked reads);
         grows = grows_none (volume_of before) (volume_of before) (keeps_none (volume_of before));
@@ -281,7 +280,6 @@ done_as capacity asked said before after sound_before sound_after no_read no_put
         λ refused_it. absurd (true≢false (sym refused_it ∙ affords.no_refusal)),
         λ not_refused. record {
           load = affords.load;
-          grow = 0 ∷ 0 ∷ 0 ∷ [];
           affords = affords.affords;
           no_surplus = ap (needs_cut (volume_of before)) no_put;
           grows = grows_none (volume_of before) (volume_of after) keeps;

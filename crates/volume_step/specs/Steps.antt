@@ -1,5 +1,5 @@
 -- What a command on a volume in service came to.
-use Rattle.std.specs.Prelude.{◌≡◌, ◌⊎◌, ◌<◌, ℕ, ◌+◌, ◌==◌, ◌||◌, nat_lt, not, slice_index, Bool, true, false, IsTrue, List, [], ◌∷◌, length, Ok, Option, None, Some, if◌then◌else◌}
+use Rattle.std.specs.Prelude.{◌≡◌, ◌⊎◌, ◌<◌, ◌≤◌, ℕ, ◌+◌, ◌==◌, ◌||◌, nat_lt, not, slice_index, Bool, true, false, IsTrue, List, [], ◌∷◌, length, Ok, Option, None, Some, if◌then◌else◌}
 use Rattle.std.specs.List.{Contains}
 use Rattle.jnl_format.specs.Keeping.{IsSame}
 use Rattle.jnl_format.specs.Recovery.{Content, header_of_volume}
@@ -13,18 +13,23 @@ use Rattle.hfs_language.specs.declared.reply.Reply.{Reply}
 use Rattle.hfs_language.specs.declared.reply.Reply.TheVariants as reply
 use Rattle.hfs_model.specs.Step.{refuses, step_line}
 use Rattle.hfs_volume.specs.Content.{volume_of}
-use Rattle.hfs_volume.specs.Reclaim.{CutsSurplus}
-use Rattle.volume_runs.specs.Run.{AsksMore, Entry, IsServed, is_ok, or_before, shrunk_by}
+use Rattle.hfs_volume.specs.Reclaim.{CutsSurplus, GrowsTrees, KeepsTree, SameFiles, first_growth}
+use Rattle.volume_runs.specs.Run.{Entry, IsServed, is_ok, or_before, shrunk_by}
 use Rattle.volume_runs.specs.Told.{changes_by}
 use Rattle.hfs_volume.specs.TreeOf.{tree_of}
 use Rattle.hfs_volume.specs.Weight.{data_of, edits_of, needs_cut, weight, weight_with}
 use Rattle.hfs_volume.specs.declared.cost.Cost.TheVariants as cost
 use Rattle.sector_disk.specs.Space.{Space}
 use Rattle.volume_weights.specs.DataWeighing.{WaitsForCut}
-use Rattle.volume_base.specs.Fitting.{AreMet}
-use Rattle.volume_space.specs.Growing.{IsOwnOrFree}
+use Rattle.volume_base.specs.Fitting.{AreMet, takable_of}
+use Rattle.volume_space.specs.Growing.{GrowthFits, IsOwnOrFree, alone}
+use Rattle.volume_base.specs.Room.{capacity_of}
 use Rattle.volume_base.specs.Standing.{own_sectors}
-use Rattle.volume_space.specs.declared.ahead.MoreNodes.{MoreNodes}
+use Rattle.volume_space.specs.Writing.{is_data_met}
+use Rattle.volume_space.specs.declared.ahead.Growth.{Growth}
+use Rattle.volume_space.specs.declared.ahead.Growth.TheVariants as growing
+use Rattle.volume_space.specs.declared.ahead.WhichTree.{WhichTree}
+use Rattle.volume_space.specs.declared.ahead.WhichTree.TheVariants as which
 use Rattle.volume_space.specs.declared.cutting_ahead.CutAhead.{CutAhead}
 use Rattle.volume_space.specs.declared.cutting_ahead.CutAhead.TheVariants as ahead
 use Rattle.volume_base.specs.declared.volume.Volume.{Volume}
@@ -52,12 +57,24 @@ pub record CutsFirst (capacity : ℕ) (asked : Command) (before after : Content)
   pub needs : needs_cut (volume_of before) (data_of (tree_of before) asked) ≡ true
   pub cuts : CutsSurplus capacity before after
 
--- what a command came to: the entry of each line that spells it is one of a run; or nothing was changed; or a cut went first
+-- The step doesn't refuse the command, and nothing is missing for it, but trees have to grow ahead of it: the first of them has grown, by just as
+-- many nodes as the cost says.
+pub record GrowsFirst (capacity : ℕ) (asked : Command) (before after : Content) : Type 0 where
+  pub no_refusal : refuses (tree_of before) (Ok asked) ≡ false
+  pub load : ℕ
+  pub grow : List ℕ
+  pub affords : weight capacity (volume_of before) (tree_of before) asked ≡ cost.Load load grow
+  pub some : 0 < slice_index grow 0 + slice_index grow 1 + slice_index grow 2
+  pub grows : GrowsTrees (first_growth grow) (volume_of before) (volume_of after)
+  pub files : SameFiles (volume_of before) (volume_of after)
+  pub keeps : KeepsTree before after
+
+-- what a command came to: the entry of each line that spells it is one of a run; or nothing was changed; or a cut or the growth of a tree went first
 abbrev pub StepsTo : Outcome → ℕ → ℕ → Command → Content → Content → Type 0
 StepsTo (outcome.Answered reply changes) capacity number asked before after =
     (line : List ℕ) → command_of line ≡ Ok asked → IsServedAs capacity number changes (record { line = line; reply = reply; before = before; after = after })
 StepsTo outcome.CommitFirst capacity number asked before after = after ≡ before
-StepsTo outcome.Again capacity number asked before after = CutsFirst capacity asked before after
+StepsTo outcome.Again capacity number asked before after = CutsFirst capacity asked before after ⊎ GrowsFirst capacity asked before after
 
 -- the file that was shrunk last, behind a command: the one that it shrank, where it was done and shrank one
 abbrev pub ShrinksAs : Outcome → Command → Content → Option ℕ → Option ℕ → Type 0
@@ -71,19 +88,19 @@ OwnOf old new s = IsOwnOrFree old s ⊎ Contains (own_sectors new) s
 
 -- ---- before the step
 
--- a tree grows by some nodes
-abbrev pub grows_in : List ℕ → Bool
-grows_in grow = not (slice_index grow 0 == 0) || (not (slice_index grow 1 == 0) || not (slice_index grow 2 == 0))
-
--- what a growth comes to: catalog and attributes file grow, or that of the extents file is still to come
-abbrev pub growth_of : List ℕ → ℕ → Verdict
-growth_of grow sectors = if slice_index grow 0 == 0 then verdict.Grows (record { catalog = slice_index grow 1; attributes = slice_index grow 2 }) sectors else verdict.ToCome
+-- the growth of the first of the trees that have to grow, or what else the command comes to
+abbrev pub growth_or : List ℕ → Verdict → Verdict
+growth_or grow otherwise =
+    if not (slice_index grow 0 == 0) then verdict.Grows which.Extents (slice_index grow 0)
+    else if not (slice_index grow 1 == 0) then verdict.Grows which.Catalog (slice_index grow 1)
+    else if not (slice_index grow 2 == 0) then verdict.Grows which.Attributes (slice_index grow 2)
+    else otherwise
 
 -- what a command's weight comes to, where so many sectors may be put
 abbrev pub verdict_of : Weight → ℕ → Verdict
 verdict_of (answer.Refused why) spare = verdict.Refused why
 verdict_of answer.CommitFirst spare = verdict.CommitFirst
-verdict_of (answer.Load sectors grow) spare = if grows_in grow then growth_of grow sectors else if nat_lt spare sectors then verdict.CommitFirst else verdict.Fits
+verdict_of (answer.Load sectors grow) spare = growth_or grow (if nat_lt spare sectors then verdict.CommitFirst else verdict.Fits)
 
 -- The step doesn't refuse the command, and nothing is missing for it; no tree has to grow.
 pub record Affords (capacity : ℕ) (asked : Command) (content : Content) : Type 0 where
@@ -91,22 +108,23 @@ pub record Affords (capacity : ℕ) (asked : Command) (content : Content) : Type
   pub load : ℕ
   pub affords : weight capacity (volume_of content) (tree_of content) asked ≡ cost.Load load (0 ∷ 0 ∷ 0 ∷ [])
 
--- The step doesn't refuse the command, and nothing is missing for it, but catalog and attributes file have to grow before by so many nodes, and no
--- other tree.
-pub record GrowsFirst (more : MoreNodes) (capacity : ℕ) (asked : Command) (content : Content) : Type 0 where
+-- The step doesn't refuse the command, and nothing is missing for it, but trees have to grow ahead of it, of which this is the first, by so many
+-- nodes.
+pub record WaitsForGrowth (tree : WhichTree) (more capacity : ℕ) (asked : Command) (content : Content) : Type 0 where
   pub no_refusal : refuses (tree_of content) (Ok asked) ≡ false
-  pub some : 0 < more.catalog + more.attributes
   pub load : ℕ
-  pub weighs : weight capacity (volume_of content) (tree_of content) asked ≡ cost.Load load (0 ∷ more.catalog ∷ more.attributes ∷ [])
+  pub grow : List ℕ
+  pub weighs : weight capacity (volume_of content) (tree_of content) asked ≡ cost.Load load grow
+  pub some : 0 < more
+  pub first : first_growth grow ≡ alone tree more
 
 -- the verdict stands
 abbrev pub IsJudged : Verdict → ℕ → Command → Content → Type 0
 IsJudged (verdict.Refused why) capacity asked content =
     (reply.No why ≡ (step_line (tree_of content) (Ok asked)).0) ⊎ ((refuses (tree_of content) (Ok asked) ≡ false) × (weight capacity (volume_of content) (tree_of content) asked ≡ cost.Refused why))
-IsJudged verdict.ToCome capacity asked content = AsksMore capacity asked content
 IsJudged verdict.CutFirst capacity asked content = WaitsForCut content asked
 IsJudged verdict.CommitFirst capacity asked content = Unit {0}
-IsJudged (verdict.Grows more load) capacity asked content = GrowsFirst more capacity asked content
+IsJudged (verdict.Grows tree more) capacity asked content = WaitsForGrowth tree more capacity asked content
 IsJudged verdict.Fits capacity asked content = Affords capacity asked content
 
 -- ---- a cut that goes first
@@ -130,28 +148,15 @@ outcome_of ahead.Made = outcome.Again
 outcome_of ahead.CommitFirst = outcome.CommitFirst
 outcome_of (ahead.Refused why) = outcome.Answered (reply.No why) []
 
--- so many sectors are what the command costs of the blocks that may be taken
-abbrev pub CostsTaken : ℕ → ℕ → List Bool → Command → Content → Type 0
-CostsTaken load capacity takable asked content = (grow : List ℕ) × (weight_with capacity takable (volume_of content) (tree_of content) asked ≡ cost.Load load grow)
+-- ---- a growth that goes first
 
--- where a tree is to grow before, the verdict tells it
-abbrev pub IsTaken : Verdict → ℕ → List Bool → Command → Content → Type 0
-IsTaken (verdict.Grows more load) capacity takable asked content = CostsTaken load capacity takable asked content
-IsTaken _ capacity takable asked content = Unit {0}
+-- what a growth comes to for its command
+abbrev pub grown : Growth → Outcome
+grown growing.Grown = outcome.Again
+grown growing.CommitFirst = outcome.CommitFirst
+grown growing.ToCome = outcome.Answered (reply.No refusal.NotBuilt) []
 
--- ---- behind a growth
-
--- the command edits the catalog's tree or that of the attributes: no other wants more nodes of them
-abbrev pub edits_tree : Command → Bool
-edits_tree (command.Mkdir path) = true
-edits_tree (command.Create path) = true
-edits_tree (command.Rm path) = true
-edits_tree (command.Rmdir path) = true
-edits_tree (command.Mv from to) = true
-edits_tree (command.Ln from to) = true
-edits_tree (command.SetAttr path name value) = true
-edits_tree (command.DelAttr path name) = true
-edits_tree _ = false
+-- ---- what can be done now
 
 -- the edits of a command can be made now
 abbrev pub IsMet : Command → Volume → Space → Type 0
@@ -161,3 +166,36 @@ IsMet asked volume space = AreMet (edits_of (tree_of space.content) asked) volum
 abbrev pub IsDoneOk : Outcome → Type 0
 IsDoneOk (outcome.Answered reply.Ok changes) = Unit {0}
 IsDoneOk _ = ⊥
+
+-- The command puts no data into a file, and what it costs of the blocks that may be taken is a load that the sectors suffice for which may be put.
+pub record FitsNow (asked : Command) (volume : Volume) (space : Space) : Type 0 where
+  pub no_data : data_of (tree_of space.content) asked ≡ None
+  pub load : ℕ
+  pub grow : List ℕ
+  pub costs : weight_with (capacity_of volume) (takable_of volume) (volume_of space.content) (tree_of space.content) asked ≡ cost.Load load grow
+  pub within : load ≤ space.spare
+
+-- The command fits now, and so does the growth that goes ahead of it, where one does.
+pub record IsReady (asked : Command) (volume : Volume) (space : Space) : Type 0 where
+  pub now : FitsNow asked volume space
+  pub growth : (tree : WhichTree) (more : ℕ) → 0 < more → first_growth now.grow ≡ alone tree more → GrowthFits tree more volume space
+
+-- The command puts data into a file, what it costs of the blocks that may be taken is met, and of all that are free it costs no growth of the extents
+-- overflow file either.
+pub record PutsNow (asked : Command) (volume : Volume) (space : Space) : Type 0 where
+  pub met : is_data_met volume space.spare (volume_of space.content) (data_of (tree_of space.content) asked) ≡ true
+  pub alike : (load : ℕ) (grow : List ℕ) → weight (capacity_of volume) (volume_of space.content) (tree_of space.content) asked ≡ cost.Load load grow → slice_index grow 0 ≡ 0
+
+-- the verdict lets nothing go ahead of the command
+abbrev pub IsDirect : Verdict → Type 0
+IsDirect (verdict.Refused why) = Unit {0}
+IsDirect verdict.Fits = Unit {0}
+IsDirect _ = ⊥
+
+-- the verdict on a command that fits now, ahead of which trees grow by so many nodes: neither a commit nor a cut comes first; the first of these trees grows, or none is to
+abbrev pub IsTaken : Verdict → List ℕ → Type 0
+IsTaken (verdict.Refused why) grow = Unit {0}
+IsTaken verdict.CutFirst grow = ⊥
+IsTaken verdict.CommitFirst grow = ⊥
+IsTaken (verdict.Grows tree more) grow = (0 < more) × (first_growth grow ≡ alone tree more)
+IsTaken verdict.Fits grow = grow ≡ 0 ∷ 0 ∷ 0 ∷ []

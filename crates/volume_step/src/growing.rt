@@ -1,32 +1,67 @@
-//! Commands ahead of which the catalog or the attributes file grows.
-ghost use Rattle.std.specs.Prelude.{◌≡◌, true, false, None};
-ghost use Rattle.hfs_model.specs.declared.plain.PlainTree.{PlainTree};
-ghost use Rattle.hfs_volume.specs.Content.{VolumeState, has_attributes};
-ghost use Rattle.hfs_volume.specs.Weight.{data_of, lacks_tree};
-ghost use Rattle.volume_step.specs.Steps.{edits_tree};
+//! The growth of a tree ahead of a command that wants more nodes of it.
+ghost use Rattle.std.specs.Prelude.{◌≡◌, ◌≢◌, ℕ, IsTrue, IfOk, OnOk};
+ghost use Rattle.sector_disk.specs.Lists.{Content};
+ghost use Rattle.btree_edit.specs.Causes.{HasTroubleCause};
+ghost use Rattle.hfs_volume.specs.Aside.{IsJournalSector};
+ghost use Rattle.volume_base.specs.Keeping.{shrunk_of};
+ghost use Rattle.volume_base.specs.Room.{capacity_of};
+ghost use Rattle.volume_base.specs.Service.{IsInService};
+ghost use Rattle.volume_space.specs.Standing.{HoldsOn};
+ghost use Rattle.volume_base.specs.Standing.{IsSettled, StandsOver};
+ghost use Rattle.volume_base.specs.Touching.{Touches};
+ghost use Rattle.volume_space.specs.Growing.{GrowthFits};
+ghost use Rattle.volume_step.specs.Steps.{KeepsJournal, OwnOf, ShrinksAs, StepsTo, WaitsForGrowth, grown};
+ghost use Rattle.volume_step.specs.declared.outcome.Outcome.TheVariants as outcome;
 
-use hfs_language::Command;
+use crate::answering::refusal;
+use crate::outcome::Outcome;
+use hfs_language::{Command, Refusal};
+use hx_bytes::Trouble;
+use sector_disk::SectorSpace;
+use std::alloc::Global;
+use volume_base::Volume;
+use volume_space::{Growth, WhichTree, grow_tree};
 
-/// Whether a command edits the catalog's tree or that of the attributes: no other wants more nodes of them. Such a command puts no data, and
-/// it lacks an attributes file or not by the header alone.
-pub(crate) fn edits_tree(command: &Command) -> bool
-    ensures same { result ≡ edits_tree command.now }
-    ensures data { result ≡ true → (tree : PlainTree) → data_of tree command.now ≡ None }
-    ensures tree { (old new : VolumeState) → has_attributes new.head ≡ has_attributes old.head → lacks_tree new command.now ≡ lacks_tree old command.now }
+/// Grows the tree that has to grow ahead of a command, by so many nodes: then the command is to be tried again. Where there is too little
+/// room for the growth a commit comes first, and one that isn't built yet leaves the command still to come.
+pub(crate) fn grow_first<P: SectorSpace>(
+    alloc: Global,
+    volume: &mut Volume,
+    space: &mut P,
+    _number: u64,
+    _command: &Command,
+    tree: WhichTree,
+    more: u32,
+) -> Result<Outcome, Trouble>
+    requires stands { StandsOver volume.old (P.SectorView.space space.old) }
+    requires settled { IsTrue (P.SectorView.space space.old).tells → IsSettled volume.old (P.SectorView.space space.old).content }
+    requires closed { IsTrue (P.SectorView.space space.old).tells → (at : ℕ) → (P.SectorView.space space.old).closed at → IsJournalSector (P.SectorView.space space.old).content at }
+    requires waits { IsTrue (P.SectorView.space space.old).tells → WaitsForGrowth tree more (capacity_of volume.old) _command.now (P.SectorView.space space.old).content }
+    ensures answered { IsTrue (P.SectorView.space space.old).tells → IfOk result (λ outcome. StepsTo outcome (capacity_of volume.old) _number _command.now (P.SectorView.space space.old).content (P.SectorView.space space.new).content) }
+    // Where the growth fits, no commit comes first.
+    ensures ready { IsTrue (P.SectorView.space space.old).tells → GrowthFits tree more volume.old (P.SectorView.space space.old) → IfOk result (λ it. it ≢ outcome.CommitFirst) }
+    ensures place { IsTrue (P.SectorView.space space.old).tells → OnOk result (KeepsJournal (P.SectorView.space space.old).content (P.SectorView.space space.new).content) }
+    ensures stands { OnOk result (StandsOver volume.new (P.SectorView.space space.new)) }
+    ensures settled { IsTrue (P.SectorView.space space.old).tells → OnOk result (IsSettled volume.new (P.SectorView.space space.new).content) }
+    ensures service { IsInService volume.new (P.SectorView.space space.new) }
+    ensures holds { (committed : Content) → HoldsOn committed volume.old → OnOk result (HoldsOn committed volume.new) }
+    ensures capacity { capacity_of volume.new ≡ capacity_of volume.old }
+    ensures shrunk { IsTrue (P.SectorView.space space.old).tells → IfOk result (λ outcome. ShrinksAs outcome _command.now (P.SectorView.space space.old).content (shrunk_of volume.old) (shrunk_of volume.new)) }
+    ensures touches { (committed : Content) → Touches committed (OwnOf volume.old volume.new) (P.SectorView.space space.old) (P.SectorView.space space.new) }
+    ensures below { P.SectorView.follows space.old space.new }
+    ensures cause { HasTroubleCause (P.SectorView.space space.old).faults (P.SectorView.space space.new).faults result }
 {
-    match command {
-        Command::Mkdir(_path) => true,
-        Command::Create(_path) => true,
-        Command::Rm(_path) => true,
-        Command::Rmdir(_path) => true,
-        Command::Mv(_from, _to) => true,
-        Command::Ln(_from, _to) => true,
-        Command::SetAttr {
-            path: _,
-            name: _,
-            value: _,
-        } => true,
-        Command::DelAttr { path: _, name: _ } => true,
-        _ => false,
+    let went = grow_tree(volume, alloc, space, tree, more)?;
+    Ok(grown(alloc, went))
+}
+
+/// What a growth comes to for the command ahead of which it goes.
+fn grown(alloc: Global, went: Growth) -> Outcome
+    ensures { result ≡ grown went }
+{
+    match went {
+        Growth::Grown => Outcome::Again,
+        Growth::CommitFirst => Outcome::CommitFirst,
+        Growth::ToCome => refusal(alloc, Refusal::NotBuilt),
     }
 }

@@ -1,20 +1,20 @@
 //! A command judged before its step: by its weight, and by the room that there is.
-ghost use Rattle.std.specs.Prelude.{◌≡◌, false, IsTrue, IfOk};
+ghost use Rattle.std.specs.Prelude.{◌≡◌, nat_lt, false, IsTrue, IfOk, if◌then◌else◌};
 ghost use Rattle.btree_edit.specs.Causes.{HasTroubleCause};
 ghost use Rattle.hfs_language.specs.Written.{FitsCommand};
 ghost use Rattle.hfs_model.specs.Step.{only_reads};
-ghost use Rattle.volume_base.specs.Fitting.{takable_of};
 ghost use Rattle.volume_base.specs.Looking.{ReadsVolume};
 ghost use Rattle.volume_base.specs.Room.{capacity_of};
 ghost use Rattle.volume_base.specs.Standing.{IsSettled, StandsOver};
-ghost use Rattle.volume_step.specs.Steps.{IsJudged, IsTaken, growth_of, grows_in, verdict_of};
+ghost use Rattle.volume_step.specs.Steps.{FitsNow, IsDirect, IsJudged, IsTaken, PutsNow, growth_or, verdict_of};
+ghost use Rattle.volume_step.specs.declared.judging.Verdict.TheVariants as verdict;
 
 use hfs_language::{Command, Refusal};
 use hx_bytes::Trouble;
 use sector_disk::SectorSpace;
 use std::alloc::Global;
 use volume_base::{Volume, Weight};
-use volume_space::MoreNodes;
+use volume_space::WhichTree;
 use volume_weights::weigh;
 
 /// Whether a command may be done now.
@@ -22,40 +22,50 @@ use volume_weights::weigh;
 pub(crate) enum Verdict {
     /// Its step refuses it, or a resource is missing.
     Refused(Refusal),
-    /// The extents file has to grow for it, which isn't built yet.
-    ToCome,
     /// Blocks past the size of the file that it puts data into go first.
     CutFirst,
     /// It wants a commit before it.
     CommitFirst,
-    /// The catalog or the attributes file has to grow before it, by so many nodes; its load is so many sectors, with the growth.
-    Grows { more: MoreNodes, load: u64 },
+    /// A tree has to grow ahead of it, by so many nodes.
+    Grows { tree: WhichTree, more: u32 },
     /// Nothing stands in its way.
     Fits,
 }
 
-/// Whether a tree has to grow.
-fn grows(grow: [u32; 3]) -> bool
-    ensures { result ≡ grows_in grow }
+/// What a command comes to by its load alone, where so many sectors may be put.
+fn fitting(sectors: u64, spare: u64) -> Verdict
+    ensures { result ≡ (if nat_lt spare sectors then verdict.CommitFirst else verdict.Fits) }
 {
-    grow[0] != 0 || (grow[1] != 0 || grow[2] != 0)
+    if spare < sectors {
+        Verdict::CommitFirst
+    } else {
+        Verdict::Fits
+    }
 }
 
-/// What a growth comes to: that of catalog and attributes file goes ahead of the command.
-fn growth_of(grow: [u32; 3], sectors: u64) -> Verdict
-    ensures { result ≡ growth_of grow sectors }
+/// The growth of the first of the trees that have to grow: extents overflow file, catalog, attributes file; or what else the command comes to.
+fn growth_or(grow: [u32; 3], otherwise: Verdict) -> Verdict
+    ensures { result ≡ growth_or grow otherwise }
 {
-    if grow[0] == 0 {
-        Verdict::Grows {
-            more: MoreNodes {
-                catalog: grow[1],
-                attributes: grow[2],
-            },
-            load: sectors,
-        }
-    } else {
-        Verdict::ToCome
+    if grow[0] != 0 {
+        return Verdict::Grows {
+            tree: WhichTree::Extents,
+            more: grow[0],
+        };
     }
+    if grow[1] != 0 {
+        return Verdict::Grows {
+            tree: WhichTree::Catalog,
+            more: grow[1],
+        };
+    }
+    if grow[2] != 0 {
+        return Verdict::Grows {
+            tree: WhichTree::Attributes,
+            more: grow[2],
+        };
+    }
+    otherwise
 }
 
 /// What a weight comes to, where so many sectors may be put.
@@ -65,15 +75,7 @@ fn verdict_of(weight: Weight, spare: u64) -> Verdict
     match weight {
         Weight::Refused(why) => Verdict::Refused(why),
         Weight::CommitFirst => Verdict::CommitFirst,
-        Weight::Load { sectors, grow } => {
-            if grows(grow) {
-                growth_of(grow, sectors)
-            } else if spare < sectors {
-                Verdict::CommitFirst
-            } else {
-                Verdict::Fits
-            }
-        }
+        Weight::Load { sectors, grow } => growth_or(grow, fitting(sectors, spare)),
     }
 }
 
@@ -89,7 +91,10 @@ pub(crate) fn judge<P: SectorSpace>(
     requires fits { FitsCommand command.now }
     requires changes { only_reads command.now ≡ false }
     ensures judged { IsTrue (P.SectorView.space space.old).tells → IfOk result (λ verdict. IsJudged verdict (capacity_of volume.old) command.now (P.SectorView.space space.old).content) }
-    ensures taken { IsTrue (P.SectorView.space space.old).tells → IfOk result (λ verdict. IsTaken verdict (capacity_of volume.old) (takable_of volume.old) command.now (P.SectorView.space space.old).content) }
+    // Where it fits now, no commit comes first.
+    ensures taken { IsTrue (P.SectorView.space space.old).tells → (now : FitsNow command.now volume.old (P.SectorView.space space.old)) → IfOk result (λ verdict. IsTaken verdict now.grow) }
+    // Where its data is put now, nothing goes ahead of it.
+    ensures puts { IsTrue (P.SectorView.space space.old).tells → PutsNow command.now volume.old (P.SectorView.space space.old) → IfOk result IsDirect }
     ensures reads { ReadsVolume volume.old volume.new (P.SectorView.space space.old) (P.SectorView.space space.new) }
     ensures stands { StandsOver volume.new (P.SectorView.space space.new) }
     ensures settled { IsTrue (P.SectorView.space space.old).tells → IsSettled volume.new (P.SectorView.space space.new).content }

@@ -1,12 +1,13 @@
 //! A command on a volume in service, weighed and done.
-ghost use Rattle.std.specs.Prelude.{◌≡◌, ℕ, true, false, IsTrue, IfOk, OnOk};
+ghost use Rattle.std.specs.Prelude.{◌≡◌, ◌≢◌, ◌⊎◌, ℕ, [], ◌∷◌, true, false, None, IsTrue, IfOk, OnOk};
 ghost use Rattle.sector_disk.specs.Lists.{Content};
 ghost use Rattle.sector_disk.specs.Space.{SameSpace};
 ghost use Rattle.btree_edit.specs.Causes.{HasTroubleCause};
 ghost use Rattle.hfs_language.specs.Written.{FitsCommand};
 ghost use Rattle.hfs_model.specs.Step.{only_reads};
+ghost use Rattle.hfs_model.specs.declared.plain.PlainTree.{PlainTree};
 ghost use Rattle.hfs_volume.specs.Aside.{IsJournalSector};
-ghost use Rattle.volume_base.specs.Fitting.{takable_of};
+ghost use Rattle.hfs_volume.specs.Weight.{data_of};
 ghost use Rattle.volume_base.specs.Keeping.{shrunk_of};
 ghost use Rattle.volume_base.specs.Room.{capacity_of};
 ghost use Rattle.volume_base.specs.Service.{IsInService};
@@ -14,11 +15,12 @@ ghost use Rattle.volume_space.specs.Spilling.{IsLaidOutAs};
 ghost use Rattle.volume_space.specs.Standing.{HoldsOn};
 ghost use Rattle.volume_base.specs.Standing.{IsSettled, StandsOver};
 ghost use Rattle.volume_base.specs.Touching.{Touches};
-ghost use Rattle.volume_step.specs.Steps.{Affords, CostsTaken, GrowsFirst, IsDoneOk, IsMet, KeepsJournal, OwnOf, ShrinksAs, StepsTo, edits_tree};
+ghost use Rattle.volume_step.specs.Steps.{Affords, FitsNow, IsDoneOk, IsMet, IsReady, KeepsJournal, OwnOf, PutsNow, ShrinksAs, StepsTo};
+ghost use Rattle.volume_step.specs.declared.outcome.Outcome.TheVariants as outcome;
 
 use crate::answering::{answer, only_reads, refusal};
 use crate::cutting::cut_first;
-use crate::growing::edits_tree;
+use crate::growing::grow_first;
 use crate::judging::{Verdict, judge};
 use crate::linking::link_file;
 use crate::making::{make_file, make_folder, move_entry};
@@ -27,16 +29,14 @@ use crate::outcome::Outcome;
 use crate::owning::{delete_attribute, set_attribute};
 use crate::removing::{remove_file, remove_folder};
 use crate::resizing::{resize, write_value};
-use hfs_language::{Command, Refusal};
+use hfs_language::Command;
 use hx_bytes::Trouble;
 use sector_disk::SectorSpace;
 use std::alloc::Global;
-use tree_weights::{a_load_is_of_parts, a_load_says_enough};
 use volume_base::Volume;
-use volume_space::{Growth, MoreNodes, grow_ahead};
 
-/// Does a command for which nothing is missing, and which puts no data into a file. Another waits. One that edits a tree is done where its
-/// edits are met.
+/// Does a command for which nothing is missing, and which gives no file other bytes; it is done where its edits are met. None of the others
+/// comes here.
 fn perform_without_data<P: SectorSpace>(
     alloc: Global,
     volume: &mut Volume,
@@ -49,7 +49,9 @@ fn perform_without_data<P: SectorSpace>(
     requires fits { FitsCommand command.now }
     requires affords { IsTrue (P.SectorView.space space.old).tells → Affords (capacity_of volume.old) command.now (P.SectorView.space space.old).content }
     ensures answered { IsTrue (P.SectorView.space space.old).tells → IfOk result (λ outcome. StepsTo outcome (capacity_of volume.old) number command.now (P.SectorView.space space.old).content (P.SectorView.space space.new).content) }
-    ensures done { IsTrue (P.SectorView.space space.old).tells → edits_tree command.now ≡ true → IsMet command.now volume.old (P.SectorView.space space.old) → IfOk result IsDoneOk }
+    ensures done { IsTrue (P.SectorView.space space.old).tells → IsMet command.now volume.old (P.SectorView.space space.old) → IfOk result IsDoneOk }
+    // It puts no data.
+    ensures plain { OnOk result ((tree : PlainTree) → data_of tree command.now ≡ None) }
     ensures place { IsTrue (P.SectorView.space space.old).tells → OnOk result (KeepsJournal (P.SectorView.space space.old).content (P.SectorView.space space.new).content) }
     ensures stands { OnOk result (StandsOver volume.new (P.SectorView.space space.new)) }
     ensures settled { IsTrue (P.SectorView.space space.old).tells → OnOk result (IsSettled volume.new (P.SectorView.space space.new).content) }
@@ -84,7 +86,7 @@ fn perform_without_data<P: SectorSpace>(
         | Command::GetAttr { .. }
         | Command::LsAttr(_)
         | Command::Df
-        | Command::Sync => Ok(Outcome::CommitFirst),
+        | Command::Sync => Err(Trouble::Memory),
     }
 }
 
@@ -102,6 +104,9 @@ fn perform<P: SectorSpace>(
     requires closed { IsTrue (P.SectorView.space space.old).tells → (at : ℕ) → (P.SectorView.space space.old).closed at → IsJournalSector (P.SectorView.space space.old).content at }
     requires affords { IsTrue (P.SectorView.space space.old).tells → Affords (capacity_of volume.old) command.now (P.SectorView.space space.old).content }
     ensures answered { IsTrue (P.SectorView.space space.old).tells → IfOk result (λ outcome. StepsTo outcome (capacity_of volume.old) number command.now (P.SectorView.space space.old).content (P.SectorView.space space.new).content) }
+    // Where it fits now, no commit comes first.
+    ensures ready { IsTrue (P.SectorView.space space.old).tells → only_reads command.now ≡ false → (now : FitsNow command.now volume.old (P.SectorView.space space.old)) → now.grow ≡ 0 ∷ 0 ∷ 0 ∷ [] → IfOk result (λ it. it ≢ outcome.CommitFirst) }
+    ensures puts { IsTrue (P.SectorView.space space.old).tells → PutsNow command.now volume.old (P.SectorView.space space.old) → IfOk result (λ it. it ≢ outcome.CommitFirst) }
     ensures place { IsTrue (P.SectorView.space space.old).tells → OnOk result (KeepsJournal (P.SectorView.space space.old).content (P.SectorView.space space.new).content) }
     ensures stands { OnOk result (StandsOver volume.new (P.SectorView.space space.new)) }
     ensures settled { IsTrue (P.SectorView.space space.old).tells → OnOk result (IsSettled volume.new (P.SectorView.space space.new).content) }
@@ -123,48 +128,6 @@ fn perform<P: SectorSpace>(
     }
 }
 
-/// Does a command ahead of which a tree has to grow by so many nodes; its load is so many sectors, with the growth. Where it can't
-/// grow so the command is still to come, and where there is too little room for both a commit comes first.
-fn grow_first<P: SectorSpace>(
-    alloc: Global,
-    volume: &mut Volume,
-    space: &mut P,
-    number: u64,
-    command: &Command,
-    more: MoreNodes,
-    load: u64,
-) -> Result<Outcome, Trouble>
-    requires stands { StandsOver volume.old (P.SectorView.space space.old) }
-    requires settled { IsTrue (P.SectorView.space space.old).tells → IsSettled volume.old (P.SectorView.space space.old).content }
-    requires fits { FitsCommand command.now }
-    requires changes { only_reads command.now ≡ false }
-    requires closed { IsTrue (P.SectorView.space space.old).tells → (at : ℕ) → (P.SectorView.space space.old).closed at → IsJournalSector (P.SectorView.space space.old).content at }
-    requires grows { IsTrue (P.SectorView.space space.old).tells → GrowsFirst more (capacity_of volume.old) command.now (P.SectorView.space space.old).content }
-    requires taken { IsTrue (P.SectorView.space space.old).tells → CostsTaken load (capacity_of volume.old) (takable_of volume.old) command.now (P.SectorView.space space.old).content }
-    ensures answered { IsTrue (P.SectorView.space space.old).tells → IfOk result (λ outcome. StepsTo outcome (capacity_of volume.old) number command.now (P.SectorView.space space.old).content (P.SectorView.space space.new).content) }
-    ensures place { IsTrue (P.SectorView.space space.old).tells → OnOk result (KeepsJournal (P.SectorView.space space.old).content (P.SectorView.space space.new).content) }
-    ensures stands { OnOk result (StandsOver volume.new (P.SectorView.space space.new)) }
-    ensures settled { IsTrue (P.SectorView.space space.old).tells → OnOk result (IsSettled volume.new (P.SectorView.space space.new).content) }
-    ensures service { IsInService volume.new (P.SectorView.space space.new) }
-    ensures holds { (committed : Content) → HoldsOn committed volume.old → OnOk result (HoldsOn committed volume.new) }
-    ensures capacity { capacity_of volume.new ≡ capacity_of volume.old }
-    ensures shrunk { IsTrue (P.SectorView.space space.old).tells → IfOk result (λ outcome. ShrinksAs outcome command.now (P.SectorView.space space.old).content (shrunk_of volume.old) (shrunk_of volume.new)) }
-    ensures touches { (committed : Content) → Touches committed (OwnOf volume.old volume.new) (P.SectorView.space space.old) (P.SectorView.space space.new) }
-    ensures below { P.SectorView.follows space.old space.new }
-    ensures cause { HasTroubleCause (P.SectorView.space space.old).faults (P.SectorView.space space.new).faults result }
-{
-    a_load_says_enough();
-    a_load_is_of_parts();
-    if !edits_tree(command) {
-        return Ok(Outcome::CommitFirst);
-    }
-    match grow_ahead(volume, alloc, space, more, load)? {
-        Growth::Grown => perform_without_data(alloc, volume, space, number, command),
-        Growth::CommitFirst => Ok(Outcome::CommitFirst),
-        Growth::ToCome => Ok(refusal(alloc, Refusal::NotBuilt)),
-    }
-}
-
 /// Judges a command that changes the volume, and does it where nothing is missing for it.
 fn change<P: SectorSpace>(
     alloc: Global,
@@ -179,6 +142,9 @@ fn change<P: SectorSpace>(
     requires closed { IsTrue (P.SectorView.space space.old).tells → (at : ℕ) → (P.SectorView.space space.old).closed at → IsJournalSector (P.SectorView.space space.old).content at }
     requires changes { only_reads command.now ≡ false }
     ensures answered { IsTrue (P.SectorView.space space.old).tells → IfOk result (λ outcome. StepsTo outcome (capacity_of volume.old) number command.now (P.SectorView.space space.old).content (P.SectorView.space space.new).content) }
+    // Where it is ready, no commit comes first.
+    ensures ready { IsTrue (P.SectorView.space space.old).tells → IsReady command.now volume.old (P.SectorView.space space.old) → IfOk result (λ it. it ≢ outcome.CommitFirst) }
+    ensures puts { IsTrue (P.SectorView.space space.old).tells → PutsNow command.now volume.old (P.SectorView.space space.old) → IfOk result (λ it. it ≢ outcome.CommitFirst) }
     ensures place { IsTrue (P.SectorView.space space.old).tells → OnOk result (KeepsJournal (P.SectorView.space space.old).content (P.SectorView.space space.new).content) }
     ensures stands { OnOk result (StandsOver volume.new (P.SectorView.space space.new)) }
     ensures settled { IsTrue (P.SectorView.space space.old).tells → OnOk result (IsSettled volume.new (P.SectorView.space space.new).content) }
@@ -193,11 +159,10 @@ fn change<P: SectorSpace>(
 {
     match judge(alloc, volume, space, command)? {
         Verdict::Refused(why) => Ok(refusal(alloc, why)),
-        Verdict::ToCome => Ok(refusal(alloc, Refusal::NotBuilt)),
         Verdict::CutFirst => cut_first(alloc, volume, space, number, command),
         Verdict::CommitFirst => Ok(Outcome::CommitFirst),
-        Verdict::Grows { more, load } => {
-            grow_first(alloc, volume, space, number, command, more, load)
+        Verdict::Grows { tree, more } => {
+            grow_first(alloc, volume, space, number, command, tree, more)
         }
         Verdict::Fits => perform(alloc, volume, space, number, command),
     }
@@ -220,6 +185,9 @@ pub fn step<P: SectorSpace>(
     requires closed { IsTrue (P.SectorView.space space.old).tells → (at : ℕ) → (P.SectorView.space space.old).closed at → IsJournalSector (P.SectorView.space space.old).content at }
     // Told, the line's entry is one of a run, with what it changed for watchers.
     ensures answered { IsTrue (P.SectorView.space space.old).tells → IfOk result (λ outcome. StepsTo outcome (capacity_of volume.old) number command.now (P.SectorView.space space.old).content (P.SectorView.space space.new).content) }
+    // No commit comes first where the command reads alone; nor where it puts no data into a file, what it costs of the blocks that may be taken is
+    // a load that the room suffices for, and the growth fits that goes ahead of it; nor where it puts data, and that is met.
+    ensures ready { IsTrue (P.SectorView.space space.old).tells → (only_reads command.now ≡ true) ⊎ (IsReady command.now volume.old (P.SectorView.space space.old) ⊎ PutsNow command.now volume.old (P.SectorView.space space.old)) → IfOk result (λ it. it ≢ outcome.CommitFirst) }
     // The journal lies where it lay, and the header is one of the same volume.
     ensures place { IsTrue (P.SectorView.space space.old).tells → OnOk result (KeepsJournal (P.SectorView.space space.old).content (P.SectorView.space space.new).content) }
     ensures stands { OnOk result (StandsOver volume.new (P.SectorView.space space.new)) }

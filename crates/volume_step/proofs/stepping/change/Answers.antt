@@ -3,17 +3,17 @@ use Rattle.std.specs.Prelude.{IfOk, OnOk, Option}
 use Rattle.sector_disk.specs.Lists.{Content}
 use Rattle.sector_disk.proofs.SpaceLaws.{space_both}
 use Rattle.hfs_volume.specs.Aside.{IsJournalSector}
-use Rattle.alloc_bitmap.specs.declared.bitmap.Bitmap.{Bitmap}
 use Rattle.volume_weights.specs.DataWeighing.{WaitsForCut}
-use Rattle.volume_base.specs.Fitting.{takable_in, takable_of}
 use Rattle.volume_base.specs.Room.{capacity_of}
 use Rattle.volume_base.specs.Keeping.{shrunk_of}
 use Rattle.volume_space.proofs.Sounding.{sound_here}
-use Rattle.volume_step.specs.Steps.{Affords, CostsTaken, GrowsFirst, IsJudged, IsTaken, KeepsJournal, ShrinksAs, StepsTo}
+use Rattle.volume_step.specs.Steps.{Affords, IsDirect, IsJudged, IsTaken, KeepsJournal, ShrinksAs, StepsTo, WaitsForGrowth}
 use Rattle.volume_step.specs.declared.judging.Verdict.{Verdict}
 use Rattle.volume_step.specs.declared.outcome.Outcome.{Outcome}
-use Rattle.volume_step.proofs.Done.{holds_kept, refused_steps, same_place, waits_steps}
+use Rattle.volume_step.proofs.Done.{holds_kept, refused_steps, same_place}
 use Rattle.volume_step.proofs.Widening.{laid_still, own_or_free_still, refused_shrinks, touches_behind, touches_looked, touches_own}
+use Rattle.volume_step.proofs.Ready.{growth_still, now_still}
+use Rattle.volume_step.proofs.ReadyData.{puts_still}
 use Rattle.volume_step.proofs.stepping.change.Goals as goal
 
 pub perform-requires-clause-closed : goal.perform-requires-clause-closed
@@ -71,17 +71,17 @@ returns-in-Refused-clause-touches g c committed holds laid = touches_looked comm
 pub returns-in-CommitFirst-clause-touches : goal.returns-in-CommitFirst-clause-touches
 returns-in-CommitFirst-clause-touches g c committed holds laid = touches_looked committed c.args.volume.now c.judge.new.volume (g.P.SectorView.space c.args.space.now) (g.P.SectorView.space c.judge.new.space) c.judge.ensures.reads.looks
 
--- ---- ahead of which the catalog grows
+-- ---- ahead of which a tree grows
 
 pub grow_first-requires-clause-closed : goal.grow_first-requires-clause-closed
 grow_first-requires-clause-closed g c told at shut =
     let tells = sym c.judge.ensures.reads.looks.same.tells ∙ told in
     subst (λ (k : Content). IsJournalSector k at) (sym (c.judge.ensures.reads.looks.content tells)) (c.requires.closed tells at ((c.judge.ensures.reads.looks.closed tells at).0 shut))
 
-pub grow_first-requires-clause-grows : goal.grow_first-requires-clause-grows
-grow_first-requires-clause-grows g c told =
+pub grow_first-requires-clause-waits : goal.grow_first-requires-clause-waits
+grow_first-requires-clause-waits g c told =
     let tells = sym c.judge.ensures.reads.looks.same.tells ∙ told in
-    subst (λ (k : ℕ × Content). GrowsFirst c.in-Grows.more k.0 c.args.command.now k.1) {x = ((capacity_of c.args.volume.now), (g.P.SectorView.space c.args.space.now).content)} {y = (capacity_of c.judge.new.volume, (g.P.SectorView.space c.judge.new.space).content)} (λ i. (sym c.judge.ensures.reads.keeps.capacity i, sym (c.judge.ensures.reads.looks.content (sym c.judge.ensures.reads.looks.same.tells ∙ told)) i))
+    subst (λ (k : ℕ × Content). WaitsForGrowth c.in-Grows.tree c.in-Grows.more k.0 c.args.command.now k.1) {x = ((capacity_of c.args.volume.now), (g.P.SectorView.space c.args.space.now).content)} {y = (capacity_of c.judge.new.volume, (g.P.SectorView.space c.judge.new.space).content)} (λ i. (sym c.judge.ensures.reads.keeps.capacity i, sym (c.judge.ensures.reads.looks.content (sym c.judge.ensures.reads.looks.same.tells ∙ told)) i))
     (subst (λ (v : Verdict). IsJudged v (capacity_of c.args.volume.now) c.args.command.now (g.P.SectorView.space c.args.space.now).content) c.in-Grows.is (c.in_ok-why.ensures.judged tells))
 
 pub returns-in-Grows-clause-answered : goal.returns-in-Grows-clause-answered
@@ -144,26 +144,35 @@ returns-in-CutFirst-clause-shrunk g c tells =
 pub returns-in-CutFirst-clause-same : goal.returns-in-CutFirst-clause-same
 returns-in-CutFirst-clause-same g c = space_both _ _ _ c.judge.ensures.reads.looks.same (c.cut_first.ensures.touches []).same
 
-pub grow_first-requires-clause-taken : goal.grow_first-requires-clause-taken
-grow_first-requires-clause-taken g c told =
-    let tells = sym c.judge.ensures.reads.looks.same.tells ∙ told in
-    subst (λ (k : ℕ × Bitmap × Content). CostsTaken c.in-Grows.load k.0 (takable_in k.1) c.args.command.now k.2)
-    {x = (capacity_of c.args.volume.now, c.args.volume.now.map, (g.P.SectorView.space c.args.space.now).content)} {y = (capacity_of c.judge.new.volume, c.judge.new.volume.map, (g.P.SectorView.space c.judge.new.space).content)}
-    (λ i. (sym c.judge.ensures.reads.keeps.capacity i, sym c.judge.ensures.reads.keeps.map i, sym (c.judge.ensures.reads.looks.content (sym c.judge.ensures.reads.looks.same.tells ∙ told)) i))
-    (subst (λ (v : Verdict). IsTaken v (capacity_of c.args.volume.now) (takable_of c.args.volume.now) c.args.command.now (g.P.SectorView.space c.args.space.now).content) c.in-Grows.is (c.in_ok-why.ensures.taken (sym c.judge.ensures.reads.looks.same.tells ∙ told)))
+-- ---- what is ready
 
--- ---- for which trees have to grow as isn't built
+pub returns-in-CommitFirst-clause-ready : goal.returns-in-CommitFirst-clause-ready
+returns-in-CommitFirst-clause-ready g c tells ready =
+    absurd (subst (λ (v : Verdict). IsTaken v ready.now.grow) c.in-CommitFirst.is (c.in_ok-why.ensures.taken tells ready.now))
 
-pub returns-in-ToCome-clause-answered : goal.returns-in-ToCome-clause-answered
-returns-in-ToCome-clause-answered g c tells =
-    waits_steps (capacity_of c.args.volume.now) c.args.number c.args.command.now (g.P.SectorView.space c.args.space.now).content (g.P.SectorView.space c.judge.new.space).content (c.judge.ensures.reads.looks.content tells) (sound_here c.args.volume.now (g.P.SectorView.space c.args.space.now) (c.requires.stands.stands tells) (c.requires.settled tells))
-    (subst (λ (v : Verdict). IsJudged v (capacity_of c.args.volume.now) c.args.command.now (g.P.SectorView.space c.args.space.now).content) c.in-ToCome.is (c.in_ok-why.ensures.judged tells)) c.refusal-in-ToCome.result c.refusal-in-ToCome.ensures
+pub returns-in-Grows-clause-ready : goal.returns-in-Grows-clause-ready
+returns-in-Grows-clause-ready g c tells ready =
+    let first = subst (λ (v : Verdict). IsTaken v ready.now.grow) c.in-Grows.is (c.in_ok-why.ensures.taken tells ready.now) in
+    c.grow_first.ensures.ready (c.judge.ensures.reads.looks.same.tells ∙ tells)
+    (growth_still c.args.volume.now c.judge.new.volume (g.P.SectorView.space c.args.space.now) (g.P.SectorView.space c.judge.new.space) c.judge.ensures.reads c.in-Grows.tree c.in-Grows.more (ready.growth c.in-Grows.tree c.in-Grows.more first.0 first.1))
 
-pub returns-in-ToCome-clause-shrunk : goal.returns-in-ToCome-clause-shrunk
-returns-in-ToCome-clause-shrunk g c tells = refused_shrinks _ _ _ _ _ c.refusal-in-ToCome.result c.refusal-in-ToCome.ensures c.judge.ensures.reads.keeps.shrunk
+pub returns-in-Fits-clause-ready : goal.returns-in-Fits-clause-ready
+returns-in-Fits-clause-ready g c tells ready =
+    let still = now_still c.args.command.now c.args.volume.now c.judge.new.volume (g.P.SectorView.space c.args.space.now) (g.P.SectorView.space c.judge.new.space) c.judge.ensures.reads tells ready.now in
+    c.perform.ensures.ready (c.judge.ensures.reads.looks.same.tells ∙ tells) c.requires.changes still.0 (still.1 ∙ subst (λ (v : Verdict). IsTaken v ready.now.grow) c.in-Fits.is (c.in_ok-why.ensures.taken tells ready.now))
 
-pub returns-in-ToCome-clause-place : goal.returns-in-ToCome-clause-place
-returns-in-ToCome-clause-place g c tells = same_place (g.P.SectorView.space c.args.space.now).content (g.P.SectorView.space c.judge.new.space).content (c.judge.ensures.reads.looks.content tells)
+pub returns-in-Grows-clause-below : goal.returns-in-Grows-clause-below
+returns-in-Grows-clause-below g c = g.met.P.SectorView.follows_trans c.args.space.now c.judge.new.space c.grow_first.new.space c.judge.ensures.below c.grow_first.ensures.below
 
-pub returns-in-ToCome-clause-touches : goal.returns-in-ToCome-clause-touches
-returns-in-ToCome-clause-touches g c committed holds laid = touches_looked committed c.args.volume.now c.judge.new.volume (g.P.SectorView.space c.args.space.now) (g.P.SectorView.space c.judge.new.space) c.judge.ensures.reads.looks
+pub returns-in-CommitFirst-clause-puts : goal.returns-in-CommitFirst-clause-puts
+returns-in-CommitFirst-clause-puts g c tells puts = absurd (subst IsDirect c.in-CommitFirst.is (c.in_ok-why.ensures.puts tells puts))
+
+pub returns-in-CutFirst-clause-puts : goal.returns-in-CutFirst-clause-puts
+returns-in-CutFirst-clause-puts g c tells puts = absurd (subst IsDirect c.in-CutFirst.is (c.in_ok-why.ensures.puts tells puts))
+
+pub returns-in-Grows-clause-puts : goal.returns-in-Grows-clause-puts
+returns-in-Grows-clause-puts g c tells puts = absurd (subst IsDirect c.in-Grows.is (c.in_ok-why.ensures.puts tells puts))
+
+pub returns-in-Fits-clause-puts : goal.returns-in-Fits-clause-puts
+returns-in-Fits-clause-puts g c tells puts =
+    c.perform.ensures.puts (c.judge.ensures.reads.looks.same.tells ∙ tells) (puts_still c.args.command.now c.args.volume.now c.judge.new.volume (g.P.SectorView.space c.args.space.now) (g.P.SectorView.space c.judge.new.space) c.judge.ensures.reads tells puts)
