@@ -10,27 +10,25 @@ use Rattle.hx_bytes.specs.declared.extents.Extent.{Extent}
 use Rattle.sector_disk.specs.Space.{Space}
 use Rattle.btree_node.specs.Node.{IsNodeSize}
 use Rattle.btree_node.specs.Store.{Store}
-use Rattle.btree_node.specs.Tree.{pairs_of}
 use Rattle.btree_edit.specs.Edits.{EditRoom}
 use Rattle.btree_edit.proofs.EditLaws.{room_first}
 use Rattle.btree_file.specs.FrameLaws.{state_well_formed}
 use Rattle.btree_file.specs.State.{is_written, state_of}
 use Rattle.btree_file.specs.declared.tree.TreeFile.{TreeFile}
 use Rattle.hfs_volume.specs.Cost.{cost_of, depth_of, extents_key, growth, is_too_deep, plan_of, rises, takes_extent, tree_at}
-use Rattle.hfs_volume.specs.Forks.{extents_id, in_use, parts_for}
+use Rattle.hfs_volume.specs.Forks.{in_use, parts_for}
 use Rattle.hfs_volume.specs.declared.cost.Cost.{Cost}
 use Rattle.hfs_volume.specs.declared.cost.Cost.TheVariants as cost
 use Rattle.hfs_volume.specs.declared.cost.Needs.{Needs}
 use Rattle.hfs_volume.specs.declared.cost.Room.{Room}
 use Rattle.hfs_volume.specs.declared.cost.TreeCost.{TreeCost}
 use Rattle.overflow.specs.Changes.{behind_front, change_at, changes_to, front_before, past, same_extents}
-use Rattle.overflow.specs.Reading.{HasExtents, fork_records, overflow_in_store}
+use Rattle.overflow.specs.Reading.{fork_records}
 use Rattle.overflow.specs.Records.{eight_at, record_of, records_for, records_from}
 use Rattle.overflow.specs.Room.{HasStoreRoom, edits_for}
 use Rattle.overflow.specs.declared.changes.Change.{Change}
 use Rattle.overflow.specs.declared.changes.Change.TheVariants.{Remove, Insert, Replace}
 use Rattle.overflow.specs.declared.record.OverflowRecord.{OverflowRecord}
-use Rattle.overflow.proofs.Whole.{most_records}
 use Rattle.tree_weights.specs.Weights.{CommandsHaveRoom, HasGrown, IsAfforded, IsWrittenByGrowth, LoadIsOfParts, LoadSaysEnough, load_at}
 use Rattle.volume_base.specs.Room.{room_on}
 use Rattle.volume_space.specs.Spreading.{is_met_extents, needs_extents}
@@ -82,22 +80,22 @@ records_many : (many at : ℕ) (xs : List Extent) → length (records_from many 
 records_many zero at xs = refl
 records_many (suc many) at xs = ap suc (records_many many (at + 8) xs)
 
--- the edits that store a fork are no more than these
-pub edits_few : (store : Store) (id kind : ℕ) (list new : List Extent) → id ≢ extents_id → HasExtents (overflow_in_store store) id kind list → in_use new ≡ new → edits_for store id kind new ≤ length list / 8 + parts_for (length new - 8) 8
-edits_few store id kind list new other has used = omega (
+-- the edits that store a fork are no more than its records and those that it gets
+pub edits_few : (store : Store) (id kind records : ℕ) (new : List Extent) → records ≡ length (fork_records id kind store) → in_use new ≡ new → edits_for store id kind new ≤ records + parts_for (length new - 8) 8
+edits_few store id kind records new has used = omega (
   arith,
   changes_few (map record_of (fork_records id kind store)) (records_for (in_use new)),
   length-map (fork_records id kind store) record_of,
-  most_records id kind (pairs_of store) list other has,
+  has,
   ap (λ (l : List Extent). length (records_for l)) used,
   records_many (parts_for (length new - 8) 8) 8 new,
 )
 
 -- room for so many edits is room to store it
-pub store_room_by : (store : Store) (id kind : ℕ) (list new : List Extent) (edits : ℕ) → id ≢ extents_id → HasExtents (overflow_in_store store) id kind list → in_use new ≡ new → length list / 8 + parts_for (length new - 8) 8 ≤ edits → IsTrue store.tells
+pub store_room_by : (store : Store) (id kind records : ℕ) (new : List Extent) (edits : ℕ) → records ≡ length (fork_records id kind store) → in_use new ≡ new → records + parts_for (length new - 8) 8 ≤ edits → IsTrue store.tells
     → EditRoom edits 10 store → HasStoreRoom store id kind new
-store_room_by store id kind list new edits other has used enough tells room =
-    let few = edits_few store id kind list new other has used in
+store_room_by store id kind records new edits has used enough tells room =
+    let few = edits_few store id kind records new has used in
     let sum : edits ≡ edits_for store id kind new + (edits - edits_for store id kind new) = omega (arith, few, enough) in
     inl (room_first (edits_for store id kind new) (edits - edits_for store id kind new) 10 store (λ told. subst (λ n. EditRoom n 10 store) sum room) tells)
 
@@ -112,7 +110,7 @@ some_node size (inr (inr (inr (inr (inl is))))) = omega (arith, is)
 some_node size (inr (inr (inr (inr (inr (inl is)))))) = omega (arith, is)
 some_node size (inr (inr (inr (inr (inr (inr is)))))) = omega (arith, is)
 
-third_false : (a b c : Bool) → (a || b || c) ≡ false → c ≡ false
+pub third_false : (a b c : Bool) → (a || b || c) ≡ false → c ≡ false
 third_false true b c is = absurd (true≢false is)
 third_false false true c is = absurd (true≢false is)
 third_false false false c is = is

@@ -50,6 +50,7 @@ pub mod PutFork
 pub mod PutHeld
 pub mod PutLists
 pub mod PutLoads
+pub mod PutMet
 pub mod PutNumbers
 pub mod PutOver
 pub mod PutPlaced
@@ -60,6 +61,7 @@ pub mod PutTold
 pub mod PutUnchanged
 pub mod PutUser
 pub mod PutWhere
+pub mod RecordCounts
 pub mod Resized
 pub mod Shortened
 pub mod ShortenedCalls

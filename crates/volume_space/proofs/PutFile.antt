@@ -1,5 +1,5 @@
 -- The file of a node that isn't a folder, as data is put into it: its record, by its CNID, and its size.
-use Rattle.std.proofs.Common.{◌≡◌, ◌<◌, ◌≤◌, ℕ, ◌+◌, false, List, length, refl, sym, ◌∙◌, ap, subst, arith}
+use Rattle.std.proofs.Common.{◌≡◌, ◌<◌, ◌≤◌, ℕ, ◌+◌, true, false, List, length, refl, sym, ◌∙◌, ap, subst, arith}
 use Rattle.std.specs.Prelude.{Contains, IsTrue, Some}
 use Rattle.sector_disk.specs.Space.{Space}
 use Rattle.catalog.specs.Pairs.{value_at}
@@ -21,7 +21,8 @@ use Rattle.hfs_volume.proofs.Hiding.{same_entry}
 use Rattle.volume_base.specs.Lists.{lists_of}
 use Rattle.volume_base.specs.Reading.{HasFile}
 use Rattle.volume_base.specs.Standing.{IsSettled, StandsOver}
-use Rattle.volume_space.specs.Writing.{IsAt, IsToldFile, blocks_put, can_put, data_load, extents_in, fresh_runs, has_more, is_put_now, may_overflow, put_load}
+use Rattle.volume_space.specs.Recording.{records_held}
+use Rattle.volume_space.specs.Writing.{IsAt, IsToldFile, blocks_put, can_put, data_load, extents_in, fresh_runs, has_more, is_data_met, is_put_met, is_put_now, may_overflow, put_load}
 use Rattle.volume_base.specs.declared.entries.Entry.{Entry}
 use Rattle.volume_base.specs.declared.volume.Volume.{Volume}
 use Rattle.volume_base.proofs.FileBytes.{bytes_long}
@@ -29,6 +30,7 @@ use Rattle.volume_base.proofs.FoundEntry.{IsThere}
 use Rattle.volume_space.proofs.NextCut.{stands_there}
 use Rattle.volume_base.proofs.PlainFiles.{IsFileOf, file_of_node}
 use Rattle.volume_space.proofs.PutAllowed.{load_is}
+use Rattle.volume_space.proofs.PutMet.{data_is_met}
 use Rattle.volume_space.proofs.PutNumbers.{fresh_is}
 use Rattle.volume_space.proofs.PutWhere.{many, put_now, surplus}
 use Rattle.volume_base.proofs.Rising.{settled_sorted}
@@ -99,6 +101,12 @@ module _ (v : Volume) (a : Space) (holds : StandsOver v a) (tells : IsTrue a.tel
         let here : IsAt put file.data_fork.logical_size from (from + long) = subst (λ n. IsAt put n from (from + long)) long_is at in
         λ i. may_overflow (many v a.content settled file has_it put from long (number ∙ sym number_is) here (omega (arith, holds.service.least)) i)
         (fewest_of (sym (fresh_is put file.data_fork.logical_size from (from + long) v.header.block_size here (omega (arith, holds.service.least))) i) (free_runs (free_of v.map)))
+
+    -- where it is met by what it costs, the numbers of the put are
+    pub data_met : (put : Data) (from long : ℕ) → put.id ≡ node.id → IsAt put (length node.bytes) from (from + long) → 0 < long → (spare : ℕ) → is_data_met v spare (volume_of a.content) (Some put) ≡ true
+        → is_put_met v (volume_of a.content) spare (records_held (volume_of a.content) file.fields.id) (length (extents_in a.content file)) file.data_fork.total_blocks file.data_fork.logical_size from long ≡ true
+    data_met put from long number at longer spare ok =
+        data_is_met v a.content settled file has_it put from long (number ∙ sym number_is) (subst (λ n. IsAt put n from (from + long)) long_is at) (omega (arith, holds.service.least)) longer spare ok
 
     -- and what it loads
     pub load_now : (put : Data) (from long : ℕ) → IsAt put (length node.bytes) from (from + long) → put_load v file.data_fork.logical_size from long ≡ data_load v put

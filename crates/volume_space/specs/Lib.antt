@@ -3,6 +3,7 @@ pub mod CuttingAhead
 pub mod Growing
 pub mod Mapping
 pub mod Orphans
+pub mod Recording
 pub mod Resizing
 pub mod Spilling
 pub mod Spreading

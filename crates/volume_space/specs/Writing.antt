@@ -1,5 +1,5 @@
 -- `write` of bytes and `trunc` to a larger size: data is put into a file.
-use Rattle.std.specs.Prelude.{◌≡◌, ◌<◌, ◌≤◌, ℕ, ◌+◌, ◌-◌, ◌*◌, ◌/◌, ◌&&◌, ◌||◌, max, min, nat_le, nat_lt, not, Bool, true, false, List, [], ◌∷◌, ◌++◌, length, take, drop, slice_index_or, Option, None, Some}
+use Rattle.std.specs.Prelude.{◌≡◌, ◌<◌, ◌≤◌, ℕ, ◌+◌, ◌-◌, ◌*◌, ◌/◌, ◌==◌, ◌&&◌, ◌||◌, max, min, nat_le, nat_lt, not, Bool, true, false, List, [], ◌∷◌, ◌++◌, length, take, drop, slice_index_or, Option, None, Some}
 use Rattle.std.specs.List.{All, Contains, list_all}
 use Rattle.hx_bytes.specs.declared.extents.Extent.{Extent}
 use Rattle.hx_bytes.specs.declared.extents.ForkRecord.{ForkRecord}
@@ -20,17 +20,22 @@ use Rattle.flag_rows.specs.Runs.{fewest_of}
 use Rattle.alloc_bitmap.specs.Map.{BlockMap, Have, free_of}
 use Rattle.hfs_language.specs.declared.command.Command.{Command}
 use Rattle.hfs_volume.specs.Content.{VolumeState, overflow_in_volume, records_of, volume_of}
+use Rattle.hfs_volume.specs.Cost.{cost_of, overflow_records}
 use Rattle.hfs_volume.specs.Data.{PutsInFork}
 use Rattle.hfs_volume.specs.Forks.{data_kind, extents_of, per_block_of}
 use Rattle.hfs_volume.specs.Records.{Placed, entries_of, is_link_type}
 use Rattle.hfs_volume.specs.Sound.{IsSoundVolume}
 use Rattle.hfs_volume.specs.TreeOf.{file_bytes, tree_in, tree_of}
-use Rattle.hfs_volume.specs.Weight.{Data, data_of, file_extents, first_block, free_runs, needs_cut, new_blocks_of, old_blocks_of}
+use Rattle.hfs_volume.specs.Weight.{Data, data_of, file_extents, first_block, free_runs, needs_cut, new_blocks_of, old_blocks_of, room_with}
 use Rattle.hfs_volume.specs.Writing.{MakesBytes, RewritesFile, file_before, written_bytes}
+use Rattle.hfs_volume.specs.declared.cost.Cost.{Cost}
+use Rattle.hfs_volume.specs.declared.cost.Needs.{Needs}
 use Rattle.volume_base.specs.Changing.{ReplacesRecord, catalog_node}
+use Rattle.volume_base.specs.DataWeighing.{needs_data}
 use Rattle.volume_base.specs.Lists.{bits_on, lists_of}
 use Rattle.volume_base.specs.Reading.{HasFile}
-use Rattle.volume_space.specs.Spreading.{SpreadsExtents}
+use Rattle.volume_space.specs.Recording.{records_held}
+use Rattle.volume_space.specs.Spreading.{SpreadsExtents, is_met_extents}
 use Rattle.volume_base.specs.Standing.{IsSettled}
 use Rattle.volume_base.specs.declared.entries.Entry.{Entry}
 use Rattle.volume_base.specs.declared.volume.Tree.{Tree}
@@ -81,6 +86,15 @@ IsFlat asked volume content = (put : Data) → data_of (tree_of content) asked �
 abbrev pub is_put_now : Volume → ℕ → VolumeState → Option Data → Bool
 is_put_now volume spare lists None = false
 is_put_now volume spare lists (Some put) = not (is_put_later volume lists put) && fits_data volume spare put
+
+-- there is data to put, no blocks of the file go first, the last overflow record of its fork isn't without an extent, and what the data costs of the blocks that
+-- may be taken is a load that so many sectors suffice for, without growth of the extents overflow file
+abbrev pub is_data_met : Volume → ℕ → VolumeState → Option Data → Bool
+is_data_met volume spare lists None = false
+is_data_met volume spare lists (Some put) =
+    not (needs_cut lists (Some put))
+    && ((records_held lists put.id == overflow_records (length (file_extents lists put.id data_kind)))
+    && is_met_extents (cost_of (needs_data (free_of volume.map) lists put) (room_with volume.capacity (free_of volume.map) lists)) spare)
 
 -- The file has the data of a command: it has fresh blocks in place of those from the first that is written on, its size and its dates are others,
 -- and the header counts the free blocks anew; nothing else of the lists is changed, and of all forks this one alone has other blocks.
@@ -225,3 +239,18 @@ pub record PutsAt (id from : ℕ) (value : List ℕ) (old new : Volume) (before 
 -- the extents of a file's data fork
 abbrev pub extents_in : Content → FileRecord → List Extent
 extents_in content file = extents_of (overflow_in_volume (volume_of content)) file.fields.id data_kind file.data_fork
+
+-- what data needs: so many edits of the extents overflow file, one record updated in place, and blocks of so many runs in the place of others
+abbrev pub needs_of_put : (edits fresh freed runs : ℕ) → Needs
+needs_of_put edits fresh freed runs = record { ids = 0; edits = edits ∷ 0 ∷ 0 ∷ []; updates = 1; new_blocks = fresh; old_blocks = freed; runs = runs }
+
+-- what so much data costs of the blocks that may be taken, whose fork has so many overflow records and so many extents
+abbrev pub cost_to_put : Volume → VolumeState → (records extents fresh freed runs : ℕ) → Cost
+cost_to_put volume lists records extents fresh freed runs = cost_of (needs_of_put (records + overflow_records (extents + 1 + runs)) fresh freed runs) (room_with volume.capacity (free_of volume.map) lists)
+
+-- no blocks of the file go first, and that is a load that so many sectors suffice for, without growth of the extents overflow file
+abbrev pub is_put_met : Volume → VolumeState → (spare records extents total size from long : ℕ) → Bool
+is_put_met volume lists spare records extents total size from long =
+    not (has_more size (from + long) (blocks_for volume.header.block_size size) total)
+    && is_met_extents (cost_to_put volume lists records extents (blocks_put volume size from long)
+    (old_end volume.header.block_size size (from + long) - first_of volume.header.block_size size from) (fewest_of (blocks_put volume size from long) (free_runs (free_of volume.map)))) spare

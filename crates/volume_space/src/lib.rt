@@ -10,6 +10,7 @@ mod growing_attributes;
 mod mapping;
 mod orphans;
 mod putting;
+mod recorded;
 mod resizing;
 mod spilling;
 mod storing;

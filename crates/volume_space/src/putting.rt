@@ -25,17 +25,20 @@ ghost use Rattle.hfs_volume.specs.Records.{is_thread};
 ghost use Rattle.volume_base.specs.Looking.{ReadsVolume};
 ghost use Rattle.volume_base.specs.Reading.{HasFile};
 ghost use Rattle.volume_base.specs.Service.{IsInService};
+ghost use Rattle.volume_space.specs.Recording.{records_held};
 ghost use Rattle.volume_space.specs.Spilling.{IsLaidOutAs};
+ghost use Rattle.volume_space.specs.Spreading.{is_met_extents};
 ghost use Rattle.volume_space.specs.Standing.{HoldsOn};
 ghost use Rattle.volume_base.specs.Standing.{IsSettled, StandsOver, own_sectors};
 ghost use Rattle.volume_base.specs.Touching.{Touches};
-ghost use Rattle.volume_space.specs.Writing.{AreHad, IsAt, IsSureToPut, IsToldFile, PlacesData, PutsAt, PutsValue, are_apart, blocks_put, can_put, data_load, ends_before, extents_in, fork_with, fresh_runs, has_more, is_apart_from, is_put_now, may_overflow, put_load, record_with};
+ghost use Rattle.volume_space.specs.Writing.{AreHad, IsAt, IsSureToPut, IsToldFile, PlacesData, PutsAt, PutsValue, are_apart, blocks_put, can_put, cost_to_put, data_load, ends_before, extents_in, fork_with, fresh_runs, has_more, is_apart_from, is_data_met, is_put_met, is_put_now, may_overflow, needs_of_put, put_load, record_with};
 
 use crate::growing::first_eight;
 use crate::mapping::put_map;
+use crate::recorded::count_records;
 use crate::resizing::with_change;
 use crate::spilling::spill;
-use crate::storing::{count_edits, eighths, fits_extent_edits, is_met, store_later};
+use crate::storing::{count_edits, is_met, store_later};
 use alloc_bitmap::Bitmap;
 use cat_records::{CatRecord, FileRecord};
 use fork_map::ExtentList;
@@ -43,6 +46,7 @@ use hfs_volume::{Needs, other_files_keep_their_bytes};
 use hx_bytes::{Extent, ForkRecord, Trouble};
 use sector_disk::SectorSpace;
 use std::alloc::Global;
+use tree_weights::{a_load_says_enough, trees_grow_by_enough};
 use volume_base::{
     DATA, Entry, FreeBlocks, Volume, all_inside, is_measured, load_extents, size_held,
 };
@@ -153,6 +157,7 @@ fn has_more(size: u64, end: u64, wanted: u64, total: u32) -> bool
 fn is_at_most(number: u64, other: u64) -> bool
     ensures exact { result ≡ nat_le number other }
     ensures sure { IsTrue result → number ≤ other }
+    ensures met { number ≤ other → IsTrue result }
 {
     number <= other
 }
@@ -165,26 +170,12 @@ fn may_overflow(extents: usize, runs: u32) -> bool
     8 < extents as u64 + 1 + u64::from(runs)
 }
 
-/// How many edits of the extents overflow file a fork of so many extents costs that gets blocks of so many runs; none where there are too many.
-fn count_spread_edits(extents: usize, runs: u32) -> Option<u32>
-    requires { extents < 2 ^ 60 }
-{
-    let old = (extents as u64).saturating_sub(8);
-    let new = (extents as u64 + 1 + u64::from(runs)).saturating_sub(8);
-    let all = eighths(old) + eighths(new);
-    if all > 0xFFFF_FFFF {
-        return None;
-    }
-    Some(all as u32)
-}
-
 /// What so much data needs with so many edits of the extents overflow file, whose blocks are of so many runs.
 fn needs_of_data(edits: u32, counts: Counts, runs: u32) -> Needs
     requires fresh { counts.fresh < 2 ^ 32 }
     requires freed { counts.freed < 2 ^ 32 }
+    ensures same { result ≡ needs_of_put edits counts.fresh counts.freed runs }
     ensures small { AreSmall result }
-    ensures catalog { slice_index result.edits 1 ≡ 0 }
-    ensures attributes { slice_index result.edits 2 ≡ 0 }
 {
     Needs {
         ids: 0,
@@ -344,58 +335,64 @@ fn is_put_now<P: SectorSpace>(
     !may_overflow(extents, runs)
 }
 
-/// Whether a transaction has room for what a put of so much data costs whose fork has so many extents, and may get more than its record
-/// holds.
+/// Whether a transaction has room for what a put of so much data costs whose fork has so many extents in its record and so many overflow records,
+/// and may get more than its record holds.
 fn affords_spread<P: SectorSpace>(
     volume: &Volume,
     space: &P,
     extents: usize,
+    records: u64,
     counts: Counts,
     runs: u32,
 ) -> bool
+    requires stands { StandsOver volume.now (P.SectorView.space space.now) }
+    requires settled { IsTrue (P.SectorView.space space.now).tells → IsSettled volume.now (P.SectorView.space space.now).content }
     requires few { extents < 2 ^ 60 }
     requires fresh { counts.fresh < 2 ^ 32 }
     requires freed { counts.freed < 2 ^ 32 }
+    ensures met { IsTrue (P.SectorView.space space.now).tells → may_overflow extents runs ≡ true → is_met_extents (cost_to_put volume.now (volume_of (P.SectorView.space space.now).content) records extents counts.fresh counts.freed runs) (P.SectorView.space space.now).spare ≡ true → IsTrue result }
 {
+    a_load_says_enough();
+    trees_grow_by_enough();
     let room = volume.room(FreeBlocks::Takable);
+    // A space that tells its sectors has a volume with usual numbers.
     if !is_measured(&room) {
         return false;
     }
-    let Some(edits) = count_spread_edits(extents, runs) else {
+    let Some(edits) = count_edits(records, extents + 1 + runs as usize) else {
         return false;
     };
-    if !is_met(
+    is_met(
         cost(&needs_of_data(edits, counts, runs), &room),
         space.spare(),
-    ) {
-        return false;
-    }
-    // The overflow records are stored first, and are counted then as if the last of them might be without an extent.
-    let Some(most) = count_edits(extents, extents + 1 + runs as usize) else {
-        return false;
-    };
-    fits_extent_edits(volume, space, most)
+    )
 }
 
-/// Whether so many bytes can be put into a file of this size from a place on, which has so many blocks, in these extents, though its record may
-/// not hold those that it gets: none of its blocks is past its size, or it doesn't grow; there are free blocks, and room.
+/// Whether so many bytes can be put into a file of this size from a place on, which has so many blocks, in these extents, with so many overflow
+/// records, though its record may not hold those that it gets: none of its blocks is past its size, or it doesn't grow; there are free blocks, and
+/// room.
 fn is_put_spread<P: SectorSpace>(
     volume: &Volume,
     space: &P,
     extents: usize,
+    records: u64,
     total: u32,
     size: u64,
     from: u64,
     long: usize,
 ) -> bool
-    requires service { IsInService volume.now (P.SectorView.space space.now) }
+    requires stands { StandsOver volume.now (P.SectorView.space space.now) }
+    requires settled { IsTrue (P.SectorView.space space.now).tells → IsSettled volume.now (P.SectorView.space space.now).content }
     requires few { extents < 2 ^ 60 }
     requires small { from + long ≤ 2 ^ 40 }
     ensures cut { IsTrue result → has_more size (from + long) (blocks_for volume.now.header.block_size size) total ≡ false }
     ensures free { IsTrue result → blocks_put volume.now size from long ≤ count_set (free_of volume.now.map) }
     ensures room { IsTrue result → put_load volume.now size from long ≤ (P.SectorView.space space.now).spare }
     ensures spread { IsTrue result → may_overflow extents (fewest_of (blocks_put volume.now size from long) (free_runs (free_of volume.now.map))) ≡ true }
+    ensures met { IsTrue (P.SectorView.space space.now).tells → may_overflow extents (fewest_of (blocks_put volume.now size from long) (free_runs (free_of volume.now.map))) ≡ true
+        → is_put_met volume.now (volume_of (P.SectorView.space space.now).content) (P.SectorView.space space.now).spare records extents total size from long ≡ true → IsTrue result }
 {
+    a_load_says_enough();
     let block = volume.header.block_size;
     let end = from + long as u64;
     let wanted = blocks_for(block, size);
@@ -413,7 +410,7 @@ fn is_put_spread<P: SectorSpace>(
     if !may_overflow(extents, runs) {
         return false;
     }
-    affords_spread(volume, space, extents, counts, runs)
+    affords_spread(volume, space, extents, records, counts, runs)
 }
 
 /// Whether so many bytes can be put now into a file as `is_put_now` and `is_put_spread` say, and if so whether its record may not hold the
@@ -422,12 +419,14 @@ fn how_to_put<P: SectorSpace>(
     volume: &Volume,
     space: &P,
     extents: usize,
+    records: u64,
     total: u32,
     size: u64,
     from: u64,
     long: usize,
 ) -> Option<bool>
-    requires service { IsInService volume.now (P.SectorView.space space.now) }
+    requires stands { StandsOver volume.now (P.SectorView.space space.now) }
+    requires settled { IsTrue (P.SectorView.space space.now).tells → IsSettled volume.now (P.SectorView.space space.now).content }
     requires few { extents < 2 ^ 60 }
     requires small { from + long ≤ 2 ^ 40 }
     ensures cut { IfSome result (λ spread. has_more size (from + long) (blocks_for volume.now.header.block_size size) total ≡ false) }
@@ -437,11 +436,13 @@ fn how_to_put<P: SectorSpace>(
     ensures flat { IfSome result (λ spread. may_overflow extents (fewest_of (blocks_put volume.now size from long) (free_runs (free_of volume.now.map))) ≡ false
         → (spread ≡ false) × (can_put volume.now (P.SectorView.space space.now).spare extents total size from long ≡ true)) }
     ensures exactly { IfNone result (can_put volume.now (P.SectorView.space space.now).spare extents total size from long ≡ false) }
+    ensures met { IsTrue (P.SectorView.space space.now).tells → IfNone result (is_put_met volume.now (volume_of (P.SectorView.space space.now).content) (P.SectorView.space space.now).spare records extents total size from long ≡ false) }
 {
+    a_load_says_enough();
     if is_put_now(volume, space, extents, total, size, from, long) {
         return Some(false);
     }
-    if is_put_spread(volume, space, extents, total, size, from, long) {
+    if is_put_spread(volume, space, extents, records, total, size, from, long) {
         return Some(true);
     }
     None
@@ -496,6 +497,7 @@ fn place_data<P: SectorSpace>(
     total: u32,
     free: u32,
     spread: bool,
+    records: u64,
 ) -> Result<(), Trouble>
     requires stands { StandsOver volume.old (P.SectorView.space space.old) }
     requires settled { IsTrue (P.SectorView.space space.old).tells → IsSettled volume.old (P.SectorView.space space.old).content }
@@ -510,6 +512,7 @@ fn place_data<P: SectorSpace>(
     requires fits { FitsFile file.now }
     requires told { IsTrue (P.SectorView.space space.old).tells → IsToldFile file.now list.now (P.SectorView.space space.old).content }
     requires short { spread ≡ false → length list.now < 8 }
+    requires counted { IsTrue (P.SectorView.space space.old).tells → records ≡ records_held (lists_of volume.old (P.SectorView.space space.old).content) file.now.fields.id }
     ensures stands { OnOk result (StandsOver volume.new (P.SectorView.space space.new)) }
     ensures service { IsInService volume.new (P.SectorView.space space.new) }
     ensures places { IsTrue (P.SectorView.space space.old).tells → OnOk result (PlacesData entry.now file.now list.now from value.now total free volume.old volume.new (P.SectorView.space space.old).content (P.SectorView.space space.new).content) }
@@ -526,7 +529,16 @@ fn place_data<P: SectorSpace>(
     let size = file.data_fork.logical_size;
     let long = size.max(from + value.len() as u64);
     let later = spill(volume, alloc, space, list, size, from, value)?;
-    store_later(volume, alloc, space, file.fields.id, list, &later, spread)?;
+    store_later(
+        volume,
+        alloc,
+        space,
+        file.fields.id,
+        list,
+        &later,
+        spread,
+        records,
+    )?;
     if !volume.fits_update(space) {
         return Err(Trouble::Memory);
     }
@@ -547,6 +559,7 @@ fn put_over<P: SectorSpace>(
     from: u64,
     value: &[u8],
     spread: bool,
+    records: u64,
 ) -> Result<(), Trouble>
     requires stands { StandsOver volume.old (P.SectorView.space space.old) }
     requires settled { IsTrue (P.SectorView.space space.old).tells → IsSettled volume.old (P.SectorView.space space.old).content }
@@ -562,6 +575,7 @@ fn put_over<P: SectorSpace>(
     requires fits { FitsFile file.now }
     requires told { IsTrue (P.SectorView.space space.old).tells → IsToldFile file.now list.now (P.SectorView.space space.old).content }
     requires room { put_load volume.old file.now.data_fork.logical_size from (length value.now) ≤ (P.SectorView.space space.old).spare }
+    requires counted { IsTrue (P.SectorView.space space.old).tells → records ≡ records_held (lists_of volume.old (P.SectorView.space space.old).content) file.now.fields.id }
     ensures stands { OnOk result (StandsOver volume.new (P.SectorView.space space.new)) }
     ensures service { IsInService volume.new (P.SectorView.space space.new) }
     ensures puts { IsTrue (P.SectorView.space space.old).tells → OnOk result (PutsValue file.now from value.now volume.old volume.new (P.SectorView.space space.old).content (P.SectorView.space space.new).content) }
@@ -590,6 +604,7 @@ fn put_over<P: SectorSpace>(
     let bits = count_bits(volume, counts);
     place_data(
         volume, alloc, space, entry, file, list, from, value, sums.total, sums.free, spread,
+        records,
     )?;
     if !has_room(bits, space.spare()) {
         return Err(Trouble::Memory);
@@ -628,6 +643,37 @@ fn data_extents<P: SectorSpace>(
     )
 }
 
+/// The extents of a file's data fork, and how many overflow records it has.
+#[derive(Drop)]
+struct DataFork {
+    list: ExtentList,
+    records: u64,
+}
+
+/// The data fork of a file.
+fn data_fork<P: SectorSpace>(
+    volume: &mut Volume,
+    alloc: Global,
+    space: &mut P,
+    file: &FileRecord,
+) -> Result<DataFork, Trouble>
+    requires stands { StandsOver volume.old (P.SectorView.space space.old) }
+    requires settled { IsTrue (P.SectorView.space space.old).tells → IsSettled volume.old (P.SectorView.space space.old).content }
+    requires fits { FitsFile file.now }
+    requires told { IsTrue (P.SectorView.space space.old).tells → IsToldFile file.now (extents_in (P.SectorView.space space.old).content file.now) (P.SectorView.space space.old).content }
+    ensures found { IsTrue (P.SectorView.space space.old).tells → IfOk result (λ fork. fork.list ≡ extents_in (P.SectorView.space space.old).content file.now) }
+    ensures counted { IsTrue (P.SectorView.space space.old).tells → IfOk result (λ fork. fork.records ≡ records_held (volume_of (P.SectorView.space space.old).content) file.now.fields.id) }
+    ensures reads { ReadsVolume volume.old volume.new (P.SectorView.space space.old) (P.SectorView.space space.new) }
+    ensures stands { StandsOver volume.new (P.SectorView.space space.new) }
+    ensures settled { IsTrue (P.SectorView.space space.old).tells → IsSettled volume.new (P.SectorView.space space.new).content }
+    ensures below { P.SectorView.follows space.old space.new }
+    ensures cause { HasTroubleCause (P.SectorView.space space.old).faults (P.SectorView.space space.new).faults result }
+{
+    let list = data_extents(volume, alloc, space, file)?;
+    let records = count_records(volume, space, file.fields.id, &list)?;
+    Ok(DataFork { list, records })
+}
+
 /// Puts a value into a file where that can be done now, and says whether it did.
 fn put_in_file<P: SectorSpace>(
     volume: &mut Volume,
@@ -652,6 +698,7 @@ fn put_in_file<P: SectorSpace>(
     ensures stands { OnOk result (StandsOver volume.new (P.SectorView.space space.new)) }
     ensures service { IsInService volume.new (P.SectorView.space space.new) }
     ensures exactly { IsTrue (P.SectorView.space space.old).tells → IfOk result (λ put. put ≡ false → can_put volume.old (P.SectorView.space space.old).spare (length (extents_in (P.SectorView.space space.old).content file.now)) file.now.data_fork.total_blocks file.now.data_fork.logical_size from (length value.now) ≡ false) }
+    ensures met { IsTrue (P.SectorView.space space.old).tells → IfOk result (λ put. put ≡ false → is_put_met volume.old (volume_of (P.SectorView.space space.old).content) (P.SectorView.space space.old).spare (records_held (volume_of (P.SectorView.space space.old).content) file.now.fields.id) (length (extents_in (P.SectorView.space space.old).content file.now)) file.now.data_fork.total_blocks file.now.data_fork.logical_size from (length value.now) ≡ false) }
     ensures no_cut { IsTrue (P.SectorView.space space.old).tells → IfOk result (λ put. IsTrue put → has_more file.now.data_fork.logical_size (from + length value.now) (blocks_for volume.old.header.block_size file.now.data_fork.logical_size) file.now.data_fork.total_blocks ≡ false) }
     ensures puts { IsTrue (P.SectorView.space space.old).tells → IfOk result (λ put. IsTrue put → PutsValue file.now from value.now volume.old volume.new (P.SectorView.space space.old).content (P.SectorView.space space.new).content) }
     ensures waits { IsTrue (P.SectorView.space space.old).tells → IfOk result (λ put. put ≡ false → IsSettled volume.new (P.SectorView.space space.new).content × ((P.SectorView.space space.new).content ≡ (P.SectorView.space space.old).content)) }
@@ -665,15 +712,33 @@ fn put_in_file<P: SectorSpace>(
 {
     let size = file.data_fork.logical_size;
     let total = file.data_fork.total_blocks;
-    let list = data_extents(volume, alloc, space, file)?;
-    let extents = list.len();
+    let fork = data_fork(volume, alloc, space, file)?;
+    let extents = fork.list.len();
     if !are_countable(extents) {
         return Err(Trouble::Memory);
     }
-    let how = how_to_put(volume, space, extents, total, size, from, value.len());
+    let how = how_to_put(
+        volume,
+        space,
+        extents,
+        fork.records,
+        total,
+        size,
+        from,
+        value.len(),
+    );
     if let Some(spread) = how {
         put_over(
-            volume, alloc, space, entry, file, &list, from, value, spread,
+            volume,
+            alloc,
+            space,
+            entry,
+            file,
+            &fork.list,
+            from,
+            value,
+            spread,
+            fork.records,
         )?;
         return Ok(true);
     }
@@ -703,6 +768,8 @@ fn put_in_entry<P: SectorSpace>(
     ensures service { IsInService volume.new (P.SectorView.space space.new) }
     ensures exactly { IsTrue (P.SectorView.space space.old).tells → (file : FileRecord) → entry.now.rec ≡ File file
         → IfOk result (λ put. put ≡ false → can_put volume.old (P.SectorView.space space.old).spare (length (extents_in (P.SectorView.space space.old).content file)) file.data_fork.total_blocks file.data_fork.logical_size from (length value.now) ≡ false) }
+    ensures met { IsTrue (P.SectorView.space space.old).tells → (file : FileRecord) → entry.now.rec ≡ File file
+        → IfOk result (λ put. put ≡ false → is_put_met volume.old (volume_of (P.SectorView.space space.old).content) (P.SectorView.space space.old).spare (records_held (volume_of (P.SectorView.space space.old).content) file.fields.id) (length (extents_in (P.SectorView.space space.old).content file)) file.data_fork.total_blocks file.data_fork.logical_size from (length value.now) ≡ false) }
     ensures no_cut { IsTrue (P.SectorView.space space.old).tells → (file : FileRecord) → entry.now.rec ≡ File file
         → IfOk result (λ put. IsTrue put → has_more file.data_fork.logical_size (from + length value.now) (blocks_for volume.old.header.block_size file.data_fork.logical_size) file.data_fork.total_blocks ≡ false) }
     ensures puts { IsTrue (P.SectorView.space space.old).tells → (file : FileRecord) → entry.now.rec ≡ File file → IfOk result (λ put. IsTrue put → PutsValue file from value.now volume.old volume.new (P.SectorView.space space.old).content (P.SectorView.space space.new).content) }
@@ -741,6 +808,8 @@ pub(crate) fn put_data<P: SectorSpace>(
     ensures service { IsInService volume.new (P.SectorView.space space.new) }
     ensures exactly { IsTrue (P.SectorView.space space.old).tells → (node : PlainNode) → Contains (tree_of (P.SectorView.space space.old).content).nodes node → node.id ≡ id → node.folder ≡ false
         → (put : Data) → put.id ≡ id → IsAt put (length node.bytes) from (from + length value.now) → IfOk result (λ said. said ≡ false → is_put_now volume.old (P.SectorView.space space.old).spare (volume_of (P.SectorView.space space.old).content) (Some put) ≡ false) }
+    ensures met { IsTrue (P.SectorView.space space.old).tells → (node : PlainNode) → Contains (tree_of (P.SectorView.space space.old).content).nodes node → node.id ≡ id → node.folder ≡ false
+        → (put : Data) → put.id ≡ id → IsAt put (length node.bytes) from (from + length value.now) → IfOk result (λ said. said ≡ false → is_data_met volume.old (P.SectorView.space space.old).spare (volume_of (P.SectorView.space space.old).content) (Some put) ≡ false) }
     ensures no_cut { IsTrue (P.SectorView.space space.old).tells → (node : PlainNode) → Contains (tree_of (P.SectorView.space space.old).content).nodes node → node.id ≡ id → node.folder ≡ false
         → (put : Data) → put.id ≡ id → IsAt put (length node.bytes) from (from + length value.now) → IfOk result (λ said. IsTrue said → needs_cut (volume_of (P.SectorView.space space.old).content) (Some put) ≡ false) }
     ensures puts { IsTrue (P.SectorView.space space.old).tells → IfOk result (λ said. IsTrue said → PutsAt id from value.now volume.old volume.new (P.SectorView.space space.old).content (P.SectorView.space space.new).content) }

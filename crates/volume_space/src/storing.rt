@@ -1,5 +1,5 @@
 //! The extents of a file's fork, read and stored: those behind the eight of its record stand in overflow records (TN1150, "Extents Overflow File").
-ghost use Rattle.std.specs.Prelude.{◌≡◌, ◌≢◌, ◌⊎◌, ◌<◌, ◌≤◌, ◌+◌, ◌-◌, ◌*◌, ◌/◌, ◌^◌, ℕ, List, false, true, map, min, IsTrue, IfOk, IfSome, OnOk, length};
+ghost use Rattle.std.specs.Prelude.{◌≡◌, ◌≢◌, ◌⊎◌, ◌<◌, ◌≤◌, ◌+◌, ◌-◌, ◌*◌, ◌/◌, ◌^◌, ℕ, List, false, true, map, max, min, IsTrue, IfNone, IfOk, IfSome, OnOk, length};
 ghost use Rattle.std.specs.List.{Contains};
 ghost use Rattle.sector_disk.specs.Lists.{Content};
 ghost use Rattle.btree_node.specs.Keys.{IsExtentKey, extent_cmp, is_eight_extents};
@@ -16,7 +16,7 @@ ghost use Rattle.fork_map.specs.Blocks.{blocks_of};
 ghost use Rattle.hfs_volume.specs.Content.{records_of, volume_of};
 ghost use Rattle.hfs_volume.specs.Forks.{extents_id, in_use, is_full, parts_for};
 ghost use Rattle.hfs_volume.specs.Records.{overflow_of};
-ghost use Rattle.overflow.specs.Reading.{HasExtents, overflow_in_store};
+ghost use Rattle.overflow.specs.Reading.{HasExtents, fork_records};
 ghost use Rattle.overflow.specs.Room.{HasStoreRoom};
 ghost use Rattle.volume_cost.specs.Sizes.{AreSmall};
 ghost use Rattle.volume_space.specs.Cutting.{IsForkOf, kind_of, spread_load};
@@ -24,6 +24,7 @@ ghost use Rattle.volume_base.specs.Lists.{lists_of};
 ghost use Rattle.volume_base.specs.Looking.{ReadsVolume};
 ghost use Rattle.volume_base.specs.Reading.{HasFile};
 ghost use Rattle.volume_base.specs.Service.{IsInService};
+ghost use Rattle.volume_space.specs.Recording.{records_held};
 ghost use Rattle.volume_space.specs.Spreading.{SpreadsExtents, StoresExtents, is_met_extents, needs_extents};
 ghost use Rattle.volume_base.specs.Spreading.{StoresFork};
 ghost use Rattle.volume_base.specs.Standing.{IsSettled, StandsOver, own_sectors};
@@ -114,13 +115,12 @@ pub(crate) fn eighths(number: u64) -> u64
     (number - 1) / 8 + 1
 }
 
-/// How many edits at most make the overflow records of a fork of so many extents those of so many others, and one at least; none where there are too
-/// many.
-pub(crate) fn count_edits(old: usize, new: usize) -> Option<u32>
-    ensures some { IfSome result (λ edits. 0 < edits) }
-    ensures enough { IfSome result (λ edits. old / 8 + parts_for (new - 8) 8 ≤ edits) }
+/// How many edits at most make so many overflow records of a fork those of so many extents, and one at least; none where there are too many.
+pub(crate) fn count_edits(records: u64, new: usize) -> Option<u32>
+    ensures exact { IfSome result (λ edits. edits ≡ max (records + parts_for (new - 8) 8) 1) }
+    ensures few { IfNone result (4294967295 < records + parts_for (new - 8) 8) }
 {
-    let all = (old as u64) / 8 + eighths((new as u64).saturating_sub(8));
+    let all = u128::from(records) + u128::from(eighths((new as u64).saturating_sub(8)));
     if all > 0xFFFF_FFFF {
         return None;
     }
@@ -293,18 +293,18 @@ pub(crate) fn fits_extent_edits<P: SectorSpace>(volume: &Volume, space: &P, edit
     is_met(cost(&needs_of_extents(edits), &room), space.spare())
 }
 
-/// Whether the overflow records of a file's fork can be made those of other extents.
+/// Whether the overflow records of a file's data fork, of which there are so many, can be made those of other extents.
 fn can_spread<P: SectorSpace>(
     volume: &Volume,
     space: &P,
     id: u32,
-    list: &ExtentList,
+    records: u64,
     later: &ExtentList,
 ) -> bool
     ensures user { IsTrue result → 16 ≤ id }
     ensures full { IsTrue result → is_full later.now ≡ true }
     ensures few { IsTrue result → length (blocks_of later.now) < 2 ^ 32 }
-    ensures room { IsTrue result → (names : List ℕ) → IsTrue (P.SectorView.space space.now).tells → HasExtents (overflow_in_store (state_of names volume.now.extents.file (P.SectorView.space space.now))) id 0 list.now
+    ensures room { IsTrue result → (names : List ℕ) → IsTrue (P.SectorView.space space.now).tells → records ≡ length (fork_records id 0 (state_of names volume.now.extents.file (P.SectorView.space space.now)))
         → HasStoreRoom (state_of names volume.now.extents.file (P.SectorView.space space.now)) id 0 later.now }
 {
     if !is_user_id(id) {
@@ -316,7 +316,7 @@ fn can_spread<P: SectorSpace>(
     if !are_few(later) {
         return false;
     }
-    let Some(edits) = count_edits(list.len(), later.len()) else {
+    let Some(edits) = count_edits(records, later.len()) else {
         return false;
     };
     fits_extent_edits(volume, space, edits)
@@ -357,9 +357,11 @@ fn spread_extents<P: SectorSpace>(
     id: u32,
     list: &ExtentList,
     later: &ExtentList,
+    records: u64,
 ) -> Result<(), Trouble>
     requires stands { StandsOver volume.old (P.SectorView.space space.old) }
     requires has { IsTrue (P.SectorView.space space.old).tells → HasExtents (map overflow_of (lists_of volume.old (P.SectorView.space space.old).content).overflow_pairs) id 0 list.now }
+    requires counted { IsTrue (P.SectorView.space space.old).tells → records ≡ records_held (lists_of volume.old (P.SectorView.space space.old).content) id }
     ensures stands { OnOk result (StandsOver volume.new (P.SectorView.space space.new)) }
     ensures service { IsInService volume.new (P.SectorView.space space.new) }
     ensures rest { volume.new ≡ record volume.old { extents = volume.new.extents } }
@@ -369,7 +371,7 @@ fn spread_extents<P: SectorSpace>(
     ensures below { P.SectorView.follows space.old space.new }
     ensures cause { HasTroubleCause (P.SectorView.space space.old).faults (P.SectorView.space space.new).faults result }
 {
-    if !can_spread(volume, space, id, list, later) {
+    if !can_spread(volume, space, id, records, later) {
         return Err(Trouble::Memory);
     }
     store_extents(volume, alloc, space, id, 0, list, later)?;
@@ -386,10 +388,12 @@ pub(crate) fn store_later<P: SectorSpace>(
     list: &ExtentList,
     later: &ExtentList,
     spread: bool,
+    records: u64,
 ) -> Result<(), Trouble>
     requires stands { StandsOver volume.old (P.SectorView.space space.old) }
     requires short { spread ≡ false → length list.now < 8 }
     requires has { IsTrue (P.SectorView.space space.old).tells → HasExtents (map overflow_of (lists_of volume.old (P.SectorView.space space.old).content).overflow_pairs) id 0 list.now }
+    requires counted { IsTrue (P.SectorView.space space.old).tells → records ≡ records_held (lists_of volume.old (P.SectorView.space space.old).content) id }
     ensures stands { OnOk result (StandsOver volume.new (P.SectorView.space space.new)) }
     ensures service { IsInService volume.new (P.SectorView.space space.new) }
     ensures rest { volume.new ≡ record volume.old { extents = volume.new.extents } }
@@ -401,7 +405,7 @@ pub(crate) fn store_later<P: SectorSpace>(
     ensures cause { HasTroubleCause (P.SectorView.space space.old).faults (P.SectorView.space space.new).faults result }
 {
     if spread {
-        return spread_extents(volume, alloc, space, id, list, later);
+        return spread_extents(volume, alloc, space, id, list, later, records);
     }
     keep_extents(volume, space, id, list, later)
 }

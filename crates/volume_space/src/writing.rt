@@ -22,7 +22,7 @@ ghost use Rattle.volume_space.specs.Spilling.{IsLaidOutAs};
 ghost use Rattle.volume_space.specs.Standing.{HoldsOn};
 ghost use Rattle.volume_base.specs.Standing.{IsSettled, StandsOver, own_sectors};
 ghost use Rattle.volume_base.specs.Touching.{Touches};
-ghost use Rattle.volume_space.specs.Writing.{HasData, IsFlat, is_put_now};
+ghost use Rattle.volume_space.specs.Writing.{HasData, IsFlat, is_data_met, is_put_now};
 
 use crate::putting::put_data;
 use hfs_language::{Facts, Path, Reply};
@@ -75,6 +75,7 @@ fn write_told<P: SectorSpace>(
     ensures waits { IsTrue (P.SectorView.space space.old).tells → IfOk result (λ said. IfNone said ((P.SectorView.space space.new).content ≡ (P.SectorView.space space.old).content)) }
     ensures waiting { IsTrue (P.SectorView.space space.old).tells → IfOk result (λ said. IfNone said (refuses (tree_of (P.SectorView.space space.old).content) (Ok (command.Write _path.now from value.now)) ≡ false)) }
     ensures exactly { IsTrue (P.SectorView.space space.old).tells → IfOk result (λ said. IfNone said (is_put_now volume.old (P.SectorView.space space.old).spare (volume_of (P.SectorView.space space.old).content) (data_of (tree_of (P.SectorView.space space.old).content) (command.Write _path.now from value.now)) ≡ false)) }
+    ensures met { IsTrue (P.SectorView.space space.old).tells → IfOk result (λ said. IfNone said (is_data_met volume.old (P.SectorView.space space.old).spare (volume_of (P.SectorView.space space.old).content) (data_of (tree_of (P.SectorView.space space.old).content) (command.Write _path.now from value.now)) ≡ false)) }
     ensures same { (volume.new.private ≡ volume.old.private) × (volume.new.shrunk ≡ volume.old.shrunk) × (volume.new.capacity ≡ volume.old.capacity) }
     ensures stands { OnOk result (StandsOver volume.new (P.SectorView.space space.new)) }
     ensures settled { IsTrue (P.SectorView.space space.old).tells → OnOk result (IsSettled volume.new (P.SectorView.space space.new).content) }
@@ -122,6 +123,7 @@ fn lengthen_told<P: SectorSpace>(
     ensures waits { IsTrue (P.SectorView.space space.old).tells → IfOk result (λ said. IfNone said ((P.SectorView.space space.new).content ≡ (P.SectorView.space space.old).content)) }
     ensures waiting { IsTrue (P.SectorView.space space.old).tells → IfOk result (λ said. IfNone said (refuses (tree_of (P.SectorView.space space.old).content) (Ok (command.Trunc _path.now size)) ≡ false)) }
     ensures exactly { IsTrue (P.SectorView.space space.old).tells → IfOk result (λ said. IfNone said (is_put_now volume.old (P.SectorView.space space.old).spare (volume_of (P.SectorView.space space.old).content) (data_of (tree_of (P.SectorView.space space.old).content) (command.Trunc _path.now size)) ≡ false)) }
+    ensures met { IsTrue (P.SectorView.space space.old).tells → IfOk result (λ said. IfNone said (is_data_met volume.old (P.SectorView.space space.old).spare (volume_of (P.SectorView.space space.old).content) (data_of (tree_of (P.SectorView.space space.old).content) (command.Trunc _path.now size)) ≡ false)) }
     ensures same { (volume.new.private ≡ volume.old.private) × (volume.new.shrunk ≡ volume.old.shrunk) × (volume.new.capacity ≡ volume.old.capacity) }
     ensures stands { OnOk result (StandsOver volume.new (P.SectorView.space space.new)) }
     ensures settled { IsTrue (P.SectorView.space space.old).tells → OnOk result (IsSettled volume.new (P.SectorView.space space.new).content) }
@@ -172,10 +174,11 @@ pub fn write<P: SectorSpace>(
     ensures refused { IsTrue (P.SectorView.space space.old).tells → IfOk result (λ said. IfSome said (λ reply. is_refusal reply ≡ true → (P.SectorView.space space.new).content ≡ (P.SectorView.space space.old).content)) }
     // Where it isn't refused, the file has the data in the content's lists, and nothing else of them is changed.
     ensures lists { IsTrue (P.SectorView.space space.old).tells → IfOk result (λ said. said ≡ Some reply.Ok → HasData (command.Write path.now from value.now) (P.SectorView.space space.old).content (P.SectorView.space space.new).content) }
-    // Nothing is answered exactly where the step doesn't refuse it, and the data can't be put now; and then nothing is changed.
+    // Nothing is answered exactly where the step doesn't refuse it, and the data can't be put now, nor is met by what it costs; and then nothing is changed.
     ensures waits { IsTrue (P.SectorView.space space.old).tells → IfOk result (λ said. IfNone said ((P.SectorView.space space.new).content ≡ (P.SectorView.space space.old).content)) }
     ensures waiting { IsTrue (P.SectorView.space space.old).tells → IfOk result (λ said. IfNone said (refuses (tree_of (P.SectorView.space space.old).content) (Ok (command.Write path.now from value.now)) ≡ false)) }
     ensures exactly { IsTrue (P.SectorView.space space.old).tells → IfOk result (λ said. IfNone said (is_put_now volume.old (P.SectorView.space space.old).spare (volume_of (P.SectorView.space space.old).content) (data_of (tree_of (P.SectorView.space space.old).content) (command.Write path.now from value.now)) ≡ false)) }
+    ensures met { IsTrue (P.SectorView.space space.old).tells → IfOk result (λ said. IfNone said (is_data_met volume.old (P.SectorView.space space.old).spare (volume_of (P.SectorView.space space.old).content) (data_of (tree_of (P.SectorView.space space.old).content) (command.Write path.now from value.now)) ≡ false)) }
     ensures shrunk { shrunk_of volume.new ≡ shrunk_of volume.old }
     ensures capacity { capacity_of volume.new ≡ capacity_of volume.old }
     ensures stands { OnOk result (StandsOver volume.new (P.SectorView.space space.new)) }
@@ -220,10 +223,11 @@ pub fn lengthen<P: SectorSpace>(
     ensures refused { IsTrue (P.SectorView.space space.old).tells → IfOk result (λ said. IfSome said (λ reply. is_refusal reply ≡ true → (P.SectorView.space space.new).content ≡ (P.SectorView.space space.old).content)) }
     // Where it isn't refused, the file has the data in the content's lists, and nothing else of them is changed.
     ensures lists { IsTrue (P.SectorView.space space.old).tells → IfOk result (λ said. said ≡ Some reply.Ok → HasData (command.Trunc path.now size) (P.SectorView.space space.old).content (P.SectorView.space space.new).content) }
-    // Nothing is answered exactly where the step doesn't refuse it, and the data can't be put now; and then nothing is changed.
+    // Nothing is answered exactly where the step doesn't refuse it, and the data can't be put now, nor is met by what it costs; and then nothing is changed.
     ensures waits { IsTrue (P.SectorView.space space.old).tells → IfOk result (λ said. IfNone said ((P.SectorView.space space.new).content ≡ (P.SectorView.space space.old).content)) }
     ensures waiting { IsTrue (P.SectorView.space space.old).tells → IfOk result (λ said. IfNone said (refuses (tree_of (P.SectorView.space space.old).content) (Ok (command.Trunc path.now size)) ≡ false)) }
     ensures exactly { IsTrue (P.SectorView.space space.old).tells → IfOk result (λ said. IfNone said (is_put_now volume.old (P.SectorView.space space.old).spare (volume_of (P.SectorView.space space.old).content) (data_of (tree_of (P.SectorView.space space.old).content) (command.Trunc path.now size)) ≡ false)) }
+    ensures met { IsTrue (P.SectorView.space space.old).tells → IfOk result (λ said. IfNone said (is_data_met volume.old (P.SectorView.space space.old).spare (volume_of (P.SectorView.space space.old).content) (data_of (tree_of (P.SectorView.space space.old).content) (command.Trunc path.now size)) ≡ false)) }
     ensures shrunk { shrunk_of volume.new ≡ shrunk_of volume.old }
     ensures capacity { capacity_of volume.new ≡ capacity_of volume.old }
     ensures stands { OnOk result (StandsOver volume.new (P.SectorView.space space.new)) }

@@ -1,6 +1,12 @@
 use Rattle.std.proofs.Common.{◌≡◌, ◌≤◌, ◌+◌, Bool, true, false, sym, ◌∙◌, ap}
 use Rattle.std.proofs.lemmas.Bool.{true≢false}
+use Rattle.flag_rows.specs.Runs.{fewest_of}
+use Rattle.alloc_bitmap.specs.Map.{free_of}
+use Rattle.hfs_volume.specs.Content.{volume_of}
+use Rattle.hfs_volume.specs.Weight.{free_runs}
+use Rattle.volume_space.specs.Writing.{blocks_put, is_put_met, may_overflow}
 use Rattle.volume_space.proofs.PutAllowed.{can_no_more, can_parts}
+use Rattle.volume_space.proofs.PutMet.{flat_met, not_met, not_put}
 use Rattle.volume_space.proofs.putting.how_to_put.Goals as goal
 
 pub returns-then-is_put_now-clause-cut : goal.returns-then-is_put_now-clause-cut
@@ -26,3 +32,12 @@ returns-then-is_put_spread-clause-flat g c flat = absurd (true≢false (sym (c.i
 
 pub returns-clause-exactly : goal.returns-clause-exactly
 returns-clause-exactly g c = sym c.is_put_now.ensures ∙ c.if-is_put_now.false
+
+pub returns-clause-met : goal.returns-clause-met
+returns-clause-met g c tells =
+    let v = c.args.volume.now in
+    let a = g.P.SectorView.space c.args.space.now in
+    not_met (is_put_met v (volume_of a.content) a.spare c.args.records c.args.extents c.args.total c.args.size c.args.from c.args.long)
+    (λ ok. not_put (may_overflow c.args.extents (fewest_of (blocks_put v c.args.size c.args.from c.args.long) (free_runs (free_of v.map))))
+    (λ flat. true≢false (sym (c.is_put_now.ensures ∙ flat_met c.a_load_says_enough.ensures v a.content (c.requires.settled tells) a.spare c.args.records c.args.extents c.args.total c.args.size c.args.from c.args.long ok flat) ∙ c.if-is_put_now.false))
+    (λ spread. true≢false (sym (c.is_put_spread.ensures.met tells spread ok) ∙ c.if-is_put_spread.false)))

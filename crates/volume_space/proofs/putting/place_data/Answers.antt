@@ -14,6 +14,7 @@ use Rattle.hfs_volume.specs.Entries.{AreSpelled}
 use Rattle.volume_base.specs.Changing.{catalog_node}
 use Rattle.volume_base.specs.Lists.{lists_of}
 use Rattle.volume_base.specs.Touching.{Touches}
+use Rattle.volume_space.specs.Recording.{records_held}
 use Rattle.volume_space.specs.Writing.{fork_with, record_with}
 use Rattle.volume_base.specs.declared.volume.Volume.{Volume}
 use Rattle.volume_base.proofs.Commanding.{touches_both}
@@ -74,6 +75,11 @@ store_later-requires-clause-has g c told =
     let tells = sym c.spill.ensures.same.tells ∙ told in
     told_extents c.args.volume.now (g.P.SectorView.space c.args.space.now).content (c.requires.settled tells) c.args.file.now c.requires.fits c.args.list.now (c.requires.told tells) (overflow_in_volume (lists_of c.spill.new.volume (g.P.SectorView.space c.spill.new.space).content))
     (ap (λ (l : VolumeState). overflow_in_volume l) (c.in_ok-later.ensures.lists tells) ∙ sym (ap (λ (l : VolumeState). overflow_in_volume l) (c.requires.settled tells).lists))
+
+pub store_later-requires-clause-counted : goal.store_later-requires-clause-counted
+store_later-requires-clause-counted g c told =
+    let tells = sym c.spill.ensures.same.tells ∙ told in
+    c.requires.counted tells ∙ sym (ap (λ (l : VolumeState). records_held l c.args.file.now.fields.id) (c.in_ok-later.ensures.lists tells))
 
 pub replace-requires-clause-spelled : goal.replace-requires-clause-spelled
 replace-requires-clause-spelled g c told =

@@ -13,14 +13,16 @@ use Rattle.hfs_volume.specs.Records.{is_thread}
 use Rattle.volume_base.specs.Touching.{Touches}
 use Rattle.file_io.specs.Places.{blocks_for}
 use Rattle.volume_header.specs.declared.header.VolumeHeader.{VolumeHeader}
-use Rattle.volume_space.specs.Writing.{IsToldFile, extents_in, has_more, may_overflow}
+use Rattle.volume_space.specs.Recording.{records_held}
+use Rattle.volume_space.specs.Writing.{is_data_met, IsToldFile, extents_in, has_more, may_overflow}
 use Rattle.volume_base.specs.declared.entries.Entry.{Entry}
 use Rattle.volume_base.proofs.Commanding.{touches_both, touches_looks}
 use Rattle.volume_space.proofs.CutKept.{own_kept}
 use Rattle.volume_base.proofs.FoundEntry.{IsThere, entry_there, not_none, settled_spelled}
 use Rattle.volume_space.proofs.KeptUsed.{used_read}
 use Rattle.volume_space.proofs.PutAlike.{alike_both, alike_kept, alike_read, can_still, fewest_still, laid_alike, load_alike, puts_alike}
-use Rattle.volume_space.proofs.PutFile.{cut_is, over_is, entry_is, has_it, its, load_now, now_is, number_is, same_file, same_files, told_is}
+use Rattle.volume_space.proofs.PutMet.{met_alike, not_met}
+use Rattle.volume_space.proofs.PutFile.{data_met, cut_is, over_is, entry_is, has_it, its, load_now, now_is, number_is, same_file, same_files, told_is}
 use Rattle.volume_base.proofs.Seeing.{if_so}
 use Rattle.volume_base.proofs.Still.{lists_still, own_still, settled_still}
 use Rattle.volume_space.proofs.WhenKept.{holds_kept, settled_kept, stands_kept, unchanged_kept}
@@ -73,6 +75,24 @@ returns-in-Some-clause-exactly g c tells node stands number kind put put_id at =
     (λ said is other. sym (can_still c.args.volume.now c.entry.new.self (alike_both c.args.volume.now c.keep.new.self c.entry.new.self (alike_kept c.args.volume.now c.keep.new.self c.keep.ensures) (alike_read c.keep.new.self c.entry.new.self (g.P.SectorView.space c.args.space.now) (g.P.SectorView.space c.entry.new.space) c.entry.ensures.reads)) file.data_fork.logical_size c.args.from (length c.args.value.now) (g.P.SectorView.space c.entry.new.space).spare (g.P.SectorView.space c.args.space.now).spare (length (extents_in (g.P.SectorView.space c.entry.new.space).content file)) (length (extents_in (g.P.SectorView.space c.args.space.now).content file)) file.data_fork.total_blocks c.entry.ensures.reads.looks.spare (ap (λ (k : Content). length (extents_in k file)) (c.entry.ensures.reads.looks.content tells)) _ refl
     ∙ now_is c.args.volume.now (g.P.SectorView.space c.args.space.now) c.requires.stands tells (c.requires.settled tells) node stands kind file (same_files c.args.volume.now c.keep.new.self (g.P.SectorView.space c.args.space.now) c.requires.stands (stands_kept c.args.volume.now c.keep.new.self c.keep.ensures (g.P.SectorView.space c.args.space.now) c.requires.stands) tells (c.requires.settled tells) (settled_kept c.args.volume.now c.keep.new.self c.keep.ensures (g.P.SectorView.space c.args.space.now) (c.requires.settled tells)) node stands kind) put c.args.from (length c.args.value.now) (g.P.SectorView.space c.args.space.now).spare (put_id ∙ sym number) at) ∙ is other)
     (c.put_in_entry.ensures.exactly (c.entry.ensures.reads.looks.same.tells ∙ tells) file (entry_is c.keep.new.self (g.P.SectorView.space c.args.space.now) (stands_kept c.args.volume.now c.keep.new.self c.keep.ensures (g.P.SectorView.space c.args.space.now) c.requires.stands) tells (settled_kept c.args.volume.now c.keep.new.self c.keep.ensures (g.P.SectorView.space c.args.space.now) (c.requires.settled tells)) node stands kind c.args.id c.in-Some.entry number it))
+
+pub returns-in-Some-clause-met : goal.returns-in-Some-clause-met
+returns-in-Some-clause-met g c tells node stands number kind put put_id at =
+    let v = c.args.volume.now in
+    let a = g.P.SectorView.space c.args.space.now in
+    let b = g.P.SectorView.space c.entry.new.space in
+    let it : IsThere _ c.args.id c.in-Some.entry = entry_there c.keep.new.self a.content ((stands_kept v c.keep.new.self c.keep.ensures a c.requires.stands).stands tells).trees (settled_kept v c.keep.new.self c.keep.ensures a (c.requires.settled tells)) c.args.id node stands number c.in-Some.entry (sym c.in-Some.is ∙ c.in_ok-entry.ensures.found tells) in
+    let file = (its c.keep.new.self a (stands_kept v c.keep.new.self c.keep.ensures a c.requires.stands) tells (settled_kept v c.keep.new.self c.keep.ensures a (c.requires.settled tells)) node stands kind).file in
+    let same = same_files v c.keep.new.self a c.requires.stands (stands_kept v c.keep.new.self c.keep.ensures a c.requires.stands) tells (c.requires.settled tells) (settled_kept v c.keep.new.self c.keep.ensures a (c.requires.settled tells)) node stands kind in
+    if_so _ _ c.put_in_entry.result
+    (λ said is other. not_met (is_data_met v a.spare (volume_of a.content) (Some put)) (λ ok.
+    true≢false (sym (data_met v a c.requires.stands tells (c.requires.settled tells) node stands kind file same put c.args.from (length c.args.value.now) (put_id ∙ sym number) at c.requires.some a.spare ok)
+    ∙ sym (met_alike v c.entry.new.self (alike_both v c.keep.new.self c.entry.new.self (alike_kept v c.keep.new.self c.keep.ensures) (alike_read c.keep.new.self c.entry.new.self a b c.entry.ensures.reads))
+    (c.entry.ensures.reads.keeps.capacity ∙ c.keep.ensures.same.capacity) (volume_of b.content) (volume_of a.content) (ap volume_of (c.entry.ensures.reads.looks.content tells)) b.spare a.spare
+    (records_held (volume_of b.content) file.fields.id) (records_held (volume_of a.content) file.fields.id) (length (extents_in b.content file)) (length (extents_in a.content file)) file.data_fork.total_blocks file.data_fork.logical_size c.args.from (length c.args.value.now)
+    c.entry.ensures.reads.looks.spare (ap (λ (k : Content). records_held (volume_of k) file.fields.id) (c.entry.ensures.reads.looks.content tells)) (ap (λ (k : Content). length (extents_in k file)) (c.entry.ensures.reads.looks.content tells)))
+    ∙ is other)))
+    (c.put_in_entry.ensures.met (c.entry.ensures.reads.looks.same.tells ∙ tells) file (entry_is c.keep.new.self a (stands_kept v c.keep.new.self c.keep.ensures a c.requires.stands) tells (settled_kept v c.keep.new.self c.keep.ensures a (c.requires.settled tells)) node stands kind c.args.id c.in-Some.entry number it))
 
 pub returns-in-Some-clause-no_cut : goal.returns-in-Some-clause-no_cut
 returns-in-Some-clause-no_cut g c tells node stands number kind put put_id at =
@@ -166,6 +186,9 @@ returns-in_err-entry-clause-service g c = c.entry.ensures.stands.service
 
 pub returns-in-None-clause-exactly : goal.returns-in-None-clause-exactly
 returns-in-None-clause-exactly g c tells node stands number kind put put_id at other = absurd (not_none c.keep.new.self (g.P.SectorView.space c.args.space.now).content ((stands_kept c.args.volume.now c.keep.new.self c.keep.ensures (g.P.SectorView.space c.args.space.now) c.requires.stands).stands tells).trees (settled_kept c.args.volume.now c.keep.new.self c.keep.ensures (g.P.SectorView.space c.args.space.now) (c.requires.settled tells)) c.args.id node stands number (sym c.in-None.is ∙ c.in_ok-entry.ensures.found tells))
+
+pub returns-in-None-clause-met : goal.returns-in-None-clause-met
+returns-in-None-clause-met g c tells node stands number kind put put_id at other = absurd (not_none c.keep.new.self (g.P.SectorView.space c.args.space.now).content ((stands_kept c.args.volume.now c.keep.new.self c.keep.ensures (g.P.SectorView.space c.args.space.now) c.requires.stands).stands tells).trees (settled_kept c.args.volume.now c.keep.new.self c.keep.ensures (g.P.SectorView.space c.args.space.now) (c.requires.settled tells)) c.args.id node stands number (sym c.in-None.is ∙ c.in_ok-entry.ensures.found tells))
 
 pub returns-in-None-clause-no_cut : goal.returns-in-None-clause-no_cut
 returns-in-None-clause-no_cut g c tells node stands number kind put put_id at so = absurd (true≢false (sym so))

@@ -6,8 +6,10 @@ use Rattle.hfs_volume.specs.Records.{is_thread}
 use Rattle.alloc_bitmap.specs.Map.{free_of}
 use Rattle.file_io.specs.Places.{blocks_for}
 use Rattle.flag_rows.specs.Runs.{fewest_of}
+use Rattle.hfs_volume.specs.Content.{volume_of}
 use Rattle.hfs_volume.specs.Weight.{free_runs}
-use Rattle.volume_space.specs.Writing.{PutsValue, blocks_put, can_put, extents_in, has_more, may_overflow, put_load}
+use Rattle.volume_space.specs.Recording.{records_held}
+use Rattle.volume_space.specs.Writing.{PutsValue, blocks_put, can_put, extents_in, has_more, is_put_met, may_overflow, put_load}
 use Rattle.volume_base.proofs.Commanding.{touches_none}
 use Rattle.volume_space.proofs.PutFile.{not_folder, not_thread, same_file}
 use Rattle.volume_space.proofs.putting.put_in_entry.Goals as goal
@@ -32,6 +34,16 @@ returns-in-File-clause-puts g c tells file is =
 pub returns-in-File-clause-spent : goal.returns-in-File-clause-spent
 returns-in-File-clause-spent g c tells file is =
     subst (λ (f : FileRecord). may_overflow (length (extents_in (g.P.SectorView.space c.args.space.now).content f)) (fewest_of (blocks_put c.args.volume.now f.data_fork.logical_size c.args.from (length c.args.value.now)) (free_runs (free_of c.args.volume.now.map))) ≡ false → ((g.P.SectorView.space c.args.space.now).spare ≤ (g.P.SectorView.space c.put_in_file.new.space).spare) ⊎ ((can_put c.args.volume.now (g.P.SectorView.space c.args.space.now).spare (length (extents_in (g.P.SectorView.space c.args.space.now).content f)) f.data_fork.total_blocks f.data_fork.logical_size c.args.from (length c.args.value.now) ≡ true) × ((g.P.SectorView.space c.args.space.now).spare ≤ (g.P.SectorView.space c.put_in_file.new.space).spare + put_load c.args.volume.now f.data_fork.logical_size c.args.from (length c.args.value.now)))) (same_file c.in-File.file file (sym c.in-File.is ∙ is)) (c.put_in_file.ensures.spent tells)
+
+pub returns-in-File-clause-met : goal.returns-in-File-clause-met
+returns-in-File-clause-met g c tells file is =
+    subst (λ (f : FileRecord). IfOk c.put_in_file.result (λ put. put ≡ false → is_put_met c.args.volume.now (volume_of (g.P.SectorView.space c.args.space.now).content) (g.P.SectorView.space c.args.space.now).spare (records_held (volume_of (g.P.SectorView.space c.args.space.now).content) f.fields.id) (length (extents_in (g.P.SectorView.space c.args.space.now).content f)) f.data_fork.total_blocks f.data_fork.logical_size c.args.from (length c.args.value.now) ≡ false)) (same_file c.in-File.file file (sym c.in-File.is ∙ is)) (c.put_in_file.ensures.met tells)
+
+pub returns-in-Folder-clause-met : goal.returns-in-Folder-clause-met
+returns-in-Folder-clause-met g c tells file is = absurd (not_folder c.in-Folder._folder file (sym c.in-Folder.is ∙ is))
+
+pub returns-in-Thread-clause-met : goal.returns-in-Thread-clause-met
+returns-in-Thread-clause-met g c tells file is = absurd (not_thread c.in-Thread._thread file (sym c.in-Thread.is ∙ is))
 
 pub returns-in-Folder-clause-exactly : goal.returns-in-Folder-clause-exactly
 returns-in-Folder-clause-exactly g c tells file is = absurd (not_folder c.in-Folder._folder file (sym c.in-Folder.is ∙ is))

@@ -1,18 +1,19 @@
-use Rattle.std.proofs.Common.{◌≡◌, ℕ, inl, List, map, refl, sym, ◌∙◌, ap, subst}
+use Rattle.std.proofs.Common.{◌≡◌, ℕ, inl, length, List, map, refl, sym, ◌∙◌, ap, subst}
 use Rattle.std.specs.Prelude.{Result, Ok, OnOk}
 use Rattle.btree_node.specs.Keys.{IsExtentKey, extent_cmp, is_eight_extents}
 use Rattle.btree_node.specs.TreeFile.{extents_form}
 use Rattle.btree_file.proofs.StandingLaws.{pairs_held}
 use Rattle.hfs_volume.specs.Records.{Overflow, overflow_of}
-use Rattle.overflow.specs.Reading.{HasExtents}
+use Rattle.hfs_model.specs.Sorted.{kept}
+use Rattle.hfs_volume.specs.Forks.{is_of}
 use Rattle.volume_space.proofs.Spreads.{stored_spreads}
 use Rattle.volume_space.proofs.storing.spread_extents.Goals as goal
 
 pub store_extents-requires-clause-room : goal.store_extents-requires-clause-room
 store_extents-requires-clause-room g c names tells =
     c.can_spread.ensures.room c.if-not-can_spread.false names tells
-    (subst (λ (o : List Overflow). HasExtents o c.args.id 0 c.args.list.now)
-    (sym (ap (map overflow_of) (pairs_held extents_form IsExtentKey is_eight_extents extent_cmp names c.args.volume.now.extents.file (g.P.SectorView.space c.args.space.now) (c.requires.stands.stands tells).trees.extents))) (c.requires.has tells))
+    (subst (λ (o : List Overflow). c.args.records ≡ length (kept (is_of c.args.id 0) o))
+    (sym (ap (map overflow_of) (pairs_held extents_form IsExtentKey is_eight_extents extent_cmp names c.args.volume.now.extents.file (g.P.SectorView.space c.args.space.now) (c.requires.stands.stands tells).trees.extents))) (c.requires.counted tells))
 
 pub returns-clause-spreads : goal.returns-clause-spreads
 returns-clause-spreads g c tells =

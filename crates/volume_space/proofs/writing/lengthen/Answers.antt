@@ -16,10 +16,11 @@ use Rattle.volume_header.specs.declared.header.VolumeHeader.{VolumeHeader}
 use Rattle.alloc_bitmap.specs.Map.{BlockMap, free_of}
 use Rattle.volume_base.specs.Refusing.{facts_or}
 use Rattle.volume_base.specs.Touching.{Touches}
-use Rattle.volume_space.specs.Writing.{HasData, is_put_now, may_overflow}
+use Rattle.volume_space.specs.Writing.{HasData, is_data_met, is_put_now, may_overflow}
 use Rattle.volume_base.proofs.Commanding.{touches_both, touches_looks}
 use Rattle.volume_space.proofs.KeptUsed.{used_read}
 use Rattle.volume_space.proofs.PutAlike.{alike_read, laid_alike, now_alike}
+use Rattle.volume_space.proofs.PutMet.{data_met_alike}
 use Rattle.volume_base.proofs.Still.{own_still}
 use Rattle.volume_space.proofs.ShortenedCalls.{refused_stat}
 use Rattle.volume_space.proofs.writing.lengthen.Goals as goal
@@ -66,6 +67,12 @@ returns-in-Ok-clause-exactly g c tells =
     subst (λ b. IfOk c.lengthen_told.result (λ said. IfNone said (b ≡ false)))
     ((λ i. is_put_now c.facts.new.self (c.facts.ensures.reads.looks.spare i) (volume_of (c.facts.ensures.reads.looks.content tells i)) (data_of (tree_of (c.facts.ensures.reads.looks.content tells i)) (command.Trunc c.args.path.now c.args.size))) ∙ now_alike c.args.volume.now c.facts.new.self (alike_read c.args.volume.now c.facts.new.self (g.P.SectorView.space c.args.space.now) (g.P.SectorView.space c.facts.new.space) c.facts.ensures.reads) (g.P.SectorView.space c.args.space.now).spare (volume_of (g.P.SectorView.space c.args.space.now).content) (data_of (tree_of (g.P.SectorView.space c.args.space.now).content) (command.Trunc c.args.path.now c.args.size)))
     (c.lengthen_told.ensures.exactly (c.facts.ensures.reads.looks.same.tells ∙ tells))
+
+pub returns-in-Ok-clause-met : goal.returns-in-Ok-clause-met
+returns-in-Ok-clause-met g c tells =
+    subst (λ b. IfOk c.lengthen_told.result (λ said. IfNone said (b ≡ false)))
+    ((λ i. is_data_met c.facts.new.self (c.facts.ensures.reads.looks.spare i) (volume_of (c.facts.ensures.reads.looks.content tells i)) (data_of (tree_of (c.facts.ensures.reads.looks.content tells i)) (command.Trunc c.args.path.now c.args.size))) ∙ data_met_alike c.args.volume.now c.facts.new.self (alike_read c.args.volume.now c.facts.new.self (g.P.SectorView.space c.args.space.now) (g.P.SectorView.space c.facts.new.space) c.facts.ensures.reads) c.facts.ensures.reads.keeps.capacity (g.P.SectorView.space c.args.space.now).spare (volume_of (g.P.SectorView.space c.args.space.now).content) (data_of (tree_of (g.P.SectorView.space c.args.space.now).content) (command.Trunc c.args.path.now c.args.size)))
+    (c.lengthen_told.ensures.met (c.facts.ensures.reads.looks.same.tells ∙ tells))
 
 pub returns-in-Ok-clause-loads : goal.returns-in-Ok-clause-loads
 returns-in-Ok-clause-loads g c tells flat n grow is = omega (arith, c.facts.ensures.reads.looks.spare, c.lengthen_told.ensures.loads (c.facts.ensures.reads.looks.same.tells ∙ tells) (subst (λ (k : VolumeHeader × BlockMap × Content). (put : Data) → data_of (tree_of k.2) (command.Trunc c.args.path.now c.args.size) ≡ Some put → may_overflow (length (file_extents (volume_of k.2) put.id data_kind)) (fewest_of (new_blocks_of k.0.block_size put) (free_runs (free_of k.1))) ≡ false) {x = (c.args.volume.now.header, c.args.volume.now.map, (g.P.SectorView.space c.args.space.now).content)} {y = (c.facts.new.self.header, c.facts.new.self.map, (g.P.SectorView.space c.facts.new.space).content)} (λ i. (sym c.facts.ensures.reads.keeps.header i, sym c.facts.ensures.reads.keeps.map i, sym (c.facts.ensures.reads.looks.content tells) i)) flat) n grow ((λ i. weight_with (c.facts.ensures.reads.keeps.capacity i) (free_of (c.facts.ensures.reads.keeps.map i)) (volume_of (c.facts.ensures.reads.looks.content tells i)) (tree_of (c.facts.ensures.reads.looks.content tells i)) (command.Trunc c.args.path.now c.args.size)) ∙ is))

@@ -8,7 +8,7 @@ use Rattle.hfs_model.specs.Step.{Step}
 use Rattle.hfs_volume.specs.Content.{volume_of}
 use Rattle.hfs_volume.specs.TreeOf.{tree_of}
 use Rattle.hfs_volume.specs.Weight.{Data}
-use Rattle.volume_space.specs.Writing.{PutsAt, is_put_now}
+use Rattle.volume_space.specs.Writing.{PutsAt, is_data_met, is_put_now}
 use Rattle.volume_base.proofs.Commanding.{touches_none}
 use Rattle.volume_space.proofs.PutDone.{data_done, no_cut_now, trunc_done}
 use Rattle.volume_space.proofs.PutLoads.{trunc_loaded}
@@ -81,6 +81,13 @@ returns-clause-exactly g c tells =
     let there = file_there (tree_of (g.P.SectorView.space c.args.space.now).content) c.args._path.now it.node about.0.file in
     ap (λ (o : Option Data). is_put_now c.args.volume.now (g.P.SectorView.space c.args.space.now).spare (volume_of (g.P.SectorView.space c.args.space.now).content) o) (trunc_data (tree_of (g.P.SectorView.space c.args.space.now).content) c.args._path.now c.args.told.now it.node about.0 c.args.size (c.is_no_longer.ensures.long c.if-is_no_longer.false)) ∙ c.in_ok-put.ensures.exactly tells it.node there.0 about.0.id there.1 (put_by_trunc (tree_of (g.P.SectorView.space c.args.space.now).content) c.args._path.now c.args.told.now it.node about.0 c.args.size (c.is_no_longer.ensures.long c.if-is_no_longer.false)) (trunc_id (tree_of (g.P.SectorView.space c.args.space.now).content) c.args._path.now c.args.told.now it.node about.0 c.args.size (c.is_no_longer.ensures.long c.if-is_no_longer.false)) (trunc_at (tree_of (g.P.SectorView.space c.args.space.now).content) c.args._path.now c.args.told.now it.node about.0 c.args.size (c.is_no_longer.ensures.long c.if-is_no_longer.false)) c.if-put.false
 
+pub returns-clause-met : goal.returns-clause-met
+returns-clause-met g c tells =
+    let it = told_node (tree_of (g.P.SectorView.space c.args.space.now).content) c.args._path.now c.args.told.now (c.requires.told tells) in
+    let about = trunc_told (tree_of (g.P.SectorView.space c.args.space.now).content) c.args._path.now c.args.told.now it c.args.size (sym c.in_default.is ∙ c.against_trunc.ensures) in
+    let there = file_there (tree_of (g.P.SectorView.space c.args.space.now).content) c.args._path.now it.node about.0.file in
+    ap (λ (o : Option Data). is_data_met c.args.volume.now (g.P.SectorView.space c.args.space.now).spare (volume_of (g.P.SectorView.space c.args.space.now).content) o) (trunc_data (tree_of (g.P.SectorView.space c.args.space.now).content) c.args._path.now c.args.told.now it.node about.0 c.args.size (c.is_no_longer.ensures.long c.if-is_no_longer.false)) ∙ c.in_ok-put.ensures.met tells it.node there.0 about.0.id there.1 (put_by_trunc (tree_of (g.P.SectorView.space c.args.space.now).content) c.args._path.now c.args.told.now it.node about.0 c.args.size (c.is_no_longer.ensures.long c.if-is_no_longer.false)) (trunc_id (tree_of (g.P.SectorView.space c.args.space.now).content) c.args._path.now c.args.told.now it.node about.0 c.args.size (c.is_no_longer.ensures.long c.if-is_no_longer.false)) (trunc_at (tree_of (g.P.SectorView.space c.args.space.now).content) c.args._path.now c.args.told.now it.node about.0 c.args.size (c.is_no_longer.ensures.long c.if-is_no_longer.false)) c.if-put.false
+
 pub returns-then-put-clause-loads : goal.returns-then-put-clause-loads
 returns-then-put-clause-loads g c tells flat n grow is =
     let it = told_node (tree_of (g.P.SectorView.space c.args.space.now).content) c.args._path.now c.args.told.now (c.requires.told tells) in
@@ -128,6 +135,12 @@ returns-then-is_no_longer-clause-exactly g c tells =
     let it = told_node (tree_of (g.P.SectorView.space c.args.space.now).content) c.args._path.now c.args.told.now (c.requires.told tells) in
     let about = trunc_told (tree_of (g.P.SectorView.space c.args.space.now).content) c.args._path.now c.args.told.now it c.args.size (sym c.in_default.is ∙ c.against_trunc.ensures) in
     ap (λ (o : Option Data). is_put_now c.args.volume.now (g.P.SectorView.space c.args.space.now).spare (volume_of (g.P.SectorView.space c.args.space.now).content) o) (short_data (tree_of (g.P.SectorView.space c.args.space.now).content) c.args._path.now c.args.told.now it.node about.0 c.args.size (c.is_no_longer.ensures.short c.if-is_no_longer.true))
+
+pub returns-then-is_no_longer-clause-met : goal.returns-then-is_no_longer-clause-met
+returns-then-is_no_longer-clause-met g c tells =
+    let it = told_node (tree_of (g.P.SectorView.space c.args.space.now).content) c.args._path.now c.args.told.now (c.requires.told tells) in
+    let about = trunc_told (tree_of (g.P.SectorView.space c.args.space.now).content) c.args._path.now c.args.told.now it c.args.size (sym c.in_default.is ∙ c.against_trunc.ensures) in
+    ap (λ (o : Option Data). is_data_met c.args.volume.now (g.P.SectorView.space c.args.space.now).spare (volume_of (g.P.SectorView.space c.args.space.now).content) o) (short_data (tree_of (g.P.SectorView.space c.args.space.now).content) c.args._path.now c.args.told.now it.node about.0 c.args.size (c.is_no_longer.ensures.short c.if-is_no_longer.true))
 
 pub returns-then-is_no_longer-clause-touches : goal.returns-then-is_no_longer-clause-touches
 returns-then-is_no_longer-clause-touches g c committed holds alike = touches_none committed _ (g.P.SectorView.space c.args.space.now)

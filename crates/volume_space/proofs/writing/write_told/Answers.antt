@@ -8,7 +8,7 @@ use Rattle.hfs_model.specs.Step.{Step}
 use Rattle.hfs_volume.specs.Content.{volume_of}
 use Rattle.hfs_volume.specs.TreeOf.{tree_of}
 use Rattle.hfs_volume.specs.Weight.{Data}
-use Rattle.volume_space.specs.Writing.{PutsAt, is_put_now}
+use Rattle.volume_space.specs.Writing.{PutsAt, is_data_met, is_put_now}
 use Rattle.volume_base.proofs.Commanding.{touches_none}
 use Rattle.volume_space.proofs.PutDone.{data_done, no_cut_now, write_done}
 use Rattle.volume_space.proofs.PutLoads.{write_loaded}
@@ -80,6 +80,13 @@ returns-clause-exactly g c tells =
     let there = file_there (tree_of (g.P.SectorView.space c.args.space.now).content) c.args._path.now it.node about.0.file in
     ap (λ (o : Option Data). is_put_now c.args.volume.now (g.P.SectorView.space c.args.space.now).spare (volume_of (g.P.SectorView.space c.args.space.now).content) o) (write_data (tree_of (g.P.SectorView.space c.args.space.now).content) c.args._path.now c.args.told.now it.node about.0 c.args.from c.args.value.now (c.is_nothing.ensures.some c.if-is_nothing.false)) ∙ c.in_ok-put.ensures.exactly tells it.node there.0 about.0.id there.1 (put_by_write (tree_of (g.P.SectorView.space c.args.space.now).content) c.args._path.now c.args.told.now it.node about.0 c.args.from c.args.value.now) (write_id (tree_of (g.P.SectorView.space c.args.space.now).content) c.args._path.now c.args.told.now it.node about.0 c.args.from c.args.value.now) (write_at (tree_of (g.P.SectorView.space c.args.space.now).content) c.args._path.now c.args.told.now it.node about.0 c.args.from c.args.value.now (c.is_nothing.ensures.some c.if-is_nothing.false)) c.if-put.false
 
+pub returns-clause-met : goal.returns-clause-met
+returns-clause-met g c tells =
+    let it = told_node (tree_of (g.P.SectorView.space c.args.space.now).content) c.args._path.now c.args.told.now (c.requires.told tells) in
+    let about = write_told (tree_of (g.P.SectorView.space c.args.space.now).content) c.args._path.now c.args.told.now it c.args.from c.args.value.now (sym c.in_default.is ∙ c.against_write.ensures) in
+    let there = file_there (tree_of (g.P.SectorView.space c.args.space.now).content) c.args._path.now it.node about.0.file in
+    ap (λ (o : Option Data). is_data_met c.args.volume.now (g.P.SectorView.space c.args.space.now).spare (volume_of (g.P.SectorView.space c.args.space.now).content) o) (write_data (tree_of (g.P.SectorView.space c.args.space.now).content) c.args._path.now c.args.told.now it.node about.0 c.args.from c.args.value.now (c.is_nothing.ensures.some c.if-is_nothing.false)) ∙ c.in_ok-put.ensures.met tells it.node there.0 about.0.id there.1 (put_by_write (tree_of (g.P.SectorView.space c.args.space.now).content) c.args._path.now c.args.told.now it.node about.0 c.args.from c.args.value.now) (write_id (tree_of (g.P.SectorView.space c.args.space.now).content) c.args._path.now c.args.told.now it.node about.0 c.args.from c.args.value.now) (write_at (tree_of (g.P.SectorView.space c.args.space.now).content) c.args._path.now c.args.told.now it.node about.0 c.args.from c.args.value.now (c.is_nothing.ensures.some c.if-is_nothing.false)) c.if-put.false
+
 pub returns-then-put-clause-loads : goal.returns-then-put-clause-loads
 returns-then-put-clause-loads g c tells flat n grow is =
     let it = told_node (tree_of (g.P.SectorView.space c.args.space.now).content) c.args._path.now c.args.told.now (c.requires.told tells) in
@@ -127,6 +134,12 @@ returns-then-is_nothing-clause-exactly g c tells =
     let it = told_node (tree_of (g.P.SectorView.space c.args.space.now).content) c.args._path.now c.args.told.now (c.requires.told tells) in
     let about = write_told (tree_of (g.P.SectorView.space c.args.space.now).content) c.args._path.now c.args.told.now it c.args.from c.args.value.now (sym c.in_default.is ∙ c.against_write.ensures) in
     ap (λ (o : Option Data). is_put_now c.args.volume.now (g.P.SectorView.space c.args.space.now).spare (volume_of (g.P.SectorView.space c.args.space.now).content) o) (empty_data (tree_of (g.P.SectorView.space c.args.space.now).content) c.args._path.now c.args.told.now it.node about.0 c.args.from c.args.value.now (c.is_nothing.ensures.none c.if-is_nothing.true))
+
+pub returns-then-is_nothing-clause-met : goal.returns-then-is_nothing-clause-met
+returns-then-is_nothing-clause-met g c tells =
+    let it = told_node (tree_of (g.P.SectorView.space c.args.space.now).content) c.args._path.now c.args.told.now (c.requires.told tells) in
+    let about = write_told (tree_of (g.P.SectorView.space c.args.space.now).content) c.args._path.now c.args.told.now it c.args.from c.args.value.now (sym c.in_default.is ∙ c.against_write.ensures) in
+    ap (λ (o : Option Data). is_data_met c.args.volume.now (g.P.SectorView.space c.args.space.now).spare (volume_of (g.P.SectorView.space c.args.space.now).content) o) (empty_data (tree_of (g.P.SectorView.space c.args.space.now).content) c.args._path.now c.args.told.now it.node about.0 c.args.from c.args.value.now (c.is_nothing.ensures.none c.if-is_nothing.true))
 
 pub returns-then-is_nothing-clause-touches : goal.returns-then-is_nothing-clause-touches
 returns-then-is_nothing-clause-touches g c committed holds alike = touches_none committed _ (g.P.SectorView.space c.args.space.now)
