@@ -1,8 +1,6 @@
 -- A volume whose attributes file goes on in a run of free blocks is settled again once its bitmap and its header are put, and stands for the same tree.
-use Rattle.std.proofs.Common.{◌≡◌, ◌≢◌, ◌⊎◌, inl, inr, ◌<◌, ◌≤◌, ℕ, ◌*◌, ◌/◌, List, [], ◌∷◌, ◌++◌, length, take, refl, sym, ◌∙◌, ap, subst, arith}
-use Rattle.std.specs.Prelude.{Contains, IsTrue, true}
-use Rattle.std.proofs.Math.Nat.{zero-div, zero-mul}
-use Rattle.std.proofs.lemmas.List.{take_all}
+use Rattle.std.proofs.Common.{◌≡◌, ◌≢◌, ◌⊎◌, inl, inr, ◌<◌, ◌≤◌, ℕ, ◌*◌, List, [], ◌∷◌, ◌++◌, length, refl, sym, ◌∙◌, ap, subst, arith}
+use Rattle.std.specs.Prelude.{Contains, IsTrue}
 use Rattle.hx_bytes.specs.declared.extents.Extent.{Extent}
 use Rattle.jnl_format.specs.Recovery.{header_of_volume}
 use Rattle.volume_header.specs.declared.header.VolumeHeader.{VolumeHeader}
@@ -15,15 +13,15 @@ use Rattle.btree_file.specs.State.{sectors_of_tree}
 use Rattle.btree_file.specs.declared.tree.TreeFile.{TreeFile}
 use Rattle.sector_disk.specs.Lists.{sector}
 use Rattle.sector_disk.specs.Space.{Space}
-use Rattle.hfs_volume.specs.Content.{TreeFacts, VolumeState, has_attributes, volume_of}
+use Rattle.hfs_volume.specs.Content.{VolumeState, has_attributes, volume_of}
 use Rattle.hfs_volume.specs.Forks.{attributes_id, catalog_id, data_kind, extents_id}
 use Rattle.hfs_volume.specs.Links.{private_id}
 use Rattle.hfs_volume.specs.Records.{placed_in}
-use Rattle.hfs_volume.specs.Reclaim.{GrowsBy, GrowsTree, GrowsTrees, blocks_at}
+use Rattle.hfs_volume.specs.Reclaim.{GrowsTree, GrowsTrees, blocks_at}
 use Rattle.hfs_volume.specs.Sound.{IsSoundVolume}
 use Rattle.hfs_volume.specs.TreeOf.{file_bytes, tree_in, tree_of}
 use Rattle.hfs_volume.specs.Writing.{GrowthKeeps}
-use Rattle.volume_space.specs.Growing.{KeepsForks, TakesRun, lengthened_attributes, with_attributes}
+use Rattle.volume_space.specs.Growing.{HeadGrows, KeepsForks, TakesRun, lengthened_attributes, with_attributes}
 use Rattle.volume_base.specs.Lists.{bits_on, facts_on, lists_of}
 use Rattle.volume_space.specs.Mapping.{HoldsMap}
 use Rattle.volume_base.specs.Standing.{IsSettled, IsStanding, map_sectors, with_attributes_tree}
@@ -159,28 +157,12 @@ module _ (v : Volume) (a b : Space) (was : IsStanding v a) (settled : IsSettled 
       attributes = subst (λ (l : VolumeState). GrowsTree attributes_id more (volume_of a.content) l) (sym volume_now) (record { nodes = by_law.2.nodes; blocks = by_law.2.blocks });
     }
 
-    -- ---- the numbers of the lists
+    -- ---- the header, and the journal's place
 
-    pub shape_now : (volume_of d.content).attributes_tree.shape ≡ record (volume_of a.content).attributes_tree.shape { total = (volume_of d.content).attributes_tree.shape.total; free = (volume_of d.content).attributes_tree.shape.free }
-    shape_now =
-        let is : (volume_of d.content).attributes_tree.shape ≡ file.shape = ap (λ (t : TreeFacts). t.shape) attributes_then in
-        let old : v.attributes.file.shape ≡ (volume_of a.content).attributes_tree.shape = ap (λ (t : TreeFacts). t.shape) (sym (settled.attributes there)) in
-        is ∙ grown.tree.numbers ∙ (λ i. record (old i) { total = (sym is i).total; free = (sym is i).free })
-
-    pub head_then : (volume_of d.content).head ≡ record (volume_of a.content).head { free_blocks = (volume_of d.content).head.free_blocks; catalog_fork = (volume_of d.content).head.catalog_fork; attributes_fork = (volume_of d.content).head.attributes_fork }
+    pub head_then : HeadGrows (volume_of a.content).head (volume_of d.content).head
     head_then =
         let is : (volume_of d.content).head ≡ with_attributes run.count file.fork (volume_of a.content).head = ap (λ (l : VolumeState). l.head) volume_now in
-        is ∙ (λ i. record (volume_of a.content).head { free_blocks = (sym is i).free_blocks; catalog_fork = (sym is i).catalog_fork; attributes_fork = (sym is i).attributes_fork })
-
-    -- there was an attributes file, and there is one
-    pub has_then : has_attributes (volume_of d.content).head ≡ has_attributes (volume_of a.content).head
-    has_then =
-        let behind : has_attributes (volume_of d.content).head ≡ true = ap (λ h. has_attributes h) (ap (λ (l : VolumeState). l.head) volume_now ∙ head_now) ∙ there_now v a b was settled there count run later takes some file grown within tells in
-        let before : has_attributes (volume_of a.content).head ≡ true = ap (λ (l : VolumeState). has_attributes l.head) settled.lists ∙ there in
-        behind ∙ sym before
+        is ∙ (λ i. record (volume_of a.content).head { free_blocks = (sym is i).free_blocks; extents_fork = (sym is i).extents_fork; catalog_fork = (sym is i).catalog_fork; attributes_fork = (sym is i).attributes_fork })
 
     pub journal_then : (volume_of d.content).journal ≡ (volume_of a.content).journal
     journal_then = ap (λ (l : VolumeState). l.journal) volume_now
-
-    pub catalog_then : (volume_of d.content).catalog_tree ≡ (volume_of a.content).catalog_tree
-    catalog_then = ap (λ (l : VolumeState). l.catalog_tree) volume_now

@@ -1,31 +1,27 @@
 -- The growth of the attributes file as a whole: its file is longer, the bitmap is put, and then the header.
 use Rattle.std.proofs.Common.{◌≡◌, ◌≢◌, ◌<◌, ◌≤◌, ℕ, ◌+◌, [], ◌∷◌, ◌++◌, sym, ◌∙◌, ap, subst, arith, ⊎_elim}
 use Rattle.std.specs.Prelude.{Contains, IsTrue}
-use Rattle.std.proofs.lemmas.Bool.{true≢false}
 use Rattle.jnl_format.specs.Recovery.{header_of_volume}
 use Rattle.alloc_bitmap.proofs.ApartLaws.{times-append}
 use Rattle.btree_file.specs.Frame.{PutsWithin}
 use Rattle.btree_file.specs.State.{sectors_of_tree}
 use Rattle.sector_disk.specs.Lists.{sector}
 use Rattle.sector_disk.specs.Space.{Space}
-use Rattle.hfs_volume.specs.Content.{TreeFacts, VolumeState, has_attributes, volume_of}
-use Rattle.hfs_volume.specs.Cost.{attributes_key, catalog_key, growth}
+use Rattle.hfs_volume.specs.Content.{has_attributes, volume_of}
 use Rattle.hfs_volume.specs.Forks.{attributes_id}
 use Rattle.hfs_volume.specs.Reclaim.{GrowsTrees}
 use Rattle.hfs_volume.specs.TreeOf.{tree_of}
-use Rattle.hfs_volume.specs.Weight.{cost_of_tree}
 use Rattle.hfs_volume.specs.Writing.{GrowthKeeps}
 use Rattle.hfs_volume.proofs.Members.{first_or_later}
 use Rattle.volume_base.specs.Changing.{PutsHeader}
-use Rattle.volume_space.specs.Growing.{CanGrowAttributes, GrowsAttributes, GrowsLists, KeepsForks, LengthensAttributes, SufficesFor, blocks_filled, lengthened_attributes, with_attributes}
-use Rattle.volume_base.specs.Lists.{facts_on, lists_of}
+use Rattle.volume_space.specs.Growing.{CanGrowAttributes, GrowsAttributes, HeadGrows, KeepsForks, LengthensAttributes, blocks_filled, lengthened_attributes, with_attributes}
+use Rattle.volume_base.specs.Lists.{lists_of}
 use Rattle.volume_space.specs.Mapping.{HoldsMap, PutsMap}
 use Rattle.volume_base.specs.Standing.{IsSettled, IsStanding, StandsOver, attribute_sectors, file_sectors, map_sectors}
 use Rattle.volume_base.specs.declared.volume.Volume.{Volume}
 use Rattle.volume_space.proofs.GrownBits.{bit_elsewhere}
 use Rattle.volume_space.proofs.GrownCalls.{bytes_owned, maps_are, nodes_are, run_some}
-use Rattle.volume_space.proofs.AttributesGrownSettled.{attributes_then, catalog_then, forks_kept, has_then, head_then, journal_then, settled_now, shape_now, tree_same, trees_grow}
-use Rattle.volume_space.proofs.GrownNone.{grows_none}
+use Rattle.volume_space.proofs.AttributesGrownSettled.{forks_kept, head_then, journal_then, settled_now, tree_same, trees_grow}
 use Rattle.volume_base.proofs.Placing.{stands_once}
 
 module _ (more : ℕ) (v w : Volume) (a b c d : Space) (over : StandsOver v a) (settled : IsSettled v a.content) (there : IsTrue (has_attributes v.header)) (can : CanGrowAttributes more v a) (tells : IsTrue a.tells) (law : GrowthKeeps)
@@ -117,24 +113,12 @@ module _ (more : ℕ) (v w : Volume) (a b c d : Space) (over : StandsOver v a) (
       rest = longer.rest;
     }
 
-    pub lists_whole : SufficesFor attributes_key more v.attributes.file w.attributes.file → GrowsLists 0 more (volume_of a.content) (volume_of d.content)
-    lists_whole enough = record {
-      head = head_then v a b was settled there (blocks_filled v.attributes.file more) longer.run w.map longer.takes some w.attributes.file longer.grown longer.within tells over.service.fits.attributes_fork.extents.eight can.extents more counted
-          (nodes_are more v a can longer.run longer.takes.many) (bytes_owned more v a there can longer.run longer.takes.many was settled) law d stands_long headed_long holds_long lists_long outside_long;
-      has = has_then v a b was settled there (blocks_filled v.attributes.file more) longer.run w.map longer.takes some w.attributes.file longer.grown longer.within tells over.service.fits.attributes_fork.extents.eight can.extents more counted
-          (nodes_are more v a can longer.run longer.takes.many) (bytes_owned more v a there can longer.run longer.takes.many was settled) law d stands_long headed_long holds_long lists_long outside_long;
-      none = λ lacks. absurd (true≢false (sym (ap (λ (l : VolumeState). has_attributes l.head) settled.lists ∙ there) ∙ lacks));
-      catalog_grows = grows_none catalog_key (volume_of a.content).catalog_tree (volume_of d.content).catalog_tree (catalog_then v a b was settled there (blocks_filled v.attributes.file more) longer.run w.map longer.takes some w.attributes.file longer.grown longer.within tells over.service.fits.attributes_fork.extents.eight can.extents more counted
-          (nodes_are more v a can longer.run longer.takes.many) (bytes_owned more v a there can longer.run longer.takes.many was settled) law d stands_long headed_long holds_long lists_long outside_long);
-      attributes_grow = record {
-        numbers = shape_now v a b was settled there (blocks_filled v.attributes.file more) longer.run w.map longer.takes some w.attributes.file longer.grown longer.within tells over.service.fits.attributes_fork.extents.eight can.extents more counted
-            (nodes_are more v a can longer.run longer.takes.many) (bytes_owned more v a there can longer.run longer.takes.many was settled) law d stands_long headed_long holds_long lists_long outside_long;
-        suffices = λ block edits is.
-            let old : (volume_of a.content).attributes_tree ≡ facts_on v.attributes.file = settled.attributes there in
-            let new : (volume_of d.content).attributes_tree ≡ facts_on w.attributes.file = attributes_then v a b was settled there (blocks_filled v.attributes.file more) longer.run w.map longer.takes some w.attributes.file longer.grown longer.within tells over.service.fits.attributes_fork.extents.eight can.extents more counted
-            (nodes_are more v a can longer.run longer.takes.many) (bytes_owned more v a there can longer.run longer.takes.many was settled) law d stands_long headed_long holds_long lists_long outside_long in
-            subst (λ (t : TreeFacts). growth block attributes_key (cost_of_tree t 0) edits ≡ 0) (sym new) (enough block edits (subst (λ (t : TreeFacts). more ≡ growth block attributes_key (cost_of_tree t 0) edits) old is)).0;
-      };
-      journal = journal_then v a b was settled there (blocks_filled v.attributes.file more) longer.run w.map longer.takes some w.attributes.file longer.grown longer.within tells over.service.fits.attributes_fork.extents.eight can.extents more counted
-          (nodes_are more v a can longer.run longer.takes.many) (bytes_owned more v a there can longer.run longer.takes.many was settled) law d stands_long headed_long holds_long lists_long outside_long;
-    }
+    pub head_whole : HeadGrows (volume_of a.content).head (volume_of d.content).head
+    head_whole =
+        head_then v a b was settled there (blocks_filled v.attributes.file more) longer.run w.map longer.takes some w.attributes.file longer.grown longer.within tells over.service.fits.attributes_fork.extents.eight can.extents more counted
+        (nodes_are more v a can longer.run longer.takes.many) (bytes_owned more v a there can longer.run longer.takes.many was settled) law d stands_long headed_long holds_long lists_long outside_long
+
+    pub journal_whole : (volume_of d.content).journal ≡ (volume_of a.content).journal
+    journal_whole =
+        journal_then v a b was settled there (blocks_filled v.attributes.file more) longer.run w.map longer.takes some w.attributes.file longer.grown longer.within tells over.service.fits.attributes_fork.extents.eight can.extents more counted
+        (nodes_are more v a can longer.run longer.takes.many) (bytes_owned more v a there can longer.run longer.takes.many was settled) law d stands_long headed_long holds_long lists_long outside_long

@@ -32,7 +32,7 @@ use Rattle.hfs_volume.specs.Forks.{per_block_of}
 use Rattle.hfs_volume.proofs.BlockWants.{range_bounds}
 use Rattle.hfs_volume.proofs.Sectors.{in_block}
 use Rattle.hfs_volume.proofs.Untouched.{whole_blocks}
-use Rattle.volume_space.specs.Growing.{CanGrow, CanGrowAttributes, CanGrowCatalog, TakesRun, blocks_filled, maps_among, nodes_load}
+use Rattle.volume_space.specs.Growing.{CanGrow, CanGrowAttributes, CanGrowCatalog, CanGrowExtents, TakesRun, blocks_filled, maps_among, nodes_load}
 use Rattle.volume_base.specs.Service.{IsInService}
 use Rattle.volume_base.specs.Standing.{IsSettled, IsStanding, attribute_sectors, file_sectors, map_sectors, own_sectors}
 use Rattle.volume_base.specs.declared.volume.Volume.{Volume}
@@ -105,6 +105,11 @@ pub bytes_are : (more : ℕ) (v : Volume) (space : Space) → CanGrowCatalog mor
 bytes_are more v space can run count_is was settled =
     bytes_in more v space can run count_is was.forks.catalog_per
     (node_whole v.catalog.file space.content was.trees.catalog.stands (whole_size (file_in (sectors_of_tree v.catalog.file) space.content).head.node_size was.trees.catalog.file.has_form.size)) settled
+
+pub bytes_over : (more : ℕ) (v : Volume) (space : Space) → CanGrowExtents more v space → (run : Extent) → run.count ≡ blocks_filled v.extents.file more → IsStanding v space → IsSettled v space.content → run.count * v.header.block_size ≡ more * v.extents.file.shape.node_size
+bytes_over more v space can run count_is was settled =
+    bytes_in more v space can run count_is was.forks.extents_per
+    (node_whole v.extents.file space.content was.trees.extents.stands (whole_size (file_in (sectors_of_tree v.extents.file) space.content).head.node_size was.trees.extents.file.has_form.size)) settled
 
 pub bytes_owned : (more : ℕ) (v : Volume) (space : Space) → IsTrue (has_attributes v.header) → CanGrowAttributes more v space → (run : Extent) → run.count ≡ blocks_filled v.attributes.file more → IsStanding v space → IsSettled v space.content
     → run.count * v.header.block_size ≡ more * v.attributes.file.shape.node_size

@@ -1,15 +1,21 @@
 -- Where the longest run of free blocks is long enough, so many blocks in a row are free.
-use Rattle.std.proofs.Common.{◌≡◌, ◌<◌, ◌≤◌, ℕ, Bool, true, false, List, [], ◌∷◌, get_or, refl, arith, cond, ⊎_elim}
+use Rattle.std.proofs.Common.{◌≡◌, ◌<◌, ◌≤◌, ℕ, ◌*◌, length, length-append, Bool, true, false, List, [], ◌∷◌, get_or, refl, arith, cond, ⊎_elim}
 use Rattle.std.specs.Prelude.{Contains}
 use Rattle.std.specs.List.{range_with_len}
 use Rattle.std.proofs.lemmas.Bool.{cases_lt}
 use Rattle.hx_bytes.specs.declared.extents.Extent.{Extent}
 use Rattle.fork_map.specs.Blocks.{blocks_of}
 use Rattle.flag_rows.specs.Runs.{longest_of, runs_of}
-use Rattle.alloc_bitmap.proofs.TakeLaws.{times_free}
+use Rattle.std.proofs.lemmas.List.FromFn.{length-range_with_len}
+use Rattle.flag_rows.specs.Bits.{count_set}
+use Rattle.alloc_bitmap.proofs.TakeLaws.{length_runs, times_free}
 use Rattle.hfs_volume.proofs.BlockWants.{in_range}
 use Rattle.hfs_volume.proofs.Members.{at_front, behind}
+use Rattle.sector_disk.specs.Space.{Space}
+use Rattle.hfs_volume.specs.Forks.{per_block_of}
 use Rattle.volume_space.specs.Growing.{HasFreeRun}
+use Rattle.volume_base.specs.Standing.{IsStanding}
+use Rattle.volume_base.specs.declared.volume.Volume.{Volume}
 use Rattle.volume_base.proofs.Placing.{flat_stands, stands_once}
 
 -- the longest run is one of them
@@ -45,3 +51,17 @@ has_run many free some long =
         stands_once k (blocks_of (runs_of free)) (flat_stands (λ (e : Extent). range_with_len e.start e.count) (runs_of free) found.run k found.stands (in_range found.run.start found.run.count k from (omega (arith, to, found.count, long)))),
       ));
     }
+
+-- it has no more blocks than are free
+longest_among : (runs : List Extent) → longest_of runs ≤ length (blocks_of runs)
+longest_among [] = omega arith
+longest_among (run ∷ rest) = omega (arith, longest_among rest, length-append (range_with_len run.start run.count) (blocks_of rest), length-range_with_len run.start run.count)
+
+pub run_counted : (free : List Bool) → longest_of (runs_of free) ≤ count_set free
+run_counted free = omega (arith, longest_among (runs_of free), length_runs 0 0 free)
+
+-- told, a volume's blocks lie in its space, by the size that its files' blocks have
+pub blocks_inside : (v : Volume) (space : Space) (per : ℕ) → IsStanding v space → length space.content ≡ space.sectors → per ≡ per_block_of v.header → length v.map.used * per ≤ space.sectors
+blocks_inside v space per was long same =
+    let product : length v.map.used * per ≡ v.header.total_blocks * per_block_of v.header = λ i. was.blocks i * same i in
+    omega (arith, product, was.fit, long)

@@ -97,7 +97,7 @@ module _ (v : Volume) (a : Space) (was : IsStanding v a) (settled : IsSettled v 
   overflow_is : overflow_in_volume (lists_of v a.content) ≡ overflow_in_volume (volume_of a.content)
   overflow_is = sym (ap (λ (l : VolumeState). overflow_in_volume l) settled.lists)
 
-  off_extents : (at : ℕ) → Contains run_sectors at → Contains (sectors_of_tree v.extents.file) at → ⊥
+  pub off_extents : (at : ℕ) → Contains run_sectors at → Contains (sectors_of_tree v.extents.file) at → ⊥
   unfolding extents_of
   off_extents at has other = off_fork (record { id = extents_id; kind = data_kind; fork = (volume_of a.content).head.extents_fork }) (special_stands (volume_of a.content) _ (0, omega arith, refl)) at has
       (subst (λ (l : List ℕ). Contains l at) (λ i. sectors_of ((was.forks.extents_per ∙ ap per_block_of (sym head_is)) i) (blocks_of ((was.forks.extents ∙ ap (λ h. extents_of [] extents_id data_kind h.extents_fork) (sym head_is)) i))) other)

@@ -15,7 +15,7 @@ use Rattle.btree_file.specs.State.{sectors_of_tree}
 use Rattle.btree_file.specs.declared.tree.TreeFile.{TreeFile}
 use Rattle.sector_disk.specs.Lists.{sector}
 use Rattle.sector_disk.specs.Space.{Space}
-use Rattle.hfs_volume.specs.Content.{TreeFacts, VolumeState, attributes_file, block_limit, facts_of, has_attributes, overflow_in_volume, overflow_of_content, sectors_in, tree_of_fork, volume_of}
+use Rattle.hfs_volume.specs.Content.{TreeFacts, VolumeState, attributes_file, block_limit, facts_of, overflow_in_volume, overflow_of_content, sectors_in, tree_of_fork, volume_of}
 use Rattle.hfs_volume.specs.Forks.{attributes_id, catalog_id, data_kind, extents_id, extents_of, per_block_of}
 use Rattle.hfs_volume.specs.Links.{private_id}
 use Rattle.hfs_volume.specs.Records.{placed_in}
@@ -24,8 +24,8 @@ use Rattle.hfs_volume.specs.Sound.{IsSoundVolume}
 use Rattle.hfs_volume.specs.TreeOf.{file_bytes, tree_in, tree_of}
 use Rattle.hfs_volume.specs.Writing.{GrowthKeeps}
 use Rattle.hfs_volume.proofs.Rereading.{same_tree}
-use Rattle.volume_space.specs.Growing.{KeepsForks, TakesRun, lengthened, with_catalog}
-use Rattle.volume_base.specs.Lists.{bits_on, facts_on, lists_of}
+use Rattle.volume_space.specs.Growing.{HeadGrows, KeepsForks, TakesRun, lengthened, with_catalog}
+use Rattle.volume_base.specs.Lists.{bits_on, lists_of}
 use Rattle.volume_space.specs.Mapping.{HoldsMap}
 use Rattle.volume_base.specs.Standing.{IsSettled, IsStanding, map_sectors, with_attributes_tree}
 use Rattle.volume_base.specs.declared.volume.Volume.{Volume}
@@ -194,27 +194,12 @@ module _ (v : Volume) (a b : Space) (was : IsStanding v a) (settled : IsSettled 
       };
     }
 
-    -- ---- the numbers of the lists
+    -- ---- the header, and the journal's place
 
-    pub shape_now : (volume_of d.content).catalog_tree.shape ≡ record (volume_of a.content).catalog_tree.shape { total = (volume_of d.content).catalog_tree.shape.total; free = (volume_of d.content).catalog_tree.shape.free }
-    shape_now =
-        let is : (volume_of d.content).catalog_tree.shape ≡ file.shape = ap (λ (l : VolumeState). l.catalog_tree.shape) volume_now in
-        let old : v.catalog.file.shape ≡ (volume_of a.content).catalog_tree.shape = ap (λ (l : VolumeState). l.catalog_tree.shape) (sym settled.lists) in
-        is ∙ grown.tree.numbers ∙ (λ i. record (old i) { total = (sym is i).total; free = (sym is i).free })
-
-    pub head_then : (volume_of d.content).head ≡ record (volume_of a.content).head { free_blocks = (volume_of d.content).head.free_blocks; catalog_fork = (volume_of d.content).head.catalog_fork; attributes_fork = (volume_of d.content).head.attributes_fork }
+    pub head_then : HeadGrows (volume_of a.content).head (volume_of d.content).head
     head_then =
         let is : (volume_of d.content).head ≡ with_catalog run.count file.fork (volume_of a.content).head = ap (λ (l : VolumeState). l.head) volume_now in
-        is ∙ (λ i. record (volume_of a.content).head { free_blocks = (sym is i).free_blocks; catalog_fork = (sym is i).catalog_fork; attributes_fork = (sym is i).attributes_fork })
-
-    pub has_then : has_attributes (volume_of d.content).head ≡ has_attributes (volume_of a.content).head
-    has_then = ap (λ (l : VolumeState). has_attributes l.head) volume_now
+        is ∙ (λ i. record (volume_of a.content).head { free_blocks = (sym is i).free_blocks; extents_fork = (sym is i).extents_fork; catalog_fork = (sym is i).catalog_fork; attributes_fork = (sym is i).attributes_fork })
 
     pub journal_then : (volume_of d.content).journal ≡ (volume_of a.content).journal
     journal_then = ap (λ (l : VolumeState). l.journal) volume_now
-
-    pub attributes_then : (volume_of d.content).attributes_tree ≡ (volume_of a.content).attributes_tree
-    attributes_then = attributes_tree_same
-
-    pub catalog_then : (volume_of d.content).catalog_tree ≡ facts_on file
-    catalog_then = ap (λ (l : VolumeState). l.catalog_tree) volume_now

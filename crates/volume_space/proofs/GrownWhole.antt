@@ -7,24 +7,21 @@ use Rattle.btree_file.specs.Frame.{PutsWithin}
 use Rattle.btree_file.specs.State.{sectors_of_tree}
 use Rattle.sector_disk.specs.Lists.{sector}
 use Rattle.sector_disk.specs.Space.{Space}
-use Rattle.hfs_volume.specs.Content.{TreeFacts, VolumeState, volume_of}
-use Rattle.hfs_volume.specs.Cost.{attributes_key, catalog_key, growth}
+use Rattle.hfs_volume.specs.Content.{volume_of}
 use Rattle.hfs_volume.specs.Forks.{catalog_id}
 use Rattle.hfs_volume.specs.Reclaim.{GrowsTrees}
 use Rattle.hfs_volume.specs.TreeOf.{tree_of}
-use Rattle.hfs_volume.specs.Weight.{cost_of_tree}
 use Rattle.hfs_volume.specs.Writing.{GrowthKeeps}
 use Rattle.hfs_volume.proofs.Members.{first_or_later}
 use Rattle.volume_base.specs.Changing.{PutsHeader}
-use Rattle.volume_space.specs.Growing.{CanGrowCatalog, GrowsCatalog, GrowsLists, KeepsForks, Lengthens, SufficesFor, blocks_filled, lengthened, with_catalog}
-use Rattle.volume_base.specs.Lists.{facts_on, lists_of}
+use Rattle.volume_space.specs.Growing.{CanGrowCatalog, GrowsCatalog, HeadGrows, KeepsForks, Lengthens, blocks_filled, lengthened, with_catalog}
+use Rattle.volume_base.specs.Lists.{lists_of}
 use Rattle.volume_space.specs.Mapping.{HoldsMap, PutsMap}
 use Rattle.volume_base.specs.Standing.{IsSettled, IsStanding, StandsOver, attribute_sectors, file_sectors, map_sectors}
 use Rattle.volume_base.specs.declared.volume.Volume.{Volume}
 use Rattle.volume_space.proofs.GrownBits.{bit_elsewhere}
 use Rattle.volume_space.proofs.GrownCalls.{bytes_are, maps_are, nodes_are, run_some}
-use Rattle.volume_space.proofs.GrownSettled.{attributes_then, catalog_then, forks_kept, has_then, head_then, journal_then, settled_now, shape_now, trees_grow, tree_same}
-use Rattle.volume_space.proofs.GrownNone.{grows_none}
+use Rattle.volume_space.proofs.GrownSettled.{forks_kept, head_then, journal_then, settled_now, tree_same, trees_grow}
 use Rattle.volume_base.proofs.Placing.{stands_once}
 
 module _ (more : ℕ) (v w : Volume) (a b c d : Space) (over : StandsOver v a) (settled : IsSettled v a.content) (can : CanGrowCatalog more v a) (tells : IsTrue a.tells) (law : GrowthKeeps)
@@ -116,24 +113,12 @@ module _ (more : ℕ) (v w : Volume) (a b c d : Space) (over : StandsOver v a) (
       rest = longer.rest;
     }
 
-    pub lists_whole : SufficesFor catalog_key more v.catalog.file w.catalog.file → GrowsLists more 0 (volume_of a.content) (volume_of d.content)
-    lists_whole enough = record {
-      head = head_then v a b was settled (blocks_filled v.catalog.file more) longer.run w.map longer.takes some w.catalog.file longer.grown longer.within tells over.service.fits.catalog_fork.extents.eight can.extents more counted
-          (nodes_are more v a can longer.run longer.takes.many) (bytes_are more v a can longer.run longer.takes.many was settled) law d stands_long headed_long holds_long lists_long outside_long;
-      has = has_then v a b was settled (blocks_filled v.catalog.file more) longer.run w.map longer.takes some w.catalog.file longer.grown longer.within tells over.service.fits.catalog_fork.extents.eight can.extents more counted
-          (nodes_are more v a can longer.run longer.takes.many) (bytes_are more v a can longer.run longer.takes.many was settled) law d stands_long headed_long holds_long lists_long outside_long;
-      none = λ lacks. λ i. 0;
-      catalog_grows = record {
-        numbers = shape_now v a b was settled (blocks_filled v.catalog.file more) longer.run w.map longer.takes some w.catalog.file longer.grown longer.within tells over.service.fits.catalog_fork.extents.eight can.extents more counted
-            (nodes_are more v a can longer.run longer.takes.many) (bytes_are more v a can longer.run longer.takes.many was settled) law d stands_long headed_long holds_long lists_long outside_long;
-        suffices = λ block edits is.
-            let old : (volume_of a.content).catalog_tree ≡ facts_on v.catalog.file = ap (λ (l : VolumeState). l.catalog_tree) settled.lists in
-            let new : (volume_of d.content).catalog_tree ≡ facts_on w.catalog.file = catalog_then v a b was settled (blocks_filled v.catalog.file more) longer.run w.map longer.takes some w.catalog.file longer.grown longer.within tells over.service.fits.catalog_fork.extents.eight can.extents more counted
-            (nodes_are more v a can longer.run longer.takes.many) (bytes_are more v a can longer.run longer.takes.many was settled) law d stands_long headed_long holds_long lists_long outside_long in
-            subst (λ (t : TreeFacts). growth block catalog_key (cost_of_tree t 0) edits ≡ 0) (sym new) (enough block edits (subst (λ (t : TreeFacts). more ≡ growth block catalog_key (cost_of_tree t 0) edits) old is)).0;
-      };
-      attributes_grow = grows_none attributes_key (volume_of a.content).attributes_tree (volume_of d.content).attributes_tree (attributes_then v a b was settled (blocks_filled v.catalog.file more) longer.run w.map longer.takes some w.catalog.file longer.grown longer.within tells over.service.fits.catalog_fork.extents.eight can.extents more counted
-          (nodes_are more v a can longer.run longer.takes.many) (bytes_are more v a can longer.run longer.takes.many was settled) law d stands_long headed_long holds_long lists_long outside_long);
-      journal = journal_then v a b was settled (blocks_filled v.catalog.file more) longer.run w.map longer.takes some w.catalog.file longer.grown longer.within tells over.service.fits.catalog_fork.extents.eight can.extents more counted
-          (nodes_are more v a can longer.run longer.takes.many) (bytes_are more v a can longer.run longer.takes.many was settled) law d stands_long headed_long holds_long lists_long outside_long;
-    }
+    pub head_whole : HeadGrows (volume_of a.content).head (volume_of d.content).head
+    head_whole =
+        head_then v a b was settled (blocks_filled v.catalog.file more) longer.run w.map longer.takes some w.catalog.file longer.grown longer.within tells over.service.fits.catalog_fork.extents.eight can.extents more counted
+        (nodes_are more v a can longer.run longer.takes.many) (bytes_are more v a can longer.run longer.takes.many was settled) law d stands_long headed_long holds_long lists_long outside_long
+
+    pub journal_whole : (volume_of d.content).journal ≡ (volume_of a.content).journal
+    journal_whole =
+        journal_then v a b was settled (blocks_filled v.catalog.file more) longer.run w.map longer.takes some w.catalog.file longer.grown longer.within tells over.service.fits.catalog_fork.extents.eight can.extents more counted
+        (nodes_are more v a can longer.run longer.takes.many) (bytes_are more v a can longer.run longer.takes.many was settled) law d stands_long headed_long holds_long lists_long outside_long

@@ -16,10 +16,16 @@ pub mod CutShrunk
 pub mod CutWhole
 pub mod ExtentRoom
 pub mod ExtentsEdited
+pub mod ExtentsGrownCalls
+pub mod ExtentsGrownLengthened
+pub mod ExtentsGrownLists
+pub mod ExtentsGrownSettled
+pub mod ExtentsGrownStands
+pub mod ExtentsGrownUnchanged
+pub mod ExtentsGrownWhole
 pub mod FewChanges
 pub mod GivenBack
 pub mod GrownAhead
-pub mod GrownAlone
 pub mod GrownBits
 pub mod GrownCalls
 pub mod GrownCan
@@ -27,8 +33,6 @@ pub mod GrownForks
 pub mod GrownFree
 pub mod GrownLengthened
 pub mod GrownLists
-pub mod GrownNone
-pub mod GrownRoom
 pub mod GrownRun
 pub mod GrownSettled
 pub mod GrownStands

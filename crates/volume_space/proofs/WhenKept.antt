@@ -1,12 +1,16 @@
 -- A volume behind a keep: it stands over its space as before, and no sector of its bitmap counts as changed.
-use Rattle.std.proofs.Common.{◌≡◌, ◌⊎◌, inl, inr, ◌≤◌, ℕ, Bool, IsTrue, List, length, refl, sym, ◌∙◌, ap, subst, ⊎_elim}
+use Rattle.std.proofs.Common.{◌≡◌, ◌⊎◌, inl, inr, ℕ, Bool, IsTrue, List, length, refl, sym, ◌∙◌, ap, subst, ⊎_elim}
 use Rattle.std.specs.Prelude.{false, Result, Ok, Err, OnOk}
 use Rattle.std.proofs.lemmas.List.{length-replicate}
 use Rattle.sector_disk.specs.Lists.{Content}
 use Rattle.sector_disk.specs.Space.{Space}
 use Rattle.flag_rows.specs.Bits.{sectors_for}
-use Rattle.alloc_bitmap.specs.Map.{BlockMap, none}
-use Rattle.volume_space.specs.Growing.{IsOwnOrFree}
+use Rattle.alloc_bitmap.specs.Map.{none}
+use Rattle.hx_bytes.specs.declared.extents.ForkRecord.{ForkRecord}
+use Rattle.btree_file.specs.declared.tree.TreeFile.{TreeFile}
+use Rattle.volume_space.specs.Growing.{CountsHaveRoom, GrowthFits, IsOwnOrFree, growth_room}
+use Rattle.volume_space.specs.declared.ahead.WhichTree.{WhichTree}
+use Rattle.volume_space.specs.declared.ahead.WhichTree.TheVariants as which
 use Rattle.volume_base.specs.Keeping.{Keeps}
 use Rattle.volume_base.specs.Lists.{lists_of}
 use Rattle.volume_base.specs.Service.{IsInService}
@@ -61,6 +65,10 @@ module _ (changed used held : List Bool) (kept : Kept) (v : Volume) (space : Spa
   settled_marked : (content : Content) → IsSettled v content → IsSettled (marked changed used held kept v) content
   settled_marked content was = record { blocks = was.blocks; lists = was.lists; attributes = was.attributes; sound = was.sound; private = was.private }
 
+-- the counts that a growth raises have room whatever the marks are
+counts_marked : (more : ℕ) (file : TreeFile) (fork : ForkRecord) (changed used held : List Bool) (kept : Kept) (v : Volume) → CountsHaveRoom more file fork v → CountsHaveRoom more file fork (marked changed used held kept v)
+counts_marked more file fork changed used held kept v it = record { least = it.least; most = it.most; whole = it.whole; extents = it.extents; nodes = it.nodes; blocks = it.blocks; bytes = it.bytes; counted = it.counted }
+
 module _ (v w : Volume) (keeps : Keeps v w) where
   abbrev as_marked : Volume
   as_marked = marked w.map.changed w.map.kept_used w.map.kept_held w.kept v
@@ -111,6 +119,23 @@ module _ (v w : Volume) (keeps : Keeps v w) where
     where
       back : IsOwnOrFree (marked w.map.changed w.map.kept_used w.map.kept_held w.kept v) s → IsOwnOrFree v s
       back it = it
+
+  -- a growth fits as it did, and puts as much
+  pub fits_kept : (tree : WhichTree) (more : ℕ) (space : Space) → GrowthFits tree more v space → GrowthFits tree more w space
+  fits_kept tree more space fits = subst (λ (u : Volume). GrowthFits tree more u space) is_marked (by tree fits)
+    where
+      by : (t : WhichTree) → GrowthFits t more v space → GrowthFits t more as_marked space
+      by which.Extents it = (it.0, record { some = it.1.some; run = it.1.run; counts = counts_marked more _ _ w.map.changed w.map.kept_used w.map.kept_held w.kept v it.1.counts; room = it.1.room })
+      by which.Catalog it = (it.0, record { some = it.1.some; run = it.1.run; counts = counts_marked more _ _ w.map.changed w.map.kept_used w.map.kept_held w.kept v it.1.counts; room = it.1.room })
+      by which.Attributes it = (it.0, record { some = it.1.some; run = it.1.run; counts = counts_marked more _ _ w.map.changed w.map.kept_used w.map.kept_held w.kept v it.1.counts; room = it.1.room })
+
+  pub load_kept : (tree : WhichTree) (more : ℕ) → growth_room tree more w ≡ growth_room tree more v
+  load_kept tree more = ap (λ (u : Volume). growth_room tree more u) (sym is_marked) ∙ by tree
+    where
+      by : (t : WhichTree) → growth_room t more as_marked ≡ growth_room t more v
+      by which.Extents = refl
+      by which.Catalog = refl
+      by which.Attributes = refl
 
 -- what touches these sectors touches those, where these are among them
 pub touches_those : (committed : Content) (these those : ℕ → Type 0) (a b : Space) → (IsTrue a.tells → (s : ℕ) → these s → those s) → Touches committed these a b → Touches committed those a b

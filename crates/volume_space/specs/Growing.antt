@@ -1,7 +1,8 @@
--- The catalog and the attributes file of a volume in service, which get more nodes.
-use Rattle.std.specs.Prelude.{◌≡◌, ◌≢◌, ◌⊎◌, ◌<◌, ◌≤◌, ℕ, ◌+◌, ◌-◌, ◌*◌, ◌/◌, ◌^◌, min, Bool, true, false, List, ◌∷◌, [], length, slice_index_or}
+-- The trees of a volume in service, which get more nodes.
+use Rattle.std.specs.Prelude.{◌≡◌, ◌≢◌, ◌⊎◌, IsTrue, ◌<◌, ◌≤◌, ℕ, ◌+◌, ◌-◌, ◌*◌, ◌/◌, ◌^◌, min, Bool, true, false, List, ◌∷◌, [], length, slice_index_or}
 use Rattle.std.specs.List.{Contains}
 use Rattle.flag_rows.specs.Bits.{count_set, mark, sectors_for}
+use Rattle.flag_rows.specs.Runs.{longest_of, runs_of}
 use Rattle.alloc_bitmap.specs.Map.{BlockMap, free_of, none, touched_by}
 use Rattle.hx_bytes.specs.declared.extents.Extent.{Extent}
 use Rattle.hx_bytes.specs.declared.extents.ForkRecord.{ForkRecord}
@@ -13,18 +14,16 @@ use Rattle.btree_file.specs.Growth.{HasGrown, map_nodes_for, sectors_with}
 use Rattle.btree_file.specs.Map.{bits_of}
 use Rattle.btree_file.specs.declared.tree.TreeFile.{TreeFile}
 use Rattle.fork_map.specs.Cut.{join}
-use Rattle.hfs_volume.specs.Content.{TreeFacts, VolumeState, has_attributes, volume_of}
-use Rattle.hfs_volume.specs.Cost.{attributes_key, catalog_key, growth, is_too_deep}
+use Rattle.hfs_volume.specs.Content.{VolumeState, has_attributes, volume_of}
 use Rattle.hfs_volume.specs.Forks.{attributes_id, catalog_id, data_kind, per_block_of}
-use Rattle.hfs_volume.specs.Reclaim.{GrowsTrees, SameFiles, blocks_at}
-use Rattle.hfs_volume.specs.TreeOf.{tree_of}
-use Rattle.hfs_volume.specs.Weight.{cost_of_tree, extents_in_use}
+use Rattle.hfs_volume.specs.Reclaim.{GrowsTrees, KeepsTree, SameFiles, blocks_at}
+use Rattle.hfs_volume.specs.Weight.{extents_in_use}
 use Rattle.overflow.specs.Records.{eight_at}
-use Rattle.volume_base.specs.Lists.{facts_on}
 use Rattle.volume_base.specs.Standing.{own_sectors}
 use Rattle.volume_space.specs.declared.ahead.Growth.{Growth}
 use Rattle.volume_space.specs.declared.ahead.Growth.TheVariants as growing
-use Rattle.volume_space.specs.declared.ahead.MoreNodes.{MoreNodes}
+use Rattle.volume_space.specs.declared.ahead.WhichTree.{WhichTree}
+use Rattle.volume_space.specs.declared.ahead.WhichTree.TheVariants as which
 use Rattle.volume_base.specs.declared.volume.Volume.{Volume}
 
 -- So many blocks in a row are free.
@@ -85,6 +84,10 @@ pub record CanGrow (more : ℕ) (file : TreeFile) (fork : ForkRecord) (volume : 
 abbrev pub CanGrowCatalog : ℕ → Volume → Space → Type 0
 CanGrowCatalog more volume space = CanGrow more volume.catalog.file volume.header.catalog_fork volume space
 
+-- the extents overflow file can
+abbrev pub CanGrowExtents : ℕ → Volume → Space → Type 0
+CanGrowExtents more volume space = CanGrow more volume.extents.file volume.header.extents_fork volume space
+
 -- the attributes file can
 abbrev pub CanGrowAttributes : ℕ → Volume → Space → Type 0
 CanGrowAttributes more volume space = CanGrow more volume.attributes.file volume.header.attributes_fork volume space
@@ -119,6 +122,10 @@ with_catalog count extents head = record head { free_blocks = head.free_blocks -
 abbrev pub with_attributes : ℕ → List Extent → VolumeHeader → VolumeHeader
 with_attributes count extents head = record head { free_blocks = head.free_blocks - count; attributes_fork = longer_fork count head.block_size extents head.attributes_fork }
 
+-- the same of its extents overflow file
+abbrev pub with_extents : ℕ → List Extent → VolumeHeader → VolumeHeader
+with_extents count extents head = record head { free_blocks = head.free_blocks - count; extents_fork = longer_fork count head.block_size extents head.extents_fork }
+
 -- the volume whose catalog has this file behind a run of so many blocks, and this bitmap
 abbrev pub lengthened : ℕ → Volume → BlockMap → TreeFile → Volume
 lengthened many volume later file = record volume { header = with_catalog many file.fork volume.header; map = later; catalog = record volume.catalog { file = file } }
@@ -126,6 +133,10 @@ lengthened many volume later file = record volume { header = with_catalog many f
 -- the same of its attributes file
 abbrev pub lengthened_attributes : ℕ → Volume → BlockMap → TreeFile → Volume
 lengthened_attributes many volume later file = record volume { header = with_attributes many file.fork volume.header; map = later; attributes = record volume.attributes { file = file } }
+
+-- the same of its extents overflow file
+abbrev pub lengthened_extents : ℕ → Volume → BlockMap → TreeFile → Volume
+lengthened_extents many volume later file = record volume { header = with_extents many file.fork volume.header; map = later; extents = record volume.extents { file = file } }
 
 -- ---- the file
 -- A tree's file goes on in a run of blocks that was free, and header and bitmap of the volume, which is made so, say so; neither of them was put.
@@ -139,6 +150,10 @@ pub record LengthensFile (file : Volume → TreeFile) (made : ℕ → Volume →
 -- the catalog's file goes on so
 abbrev pub Lengthens : ℕ → Volume → Volume → Space → Space → Type 0
 Lengthens more old new before after = LengthensFile (λ volume. volume.catalog.file) lengthened more old new before after
+
+-- the extents overflow file does
+abbrev pub LengthensExtents : ℕ → Volume → Volume → Space → Space → Type 0
+LengthensExtents more old new before after = LengthensFile (λ volume. volume.extents.file) lengthened_extents more old new before after
 
 -- the attributes file does
 abbrev pub LengthensAttributes : ℕ → Volume → Volume → Space → Space → Type 0
@@ -165,15 +180,13 @@ pub record GrowsFile (file : Volume → TreeFile) (made : ℕ → Volume → Blo
 abbrev pub GrowsCatalog : ℕ → Volume → Volume → Type 0
 GrowsCatalog more old new = GrowsFile (λ volume. volume.catalog.file) lengthened more old new
 
+-- where the extents overflow file does
+abbrev pub GrowsExtents : ℕ → Volume → Volume → Type 0
+GrowsExtents more old new = GrowsFile (λ volume. volume.extents.file) lengthened_extents more old new
+
 -- and where the attributes file does
 abbrev pub GrowsAttributes : ℕ → Volume → Volume → Type 0
 GrowsAttributes more old new = GrowsFile (λ volume. volume.attributes.file) lengthened_attributes more old new
-
--- A tree needn't grow again for edits for which it grew by so many nodes, and they go as deep as they did.
-abbrev pub SufficesFor : ℕ → ℕ → TreeFile → TreeFile → Type 0
-SufficesFor key more old new =
-    (block edits : ℕ) → more ≡ growth block key (cost_of_tree (facts_on old) 0) edits
-    → (growth block key (cost_of_tree (facts_on new) 0) edits ≡ 0) × (is_too_deep key (cost_of_tree (facts_on new) 0) edits ≡ is_too_deep key (cost_of_tree (facts_on old) 0) edits)
 
 -- a sector of a block that is neither used nor held
 abbrev pub IsFreeAt : Volume → ℕ → Type 0
@@ -183,41 +196,68 @@ IsFreeAt volume s = slice_index_or (free_of volume.map) (s / per_block_of volume
 abbrev pub IsOwnOrFree : Volume → ℕ → Type 0
 IsOwnOrFree volume s = Contains (own_sectors volume) s ⊎ IsFreeAt volume s
 
--- ---- in the lists of the content
--- What a growth by so many nodes makes of a tree's numbers: it has another number of nodes, so many that it needn't grow again for edits for
--- which it grew.
-pub record GrowsNumbers (key more : ℕ) (old new : TreeFacts) : Type 0 where
-  pub numbers : new.shape ≡ record old.shape { total = new.shape.total; free = new.shape.free }
-  pub suffices : (block edits : ℕ) → more ≡ growth block key (cost_of_tree old 0) edits → growth block key (cost_of_tree new 0) edits ≡ 0
+-- a header of which the number of free blocks and the trees' forks alone are others
+abbrev pub HeadGrows : VolumeHeader → VolumeHeader → Type 0
+HeadGrows old new = new ≡ record old { free_blocks = new.free_blocks; extents_fork = new.extents_fork; catalog_fork = new.catalog_fork; attributes_fork = new.attributes_fork }
 
--- What growths of catalog and attributes file by so many nodes make of the numbers of a content: the header counts their blocks, and their trees
--- have grown; whether there is an attributes file and the journal's place are as they were.
-pub record GrowsLists (catalog attributes : ℕ) (old new : VolumeState) : Type 0 where
-  pub head : new.head ≡ record old.head { free_blocks = new.head.free_blocks; catalog_fork = new.head.catalog_fork; attributes_fork = new.head.attributes_fork }
-  pub has : has_attributes new.head ≡ has_attributes old.head
-  pub none : has_attributes old.head ≡ false → attributes ≡ 0
-  pub catalog_grows : GrowsNumbers catalog_key catalog old.catalog_tree new.catalog_tree
-  pub attributes_grow : GrowsNumbers attributes_key attributes old.attributes_tree new.attributes_tree
-  pub journal : new.journal ≡ old.journal
+-- ---- one tree
+-- a tree's file
+abbrev pub file_of : WhichTree → Volume → TreeFile
+file_of which.Extents volume = volume.extents.file
+file_of which.Catalog volume = volume.catalog.file
+file_of which.Attributes volume = volume.attributes.file
 
--- ---- ahead of a command
--- Catalog and attributes file have so many nodes more: the tree that the content stands for is as it was, and so are the blocks of every fork
--- but a tree's.
-pub record GrowsAhead (more : MoreNodes) (before after : Content) : Type 0 where
-  pub tree : tree_of after ≡ tree_of before
-  pub grows : GrowsTrees (0 ∷ more.catalog ∷ more.attributes ∷ []) (volume_of before) (volume_of after)
+-- the record of its fork
+abbrev pub fork_of : WhichTree → VolumeHeader → ForkRecord
+fork_of which.Extents head = head.extents_fork
+fork_of which.Catalog head = head.catalog_fork
+fork_of which.Attributes head = head.attributes_fork
+
+-- there is such a tree: a volume needn't have an attributes file
+abbrev pub IsThere : WhichTree → VolumeHeader → Type 0
+IsThere which.Extents head = Unit {0}
+IsThere which.Catalog head = Unit {0}
+IsThere which.Attributes head = IsTrue (has_attributes head)
+
+-- how many nodes each tree gets where this one alone gets so many
+abbrev pub alone : WhichTree → ℕ → List ℕ
+alone which.Extents more = more ∷ 0 ∷ 0 ∷ []
+alone which.Catalog more = 0 ∷ more ∷ 0 ∷ []
+alone which.Attributes more = 0 ∷ 0 ∷ more ∷ []
+
+-- the sectors that its growth by so many nodes puts at most
+abbrev pub growth_room : WhichTree → ℕ → Volume → ℕ
+growth_room tree more volume = growth_load volume (file_of tree volume) more
+
+-- A file with this fork has room for so many nodes more: they fill blocks, so many blocks in a row are free and not held, its fork has fewer
+-- than eight extents, the numbers that count its nodes, blocks and bytes have room, and as many sectors as its growth puts may be put.
+pub record FileFits (more : ℕ) (file : TreeFile) (fork : ForkRecord) (volume : Volume) (space : Space) : Type 0 where
+  pub some : 0 < blocks_filled file more
+  pub run : blocks_filled file more ≤ longest_of (runs_of (free_of volume.map))
+  pub counts : CountsHaveRoom more file fork volume
+  pub room : growth_load volume file more ≤ space.spare
+
+-- The growth of a tree by so many nodes fits: there is such a tree, and its file has room for them.
+abbrev pub GrowthFits : WhichTree → ℕ → Volume → Space → Type 0
+GrowthFits tree more volume space = IsThere tree volume.header × FileFits more (file_of tree volume) (fork_of tree volume.header) volume space
+
+-- One tree has so many nodes more: the content is sound and the tree that it stands for is as it was, and so are the blocks of every fork
+-- but a tree's, the journal's place, and of the header all but the number of free blocks and the trees' forks.
+pub record GrowsAhead (tree : WhichTree) (more : ℕ) (before after : Content) : Type 0 where
+  pub keeps : KeepsTree before after
+  pub grows : GrowsTrees (alone tree more) (volume_of before) (volume_of after)
   pub files : SameFiles (volume_of before) (volume_of after)
-  pub lists : GrowsLists more.catalog more.attributes (volume_of before) (volume_of after)
+  pub journal : (volume_of after).journal ≡ (volume_of before).journal
+  pub head : HeadGrows (volume_of before).head (volume_of after).head
 
--- a growth that isn't built: both files are to grow, or the fork of the one that is has eight extents already
-abbrev pub IsLater : MoreNodes → VolumeState → Type 0
-IsLater more volume =
-    ((0 < more.catalog) × (0 < more.attributes))
-    ⊎ (((more.attributes ≡ 0) × (8 ≤ extents_in_use volume catalog_id volume.head.catalog_fork))
-    ⊎ ((more.catalog ≡ 0) × (8 ≤ extents_in_use volume attributes_id volume.head.attributes_fork)))
+-- a growth that is still to come: the fork of the file has eight extents already; the extents overflow file can't grow then at all
+abbrev pub IsLater : WhichTree → VolumeState → Type 0
+IsLater which.Extents volume = ⊥
+IsLater which.Catalog volume = 8 ≤ extents_in_use volume catalog_id volume.head.catalog_fork
+IsLater which.Attributes volume = 8 ≤ extents_in_use volume attributes_id volume.head.attributes_fork
 
--- what became of a growth ahead of a command: the trees have grown, or nothing was changed
-abbrev pub GoesAhead : Growth → MoreNodes → Content → Content → Type 0
-GoesAhead growing.Grown more before after = GrowsAhead more before after
-GoesAhead growing.CommitFirst more before after = after ≡ before
-GoesAhead growing.ToCome more before after = after ≡ before
+-- what became of a growth: the tree has grown, or nothing was changed
+abbrev pub GoesAhead : Growth → WhichTree → ℕ → Content → Content → Type 0
+GoesAhead growing.Grown tree more before after = GrowsAhead tree more before after
+GoesAhead growing.CommitFirst tree more before after = after ≡ before
+GoesAhead growing.ToCome tree more before after = after ≡ before

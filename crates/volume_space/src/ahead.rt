@@ -1,71 +1,79 @@
-//! The catalog and the attributes file of a volume in service, which grow ahead of a command.
-ghost use Rattle.std.specs.Prelude.{◌≡◌, ◌≤◌, ◌+◌, ℕ, IsTrue, IfOk, IfSome, OnOk, length};
+//! The trees of a volume in service, of which one grows ahead of a command or of a step of reclaiming.
+ghost use Rattle.std.specs.Prelude.{◌≡◌, ◌≤◌, ◌+◌, ℕ, IsTrue, IfOk, OnOk, length};
 ghost use Rattle.sector_disk.specs.Lists.{Content};
 ghost use Rattle.alloc_bitmap.specs.Map.{none};
 ghost use Rattle.flag_rows.specs.Bits.{sectors_for};
 ghost use Rattle.btree_edit.specs.Causes.{HasTroubleCause};
 ghost use Rattle.hfs_volume.specs.Aside.{IsJournalSector};
 ghost use Rattle.hfs_volume.specs.Content.{volume_of};
-ghost use Rattle.hfs_volume.specs.Forks.{attributes_id, catalog_id};
-ghost use Rattle.hfs_volume.specs.Weight.{extents_in_use};
-ghost use Rattle.volume_space.specs.Growing.{GoesAhead, IsLater, IsOwnOrFree, growth_load};
+ghost use Rattle.volume_space.specs.Growing.{GoesAhead, GrowthFits, IsLater, IsOwnOrFree, growth_room};
 ghost use Rattle.volume_base.specs.Service.{IsInService};
 ghost use Rattle.volume_space.specs.Standing.{HoldsOn};
 ghost use Rattle.volume_base.specs.Standing.{IsSettled, StandsOver};
 ghost use Rattle.volume_base.specs.Touching.{Touches};
 ghost use Rattle.volume_space.specs.declared.ahead.Growth.TheVariants as growing;
+ghost use Rattle.volume_space.specs.declared.ahead.WhichTree.TheVariants as which;
 
-use crate::growable::{
-    can_grow_attributes, can_grow_catalog, count_blocks, count_growth_sectors, counts_have_room,
-};
+use crate::growable::{can_grow_attributes, can_grow_catalog, can_grow_extents};
 use crate::growing::grow_catalog;
 use crate::growing_attributes::grow_attributes;
-use btree_file::TreeFile;
-use hx_bytes::{ForkRecord, Trouble};
+use crate::growing_extents::grow_extents;
+use hx_bytes::Trouble;
 use sector_disk::SectorSpace;
 use std::alloc::Global;
 use volume_base::Volume;
 
-/// How many nodes more the catalog and the attributes file get.
+/// One of the three trees of a volume.
 #[derive(Clone, Copy)]
-pub struct MoreNodes {
-    pub catalog: u32,
-    pub attributes: u32,
+pub enum WhichTree {
+    /// The extents overflow file.
+    Extents,
+    Catalog,
+    /// The attributes file, where there is one.
+    Attributes,
 }
 
-/// What became of a growth ahead of a command.
+/// What became of a growth.
 #[derive(Clone, Copy)]
 pub enum Growth {
-    /// The trees have their nodes.
+    /// The tree has its nodes.
     Grown,
-    /// There is too little room now for what the growth and the command put, or for the blocks.
+    /// There is too little room now for what the growth puts, or for the blocks.
     CommitFirst,
-    /// Both are to grow, or the fork of the one that is has eight extents.
+    /// The fork of its file has eight extents.
     ToCome,
 }
 
-/// Whether two loads can be put one after the other.
-fn fit_both(first: u64, second: u64, spare: u64) -> bool
-    ensures { IsTrue result → first + second ≤ spare }
+/// Grows the extents overflow file, where no bit was changed since the last keep.
+fn grow_extents_kept<P: SectorSpace>(
+    volume: &mut Volume,
+    alloc: Global,
+    space: &mut P,
+    more: u32,
+) -> Result<Growth, Trouble>
+    requires stands { StandsOver volume.old (P.SectorView.space space.old) }
+    requires settled { IsTrue (P.SectorView.space space.old).tells → IsSettled volume.old (P.SectorView.space space.old).content }
+    requires unchanged { volume.old.map.changed ≡ none (sectors_for (length volume.old.map.used)) }
+    requires closed { IsTrue (P.SectorView.space space.old).tells → (at : ℕ) → (P.SectorView.space space.old).closed at → IsJournalSector (P.SectorView.space space.old).content at }
+    ensures ahead { IsTrue (P.SectorView.space space.old).tells → IfOk result (λ said. GoesAhead said which.Extents more (P.SectorView.space space.old).content (P.SectorView.space space.new).content) }
+    ensures later { IsTrue (P.SectorView.space space.old).tells → IfOk result (λ said. said ≡ growing.ToCome → IsLater which.Extents (volume_of (P.SectorView.space space.old).content)) }
+    ensures sure { IsTrue (P.SectorView.space space.old).tells → GrowthFits which.Extents more volume.old (P.SectorView.space space.old) → IfOk result (λ said. said ≡ growing.Grown) }
+    ensures stands { OnOk result (StandsOver volume.new (P.SectorView.space space.new)) }
+    ensures settled { IsTrue (P.SectorView.space space.old).tells → OnOk result (IsSettled volume.new (P.SectorView.space space.new).content) }
+    ensures service { IsInService volume.new (P.SectorView.space space.new) }
+    ensures holds { (committed : Content) → HoldsOn committed volume.old → HoldsOn committed volume.new }
+    ensures same { (volume.new.private ≡ volume.old.private) × (volume.new.shrunk ≡ volume.old.shrunk) × (volume.new.capacity ≡ volume.old.capacity) }
+    ensures touches { (committed : Content) → Touches committed (IsOwnOrFree volume.old) (P.SectorView.space space.old) (P.SectorView.space space.new) }
+    ensures gained { IsTrue (P.SectorView.space space.old).tells → OnOk result ((s : ℕ) → IsOwnOrFree volume.new s → IsOwnOrFree volume.old s) }
+    ensures spent { (P.SectorView.space space.old).spare ≤ (P.SectorView.space space.new).spare + growth_room which.Extents more volume.old }
+    ensures below { P.SectorView.follows space.old space.new }
+    ensures cause { HasTroubleCause (P.SectorView.space space.old).faults (P.SectorView.space space.new).faults result }
 {
-    match first.checked_add(second) {
-        Some(sum) => sum <= spare,
-        None => false,
+    if !can_grow_extents(volume, space, more) {
+        return Ok(Growth::CommitFirst);
     }
-}
-
-/// How many sectors a growth of a file with this fork by so many nodes puts at most; none where the numbers that count them have no room.
-fn count_growth(volume: &Volume, file: &TreeFile, fork: ForkRecord, more: u32) -> Option<u64>
-    ensures { IfSome result (λ sectors. sectors ≡ growth_load volume.now file.now more) }
-{
-    if file.per_block() == 0 {
-        return None;
-    }
-    let blocks = count_blocks(file, more);
-    if !counts_have_room(volume, file, fork, more, blocks) {
-        return None;
-    }
-    Some(count_growth_sectors(volume, file, more, blocks))
+    grow_extents(volume, alloc, space, more)?;
+    Ok(Growth::Grown)
 }
 
 /// Grows the catalog, where no bit was changed since the last keep.
@@ -74,15 +82,14 @@ fn grow_catalog_kept<P: SectorSpace>(
     alloc: Global,
     space: &mut P,
     more: u32,
-    load: u64,
 ) -> Result<Growth, Trouble>
     requires stands { StandsOver volume.old (P.SectorView.space space.old) }
     requires settled { IsTrue (P.SectorView.space space.old).tells → IsSettled volume.old (P.SectorView.space space.old).content }
     requires unchanged { volume.old.map.changed ≡ none (sectors_for (length volume.old.map.used)) }
     requires closed { IsTrue (P.SectorView.space space.old).tells → (at : ℕ) → (P.SectorView.space space.old).closed at → IsJournalSector (P.SectorView.space space.old).content at }
-    ensures ahead { IsTrue (P.SectorView.space space.old).tells → IfOk result (λ said. GoesAhead said (record { catalog = more; attributes = 0 }) (P.SectorView.space space.old).content (P.SectorView.space space.new).content) }
-    ensures later { IsTrue (P.SectorView.space space.old).tells → IfOk result (λ said. said ≡ growing.ToCome → 8 ≤ extents_in_use (volume_of (P.SectorView.space space.old).content) catalog_id (volume_of (P.SectorView.space space.old).content).head.catalog_fork) }
-    ensures room { IfOk result (λ said. said ≡ growing.Grown → load ≤ (P.SectorView.space space.new).spare) }
+    ensures ahead { IsTrue (P.SectorView.space space.old).tells → IfOk result (λ said. GoesAhead said which.Catalog more (P.SectorView.space space.old).content (P.SectorView.space space.new).content) }
+    ensures later { IsTrue (P.SectorView.space space.old).tells → IfOk result (λ said. said ≡ growing.ToCome → IsLater which.Catalog (volume_of (P.SectorView.space space.old).content)) }
+    ensures sure { IsTrue (P.SectorView.space space.old).tells → GrowthFits which.Catalog more volume.old (P.SectorView.space space.old) → IfOk result (λ said. said ≡ growing.Grown) }
     ensures stands { OnOk result (StandsOver volume.new (P.SectorView.space space.new)) }
     ensures settled { IsTrue (P.SectorView.space space.old).tells → OnOk result (IsSettled volume.new (P.SectorView.space space.new).content) }
     ensures service { IsInService volume.new (P.SectorView.space space.new) }
@@ -90,30 +97,18 @@ fn grow_catalog_kept<P: SectorSpace>(
     ensures same { (volume.new.private ≡ volume.old.private) × (volume.new.shrunk ≡ volume.old.shrunk) × (volume.new.capacity ≡ volume.old.capacity) }
     ensures touches { (committed : Content) → Touches committed (IsOwnOrFree volume.old) (P.SectorView.space space.old) (P.SectorView.space space.new) }
     ensures gained { IsTrue (P.SectorView.space space.old).tells → OnOk result ((s : ℕ) → IsOwnOrFree volume.new s → IsOwnOrFree volume.old s) }
+    ensures spent { (P.SectorView.space space.old).spare ≤ (P.SectorView.space space.new).spare + growth_room which.Catalog more volume.old }
     ensures below { P.SectorView.follows space.old space.new }
     ensures cause { HasTroubleCause (P.SectorView.space space.old).faults (P.SectorView.space space.new).faults result }
 {
     if volume.catalog.file.fork().len() >= 8 {
         return Ok(Growth::ToCome);
     }
-    match count_growth(
-        volume,
-        &volume.catalog.file,
-        volume.header.catalog_fork,
-        more,
-    ) {
-        Some(sectors) => {
-            if !fit_both(sectors, load, space.spare()) {
-                return Ok(Growth::CommitFirst);
-            }
-            if !can_grow_catalog(volume, space, more) {
-                return Ok(Growth::CommitFirst);
-            }
-            grow_catalog(volume, alloc, space, more)?;
-            Ok(Growth::Grown)
-        }
-        None => Ok(Growth::CommitFirst),
+    if !can_grow_catalog(volume, space, more) {
+        return Ok(Growth::CommitFirst);
     }
+    grow_catalog(volume, alloc, space, more)?;
+    Ok(Growth::Grown)
 }
 
 /// Grows the attributes file, where no bit was changed since the last keep.
@@ -122,15 +117,14 @@ fn grow_attributes_kept<P: SectorSpace>(
     alloc: Global,
     space: &mut P,
     more: u32,
-    load: u64,
 ) -> Result<Growth, Trouble>
     requires stands { StandsOver volume.old (P.SectorView.space space.old) }
     requires settled { IsTrue (P.SectorView.space space.old).tells → IsSettled volume.old (P.SectorView.space space.old).content }
     requires unchanged { volume.old.map.changed ≡ none (sectors_for (length volume.old.map.used)) }
     requires closed { IsTrue (P.SectorView.space space.old).tells → (at : ℕ) → (P.SectorView.space space.old).closed at → IsJournalSector (P.SectorView.space space.old).content at }
-    ensures ahead { IsTrue (P.SectorView.space space.old).tells → IfOk result (λ said. GoesAhead said (record { catalog = 0; attributes = more }) (P.SectorView.space space.old).content (P.SectorView.space space.new).content) }
-    ensures later { IsTrue (P.SectorView.space space.old).tells → IfOk result (λ said. said ≡ growing.ToCome → 8 ≤ extents_in_use (volume_of (P.SectorView.space space.old).content) attributes_id (volume_of (P.SectorView.space space.old).content).head.attributes_fork) }
-    ensures room { IfOk result (λ said. said ≡ growing.Grown → load ≤ (P.SectorView.space space.new).spare) }
+    ensures ahead { IsTrue (P.SectorView.space space.old).tells → IfOk result (λ said. GoesAhead said which.Attributes more (P.SectorView.space space.old).content (P.SectorView.space space.new).content) }
+    ensures later { IsTrue (P.SectorView.space space.old).tells → IfOk result (λ said. said ≡ growing.ToCome → IsLater which.Attributes (volume_of (P.SectorView.space space.old).content)) }
+    ensures sure { IsTrue (P.SectorView.space space.old).tells → GrowthFits which.Attributes more volume.old (P.SectorView.space space.old) → IfOk result (λ said. said ≡ growing.Grown) }
     ensures stands { OnOk result (StandsOver volume.new (P.SectorView.space space.new)) }
     ensures settled { IsTrue (P.SectorView.space space.old).tells → OnOk result (IsSettled volume.new (P.SectorView.space space.new).content) }
     ensures service { IsInService volume.new (P.SectorView.space space.new) }
@@ -138,6 +132,7 @@ fn grow_attributes_kept<P: SectorSpace>(
     ensures same { (volume.new.private ≡ volume.old.private) × (volume.new.shrunk ≡ volume.old.shrunk) × (volume.new.capacity ≡ volume.old.capacity) }
     ensures touches { (committed : Content) → Touches committed (IsOwnOrFree volume.old) (P.SectorView.space space.old) (P.SectorView.space space.new) }
     ensures gained { IsTrue (P.SectorView.space space.old).tells → OnOk result ((s : ℕ) → IsOwnOrFree volume.new s → IsOwnOrFree volume.old s) }
+    ensures spent { (P.SectorView.space space.old).spare ≤ (P.SectorView.space space.new).spare + growth_room which.Attributes more volume.old }
     ensures below { P.SectorView.follows space.old space.new }
     ensures cause { HasTroubleCause (P.SectorView.space space.old).faults (P.SectorView.space space.new).faults result }
 {
@@ -147,47 +142,34 @@ fn grow_attributes_kept<P: SectorSpace>(
     if volume.attributes.file.fork().len() >= 8 {
         return Ok(Growth::ToCome);
     }
-    match count_growth(
-        volume,
-        &volume.attributes.file,
-        volume.header.attributes_fork,
-        more,
-    ) {
-        Some(sectors) => {
-            if !fit_both(sectors, load, space.spare()) {
-                return Ok(Growth::CommitFirst);
-            }
-            if !can_grow_attributes(volume, space, more) {
-                return Ok(Growth::CommitFirst);
-            }
-            grow_attributes(volume, alloc, space, more)?;
-            Ok(Growth::Grown)
-        }
-        None => Ok(Growth::CommitFirst),
+    if !can_grow_attributes(volume, space, more) {
+        return Ok(Growth::CommitFirst);
     }
+    grow_attributes(volume, alloc, space, more)?;
+    Ok(Growth::Grown)
 }
 
-/// Grows the catalog or the attributes file by so many nodes ahead of a command that puts so many sectors at most; what was done so far
-/// stays, whatever is undone later. A commit comes first where there is too little room for both, so many blocks aren't free in a row,
-/// or a number has no room; and the growth is still to come where both files are to grow, or the file's fork has eight extents: then
-/// nothing is changed. `Memory` comes where memory is wanting, `Disk` where a read failed.
-pub fn grow_ahead<P: SectorSpace>(
+/// Grows a tree by so many nodes, in a step of its own ahead of a command or a step of reclaiming that wants them; what was done so far
+/// stays, whatever is undone later. A commit comes first where there is too little room for what the growth puts, so many blocks aren't
+/// free in a row, a number has no room, or there is no such tree; and the growth is still to come where the file's fork has eight extents:
+/// then nothing is changed. `Memory` comes where memory is wanting, `Disk` where a read failed.
+pub fn grow_tree<P: SectorSpace>(
     volume: &mut Volume,
     alloc: Global,
     space: &mut P,
-    more: MoreNodes,
-    load: u64,
+    tree: WhichTree,
+    more: u32,
 ) -> Result<Growth, Trouble>
     requires stands { StandsOver volume.old (P.SectorView.space space.old) }
     requires settled { IsTrue (P.SectorView.space space.old).tells → IsSettled volume.old (P.SectorView.space space.old).content }
     // Only the journal's sectors are closed.
     requires closed { IsTrue (P.SectorView.space space.old).tells → (at : ℕ) → (P.SectorView.space space.old).closed at → IsJournalSector (P.SectorView.space space.old).content at }
-    // Told, the content's catalog and attributes file have just these nodes more, and its tree is as it was; or nothing was changed.
-    ensures ahead { IsTrue (P.SectorView.space space.old).tells → IfOk result (λ said. GoesAhead said more (P.SectorView.space space.old).content (P.SectorView.space space.new).content) }
-    // Such a growth isn't built only where both files are to grow, or the fork of the one that is has eight extents.
-    ensures later { IsTrue (P.SectorView.space space.old).tells → IfOk result (λ said. said ≡ growing.ToCome → IsLater more (volume_of (P.SectorView.space space.old).content)) }
-    // Behind a growth so many sectors may be put as the command puts.
-    ensures room { IfOk result (λ said. said ≡ growing.Grown → load ≤ (P.SectorView.space space.new).spare) }
+    // Told, the tree of the content has just these nodes more, and what the content stands for is as it was; or nothing was changed.
+    ensures ahead { IsTrue (P.SectorView.space space.old).tells → IfOk result (λ said. GoesAhead said tree more (P.SectorView.space space.old).content (P.SectorView.space space.new).content) }
+    // The growth is still to come only where the file's fork has eight extents; that of the extents overflow file never is.
+    ensures later { IsTrue (P.SectorView.space space.old).tells → IfOk result (λ said. said ≡ growing.ToCome → IsLater tree (volume_of (P.SectorView.space space.old).content)) }
+    // A growth that fits is made.
+    ensures sure { IsTrue (P.SectorView.space space.old).tells → GrowthFits tree more volume.old (P.SectorView.space space.old) → IfOk result (λ said. said ≡ growing.Grown) }
     ensures stands { OnOk result (StandsOver volume.new (P.SectorView.space space.new)) }
     ensures settled { IsTrue (P.SectorView.space space.old).tells → OnOk result (IsSettled volume.new (P.SectorView.space space.new).content) }
     ensures service { IsInService volume.new (P.SectorView.space space.new) }
@@ -198,17 +180,15 @@ pub fn grow_ahead<P: SectorSpace>(
     ensures touches { (committed : Content) → Touches committed (IsOwnOrFree volume.old) (P.SectorView.space space.old) (P.SectorView.space space.new) }
     // What is its own now, or free, was so before.
     ensures gained { IsTrue (P.SectorView.space space.old).tells → OnOk result ((s : ℕ) → IsOwnOrFree volume.new s → IsOwnOrFree volume.old s) }
+    // It takes no more of the room for puts than such a growth puts at most.
+    ensures spent { (P.SectorView.space space.old).spare ≤ (P.SectorView.space space.new).spare + growth_room tree more volume.old }
     ensures below { P.SectorView.follows space.old space.new }
     ensures cause { HasTroubleCause (P.SectorView.space space.old).faults (P.SectorView.space space.new).faults result }
 {
     volume.keep();
-    let catalog = more.catalog;
-    let attributes = more.attributes;
-    if attributes == 0 {
-        return grow_catalog_kept(volume, alloc, space, catalog, load);
+    match tree {
+        WhichTree::Extents => grow_extents_kept(volume, alloc, space, more),
+        WhichTree::Catalog => grow_catalog_kept(volume, alloc, space, more),
+        WhichTree::Attributes => grow_attributes_kept(volume, alloc, space, more),
     }
-    if catalog == 0 {
-        return grow_attributes_kept(volume, alloc, space, attributes, load);
-    }
-    Ok(Growth::ToCome)
 }

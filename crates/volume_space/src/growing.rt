@@ -8,13 +8,12 @@ ghost use Rattle.btree_edit.specs.Causes.{HasTroubleCause};
 ghost use Rattle.hx_bytes.specs.Fork.{FitsExtent, FitsExtents, FitsFork};
 ghost use Rattle.hfs_volume.specs.Aside.{IsJournalSector};
 ghost use Rattle.hfs_volume.specs.Content.{volume_of};
-ghost use Rattle.hfs_volume.specs.Cost.{catalog_key};
 ghost use Rattle.hfs_volume.specs.Forks.{catalog_id};
 ghost use Rattle.hfs_volume.specs.Reclaim.{GrowsTrees};
 ghost use Rattle.hfs_volume.specs.TreeOf.{tree_of};
 ghost use Rattle.overflow.specs.Records.{eight_at, no_extent};
 ghost use Rattle.volume_header.specs.Header.{FitsHeader};
-ghost use Rattle.volume_space.specs.Growing.{CanGrowCatalog, GrowsCatalog, GrowsLists, HasFreeRun, IsOwnOrFree, KeepsForks, Lengthens, SufficesFor, TakesRun, blocks_filled, growth_load, longer_fork, nodes_load, run_load, with_catalog};
+ghost use Rattle.volume_space.specs.Growing.{CanGrowCatalog, GrowsCatalog, HeadGrows, HasFreeRun, IsOwnOrFree, KeepsForks, Lengthens, TakesRun, blocks_filled, growth_load, longer_fork, nodes_load, run_load, with_catalog};
 ghost use Rattle.volume_space.specs.Mapping.{HoldsUnchanged, changed_sectors};
 ghost use Rattle.volume_base.specs.Service.{IsInService};
 ghost use Rattle.volume_space.specs.Standing.{HoldsOn};
@@ -28,7 +27,6 @@ use hfs_volume::growth_keeps_the_tree;
 use hx_bytes::{Extent, ExtentRecord, ForkRecord, OutOfMemory, Trouble};
 use sector_disk::SectorSpace;
 use std::alloc::Global;
-use tree_weights::trees_grow_by_enough;
 use volume_base::Volume;
 use volume_header::VolumeHeader;
 
@@ -176,14 +174,13 @@ pub fn grow_catalog<P: SectorSpace>(
     ensures grows { IsTrue (P.SectorView.space space.old).tells → OnOk result (GrowsTrees (0 ∷ more ∷ 0 ∷ []) (volume_of (P.SectorView.space space.old).content) (volume_of (P.SectorView.space space.new).content)) }
     // Every other fork has the blocks that it had.
     ensures files { IsTrue (P.SectorView.space space.old).tells → OnOk result (KeepsForks catalog_id (volume_of (P.SectorView.space space.old).content) (volume_of (P.SectorView.space space.new).content)) }
-    // Of the content's numbers those of the catalog alone are others.
-    ensures lists { IsTrue (P.SectorView.space space.old).tells → OnOk result (GrowsLists more 0 (volume_of (P.SectorView.space space.old).content) (volume_of (P.SectorView.space space.new).content)) }
+    // Of the header the number of free blocks and a fork alone are others, and the journal lies where it lay.
+    ensures head { IsTrue (P.SectorView.space space.old).tells → OnOk result (HeadGrows (volume_of (P.SectorView.space space.old).content).head (volume_of (P.SectorView.space space.new).content).head) }
+    ensures journal { IsTrue (P.SectorView.space space.old).tells → OnOk result ((volume_of (P.SectorView.space space.new).content).journal ≡ (volume_of (P.SectorView.space space.old).content).journal) }
     // The new blocks are taken, and none is given up; the bits that were changed are put.
     ensures volume { IsTrue (P.SectorView.space space.old).tells → OnOk result (GrowsCatalog more volume.old volume.new) }
     // The bitmap keeps for each of its file's sectors whether it was changed.
     ensures marks { OnOk result (length volume.new.map.changed ≡ sectors_for (length volume.new.map.used)) }
-    // For edits for which it had to grow by so many nodes it has room now.
-    ensures suffices { IsTrue (P.SectorView.space space.old).tells → OnOk result (SufficesFor catalog_key more volume.old.catalog.file volume.new.catalog.file) }
     ensures holds { (committed : Content) → HoldsOn committed volume.old → HoldsOn committed volume.new }
     ensures same { (volume.new.private ≡ volume.old.private) × (volume.new.shrunk ≡ volume.old.shrunk) × (volume.new.capacity ≡ volume.old.capacity) }
     ensures service { IsInService volume.new (P.SectorView.space space.new) }
@@ -197,7 +194,6 @@ pub fn grow_catalog<P: SectorSpace>(
     ensures cause { HasTroubleCause (P.SectorView.space space.old).faults (P.SectorView.space space.new).faults result }
 {
     growth_keeps_the_tree();
-    trees_grow_by_enough();
     lengthen_catalog(volume, alloc, space, more)?;
     put_map(volume, space);
     volume.put_header(space);

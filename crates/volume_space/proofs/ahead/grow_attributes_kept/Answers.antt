@@ -1,30 +1,38 @@
-use Rattle.std.proofs.Common.{ℕ, inl, inr, ap}
+use Rattle.std.proofs.Common.{[], inl, inr, ap, sym, ◌∙◌, true≢false}
 use Rattle.std.specs.Prelude.{Contains}
 use Rattle.hfs_volume.specs.Forks.{per_block_of}
 use Rattle.volume_space.specs.Growing.{IsOwnOrFree, blocks_filled}
 use Rattle.volume_base.specs.Standing.{own_sectors}
 use Rattle.volume_base.specs.declared.volume.Volume.{Volume}
 use Rattle.volume_space.proofs.GrownAhead.{gained_before}
+use Rattle.volume_space.proofs.Sounding.{sound_here}
 use Rattle.volume_space.proofs.WhenKept.{touches_those}
 use Rattle.volume_space.proofs.ahead.grow_attributes_kept.Goals as goal
 
-pub returns-in_ok-grow_attributes-in-Some-clause-ahead : goal.returns-in_ok-grow_attributes-in-Some-clause-ahead
-returns-in_ok-grow_attributes-in-Some-clause-ahead g c tells = record {
-  tree = c.in_ok-grow_attributes-in-Some.ensures.tree tells;
-  grows = c.in_ok-grow_attributes-in-Some.ensures.grows tells;
-  files = λ id kind other. c.in_ok-grow_attributes-in-Some.ensures.files tells id kind (inl (λ same. other (inr (inr same))));
-  lists = c.in_ok-grow_attributes-in-Some.ensures.lists tells;
+pub returns-clause-ahead : goal.returns-clause-ahead
+returns-clause-ahead g c tells = record {
+  keeps = record {
+    sound = sound_here c.grow_attributes.new.volume (g.P.SectorView.space c.grow_attributes.new.space) (c.in_ok-grow_attributes.ensures.stands.stands ((c.grow_attributes.ensures.touches []).same.tells ∙ tells)) (c.in_ok-grow_attributes.ensures.settled tells);
+    tree = c.in_ok-grow_attributes.ensures.tree tells;
+  };
+  grows = c.in_ok-grow_attributes.ensures.grows tells;
+  files = λ id kind other. c.in_ok-grow_attributes.ensures.files tells id kind (inl (λ same. other (inr (inr same))));
+  journal = c.in_ok-grow_attributes.ensures.journal tells;
+  head = c.in_ok-grow_attributes.ensures.head tells;
 }
 
-pub returns-in_ok-grow_attributes-in-Some-clause-gained : goal.returns-in_ok-grow_attributes-in-Some-clause-gained
-returns-in_ok-grow_attributes-in-Some-clause-gained g c tells =
-    let grows = c.in_ok-grow_attributes-in-Some.ensures.volume tells in
+pub returns-clause-gained : goal.returns-clause-gained
+returns-clause-gained g c tells =
+    let grows = c.in_ok-grow_attributes.ensures.volume tells in
     gained_before (blocks_filled c.args.volume.now.attributes.file c.args.more) grows.run c.args.volume.now c.grow_attributes.new.volume grows.takes (ap (λ (u : Volume). per_block_of u.header) grows.rest) (c.grow_attributes.ensures.gained tells)
 
-pub returns-in_ok-grow_attributes-in-Some-clause-touches : goal.returns-in_ok-grow_attributes-in-Some-clause-touches
-returns-in_ok-grow_attributes-in-Some-clause-touches g c committed =
+pub returns-clause-touches : goal.returns-clause-touches
+returns-clause-touches g c committed =
     touches_those committed (λ s. Contains (own_sectors c.grow_attributes.new.volume) s) (IsOwnOrFree c.args.volume.now) (g.P.SectorView.space c.args.space.now) (g.P.SectorView.space c.grow_attributes.new.space) c.grow_attributes.ensures.gained (c.grow_attributes.ensures.touches committed)
 
-pub returns-in_err-grow_attributes-in-Some-clause-touches : goal.returns-in_err-grow_attributes-in-Some-clause-touches
-returns-in_err-grow_attributes-in-Some-clause-touches g c committed =
+pub returns-in_err-grow_attributes-clause-touches : goal.returns-in_err-grow_attributes-clause-touches
+returns-in_err-grow_attributes-clause-touches g c committed =
     touches_those committed (λ s. Contains (own_sectors c.grow_attributes.new.volume) s) (IsOwnOrFree c.args.volume.now) (g.P.SectorView.space c.args.space.now) (g.P.SectorView.space c.grow_attributes.new.space) c.grow_attributes.ensures.gained (c.grow_attributes.ensures.touches committed)
+
+pub returns-then-not-can_grow_attributes-clause-sure : goal.returns-then-not-can_grow_attributes-clause-sure
+returns-then-not-can_grow_attributes-clause-sure g c tells fits = absurd (true≢false (sym (c.if-not-can_grow_attributes.ensures.fits tells fits)))

@@ -1,30 +1,38 @@
-use Rattle.std.proofs.Common.{ℕ, inl, inr, ap}
+use Rattle.std.proofs.Common.{[], inl, inr, ap, sym, ◌∙◌, true≢false}
 use Rattle.std.specs.Prelude.{Contains}
 use Rattle.hfs_volume.specs.Forks.{per_block_of}
 use Rattle.volume_space.specs.Growing.{IsOwnOrFree, blocks_filled}
 use Rattle.volume_base.specs.Standing.{own_sectors}
 use Rattle.volume_base.specs.declared.volume.Volume.{Volume}
 use Rattle.volume_space.proofs.GrownAhead.{gained_before}
+use Rattle.volume_space.proofs.Sounding.{sound_here}
 use Rattle.volume_space.proofs.WhenKept.{touches_those}
 use Rattle.volume_space.proofs.ahead.grow_catalog_kept.Goals as goal
 
-pub returns-in_ok-grow_catalog-in-Some-clause-ahead : goal.returns-in_ok-grow_catalog-in-Some-clause-ahead
-returns-in_ok-grow_catalog-in-Some-clause-ahead g c tells = record {
-  tree = c.in_ok-grow_catalog-in-Some.ensures.tree tells;
-  grows = c.in_ok-grow_catalog-in-Some.ensures.grows tells;
-  files = λ id kind other. c.in_ok-grow_catalog-in-Some.ensures.files tells id kind (inl (λ same. other (inr (inl same))));
-  lists = c.in_ok-grow_catalog-in-Some.ensures.lists tells;
+pub returns-clause-ahead : goal.returns-clause-ahead
+returns-clause-ahead g c tells = record {
+  keeps = record {
+    sound = sound_here c.grow_catalog.new.volume (g.P.SectorView.space c.grow_catalog.new.space) (c.in_ok-grow_catalog.ensures.stands.stands ((c.grow_catalog.ensures.touches []).same.tells ∙ tells)) (c.in_ok-grow_catalog.ensures.settled tells);
+    tree = c.in_ok-grow_catalog.ensures.tree tells;
+  };
+  grows = c.in_ok-grow_catalog.ensures.grows tells;
+  files = λ id kind other. c.in_ok-grow_catalog.ensures.files tells id kind (inl (λ same. other (inr (inl same))));
+  journal = c.in_ok-grow_catalog.ensures.journal tells;
+  head = c.in_ok-grow_catalog.ensures.head tells;
 }
 
-pub returns-in_ok-grow_catalog-in-Some-clause-gained : goal.returns-in_ok-grow_catalog-in-Some-clause-gained
-returns-in_ok-grow_catalog-in-Some-clause-gained g c tells =
-    let grows = c.in_ok-grow_catalog-in-Some.ensures.volume tells in
+pub returns-clause-gained : goal.returns-clause-gained
+returns-clause-gained g c tells =
+    let grows = c.in_ok-grow_catalog.ensures.volume tells in
     gained_before (blocks_filled c.args.volume.now.catalog.file c.args.more) grows.run c.args.volume.now c.grow_catalog.new.volume grows.takes (ap (λ (u : Volume). per_block_of u.header) grows.rest) (c.grow_catalog.ensures.gained tells)
 
-pub returns-in_ok-grow_catalog-in-Some-clause-touches : goal.returns-in_ok-grow_catalog-in-Some-clause-touches
-returns-in_ok-grow_catalog-in-Some-clause-touches g c committed =
+pub returns-clause-touches : goal.returns-clause-touches
+returns-clause-touches g c committed =
     touches_those committed (λ s. Contains (own_sectors c.grow_catalog.new.volume) s) (IsOwnOrFree c.args.volume.now) (g.P.SectorView.space c.args.space.now) (g.P.SectorView.space c.grow_catalog.new.space) c.grow_catalog.ensures.gained (c.grow_catalog.ensures.touches committed)
 
-pub returns-in_err-grow_catalog-in-Some-clause-touches : goal.returns-in_err-grow_catalog-in-Some-clause-touches
-returns-in_err-grow_catalog-in-Some-clause-touches g c committed =
+pub returns-in_err-grow_catalog-clause-touches : goal.returns-in_err-grow_catalog-clause-touches
+returns-in_err-grow_catalog-clause-touches g c committed =
     touches_those committed (λ s. Contains (own_sectors c.grow_catalog.new.volume) s) (IsOwnOrFree c.args.volume.now) (g.P.SectorView.space c.args.space.now) (g.P.SectorView.space c.grow_catalog.new.space) c.grow_catalog.ensures.gained (c.grow_catalog.ensures.touches committed)
+
+pub returns-then-not-can_grow_catalog-clause-sure : goal.returns-then-not-can_grow_catalog-clause-sure
+returns-then-not-can_grow_catalog-clause-sure g c tells fits = absurd (true≢false (sym (c.if-not-can_grow_catalog.ensures.fits tells fits)))

@@ -6,14 +6,12 @@ use Rattle.std.proofs.lemmas.Result.{err_from_is_err_and}
 use Rattle.hx_bytes.specs.declared.faults.Trouble.{Trouble}
 use Rattle.btree_file.specs.State.{sectors_of_tree}
 use Rattle.sector_disk.specs.Lists.{Content}
-use Rattle.hfs_volume.specs.Cost.{attributes_key}
 use Rattle.volume_space.specs.Mapping.{changed_sectors}
 use Rattle.volume_space.specs.Standing.{HoldsOn}
 use Rattle.volume_base.specs.Standing.{attribute_sectors, map_sectors, own_sectors}
 use Rattle.volume_base.specs.declared.volume.Volume.{Volume}
 use Rattle.volume_base.proofs.Commanding.{touches_both}
-use Rattle.volume_space.proofs.GrownRoom.{least_attributes, suffices_for}
-use Rattle.volume_space.proofs.AttributesGrownWhole.{files_whole, grows_whole, lists_whole, settled_whole, tree_whole, volume_whole}
+use Rattle.volume_space.proofs.AttributesGrownWhole.{files_whole, grows_whole, head_whole, journal_whole, settled_whole, tree_whole, volume_whole}
 use Rattle.volume_base.proofs.Seeing.{cause_on}
 use Rattle.volume_base.proofs.Touched.{touches_header, touches_within}
 use Rattle.volume_space.proofs.growing_attributes.grow_attributes.Goals as goal
@@ -130,31 +128,26 @@ returns-in_err-lengthen_attributes-clause-below g c = c.lengthen_attributes.ensu
 pub returns-in_err-lengthen_attributes-clause-cause : goal.returns-in_err-lengthen_attributes-clause-cause
 returns-in_err-lengthen_attributes-clause-cause g c = let p = err_from_is_err_and c.from_residual.result c.from_residual.ensures.1 in cause_on c.in_err-lengthen_attributes.field-0.0 p.0 (g.P.SectorView.space c.args.space.now).faults (g.P.SectorView.space c.args.space.now).faults (g.P.SectorView.space c.lengthen_attributes.new.space).faults c.from_residual.result p.1 p.2 (omega arith) c.in_err-lengthen_attributes.ensures.cause
 
-pub returns-clause-suffices : goal.returns-clause-suffices
-returns-clause-suffices g c tells =
-    let grows = volume_whole c.args.more c.args.volume.now c.lengthen_attributes.new.volume (g.P.SectorView.space c.args.space.now) (g.P.SectorView.space c.lengthen_attributes.new.space) (g.P.SectorView.space c.put_map.new.space) (g.P.SectorView.space c.put_header.new.space) c.requires.stands (c.requires.settled tells) c.requires.there c.requires.can tells c.growth_keeps_the_tree.ensures (c.in_ok-lengthen_attributes.ensures.lengthens tells) (c.put_header.ensures.stands.stands (c.put_header.ensures.within.same.tells ∙ (c.put_map.ensures.within.same.tells ∙ ((c.lengthen_attributes.ensures.touches []).same.tells ∙ tells)))) (c.put_map.ensures.put ((c.lengthen_attributes.ensures.touches []).same.tells ∙ tells)) (c.put_header.ensures.put (c.put_map.ensures.within.same.tells ∙ ((c.lengthen_attributes.ensures.touches []).same.tells ∙ tells))) c.put_header.ensures.within (c.put_map.ensures.within.same.tells ∙ ((c.lengthen_attributes.ensures.touches []).same.tells ∙ tells)) in
-    suffices_for attributes_key c.args.more c.args.volume.now.attributes.file c.lengthen_attributes.new.volume.attributes.file (least_attributes c.args.volume.now (g.P.SectorView.space c.args.space.now) c.requires.there (c.requires.stands.stands tells)) (omega arith) c.requires.can.some c.trees_grow_by_enough.ensures grows.numbers grows.free
-
-pub returns-in_err-lengthen_attributes-clause-suffices : goal.returns-in_err-lengthen_attributes-clause-suffices
-returns-in_err-lengthen_attributes-clause-suffices g c tells = let p = err_from_is_err_and c.from_residual.result c.from_residual.ensures.1 in off_ok _ c.from_residual.result p.0 p.1
-
 pub returns-clause-marks : goal.returns-clause-marks
 returns-clause-marks g c = c.in_ok-lengthen_attributes.ensures.marks
 
 pub returns-in_err-lengthen_attributes-clause-marks : goal.returns-in_err-lengthen_attributes-clause-marks
 returns-in_err-lengthen_attributes-clause-marks g c = let p = err_from_is_err_and c.from_residual.result c.from_residual.ensures.1 in off_ok _ c.from_residual.result p.0 p.1
 
-pub returns-clause-lists : goal.returns-clause-lists
-returns-clause-lists g c tells =
-    let grows = volume_whole c.args.more c.args.volume.now c.lengthen_attributes.new.volume (g.P.SectorView.space c.args.space.now) (g.P.SectorView.space c.lengthen_attributes.new.space) (g.P.SectorView.space c.put_map.new.space) (g.P.SectorView.space c.put_header.new.space) c.requires.stands (c.requires.settled tells) c.requires.there c.requires.can tells c.growth_keeps_the_tree.ensures (c.in_ok-lengthen_attributes.ensures.lengthens tells) (c.put_header.ensures.stands.stands (c.put_header.ensures.within.same.tells ∙ (c.put_map.ensures.within.same.tells ∙ ((c.lengthen_attributes.ensures.touches []).same.tells ∙ tells)))) (c.put_map.ensures.put ((c.lengthen_attributes.ensures.touches []).same.tells ∙ tells)) (c.put_header.ensures.put (c.put_map.ensures.within.same.tells ∙ ((c.lengthen_attributes.ensures.touches []).same.tells ∙ tells))) c.put_header.ensures.within (c.put_map.ensures.within.same.tells ∙ ((c.lengthen_attributes.ensures.touches []).same.tells ∙ tells)) in
-    lists_whole c.args.more c.args.volume.now c.lengthen_attributes.new.volume (g.P.SectorView.space c.args.space.now) (g.P.SectorView.space c.lengthen_attributes.new.space) (g.P.SectorView.space c.put_map.new.space) (g.P.SectorView.space c.put_header.new.space) c.requires.stands (c.requires.settled tells) c.requires.there c.requires.can tells c.growth_keeps_the_tree.ensures (c.in_ok-lengthen_attributes.ensures.lengthens tells) (c.put_header.ensures.stands.stands (c.put_header.ensures.within.same.tells ∙ (c.put_map.ensures.within.same.tells ∙ ((c.lengthen_attributes.ensures.touches []).same.tells ∙ tells)))) (c.put_map.ensures.put ((c.lengthen_attributes.ensures.touches []).same.tells ∙ tells)) (c.put_header.ensures.put (c.put_map.ensures.within.same.tells ∙ ((c.lengthen_attributes.ensures.touches []).same.tells ∙ tells))) c.put_header.ensures.within (c.put_map.ensures.within.same.tells ∙ ((c.lengthen_attributes.ensures.touches []).same.tells ∙ tells))
-    (suffices_for attributes_key c.args.more c.args.volume.now.attributes.file c.lengthen_attributes.new.volume.attributes.file (least_attributes c.args.volume.now (g.P.SectorView.space c.args.space.now) c.requires.there (c.requires.stands.stands tells)) (omega arith) c.requires.can.some c.trees_grow_by_enough.ensures grows.numbers grows.free)
-
-pub returns-in_err-lengthen_attributes-clause-lists : goal.returns-in_err-lengthen_attributes-clause-lists
-returns-in_err-lengthen_attributes-clause-lists g c tells = let p = err_from_is_err_and c.from_residual.result c.from_residual.ensures.1 in off_ok _ c.from_residual.result p.0 p.1
-
 pub returns-clause-gained : goal.returns-clause-gained
 returns-clause-gained g c = c.lengthen_attributes.ensures.gained
 
 pub returns-in_err-lengthen_attributes-clause-gained : goal.returns-in_err-lengthen_attributes-clause-gained
 returns-in_err-lengthen_attributes-clause-gained g c = c.lengthen_attributes.ensures.gained
+
+pub returns-clause-head : goal.returns-clause-head
+returns-clause-head g c tells = head_whole c.args.more c.args.volume.now c.lengthen_attributes.new.volume (g.P.SectorView.space c.args.space.now) (g.P.SectorView.space c.lengthen_attributes.new.space) (g.P.SectorView.space c.put_map.new.space) (g.P.SectorView.space c.put_header.new.space) c.requires.stands (c.requires.settled tells) c.requires.there c.requires.can tells c.growth_keeps_the_tree.ensures (c.in_ok-lengthen_attributes.ensures.lengthens tells) (c.put_header.ensures.stands.stands (c.put_header.ensures.within.same.tells ∙ (c.put_map.ensures.within.same.tells ∙ ((c.lengthen_attributes.ensures.touches []).same.tells ∙ tells)))) (c.put_map.ensures.put ((c.lengthen_attributes.ensures.touches []).same.tells ∙ tells)) (c.put_header.ensures.put (c.put_map.ensures.within.same.tells ∙ ((c.lengthen_attributes.ensures.touches []).same.tells ∙ tells))) c.put_header.ensures.within (c.put_map.ensures.within.same.tells ∙ ((c.lengthen_attributes.ensures.touches []).same.tells ∙ tells))
+
+pub returns-clause-journal : goal.returns-clause-journal
+returns-clause-journal g c tells = journal_whole c.args.more c.args.volume.now c.lengthen_attributes.new.volume (g.P.SectorView.space c.args.space.now) (g.P.SectorView.space c.lengthen_attributes.new.space) (g.P.SectorView.space c.put_map.new.space) (g.P.SectorView.space c.put_header.new.space) c.requires.stands (c.requires.settled tells) c.requires.there c.requires.can tells c.growth_keeps_the_tree.ensures (c.in_ok-lengthen_attributes.ensures.lengthens tells) (c.put_header.ensures.stands.stands (c.put_header.ensures.within.same.tells ∙ (c.put_map.ensures.within.same.tells ∙ ((c.lengthen_attributes.ensures.touches []).same.tells ∙ tells)))) (c.put_map.ensures.put ((c.lengthen_attributes.ensures.touches []).same.tells ∙ tells)) (c.put_header.ensures.put (c.put_map.ensures.within.same.tells ∙ ((c.lengthen_attributes.ensures.touches []).same.tells ∙ tells))) c.put_header.ensures.within (c.put_map.ensures.within.same.tells ∙ ((c.lengthen_attributes.ensures.touches []).same.tells ∙ tells))
+
+pub returns-in_err-lengthen_attributes-clause-head : goal.returns-in_err-lengthen_attributes-clause-head
+returns-in_err-lengthen_attributes-clause-head g c tells = let p = err_from_is_err_and c.from_residual.result c.from_residual.ensures.1 in off_ok _ c.from_residual.result p.0 p.1
+
+pub returns-in_err-lengthen_attributes-clause-journal : goal.returns-in_err-lengthen_attributes-clause-journal
+returns-in_err-lengthen_attributes-clause-journal g c tells = let p = err_from_is_err_and c.from_residual.result c.from_residual.ensures.1 in off_ok _ c.from_residual.result p.0 p.1
