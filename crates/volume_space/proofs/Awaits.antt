@@ -113,3 +113,16 @@ pub awaited_behind : (before between : Content) → between ≡ before → (capa
     → IfOk r (λ (found : Option TreeWanted). IfSome found (AwaitsGrowth first file between)) → IfOk r (λ (found : Option TreeWanted). IfSome found (AwaitsGrowth capacity shrunk before))
 awaited_behind before between same capacity first one shrunk file two r was =
     subst (λ (k : Content × ℕ × Option ℕ). IfOk r (λ (found : Option TreeWanted). IfSome found (AwaitsGrowth k.1 k.2 k.0))) {x = (between, first, file)} {y = (before, capacity, shrunk)} (λ i. (same i, one i, two i)) was
+
+-- a drop of an attribute, or of an entry, that awaits a growth behind reads
+pub bare_next : (before between : Content) → between ≡ before → (capacity first : ℕ) → first ≡ capacity → (shrunk : Option ℕ) (id : ℕ) (name : List ℕ) → next_reclaim (volume_of before) shrunk ≡ Some (DropAttribute id name) → (o : Option TreeWanted)
+    → IfSome o (λ w. (i : ℕ) (n : List ℕ) → StepAwaits first between (DropAttribute i n) w) → IfSome o (AwaitsGrowth capacity shrunk before)
+bare_next before between same capacity first one shrunk id name next None told = tt
+bare_next before between same capacity first one shrunk id name next (Some w) told =
+    (DropAttribute id name, next, subst (λ (k : Content × ℕ). StepAwaits k.1 k.0 (DropAttribute id name) w) {x = (between, first)} {y = (before, capacity)} (λ i. (same i, one i)) (told id name))
+
+pub drop_next : (before between : Content) → between ≡ before → (capacity first : ℕ) → first ≡ capacity → (shrunk : Option ℕ) (id : ℕ) → next_reclaim (volume_of before) shrunk ≡ Some (DropOrphan id) → (o : Option TreeWanted)
+    → IfSome o (λ w. (i : ℕ) → StepAwaits first between (DropOrphan i) w) → IfSome o (AwaitsGrowth capacity shrunk before)
+drop_next before between same capacity first one shrunk id next None told = tt
+drop_next before between same capacity first one shrunk id next (Some w) told =
+    (DropOrphan id, next, subst (λ (k : Content × ℕ). StepAwaits k.1 k.0 (DropOrphan id) w) {x = (between, first)} {y = (before, capacity)} (λ i. (same i, one i)) (told id))
