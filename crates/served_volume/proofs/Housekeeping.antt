@@ -1,11 +1,14 @@
 -- A step of housekeeping, as serving sees it.
-use Rattle.std.proofs.Common.{◌≡◌, ℕ, inl, sym, ◌∙◌, ap, subst}
+use Rattle.std.proofs.Common.{◌≡◌, ◌⊎◌, ℕ, List, inl, inr, ⊎_elim, sym, ◌∙◌, ap, subst}
 use Rattle.std.specs.Prelude.{IfOk, Option, Result, Ok, Err}
 use Rattle.hx_bytes.specs.declared.faults.Trouble.{Trouble}
 use Rattle.jnl_format.specs.Recovery.{Content}
 use Rattle.sector_disk.specs.Space.{Space}
 use Rattle.hfs_volume.specs.Content.{VolumeState, volume_of}
-use Rattle.hfs_volume.specs.Reclaim.{Does, GrowsTrees, Reclaims, next_reclaim, reclaim_cost}
+use Rattle.hfs_volume.specs.Reclaim.{CommandWants, Does, GrowsTreeFirst, GrowsTrees, Reclaims, SameFiles, StepWants, first_growth, next_reclaim, reclaim_cost}
+use Rattle.hfs_volume.specs.Weight.{weight}
+use Rattle.hfs_model.specs.Step.{refuses}
+use Rattle.hfs_model.specs.declared.plain.PlainTree.{PlainTree}
 use Rattle.hfs_serving.specs.Going.{Stays, Tidied, TidiesTo}
 use Rattle.hfs_serving.specs.Grounds.{KeepsHeading}
 use Rattle.hfs_serving.specs.Serving.{IsDurable, IsRead}
@@ -34,14 +37,33 @@ reclaims_alike capacity shrunk now next before after one two was =
       keeps = record { sound = two.sound; tree = two.tree ∙ was.keeps.tree ∙ sym one.tree };
     }
 
+-- and what wants a growth wants it
+wants_alike : (capacity : ℕ) (shrunk : Option ℕ) (now before : Content) (grow : List ℕ) → IsAlike now before → CommandWants capacity before grow ⊎ StepWants capacity shrunk before grow → CommandWants capacity now grow ⊎ StepWants capacity shrunk now grow
+wants_alike capacity shrunk now before grow one (inl was) =
+    inl (record { asked = was.asked; no_refusal = ap (λ (t : PlainTree). refuses t (Ok was.asked)) one.tree ∙ was.no_refusal; load = was.load; affords = (λ i. weight capacity (one.lists i) (one.tree i) was.asked) ∙ was.affords })
+wants_alike capacity shrunk now before grow one (inr was) =
+    inr (record { step = was.step; next = ap (λ (l : VolumeState). next_reclaim l shrunk) one.lists ∙ was.next; load = was.load; affords = ap (λ (l : VolumeState). reclaim_cost capacity l was.step) one.lists ∙ was.affords })
+
+-- and the same growth of a tree
+growth_alike : (capacity : ℕ) (shrunk : Option ℕ) (now next before after : Content) → IsAlike now before → IsAlike next after → GrowsTreeFirst capacity shrunk before after → GrowsTreeFirst capacity shrunk now next
+growth_alike capacity shrunk now next before after one two was =
+    record {
+      grow = was.grow;
+      wanted = wants_alike capacity shrunk now before was.grow one was.wanted;
+      some = was.some;
+      grows = subst (λ (k : VolumeState × VolumeState). GrowsTrees (first_growth was.grow) k.0 k.1) {x = (volume_of before, volume_of after)} {y = (volume_of now, volume_of next)} (λ i. (sym one.lists i, sym two.lists i)) was.grows;
+      files = subst (λ (k : VolumeState × VolumeState). SameFiles k.0 k.1) {x = (volume_of before, volume_of after)} {y = (volume_of now, volume_of next)} (λ i. (sym one.lists i, sym two.lists i)) was.files;
+      keeps = record { sound = two.sound; tree = two.tree ∙ was.keeps.tree ∙ sym one.tree };
+    }
+
 module _ (v w : Volume) (capacity : ℕ) (committed now : Content) (shrunk : Option ℕ) (a b : Space) (known : Knows v capacity committed now shrunk a) (below : IsDurable committed a) (reads : IsRead now a) (heads : KeepsHeading a) (leaves : Leaves v w committed a b) (kept : shrunk_of w ≡ shrunk_of v)
   where
-    tidied : Reclaims capacity shrunk a.content b.content → Tidied capacity (λ was is file. Knows w capacity was is file b) committed now shrunk b
+    tidied : Reclaims capacity shrunk a.content b.content ⊎ GrowsTreeFirst capacity shrunk a.content b.content → Tidied capacity (λ was is file. Knows w capacity was is file b) committed now shrunk b
     tidied was =
         let f = follow v w capacity committed now shrunk a b known below reads heads leaves in
         record {
           next = f.next;
-          tidied = inl (reclaims_alike capacity shrunk now f.next a.content b.content known.alike f.alike was);
+          tidied = ⊎_elim (λ made. inl (reclaims_alike capacity shrunk now f.next a.content b.content known.alike f.alike made)) (λ grown. inr (inr (inl (growth_alike capacity shrunk now f.next a.content b.content known.alike f.alike grown)))) was;
           place = place_then v w capacity committed now shrunk a b known below reads heads leaves;
           reads = reads_then v w capacity committed now shrunk a b known below reads heads leaves;
           heads = heads_then v w capacity committed now shrunk a b known below reads heads leaves;

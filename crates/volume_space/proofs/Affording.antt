@@ -14,7 +14,7 @@ use Rattle.hfs_volume.specs.declared.cost.Cost.TheVariants as cost
 use Rattle.hfs_volume.specs.declared.cost.Needs.{Needs}
 use Rattle.hfs_volume.specs.declared.cost.Room.{Room}
 use Rattle.volume_space.specs.Cutting.{IsCut}
-use Rattle.volume_space.specs.Orphans.{AffordsStep, TidiesAs, grows_none}
+use Rattle.volume_space.specs.Orphans.{AffordsStep, TidiesAs, bare_edits, drop_edits, grows_none}
 use Rattle.volume_base.specs.Room.{capacity_of, free_in, room_on}
 use Rattle.volume_base.specs.Standing.{IsSettled}
 use Rattle.volume_base.specs.Weighing.{needs_asked}
@@ -48,12 +48,6 @@ zeros grow three none =
     three ∙ (λ i. eqb-true (slice_index grow 0) 0 first.0 i ∷ eqb-true (slice_index grow 1) 0 second.0 i ∷ eqb-true (slice_index grow 2) 0 second.1 i ∷ [])
 
 -- ---- the steps
-
-abbrev pub drop_edits : Edits
-drop_edits = record { ids = 0; catalog = 2; attributes = 0; updates = 1 }
-
-abbrev pub bare_edits : Edits
-bare_edits = record { ids = 0; catalog = 0; attributes = 1; updates = 1 }
 
 module _ (v : Volume) (content : Content) (settled : IsSettled v content) (edits : Edits) where
   load_by : (found : Cost) → found ≡ cost_of (needs_asked edits) (room_with (capacity_of v) (free_in blocks.All v.map) (volume_of content)) → grows_none found ≡ true

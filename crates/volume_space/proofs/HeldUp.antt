@@ -1,50 +1,50 @@
 -- Why the next step of reclaiming isn't made: what its cost says, or that a transaction may be too small for a cut.
-use Rattle.std.proofs.Common.{◌≡◌, ◌<◌, ℕ, ◌+◌, Bool, true, false, List, inl, inr, refl, sym, ◌∙◌, ap, arith}
-use Rattle.std.specs.Prelude.{◌==◌, ◌&&◌, nat_lt, slice_index, Option, None, if◌then◌else◌}
-use Rattle.std.proofs.lemmas.Bool.{cases_lt, eq-eqb, true≢false}
+use Rattle.std.proofs.Common.{◌≡◌, ℕ, Bool, true, false, List, [], ◌∷◌, inl, inr, refl, sym, ◌∙◌, ap}
+use Rattle.std.specs.Prelude.{nat_lt, Option, None, Some, if◌then◌else◌}
+use Rattle.std.proofs.lemmas.Bool.{true≢false}
 use Rattle.sector_disk.specs.Lists.{Content}
 use Rattle.hfs_volume.specs.Content.{VolumeState, records_of, volume_of}
-use Rattle.hfs_volume.specs.Cost.{cost_of}
+use Rattle.hfs_language.specs.declared.refusal.Refusal.{Refusal}
+use Rattle.hfs_volume.specs.Cost.{cost_of, cost_or, load_refusal}
 use Rattle.hfs_volume.specs.Links.{orphans_of}
 use Rattle.hfs_volume.specs.Reclaim.{CutOrphan, CutShrunk, DropAttribute, DropOrphan, Reclaim, has_surplus_left, least, next_reclaim, orphan_steps, reclaim_cost, reclaim_cost_with, shrunk_step}
-use Rattle.hfs_volume.specs.Weight.{cut_cost, free_blocks, room_with}
+use Rattle.hfs_volume.specs.Weight.{cut_cost, cut_load, free_blocks, room_with}
 use Rattle.hfs_volume.specs.declared.cost.Cost.{Cost}
 use Rattle.hfs_volume.specs.declared.cost.Cost.TheVariants as cost
 use Rattle.hfs_volume.specs.declared.cost.Room.{Room}
 use Rattle.volume_runs.specs.Rest.{IsAtRest, IsHeldUp, cut_puts, is_tight}
 use Rattle.volume_space.specs.Cutting.{IsCut, IsNextCut}
-use Rattle.volume_space.specs.Orphans.{grows_none}
+use Rattle.volume_space.specs.Orphans.{bare_edits, drop_edits, grows_none, is_refused}
 use Rattle.volume_base.specs.Room.{capacity_of, free_in, room_on}
 use Rattle.volume_base.specs.Standing.{IsSettled}
 use Rattle.volume_base.specs.Weighing.{needs_asked}
 use Rattle.volume_base.specs.declared.room.FreeBlocks.TheVariants as blocks
 use Rattle.volume_base.specs.declared.volume.Volume.{Volume}
 use Rattle.volume_base.specs.declared.weighing.Edits.{Edits}
-use Rattle.volume_space.proofs.Affording.{bare_edits, cut_cost_is, drop_edits}
+use Rattle.volume_space.proofs.Affording.{cut_cost_is}
 use Rattle.volume_base.proofs.RoomKept.{free_content}
 
 -- ---- by its cost
 
-some_grows : (a b c : ℕ) → ((a == 0) && ((b == 0) && (c == 0))) ≡ false → 0 < a + b + c
-some_grows a b c is = elim (cases_lt 0 (a + b + c)) [
-  | inl some ↦ some
-  | inr none ↦ absurd (true≢false (sym (λ i. eq-eqb a 0 (omega (arith, none)) i && (eq-eqb b 0 (omega (arith, none)) i && eq-eqb c 0 (omega (arith, none)) i)) ∙ is))
-]
+held_cost : (capacity : ℕ) (volume : VolumeState) (step : Reclaim) (found : Cost) → is_refused found ≡ true → reclaim_cost capacity volume step ≡ found → IsHeldUp capacity volume step
+held_cost capacity volume step (cost.Refused why) refused is = inl (why, is)
+held_cost capacity volume step (cost.Load load grow) refused is = absurd (true≢false (sym refused))
 
-held_cost : (capacity : ℕ) (volume : VolumeState) (step : Reclaim) (found : Cost) → grows_none found ≡ false → reclaim_cost capacity volume step ≡ found → IsHeldUp capacity volume step
-held_cost capacity volume step (cost.Refused why) some is = inl (why, is)
-held_cost capacity volume step (cost.Load load grow) some is = inr (inl (record { load = load; grow = grow; costs = is; some = some_grows (slice_index grow 0) (slice_index grow 1) (slice_index grow 2) some }))
+-- a cut grows no tree
+cut_refused : (why : Option Refusal) (load : ℕ) (found : Cost) → found ≡ cost_or why load (0 ∷ 0 ∷ 0 ∷ []) → grows_none found ≡ false → is_refused found ≡ true
+cut_refused None load found is some = absurd (true≢false (sym (ap grows_none is) ∙ some))
+cut_refused (Some why) load found is some = ap is_refused is
 
 module _ (v : Volume) (content : Content) (settled : IsSettled v content) where
   by_edits : (edits : Edits) (found : Cost) → found ≡ cost_of (needs_asked edits) (room_with (capacity_of v) (free_in blocks.All v.map) (volume_of content))
       → cost_of (needs_asked edits) (room_with (capacity_of v) (free_blocks (volume_of content)) (volume_of content)) ≡ found
   by_edits edits found is = ap (λ (f : List Bool). cost_of (needs_asked edits) (room_with (capacity_of v) f (volume_of content))) (sym (free_content v content settled)) ∙ sym is
 
-  pub held_drop : (found : Cost) → found ≡ cost_of (needs_asked drop_edits) (room_with (capacity_of v) (free_in blocks.All v.map) (volume_of content)) → grows_none found ≡ false → (id : ℕ) → IsHeldUp (capacity_of v) (volume_of content) (DropOrphan id)
+  pub held_drop : (found : Cost) → found ≡ cost_of (needs_asked drop_edits) (room_with (capacity_of v) (free_in blocks.All v.map) (volume_of content)) → is_refused found ≡ true → (id : ℕ) → IsHeldUp (capacity_of v) (volume_of content) (DropOrphan id)
   unfolding reclaim_cost_with
   held_drop found is some id = held_cost (capacity_of v) (volume_of content) (DropOrphan id) found some (by_edits drop_edits found is)
 
-  pub held_bare : (found : Cost) → found ≡ cost_of (needs_asked bare_edits) (room_with (capacity_of v) (free_in blocks.All v.map) (volume_of content)) → grows_none found ≡ false → (id : ℕ) (name : List ℕ) → IsHeldUp (capacity_of v) (volume_of content) (DropAttribute id name)
+  pub held_bare : (found : Cost) → found ≡ cost_of (needs_asked bare_edits) (room_with (capacity_of v) (free_in blocks.All v.map) (volume_of content)) → is_refused found ≡ true → (id : ℕ) (name : List ℕ) → IsHeldUp (capacity_of v) (volume_of content) (DropAttribute id name)
   unfolding reclaim_cost_with
   held_bare found is some id name = held_cost (capacity_of v) (volume_of content) (DropAttribute id name) found some (by_edits bare_edits found is)
 
@@ -54,7 +54,7 @@ module _ (v : Volume) (content : Content) (settled : IsSettled v content) where
   cut_costs step (inr (id, kind, same)) = ap (reclaim_cost (capacity_of v) (volume_of content)) same
 
   pub held_cut : (found : Cost) → found ≡ cut_cost (room_on blocks.All v) → grows_none found ≡ false → (step : Reclaim) → IsCut step → IsHeldUp (capacity_of v) (volume_of content) step
-  held_cut found is some step cut = held_cost (capacity_of v) (volume_of content) step found some (cut_costs step cut ∙ sym (cut_cost_is v content settled) ∙ sym is)
+  held_cut found is some step cut = held_cost (capacity_of v) (volume_of content) step found (cut_refused (load_refusal (cut_load (room_on blocks.All v)) (room_on blocks.All v).capacity) (cut_load (room_on blocks.All v)) found is some) (cut_costs step cut ∙ sym (cut_cost_is v content settled) ∙ sym is)
 
 -- ---- by what a cut puts at most
 

@@ -6,6 +6,7 @@ pub mod AttributesGrownSettled
 pub mod AttributesGrownStands
 pub mod AttributesGrownUnchanged
 pub mod AttributesGrownWhole
+pub mod Awaits
 pub mod BehindTemp
 pub mod CutCalls
 pub mod CutDone

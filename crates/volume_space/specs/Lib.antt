@@ -1,3 +1,4 @@
+pub mod Awaiting
 pub mod Cutting
 pub mod CuttingAhead
 pub mod Growing

@@ -1,5 +1,5 @@
 -- Files that lost their last name and wait in the private folder: how a step of housekeeping finds the first of them, and what it does to it.
-use Rattle.std.specs.Prelude.{◌≡◌, ◌⊎◌, ◌==◌, ◌&&◌, ◌||◌, nat_lt, ℕ, Bool, false, not, List, [], ◌∷◌, length, drop, slice_index, Option, Some, None, if◌then◌else◌}
+use Rattle.std.specs.Prelude.{◌≡◌, ◌⊎◌, ◌==◌, ◌&&◌, ◌||◌, nat_lt, ℕ, Bool, true, false, not, List, [], ◌∷◌, length, drop, slice_index, Option, Some, None, if◌then◌else◌}
 use Rattle.std.specs.List.{list_all}
 use Rattle.sector_disk.specs.Lists.{Content}
 use Rattle.jnl_format.specs.Recovery.{header_of_volume}
@@ -20,6 +20,7 @@ use Rattle.volume_base.specs.Changing.{ChangesCatalog}
 use Rattle.volume_space.specs.Cutting.{CutsFile}
 use Rattle.volume_base.specs.Lists.{lists_of}
 use Rattle.volume_base.specs.declared.entries.Entry.{Entry}
+use Rattle.volume_base.specs.declared.weighing.Edits.{Edits}
 use Rattle.volume_space.specs.declared.tidying.Tidying.{Tidying}
 use Rattle.volume_space.specs.declared.tidying.Tidying.TheVariants as tidying
 use Rattle.volume_base.specs.declared.volume.Volume.{Volume}
@@ -109,6 +110,18 @@ pub record BaresWaiting (shrunk : Option ℕ) (before after : Content) : Type 0 
 abbrev pub grows_none : Cost → Bool
 grows_none (cost.Refused why) = false
 grows_none (cost.Load load grow) = (slice_index grow 0 == 0) && ((slice_index grow 1 == 0) && (slice_index grow 2 == 0))
+
+-- a refusal
+abbrev pub is_refused : Cost → Bool
+is_refused (cost.Refused why) = true
+is_refused (cost.Load load grow) = false
+
+-- the edits of the drop of an entry, and of an attribute
+abbrev pub drop_edits : Edits
+drop_edits = record { ids = 0; catalog = 2; attributes = 0; updates = 1 }
+
+abbrev pub bare_edits : Edits
+bare_edits = record { ids = 0; catalog = 0; attributes = 1; updates = 1 }
 
 -- Nothing is missing for a step of reclaiming, and no tree has to grow for it.
 pub record AffordsStep (capacity : ℕ) (content : Content) (step : Reclaim) : Type 0 where

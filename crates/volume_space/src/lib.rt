@@ -2,6 +2,7 @@
 #![tactic(auto)]
 
 mod ahead;
+mod awaiting;
 mod cutting;
 mod cutting_ahead;
 mod growable;
@@ -23,6 +24,7 @@ mod unfiling;
 mod writing;
 
 pub use ahead::{Growth, WhichTree, grow_tree};
+pub use awaiting::{TreeWanted, next_growth};
 pub use cutting_ahead::{CutAhead, cut_ahead};
 pub use growable::{can_grow_attributes, can_grow_catalog, can_grow_extents};
 pub use growing::grow_catalog;

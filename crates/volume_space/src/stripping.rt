@@ -6,8 +6,10 @@ ghost use Rattle.attributes.specs.Owned.{names_of};
 ghost use Rattle.btree_edit.specs.Causes.{HasTroubleCause};
 ghost use Rattle.btree_file.specs.Standing.{numbers_of};
 ghost use Rattle.hfs_volume.specs.Content.{has_attributes, records_of, volume_of};
+ghost use Rattle.hfs_volume.specs.Cost.{cost_of};
 ghost use Rattle.hfs_volume.specs.Links.{orphans_of};
 ghost use Rattle.hfs_volume.specs.Reclaim.{DropAttribute, has_surplus_left, least, next_reclaim};
+ghost use Rattle.hfs_volume.specs.Weight.{room_with};
 ghost use Rattle.volume_runs.specs.Rest.{IsHeldUp};
 ghost use Rattle.volume_base.specs.Attributing.{HasRoomToMark};
 ghost use Rattle.volume_base.specs.Changing.{KeepsBlocks};
@@ -15,18 +17,20 @@ ghost use Rattle.volume_space.specs.Cutting.{KeepsUsed};
 ghost use Rattle.volume_base.specs.Keeping.{shrunk_of};
 ghost use Rattle.volume_base.specs.Lists.{lists_of};
 ghost use Rattle.volume_base.specs.Looking.{ReadsVolume};
-ghost use Rattle.volume_space.specs.Orphans.{AffordsStep, BaresWaiting, TidiesAs};
+ghost use Rattle.volume_space.specs.Orphans.{AffordsStep, BaresWaiting, TidiesAs, bare_edits};
 ghost use Rattle.volume_base.specs.Orphans.{IsFirstName, is_blockless};
-ghost use Rattle.volume_base.specs.Room.{capacity_of};
+ghost use Rattle.volume_base.specs.Room.{capacity_of, free_in};
+ghost use Rattle.volume_base.specs.Weighing.{needs_asked};
+ghost use Rattle.volume_base.specs.declared.room.FreeBlocks.TheVariants as blocks;
 ghost use Rattle.volume_base.specs.Service.{IsInService};
 ghost use Rattle.volume_base.specs.Standing.{IsSettled, StandsOver, own_sectors};
 ghost use Rattle.volume_base.specs.Touching.{Touches};
 
 use crate::orphans::is_blockless;
-use crate::tidying::{Tidying, grows_none};
+use crate::tidying::{Tidying, grows_none, is_refused};
 use crate::trimming::tidy_blocks;
 use hfs_volume::{
-    reclaim_drops_an_attribute, reclaim_drops_attributes_of_orphans,
+    Cost, reclaim_drops_an_attribute, reclaim_drops_attributes_of_orphans,
     reclaim_drops_entries_of_bare_orphans,
 };
 use hx_bytes::{OutOfMemory, Trouble, Units};
@@ -73,7 +77,7 @@ fn first_owned<P: SectorSpace>(
 }
 
 /// The name of the first attribute of the file with the least CNID of those that wait, where it has no blocks.
-fn next_owned<P: SectorSpace>(
+pub(crate) fn next_owned<P: SectorSpace>(
     volume: &mut Volume,
     alloc: Global,
     space: &mut P,
@@ -96,13 +100,12 @@ fn next_owned<P: SectorSpace>(
     }
 }
 
-/// Whether all free blocks suffice for the drop of an attribute, and no tree has to grow for it.
-fn affords_bare<P: SectorSpace>(volume: &Volume, space: &P) -> bool
+/// What the drop of an attribute costs where all free blocks may be taken.
+fn cost_of_bare<P: SectorSpace>(volume: &Volume, space: &P) -> Cost
     requires stands { StandsOver volume.now (P.SectorView.space space.now) }
     requires settled { IsTrue (P.SectorView.space space.now).tells → IsSettled volume.now (P.SectorView.space space.now).content }
     requires has { IsTrue (has_attributes volume.now.header) }
-    ensures affords { IsTrue (P.SectorView.space space.now).tells → IsTrue result → (id : ℕ) (name : List ℕ) → AffordsStep (capacity_of volume.now) (P.SectorView.space space.now).content (DropAttribute id name) }
-    ensures held_up { IsTrue (P.SectorView.space space.now).tells → result ≡ false → (id : ℕ) (name : List ℕ) → IsHeldUp (capacity_of volume.now) (volume_of (P.SectorView.space space.now).content) (DropAttribute id name) }
+    ensures { IsTrue (P.SectorView.space space.now).tells → result ≡ cost_of (needs_asked bare_edits) (room_with (capacity_of volume.now) (free_in blocks.All volume.now.map) (volume_of (P.SectorView.space space.now).content)) }
 {
     let edits = Edits {
         ids: 0,
@@ -110,7 +113,27 @@ fn affords_bare<P: SectorSpace>(volume: &Volume, space: &P) -> bool
         attributes: 1,
         updates: 1,
     };
-    grows_none(volume.cost_of_edits(space, FreeBlocks::All, edits))
+    volume.cost_of_edits(space, FreeBlocks::All, edits)
+}
+
+/// Whether something is missing for the drop of an attribute.
+fn lacks_bare<P: SectorSpace>(volume: &Volume, space: &P) -> bool
+    requires stands { StandsOver volume.now (P.SectorView.space space.now) }
+    requires settled { IsTrue (P.SectorView.space space.now).tells → IsSettled volume.now (P.SectorView.space space.now).content }
+    requires has { IsTrue (has_attributes volume.now.header) }
+    ensures held_up { IsTrue (P.SectorView.space space.now).tells → IsTrue result → (id : ℕ) (name : List ℕ) → IsHeldUp (capacity_of volume.now) (volume_of (P.SectorView.space space.now).content) (DropAttribute id name) }
+{
+    is_refused(cost_of_bare(volume, space))
+}
+
+/// Whether all free blocks suffice for the drop of an attribute, and no tree has to grow for it.
+fn affords_bare<P: SectorSpace>(volume: &Volume, space: &P) -> bool
+    requires stands { StandsOver volume.now (P.SectorView.space space.now) }
+    requires settled { IsTrue (P.SectorView.space space.now).tells → IsSettled volume.now (P.SectorView.space space.now).content }
+    requires has { IsTrue (has_attributes volume.now.header) }
+    ensures affords { IsTrue (P.SectorView.space space.now).tells → IsTrue result → (id : ℕ) (name : List ℕ) → AffordsStep (capacity_of volume.now) (P.SectorView.space space.now).content (DropAttribute id name) }
+{
+    grows_none(cost_of_bare(volume, space))
 }
 
 /// Drops an attribute of a file that waits to be removed. The volume is settled again, and its tree is as it was.
@@ -175,8 +198,12 @@ fn tidy_attribute<P: SectorSpace>(
     if volume.attributes.file.shape().node_size < 4096 {
         return Err(Trouble::Memory);
     }
-    if !affords_bare(volume, space) {
+    if lacks_bare(volume, space) {
         return Ok(Tidying::Rest);
+    }
+    // A tree that had to grow for it has grown before.
+    if !affords_bare(volume, space) {
+        return Err(Trouble::Memory);
     }
     if !volume.fits_delattr(space) {
         return Ok(Tidying::CommitFirst);

@@ -5,17 +5,21 @@ ghost use Rattle.sector_disk.specs.Lists.{Content};
 ghost use Rattle.attributes.specs.Owned.{names_of};
 ghost use Rattle.btree_edit.specs.Causes.{HasTroubleCause};
 ghost use Rattle.hfs_volume.specs.Content.{records_of, volume_of};
+ghost use Rattle.hfs_volume.specs.Cost.{cost_of};
 ghost use Rattle.hfs_volume.specs.Links.{orphans_of};
 ghost use Rattle.hfs_volume.specs.Reclaim.{DropOrphan, has_surplus_left, least};
+ghost use Rattle.hfs_volume.specs.Weight.{room_with};
 ghost use Rattle.volume_runs.specs.Rest.{IsHeldUp};
 ghost use Rattle.volume_base.specs.Changing.{KeepsBlocks};
 ghost use Rattle.volume_space.specs.Cutting.{KeepsUsed};
 ghost use Rattle.volume_base.specs.Keeping.{shrunk_of};
 ghost use Rattle.volume_base.specs.Lists.{lists_of};
 ghost use Rattle.volume_base.specs.Looking.{ReadsVolume};
-ghost use Rattle.volume_space.specs.Orphans.{AffordsStep, IsToDrop, TidiesAs, grows_none};
+ghost use Rattle.volume_space.specs.Orphans.{AffordsStep, IsToDrop, TidiesAs, drop_edits, grows_none, is_refused};
 ghost use Rattle.volume_base.specs.Orphans.{is_blockless};
-ghost use Rattle.volume_base.specs.Room.{capacity_of};
+ghost use Rattle.volume_base.specs.Room.{capacity_of, free_in};
+ghost use Rattle.volume_base.specs.Weighing.{needs_asked};
+ghost use Rattle.volume_base.specs.declared.room.FreeBlocks.TheVariants as blocks;
 ghost use Rattle.volume_base.specs.Service.{IsInService};
 ghost use Rattle.volume_base.specs.Standing.{IsSettled, StandsOver, own_sectors};
 ghost use Rattle.volume_base.specs.Touching.{Touches};
@@ -51,8 +55,18 @@ pub(crate) fn grows_none(cost: Cost) -> bool
     }
 }
 
+/// Whether this is a refusal.
+pub(crate) fn is_refused(cost: Cost) -> bool
+    ensures { result ≡ is_refused cost }
+{
+    match cost {
+        Cost::Refused(_) => true,
+        Cost::Load { .. } => false,
+    }
+}
+
 /// The least CNID of the files that lost their last name.
-fn next_waiting<P: SectorSpace>(
+pub(crate) fn next_waiting<P: SectorSpace>(
     volume: &mut Volume,
     alloc: Global,
     space: &mut P,
@@ -102,7 +116,7 @@ fn bare_entry<P: SectorSpace>(
 }
 
 /// The entry of the file with the least CNID of those that wait, where it has neither blocks nor attributes.
-fn bare_waiting<P: SectorSpace>(
+pub(crate) fn bare_waiting<P: SectorSpace>(
     volume: &mut Volume,
     alloc: Global,
     space: &mut P,
@@ -126,12 +140,11 @@ fn bare_waiting<P: SectorSpace>(
     }
 }
 
-/// Whether all free blocks suffice for the drop of an entry, and no tree has to grow for it.
-fn affords_drop<P: SectorSpace>(volume: &Volume, space: &P) -> bool
+/// What the drop of an entry costs where all free blocks may be taken.
+fn cost_of_drop<P: SectorSpace>(volume: &Volume, space: &P) -> Cost
     requires stands { StandsOver volume.now (P.SectorView.space space.now) }
     requires settled { IsTrue (P.SectorView.space space.now).tells → IsSettled volume.now (P.SectorView.space space.now).content }
-    ensures affords { IsTrue (P.SectorView.space space.now).tells → IsTrue result → (id : ℕ) → AffordsStep (capacity_of volume.now) (P.SectorView.space space.now).content (DropOrphan id) }
-    ensures held_up { IsTrue (P.SectorView.space space.now).tells → result ≡ false → (id : ℕ) → IsHeldUp (capacity_of volume.now) (volume_of (P.SectorView.space space.now).content) (DropOrphan id) }
+    ensures { IsTrue (P.SectorView.space space.now).tells → result ≡ cost_of (needs_asked drop_edits) (room_with (capacity_of volume.now) (free_in blocks.All volume.now.map) (volume_of (P.SectorView.space space.now).content)) }
 {
     let edits = Edits {
         ids: 0,
@@ -139,7 +152,25 @@ fn affords_drop<P: SectorSpace>(volume: &Volume, space: &P) -> bool
         attributes: 0,
         updates: 1,
     };
-    grows_none(volume.cost_of_edits(space, FreeBlocks::All, edits))
+    volume.cost_of_edits(space, FreeBlocks::All, edits)
+}
+
+/// Whether something is missing for the drop of an entry.
+fn lacks_drop<P: SectorSpace>(volume: &Volume, space: &P) -> bool
+    requires stands { StandsOver volume.now (P.SectorView.space space.now) }
+    requires settled { IsTrue (P.SectorView.space space.now).tells → IsSettled volume.now (P.SectorView.space space.now).content }
+    ensures held_up { IsTrue (P.SectorView.space space.now).tells → IsTrue result → (id : ℕ) → IsHeldUp (capacity_of volume.now) (volume_of (P.SectorView.space space.now).content) (DropOrphan id) }
+{
+    is_refused(cost_of_drop(volume, space))
+}
+
+/// Whether all free blocks suffice for the drop of an entry, and no tree has to grow for it.
+fn affords_drop<P: SectorSpace>(volume: &Volume, space: &P) -> bool
+    requires stands { StandsOver volume.now (P.SectorView.space space.now) }
+    requires settled { IsTrue (P.SectorView.space space.now).tells → IsSettled volume.now (P.SectorView.space space.now).content }
+    ensures affords { IsTrue (P.SectorView.space space.now).tells → IsTrue result → (id : ℕ) → AffordsStep (capacity_of volume.now) (P.SectorView.space space.now).content (DropOrphan id) }
+{
+    grows_none(cost_of_drop(volume, space))
 }
 
 /// Drops the entry of a file that waits, where nothing is missing for it.
@@ -169,8 +200,12 @@ fn tidy_entry<P: SectorSpace>(
     if volume.catalog.file.shape().node_size < 4096 {
         return Err(Trouble::Memory);
     }
-    if !affords_drop(volume, space) {
+    if lacks_drop(volume, space) {
         return Ok(Tidying::Rest);
+    }
+    // A tree that had to grow for it has grown before.
+    if !affords_drop(volume, space) {
+        return Err(Trouble::Memory);
     }
     if !volume.fits_remove(space) {
         return Ok(Tidying::CommitFirst);
@@ -231,9 +266,9 @@ pub(crate) fn tidy_unshrunk<P: SectorSpace>(
 
 /// Makes the next step of reclaiming: it cuts the file that was shrunk last where that has blocks past its size, or, of the file with
 /// the least CNID of those that lost their last name, a fork, or drops the first of its attributes, or its entry. A cut is of one
-/// extent, or of its last 32,768 blocks. It rests where nothing is left to reclaim, where something is missing for the next step or a
-/// transaction may be too small for it, and where a tree has to grow for it, which is still to come. `Memory` comes where memory is
-/// wanting, `Disk` where a read failed.
+/// extent, or of its last 32,768 blocks. It rests where nothing is left to reclaim, and where something is missing for the next step or a
+/// transaction may be too small for it. A tree that has to grow for the next step (`next_growth`) has grown before. `Memory` comes where memory
+/// is wanting, `Disk` where a read failed.
 pub fn tidy<P: SectorSpace>(
     volume: &mut Volume,
     alloc: Global,

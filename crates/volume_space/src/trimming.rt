@@ -120,7 +120,7 @@ fn is_own(entry: &Entry) -> bool
 }
 
 /// Whether a record is that of the folder or file with this CNID.
-fn has_id(rec: &CatRecord, id: u32) -> bool
+pub(crate) fn has_id(rec: &CatRecord, id: u32) -> bool
     ensures number { IsTrue result → id_in rec.now ≡ id }
     ensures kind { IsTrue result → is_thread rec.now ≡ false }
 {

@@ -2,6 +2,7 @@ pub mod CutSteps
 pub mod Done
 pub mod Fewer
 pub mod Forks
+pub mod GrownFor
 pub mod GrowthSteps
 pub mod Judged
 pub mod Kept

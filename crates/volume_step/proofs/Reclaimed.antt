@@ -157,7 +157,7 @@ module _ (halves : (volume : VolumeState) → SoundIsBoth volume) (capacity : �
 module _ (halves : (volume : VolumeState) → SoundIsBoth volume) (capacity : ℕ) (shrunk : Option ℕ) (before after : Content) (sound : IsSoundVolume (volume_of before)) where
   pub reclaims_as : (r : Result Tidying Trouble) → OnOk r (IsSound after) → IfOk r (λ (came : Tidying). TidiesAs came capacity shrunk before after) → IfOk r (λ (came : Tidying). ReclaimsAs came capacity shrunk before after)
   reclaims_as (Ok tidying.Rest) sound_after was = was
-  reclaims_as (Ok tidying.Made) sound_after was = reclaimed halves capacity shrunk before after sound sound_after was
+  reclaims_as (Ok tidying.Made) sound_after was = inl (reclaimed halves capacity shrunk before after sound sound_after was)
   reclaims_as (Ok tidying.CommitFirst) sound_after was = was
   reclaims_as (Err why) sound_after was = tt
 

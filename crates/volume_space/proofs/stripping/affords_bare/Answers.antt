@@ -1,10 +1,8 @@
 use Rattle.std.proofs.Common.{sym, ◌∙◌}
 use Rattle.volume_space.proofs.Affording.{affords_bare_by}
-use Rattle.volume_space.proofs.HeldUp.{held_bare}
 use Rattle.volume_space.proofs.stripping.affords_bare.Goals as goal
 
-pub returns-clause-affords : goal.returns-clause-affords
-returns-clause-affords g c tells is id name = affords_bare_by c.args.volume.now (g.P.SectorView.space c.args.space.now).content (c.requires.settled tells) c.cost_of_edits.result (c.cost_of_edits.ensures.exact tells) (sym c.grows_none.ensures ∙ is) id name
-
-pub returns-clause-held_up : goal.returns-clause-held_up
-returns-clause-held_up g c tells is id name = held_bare c.args.volume.now (g.P.SectorView.space c.args.space.now).content (c.requires.settled tells) c.cost_of_edits.result (c.cost_of_edits.ensures.exact tells) (sym c.grows_none.ensures ∙ is) id name
+pub returns : goal.returns
+returns g c = record {
+  affords = λ tells is id name. affords_bare_by c.args.volume.now (g.P.SectorView.space c.args.space.now).content (c.requires.settled tells) c.cost_of_bare.result (c.cost_of_bare.ensures tells) (sym c.grows_none.ensures ∙ is) id name;
+}

@@ -11,6 +11,9 @@ use Rattle.volume_space.proofs.stripping.tidy_attribute.Goals as goal
 pub affords_bare-requires-clause-has : goal.affords_bare-requires-clause-has
 affords_bare-requires-clause-has g c = has_them c.args.volume.now.header c.if-volume-eq0.false
 
+pub lacks_bare-requires-clause-has : goal.lacks_bare-requires-clause-has
+lacks_bare-requires-clause-has g c = has_them c.args.volume.now.header c.if-volume-eq0.false
+
 pub strip-requires-clause-has : goal.strip-requires-clause-has
 strip-requires-clause-has g c = has_them c.args.volume.now.header c.if-volume-eq0.false
 
@@ -76,8 +79,8 @@ returns-then-not-fits_delattr-clause-service g c = c.requires.stands.service
 pub returns-then-not-fits_delattr-clause-blocks : goal.returns-then-not-fits_delattr-clause-blocks
 returns-then-not-fits_delattr-clause-blocks g c = blocks_none c.args.volume.now
 
-pub returns-then-not-affords_bare-clause-tidied : goal.returns-then-not-affords_bare-clause-tidied
-returns-then-not-affords_bare-clause-tidied g c tells = (refl, inr (DropAttribute c.args.id c.args.name.now, c.requires.waits tells, c.affords_bare.ensures.held_up tells c.if-not-affords_bare.true c.args.id c.args.name.now))
+pub returns-then-lacks_bare-clause-tidied : goal.returns-then-lacks_bare-clause-tidied
+returns-then-lacks_bare-clause-tidied g c tells = (refl, inr (DropAttribute c.args.id c.args.name.now, c.requires.waits tells, c.lacks_bare.ensures.held_up tells c.if-lacks_bare.true c.args.id c.args.name.now))
 
 pub returns-then-len-gt127-clause-cause : goal.returns-then-len-gt127-clause-cause
 returns-then-len-gt127-clause-cause g c = record { later = omega arith; failed = tt }
@@ -87,3 +90,15 @@ returns-then-volume-eq0-clause-cause g c = record { later = omega arith; failed 
 
 pub returns-then-shape-lt4096-clause-cause : goal.returns-then-shape-lt4096-clause-cause
 returns-then-shape-lt4096-clause-cause g c = record { later = omega arith; failed = tt }
+
+pub returns-then-lacks_bare-clause-touches : goal.returns-then-lacks_bare-clause-touches
+returns-then-lacks_bare-clause-touches g c committed = touches_none committed _ (g.P.SectorView.space c.args.space.now)
+
+pub returns-then-lacks_bare-clause-service : goal.returns-then-lacks_bare-clause-service
+returns-then-lacks_bare-clause-service g c = c.requires.stands.service
+
+pub returns-then-lacks_bare-clause-blocks : goal.returns-then-lacks_bare-clause-blocks
+returns-then-lacks_bare-clause-blocks g c = blocks_none c.args.volume.now
+
+pub returns-then-not-affords_bare-clause-cause : goal.returns-then-not-affords_bare-clause-cause
+returns-then-not-affords_bare-clause-cause g c = record { later = omega arith; failed = tt }

@@ -55,13 +55,25 @@ returns-then-not-fits_remove-clause-service g c = c.requires.stands.service
 pub returns-then-not-fits_remove-clause-blocks : goal.returns-then-not-fits_remove-clause-blocks
 returns-then-not-fits_remove-clause-blocks g c = blocks_none c.args.volume.now
 
-pub returns-then-not-affords_drop-clause-tidied : goal.returns-then-not-affords_drop-clause-tidied
-returns-then-not-affords_drop-clause-tidied g c tells =
+pub returns-then-lacks_drop-clause-tidied : goal.returns-then-lacks_drop-clause-tidied
+returns-then-lacks_drop-clause-tidied g c tells =
     let waits = c.requires.waits tells in
-    (refl, inr (DropOrphan waits.id, waits.next, c.affords_drop.ensures.held_up tells c.if-not-affords_drop.true waits.id))
+    (refl, inr (DropOrphan waits.id, waits.next, c.lacks_drop.ensures.held_up tells c.if-lacks_drop.true waits.id))
 
 pub returns-then-is_empty-clause-cause : goal.returns-then-is_empty-clause-cause
 returns-then-is_empty-clause-cause g c = record { later = omega arith; failed = tt }
 
 pub returns-then-shape-lt4096-clause-cause : goal.returns-then-shape-lt4096-clause-cause
 returns-then-shape-lt4096-clause-cause g c = record { later = omega arith; failed = tt }
+
+pub returns-then-lacks_drop-clause-touches : goal.returns-then-lacks_drop-clause-touches
+returns-then-lacks_drop-clause-touches g c committed = touches_none committed _ (g.P.SectorView.space c.args.space.now)
+
+pub returns-then-lacks_drop-clause-service : goal.returns-then-lacks_drop-clause-service
+returns-then-lacks_drop-clause-service g c = c.requires.stands.service
+
+pub returns-then-lacks_drop-clause-blocks : goal.returns-then-lacks_drop-clause-blocks
+returns-then-lacks_drop-clause-blocks g c = blocks_none c.args.volume.now
+
+pub returns-then-not-affords_drop-clause-cause : goal.returns-then-not-affords_drop-clause-cause
+returns-then-not-affords_drop-clause-cause g c = record { later = omega arith; failed = tt }

@@ -12,6 +12,7 @@ use Rattle.volume_space.specs.declared.tidying.Tidying.{Tidying}
 use Rattle.volume_step.specs.Steps.{KeepsJournal}
 use Rattle.volume_step.specs.Tidying.{ReclaimsAs}
 use Rattle.served_volume.proofs.Calls.{faults_of_call, on_any, on_value, quiet, short, value_of}
+use Rattle.served_volume.proofs.Heading.{journal_alike}
 use Rattle.served_volume.proofs.Seen.{touches_space}
 use Rattle.served_volume.proofs.Service.{service_on}
 use Rattle.served_volume.proofs.Housekeeping.{tidies_as}
@@ -27,6 +28,11 @@ tidy-came-requires-clause-stands g c =
 
 pub tidy-came-requires-clause-settled : goal.tidy-came-requires-clause-settled
 tidy-came-requires-clause-settled g c tells = (c.requires.stands tells).4.known.settled
+
+pub tidy-came-requires-clause-closed : goal.tidy-came-requires-clause-closed
+tidy-came-requires-clause-closed g c tells at shut =
+    let there = c.requires.stands tells in
+    journal_alike there.2 (g.G.SectorView.space c.args.base.now).content (sym there.4.known.alike.lists) at (there.4.reads.closed at shut)
 
 pub returns-then-is_elsewhere-clause-touches : goal.returns-then-is_elsewhere-clause-touches
 returns-then-is_elsewhere-clause-touches g c tells capacity committed now shrunk stands = quiet committed _ _ stands.leaves

@@ -1,0 +1,30 @@
+use Rattle.std.proofs.Common.{◌∙◌}
+use Rattle.hfs_volume.specs.Sound.{IsSound}
+use Rattle.volume_base.specs.Keeping.{shrunk_of}
+use Rattle.volume_base.specs.Room.{capacity_of}
+use Rattle.volume_base.specs.Standing.{IsSettled, StandsOver}
+use Rattle.volume_base.proofs.FoundEntry.{ok_both}
+use Rattle.volume_space.proofs.Sounding.{sound_here}
+use Rattle.volume_step.proofs.Reclaimed.{places_as, reclaims_as}
+use Rattle.volume_step.proofs.tidying.tidy_now.Goals as goal
+
+pub returns-clause-reclaims : goal.returns-clause-reclaims
+returns-clause-reclaims g c tells =
+    let a = g.P.SectorView.space c.args.space.now in
+    let b = g.P.SectorView.space c.tidy.new.space in
+    let later = (c.tidy.ensures.touches a.content).same.tells ∙ tells in
+    reclaims_as c.soundness_has_two_halves.ensures (capacity_of c.args.volume.now) (shrunk_of c.args.volume.now) a.content b.content (c.requires.settled tells).sound c.tidy.result
+    (ok_both (StandsOver c.tidy.new.volume b) (IsSettled c.tidy.new.volume b.content) (IsSound b.content) c.tidy.result c.tidy.ensures.stands (c.tidy.ensures.settled tells) (λ stands settled. sound_here c.tidy.new.volume b (stands.stands later) settled))
+    (c.tidy.ensures.tidied tells)
+
+pub returns-clause-place : goal.returns-clause-place
+returns-clause-place g c tells =
+    let a = g.P.SectorView.space c.args.space.now in
+    let b = g.P.SectorView.space c.tidy.new.space in
+    let later = (c.tidy.ensures.touches a.content).same.tells ∙ tells in
+    places_as c.soundness_has_two_halves.ensures (capacity_of c.args.volume.now) (shrunk_of c.args.volume.now) a.content b.content (c.requires.settled tells).sound c.tidy.result
+    (ok_both (StandsOver c.tidy.new.volume b) (IsSettled c.tidy.new.volume b.content) (IsSound b.content) c.tidy.result c.tidy.ensures.stands (c.tidy.ensures.settled tells) (λ stands settled. sound_here c.tidy.new.volume b (stands.stands later) settled))
+    (c.tidy.ensures.tidied tells)
+
+pub returns-clause-holds : goal.returns-clause-holds
+returns-clause-holds g c committed was = c.tidy.ensures.used.holds committed was
