@@ -2,12 +2,16 @@
 #![tactic(auto)]
 
 mod ahead;
+mod ahead_spread;
 mod cutting;
 mod cutting_ahead;
 mod growable;
+mod growable_spread;
 mod growing;
 mod growing_attributes;
 mod growing_extents;
+mod growing_spread;
+mod growing_spread_attributes;
 mod mapping;
 mod orphans;
 mod putting;
