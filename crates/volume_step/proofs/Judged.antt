@@ -41,7 +41,7 @@ three_or : (refused : Option Refusal) (load s : ℕ) (a b c : ℕ) (grow : List 
 three_or None load s a b c grow is = subst IsThree (ap (grow_in grow) is) refl
 three_or (Some why) load s a b c grow is = absurd (let none : cost.Refused why ≡ cost.Load s grow = is in cc none)
 
-three_of : (needs : Needs) (room : Room) (s : ℕ) (grow : List ℕ) → cost_of needs room ≡ cost.Load s grow → IsThree grow
+pub three_of : (needs : Needs) (room : Room) (s : ℕ) (grow : List ℕ) → cost_of needs room ≡ cost.Load s grow → IsThree grow
 unfolding cost_of
 three_of needs room s grow is = three_or (resource_refusal needs room (plan_of needs room)) (load_of needs room (plan_of needs room)) s _ _ _ grow is
 
@@ -60,11 +60,11 @@ three capacity content asked s grow is =
     three_choice (only_reads asked) (needs_cut (volume_of content) (data_of (tree_of content) asked)) (lacks_tree (volume_of content) asked) (room_with capacity (free_blocks (volume_of content)) (volume_of content))
     (needs_for (free_blocks (volume_of content)) (volume_of content) (edits_of (tree_of content) asked) (data_of (tree_of content) asked)) s grow is
 
-some : (n : ℕ) → (n == 0) ≡ false → 0 < n
+pub some : (n : ℕ) → (n == 0) ≡ false → 0 < n
 some zero is = absurd (true≢false is)
 some (suc n) is = omega arith
 
-none : (n : ℕ) → (n == 0) ≡ true → n ≡ 0
+pub none : (n : ℕ) → (n == 0) ≡ true → n ≡ 0
 none n is = eqb-true n 0 is
 
 -- a weight that was told
@@ -77,14 +77,14 @@ not_weighed said none told = told (ap is_some none)
 
 -- ---- the first of the trees that are to grow
 
-first_extents : (grow : List ℕ) → 0 < slice_index grow 0 → first_growth grow ≡ alone which.Extents (slice_index grow 0)
+pub first_extents : (grow : List ℕ) → 0 < slice_index grow 0 → first_growth grow ≡ alone which.Extents (slice_index grow 0)
 first_extents grow any = ap (λ b. if b then slice_index grow 0 ∷ 0 ∷ 0 ∷ [] else if nat_lt 0 (slice_index grow 1) then 0 ∷ slice_index grow 1 ∷ 0 ∷ [] else 0 ∷ 0 ∷ slice_index grow 2 ∷ []) (lt-ltb 0 (slice_index grow 0) any)
 
-first_catalog : (grow : List ℕ) → slice_index grow 0 ≡ 0 → 0 < slice_index grow 1 → first_growth grow ≡ alone which.Catalog (slice_index grow 1)
+pub first_catalog : (grow : List ℕ) → slice_index grow 0 ≡ 0 → 0 < slice_index grow 1 → first_growth grow ≡ alone which.Catalog (slice_index grow 1)
 first_catalog grow nothing any =
     (λ i. if le-ltb 0 (slice_index grow 0) (omega (arith, nothing)) i then slice_index grow 0 ∷ 0 ∷ 0 ∷ [] else if lt-ltb 0 (slice_index grow 1) any i then 0 ∷ slice_index grow 1 ∷ 0 ∷ [] else 0 ∷ 0 ∷ slice_index grow 2 ∷ [])
 
-first_attributes : (grow : List ℕ) → slice_index grow 0 ≡ 0 → slice_index grow 1 ≡ 0 → first_growth grow ≡ alone which.Attributes (slice_index grow 2)
+pub first_attributes : (grow : List ℕ) → slice_index grow 0 ≡ 0 → slice_index grow 1 ≡ 0 → first_growth grow ≡ alone which.Attributes (slice_index grow 2)
 first_attributes grow nothing none_too =
     (λ i. if le-ltb 0 (slice_index grow 0) (omega (arith, nothing)) i then slice_index grow 0 ∷ 0 ∷ 0 ∷ [] else if le-ltb 0 (slice_index grow 1) (omega (arith, none_too)) i then 0 ∷ slice_index grow 1 ∷ 0 ∷ [] else 0 ∷ 0 ∷ slice_index grow 2 ∷ [])
 

@@ -12,6 +12,8 @@ pub mod KeptLinks
 pub mod Linked
 pub mod MetNow
 pub mod Putting
+pub mod Ready
+pub mod ReadyData
 pub mod Reclaimed
 pub mod Served
 pub mod Shortened

@@ -76,7 +76,7 @@ fewer_are says of_parts enough three v a sound few many fewer met =
 
 -- ---- the edits of commands that their step doesn't refuse
 
-step_fine : (tree : PlainTree) (asked : Command) → refuses tree (Ok asked) ≡ false → is_refusal (step tree asked).0 ≡ false
+pub step_fine : (tree : PlainTree) (asked : Command) → refuses tree (Ok asked) ≡ false → is_refusal (step tree asked).0 ≡ false
 step_fine tree asked is = by (is_private asked) is
   where
     by : (b : Bool) → is_refusal (if b then (reply.No refusal.Private, tree) else step tree asked).0 ≡ false → is_refusal (step tree asked).0 ≡ false

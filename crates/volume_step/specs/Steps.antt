@@ -1,5 +1,5 @@
 -- What a command on a volume in service came to.
-use Rattle.std.specs.Prelude.{◌≡◌, ◌⊎◌, ◌<◌, ℕ, ◌+◌, ◌==◌, ◌||◌, nat_lt, not, slice_index, Bool, true, false, IsTrue, List, [], ◌∷◌, length, Ok, Option, None, Some, if◌then◌else◌}
+use Rattle.std.specs.Prelude.{◌≡◌, ◌⊎◌, ◌<◌, ◌≤◌, ℕ, ◌+◌, ◌==◌, ◌||◌, nat_lt, not, slice_index, Bool, true, false, IsTrue, List, [], ◌∷◌, length, Ok, Option, None, Some, if◌then◌else◌}
 use Rattle.std.specs.List.{Contains}
 use Rattle.jnl_format.specs.Keeping.{IsSame}
 use Rattle.jnl_format.specs.Recovery.{Content, header_of_volume}
@@ -21,9 +21,11 @@ use Rattle.hfs_volume.specs.Weight.{data_of, edits_of, needs_cut, weight, weight
 use Rattle.hfs_volume.specs.declared.cost.Cost.TheVariants as cost
 use Rattle.sector_disk.specs.Space.{Space}
 use Rattle.volume_weights.specs.DataWeighing.{WaitsForCut}
-use Rattle.volume_base.specs.Fitting.{AreMet}
-use Rattle.volume_space.specs.Growing.{IsOwnOrFree, alone}
+use Rattle.volume_base.specs.Fitting.{AreMet, takable_of}
+use Rattle.volume_space.specs.Growing.{GrowthFits, IsOwnOrFree, alone}
+use Rattle.volume_base.specs.Room.{capacity_of}
 use Rattle.volume_base.specs.Standing.{own_sectors}
+use Rattle.volume_space.specs.Writing.{is_data_met}
 use Rattle.volume_space.specs.declared.ahead.Growth.{Growth}
 use Rattle.volume_space.specs.declared.ahead.Growth.TheVariants as growing
 use Rattle.volume_space.specs.declared.ahead.WhichTree.{WhichTree}
@@ -154,19 +156,7 @@ grown growing.Grown = outcome.Again
 grown growing.CommitFirst = outcome.CommitFirst
 grown growing.ToCome = outcome.Answered (reply.No refusal.NotBuilt) []
 
--- ---- what is met
-
--- the command edits the catalog's tree or that of the attributes
-abbrev pub edits_tree : Command → Bool
-edits_tree (command.Mkdir path) = true
-edits_tree (command.Create path) = true
-edits_tree (command.Rm path) = true
-edits_tree (command.Rmdir path) = true
-edits_tree (command.Mv from to) = true
-edits_tree (command.Ln from to) = true
-edits_tree (command.SetAttr path name value) = true
-edits_tree (command.DelAttr path name) = true
-edits_tree _ = false
+-- ---- what can be done now
 
 -- the edits of a command can be made now
 abbrev pub IsMet : Command → Volume → Space → Type 0
@@ -176,3 +166,36 @@ IsMet asked volume space = AreMet (edits_of (tree_of space.content) asked) volum
 abbrev pub IsDoneOk : Outcome → Type 0
 IsDoneOk (outcome.Answered reply.Ok changes) = Unit {0}
 IsDoneOk _ = ⊥
+
+-- The command puts no data into a file, and what it costs of the blocks that may be taken is a load that the sectors suffice for which may be put.
+pub record FitsNow (asked : Command) (volume : Volume) (space : Space) : Type 0 where
+  pub no_data : data_of (tree_of space.content) asked ≡ None
+  pub load : ℕ
+  pub grow : List ℕ
+  pub costs : weight_with (capacity_of volume) (takable_of volume) (volume_of space.content) (tree_of space.content) asked ≡ cost.Load load grow
+  pub within : load ≤ space.spare
+
+-- The command fits now, and so does the growth that goes ahead of it, where one does.
+pub record IsReady (asked : Command) (volume : Volume) (space : Space) : Type 0 where
+  pub now : FitsNow asked volume space
+  pub growth : (tree : WhichTree) (more : ℕ) → 0 < more → first_growth now.grow ≡ alone tree more → GrowthFits tree more volume space
+
+-- The command puts data into a file, what it costs of the blocks that may be taken is met, and of all that are free it costs no growth of the extents
+-- overflow file either.
+pub record PutsNow (asked : Command) (volume : Volume) (space : Space) : Type 0 where
+  pub met : is_data_met volume space.spare (volume_of space.content) (data_of (tree_of space.content) asked) ≡ true
+  pub alike : (load : ℕ) (grow : List ℕ) → weight (capacity_of volume) (volume_of space.content) (tree_of space.content) asked ≡ cost.Load load grow → slice_index grow 0 ≡ 0
+
+-- the verdict lets nothing go ahead of the command
+abbrev pub IsDirect : Verdict → Type 0
+IsDirect (verdict.Refused why) = Unit {0}
+IsDirect verdict.Fits = Unit {0}
+IsDirect _ = ⊥
+
+-- the verdict on a command that fits now, ahead of which trees grow by so many nodes: neither a commit nor a cut comes first; the first of these trees grows, or none is to
+abbrev pub IsTaken : Verdict → List ℕ → Type 0
+IsTaken (verdict.Refused why) grow = Unit {0}
+IsTaken verdict.CutFirst grow = ⊥
+IsTaken verdict.CommitFirst grow = ⊥
+IsTaken (verdict.Grows tree more) grow = (0 < more) × (first_growth grow ≡ alone tree more)
+IsTaken verdict.Fits grow = grow ≡ 0 ∷ 0 ∷ 0 ∷ []

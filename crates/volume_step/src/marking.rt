@@ -11,7 +11,7 @@ ghost use Rattle.volume_base.specs.Service.{IsInService};
 ghost use Rattle.volume_space.specs.Standing.{HoldsOn};
 ghost use Rattle.volume_base.specs.Standing.{IsSettled, StandsOver, own_sectors};
 ghost use Rattle.volume_base.specs.Touching.{Touches};
-ghost use Rattle.volume_step.specs.Steps.{Affords, KeepsJournal, StepsTo};
+ghost use Rattle.volume_step.specs.Steps.{Affords, IsDoneOk, IsMet, KeepsJournal, StepsTo};
 
 use crate::outcome::Outcome;
 use hfs_language::{ChangeKind, Changes, Path};
@@ -33,6 +33,7 @@ pub(crate) fn date<P: SectorSpace>(
     requires settled { IsTrue (P.SectorView.space space.old).tells → IsSettled volume.old (P.SectorView.space space.old).content }
     requires affords { IsTrue (P.SectorView.space space.old).tells → Affords (capacity_of volume.old) (command.At moment) (P.SectorView.space space.old).content }
     ensures answered { IsTrue (P.SectorView.space space.old).tells → IfOk result (λ outcome. StepsTo outcome (capacity_of volume.old) _number (command.At moment) (P.SectorView.space space.old).content (P.SectorView.space space.new).content) }
+    ensures done { IsTrue (P.SectorView.space space.old).tells → IsMet (command.At moment) volume.old (P.SectorView.space space.old) → IfOk result IsDoneOk }
     ensures place { IsTrue (P.SectorView.space space.old).tells → OnOk result (KeepsJournal (P.SectorView.space space.old).content (P.SectorView.space space.new).content) }
     ensures stands { OnOk result (StandsOver volume.new (P.SectorView.space space.new)) }
     ensures settled { IsTrue (P.SectorView.space space.old).tells → OnOk result (IsSettled volume.new (P.SectorView.space space.new).content) }
@@ -69,6 +70,7 @@ pub(crate) fn set_mode<P: SectorSpace>(
     requires rights { rights < 4096 }
     requires affords { IsTrue (P.SectorView.space space.old).tells → Affords (capacity_of volume.old) (command.Chmod path.now rights) (P.SectorView.space space.old).content }
     ensures answered { IsTrue (P.SectorView.space space.old).tells → IfOk result (λ outcome. StepsTo outcome (capacity_of volume.old) number (command.Chmod path.now rights) (P.SectorView.space space.old).content (P.SectorView.space space.new).content) }
+    ensures done { IsTrue (P.SectorView.space space.old).tells → IsMet (command.Chmod path.now rights) volume.old (P.SectorView.space space.old) → IfOk result IsDoneOk }
     ensures place { IsTrue (P.SectorView.space space.old).tells → OnOk result (KeepsJournal (P.SectorView.space space.old).content (P.SectorView.space space.new).content) }
     ensures stands { OnOk result (StandsOver volume.new (P.SectorView.space space.new)) }
     ensures settled { IsTrue (P.SectorView.space space.old).tells → OnOk result (IsSettled volume.new (P.SectorView.space space.new).content) }

@@ -1,5 +1,5 @@
 //! `trunc` and `write`.
-ghost use Rattle.std.specs.Prelude.{◌≡◌, ℕ, IsTrue, IfOk, OnOk};
+ghost use Rattle.std.specs.Prelude.{◌≡◌, ◌≢◌, ℕ, true, None, IsTrue, IfOk, OnOk};
 ghost use Rattle.std.specs.List.{Contains};
 ghost use Rattle.sector_disk.specs.Lists.{Content};
 ghost use Rattle.sector_disk.specs.Space.{SameSpace};
@@ -7,14 +7,19 @@ ghost use Rattle.btree_edit.specs.Causes.{HasTroubleCause};
 ghost use Rattle.hfs_language.specs.Written.{FitsPath};
 ghost use Rattle.hfs_language.specs.declared.command.Command.TheVariants as command;
 ghost use Rattle.hfs_volume.specs.Aside.{IsJournalSector};
+ghost use Rattle.hfs_volume.specs.Content.{volume_of};
+ghost use Rattle.hfs_volume.specs.TreeOf.{tree_of};
+ghost use Rattle.hfs_volume.specs.Weight.{data_of};
 ghost use Rattle.volume_base.specs.Keeping.{shrunk_of};
 ghost use Rattle.volume_base.specs.Room.{capacity_of};
 ghost use Rattle.volume_base.specs.Service.{IsInService};
 ghost use Rattle.volume_space.specs.Spilling.{IsLaidOutAs};
 ghost use Rattle.volume_space.specs.Standing.{HoldsOn};
+ghost use Rattle.volume_space.specs.Writing.{is_data_met};
 ghost use Rattle.volume_base.specs.Standing.{IsSettled, StandsOver, own_sectors};
 ghost use Rattle.volume_base.specs.Touching.{Touches};
-ghost use Rattle.volume_step.specs.Steps.{Affords, KeepsJournal, ShrinksAs, StepsTo};
+ghost use Rattle.volume_step.specs.Steps.{Affords, IsMet, KeepsJournal, ShrinksAs, StepsTo};
+ghost use Rattle.volume_step.specs.declared.outcome.Outcome.TheVariants as outcome;
 
 use crate::outcome::Outcome;
 use hfs_language::{ChangeKind, Changes, Path, Reply};
@@ -39,6 +44,8 @@ fn lengthen<P: SectorSpace>(
     requires closed { IsTrue (P.SectorView.space space.old).tells → (at : ℕ) → (P.SectorView.space space.old).closed at → IsJournalSector (P.SectorView.space space.old).content at }
     requires affords { IsTrue (P.SectorView.space space.old).tells → Affords (capacity_of volume.old) (command.Trunc path.now size) (P.SectorView.space space.old).content }
     ensures answered { IsTrue (P.SectorView.space space.old).tells → IfOk result (λ outcome. StepsTo outcome (capacity_of volume.old) number (command.Trunc path.now size) (P.SectorView.space space.old).content (P.SectorView.space space.new).content) }
+    // Where its data is met, no commit comes first.
+    ensures puts { IsTrue (P.SectorView.space space.old).tells → is_data_met volume.old (P.SectorView.space space.old).spare (volume_of (P.SectorView.space space.old).content) (data_of (tree_of (P.SectorView.space space.old).content) (command.Trunc path.now size)) ≡ true → IfOk result (λ it. it ≢ outcome.CommitFirst) }
     ensures place { IsTrue (P.SectorView.space space.old).tells → OnOk result (KeepsJournal (P.SectorView.space space.old).content (P.SectorView.space space.new).content) }
     ensures stands { OnOk result (StandsOver volume.new (P.SectorView.space space.new)) }
     ensures settled { IsTrue (P.SectorView.space space.old).tells → OnOk result (IsSettled volume.new (P.SectorView.space space.new).content) }
@@ -73,6 +80,10 @@ pub(crate) fn resize<P: SectorSpace>(
     requires closed { IsTrue (P.SectorView.space space.old).tells → (at : ℕ) → (P.SectorView.space space.old).closed at → IsJournalSector (P.SectorView.space space.old).content at }
     requires affords { IsTrue (P.SectorView.space space.old).tells → Affords (capacity_of volume.old) (command.Trunc path.now size) (P.SectorView.space space.old).content }
     ensures answered { IsTrue (P.SectorView.space space.old).tells → IfOk result (λ outcome. StepsTo outcome (capacity_of volume.old) number (command.Trunc path.now size) (P.SectorView.space space.old).content (P.SectorView.space space.new).content) }
+    // Where it makes the file no longer, and that is met, no commit comes first.
+    ensures ready { IsTrue (P.SectorView.space space.old).tells → data_of (tree_of (P.SectorView.space space.old).content) (command.Trunc path.now size) ≡ None → IsMet (command.Trunc path.now size) volume.old (P.SectorView.space space.old) → IfOk result (λ it. it ≢ outcome.CommitFirst) }
+    // Where its data is met, no commit comes first.
+    ensures puts { IsTrue (P.SectorView.space space.old).tells → is_data_met volume.old (P.SectorView.space space.old).spare (volume_of (P.SectorView.space space.old).content) (data_of (tree_of (P.SectorView.space space.old).content) (command.Trunc path.now size)) ≡ true → IfOk result (λ it. it ≢ outcome.CommitFirst) }
     ensures place { IsTrue (P.SectorView.space space.old).tells → OnOk result (KeepsJournal (P.SectorView.space space.old).content (P.SectorView.space space.new).content) }
     ensures stands { OnOk result (StandsOver volume.new (P.SectorView.space space.new)) }
     ensures settled { IsTrue (P.SectorView.space space.old).tells → OnOk result (IsSettled volume.new (P.SectorView.space space.new).content) }
@@ -112,6 +123,10 @@ pub(crate) fn write_value<P: SectorSpace>(
     requires closed { IsTrue (P.SectorView.space space.old).tells → (at : ℕ) → (P.SectorView.space space.old).closed at → IsJournalSector (P.SectorView.space space.old).content at }
     requires affords { IsTrue (P.SectorView.space space.old).tells → Affords (capacity_of volume.old) (command.Write path.now from value.now) (P.SectorView.space space.old).content }
     ensures answered { IsTrue (P.SectorView.space space.old).tells → IfOk result (λ outcome. StepsTo outcome (capacity_of volume.old) number (command.Write path.now from value.now) (P.SectorView.space space.old).content (P.SectorView.space space.new).content) }
+    // Where it puts no data, no commit comes first.
+    ensures ready { IsTrue (P.SectorView.space space.old).tells → data_of (tree_of (P.SectorView.space space.old).content) (command.Write path.now from value.now) ≡ None → IfOk result (λ it. it ≢ outcome.CommitFirst) }
+    // Where its data is met, no commit comes first.
+    ensures puts { IsTrue (P.SectorView.space space.old).tells → is_data_met volume.old (P.SectorView.space space.old).spare (volume_of (P.SectorView.space space.old).content) (data_of (tree_of (P.SectorView.space space.old).content) (command.Write path.now from value.now)) ≡ true → IfOk result (λ it. it ≢ outcome.CommitFirst) }
     ensures place { IsTrue (P.SectorView.space space.old).tells → OnOk result (KeepsJournal (P.SectorView.space space.old).content (P.SectorView.space space.new).content) }
     ensures stands { OnOk result (StandsOver volume.new (P.SectorView.space space.new)) }
     ensures settled { IsTrue (P.SectorView.space space.old).tells → OnOk result (IsSettled volume.new (P.SectorView.space space.new).content) }

@@ -1,11 +1,13 @@
 //! A command on a volume in service, weighed and done.
-ghost use Rattle.std.specs.Prelude.{◌≡◌, ℕ, true, false, IsTrue, IfOk, OnOk};
+ghost use Rattle.std.specs.Prelude.{◌≡◌, ◌≢◌, ◌⊎◌, ℕ, [], ◌∷◌, true, false, None, IsTrue, IfOk, OnOk};
 ghost use Rattle.sector_disk.specs.Lists.{Content};
 ghost use Rattle.sector_disk.specs.Space.{SameSpace};
 ghost use Rattle.btree_edit.specs.Causes.{HasTroubleCause};
 ghost use Rattle.hfs_language.specs.Written.{FitsCommand};
 ghost use Rattle.hfs_model.specs.Step.{only_reads};
+ghost use Rattle.hfs_model.specs.declared.plain.PlainTree.{PlainTree};
 ghost use Rattle.hfs_volume.specs.Aside.{IsJournalSector};
+ghost use Rattle.hfs_volume.specs.Weight.{data_of};
 ghost use Rattle.volume_base.specs.Keeping.{shrunk_of};
 ghost use Rattle.volume_base.specs.Room.{capacity_of};
 ghost use Rattle.volume_base.specs.Service.{IsInService};
@@ -13,7 +15,8 @@ ghost use Rattle.volume_space.specs.Spilling.{IsLaidOutAs};
 ghost use Rattle.volume_space.specs.Standing.{HoldsOn};
 ghost use Rattle.volume_base.specs.Standing.{IsSettled, StandsOver};
 ghost use Rattle.volume_base.specs.Touching.{Touches};
-ghost use Rattle.volume_step.specs.Steps.{Affords, IsDoneOk, IsMet, KeepsJournal, OwnOf, ShrinksAs, StepsTo, edits_tree};
+ghost use Rattle.volume_step.specs.Steps.{Affords, FitsNow, IsDoneOk, IsMet, IsReady, KeepsJournal, OwnOf, PutsNow, ShrinksAs, StepsTo};
+ghost use Rattle.volume_step.specs.declared.outcome.Outcome.TheVariants as outcome;
 
 use crate::answering::{answer, only_reads, refusal};
 use crate::cutting::cut_first;
@@ -32,8 +35,8 @@ use sector_disk::SectorSpace;
 use std::alloc::Global;
 use volume_base::Volume;
 
-/// Does a command for which nothing is missing, and which puts no data into a file. Another waits. One that edits a tree is done where its
-/// edits are met.
+/// Does a command for which nothing is missing, and which gives no file other bytes; it is done where its edits are met. None of the others
+/// comes here.
 fn perform_without_data<P: SectorSpace>(
     alloc: Global,
     volume: &mut Volume,
@@ -46,7 +49,9 @@ fn perform_without_data<P: SectorSpace>(
     requires fits { FitsCommand command.now }
     requires affords { IsTrue (P.SectorView.space space.old).tells → Affords (capacity_of volume.old) command.now (P.SectorView.space space.old).content }
     ensures answered { IsTrue (P.SectorView.space space.old).tells → IfOk result (λ outcome. StepsTo outcome (capacity_of volume.old) number command.now (P.SectorView.space space.old).content (P.SectorView.space space.new).content) }
-    ensures done { IsTrue (P.SectorView.space space.old).tells → edits_tree command.now ≡ true → IsMet command.now volume.old (P.SectorView.space space.old) → IfOk result IsDoneOk }
+    ensures done { IsTrue (P.SectorView.space space.old).tells → IsMet command.now volume.old (P.SectorView.space space.old) → IfOk result IsDoneOk }
+    // It puts no data.
+    ensures plain { OnOk result ((tree : PlainTree) → data_of tree command.now ≡ None) }
     ensures place { IsTrue (P.SectorView.space space.old).tells → OnOk result (KeepsJournal (P.SectorView.space space.old).content (P.SectorView.space space.new).content) }
     ensures stands { OnOk result (StandsOver volume.new (P.SectorView.space space.new)) }
     ensures settled { IsTrue (P.SectorView.space space.old).tells → OnOk result (IsSettled volume.new (P.SectorView.space space.new).content) }
@@ -81,7 +86,7 @@ fn perform_without_data<P: SectorSpace>(
         | Command::GetAttr { .. }
         | Command::LsAttr(_)
         | Command::Df
-        | Command::Sync => Ok(Outcome::CommitFirst),
+        | Command::Sync => Err(Trouble::Memory),
     }
 }
 
@@ -99,6 +104,9 @@ fn perform<P: SectorSpace>(
     requires closed { IsTrue (P.SectorView.space space.old).tells → (at : ℕ) → (P.SectorView.space space.old).closed at → IsJournalSector (P.SectorView.space space.old).content at }
     requires affords { IsTrue (P.SectorView.space space.old).tells → Affords (capacity_of volume.old) command.now (P.SectorView.space space.old).content }
     ensures answered { IsTrue (P.SectorView.space space.old).tells → IfOk result (λ outcome. StepsTo outcome (capacity_of volume.old) number command.now (P.SectorView.space space.old).content (P.SectorView.space space.new).content) }
+    // Where it fits now, no commit comes first.
+    ensures ready { IsTrue (P.SectorView.space space.old).tells → only_reads command.now ≡ false → (now : FitsNow command.now volume.old (P.SectorView.space space.old)) → now.grow ≡ 0 ∷ 0 ∷ 0 ∷ [] → IfOk result (λ it. it ≢ outcome.CommitFirst) }
+    ensures puts { IsTrue (P.SectorView.space space.old).tells → PutsNow command.now volume.old (P.SectorView.space space.old) → IfOk result (λ it. it ≢ outcome.CommitFirst) }
     ensures place { IsTrue (P.SectorView.space space.old).tells → OnOk result (KeepsJournal (P.SectorView.space space.old).content (P.SectorView.space space.new).content) }
     ensures stands { OnOk result (StandsOver volume.new (P.SectorView.space space.new)) }
     ensures settled { IsTrue (P.SectorView.space space.old).tells → OnOk result (IsSettled volume.new (P.SectorView.space space.new).content) }
@@ -134,6 +142,9 @@ fn change<P: SectorSpace>(
     requires closed { IsTrue (P.SectorView.space space.old).tells → (at : ℕ) → (P.SectorView.space space.old).closed at → IsJournalSector (P.SectorView.space space.old).content at }
     requires changes { only_reads command.now ≡ false }
     ensures answered { IsTrue (P.SectorView.space space.old).tells → IfOk result (λ outcome. StepsTo outcome (capacity_of volume.old) number command.now (P.SectorView.space space.old).content (P.SectorView.space space.new).content) }
+    // Where it is ready, no commit comes first.
+    ensures ready { IsTrue (P.SectorView.space space.old).tells → IsReady command.now volume.old (P.SectorView.space space.old) → IfOk result (λ it. it ≢ outcome.CommitFirst) }
+    ensures puts { IsTrue (P.SectorView.space space.old).tells → PutsNow command.now volume.old (P.SectorView.space space.old) → IfOk result (λ it. it ≢ outcome.CommitFirst) }
     ensures place { IsTrue (P.SectorView.space space.old).tells → OnOk result (KeepsJournal (P.SectorView.space space.old).content (P.SectorView.space space.new).content) }
     ensures stands { OnOk result (StandsOver volume.new (P.SectorView.space space.new)) }
     ensures settled { IsTrue (P.SectorView.space space.old).tells → OnOk result (IsSettled volume.new (P.SectorView.space space.new).content) }
@@ -174,6 +185,9 @@ pub fn step<P: SectorSpace>(
     requires closed { IsTrue (P.SectorView.space space.old).tells → (at : ℕ) → (P.SectorView.space space.old).closed at → IsJournalSector (P.SectorView.space space.old).content at }
     // Told, the line's entry is one of a run, with what it changed for watchers.
     ensures answered { IsTrue (P.SectorView.space space.old).tells → IfOk result (λ outcome. StepsTo outcome (capacity_of volume.old) number command.now (P.SectorView.space space.old).content (P.SectorView.space space.new).content) }
+    // No commit comes first where the command reads alone; nor where it puts no data into a file, what it costs of the blocks that may be taken is
+    // a load that the room suffices for, and the growth fits that goes ahead of it; nor where it puts data, and that is met.
+    ensures ready { IsTrue (P.SectorView.space space.old).tells → (only_reads command.now ≡ true) ⊎ (IsReady command.now volume.old (P.SectorView.space space.old) ⊎ PutsNow command.now volume.old (P.SectorView.space space.old)) → IfOk result (λ it. it ≢ outcome.CommitFirst) }
     // The journal lies where it lay, and the header is one of the same volume.
     ensures place { IsTrue (P.SectorView.space space.old).tells → OnOk result (KeepsJournal (P.SectorView.space space.old).content (P.SectorView.space space.new).content) }
     ensures stands { OnOk result (StandsOver volume.new (P.SectorView.space space.new)) }

@@ -2,6 +2,7 @@ use Rattle.volume_base.specs.Keeping.{shrunk_of}
 use Rattle.volume_base.specs.Room.{capacity_of}
 use Rattle.volume_space.proofs.Sounding.{sound_here}
 use Rattle.volume_step.proofs.GrowthSteps.{growth_place, growth_shrinks, growth_steps, growth_touches}
+use Rattle.volume_step.proofs.Ready.{grown_now}
 use Rattle.volume_step.proofs.growing.grow_first.Goals as goal
 
 pub returns-clause-answered : goal.returns-clause-answered
@@ -30,3 +31,6 @@ returns-clause-touches g c committed = growth_touches committed c.args.volume.no
 
 pub returns-in_err-went-clause-touches : goal.returns-in_err-went-clause-touches
 returns-in_err-went-clause-touches g c committed = growth_touches committed c.args.volume.now c.grow_tree.new.volume (g.P.SectorView.space c.args.space.now) (g.P.SectorView.space c.grow_tree.new.space) (c.grow_tree.ensures.touches committed)
+
+pub returns-clause-ready : goal.returns-clause-ready
+returns-clause-ready g c tells fits = grown_now c.in_ok-went.went c.grown.result c.grown.ensures (c.in_ok-went.ensures.sure tells fits)

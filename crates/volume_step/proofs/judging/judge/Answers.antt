@@ -1,8 +1,14 @@
-use Rattle.std.proofs.Common.{sym, subst}
+use Rattle.std.proofs.Common.{sym, ◌∙◌, subst, arith}
+use Rattle.std.proofs.lemmas.Bool.{true≢false}
+use Rattle.hfs_volume.specs.Content.{volume_of}
+use Rattle.hfs_volume.specs.TreeOf.{tree_of}
+use Rattle.volume_base.specs.Fitting.{takable_of}
 use Rattle.volume_base.specs.Room.{capacity_of}
-use Rattle.volume_step.specs.Steps.{IsJudged}
+use Rattle.volume_step.specs.Steps.{IsDirect, IsJudged, IsTaken}
 use Rattle.volume_step.specs.declared.judging.Verdict.{Verdict}
 use Rattle.volume_step.proofs.Judged.{judged_weight, not_weighed, weight_found}
+use Rattle.volume_step.proofs.Ready.{no_cut, taken_weight}
+use Rattle.volume_step.proofs.ReadyData.{direct_weight, uncut_now}
 use Rattle.volume_step.proofs.judging.judge.Goals as goal
 
 pub returns-in-Some-clause-judged : goal.returns-in-Some-clause-judged
@@ -13,3 +19,22 @@ returns-in-Some-clause-judged g c tells =
 pub returns-in-None-clause-judged : goal.returns-in-None-clause-judged
 returns-in-None-clause-judged g c tells =
     not_weighed c.in_ok-weight.field-0 c.in-None.is (c.in_ok-weight.ensures.waits tells c.requires.changes)
+
+pub returns-in-Some-clause-taken : goal.returns-in-Some-clause-taken
+returns-in-Some-clause-taken g c tells now =
+    subst (λ (v : Verdict). IsTaken v now.grow) (sym c.verdict_of.ensures)
+    (taken_weight (capacity_of c.args.volume.now) (takable_of c.args.volume.now) (g.P.SectorView.space c.args.space.now).content c.args.command.now c.spare.result c.requires.changes now.no_data now.load now.grow now.costs
+    (omega (arith, now.within, c.spare.ensures, c.weigh.ensures.reads.looks.spare)) c.in-Some.weight (weight_found c.in_ok-weight.field-0 c.in-Some.weight _ c.in-Some.is (c.in_ok-weight.ensures.answer tells)))
+
+pub returns-in-None-clause-taken : goal.returns-in-None-clause-taken
+returns-in-None-clause-taken g c tells now =
+    absurd (true≢false (sym (not_weighed c.in_ok-weight.field-0 c.in-None.is (c.in_ok-weight.ensures.waits tells c.requires.changes)).1 ∙ no_cut (volume_of (g.P.SectorView.space c.args.space.now).content) (tree_of (g.P.SectorView.space c.args.space.now).content) c.args.command.now now.no_data))
+
+pub returns-in-Some-clause-puts : goal.returns-in-Some-clause-puts
+returns-in-Some-clause-puts g c tells puts =
+    subst IsDirect (sym c.verdict_of.ensures)
+    (direct_weight c.args.volume.now (g.P.SectorView.space c.args.space.now) c.args.command.now puts c.in-Some.weight c.spare.result (weight_found c.in_ok-weight.field-0 c.in-Some.weight _ c.in-Some.is (c.in_ok-weight.ensures.answer tells)) (c.spare.ensures ∙ c.weigh.ensures.reads.looks.spare))
+
+pub returns-in-None-clause-puts : goal.returns-in-None-clause-puts
+returns-in-None-clause-puts g c tells puts =
+    absurd (true≢false (sym (not_weighed c.in_ok-weight.field-0 c.in-None.is (c.in_ok-weight.ensures.waits tells c.requires.changes)).1 ∙ uncut_now c.args.volume.now (g.P.SectorView.space c.args.space.now) c.args.command.now puts))

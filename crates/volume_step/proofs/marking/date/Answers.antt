@@ -1,7 +1,8 @@
-use Rattle.std.proofs.Common.{◌∙◌}
+use Rattle.std.proofs.Common.{◌∙◌, arith}
 use Rattle.volume_base.specs.Room.{capacity_of}
 use Rattle.volume_space.proofs.Sounding.{sound_here}
 use Rattle.volume_step.proofs.Done.{at_steps, at_place}
+use Rattle.volume_step.proofs.Ready.{moment_fits}
 use Rattle.volume_step.proofs.marking.date.Goals as goal
 
 pub returns-clause-answered : goal.returns-clause-answered
@@ -17,3 +18,7 @@ returns-clause-place g c tells =
     (sound_here c.args.volume.now (g.P.SectorView.space c.args.space.now) (c.requires.stands.stands tells) (c.requires.settled tells))
     (sound_here c.at-reply.new.volume (g.P.SectorView.space c.at-reply.new.space) (c.at-reply.ensures.stands.stands ((c.at-reply.ensures.touches (g.P.SectorView.space c.args.space.now).content).same.tells ∙ tells)) (c.at-reply.ensures.settled tells))
     (c.requires.affords tells) c.at-reply.result (c.at-reply.ensures.reply tells) (c.at-reply.ensures.tree tells) (c.at-reply.ensures.lists tells)
+
+pub returns-then-spare-eq0-clause-done : goal.returns-then-spare-eq0-clause-done
+returns-then-spare-eq0-clause-done g c tells met =
+    absurd (omega (arith, moment_fits c.args.moment c.args.volume.now (g.P.SectorView.space c.args.space.now) met, c.spare.ensures, c.if-spare-eq0.true))

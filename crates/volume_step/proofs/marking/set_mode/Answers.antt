@@ -1,4 +1,5 @@
-use Rattle.std.proofs.Common.{ℕ, List, sym, ◌∙◌, ap, subst}
+use Rattle.std.proofs.Common.{ℕ, List, refl, sym, ◌∙◌, ap, subst}
+use Rattle.std.proofs.lemmas.Bool.{true≢false}
 use Rattle.std.specs.List.{Contains}
 use Rattle.sector_disk.specs.Lists.{Content}
 use Rattle.hfs_language.specs.declared.command.Command.TheVariants as command
@@ -12,6 +13,8 @@ use Rattle.volume_base.proofs.Still.{own_still}
 use Rattle.volume_step.specs.Steps.{Affords, KeepsJournal, StepsTo}
 use Rattle.volume_step.specs.declared.outcome.Outcome.TheVariants as outcome
 use Rattle.volume_step.proofs.Done.{chmod_place, chmod_steps, holds_kept}
+use Rattle.volume_step.proofs.MetNow.{replied}
+use Rattle.volume_step.proofs.Ready.{update_fits}
 use Rattle.volume_step.proofs.marking.set_mode.Goals as goal
 
 pub returns-clause-answered : goal.returns-clause-answered
@@ -54,3 +57,11 @@ returns-in_err-changes-clause-touches g c committed = touches_looks committed _ 
 
 pub returns-then-not-fits_update-clause-touches : goal.returns-then-not-fits_update-clause-touches
 returns-then-not-fits_update-clause-touches g c committed = touches_looks committed _ (g.P.SectorView.space c.args.space.now) (g.P.SectorView.space c.change_at.new.space) c.change_at.ensures.reads.looks
+
+pub returns-clause-done : goal.returns-clause-done
+returns-clause-done g c tells met =
+    replied (capacity_of c.args.volume.now) (command.Chmod c.args.path.now c.args.rights) (g.P.SectorView.space c.args.space.now).content (g.P.SectorView.space c.change_at.new.space).content (c.change_at.ensures.reads.looks.content tells) refl (c.requires.affords tells) c.in_ok-reply.reply c.in_ok-changes.changes (c.in_ok-reply.ensures.reply (c.change_at.ensures.reads.looks.same.tells ∙ tells))
+
+pub returns-then-not-fits_update-clause-done : goal.returns-then-not-fits_update-clause-done
+returns-then-not-fits_update-clause-done g c tells met =
+    absurd (true≢false (sym (c.fits_update.ensures.met (update_fits (command.Chmod c.args.path.now c.args.rights) c.args.volume.now c.change_at.new.self (g.P.SectorView.space c.args.space.now) (g.P.SectorView.space c.change_at.new.space) c.change_at.ensures.reads tells (c.change_at.ensures.settled tells) refl met)) ∙ c.if-not-fits_update.true))

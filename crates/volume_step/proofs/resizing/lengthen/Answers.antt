@@ -18,6 +18,7 @@ use Rattle.volume_step.specs.declared.outcome.Outcome.TheVariants as outcome
 use Rattle.volume_step.proofs.Done.{holds_kept, same_place}
 use Rattle.volume_step.proofs.Putting.{size_place, size_steps}
 use Rattle.volume_step.proofs.Widening.{laid_still}
+use Rattle.volume_step.proofs.ReadyData.{data_still, put_none}
 use Rattle.volume_step.proofs.resizing.lengthen.Goals as goal
 
 pub lengthen-requires-clause-closed : goal.lengthen-requires-clause-closed
@@ -92,3 +93,8 @@ returns-in_err-reply-clause-same g c = space_both _ _ _ c.change_at.ensures.read
 
 pub returns-in_err-changes-clause-touches : goal.returns-in_err-changes-clause-touches
 returns-in_err-changes-clause-touches g c committed holds laid = touches_looks committed _ (g.P.SectorView.space c.args.space.now) (g.P.SectorView.space c.change_at.new.space) c.change_at.ensures.reads.looks
+
+pub returns-in-None-clause-puts : goal.returns-in-None-clause-puts
+returns-in-None-clause-puts g c tells met =
+    absurd (put_none c.in_ok-reply.field-0 _ c.in-None.is (c.in_ok-reply.ensures.met (c.change_at.ensures.reads.looks.same.tells ∙ tells))
+    (data_still (command.Trunc c.args.path.now c.args.size) c.args.volume.now c.change_at.new.self (g.P.SectorView.space c.args.space.now) (g.P.SectorView.space c.change_at.new.space) c.change_at.ensures.reads tells met))

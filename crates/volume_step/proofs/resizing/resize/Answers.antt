@@ -1,4 +1,5 @@
-use Rattle.std.proofs.Common.{◌≡◌, ℕ, true, List, [], sym, ◌∙◌, ap, subst}
+use Rattle.std.proofs.Common.{◌≡◌, ℕ, true, List, [], refl, sym, ◌∙◌, ap, subst}
+use Rattle.std.proofs.lemmas.Bool.{true≢false}
 use Rattle.std.specs.List.{Contains}
 use Rattle.std.specs.Prelude.{IfNone, IfOk, IfSome, OnOk, is_some, Option, Some, None, Ok}
 use Rattle.sector_disk.specs.Lists.{Content}
@@ -23,6 +24,8 @@ use Rattle.volume_step.proofs.Done.{holds_kept, same_place}
 use Rattle.volume_step.proofs.Shortened.{trunc_place, trunc_steps}
 use Rattle.volume_step.proofs.Putting.{grown_shrinks_none}
 use Rattle.volume_step.proofs.Widening.{keeps_shrunk, laid_still}
+use Rattle.volume_step.proofs.Ready.{longer_none, update_fits}
+use Rattle.volume_step.proofs.ReadyData.{data_still, data_update_fits}
 use Rattle.volume_step.proofs.resizing.resize.Goals as goal
 
 pub returns-in-Some-clause-answered : goal.returns-in-Some-clause-answered
@@ -147,3 +150,21 @@ returns-in-Some-clause-same g c = space_both _ _ _ c.change_at.ensures.reads.loo
 
 pub returns-in_err-reply-clause-same : goal.returns-in_err-reply-clause-same
 returns-in_err-reply-clause-same g c = space_both _ _ _ c.change_at.ensures.reads.looks.same (c.shorten.ensures.touches []).same
+
+pub returns-then-not-fits_update-clause-ready : goal.returns-then-not-fits_update-clause-ready
+returns-then-not-fits_update-clause-ready g c tells no_data met =
+    absurd (true≢false (sym (c.fits_update.ensures.met (update_fits (command.Trunc c.args.path.now c.args.size) c.args.volume.now c.change_at.new.self (g.P.SectorView.space c.args.space.now) (g.P.SectorView.space c.change_at.new.space) c.change_at.ensures.reads tells (c.change_at.ensures.settled tells) refl met)) ∙ c.if-not-fits_update.true))
+
+pub returns-in-None-clause-ready : goal.returns-in-None-clause-ready
+returns-in-None-clause-ready g c tells no_data met =
+    absurd (longer_none (g.P.SectorView.space c.args.space.now).content (g.P.SectorView.space c.change_at.new.space).content c.args.path.now c.args.size (c.change_at.ensures.reads.looks.content tells) no_data
+    (subst (λ (o : Option Reply). IfNone o ((is_some (data_of (tree_of (g.P.SectorView.space c.change_at.new.space).content) (command.Trunc c.args.path.now c.args.size)) ≡ true) × ((g.P.SectorView.space c.shorten.new.space).content ≡ (g.P.SectorView.space c.change_at.new.space).content))) c.in-None.is (c.in_ok-reply.ensures.grows (c.change_at.ensures.reads.looks.same.tells ∙ tells))).0)
+
+pub returns-then-not-fits_update-clause-puts : goal.returns-then-not-fits_update-clause-puts
+returns-then-not-fits_update-clause-puts g c tells met =
+    absurd (true≢false (sym (c.fits_update.ensures.met (data_update_fits (command.Trunc c.args.path.now c.args.size) c.args.volume.now c.change_at.new.self (g.P.SectorView.space c.args.space.now) (g.P.SectorView.space c.change_at.new.space) c.change_at.ensures.reads tells (c.change_at.ensures.settled tells) met)) ∙ c.if-not-fits_update.true))
+
+pub returns-in-None-clause-puts : goal.returns-in-None-clause-puts
+returns-in-None-clause-puts g c tells met =
+    let reads = (volume_both c.args.volume.now c.change_at.new.self c.shorten.new.volume (g.P.SectorView.space c.args.space.now) (g.P.SectorView.space c.change_at.new.space) (g.P.SectorView.space c.shorten.new.space) c.change_at.ensures.reads (subst (λ (o : Option Reply). IfNone o (ReadsVolume c.change_at.new.self c.shorten.new.volume (g.P.SectorView.space c.change_at.new.space) (g.P.SectorView.space c.shorten.new.space))) c.in-None.is c.in_ok-reply.ensures.idle)) in
+    c.lengthen.ensures.puts (reads.looks.same.tells ∙ tells) (data_still (command.Trunc c.args.path.now c.args.size) c.args.volume.now c.shorten.new.volume (g.P.SectorView.space c.args.space.now) (g.P.SectorView.space c.shorten.new.space) reads tells met)

@@ -20,6 +20,8 @@ use Rattle.volume_step.proofs.Done.{holds_kept, same_place}
 use Rattle.volume_step.proofs.Putting.{value_place, value_steps}
 use Rattle.volume_step.proofs.Shortened.{nothing_steps}
 use Rattle.volume_step.proofs.Widening.{laid_still}
+use Rattle.volume_step.proofs.Ready.{written_none}
+use Rattle.volume_step.proofs.ReadyData.{data_still, put_none}
 use Rattle.volume_step.proofs.resizing.write_value.Goals as goal
 
 pub write-requires-clause-closed : goal.write-requires-clause-closed
@@ -111,3 +113,12 @@ returns-then-is_empty-clause-same g c = (touches_none [] (λ s. ⊥) (g.P.Sector
 
 pub returns-then-is_empty-clause-service : goal.returns-then-is_empty-clause-service
 returns-then-is_empty-clause-service g c = c.requires.stands.service
+
+pub returns-in-None-clause-ready : goal.returns-in-None-clause-ready
+returns-in-None-clause-ready g c tells no_data =
+    absurd (true≢false (sym (written_none (capacity_of c.args.volume.now) c.args.path.now c.args.from c.args.value.now (g.P.SectorView.space c.args.space.now).content (c.requires.affords tells) no_data) ∙ sym c.is_empty.ensures ∙ c.if-is_empty.false))
+
+pub returns-in-None-clause-puts : goal.returns-in-None-clause-puts
+returns-in-None-clause-puts g c tells met =
+    absurd (put_none c.in_ok-reply.field-0 _ c.in-None.is (c.in_ok-reply.ensures.met (c.change_at.ensures.reads.looks.same.tells ∙ tells))
+    (data_still (command.Write c.args.path.now c.args.from c.args.value.now) c.args.volume.now c.change_at.new.self (g.P.SectorView.space c.args.space.now) (g.P.SectorView.space c.change_at.new.space) c.change_at.ensures.reads tells met))

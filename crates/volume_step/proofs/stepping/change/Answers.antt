@@ -7,11 +7,13 @@ use Rattle.volume_weights.specs.DataWeighing.{WaitsForCut}
 use Rattle.volume_base.specs.Room.{capacity_of}
 use Rattle.volume_base.specs.Keeping.{shrunk_of}
 use Rattle.volume_space.proofs.Sounding.{sound_here}
-use Rattle.volume_step.specs.Steps.{Affords, IsJudged, KeepsJournal, ShrinksAs, StepsTo, WaitsForGrowth}
+use Rattle.volume_step.specs.Steps.{Affords, IsDirect, IsJudged, IsTaken, KeepsJournal, ShrinksAs, StepsTo, WaitsForGrowth}
 use Rattle.volume_step.specs.declared.judging.Verdict.{Verdict}
 use Rattle.volume_step.specs.declared.outcome.Outcome.{Outcome}
 use Rattle.volume_step.proofs.Done.{holds_kept, refused_steps, same_place}
 use Rattle.volume_step.proofs.Widening.{laid_still, own_or_free_still, refused_shrinks, touches_behind, touches_looked, touches_own}
+use Rattle.volume_step.proofs.Ready.{growth_still, now_still}
+use Rattle.volume_step.proofs.ReadyData.{puts_still}
 use Rattle.volume_step.proofs.stepping.change.Goals as goal
 
 pub perform-requires-clause-closed : goal.perform-requires-clause-closed
@@ -141,3 +143,36 @@ returns-in-CutFirst-clause-shrunk g c tells =
 
 pub returns-in-CutFirst-clause-same : goal.returns-in-CutFirst-clause-same
 returns-in-CutFirst-clause-same g c = space_both _ _ _ c.judge.ensures.reads.looks.same (c.cut_first.ensures.touches []).same
+
+-- ---- what is ready
+
+pub returns-in-CommitFirst-clause-ready : goal.returns-in-CommitFirst-clause-ready
+returns-in-CommitFirst-clause-ready g c tells ready =
+    absurd (subst (λ (v : Verdict). IsTaken v ready.now.grow) c.in-CommitFirst.is (c.in_ok-why.ensures.taken tells ready.now))
+
+pub returns-in-Grows-clause-ready : goal.returns-in-Grows-clause-ready
+returns-in-Grows-clause-ready g c tells ready =
+    let first = subst (λ (v : Verdict). IsTaken v ready.now.grow) c.in-Grows.is (c.in_ok-why.ensures.taken tells ready.now) in
+    c.grow_first.ensures.ready (c.judge.ensures.reads.looks.same.tells ∙ tells)
+    (growth_still c.args.volume.now c.judge.new.volume (g.P.SectorView.space c.args.space.now) (g.P.SectorView.space c.judge.new.space) c.judge.ensures.reads c.in-Grows.tree c.in-Grows.more (ready.growth c.in-Grows.tree c.in-Grows.more first.0 first.1))
+
+pub returns-in-Fits-clause-ready : goal.returns-in-Fits-clause-ready
+returns-in-Fits-clause-ready g c tells ready =
+    let still = now_still c.args.command.now c.args.volume.now c.judge.new.volume (g.P.SectorView.space c.args.space.now) (g.P.SectorView.space c.judge.new.space) c.judge.ensures.reads tells ready.now in
+    c.perform.ensures.ready (c.judge.ensures.reads.looks.same.tells ∙ tells) c.requires.changes still.0 (still.1 ∙ subst (λ (v : Verdict). IsTaken v ready.now.grow) c.in-Fits.is (c.in_ok-why.ensures.taken tells ready.now))
+
+pub returns-in-Grows-clause-below : goal.returns-in-Grows-clause-below
+returns-in-Grows-clause-below g c = g.met.P.SectorView.follows_trans c.args.space.now c.judge.new.space c.grow_first.new.space c.judge.ensures.below c.grow_first.ensures.below
+
+pub returns-in-CommitFirst-clause-puts : goal.returns-in-CommitFirst-clause-puts
+returns-in-CommitFirst-clause-puts g c tells puts = absurd (subst IsDirect c.in-CommitFirst.is (c.in_ok-why.ensures.puts tells puts))
+
+pub returns-in-CutFirst-clause-puts : goal.returns-in-CutFirst-clause-puts
+returns-in-CutFirst-clause-puts g c tells puts = absurd (subst IsDirect c.in-CutFirst.is (c.in_ok-why.ensures.puts tells puts))
+
+pub returns-in-Grows-clause-puts : goal.returns-in-Grows-clause-puts
+returns-in-Grows-clause-puts g c tells puts = absurd (subst IsDirect c.in-Grows.is (c.in_ok-why.ensures.puts tells puts))
+
+pub returns-in-Fits-clause-puts : goal.returns-in-Fits-clause-puts
+returns-in-Fits-clause-puts g c tells puts =
+    c.perform.ensures.puts (c.judge.ensures.reads.looks.same.tells ∙ tells) (puts_still c.args.command.now c.args.volume.now c.judge.new.volume (g.P.SectorView.space c.args.space.now) (g.P.SectorView.space c.judge.new.space) c.judge.ensures.reads tells puts)

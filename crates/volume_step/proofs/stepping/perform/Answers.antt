@@ -1,11 +1,16 @@
-use Rattle.std.proofs.Common.{[], ap, subst, sym}
-use Rattle.std.specs.Prelude.{IfOk, Ok}
+use Rattle.std.proofs.Common.{rules, ◌≡◌, true, [], ap, subst, sym}
+use Rattle.std.specs.Prelude.{IfOk, None, Ok}
 use Rattle.hfs_language.specs.declared.command.Command.{Command}
 use Rattle.volume_runs.specs.Run.{shrunk_by}
+use Rattle.hfs_volume.specs.Content.{volume_of}
 use Rattle.hfs_volume.specs.TreeOf.{tree_of}
 use Rattle.volume_base.specs.Keeping.{shrunk_of}
-use Rattle.volume_step.specs.Steps.{ShrinksAs}
+use Rattle.hfs_volume.specs.Weight.{data_of}
+use Rattle.volume_space.specs.Writing.{is_data_met}
+use Rattle.volume_step.specs.Steps.{IsMet, ShrinksAs}
 use Rattle.volume_step.proofs.Widening.{keeps_shrunk, touches_own}
+use Rattle.volume_step.proofs.Ready.{done_now, met_now}
+use Rattle.volume_step.proofs.ReadyData.{puts_data_now}
 use Rattle.volume_step.proofs.stepping.perform.Goals as goal
 
 pub returns-in-Trunc-clause-shrunk : goal.returns-in-Trunc-clause-shrunk
@@ -25,3 +30,27 @@ returns-in_default-clause-touches g c committed holds laid = c.perform_without_d
 
 pub returns-in_default-clause-same : goal.returns-in_default-clause-same
 returns-in_default-clause-same g c = (c.perform_without_data.ensures.touches []).same
+
+-- ---- what fits now
+
+pub returns-in-Trunc-clause-ready : goal.returns-in-Trunc-clause-ready
+returns-in-Trunc-clause-ready g c tells unread now none_grow =
+    c.resize.ensures.ready tells (subst (λ (k : Command). data_of (tree_of (g.P.SectorView.space c.args.space.now).content) k ≡ None) c.in-Trunc.is now.no_data)
+    (subst (λ (k : Command). IsMet k c.args.volume.now (g.P.SectorView.space c.args.space.now)) c.in-Trunc.is (met_now c.args.command.now c.args.volume.now (g.P.SectorView.space c.args.space.now) unread now none_grow))
+
+pub returns-in_default-clause-ready : goal.returns-in_default-clause-ready
+returns-in_default-clause-ready g c tells unread now none_grow =
+    done_now c.perform_without_data.result (c.perform_without_data.ensures.done tells (met_now c.args.command.now c.args.volume.now (g.P.SectorView.space c.args.space.now) unread now none_grow))
+
+-- ---- data that is put now
+
+pub returns-in-Trunc-clause-puts : goal.returns-in-Trunc-clause-puts
+returns-in-Trunc-clause-puts g c tells puts =
+    c.resize.ensures.puts tells (subst (λ (k : Command). is_data_met c.args.volume.now (g.P.SectorView.space c.args.space.now).spare (volume_of (g.P.SectorView.space c.args.space.now).content) (data_of (tree_of (g.P.SectorView.space c.args.space.now).content) k) ≡ true) c.in-Trunc.is puts.met)
+
+pub returns-in-Write-clause-puts : goal.returns-in-Write-clause-puts
+returns-in-Write-clause-puts g c tells puts = c.write_value.ensures.puts tells (search (rules, puts.met))
+
+pub returns-in_default-clause-puts : goal.returns-in_default-clause-puts
+returns-in_default-clause-puts g c tells puts =
+    puts_data_now c.args.volume.now (g.P.SectorView.space c.args.space.now) c.args.command.now puts c.perform_without_data.result c.perform_without_data.ensures.plain

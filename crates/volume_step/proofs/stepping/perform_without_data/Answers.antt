@@ -3,9 +3,11 @@ use Rattle.std.specs.Prelude.{IfOk, Ok}
 use Rattle.hfs_language.specs.declared.command.Command.{Command}
 use Rattle.volume_runs.specs.Run.{shrunk_by}
 use Rattle.hfs_volume.specs.TreeOf.{tree_of}
+use Rattle.hfs_volume.specs.Weight.{data_of}
 use Rattle.volume_base.specs.Keeping.{shrunk_of}
 use Rattle.volume_step.specs.Steps.{ShrinksAs}
 use Rattle.volume_step.proofs.Widening.{keeps_shrunk, touches_own}
+use Rattle.volume_step.proofs.ReadyData.{any_ok}
 use Rattle.volume_step.proofs.stepping.perform_without_data.Goals as goal
 
 pub returns-in-At-clause-shrunk : goal.returns-in-At-clause-shrunk
@@ -67,3 +69,35 @@ returns-in-Ln-clause-shrunk g c tells = keeps_shrunk c.args.command.now (g.P.Sec
 
 pub returns-in-Ln-clause-touches : goal.returns-in-Ln-clause-touches
 returns-in-Ln-clause-touches g c committed = touches_own committed c.args.volume.now c.link_file.new.volume (g.P.SectorView.space c.args.space.now) (g.P.SectorView.space c.link_file.new.space) (c.link_file.ensures.touches committed)
+
+-- ---- no data
+
+pub returns-in-At-clause-plain : goal.returns-in-At-clause-plain
+returns-in-At-clause-plain g c = any_ok c.date.result (λ tree. ap (λ (k : Command). data_of tree k) c.in-At.is)
+
+pub returns-in-Chmod-clause-plain : goal.returns-in-Chmod-clause-plain
+returns-in-Chmod-clause-plain g c = any_ok c.set_mode.result (λ tree. ap (λ (k : Command). data_of tree k) c.in-Chmod.is)
+
+pub returns-in-SetAttr-clause-plain : goal.returns-in-SetAttr-clause-plain
+returns-in-SetAttr-clause-plain g c = any_ok c.set_attribute.result (λ tree. ap (λ (k : Command). data_of tree k) c.in-SetAttr.is)
+
+pub returns-in-DelAttr-clause-plain : goal.returns-in-DelAttr-clause-plain
+returns-in-DelAttr-clause-plain g c = any_ok c.delete_attribute.result (λ tree. ap (λ (k : Command). data_of tree k) c.in-DelAttr.is)
+
+pub returns-in-Mkdir-clause-plain : goal.returns-in-Mkdir-clause-plain
+returns-in-Mkdir-clause-plain g c = any_ok c.make_folder.result (λ tree. ap (λ (k : Command). data_of tree k) c.in-Mkdir.is)
+
+pub returns-in-Create-clause-plain : goal.returns-in-Create-clause-plain
+returns-in-Create-clause-plain g c = any_ok c.make_file.result (λ tree. ap (λ (k : Command). data_of tree k) c.in-Create.is)
+
+pub returns-in-Mv-clause-plain : goal.returns-in-Mv-clause-plain
+returns-in-Mv-clause-plain g c = any_ok c.move_entry.result (λ tree. ap (λ (k : Command). data_of tree k) c.in-Mv.is)
+
+pub returns-in-Rmdir-clause-plain : goal.returns-in-Rmdir-clause-plain
+returns-in-Rmdir-clause-plain g c = any_ok c.remove_folder.result (λ tree. ap (λ (k : Command). data_of tree k) c.in-Rmdir.is)
+
+pub returns-in-Rm-clause-plain : goal.returns-in-Rm-clause-plain
+returns-in-Rm-clause-plain g c = any_ok c.remove_file.result (λ tree. ap (λ (k : Command). data_of tree k) c.in-Rm.is)
+
+pub returns-in-Ln-clause-plain : goal.returns-in-Ln-clause-plain
+returns-in-Ln-clause-plain g c = any_ok c.link_file.result (λ tree. ap (λ (k : Command). data_of tree k) c.in-Ln.is)

@@ -1,4 +1,5 @@
-use Rattle.std.proofs.Common.{[], sym, ◌∙◌}
+use Rattle.std.proofs.Common.{[], inl, inr, sym, ◌∙◌}
+use Rattle.std.proofs.lemmas.Bool.{true≢false}
 use Rattle.hfs_volume.specs.TreeOf.{tree_of}
 use Rattle.volume_base.specs.Keeping.{shrunk_of}
 use Rattle.volume_step.proofs.Widening.{keeps_shrunk, reads_shrink_none, touches_own}
@@ -14,3 +15,12 @@ returns-then-only_reads-clause-touches g c committed holds laid = touches_own co
 
 pub returns-then-only_reads-clause-same : goal.returns-then-only_reads-clause-same
 returns-then-only_reads-clause-same g c = (c.answer.ensures.touches []).same
+
+pub returns-clause-ready : goal.returns-clause-ready
+returns-clause-ready g c tells ready = elim ready [
+  | inl reads ↦ absurd (true≢false (sym reads ∙ sym c.only_reads.ensures ∙ c.if-only_reads.false))
+  | inr does ↦ elim does [
+    | inl is ↦ c.change.ensures.ready tells is
+    | inr puts ↦ c.change.ensures.puts tells puts
+  ]
+]
