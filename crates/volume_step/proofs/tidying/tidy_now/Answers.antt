@@ -1,4 +1,5 @@
 use Rattle.std.proofs.Common.{◌∙◌}
+use Rattle.alloc_bitmap.specs.Map.{free_of}
 use Rattle.hfs_volume.specs.Sound.{IsSound}
 use Rattle.volume_base.specs.Keeping.{shrunk_of}
 use Rattle.volume_base.specs.Room.{capacity_of}
@@ -13,7 +14,7 @@ returns-clause-reclaims g c tells =
     let a = g.P.SectorView.space c.args.space.now in
     let b = g.P.SectorView.space c.tidy.new.space in
     let later = (c.tidy.ensures.touches a.content).same.tells ∙ tells in
-    reclaims_as c.soundness_has_two_halves.ensures (capacity_of c.args.volume.now) (shrunk_of c.args.volume.now) a.content b.content (c.requires.settled tells).sound c.tidy.result
+    reclaims_as c.soundness_has_two_halves.ensures (capacity_of c.args.volume.now) (shrunk_of c.args.volume.now) (free_of c.args.volume.now.map) a.spare a.content b.content (c.requires.settled tells).sound c.tidy.result
     (ok_both (StandsOver c.tidy.new.volume b) (IsSettled c.tidy.new.volume b.content) (IsSound b.content) c.tidy.result c.tidy.ensures.stands (c.tidy.ensures.settled tells) (λ stands settled. sound_here c.tidy.new.volume b (stands.stands later) settled))
     (c.tidy.ensures.tidied tells)
 
@@ -22,7 +23,7 @@ returns-clause-place g c tells =
     let a = g.P.SectorView.space c.args.space.now in
     let b = g.P.SectorView.space c.tidy.new.space in
     let later = (c.tidy.ensures.touches a.content).same.tells ∙ tells in
-    places_as c.soundness_has_two_halves.ensures (capacity_of c.args.volume.now) (shrunk_of c.args.volume.now) a.content b.content (c.requires.settled tells).sound c.tidy.result
+    places_as c.soundness_has_two_halves.ensures (capacity_of c.args.volume.now) (shrunk_of c.args.volume.now) (free_of c.args.volume.now.map) a.spare a.content b.content (c.requires.settled tells).sound c.tidy.result
     (ok_both (StandsOver c.tidy.new.volume b) (IsSettled c.tidy.new.volume b.content) (IsSound b.content) c.tidy.result c.tidy.ensures.stands (c.tidy.ensures.settled tells) (λ stands settled. sound_here c.tidy.new.volume b (stands.stands later) settled))
     (c.tidy.ensures.tidied tells)
 
