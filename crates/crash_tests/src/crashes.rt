@@ -50,6 +50,20 @@ const READS_OF_GROWTH: &[u8] = b"stat /\nls /d\nstat /d\nstat /d/x\nread /d/x 0 
 /// The room behind it: the catalog has 80 nodes, and had 64.
 const ROOM_OF_GROWTH: &[u8] = b"ok 4096 2048 1675 1675 1982 0 16 15 3 80 25 0 16 15\n";
 
+/// A folder with six attributes, made before those files.
+const MARKED: &[u8] =
+    b"mkdir /d\nsetattr /d a =v\nsetattr /d b =v\nsetattr /d c =v\nsetattr /d d =v\nsetattr /d e =v\nsetattr /d f =v\n";
+
+/// A run that removes it, ahead of which the catalog grows, and then the attributes file.
+const TWO_GROWTHS: &[u8] = b"rmdir /d\nsync\ncreate /x\nwrite /x 0 =y\nsync\n";
+
+/// What is read back behind it.
+const READS_OF_TWO_GROWTHS: &[u8] =
+    b"stat /\nstat /d\nlsattr /d\ngetattr /d f\nstat /x\nread /x 0 9\n";
+
+/// The room behind it: the catalog has 80 nodes, and had 64; the attributes file has 20, and had 16.
+const ROOM_OF_TWO_GROWTHS: &[u8] = b"ok 4096 2048 1671 1671 1982 0 16 15 3 80 25 0 20 19\n";
+
 /// What all crashes of a run left.
 #[derive(Clone, Copy)]
 pub struct Tried {
@@ -89,18 +103,45 @@ pub fn try_one_batch(alloc: Global, choice: u64) -> Result<Tried, OutOfMemory> {
 
 /// All crashes of a run ahead of which the catalog grows; nothing where it doesn't grow.
 pub fn try_growth(alloc: Global, choice: u64) -> Result<Option<Tried>, OutOfMemory> {
-    let before = filling(alloc)?;
+    let reads = READS_OF_GROWTH;
+    try_grown(alloc, b"", GROWTH, ROOM_OF_GROWTH, reads, choice)
+}
+
+/// All crashes of a run ahead of whose first line the catalog grows, and the attributes file; nothing where they don't grow.
+pub fn try_two_growths(alloc: Global, choice: u64) -> Result<Option<Tried>, OutOfMemory> {
+    let reads = READS_OF_TWO_GROWTHS;
+    try_grown(
+        alloc,
+        MARKED,
+        TWO_GROWTHS,
+        ROOM_OF_TWO_GROWTHS,
+        reads,
+        choice,
+    )
+}
+
+// All crashes of a run on a volume where these lines were served first, and then many files were made; nothing where another room is behind it.
+fn try_grown(
+    alloc: Global,
+    first: &[u8],
+    lines: &[u8],
+    room: &[u8],
+    reads: &[u8],
+    choice: u64,
+) -> Result<Option<Tried>, OutOfMemory> {
+    let mut before = Vec::new(alloc);
+    before.extend_from_slice(first)?;
+    before.extend_from_slice(&filling(alloc)?)?;
     let mut full = Few::over(alloc, &fresh_few(alloc)?)?;
     run_lines(alloc, &mut full, &before)?;
     let start = full.rig.image(alloc, 1)?;
     let mut whole = Few::over(alloc, &start)?;
-    run_lines(alloc, &mut whole, GROWTH)?;
+    run_lines(alloc, &mut whole, lines)?;
     let grown = told_by(alloc, &whole.rig.image(alloc, 1)?, b"df\n")?;
-    if !matches!(&grown, Some(room) if room.as_slice() == ROOM_OF_GROWTH) {
+    if !matches!(&grown, Some(told) if told.as_slice() == room) {
         return Ok(None);
     }
-    let reads = READS_OF_GROWTH;
-    let tried = try_in_pieces(alloc, &start, &before, GROWTH, PIECE, reads, choice)?;
+    let tried = try_in_pieces(alloc, &start, &before, lines, PIECE, reads, choice)?;
     Ok(Some(tried))
 }
 

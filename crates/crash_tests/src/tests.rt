@@ -1,5 +1,7 @@
 // Runs that are cut off, and runs over devices that fail; each choice of a crash's image is a test of its own.
-use crate::crashes::{try_all, try_bytes, try_growth, try_one_batch, try_removals, try_worn, worn};
+use crate::crashes::{
+    try_all, try_bytes, try_growth, try_one_batch, try_removals, try_two_growths, try_worn, worn,
+};
 use crate::journals::{Damage, HEADER, changed_sectors, is_refused, told_before_the_journal};
 use crate::reclaims::try_reclaims;
 use crate::replays::{is_replayed_after_two_stops, start_of};
@@ -164,6 +166,24 @@ fn a_catalog_that_grows_leaves_a_prefix_0_to_3(rt: HostRuntime) -> Result<(), Fa
 fn a_catalog_that_grows_leaves_a_prefix_4_to_7(rt: HostRuntime) -> Result<(), Fail> {
     for choice in 4..8u64 {
         let tried = try_growth(rt.alloc(), choice)?;
+        assert!(rt; matches!(&tried, Some(tried) if tried.wrong.is_none() && 60 < tried.crashes));
+    }
+    Ok(())
+}
+
+#[test]
+fn two_trees_that_grow_leave_a_prefix_0_to_3(rt: HostRuntime) -> Result<(), Fail> {
+    for choice in 0..4u64 {
+        let tried = try_two_growths(rt.alloc(), choice)?;
+        assert!(rt; matches!(&tried, Some(tried) if tried.wrong.is_none() && 60 < tried.crashes));
+    }
+    Ok(())
+}
+
+#[test]
+fn two_trees_that_grow_leave_a_prefix_4_to_7(rt: HostRuntime) -> Result<(), Fail> {
+    for choice in 4..8u64 {
+        let tried = try_two_growths(rt.alloc(), choice)?;
         assert!(rt; matches!(&tried, Some(tried) if tried.wrong.is_none() && 60 < tried.crashes));
     }
     Ok(())

@@ -52,7 +52,7 @@ more_there n m some = ⊎_elim
     (cases_eq n 0)
 
 -- the same pairs, where there is such a tree before and behind
-if_there_both : (x y : Bool) (one other : List Pair) → x ≡ true → y ≡ true → one ≡ other → (if x then one else []) ≡ (if y then other else [])
+pub if_there_both : (x y : Bool) (one other : List Pair) → x ≡ true → y ≡ true → one ≡ other → (if x then one else []) ≡ (if y then other else [])
 if_there_both x y one other first second same = (λ i. if first i then same i else []) ∙ sym (λ i. if second i then other else [])
 
 module _ (v : Volume) (a b : Space) (was : IsStanding v a) (settled : IsSettled v a.content) (there : IsTrue (has_attributes v.header)) (count : ℕ) (run : Extent) (later : BlockMap) (takes : TakesRun count run v.map later) (some : 0 < run.count)
@@ -156,7 +156,7 @@ module _ (v : Volume) (a b : Space) (was : IsStanding v a) (settled : IsSettled 
     pub elsewhere : (s : ℕ) → (Contains (sectors_of_tree v.attributes.file) s → ⊥) → (Contains (fork_sectors (run ∷ []) v.attributes.file.per_block) s → ⊥) → sector b.content s ≡ sector a.content s
     elsewhere s none nor = ⊎_elim (λ same. same) (λ has. absurd (⊎_elim (λ here. none here) (λ there. nor there) (put_there s has))) ((within.content tells).each s)
 
-    size : length b.content ≡ length a.content
+    pub size : length b.content ≡ length a.content
     size = (within.content tells).size
 
     parts : (s : ℕ)
@@ -184,14 +184,14 @@ module _ (v : Volume) (a b : Space) (was : IsStanding v a) (settled : IsSettled 
     pub header_same : sector b.content 2 ≡ sector a.content 2
     header_same = other_same 2 (0, omega arith, refl) (λ has. omega (arith, parts 2, stands_once 2 (2 ∷ []) (0, omega arith, refl), in_it 2 has))
 
-    extents_same : (s : ℕ) → Contains (sectors_of_tree v.extents.file) s → sector b.content s ≡ sector a.content s
+    pub extents_same : (s : ℕ) → Contains (sectors_of_tree v.extents.file) s → sector b.content s ≡ sector a.content s
     extents_same s has = other_same s (in_files s (Contains-append_left (sectors_of_tree v.extents.file) (sectors_of_tree v.catalog.file ++ (attribute_sectors v ++ map_sectors v)) s has))
         (λ other. omega (arith, parts s, stands_once s (sectors_of_tree v.extents.file) has, in_it s other))
 
     behind_extents : (s : ℕ) → Contains (sectors_of_tree v.catalog.file ++ (attribute_sectors v ++ map_sectors v)) s → Contains (own_sectors v) s
     behind_extents s has = in_files s (Contains-append_right (sectors_of_tree v.extents.file) (sectors_of_tree v.catalog.file ++ (attribute_sectors v ++ map_sectors v)) s has)
 
-    catalog_same : (s : ℕ) → Contains (sectors_of_tree v.catalog.file) s → sector b.content s ≡ sector a.content s
+    pub catalog_same : (s : ℕ) → Contains (sectors_of_tree v.catalog.file) s → sector b.content s ≡ sector a.content s
     catalog_same s has = other_same s (behind_extents s (Contains-append_left (sectors_of_tree v.catalog.file) (attribute_sectors v ++ map_sectors v) s has))
         (λ other. omega (arith, parts s, stands_once s (sectors_of_tree v.catalog.file) has, in_it s other))
 
@@ -199,15 +199,15 @@ module _ (v : Volume) (a b : Space) (was : IsStanding v a) (settled : IsSettled 
     bits_same s has = other_same s (behind_extents s (Contains-append_right (sectors_of_tree v.catalog.file) (attribute_sectors v ++ map_sectors v) s (Contains-append_right (attribute_sectors v) (map_sectors v) s has)))
         (λ other. omega (arith, parts s, stands_once s (map_sectors v) has, in_it s other))
 
-    aside_same : (s : ℕ) → (s ≡ length a.content - 2) ⊎ (s ≡ info_sector_of v.header) → sector b.content s ≡ sector a.content s
+    pub aside_same : (s : ℕ) → (s ≡ length a.content - 2) ⊎ (s ≡ info_sector_of v.header) → sector b.content s ≡ sector a.content s
     aside_same s aside = elsewhere s (λ has. was.aside s aside (attributes_own s has)) (λ has. off_aside v a was settled count run later takes s (as_run s has) aside)
 
-    overflow_same : overflow_in_volume (lists_of v b.content) ≡ overflow_in_volume (lists_of v a.content)
+    pub overflow_same : overflow_in_volume (lists_of v b.content) ≡ overflow_in_volume (lists_of v a.content)
     overflow_same = ap (λ (f : File). map overflow_of (pairs_of (store_of f))) (file_elsewhere (sectors_of_tree v.extents.file) a.content b.content extents_same)
 
     -- ---- its fork
 
-    goes_on : GoesOn (overflow_in_volume (lists_of v a.content)) (record { id = attributes_id; kind = data_kind; fork = v.header.attributes_fork })
+    pub goes_on : GoesOn (overflow_in_volume (lists_of v a.content)) (record { id = attributes_id; kind = data_kind; fork = v.header.attributes_fork })
     goes_on =
         let lists = volume_of a.content in
         let owned : Owned = record { id = attributes_id; kind = data_kind; fork = (volume_of a.content).head.attributes_fork } in

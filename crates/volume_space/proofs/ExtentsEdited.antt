@@ -59,7 +59,7 @@ told_so P (Ok answer) told = told
 told_so P (Err why) told = told
 
 -- a list in which nothing stands twice has nothing of one part in another
-apart_parts : (s : ℕ) (head first second third fourth : List ℕ) → times s (head ++ (first ++ (second ++ (third ++ fourth)))) ≤ 1 → Contains first s
+pub apart_parts : (s : ℕ) (head first second third fourth : List ℕ) → times s (head ++ (first ++ (second ++ (third ++ fourth)))) ≤ 1 → Contains first s
     → (Contains head s → ⊥) × (Contains second s → ⊥) × (Contains third s → ⊥) × (Contains fourth s → ⊥)
 apart_parts s head first second third fourth once here =
     let one = times-append s head (first ++ (second ++ (third ++ fourth))) in

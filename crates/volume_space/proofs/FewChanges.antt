@@ -24,17 +24,17 @@ use Rattle.volume_base.proofs.CutForks.{full_all as full_used}
 abbrev pub AreFew : ℕ → List Change → Type 0
 AreFew most changes = (are_light changes ≡ true) × (length changes ≤ most)
 
-same_self : (xs : List Extent) → same_list xs xs ≡ true
+pub same_self : (xs : List Extent) → same_list xs xs ≡ true
 same_self [] = refl
 same_self (x ∷ xs) = (λ i. (same_number x.start i && (x.count == x.count)) && same_list xs xs) ∙ (λ i. same_number x.count i && same_list xs xs) ∙ same_self xs
 
 -- ---- changes of single records
 
 -- a record in whose place one is wanted
-abbrev replaced : Bool → OverflowRecord → List Change
+abbrev pub replaced : Bool → OverflowRecord → List Change
 replaced same first = if same then [] else Replace first ∷ []
 
-at_same : (one first : OverflowRecord) (more wanted : List OverflowRecord) → first.start ≡ one.start
+pub at_same : (one first : OverflowRecord) (more wanted : List OverflowRecord) → first.start ≡ one.start
     → changes_to (one ∷ more) (first ∷ wanted) ≡ replaced (same_extents one.extents first.extents) first ++ changes_to more wanted
 at_same one first more wanted same =
     ap (λ b. map Insert (if b then first ∷ front_before one.start wanted else []) ++ (change_at one (if b then behind_front one.start wanted else first ∷ wanted) ++ changes_to more (past one.start (if b then behind_front one.start wanted else first ∷ wanted))))
@@ -55,7 +55,7 @@ none_more most same first later is few = subst (λ b. AreFew most (replaced b fi
 
 -- ---- records that go on
 
-in_use_few : (xs : List Extent) → length (in_use xs) ≤ length xs
+pub in_use_few : (xs : List Extent) → length (in_use xs) ≤ length xs
 in_use_few [] = omega arith
 in_use_few (x ∷ xs) = by (x.count == 0) (in_use_few xs)
   where
@@ -75,10 +75,10 @@ records_long place full (one ∷ next ∷ more) eight go =
 no_parts : (n : ℕ) → n ≡ 0 → parts_for n 8 ≡ 0
 no_parts n none = omega (arith, none)
 
-one_part : (n : ℕ) → 0 < n → n ≤ 8 → parts_for n 8 ≡ suc 0
+pub one_part : (n : ℕ) → 0 < n → n ≤ 8 → parts_for n 8 ≡ suc 0
 one_part n some most = omega (arith, some, most)
 
-a_part_more : (n at : ℕ) → at < n → parts_for (n - at) 8 ≡ suc (parts_for (n - (at + 8)) 8)
+pub a_part_more : (n at : ℕ) → at < n → parts_for (n - at) 8 ≡ suc (parts_for (n - (at + 8)) 8)
 a_part_more n at less = omega (arith, less)
 
 drop_front : (xs ys : List Extent) → drop (length xs) (xs ++ ys) ≡ ys
@@ -92,7 +92,7 @@ pub blocks_both : (xs ys : List Extent) → length (blocks_of (xs ++ ys)) ≡ le
 blocks_both xs ys = ap (λ (l : List ℕ). length l) (flat_map-append (λ (extent : Extent). range_with_len extent.start extent.count) xs ys) ∙ length-append (blocks_of xs) (blocks_of ys)
 
 -- so many blocks lie before the record behind one
-counted : (list eight rest : List Extent) (at place : ℕ) → length eight ≡ 8 → place ≡ length (blocks_of (take at list)) → drop at list ≡ eight ++ rest → place + length (blocks_of eight) ≡ length (blocks_of (take (at + 8) list))
+pub counted : (list eight rest : List Extent) (at place : ℕ) → length eight ≡ 8 → place ≡ length (blocks_of (take at list)) → drop at list ≡ eight ++ rest → place + length (blocks_of eight) ≡ length (blocks_of (take (at + 8) list))
 counted list eight rest at place long is behind_it =
     (λ i. is i + length (blocks_of eight)) ∙ sym (blocks_both (take at list) eight) ∙ ap (λ (l : List Extent). length (blocks_of l)) (sym split)
   where

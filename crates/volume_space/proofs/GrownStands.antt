@@ -135,7 +135,7 @@ module _ (v : Volume) (a b : Space) (was : IsStanding v a) (settled : IsSettled 
     pub elsewhere : (s : ℕ) → (Contains (sectors_of_tree v.catalog.file) s → ⊥) → (Contains (fork_sectors (run ∷ []) v.catalog.file.per_block) s → ⊥) → sector b.content s ≡ sector a.content s
     elsewhere s none nor = ⊎_elim (λ same. same) (λ has. absurd (⊎_elim (λ here. none here) (λ there. nor there) (put_there s has))) ((within.content tells).each s)
 
-    size : length b.content ≡ length a.content
+    pub size : length b.content ≡ length a.content
     size = (within.content tells).size
 
     parts : (s : ℕ)
@@ -159,14 +159,14 @@ module _ (v : Volume) (a b : Space) (was : IsStanding v a) (settled : IsSettled 
     pub header_same : sector b.content 2 ≡ sector a.content 2
     header_same = other_same 2 (0, omega arith, refl) (λ has. omega (arith, parts 2, stands_once 2 (2 ∷ []) (0, omega arith, refl), stands_once 2 (sectors_of_tree v.catalog.file) has))
 
-    extents_same : (s : ℕ) → Contains (sectors_of_tree v.extents.file) s → sector b.content s ≡ sector a.content s
+    pub extents_same : (s : ℕ) → Contains (sectors_of_tree v.extents.file) s → sector b.content s ≡ sector a.content s
     extents_same s has = other_same s (in_files s (Contains-append_left (sectors_of_tree v.extents.file) (sectors_of_tree v.catalog.file ++ (attribute_sectors v ++ map_sectors v)) s has))
         (λ there. omega (arith, parts s, stands_once s (sectors_of_tree v.extents.file) has, stands_once s (sectors_of_tree v.catalog.file) there))
 
     behind_catalog : (s : ℕ) → Contains (attribute_sectors v ++ map_sectors v) s → Contains (own_sectors v) s
     behind_catalog s has = in_files s (Contains-append_right (sectors_of_tree v.extents.file) (sectors_of_tree v.catalog.file ++ (attribute_sectors v ++ map_sectors v)) s (Contains-append_right (sectors_of_tree v.catalog.file) (attribute_sectors v ++ map_sectors v) s has))
 
-    attributes_same : IsTrue (has_attributes v.header) → (s : ℕ) → Contains (sectors_of_tree v.attributes.file) s → sector b.content s ≡ sector a.content s
+    pub attributes_same : IsTrue (has_attributes v.header) → (s : ℕ) → Contains (sectors_of_tree v.attributes.file) s → sector b.content s ≡ sector a.content s
     attributes_same there s has =
         let here : Contains (attribute_sectors v) s = subst (λ (l : List ℕ). Contains l s) (sym (there_is (has_attributes v.header) (sectors_of_tree v.attributes.file) there)) has in
         other_same s (behind_catalog s (Contains-append_left (attribute_sectors v) (map_sectors v) s here))
@@ -176,15 +176,15 @@ module _ (v : Volume) (a b : Space) (was : IsStanding v a) (settled : IsSettled 
     bits_same s has = other_same s (behind_catalog s (Contains-append_right (attribute_sectors v) (map_sectors v) s has))
         (λ other. omega (arith, parts s, stands_once s (map_sectors v) has, stands_once s (sectors_of_tree v.catalog.file) other))
 
-    aside_same : (s : ℕ) → (s ≡ length a.content - 2) ⊎ (s ≡ info_sector_of v.header) → sector b.content s ≡ sector a.content s
+    pub aside_same : (s : ℕ) → (s ≡ length a.content - 2) ⊎ (s ≡ info_sector_of v.header) → sector b.content s ≡ sector a.content s
     aside_same s aside = elsewhere s (λ has. was.aside s aside (catalog_own s has)) (λ has. off_aside v a was settled count run later takes s has aside)
 
-    overflow_same : overflow_in_volume (lists_of v b.content) ≡ overflow_in_volume (lists_of v a.content)
+    pub overflow_same : overflow_in_volume (lists_of v b.content) ≡ overflow_in_volume (lists_of v a.content)
     overflow_same = ap (λ (f : File). map overflow_of (pairs_of (store_of f))) (file_elsewhere (sectors_of_tree v.extents.file) a.content b.content extents_same)
 
     -- ---- the catalog's fork
 
-    catalog_goes_on : GoesOn (overflow_in_volume (lists_of v a.content)) (record { id = catalog_id; kind = data_kind; fork = v.header.catalog_fork })
+    pub catalog_goes_on : GoesOn (overflow_in_volume (lists_of v a.content)) (record { id = catalog_id; kind = data_kind; fork = v.header.catalog_fork })
     catalog_goes_on =
         let lists = volume_of a.content in
         let owned : Owned = record { id = catalog_id; kind = data_kind; fork = (volume_of a.content).head.catalog_fork } in

@@ -1,11 +1,11 @@
 -- The extents of a file's fork: where they stand, and the room to store those that a cut leaves.
 use Rattle.std.proofs.Common.{◌≡◌, ◌≢◌, ◌⊎◌, inl, inr, ◌<◌, ◌≤◌, ℕ, zero, suc, ◌+◌, ◌-◌, ◌*◌, ◌/◌, ◌==◌, min, Bool, true, false, List, [], ◌∷◌, ◌++◌, length, map, take, drop, refl, sym, ◌∙◌, ap, subst, arith, length-append, length-take}
-use Rattle.std.specs.Prelude.{Contains, nat_le, not, Option, None, Some, IsTrue, if◌then◌else◌}
-use Rattle.std.specs.List.{count_by, range_with_len}
+use Rattle.std.specs.Prelude.{Contains, not, Option, None, Some, if◌then◌else◌}
+use Rattle.std.specs.List.{range_with_len}
 use Rattle.std.specs.Option.{option_map}
 use Rattle.std.proofs.Math.Nat.{mul-le-mul_right}
 use Rattle.std.proofs.lemmas.Bool.{both_ways, le-leb, ne_eqb}
-use Rattle.std.proofs.lemmas.List.{append-nil, take_all, take-append-le, take_more}
+use Rattle.std.proofs.lemmas.List.{take_all, take-append-le, take_more}
 use Rattle.std.proofs.lemmas.List.FromFn.{length-range_with_len}
 use Rattle.std.proofs.lemmas.List.Sums.{count_by-le-length}
 use Rattle.std.specs.Prelude.{slice_index_or}
@@ -13,7 +13,6 @@ use Rattle.hx_bytes.specs.declared.extents.Extent.{Extent}
 use Rattle.hx_bytes.specs.declared.extents.ForkRecord.{ForkRecord}
 use Rattle.sector_disk.specs.Lists.{Content}
 use Rattle.sector_disk.specs.Space.{Space}
-use Rattle.btree_node.specs.Levels.{Pair}
 use Rattle.btree_node.specs.Store.{Store, HasRoom}
 use Rattle.btree_node.specs.Tree.{pairs_of}
 use Rattle.btree_edit.specs.Editing.{edit_writes}
@@ -29,16 +28,15 @@ use Rattle.fork_map.specs.Cut.{front}
 use Rattle.hfs_model.specs.Sorted.{kept}
 use Rattle.hfs_volume.specs.Blocks.{GoOn, GoesOn, forks_of}
 use Rattle.hfs_volume.specs.Content.{VolumeState, overflow_in_volume, records_of, volume_of}
-use Rattle.hfs_volume.specs.Forks.{Owned, data_kind, extents_id, extents_of, forks_in, in_use, is_full, is_of, parts_for, resource_kind}
-use Rattle.hfs_volume.specs.Records.{Overflow, Placed, entries_of, is_empty, is_placed_at, is_thread, overflow_of, record_at}
+use Rattle.hfs_volume.specs.Forks.{data_kind, extents_id, extents_of, forks_in, in_use, is_full, is_of, parts_for, resource_kind}
+use Rattle.hfs_volume.specs.Records.{Overflow, Placed, is_empty, is_placed_at, is_thread, overflow_of, record_at}
 use Rattle.hfs_volume.proofs.Flat.{found_some, none_or_some, some_same}
 use Rattle.hfs_volume.proofs.Members.{at_front, behind, each_of}
 use Rattle.hfs_volume.proofs.Sides.{is_entry_of}
-use Rattle.overflow.specs.Changes.{are_light, changes_to}
+use Rattle.overflow.specs.Changes.{changes_to}
 use Rattle.overflow.specs.Reading.{HasExtents, overflow_in_store}
 use Rattle.overflow.specs.Records.{no_extent, record_of, records_for, records_from}
 use Rattle.overflow.specs.Room.{HasStoreRoom}
-use Rattle.overflow.specs.declared.changes.Change.{Change}
 use Rattle.overflow.proofs.Cutting.{AreUsed}
 use Rattle.overflow.proofs.Whole.{goes_on_in, pairs_eight, used_by, whole_is}
 use Rattle.volume_base.specs.Changing.{KeepsBlocks}

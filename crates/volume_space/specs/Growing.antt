@@ -201,6 +201,7 @@ abbrev pub HeadGrows : VolumeHeader → VolumeHeader → Type 0
 HeadGrows old new = new ≡ record old { free_blocks = new.free_blocks; extents_fork = new.extents_fork; catalog_fork = new.catalog_fork; attributes_fork = new.attributes_fork }
 
 -- ---- one tree
+
 -- a tree's file
 abbrev pub file_of : WhichTree → Volume → TreeFile
 file_of which.Extents volume = volume.extents.file

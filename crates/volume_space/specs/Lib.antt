@@ -7,6 +7,7 @@ pub mod Orphans
 pub mod Recording
 pub mod Resizing
 pub mod Spilling
+pub mod SpreadGrowth
 pub mod Spreading
 pub mod Standing
 pub mod Writing

@@ -1,12 +1,12 @@
 //! The trees of a volume in service, of which one grows ahead of a command or of a step of reclaiming.
-ghost use Rattle.std.specs.Prelude.{◌≡◌, ◌≤◌, ◌+◌, ℕ, IsTrue, IfOk, OnOk, length};
+ghost use Rattle.std.specs.Prelude.{◌≡◌, ◌<◌, ◌≤◌, ◌+◌, ℕ, IsTrue, IfOk, OnOk, length};
 ghost use Rattle.sector_disk.specs.Lists.{Content};
 ghost use Rattle.alloc_bitmap.specs.Map.{none};
 ghost use Rattle.flag_rows.specs.Bits.{sectors_for};
 ghost use Rattle.btree_edit.specs.Causes.{HasTroubleCause};
 ghost use Rattle.hfs_volume.specs.Aside.{IsJournalSector};
 ghost use Rattle.hfs_volume.specs.Content.{volume_of};
-ghost use Rattle.volume_space.specs.Growing.{GoesAhead, GrowthFits, IsLater, IsOwnOrFree, growth_room};
+ghost use Rattle.volume_space.specs.Growing.{GoesAhead, GrowthFits, IsLater, IsOwnOrFree, file_of, growth_room};
 ghost use Rattle.volume_base.specs.Service.{IsInService};
 ghost use Rattle.volume_space.specs.Standing.{HoldsOn};
 ghost use Rattle.volume_base.specs.Standing.{IsSettled, StandsOver};
@@ -14,6 +14,7 @@ ghost use Rattle.volume_base.specs.Touching.{Touches};
 ghost use Rattle.volume_space.specs.declared.ahead.Growth.TheVariants as growing;
 ghost use Rattle.volume_space.specs.declared.ahead.WhichTree.TheVariants as which;
 
+use crate::ahead_spread::{grow_attributes_of_eight, grow_catalog_of_eight};
 use crate::growable::{can_grow_attributes, can_grow_catalog, can_grow_extents};
 use crate::growing::grow_catalog;
 use crate::growing_attributes::grow_attributes;
@@ -97,12 +98,12 @@ fn grow_catalog_kept<P: SectorSpace>(
     ensures same { (volume.new.private ≡ volume.old.private) × (volume.new.shrunk ≡ volume.old.shrunk) × (volume.new.capacity ≡ volume.old.capacity) }
     ensures touches { (committed : Content) → Touches committed (IsOwnOrFree volume.old) (P.SectorView.space space.old) (P.SectorView.space space.new) }
     ensures gained { IsTrue (P.SectorView.space space.old).tells → OnOk result ((s : ℕ) → IsOwnOrFree volume.new s → IsOwnOrFree volume.old s) }
-    ensures spent { (P.SectorView.space space.old).spare ≤ (P.SectorView.space space.new).spare + growth_room which.Catalog more volume.old }
+    ensures spent { length volume.old.catalog.file.fork < 8 → (P.SectorView.space space.old).spare ≤ (P.SectorView.space space.new).spare + growth_room which.Catalog more volume.old }
     ensures below { P.SectorView.follows space.old space.new }
     ensures cause { HasTroubleCause (P.SectorView.space space.old).faults (P.SectorView.space space.new).faults result }
 {
     if volume.catalog.file.fork().len() >= 8 {
-        return Ok(Growth::ToCome);
+        return grow_catalog_of_eight(volume, alloc, space, more);
     }
     if !can_grow_catalog(volume, space, more) {
         return Ok(Growth::CommitFirst);
@@ -132,7 +133,7 @@ fn grow_attributes_kept<P: SectorSpace>(
     ensures same { (volume.new.private ≡ volume.old.private) × (volume.new.shrunk ≡ volume.old.shrunk) × (volume.new.capacity ≡ volume.old.capacity) }
     ensures touches { (committed : Content) → Touches committed (IsOwnOrFree volume.old) (P.SectorView.space space.old) (P.SectorView.space space.new) }
     ensures gained { IsTrue (P.SectorView.space space.old).tells → OnOk result ((s : ℕ) → IsOwnOrFree volume.new s → IsOwnOrFree volume.old s) }
-    ensures spent { (P.SectorView.space space.old).spare ≤ (P.SectorView.space space.new).spare + growth_room which.Attributes more volume.old }
+    ensures spent { length volume.old.attributes.file.fork < 8 → (P.SectorView.space space.old).spare ≤ (P.SectorView.space space.new).spare + growth_room which.Attributes more volume.old }
     ensures below { P.SectorView.follows space.old space.new }
     ensures cause { HasTroubleCause (P.SectorView.space space.old).faults (P.SectorView.space space.new).faults result }
 {
@@ -140,7 +141,7 @@ fn grow_attributes_kept<P: SectorSpace>(
         return Ok(Growth::CommitFirst);
     }
     if volume.attributes.file.fork().len() >= 8 {
-        return Ok(Growth::ToCome);
+        return grow_attributes_of_eight(volume, alloc, space, more);
     }
     if !can_grow_attributes(volume, space, more) {
         return Ok(Growth::CommitFirst);
@@ -180,8 +181,8 @@ pub fn grow_tree<P: SectorSpace>(
     ensures touches { (committed : Content) → Touches committed (IsOwnOrFree volume.old) (P.SectorView.space space.old) (P.SectorView.space space.new) }
     // What is its own now, or free, was so before.
     ensures gained { IsTrue (P.SectorView.space space.old).tells → OnOk result ((s : ℕ) → IsOwnOrFree volume.new s → IsOwnOrFree volume.old s) }
-    // It takes no more of the room for puts than such a growth puts at most.
-    ensures spent { (P.SectorView.space space.old).spare ≤ (P.SectorView.space space.new).spare + growth_room tree more volume.old }
+    // Of a file without overflow records it takes no more of the room for puts than such a growth puts at most.
+    ensures spent { length (file_of tree volume.old).fork < 8 → (P.SectorView.space space.old).spare ≤ (P.SectorView.space space.new).spare + growth_room tree more volume.old }
     ensures below { P.SectorView.follows space.old space.new }
     ensures cause { HasTroubleCause (P.SectorView.space space.old).faults (P.SectorView.space space.new).faults result }
 {

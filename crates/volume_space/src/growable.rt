@@ -25,7 +25,7 @@ fn count_map_nodes(nodes: u32, bits: u32, node_size: u32) -> u32
 }
 
 /// In how many sectors of a bitmap for so many blocks a run has bits, at most.
-fn count_map_sectors(total: u32, run: u64) -> u64
+pub(crate) fn count_map_sectors(total: u32, run: u64) -> u64
     ensures { result ≡ min (sectors_for total) (run / 4096 + 2) }
 {
     let all = (u64::from(total) + 4095) / 4096;
@@ -42,7 +42,7 @@ pub(crate) fn count_blocks(file: &TreeFile, more: u32) -> u64
 }
 
 /// Whether so many blocks in a row are free and not held.
-fn has_free_run(volume: &Volume, blocks: u64) -> bool
+pub(crate) fn has_free_run(volume: &Volume, blocks: u64) -> bool
     ensures some { IsTrue result → 0 < blocks }
     ensures enough { IsTrue result → blocks ≤ count_set (free_of volume.now.map) }
     ensures run { IsTrue result → HasFreeRun blocks (free_of volume.now.map) }

@@ -89,7 +89,7 @@ pub(crate) fn longer_fork(
 }
 
 /// A header whose catalog goes on in so many blocks more, with these extents (TN1150, "Volume Header").
-fn with_catalog(head: &VolumeHeader, extents: &[Extent], count: u32) -> VolumeHeader
+pub(crate) fn with_catalog(head: &VolumeHeader, extents: &[Extent], count: u32) -> VolumeHeader
     requires blocks { head.now.catalog_fork.total_blocks + count < 2 ^ 32 }
     requires bytes { head.now.catalog_fork.logical_size + count * head.now.block_size < 2 ^ 64 }
     requires free { count ≤ head.now.free_blocks }

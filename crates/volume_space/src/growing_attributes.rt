@@ -28,7 +28,7 @@ use volume_base::Volume;
 use volume_header::VolumeHeader;
 
 /// A header whose attributes file goes on in so many blocks more, with these extents (TN1150, "Volume Header").
-fn with_attributes(head: &VolumeHeader, extents: &[Extent], count: u32) -> VolumeHeader
+pub(crate) fn with_attributes(head: &VolumeHeader, extents: &[Extent], count: u32) -> VolumeHeader
     requires blocks { head.now.attributes_fork.total_blocks + count < 2 ^ 32 }
     requires bytes { head.now.attributes_fork.logical_size + count * head.now.block_size < 2 ^ 64 }
     requires free { count ≤ head.now.free_blocks }

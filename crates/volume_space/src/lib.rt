@@ -2,13 +2,17 @@
 #![tactic(auto)]
 
 mod ahead;
+mod ahead_spread;
 mod awaiting;
 mod cutting;
 mod cutting_ahead;
 mod growable;
+mod growable_spread;
 mod growing;
 mod growing_attributes;
 mod growing_extents;
+mod growing_spread;
+mod growing_spread_attributes;
 mod mapping;
 mod orphans;
 mod putting;

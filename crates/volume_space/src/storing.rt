@@ -64,14 +64,14 @@ pub(crate) fn is_user_id(id: u32) -> bool
 }
 
 /// How many nodes two changes of records put at most in a tree with these numbers.
-fn count_nodes(shape: TreeShape) -> u64
+pub(crate) fn count_nodes(shape: TreeShape) -> u64
     ensures { result ≡ min (2 * edit_writes shape.depth) shape.total }
 {
     (8 * (u64::from(shape.depth) + 1) + 8).min(u64::from(shape.total))
 }
 
 /// Whether so many nodes of so many sectors can be put.
-fn fit_nodes(node: u64, nodes: u64, spare: u64) -> bool
+pub(crate) fn fit_nodes(node: u64, nodes: u64, spare: u64) -> bool
     ensures { IsTrue result → nodes ≤ spare / node }
 {
     if node == 0 {
@@ -81,7 +81,7 @@ fn fit_nodes(node: u64, nodes: u64, spare: u64) -> bool
 }
 
 /// What so many edits of the extents overflow file need.
-fn needs_of_extents(edits: u32) -> Needs
+pub(crate) fn needs_of_extents(edits: u32) -> Needs
     ensures same { result ≡ needs_extents edits }
     ensures small { AreSmall result }
 {
@@ -135,7 +135,7 @@ fn have_blocks(extents: &[Extent]) -> bool
 }
 
 /// Whether a fork may have so many blocks as these.
-fn are_few(list: &ExtentList) -> bool
+pub(crate) fn are_few(list: &ExtentList) -> bool
     ensures { IsTrue result → length (blocks_of list.now) < 2 ^ 32 }
 {
     count_blocks(list.as_slice()) <= 0xFFFF_FFFF
@@ -156,7 +156,7 @@ fn is_in_record(list: &ExtentList) -> bool
 }
 
 /// Makes the overflow records of a fork those of other extents. The kind of a fork is 0 for data and 255 for resources.
-fn store_records<P: SectorSpace>(
+pub(crate) fn store_records<P: SectorSpace>(
     alloc: Global,
     tree: &mut TreeFile,
     desk: &mut Desk,

@@ -1,4 +1,4 @@
-use Rattle.std.proofs.Common.{[], inl, inr, ap, sym, ◌∙◌, true≢false}
+use Rattle.std.proofs.Common.{List, length, arith, [], inl, inr, ap, sym, ◌∙◌, true≢false}
 use Rattle.std.specs.Prelude.{Contains}
 use Rattle.hfs_volume.specs.Forks.{per_block_of}
 use Rattle.volume_space.specs.Growing.{IsOwnOrFree, blocks_filled}
@@ -7,6 +7,11 @@ use Rattle.volume_base.specs.declared.volume.Volume.{Volume}
 use Rattle.volume_space.proofs.GrownAhead.{gained_before}
 use Rattle.volume_space.proofs.Sounding.{sound_here}
 use Rattle.volume_space.proofs.WhenKept.{touches_those}
+use Rattle.hfs_volume.specs.Content.{volume_of}
+use Rattle.hx_bytes.specs.declared.extents.Extent.{Extent}
+use Rattle.volume_space.specs.Growing.{IsLater}
+use Rattle.volume_space.specs.declared.ahead.WhichTree.TheVariants as which
+use Rattle.volume_space.proofs.SpreadCalls.{never_later}
 use Rattle.volume_space.proofs.ahead.grow_attributes_kept.Goals as goal
 
 pub returns-clause-ahead : goal.returns-clause-ahead
@@ -36,3 +41,13 @@ returns-in_err-grow_attributes-clause-touches g c committed =
 
 pub returns-then-not-can_grow_attributes-clause-sure : goal.returns-then-not-can_grow_attributes-clause-sure
 returns-then-not-can_grow_attributes-clause-sure g c tells fits = absurd (true≢false (sym (c.if-not-can_grow_attributes.ensures.fits tells fits)))
+
+pub returns-then-len-ge8-clause-later : goal.returns-then-len-ge8-clause-later
+returns-then-len-ge8-clause-later g c tells = never_later (IsLater which.Attributes (volume_of (g.P.SectorView.space c.args.space.now).content)) c.grow_attributes_of_eight.result c.grow_attributes_of_eight.ensures.never
+
+-- a fork of eight extents fits no record without others
+pub returns-then-len-ge8-clause-sure : goal.returns-then-len-ge8-clause-sure
+returns-then-len-ge8-clause-sure g c tells fits = absurd (omega (arith, fits.1.counts.extents, c.if-len-ge8.true, c.len.ensures, ap (λ (l : List Extent). length l) c.fork.ensures))
+
+pub returns-then-len-ge8-clause-spent : goal.returns-then-len-ge8-clause-spent
+returns-then-len-ge8-clause-spent g c few = absurd (omega (arith, few, c.if-len-ge8.true, c.len.ensures, ap (λ (l : List Extent). length l) c.fork.ensures))

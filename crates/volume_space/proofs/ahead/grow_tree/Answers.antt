@@ -1,7 +1,8 @@
-use Rattle.std.proofs.Common.{◌≡◌, ◌≤◌, ◌+◌, sym, ◌∙◌, subst}
+use Rattle.volume_base.specs.declared.volume.Tree.{Tree}
+use Rattle.std.proofs.Common.{◌≡◌, ◌<◌, ◌≤◌, length, ◌+◌, sym, ◌∙◌, subst}
 use Rattle.std.specs.Prelude.{IfOk}
 use Rattle.hfs_volume.specs.Content.{volume_of}
-use Rattle.volume_space.specs.Growing.{GoesAhead, GrowthFits, IsLater, IsOwnOrFree, growth_room}
+use Rattle.volume_space.specs.Growing.{GoesAhead, GrowthFits, IsLater, IsOwnOrFree, file_of, growth_room}
 use Rattle.volume_space.specs.declared.ahead.Growth.{Growth}
 use Rattle.volume_space.specs.declared.ahead.Growth.TheVariants as growing
 use Rattle.volume_space.specs.declared.ahead.WhichTree.{WhichTree}
@@ -41,7 +42,7 @@ pub returns-in-Extents-clause-gained : goal.returns-in-Extents-clause-gained
 returns-in-Extents-clause-gained g c tells = on_ok (λ each s is. free_kept c.args.volume.now c.keep.new.self c.keep.ensures s (each s is)) c.grow_extents_kept.result (c.grow_extents_kept.ensures.gained tells)
 
 pub returns-in-Extents-clause-spent : goal.returns-in-Extents-clause-spent
-returns-in-Extents-clause-spent g c =
+returns-in-Extents-clause-spent g c few =
     subst (λ (t : WhichTree). (g.P.SectorView.space c.args.space.now).spare ≤ (g.P.SectorView.space c.grow_extents_kept.new.space).spare + growth_room t c.args.more c.args.volume.now) (sym c.in-Extents.is)
     (subst (λ n. (g.P.SectorView.space c.args.space.now).spare ≤ (g.P.SectorView.space c.grow_extents_kept.new.space).spare + n) (load_kept c.args.volume.now c.keep.new.self c.keep.ensures which.Extents c.args.more) c.grow_extents_kept.ensures.spent)
 
@@ -77,9 +78,9 @@ pub returns-in-Catalog-clause-gained : goal.returns-in-Catalog-clause-gained
 returns-in-Catalog-clause-gained g c tells = on_ok (λ each s is. free_kept c.args.volume.now c.keep.new.self c.keep.ensures s (each s is)) c.grow_catalog_kept.result (c.grow_catalog_kept.ensures.gained tells)
 
 pub returns-in-Catalog-clause-spent : goal.returns-in-Catalog-clause-spent
-returns-in-Catalog-clause-spent g c =
+returns-in-Catalog-clause-spent g c few =
     subst (λ (t : WhichTree). (g.P.SectorView.space c.args.space.now).spare ≤ (g.P.SectorView.space c.grow_catalog_kept.new.space).spare + growth_room t c.args.more c.args.volume.now) (sym c.in-Catalog.is)
-    (subst (λ n. (g.P.SectorView.space c.args.space.now).spare ≤ (g.P.SectorView.space c.grow_catalog_kept.new.space).spare + n) (load_kept c.args.volume.now c.keep.new.self c.keep.ensures which.Catalog c.args.more) c.grow_catalog_kept.ensures.spent)
+    (subst (λ n. (g.P.SectorView.space c.args.space.now).spare ≤ (g.P.SectorView.space c.grow_catalog_kept.new.space).spare + n) (load_kept c.args.volume.now c.keep.new.self c.keep.ensures which.Catalog c.args.more) (c.grow_catalog_kept.ensures.spent (subst (λ (u : Tree). length u.file.fork < 8) (sym c.keep.ensures.same.catalog) (subst (λ (t : WhichTree). length (file_of t c.args.volume.now).fork < 8) c.in-Catalog.is few))))
 
 pub grow_attributes_kept-requires-clause-stands : goal.grow_attributes_kept-requires-clause-stands
 grow_attributes_kept-requires-clause-stands g c = stands_kept c.args.volume.now c.keep.new.self c.keep.ensures (g.P.SectorView.space c.args.space.now) c.requires.stands
@@ -113,6 +114,6 @@ pub returns-in-Attributes-clause-gained : goal.returns-in-Attributes-clause-gain
 returns-in-Attributes-clause-gained g c tells = on_ok (λ each s is. free_kept c.args.volume.now c.keep.new.self c.keep.ensures s (each s is)) c.grow_attributes_kept.result (c.grow_attributes_kept.ensures.gained tells)
 
 pub returns-in-Attributes-clause-spent : goal.returns-in-Attributes-clause-spent
-returns-in-Attributes-clause-spent g c =
+returns-in-Attributes-clause-spent g c few =
     subst (λ (t : WhichTree). (g.P.SectorView.space c.args.space.now).spare ≤ (g.P.SectorView.space c.grow_attributes_kept.new.space).spare + growth_room t c.args.more c.args.volume.now) (sym c.in-Attributes.is)
-    (subst (λ n. (g.P.SectorView.space c.args.space.now).spare ≤ (g.P.SectorView.space c.grow_attributes_kept.new.space).spare + n) (load_kept c.args.volume.now c.keep.new.self c.keep.ensures which.Attributes c.args.more) c.grow_attributes_kept.ensures.spent)
+    (subst (λ n. (g.P.SectorView.space c.args.space.now).spare ≤ (g.P.SectorView.space c.grow_attributes_kept.new.space).spare + n) (load_kept c.args.volume.now c.keep.new.self c.keep.ensures which.Attributes c.args.more) (c.grow_attributes_kept.ensures.spent (subst (λ (u : Tree). length u.file.fork < 8) (sym c.keep.ensures.same.attributes) (subst (λ (t : WhichTree). length (file_of t c.args.volume.now).fork < 8) c.in-Attributes.is few))))

@@ -1,0 +1,78 @@
+-- What lengthening a catalog of eight extents or more makes of a volume, told or not.
+use Rattle.std.proofs.Common.{◌≡◌, ◌<◌, ◌≤◌, ℕ, ◌+◌, ◌/◌, min, length, refl, sym, ◌∙◌, subst, arith}
+use Rattle.std.specs.Prelude.{Contains, IsTrue}
+use Rattle.hx_bytes.specs.declared.extents.Extent.{Extent}
+use Rattle.volume_header.specs.Header.{FitsHeader}
+use Rattle.volume_header.specs.declared.header.VolumeHeader.{VolumeHeader}
+use Rattle.flag_rows.specs.Bits.{sectors_for}
+use Rattle.alloc_bitmap.specs.Map.{BlockMap}
+use Rattle.btree_file.specs.Frame.{PutsWithin}
+use Rattle.btree_file.specs.Growth.{HasGrown, SaysSame, TakesRoomToGrow, sectors_with}
+use Rattle.btree_file.specs.Standing.{LiesInside}
+use Rattle.btree_file.specs.declared.tree.TreeFile.{TreeFile}
+use Rattle.sector_disk.specs.Lists.{Content}
+use Rattle.sector_disk.specs.Space.{Space}
+use Rattle.hfs_volume.specs.Forks.{catalog_id, data_kind}
+use Rattle.overflow.specs.Reading.{HasExtents}
+use Rattle.volume_base.specs.Lists.{lists_of}
+use Rattle.hfs_volume.specs.Content.{overflow_in_volume}
+use Rattle.hfs_volume.specs.Aside.{IsJournalSector}
+use Rattle.volume_space.specs.SpreadGrowth.{CanGrowSpread, StandsButOver}
+use Rattle.volume_space.specs.Growing.{IsOwnOrFree, Lengthens, TakesRun, blocks_filled, lengthened, nodes_load, run_load}
+use Rattle.volume_space.specs.Mapping.{changed_sectors}
+use Rattle.volume_base.specs.Service.{IsInService}
+use Rattle.volume_base.specs.Standing.{IsSettled, StandsOver, own_sectors, map_sectors}
+use Rattle.volume_base.specs.Touching.{Touches}
+use Rattle.volume_base.specs.declared.volume.Volume.{Volume}
+use Rattle.volume_space.proofs.GrownBits.{map_few, marked_long}
+use Rattle.volume_space.proofs.GrownCalls.{own_same, service_after, touches_told}
+use Rattle.volume_space.proofs.SpreadNumbers.{load_is, run_some}
+use Rattle.volume_space.proofs.SpreadCatalog.{has_before, stands_but}
+use Rattle.volume_space.proofs.GrownRun.{same_fork, same_length, same_per}
+use Rattle.volume_space.proofs.GrownStands.{own_gained, own_still, put_own}
+
+module _ (more : ℕ) (v : Volume) (a b : Space) (over : StandsOver v a) (settled : IsTrue a.tells → IsSettled v a.content) (can : CanGrowSpread more v.catalog.file v.header.catalog_fork v a) (shut : IsTrue a.tells → (at : ℕ) → a.closed at → IsJournalSector a.content at)
+    (run : Extent) (later : BlockMap) (takes : TakesRun (blocks_filled v.catalog.file more) run v.map later)
+  where
+    some : 0 < run.count
+    some = run_some more v a can run takes.many
+
+    -- whatever became of the file, as long as its nodes have their size
+    pub service_then : (file : TreeFile) (head : VolumeHeader) → FitsHeader head → head.block_size ≡ v.header.block_size → file.shape.node_size ≡ v.catalog.file.shape.node_size → LiesInside file b → b.sectors ≡ a.sectors
+        → IsInService (record v { header = head; map = later; catalog = record v.catalog { file = file } }) b
+    service_then file head fits block size inside sectors =
+        service_after v a b head later file over.service sectors fits block (same_fork (blocks_filled v.catalog.file more) run v.map later takes) (same_per (blocks_filled v.catalog.file more) run v.map later takes) (same_length (blocks_filled v.catalog.file more) run v.map later takes) (marked_long (blocks_filled v.catalog.file more) run v.map later takes can.unchanged) size inside
+
+    pub own_failed : (file : TreeFile) → SaysSame v.catalog.file file → own_sectors (record v { map = later; catalog = record v.catalog { file = file } }) ≡ own_sectors v
+    own_failed file same = own_same v later file same.fork same.per_block (same_fork (blocks_filled v.catalog.file more) run v.map later takes) (same_per (blocks_filled v.catalog.file more) run v.map later takes)
+
+    pub nodes_spent : TakesRoomToGrow v.catalog.file run a b → a.spare ≤ b.spare + nodes_load v.catalog.file more
+    nodes_spent room = omega (arith, room.written, load_is more v a can run takes.many)
+
+    module _ (file : TreeFile) (grown : IsTrue a.tells → HasGrown run v.catalog.file file a.content b.content) (within : PutsWithin (sectors_with v.catalog.file run) a b) where
+      abbrev w : Volume
+      w = lengthened run.count v later file
+
+      pub but_then : StandsButOver catalog_id (lengthened run.count v later file) b
+      but_then told =
+          let tells : IsTrue a.tells = sym within.same.tells ∙ told in
+          stands_but v a b (over.stands tells) (settled tells) (blocks_filled v.catalog.file more) run later takes some file (grown tells) within tells (shut tells)
+
+      pub has_then : IsTrue a.tells → HasExtents (overflow_in_volume (lists_of (lengthened run.count v later file) b.content)) catalog_id data_kind v.catalog.file.fork
+      has_then tells = has_before v a b (over.stands tells) (settled tells) (blocks_filled v.catalog.file more) run later takes some file (grown tells) within tells over.service.fits.catalog_fork.extents.eight
+
+      pub lengthens_then : IsTrue a.tells → Lengthens more v (lengthened run.count v later file) a b
+      lengthens_then tells = record { run = run; takes = takes; grown = grown tells; rest = refl; within = within }
+
+      pub own_then : IsTrue a.tells → (s : ℕ) → Contains (own_sectors v) s → Contains (own_sectors (lengthened run.count v later file)) s
+      own_then tells s has = own_still v a b (over.stands tells) (settled tells) (blocks_filled v.catalog.file more) run later takes some file (grown tells) within tells s has
+
+      pub gained_then : IsTrue a.tells → (s : ℕ) → Contains (own_sectors (lengthened run.count v later file)) s → IsOwnOrFree v s
+      gained_then tells s has = own_gained v a b (over.stands tells) (settled tells) (blocks_filled v.catalog.file more) run later takes some file (grown tells) within tells s has
+
+      pub touches_then : (committed : Content) → Touches committed (λ s. Contains (own_sectors (lengthened run.count v later file)) s) a b
+      touches_then committed = touches_told committed (sectors_with v.catalog.file run) (λ s. Contains (own_sectors (lengthened run.count v later file)) s) a b
+          (λ tells s has. put_own v a b (over.stands tells) (settled tells) (blocks_filled v.catalog.file more) run later takes some file (grown tells) within tells s has) within
+
+      pub map_then : length (changed_sectors (lengthened run.count v later file)) ≤ run_load v (blocks_filled v.catalog.file more)
+      map_then = subst (λ n. length (changed_sectors (lengthened run.count v later file)) ≤ min (sectors_for (length v.map.used)) (n / 4096 + 2)) takes.many (map_few (blocks_filled v.catalog.file more) run v.map later takes can.unchanged (map_sectors (lengthened run.count v later file)))
