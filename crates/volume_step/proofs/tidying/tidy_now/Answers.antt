@@ -7,6 +7,8 @@ use Rattle.volume_base.specs.Standing.{IsSettled, StandsOver}
 use Rattle.volume_base.proofs.FoundEntry.{ok_both}
 use Rattle.volume_space.proofs.Sounding.{sound_here}
 use Rattle.volume_step.proofs.Reclaimed.{places_as, reclaims_as}
+use Rattle.volume_base.proofs.Seeing.{if_so}
+use Rattle.volume_step.proofs.GrownFor.{short_tidied}
 use Rattle.volume_step.proofs.tidying.tidy_now.Goals as goal
 
 pub returns-clause-reclaims : goal.returns-clause-reclaims
@@ -29,3 +31,7 @@ returns-clause-place g c tells =
 
 pub returns-clause-holds : goal.returns-clause-holds
 returns-clause-holds g c committed was = c.tidy.ensures.used.holds committed was
+
+pub returns-clause-short : goal.returns-clause-short
+returns-clause-short g c tells =
+    if_so _ _ c.tidy.result (λ came was wants. short_tidied c.args.volume.now (g.P.SectorView.space c.args.space.now) (g.P.SectorView.space c.tidy.new.space).content came was wants) (c.tidy.ensures.tidied tells)
