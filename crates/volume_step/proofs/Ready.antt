@@ -6,7 +6,14 @@ use Rattle.hx_bytes.specs.declared.faults.Trouble.{Trouble}
 use Rattle.jnl_format.specs.Recovery.{Content}
 use Rattle.sector_disk.specs.Space.{Space}
 use Rattle.alloc_bitmap.specs.declared.bitmap.Bitmap.{Bitmap}
+use Rattle.flag_rows.specs.Bits.{sectors_for}
+use Rattle.flag_rows.specs.Runs.{longest_of, runs_of}
+use Rattle.alloc_bitmap.specs.Map.{free_of}
+use Rattle.btree_file.specs.Growth.{map_nodes_for}
+use Rattle.btree_file.specs.Map.{bits_of}
+use Rattle.btree_file.specs.declared.tree.TreeFile.{TreeFile}
 use Rattle.hx_bytes.specs.declared.extents.Extent.{Extent}
+use Rattle.hx_bytes.specs.declared.extents.ForkRecord.{ForkRecord}
 use Rattle.volume_header.specs.declared.header.VolumeHeader.{VolumeHeader}
 use Rattle.hfs_language.specs.declared.command.Command.{Command}
 use Rattle.hfs_language.specs.declared.command.Command.TheVariants as command
@@ -30,12 +37,13 @@ use Rattle.hfs_volume.specs.declared.cost.Room.{Room}
 use Rattle.volume_base.specs.Fitting.{is_met, needs_of, takable_in, takable_of}
 use Rattle.volume_base.specs.Looking.{ReadsVolume}
 use Rattle.volume_base.specs.Room.{capacity_of}
+use Rattle.volume_base.specs.Service.{KeepsFile}
 use Rattle.volume_base.specs.Standing.{IsSettled}
 use Rattle.volume_base.specs.Weighing.{joined, refused_or, weighed}
 use Rattle.volume_base.specs.declared.volume.Volume.{Volume}
 use Rattle.volume_base.specs.declared.weighing.Weight.{Weight}
 use Rattle.volume_base.specs.declared.weighing.Weight.TheVariants as answer
-use Rattle.volume_space.specs.Growing.{IsShort, IsThere, WantsFirst, alone}
+use Rattle.volume_space.specs.Growing.{FileFits, GrowthFits, IsShort, IsThere, WantsFirst, alone, blocks_filled, fork_of, growth_load}
 use Rattle.volume_space.specs.declared.ahead.Growth.{Growth}
 use Rattle.volume_space.specs.declared.ahead.Growth.TheVariants as growing
 use Rattle.volume_space.specs.declared.ahead.WhichTree.{WhichTree}
@@ -218,6 +226,37 @@ now_still asked v w a b reads tells now = (
   },
   refl,
 )
+
+-- a growth that fits one file fits it still
+module _ (more : ℕ) (tells : Bool) (v w : Volume) (a b : Space) (map : w.map ≡ v.map) (header : w.header ≡ v.header) (spare : b.spare ≡ a.spare) (old new : TreeFile) (fork : VolumeHeader → ForkRecord) (keeps : KeepsFile tells old new) where
+  filled : blocks_filled new more ≡ blocks_filled old more
+  filled = λ i. more * ((keeps.shape i).node_size / 512) / keeps.file.per_block i
+
+  load_same : growth_load w new more ≡ growth_load v old more
+  load_same = λ i. (2 + map_nodes_for (keeps.shape i).node_size (bits_of (keeps.file.map i)) ((keeps.shape i).total + more)) * ((keeps.shape i).node_size / 512) + (min (sectors_for (length (map i).used)) (filled i / 4096 + 2) + 1)
+
+  file_still : FileFits more old (fork v.header) v a → FileFits more new (fork w.header) w b
+  file_still was = record {
+    some = omega (arith, was.some, filled);
+    run = subst (λ (k : ℕ × Bitmap). k.0 ≤ longest_of (runs_of (free_of k.1))) {x = (blocks_filled old more, v.map)} {y = (blocks_filled new more, w.map)} (λ i. (sym filled i, sym map i)) was.run;
+    counts = record {
+      least = omega (arith, was.counts.least, keeps.file.node_size);
+      most = omega (arith, was.counts.most, keeps.file.node_size);
+      whole = subst (λ (k : ℕ × ℕ × ℕ). k.0 * k.1 ≡ more * (k.2 / 512)) {x = (blocks_filled old more, old.per_block, old.shape.node_size)} {y = (blocks_filled new more, new.per_block, new.shape.node_size)} (λ i. (sym filled i, sym keeps.file.per_block i, sym keeps.file.node_size i)) was.counts.whole;
+      extents = subst (λ l. length l < 8) (sym keeps.file.fork) was.counts.extents;
+      nodes = omega (arith, was.counts.nodes, keeps.file.total);
+      blocks = subst (λ (k : ℕ × VolumeHeader). (fork k.1).total_blocks + k.0 < 2 ^ 32) {x = (blocks_filled old more, v.header)} {y = (blocks_filled new more, w.header)} (λ i. (sym filled i, sym header i)) was.counts.blocks;
+      bytes = subst (λ (k : ℕ × VolumeHeader). (fork k.1).logical_size + k.0 * k.1.block_size < 2 ^ 64) {x = (blocks_filled old more, v.header)} {y = (blocks_filled new more, w.header)} (λ i. (sym filled i, sym header i)) was.counts.bytes;
+      counted = subst (λ (k : ℕ × VolumeHeader). k.0 ≤ k.1.free_blocks) {x = (blocks_filled old more, v.header)} {y = (blocks_filled new more, w.header)} (λ i. (sym filled i, sym header i)) was.counts.counted;
+    };
+    room = omega (arith, was.room, load_same, spare);
+  }
+
+pub growth_still : (v w : Volume) (a b : Space) → ReadsVolume v w a b → (tree : WhichTree) (more : ℕ) → GrowthFits tree more v a → GrowthFits tree more w b
+growth_still v w a b reads which.Extents more (there, fits) = (there, file_still more a.tells v w a b reads.keeps.map reads.keeps.header reads.looks.spare v.extents.file w.extents.file (fork_of which.Extents) reads.keeps.extents.file fits)
+growth_still v w a b reads which.Catalog more (there, fits) = (there, file_still more a.tells v w a b reads.keeps.map reads.keeps.header reads.looks.spare v.catalog.file w.catalog.file (fork_of which.Catalog) reads.keeps.catalog.file fits)
+growth_still v w a b reads which.Attributes more (there, fits) =
+    (subst (λ (h : VolumeHeader). IsTrue (has_attributes h)) (sym reads.keeps.header) there, file_still more a.tells v w a b reads.keeps.map reads.keeps.header reads.looks.spare v.attributes.file w.attributes.file (fork_of which.Attributes) reads.keeps.attributes.file fits)
 
 -- there is such a tree still, and its fork has fewer than eight extents still
 there_still : (v w : Volume) → w.header ≡ v.header → (tree : WhichTree) → IsThere tree v.header → IsThere tree w.header
