@@ -16,7 +16,7 @@ use Rattle.hfs_volume.specs.TreeOf.{tree_of}
 use Rattle.volume_runs.specs.Told.{changes_by, changes_in, changes_of}
 use Rattle.hfs_language.specs.declared.reply.Change.{Change}
 use Rattle.hfs_volume.specs.Reclaim.{Tidies}
-use Rattle.volume_runs.specs.Run.{DoesLine, Entry, IsAnswered, IsRunFrom, IsServed, IsToCome, LacksMemory, LacksResource, asked_by, content_after, is_ok, lines_of, or_before, replies_of, reply_to, shrunk_after, shrunk_by, shrunk_in}
+use Rattle.volume_runs.specs.Run.{DoesLine, Entry, IsAnswered, IsRunFrom, IsServed, LacksMemory, LacksResource, asked_by, content_after, is_ok, lines_of, or_before, replies_of, reply_to, shrunk_after, shrunk_by, shrunk_in}
 use Rattle.hfs_serving.specs.Outside.{Outside}
 use Rattle.hfs_serving.specs.Runs.{Crashes, IsPrefix, Leads, Serves, StandsIn, Survives, SurvivesFrom}
 use Rattle.line_source.specs.Batch.{held}
@@ -46,16 +46,15 @@ module _ (entry : Entry) (text : List ℕ) (is : entry.line ≡ take (most_bytes
   unfolding with_text
   served_text capacity served = record { sound_before = served.sound_before; sound_after = served.sound_after; is = go served.is }
     where
-      go : IsAnswered capacity entry ⊎ (LacksResource capacity entry ⊎ (LacksMemory capacity entry ⊎ IsToCome capacity entry))
-          → IsAnswered capacity (record entry { line = text }) ⊎ (LacksResource capacity (record entry { line = text }) ⊎ (LacksMemory capacity (record entry { line = text }) ⊎ IsToCome capacity (record entry { line = text })))
+      go : IsAnswered capacity entry ⊎ (LacksResource capacity entry ⊎ LacksMemory capacity entry)
+          → IsAnswered capacity (record entry { line = text }) ⊎ (LacksResource capacity (record entry { line = text }) ⊎ LacksMemory capacity (record entry { line = text }))
       go (inl a) = inl (record {
         reply_is = subst (λ (asked : Result Command Refusal). entry.reply ≡ reply_to capacity entry.before asked) same_command a.reply_is;
         tree = subst (λ (asked : Result Command Refusal). tree_of entry.after ≡ (step_line (tree_of entry.before) asked).1) same_command a.tree;
         does = subst (λ (asked : Result Command Refusal). DoesLine capacity asked entry.before entry.after) same_command a.does;
       })
       go (inr (inl l)) = inr (inl (record { asked = l.asked; is_asked = sym same_command ∙ l.is_asked; no_refusal = l.no_refusal; why = l.why; weighs = l.weighs; reply_is = l.reply_is; same = l.same }))
-      go (inr (inr (inl m))) = inr (inr (inl (record { reply_is = m.reply_is; tree = m.tree; same_gauge = m.same_gauge })))
-      go (inr (inr (inr t))) = inr (inr (inr (record { asked = t.asked; is_asked = sym same_command ∙ t.is_asked; no_refusal = t.no_refusal; waits = t.waits; reply_is = t.reply_is; same = t.same })))
+      go (inr (inr m)) = inr (inr (record { reply_is = m.reply_is; tree = m.tree; same_gauge = m.same_gauge }))
 
   pub shrunk_text : (shrunk : Option ℕ) → shrunk_after shrunk (with_text entry text) ≡ shrunk_after shrunk entry
   unfolding with_text

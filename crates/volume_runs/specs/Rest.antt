@@ -1,24 +1,14 @@
 -- Housekeeping that comes to rest.
-use Rattle.std.specs.Prelude.{◌≡◌, ◌⊎◌, ◌<◌, ◌≤◌, ℕ, ◌+◌, ◌*◌, min, nat_lt, Bool, false, List, slice_index, Option, Some, None, IsTrue}
+use Rattle.std.specs.Prelude.{◌≡◌, ◌⊎◌, ℕ, ◌+◌, ◌*◌, min, nat_lt, Bool, false, Option, Some, None, IsTrue}
 use Rattle.jnl_format.specs.Recovery.{Content}
 use Rattle.hfs_language.specs.declared.refusal.Refusal.{Refusal}
 use Rattle.hfs_volume.specs.declared.cost.Cost.TheVariants as cost
 use Rattle.hfs_volume.specs.Content.{VolumeState, volume_of}
 use Rattle.hfs_volume.specs.Cost.{node_sectors, tree_at}
-use Rattle.hfs_volume.specs.Forks.{attributes_id, catalog_id, parts_for}
+use Rattle.hfs_volume.specs.Forks.{parts_for}
 use Rattle.hfs_volume.specs.declared.cost.Room.{Room}
-use Rattle.hfs_volume.specs.Reclaim.{CutOrphan, CutShrunk, DropAttribute, DropOrphan, Reclaim, Tidies, first_growth, next_reclaim, reclaim_cost}
-use Rattle.hfs_volume.specs.Weight.{extents_in_use, free_blocks, room_with}
-
--- A tree has to grow for a step of reclaiming as isn't built yet: of those that are to grow the first is the catalog or the attributes file, and its fork has
--- eight extents or more.
-pub record WantsGrowth (capacity : ℕ) (volume : VolumeState) (step : Reclaim) : Type 0 where
-  pub load : ℕ
-  pub grow : List ℕ
-  pub costs : reclaim_cost capacity volume step ≡ cost.Load load grow
-  pub later :
-      ((0 < slice_index (first_growth grow) 1) × (8 ≤ extents_in_use volume catalog_id volume.head.catalog_fork))
-      ⊎ ((0 < slice_index (first_growth grow) 2) × (8 ≤ extents_in_use volume attributes_id volume.head.attributes_fork))
+use Rattle.hfs_volume.specs.Reclaim.{CutOrphan, CutShrunk, DropAttribute, DropOrphan, Reclaim, Tidies, next_reclaim, reclaim_cost}
+use Rattle.hfs_volume.specs.Weight.{free_blocks, room_with}
 
 -- the sectors that a cut puts at most: the volume header's, a node of the catalog, those of the bitmap, and the nodes of two changes of the extents overflow file
 abbrev pub cut_puts : Room → ℕ
@@ -33,9 +23,9 @@ is_tight capacity volume (CutOrphan id kind) = nat_lt capacity (cut_puts (room_w
 is_tight capacity volume (DropAttribute id name) = false
 is_tight capacity volume (DropOrphan id) = false
 
--- why a step of reclaiming isn't made: a resource is missing for it; a tree has to grow for it as isn't built; or it is a cut for which a transaction may be too small
+-- why a step of reclaiming isn't made: a resource is missing for it, or it is a cut for which a transaction may be too small
 abbrev pub IsHeldUp : ℕ → VolumeState → Reclaim → Type 0
-IsHeldUp capacity volume step = ((why : Refusal) × (reclaim_cost capacity volume step ≡ cost.Refused why)) ⊎ (WantsGrowth capacity volume step ⊎ IsTrue (is_tight capacity volume step))
+IsHeldUp capacity volume step = ((why : Refusal) × (reclaim_cost capacity volume step ≡ cost.Refused why)) ⊎ IsTrue (is_tight capacity volume step)
 
 -- nothing is left to reclaim, or the next step is held up
 abbrev pub IsAtRest : ℕ → Option ℕ → VolumeState → Type 0

@@ -14,12 +14,11 @@ use Rattle.hfs_model.specs.declared.plain.PlainNode.{PlainNode}
 use Rattle.hfs_model.specs.declared.plain.PlainTree.{PlainTree}
 use Rattle.hfs_model.specs.Step.{step_line, refuses, to_file, only_reads}
 use Rattle.hfs_volume.specs.Content.{VolumeState, volume_of}
-use Rattle.hfs_volume.specs.Forks.{attributes_id, catalog_id}
 use Rattle.hfs_volume.specs.Sound.{IsSound}
 use Rattle.hfs_volume.specs.TreeOf.{tree_of}
-use Rattle.hfs_volume.specs.Weight.{data_of, weight, gauge, edits_of, extents_in_use, needs_cut}
+use Rattle.hfs_volume.specs.Weight.{data_of, weight, gauge, edits_of, needs_cut}
 use Rattle.hfs_volume.specs.Data.{PutsInFork}
-use Rattle.hfs_volume.specs.Reclaim.{GrowsTrees, first_growth}
+use Rattle.hfs_volume.specs.Reclaim.{GrowsTrees}
 use Rattle.volume_runs.specs.Rest.{Rests}
 
 -- ---- entries
@@ -77,44 +76,17 @@ pub record LacksMemory (capacity : ℕ) (entry : Entry) : Type 0 where
   pub tree : tree_of entry.after ≡ tree_of entry.before
   pub same_gauge : gauge capacity (volume_of entry.after) ≡ gauge capacity (volume_of entry.before)
 
--- ---- what is still to come
+-- ---- entries of a run
 
 -- how many attributes a command removes or sets
 abbrev pub attribute_edits : PlainTree → Command → ℕ
 attribute_edits tree asked = (edits_of tree asked).attributes
 
--- of the trees that are to grow the first is the catalog or the attributes file, and its fork has eight extents or more
-abbrev pub IsLater : List ℕ → VolumeState → Type 0
-IsLater grow volume =
-    ((0 < slice_index (first_growth grow) 1) × (8 ≤ extents_in_use volume catalog_id volume.head.catalog_fork))
-    ⊎ ((0 < slice_index (first_growth grow) 2) × (8 ≤ extents_in_use volume attributes_id volume.head.attributes_fork))
-
--- A tree has to grow ahead of a command as isn't built yet.
-pub record GrowsMore (capacity : ℕ) (asked : Command) (content : Content) : Type 0 where
-  pub load : ℕ
-  pub grow : List ℕ
-  pub weighs : weight capacity (volume_of content) (tree_of content) asked ≡ cost.Load load grow
-  pub later : IsLater grow (volume_of content)
-
--- The step doesn't refuse the command, but it asks for more than is built: a tree has to grow ahead of it as isn't built yet.
-pub record AsksMore (capacity : ℕ) (asked : Command) (content : Content) : Type 0 where
-  pub no_refusal : refuses (tree_of content) (Ok asked) ≡ false
-  pub grows : GrowsMore capacity asked content
-
--- The step doesn't refuse the command, but it asks for more than is built, and nothing was changed.
-pub record IsToCome (capacity : ℕ) (entry : Entry) : Type 0 where
-  pub asked : Command
-  pub is_asked : asked_by entry ≡ Ok asked
-  pub no_refusal : refuses (tree_of entry.before) (Ok asked) ≡ false
-  pub waits : AsksMore capacity asked entry.before
-  pub reply_is : entry.reply ≡ reply.No refusal.NotBuilt
-  pub same : entry.after ≡ entry.before
-
 -- what an entry of a run may be
 pub record IsServed (capacity : ℕ) (entry : Entry) : Type 0 where
   pub sound_before : IsSound entry.before
   pub sound_after : IsSound entry.after
-  pub is : IsAnswered capacity entry ⊎ (LacksResource capacity entry ⊎ (LacksMemory capacity entry ⊎ IsToCome capacity entry))
+  pub is : IsAnswered capacity entry ⊎ (LacksResource capacity entry ⊎ LacksMemory capacity entry)
 
 -- ---- runs
 
