@@ -142,7 +142,7 @@ data_path asked = []
 
 -- what a cut comes to for its command
 abbrev pub outcome_of : CutAhead → Outcome
-outcome_of ahead.NotNeeded = outcome.Answered (reply.No refusal.NotBuilt) []
+outcome_of ahead.NotNeeded = outcome.CommitFirst
 outcome_of ahead.Made = outcome.Again
 outcome_of ahead.CommitFirst = outcome.CommitFirst
 outcome_of (ahead.Refused why) = outcome.Answered (reply.No why) []

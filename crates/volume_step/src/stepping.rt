@@ -169,8 +169,9 @@ fn change<P: SectorSpace>(
 }
 
 /// Weighs a command, whose line has this number, and does it: what it came to is that of the plain tree's step, or a refusal for
-/// want of a resource, or that it is still to come; or a commit is wanted before it, and nothing was changed. So it is where its
-/// load is more than may be put. `Memory` comes where memory is wanting, `Disk` where a read failed.
+/// want of a resource; or it is to be tried again, since a cut or the growth of a tree went ahead of it; or a commit is wanted before it, and
+/// nothing was changed. So it is where its load is more than may be put, or the growth doesn't fit. `Memory` comes where memory is wanting,
+/// `Disk` where a read failed.
 pub fn step<P: SectorSpace>(
     alloc: Global,
     volume: &mut Volume,
