@@ -6,7 +6,7 @@ ghost use Rattle.flag_rows.specs.Bits.{sectors_for};
 ghost use Rattle.btree_edit.specs.Causes.{HasTroubleCause};
 ghost use Rattle.hfs_volume.specs.Aside.{IsJournalSector};
 ghost use Rattle.hfs_volume.specs.Content.{volume_of};
-ghost use Rattle.volume_space.specs.Growing.{GoesAhead, GrowthFits, IsLater, IsOwnOrFree, file_of, growth_room};
+ghost use Rattle.volume_space.specs.Growing.{GoesAhead, GrowthFits, IsLater, IsOwnOrFree, WantsFirst, file_of, growth_room};
 ghost use Rattle.volume_base.specs.Service.{IsInService};
 ghost use Rattle.volume_space.specs.Standing.{HoldsOn};
 ghost use Rattle.volume_base.specs.Standing.{IsSettled, StandsOver};
@@ -22,6 +22,7 @@ use crate::growing_extents::grow_extents;
 use hx_bytes::Trouble;
 use sector_disk::SectorSpace;
 use std::alloc::Global;
+use tree_weights::{a_load_says_enough, trees_grow_by_enough};
 use volume_base::Volume;
 
 /// One of the three trees of a volume.
@@ -171,6 +172,8 @@ pub fn grow_tree<P: SectorSpace>(
     ensures later { IsTrue (P.SectorView.space space.old).tells → IfOk result (λ said. said ≡ growing.ToCome → IsLater tree (volume_of (P.SectorView.space space.old).content)) }
     // A growth that fits is made.
     ensures sure { IsTrue (P.SectorView.space space.old).tells → GrowthFits tree more volume.old (P.SectorView.space space.old) → IfOk result (λ said. said ≡ growing.Grown) }
+    // What costs a load that may be put never waits for a commit ahead of its first growth.
+    ensures counted { IsTrue (P.SectorView.space space.old).tells → WantsFirst tree more volume.old (P.SectorView.space space.old) → IfOk result (λ said. said ≡ growing.Grown) }
     ensures stands { OnOk result (StandsOver volume.new (P.SectorView.space space.new)) }
     ensures settled { IsTrue (P.SectorView.space space.old).tells → OnOk result (IsSettled volume.new (P.SectorView.space space.new).content) }
     ensures service { IsInService volume.new (P.SectorView.space space.new) }
@@ -186,6 +189,8 @@ pub fn grow_tree<P: SectorSpace>(
     ensures below { P.SectorView.follows space.old space.new }
     ensures cause { HasTroubleCause (P.SectorView.space space.old).faults (P.SectorView.space space.new).faults result }
 {
+    a_load_says_enough();
+    trees_grow_by_enough();
     volume.keep();
     match tree {
         WhichTree::Extents => grow_extents_kept(volume, alloc, space, more),
