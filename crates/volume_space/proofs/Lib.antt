@@ -73,6 +73,7 @@ pub mod RecordCounts
 pub mod Resized
 pub mod Shortened
 pub mod ShortenedCalls
+pub mod Shorts
 pub mod Sounding
 pub mod Spilled
 pub mod SpilledBits

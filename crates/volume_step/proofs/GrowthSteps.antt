@@ -1,6 +1,6 @@
 -- The growth of a tree, as a step of the command ahead of which it goes.
-use Rattle.std.proofs.Common.{◌≡◌, ◌⊎◌, ◌<◌, ◌≤◌, ℕ, ◌+◌, Bool, true, false, List, [], ◌∷◌, inl, inr, refl, sym, ◌∙◌, ap, subst, arith}
-use Rattle.std.specs.Prelude.{IsTrue, nat_lt, slice_index, Option, if◌then◌else◌}
+use Rattle.std.proofs.Common.{◌≡◌, ◌⊎◌, ◌<◌, ◌≤◌, ℕ, ◌+◌, Bool, true, false, List, [], ◌∷◌, inl, inr, refl, sym, ap, subst, arith}
+use Rattle.std.specs.Prelude.{nat_lt, slice_index, Option, if◌then◌else◌}
 use Rattle.jnl_format.specs.Keeping.{IsSame}
 use Rattle.jnl_format.specs.Recovery.{Content}
 use Rattle.sector_disk.specs.Space.{Space}
