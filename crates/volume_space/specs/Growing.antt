@@ -274,14 +274,7 @@ pub record GrowsAhead (tree : WhichTree) (more : ℕ) (before after : Content) :
   pub journal : (volume_of after).journal ≡ (volume_of before).journal
   pub head : HeadGrows (volume_of before).head (volume_of after).head
 
--- a growth that is still to come: the fork of the file has eight extents already; the extents overflow file can't grow then at all
-abbrev pub IsLater : WhichTree → VolumeState → Type 0
-IsLater which.Extents volume = ⊥
-IsLater which.Catalog volume = 8 ≤ extents_in_use volume catalog_id volume.head.catalog_fork
-IsLater which.Attributes volume = 8 ≤ extents_in_use volume attributes_id volume.head.attributes_fork
-
 -- what became of a growth: the tree has grown, or nothing was changed
 abbrev pub GoesAhead : Growth → WhichTree → ℕ → Content → Content → Type 0
 GoesAhead growing.Grown tree more before after = GrowsAhead tree more before after
 GoesAhead growing.CommitFirst tree more before after = after ≡ before
-GoesAhead growing.ToCome tree more before after = after ≡ before

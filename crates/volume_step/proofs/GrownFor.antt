@@ -1,18 +1,13 @@
 -- The growth of a tree, as a step of housekeeping ahead of the one that awaits it.
-use Rattle.std.proofs.Common.{◌≡◌, ◌⊎◌, ◌<◌, ◌≤◌, ℕ, ◌+◌, Bool, List, [], ◌∷◌, inl, inr, refl, sym, ◌∙◌, ap, subst, arith}
-use Rattle.std.specs.Prelude.{slice_index, Option}
+use Rattle.std.proofs.Common.{◌≡◌, ℕ, Bool, List, inl, inr, sym, ◌∙◌, ap, subst}
+use Rattle.std.specs.Prelude.{Option}
 use Rattle.jnl_format.specs.Recovery.{Content}
 use Rattle.hfs_volume.specs.Content.{volume_of}
-use Rattle.hfs_volume.specs.Forks.{attributes_id, catalog_id}
-use Rattle.hfs_volume.specs.Reclaim.{GrowsTreeFirst, GrowsTrees, first_growth}
-use Rattle.hfs_volume.specs.Weight.{extents_in_use}
-use Rattle.volume_runs.specs.Rest.{WantsGrowth}
-use Rattle.volume_space.specs.Awaiting.{AwaitsGrowth, StepAwaits}
-use Rattle.volume_space.specs.Growing.{GoesAhead, GrowsAhead, GrowthFits, IsLater, alone}
+use Rattle.hfs_volume.specs.Reclaim.{GrowsTreeFirst, GrowsTrees}
+use Rattle.volume_space.specs.Awaiting.{AwaitsGrowth}
+use Rattle.volume_space.specs.Growing.{GoesAhead, GrowsAhead, GrowthFits}
 use Rattle.volume_space.specs.declared.ahead.Growth.{Growth}
 use Rattle.volume_space.specs.declared.ahead.Growth.TheVariants as growing
-use Rattle.volume_space.specs.declared.ahead.WhichTree.{WhichTree}
-use Rattle.volume_space.specs.declared.ahead.WhichTree.TheVariants as which
 use Rattle.volume_space.specs.declared.awaiting.TreeWanted.{TreeWanted}
 use Rattle.volume_space.specs.declared.tidying.Tidying.{Tidying}
 use Rattle.alloc_bitmap.specs.Map.{free_of}
@@ -38,24 +33,12 @@ module _ (wanted : TreeWanted) (capacity : ℕ) (shrunk : Option ℕ) (before af
     keeps = ahead.keeps;
   }
 
-  -- it isn't built yet
-  held : IsLater wanted.tree (volume_of before) → WantsGrowth capacity (volume_of before) awaits.0
-  held later = record { load = awaits.2.load; grow = awaits.2.grow; costs = awaits.2.affords; later = by wanted.tree awaits.2.first later }
-    where
-      by : (t : WhichTree) → first_growth awaits.2.grow ≡ alone t wanted.more → IsLater t (volume_of before)
-          → ((0 < slice_index (first_growth awaits.2.grow) 1) × (8 ≤ extents_in_use (volume_of before) catalog_id (volume_of before).head.catalog_fork))
-          ⊎ ((0 < slice_index (first_growth awaits.2.grow) 2) × (8 ≤ extents_in_use (volume_of before) attributes_id (volume_of before).head.attributes_fork))
-      by which.Extents first is = absurd is
-      by which.Catalog first is = inl (omega (arith, awaits.2.some, ap (λ l. slice_index l 1) first), is)
-      by which.Attributes first is = inr (omega (arith, awaits.2.some, ap (λ l. slice_index l 2) first), is)
+  by_growth : (went : Growth) → GoesAhead went wanted.tree wanted.more before after → ReclaimsAs (tidied_by went) capacity shrunk before after
+  by_growth growing.Grown ahead = inr (grown ahead)
+  by_growth growing.CommitFirst ahead = ahead
 
-  by_growth : (went : Growth) → GoesAhead went wanted.tree wanted.more before after → (went ≡ growing.ToCome → IsLater wanted.tree (volume_of before)) → ReclaimsAs (tidied_by went) capacity shrunk before after
-  by_growth growing.Grown ahead later = inr (grown ahead)
-  by_growth growing.CommitFirst ahead later = ahead
-  by_growth growing.ToCome ahead later = (ahead, inr (awaits.0, awaits.1, inr (inl (held (later refl)))))
-
-  pub grown_for : (went : Growth) → GoesAhead went wanted.tree wanted.more before after → (went ≡ growing.ToCome → IsLater wanted.tree (volume_of before)) → (it : Tidying) → it ≡ tidied_by went → ReclaimsAs it capacity shrunk before after
-  grown_for went ahead later it is = subst (λ (t : Tidying). ReclaimsAs t capacity shrunk before after) (sym is) (by_growth went ahead later)
+  pub grown_for : (went : Growth) → GoesAhead went wanted.tree wanted.more before after → (it : Tidying) → it ≡ tidied_by went → ReclaimsAs it capacity shrunk before after
+  grown_for went ahead it is = subst (λ (t : Tidying). ReclaimsAs t capacity shrunk before after) (sym is) (by_growth went ahead)
 
 -- behind reads
 pub reclaims_behind : (before between after : Content) → between ≡ before → (capacity first : ℕ) → first ≡ capacity → (shrunk file : Option ℕ) → file ≡ shrunk → (came : Tidying) → ReclaimsAs came first file between after → ReclaimsAs came capacity shrunk before after

@@ -153,7 +153,6 @@ outcome_of (ahead.Refused why) = outcome.Answered (reply.No why) []
 abbrev pub grown : Growth → Outcome
 grown growing.Grown = outcome.Again
 grown growing.CommitFirst = outcome.CommitFirst
-grown growing.ToCome = outcome.Answered (reply.No refusal.NotBuilt) []
 
 -- ---- what can be done now
 

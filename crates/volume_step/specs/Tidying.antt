@@ -28,7 +28,6 @@ ReclaimsAs tidying.CommitFirst capacity shrunk before after = after ≡ before
 abbrev pub tidied_by : Growth → Tidying
 tidied_by growing.Grown = tidying.Made
 tidied_by growing.CommitFirst = tidying.CommitFirst
-tidied_by growing.ToCome = tidying.Rest
 
 -- there is too little room for the next step of reclaiming, or for the growth of the tree that it awaits
 abbrev pub LacksRoom : Volume → Space → Type 0

@@ -54,7 +54,6 @@ fn grown(went: Growth) -> Tidying
     match went {
         Growth::Grown => Tidying::Made,
         Growth::CommitFirst => Tidying::CommitFirst,
-        Growth::ToCome => Tidying::Rest,
     }
 }
 

@@ -2,7 +2,7 @@ use Rattle.volume_base.specs.declared.volume.Tree.{Tree}
 use Rattle.std.proofs.Common.{◌≡◌, ◌<◌, ◌≤◌, length, ◌+◌, sym, ◌∙◌, subst}
 use Rattle.std.specs.Prelude.{IfOk}
 use Rattle.hfs_volume.specs.Content.{volume_of}
-use Rattle.volume_space.specs.Growing.{GoesAhead, GrowthFits, IsLater, IsOwnOrFree, WantsFirst, file_of, growth_room}
+use Rattle.volume_space.specs.Growing.{GoesAhead, GrowthFits, IsOwnOrFree, WantsFirst, file_of, growth_room}
 use Rattle.volume_space.specs.declared.ahead.Growth.{Growth}
 use Rattle.volume_space.specs.declared.ahead.Growth.TheVariants as growing
 use Rattle.volume_space.specs.declared.ahead.WhichTree.{WhichTree}
@@ -22,9 +22,6 @@ grow_extents_kept-requires-clause-unchanged g c = unchanged_kept c.args.volume.n
 
 pub returns-in-Extents-clause-ahead : goal.returns-in-Extents-clause-ahead
 returns-in-Extents-clause-ahead g c tells = subst (λ (t : WhichTree). IfOk c.grow_extents_kept.result (λ (said : Growth). GoesAhead said t c.args.more (g.P.SectorView.space c.args.space.now).content (g.P.SectorView.space c.grow_extents_kept.new.space).content)) (sym c.in-Extents.is) (c.grow_extents_kept.ensures.ahead tells)
-
-pub returns-in-Extents-clause-later : goal.returns-in-Extents-clause-later
-returns-in-Extents-clause-later g c tells = subst (λ (t : WhichTree). IfOk c.grow_extents_kept.result (λ (said : Growth). said ≡ growing.ToCome → IsLater t (volume_of (g.P.SectorView.space c.args.space.now).content))) (sym c.in-Extents.is) (c.grow_extents_kept.ensures.later tells)
 
 pub returns-in-Extents-clause-sure : goal.returns-in-Extents-clause-sure
 returns-in-Extents-clause-sure g c tells fits = c.grow_extents_kept.ensures.sure tells (fits_kept c.args.volume.now c.keep.new.self c.keep.ensures which.Extents c.args.more (g.P.SectorView.space c.args.space.now) (subst (λ (t : WhichTree). GrowthFits t c.args.more c.args.volume.now (g.P.SectorView.space c.args.space.now)) c.in-Extents.is fits))
@@ -59,9 +56,6 @@ grow_catalog_kept-requires-clause-unchanged g c = unchanged_kept c.args.volume.n
 pub returns-in-Catalog-clause-ahead : goal.returns-in-Catalog-clause-ahead
 returns-in-Catalog-clause-ahead g c tells = subst (λ (t : WhichTree). IfOk c.grow_catalog_kept.result (λ (said : Growth). GoesAhead said t c.args.more (g.P.SectorView.space c.args.space.now).content (g.P.SectorView.space c.grow_catalog_kept.new.space).content)) (sym c.in-Catalog.is) (c.grow_catalog_kept.ensures.ahead tells)
 
-pub returns-in-Catalog-clause-later : goal.returns-in-Catalog-clause-later
-returns-in-Catalog-clause-later g c tells = subst (λ (t : WhichTree). IfOk c.grow_catalog_kept.result (λ (said : Growth). said ≡ growing.ToCome → IsLater t (volume_of (g.P.SectorView.space c.args.space.now).content))) (sym c.in-Catalog.is) (c.grow_catalog_kept.ensures.later tells)
-
 pub returns-in-Catalog-clause-sure : goal.returns-in-Catalog-clause-sure
 returns-in-Catalog-clause-sure g c tells fits = c.grow_catalog_kept.ensures.sure tells (fits_kept c.args.volume.now c.keep.new.self c.keep.ensures which.Catalog c.args.more (g.P.SectorView.space c.args.space.now) (subst (λ (t : WhichTree). GrowthFits t c.args.more c.args.volume.now (g.P.SectorView.space c.args.space.now)) c.in-Catalog.is fits))
 
@@ -94,9 +88,6 @@ grow_attributes_kept-requires-clause-unchanged g c = unchanged_kept c.args.volum
 
 pub returns-in-Attributes-clause-ahead : goal.returns-in-Attributes-clause-ahead
 returns-in-Attributes-clause-ahead g c tells = subst (λ (t : WhichTree). IfOk c.grow_attributes_kept.result (λ (said : Growth). GoesAhead said t c.args.more (g.P.SectorView.space c.args.space.now).content (g.P.SectorView.space c.grow_attributes_kept.new.space).content)) (sym c.in-Attributes.is) (c.grow_attributes_kept.ensures.ahead tells)
-
-pub returns-in-Attributes-clause-later : goal.returns-in-Attributes-clause-later
-returns-in-Attributes-clause-later g c tells = subst (λ (t : WhichTree). IfOk c.grow_attributes_kept.result (λ (said : Growth). said ≡ growing.ToCome → IsLater t (volume_of (g.P.SectorView.space c.args.space.now).content))) (sym c.in-Attributes.is) (c.grow_attributes_kept.ensures.later tells)
 
 pub returns-in-Attributes-clause-sure : goal.returns-in-Attributes-clause-sure
 returns-in-Attributes-clause-sure g c tells fits = c.grow_attributes_kept.ensures.sure tells (fits_kept c.args.volume.now c.keep.new.self c.keep.ensures which.Attributes c.args.more (g.P.SectorView.space c.args.space.now) (subst (λ (t : WhichTree). GrowthFits t c.args.more c.args.volume.now (g.P.SectorView.space c.args.space.now)) c.in-Attributes.is fits))

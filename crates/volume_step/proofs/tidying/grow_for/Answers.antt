@@ -7,7 +7,7 @@ use Rattle.volume_step.proofs.tidying.grow_for.Goals as goal
 pub returns-clause-reclaims : goal.returns-clause-reclaims
 returns-clause-reclaims g c tells =
     grown_for c.args.wanted (capacity_of c.args.volume.now) (shrunk_of c.args.volume.now) (g.P.SectorView.space c.args.space.now).content (g.P.SectorView.space c.grow_tree.new.space).content (c.requires.awaits tells)
-    c.in_ok-went.went (c.in_ok-went.ensures.ahead tells) (c.in_ok-went.ensures.later tells) c.grown.result c.grown.ensures
+    c.in_ok-went.went (c.in_ok-went.ensures.ahead tells) c.grown.result c.grown.ensures
 
 pub returns-clause-place : goal.returns-clause-place
 returns-clause-place g c tells =
