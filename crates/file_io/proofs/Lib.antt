@@ -10,3 +10,4 @@ pub mod PlaceLaws
 pub mod AfterLaws
 pub mod TakenLaws
 pub mod WrittenLaws
+pub mod PutLaws

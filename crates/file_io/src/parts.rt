@@ -36,7 +36,8 @@ pub fn put_part(sector: &mut Sector, start: u64, from: u64, value: &[u8])
 {
     let end = (from + value.len() as u64).min(start + 512);
     let low = from.max(start);
-    for place in low..end {
-        sector[(place - start) as usize] = value[(place - from) as usize];
+    if low < end {
+        let part = &value[(low - from) as usize..(end - from) as usize];
+        sector[(low - start) as usize..(end - start) as usize].copy_from_slice(part);
     }
 }
