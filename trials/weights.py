@@ -103,10 +103,10 @@ class Fork:
 
 
 class Weight:
-    """What a command takes: the refusal for want of a resource, or None, and whether it asks for more than is built, and may wait."""
+    """What a command takes: the refusal for want of a resource, or None."""
 
-    def __init__(self, refused=None, waits=False):
-        self.refused, self.waits = refused, waits
+    def __init__(self, refused=None):
+        self.refused = refused
 
 
 def weigh(gauge, plain, verb, words, fork):
@@ -120,39 +120,37 @@ def weigh(gauge, plain, verb, words, fork):
         if load > gauge.capacity:
             return Weight(b"no TooBig %d %d" % (load, gauge.capacity))
         if not fork.behind:
-            return Weight(None, True)
+            return Weight()
         # Its cuts go first; then it weighs what it does behind them.
         gauge, fork = copy.copy(gauge), fork.behind
         gauge.free, gauge.longest = sum(fork.runs), max(fork.runs, default=0)
     ids, catalog, attributes, updates = edits_of(plain, verb, words)
     runs = fork.fewest(data.new) if data else 0
     edits = [records(fork.extents) + records(fork.extents + 1 + runs) if data else 0, catalog, attributes]
-    waits = False
     if plain.next + ids > 4294967295:
-        return Weight(b"no NoIds %d" % plain.next, waits)
+        return Weight(b"no NoIds %d" % plain.next)
     grown = [None] + [growth(trees[it], KEYS[it], edits[it], gauge.block) for it in (1, 2)]
     edits[0] += sum(grown[it][1] > 0 and fork.trees[it] >= 8 for it in (1, 2))
     grown[0] = growth(trees[0], KEYS[0], edits[0], gauge.block)
     load, blocks = 1 + updates * sectors[1], 0
     for (size, depth, nodes, _), many, (rises, more, maps) in zip(trees, edits, grown):
         if many and (depth >= 8 or max(depth, 1) + 1 + rises > 11):
-            return Weight(b"no TooDeep %d" % depth, waits)
+            return Weight(b"no TooDeep %d" % depth)
         blocks += more * size // gauge.block
         if many or more:
             load += size // 512 * min(many * (4 * (max(depth, 1) + 2 + rises) + 4) + (2 + maps if more else 0), nodes + more)
-    waits |= any(grown[it][1] > 0 and fork.trees[it] >= 8 for it in (1, 2))
     if grown[0][1] and fork.trees[0] == 8:
-        return Weight(b"no OverflowFull 8", waits)
+        return Weight(b"no OverflowFull 8")
     wanted = blocks + (data.new if data else 0)
     if gauge.free < wanted:
-        return Weight(b"no NoSpace %d %d" % (gauge.free, wanted), waits)
+        return Weight(b"no NoSpace %d %d" % (gauge.free, wanted))
     if blocks and gauge.longest < wanted:
-        return Weight(b"no NoRun %d %d" % (gauge.longest, wanted), waits)
+        return Weight(b"no NoRun %d %d" % (gauge.longest, wanted))
     bits = (data.new // 4096 + 2 * runs + data.old if data else 0) + (blocks // 4096 + 2 if blocks else 0)
     load += min(up(gauge.total, 4096), bits)
     if verb not in ("at", *CHANGES):
         load = 0
-    return Weight(b"no TooBig %d %d" % (load, gauge.capacity) if load > gauge.capacity else None, waits)
+    return Weight(b"no TooBig %d %d" % (load, gauge.capacity) if load > gauge.capacity else None)
 
 
 CHANGES = ("mkdir", "create", "rm", "rmdir", "mv", "ln", "chmod", "setattr", "delattr", "write", "trunc")

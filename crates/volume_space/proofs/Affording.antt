@@ -92,7 +92,7 @@ affords_cut_by v content settled found is none step cut =
 
 -- ---- behind reads
 
-pub tidied_behind : (before between after : Content) → between ≡ before → (capacity first : ℕ) → first ≡ capacity → (shrunk file : Option ℕ) → file ≡ shrunk → (r : Result Tidying Trouble)
-    → IfOk r (λ (came : Tidying). TidiesAs came first file between after) → IfOk r (λ (came : Tidying). TidiesAs came capacity shrunk before after)
-tidied_behind before between after same capacity first one shrunk file two r was =
-    subst (λ (k : Content × ℕ × Option ℕ). IfOk r (λ (came : Tidying). TidiesAs came k.1 k.2 k.0 after)) {x = (between, first, file)} {y = (before, capacity, shrunk)} (λ i. (same i, one i, two i)) was
+pub tidied_behind : (before between after : Content) → between ≡ before → (capacity first : ℕ) → first ≡ capacity → (shrunk file : Option ℕ) → file ≡ shrunk → (free taken : List Bool) → taken ≡ free → (spare left : ℕ) → left ≡ spare → (r : Result Tidying Trouble)
+    → IfOk r (λ (came : Tidying). TidiesAs came first file taken left between after) → IfOk r (λ (came : Tidying). TidiesAs came capacity shrunk free spare before after)
+tidied_behind before between after same capacity first one shrunk file two free taken three spare left four r was =
+    subst (λ (k : Content × ℕ × Option ℕ × List Bool × ℕ). IfOk r (λ (came : Tidying). TidiesAs came k.1 k.2 k.3 k.4 k.0 after)) {x = (between, first, file, taken, left)} {y = (before, capacity, shrunk, free, spare)} (λ i. (same i, one i, two i, three i, four i)) was

@@ -59,7 +59,7 @@ module _ (v : Volume) (content : Content) (settled : IsSettled v content) where
 -- ---- by what a cut puts at most
 
 -- what it puts by the room that the volume keeps is what it puts by that of the content
-cut_puts_is : (v : Volume) (content : Content) → IsSettled v content → cut_puts (room_on blocks.All v) ≡ cut_puts (room_with (capacity_of v) (free_blocks (volume_of content)) (volume_of content))
+pub cut_puts_is : (v : Volume) (content : Content) → IsSettled v content → cut_puts (room_on blocks.All v) ≡ cut_puts (room_with (capacity_of v) (free_blocks (volume_of content)) (volume_of content))
 unfolding room_with
 cut_puts_is v content settled = sym (λ i. cut_puts (room_with (capacity_of v) (free_blocks (volume_of content)) (settled.lists i)))
 

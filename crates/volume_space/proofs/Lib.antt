@@ -38,6 +38,9 @@ pub mod GrownSettled
 pub mod GrownStands
 pub mod GrownUnchanged
 pub mod GrownWhole
+pub mod GrowthCounted
+pub mod GrowthFitted
+pub mod GrowthUnits
 pub mod HeldUp
 pub mod KeptUsed
 pub mod Mapped
@@ -70,6 +73,7 @@ pub mod RecordCounts
 pub mod Resized
 pub mod Shortened
 pub mod ShortenedCalls
+pub mod Shorts
 pub mod Sounding
 pub mod Spilled
 pub mod SpilledBits

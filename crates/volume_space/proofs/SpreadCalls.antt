@@ -65,8 +65,3 @@ touches_as committed x w a b same was = subst (λ (l : List ℕ). Touches commit
 pub holds_then : (committed : Content) (v w : Volume) → length w.map.used ≡ length v.map.used → w.map.held ≡ v.map.held → ((k : ℕ) → slice_index_or v.map.used k false ≡ true → slice_index_or w.map.used k false ≡ true) → HoldsOn committed v → HoldsOn committed w
 holds_then committed v w size held still was =
     (ap (λ (l : List Bool). length l) held ∙ was.0 ∙ sym size, λ block set. ⊎_elim (λ used. inl (still block used)) (λ kept. inr (ap (λ l. slice_index_or l block false) held ∙ kept)) (was.1 block set))
-
--- a growth that isn't still to come is so for any reason
-pub never_later : (P : Type 0) (result : Result Growth Trouble) → IfOk result (λ said. said ≡ growing.ToCome → ⊥) → IfOk result (λ said. said ≡ growing.ToCome → P)
-never_later P (Ok said) never = λ is. absurd (never is)
-never_later P (Err why) never = never

@@ -10,10 +10,9 @@ use Rattle.hfs_volume.specs.Reclaim.{CutShrunk, next_reclaim}
 use Rattle.hfs_volume.specs.TreeOf.{tree_of}
 use Rattle.hfs_volume.specs.Weight.{cut_cost, free_blocks, has_surplus, room_with}
 use Rattle.hfs_volume.specs.declared.cost.Cost.TheVariants as cost
-use Rattle.volume_space.specs.Orphans.{TidiesAs}
+use Rattle.volume_space.specs.Orphans.{HasMade}
 use Rattle.volume_space.specs.declared.cutting_ahead.CutAhead.{CutAhead}
 use Rattle.volume_space.specs.declared.cutting_ahead.CutAhead.TheVariants as ahead
-use Rattle.volume_space.specs.declared.tidying.Tidying.TheVariants as tidying
 
 -- ---- a file's record
 
@@ -31,7 +30,7 @@ cuts_first volume id size end = nat_lt size end && has_surplus volume id size
 -- Blocks past the size of the file with this CNID were cut: of all steps of reclaiming this is the next one where it is the file that was shrunk last.
 pub record CutsPast (capacity id : ℕ) (before after : Content) : Type 0 where
   pub next : next_reclaim (volume_of before) (Some id) ≡ Some (CutShrunk id)
-  pub made : TidiesAs tidying.Made capacity (Some id) before after
+  pub made : HasMade capacity (Some id) before after
 
 -- what a cut came to that goes first
 abbrev pub CutsSome : CutAhead → ℕ → ℕ → Content → Content → Type 0

@@ -16,8 +16,11 @@ use Rattle.btree_file.specs.declared.tree.TreeFile.{TreeFile}
 use Rattle.fork_map.specs.Cut.{join}
 use Rattle.hfs_volume.specs.Content.{VolumeState, has_attributes, volume_of}
 use Rattle.hfs_volume.specs.Forks.{attributes_id, catalog_id, data_kind, per_block_of}
-use Rattle.hfs_volume.specs.Reclaim.{GrowsTrees, KeepsTree, SameFiles, blocks_at}
-use Rattle.hfs_volume.specs.Weight.{extents_in_use}
+use Rattle.hfs_volume.specs.Cost.{cost_of}
+use Rattle.hfs_volume.specs.Reclaim.{GrowsTrees, KeepsTree, SameFiles, blocks_at, first_growth}
+use Rattle.hfs_volume.specs.Weight.{extents_in_use, room_with}
+use Rattle.hfs_volume.specs.declared.cost.Cost.TheVariants as cost
+use Rattle.hfs_volume.specs.declared.cost.Needs.{Needs}
 use Rattle.overflow.specs.Records.{eight_at}
 use Rattle.volume_base.specs.Standing.{own_sectors}
 use Rattle.volume_space.specs.declared.ahead.Growth.{Growth}
@@ -242,6 +245,26 @@ pub record FileFits (more : ℕ) (file : TreeFile) (fork : ForkRecord) (volume :
 abbrev pub GrowthFits : WhichTree → ℕ → Volume → Space → Type 0
 GrowthFits tree more volume space = IsThere tree volume.header × FileFits more (file_of tree volume) (fork_of tree volume.header) volume space
 
+-- The fork of a tree has fewer than eight extents; that of the extents overflow file has them always where it can grow.
+abbrev pub IsShort : WhichTree → Volume → Type 0
+IsShort which.Extents volume = Unit {0}
+IsShort which.Catalog volume = length volume.catalog.file.fork < 8
+IsShort which.Attributes volume = length volume.attributes.file.fork < 8
+
+-- What needs this, of the blocks that may be taken, costs a load that may be put, and wants so many nodes more of this tree first, whose fork has fewer
+-- than eight extents.
+pub record WantsFirst (tree : WhichTree) (more : ℕ) (volume : Volume) (space : Space) : Type 0 where
+  pub needs : Needs
+  pub capacity : ℕ
+  pub load : ℕ
+  pub grow : List ℕ
+  pub costs : cost_of needs (room_with capacity (free_of volume.map) (volume_of space.content)) ≡ cost.Load load grow
+  pub within : load ≤ space.spare
+  pub some : 0 < more
+  pub first : first_growth grow ≡ alone tree more
+  pub there : IsThere tree volume.header
+  pub short : IsShort tree volume
+
 -- One tree has so many nodes more: the content is sound and the tree that it stands for is as it was, and so are the blocks of every fork
 -- but a tree's, the journal's place, and of the header all but the number of free blocks and the trees' forks.
 pub record GrowsAhead (tree : WhichTree) (more : ℕ) (before after : Content) : Type 0 where
@@ -251,14 +274,7 @@ pub record GrowsAhead (tree : WhichTree) (more : ℕ) (before after : Content) :
   pub journal : (volume_of after).journal ≡ (volume_of before).journal
   pub head : HeadGrows (volume_of before).head (volume_of after).head
 
--- a growth that is still to come: the fork of the file has eight extents already; the extents overflow file can't grow then at all
-abbrev pub IsLater : WhichTree → VolumeState → Type 0
-IsLater which.Extents volume = ⊥
-IsLater which.Catalog volume = 8 ≤ extents_in_use volume catalog_id volume.head.catalog_fork
-IsLater which.Attributes volume = 8 ≤ extents_in_use volume attributes_id volume.head.attributes_fork
-
 -- what became of a growth: the tree has grown, or nothing was changed
 abbrev pub GoesAhead : Growth → WhichTree → ℕ → Content → Content → Type 0
 GoesAhead growing.Grown tree more before after = GrowsAhead tree more before after
 GoesAhead growing.CommitFirst tree more before after = after ≡ before
-GoesAhead growing.ToCome tree more before after = after ≡ before

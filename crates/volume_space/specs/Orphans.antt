@@ -1,5 +1,5 @@
 -- Files that lost their last name and wait in the private folder: how a step of housekeeping finds the first of them, and what it does to it.
-use Rattle.std.specs.Prelude.{◌≡◌, ◌⊎◌, ◌==◌, ◌&&◌, ◌||◌, nat_lt, ℕ, Bool, true, false, not, List, [], ◌∷◌, length, drop, slice_index, Option, Some, None, if◌then◌else◌}
+use Rattle.std.specs.Prelude.{◌≡◌, ◌⊎◌, ◌<◌, ◌==◌, ◌&&◌, ◌||◌, nat_lt, ℕ, Bool, true, false, not, List, [], ◌∷◌, length, drop, slice_index, Option, Some, None, if◌then◌else◌}
 use Rattle.std.specs.List.{list_all}
 use Rattle.sector_disk.specs.Lists.{Content}
 use Rattle.jnl_format.specs.Recovery.{header_of_volume}
@@ -8,16 +8,18 @@ use Rattle.cat_records.specs.declared.record.CatRecord.TheVariants.{Folder, File
 use Rattle.catalog.specs.Entries.{RemovesEntry}
 use Rattle.catalog.specs.declared.folder.Child.{Child}
 use Rattle.hfs_volume.specs.Changes.{DropsAttribute, InAttributes}
-use Rattle.hfs_volume.specs.Content.{volume_of}
-use Rattle.hfs_volume.specs.Reclaim.{Does, DropAttribute, DropOrphan, Reclaim, next_reclaim, reclaim_cost}
+use Rattle.hfs_volume.specs.Content.{VolumeState, volume_of}
+use Rattle.hfs_volume.specs.Reclaim.{CutOrphan, CutShrunk, Does, DropAttribute, DropOrphan, Reclaim, next_reclaim, reclaim_cost, reclaim_cost_with}
 use Rattle.hfs_volume.specs.Reclaiming.{DropsOrphanEntry, IsBareOrphan}
 use Rattle.hfs_volume.specs.Records.{id_in, is_link_type}
 use Rattle.hfs_volume.specs.TreeOf.{tree_of}
 use Rattle.hfs_volume.specs.declared.cost.Cost.{Cost}
 use Rattle.hfs_volume.specs.declared.cost.Cost.TheVariants as cost
-use Rattle.volume_runs.specs.Rest.{IsAtRest}
+use Rattle.hfs_volume.specs.Weight.{free_blocks, room_with}
+use Rattle.volume_runs.specs.Rest.{IsAtRest, cut_puts}
 use Rattle.volume_base.specs.Changing.{ChangesCatalog}
 use Rattle.volume_space.specs.Cutting.{CutsFile}
+use Rattle.volume_base.specs.Fitting.{is_met}
 use Rattle.volume_base.specs.Lists.{lists_of}
 use Rattle.volume_base.specs.declared.entries.Entry.{Entry}
 use Rattle.volume_base.specs.declared.weighing.Edits.{Edits}
@@ -143,8 +145,24 @@ pub record HasCut (capacity : ℕ) (shrunk : Option ℕ) (before after : Content
   pub cuts : CutsFile shrunk before after
   pub affords : AffordsStep capacity before cuts.step
 
--- Made: the next step of reclaiming was made. Rest: nothing was changed, and nothing is left to reclaim, or the next step is held up. CommitFirst: nothing was changed.
-abbrev pub TidiesAs : Tidying → ℕ → Option ℕ → Content → Content → Type 0
-TidiesAs tidying.Rest capacity shrunk before after = (after ≡ before) × IsAtRest capacity shrunk (volume_of before)
-TidiesAs tidying.Made capacity shrunk before after = HasDropped capacity shrunk before after ⊎ (HasBared capacity shrunk before after ⊎ HasCut capacity shrunk before after)
-TidiesAs tidying.CommitFirst capacity shrunk before after = after ≡ before
+-- the next step was made
+abbrev pub HasMade : ℕ → Option ℕ → Content → Content → Type 0
+HasMade capacity shrunk before after = HasDropped capacity shrunk before after ⊎ (HasBared capacity shrunk before after ⊎ HasCut capacity shrunk before after)
+
+-- where these blocks may be taken and so many sectors be put, there is too little room for a step: a cut may put more, and a drop isn't met by what it costs
+abbrev pub IsShort : ℕ → List Bool → ℕ → VolumeState → Reclaim → Type 0
+IsShort capacity free spare volume (CutShrunk id) = spare < cut_puts (room_with capacity (free_blocks volume) volume)
+IsShort capacity free spare volume (CutOrphan id kind) = spare < cut_puts (room_with capacity (free_blocks volume) volume)
+IsShort capacity free spare volume (DropAttribute id name) = is_met (reclaim_cost_with capacity free volume (DropAttribute id name)) spare ≡ false
+IsShort capacity free spare volume (DropOrphan id) = is_met (reclaim_cost_with capacity free volume (DropOrphan id)) spare ≡ false
+
+-- there is too little for the next step
+abbrev pub IsNextShort : ℕ → Option ℕ → List Bool → ℕ → VolumeState → Type 0
+IsNextShort capacity shrunk free spare volume = (step : Reclaim) × (next_reclaim volume shrunk ≡ Some step) × IsShort capacity free spare volume step
+
+-- Made: the next step of reclaiming was made. Rest: nothing was changed, and nothing is left to reclaim, or the next step is held up. CommitFirst: nothing was changed,
+-- and there is too little room for the next step.
+abbrev pub TidiesAs : Tidying → ℕ → Option ℕ → List Bool → ℕ → Content → Content → Type 0
+TidiesAs tidying.Rest capacity shrunk free spare before after = (after ≡ before) × IsAtRest capacity shrunk (volume_of before)
+TidiesAs tidying.Made capacity shrunk free spare before after = HasMade capacity shrunk before after
+TidiesAs tidying.CommitFirst capacity shrunk free spare before after = (after ≡ before) × IsNextShort capacity shrunk free spare (volume_of before)

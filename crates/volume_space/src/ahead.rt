@@ -5,8 +5,7 @@ ghost use Rattle.alloc_bitmap.specs.Map.{none};
 ghost use Rattle.flag_rows.specs.Bits.{sectors_for};
 ghost use Rattle.btree_edit.specs.Causes.{HasTroubleCause};
 ghost use Rattle.hfs_volume.specs.Aside.{IsJournalSector};
-ghost use Rattle.hfs_volume.specs.Content.{volume_of};
-ghost use Rattle.volume_space.specs.Growing.{GoesAhead, GrowthFits, IsLater, IsOwnOrFree, file_of, growth_room};
+ghost use Rattle.volume_space.specs.Growing.{GoesAhead, GrowthFits, IsOwnOrFree, WantsFirst, file_of, growth_room};
 ghost use Rattle.volume_base.specs.Service.{IsInService};
 ghost use Rattle.volume_space.specs.Standing.{HoldsOn};
 ghost use Rattle.volume_base.specs.Standing.{IsSettled, StandsOver};
@@ -22,6 +21,7 @@ use crate::growing_extents::grow_extents;
 use hx_bytes::Trouble;
 use sector_disk::SectorSpace;
 use std::alloc::Global;
+use tree_weights::{a_load_says_enough, trees_grow_by_enough};
 use volume_base::Volume;
 
 /// One of the three trees of a volume.
@@ -41,8 +41,6 @@ pub enum Growth {
     Grown,
     /// There is too little room now for what the growth puts, or for the blocks.
     CommitFirst,
-    /// The fork of its file has eight extents.
-    ToCome,
 }
 
 /// Grows the extents overflow file, where no bit was changed since the last keep.
@@ -57,7 +55,6 @@ fn grow_extents_kept<P: SectorSpace>(
     requires unchanged { volume.old.map.changed ≡ none (sectors_for (length volume.old.map.used)) }
     requires closed { IsTrue (P.SectorView.space space.old).tells → (at : ℕ) → (P.SectorView.space space.old).closed at → IsJournalSector (P.SectorView.space space.old).content at }
     ensures ahead { IsTrue (P.SectorView.space space.old).tells → IfOk result (λ said. GoesAhead said which.Extents more (P.SectorView.space space.old).content (P.SectorView.space space.new).content) }
-    ensures later { IsTrue (P.SectorView.space space.old).tells → IfOk result (λ said. said ≡ growing.ToCome → IsLater which.Extents (volume_of (P.SectorView.space space.old).content)) }
     ensures sure { IsTrue (P.SectorView.space space.old).tells → GrowthFits which.Extents more volume.old (P.SectorView.space space.old) → IfOk result (λ said. said ≡ growing.Grown) }
     ensures stands { OnOk result (StandsOver volume.new (P.SectorView.space space.new)) }
     ensures settled { IsTrue (P.SectorView.space space.old).tells → OnOk result (IsSettled volume.new (P.SectorView.space space.new).content) }
@@ -89,7 +86,6 @@ fn grow_catalog_kept<P: SectorSpace>(
     requires unchanged { volume.old.map.changed ≡ none (sectors_for (length volume.old.map.used)) }
     requires closed { IsTrue (P.SectorView.space space.old).tells → (at : ℕ) → (P.SectorView.space space.old).closed at → IsJournalSector (P.SectorView.space space.old).content at }
     ensures ahead { IsTrue (P.SectorView.space space.old).tells → IfOk result (λ said. GoesAhead said which.Catalog more (P.SectorView.space space.old).content (P.SectorView.space space.new).content) }
-    ensures later { IsTrue (P.SectorView.space space.old).tells → IfOk result (λ said. said ≡ growing.ToCome → IsLater which.Catalog (volume_of (P.SectorView.space space.old).content)) }
     ensures sure { IsTrue (P.SectorView.space space.old).tells → GrowthFits which.Catalog more volume.old (P.SectorView.space space.old) → IfOk result (λ said. said ≡ growing.Grown) }
     ensures stands { OnOk result (StandsOver volume.new (P.SectorView.space space.new)) }
     ensures settled { IsTrue (P.SectorView.space space.old).tells → OnOk result (IsSettled volume.new (P.SectorView.space space.new).content) }
@@ -124,7 +120,6 @@ fn grow_attributes_kept<P: SectorSpace>(
     requires unchanged { volume.old.map.changed ≡ none (sectors_for (length volume.old.map.used)) }
     requires closed { IsTrue (P.SectorView.space space.old).tells → (at : ℕ) → (P.SectorView.space space.old).closed at → IsJournalSector (P.SectorView.space space.old).content at }
     ensures ahead { IsTrue (P.SectorView.space space.old).tells → IfOk result (λ said. GoesAhead said which.Attributes more (P.SectorView.space space.old).content (P.SectorView.space space.new).content) }
-    ensures later { IsTrue (P.SectorView.space space.old).tells → IfOk result (λ said. said ≡ growing.ToCome → IsLater which.Attributes (volume_of (P.SectorView.space space.old).content)) }
     ensures sure { IsTrue (P.SectorView.space space.old).tells → GrowthFits which.Attributes more volume.old (P.SectorView.space space.old) → IfOk result (λ said. said ≡ growing.Grown) }
     ensures stands { OnOk result (StandsOver volume.new (P.SectorView.space space.new)) }
     ensures settled { IsTrue (P.SectorView.space space.old).tells → OnOk result (IsSettled volume.new (P.SectorView.space space.new).content) }
@@ -152,8 +147,8 @@ fn grow_attributes_kept<P: SectorSpace>(
 
 /// Grows a tree by so many nodes, in a step of its own ahead of a command or a step of reclaiming that wants them; what was done so far
 /// stays, whatever is undone later. A commit comes first where there is too little room for what the growth puts, so many blocks aren't
-/// free in a row, a number has no room, or there is no such tree; and the growth is still to come where the file's fork has eight extents:
-/// then nothing is changed. `Memory` comes where memory is wanting, `Disk` where a read failed.
+/// free in a row, a number has no room, or there is no such tree: then nothing is changed. `Memory` comes where memory is wanting, `Disk`
+/// where a read failed.
 pub fn grow_tree<P: SectorSpace>(
     volume: &mut Volume,
     alloc: Global,
@@ -167,10 +162,10 @@ pub fn grow_tree<P: SectorSpace>(
     requires closed { IsTrue (P.SectorView.space space.old).tells → (at : ℕ) → (P.SectorView.space space.old).closed at → IsJournalSector (P.SectorView.space space.old).content at }
     // Told, the tree of the content has just these nodes more, and what the content stands for is as it was; or nothing was changed.
     ensures ahead { IsTrue (P.SectorView.space space.old).tells → IfOk result (λ said. GoesAhead said tree more (P.SectorView.space space.old).content (P.SectorView.space space.new).content) }
-    // The growth is still to come only where the file's fork has eight extents; that of the extents overflow file never is.
-    ensures later { IsTrue (P.SectorView.space space.old).tells → IfOk result (λ said. said ≡ growing.ToCome → IsLater tree (volume_of (P.SectorView.space space.old).content)) }
     // A growth that fits is made.
     ensures sure { IsTrue (P.SectorView.space space.old).tells → GrowthFits tree more volume.old (P.SectorView.space space.old) → IfOk result (λ said. said ≡ growing.Grown) }
+    // What costs a load that may be put never waits for a commit ahead of its first growth.
+    ensures counted { IsTrue (P.SectorView.space space.old).tells → WantsFirst tree more volume.old (P.SectorView.space space.old) → IfOk result (λ said. said ≡ growing.Grown) }
     ensures stands { OnOk result (StandsOver volume.new (P.SectorView.space space.new)) }
     ensures settled { IsTrue (P.SectorView.space space.old).tells → OnOk result (IsSettled volume.new (P.SectorView.space space.new).content) }
     ensures service { IsInService volume.new (P.SectorView.space space.new) }
@@ -186,6 +181,8 @@ pub fn grow_tree<P: SectorSpace>(
     ensures below { P.SectorView.follows space.old space.new }
     ensures cause { HasTroubleCause (P.SectorView.space space.old).faults (P.SectorView.space space.new).faults result }
 {
+    a_load_says_enough();
+    trees_grow_by_enough();
     volume.keep();
     match tree {
         WhichTree::Extents => grow_extents_kept(volume, alloc, space, more),

@@ -11,7 +11,6 @@ ghost use Rattle.volume_base.specs.Service.{IsInService};
 ghost use Rattle.volume_space.specs.Standing.{HoldsOn};
 ghost use Rattle.volume_base.specs.Standing.{IsSettled, StandsOver};
 ghost use Rattle.volume_base.specs.Touching.{Touches};
-ghost use Rattle.volume_space.specs.declared.ahead.Growth.TheVariants as growing;
 ghost use Rattle.volume_space.specs.declared.ahead.WhichTree.TheVariants as which;
 
 use crate::ahead::Growth;
@@ -36,8 +35,6 @@ pub(crate) fn grow_catalog_of_eight<P: SectorSpace>(
     requires unchanged { volume.old.map.changed ≡ none (sectors_for (length volume.old.map.used)) }
     requires closed { IsTrue (P.SectorView.space space.old).tells → (at : ℕ) → (P.SectorView.space space.old).closed at → IsJournalSector (P.SectorView.space space.old).content at }
     ensures ahead { IsTrue (P.SectorView.space space.old).tells → IfOk result (λ said. GoesAhead said which.Catalog more (P.SectorView.space space.old).content (P.SectorView.space space.new).content) }
-    // It isn't still to come.
-    ensures never { IfOk result (λ said. said ≡ growing.ToCome → ⊥) }
     ensures stands { OnOk result (StandsOver volume.new (P.SectorView.space space.new)) }
     ensures settled { IsTrue (P.SectorView.space space.old).tells → OnOk result (IsSettled volume.new (P.SectorView.space space.new).content) }
     ensures service { IsInService volume.new (P.SectorView.space space.new) }
@@ -75,8 +72,6 @@ pub(crate) fn grow_attributes_of_eight<P: SectorSpace>(
     requires unchanged { volume.old.map.changed ≡ none (sectors_for (length volume.old.map.used)) }
     requires closed { IsTrue (P.SectorView.space space.old).tells → (at : ℕ) → (P.SectorView.space space.old).closed at → IsJournalSector (P.SectorView.space space.old).content at }
     ensures ahead { IsTrue (P.SectorView.space space.old).tells → IfOk result (λ said. GoesAhead said which.Attributes more (P.SectorView.space space.old).content (P.SectorView.space space.new).content) }
-    // It isn't still to come.
-    ensures never { IfOk result (λ said. said ≡ growing.ToCome → ⊥) }
     ensures stands { OnOk result (StandsOver volume.new (P.SectorView.space space.new)) }
     ensures settled { IsTrue (P.SectorView.space space.old).tells → OnOk result (IsSettled volume.new (P.SectorView.space space.new).content) }
     ensures service { IsInService volume.new (P.SectorView.space space.new) }

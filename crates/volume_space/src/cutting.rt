@@ -176,9 +176,13 @@ fn fit_count(first: u32, second: u32) -> bool
 
 /// Whether so many sectors can be put.
 fn fit_load(load: u64, spare: u64) -> bool
-    ensures { IsTrue result → load ≤ spare }
+    ensures fits { IsTrue result → load ≤ spare }
+    ensures short { result ≡ false → spare < load }
 {
-    load <= spare
+    if spare < load {
+        return false;
+    }
+    true
 }
 
 /// The last extent of a list, or one without blocks where there is none.
@@ -287,7 +291,8 @@ fn count_given_sectors(volume: &Volume) -> u64
 
 /// Whether there is room to cut a fork.
 pub(crate) fn fits_cut<P: SectorSpace>(volume: &Volume, space: &P) -> bool
-    ensures { IsTrue result → trim_load volume.now ≤ (P.SectorView.space space.now).spare }
+    ensures fits { IsTrue result → trim_load volume.now ≤ (P.SectorView.space space.now).spare }
+    ensures short { result ≡ false → (P.SectorView.space space.now).spare < trim_load volume.now }
 {
     let node = u64::from(volume.catalog.file.shape().node_size / 512);
     let load = count_given_sectors(volume) + 1 + count_spread_sectors(volume) + node;

@@ -2,6 +2,7 @@
 ghost use Rattle.std.specs.Prelude.{◌≡◌, ◌<◌, ◌≤◌, ◌==◌, ◌&&◌, nat_lt, not, Some, false, true, IsTrue, IfOk, IfSome, OnOk, length};
 ghost use Rattle.std.specs.List.{Contains};
 ghost use Rattle.sector_disk.specs.Lists.{Content};
+ghost use Rattle.alloc_bitmap.specs.Map.{free_of};
 ghost use Rattle.btree_edit.specs.Causes.{HasTroubleCause};
 ghost use Rattle.cat_records.specs.Fits.{FitsFile, FitsRecord};
 ghost use Rattle.cat_records.specs.declared.record.CatRecord.TheVariants.{File};
@@ -188,7 +189,7 @@ fn tidy_part<P: SectorSpace>(
     requires cut { IsCutOf list.now (fork_at (kind_of surplus.kind) file.now) surplus.keep cut.now }
     requires gives { MayGive cut.now.goes volume.old }
     requires next { IsTrue (P.SectorView.space space.old).tells → IsNextCut (shrunk_of volume.old) (P.SectorView.space space.old).content (id_in entry.now.rec) (kind_of surplus.kind) surplus.keep }
-    ensures tidied { IsTrue (P.SectorView.space space.old).tells → IfOk result (λ came. TidiesAs came (capacity_of volume.old) (shrunk_of volume.old) (P.SectorView.space space.old).content (P.SectorView.space space.new).content) }
+    ensures tidied { IsTrue (P.SectorView.space space.old).tells → IfOk result (λ came. TidiesAs came (capacity_of volume.old) (shrunk_of volume.old) (free_of volume.old.map) (P.SectorView.space space.old).spare (P.SectorView.space space.old).content (P.SectorView.space space.new).content) }
     ensures stands { OnOk result (StandsOver volume.new (P.SectorView.space space.new)) }
     ensures settled { IsTrue (P.SectorView.space space.old).tells → OnOk result (IsSettled volume.new (P.SectorView.space space.new).content) }
     ensures service { IsInService volume.new (P.SectorView.space space.new) }
@@ -240,7 +241,7 @@ fn tidy_extents<P: SectorSpace>(
     requires number { 16 ≤ file.now.fields.id }
     requires list { IsTrue (P.SectorView.space space.old).tells → IsForkOf list.now (kind_of surplus.kind) file.now (P.SectorView.space space.old).content }
     requires next { IsTrue (P.SectorView.space space.old).tells → IsNextCut (shrunk_of volume.old) (P.SectorView.space space.old).content (id_in entry.now.rec) (kind_of surplus.kind) surplus.keep }
-    ensures tidied { IsTrue (P.SectorView.space space.old).tells → IfOk result (λ came. TidiesAs came (capacity_of volume.old) (shrunk_of volume.old) (P.SectorView.space space.old).content (P.SectorView.space space.new).content) }
+    ensures tidied { IsTrue (P.SectorView.space space.old).tells → IfOk result (λ came. TidiesAs came (capacity_of volume.old) (shrunk_of volume.old) (free_of volume.old.map) (P.SectorView.space space.old).spare (P.SectorView.space space.old).content (P.SectorView.space space.new).content) }
     ensures stands { OnOk result (StandsOver volume.new (P.SectorView.space space.new)) }
     ensures settled { IsTrue (P.SectorView.space space.old).tells → OnOk result (IsSettled volume.new (P.SectorView.space space.new).content) }
     ensures service { IsInService volume.new (P.SectorView.space space.new) }
@@ -270,7 +271,7 @@ fn tidy_fork<P: SectorSpace>(
     requires is { entry.now.rec ≡ File file.now }
     requires fits { FitsFile file.now }
     requires next { IsTrue (P.SectorView.space space.old).tells → IsNextCut (shrunk_of volume.old) (P.SectorView.space space.old).content (id_in entry.now.rec) (kind_of surplus.kind) surplus.keep }
-    ensures tidied { IsTrue (P.SectorView.space space.old).tells → IfOk result (λ came. TidiesAs came (capacity_of volume.old) (shrunk_of volume.old) (P.SectorView.space space.old).content (P.SectorView.space space.new).content) }
+    ensures tidied { IsTrue (P.SectorView.space space.old).tells → IfOk result (λ came. TidiesAs came (capacity_of volume.old) (shrunk_of volume.old) (free_of volume.old.map) (P.SectorView.space space.old).spare (P.SectorView.space space.old).content (P.SectorView.space space.new).content) }
     ensures stands { OnOk result (StandsOver volume.new (P.SectorView.space space.new)) }
     ensures settled { IsTrue (P.SectorView.space space.old).tells → OnOk result (IsSettled volume.new (P.SectorView.space space.new).content) }
     ensures service { IsInService volume.new (P.SectorView.space space.new) }
@@ -306,7 +307,7 @@ pub(crate) fn tidy_cut<P: SectorSpace>(
     requires there { IsTrue (P.SectorView.space space.old).tells → value_at (lists_of volume.old (P.SectorView.space space.old).content).catalog_pairs entry.now.parent entry.now.name ≡ Some entry.now.rec }
     requires fits { is_thread entry.now.rec ≡ false → FitsRecord entry.now.rec }
     requires next { IsTrue (P.SectorView.space space.old).tells → IsNextCut (shrunk_of volume.old) (P.SectorView.space space.old).content (id_in entry.now.rec) (kind_of surplus.kind) surplus.keep }
-    ensures tidied { IsTrue (P.SectorView.space space.old).tells → IfOk result (λ came. TidiesAs came (capacity_of volume.old) (shrunk_of volume.old) (P.SectorView.space space.old).content (P.SectorView.space space.new).content) }
+    ensures tidied { IsTrue (P.SectorView.space space.old).tells → IfOk result (λ came. TidiesAs came (capacity_of volume.old) (shrunk_of volume.old) (free_of volume.old.map) (P.SectorView.space space.old).spare (P.SectorView.space space.old).content (P.SectorView.space space.new).content) }
     ensures stands { OnOk result (StandsOver volume.new (P.SectorView.space space.new)) }
     ensures settled { IsTrue (P.SectorView.space space.old).tells → OnOk result (IsSettled volume.new (P.SectorView.space space.new).content) }
     ensures service { IsInService volume.new (P.SectorView.space space.new) }
@@ -336,7 +337,7 @@ fn tidy_shrunk<P: SectorSpace>(
     requires there { IsTrue (P.SectorView.space space.old).tells → value_at (lists_of volume.old (P.SectorView.space space.old).content).catalog_pairs entry.now.parent entry.now.name ≡ Some entry.now.rec }
     requires fits { is_thread entry.now.rec ≡ false → FitsRecord entry.now.rec }
     requires shrunk { shrunk_of volume.old ≡ Some id }
-    ensures tidied { IsTrue (P.SectorView.space space.old).tells → IfOk result (λ came. TidiesAs came (capacity_of volume.old) (shrunk_of volume.old) (P.SectorView.space space.old).content (P.SectorView.space space.new).content) }
+    ensures tidied { IsTrue (P.SectorView.space space.old).tells → IfOk result (λ came. TidiesAs came (capacity_of volume.old) (shrunk_of volume.old) (free_of volume.old.map) (P.SectorView.space space.old).spare (P.SectorView.space space.old).content (P.SectorView.space space.new).content) }
     ensures stands { OnOk result (StandsOver volume.new (P.SectorView.space space.new)) }
     ensures settled { IsTrue (P.SectorView.space space.old).tells → OnOk result (IsSettled volume.new (P.SectorView.space space.new).content) }
     ensures service { IsInService volume.new (P.SectorView.space space.new) }
@@ -364,7 +365,7 @@ pub(crate) fn tidy_surplus<P: SectorSpace>(
     requires stands { StandsOver volume.old (P.SectorView.space space.old) }
     requires settled { IsTrue (P.SectorView.space space.old).tells → IsSettled volume.old (P.SectorView.space space.old).content }
     requires shrunk { shrunk_of volume.old ≡ Some id }
-    ensures tidied { IsTrue (P.SectorView.space space.old).tells → IfOk result (λ came. TidiesAs came (capacity_of volume.old) (shrunk_of volume.old) (P.SectorView.space space.old).content (P.SectorView.space space.new).content) }
+    ensures tidied { IsTrue (P.SectorView.space space.old).tells → IfOk result (λ came. TidiesAs came (capacity_of volume.old) (shrunk_of volume.old) (free_of volume.old.map) (P.SectorView.space space.old).spare (P.SectorView.space space.old).content (P.SectorView.space space.new).content) }
     ensures stands { OnOk result (StandsOver volume.new (P.SectorView.space space.new)) }
     ensures settled { IsTrue (P.SectorView.space space.old).tells → OnOk result (IsSettled volume.new (P.SectorView.space space.new).content) }
     ensures service { IsInService volume.new (P.SectorView.space space.new) }
@@ -393,7 +394,7 @@ fn tidy_left<P: SectorSpace>(
     requires fits { is_thread entry.now.rec ≡ false → FitsRecord entry.now.rec }
     requires next { IsTrue (P.SectorView.space space.old).tells
         → IfSome (blocks_left entry.now.rec) (λ surplus. IsNextCut (shrunk_of volume.old) (P.SectorView.space space.old).content (id_in entry.now.rec) (kind_of surplus.kind) surplus.keep) }
-    ensures tidied { IsTrue (P.SectorView.space space.old).tells → IfOk result (λ came. TidiesAs came (capacity_of volume.old) (shrunk_of volume.old) (P.SectorView.space space.old).content (P.SectorView.space space.new).content) }
+    ensures tidied { IsTrue (P.SectorView.space space.old).tells → IfOk result (λ came. TidiesAs came (capacity_of volume.old) (shrunk_of volume.old) (free_of volume.old.map) (P.SectorView.space space.old).spare (P.SectorView.space space.old).content (P.SectorView.space space.new).content) }
     ensures stands { OnOk result (StandsOver volume.new (P.SectorView.space space.new)) }
     ensures settled { IsTrue (P.SectorView.space space.old).tells → OnOk result (IsSettled volume.new (P.SectorView.space space.new).content) }
     ensures service { IsInService volume.new (P.SectorView.space space.new) }
@@ -419,7 +420,7 @@ pub(crate) fn tidy_blocks<P: SectorSpace>(
     requires settled { IsTrue (P.SectorView.space space.old).tells → IsSettled volume.old (P.SectorView.space space.old).content }
     requires lowest { IsTrue (P.SectorView.space space.old).tells → least (orphans_of (records_of (volume_of (P.SectorView.space space.old).content))) ≡ Some id }
     requires kept { IsTrue (P.SectorView.space space.old).tells → has_surplus_left (volume_of (P.SectorView.space space.old).content) (shrunk_of volume.old) ≡ false }
-    ensures tidied { IsTrue (P.SectorView.space space.old).tells → IfOk result (λ came. TidiesAs came (capacity_of volume.old) (shrunk_of volume.old) (P.SectorView.space space.old).content (P.SectorView.space space.new).content) }
+    ensures tidied { IsTrue (P.SectorView.space space.old).tells → IfOk result (λ came. TidiesAs came (capacity_of volume.old) (shrunk_of volume.old) (free_of volume.old.map) (P.SectorView.space space.old).spare (P.SectorView.space space.old).content (P.SectorView.space space.new).content) }
     ensures stands { OnOk result (StandsOver volume.new (P.SectorView.space space.new)) }
     ensures settled { IsTrue (P.SectorView.space space.old).tells → OnOk result (IsSettled volume.new (P.SectorView.space space.new).content) }
     ensures service { IsInService volume.new (P.SectorView.space space.new) }

@@ -27,7 +27,7 @@ use Rattle.volume_space.specs.declared.tidying.Tidying.TheVariants as tidying
 use Rattle.volume_step.specs.Steps.{KeepsJournal, ShrinksAs, StepsTo, data_end, data_path, outcome_of}
 use Rattle.volume_step.specs.declared.outcome.Outcome.{Outcome}
 use Rattle.volume_step.proofs.Done.{refused_steps, same_place}
-use Rattle.volume_step.proofs.Reclaimed.{places_as, reclaims_as}
+use Rattle.volume_step.proofs.Reclaimed.{places_as, reclaimed}
 
 -- ---- the data that a command puts
 
@@ -139,7 +139,7 @@ module _ (capacity number : ℕ) (asked : Command) (before after : Content) (wai
     steps_by ahead.Made sound_after (node, file, (first, past)) = inl (record {
       no_refusal = waits.0;
       needs = waits.1;
-      cuts = surplus_cut capacity node.id before after past.next (reclaims_as halves capacity (Some node.id) before after sound.volume (Ok tidying.Made) sound_after past.made);
+      cuts = surplus_cut capacity node.id before after past.next (reclaimed halves capacity (Some node.id) before after sound.volume sound_after past.made);
     })
     steps_by ahead.CommitFirst sound_after (node, file, (first, same)) = same
     steps_by (ahead.Refused why) sound_after (node, file, (first, (same, costs))) =
@@ -147,7 +147,7 @@ module _ (capacity number : ℕ) (asked : Command) (before after : Content) (wai
 
     pub place_by : (came : CutAhead) → IsSound after → CutsAhead came capacity (data_path asked) end before after → KeepsJournal before after
     place_by ahead.NotNeeded sound_after (node, file, (first, same)) = same_place before after same
-    place_by ahead.Made sound_after (node, file, (first, past)) = places_as halves capacity (Some node.id) before after sound.volume (Ok tidying.Made) sound_after past.made
+    place_by ahead.Made sound_after (node, file, (first, past)) = places_as halves capacity (Some node.id) [] 0 before after sound.volume (Ok tidying.Made) sound_after past.made
     place_by ahead.CommitFirst sound_after (node, file, (first, same)) = same_place before after same
     place_by (ahead.Refused why) sound_after (node, file, (first, (same, costs))) = same_place before after same
 

@@ -1,5 +1,5 @@
 -- Commands that were done: what they answer, and what watchers are told.
-use Rattle.std.proofs.Common.{◌≡◌, ◌⊎◌, ℕ, Bool, true, false, List, [], ◌∷◌, inl, inr, refl, sym, ◌∙◌, ap, subst}
+use Rattle.std.proofs.Common.{◌≡◌, ℕ, Bool, true, false, List, [], ◌∷◌, inl, inr, refl, sym, ◌∙◌, ap, subst}
 use Rattle.std.specs.Prelude.{◌||◌, ◌==◌, length, not, IsTrue, None, Result, Ok, Err, if◌then◌else◌}
 use Rattle.std.specs.Option.{ok_or}
 use Rattle.std.proofs.lemmas.Bool.{true≢false}
@@ -23,7 +23,7 @@ use Rattle.hfs_volume.specs.Attributing.{DeletesAttribute, SetsAttribute, at_mom
 use Rattle.hfs_volume.specs.Commands.{ChangesMode}
 use Rattle.hfs_volume.specs.Content.{VolumeState, has_attributes, volume_of}
 use Rattle.hfs_volume.specs.Cost.{cost_of}
-use Rattle.volume_runs.specs.Run.{AsksMore, reply_to}
+use Rattle.volume_runs.specs.Run.{reply_to}
 use Rattle.hfs_volume.specs.Sound.{IsSound}
 use Rattle.volume_runs.specs.Told.{changes_of, of_entry, of_made, of_pair}
 use Rattle.hfs_volume.specs.TreeOf.{tree_of}
@@ -43,7 +43,7 @@ use Rattle.volume_step.specs.declared.outcome.Outcome.{Outcome}
 use Rattle.volume_step.specs.declared.outcome.Outcome.TheVariants as outcome
 use Rattle.volume_step.proofs.Kept.{Keeps, attributes_keep, delete_keeps, keeps_both, keeps_none, mode_keeps, moment_keeps, set_keeps}
 use Rattle.volume_step.proofs.KeptEntries.{last_keeps, link_keeps, lost_keeps, made_keeps, moved_keeps, opened_keeps, removed_keeps}
-use Rattle.volume_step.proofs.Served.{changes_told, done_as, journal_kept, line_is, quiet, refused, steps, tells, waits}
+use Rattle.volume_step.proofs.Served.{changes_told, done_as, journal_kept, line_is, quiet, refused, steps, tells}
 
 -- ---- a volume whose bits are as they were
 
@@ -133,12 +133,6 @@ module _ (capacity number : ℕ) (asked : Command) (before after : Content) (sam
       subst (λ (o : Outcome). StepsTo o capacity number asked before after) (sym it_is)
       (subst (λ (k : Content). StepsTo (outcome.Answered (reply.No why) []) capacity number asked before k) (sym same)
       (steps capacity number asked (reply.No why) before before (refused capacity asked before sound why unread is) [] refl))
-
-  pub waits_steps : IsSound before → AsksMore capacity asked before → (it : Outcome) → it ≡ outcome.Answered (reply.No refusal.NotBuilt) [] → StepsTo it capacity number asked before after
-  waits_steps sound why it it_is =
-      subst (λ (o : Outcome). StepsTo o capacity number asked before after) (sym it_is)
-      (subst (λ (k : Content). StepsTo (outcome.Answered (reply.No refusal.NotBuilt) []) capacity number asked before k) (sym same)
-      (steps capacity number asked (reply.No refusal.NotBuilt) before before (waits capacity asked before sound why) [] refl))
 
 pub same_place : (before after : Content) → after ≡ before → KeepsJournal before after
 same_place before after same = subst (KeepsJournal before) (sym same) (journal_kept before before (keeps_none (volume_of before)))

@@ -1,6 +1,6 @@
 -- The growth of a tree, as a step of the command ahead of which it goes.
-use Rattle.std.proofs.Common.{◌≡◌, ◌⊎◌, ◌<◌, ◌≤◌, ℕ, ◌+◌, Bool, true, false, List, [], ◌∷◌, inl, inr, refl, sym, ◌∙◌, ap, subst, arith}
-use Rattle.std.specs.Prelude.{IsTrue, nat_lt, slice_index, Option, if◌then◌else◌}
+use Rattle.std.proofs.Common.{◌≡◌, ◌<◌, ◌≤◌, ℕ, ◌+◌, Bool, true, false, List, [], ◌∷◌, inl, inr, refl, sym, ap, subst, arith}
+use Rattle.std.specs.Prelude.{nat_lt, slice_index, Option, if◌then◌else◌}
 use Rattle.jnl_format.specs.Keeping.{IsSame}
 use Rattle.jnl_format.specs.Recovery.{Content}
 use Rattle.sector_disk.specs.Space.{Space}
@@ -8,14 +8,10 @@ use Rattle.volume_header.specs.Refusal.{is_locked}
 use Rattle.volume_header.specs.declared.header.VolumeHeader.{VolumeHeader}
 use Rattle.hfs_language.specs.declared.command.Command.{Command}
 use Rattle.hfs_volume.specs.Content.{volume_of}
-use Rattle.hfs_volume.specs.Forks.{attributes_id, catalog_id}
 use Rattle.hfs_volume.specs.Reclaim.{GrowsTrees, first_growth}
-use Rattle.hfs_volume.specs.Sound.{IsSound}
-use Rattle.hfs_volume.specs.Weight.{extents_in_use}
-use Rattle.volume_runs.specs.Run.{AsksMore}
 use Rattle.volume_base.specs.Touching.{Touches}
 use Rattle.volume_base.specs.declared.volume.Volume.{Volume}
-use Rattle.volume_space.specs.Growing.{GoesAhead, GrowsAhead, IsLater, IsOwnOrFree, alone}
+use Rattle.volume_space.specs.Growing.{GoesAhead, GrowsAhead, IsOwnOrFree, alone}
 use Rattle.volume_space.specs.declared.ahead.Growth.{Growth}
 use Rattle.volume_space.specs.declared.ahead.Growth.TheVariants as growing
 use Rattle.volume_space.specs.declared.ahead.WhichTree.{WhichTree}
@@ -23,7 +19,7 @@ use Rattle.volume_space.specs.declared.ahead.WhichTree.TheVariants as which
 use Rattle.volume_space.proofs.WhenKept.{touches_those}
 use Rattle.volume_step.specs.Steps.{GrowsFirst, KeepsJournal, OwnOf, ShrinksAs, StepsTo, WaitsForGrowth, grown}
 use Rattle.volume_step.specs.declared.outcome.Outcome.{Outcome}
-use Rattle.volume_step.proofs.Done.{same_place, waits_steps}
+use Rattle.volume_step.proofs.Done.{same_place}
 
 -- ---- the first of the trees that are to grow
 
@@ -63,24 +59,12 @@ module _ (tree : WhichTree) (more capacity number : ℕ) (asked : Command) (befo
     keeps = ahead.keeps;
   }
 
-  -- it isn't built yet
-  asks_more : IsLater tree (volume_of before) → AsksMore capacity asked before
-  asks_more later = record { no_refusal = waits.no_refusal; grows = record { load = waits.load; grow = waits.grow; weighs = waits.weighs; later = by tree waits.first later } }
-    where
-      by : (t : WhichTree) → first_growth waits.grow ≡ alone t more → IsLater t (volume_of before)
-          → ((0 < slice_index (first_growth waits.grow) 1) × (8 ≤ extents_in_use (volume_of before) catalog_id (volume_of before).head.catalog_fork))
-          ⊎ ((0 < slice_index (first_growth waits.grow) 2) × (8 ≤ extents_in_use (volume_of before) attributes_id (volume_of before).head.attributes_fork))
-      by which.Extents first is = absurd is
-      by which.Catalog first is = inl (omega (arith, waits.some, ap (λ l. slice_index l 1) first), is)
-      by which.Attributes first is = inr (omega (arith, waits.some, ap (λ l. slice_index l 2) first), is)
+  by_growth : (went : Growth) → GoesAhead went tree more before after → StepsTo (grown went) capacity number asked before after
+  by_growth growing.Grown ahead = inr (grown_first ahead)
+  by_growth growing.CommitFirst ahead = ahead
 
-  by_growth : IsSound before → (went : Growth) → GoesAhead went tree more before after → (went ≡ growing.ToCome → IsLater tree (volume_of before)) → StepsTo (grown went) capacity number asked before after
-  by_growth sound growing.Grown ahead later = inr (grown_first ahead)
-  by_growth sound growing.CommitFirst ahead later = ahead
-  by_growth sound growing.ToCome ahead later = waits_steps capacity number asked before after ahead sound (asks_more (later refl)) (grown growing.ToCome) refl
-
-  pub growth_steps : IsSound before → (went : Growth) → GoesAhead went tree more before after → (went ≡ growing.ToCome → IsLater tree (volume_of before)) → (it : Outcome) → it ≡ grown went → StepsTo it capacity number asked before after
-  growth_steps sound went ahead later it is = subst (λ (o : Outcome). StepsTo o capacity number asked before after) (sym is) (by_growth sound went ahead later)
+  pub growth_steps : (went : Growth) → GoesAhead went tree more before after → (it : Outcome) → it ≡ grown went → StepsTo it capacity number asked before after
+  growth_steps went ahead it is = subst (λ (o : Outcome). StepsTo o capacity number asked before after) (sym is) (by_growth went ahead)
 
 -- the journal's place
 grown_place : (tree : WhichTree) (more : ℕ) (before after : Content) → GrowsAhead tree more before after → KeepsJournal before after
@@ -94,7 +78,6 @@ grown_place tree more before after ahead = record {
 pub growth_place : (tree : WhichTree) (more : ℕ) (before after : Content) (went : Growth) → GoesAhead went tree more before after → KeepsJournal before after
 growth_place tree more before after growing.Grown ahead = grown_place tree more before after ahead
 growth_place tree more before after growing.CommitFirst same = same_place before after same
-growth_place tree more before after growing.ToCome same = same_place before after same
 
 -- the file that was shrunk last
 pub growth_shrinks : (asked : Command) (before : Content) (old new : Option ℕ) → new ≡ old → (went : Growth) (it : Outcome) → it ≡ grown went → ShrinksAs it asked before old new
@@ -103,7 +86,6 @@ growth_shrinks asked before old new same went it is = subst (λ (o : Outcome). S
     by : (w : Growth) → ShrinksAs (grown w) asked before old new
     by growing.Grown = same
     by growing.CommitFirst = same
-    by growing.ToCome = same
 
 -- the sectors that it puts are the volume's own before, or were free
 pub growth_touches : (committed : Content) (u v : Volume) (a b : Space) → Touches committed (IsOwnOrFree u) a b → Touches committed (OwnOf u v) a b

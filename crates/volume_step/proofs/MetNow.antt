@@ -1,5 +1,5 @@
 -- A command whose edits can be made now is done.
-use Rattle.std.proofs.Common.{◌≡◌, ◌⊎◌, ◌<◌, ◌≤◌, ℕ, ◌+◌, ◌*◌, Bool, true, false, List, inl, inr, refl, sym, ◌∙◌, ap, subst, arith}
+use Rattle.std.proofs.Common.{◌≡◌, ◌⊎◌, ◌≤◌, ℕ, ◌+◌, ◌*◌, Bool, true, false, List, inl, inr, refl, sym, ◌∙◌, ap, subst, arith}
 use Rattle.std.specs.Prelude.{IsTrue, nat_lt, Option, Result, Ok, Err, if◌then◌else◌}
 use Rattle.std.proofs.lemmas.Bool.{true≢false}
 use Rattle.alloc_bitmap.specs.declared.bitmap.Bitmap.{Bitmap}
@@ -18,13 +18,13 @@ use Rattle.hfs_model.specs.declared.plain.PlainEntry.{PlainEntry}
 use Rattle.hfs_model.specs.declared.plain.PlainNode.{PlainNode}
 use Rattle.hfs_model.specs.declared.plain.PlainTree.{PlainTree}
 use Rattle.hfs_volume.specs.Content.{VolumeState, has_attributes, volume_of}
-use Rattle.hfs_volume.specs.Cost.{catalog_key, cost_of, tree_at}
+use Rattle.hfs_volume.specs.Cost.{cost_of}
 use Rattle.hfs_volume.specs.Sound.{IsSound}
 use Rattle.hfs_volume.specs.TreeOf.{tree_of}
 use Rattle.hfs_volume.specs.Weight.{Edits, edits, edits_of, folders_made, ln_edits, rm_edits, rm_edits_at, rmdir_edits, room_with}
 use Rattle.volume_runs.specs.Run.{attribute_edits}
 use Rattle.tree_weights.specs.Cutting.{TreesHoldThree}
-use Rattle.tree_weights.specs.Weights.{GrowsByEnough, HoldsThree, LoadIsOfParts, LoadSaysEnough}
+use Rattle.tree_weights.specs.Weights.{GrowsByEnough, LoadIsOfParts, LoadSaysEnough}
 use Rattle.volume_base.specs.Attributing.{set_answer}
 use Rattle.volume_base.specs.Fitting.{AreMet, is_met, needs_of, takable_in}
 use Rattle.volume_base.specs.Looking.{ReadsVolume}

@@ -138,7 +138,7 @@ module _ (capacity : ℕ) (free : List Bool) (volume : VolumeState) (tree : Plai
   unfolding weight_with
   edits_weigh = λ i. if unread i then cost.Load 0 (0 ∷ 0 ∷ 0 ∷ []) else (if needs_cut volume (no_data i) then cut_cost room else if lacks_tree volume asked then cost.Refused refusal.NoTree else cost_of (needs_for free volume (edits_of tree asked) (no_data i)) room)
 
-  edits_load : (n : ℕ) (grow : List ℕ) → weight_with capacity free volume tree asked ≡ cost.Load n grow → cost_of (needs_of (edits_of tree asked)) room ≡ cost.Load n grow
+  pub edits_load : (n : ℕ) (grow : List ℕ) → weight_with capacity free volume tree asked ≡ cost.Load n grow → cost_of (needs_of (edits_of tree asked)) room ≡ cost.Load n grow
   edits_load n grow is = by (lacks_tree volume asked) (sym edits_weigh ∙ is)
     where
       by : (b : Bool) → (if b then cost.Refused refusal.NoTree else cost_of (needs_of (edits_of tree asked)) room) ≡ cost.Load n grow → cost_of (needs_of (edits_of tree asked)) room ≡ cost.Load n grow

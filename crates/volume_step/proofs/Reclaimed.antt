@@ -1,5 +1,5 @@
 -- The drop of an entry is a step of reclaiming that grows no tree, and keeps the place of the journal.
-use Rattle.std.proofs.Common.{◌≡◌, ◌⊎◌, ℕ, Bool, true, false, [], ◌∷◌, inl, inr, refl, sym, ◌∙◌, ap, arith}
+use Rattle.std.proofs.Common.{◌≡◌, ◌⊎◌, ℕ, Bool, true, false, List, [], ◌∷◌, inl, inr, refl, sym, ◌∙◌, ap, arith}
 use Rattle.std.specs.Prelude.{Contains, ◌==◌, IfOk, OnOk, Option, Result, Ok, Err}
 use Rattle.hx_bytes.specs.declared.faults.Trouble.{Trouble}
 use Rattle.jnl_format.specs.Recovery.{Content}
@@ -144,7 +144,7 @@ module _ (halves : (volume : VolumeState) → SoundIsBoth volume) (capacity : �
     keeps = record { sound = sound_after; tree = was.cuts.tree };
   }
 
-  reclaimed : HasDropped capacity shrunk before after ⊎ (HasBared capacity shrunk before after ⊎ HasCut capacity shrunk before after) → Reclaims capacity shrunk before after
+  pub reclaimed : HasDropped capacity shrunk before after ⊎ (HasBared capacity shrunk before after ⊎ HasCut capacity shrunk before after) → Reclaims capacity shrunk before after
   reclaimed (inl was) = dropped was
   reclaimed (inr (inl was)) = bared was
   reclaimed (inr (inr was)) = cut was
@@ -154,15 +154,15 @@ module _ (halves : (volume : VolumeState) → SoundIsBoth volume) (capacity : �
   placed (inr (inl was)) = journal_kept before after (bared_keeps was)
   placed (inr (inr was)) = cut_place before after was.cuts.keeps
 
-module _ (halves : (volume : VolumeState) → SoundIsBoth volume) (capacity : ℕ) (shrunk : Option ℕ) (before after : Content) (sound : IsSoundVolume (volume_of before)) where
-  pub reclaims_as : (r : Result Tidying Trouble) → OnOk r (IsSound after) → IfOk r (λ (came : Tidying). TidiesAs came capacity shrunk before after) → IfOk r (λ (came : Tidying). ReclaimsAs came capacity shrunk before after)
+module _ (halves : (volume : VolumeState) → SoundIsBoth volume) (capacity : ℕ) (shrunk : Option ℕ) (free : List Bool) (spare : ℕ) (before after : Content) (sound : IsSoundVolume (volume_of before)) where
+  pub reclaims_as : (r : Result Tidying Trouble) → OnOk r (IsSound after) → IfOk r (λ (came : Tidying). TidiesAs came capacity shrunk free spare before after) → IfOk r (λ (came : Tidying). ReclaimsAs came capacity shrunk before after)
   reclaims_as (Ok tidying.Rest) sound_after was = was
   reclaims_as (Ok tidying.Made) sound_after was = inl (reclaimed halves capacity shrunk before after sound sound_after was)
-  reclaims_as (Ok tidying.CommitFirst) sound_after was = was
+  reclaims_as (Ok tidying.CommitFirst) sound_after was = was.0
   reclaims_as (Err why) sound_after was = tt
 
-  pub places_as : (r : Result Tidying Trouble) → OnOk r (IsSound after) → IfOk r (λ (came : Tidying). TidiesAs came capacity shrunk before after) → OnOk r (KeepsJournal before after)
+  pub places_as : (r : Result Tidying Trouble) → OnOk r (IsSound after) → IfOk r (λ (came : Tidying). TidiesAs came capacity shrunk free spare before after) → OnOk r (KeepsJournal before after)
   places_as (Ok tidying.Rest) sound_after was = same_place before after was.0
   places_as (Ok tidying.Made) sound_after was = placed halves capacity shrunk before after sound sound_after was
-  places_as (Ok tidying.CommitFirst) sound_after was = same_place before after was
+  places_as (Ok tidying.CommitFirst) sound_after was = same_place before after was.0
   places_as (Err why) sound_after was = tt

@@ -1,6 +1,6 @@
 -- What a command came to, as the entry of whichever line spells it.
-use Rattle.std.proofs.Common.{◌≡◌, ◌⊎◌, ⊎_elim, ℕ, Bool, true, false, List, [], ◌∷◌, inl, inr, refl, sym, ◌∙◌, ap, subst}
-use Rattle.std.specs.Prelude.{IsTrue, None, Result, Ok, Err, drop, map, take, if◌then◌else◌}
+use Rattle.std.proofs.Common.{◌≡◌, ◌⊎◌, ℕ, Bool, true, false, List, [], ◌∷◌, inl, inr, refl, sym, ◌∙◌, ap, subst}
+use Rattle.std.specs.Prelude.{None, Result, Ok, Err, drop, map, take, if◌then◌else◌}
 use Rattle.std.proofs.lemmas.Bool.{true≢false}
 use Rattle.jnl_format.specs.Recovery.{Content}
 use Rattle.volume_header.specs.Refusal.{is_locked}
@@ -21,7 +21,7 @@ use Rattle.hfs_model.specs.declared.plain.PlainTree.{PlainTree}
 use Rattle.hfs_volume.specs.Content.{volume_of}
 use Rattle.hfs_volume.specs.Cost.{cost_of}
 use Rattle.hfs_volume.specs.Data.{PutsInFork}
-use Rattle.volume_runs.specs.Run.{AsksMore, DoesLine, IsDone, IsServed, is_ok, reply_to}
+use Rattle.volume_runs.specs.Run.{DoesLine, IsDone, IsServed, is_ok, reply_to}
 use Rattle.hfs_volume.specs.Sound.{IsSound}
 use Rattle.volume_runs.specs.Told.{changes_of}
 use Rattle.hfs_volume.specs.TreeOf.{tree_of}
@@ -222,16 +222,6 @@ module _ (capacity : ℕ) (asked : Command) (before : Content) (sound : IsSound 
       sound_before = sound;
       sound_after = sound;
       is = inr (inl (record { asked = asked; is_asked = spells; no_refusal = lacks.0; why = why; weighs = lacks.1; reply_is = refl; same = refl }));
-    };
-  }
-
-  -- a command that is still to come
-  pub waits : AsksMore capacity asked before → Comes capacity asked (reply.No refusal.NotBuilt) before before
-  waits why = record {
-    is = λ line spells. record {
-      sound_before = sound;
-      sound_after = sound;
-      is = inr (inr (inr (record { asked = asked; is_asked = spells; no_refusal = why.no_refusal; waits = why; reply_is = refl; same = refl })));
     };
   }
 

@@ -1,5 +1,5 @@
 -- What a command on a volume in service came to.
-use Rattle.std.specs.Prelude.{◌≡◌, ◌⊎◌, ◌<◌, ◌≤◌, ℕ, ◌+◌, ◌==◌, ◌||◌, nat_lt, not, slice_index, Bool, true, false, IsTrue, List, [], ◌∷◌, length, Ok, Option, None, Some, if◌then◌else◌}
+use Rattle.std.specs.Prelude.{◌≡◌, ◌⊎◌, ◌<◌, ◌≤◌, ℕ, ◌+◌, ◌==◌, nat_lt, not, slice_index, true, false, List, [], ◌∷◌, length, Ok, Option, None, Some, if◌then◌else◌}
 use Rattle.std.specs.List.{Contains}
 use Rattle.jnl_format.specs.Keeping.{IsSame}
 use Rattle.jnl_format.specs.Recovery.{Content, header_of_volume}
@@ -9,7 +9,6 @@ use Rattle.hfs_language.specs.declared.command.Command.{Command}
 use Rattle.hfs_language.specs.declared.command.Command.TheVariants as command
 use Rattle.hfs_language.specs.declared.refusal.Refusal.TheVariants as refusal
 use Rattle.hfs_language.specs.declared.reply.Change.{Change}
-use Rattle.hfs_language.specs.declared.reply.Reply.{Reply}
 use Rattle.hfs_language.specs.declared.reply.Reply.TheVariants as reply
 use Rattle.hfs_model.specs.Step.{refuses, step_line}
 use Rattle.hfs_volume.specs.Content.{volume_of}
@@ -22,7 +21,7 @@ use Rattle.hfs_volume.specs.declared.cost.Cost.TheVariants as cost
 use Rattle.sector_disk.specs.Space.{Space}
 use Rattle.volume_weights.specs.DataWeighing.{WaitsForCut}
 use Rattle.volume_base.specs.Fitting.{AreMet, takable_of}
-use Rattle.volume_space.specs.Growing.{GrowthFits, IsOwnOrFree, alone}
+use Rattle.volume_space.specs.Growing.{CountsHaveRoom, IsOwnOrFree, IsThere, alone, file_of, fork_of}
 use Rattle.volume_base.specs.Room.{capacity_of}
 use Rattle.volume_base.specs.Standing.{own_sectors}
 use Rattle.volume_space.specs.Writing.{is_data_met}
@@ -154,7 +153,6 @@ outcome_of (ahead.Refused why) = outcome.Answered (reply.No why) []
 abbrev pub grown : Growth → Outcome
 grown growing.Grown = outcome.Again
 grown growing.CommitFirst = outcome.CommitFirst
-grown growing.ToCome = outcome.Answered (reply.No refusal.NotBuilt) []
 
 -- ---- what can be done now
 
@@ -175,10 +173,14 @@ pub record FitsNow (asked : Command) (volume : Volume) (space : Space) : Type 0 
   pub costs : weight_with (capacity_of volume) (takable_of volume) (volume_of space.content) (tree_of space.content) asked ≡ cost.Load load grow
   pub within : load ≤ space.spare
 
--- The command fits now, and so does the growth that goes ahead of it, where one does.
+-- there is such a tree, and the numbers that count its file have room for so many nodes more, and its fork for an extent more
+abbrev pub CountsFit : WhichTree → ℕ → Volume → Type 0
+CountsFit tree more volume = IsThere tree volume.header × CountsHaveRoom more (file_of tree volume) (fork_of tree volume.header) volume
+
+-- The command fits now, and where a growth goes ahead of it the numbers that count the tree's file have room.
 pub record IsReady (asked : Command) (volume : Volume) (space : Space) : Type 0 where
   pub now : FitsNow asked volume space
-  pub growth : (tree : WhichTree) (more : ℕ) → 0 < more → first_growth now.grow ≡ alone tree more → GrowthFits tree more volume space
+  pub counts : (tree : WhichTree) (more : ℕ) → 0 < more → first_growth now.grow ≡ alone tree more → CountsFit tree more volume
 
 -- The command puts data into a file, what it costs of the blocks that may be taken is met, and of all that are free it costs no growth of the extents
 -- overflow file either.

@@ -3,7 +3,16 @@ use Rattle.std.specs.Prelude.{◌≡◌, ◌⊎◌, ℕ, Option}
 use Rattle.jnl_format.specs.Recovery.{Content}
 use Rattle.hfs_volume.specs.Content.{volume_of}
 use Rattle.hfs_volume.specs.Reclaim.{GrowsTreeFirst, Reclaims}
+use Rattle.alloc_bitmap.specs.Map.{free_of}
+use Rattle.sector_disk.specs.Space.{Space}
 use Rattle.volume_runs.specs.Rest.{IsAtRest}
+use Rattle.volume_base.specs.Keeping.{shrunk_of}
+use Rattle.volume_base.specs.Room.{capacity_of}
+use Rattle.volume_base.specs.declared.volume.Volume.{Volume}
+use Rattle.volume_space.specs.Awaiting.{AwaitsGrowth}
+use Rattle.volume_space.specs.Growing.{GrowthFits}
+use Rattle.volume_space.specs.Orphans.{IsNextShort}
+use Rattle.volume_space.specs.declared.awaiting.TreeWanted.{TreeWanted}
 use Rattle.volume_space.specs.declared.ahead.Growth.{Growth}
 use Rattle.volume_space.specs.declared.ahead.Growth.TheVariants as growing
 use Rattle.volume_space.specs.declared.tidying.Tidying.{Tidying}
@@ -19,4 +28,9 @@ ReclaimsAs tidying.CommitFirst capacity shrunk before after = after ≡ before
 abbrev pub tidied_by : Growth → Tidying
 tidied_by growing.Grown = tidying.Made
 tidied_by growing.CommitFirst = tidying.CommitFirst
-tidied_by growing.ToCome = tidying.Rest
+
+-- there is too little room for the next step of reclaiming, or for the growth of the tree that it awaits
+abbrev pub LacksRoom : Volume → Space → Type 0
+LacksRoom volume space =
+    IsNextShort (capacity_of volume) (shrunk_of volume) (free_of volume.map) space.spare (volume_of space.content)
+    ⊎ ((wanted : TreeWanted) × AwaitsGrowth (capacity_of volume) (shrunk_of volume) space.content wanted × (GrowthFits wanted.tree wanted.more volume space → ⊥))

@@ -13,9 +13,8 @@ ghost use Rattle.volume_space.specs.Growing.{GrowthFits};
 ghost use Rattle.volume_step.specs.Steps.{KeepsJournal, OwnOf, ShrinksAs, StepsTo, WaitsForGrowth, grown};
 ghost use Rattle.volume_step.specs.declared.outcome.Outcome.TheVariants as outcome;
 
-use crate::answering::refusal;
 use crate::outcome::Outcome;
-use hfs_language::{Command, Refusal};
+use hfs_language::Command;
 use hx_bytes::Trouble;
 use sector_disk::SectorSpace;
 use std::alloc::Global;
@@ -23,7 +22,7 @@ use volume_base::Volume;
 use volume_space::{Growth, WhichTree, grow_tree};
 
 /// Grows the tree that has to grow ahead of a command, by so many nodes: then the command is to be tried again. Where there is too little
-/// room for the growth a commit comes first, and one that isn't built yet leaves the command still to come.
+/// room for the growth a commit comes first.
 pub(crate) fn grow_first<P: SectorSpace>(
     alloc: Global,
     volume: &mut Volume,
@@ -52,16 +51,15 @@ pub(crate) fn grow_first<P: SectorSpace>(
     ensures cause { HasTroubleCause (P.SectorView.space space.old).faults (P.SectorView.space space.new).faults result }
 {
     let went = grow_tree(volume, alloc, space, tree, more)?;
-    Ok(grown(alloc, went))
+    Ok(grown(went))
 }
 
 /// What a growth comes to for the command ahead of which it goes.
-fn grown(alloc: Global, went: Growth) -> Outcome
+fn grown(went: Growth) -> Outcome
     ensures { result ≡ grown went }
 {
     match went {
         Growth::Grown => Outcome::Again,
         Growth::CommitFirst => Outcome::CommitFirst,
-        Growth::ToCome => refusal(alloc, Refusal::NotBuilt),
     }
 }

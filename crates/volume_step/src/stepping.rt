@@ -33,6 +33,7 @@ use hfs_language::Command;
 use hx_bytes::Trouble;
 use sector_disk::SectorSpace;
 use std::alloc::Global;
+use tree_weights::{a_load_says_enough, trees_grow_by_enough, trees_hold_three};
 use volume_base::Volume;
 
 /// Does a command for which nothing is missing, and which gives no file other bytes; it is done where its edits are met. None of the others
@@ -157,6 +158,9 @@ fn change<P: SectorSpace>(
     ensures below { P.SectorView.follows space.old space.new }
     ensures cause { HasTroubleCause (P.SectorView.space space.old).faults (P.SectorView.space space.new).faults result }
 {
+    a_load_says_enough();
+    trees_grow_by_enough();
+    trees_hold_three();
     match judge(alloc, volume, space, command)? {
         Verdict::Refused(why) => Ok(refusal(alloc, why)),
         Verdict::CutFirst => cut_first(alloc, volume, space, number, command),
@@ -185,8 +189,9 @@ pub fn step<P: SectorSpace>(
     requires closed { IsTrue (P.SectorView.space space.old).tells → (at : ℕ) → (P.SectorView.space space.old).closed at → IsJournalSector (P.SectorView.space space.old).content at }
     // Told, the line's entry is one of a run, with what it changed for watchers.
     ensures answered { IsTrue (P.SectorView.space space.old).tells → IfOk result (λ outcome. StepsTo outcome (capacity_of volume.old) number command.now (P.SectorView.space space.old).content (P.SectorView.space space.new).content) }
-    // No commit comes first where the command reads alone; nor where it puts no data into a file, what it costs of the blocks that may be taken is
-    // a load that the room suffices for, and the growth fits that goes ahead of it; nor where it puts data, and that is met.
+    // No commit comes first where the command reads alone; nor where it puts no data into a file, and what it costs of the blocks that may be taken
+    // is a load that the room suffices for (and the numbers have room that count the file of a tree that grows ahead of it); nor where it puts data,
+    // and that is met.
     ensures ready { IsTrue (P.SectorView.space space.old).tells → (only_reads command.now ≡ true) ⊎ (IsReady command.now volume.old (P.SectorView.space space.old) ⊎ PutsNow command.now volume.old (P.SectorView.space space.old)) → IfOk result (λ it. it ≢ outcome.CommitFirst) }
     // The journal lies where it lay, and the header is one of the same volume.
     ensures place { IsTrue (P.SectorView.space space.old).tells → OnOk result (KeepsJournal (P.SectorView.space space.old).content (P.SectorView.space space.new).content) }

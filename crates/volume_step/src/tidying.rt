@@ -12,7 +12,8 @@ ghost use Rattle.volume_space.specs.Standing.{HoldsOn};
 ghost use Rattle.volume_base.specs.Standing.{IsSettled, StandsOver, own_sectors};
 ghost use Rattle.volume_base.specs.Touching.{Touches};
 ghost use Rattle.volume_step.specs.Steps.{KeepsJournal, OwnOf};
-ghost use Rattle.volume_step.specs.Tidying.{ReclaimsAs, tidied_by};
+ghost use Rattle.volume_space.specs.declared.tidying.Tidying.TheVariants as tidying;
+ghost use Rattle.volume_step.specs.Tidying.{LacksRoom, ReclaimsAs, tidied_by};
 
 use hfs_volume::soundness_has_two_halves;
 use hx_bytes::Trouble;
@@ -30,6 +31,7 @@ fn tidy_now<P: SectorSpace>(
     requires stands { StandsOver volume.old (P.SectorView.space space.old) }
     requires settled { IsTrue (P.SectorView.space space.old).tells → IsSettled volume.old (P.SectorView.space space.old).content }
     ensures reclaims { IsTrue (P.SectorView.space space.old).tells → IfOk result (λ came. ReclaimsAs came (capacity_of volume.old) (shrunk_of volume.old) (P.SectorView.space space.old).content (P.SectorView.space space.new).content) }
+    ensures short { IsTrue (P.SectorView.space space.old).tells → IfOk result (λ came. came ≡ tidying.CommitFirst → LacksRoom volume.old (P.SectorView.space space.old)) }
     ensures place { IsTrue (P.SectorView.space space.old).tells → OnOk result (KeepsJournal (P.SectorView.space space.old).content (P.SectorView.space space.new).content) }
     ensures stands { OnOk result (StandsOver volume.new (P.SectorView.space space.new)) }
     ensures settled { IsTrue (P.SectorView.space space.old).tells → OnOk result (IsSettled volume.new (P.SectorView.space space.new).content) }
@@ -52,7 +54,6 @@ fn grown(went: Growth) -> Tidying
     match went {
         Growth::Grown => Tidying::Made,
         Growth::CommitFirst => Tidying::CommitFirst,
-        Growth::ToCome => Tidying::Rest,
     }
 }
 
@@ -68,6 +69,7 @@ fn grow_for<P: SectorSpace>(
     requires closed { IsTrue (P.SectorView.space space.old).tells → (at : ℕ) → (P.SectorView.space space.old).closed at → IsJournalSector (P.SectorView.space space.old).content at }
     requires awaits { IsTrue (P.SectorView.space space.old).tells → AwaitsGrowth (capacity_of volume.old) (shrunk_of volume.old) (P.SectorView.space space.old).content wanted }
     ensures reclaims { IsTrue (P.SectorView.space space.old).tells → IfOk result (λ came. ReclaimsAs came (capacity_of volume.old) (shrunk_of volume.old) (P.SectorView.space space.old).content (P.SectorView.space space.new).content) }
+    ensures short { IsTrue (P.SectorView.space space.old).tells → IfOk result (λ came. came ≡ tidying.CommitFirst → LacksRoom volume.old (P.SectorView.space space.old)) }
     ensures place { IsTrue (P.SectorView.space space.old).tells → OnOk result (KeepsJournal (P.SectorView.space space.old).content (P.SectorView.space space.new).content) }
     ensures stands { OnOk result (StandsOver volume.new (P.SectorView.space space.new)) }
     ensures settled { IsTrue (P.SectorView.space space.old).tells → OnOk result (IsSettled volume.new (P.SectorView.space space.new).content) }
@@ -99,6 +101,8 @@ pub fn tidy<P: SectorSpace>(
     // Told, the next step of reclaiming was made, and nothing was missing for it, or a tree has grown for it; or nothing was changed. It rests only
     // where nothing is left to reclaim, or the next step is held up.
     ensures reclaims { IsTrue (P.SectorView.space space.old).tells → IfOk result (λ came. ReclaimsAs came (capacity_of volume.old) (shrunk_of volume.old) (P.SectorView.space space.old).content (P.SectorView.space space.new).content) }
+    // It wants a commit only where there is too little room for the next step, or for the growth ahead of it.
+    ensures short { IsTrue (P.SectorView.space space.old).tells → IfOk result (λ came. came ≡ tidying.CommitFirst → LacksRoom volume.old (P.SectorView.space space.old)) }
     // The journal lies where it lay, and the header is one of the same volume.
     ensures place { IsTrue (P.SectorView.space space.old).tells → OnOk result (KeepsJournal (P.SectorView.space space.old).content (P.SectorView.space space.new).content) }
     ensures stands { OnOk result (StandsOver volume.new (P.SectorView.space space.new)) }

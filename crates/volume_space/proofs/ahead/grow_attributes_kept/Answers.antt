@@ -9,9 +9,7 @@ use Rattle.volume_space.proofs.Sounding.{sound_here}
 use Rattle.volume_space.proofs.WhenKept.{touches_those}
 use Rattle.hfs_volume.specs.Content.{volume_of}
 use Rattle.hx_bytes.specs.declared.extents.Extent.{Extent}
-use Rattle.volume_space.specs.Growing.{IsLater}
 use Rattle.volume_space.specs.declared.ahead.WhichTree.TheVariants as which
-use Rattle.volume_space.proofs.SpreadCalls.{never_later}
 use Rattle.volume_space.proofs.ahead.grow_attributes_kept.Goals as goal
 
 pub returns-clause-ahead : goal.returns-clause-ahead
@@ -41,9 +39,6 @@ returns-in_err-grow_attributes-clause-touches g c committed =
 
 pub returns-then-not-can_grow_attributes-clause-sure : goal.returns-then-not-can_grow_attributes-clause-sure
 returns-then-not-can_grow_attributes-clause-sure g c tells fits = absurd (true≢false (sym (c.if-not-can_grow_attributes.ensures.fits tells fits)))
-
-pub returns-then-len-ge8-clause-later : goal.returns-then-len-ge8-clause-later
-returns-then-len-ge8-clause-later g c tells = never_later (IsLater which.Attributes (volume_of (g.P.SectorView.space c.args.space.now).content)) c.grow_attributes_of_eight.result c.grow_attributes_of_eight.ensures.never
 
 -- a fork of eight extents fits no record without others
 pub returns-then-len-ge8-clause-sure : goal.returns-then-len-ge8-clause-sure

@@ -2,11 +2,12 @@ use Rattle.volume_base.specs.declared.volume.Tree.{Tree}
 use Rattle.std.proofs.Common.{◌≡◌, ◌<◌, ◌≤◌, length, ◌+◌, sym, ◌∙◌, subst}
 use Rattle.std.specs.Prelude.{IfOk}
 use Rattle.hfs_volume.specs.Content.{volume_of}
-use Rattle.volume_space.specs.Growing.{GoesAhead, GrowthFits, IsLater, IsOwnOrFree, file_of, growth_room}
+use Rattle.volume_space.specs.Growing.{GoesAhead, GrowthFits, IsOwnOrFree, WantsFirst, file_of, growth_room}
 use Rattle.volume_space.specs.declared.ahead.Growth.{Growth}
 use Rattle.volume_space.specs.declared.ahead.Growth.TheVariants as growing
 use Rattle.volume_space.specs.declared.ahead.WhichTree.{WhichTree}
 use Rattle.volume_space.specs.declared.ahead.WhichTree.TheVariants as which
+use Rattle.volume_space.proofs.GrowthFitted.{wanted_fits}
 use Rattle.volume_space.proofs.WhenKept.{fits_kept, free_kept, holds_kept, load_kept, on_ok, settled_kept, stands_kept, touches_those, unchanged_kept}
 use Rattle.volume_space.proofs.ahead.grow_tree.Goals as goal
 
@@ -21,9 +22,6 @@ grow_extents_kept-requires-clause-unchanged g c = unchanged_kept c.args.volume.n
 
 pub returns-in-Extents-clause-ahead : goal.returns-in-Extents-clause-ahead
 returns-in-Extents-clause-ahead g c tells = subst (λ (t : WhichTree). IfOk c.grow_extents_kept.result (λ (said : Growth). GoesAhead said t c.args.more (g.P.SectorView.space c.args.space.now).content (g.P.SectorView.space c.grow_extents_kept.new.space).content)) (sym c.in-Extents.is) (c.grow_extents_kept.ensures.ahead tells)
-
-pub returns-in-Extents-clause-later : goal.returns-in-Extents-clause-later
-returns-in-Extents-clause-later g c tells = subst (λ (t : WhichTree). IfOk c.grow_extents_kept.result (λ (said : Growth). said ≡ growing.ToCome → IsLater t (volume_of (g.P.SectorView.space c.args.space.now).content))) (sym c.in-Extents.is) (c.grow_extents_kept.ensures.later tells)
 
 pub returns-in-Extents-clause-sure : goal.returns-in-Extents-clause-sure
 returns-in-Extents-clause-sure g c tells fits = c.grow_extents_kept.ensures.sure tells (fits_kept c.args.volume.now c.keep.new.self c.keep.ensures which.Extents c.args.more (g.P.SectorView.space c.args.space.now) (subst (λ (t : WhichTree). GrowthFits t c.args.more c.args.volume.now (g.P.SectorView.space c.args.space.now)) c.in-Extents.is fits))
@@ -58,9 +56,6 @@ grow_catalog_kept-requires-clause-unchanged g c = unchanged_kept c.args.volume.n
 pub returns-in-Catalog-clause-ahead : goal.returns-in-Catalog-clause-ahead
 returns-in-Catalog-clause-ahead g c tells = subst (λ (t : WhichTree). IfOk c.grow_catalog_kept.result (λ (said : Growth). GoesAhead said t c.args.more (g.P.SectorView.space c.args.space.now).content (g.P.SectorView.space c.grow_catalog_kept.new.space).content)) (sym c.in-Catalog.is) (c.grow_catalog_kept.ensures.ahead tells)
 
-pub returns-in-Catalog-clause-later : goal.returns-in-Catalog-clause-later
-returns-in-Catalog-clause-later g c tells = subst (λ (t : WhichTree). IfOk c.grow_catalog_kept.result (λ (said : Growth). said ≡ growing.ToCome → IsLater t (volume_of (g.P.SectorView.space c.args.space.now).content))) (sym c.in-Catalog.is) (c.grow_catalog_kept.ensures.later tells)
-
 pub returns-in-Catalog-clause-sure : goal.returns-in-Catalog-clause-sure
 returns-in-Catalog-clause-sure g c tells fits = c.grow_catalog_kept.ensures.sure tells (fits_kept c.args.volume.now c.keep.new.self c.keep.ensures which.Catalog c.args.more (g.P.SectorView.space c.args.space.now) (subst (λ (t : WhichTree). GrowthFits t c.args.more c.args.volume.now (g.P.SectorView.space c.args.space.now)) c.in-Catalog.is fits))
 
@@ -94,9 +89,6 @@ grow_attributes_kept-requires-clause-unchanged g c = unchanged_kept c.args.volum
 pub returns-in-Attributes-clause-ahead : goal.returns-in-Attributes-clause-ahead
 returns-in-Attributes-clause-ahead g c tells = subst (λ (t : WhichTree). IfOk c.grow_attributes_kept.result (λ (said : Growth). GoesAhead said t c.args.more (g.P.SectorView.space c.args.space.now).content (g.P.SectorView.space c.grow_attributes_kept.new.space).content)) (sym c.in-Attributes.is) (c.grow_attributes_kept.ensures.ahead tells)
 
-pub returns-in-Attributes-clause-later : goal.returns-in-Attributes-clause-later
-returns-in-Attributes-clause-later g c tells = subst (λ (t : WhichTree). IfOk c.grow_attributes_kept.result (λ (said : Growth). said ≡ growing.ToCome → IsLater t (volume_of (g.P.SectorView.space c.args.space.now).content))) (sym c.in-Attributes.is) (c.grow_attributes_kept.ensures.later tells)
-
 pub returns-in-Attributes-clause-sure : goal.returns-in-Attributes-clause-sure
 returns-in-Attributes-clause-sure g c tells fits = c.grow_attributes_kept.ensures.sure tells (fits_kept c.args.volume.now c.keep.new.self c.keep.ensures which.Attributes c.args.more (g.P.SectorView.space c.args.space.now) (subst (λ (t : WhichTree). GrowthFits t c.args.more c.args.volume.now (g.P.SectorView.space c.args.space.now)) c.in-Attributes.is fits))
 
@@ -117,3 +109,18 @@ pub returns-in-Attributes-clause-spent : goal.returns-in-Attributes-clause-spent
 returns-in-Attributes-clause-spent g c few =
     subst (λ (t : WhichTree). (g.P.SectorView.space c.args.space.now).spare ≤ (g.P.SectorView.space c.grow_attributes_kept.new.space).spare + growth_room t c.args.more c.args.volume.now) (sym c.in-Attributes.is)
     (subst (λ n. (g.P.SectorView.space c.args.space.now).spare ≤ (g.P.SectorView.space c.grow_attributes_kept.new.space).spare + n) (load_kept c.args.volume.now c.keep.new.self c.keep.ensures which.Attributes c.args.more) (c.grow_attributes_kept.ensures.spent (subst (λ (u : Tree). length u.file.fork < 8) (sym c.keep.ensures.same.attributes) (subst (λ (t : WhichTree). length (file_of t c.args.volume.now).fork < 8) c.in-Attributes.is few))))
+
+pub returns-in-Extents-clause-counted : goal.returns-in-Extents-clause-counted
+returns-in-Extents-clause-counted g c tells wants =
+    c.grow_extents_kept.ensures.sure tells (fits_kept c.args.volume.now c.keep.new.self c.keep.ensures which.Extents c.args.more (g.P.SectorView.space c.args.space.now)
+    (wanted_fits c.args.volume.now (g.P.SectorView.space c.args.space.now) c.requires.stands tells (c.requires.settled tells) c.a_load_says_enough.ensures c.trees_grow_by_enough.ensures which.Extents c.args.more (subst (λ (t : WhichTree). WantsFirst t c.args.more c.args.volume.now (g.P.SectorView.space c.args.space.now)) c.in-Extents.is wants)))
+
+pub returns-in-Catalog-clause-counted : goal.returns-in-Catalog-clause-counted
+returns-in-Catalog-clause-counted g c tells wants =
+    c.grow_catalog_kept.ensures.sure tells (fits_kept c.args.volume.now c.keep.new.self c.keep.ensures which.Catalog c.args.more (g.P.SectorView.space c.args.space.now)
+    (wanted_fits c.args.volume.now (g.P.SectorView.space c.args.space.now) c.requires.stands tells (c.requires.settled tells) c.a_load_says_enough.ensures c.trees_grow_by_enough.ensures which.Catalog c.args.more (subst (λ (t : WhichTree). WantsFirst t c.args.more c.args.volume.now (g.P.SectorView.space c.args.space.now)) c.in-Catalog.is wants)))
+
+pub returns-in-Attributes-clause-counted : goal.returns-in-Attributes-clause-counted
+returns-in-Attributes-clause-counted g c tells wants =
+    c.grow_attributes_kept.ensures.sure tells (fits_kept c.args.volume.now c.keep.new.self c.keep.ensures which.Attributes c.args.more (g.P.SectorView.space c.args.space.now)
+    (wanted_fits c.args.volume.now (g.P.SectorView.space c.args.space.now) c.requires.stands tells (c.requires.settled tells) c.a_load_says_enough.ensures c.trees_grow_by_enough.ensures which.Attributes c.args.more (subst (λ (t : WhichTree). WantsFirst t c.args.more c.args.volume.now (g.P.SectorView.space c.args.space.now)) c.in-Attributes.is wants)))

@@ -1,6 +1,7 @@
 use Rattle.std.proofs.Common.{◌≡◌, ℕ, refl, sym, ◌∙◌, subst}
 use Rattle.std.specs.Prelude.{IfSome, Option}
 use Rattle.hfs_language.specs.declared.refusal.Refusal.{Refusal}
+use Rattle.alloc_bitmap.specs.Map.{free_of}
 use Rattle.hfs_volume.specs.Content.{volume_of}
 use Rattle.hfs_volume.specs.Weight.{cut_cost, free_blocks, room_with}
 use Rattle.hfs_volume.specs.declared.cost.Cost.TheVariants as cost
@@ -39,8 +40,11 @@ returns-in-Some-clause-service g c = c.requires.stands.service
 pub returns-in-Made-clause-came : goal.returns-in-Made-clause-came
 returns-in-Made-clause-came g c tells = record {
   next = past_next c.args.volume.now (g.P.SectorView.space c.args.space.now).content (c.requires.settled tells) c.args.entry.now (c.requires.there tells) c.args.id c.args.size c.args.entry.now.rec refl c.requires.file c.args.surplus c.requires.some;
-  made = subst (λ (k : Option ℕ × Tidying). TidiesAs k.1 (capacity_of c.args.volume.now) k.0 (g.P.SectorView.space c.args.space.now).content (g.P.SectorView.space c.tidy_cut.new.space).content) (λ i. (c.requires.shrunk i, c.in-Made.is i)) (c.in_ok-tidy_cut.ensures.tidied tells);
+  made = subst (λ (k : Option ℕ × Tidying). TidiesAs k.1 (capacity_of c.args.volume.now) k.0 (free_of c.args.volume.now.map) (g.P.SectorView.space c.args.space.now).spare (g.P.SectorView.space c.args.space.now).content (g.P.SectorView.space c.tidy_cut.new.space).content) (λ i. (c.requires.shrunk i, c.in-Made.is i)) (c.in_ok-tidy_cut.ensures.tidied tells);
 }
 
 pub returns-in-Rest-clause-came : goal.returns-in-Rest-clause-came
-returns-in-Rest-clause-came g c tells = (subst (λ (t : Tidying). TidiesAs t (capacity_of c.args.volume.now) (shrunk_of c.args.volume.now) (g.P.SectorView.space c.args.space.now).content (g.P.SectorView.space c.tidy_cut.new.space).content) c.in-Rest.is (c.in_ok-tidy_cut.ensures.tidied tells)).0
+returns-in-Rest-clause-came g c tells = (subst (λ (t : Tidying). TidiesAs t (capacity_of c.args.volume.now) (shrunk_of c.args.volume.now) (free_of c.args.volume.now.map) (g.P.SectorView.space c.args.space.now).spare (g.P.SectorView.space c.args.space.now).content (g.P.SectorView.space c.tidy_cut.new.space).content) c.in-Rest.is (c.in_ok-tidy_cut.ensures.tidied tells)).0
+
+pub returns-in-CommitFirst-clause-came : goal.returns-in-CommitFirst-clause-came
+returns-in-CommitFirst-clause-came g c tells = (subst (λ (t : Tidying). TidiesAs t (capacity_of c.args.volume.now) (shrunk_of c.args.volume.now) (free_of c.args.volume.now.map) (g.P.SectorView.space c.args.space.now).spare (g.P.SectorView.space c.args.space.now).content (g.P.SectorView.space c.tidy_cut.new.space).content) c.in-CommitFirst.is (c.in_ok-tidy_cut.ensures.tidied tells)).0

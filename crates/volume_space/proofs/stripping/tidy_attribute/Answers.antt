@@ -1,4 +1,5 @@
-use Rattle.std.proofs.Common.{inl, inr, refl, ℕ, List, sym, ap, subst, arith}
+use Rattle.std.proofs.lemmas.Bool.{true≢false}
+use Rattle.std.proofs.Common.{inl, inr, refl, ℕ, List, sym, ◌∙◌, ap, subst, arith}
 use Rattle.btree_node.specs.declared.store.TreeShape.{TreeShape}
 use Rattle.hfs_volume.specs.Reclaim.{DropAttribute}
 use Rattle.volume_space.specs.Orphans.{AffordsStep}
@@ -6,6 +7,7 @@ use Rattle.volume_base.specs.Room.{capacity_of}
 use Rattle.volume_base.proofs.Besides.{blocks_none}
 use Rattle.volume_base.proofs.Commanding.{touches_none}
 use Rattle.volume_base.proofs.Still.{has_them}
+use Rattle.volume_space.proofs.Shorts.{short_bare}
 use Rattle.volume_space.proofs.stripping.tidy_attribute.Goals as goal
 
 pub affords_bare-requires-clause-has : goal.affords_bare-requires-clause-has
@@ -102,3 +104,7 @@ returns-then-lacks_bare-clause-blocks g c = blocks_none c.args.volume.now
 
 pub returns-then-not-affords_bare-clause-cause : goal.returns-then-not-affords_bare-clause-cause
 returns-then-not-affords_bare-clause-cause g c = record { later = omega arith; failed = tt }
+
+pub returns-then-not-fits_delattr-clause-tidied : goal.returns-then-not-fits_delattr-clause-tidied
+returns-then-not-fits_delattr-clause-tidied g c tells =
+    (refl, (DropAttribute c.args.id c.args.name.now, c.requires.waits tells, short_bare c.args.volume.now (g.P.SectorView.space c.args.space.now) c.args.id c.args.name.now (λ met. absurd (true≢false (sym (c.fits_delattr.ensures.met tells met) ∙ c.if-not-fits_delattr.true)))))

@@ -2,6 +2,7 @@ use Rattle.std.proofs.Common.{◌≡◌, ◌≤◌, ℕ, false, true, length, Li
 use Rattle.std.specs.Prelude.{Option, IfSome, Some, None, IsTrue}
 use Rattle.std.specs.List.{Contains}
 use Rattle.sector_disk.specs.Lists.{Content}
+use Rattle.alloc_bitmap.specs.Map.{BlockMap, free_of}
 use Rattle.cat_records.specs.Fits.{FitsRecord}
 use Rattle.catalog.specs.Pairs.{value_at}
 use Rattle.hfs_volume.specs.Content.{VolumeState, records_of, volume_of}
@@ -29,7 +30,7 @@ tidy_attribute-requires-clause-waits g c tells =
 
 pub returns-in-Some-clause-tidied : goal.returns-in-Some-clause-tidied
 returns-in-Some-clause-tidied g c tells =
-    tidied_behind (g.P.SectorView.space c.args.space.now).content (g.P.SectorView.space c.next_owned.new.space).content (g.P.SectorView.space c.tidy_attribute.new.space).content (c.next_owned.ensures.reads.looks.content tells) (capacity_of c.args.volume.now) (capacity_of c.next_owned.new.volume) c.next_owned.ensures.reads.keeps.capacity (shrunk_of c.args.volume.now) (shrunk_of c.next_owned.new.volume) c.next_owned.ensures.reads.keeps.shrunk c.tidy_attribute.result
+    tidied_behind (g.P.SectorView.space c.args.space.now).content (g.P.SectorView.space c.next_owned.new.space).content (g.P.SectorView.space c.tidy_attribute.new.space).content (c.next_owned.ensures.reads.looks.content tells) (capacity_of c.args.volume.now) (capacity_of c.next_owned.new.volume) c.next_owned.ensures.reads.keeps.capacity (shrunk_of c.args.volume.now) (shrunk_of c.next_owned.new.volume) c.next_owned.ensures.reads.keeps.shrunk (free_of c.args.volume.now.map) (free_of c.next_owned.new.volume.map) (ap (λ (m : BlockMap). free_of m) c.next_owned.ensures.reads.keeps.map) (g.P.SectorView.space c.args.space.now).spare (g.P.SectorView.space c.next_owned.new.space).spare c.next_owned.ensures.reads.looks.spare c.tidy_attribute.result
     (c.tidy_attribute.ensures.tidied (c.next_owned.ensures.reads.looks.same.tells ∙ tells))
 
 pub returns-in-Some-clause-touches : goal.returns-in-Some-clause-touches
@@ -49,7 +50,7 @@ returns-in-Some-clause-cause g c = cause_since (g.P.SectorView.space c.args.spac
 
 pub returns-in-None-clause-tidied : goal.returns-in-None-clause-tidied
 returns-in-None-clause-tidied g c tells =
-    tidied_behind (g.P.SectorView.space c.args.space.now).content (g.P.SectorView.space c.next_owned.new.space).content (g.P.SectorView.space c.tidy_blocks.new.space).content (c.next_owned.ensures.reads.looks.content tells) (capacity_of c.args.volume.now) (capacity_of c.next_owned.new.volume) c.next_owned.ensures.reads.keeps.capacity (shrunk_of c.args.volume.now) (shrunk_of c.next_owned.new.volume) c.next_owned.ensures.reads.keeps.shrunk c.tidy_blocks.result
+    tidied_behind (g.P.SectorView.space c.args.space.now).content (g.P.SectorView.space c.next_owned.new.space).content (g.P.SectorView.space c.tidy_blocks.new.space).content (c.next_owned.ensures.reads.looks.content tells) (capacity_of c.args.volume.now) (capacity_of c.next_owned.new.volume) c.next_owned.ensures.reads.keeps.capacity (shrunk_of c.args.volume.now) (shrunk_of c.next_owned.new.volume) c.next_owned.ensures.reads.keeps.shrunk (free_of c.args.volume.now.map) (free_of c.next_owned.new.volume.map) (ap (λ (m : BlockMap). free_of m) c.next_owned.ensures.reads.keeps.map) (g.P.SectorView.space c.args.space.now).spare (g.P.SectorView.space c.next_owned.new.space).spare c.next_owned.ensures.reads.looks.spare c.tidy_blocks.result
     (c.tidy_blocks.ensures.tidied (c.next_owned.ensures.reads.looks.same.tells ∙ tells))
 
 pub returns-in-None-clause-touches : goal.returns-in-None-clause-touches

@@ -1,8 +1,10 @@
-use Rattle.std.proofs.Common.{inl, inr, refl, ap, arith}
+use Rattle.std.proofs.Common.{inl, inr, refl, sym, ◌∙◌, ap, arith}
+use Rattle.std.proofs.lemmas.Bool.{true≢false}
 use Rattle.btree_node.specs.declared.store.TreeShape.{TreeShape}
 use Rattle.hfs_volume.specs.Reclaim.{DropOrphan}
 use Rattle.volume_base.proofs.Besides.{blocks_none}
 use Rattle.volume_base.proofs.Commanding.{touches_none}
+use Rattle.volume_space.proofs.Shorts.{short_drop}
 use Rattle.volume_space.proofs.tidying.tidy_entry.Goals as goal
 
 pub drop_waiting-requires-clause-size : goal.drop_waiting-requires-clause-size
@@ -77,3 +79,8 @@ returns-then-lacks_drop-clause-blocks g c = blocks_none c.args.volume.now
 
 pub returns-then-not-affords_drop-clause-cause : goal.returns-then-not-affords_drop-clause-cause
 returns-then-not-affords_drop-clause-cause g c = record { later = omega arith; failed = tt }
+
+pub returns-then-not-fits_remove-clause-tidied : goal.returns-then-not-fits_remove-clause-tidied
+returns-then-not-fits_remove-clause-tidied g c tells =
+    let waits = c.requires.waits tells in
+    (refl, (DropOrphan waits.id, waits.next, short_drop c.args.volume.now (g.P.SectorView.space c.args.space.now) waits.id (λ met. absurd (true≢false (sym (c.fits_remove.ensures.met tells met) ∙ c.if-not-fits_remove.true)))))

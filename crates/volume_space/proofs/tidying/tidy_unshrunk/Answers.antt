@@ -1,6 +1,7 @@
 use Rattle.std.proofs.Common.{ℕ, List, sym, ◌∙◌, ap, subst}
 use Rattle.std.specs.List.{Contains}
 use Rattle.sector_disk.specs.Lists.{Content}
+use Rattle.alloc_bitmap.specs.Map.{BlockMap, free_of}
 use Rattle.hfs_volume.specs.Content.{records_of, volume_of}
 use Rattle.hfs_volume.specs.Links.{orphans_of}
 use Rattle.hfs_volume.specs.Reclaim.{has_surplus_left, least}
@@ -31,7 +32,7 @@ tidy_waiting-requires-clause-lowest g c tells =
 
 pub returns-in-Some-clause-tidied : goal.returns-in-Some-clause-tidied
 returns-in-Some-clause-tidied g c tells =
-    tidied_behind (g.P.SectorView.space c.args.space.now).content (g.P.SectorView.space c.next_waiting.new.space).content (g.P.SectorView.space c.tidy_waiting.new.space).content (c.next_waiting.ensures.reads.looks.content tells) (capacity_of c.args.volume.now) (capacity_of c.next_waiting.new.volume) c.next_waiting.ensures.reads.keeps.capacity (shrunk_of c.args.volume.now) (shrunk_of c.next_waiting.new.volume) c.next_waiting.ensures.reads.keeps.shrunk c.tidy_waiting.result
+    tidied_behind (g.P.SectorView.space c.args.space.now).content (g.P.SectorView.space c.next_waiting.new.space).content (g.P.SectorView.space c.tidy_waiting.new.space).content (c.next_waiting.ensures.reads.looks.content tells) (capacity_of c.args.volume.now) (capacity_of c.next_waiting.new.volume) c.next_waiting.ensures.reads.keeps.capacity (shrunk_of c.args.volume.now) (shrunk_of c.next_waiting.new.volume) c.next_waiting.ensures.reads.keeps.shrunk (free_of c.args.volume.now.map) (free_of c.next_waiting.new.volume.map) (ap (λ (m : BlockMap). free_of m) c.next_waiting.ensures.reads.keeps.map) (g.P.SectorView.space c.args.space.now).spare (g.P.SectorView.space c.next_waiting.new.space).spare c.next_waiting.ensures.reads.looks.spare c.tidy_waiting.result
     (c.tidy_waiting.ensures.tidied (c.next_waiting.ensures.reads.looks.same.tells ∙ tells))
 
 pub returns-in-Some-clause-touches : goal.returns-in-Some-clause-touches

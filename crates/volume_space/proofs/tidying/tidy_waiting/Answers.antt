@@ -2,6 +2,7 @@ use Rattle.std.proofs.Common.{◌≡◌, ◌≤◌, ℕ, false, true, length, Li
 use Rattle.std.specs.Prelude.{Option, IfSome, Some, None, IsTrue}
 use Rattle.std.specs.List.{Contains}
 use Rattle.sector_disk.specs.Lists.{Content}
+use Rattle.alloc_bitmap.specs.Map.{BlockMap, free_of}
 use Rattle.cat_records.specs.Fits.{FitsRecord}
 use Rattle.catalog.specs.Pairs.{value_at}
 use Rattle.hfs_volume.specs.Content.{VolumeState, records_of, volume_of}
@@ -35,7 +36,7 @@ tidy_entry-requires-clause-waits g c tells =
 
 pub returns-in-Some-clause-tidied : goal.returns-in-Some-clause-tidied
 returns-in-Some-clause-tidied g c tells =
-    tidied_behind (g.P.SectorView.space c.args.space.now).content (g.P.SectorView.space c.bare_waiting.new.space).content (g.P.SectorView.space c.tidy_entry.new.space).content (c.bare_waiting.ensures.reads.looks.content tells) (capacity_of c.args.volume.now) (capacity_of c.bare_waiting.new.volume) c.bare_waiting.ensures.reads.keeps.capacity (shrunk_of c.args.volume.now) (shrunk_of c.bare_waiting.new.volume) c.bare_waiting.ensures.reads.keeps.shrunk c.tidy_entry.result
+    tidied_behind (g.P.SectorView.space c.args.space.now).content (g.P.SectorView.space c.bare_waiting.new.space).content (g.P.SectorView.space c.tidy_entry.new.space).content (c.bare_waiting.ensures.reads.looks.content tells) (capacity_of c.args.volume.now) (capacity_of c.bare_waiting.new.volume) c.bare_waiting.ensures.reads.keeps.capacity (shrunk_of c.args.volume.now) (shrunk_of c.bare_waiting.new.volume) c.bare_waiting.ensures.reads.keeps.shrunk (free_of c.args.volume.now.map) (free_of c.bare_waiting.new.volume.map) (ap (λ (m : BlockMap). free_of m) c.bare_waiting.ensures.reads.keeps.map) (g.P.SectorView.space c.args.space.now).spare (g.P.SectorView.space c.bare_waiting.new.space).spare c.bare_waiting.ensures.reads.looks.spare c.tidy_entry.result
     (c.tidy_entry.ensures.tidied (c.bare_waiting.ensures.reads.looks.same.tells ∙ tells))
 
 pub returns-in-Some-clause-touches : goal.returns-in-Some-clause-touches
@@ -55,7 +56,7 @@ returns-in-Some-clause-cause g c = cause_since (g.P.SectorView.space c.args.spac
 
 pub returns-in-None-clause-tidied : goal.returns-in-None-clause-tidied
 returns-in-None-clause-tidied g c tells =
-    tidied_behind (g.P.SectorView.space c.args.space.now).content (g.P.SectorView.space c.bare_waiting.new.space).content (g.P.SectorView.space c.tidy_owner.new.space).content (c.bare_waiting.ensures.reads.looks.content tells) (capacity_of c.args.volume.now) (capacity_of c.bare_waiting.new.volume) c.bare_waiting.ensures.reads.keeps.capacity (shrunk_of c.args.volume.now) (shrunk_of c.bare_waiting.new.volume) c.bare_waiting.ensures.reads.keeps.shrunk c.tidy_owner.result
+    tidied_behind (g.P.SectorView.space c.args.space.now).content (g.P.SectorView.space c.bare_waiting.new.space).content (g.P.SectorView.space c.tidy_owner.new.space).content (c.bare_waiting.ensures.reads.looks.content tells) (capacity_of c.args.volume.now) (capacity_of c.bare_waiting.new.volume) c.bare_waiting.ensures.reads.keeps.capacity (shrunk_of c.args.volume.now) (shrunk_of c.bare_waiting.new.volume) c.bare_waiting.ensures.reads.keeps.shrunk (free_of c.args.volume.now.map) (free_of c.bare_waiting.new.volume.map) (ap (λ (m : BlockMap). free_of m) c.bare_waiting.ensures.reads.keeps.map) (g.P.SectorView.space c.args.space.now).spare (g.P.SectorView.space c.bare_waiting.new.space).spare c.bare_waiting.ensures.reads.looks.spare c.tidy_owner.result
     (c.tidy_owner.ensures.tidied (c.bare_waiting.ensures.reads.looks.same.tells ∙ tells))
 
 pub returns-in-None-clause-touches : goal.returns-in-None-clause-touches

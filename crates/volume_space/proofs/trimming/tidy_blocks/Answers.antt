@@ -3,6 +3,7 @@ use Rattle.std.specs.Prelude.{Option, IfSome, Some, None, IsTrue}
 use Rattle.std.specs.List.{Contains}
 use Rattle.std.proofs.lemmas.Bool.{true≢false, eq-eqb, eqb-true}
 use Rattle.sector_disk.specs.Lists.{Content}
+use Rattle.alloc_bitmap.specs.Map.{BlockMap, free_of}
 use Rattle.cat_records.specs.Fits.{FitsRecord}
 use Rattle.cat_records.specs.declared.record.CatRecord.{CatRecord}
 use Rattle.catalog.specs.Pairs.{value_at}
@@ -52,7 +53,7 @@ tidy_left-requires-clause-next g c tells =
 
 pub returns-in-Some-clause-tidied : goal.returns-in-Some-clause-tidied
 returns-in-Some-clause-tidied g c tells =
-    tidied_behind (g.P.SectorView.space c.args.space.now).content (g.P.SectorView.space c.entry.new.space).content (g.P.SectorView.space c.tidy_left.new.space).content (c.entry.ensures.reads.looks.content tells) (capacity_of c.args.volume.now) (capacity_of c.entry.new.self) c.entry.ensures.reads.keeps.capacity (shrunk_of c.args.volume.now) (shrunk_of c.entry.new.self) c.entry.ensures.reads.keeps.shrunk c.tidy_left.result
+    tidied_behind (g.P.SectorView.space c.args.space.now).content (g.P.SectorView.space c.entry.new.space).content (g.P.SectorView.space c.tidy_left.new.space).content (c.entry.ensures.reads.looks.content tells) (capacity_of c.args.volume.now) (capacity_of c.entry.new.self) c.entry.ensures.reads.keeps.capacity (shrunk_of c.args.volume.now) (shrunk_of c.entry.new.self) c.entry.ensures.reads.keeps.shrunk (free_of c.args.volume.now.map) (free_of c.entry.new.self.map) (ap (λ (m : BlockMap). free_of m) c.entry.ensures.reads.keeps.map) (g.P.SectorView.space c.args.space.now).spare (g.P.SectorView.space c.entry.new.space).spare c.entry.ensures.reads.looks.spare c.tidy_left.result
     (c.tidy_left.ensures.tidied (c.entry.ensures.reads.looks.same.tells ∙ tells))
 
 pub returns-in-Some-clause-touches : goal.returns-in-Some-clause-touches

@@ -6,6 +6,7 @@ use Rattle.hx_bytes.specs.declared.faults.Trouble.{Trouble}
 use Rattle.btree_edit.specs.Causes.{HasTroubleCause}
 use Rattle.std.proofs.lemmas.Bool.{true≢false, eq-eqb, eqb-true}
 use Rattle.sector_disk.specs.Lists.{Content}
+use Rattle.alloc_bitmap.specs.Map.{BlockMap, free_of}
 use Rattle.cat_records.specs.Fits.{FitsRecord}
 use Rattle.cat_records.specs.declared.record.CatRecord.{CatRecord}
 use Rattle.catalog.specs.Pairs.{value_at}
@@ -93,7 +94,7 @@ tidy_extents-requires-clause-next g c tells =
 
 pub returns-clause-tidied : goal.returns-clause-tidied
 returns-clause-tidied g c tells =
-    tidied_behind (g.P.SectorView.space c.args.space.now).content (g.P.SectorView.space c.fork_extents.new.space).content (g.P.SectorView.space c.tidy_extents.new.space).content (c.fork_extents.ensures.reads.looks.content tells) (capacity_of c.args.volume.now) (capacity_of c.fork_extents.new.volume) c.fork_extents.ensures.reads.keeps.capacity (shrunk_of c.args.volume.now) (shrunk_of c.fork_extents.new.volume) c.fork_extents.ensures.reads.keeps.shrunk c.tidy_extents.result
+    tidied_behind (g.P.SectorView.space c.args.space.now).content (g.P.SectorView.space c.fork_extents.new.space).content (g.P.SectorView.space c.tidy_extents.new.space).content (c.fork_extents.ensures.reads.looks.content tells) (capacity_of c.args.volume.now) (capacity_of c.fork_extents.new.volume) c.fork_extents.ensures.reads.keeps.capacity (shrunk_of c.args.volume.now) (shrunk_of c.fork_extents.new.volume) c.fork_extents.ensures.reads.keeps.shrunk (free_of c.args.volume.now.map) (free_of c.fork_extents.new.volume.map) (ap (λ (m : BlockMap). free_of m) c.fork_extents.ensures.reads.keeps.map) (g.P.SectorView.space c.args.space.now).spare (g.P.SectorView.space c.fork_extents.new.space).spare c.fork_extents.ensures.reads.looks.spare c.tidy_extents.result
     (c.tidy_extents.ensures.tidied (c.fork_extents.ensures.reads.looks.same.tells ∙ tells))
 
 pub returns-clause-touches : goal.returns-clause-touches

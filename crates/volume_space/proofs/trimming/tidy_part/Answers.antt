@@ -1,6 +1,7 @@
 use Rattle.std.proofs.Common.{ℕ, false, true, List, inr, arith, sym, ◌∙◌, ap, subst, refl}
 use Rattle.std.specs.Prelude.{Option}
 use Rattle.std.specs.List.{Contains}
+use Rattle.alloc_bitmap.specs.Map.{free_of}
 use Rattle.catalog.specs.Pairs.{value_at}
 use Rattle.hfs_volume.specs.Content.{VolumeState}
 use Rattle.hfs_volume.specs.Records.{id_in}
@@ -14,6 +15,7 @@ use Rattle.volume_space.proofs.KeptUsed.{used_both, used_none}
 use Rattle.volume_space.specs.Cutting.{CutsFile}
 use Rattle.volume_space.proofs.CutKept.{load_kept, may_kept, own_kept, used_kept}
 use Rattle.volume_space.proofs.WhenKept.{lists_kept, settled_kept, stands_kept, unchanged_kept}
+use Rattle.volume_space.proofs.Shorts.{short_cut, short_next}
 use Rattle.volume_space.proofs.trimming.tidy_part.Goals as goal
 
 pub returns-then-not-affords_cut-clause-touches : goal.returns-then-not-affords_cut-clause-touches
@@ -53,7 +55,7 @@ pub cut_fork-requires-clause-unchanged : goal.cut_fork-requires-clause-unchanged
 cut_fork-requires-clause-unchanged g c = unchanged_kept c.args.volume.now c.keep.new.self c.keep.ensures (g.P.SectorView.space c.args.space.now) c.requires.stands.service
 
 pub cut_fork-requires-clause-room : goal.cut_fork-requires-clause-room
-cut_fork-requires-clause-room g c = omega (arith, load_kept c.args.volume.now c.keep.new.self c.keep.ensures, c.fits_cut.ensures c.if-not-fits_cut.false)
+cut_fork-requires-clause-room g c = omega (arith, load_kept c.args.volume.now c.keep.new.self c.keep.ensures, c.fits_cut.ensures.fits c.if-not-fits_cut.false)
 
 pub returns-clause-tidied : goal.returns-clause-tidied
 returns-clause-tidied g c tells =
@@ -80,4 +82,11 @@ returns-then-not-affords_cut-clause-tidied g c tells = (
   refl,
   rests_cut (capacity_of c.args.volume.now) (shrunk_of c.args.volume.now) (g.P.SectorView.space c.args.space.now).content (id_in c.args.entry.now.rec) (kind_of c.args.surplus.kind) c.args.surplus.keep (c.requires.next tells)
       (c.affords_cut.ensures.held_up (g.P.SectorView.space c.args.space.now).content (c.requires.settled tells) c.if-not-affords_cut.true),
+)
+
+pub returns-then-not-fits_cut-clause-tidied : goal.returns-then-not-fits_cut-clause-tidied
+returns-then-not-fits_cut-clause-tidied g c tells = (
+  refl,
+  short_next (capacity_of c.args.volume.now) (shrunk_of c.args.volume.now) (free_of c.args.volume.now.map) (g.P.SectorView.space c.args.space.now).spare (g.P.SectorView.space c.args.space.now).content (id_in c.args.entry.now.rec) (kind_of c.args.surplus.kind) c.args.surplus.keep (c.requires.next tells)
+      (short_cut c.args.volume.now (g.P.SectorView.space c.args.space.now).content (c.requires.settled tells) (g.P.SectorView.space c.args.space.now).spare (c.fits_cut.ensures.short c.if-not-fits_cut.true)),
 )

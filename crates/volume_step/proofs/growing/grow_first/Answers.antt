@@ -1,6 +1,5 @@
 use Rattle.volume_base.specs.Keeping.{shrunk_of}
 use Rattle.volume_base.specs.Room.{capacity_of}
-use Rattle.volume_space.proofs.Sounding.{sound_here}
 use Rattle.volume_step.proofs.GrowthSteps.{growth_place, growth_shrinks, growth_steps, growth_touches}
 use Rattle.volume_step.proofs.Ready.{grown_now}
 use Rattle.volume_step.proofs.growing.grow_first.Goals as goal
@@ -10,7 +9,7 @@ returns-clause-answered g c tells =
     let a = g.P.SectorView.space c.args.space.now in
     let b = g.P.SectorView.space c.grow_tree.new.space in
     growth_steps c.args.tree c.args.more (capacity_of c.args.volume.now) c.args._number c.args._command.now a.content b.content (c.requires.waits tells)
-    (sound_here c.args.volume.now a (c.requires.stands.stands tells) (c.requires.settled tells)) c.in_ok-went.went (c.in_ok-went.ensures.ahead tells) (c.in_ok-went.ensures.later tells) c.grown.result c.grown.ensures
+    c.in_ok-went.went (c.in_ok-went.ensures.ahead tells) c.grown.result c.grown.ensures
 
 pub returns-clause-place : goal.returns-clause-place
 returns-clause-place g c tells =

@@ -1,11 +1,10 @@
-use Rattle.std.proofs.Common.{ap, subst, sym}
-use Rattle.std.specs.Prelude.{IfOk, Ok}
+use Rattle.std.proofs.Common.{ap}
+use Rattle.std.specs.Prelude.{Ok}
 use Rattle.hfs_language.specs.declared.command.Command.{Command}
 use Rattle.volume_runs.specs.Run.{shrunk_by}
 use Rattle.hfs_volume.specs.TreeOf.{tree_of}
 use Rattle.hfs_volume.specs.Weight.{data_of}
 use Rattle.volume_base.specs.Keeping.{shrunk_of}
-use Rattle.volume_step.specs.Steps.{ShrinksAs}
 use Rattle.volume_step.proofs.Widening.{keeps_shrunk, touches_own}
 use Rattle.volume_step.proofs.ReadyData.{any_ok}
 use Rattle.volume_step.proofs.stepping.perform_without_data.Goals as goal

@@ -1,13 +1,13 @@
 use Rattle.volume_base.specs.Keeping.{shrunk_of}
 use Rattle.volume_base.specs.Room.{capacity_of}
 use Rattle.volume_step.proofs.GrowthSteps.{growth_place, growth_touches}
-use Rattle.volume_step.proofs.GrownFor.{grown_for}
+use Rattle.volume_step.proofs.GrownFor.{grown_for, short_grown}
 use Rattle.volume_step.proofs.tidying.grow_for.Goals as goal
 
 pub returns-clause-reclaims : goal.returns-clause-reclaims
 returns-clause-reclaims g c tells =
     grown_for c.args.wanted (capacity_of c.args.volume.now) (shrunk_of c.args.volume.now) (g.P.SectorView.space c.args.space.now).content (g.P.SectorView.space c.grow_tree.new.space).content (c.requires.awaits tells)
-    c.in_ok-went.went (c.in_ok-went.ensures.ahead tells) (c.in_ok-went.ensures.later tells) c.grown.result c.grown.ensures
+    c.in_ok-went.went (c.in_ok-went.ensures.ahead tells) c.grown.result c.grown.ensures
 
 pub returns-clause-place : goal.returns-clause-place
 returns-clause-place g c tells =
@@ -27,3 +27,7 @@ returns-clause-touches g c committed = growth_touches committed c.args.volume.no
 
 pub returns-in_err-went-clause-touches : goal.returns-in_err-went-clause-touches
 returns-in_err-went-clause-touches g c committed = growth_touches committed c.args.volume.now c.grow_tree.new.volume (g.P.SectorView.space c.args.space.now) (g.P.SectorView.space c.grow_tree.new.space) (c.grow_tree.ensures.touches committed)
+
+pub returns-clause-short : goal.returns-clause-short
+returns-clause-short g c tells wants =
+    short_grown c.args.volume.now (g.P.SectorView.space c.args.space.now) c.args.wanted (c.requires.awaits tells) c.in_ok-went.went (λ fits. c.in_ok-went.ensures.sure tells fits) c.grown.result c.grown.ensures wants

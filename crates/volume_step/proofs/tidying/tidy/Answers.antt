@@ -9,7 +9,7 @@ use Rattle.volume_space.specs.Awaiting.{AwaitsGrowth}
 use Rattle.volume_space.specs.declared.awaiting.TreeWanted.{TreeWanted}
 use Rattle.volume_step.specs.Steps.{KeepsJournal}
 use Rattle.volume_step.proofs.Done.{holds_kept}
-use Rattle.volume_step.proofs.GrownFor.{reclaims_behind}
+use Rattle.volume_step.proofs.GrownFor.{lacks_behind, reclaims_behind}
 use Rattle.volume_step.proofs.Widening.{own_or_free_still, touches_behind, touches_looked, touches_own}
 use Rattle.volume_step.proofs.tidying.tidy.Goals as goal
 
@@ -98,3 +98,13 @@ returns-in_err-found-clause-touches g c committed = touches_looked committed c.a
 
 pub returns-in_err-found-clause-holds : goal.returns-in_err-found-clause-holds
 returns-in_err-found-clause-holds g c committed was = holds_kept committed c.args.volume.now c.next_growth.new.volume c.next_growth.ensures.reads.keeps.map was
+
+pub returns-in-Some-clause-short : goal.returns-in-Some-clause-short
+returns-in-Some-clause-short g c tells =
+    if_so _ _ c.grow_for.result (λ came was wants. lacks_behind c.args.volume.now c.next_growth.new.volume (g.P.SectorView.space c.args.space.now) (g.P.SectorView.space c.next_growth.new.space) c.next_growth.ensures.reads (c.next_growth.ensures.reads.looks.content tells) (was wants))
+    (c.grow_for.ensures.short (c.next_growth.ensures.reads.looks.same.tells ∙ tells))
+
+pub returns-clause-short : goal.returns-clause-short
+returns-clause-short g c tells =
+    if_so _ _ c.tidy_now.result (λ came was wants. lacks_behind c.args.volume.now c.next_growth.new.volume (g.P.SectorView.space c.args.space.now) (g.P.SectorView.space c.next_growth.new.space) c.next_growth.ensures.reads (c.next_growth.ensures.reads.looks.content tells) (was wants))
+    (c.tidy_now.ensures.short (c.next_growth.ensures.reads.looks.same.tells ∙ tells))

@@ -1,4 +1,5 @@
 use Rattle.std.proofs.Common.{◌∙◌}
+use Rattle.alloc_bitmap.specs.Map.{free_of}
 use Rattle.hfs_volume.specs.Sound.{IsSound}
 use Rattle.volume_base.specs.Keeping.{shrunk_of}
 use Rattle.volume_base.specs.Room.{capacity_of}
@@ -6,6 +7,8 @@ use Rattle.volume_base.specs.Standing.{IsSettled, StandsOver}
 use Rattle.volume_base.proofs.FoundEntry.{ok_both}
 use Rattle.volume_space.proofs.Sounding.{sound_here}
 use Rattle.volume_step.proofs.Reclaimed.{places_as, reclaims_as}
+use Rattle.volume_base.proofs.Seeing.{if_so}
+use Rattle.volume_step.proofs.GrownFor.{short_tidied}
 use Rattle.volume_step.proofs.tidying.tidy_now.Goals as goal
 
 pub returns-clause-reclaims : goal.returns-clause-reclaims
@@ -13,7 +16,7 @@ returns-clause-reclaims g c tells =
     let a = g.P.SectorView.space c.args.space.now in
     let b = g.P.SectorView.space c.tidy.new.space in
     let later = (c.tidy.ensures.touches a.content).same.tells ∙ tells in
-    reclaims_as c.soundness_has_two_halves.ensures (capacity_of c.args.volume.now) (shrunk_of c.args.volume.now) a.content b.content (c.requires.settled tells).sound c.tidy.result
+    reclaims_as c.soundness_has_two_halves.ensures (capacity_of c.args.volume.now) (shrunk_of c.args.volume.now) (free_of c.args.volume.now.map) a.spare a.content b.content (c.requires.settled tells).sound c.tidy.result
     (ok_both (StandsOver c.tidy.new.volume b) (IsSettled c.tidy.new.volume b.content) (IsSound b.content) c.tidy.result c.tidy.ensures.stands (c.tidy.ensures.settled tells) (λ stands settled. sound_here c.tidy.new.volume b (stands.stands later) settled))
     (c.tidy.ensures.tidied tells)
 
@@ -22,9 +25,13 @@ returns-clause-place g c tells =
     let a = g.P.SectorView.space c.args.space.now in
     let b = g.P.SectorView.space c.tidy.new.space in
     let later = (c.tidy.ensures.touches a.content).same.tells ∙ tells in
-    places_as c.soundness_has_two_halves.ensures (capacity_of c.args.volume.now) (shrunk_of c.args.volume.now) a.content b.content (c.requires.settled tells).sound c.tidy.result
+    places_as c.soundness_has_two_halves.ensures (capacity_of c.args.volume.now) (shrunk_of c.args.volume.now) (free_of c.args.volume.now.map) a.spare a.content b.content (c.requires.settled tells).sound c.tidy.result
     (ok_both (StandsOver c.tidy.new.volume b) (IsSettled c.tidy.new.volume b.content) (IsSound b.content) c.tidy.result c.tidy.ensures.stands (c.tidy.ensures.settled tells) (λ stands settled. sound_here c.tidy.new.volume b (stands.stands later) settled))
     (c.tidy.ensures.tidied tells)
 
 pub returns-clause-holds : goal.returns-clause-holds
 returns-clause-holds g c committed was = c.tidy.ensures.used.holds committed was
+
+pub returns-clause-short : goal.returns-clause-short
+returns-clause-short g c tells =
+    if_so _ _ c.tidy.result (λ came was wants. short_tidied c.args.volume.now (g.P.SectorView.space c.args.space.now) (g.P.SectorView.space c.tidy.new.space).content came was wants) (c.tidy.ensures.tidied tells)
