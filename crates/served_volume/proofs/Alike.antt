@@ -17,7 +17,7 @@ use Rattle.hfs_volume.specs.declared.cost.Cost.TheVariants as cost
 use Rattle.hfs_volume.specs.Content.{VolumeState, volume_of}
 use Rattle.hfs_volume.specs.Reclaim.{GrowsTrees}
 use Rattle.hfs_volume.specs.Data.{PutsInFork}
-use Rattle.volume_runs.specs.Run.{AsksMore, DoesLine, Entry, IsAnswered, IsDone, IsLater, IsServed, IsToCome, LacksMemory, LacksResource, is_ok, reply_to}
+use Rattle.volume_runs.specs.Run.{DoesLine, Entry, IsAnswered, IsDone, IsServed, LacksMemory, LacksResource, is_ok, reply_to}
 use Rattle.hfs_volume.specs.Sound.{IsSound}
 use Rattle.volume_runs.specs.Told.{changes_by, changes_of}
 use Rattle.hfs_volume.specs.TreeOf.{tree_of}
@@ -108,27 +108,11 @@ module _ (capacity : ℕ) (line : List ℕ) (said : Reply) (now next old new : C
     same_gauge = ap (gauge capacity) after.lists ∙ was.same_gauge ∙ sym (ap (gauge capacity) before.lists);
   }
 
-  more_alike : (asked : Command) → AsksMore capacity asked old → AsksMore capacity asked now
-  more_alike asked was = record {
-    no_refusal = refuses_none (Ok asked) was.no_refusal;
-    grows = record { load = was.grows.load; grow = was.grows.grow; weighs = weighs asked ∙ was.grows.weighs; later = subst (λ (v : VolumeState). IsLater was.grows.grow v) (sym before.lists) was.grows.later };
-  }
-
-  to_come_alike : IsToCome capacity own → IsToCome capacity other
-  to_come_alike was = record {
-    asked = was.asked;
-    is_asked = was.is_asked;
-    no_refusal = refuses_none (Ok was.asked) was.no_refusal;
-    waits = more_alike was.asked was.waits;
-    reply_is = was.reply_is;
-    same = still was.same;
-  }
-
   pub served_alike : IsServed capacity own → IsServed capacity other
   served_alike was = record {
     sound_before = before.sound;
     sound_after = after.sound;
-    is = ⊎_elim (λ one. inl (answered_alike one)) (λ rest. inr (⊎_elim (λ two. inl (resource_alike two)) (λ last. inr (⊎_elim (λ three. inl (memory_alike three)) (λ four. inr (to_come_alike four)) last)) rest)) was.is;
+    is = ⊎_elim (λ one. inl (answered_alike one)) (λ rest. inr (⊎_elim (λ two. inl (resource_alike two)) (λ three. inr (memory_alike three)) rest)) was.is;
   }
 
   -- and it tells watchers the same

@@ -35,7 +35,7 @@ module _ (capacity number : ℕ) (line : List ℕ) (content : Content) (sound : 
 
   pub refused_entry : (why : Refusal) → IsRefusedAs line why → IsServedAs capacity number [] (entry why)
   refused_entry why is = record {
-    served = record { sound_before = sound; sound_after = sound; is = ⊎_elim (λ bad. inl (answered why bad)) (λ short. inr (inr (inl (memory why short)))) is };
+    served = record { sound_before = sound; sound_after = sound; is = ⊎_elim (λ bad. inl (answered why bad)) (λ short. inr (inr (memory why short))) is };
     told = refl;
   }
 

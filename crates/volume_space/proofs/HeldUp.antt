@@ -69,7 +69,7 @@ tight_step capacity volume step (inr (id, kind, same)) tight = ap (is_tight capa
 
 pub held_tight : (v : Volume) (content : Content) → IsSettled v content → (room : Room) → room ≡ room_on blocks.All v → (load : ℕ) → load ≡ cut_puts room → nat_lt room.capacity load ≡ true → (step : Reclaim) → IsCut step → IsHeldUp (capacity_of v) (volume_of content) step
 held_tight v content settled room is load load_is tight step cut =
-    inr (inr (tight_step (capacity_of v) (volume_of content) step cut (ap (λ n. nat_lt (capacity_of v) n) (sym (load_is ∙ ap cut_puts is ∙ cut_puts_is v content settled)) ∙ ap (λ (r : Room). nat_lt r.capacity load) (sym is) ∙ tight)))
+    inr (tight_step (capacity_of v) (volume_of content) step cut (ap (λ n. nat_lt (capacity_of v) n) (sym (load_is ∙ ap cut_puts is ∙ cut_puts_is v content settled)) ∙ ap (λ (r : Room). nat_lt r.capacity load) (sym is) ∙ tight))
 
 -- ---- the next step
 

@@ -3,7 +3,6 @@ pub mod Done
 pub mod Fewer
 pub mod Forks
 pub mod GrownFor
-pub mod GrowthFitsNow
 pub mod GrowthSteps
 pub mod Judged
 pub mod Kept

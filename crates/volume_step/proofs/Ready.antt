@@ -2,16 +2,17 @@
 use Rattle.std.proofs.Common.{◌≡◌, ◌≢◌, ◌<◌, ◌≤◌, ℕ, ◌+◌, ◌*◌, ◌/◌, min, Bool, true, false, List, [], ◌∷◌, length, refl, sym, ◌∙◌, ap, subst, arith}
 use Rattle.std.specs.Prelude.{◌==◌, ◌&&◌, ◌^◌, ◌||◌, nat_le, nat_lt, not, slice_index, is_some, IfOk, IsTrue, Option, None, Some, Result, Ok, Err, if◌then◌else◌}
 use Rattle.std.proofs.lemmas.Bool.{and_parts, eq-eqb, le-ltb, leb-true, true≢false}
-use Rattle.flag_rows.specs.Bits.{sectors_for}
-use Rattle.flag_rows.specs.Runs.{longest_of, runs_of}
 use Rattle.hx_bytes.specs.declared.faults.Trouble.{Trouble}
 use Rattle.jnl_format.specs.Recovery.{Content}
 use Rattle.sector_disk.specs.Space.{Space}
-use Rattle.alloc_bitmap.specs.Map.{free_of}
 use Rattle.alloc_bitmap.specs.declared.bitmap.Bitmap.{Bitmap}
+use Rattle.flag_rows.specs.Bits.{sectors_for}
+use Rattle.flag_rows.specs.Runs.{longest_of, runs_of}
+use Rattle.alloc_bitmap.specs.Map.{free_of}
 use Rattle.btree_file.specs.Growth.{map_nodes_for}
 use Rattle.btree_file.specs.Map.{bits_of}
 use Rattle.btree_file.specs.declared.tree.TreeFile.{TreeFile}
+use Rattle.hx_bytes.specs.declared.extents.Extent.{Extent}
 use Rattle.hx_bytes.specs.declared.extents.ForkRecord.{ForkRecord}
 use Rattle.volume_header.specs.declared.header.VolumeHeader.{VolumeHeader}
 use Rattle.hfs_language.specs.declared.command.Command.{Command}
@@ -26,6 +27,7 @@ use Rattle.hfs_model.specs.declared.plain.PlainNode.{PlainNode}
 use Rattle.hfs_model.specs.declared.plain.PlainTree.{PlainTree}
 use Rattle.hfs_volume.specs.Content.{VolumeState, has_attributes, volume_of}
 use Rattle.hfs_volume.specs.Cost.{cost_of, cost_or, load_of, node_sectors, plan_of, resource_refusal, tree_at}
+use Rattle.hfs_volume.specs.Reclaim.{first_growth}
 use Rattle.hfs_volume.specs.TreeOf.{tree_of}
 use Rattle.hfs_volume.specs.Weight.{Data, cut_cost, data_of, edits_of, free_blocks, lacks_tree, needs_cut, needs_for, room_with, weight, weight_with, written_data}
 use Rattle.hfs_volume.specs.declared.cost.Cost.{Cost}
@@ -41,7 +43,7 @@ use Rattle.volume_base.specs.Weighing.{joined, refused_or, weighed}
 use Rattle.volume_base.specs.declared.volume.Volume.{Volume}
 use Rattle.volume_base.specs.declared.weighing.Weight.{Weight}
 use Rattle.volume_base.specs.declared.weighing.Weight.TheVariants as answer
-use Rattle.volume_space.specs.Growing.{FileFits, GrowthFits, blocks_filled, fork_of, growth_load}
+use Rattle.volume_space.specs.Growing.{FileFits, GrowthFits, IsShort, IsThere, WantsFirst, alone, blocks_filled, fork_of, growth_load}
 use Rattle.volume_space.specs.declared.ahead.Growth.{Growth}
 use Rattle.volume_space.specs.declared.ahead.Growth.TheVariants as growing
 use Rattle.volume_space.specs.declared.ahead.WhichTree.{WhichTree}
@@ -255,6 +257,33 @@ growth_still v w a b reads which.Extents more (there, fits) = (there, file_still
 growth_still v w a b reads which.Catalog more (there, fits) = (there, file_still more a.tells v w a b reads.keeps.map reads.keeps.header reads.looks.spare v.catalog.file w.catalog.file (fork_of which.Catalog) reads.keeps.catalog.file fits)
 growth_still v w a b reads which.Attributes more (there, fits) =
     (subst (λ (h : VolumeHeader). IsTrue (has_attributes h)) (sym reads.keeps.header) there, file_still more a.tells v w a b reads.keeps.map reads.keeps.header reads.looks.spare v.attributes.file w.attributes.file (fork_of which.Attributes) reads.keeps.attributes.file fits)
+
+-- there is such a tree still, and its fork has fewer than eight extents still
+there_still : (v w : Volume) → w.header ≡ v.header → (tree : WhichTree) → IsThere tree v.header → IsThere tree w.header
+there_still v w same tree there = subst (λ (h : VolumeHeader). IsThere tree h) (sym same) there
+
+short_still : (v w : Volume) (a b : Space) → ReadsVolume v w a b → (tree : WhichTree) → IsShort tree v → IsShort tree w
+short_still v w a b reads which.Extents short = tt
+short_still v w a b reads which.Catalog short = subst (λ (l : List Extent). length l < 8) (sym reads.keeps.catalog.file.file.fork) short
+short_still v w a b reads which.Attributes short = subst (λ (l : List Extent). length l < 8) (sym reads.keeps.attributes.file.file.fork) short
+
+-- a command that fits now wants the first of its growths
+pub wants_now : (asked : Command) (v w : Volume) (a b : Space) → ReadsVolume v w a b → IsTrue a.tells → only_reads asked ≡ false → (now : FitsNow asked v a) → (tree : WhichTree) (more : ℕ) → 0 < more → first_growth now.grow ≡ alone tree more → IsThere tree v.header → IsShort tree v
+    → WantsFirst tree more w b
+wants_now asked v w a b reads tells unread now tree more some first there short =
+    let still = now_still asked v w a b reads tells now in
+    record {
+      needs = needs_of (edits_of (tree_of b.content) asked);
+      capacity = capacity_of w;
+      load = still.0.load;
+      grow = still.0.grow;
+      costs = edits_load (capacity_of w) (takable_of w) (volume_of b.content) (tree_of b.content) asked unread still.0.no_data still.0.load still.0.grow still.0.costs;
+      within = still.0.within;
+      some = some;
+      first = ap first_growth still.1 ∙ first;
+      there = there_still v w reads.keeps.header tree there;
+      short = short_still v w a b reads tree short;
+    }
 
 -- ---- `write`
 

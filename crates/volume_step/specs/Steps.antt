@@ -21,7 +21,7 @@ use Rattle.hfs_volume.specs.declared.cost.Cost.TheVariants as cost
 use Rattle.sector_disk.specs.Space.{Space}
 use Rattle.volume_weights.specs.DataWeighing.{WaitsForCut}
 use Rattle.volume_base.specs.Fitting.{AreMet, takable_of}
-use Rattle.volume_space.specs.Growing.{CountsHaveRoom, IsOwnOrFree, IsThere, alone, file_of, fork_of}
+use Rattle.volume_space.specs.Growing.{IsOwnOrFree, IsShort, IsThere, alone}
 use Rattle.volume_base.specs.Room.{capacity_of}
 use Rattle.volume_base.specs.Standing.{own_sectors}
 use Rattle.volume_space.specs.Writing.{is_data_met}
@@ -142,7 +142,7 @@ data_path asked = []
 
 -- what a cut comes to for its command
 abbrev pub outcome_of : CutAhead → Outcome
-outcome_of ahead.NotNeeded = outcome.Answered (reply.No refusal.NotBuilt) []
+outcome_of ahead.NotNeeded = outcome.CommitFirst
 outcome_of ahead.Made = outcome.Again
 outcome_of ahead.CommitFirst = outcome.CommitFirst
 outcome_of (ahead.Refused why) = outcome.Answered (reply.No why) []
@@ -173,14 +173,10 @@ pub record FitsNow (asked : Command) (volume : Volume) (space : Space) : Type 0 
   pub costs : weight_with (capacity_of volume) (takable_of volume) (volume_of space.content) (tree_of space.content) asked ≡ cost.Load load grow
   pub within : load ≤ space.spare
 
--- there is such a tree, and the numbers that count its file have room for so many nodes more, and its fork for an extent more
-abbrev pub CountsFit : WhichTree → ℕ → Volume → Type 0
-CountsFit tree more volume = IsThere tree volume.header × CountsHaveRoom more (file_of tree volume) (fork_of tree volume.header) volume
-
--- The command fits now, and where a growth goes ahead of it the numbers that count the tree's file have room.
+-- The command fits now, and where a tree grows ahead of it there is such a tree, and its fork has fewer than eight extents.
 pub record IsReady (asked : Command) (volume : Volume) (space : Space) : Type 0 where
   pub now : FitsNow asked volume space
-  pub counts : (tree : WhichTree) (more : ℕ) → 0 < more → first_growth now.grow ≡ alone tree more → CountsFit tree more volume
+  pub growth : (tree : WhichTree) (more : ℕ) → 0 < more → first_growth now.grow ≡ alone tree more → IsThere tree volume.header × IsShort tree volume
 
 -- The command puts data into a file, what it costs of the blocks that may be taken is met, and of all that are free it costs no growth of the extents
 -- overflow file either.

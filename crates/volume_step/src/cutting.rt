@@ -18,7 +18,7 @@ ghost use Rattle.volume_step.specs.Steps.{KeepsJournal, ShrinksAs, StepsTo, data
 
 use crate::answering::refusal;
 use crate::outcome::Outcome;
-use hfs_language::{Command, Refusal};
+use hfs_language::Command;
 use hfs_volume::soundness_has_two_halves;
 use hx_bytes::Trouble;
 use sector_disk::SectorSpace;
@@ -115,10 +115,9 @@ fn outcome_of(alloc: Global, came: CutAhead) -> Outcome
     ensures { result ≡ outcome_of came }
 {
     match came {
-        // Where the space tells, its file has blocks past its size.
-        CutAhead::NotNeeded => refusal(alloc, Refusal::NotBuilt),
         CutAhead::Made => Outcome::Again,
-        CutAhead::CommitFirst => Outcome::CommitFirst,
+        // Where the space tells, its file has blocks past its size.
+        CutAhead::CommitFirst | CutAhead::NotNeeded => Outcome::CommitFirst,
         CutAhead::Refused(why) => refusal(alloc, why),
     }
 }
@@ -151,6 +150,6 @@ pub(crate) fn cut_first<P: SectorSpace>(
     match data_end(command) {
         Some(end) => cut_up_to(alloc, volume, space, number, command, end),
         // Where the space tells, the command puts data.
-        None => Ok(refusal(alloc, Refusal::NotBuilt)),
+        None => Ok(Outcome::CommitFirst),
     }
 }

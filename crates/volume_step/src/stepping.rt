@@ -33,7 +33,6 @@ use hfs_language::Command;
 use hx_bytes::Trouble;
 use sector_disk::SectorSpace;
 use std::alloc::Global;
-use tree_weights::{a_load_says_enough, trees_grow_by_enough, trees_hold_three};
 use volume_base::Volume;
 
 /// Does a command for which nothing is missing, and which gives no file other bytes; it is done where its edits are met. None of the others
@@ -158,9 +157,6 @@ fn change<P: SectorSpace>(
     ensures below { P.SectorView.follows space.old space.new }
     ensures cause { HasTroubleCause (P.SectorView.space space.old).faults (P.SectorView.space space.new).faults result }
 {
-    a_load_says_enough();
-    trees_grow_by_enough();
-    trees_hold_three();
     match judge(alloc, volume, space, command)? {
         Verdict::Refused(why) => Ok(refusal(alloc, why)),
         Verdict::CutFirst => cut_first(alloc, volume, space, number, command),
@@ -173,8 +169,9 @@ fn change<P: SectorSpace>(
 }
 
 /// Weighs a command, whose line has this number, and does it: what it came to is that of the plain tree's step, or a refusal for
-/// want of a resource, or that it is still to come; or a commit is wanted before it, and nothing was changed. So it is where its
-/// load is more than may be put. `Memory` comes where memory is wanting, `Disk` where a read failed.
+/// want of a resource; or it is to be tried again, since a cut or the growth of a tree went ahead of it; or a commit is wanted before it, and
+/// nothing was changed. So it is where its load is more than may be put, or the growth doesn't fit. `Memory` comes where memory is wanting,
+/// `Disk` where a read failed.
 pub fn step<P: SectorSpace>(
     alloc: Global,
     volume: &mut Volume,
@@ -190,8 +187,7 @@ pub fn step<P: SectorSpace>(
     // Told, the line's entry is one of a run, with what it changed for watchers.
     ensures answered { IsTrue (P.SectorView.space space.old).tells → IfOk result (λ outcome. StepsTo outcome (capacity_of volume.old) number command.now (P.SectorView.space space.old).content (P.SectorView.space space.new).content) }
     // No commit comes first where the command reads alone; nor where it puts no data into a file, and what it costs of the blocks that may be taken
-    // is a load that the room suffices for (and the numbers have room that count the file of a tree that grows ahead of it); nor where it puts data,
-    // and that is met.
+    // is a load that the room suffices for (a tree that grows ahead of it has fewer than eight extents); nor where it puts data, and that is met.
     ensures ready { IsTrue (P.SectorView.space space.old).tells → (only_reads command.now ≡ true) ⊎ (IsReady command.now volume.old (P.SectorView.space space.old) ⊎ PutsNow command.now volume.old (P.SectorView.space space.old)) → IfOk result (λ it. it ≢ outcome.CommitFirst) }
     // The journal lies where it lay, and the header is one of the same volume.
     ensures place { IsTrue (P.SectorView.space space.old).tells → OnOk result (KeepsJournal (P.SectorView.space space.old).content (P.SectorView.space space.new).content) }

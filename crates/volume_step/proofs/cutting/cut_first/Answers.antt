@@ -1,9 +1,9 @@
 use Rattle.std.proofs.Common.{refl, sym, ◌∙◌}
 use Rattle.volume_base.specs.Room.{capacity_of}
 use Rattle.volume_base.proofs.Commanding.{touches_none}
+use Rattle.volume_step.specs.declared.outcome.Outcome.TheVariants as outcome
 use Rattle.volume_step.proofs.CutSteps.{dry_steps}
 use Rattle.volume_step.proofs.Done.{same_place}
-use Rattle.volume_step.proofs.Widening.{refused_shrinks}
 use Rattle.volume_step.proofs.cutting.cut_first.Goals as goal
 
 pub cut_up_to-requires-clause-end : goal.cut_up_to-requires-clause-end
@@ -12,13 +12,13 @@ cut_up_to-requires-clause-end g c = sym c.data_end.ensures ∙ c.in-Some.is
 pub returns-in-None-clause-answered : goal.returns-in-None-clause-answered
 returns-in-None-clause-answered g c tells =
     let a = (g.P.SectorView.space c.args.space.now) in
-    dry_steps (capacity_of c.args.volume.now) c.args.number c.args.command.now a.content a.content (c.requires.waits tells) (sym c.data_end.ensures ∙ c.in-None.is) c.refusal.result
+    dry_steps (capacity_of c.args.volume.now) c.args.number c.args.command.now a.content a.content (c.requires.waits tells) (sym c.data_end.ensures ∙ c.in-None.is) outcome.CommitFirst
 
 pub returns-in-None-clause-place : goal.returns-in-None-clause-place
 returns-in-None-clause-place g c tells = same_place (g.P.SectorView.space c.args.space.now).content (g.P.SectorView.space c.args.space.now).content refl
 
 pub returns-in-None-clause-shrunk : goal.returns-in-None-clause-shrunk
-returns-in-None-clause-shrunk g c tells = refused_shrinks _ _ _ _ _ c.refusal.result c.refusal.ensures refl
+returns-in-None-clause-shrunk g c tells = refl
 
 pub returns-in-None-clause-touches : goal.returns-in-None-clause-touches
 returns-in-None-clause-touches g c committed = touches_none committed _ (g.P.SectorView.space c.args.space.now)

@@ -32,4 +32,4 @@ pub returns-in_err-went-clause-touches : goal.returns-in_err-went-clause-touches
 returns-in_err-went-clause-touches g c committed = growth_touches committed c.args.volume.now c.grow_tree.new.volume (g.P.SectorView.space c.args.space.now) (g.P.SectorView.space c.grow_tree.new.space) (c.grow_tree.ensures.touches committed)
 
 pub returns-clause-ready : goal.returns-clause-ready
-returns-clause-ready g c tells fits = grown_now c.in_ok-went.went c.grown.result c.grown.ensures (c.in_ok-went.ensures.sure tells fits)
+returns-clause-ready g c tells fits = grown_now c.in_ok-went.went c.grown.result c.grown.ensures (c.in_ok-went.ensures.counted tells fits)

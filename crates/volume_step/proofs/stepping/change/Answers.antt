@@ -12,8 +12,7 @@ use Rattle.volume_step.specs.declared.judging.Verdict.{Verdict}
 use Rattle.volume_step.specs.declared.outcome.Outcome.{Outcome}
 use Rattle.volume_step.proofs.Done.{holds_kept, refused_steps, same_place}
 use Rattle.volume_step.proofs.Widening.{laid_still, own_or_free_still, refused_shrinks, touches_behind, touches_looked, touches_own}
-use Rattle.volume_step.proofs.GrowthFitsNow.{growth_fits_now}
-use Rattle.volume_step.proofs.Ready.{growth_still, now_still}
+use Rattle.volume_step.proofs.Ready.{now_still, wants_now}
 use Rattle.volume_step.proofs.ReadyData.{puts_still}
 use Rattle.volume_step.proofs.stepping.change.Goals as goal
 
@@ -154,10 +153,9 @@ returns-in-CommitFirst-clause-ready g c tells ready =
 pub returns-in-Grows-clause-ready : goal.returns-in-Grows-clause-ready
 returns-in-Grows-clause-ready g c tells ready =
     let first = subst (λ (v : Verdict). IsTaken v ready.now.grow) c.in-Grows.is (c.in_ok-why.ensures.taken tells ready.now) in
+    let growth = ready.growth c.in-Grows.tree c.in-Grows.more first.0 first.1 in
     c.grow_first.ensures.ready (c.judge.ensures.reads.looks.same.tells ∙ tells)
-    (growth_still c.args.volume.now c.judge.new.volume (g.P.SectorView.space c.args.space.now) (g.P.SectorView.space c.judge.new.space) c.judge.ensures.reads c.in-Grows.tree c.in-Grows.more
-    (growth_fits_now c.a_load_says_enough.ensures c.trees_grow_by_enough.ensures c.trees_hold_three.ensures c.args.command.now c.args.volume.now (g.P.SectorView.space c.args.space.now) c.requires.changes (c.requires.stands.stands tells) (c.requires.settled tells) ready.now c.in-Grows.tree c.in-Grows.more first.0 first.1
-    (ready.counts c.in-Grows.tree c.in-Grows.more first.0 first.1)))
+    (wants_now c.args.command.now c.args.volume.now c.judge.new.volume (g.P.SectorView.space c.args.space.now) (g.P.SectorView.space c.judge.new.space) c.judge.ensures.reads tells c.requires.changes ready.now c.in-Grows.tree c.in-Grows.more first.0 first.1 growth.0 growth.1)
 
 pub returns-in-Fits-clause-ready : goal.returns-in-Fits-clause-ready
 returns-in-Fits-clause-ready g c tells ready =
