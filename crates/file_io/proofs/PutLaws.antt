@@ -35,10 +35,12 @@ part_put sector value part low end from start k whole is low_is end_is some lt =
         ∙ get_or-take (end - from - (low - from)) (drop (low - from) value) (k - (low - start)) 0 (omega (arith, low_is, below, above))
         ∙ get_or-drop (low - from) value (k - (low - start)) 0
         ∙ ap (λ (j : ℕ). get_or value j 0) place
+
     outside : length part ≡ end - start - (low - start) → (start + k < low) ⊎ (end ≤ start + k) → get_or (put_mid (low - start) (end - start - (low - start)) sector part) k 0 ≡ get_or sector k 0
     outside long out =
         mid_outside sector part (low - start) (end - start - (low - start)) k long (omega (arith, whole, end_is, some))
         (⊎_elim (λ (a : start + k < low). inl (omega (arith, a, low_is))) (λ (b : end ≤ start + k). inr (omega (arith, b, low_is, some))) out)
+
     each : length part ≡ end - start - (low - start) → get_or (put_mid (low - start) (end - start - (low - start)) sector part) k 0 ≡ (if nat_le low (start + k) && nat_lt (start + k) end then get_or value (start + k - from) 0 else get_or sector k 0)
     each long = ⊎_elim
         (λ (a : (nat_le low (start + k) ≡ true) × (low ≤ start + k)). ⊎_elim
