@@ -12,7 +12,7 @@ pub record Fetched (taken : List ℕ) (old : Stream) (text : List ℕ) (taken_no
   pub left : old.left ≡ came ++ now.left
   pub needed : HasNoNewline taken
   pub bytes : text ++ taken_now ≡ taken ++ came
-  pub few : length taken_now ≤ 65536
+  pub few : length taken_now ≤ 1048576
 
 -- the text came of the bytes taken before alone, or more had to be taken
 abbrev pub Fetches : List ℕ → Stream → List ℕ → List ℕ → Stream → Type 0
@@ -47,7 +47,7 @@ module _ (taken : List ℕ) (old : Stream) (text : List ℕ) where
   }
 
   -- one byte more
-  pub fetches_byte : (taken_now taken_new : List ℕ) (now new : Stream) (byte : ℕ) → ((taken_now ≡ [] → ⊥) → new ≡ now) → length taken_new ≤ 65536 → ahead taken_now now ≡ byte ∷ ahead taken_new new
+  pub fetches_byte : (taken_now taken_new : List ℕ) (now new : Stream) (byte : ℕ) → ((taken_now ≡ [] → ⊥) → new ≡ now) → length taken_new ≤ 1048576 → ahead taken_now now ≡ byte ∷ ahead taken_new new
       → HasNoNewline text → Fetches taken old text taken_now now → Fetches taken old (text ++ byte ∷ []) taken_new new
   fetches_byte [] taken_new now new byte still few came none (inl same) = inr (record {
     came = byte ∷ taken_new;
@@ -95,4 +95,36 @@ module _ (taken : List ℕ) (old : Stream) (text : List ℕ) where
     needed = fetched.needed;
     bytes = fetched.bytes;
     few = fetched.few;
+  })
+
+  -- bytes were taken of the source where none were left of those taken before
+  pub fetches_on : (taken_now taken_new : List ℕ) (now new : Stream) → ((taken_now ≡ [] → ⊥) → (new ≡ now) × (taken_new ≡ taken_now)) → length taken_new ≤ 1048576 → ahead taken_new new ≡ ahead taken_now now
+      → HasNoNewline text → Fetches taken old text taken_now now → Fetches taken old text taken_new new
+  fetches_on [] taken_new now new still few came none (inl same) = inr (record {
+    came = taken_new;
+    left = ap (λ (s : Stream). s.left) (sym same.0) ∙ sym came;
+    needed = subst HasNoNewline (sym (same.1 ∙ append-nil text)) none;
+    bytes = ap (λ (l : List ℕ). l ++ taken_new) (sym (same.1 ∙ append-nil text));
+    few = few;
+  })
+  fetches_on [] taken_new now new still few came none (inr fetched) = inr (record {
+    came = fetched.came ++ taken_new;
+    left = fetched.left ∙ ap (λ (l : List ℕ). fetched.came ++ l) (sym came) ∙ sym (append_assoc fetched.came taken_new new.left);
+    needed = fetched.needed;
+    bytes = ap (λ (l : List ℕ). l ++ taken_new) (sym (append-nil text) ∙ fetched.bytes) ∙ append_assoc taken fetched.came taken_new;
+    few = few;
+  })
+  fetches_on (first ∷ taken_now) taken_new now new still few came none fetches =
+      let same = still (λ is. absurd (cc is)) in
+      subst (λ (s : Stream). Fetches taken old text taken_new s) (sym same.0) (subst (λ (l : List ℕ). Fetches taken old text l now) (sym same.1) fetches)
+
+  -- a piece of the bytes that were taken joins the text
+  pub fetches_piece : (piece rest : List ℕ) (now : Stream) → Fetches taken old text (piece ++ rest) now → Fetches taken old (text ++ piece) rest now
+  fetches_piece piece rest now (inl same) = inl (same.0, same.1 ∙ sym (append_assoc text piece rest))
+  fetches_piece piece rest now (inr fetched) = inr (record {
+    came = fetched.came;
+    left = fetched.left;
+    needed = fetched.needed;
+    bytes = append_assoc text piece rest ∙ fetched.bytes;
+    few = omega (arith, fetched.few, length-append piece rest);
   })

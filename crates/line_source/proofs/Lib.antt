@@ -2,3 +2,4 @@ pub mod Adding
 pub mod Cuts
 pub mod Fetching
 pub mod Reading
+pub mod Pieces

@@ -3,11 +3,13 @@ use Rattle.std.proofs.Common.{◌≡◌, ◌==◌, ◌↔◌, inl, inr, suc, Boo
 use Rattle.std.proofs.Math.Seq.{take-nil}
 use Rattle.std.proofs.lemmas.Bool.Decides.{nat_tests}
 use Rattle.std.proofs.lemmas.List.{append-nil}
+use Rattle.std.proofs.lemmas.List.Elements.{All-append}
 use Rattle.sector_disk.specs.Source.{Stream}
 use Rattle.hfs_language.specs.Lines.{lines, HasNoNewline}
-use Rattle.hfs_language.proofs.Lines.{lines-nil, lines_ended, lines_last, HasNoNewline-nil, HasNoNewline-push}
+use Rattle.hfs_language.proofs.Lines.{lines_ended, lines_last}
+use Rattle.line_source.specs.Cutting.{Cuts}
 use Rattle.line_source.specs.Input.{ahead, weight, IsLine, SameSource, TakesLines, TakesNoMore}
-use Rattle.line_source.proofs.Fetching.{Fetches, fetches_nothing, fetches_byte, fetches_none, no_more}
+use Rattle.line_source.proofs.Fetching.{Fetches, fetches_byte, fetches_none, fetches_on, fetches_piece, no_more}
 
 -- some bytes of a line have come so far
 pub record Reads (limit : ℕ) (taken : List ℕ) (old : Stream) (taken_now : List ℕ) (now : Stream) (line : List ℕ) : Type 0 where
@@ -24,19 +26,31 @@ module _ (limit : ℕ) (taken : List ℕ) (old : Stream) (taken_now : List ℕ) 
   pub still : IsTrue old.tells → IsTrue now.tells
   still tells = subst IsTrue (sym reads.same.tells) tells
 
-  pub reads_more : (taken_new : List ℕ) (new : Stream) (longer : List ℕ) (byte : ℕ) → (byte ≡ 10 → ⊥) → IsLine limit (reads.text ++ byte ∷ []) longer
-      → (IsTrue now.tells → ahead taken_now now ≡ byte ∷ ahead taken_new new) → weight taken_new new < weight taken_now now → SameSource now new → now.faults ≤ new.faults
-      → ((taken_now ≡ [] → ⊥) → new ≡ now) → length taken_new ≤ 65536
-      → Reads limit taken old taken_new new longer
-  reads_more taken_new new longer byte other is came nearer same later still_there few = record {
-    text = reads.text ++ byte ∷ [];
-    no_newline = HasNoNewline-push reads.text byte reads.no_newline other;
-    line_is = is;
-    bytes = λ tells. reads.bytes tells ∙ ap (λ (l : List ℕ). reads.text ++ l) (came (still tells)) ∙ sym (append_assoc reads.text (byte ∷ []) (ahead taken_new new));
-    nearer = omega (arith, nearer, reads.nearer, length-append reads.text (byte ∷ []));
+  -- bytes were taken of the source where none were left of those taken before
+  pub reads_on : (taken_new : List ℕ) (new : Stream) → (IsTrue now.tells → ahead taken_new new ≡ ahead taken_now now) → weight taken_new new ≤ weight taken_now now → SameSource now new → now.faults ≤ new.faults
+      → ((taken_now ≡ [] → ⊥) → (new ≡ now) × (taken_new ≡ taken_now)) → length taken_new ≤ 1048576 → Reads limit taken old taken_new new line
+  reads_on taken_new new came heavy same later still_there few = record {
+    text = reads.text;
+    no_newline = reads.no_newline;
+    line_is = reads.line_is;
+    bytes = λ tells. reads.bytes tells ∙ ap (λ (l : List ℕ). reads.text ++ l) (sym (came (still tells)));
+    nearer = omega (arith, heavy, reads.nearer);
     same = record { tells = same.tells ∙ reads.same.tells; names = same.names ∙ reads.same.names };
     later = omega (arith, later, reads.later);
-    fetches = λ tells. fetches_byte taken old reads.text taken_now taken_new now new byte still_there few (came (still tells)) reads.no_newline (reads.fetches tells);
+    fetches = λ tells. fetches_on taken old reads.text taken_now taken_new now new still_there few (came (still tells)) reads.no_newline (reads.fetches tells);
+  }
+
+  -- a piece of them joins the line
+  pub reads_piece : (piece rest longer : List ℕ) → taken_now ≡ piece ++ rest → HasNoNewline piece → IsLine limit (reads.text ++ piece) longer → Reads limit taken old rest now longer
+  reads_piece piece rest longer cut none is = record {
+    text = reads.text ++ piece;
+    no_newline = All-append (λ b. b ≡ 10 → ⊥) reads.text piece reads.no_newline none;
+    line_is = is;
+    bytes = λ tells. reads.bytes tells ∙ ap (λ (l : List ℕ). reads.text ++ (l ++ now.left)) cut ∙ ap (λ (l : List ℕ). reads.text ++ l) (append_assoc piece rest now.left) ∙ sym (append_assoc reads.text piece (rest ++ now.left));
+    nearer = omega (arith, reads.nearer, length-append reads.text piece, ap (λ (l : List ℕ). length l) cut, length-append piece rest);
+    same = reads.same;
+    later = reads.later;
+    fetches = λ tells. fetches_piece taken old reads.text piece rest now (subst (λ (l : List ℕ). Fetches taken old reads.text l now) cut (reads.fetches tells));
   }
 
   -- a newline ends the line
@@ -59,10 +73,6 @@ module _ (limit : ℕ) (taken : List ℕ) (old : Stream) (taken_now : List ℕ) 
       last_line [] no_newline some = absurd (some refl)
       last_line (byte ∷ text) no_newline some = lines_last byte text no_newline
 
-  -- nothing came before the end
-  pub reads_none : reads.text ≡ [] → (IsTrue now.tells → ahead taken_now now ≡ []) → IsTrue old.tells → ahead taken old ≡ []
-  reads_none none at_end tells = reads.bytes tells ∙ ap (λ (l : List ℕ). l ++ ahead taken_now now) none ∙ at_end (still tells)
-
   -- what is gone stood first
   pub reads_gone : (left : List ℕ) → left ≡ now.left → IsTrue old.tells → (gone : List ℕ) × (ahead taken old ≡ gone ++ left)
   reads_gone left is tells = (reads.text ++ taken_now, reads.bytes tells ∙ sym (append_assoc reads.text taken_now now.left) ∙ ap (λ (l : List ℕ). (reads.text ++ taken_now) ++ l) (sym is))
@@ -73,26 +83,8 @@ module _ (limit : ℕ) (taken : List ℕ) (old : Stream) (taken_now : List ℕ) 
     reads.bytes tells ∙ ap (λ (l : List ℕ). reads.text ++ l) (came (still tells)) ∙ sym (append_assoc reads.text (byte ∷ taken_new) new.left),
   )
 
-  pub reads_gone_end : (taken_new : List ℕ) (new : Stream) → (IsTrue now.tells → ahead taken_now now ≡ []) → (IsTrue now.tells → ahead taken_new new ≡ []) → IsTrue old.tells → (gone : List ℕ) × (ahead taken old ≡ gone ++ new.left)
-  reads_gone_end taken_new new none at_end tells = (
-    reads.text ++ taken_new,
-    reads.bytes tells ∙ ap (λ (l : List ℕ). reads.text ++ l) (none (still tells) ∙ sym (at_end (still tells))) ∙ sym (append_assoc reads.text taken_new new.left),
-  )
-
-  -- nothing was held, and nothing more came: what is gone is the text
-  pub reads_begun : (new : Stream) → taken_now ≡ [] → new.left ≡ now.left → IsTrue old.tells → (begun : List ℕ) × HasNoNewline begun × (ahead taken old ≡ begun ++ new.left)
-  reads_begun new none kept tells = (reads.text, reads.no_newline, reads.bytes tells ∙ ap (λ (l : List ℕ). reads.text ++ (l ++ now.left)) none ∙ ap (λ (l : List ℕ). reads.text ++ l) (sym kept))
-
-  -- nothing was held, so that no newline stood in what was taken before
-  pub reads_had_none : taken_now ≡ [] → IsTrue old.tells → HasNoNewline taken
-  reads_had_none none tells = go (reads.fetches tells)
-    where
-      go : Fetches taken old reads.text taken_now now → HasNoNewline taken
-      go (inl same) = subst HasNoNewline (sym (same.1 ∙ ap (λ (l : List ℕ). reads.text ++ l) none ∙ append-nil reads.text)) reads.no_newline
-      go (inr fetched) = fetched.needed
-
   -- no more was taken than the line needs, where one byte more was read, and where none was
-  pub reads_few_byte : (taken_new : List ℕ) (new : Stream) (byte : ℕ) → ((taken_now ≡ [] → ⊥) → new ≡ now) → length taken_new ≤ 65536 → (IsTrue now.tells → ahead taken_now now ≡ byte ∷ ahead taken_new new) → IsTrue old.tells → TakesNoMore taken old new
+  pub reads_few_byte : (taken_new : List ℕ) (new : Stream) (byte : ℕ) → ((taken_now ≡ [] → ⊥) → new ≡ now) → length taken_new ≤ 1048576 → (IsTrue now.tells → ahead taken_now now ≡ byte ∷ ahead taken_new new) → IsTrue old.tells → TakesNoMore taken old new
   reads_few_byte taken_new new byte still_there few came tells =
       no_more taken old reads.text (byte ∷ []) taken_new new reads.no_newline (omega arith) (fetches_byte taken old reads.text taken_now taken_new now new byte still_there few (came (still tells)) reads.no_newline (reads.fetches tells))
 
@@ -109,25 +101,9 @@ module _ (limit : ℕ) (taken : List ℕ) (old : Stream) (taken_now : List ℕ) 
       none_behind [] rest none = none
       none_behind (byte ∷ front) rest none = absurd (cc none)
 
-pub reads_nothing : (limit : ℕ) (taken : List ℕ) (old : Stream) (line : List ℕ) → IsLine limit [] line → Reads limit taken old taken old line
-reads_nothing limit taken old line is = record {
-  text = [];
-  no_newline = HasNoNewline-nil;
-  line_is = is;
-  bytes = λ tells. refl;
-  nearer = omega arith;
-  same = record { tells = refl; names = refl };
-  later = omega arith;
-  fetches = λ tells. fetches_nothing taken old;
-}
-
 -- what isn't empty has a byte
 pub some_text : (empty : Bool) (text : List ℕ) → IsTrue empty ↔ (text ≡ []) → empty ≡ false → text ≡ [] → ⊥
 some_text empty text test none is = absurd (cc (test.1 is, none))
-
-pub nearer_last : (text : List ℕ) (old now new : ℕ) → (text ≡ [] → ⊥) → length text + now ≤ old → new ≤ now → new < old
-nearer_last [] old now new some so_far last = absurd (some refl)
-nearer_last (byte ∷ text) old now new some so_far last = omega (arith, so_far, last)
 
 -- nothing is held of a line just where it has no byte
 pub is_nothing : (limit : ℕ) (text line : List ℕ) (empty : Bool) → empty ≡ (length line == 0) → IsLine limit text line → IsTrue empty ↔ (text ≡ [])
@@ -140,3 +116,34 @@ is_nothing limit (byte ∷ text) line empty is held = (λ t. absurd (no_length (
         let next_is : limit + 1 ≡ suc limit = omega arith in
         let is_it : line ≡ byte ∷ take limit text = subst (λ (n : ℕ). line ≡ take n (byte ∷ text)) next_is held in
         absurd (omega (arith, zero_is, ap (λ (l : List ℕ). length l) is_it))
+
+-- ---- a cut
+
+module _ (limit : ℕ) (taken : List ℕ) (old : Stream) (taken_now : List ℕ) (now : Stream) (line : List ℕ) (reads : Reads limit taken old taken_now now line) where
+  -- no newline was there
+  pub cut_on : (taken_new line_new : List ℕ) (ended : Bool) → Cuts limit taken_now line ended taken_new line_new → ended ≡ false → Reads limit taken old taken_new now line_new
+  cut_on taken_new line_new ended cuts not =
+      let at_end = cuts.at_end not in
+      reads_piece limit taken old taken_now now line reads cuts.piece taken_new line_new (at_end.0 ∙ sym (append-nil cuts.piece) ∙ ap (λ (l : List ℕ). cuts.piece ++ l) (sym at_end.1)) cuts.no_newline (cuts.joins reads.text reads.line_is)
+
+  -- one ends the line
+  pub record EndsLine (taken_new line_new : List ℕ) : Type 0 where
+    pub text : List ℕ
+    pub line_is : IsLine limit text line_new
+    pub takes : IsTrue old.tells → TakesLines taken old (text ∷ []) taken_new now
+    pub no_more_is : IsTrue old.tells → TakesNoMore taken old now
+    pub gone : IsTrue old.tells → (gone : List ℕ) × (ahead taken old ≡ gone ++ now.left)
+    pub nearer : weight taken_new now < weight taken old
+
+  pub cut_ended : (taken_new line_new : List ℕ) (ended : Bool) → length taken_now ≤ 1048576 → Cuts limit taken_now line ended taken_new line_new → ended ≡ true → EndsLine taken_new line_new
+  cut_ended taken_new line_new ended few cuts is =
+      let whole = reads_piece limit taken old taken_now now line reads cuts.piece (10 ∷ taken_new) line_new (cuts.at_newline is) cuts.no_newline (cuts.joins reads.text reads.line_is) in
+      let left : length taken_new ≤ 1048576 = omega (arith, few, ap (λ (l : List ℕ). length l) (cuts.at_newline is), length-append cuts.piece (10 ∷ taken_new)) in
+      record {
+        text = whole.text;
+        line_is = whole.line_is;
+        takes = reads_ended limit taken old (10 ∷ taken_new) now line_new whole taken_new now (λ tells. refl);
+        no_more_is = reads_few_byte limit taken old (10 ∷ taken_new) now line_new whole taken_new now 10 (λ some. refl) left (λ tells. refl);
+        gone = reads_gone_byte limit taken old (10 ∷ taken_new) now line_new whole taken_new now 10 (λ tells. refl);
+        nearer = omega (arith, whole.nearer);
+      }

@@ -1,5 +1,5 @@
 -- Which count rose where a call answers one fault of several.
-use Rattle.std.specs.Prelude.{◌≡◌, ◌≤◌, ℕ, Result, IsErrOf}
+use Rattle.std.specs.Prelude.{◌≤◌, ℕ, Result, IsErrOf}
 use Rattle.sector_disk.specs.Cause.{Rose}
 
 -- the count hasn't fallen, and it rose where this fault is answered

@@ -1,3 +1,4 @@
 pub mod Cause
 pub mod Input
 pub mod Batch
+pub mod Cutting

@@ -1,18 +1,20 @@
 //! Lines of a source, one by one, of which no more than a limit is held.
-ghost use Rattle.std.specs.Prelude.{◌≡◌, ◌≢◌, ◌<◌, ◌≤◌, ◌++◌, ◌∷◌, ◌-◌, ◌↔◌, [], ℕ, List, IsErrOf, IsTrue, length, MatchOption, IfOk, IfSome, IfNone, OnSome, OnOk, OnErr};
+ghost use Rattle.std.specs.Prelude.{◌≡◌, ◌≢◌, ◌<◌, ◌≤◌, ◌++◌, ◌∷◌, ◌+◌, ◌-◌, ◌↔◌, [], ℕ, List, IsErrOf, IsTrue, length, MatchOption, IfOk, IfSome, IfNone, OnSome, OnOk, OnErr, false, take};
 ghost use Rattle.sector_disk.specs.Cause.{HasCause};
 ghost use Rattle.hfs_language.specs.Lines.{HasNoNewline};
 ghost use Rattle.line_source.specs.Cause.{IsCause};
 ghost use Rattle.line_source.specs.Batch.{has_newline};
+ghost use Rattle.line_source.specs.Cutting.{Cuts};
 ghost use Rattle.line_source.specs.Input.{ahead, weight, IsLine, SameSource, TakesLines, TakesNoMore};
 
 use hx_bytes::{Bytes, Failed, OutOfMemory};
+use memchr::memchr;
 use sector_disk::Source;
 use std::alloc::{AllocFailed, Global};
 use std::marker::Model;
 
 /// How many bytes are taken of a source at a time, at most.
-const BUFFER: usize = 65_536;
+const BUFFER: usize = 1_048_576;
 
 /// Bytes that were taken from a source and belong to no line yet.
 #[derive(Drop)]
@@ -29,7 +31,7 @@ impl Model for Input {
 
     ghost view = { λ input. take (input.end - input.start) (drop input.start input.buffer.items) };
 
-    ghost invariant = { λ input. (input.start ≤ input.end) × (input.end ≤ 65536) × (length input.buffer.items ≡ 65536) };
+    ghost invariant = { λ input. (input.start ≤ input.end) × (input.end ≤ 1048576) × (length input.buffer.items ≡ 1048576) };
 }
 
 /// Why no line was read.
@@ -109,17 +111,19 @@ impl Input {
         ensures same { SameSource (S.stream source.old) (S.stream source.new) }
         ensures cause { IsCause InputFault.Source (S.stream source.old).faults (S.stream source.new).faults result }
     {
-        let mut line = Bytes::new(alloc);
+        let mut line = Vec::new(alloc);
         loop {
-            match self.next_byte(source)? {
-                None => {
-                    if line.is_empty() {
-                        return Ok(None);
-                    }
-                    return Ok(Some(line));
+            let some = self.has_more(source)?;
+            if !some {
+                let last = Bytes::from_vec(line);
+                if last.is_empty() {
+                    return Ok(None);
                 }
-                Some(10) => return Ok(Some(line)),
-                Some(byte) => lengthen(&mut line, byte, limit)?,
+                return Ok(Some(last));
+            }
+            let ended = self.cut(&mut line, limit)?;
+            if ended {
+                return Ok(Some(Bytes::from_vec(line)));
             }
         }
     }
@@ -128,31 +132,31 @@ impl Input {
     pub fn has_line(&self) -> bool
         ensures { result ≡ has_newline self.now }
     {
-        self.buffer[self.start..self.end]
-            .iter()
-            .any(|byte| *byte == 10)
+        has_newline(&self.buffer[self.start..self.end])
     }
 
-    // The next byte, or none at the end of the source.
-    fn next_byte<S: Source>(&mut self, source: &mut S) -> Result<Option<u8>, Failed>
-        ensures byte { IsTrue (S.stream source.old).tells → IfOk result (λ next. IfSome next (λ byte. ahead self.old (S.stream source.old) ≡ byte ∷ ahead self.new (S.stream source.new))) }
-        ensures end { IsTrue (S.stream source.old).tells → IfOk result (λ next. IfNone next ((ahead self.old (S.stream source.old) ≡ []) × (ahead self.new (S.stream source.new) ≡ []))) }
+    // Takes bytes of the source where none is left of those taken before, and answers whether there are some.
+    fn has_more<S: Source>(&mut self, source: &mut S) -> Result<bool, Failed>
+        ensures bytes { IsTrue (S.stream source.old).tells → OnOk result (ahead self.new (S.stream source.new) ≡ ahead self.old (S.stream source.old)) }
+        ensures some { IfOk result (λ some. IsTrue some ↔ (self.new ≢ [])) }
+        ensures end { IsTrue (S.stream source.old).tells → IfOk result (λ some. some ≡ false → (ahead self.old (S.stream source.old) ≡ []) × (ahead self.new (S.stream source.new) ≡ [])) }
         ensures kept { OnErr result (((S.stream source.new).left ≡ (S.stream source.old).left) × (self.old ≡ [])) }
-        ensures still { self.old ≢ [] → S.stream source.new ≡ S.stream source.old }
-        ensures few { length self.new ≤ 65536 }
-        ensures nearer { IfOk result (λ next. OnSome next (weight self.new (S.stream source.new) < weight self.old (S.stream source.old))) }
+        ensures still { self.old ≢ [] → (S.stream source.new ≡ S.stream source.old) × (self.new ≡ self.old) }
+        ensures few { length self.new ≤ 1048576 }
         ensures no_more { weight self.new (S.stream source.new) ≤ weight self.old (S.stream source.old) }
         ensures same { SameSource (S.stream source.old) (S.stream source.new) }
         ensures cause { HasCause (S.stream source.old).faults (S.stream source.new).faults result }
     {
         if self.is_empty() {
             self.fill(source)?;
+            return Ok(!self.is_empty());
         }
-        Ok(self.pop())
+        Ok(true)
     }
 
     fn is_empty(&self) -> bool
-        ensures { IsTrue result ↔ (self.now ≡ []) }
+        ensures none { IsTrue result ↔ (self.now ≡ []) }
+        ensures few { length self.now ≤ 1048576 }
     {
         self.start == self.end
     }
@@ -162,7 +166,7 @@ impl Input {
         requires { self.old ≡ [] }
         ensures filled { IsTrue (S.stream source.old).tells → OnOk result ((S.stream source.old).left ≡ self.new ++ (S.stream source.new).left) }
         ensures end { IsTrue (S.stream source.old).tells → OnOk result (self.new ≡ [] → (S.stream source.old).left ≡ []) }
-        ensures few { length self.new ≤ 65536 }
+        ensures few { length self.new ≤ 1048576 }
         ensures kept { OnErr result ((S.stream source.new).left ≡ (S.stream source.old).left) }
         ensures no_more { weight self.new (S.stream source.new) ≤ weight self.old (S.stream source.old) }
         ensures same { SameSource (S.stream source.old) (S.stream source.new) }
@@ -174,26 +178,55 @@ impl Input {
         Ok(())
     }
 
-    // The first of the bytes taken.
-    fn pop(&mut self) -> Option<u8>
-        ensures first { MatchOption result ((self.old ≡ []) × (self.new ≡ [])) (λ byte. self.old ≡ byte ∷ self.new) }
-        ensures few { length self.new ≤ 65536 }
+    // Takes the bytes up to a newline, and it, or all where none is among them, and adds them to a line. Answers whether a newline was there.
+    fn cut(&mut self, line: &mut Vec<u8>, limit: usize) -> Result<bool, OutOfMemory>
+        ensures cuts { IfOk result (λ ended. Cuts limit self.old line.old.items ended self.new line.new.items) }
+        ensures kept { OnErr result (self.new ≡ self.old) }
     {
-        if self.start == self.end {
-            return None;
+        let bytes = &self.buffer[self.start..self.end];
+        match memchr(10, bytes) {
+            Some(at) => {
+                lengthen(line, &bytes[..at], limit)?;
+                self.start += at + 1;
+                Ok(true)
+            }
+            None => {
+                lengthen(line, bytes, limit)?;
+                self.start = self.end;
+                Ok(false)
+            }
         }
-        let byte = self.buffer[self.start];
-        self.start += 1;
-        Some(byte)
     }
 }
 
-// A byte more of a line, which isn't held behind the first that is too many.
-fn lengthen(line: &mut Bytes, byte: u8, limit: usize) -> Result<(), OutOfMemory>
-    ensures { OnOk result ((text : List ℕ) → IsLine limit text line.old → IsLine limit (text ++ byte ∷ []) line.new) }
+// Whether a newline is among the bytes.
+fn has_newline(bytes: &[u8]) -> bool
+    ensures { result ≡ has_newline bytes.now }
 {
-    if line.len() <= limit {
-        line.push(byte)?;
+    match memchr(10, bytes) {
+        Some(at) => true,
+        None => false,
     }
+}
+
+// Bytes more of a line, which isn't held behind the first that is too many.
+fn lengthen(line: &mut Vec<u8>, piece: &[u8], limit: usize) -> Result<(), OutOfMemory>
+    ensures { OnOk result ((text : List ℕ) → IsLine limit text line.old.items → IsLine limit (text ++ piece.now) line.new.items) }
+{
+    line.extend_from_slice(front(piece, line.len(), limit))?;
     Ok(())
+}
+
+// The bytes that are held behind so many of a line.
+fn front(piece: &[u8], held: usize, limit: usize) -> &[u8]
+    ensures { result.now ≡ take (limit + 1 - held) piece.now }
+{
+    if limit < held {
+        return &[];
+    }
+    let room = limit - held;
+    if room < piece.len() {
+        return &piece[..room + 1];
+    }
+    piece
 }

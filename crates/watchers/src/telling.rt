@@ -8,8 +8,8 @@ use hfs_language::{Change, Changes};
 
 /// Tells each change to each watcher, in the order of the list. One that leaves is gone at once, and the rest keep their
 /// order. It takes no memory.
-pub fn tell_all(watchers: &mut Vec<Box<dyn Watcher>>, changes: &Changes)
-    ensures told { AllByRecursion (λ w. leaves w ≡ false) watchers.old.items → AreTold (λ w. told w) (λ w. leaves w) changes.now watchers.old.items watchers.new.items }
+pub fn tell_all<W: Watcher>(watchers: &mut Vec<W>, changes: &Changes)
+    ensures told { AllByRecursion (λ w. W.leaves w ≡ false) watchers.old.items → AreTold W.told W.leaves changes.now watchers.old.items watchers.new.items }
 {
     for change in changes.as_slice() {
         tell_each(watchers, change);
@@ -17,8 +17,8 @@ pub fn tell_all(watchers: &mut Vec<Box<dyn Watcher>>, changes: &Changes)
 }
 
 /// Tells one change to each watcher.
-fn tell_each(watchers: &mut Vec<Box<dyn Watcher>>, change: &Change)
-    ensures { AreTold (λ w. told w) (λ w. leaves w) (change.now ∷ []) watchers.old.items watchers.new.items }
+fn tell_each<W: Watcher>(watchers: &mut Vec<W>, change: &Change)
+    ensures { AreTold W.told W.leaves (change.now ∷ []) watchers.old.items watchers.new.items }
 {
     let mut at = 0;
     while at < watchers.len() {
@@ -31,10 +31,10 @@ fn tell_each(watchers: &mut Vec<Box<dyn Watcher>>, change: &Change)
 }
 
 /// Tells one watcher, and says whether it leaves.
-fn has_left(watcher: &mut Box<dyn Watcher>, change: &Change) -> bool
-    ensures stays { result ≡ false → told watcher.new ≡ told watcher.old ++ change.now ∷ [] }
-    ensures unsure { (told watcher.new ≡ told watcher.old ++ change.now ∷ []) ⊎ (told watcher.new ≡ told watcher.old) }
-    ensures leaves { result ≡ leaves watcher.new }
+fn has_left<W: Watcher>(watcher: &mut W, change: &Change) -> bool
+    ensures stays { result ≡ false → W.told watcher.new ≡ W.told watcher.old ++ change.now ∷ [] }
+    ensures unsure { (W.told watcher.new ≡ W.told watcher.old ++ change.now ∷ []) ⊎ (W.told watcher.new ≡ W.told watcher.old) }
+    ensures leaves { result ≡ W.leaves watcher.new }
 {
     match watcher.tell(change) {
         Keep::Leave => true,

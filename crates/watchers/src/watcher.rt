@@ -26,3 +26,13 @@ pub trait Watcher: Drop {
     fn tell(&mut self, change: &Change) -> Keep
         ensures heard { Hears change.now (told self.old) (told self.new) (leaves self.new) result };
 }
+
+impl Watcher for Box<dyn Watcher> {
+    ghost told = { λ watcher. (Watcher-box watcher).told watcher.value };
+
+    ghost leaves = { λ watcher. (Watcher-box watcher).leaves watcher.value };
+
+    fn tell(&mut self, change: &Change) -> Keep {
+        (**self).tell(change)
+    }
+}

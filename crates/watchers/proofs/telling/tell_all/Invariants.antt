@@ -5,5 +5,5 @@ use Rattle.watchers.proofs.telling.tell_all.Given as goal
 
 abbrev pub invariant-loop-change : goal.invariant-loop-change
 invariant-loop-change g l =
-    AllByRecursion (λ w. (goal.Watcher-dyn g (w.vtable, w.value)).leaves w.value ≡ false) l.initial.watchers.items
-    → AreTold (λ w. (goal.Watcher-dyn g (w.vtable, w.value)).told w.value) (λ w. (goal.Watcher-dyn g (w.vtable, w.value)).leaves w.value) (take l.change-index l.changes) l.initial.watchers.items l.watchers.items
+    AllByRecursion (λ w. g.W.Watcher.leaves w ≡ false) l.initial.watchers.items
+    → AreTold g.W.Watcher.told g.W.Watcher.leaves (take l.change-index l.changes) l.initial.watchers.items l.watchers.items

@@ -14,7 +14,7 @@ loop-at-preserved g c =
     let items = c.loop-at.watchers.items in
     let inside : c.loop-at.at < length items = omega arith in
     half_stays _ _ _ c.args.watchers.now.items items c.loop-at.at c.has_left.new.watcher c.loop-at.invariant inside
-    (c.has_left.ensures.stays c.if-has_left.false ∙ ap (λ v. (goal.Watcher-dyn g (v.vtable, v.value)).told v.value ++ c.args.change.now ∷ []) (get_or_read items c.loop-at.at c.index_mut.result.now inside c.index_mut.ensures.value c.has_left.new.watcher))
+    (c.has_left.ensures.stays c.if-has_left.false ∙ ap (λ v. g.W.Watcher.told v ++ c.args.change.now ∷ []) (get_or_read items c.loop-at.at c.index_mut.result.now inside c.index_mut.ensures.value c.has_left.new.watcher))
     (sym c.has_left.ensures.leaves ∙ c.if-has_left.false)
 
 pub loop-at-preserved-then-has_left : goal.loop-at-preserved-then-has_left
@@ -24,7 +24,7 @@ loop-at-preserved-then-has_left g c =
     let same = get_or_read items c.loop-at.at c.index_mut.result.now inside c.index_mut.ensures.value c.has_left.new.watcher in
     elim c.has_left.ensures.unsure [
       | inl heard ↦ half_left _ _ _ c.args.watchers.now.items items c.remove.new.self.items c.loop-at.at c.has_left.new.watcher (c.args.change.now ∷ []) [] c.loop-at.invariant inside
-          (heard ∙ ap (λ v. (goal.Watcher-dyn g (v.vtable, v.value)).told v.value ++ c.args.change.now ∷ []) same) refl (sym c.has_left.ensures.leaves ∙ c.if-has_left.true) c.remove.ensures.items
+          (heard ∙ ap (λ v. g.W.Watcher.told v ++ c.args.change.now ∷ []) same) refl (sym c.has_left.ensures.leaves ∙ c.if-has_left.true) c.remove.ensures.items
       | inr nothing ↦ half_left _ _ _ c.args.watchers.now.items items c.remove.new.self.items c.loop-at.at c.has_left.new.watcher [] (c.args.change.now ∷ []) c.loop-at.invariant inside
-          (nothing ∙ ap (λ v. (goal.Watcher-dyn g (v.vtable, v.value)).told v.value) same ∙ sym (append-nil _)) refl (sym c.has_left.ensures.leaves ∙ c.if-has_left.true) c.remove.ensures.items
+          (nothing ∙ ap (λ v. g.W.Watcher.told v) same ∙ sym (append-nil _)) refl (sym c.has_left.ensures.leaves ∙ c.if-has_left.true) c.remove.ensures.items
     ]

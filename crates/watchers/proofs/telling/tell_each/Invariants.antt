@@ -4,7 +4,7 @@ use Rattle.watchers.proofs.telling.tell_each.Given as goal
 
 abbrev pub invariant-loop-at : goal.invariant-loop-at
 invariant-loop-at g l =
-    Half (λ w. (goal.Watcher-dyn g (w.vtable, w.value)).told w.value) (λ w. (goal.Watcher-dyn g (w.vtable, w.value)).leaves w.value) (l.change ∷ []) l.initial.watchers.items l.watchers.items l.at
+    Half g.W.Watcher.told g.W.Watcher.leaves (l.change ∷ []) l.initial.watchers.items l.watchers.items l.at
 
 abbrev pub decreases-loop-at : goal.decreases-loop-at
 decreases-loop-at g l = vec_len l.watchers - l.at

@@ -1,149 +1,79 @@
-use Rattle.std.proofs.Common.{◌≡◌, ◌<◌, ◌∷◌, [], ℕ, IsTrue, IfSome, IfNone, OnSome, false, sym, ◌∙◌, subst, arith, List}
-use Rattle.line_source.specs.Input.{ahead, weight}
-use Rattle.line_source.proofs.Reading.{reads_more, reads_ended, reads_last, reads_none, reads_gone, reads_gone_byte, reads_gone_end, reads_begun, reads_few, reads_few_byte, reads_few_end, some_text, is_nothing, reads_had_none, nearer_last}
+use Rattle.std.proofs.Common.{◌∙◌, refl}
+use Rattle.line_source.proofs.Reading.{cut_ended, cut_on, is_nothing, reads_few, reads_few_end, reads_gone, reads_last, reads_on, some_text}
 use Rattle.line_source.proofs.input.Input.next_line.Goals as goal
 
 pub loop-line-preserved : goal.loop-line-preserved
 loop-line-preserved g c =
     let now = g.S.Source.stream c.loop-line.source in
-    let new = g.S.Source.stream c.next_byte.new.source in
-    reads_more c.args.limit c.args.self.now (g.S.Source.stream c.args.source.now) c.loop-line.self now c.loop-line.line c.loop-line.invariant
-    c.next_byte.new.self new c.lengthen.new.line c.in-Some.byte c.in-Some.byte-test.1 (c.in_ok-lengthen-in-Some.ensures _ c.loop-line.invariant.line_is)
-    (λ tells. subst (λ next. IfSome next (λ byte. ahead c.loop-line.self now ≡ byte ∷ ahead c.next_byte.new.self new)) c.in-Some.is (c.in_ok-next_byte.ensures.byte tells))
-    (subst (λ next. OnSome next (weight c.next_byte.new.self new < weight c.loop-line.self now)) c.in-Some.is c.in_ok-next_byte.ensures.nearer)
-    c.next_byte.ensures.same c.next_byte.ensures.cause.later c.next_byte.ensures.still c.next_byte.ensures.few
+    let new = g.S.Source.stream c.has_more.new.source in
+    let on = reads_on c.args.limit c.args.self.now (g.S.Source.stream c.args.source.now) c.loop-line.self now c.loop-line.line.items c.loop-line.invariant c.has_more.new.self new
+    c.in_ok-some.ensures.bytes c.has_more.ensures.no_more c.has_more.ensures.same c.has_more.ensures.cause.later c.has_more.ensures.still c.has_more.ensures.few in
+    cut_on c.args.limit c.args.self.now (g.S.Source.stream c.args.source.now) c.has_more.new.self new c.loop-line.line.items on c.cut.new.self c.cut.new.line.items c.in_ok-ended.ended c.in_ok-ended.ensures.cuts c.if-ended.false
 
-pub returns-then-is_empty-clause-end : goal.returns-then-is_empty-clause-end
-returns-then-is_empty-clause-end g c tells =
-    let now = g.S.Source.stream c.loop-line.source in
-    let new = g.S.Source.stream c.next_byte.new.source in
+pub returns-in_err-some-clause-no_more : goal.returns-in_err-some-clause-no_more
+returns-in_err-some-clause-no_more g c =
+    reads_few c.args.limit c.args.self.now (g.S.Source.stream c.args.source.now) c.loop-line.self (g.S.Source.stream c.loop-line.source) c.loop-line.line.items c.loop-line.invariant (g.S.Source.stream c.has_more.new.source)
+    (λ some. (c.has_more.ensures.still some).0) (λ tells. c.in_err-some.ensures.kept.0)
+
+pub returns-then-not-some-clause-line : goal.returns-then-not-some-clause-line
+returns-then-not-some-clause-line g c =
     let reads = c.loop-line.invariant in
-    let still = subst IsTrue (sym reads.same.tells) tells in
-    let at_end = subst (λ next. IfNone next ((ahead c.loop-line.self now ≡ []) × (ahead c.next_byte.new.self new ≡ []))) c.in-None.is (c.in_ok-next_byte.ensures.end still) in (
-      reads_none c.args.limit c.args.self.now (g.S.Source.stream c.args.source.now) c.loop-line.self now c.loop-line.line reads
-          ((is_nothing c.args.limit reads.text c.loop-line.line c.is_empty.result c.is_empty.ensures reads.line_is).0 c.if-is_empty.true) (λ _. at_end.0) tells,
-      at_end.1,
-    )
-
-pub returns-in-None-clause-line : goal.returns-in-None-clause-line
-returns-in-None-clause-line g c =
-    let now = g.S.Source.stream c.loop-line.source in
-    let new = g.S.Source.stream c.next_byte.new.source in
-    let reads = c.loop-line.invariant in (
+    let held = c.from_vec-last.ensures ∙ reads.line_is in (
       reads.text,
-      reads.line_is,
-      reads_last c.args.limit c.args.self.now (g.S.Source.stream c.args.source.now) c.loop-line.self now c.loop-line.line reads c.next_byte.new.self new
-          (some_text c.is_empty.result reads.text (is_nothing c.args.limit reads.text c.loop-line.line c.is_empty.result c.is_empty.ensures reads.line_is) c.if-is_empty.false)
-          (λ tells. (subst (λ next. IfNone next ((ahead c.loop-line.self now ≡ []) × (ahead c.next_byte.new.self new ≡ []))) c.in-None.is (c.in_ok-next_byte.ensures.end tells)).0)
-          (λ tells. (subst (λ next. IfNone next ((ahead c.loop-line.self now ≡ []) × (ahead c.next_byte.new.self new ≡ []))) c.in-None.is (c.in_ok-next_byte.ensures.end tells)).1),
+      held,
+      reads_last c.args.limit c.args.self.now (g.S.Source.stream c.args.source.now) c.loop-line.self (g.S.Source.stream c.loop-line.source) c.loop-line.line.items reads c.has_more.new.self (g.S.Source.stream c.has_more.new.source)
+          (some_text c.is_empty.result reads.text (is_nothing c.args.limit reads.text c.from_vec-last.result c.is_empty.result c.is_empty.ensures held) c.if-is_empty.false)
+          (λ tells. (c.in_ok-some.ensures.end tells c.if-not-some.true).0) (λ tells. (c.in_ok-some.ensures.end tells c.if-not-some.true).1),
     )
 
-pub returns-in-None-clause-nearer : goal.returns-in-None-clause-nearer
-returns-in-None-clause-nearer g c =
-    let reads = c.loop-line.invariant in
-    let some = some_text c.is_empty.result reads.text (is_nothing c.args.limit reads.text c.loop-line.line c.is_empty.result c.is_empty.ensures reads.line_is) c.if-is_empty.false in
-    nearer_last reads.text _ _ _ some reads.nearer c.in_ok-next_byte.ensures.no_more
+pub returns-then-not-some-clause-no_more : goal.returns-then-not-some-clause-no_more
+returns-then-not-some-clause-no_more g c =
+    reads_few_end c.args.limit c.args.self.now (g.S.Source.stream c.args.source.now) c.loop-line.self (g.S.Source.stream c.loop-line.source) c.loop-line.line.items c.loop-line.invariant c.has_more.new.self
+    (g.S.Source.stream c.has_more.new.source) (λ some. (c.has_more.ensures.still some).0) (λ tells. c.in_ok-some.ensures.end tells c.if-not-some.true)
 
-pub returns-in-Some-eq10-clause-line : goal.returns-in-Some-eq10-clause-line
-returns-in-Some-eq10-clause-line g c =
+pub returns-in_err-ended-clause-gone : goal.returns-in_err-ended-clause-gone
+returns-in_err-ended-clause-gone g c =
     let now = g.S.Source.stream c.loop-line.source in
-    let new = g.S.Source.stream c.next_byte.new.source in
-    let reads = c.loop-line.invariant in (
-      reads.text,
-      reads.line_is,
-      reads_ended c.args.limit c.args.self.now (g.S.Source.stream c.args.source.now) c.loop-line.self now c.loop-line.line reads c.next_byte.new.self new
-          (λ tells. subst (λ byte. ahead c.loop-line.self now ≡ byte ∷ ahead c.next_byte.new.self new) c.in-Some-eq10.field-0-test
-          (subst (λ next. IfSome next (λ byte. ahead c.loop-line.self now ≡ byte ∷ ahead c.next_byte.new.self new)) c.in-Some-eq10.is (c.in_ok-next_byte.ensures.byte tells))),
+    let new = g.S.Source.stream c.has_more.new.source in
+    let on = reads_on c.args.limit c.args.self.now (g.S.Source.stream c.args.source.now) c.loop-line.self now c.loop-line.line.items c.loop-line.invariant c.has_more.new.self new
+    c.in_ok-some.ensures.bytes c.has_more.ensures.no_more c.has_more.ensures.same c.has_more.ensures.cause.later c.has_more.ensures.still c.has_more.ensures.few in
+    reads_gone c.args.limit c.args.self.now (g.S.Source.stream c.args.source.now) c.has_more.new.self new c.loop-line.line.items on new.left refl
+
+pub returns-in_err-ended-clause-no_more : goal.returns-in_err-ended-clause-no_more
+returns-in_err-ended-clause-no_more g c =
+    let now = g.S.Source.stream c.loop-line.source in
+    let new = g.S.Source.stream c.has_more.new.source in
+    let on = reads_on c.args.limit c.args.self.now (g.S.Source.stream c.args.source.now) c.loop-line.self now c.loop-line.line.items c.loop-line.invariant c.has_more.new.self new
+    c.in_ok-some.ensures.bytes c.has_more.ensures.no_more c.has_more.ensures.same c.has_more.ensures.cause.later c.has_more.ensures.still c.has_more.ensures.few in
+    reads_few c.args.limit c.args.self.now (g.S.Source.stream c.args.source.now) c.has_more.new.self new c.loop-line.line.items on new (λ some. refl) (λ tells. refl)
+
+pub returns-then-ended-clause-line : goal.returns-then-ended-clause-line
+returns-then-ended-clause-line g c =
+    let now = g.S.Source.stream c.loop-line.source in
+    let new = g.S.Source.stream c.has_more.new.source in
+    let on = reads_on c.args.limit c.args.self.now (g.S.Source.stream c.args.source.now) c.loop-line.self now c.loop-line.line.items c.loop-line.invariant c.has_more.new.self new
+    c.in_ok-some.ensures.bytes c.has_more.ensures.no_more c.has_more.ensures.same c.has_more.ensures.cause.later c.has_more.ensures.still c.has_more.ensures.few in
+    let ends = cut_ended c.args.limit c.args.self.now (g.S.Source.stream c.args.source.now) c.has_more.new.self new c.loop-line.line.items on c.cut.new.self c.cut.new.line.items c.in_ok-ended.ended c.has_more.ensures.few c.in_ok-ended.ensures.cuts
+    c.if-ended.true in (
+      ends.text,
+      c.from_vec.ensures ∙ ends.line_is,
+      ends.takes,
     )
 
-pub returns-then-is_empty-clause-gone : goal.returns-then-is_empty-clause-gone
-returns-then-is_empty-clause-gone g c =
+pub returns-then-ended-clause-gone : goal.returns-then-ended-clause-gone
+returns-then-ended-clause-gone g c =
     let now = g.S.Source.stream c.loop-line.source in
-    let new = g.S.Source.stream c.next_byte.new.source in
-    let reads = c.loop-line.invariant in
-    reads_gone_end c.args.limit c.args.self.now (g.S.Source.stream c.args.source.now) c.loop-line.self now c.loop-line.line reads c.next_byte.new.self new
-    (λ tells. (subst (λ next. IfNone next ((ahead c.loop-line.self now ≡ []) × (ahead c.next_byte.new.self new ≡ []))) c.in-None.is (c.in_ok-next_byte.ensures.end tells)).0)
-    (λ tells. (subst (λ next. IfNone next ((ahead c.loop-line.self now ≡ []) × (ahead c.next_byte.new.self new ≡ []))) c.in-None.is (c.in_ok-next_byte.ensures.end tells)).1)
+    let new = g.S.Source.stream c.has_more.new.source in
+    let on = reads_on c.args.limit c.args.self.now (g.S.Source.stream c.args.source.now) c.loop-line.self now c.loop-line.line.items c.loop-line.invariant c.has_more.new.self new
+    c.in_ok-some.ensures.bytes c.has_more.ensures.no_more c.has_more.ensures.same c.has_more.ensures.cause.later c.has_more.ensures.still c.has_more.ensures.few in
+    reads_gone c.args.limit c.args.self.now (g.S.Source.stream c.args.source.now) c.has_more.new.self new c.loop-line.line.items on new.left refl
 
-pub returns-in-None-clause-gone : goal.returns-in-None-clause-gone
-returns-in-None-clause-gone g c =
+pub returns-then-ended-clause-no_more : goal.returns-then-ended-clause-no_more
+returns-then-ended-clause-no_more g c =
     let now = g.S.Source.stream c.loop-line.source in
-    let new = g.S.Source.stream c.next_byte.new.source in
-    let reads = c.loop-line.invariant in
-    reads_gone_end c.args.limit c.args.self.now (g.S.Source.stream c.args.source.now) c.loop-line.self now c.loop-line.line reads c.next_byte.new.self new
-    (λ tells. (subst (λ next. IfNone next ((ahead c.loop-line.self now ≡ []) × (ahead c.next_byte.new.self new ≡ []))) c.in-None.is (c.in_ok-next_byte.ensures.end tells)).0)
-    (λ tells. (subst (λ next. IfNone next ((ahead c.loop-line.self now ≡ []) × (ahead c.next_byte.new.self new ≡ []))) c.in-None.is (c.in_ok-next_byte.ensures.end tells)).1)
-
-pub returns-in-Some-eq10-clause-gone : goal.returns-in-Some-eq10-clause-gone
-returns-in-Some-eq10-clause-gone g c =
-    let now = g.S.Source.stream c.loop-line.source in
-    let new = g.S.Source.stream c.next_byte.new.source in
-    let reads = c.loop-line.invariant in
-    reads_gone_byte c.args.limit c.args.self.now (g.S.Source.stream c.args.source.now) c.loop-line.self now c.loop-line.line reads c.next_byte.new.self new 10
-    (λ tells. subst (λ byte. ahead c.loop-line.self now ≡ byte ∷ ahead c.next_byte.new.self new) c.in-Some-eq10.field-0-test
-    (subst (λ next. IfSome next (λ byte. ahead c.loop-line.self now ≡ byte ∷ ahead c.next_byte.new.self new)) c.in-Some-eq10.is (c.in_ok-next_byte.ensures.byte tells)))
-
-pub returns-in_err-next_byte-clause-gone : goal.returns-in_err-next_byte-clause-gone
-returns-in_err-next_byte-clause-gone g c =
-    let now = g.S.Source.stream c.loop-line.source in
-    let new = g.S.Source.stream c.next_byte.new.source in
-    let reads = c.loop-line.invariant in
-    reads_gone c.args.limit c.args.self.now (g.S.Source.stream c.args.source.now) c.loop-line.self now c.loop-line.line reads new.left c.in_err-next_byte.ensures.kept.0
-
-pub returns-in_err-lengthen-in-Some-clause-gone : goal.returns-in_err-lengthen-in-Some-clause-gone
-returns-in_err-lengthen-in-Some-clause-gone g c =
-    let now = g.S.Source.stream c.loop-line.source in
-    let new = g.S.Source.stream c.next_byte.new.source in
-    let reads = c.loop-line.invariant in
-    reads_gone_byte c.args.limit c.args.self.now (g.S.Source.stream c.args.source.now) c.loop-line.self now c.loop-line.line reads c.next_byte.new.self new c.in-Some.byte
-    (λ tells. subst (λ next. IfSome next (λ byte. ahead c.loop-line.self now ≡ byte ∷ ahead c.next_byte.new.self new)) c.in-Some.is (c.in_ok-next_byte.ensures.byte tells))
-
-pub returns-then-is_empty-clause-no_more : goal.returns-then-is_empty-clause-no_more
-returns-then-is_empty-clause-no_more g c =
-    let now = g.S.Source.stream c.loop-line.source in
-    let new = g.S.Source.stream c.next_byte.new.source in
-    reads_few_end c.args.limit c.args.self.now (g.S.Source.stream c.args.source.now) c.loop-line.self now c.loop-line.line c.loop-line.invariant
-    c.next_byte.new.self new c.next_byte.ensures.still
-    (λ tells. subst (λ next. IfNone next ((ahead c.loop-line.self now ≡ []) × (ahead c.next_byte.new.self new ≡ []))) c.in-None.is (c.in_ok-next_byte.ensures.end tells))
-
-pub returns-in-None-clause-no_more : goal.returns-in-None-clause-no_more
-returns-in-None-clause-no_more g c =
-    let now = g.S.Source.stream c.loop-line.source in
-    let new = g.S.Source.stream c.next_byte.new.source in
-    reads_few_end c.args.limit c.args.self.now (g.S.Source.stream c.args.source.now) c.loop-line.self now c.loop-line.line c.loop-line.invariant
-    c.next_byte.new.self new c.next_byte.ensures.still
-    (λ tells. subst (λ next. IfNone next ((ahead c.loop-line.self now ≡ []) × (ahead c.next_byte.new.self new ≡ []))) c.in-None.is (c.in_ok-next_byte.ensures.end tells))
-
-pub returns-in-Some-eq10-clause-no_more : goal.returns-in-Some-eq10-clause-no_more
-returns-in-Some-eq10-clause-no_more g c =
-    let now = g.S.Source.stream c.loop-line.source in
-    let new = g.S.Source.stream c.next_byte.new.source in
-    reads_few_byte c.args.limit c.args.self.now (g.S.Source.stream c.args.source.now) c.loop-line.self now c.loop-line.line c.loop-line.invariant
-    c.next_byte.new.self new 10 c.next_byte.ensures.still c.next_byte.ensures.few
-    (λ tells. subst (λ byte. ahead c.loop-line.self now ≡ byte ∷ ahead c.next_byte.new.self new) c.in-Some-eq10.field-0-test
-    (subst (λ next. IfSome next (λ byte. ahead c.loop-line.self now ≡ byte ∷ ahead c.next_byte.new.self new)) c.in-Some-eq10.is (c.in_ok-next_byte.ensures.byte tells)))
-
-pub returns-in_err-next_byte-clause-no_more : goal.returns-in_err-next_byte-clause-no_more
-returns-in_err-next_byte-clause-no_more g c =
-    let now = g.S.Source.stream c.loop-line.source in
-    let new = g.S.Source.stream c.next_byte.new.source in
-    reads_few c.args.limit c.args.self.now (g.S.Source.stream c.args.source.now) c.loop-line.self now c.loop-line.line c.loop-line.invariant
-    new c.next_byte.ensures.still (λ tells. c.in_err-next_byte.ensures.kept.0)
-
-pub returns-in_err-lengthen-in-Some-clause-no_more : goal.returns-in_err-lengthen-in-Some-clause-no_more
-returns-in_err-lengthen-in-Some-clause-no_more g c =
-    let now = g.S.Source.stream c.loop-line.source in
-    let new = g.S.Source.stream c.next_byte.new.source in
-    reads_few_byte c.args.limit c.args.self.now (g.S.Source.stream c.args.source.now) c.loop-line.self now c.loop-line.line c.loop-line.invariant
-    c.next_byte.new.self new c.in-Some.byte c.next_byte.ensures.still c.next_byte.ensures.few
-    (λ tells. subst (λ next. IfSome next (λ byte. ahead c.loop-line.self now ≡ byte ∷ ahead c.next_byte.new.self new)) c.in-Some.is (c.in_ok-next_byte.ensures.byte tells))
-
-pub returns-in_err-next_byte-clause-begun : goal.returns-in_err-next_byte-clause-begun
-returns-in_err-next_byte-clause-begun g c tells is =
-    let now = g.S.Source.stream c.loop-line.source in
-    let new = g.S.Source.stream c.next_byte.new.source in
-    reads_begun c.args.limit c.args.self.now (g.S.Source.stream c.args.source.now) c.loop-line.self now c.loop-line.line c.loop-line.invariant new c.in_err-next_byte.ensures.kept.1 c.in_err-next_byte.ensures.kept.0 tells
-
-pub returns-in_err-next_byte-clause-had_none : goal.returns-in_err-next_byte-clause-had_none
-returns-in_err-next_byte-clause-had_none g c tells is =
-    reads_had_none c.args.limit c.args.self.now (g.S.Source.stream c.args.source.now) c.loop-line.self (g.S.Source.stream c.loop-line.source) c.loop-line.line c.loop-line.invariant c.in_err-next_byte.ensures.kept.1 tells
+    let new = g.S.Source.stream c.has_more.new.source in
+    let on = reads_on c.args.limit c.args.self.now (g.S.Source.stream c.args.source.now) c.loop-line.self now c.loop-line.line.items c.loop-line.invariant c.has_more.new.self new
+    c.in_ok-some.ensures.bytes c.has_more.ensures.no_more c.has_more.ensures.same c.has_more.ensures.cause.later c.has_more.ensures.still c.has_more.ensures.few in
+    let ends = cut_ended c.args.limit c.args.self.now (g.S.Source.stream c.args.source.now) c.has_more.new.self new c.loop-line.line.items on c.cut.new.self c.cut.new.line.items c.in_ok-ended.ended c.has_more.ensures.few c.in_ok-ended.ensures.cuts
+    c.if-ended.true in
+    ends.no_more_is

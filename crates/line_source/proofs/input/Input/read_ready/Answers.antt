@@ -1,9 +1,8 @@
-use Rattle.std.proofs.Common.{◌≡◌, ◌≤◌, ◌+◌, ◌-◌, [], inl, inr, List, ℕ, length, refl, sym, ◌∙◌, subst, ap, arith}
+use Rattle.std.proofs.Common.{refl, sym, ◌∙◌, subst, arith}
 use Rattle.std.specs.Prelude.{IsTrue, IsErrOf}
 use Rattle.std.proofs.Common.{rules}
 use Rattle.line_source.specs.declared.input.InputFault.TheVariants as InputFault
-use Rattle.line_source.specs.Batch.{AddsLines, has_newline}
-use Rattle.line_source.proofs.Adding.{adds_none, adds_both, adds_gone, adds_gone_more, still_source, newline_there}
+use Rattle.line_source.proofs.Adding.{adds_none, adds_both, adds_gone_more, still_source, newline_there}
 use Rattle.line_source.proofs.input.Input.read_ready.Goals as goal
 
 pub loop-alloc-init : goal.loop-alloc-init
