@@ -2,3 +2,4 @@ pub mod Numbers
 pub mod Both
 pub mod Paths
 pub mod Plain
+pub mod PlainWrites

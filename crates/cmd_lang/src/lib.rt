@@ -6,6 +6,7 @@ mod fault;
 mod line;
 mod pairs;
 mod path;
+mod plain_write;
 mod print;
 mod refusal;
 mod reply;

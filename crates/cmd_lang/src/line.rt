@@ -9,6 +9,7 @@ ghost use Rattle.cmd_lang.specs.declared.fault.LineFault.TheVariants.{No};
 
 use crate::LineFault;
 use crate::command::read_command;
+use crate::plain_write::{plain_write, read_plain_write};
 use crate::split::words;
 use crate::words::BAD_COMMAND;
 use hfs_language::{Command, Refusal};
@@ -39,6 +40,9 @@ fn read_bytes(alloc: Global, line: &[u8]) -> Result<Command, LineFault>
     if line.len() > MOST_BYTES {
         return Err(LineFault::No(Refusal::TooLong));
     }
+    if let Some((path, from, value)) = plain_write(line) {
+        return read_plain_write(alloc, path, from, value);
+    }
     match text_of(line) {
         Some(text) => read_text(alloc, text),
         None => Err(BAD_COMMAND),
@@ -46,7 +50,7 @@ fn read_bytes(alloc: Global, line: &[u8]) -> Result<Command, LineFault>
 }
 
 /// The line as text, where it is UTF-8.
-fn text_of(line: &[u8]) -> Option<&str>
+pub(crate) fn text_of(line: &[u8]) -> Option<&str>
     ensures text { IfSome result (λ text. (text.now ≡ line.now) × (is_utf8 line.now ≡ true)) }
     ensures other { IfNone result (is_utf8 line.now ≡ false) }
 {

@@ -102,7 +102,7 @@ pub(crate) fn read_value(alloc: Global, word: &str) -> Result<Bytes, LineFault>
 }
 
 /// The bytes of a value in which each byte stands for itself.
-fn plain_bytes(text: &[u8]) -> Option<&[u8]>
+pub(crate) fn plain_bytes(text: &[u8]) -> Option<&[u8]>
     ensures { IfSome result (λ value. (text.now ≡ 61 ∷ value.now) × (list_all spec_text.is_plain value.now ≡ true)) }
 {
     match text {
@@ -121,7 +121,8 @@ fn are_plain(bytes: &[u8]) -> bool
     bytes.iter().all(|byte| is_plain(*byte))
 }
 
-fn copied(alloc: Global, value: &[u8]) -> Result<Bytes, AllocError>
+/// The same bytes.
+pub(crate) fn copied(alloc: Global, value: &[u8]) -> Result<Bytes, AllocError>
     ensures { IfOk result (λ copy. copy ≡ value.now) }
 {
     Ok(Bytes::from_vec(Vec::from_slice(alloc, value)?))

@@ -6,6 +6,7 @@ use hx_bytes::OutOfMemory;
 use mem_disk::{MemImage, MemSource};
 use std::alloc::Global;
 use test_kit::words;
+use watchers::Watcher;
 
 /// How many bytes a take of the source gives at most: few, so that lines come in pieces, and some batches have several.
 pub const PIECE: u64 = 29;
@@ -47,7 +48,8 @@ fn run_words(
 ) -> Result<Status, OutOfMemory> {
     let words = words(alloc, line)?;
     let mut source = MemSource::new(alloc, input, piece.max(1), None)?;
-    Ok(hfsx(alloc, words.as_slice(), disk, &mut source))
+    let mut watchers: Vec<Box<dyn Watcher>> = Vec::new(alloc);
+    Ok(hfsx(alloc, words.as_slice(), disk, &mut source, &mut watchers))
 }
 
 /// What a run of these lines on an image tells, if it mounts and serves them all.

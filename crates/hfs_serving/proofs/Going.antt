@@ -315,6 +315,17 @@ module _ (capacity : ℕ) (shrunk : Option ℕ) (committed now : Content) (old :
           (subst (λ (n : ℕ). GoesOn capacity knows_new first.goes.last first.goes.next (shrunk_in shrunk first.goes.more) mid n (line_if answered line) second.said new end) (numbers_on number count lines first.goes.more few first.goes.asked) second.goes));
     }
 
+    -- what they left was reclaimed
+    pub lines_rest : (knows_new : Knowing) (new : Space) (end : Outside) → count ≤ length lines → GoesTidy capacity knows_new first.goes.last first.goes.next (shrunk_in shrunk first.goes.more) mid new end
+        → ServesLines count capacity knows_new committed now shrunk old number lines before middle new end
+    lines_rest knows_new new end few tidied =
+        lines_on knows_new false [] middle new end count few (append-nil (take count lines))
+        (record {
+          said = untold;
+          told = sym (joined_none middle);
+          goes = tidy_goes capacity (shrunk_in shrunk first.goes.more) first.goes.last first.goes.next mid knows_new new end tidied (number + count);
+        })
+
 -- ---- the end of a batch
 
 pub whole_batch : (capacity : ℕ) (shrunk : Option ℕ) (start : Content) (old : Outside) (knows : Knowing) (number : ℕ) (lines : List (List ℕ)) (said : ToTell) (space : Space) (mid : Outside) (goes : GoesOn capacity knows start start shrunk old number lines said space mid) (knows_new : Knowing) (new : Space) (after : Outside)

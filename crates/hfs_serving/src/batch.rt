@@ -139,34 +139,6 @@ fn serve_lines<V: Volume, G: Ground>(
     Ok(lines.len())
 }
 
-// Serves lines until one is left for the next batch, or the batch has its most, and reclaims what they left. Answers how many were served.
-fn serve_to_rest<V: Volume, G: Ground>(
-    volume: &mut V,
-    base: &mut G,
-    number: u64,
-    lines: &[Bytes],
-    told: &mut ToTell,
-) -> Result<usize, Trouble>
-    requires serves { (capacity : ℕ) × G.serves base.old capacity × (G.taken base.old ≤ capacity) }
-    requires numbers { number + length lines.now ≤ 4294967295 }
-    requires stands { IsTrue (G.space base.old).tells → SomeStands (V.knows volume.old (G.space base.old)) (G.space base.old) (G.outside base.old) }
-    ensures goes { IsTrue (G.space base.old).tells → (capacity : ℕ) (committed now : Content) (shrunk : Option ℕ) → Stands (V.knows volume.old (G.space base.old) capacity) committed now shrunk (G.space base.old) (G.outside base.old)
-        → IfOk result (λ count. ServesLines count capacity (V.knows volume.new (G.space base.new) capacity) committed now shrunk (G.outside base.old) number lines.now told.old told.new (G.space base.new) (G.outside base.new)) }
-    ensures stops { IsTrue (G.space base.old).tells → (capacity : ℕ) (committed now : Content) (shrunk : Option ℕ) → Stands (V.knows volume.old (G.space base.old) capacity) committed now shrunk (G.space base.old) (G.outside base.old)
-        → OnErr result (StopsLines capacity committed now shrunk (G.outside base.old) lines.now (G.outside base.new)) }
-    ensures few { IfOk result (λ count. count ≤ length lines.now) }
-    ensures most { IfOk result (λ count. count ≤ 32) }
-    ensures sync { IfOk result (λ count. (front : ℕ) → front < count → HasNoSync front lines.now) }
-    ensures still { (capacity : ℕ) → G.serves base.old capacity → G.taken base.old ≤ capacity → OnOk result (G.serves base.new capacity × (G.taken base.new ≤ capacity)) }
-    ensures tells { OnOk result ((G.space base.new).tells ≡ (G.space base.old).tells) }
-    ensures anchor { G.anchor base.new ≡ G.anchor base.old }
-    ensures faults { Faults (G.failed base.old) (G.space base.old) (G.failed base.new) (G.space base.new) result }
-{
-    let count = serve_lines(volume, base, number, lines, told)?;
-    tidy(volume, base)?;
-    Ok(count)
-}
-
 /// Serves lines as one batch, and adds their replies, which are to be told only behind it. Its end is one commit of all that they changed. A line
 /// that wants a commit before it ends the batch, unless it is the first, and so do a `sync` and the 32nd line. Answers how many of the lines were served.
 pub fn serve_batch<V: Volume, G: Ground>(
@@ -194,7 +166,9 @@ pub fn serve_batch<V: Volume, G: Ground>(
     ensures anchor { G.anchor base.new ≡ G.anchor base.old }
     ensures faults { Faults (G.failed base.old) (G.space base.old) (G.failed base.new) (G.space base.new) result }
 {
-    let count = serve_to_rest(volume, base, number, lines, told)?;
+    let count = serve_lines(volume, base, number, lines, told)?;
+    // (what they left is reclaimed)
+    tidy(volume, base)?;
     volume.commit(base)?;
     Ok(count)
 }

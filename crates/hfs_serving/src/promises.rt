@@ -33,11 +33,11 @@ use std::alloc::Global;
 use watchers::Watcher;
 
 /// Serves the lines of a source to its end over a journal's store and its rig, and ends the run. Its promises hold whatever ended it.
-pub fn run<V: Volume, R: Rig, S: Source>(
+pub fn run<V: Volume, R: Rig, W: Watcher, S: Source>(
     alloc: Global,
     volume: &mut V,
     base: &mut Space<'_, '_, R>,
-    watchers: &mut Vec<Box<dyn Watcher>>,
+    watchers: &mut Vec<W>,
     source: &mut S,
 ) -> Result<(), Stop>
     requires serves { (capacity : ℕ) × IsInService base.old.store.now (R.state base.old.disk.now) capacity × (puts_of base.old.store.now ≡ []) }
@@ -45,14 +45,14 @@ pub fn run<V: Volume, R: Rig, S: Source>(
     // Where the volume stands for a sound content, each image that a crash leaves mounts to the tree after some of the lines, and each line whose
     // reply was told is among them. The lines are the first that the bytes which were taken of the source are cut into. Watchers that stay are told
     // what the first of these lines changed, in order and once, whose changes each crash at the end leaves; no reply is told before its changes.
-    ensures promises { (heard : List Change) × (AllByRecursion (λ w. leaves w ≡ false) watchers.old.items → AreTold (λ w. told w) (λ w. leaves w) heard watchers.old.items watchers.new.items)
+    ensures promises { (heard : List Change) × (AllByRecursion (λ w. W.leaves w ≡ false) watchers.old.items → AreTold W.told W.leaves heard watchers.old.items watchers.new.items)
         × (IsTrue (seen R.state base.old).tells → (capacity : ℕ) (start : Content)
         → Stands (V.knows volume.old (seen R.state base.old) capacity) start start None (seen R.state base.old) (outside_of (plan_of base.old.store.now) (R.state base.old.disk.now))
         → IsSound start → MayServe (plan_of base.old.store.now) capacity start
         → KeepsHeard heard capacity start (R.state base.old.disk.now) (S.stream source.old) (R.state base.new.disk.now) (S.stream source.new)) }
     // The same as a stretch, which may go on from a mount. Where the source ended the run, each line that was taken was answered, and watchers were
     // told all that they changed.
-    ensures stretch { (heard : List Change) × (AllByRecursion (λ w. leaves w ≡ false) watchers.old.items → AreTold (λ w. told w) (λ w. leaves w) heard watchers.old.items watchers.new.items)
+    ensures stretch { (heard : List Change) × (AllByRecursion (λ w. W.leaves w ≡ false) watchers.old.items → AreTold W.told W.leaves heard watchers.old.items watchers.new.items)
         × ((texts : List (List ℕ)) × (IsTrue (S.stream source.old).tells → HasTaken [] (S.stream source.old) texts (S.stream source.new))
         × (IsTrue (seen R.state base.old).tells → (capacity : ℕ) (start : Content)
         → Stands (V.knows volume.old (seen R.state base.old) capacity) start start None (seen R.state base.old) (outside_of (plan_of base.old.store.now) (R.state base.old.disk.now))

@@ -40,12 +40,12 @@ use watchers::Watcher;
 
 /// Mounts an image and serves the lines of a source to its end, with so many slots for sectors of the content in memory. A refusal comes exactly
 /// where one stands, and then nothing is written and no line is taken.
-pub fn serve_image<V: Volume, C: Checker, R: Rig, S: Source>(
+pub fn serve_image<V: Volume, C: Checker, R: Rig, W: Watcher, S: Source>(
     alloc: Global,
     checker: &mut C,
     cache: u32,
     rig: &mut R,
-    watchers: &mut Vec<Box<dyn Watcher>>,
+    watchers: &mut Vec<W>,
     source: &mut S,
 ) -> Result<Result<(), MountRefusal>, Stop>
     // Each image that a crash leaves mounts to the tree after some of the lines, and each line whose reply was told is among them, whatever ended
@@ -55,7 +55,7 @@ pub fn serve_image<V: Volume, C: Checker, R: Rig, S: Source>(
     // Watchers that stay are told, in order and once, what the first lines of such a run changed, whose changes each crash at the end leaves. No reply
     // is told before its changes. At the end of the source they are told what all of its lines changed; where it fails or has too many, what all
     // lines did that were answered.
-    ensures watched { (heard : List Change) × (AllByRecursion (λ w. leaves w ≡ false) watchers.old.items → AreTold (λ w. told w) (λ w. leaves w) heard watchers.old.items watchers.new.items)
+    ensures watched { (heard : List Change) × (AllByRecursion (λ w. W.leaves w ≡ false) watchers.old.items → AreTold W.told W.leaves heard watchers.old.items watchers.new.items)
         × (IsTrue (R.state rig.old).tells → HasNothingPending (R.state rig.old) → (capacity : ℕ) (start : Content) → Mounts (content (R.state rig.old)) capacity start
         → KeepsHeard heard capacity start (R.state rig.old) (S.stream source.old) (R.state rig.new) (S.stream source.new)
         × IfOk result (λ answer. OnOk answer (FinishesHeard heard capacity start (R.state rig.old) (S.stream source.old) (R.state rig.new) (S.stream source.new)))
@@ -87,7 +87,7 @@ pub fn serve_image<V: Volume, C: Checker, R: Rig, S: Source>(
 {
     match find_image(alloc, checker, rig)? {
         Ok(plan) => {
-            serve_found::<V, R, S>(alloc, plan, cache, rig, watchers, source)?;
+            serve_found::<V, R, W, S>(alloc, plan, cache, rig, watchers, source)?;
             Ok(Ok(()))
         }
         Err(why) => Ok(Err(why)),
@@ -95,19 +95,19 @@ pub fn serve_image<V: Volume, C: Checker, R: Rig, S: Source>(
 }
 
 // Serves an image that was found.
-fn serve_found<V: Volume, R: Rig, S: Source>(
+fn serve_found<V: Volume, R: Rig, W: Watcher, S: Source>(
     alloc: Global,
     plan: Plan,
     cache: u32,
     rig: &mut R,
-    watchers: &mut Vec<Box<dyn Watcher>>,
+    watchers: &mut Vec<W>,
     source: &mut S,
 ) -> Result<(), Stop>
     requires fits { FitsPlan (R.state rig.old).sectors plan }
     requires found { IsTrue (R.state rig.old).tells → IsFound (content (R.state rig.old)) plan }
     // Its promises begin at any moment since which the rig was only read. Where the source ended the run, each line that was taken was answered, and
     // watchers were told all that they changed.
-    ensures promises { (heard : List Change) × (AllByRecursion (λ w. leaves w ≡ false) watchers.old.items → AreTold (λ w. told w) (λ w. leaves w) heard watchers.old.items watchers.new.items)
+    ensures promises { (heard : List Change) × (AllByRecursion (λ w. W.leaves w ≡ false) watchers.old.items → AreTold W.told W.leaves heard watchers.old.items watchers.new.items)
         × (IsTrue (R.state rig.old).tells → HasNothingPending (R.state rig.old) → (capacity : ℕ) → IsCapacityOf plan capacity → (first : R) → OnlyReads (R.state first) (R.state rig.old)
         → KeepsHeard heard capacity (replayed (journal_of plan) (content (R.state rig.old))) (R.state first) (S.stream source.old) (R.state rig.new) (S.stream source.new))
         × (IsFinal (stop_in result) → (texts : List (List ℕ)) × (IsTrue (S.stream source.old).tells → HasTaken [] (S.stream source.old) texts (S.stream source.new) × EndsTaking (stop_in result) [] (S.stream source.old) texts (S.stream source.new))
@@ -125,23 +125,23 @@ fn serve_found<V: Volume, R: Rig, S: Source>(
 {
     aside_is_free();
     let ready = ready_image(rig, &plan)?;
-    serve_ready::<V, R, S>(alloc, &ready, cache, rig, watchers, source)
+    serve_ready::<V, R, W, S>(alloc, &ready, cache, rig, watchers, source)
 }
 
 // Serves an image that is ready for a store.
-fn serve_ready<V: Volume, R: Rig, S: Source>(
+fn serve_ready<V: Volume, R: Rig, W: Watcher, S: Source>(
     alloc: Global,
     plan: &Plan,
     cache: u32,
     rig: &mut R,
-    watchers: &mut Vec<Box<dyn Watcher>>,
+    watchers: &mut Vec<W>,
     source: &mut S,
 ) -> Result<(), Stop>
     requires fits { FitsPlan (R.state rig.old).sectors plan.now }
     requires ready { IsTrue (R.state rig.old).tells → (now : Content) × IsReady plan.now now (R.state rig.old) × IsSound now }
     // A stretch from what it stood for before it was made ready. Where the source ended the run, each line that was taken was answered, and watchers
     // were told all that they changed.
-    ensures stretch { (heard : List Change) × (AllByRecursion (λ w. leaves w ≡ false) watchers.old.items → AreTold (λ w. told w) (λ w. leaves w) heard watchers.old.items watchers.new.items)
+    ensures stretch { (heard : List Change) × (AllByRecursion (λ w. W.leaves w ≡ false) watchers.old.items → AreTold W.told W.leaves heard watchers.old.items watchers.new.items)
         × ((texts : List (List ℕ)) × (IsTrue (S.stream source.old).tells → HasTaken [] (S.stream source.old) texts (S.stream source.new))
         × (IsTrue (R.state rig.old).tells → (capacity : ℕ) → IsCapacityOf plan.now capacity → (start now : Content) (first : R) → IsVersioned start now → KeepsPlace start now → IsReady plan.now now (R.state rig.old) → IsSound now
         → Turns start now (outside_of plan.now (R.state first)) (outside_of plan.now (R.state rig.old)) → CrashesHeard 0 heard capacity start None (outside_of plan.now (R.state first)) texts (outside_of plan.now (R.state rig.new))))

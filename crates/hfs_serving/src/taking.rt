@@ -33,11 +33,11 @@ const MOST_SERVED: usize = 4_294_967_295;
 
 /// Serves the lines of a source to its end. Each batch has at most 32 lines, and beyond its first only lines that were taken already. Nothing is
 /// taken of the source while a line that was taken is unanswered.
-pub fn serve_source<V: Volume, G: Teller, S: Source>(
+pub fn serve_source<V: Volume, G: Teller, W: Watcher, S: Source>(
     alloc: Global,
     volume: &mut V,
     base: &mut G,
-    watchers: &mut Vec<Box<dyn Watcher>>,
+    watchers: &mut Vec<W>,
     input: &mut Input,
     source: &mut S,
 ) -> Result<(), Stop>
@@ -55,7 +55,7 @@ pub fn serve_source<V: Volume, G: Teller, S: Source>(
         → CrashesStep capacity start shrunk (G.outside base.old) texts (G.outside base.new))) }
     // Whatever ended it, watchers are told what some of the lines changed that were taken, each change once, and each crash leaves these lines. At
     // Ok, and where the source fails or has too many lines, these are all lines that were taken.
-    ensures watched { (heard : List Change) × (AllByRecursion (λ w. leaves w ≡ false) watchers.old.items → AreTold (λ w. told w) (λ w. leaves w) heard watchers.old.items watchers.new.items)
+    ensures watched { (heard : List Change) × (AllByRecursion (λ w. W.leaves w ≡ false) watchers.old.items → AreTold W.told W.leaves heard watchers.old.items watchers.new.items)
         × ((texts : List (List ℕ)) × (IsTrue (S.stream source.old).tells → HasTaken input.old (S.stream source.old) texts (S.stream source.new))
         × (IsTrue (G.space base.old).tells → (capacity : ℕ) (start : Content) (shrunk : Option ℕ) → Stands (V.knows volume.old (G.space base.old) capacity) start start shrunk (G.space base.old) (G.outside base.old)
         → CrashesHeard 0 heard capacity start shrunk (G.outside base.old) texts (G.outside base.new)))

@@ -103,11 +103,11 @@ impl From<InputFault> for Stop {
 
 /// Serves lines as one batch, whose first line has this number. Once all that they changed is committed, it tells the changes to the watchers and
 /// then the replies. Answers how many of the lines were served.
-pub fn serve_step<V: Volume, G: Teller>(
+pub fn serve_step<V: Volume, G: Teller, W: Watcher>(
     alloc: Global,
     volume: &mut V,
     base: &mut G,
-    watchers: &mut Vec<Box<dyn Watcher>>,
+    watchers: &mut Vec<W>,
     number: u64,
     lines: &[Bytes],
 ) -> Result<usize, Stop>
@@ -121,7 +121,7 @@ pub fn serve_step<V: Volume, G: Teller>(
     ensures stops { IsTrue (G.space base.old).tells → (capacity : ℕ) (start : Content) (shrunk : Option ℕ) → Stands (V.knows volume.old (G.space base.old) capacity) start start shrunk (G.space base.old) (G.outside base.old)
         → OnErr result (CrashesStep capacity start shrunk (G.outside base.old) lines.now (G.outside base.new)) }
     // Of a batch that is committed watchers are told all that its lines changed, each change once, and of another nothing.
-    ensures watched { (heard : List Change) × (AllByRecursion (λ w. leaves w ≡ false) watchers.old.items → AreTold (λ w. told w) (λ w. leaves w) heard watchers.old.items watchers.new.items)
+    ensures watched { (heard : List Change) × (AllByRecursion (λ w. W.leaves w ≡ false) watchers.old.items → AreTold W.told W.leaves heard watchers.old.items watchers.new.items)
         × (IsTrue (G.space base.old).tells → (capacity : ℕ) (start : Content) (shrunk : Option ℕ) → Stands (V.knows volume.old (G.space base.old) capacity) start start shrunk (G.space base.old) (G.outside base.old)
         → IfOk result (λ count. ServesHeard number heard count capacity (V.knows volume.new (G.space base.new) capacity) start shrunk (G.outside base.old) lines.now (G.space base.new) (G.outside base.new))
         × OnErr result (CrashesHeard number heard capacity start shrunk (G.outside base.old) lines.now (G.outside base.new))) }

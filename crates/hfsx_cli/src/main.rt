@@ -7,6 +7,7 @@ use std::alloc::AllocError;
 use std::env;
 use std::io::{self, ErrorKind};
 use std::process::ExitCode;
+use watchers::Watcher;
 
 /// The status where the image can't be opened, locked or given its length.
 const NO_IMAGE: u8 = 8;
@@ -63,7 +64,8 @@ fn work(rt: &HostRuntime, words: &[String]) -> u8 {
     let mut rig = FileRig::new(store, rt.stdout());
     let mut source = StdinSource::new(rt.stdin());
     // Nobody watches.
-    let status = hfsx(rt.alloc(), words, &mut rig, &mut source);
+    let mut watchers: Vec<Box<dyn Watcher>> = Vec::new(rt.alloc());
+    let status = hfsx(rt.alloc(), words, &mut rig, &mut source, &mut watchers);
     match status {
         Status::Disk => match rig.failure() {
             Some(failure) => {

@@ -6,3 +6,4 @@ pub mod Made
 pub mod Status
 pub mod Telling
 pub mod Words
+pub mod Watching

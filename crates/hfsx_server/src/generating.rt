@@ -12,6 +12,7 @@ use mem_disk::{MemImage, MemRig, MemSource};
 use sector_disk::{Rig, tell_whole};
 use std::alloc::Global;
 use stream_gen::line;
+use watchers::Watcher;
 
 /// The sectors of the volume.
 const SECTORS: u64 = 65_536;
@@ -175,7 +176,8 @@ fn lines_from(alloc: Global, seed: u64, first: u64, count: u64) -> Result<Vec<u8
 fn answers(alloc: Global, image: &mut MemImage, lines: &[u8]) -> Result<String, OutOfMemory> {
     let mut rig = MemRig::from_image(alloc, image)?;
     let mut source = MemSource::new(alloc, lines, PIECE, None)?;
-    if run(alloc, &mut rig, &mut source) != Status::Done {
+    let mut watchers: Vec<Box<dyn Watcher>> = Vec::new(alloc);
+    if run(alloc, &mut rig, &mut source, &mut watchers) != Status::Done {
         return Err(OutOfMemory);
     }
     *image = rig.image(alloc, 1)?;

@@ -1,8 +1,10 @@
 // A volume that is mounted, served to the end of a source, and unmounted.
-ghost use Rattle.std.specs.Prelude.{◌≡◌, ◌≢◌, ◌⊎◌, ◌≤◌, ◌<◌, [], ℕ, IsTrue, length};
+ghost use Rattle.std.specs.Prelude.{◌≡◌, ◌≢◌, ◌⊎◌, ◌≤◌, ◌<◌, [], ℕ, List, IsTrue, false, length};
+ghost use Rattle.std.specs.List.{AllByRecursion};
 ghost use Rattle.sector_disk.specs.Disk.{SameDisk, HasNothingPending, content};
 ghost use Rattle.jnl_format.specs.Recovery.{Content};
 ghost use Rattle.hfs_language.specs.Lines.{lines};
+ghost use Rattle.hfs_language.specs.declared.reply.Change.{Change};
 ghost use Rattle.hfs_volume.specs.Mount.{IsMountable, Mounts};
 ghost use Rattle.hfs_serving.specs.Ending.{AnswersRun, AnswersToTheLast, FinishesRun};
 ghost use Rattle.hfs_serving.specs.Steps.{KeepsRun};
@@ -10,18 +12,26 @@ ghost use Rattle.line_source.specs.Input.{SameSource};
 ghost use Rattle.hfsx_server.specs.Cause.{IsCauseOf};
 ghost use Rattle.hfsx_server.specs.Faults.{status_of};
 ghost use Rattle.hfsx_server.specs.Telling.{ToldRefusal};
+ghost use Rattle.hfsx_server.specs.Watching.{IsHeard};
+ghost use Rattle.watchers.specs.Told.{AreTold};
 
 use crate::{Status, tell_mount};
 use hfs_serving::{Stop, serve_image};
 use sector_disk::{Rig, Source};
 use served_volume::{ServedVolume, VolumeChecker};
 use std::alloc::Global;
+use watchers::Watcher;
 
 /// How many sectors of the volume are held in memory.
 const SLOTS: u32 = 1_024;
 
-/// Mounts a volume, serves it to the end of a source, and unmounts it. A refused image isn't written.
-pub fn run<R: Rig, S: Source>(alloc: Global, rig: &mut R, source: &mut S) -> Status
+/// Mounts a volume, serves it to the end of a source, and unmounts it. A refused image isn't written. Watchers are told what lines changed.
+pub fn run<R: Rig, S: Source, W: Watcher>(
+    alloc: Global,
+    rig: &mut R,
+    source: &mut S,
+    watchers: &mut Vec<W>,
+) -> Status
     ensures refused { IsTrue (R.state rig.old).tells → result ≡ Status.Refused → ToldRefusal (R.state rig.old) (R.state rig.new) }
     ensures refuses { IsTrue (R.state rig.old).tells → ¬ IsMountable (content (R.state rig.old)) → (result ≡ Status.Refused) ⊎ ((result ≡ Status.Disk) ⊎ (result ≡ Status.Memory)) }
     ensures unwritten { result ≡ Status.Refused → (R.state rig.new).candidates ≡ (R.state rig.old).candidates }
@@ -33,6 +43,9 @@ pub fn run<R: Rig, S: Source>(alloc: Global, rig: &mut R, source: &mut S) -> Sta
         → AnswersRun capacity start (R.state rig.old) (S.stream source.old) (R.state rig.new) (S.stream source.new) }
     ensures many_stopped { IsTrue (R.state rig.old).tells → HasNothingPending (R.state rig.old) → (capacity : ℕ) (start : Content) → Mounts (content (R.state rig.old)) capacity start → result ≡ Status.TooMany
         → AnswersToTheLast capacity start (R.state rig.old) (S.stream source.old) (R.state rig.new) (S.stream source.new) }
+    ensures watched { (heard : List Change) × (AllByRecursion (λ w. W.leaves w ≡ false) watchers.old.items → AreTold W.told W.leaves heard watchers.old.items watchers.new.items)
+        × (IsTrue (R.state rig.old).tells → HasNothingPending (R.state rig.old) → (capacity : ℕ) (start : Content) → Mounts (content (R.state rig.old)) capacity start
+        → IsHeard result heard capacity start (R.state rig.old) (S.stream source.old) (R.state rig.new) (S.stream source.new)) }
     ensures end { IsTrue (S.stream source.old).tells → result ≡ Status.Done → (S.stream source.new).left ≡ [] }
     ensures many { IsTrue (S.stream source.old).tells → result ≡ Status.TooMany → 4294967295 < length (lines (S.stream source.old).left) }
     ensures few { IsTrue (S.stream source.old).tells → result ≡ Status.Done → length (lines (S.stream source.old).left) ≤ 4294967295 }
@@ -44,13 +57,12 @@ pub fn run<R: Rig, S: Source>(alloc: Global, rig: &mut R, source: &mut S) -> Sta
     ensures same_source { SameSource (S.stream source.old) (S.stream source.new) }
 {
     let mut checker = VolumeChecker::new(alloc);
-    let mut watchers = Vec::new(alloc);
-    match serve_image::<ServedVolume, VolumeChecker, R, S>(
+    match serve_image::<ServedVolume, VolumeChecker, R, W, S>(
         alloc,
         &mut checker,
         SLOTS,
         rig,
-        &mut watchers,
+        watchers,
         source,
     ) {
         Ok(Ok(())) => Status::Done,

@@ -1,9 +1,11 @@
 // The top call of the program.
-ghost use Rattle.std.specs.Prelude.{◌≡◌, ◌⊎◌, ◌↔◌, ◌++◌, ◌<◌, ◌≤◌, [], ℕ, IsTrue, length};
+ghost use Rattle.std.specs.Prelude.{◌≡◌, ◌⊎◌, ◌↔◌, ◌++◌, ◌<◌, ◌≤◌, [], ℕ, List, IsTrue, false, length};
+ghost use Rattle.std.specs.List.{AllByRecursion};
 ghost use Rattle.sector_disk.specs.Cause.{Rose};
 ghost use Rattle.sector_disk.specs.Disk.{SameDisk, HasNothingPending, content};
 ghost use Rattle.jnl_format.specs.Recovery.{Content};
 ghost use Rattle.hfs_language.specs.Lines.{lines};
+ghost use Rattle.hfs_language.specs.declared.reply.Change.{Change};
 ghost use Rattle.hfs_volume.specs.Mount.{IsMountable, Mounts};
 ghost use Rattle.hfs_serving.specs.Ending.{AnswersRun, AnswersToTheLast, FinishesRun};
 ghost use Rattle.hfs_serving.specs.Steps.{KeepsRun};
@@ -12,22 +14,27 @@ ghost use Rattle.hfsx_server.specs.Checking.{IsSoundImage, ToldBroken, ToldCheck
 ghost use Rattle.hfsx_server.specs.Generating.{ToldPlayed};
 ghost use Rattle.hfsx_server.specs.Made.{IsMade, IsNoSize, made_layout};
 ghost use Rattle.hfsx_server.specs.Telling.{ToldRefusal, ToldUnlessFailed, refusal_text, size_refusal, usage_text, formatted_text};
+ghost use Rattle.hfsx_server.specs.Watching.{IsHeard};
 ghost use Rattle.hfsx_server.specs.Words.{texts, AreRun, AreCheck, AreFormat, AreGen, AreInUse};
+ghost use Rattle.watchers.specs.Told.{AreTold};
 
 use crate::{Status, Work, check, format, generate, read_words, run, tell_usage};
 use sector_disk::{Rig, Source};
 use std::alloc::Global;
+use watchers::Watcher;
 
 /// Does what the words after the program's name ask for, on an image and with the lines of a source.
 ///
 /// `format IMAGE SECTORS` makes an empty volume, `run IMAGE` answers line after line, and `check IMAGE` says whether the volume is
 /// sound. The name of the image is the caller's, who opened it. `gen SEED COUNT` plays generated lines on a volume in memory, and leaves
-/// the image alone. Other words tell how the program is called.
-pub fn hfsx<R: Rig, S: Source>(
+/// the image alone. Other words tell how the program is called. Watchers are told what the lines of a `run` changed, once it is durable and before the
+/// replies; one that leaves is gone from the list.
+pub fn hfsx<R: Rig, S: Source, W: Watcher>(
     alloc: Global,
     words: &[String],
     rig: &mut R,
     source: &mut S,
+    watchers: &mut Vec<W>,
 ) -> Status
     // Status 2 stands exactly where the words are wrong, or don't give the image's number of sectors.
     ensures usage { (result ≡ Status.Usage) ↔ ¬ (AreInUse (texts words.now) (R.state rig.old).sectors) }
@@ -61,6 +68,12 @@ pub fn hfsx<R: Rig, S: Source>(
         → AnswersRun capacity start (R.state rig.old) (S.stream source.old) (R.state rig.new) (S.stream source.new) }
     ensures many_stopped { AreRun (texts words.now) → IsTrue (R.state rig.old).tells → HasNothingPending (R.state rig.old) → (capacity : ℕ) (start : Content) → Mounts (content (R.state rig.old)) capacity start → result ≡ Status.TooMany
         → AnswersToTheLast capacity start (R.state rig.old) (S.stream source.old) (R.state rig.new) (S.stream source.new) }
+    // Watchers that stay are told, in order and once, what the first of these lines changed, which each crash at the end leaves.
+    ensures watched { AreRun (texts words.now) → (heard : List Change) × (AllByRecursion (λ w. W.leaves w ≡ false) watchers.old.items → AreTold W.told W.leaves heard watchers.old.items watchers.new.items)
+        × (IsTrue (R.state rig.old).tells → HasNothingPending (R.state rig.old) → (capacity : ℕ) (start : Content) → Mounts (content (R.state rig.old)) capacity start
+        → IsHeard result heard capacity start (R.state rig.old) (S.stream source.old) (R.state rig.new) (S.stream source.new)) }
+    // Other work has no changes.
+    ensures unwatched { ¬ (AreRun (texts words.now)) → watchers.new ≡ watchers.old }
     ensures end { AreRun (texts words.now) → IsTrue (S.stream source.old).tells → result ≡ Status.Done → (S.stream source.new).left ≡ [] }
     // Status 7 stands exactly where line number 4,294,967,295 is read.
     ensures many { IsTrue (S.stream source.old).tells → result ≡ Status.TooMany → 4294967295 < length (lines (S.stream source.old).left) }
@@ -89,7 +102,7 @@ pub fn hfsx<R: Rig, S: Source>(
     ensures same { SameDisk (R.state rig.old) (R.state rig.new) }
 {
     match read_words(words) {
-        Work::Run => run(alloc, rig, source),
+        Work::Run => run(alloc, rig, source, watchers),
         Work::Check => check(alloc, rig),
         Work::Gen { seed, count } => generate(alloc, rig, seed, count),
         Work::Format { sectors } => {

@@ -5,6 +5,7 @@ use mem_disk::MemSource;
 use std::alloc::{AllocError, Global};
 use std::test::Fail;
 use test_kit::{fresh_rig, run_on, words};
+use watchers::Watcher;
 
 const LINES: &[u8] =
     b"mkdir /d0\nsync\nmkdir /d1\nsync\nmkdir /d2\nsync\nmkdir /d3\nsync\nmkdir /d4\nsync\nmkdir /d5\nsync\nmkdir /d6\nsync\nmkdir /d7\nsync\nmkdir /d8\nsync\nmkdir /d9\nsync\n";
@@ -17,8 +18,15 @@ fn a_run_calls_two_barriers_a_commit(rt: HostRuntime) -> Result<(), Fail> {
     let mut rig = Counting::over(fresh_rig(alloc)?);
     let mut source = MemSource::new(alloc, LINES, 64, None)?;
     let words = words(alloc, "run v.img")?;
+    let mut watchers: Vec<Box<dyn Watcher>> = Vec::new(alloc);
     assert_eq!(rt;
-        hfsx(alloc, words.as_slice(), &mut rig, &mut source),
+        hfsx(
+            alloc,
+            words.as_slice(),
+            &mut rig,
+            &mut source,
+            &mut watchers
+        ),
         Status::Done
     );
     assert_eq!(rt; rig.barriers, 28);
@@ -50,8 +58,15 @@ fn lines_that_come_at_once_share_their_barriers(rt: HostRuntime) -> Result<(), F
     let mut rig = Counting::over(fresh_rig(alloc)?);
     let mut source = MemSource::new(alloc, &input, 65_536, None)?;
     let words = words(alloc, "run v.img")?;
+    let mut watchers: Vec<Box<dyn Watcher>> = Vec::new(alloc);
     assert_eq!(rt;
-        hfsx(alloc, words.as_slice(), &mut rig, &mut source),
+        hfsx(
+            alloc,
+            words.as_slice(),
+            &mut rig,
+            &mut source,
+            &mut watchers
+        ),
         Status::Done
     );
     assert_eq!(rt; rig.rig.told(), repeated(alloc, b"ok\n", 40)?.as_slice());

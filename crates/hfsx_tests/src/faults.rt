@@ -3,6 +3,7 @@ use hfsx_server::{Status, hfsx};
 use mem_disk::MemSource;
 use std::test::Fail;
 use test_kit::{fresh_rig, run_on, words};
+use watchers::Watcher;
 
 #[test]
 fn a_source_that_fails_ends_the_run(rt: HostRuntime) -> Result<(), Fail> {
@@ -10,7 +11,14 @@ fn a_source_that_fails_ends_the_run(rt: HostRuntime) -> Result<(), Fail> {
     let mut rig = fresh_rig(alloc)?;
     let mut source = MemSource::new(alloc, b"ls /\n", 7, Some(0))?;
     let words = words(alloc, "run v.img")?;
-    let ended = hfsx(alloc, words.as_slice(), &mut rig, &mut source);
+    let mut watchers: Vec<Box<dyn Watcher>> = Vec::new(alloc);
+    let ended = hfsx(
+        alloc,
+        words.as_slice(),
+        &mut rig,
+        &mut source,
+        &mut watchers,
+    );
     assert_eq!(rt; ended, Status::Source);
     assert_eq!(rt; ended.code(), 4);
     assert_eq!(rt; rig.told(), b"".as_slice());

@@ -2,13 +2,12 @@
 ghost use Rattle.std.specs.Prelude.{◌≡◌, IfOk};
 
 use hfs_language::{Change, Changes};
-use hfs_serving::serve_image;
+use hfsx_server::{Status, hfsx};
 use hx_bytes::{OutOfMemory, Units};
-use mem_disk::{MemRig, MemSource};
-use served_volume::{ServedVolume, VolumeChecker};
+use mem_disk::MemSource;
 use std::alloc::Global;
 use std::test::Fail;
-use test_kit::fresh_rig;
+use test_kit::{fresh_rig, words};
 use watchers::{Keep, Watcher};
 
 /// Stays as long as the changes that it is told are those of these lines.
@@ -83,20 +82,19 @@ fn served_with(
 ) -> Result<Option<(Vec<u8>, usize)>, OutOfMemory> {
     let mut rig = fresh_rig(alloc)?;
     let mut source = MemSource::new(alloc, input, 64, None)?;
-    let mut checker = VolumeChecker::new(alloc);
     let mut watchers: Vec<Box<dyn Watcher>> = Vec::new(alloc);
     for lines in expected {
         watchers.push(Box::new(alloc, Expecting::new(alloc, *lines))?)?;
     }
-    let ended = serve_image::<ServedVolume, VolumeChecker, MemRig, MemSource>(
+    let words = words(alloc, "run v.img")?;
+    let ended = hfsx(
         alloc,
-        &mut checker,
-        16,
+        words.as_slice(),
         &mut rig,
-        &mut watchers,
         &mut source,
+        &mut watchers,
     );
-    if !matches!(&ended, Ok(Ok(()))) {
+    if ended != Status::Done {
         return Ok(None);
     }
     Ok(Some((Vec::from_slice(alloc, rig.told())?, watchers.len())))

@@ -2,19 +2,12 @@
 use Rattle.std.proofs.Common.{◌≡◌, ◌<◌, ◌≤◌, ◌-◌, ◌^◌, ℕ, suc, List, [], ◌∷◌, inl, inr, get_or, length, sym, subst, arith}
 use Rattle.std.proofs.lemmas.Bool.{cases_eq, cases_lt}
 use Rattle.std.proofs.lemmas.List.{get_or_past}
-use Rattle.hx_bytes.specs.Field.{AreBytes}
 use Rattle.name_text.specs.Laws.{AreUnits}
 use Rattle.hfs_language.specs.Written.{FitsPath, IsName}
 
 pub units_from : (units : List ℕ) → ((k : ℕ) → k < length units → get_or units k 0 < 2 ^ 16) → AreUnits units
 units_from [] each = tt
 units_from (u ∷ units) each = (each 0 (omega arith), units_from units (λ k low. each (suc k) (omega (arith, low))))
-
-pub bytes_from : (bytes : List ℕ) → ((k : ℕ) → k < length bytes → get_or bytes k 0 < 256) → AreBytes bytes
-bytes_from bytes each k = elim (cases_lt k (length bytes)) [
-  | inl low ↦ each k low
-  | inr past ↦ subst (λ n. n < 256) (sym (get_or_past bytes k 0 past)) (omega arith)
-]
 
 -- what is so from here on, and at the place before, is so from that place on
 pub one_more : (P : ℕ → Type 0) (at long : ℕ) → 0 < at → ((k : ℕ) → at ≤ k → k < long → P k) → P (at - 1) → (k : ℕ) → at - 1 ≤ k → k < long → P k

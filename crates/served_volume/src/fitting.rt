@@ -10,13 +10,7 @@ use hx_bytes::Units;
 /// The units of a name are numbers of sixteen bits.
 fn look_at_units(name: &[u16])
     ensures { AreUnits name.now }
-{
-    let mut at = name.len();
-    while at > 0 {
-        let _unit = name[at - 1];
-        at -= 1;
-    }
-}
+{}
 
 /// Whether a name is as long as names may be.
 fn fits_name(name: &[u16], most: usize) -> bool
@@ -49,13 +43,7 @@ fn fits_path(path: &[Units]) -> bool
 /// Bytes are numbers of eight bits.
 fn look_at_bytes(value: &[u8])
     ensures { AreBytes value.now }
-{
-    let mut at = value.len();
-    while at > 0 {
-        let _byte = value[at - 1];
-        at -= 1;
-    }
-}
+{}
 
 /// Whether a path fits, beside a number.
 fn fits_place(path: &[Units], from: u64) -> bool

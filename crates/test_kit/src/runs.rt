@@ -3,6 +3,7 @@ use hfsx_server::{Status, hfsx};
 use hx_bytes::OutOfMemory;
 use mem_disk::{MemImage, MemRig, MemSource};
 use std::alloc::{AllocError, Global};
+use watchers::Watcher;
 
 // How many bytes a take of the source gives at most: few, so that lines come in pieces.
 const PIECE: u64 = 7;
@@ -25,7 +26,8 @@ pub fn run_on(
 ) -> Result<Status, OutOfMemory> {
     let words = words(alloc, line)?;
     let mut source = MemSource::new(alloc, input, PIECE, None)?;
-    Ok(hfsx(alloc, words.as_slice(), rig, &mut source))
+    let mut watchers: Vec<Box<dyn Watcher>> = Vec::new(alloc);
+    Ok(hfsx(alloc, words.as_slice(), rig, &mut source, &mut watchers))
 }
 
 /// The volume of 16,384 sectors that `format` makes.

@@ -25,8 +25,8 @@ invariant-loop-lines g l =
       most : length l.lines.items ≤ 32;
       bound : l.left ≤ 4294967295;
       on : (heard : List Change)
-          × (AllByRecursion (λ w. (goal.Watcher-dyn g (w.vtable, w.value)).leaves w.value ≡ false) l.fn.watchers.items
-          → AreTold (λ w. (goal.Watcher-dyn g (w.vtable, w.value)).told w.value) (λ w. (goal.Watcher-dyn g (w.vtable, w.value)).leaves w.value) heard l.fn.watchers.items l.watchers.items)
+          × (AllByRecursion (λ w. g.W.Watcher.leaves w ≡ false) l.fn.watchers.items
+          → AreTold g.W.Watcher.told g.W.Watcher.leaves heard l.fn.watchers.items l.watchers.items)
           × On l.fn.input (g.S.Source.stream l.fn.source) l.lines.items l.input (g.S.Source.stream l.source)
           (λ count texts. (count + l.left ≡ 4294967295) × (IsTrue (g.G.SectorView.space l.fn.base).tells → (capacity : ℕ) (start : Content) (shrunk : Option ℕ)
           → Stands (g.V.Volume.knows l.fn.volume (g.G.SectorView.space l.fn.base) capacity) start start shrunk (g.G.SectorView.space l.fn.base) (g.G.Ground.outside l.fn.base)

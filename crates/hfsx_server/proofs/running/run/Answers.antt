@@ -1,12 +1,14 @@
 use Rattle.std.proofs.Common.{◌∙◌, List, Result, Err, map, inl, inr, ⊎_elim, sym, ap, subst, arith}
-use Rattle.std.specs.Prelude.{IfErr, OnOk}
+use Rattle.std.specs.Prelude.{IfErr, IfOk, OnOk}
 use Rattle.sector_disk.specs.Disk.{OnlyReads, content}
 use Rattle.fsck_list.specs.declared.finding.Finding.{Finding}
 use Rattle.fsck_core.specs.Wants.{as_found}
 use Rattle.hfs_volume.specs.Mount.{IsMountable}
 use Rattle.hfs_serving.specs.Checking.{RefusesMount}
 use Rattle.hfs_serving.specs.Ending.{FinishesRun}
+use Rattle.hfs_serving.specs.Watching.{FinishesHeard}
 use Rattle.hfs_serving.specs.declared.checking.MountRefusal.{MountRefusal}
+use Rattle.hfs_serving.specs.declared.telling.Stop.{Stop}
 use Rattle.hfs_serving.specs.declared.telling.Stop.TheVariants as stop
 use Rattle.hfsx_server.specs.Telling.{ToldUnlessFailed, mount_text}
 use Rattle.hfsx_server.proofs.Finding.{unmounted}
@@ -134,3 +136,52 @@ returns-clause-sink g c = record { later = c.serve_image.ensures.faults.sink_lat
 
 pub returns-clause-source : goal.returns-clause-source
 returns-clause-source g c = record { later = c.serve_image.ensures.later; rose = λ is. c.serve_image.ensures.faults.source (c.in-Err.is ∙ ap Err (is_source c.in-Err.stop (sym c.status_of.ensures ∙ is))) }
+
+-- ---- watched
+
+pub returns-in-Ok-Err-clause-watched : goal.returns-in-Ok-Err-clause-watched
+returns-in-Ok-Err-clause-watched g c =
+    let c0 = content (g.R.SectorDisk.state c.args.rig.now) in
+    let found = map as_found c.serve_image.new.checker.found in
+    let watched = c.serve_image.ensures.watched in (
+      watched.0,
+      watched.1,
+      λ tells settled capacity start mounts.
+          let refuses = subst (λ (a : Result (Unit {0}) MountRefusal). IfErr a (RefusesMount c0 found)) c.in-Ok-Err.field-0-is (c.in-Ok-Err.ensures.refused tells) in
+          absurd (unmounted c0 found c.in-Ok-Err.why refuses (capacity, start, mounts)),
+    )
+
+pub returns-in-Ok-Ok-clause-watched : goal.returns-in-Ok-Ok-clause-watched
+returns-in-Ok-Ok-clause-watched g c =
+    let r0 = g.R.SectorDisk.state c.args.rig.now in
+    let r1 = g.R.SectorDisk.state c.serve_image.new.rig in
+    let s0 = g.S.Source.stream c.args.source.now in
+    let s1 = g.S.Source.stream c.serve_image.new.source in
+    let watched = c.serve_image.ensures.watched in (
+      watched.0,
+      watched.1,
+      λ tells settled capacity start mounts.
+          let all = watched.2 tells settled capacity start mounts in
+          let ends = subst (λ (a : Result (Result (Unit {0}) MountRefusal) Stop). IfOk a (λ answer. OnOk answer (FinishesHeard watched.0 capacity start r0 s0 r1 s1))) c.in-Ok-Ok.is all.1 in
+          record {
+            keeps = all.0;
+            finished = λ _. subst (λ (a : Result (Unit {0}) MountRefusal). OnOk a (FinishesHeard watched.0 capacity start r0 s0 r1 s1)) c.in-Ok-Ok.field-0-is ends;
+            stopped = λ is. absurd (cc is);
+            last = λ is. absurd (cc is);
+          },
+    )
+
+pub returns-clause-watched : goal.returns-clause-watched
+returns-clause-watched g c =
+    let watched = c.serve_image.ensures.watched in (
+      watched.0,
+      watched.1,
+      λ tells settled capacity start mounts.
+          let all = watched.2 tells settled capacity start mounts in
+          record {
+            keeps = all.0;
+            finished = λ is. absurd (no_done c.in-Err.stop (sym c.status_of.ensures ∙ is));
+            stopped = λ is. all.2 (c.in-Err.is ∙ ap Err (is_source c.in-Err.stop (sym c.status_of.ensures ∙ is)));
+            last = λ is. all.3 (c.in-Err.is ∙ ap Err (is_many c.in-Err.stop (sym c.status_of.ensures ∙ is)));
+          },
+    )

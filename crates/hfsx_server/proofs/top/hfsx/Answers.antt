@@ -249,3 +249,24 @@ returns-in-Gen-clause-gen_told g c seed count gen tells either = subst (λ (n : 
 
 pub returns-in-Gen-clause-gen_unwritten : goal.returns-in-Gen-clause-gen_unwritten
 returns-in-Gen-clause-gen_unwritten g c seed count gen = (c.generate.ensures.unwritten, c.generate.ensures.barriers)
+
+pub returns-then-sectors-clause-watched : goal.returns-then-sectors-clause-watched
+returns-then-sectors-clause-watched g c run = absurd (not_both (texts c.args.words.now) c.in-Format.sectors run c.in-Format.ensures)
+
+pub returns-else-sectors-clause-watched : goal.returns-else-sectors-clause-watched
+returns-else-sectors-clause-watched g c run = absurd (not_both (texts c.args.words.now) c.in-Format.sectors run c.in-Format.ensures)
+
+pub returns-in-Wrong-clause-watched : goal.returns-in-Wrong-clause-watched
+returns-in-Wrong-clause-watched g c run = absurd (c.in-Wrong.ensures.0 run)
+
+pub returns-in-Check-clause-watched : goal.returns-in-Check-clause-watched
+returns-in-Check-clause-watched g c run = absurd (no_check (texts c.args.words.now) run c.in-Check.ensures)
+
+pub returns-in-Gen-clause-watched : goal.returns-in-Gen-clause-watched
+returns-in-Gen-clause-watched g c run = absurd (no_run_of_gen (texts c.args.words.now) _ _ run c.in-Gen.ensures)
+
+pub returns-in-Run-clause-watched : goal.returns-in-Run-clause-watched
+returns-in-Run-clause-watched g c run = c.run.ensures.watched
+
+pub returns-in-Run-clause-unwatched : goal.returns-in-Run-clause-unwatched
+returns-in-Run-clause-unwatched g c none = absurd (none c.in-Run.ensures)
