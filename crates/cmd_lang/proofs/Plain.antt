@@ -1,5 +1,6 @@
 -- A value whose bytes all stand for themselves is its own text.
-use Rattle.std.proofs.Common.{◌≡◌, ℕ, zero, suc, ◌<◌, true, List, [], ◌∷◌, get_or, Ok, refl, sym, ap, ◌∙◌, arith}
+use Rattle.std.proofs.Common.{◌≡◌, ◌++◌, ℕ, zero, suc, ◌<◌, true, List, [], ◌∷◌, get_or, Result, Ok, Err, refl, sym, ap, ◌∙◌, arith}
+use Rattle.std.specs.Prelude.{OnOk, is_ok, if◌then◌else◌}
 use Rattle.std.specs.List.{flat_map, list_all}
 use Rattle.std.proofs.lemmas.Bool.{and_parts, cond-true}
 use Rattle.std.proofs.lemmas.Bool.Decides.{nat_tests}
@@ -24,3 +25,8 @@ plain_small (b ∷ value) all (suc k) = plain_small value (and_parts (is_plain b
 
 pub plain_value : (word value : List ℕ) → word ≡ 61 ∷ value → list_all is_plain value ≡ true → value_of word ≡ Ok value
 plain_value word value is all = ap value_of (is ∙ ap (λ (l : List ℕ). 61 ∷ l) (sym (plain_spelled value all))) ∙ value_back value (plain_small value all)
+
+-- such bytes were appended as they are
+pub plain_appended : {T E : Type 0} (result : Result T E) (old new value : List ℕ) → list_all is_plain value ≡ true → new ≡ (if is_ok result then old ++ value else old) → OnOk result (new ≡ old ++ flat_map byte_text value)
+plain_appended (Ok x) old new value all is = is ∙ ap (λ (l : List ℕ). old ++ l) (sym (plain_spelled value all))
+plain_appended (Err e) old new value all is = tt

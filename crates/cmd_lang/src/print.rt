@@ -1,6 +1,6 @@
 //! Numbers and values are printed into bytes.
 ghost use Rattle.std.specs.Prelude.{◌≡◌, ◌++◌, ◌<◌, true, IfOk, OnOk};
-ghost use Rattle.std.specs.List.{flat_map};
+ghost use Rattle.std.specs.List.{flat_map, list_all};
 ghost use Rattle.std.specs.Fmt.{digit_glyph};
 ghost use Rattle.hfs_language.specs.Text as spec;
 
@@ -29,10 +29,20 @@ pub(crate) fn value_text(alloc: Global, value: &[u8]) -> Result<Vec<u8>, AllocEr
 pub(crate) fn push_bytes(text: &mut Vec<u8>, value: &[u8]) -> Result<(), AllocError>
     ensures { OnOk result (text.new.items ≡ text.old.items ++ flat_map spec.byte_text value.now) }
 {
+    if are_plain(value) {
+        return text.extend_from_slice(value);
+    }
     for byte in value {
         push_byte(text, *byte)?;
     }
     Ok(())
+}
+
+/// Whether each byte stands for itself in a value.
+pub(crate) fn are_plain(bytes: &[u8]) -> bool
+    ensures { result ≡ list_all spec.is_plain bytes.now }
+{
+    bytes.iter().all(|byte| is_plain(*byte))
 }
 
 fn push_byte(text: &mut Vec<u8>, byte: u8) -> Result<(), AllocError>
@@ -46,7 +56,7 @@ fn push_byte(text: &mut Vec<u8>, byte: u8) -> Result<(), AllocError>
 }
 
 /// A byte that stands for itself in a value.
-pub(crate) fn is_plain(byte: u8) -> bool
+fn is_plain(byte: u8) -> bool
     ensures { result ≡ spec.is_plain byte }
 {
     byte >= 33 && byte <= 126 && byte != b'%'

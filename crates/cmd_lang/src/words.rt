@@ -8,7 +8,7 @@ ghost use Rattle.hfs_language.specs.Text as spec_text;
 ghost use Rattle.cmd_lang.specs.Reads.{Reads};
 
 use crate::LineFault;
-use crate::print::{is_plain, value_text};
+use crate::print::{are_plain, value_text};
 use hfs_language::Refusal;
 use hx_bytes::{Bytes, Units};
 use itoa::Buffer;
@@ -113,12 +113,6 @@ pub(crate) fn plain_bytes(text: &[u8]) -> Option<&[u8]>
         },
         [] => None,
     }
-}
-
-fn are_plain(bytes: &[u8]) -> bool
-    ensures { result ≡ list_all spec_text.is_plain bytes.now }
-{
-    bytes.iter().all(|byte| is_plain(*byte))
 }
 
 /// The same bytes.
