@@ -1,8 +1,10 @@
 //! The program `hfsx`: it opens an image and hands it to the top call.
 #![tactic(auto)]
 
+use cli_words::{Work, read_words};
 use file_rig::{Failure, FileRig, Image, StdinSource, Store, take_closed, tell};
-use hfsx_server::{Status, Work, hfsx, read_words};
+use hfsx_server::{Status, hfsx};
+use hx_bytes::OutOfMemory;
 use std::alloc::AllocError;
 use std::env;
 use std::io::{self, ErrorKind};
@@ -50,7 +52,11 @@ fn work(rt: &HostRuntime, words: &[String]) -> u8 {
         [_, image, ..] => image.as_str(),
         _ => "",
     };
-    let (image, sectors) = match image_of(rt, read_words(words), name) {
+    let named = match read_words(rt.alloc(), words) {
+        Ok(named) => named,
+        Err(OutOfMemory) => return NO_MEMORY,
+    };
+    let (image, sectors) = match image_of(rt, named, name) {
         Ok(found) => found,
         Err(failure) => {
             tell(rt, &failure, name);

@@ -8,5 +8,3 @@ pub mod Places
 pub mod Results
 pub mod Statuses
 pub mod Telling
-pub mod Usage
-pub mod WordLists

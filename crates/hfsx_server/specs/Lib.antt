@@ -5,5 +5,4 @@ pub mod Generating
 pub mod Made
 pub mod Status
 pub mod Telling
-pub mod Words
 pub mod Watching

@@ -1,5 +1,5 @@
 // A volume that is formatted.
-ghost use Rattle.std.specs.Prelude.{◌≡◌, ◌≢◌, ◌≤◌, ◌↔◌, ◌++◌, IsTrue, IfOk, OnOk, None};
+ghost use Rattle.std.specs.Prelude.{◌≡◌, ◌≢◌, ◌≤◌, ◌↔◌, ◌++◌, IsTrue, IfOk, IfSome, OnOk, None};
 ghost use Rattle.sector_disk.specs.Cause.{Rose};
 ghost use Rattle.sector_disk.specs.Disk.{SameDisk, SameSink};
 ghost use Rattle.volume_make.specs.Layout.{free_of};
@@ -44,13 +44,8 @@ pub fn format<R: Rig>(alloc: Global, rig: &mut R) -> Status
     ensures sink { result ≡ Status.Sink → Rose (R.state rig.old).sink_faults (R.state rig.new).sink_faults }
     ensures same { SameDisk (R.state rig.old) (R.state rig.new) }
 {
-    let sectors = rig.sectors();
-    if sectors < FEWEST {
-        tell_refusal(rig, SizeRefusal::TooSmall(sectors));
-        return Status::Refused;
-    }
-    if sectors > MOST {
-        tell_refusal(rig, SizeRefusal::TooLarge(sectors));
+    if let Some(refusal) = refused_size(rig.sectors()) {
+        tell_refusal(rig, refusal);
         return Status::Refused;
     }
     match make_volume(alloc, rig) {
@@ -61,6 +56,20 @@ pub fn format<R: Rig>(alloc: Global, rig: &mut R) -> Status
         Err(Trouble::Disk) => Status::Disk,
         Err(Trouble::Memory) => Status::Memory,
     }
+}
+
+// Why so many sectors aren't formatted, if they aren't.
+pub(crate) fn refused_size(sectors: u64) -> Option<SizeRefusal>
+    ensures none { result ≡ None ↔ ¬ (IsNoSize sectors) }
+    ensures some { IfSome result (λ refusal. (refusal ≡ size_refusal sectors) × IsNoSize sectors) }
+{
+    if sectors < FEWEST {
+        return Some(SizeRefusal::TooSmall(sectors));
+    }
+    if sectors > MOST {
+        return Some(SizeRefusal::TooLarge(sectors));
+    }
+    None
 }
 
 // Writes an empty volume.

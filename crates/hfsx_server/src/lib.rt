@@ -11,7 +11,6 @@ mod reports;
 mod running;
 mod status;
 mod top;
-mod words;
 
 pub use checking::check;
 pub use formatting::format;
@@ -20,4 +19,3 @@ pub use refusal::{SizeRefusal, tell_mount, tell_open, tell_refusal, tell_usage};
 pub use running::run;
 pub use status::Status;
 pub use top::hfsx;
-pub use words::{Work, read_words};

@@ -1,5 +1,5 @@
 // The top call of the program.
-ghost use Rattle.std.specs.Prelude.{◌≡◌, ◌⊎◌, ◌↔◌, ◌++◌, ◌<◌, ◌≤◌, [], ℕ, List, IsTrue, false, length};
+ghost use Rattle.std.specs.Prelude.{◌≡◌, ◌≢◌, ◌⊎◌, ◌↔◌, ◌++◌, ◌<◌, ◌≤◌, [], ℕ, List, IsTrue, false, length};
 ghost use Rattle.std.specs.List.{AllByRecursion};
 ghost use Rattle.sector_disk.specs.Cause.{Rose};
 ghost use Rattle.sector_disk.specs.Disk.{SameDisk, HasNothingPending, content};
@@ -13,12 +13,15 @@ ghost use Rattle.volume_make.specs.Layout.{free_of};
 ghost use Rattle.hfsx_server.specs.Checking.{IsSoundImage, ToldBroken, ToldCheckRefusal, ToldSound};
 ghost use Rattle.hfsx_server.specs.Generating.{ToldPlayed};
 ghost use Rattle.hfsx_server.specs.Made.{IsMade, IsNoSize, made_layout};
-ghost use Rattle.hfsx_server.specs.Telling.{ToldRefusal, ToldUnlessFailed, refusal_text, size_refusal, usage_text, formatted_text};
+ghost use Rattle.hfsx_server.specs.Telling.{Tells, ToldRefusal, ToldUnlessFailed, refusal_text, size_refusal, usage_text, formatted_text};
 ghost use Rattle.hfsx_server.specs.Watching.{IsHeard};
-ghost use Rattle.hfsx_server.specs.Words.{texts, AreRun, AreCheck, AreFormat, AreGen, AreInUse};
+ghost use Rattle.cli_words.specs.Words.{texts, AreRun, AreCheck, AreFormat, AreGen, AreInUse};
 ghost use Rattle.watchers.specs.Told.{AreTold};
 
-use crate::{Status, Work, check, format, generate, read_words, run, tell_usage};
+use crate::formatting::refused_size;
+use crate::{Status, check, format, generate, run, tell_refusal, tell_usage};
+use cli_words::{Work, named_work, read_words};
+use hx_bytes::OutOfMemory;
 use sector_disk::{Rig, Source};
 use std::alloc::Global;
 use watchers::Watcher;
@@ -36,7 +39,7 @@ pub fn hfsx<R: Rig, S: Source, W: Watcher>(
     source: &mut S,
     watchers: &mut Vec<W>,
 ) -> Status
-    // Status 2 stands exactly where the words are wrong, or don't give the image's number of sectors.
+    // Status 2 stands, whatever memory there is, exactly where the words are wrong, or don't give the image's number of sectors.
     ensures usage { (result ≡ Status.Usage) ↔ ¬ (AreInUse (texts words.now) (R.state rig.old).sectors) }
     ensures usage_told { IsTrue (R.state rig.old).tells → result ≡ Status.Usage → ToldUnlessFailed (R.state rig.old) (R.state rig.new) usage_text }
 
@@ -101,11 +104,11 @@ pub fn hfsx<R: Rig, S: Source, W: Watcher>(
     ensures sink { result ≡ Status.Sink → Rose (R.state rig.old).sink_faults (R.state rig.new).sink_faults }
     ensures same { SameDisk (R.state rig.old) (R.state rig.new) }
 {
-    match read_words(words) {
-        Work::Run => run(alloc, rig, source, watchers),
-        Work::Check => check(alloc, rig),
-        Work::Gen { seed, count } => generate(alloc, rig, seed, count),
-        Work::Format { sectors } => {
+    match read_words(alloc, words) {
+        Ok(Work::Run) => run(alloc, rig, source, watchers),
+        Ok(Work::Check) => check(alloc, rig),
+        Ok(Work::Gen { seed, count }) => generate(alloc, rig, seed, count),
+        Ok(Work::Format { sectors }) => {
             if sectors == rig.sectors() {
                 format(alloc, rig)
             } else {
@@ -113,9 +116,36 @@ pub fn hfsx<R: Rig, S: Source, W: Watcher>(
                 Status::Usage
             }
         }
-        Work::Wrong => {
+        Ok(Work::Wrong) => {
             tell_usage(rig);
             Status::Usage
         }
+        Err(OutOfMemory) => match named_work(words) {
+            Work::Format { sectors } => refuse_format(rig, sectors),
+            _ => Status::Memory,
+        },
+    }
+}
+
+// How `format` ends where there is no memory for it: what is refused without memory is refused all the same.
+fn refuse_format<R: Rig>(rig: &mut R, sectors: u64) -> Status
+    ensures kinds { (result ≡ Status.Usage) ⊎ ((result ≡ Status.Refused) ⊎ (result ≡ Status.Memory)) }
+    ensures usage { (result ≡ Status.Usage) ↔ (sectors ≢ (R.state rig.old).sectors) }
+    ensures usage_told { result ≡ Status.Usage → Tells (R.state rig.old) (R.state rig.new) usage_text }
+    ensures refused { sectors ≡ (R.state rig.old).sectors → (result ≡ Status.Refused) ↔ IsNoSize (R.state rig.old).sectors }
+    ensures refusal { result ≡ Status.Refused → Tells (R.state rig.old) (R.state rig.new) (refusal_text (size_refusal (R.state rig.old).sectors)) }
+    ensures unwritten { (R.state rig.new).candidates ≡ (R.state rig.old).candidates }
+    ensures same { SameDisk (R.state rig.old) (R.state rig.new) }
+{
+    if sectors != rig.sectors() {
+        tell_usage(rig);
+        return Status::Usage;
+    }
+    match refused_size(sectors) {
+        Some(refusal) => {
+            tell_refusal(rig, refusal);
+            Status::Refused
+        }
+        None => Status::Memory,
     }
 }

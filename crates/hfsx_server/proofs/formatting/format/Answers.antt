@@ -1,40 +1,22 @@
 use Rattle.std.proofs.Common.{◌≡◌, ◌<◌, ◌∙◌, ◌++◌, ℕ, List, IsTrue, sym, ap, subst, arith}
 use Rattle.volume_make.specs.Layout.{free_of}
-use Rattle.hfsx_server.specs.Made.{made_layout}
+use Rattle.hfsx_server.specs.Made.{IsNoSize, made_layout}
 use Rattle.hfsx_server.specs.Telling.{Tells, refusal_text, size_refusal, formatted_text}
 use Rattle.hfsx_server.proofs.Formatted.{made_told}
 use Rattle.hfsx_server.proofs.MadeSizes.{no_size}
 use Rattle.hfsx_server.proofs.Telling.{too_small, too_large}
 use Rattle.hfsx_server.proofs.formatting.format.Goals as goal
 
-pub returns-then-sectors-lt-FEWEST-clause-refusal : goal.returns-then-sectors-lt-FEWEST-clause-refusal
-returns-then-sectors-lt-FEWEST-clause-refusal g c _ =
-    let old = g.R.SectorDisk.state c.args.rig.now in
-    let new = g.R.SectorDisk.state c.tell_refusal.new.rig in
-    let number : c.sectors-sectors.result ≡ old.sectors = c.sectors-sectors.ensures in
-    let small : c.sectors-sectors.result < 16384 = omega arith in
-    subst (λ (n : ℕ). Tells old new (refusal_text (size_refusal n))) number
-    (subst (λ refusal. Tells old new (refusal_text refusal)) (sym (too_small c.sectors-sectors.result small)) c.tell_refusal.ensures)
-
-pub returns-then-sectors-gt-MOST-clause-refusal : goal.returns-then-sectors-gt-MOST-clause-refusal
-returns-then-sectors-gt-MOST-clause-refusal g c _ =
-    let old = g.R.SectorDisk.state c.args.rig.now in
-    let new = g.R.SectorDisk.state c.tell_refusal-then-sectors-gt-MOST.new.rig in
-    let number : c.sectors-sectors.result ≡ old.sectors = c.sectors-sectors.ensures in
-    let large : 2147483648 < c.sectors-sectors.result = omega arith in
-    subst (λ (n : ℕ). Tells old new (refusal_text (size_refusal n))) number
-    (subst (λ refusal. Tells old new (refusal_text refusal)) (sym (too_large c.sectors-sectors.result (omega (arith, large)))) c.tell_refusal-then-sectors-gt-MOST.ensures)
-
 pub returns-in-Ok-tell_formatted-clause-refused : goal.returns-in-Ok-tell_formatted-clause-refused
 returns-in-Ok-tell_formatted-clause-refused g c = (
   λ is. absurd (cc is),
-  λ none. absurd (no_size (g.R.SectorDisk.state c.args.rig.now).sectors c.sectors-sectors.result c.sectors-sectors.ensures c.if-sectors-lt-FEWEST.false c.if-sectors-gt-MOST.false none),
+  λ none. absurd (c.refused_size.ensures.none.0 c.in_default.is (subst IsNoSize (sym c.sectors.ensures) none)),
 )
 
 pub returns-in-Err-clause-refused : goal.returns-in-Err-clause-refused
 returns-in-Err-clause-refused g c = (
   λ is. absurd (cc is),
-  λ none. absurd (no_size (g.R.SectorDisk.state c.args.rig.now).sectors c.sectors-sectors.result c.sectors-sectors.ensures c.if-sectors-lt-FEWEST.false c.if-sectors-gt-MOST.false none),
+  λ none. absurd (c.refused_size.ensures.none.0 c.in_default.is (subst IsNoSize (sym c.sectors.ensures) none)),
 )
 
 pub returns-in-Ok-tell_formatted-clause-made : goal.returns-in-Ok-tell_formatted-clause-made

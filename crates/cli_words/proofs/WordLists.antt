@@ -1,7 +1,7 @@
 -- Lists of words of a known length.
 use Rattle.std.proofs.Common.{◌≡◌, [], ◌∷◌, List, length, get_or, arith, String, Global}
 use Rattle.std.specs.Prelude.{string_bytes}
-use Rattle.hfsx_server.specs.Words.{texts}
+use Rattle.cli_words.specs.Words.{texts}
 
 pub two_words : (words : List (String Global)) (a b : String Global) → length words ≡ 2 → a ≡ get_or words 0 a → b ≡ get_or words 1 b → texts words ≡ string_bytes a ∷ string_bytes b ∷ []
 two_words [] a b two first second = absurd (omega (arith, two))

@@ -1,8 +1,8 @@
 -- The words that the program takes.
 use Rattle.std.specs.Prelude.{◌≡◌, ◌≢◌, ◌⊎◌, ◌<◌, ◌^◌, ℕ, List, [], ◌∷◌, map, slice_index, String, string_bytes, codes, decimal}
 use Rattle.std.specs.declared.alloc.Global.{Global}
-use Rattle.hfsx_server.specs.declared.words.Work.{Work}
-use Rattle.hfsx_server.specs.declared.words.Work.TheVariants.{Check, Format, Gen, Run, Wrong}
+use Rattle.cli_words.specs.declared.named.Work.{Work}
+use Rattle.cli_words.specs.declared.named.Work.TheVariants.{Check, Format, Gen, Run, Wrong}
 
 -- the words as lists of bytes
 abbrev pub texts : List (String Global) → List (List ℕ)

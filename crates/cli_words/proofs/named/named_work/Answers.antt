@@ -1,9 +1,9 @@
 use Rattle.std.proofs.Common.{◌≡◌, ◌↔◌, ◌∙◌, ◌∷◌, [], List, ℕ, IsTrue, length, ap, arith, rules, codes}
 use Rattle.std.specs.Prelude.{string_bytes}
-use Rattle.hfsx_server.specs.Words.{MayName, texts}
-use Rattle.hfsx_server.proofs.Usage.{words_of_format, words_of_gen}
-use Rattle.hfsx_server.proofs.WordLists.{two_words, three_words}
-use Rattle.hfsx_server.proofs.words.read_words.Goals as goal
+use Rattle.cli_words.specs.Words.{MayName, texts}
+use Rattle.cli_words.proofs.Usage.{words_of_format, words_of_gen}
+use Rattle.cli_words.proofs.WordLists.{two_words, three_words}
+use Rattle.cli_words.proofs.named.named_work.Goals as goal
 
 pub returns-then-eq : goal.returns-then-eq
 returns-then-eq c =

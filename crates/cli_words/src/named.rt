@@ -1,6 +1,6 @@
-// The words of a command line.
+// The work that the words of a command line name.
 ghost use Rattle.std.specs.Prelude.{◌≡◌, ◌≢◌, ◌<◌, ◌^◌, ◌↔◌, ℕ, IsTrue, MatchOption, codes, decimal, string_bytes};
-ghost use Rattle.hfsx_server.specs.Words.{texts, MayName, AreWordsOf, IsFormatOf, IsGenOf};
+ghost use Rattle.cli_words.specs.Words.{texts, MayName, AreWordsOf, IsFormatOf, IsGenOf};
 
 use itoa::Buffer;
 
@@ -19,8 +19,8 @@ pub enum Work {
     Wrong,
 }
 
-/// Reads the words after the program's name.
-pub fn read_words(words: &[String]) -> Work
+/// The work that the words after the program's name ask for. It takes no memory.
+pub fn named_work(words: &[String]) -> Work
     ensures { AreWordsOf (texts words.now) result }
 {
     match words {

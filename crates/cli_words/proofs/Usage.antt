@@ -1,10 +1,10 @@
 -- Words ask for one work at most.
-use Rattle.std.proofs.Common.{◌≡◌, ℕ, List, [], ◌∷◌, get_or, refl, subst, sym, ◌∙◌, ap, codes}
+use Rattle.std.proofs.Common.{◌≡◌, ℕ, List, [], ◌∷◌, get_or, inl, inr, refl, subst, sym, ◌∙◌, ap, codes}
 use Rattle.std.specs.Prelude.{decimal}
 use Rattle.std.proofs.lemmas.Fmt.{decimal_injective}
-use Rattle.hfsx_server.specs.Words.{AreRun, AreCheck, AreFormat, AreGen, AreWordsOf, IsFormatOf, IsGenOf, MayName}
-use Rattle.hfsx_server.specs.declared.words.Work.{Work}
-use Rattle.hfsx_server.specs.declared.words.Work.TheVariants.{Check, Format, Gen, Run, Wrong}
+use Rattle.cli_words.specs.Words.{AreRun, AreCheck, AreFormat, AreGen, AreInUse, AreWordsOf, IsFormatOf, IsGenOf, MayName}
+use Rattle.cli_words.specs.declared.named.Work.{Work}
+use Rattle.cli_words.specs.declared.named.Work.TheVariants.{Check, Format, Gen, Run, Wrong}
 
 third : List (List ℕ) → List ℕ
 third words = get_or words 2 []
@@ -109,3 +109,27 @@ words_of_gen words a b Wrong are is = (
   λ many format. apart_gen_format words format.0 (decimal many) a b format.3 are,
   λ seed count gen. is seed count gen.0 gen.1 (sym (the_second_of words _ _ _ are) ∙ the_second_of words _ _ _ gen.2) (sym (the_third_of words _ _ _ are) ∙ the_third_of words _ _ _ gen.2),
 )
+
+-- words that name a work aren't wrong
+pub not_wrong : (words : List (List ℕ)) (work : Work) → AreWordsOf words work → (work ≡ Wrong → ⊥) → AreWordsOf words Wrong → ⊥
+not_wrong words (Format many) are other wrong = wrong.2 many are
+not_wrong words Run are other wrong = wrong.0 are
+not_wrong words Check are other wrong = wrong.1 are
+not_wrong words (Gen seed count) are other wrong = wrong.3 seed count are
+not_wrong words Wrong are other wrong = other refl
+
+-- words that name another work aren't `format`'s
+pub not_format : (words : List (List ℕ)) (work : Work) (n : ℕ) → AreWordsOf words work → ((many : ℕ) → work ≡ Format many → ⊥) → AreFormat words n → ⊥
+not_format words (Format many) n are other format = other many refl
+not_format words Run n are other format = not_both words n are format
+not_format words Check n are other format = no_format words n are format
+not_format words (Gen seed count) n are other format = no_format_of_gen words n seed count format are
+not_format words Wrong n are other format = are.2 n format
+
+-- words that name another work than `format` are in use for each image
+pub in_use : (words : List (List ℕ)) (work : Work) (n : ℕ) → AreWordsOf words work → (work ≡ Wrong → ⊥) → ((many : ℕ) → work ≡ Format many → ⊥) → AreInUse words n
+in_use words (Format many) n are right other = absurd (other many refl)
+in_use words Run n are right other = inl are
+in_use words Check n are right other = inr (inl are)
+in_use words (Gen seed count) n are right other = inr (inr (inr (seed, count, are)))
+in_use words Wrong n are right other = absurd (right refl)

@@ -1,7 +1,7 @@
 use Rattle.std.proofs.Common.{◌≡◌, ◌↔◌, ◌∙◌, ℕ, IsTrue, Result, Ok, Err, sym, ap, rules, Bool, true, false}
 use Rattle.std.proofs.lemmas.Fmt.{parse-decimal}
 use Rattle.std.specs.Fmt.{decimal}
-use Rattle.hfsx_server.proofs.words.read_number.Goals as goal
+use Rattle.cli_words.proofs.named.read_number.Goals as goal
 
 same_number : (a b : ℕ) → ◌≡◌ {A = Result ℕ ℕ} (Ok a) (Ok b) → a ≡ b
 same_number a b same = cc same
