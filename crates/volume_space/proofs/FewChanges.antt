@@ -1,10 +1,10 @@
 -- A cut of a fork's last extent changes at most two of its overflow records and adds none: the last one that has extents, and one without any behind it.
-use Rattle.std.proofs.Common.{◌≡◌, ◌≢◌, ◌⊎◌, inl, inr, ◌<◌, ◌≤◌, ℕ, zero, suc, ◌+◌, ◌-◌, ◌*◌, ◌==◌, ◌&&◌, Bool, true, false, List, [], ◌∷◌, ◌++◌, length, map, take, drop, refl, sym, ◌∙◌, ap, subst, arith, length-append, length-take}
-use Rattle.std.specs.Prelude.{nat_lt, not, if◌then◌else◌}
+use Rattle.std.proofs.Common.{◌≡◌, inl, inr, ◌<◌, ◌≤◌, ℕ, suc, ◌+◌, ◌-◌, ◌*◌, ◌==◌, ◌&&◌, Bool, true, false, List, [], ◌∷◌, ◌++◌, length, map, take, drop, refl, sym, ◌∙◌, ap, subst, arith, length-append}
+use Rattle.std.specs.Prelude.{not, if◌then◌else◌}
 use Rattle.std.specs.List.{range_with_len}
 use Rattle.std.proofs.lemmas.Grind.{flat_map-append}
 use Rattle.std.proofs.lemmas.Bool.{cases_lt, eq-eqb, le-ltb}
-use Rattle.std.proofs.lemmas.List.{drop_all, drop-drop, drop-take, length-drop, take_all, take-append-drop, take-append-le, take-take}
+use Rattle.std.proofs.lemmas.List.{drop-drop, drop-take, length-drop, take_all, take-append-drop, take-append-le, take-take}
 use Rattle.hx_bytes.specs.declared.extents.Extent.{Extent}
 use Rattle.fork_map.specs.Blocks.{blocks_of}
 use Rattle.hfs_volume.specs.Blocks.{GoOn}
@@ -12,7 +12,7 @@ use Rattle.hfs_volume.specs.Forks.{in_use, is_full, parts_for}
 use Rattle.hfs_volume.specs.Records.{Overflow}
 use Rattle.hfs_volume.proofs.Seeing.{same_number}
 use Rattle.overflow.specs.Changes.{are_light, behind_front, change_at, changes_to, front_before, past, same_extents, same_list}
-use Rattle.overflow.specs.Records.{eight_at, record_of, records_for, records_from}
+use Rattle.overflow.specs.Records.{eight_at, record_of, records_from}
 use Rattle.overflow.specs.declared.changes.Change.{Change}
 use Rattle.overflow.specs.declared.changes.Change.TheVariants.{Remove, Insert, Replace}
 use Rattle.overflow.specs.declared.record.OverflowRecord.{OverflowRecord}
@@ -175,4 +175,38 @@ module _ (list new : List Extent) (used : AreUsed new) (same : take (length list
             let removed = all_removed (next ∷ more) in
             one_more 1 (same_extents (record_of one).extents first.extents) first (changes_to (map record_of (next ∷ more)) (records_from (parts_for (length new - (at + 8)) 8) (at + 8) new))
             (subst (λ (l : List OverflowRecord). AreFew 1 (changes_to (map record_of (next ∷ more)) l)) (sym (none_wanted (at + 8) (omega (arith, most, ends)))) (removed.0, omega (arith, removed.1, single)))
+      ]))
+
+  -- one at most where each record has an extent in use: the last one that has extents
+  pub few_filled : (records : List Overflow) (at place : ℕ) → HaveEight records → GoOn place true records → place ≡ length (blocks_of (take at list)) → drop at list ≡ used_by records → at ≤ length list → length new ≡ length list → length records ≡ parts_for (length list - at) 8
+      → AreFew 1 (changes_to (map record_of records) (records_from (parts_for (length new - at) 8) at new))
+  few_filled [] at place eight go is behind_it within long filled =
+      let ends : length list - at ≡ 0 = sym (length-drop at list) ∙ ap (λ (l : List Extent). length l) behind_it in
+      subst (λ (l : List OverflowRecord). AreFew 1 (changes_to [] l)) (sym (none_wanted at (omega (arith, most, ends, within)))) (refl, omega arith)
+  few_filled (one ∷ []) at place eight go is behind_it within long filled =
+      let parts : parts_for (length new - at) 8 ≡ suc 0 = ap (λ n. parts_for (n - at) 8) long ∙ sym filled in
+      let inside : at < length new = elim (cases_lt at (length new)) [
+        | inl less ↦ less
+        | inr past_it ↦ absurd (omega (arith, parts, no_parts (length new - at) (omega (arith, past_it))))
+      ] in
+      let first : OverflowRecord = record { start = length (blocks_of (take at new)); extents = eight_at new at } in
+      subst (λ n. AreFew 1 (changes_to (map record_of (one ∷ [])) (records_from n at new))) (sym parts)
+      (subst (AreFew 1) (sym (at_same (record_of one) first [] [] (starts_alike at place (omega (arith, inside, most)) is ∙ sym go.0)))
+      (one_more 0 (same_extents (record_of one).extents first.extents) first [] (refl, omega arith)))
+  few_filled (one ∷ next ∷ more) at place eight go is behind_it within long filled =
+      let full : in_use one.extents ≡ one.extents = full_used one.extents go.2.1 in
+      let sum : length (drop at list) ≡ 8 + length (used_by (next ∷ more)) = ap (λ (l : List Extent). length l) behind_it ∙ length-append (in_use one.extents) (used_by (next ∷ more)) ∙ (λ i. length (full i) + length (used_by (next ∷ more))) ∙ (λ i. eight.0 i + length (used_by (next ∷ more))) in
+      let enough : at + 8 ≤ length list = omega (arith, sum, length-drop at list) in
+      let first : OverflowRecord = record { start = length (blocks_of (take at new)); extents = eight_at new at } in
+      let inside : at < length new = omega (arith, enough, least) in
+      let parts : parts_for (length list - at) 8 ≡ suc (parts_for (length list - (at + 8)) 8) = a_part_more (length list) at (omega (arith, enough)) in
+      let later_list : drop (at + 8) list ≡ used_by (next ∷ more) = sym (drop-drop 8 at list) ∙ ap (drop 8) (behind_it ∙ ap (λ (l : List Extent). l ++ used_by (next ∷ more)) full) ∙ past_eight one.extents (used_by (next ∷ more)) eight.0 in
+      subst (λ n. AreFew 1 (changes_to (map record_of (one ∷ next ∷ more)) (records_from n at new))) (sym (a_part_more (length new) at inside))
+      (subst (AreFew 1) (sym (at_same (record_of one) first (map record_of (next ∷ more)) (records_from (parts_for (length new - (at + 8)) 8) (at + 8) new) (starts_alike at place (omega (arith, enough)) is ∙ sym go.0)))
+      (elim (cases_lt (at + 8) (length list)) [
+        | inl stays ↦ none_more 1 (same_extents (record_of one).extents first.extents) first (changes_to (map record_of (next ∷ more)) (records_from (parts_for (length new - (at + 8)) 8) (at + 8) new))
+            (eight_stay at one (used_by (next ∷ more)) (omega (arith, stays)) eight.0 full behind_it)
+            (few_filled (next ∷ more) (at + 8) (place + length (blocks_of one.extents)) eight.1 (subst (λ b. GoOn (place + length (blocks_of one.extents)) b (next ∷ more)) go.2.1 go.2) (counted list one.extents (used_by (next ∷ more)) at place eight.0 is (behind_it ∙ ap (λ (l : List Extent). l ++ used_by (next ∷ more)) full)) later_list enough long
+            (omega (arith, filled, parts)))
+        | inr ends ↦ absurd (omega (arith, filled, parts, no_parts (length list - (at + 8)) (omega (arith, ends))))
       ]))

@@ -24,6 +24,7 @@ pub mod ExtentsGrownStands
 pub mod ExtentsGrownUnchanged
 pub mod ExtentsGrownWhole
 pub mod FewChanges
+pub mod Filled
 pub mod GivenBack
 pub mod GrownAhead
 pub mod GrownBits

@@ -44,7 +44,7 @@ module _ (v : Volume) (a b : Space) (was : IsStanding v a) (settled : IsSettled 
     abbrev w : Volume
     w = lengthened run.count v later file
 
-    same_overflow : overflow_in_volume (lists_of (lengthened run.count v later file) b.content) ≡ overflow_in_volume (lists_of v a.content)
+    pub same_overflow : overflow_in_volume (lists_of (lengthened run.count v later file) b.content) ≡ overflow_in_volume (lists_of v a.content)
     same_overflow = overflow_same v a b was settled count run later takes some file grown within tells
 
     -- its extents have blocks

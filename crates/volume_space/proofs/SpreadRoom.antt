@@ -26,7 +26,7 @@ use Rattle.overflow.proofs.Cutting.{AreUsed, eight_full, eight_used}
 use Rattle.overflow.proofs.Whole.{HaveEight, goes_on_in, pairs_eight, used_by, whole_is}
 use Rattle.volume_base.proofs.CutForks.{full_all as full_used}
 use Rattle.volume_base.proofs.CutLists.{extents_used}
-use Rattle.volume_space.proofs.FewChanges.{AreFew, a_part_more, at_same, counted, few, in_use_few, one_part, past_eight, replaced, same_self}
+use Rattle.volume_space.proofs.FewChanges.{AreFew, a_part_more, at_same, counted, few, few_filled, in_use_few, one_part, past_eight, replaced, same_self}
 use Rattle.volume_space.proofs.GrownForks.{join_used}
 use Rattle.volume_space.proofs.SpreadFile.{all_in_use}
 
@@ -197,16 +197,30 @@ module _ (store : Store) (id kind : ℕ) (other : id ≢ extents_id) (list : Lis
       few list new now_used same (omega (arith, long_is)) (omega (arith, long_is)) records 8 (length (blocks_of front)) (pairs_eight id kind (pairs_of store)) (subst (λ b. GoOn (length (blocks_of front)) b records) full go) (sym place_is ∙ before) behind_it least)
       (λ none short. let no_part : parts_for (length new - 8) 8 ≡ 0 = omega (arith, short, long_is) in subst (λ n. AreFew 2 (changes_to [] (records_from n 8 new))) (sym no_part) (refl, omega arith))
 
-  pub room_for_run : IsTrue store.tells → EditRoom 1 10 store → HasRoom (2 * edit_writes store.shape.depth) store → HasStoreRoom store id kind (join list (run ∷ []))
-  room_for_run tells one light = ⊎_elim
-      (λ more.
-      let less : edits_for store id kind new ≤ 1 = subst (λ (l : List Extent). length (changes_to (map record_of records) (records_for l)) ≤ 1) (sym (all_in_use new now_used)) (one_edit more) in
-      let sum : 1 ≡ edits_for store id kind new + (1 - edits_for store id kind new) = omega (arith, less) in
-      inl (room_first (edits_for store id kind new) (1 - edits_for store id kind new) 10 store (λ told. subst (λ n. EditRoom n 10 store) sum one) tells))
-      (λ goes.
+  -- a longer last one is one change, where each record has an extent in use
+  filled_edits : take (length list - 1) new ≡ take (length list - 1) list → length new ≡ length list → length records ≡ parts_for (length list - 8) 8 → length (changes_to (map record_of records) (records_for new)) ≤ 1
+  filled_edits same long_is = by_front (λ (l : List OverflowRecord). length records ≡ parts_for (length list - 8) 8 → length (changes_to l (records_for new)) ≤ 1)
+      (λ full at place at_is place_is before behind_it least filled.
+      (few_filled list new now_used same (omega (arith, long_is)) (omega (arith, long_is)) records 8 (length (blocks_of front)) (pairs_eight id kind (pairs_of store)) (subst (λ b. GoOn (length (blocks_of front)) b records) full go) (sym place_is ∙ before) behind_it least long_is filled).1)
+      (λ none short filled. let no_part : parts_for (length new - 8) 8 ≡ 0 = omega (arith, short, long_is) in subst (λ n. length (changes_to [] (records_from n 8 new)) ≤ 1) (sym no_part) (omega arith))
+
+  pub room_for_run : IsTrue store.tells → EditRoom 1 10 store → (length records ≡ parts_for (length list - 8) 8) ⊎ HasRoom (2 * edit_writes store.shape.depth) store → HasStoreRoom store id kind (join list (run ∷ []))
+  room_for_run tells one room = ⊎_elim
+      (λ more. inl (by_one (one_edit more)))
+      (λ goes. ⊎_elim
+      (λ filled. inl (by_one (filled_edits goes.0 goes.1 filled)))
+      (λ light.
       let changes : AreFew 2 (changes_to (map record_of records) (records_for (in_use new))) = subst (λ (l : List Extent). AreFew 2 (changes_to (map record_of records) (records_for l))) (sym (all_in_use new now_used)) (light_edits goes.0 goes.1) in
       inr (record {
         light = changes.0;
         writes = omega (arith, light, mul-le-mul_right {m = length (changes_to (map record_of records) (records_for (in_use new)))} {n = 2} (edit_writes store.shape.depth) changes.1);
       }))
+      room)
       (joined_so list run)
+    where
+      -- one change has room
+      by_one : length (changes_to (map record_of records) (records_for new)) ≤ 1 → EditRoom (edits_for store id kind new) 10 store
+      by_one few_changes =
+          let less : edits_for store id kind new ≤ 1 = subst (λ (l : List Extent). length (changes_to (map record_of records) (records_for l)) ≤ 1) (sym (all_in_use new now_used)) few_changes in
+          let sum : 1 ≡ edits_for store id kind new + (1 - edits_for store id kind new) = omega (arith, less) in
+          room_first (edits_for store id kind new) (1 - edits_for store id kind new) 10 store (λ told. subst (λ n. EditRoom n 10 store) sum one) tells

@@ -1,5 +1,5 @@
 -- The catalog or the attributes file gets more nodes, where its fork has eight extents or more: those behind the eight stand in overflow records.
-use Rattle.std.specs.Prelude.{◌≡◌, ◌≢◌, ◌<◌, ◌≤◌, ℕ, ◌+◌, ◌-◌, ◌*◌, ◌/◌, ◌^◌, min, true, List, [], ◌∷◌, IsTrue, length}
+use Rattle.std.specs.Prelude.{◌≡◌, ◌≢◌, ◌⊎◌, ◌<◌, ◌≤◌, ℕ, ◌+◌, ◌-◌, ◌*◌, ◌/◌, ◌^◌, min, true, List, [], ◌∷◌, IsTrue, length}
 use Rattle.std.specs.List.{Contains}
 use Rattle.sector_disk.specs.Space.{Space}
 use Rattle.alloc_bitmap.specs.Apart.{AreApart}
@@ -53,10 +53,10 @@ pub record GoesOnInRun (old new : List Extent) : Type 0 where
   pub is : new ≡ join old (run ∷ [])
 
 -- The extents overflow file has room for the records of a fork that goes on in a run, where so many sectors may be put: for one edit, and for two
--- changes that add no record.
-pub record HasRoomForRun (volume : Volume) (spare : ℕ) : Type 0 where
+-- changes that add no record, or each record of it has an extent in use.
+pub record HasRoomForRun (filled : Type 0) (volume : Volume) (spare : ℕ) : Type 0 where
   pub one : is_met_extents (cost_of (needs_extents 1) (room_on blocks.Takable volume)) spare ≡ true
-  pub light : min (2 * edit_writes volume.extents.file.shape.depth) volume.extents.file.shape.total ≤ spare / (volume.extents.file.shape.node_size / 512)
+  pub light : filled ⊎ (min (2 * edit_writes volume.extents.file.shape.depth) volume.extents.file.shape.total ≤ spare / (volume.extents.file.shape.node_size / 512))
 
 -- The numbers that count a file's nodes, blocks and bytes have room for so many nodes more, which fill blocks; its nodes have a size that nodes have.
 pub record NumbersHaveRoom (more : ℕ) (file : TreeFile) (fork : ForkRecord) (volume : Volume) : Type 0 where
@@ -69,8 +69,7 @@ pub record NumbersHaveRoom (more : ℕ) (file : TreeFile) (fork : ForkRecord) (v
   pub counted : blocks_filled file more ≤ volume.header.free_blocks
 
 -- A file with this fork, of any number of extents, can get so many nodes more: they fill blocks, so many blocks in a row are free and not held, and the
--- numbers that count its nodes, blocks and bytes have room. Since the last keep no bit was changed, there is room to put what a growth puts, and behind it
--- for the overflow records.
+-- numbers that count its nodes, blocks and bytes have room. Since the last keep no bit was changed, and there is room to put what a growth puts.
 pub record CanGrowSpread (more : ℕ) (file : TreeFile) (fork : ForkRecord) (volume : Volume) (space : Space) : Type 0 where
   pub some : 0 < blocks_filled file more
   pub whole : blocks_filled file more * file.per_block ≡ more * (file.shape.node_size / 512)
@@ -83,7 +82,10 @@ pub record CanGrowSpread (more : ℕ) (file : TreeFile) (fork : ForkRecord) (vol
   pub inside : length volume.map.used * file.per_block ≤ space.sectors
   pub unchanged : volume.map.changed ≡ none (sectors_for (length volume.map.used))
   pub room : growth_load volume file more ≤ space.spare
-  pub records : HasRoomForRun volume (space.spare - growth_load volume file more)
+
+-- Behind the growth of a file by so many nodes there is room for its overflow records.
+abbrev pub HasRoomBehind : Type 0 → ℕ → TreeFile → Volume → Space → Type 0
+HasRoomBehind filled more file volume space = HasRoomForRun filled volume (space.spare - growth_load volume file more)
 
 -- A run of so many free blocks was taken, and blocks have the size that they had.
 pub record TakesBlocks (count : ℕ) (old new : Volume) : Type 0 where

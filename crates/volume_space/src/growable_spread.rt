@@ -1,10 +1,10 @@
 //! Whether the file of a tree whose fork has eight extents or more can grow: those behind the eight of the header's record stand in overflow records (TN1150, "Extents Overflow File").
-ghost use Rattle.std.specs.Prelude.{◌≡◌, ◌≤◌, ◌-◌, ◌*◌, ◌/◌, min, true, IsTrue, length};
+ghost use Rattle.std.specs.Prelude.{◌≡◌, ◌⊎◌, ◌≤◌, ◌-◌, ◌*◌, ◌/◌, min, true, IsTrue, length};
 ghost use Rattle.alloc_bitmap.specs.Map.{none};
 ghost use Rattle.btree_edit.specs.Editing.{edit_writes};
 ghost use Rattle.flag_rows.specs.Bits.{sectors_for};
 ghost use Rattle.volume_space.specs.Growing.{blocks_filled};
-ghost use Rattle.volume_space.specs.SpreadGrowth.{CanGrowSpread, HasRoomForRun, NumbersHaveRoom};
+ghost use Rattle.volume_space.specs.SpreadGrowth.{CanGrowSpread, HasRoomBehind, HasRoomForRun, NumbersHaveRoom};
 
 use crate::growable::{count_blocks, count_growth_sectors, has_free_run};
 use crate::storing::{count_nodes, fit_nodes, is_met, needs_of_extents};
@@ -47,12 +47,24 @@ fn numbers_have_room(
     blocks <= u64::from(volume.header.free_blocks)
 }
 
-/// Whether the extents overflow file has room for the records of a fork that goes on in a run, where so many sectors may be put.
-fn can_store_run<P: SectorSpace>(volume: &Volume, _space: &P, spare: u64) -> bool
-    ensures { IsTrue result → HasRoomForRun volume.now spare }
+/// Whether so many sectors suffice for two changes of the extents overflow file that add no record; none are made of a fork whose records have
+/// an extent in use each.
+fn fit_changes(volume: &Volume, spare: u64, filled: bool) -> bool
+    ensures { IsTrue result → IsTrue filled ⊎ (min (2 * edit_writes volume.now.extents.file.shape.depth) volume.now.extents.file.shape.total ≤ spare / (volume.now.extents.file.shape.node_size / 512)) }
 {
+    if filled {
+        return true;
+    }
     let shape = volume.extents.file.shape();
-    if !fit_nodes(u64::from(shape.node_size / 512), count_nodes(shape), spare) {
+    fit_nodes(u64::from(shape.node_size / 512), count_nodes(shape), spare)
+}
+
+/// Whether the extents overflow file has room for the records of a fork that goes on in a run, where so many sectors may be put. Each record of the
+/// fork has an extent in use, or one may be without.
+fn can_store_run<P: SectorSpace>(volume: &Volume, _space: &P, spare: u64, filled: bool) -> bool
+    ensures { IsTrue result → HasRoomForRun (IsTrue filled) volume.now spare }
+{
+    if !fit_changes(volume, spare, filled) {
         return false;
     }
     let room = volume.room(FreeBlocks::Takable);
@@ -63,16 +75,18 @@ fn can_store_run<P: SectorSpace>(volume: &Volume, _space: &P, spare: u64) -> boo
 }
 
 /// Whether a file with this fork, of any number of extents, can get so many nodes more now: they fill blocks that are free in a row, and
-/// there is room to put what is changed, with the overflow records of its fork.
+/// there is room to put what is changed, with the overflow records of its fork, of which each has an extent in use, or one may be without.
 pub(crate) fn can_grow_spread<P: SectorSpace>(
     volume: &Volume,
     space: &P,
     file: &TreeFile,
     fork: ForkRecord,
     more: u32,
+    filled: bool,
 ) -> bool
     requires unchanged { volume.now.map.changed ≡ none (sectors_for (length volume.now.map.used)) }
     ensures sure { IsTrue result → CanGrowSpread more file.now fork volume.now (P.SectorView.space space.now) }
+    ensures records { IsTrue result → HasRoomBehind (IsTrue filled) more file.now volume.now (P.SectorView.space space.now) }
 {
     if file.per_block() == 0 {
         return false;
@@ -92,5 +106,5 @@ pub(crate) fn can_grow_spread<P: SectorSpace>(
     if spare < sectors {
         return false;
     }
-    can_store_run(volume, space, spare - sectors)
+    can_store_run(volume, space, spare - sectors, filled)
 }

@@ -1,5 +1,5 @@
 //! The attributes file of a volume in service, which gets more nodes where its fork has eight extents or more: those behind the eight of the header's record stand in overflow records (TN1150, "Extents Overflow File").
-ghost use Rattle.std.specs.Prelude.{◌≡◌, ◌<◌, ◌≤◌, ◌+◌, ◌*◌, ◌∷◌, ℕ, List, [], false, true, IsTrue, OnOk, length, slice_index_or};
+ghost use Rattle.std.specs.Prelude.{◌≡◌, ◌⊎◌, ◌<◌, ◌≤◌, ◌+◌, ◌*◌, ◌∷◌, ℕ, List, [], false, true, IsTrue, OnOk, length, slice_index_or};
 ghost use Rattle.std.specs.List.{Contains};
 ghost use Rattle.sector_disk.specs.Lists.{Content};
 ghost use Rattle.btree_node.specs.Keys.{IsExtentKey, extent_cmp, is_eight_extents};
@@ -20,7 +20,8 @@ ghost use Rattle.overflow.specs.Reading.{HasExtents};
 ghost use Rattle.overflow.specs.Records.{eight_at};
 ghost use Rattle.volume_space.specs.Growing.{HeadGrows, IsOwnOrFree, KeepsForks, LengthensAttributes, blocks_filled, nodes_load, run_load};
 ghost use Rattle.volume_space.specs.Mapping.{changed_sectors};
-ghost use Rattle.volume_space.specs.SpreadGrowth.{CanGrowSpread, GoesOnInRun, StandsButOver, TakesBlocks};
+ghost use Rattle.volume_space.specs.Recording.{AreFilled};
+ghost use Rattle.volume_space.specs.SpreadGrowth.{CanGrowSpread, GoesOnInRun, HasRoomBehind, StandsButOver, TakesBlocks};
 ghost use Rattle.volume_space.specs.Standing.{HoldsOn};
 ghost use Rattle.volume_base.specs.Lists.{lists_of};
 ghost use Rattle.volume_base.specs.Service.{IsInService};
@@ -60,6 +61,7 @@ fn lengthen_attributes_spread<P: SectorSpace>(
     ensures but { OnOk result (StandsButOver attributes_id volume.new (P.SectorView.space space.new)) }
     ensures lengthens { IsTrue (P.SectorView.space space.old).tells → OnOk result (LengthensAttributes more volume.old volume.new (P.SectorView.space space.old) (P.SectorView.space space.new)) }
     ensures records { IsTrue (P.SectorView.space space.old).tells → OnOk result (HasExtents (overflow_in_volume (lists_of volume.new (P.SectorView.space space.new).content)) attributes_id data_kind volume.old.attributes.file.fork) }
+    ensures overflow { IsTrue (P.SectorView.space space.old).tells → OnOk result (overflow_in_volume (lists_of volume.new (P.SectorView.space space.new).content) ≡ overflow_in_volume (lists_of volume.old (P.SectorView.space space.old).content)) }
     ensures extents { volume.new.extents ≡ volume.old.extents }
     ensures held { volume.new.map.held ≡ volume.old.map.held }
     ensures size { length volume.new.map.used ≡ length volume.old.map.used }
@@ -98,7 +100,7 @@ fn store_attributes_run<P: SectorSpace>(
     requires longer { IsTrue (P.SectorView.space space.old).tells → GoesOnInRun before.now volume.old.attributes.file.fork }
     requires head { IsTrue (P.SectorView.space space.old).tells → volume.old.header.attributes_fork.extents ≡ eight_at volume.old.attributes.file.fork 0 }
     requires one { (names : List ℕ) → IsTrue (P.SectorView.space space.old).tells → EditRoom 1 10 (state_of names volume.old.extents.file (P.SectorView.space space.old)) }
-    requires light { (names : List ℕ) → HasRoom (2 * edit_writes volume.old.extents.file.shape.depth) (state_of names volume.old.extents.file (P.SectorView.space space.old)) }
+    requires light { (IsTrue (P.SectorView.space space.old).tells → AreFilled (lists_of volume.old (P.SectorView.space space.old).content) attributes_id (length before.now)) ⊎ ((names : List ℕ) → HasRoom (2 * edit_writes volume.old.extents.file.shape.depth) (state_of names volume.old.extents.file (P.SectorView.space space.old))) }
     ensures stands { OnOk result (StandsOver volume.new (P.SectorView.space space.new)) }
     ensures service { IsInService volume.new (P.SectorView.space space.new) }
     ensures rest { volume.new ≡ record volume.old { extents = volume.new.extents } }
@@ -139,6 +141,7 @@ pub(crate) fn grow_attributes_spread<P: SectorSpace>(
     requires settled { IsTrue (P.SectorView.space space.old).tells → IsSettled volume.old (P.SectorView.space space.old).content }
     requires there { IsTrue (has_attributes volume.old.header) }
     requires can { CanGrowSpread more volume.old.attributes.file volume.old.header.attributes_fork volume.old (P.SectorView.space space.old) }
+    requires records { HasRoomBehind (IsTrue (P.SectorView.space space.old).tells → AreFilled (lists_of volume.old (P.SectorView.space space.old).content) attributes_id (length volume.old.attributes.file.fork)) more volume.old.attributes.file volume.old (P.SectorView.space space.old) }
     // Only the journal's sectors are closed.
     requires closed { IsTrue (P.SectorView.space space.old).tells → (at : ℕ) → (P.SectorView.space space.old).closed at → IsJournalSector (P.SectorView.space space.old).content at }
     ensures stands { OnOk result (StandsOver volume.new (P.SectorView.space space.new)) }

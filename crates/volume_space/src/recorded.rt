@@ -1,5 +1,5 @@
 //! How many overflow records a fork has (TN1150, "Extents Overflow File"): its last one may be without an extent in use.
-ghost use Rattle.std.specs.Prelude.{◌≡◌, ◌≢◌, ◌⊎◌, ◌<◌, ◌%◌, ◌^◌, false, map, IsTrue, IfOk, IfSome};
+ghost use Rattle.std.specs.Prelude.{◌≡◌, ◌≢◌, ◌⊎◌, ◌<◌, ◌%◌, ◌^◌, false, map, IsTrue, IfOk, IfSome, length};
 ghost use Rattle.std.specs.List.{Contains};
 ghost use Rattle.btree_node.specs.Keys.{IsExtentKey, extent_cmp, is_eight_extents};
 ghost use Rattle.btree_node.specs.TreeFile.{extents_form};
@@ -18,7 +18,7 @@ ghost use Rattle.volume_base.specs.Looking.{ReadsVolume};
 ghost use Rattle.volume_base.specs.Service.{KeepsFile};
 ghost use Rattle.volume_base.specs.Standing.{AreWhole, IsSettled, StandsOver};
 ghost use Rattle.volume_base.specs.Touching.{Looks};
-ghost use Rattle.volume_space.specs.Recording.{count_with, is_at, records_held};
+ghost use Rattle.volume_space.specs.Recording.{AreFilled, count_with, is_at, records_held};
 
 use crate::cutting::count_blocks;
 use crate::storing::eighths;
@@ -141,4 +141,29 @@ pub(crate) fn count_records<P: SectorSpace>(
         start,
     )?;
     Ok(count_with(behind, there))
+}
+
+/// Whether each overflow record of a file's data fork, whose extents are these, has one in use.
+pub(crate) fn are_filled<P: SectorSpace>(
+    volume: &mut Volume,
+    space: &mut P,
+    id: u32,
+    list: &ExtentList,
+) -> Result<bool, Trouble>
+    requires stands { StandsOver volume.old (P.SectorView.space space.old) }
+    requires settled { IsTrue (P.SectorView.space space.old).tells → IsSettled volume.old (P.SectorView.space space.old).content }
+    requires file { IsTrue (P.SectorView.space space.old).tells → id ≢ extents_id }
+    requires has { IsTrue (P.SectorView.space space.old).tells → HasExtents (map overflow_of (lists_of volume.old (P.SectorView.space space.old).content).overflow_pairs) id data_kind list.now }
+    ensures filled { IsTrue (P.SectorView.space space.old).tells → IfOk result (λ filled. IsTrue filled → AreFilled (lists_of volume.old (P.SectorView.space space.old).content) id (length list.now)) }
+    ensures sure { IsTrue (P.SectorView.space space.old).tells → IfOk result (λ filled. AreFilled (lists_of volume.old (P.SectorView.space space.old).content) id (length list.now) → IsTrue filled) }
+    ensures reads { ReadsVolume volume.old volume.new (P.SectorView.space space.old) (P.SectorView.space space.new) }
+    ensures rest { volume.new ≡ record volume.old { extents = volume.new.extents } }
+    ensures stands { StandsOver volume.new (P.SectorView.space space.new) }
+    ensures settled { IsTrue (P.SectorView.space space.old).tells → IsSettled volume.new (P.SectorView.space space.new).content }
+    ensures below { P.SectorView.follows space.old space.new }
+    ensures cause { HasTroubleCause (P.SectorView.space space.old).faults (P.SectorView.space space.new).faults result }
+{
+    let wanted = eighths((list.len() as u64).saturating_sub(8));
+    let records = count_records(volume, space, id, list)?;
+    Ok(records == wanted)
 }

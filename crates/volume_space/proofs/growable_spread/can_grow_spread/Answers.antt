@@ -1,4 +1,4 @@
-use Rattle.std.proofs.Common.{◌≡◌, ◌<◌, ◌*◌, ◌-◌, length, refl, ◌∙◌, subst, arith}
+use Rattle.std.proofs.Common.{IsTrue, ◌≡◌, ◌<◌, ◌*◌, ◌-◌, length, refl, ◌∙◌, subst, arith}
 use Rattle.alloc_bitmap.specs.Map.{free_of}
 use Rattle.volume_space.specs.Growing.{HasFreeRun, blocks_filled}
 use Rattle.volume_space.specs.SpreadGrowth.{HasRoomForRun, NumbersHaveRoom}
@@ -23,6 +23,6 @@ returns g c = record {
         inside = omega (arith, c.if-from-sectors.false, c.sectors.ensures, size);
         unchanged = c.requires.unchanged;
         room = omega (arith, c.if-spare-sectors.false, c.count_growth_sectors-sectors.ensures, c.spare-spare.ensures);
-        records = subst (λ n. HasRoomForRun c.args.volume.now n) (λ i. c.spare-spare.ensures i - c.count_growth_sectors-sectors.ensures i) (c.can_store_run.ensures is);
       };
+  records = λ is. subst (λ n. HasRoomForRun (IsTrue c.args.filled) c.args.volume.now n) (λ i. c.spare-spare.ensures i - c.count_growth_sectors-sectors.ensures i) (c.can_store_run.ensures is);
 }

@@ -1,6 +1,4 @@
-use Rattle.std.proofs.Common.{◌≤◌, ℕ, ◌*◌, ◌/◌, min, sym, ◌∙◌, subst}
-use Rattle.btree_node.specs.declared.store.TreeShape.{TreeShape}
-use Rattle.btree_edit.specs.Editing.{edit_writes}
+use Rattle.std.proofs.Common.{sym, ◌∙◌, subst}
 use Rattle.hfs_volume.specs.Cost.{cost_of, tree_at}
 use Rattle.hfs_volume.specs.declared.cost.Room.{Room}
 use Rattle.volume_cost.specs.Sizes.{IsNodeSize}
@@ -18,7 +16,5 @@ cost-requires-clause-extents g c = subst (λ (r : Room). IsNodeSize 512 (tree_at
 pub returns : goal.returns
 returns g c is = record {
   one = sym (c.is_met.ensures ∙ (λ i. is_met_extents ((c.cost.ensures ∙ (λ j. cost_of (c.needs_of_extents.ensures.same j) (c.room-room.ensures j))) i) c.args.spare)) ∙ is;
-  light = subst (λ (s : TreeShape). min (2 * edit_writes s.depth) s.total ≤ c.args.spare / (s.node_size / 512)) c.shape-shape.ensures
-      (subst (λ (k : ℕ × ℕ). k.0 ≤ c.args.spare / k.1) {x = (c.count_nodes.result, c.from.result)} {y = (min (2 * edit_writes c.shape-shape.result.depth) c.shape-shape.result.total, c.shape-shape.result.node_size / 512)} (λ i. (c.count_nodes.ensures i, c.from.ensures i))
-      (c.fit_nodes.ensures c.if-not-fit_nodes.false));
+  light = c.fit_changes.ensures c.if-not-fit_changes.false;
 }

@@ -1,4 +1,4 @@
-use Rattle.std.proofs.Common.{◌≡◌, inl, ℕ, ◌+◌, ◌-◌, ◌/◌, ◌++◌, List, [], ◌∷◌, length, min, not, refl, sym, ◌∙◌, ap, subst, arith}
+use Rattle.std.proofs.Common.{◌≡◌, inl, inr, ⊎_elim, ℕ, ◌+◌, ◌-◌, ◌/◌, ◌++◌, List, [], ◌∷◌, length, min, not, refl, sym, ◌∙◌, ap, subst, arith}
 use Rattle.std.specs.Prelude.{Contains, IsTrue, Result, Err, OnOk}
 use Rattle.std.proofs.lemmas.List.Elements.{Contains-append_right}
 use Rattle.std.proofs.lemmas.List.Sums.{count_by-le-length}
@@ -22,6 +22,7 @@ use Rattle.hfs_volume.specs.Content.{overflow_in_volume}
 use Rattle.volume_base.specs.Lists.{lists_of}
 use Rattle.volume_space.specs.Growing.{TakesRun, growth_load}
 use Rattle.alloc_bitmap.specs.Map.{BlockMap}
+use Rattle.volume_space.proofs.Filled.{filled_later}
 use Rattle.volume_space.proofs.SpreadCalls.{edit_room_later, holds_then, light_room_later, touches_as}
 use Rattle.volume_space.proofs.SpreadNumbers.{per_block_some, run_some}
 use Rattle.volume_space.proofs.SpreadAttributesWhole.{files_whole, grows_whole, head_whole, journal_whole, settled_whole, tree_whole, unchanged_whole}
@@ -68,10 +69,15 @@ pub store_attributes_run-requires-clause-head : goal.store_attributes_run-requir
 store_attributes_run-requires-clause-head g c told = ap (λ (u : Volume). u.header.attributes_fork.extents) (c.in_ok-lengthen_attributes_spread.ensures.lengthens (sym (c.lengthen_attributes_spread.ensures.touches []).same.tells ∙ told)).rest
 
 pub store_attributes_run-requires-clause-one : goal.store_attributes_run-requires-clause-one
-store_attributes_run-requires-clause-one g c names told = edit_room_later c.commands_have_room.ensures c.a_load_says_enough.ensures c.a_load_is_of_parts.ensures c.args.volume.now c.lengthen_attributes_spread.new.volume ((g.P.SectorView.space c.args.space.now).spare - growth_load c.args.volume.now c.args.volume.now.attributes.file c.args.more) (g.P.SectorView.space c.lengthen_attributes_spread.new.space) c.requires.can.records.one (omega (arith, c.requires.can.room, c.lengthen_attributes_spread.ensures.spent)) c.lengthen_attributes_spread.ensures.extents names told
+store_attributes_run-requires-clause-one g c names told = edit_room_later c.commands_have_room.ensures c.a_load_says_enough.ensures c.a_load_is_of_parts.ensures c.args.volume.now c.lengthen_attributes_spread.new.volume ((g.P.SectorView.space c.args.space.now).spare - growth_load c.args.volume.now c.args.volume.now.attributes.file c.args.more) (g.P.SectorView.space c.lengthen_attributes_spread.new.space) c.requires.records.one (omega (arith, c.requires.can.room, c.lengthen_attributes_spread.ensures.spent)) c.lengthen_attributes_spread.ensures.extents names told
 
 pub store_attributes_run-requires-clause-light : goal.store_attributes_run-requires-clause-light
-store_attributes_run-requires-clause-light g c names = light_room_later c.args.volume.now c.lengthen_attributes_spread.new.volume ((g.P.SectorView.space c.args.space.now).spare - growth_load c.args.volume.now c.args.volume.now.attributes.file c.args.more) (g.P.SectorView.space c.lengthen_attributes_spread.new.space) c.requires.can.records.light (omega (arith, c.requires.can.room, c.lengthen_attributes_spread.ensures.spent)) c.lengthen_attributes_spread.ensures.extents names
+store_attributes_run-requires-clause-light g c = ⊎_elim
+    (λ filled. inl (λ told.
+    let tells = sym (c.lengthen_attributes_spread.ensures.touches []).same.tells ∙ told in
+    filled_later attributes_id (lists_of c.args.volume.now (g.P.SectorView.space c.args.space.now).content) (lists_of c.lengthen_attributes_spread.new.volume (g.P.SectorView.space c.lengthen_attributes_spread.new.space).content) c.args.volume.now.attributes.file.fork c.in_ok-before.before (c.in_ok-before.ensures ∙ c.fork.ensures) (c.in_ok-lengthen_attributes_spread.ensures.overflow tells) (filled tells)))
+    (λ fits. inr (λ names. light_room_later c.args.volume.now c.lengthen_attributes_spread.new.volume ((g.P.SectorView.space c.args.space.now).spare - growth_load c.args.volume.now c.args.volume.now.attributes.file c.args.more) (g.P.SectorView.space c.lengthen_attributes_spread.new.space) fits (omega (arith, c.requires.can.room, c.lengthen_attributes_spread.ensures.spent)) c.lengthen_attributes_spread.ensures.extents names))
+    c.requires.records.light
 
 pub put_map-requires-clause-stands : goal.put_map-requires-clause-stands
 put_map-requires-clause-stands g c = c.in_ok-store_attributes_run.ensures.stands

@@ -1,4 +1,4 @@
-use Rattle.std.proofs.Common.{◌≡◌, List, map, inl, refl, sym, ◌∙◌, subst, arith}
+use Rattle.std.proofs.Common.{◌≡◌, List, map, inl, inr, ⊎_elim, refl, sym, ◌∙◌, subst, arith}
 use Rattle.std.specs.Prelude.{IsTrue, Result, Err, OnOk}
 use Rattle.hx_bytes.specs.declared.extents.Extent.{Extent}
 use Rattle.hx_bytes.specs.declared.faults.Trouble.{Trouble}
@@ -16,6 +16,7 @@ use Rattle.overflow.specs.Room.{HasStoreRoom}
 use Rattle.volume_base.specs.Spreading.{StoresFork}
 use Rattle.volume_space.proofs.ExtentsEdited.{own_edited, serves_edited, touches_extents}
 use Rattle.volume_space.proofs.SpreadEdited.{open_but, stands_stored, stores_used, used_in_run}
+use Rattle.volume_space.proofs.Filled.{filled_in_store}
 use Rattle.volume_space.proofs.SpreadRoom.{room_for_run}
 use Rattle.volume_space.proofs.growing_spread_attributes.store_attributes_run.Goals as goal
 
@@ -54,7 +55,8 @@ store_records-requires-clause-room g c names tells =
     let has : HasExtents (overflow_in_store (state_of names c.args.volume.now.extents.file (g.P.SectorView.space c.args.space.now))) attributes_id data_kind c.args.before.now = subst (λ (l : List Pair). HasExtents (map overflow_of l) attributes_id data_kind c.args.before.now)
     (sym (pairs_held extents_form IsExtentKey is_eight_extents extent_cmp names c.args.volume.now.extents.file (g.P.SectorView.space c.args.space.now) held)) (c.requires.records tells) in
     subst (λ (l : List Extent). HasStoreRoom (state_of names c.args.volume.now.extents.file (g.P.SectorView.space c.args.space.now)) attributes_id data_kind l) (sym (c.fork-list.ensures ∙ goes.is))
-    (room_for_run (state_of names c.args.volume.now.extents.file (g.P.SectorView.space c.args.space.now)) attributes_id data_kind (λ same. absurd (omega (arith, same))) c.args.before.now has goes.run (λ none. absurd (omega (arith, goes.some, none))) tells (c.requires.one names tells) (c.requires.light names))
+    (room_for_run (state_of names c.args.volume.now.extents.file (g.P.SectorView.space c.args.space.now)) attributes_id data_kind (λ same. absurd (omega (arith, same))) c.args.before.now has goes.run (λ none. absurd (omega (arith, goes.some, none))) tells (c.requires.one names tells)
+    (⊎_elim (λ filled. inl (filled_in_store c.args.volume.now names (g.P.SectorView.space c.args.space.now) attributes_id c.args.before.now held (filled tells))) (λ light. inr (light names)) c.requires.light))
 
 pub returns-clause-stands : goal.returns-clause-stands
 returns-clause-stands g c =

@@ -1,0 +1,38 @@
+use Rattle.std.proofs.Common.{[], ◌/◌, ◌∙◌, ap, inl, inr, ⊎_elim}
+use Rattle.std.specs.Prelude.{Contains}
+use Rattle.volume_space.specs.Growing.{IsOwnOrFree, blocks_filled}
+use Rattle.volume_base.specs.Standing.{own_sectors}
+use Rattle.volume_space.proofs.GrownAhead.{gained_before}
+use Rattle.volume_space.proofs.Sounding.{sound_here}
+use Rattle.volume_space.proofs.WhenKept.{touches_those}
+use Rattle.volume_space.proofs.ahead_spread.grow_catalog_recorded.Goals as goal
+
+pub grow_catalog_spread-requires-clause-can : goal.grow_catalog_spread-requires-clause-can
+grow_catalog_spread-requires-clause-can g c = c.can_grow_spread.ensures.sure c.if-not-can_grow_spread.false
+
+pub grow_catalog_spread-requires-clause-records : goal.grow_catalog_spread-requires-clause-records
+grow_catalog_spread-requires-clause-records g c =
+    let room = c.can_grow_spread.ensures.records c.if-not-can_grow_spread.false in
+    record { one = room.one; light = ⊎_elim (λ is. inl (λ tells. c.requires.filled tells is)) inr room.light }
+
+pub returns-clause-ahead : goal.returns-clause-ahead
+returns-clause-ahead g c tells = record {
+  keeps = record { sound = sound_here c.grow_catalog_spread.new.volume (g.P.SectorView.space c.grow_catalog_spread.new.space) (c.in_ok-grow_catalog_spread.ensures.stands.stands ((c.grow_catalog_spread.ensures.touches []).same.tells ∙ tells)) (c.in_ok-grow_catalog_spread.ensures.settled tells); tree = c.in_ok-grow_catalog_spread.ensures.tree tells };
+  grows = c.in_ok-grow_catalog_spread.ensures.grows tells;
+  files = λ id kind other. c.in_ok-grow_catalog_spread.ensures.files tells id kind (inl (λ same. other (inr (inl same))));
+  journal = c.in_ok-grow_catalog_spread.ensures.journal tells;
+  head = c.in_ok-grow_catalog_spread.ensures.head tells;
+}
+
+pub returns-clause-gained : goal.returns-clause-gained
+returns-clause-gained g c tells =
+    let taken = c.in_ok-grow_catalog_spread.ensures.taken tells in
+    gained_before (blocks_filled c.args.volume.now.catalog.file c.args.more) taken.run c.args.volume.now c.grow_catalog_spread.new.volume taken.takes (ap (λ n. n / 512) taken.block) (c.grow_catalog_spread.ensures.gained tells)
+
+pub returns-clause-touches : goal.returns-clause-touches
+returns-clause-touches g c committed =
+    touches_those committed (λ s. Contains (own_sectors c.grow_catalog_spread.new.volume) s) (IsOwnOrFree c.args.volume.now) (g.P.SectorView.space c.args.space.now) (g.P.SectorView.space c.grow_catalog_spread.new.space) c.grow_catalog_spread.ensures.gained (c.grow_catalog_spread.ensures.touches committed)
+
+pub returns-in_err-grow_catalog_spread-clause-touches : goal.returns-in_err-grow_catalog_spread-clause-touches
+returns-in_err-grow_catalog_spread-clause-touches g c committed =
+    touches_those committed (λ s. Contains (own_sectors c.grow_catalog_spread.new.volume) s) (IsOwnOrFree c.args.volume.now) (g.P.SectorView.space c.args.space.now) (g.P.SectorView.space c.grow_catalog_spread.new.space) c.grow_catalog_spread.ensures.gained (c.grow_catalog_spread.ensures.touches committed)
