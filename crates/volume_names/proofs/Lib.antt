@@ -6,6 +6,8 @@ pub mod ModeChanged
 pub mod Dating
 pub mod Deepening
 pub mod DroppedOne
+pub mod EditsFit
+pub mod EditsLeft
 pub mod FirstBoth
 pub mod FirstMade
 pub mod LastFile
@@ -27,6 +29,5 @@ pub mod PrivateSound
 pub mod Redating
 pub mod Righting
 pub mod RoomAfter
-pub mod ShareRoom
 pub mod Shared
 pub mod Unlinked

@@ -1,5 +1,6 @@
 pub mod Changing
 pub mod Dropping
+pub mod EditsLeft
 pub mod Entering
 pub mod Linking
 pub mod Losing

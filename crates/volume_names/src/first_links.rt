@@ -19,11 +19,11 @@ ghost use Rattle.volume_base.specs.Lists.{lists_of};
 ghost use Rattle.volume_base.specs.Losing.{IsOnlyName};
 ghost use Rattle.volume_base.specs.Making.{HasRoomToMake, free_place};
 ghost use Rattle.volume_base.specs.Service.{IsInService};
-ghost use Rattle.volume_base.specs.Sharing.{HasRoomToShare};
+ghost use Rattle.volume_names.specs.EditsLeft.{HasEditsLeft, IsReadyToShare};
 ghost use Rattle.volume_base.specs.Standing.{IsSettled, StandsOver, own_sectors};
 ghost use Rattle.volume_base.specs.Touching.{Touches};
 
-use crate::fitting::fits_share;
+use crate::fitting::{can_draw_two, fits_first, fits_share};
 use crate::linking::link_date;
 use crate::node_names::{free_number, node_name};
 use crate::private_folder::open_private;
@@ -63,7 +63,7 @@ fn link_under<P: SectorSpace>(
     requires free { IsTrue (P.SectorView.space space.old).tells → record_at (placed_in (lists_of volume.old (P.SectorView.space space.old).content).catalog_pairs) private (node_name number) ≡ None }
     requires only { IsTrue (P.SectorView.space space.old).tells → IsOnlyName (record { parent = way.now.parent; name = old.now }) (lists_of volume.old (P.SectorView.space space.old).content).catalog_pairs }
     requires links { IsTrue (P.SectorView.space space.old).tells → (from to : List (List ℕ)) × (at : PlainEntry) × IsLinking (tree_of (P.SectorView.space space.old).content) from to at way.now.parent old.now way.now.id way.now.folder name.now }
-    requires room { HasRoomToShare volume.old (P.SectorView.space space.old) }
+    requires room { IsReadyToShare volume.old (P.SectorView.space space.old) }
     ensures stands { OnOk result (StandsOver volume.new (P.SectorView.space space.new)) }
     ensures service { IsInService volume.new (P.SectorView.space space.new) }
     ensures does { IsTrue (P.SectorView.space space.old).tells → (from to : List (List ℕ)) (at : PlainEntry) → IsLinking (tree_of (P.SectorView.space space.old).content) from to at way.now.parent old.now way.now.id way.now.folder name.now
@@ -90,6 +90,52 @@ fn link_under<P: SectorSpace>(
         return Err(Trouble::Memory);
     }
     volume.touch(alloc, space, way.folder, 1, 0)
+}
+
+/// Gives a file with one name another one, where the private folder is there and the edits have room; links get this create date.
+/// `Memory` is answered too where no number is free, or no CNID.
+fn link_ready<P: SectorSpace>(
+    volume: &mut Volume,
+    alloc: Global,
+    space: &mut P,
+    way: &Route,
+    old: &Units,
+    name: &Units,
+    private: u32,
+    created: u32,
+) -> Result<(), Trouble>
+    requires stands { StandsOver volume.old (P.SectorView.space space.old) }
+    requires settled { IsTrue (P.SectorView.space space.old).tells → IsSettled volume.old (P.SectorView.space space.old).content }
+    requires some { 1 ≤ length name.now }
+    requires name { length name.now ≤ 255 }
+    requires some_old { 1 ≤ length old.now }
+    requires old_name { length old.now ≤ 255 }
+    requires private { volume.old.private ≡ Some private }
+    requires only { IsTrue (P.SectorView.space space.old).tells → IsOnlyName (record { parent = way.now.parent; name = old.now }) (lists_of volume.old (P.SectorView.space space.old).content).catalog_pairs }
+    requires links { IsTrue (P.SectorView.space space.old).tells → (from to : List (List ℕ)) × (at : PlainEntry) × IsLinking (tree_of (P.SectorView.space space.old).content) from to at way.now.parent old.now way.now.id way.now.folder name.now }
+    requires left { HasEditsLeft 7 1 volume.old (P.SectorView.space space.old) }
+    ensures stands { OnOk result (StandsOver volume.new (P.SectorView.space space.new)) }
+    ensures service { IsInService volume.new (P.SectorView.space space.new) }
+    ensures does { IsTrue (P.SectorView.space space.old).tells → (from to : List (List ℕ)) (at : PlainEntry) → IsLinking (tree_of (P.SectorView.space space.old).content) from to at way.now.parent old.now way.now.id way.now.folder name.now
+        → OnOk result (IsSettled volume.new (P.SectorView.space space.new).content × (tree_of (P.SectorView.space space.new).content ≡ (step (tree_of (P.SectorView.space space.old).content) (command.Ln from to)).1)
+        × LinksFirst at (free_place way.now.folder name.now) (volume_of (P.SectorView.space space.old).content) (volume_of (P.SectorView.space space.new).content)) }
+    ensures blocks { KeepsBlocks volume.old volume.new }
+    ensures touches { (committed : Content) → Touches committed (λ s. Contains (own_sectors volume.old) s) (P.SectorView.space space.old) (P.SectorView.space space.new) }
+    ensures below { P.SectorView.follows space.old space.new }
+    ensures cause { HasTroubleCause (P.SectorView.space space.old).faults (P.SectorView.space space.new).faults result }
+{
+    // The least node size that the format allows the catalog (TN1150, "Catalog File").
+    if volume.catalog.file.shape().node_size < 4096 {
+        return Ok(());
+    }
+    let number = free_number(volume, alloc, space, private, way.id)?;
+    let node = node_name(alloc, number)?;
+    if !can_draw_two(volume, space) {
+        return Err(Trouble::Memory);
+    }
+    link_under(
+        volume, alloc, space, way, old, name, private, &node, number, created,
+    )
 }
 
 /// Gives a file with one name another one, where the private folder is there; links get this create date. `Memory` is answered
@@ -123,18 +169,10 @@ fn link_first<P: SectorSpace>(
     ensures below { P.SectorView.follows space.old space.new }
     ensures cause { HasTroubleCause (P.SectorView.space space.old).faults (P.SectorView.space space.new).faults result }
 {
-    // The least node size that the format allows the catalog (TN1150, "Catalog File").
-    if volume.catalog.file.shape().node_size < 4096 {
-        return Ok(());
-    }
-    let number = free_number(volume, alloc, space, private, way.id)?;
-    let node = node_name(alloc, number)?;
     if !fits_share(volume, space) {
         return Err(Trouble::Memory);
     }
-    link_under(
-        volume, alloc, space, way, old, name, private, &node, number, created,
-    )
+    link_ready(volume, alloc, space, way, old, name, private, created)
 }
 
 /// The same with the create date of the private folder.
@@ -156,6 +194,7 @@ fn link_dated<P: SectorSpace>(
     requires private { volume.old.private ≡ Some private }
     requires only { IsTrue (P.SectorView.space space.old).tells → IsOnlyName (record { parent = way.now.parent; name = old.now }) (lists_of volume.old (P.SectorView.space space.old).content).catalog_pairs }
     requires links { IsTrue (P.SectorView.space space.old).tells → (from to : List (List ℕ)) × (at : PlainEntry) × IsLinking (tree_of (P.SectorView.space space.old).content) from to at way.now.parent old.now way.now.id way.now.folder name.now }
+    requires left { HasEditsLeft 7 1 volume.old (P.SectorView.space space.old) }
     ensures stands { OnOk result (StandsOver volume.new (P.SectorView.space space.new)) }
     ensures service { IsInService volume.new (P.SectorView.space space.new) }
     ensures does { IsTrue (P.SectorView.space space.old).tells → (from to : List (List ℕ)) (at : PlainEntry) → IsLinking (tree_of (P.SectorView.space space.old).content) from to at way.now.parent old.now way.now.id way.now.folder name.now
@@ -167,10 +206,11 @@ fn link_dated<P: SectorSpace>(
     ensures cause { HasTroubleCause (P.SectorView.space space.old).faults (P.SectorView.space space.new).faults result }
 {
     let created = link_date(volume, alloc, space)?;
-    link_first(volume, alloc, space, way, old, name, private, created)
+    link_ready(volume, alloc, space, way, old, name, private, created)
 }
 
-/// Gives a file with one name another one, where there is no private folder: it is made before.
+/// Gives a file with one name another one, where there is no private folder: it is made before. `Memory` is answered too where
+/// there is no room for the edits of both.
 fn link_anew<P: SectorSpace>(
     volume: &mut Volume,
     alloc: Global,
@@ -201,6 +241,9 @@ fn link_anew<P: SectorSpace>(
 {
     header_may_change();
     sound_has_plain_tree();
+    if !fits_first(volume, space) {
+        return Err(Trouble::Memory);
+    }
     open_private(volume, alloc, space)?;
     match volume.private {
         Some(private) => link_dated(volume, alloc, space, way, old, name, private),

@@ -19,14 +19,15 @@ ghost use Rattle.volume_base.specs.Looking.{IsCatalogOver, ReadsTree, ReadsVolum
 ghost use Rattle.volume_names.specs.Losing.{Buries, HasLost, Hides, Loses, LosesName};
 ghost use Rattle.volume_base.specs.Losing.{HasRoomToLose, IsLoss, IsOnlyName, losing_under, place_of, to_lose};
 ghost use Rattle.volume_base.specs.Making.{HasRoomToMake, path_to};
-ghost use Rattle.volume_base.specs.Moving.{HasRoomToMove, leave_load};
+ghost use Rattle.volume_base.specs.Moving.{leave_load};
+ghost use Rattle.volume_names.specs.EditsLeft.{HasEditsLeft};
 ghost use Rattle.volume_base.specs.Removing.{HasRoomToRemove};
 ghost use Rattle.volume_base.specs.Service.{IsInService};
 ghost use Rattle.volume_base.specs.Standing.{IsSettled, StandsOver, own_sectors};
 ghost use Rattle.volume_base.specs.Touching.{Touches};
 ghost use Rattle.volume_names.specs.Unlinking.{LosesLink};
 
-use crate::fitting::fits_move;
+use crate::fitting::{fits_aside, fits_move};
 use crate::orphaning::set_aside;
 use crate::private_folder::open_private;
 use crate::unlinking::lose_one;
@@ -156,7 +157,7 @@ fn hide<P: SectorSpace>(
     requires private { volume.old.private ≡ Some private }
     requires only { IsTrue (P.SectorView.space space.old).tells → IsOnlyName at.now (lists_of volume.old (P.SectorView.space space.old).content).catalog_pairs }
     requires loses { IsTrue (P.SectorView.space space.old).tells → (path : List (List ℕ)) × (entry : PlainEntry) × IsLoss (tree_of (P.SectorView.space space.old).content) path entry at.now }
-    requires room { HasRoomToMove volume.old (P.SectorView.space space.old) }
+    requires left { HasEditsLeft 3 0 volume.old (P.SectorView.space space.old) }
     ensures stands { OnOk result (StandsOver volume.new (P.SectorView.space space.new)) }
     ensures service { IsInService volume.new (P.SectorView.space space.new) }
     ensures hides { IsTrue (P.SectorView.space space.old).tells → OnOk result (Hides private at.now volume.old volume.new (P.SectorView.space space.old).content (P.SectorView.space space.new).content) }
@@ -168,7 +169,6 @@ fn hide<P: SectorSpace>(
     ensures below { P.SectorView.follows space.old space.new }
     ensures cause { HasTroubleCause (P.SectorView.space space.old).faults (P.SectorView.space space.new).faults result }
 {
-    edits_have_room();
     edits_take_their_load();
     set_aside(volume, alloc, space, private, at)?;
     if !volume.fits_update(space) {
@@ -194,7 +194,7 @@ fn bury<P: SectorSpace>(
     requires private { volume.old.private ≡ Some private }
     requires only { IsTrue (P.SectorView.space space.old).tells → IsOnlyName at.now (lists_of volume.old (P.SectorView.space space.old).content).catalog_pairs }
     requires loses { IsTrue (P.SectorView.space space.old).tells → (path : List (List ℕ)) × (entry : PlainEntry) × IsLoss (tree_of (P.SectorView.space space.old).content) path entry at.now }
-    requires room { HasRoomToMove volume.old (P.SectorView.space space.old) }
+    requires left { HasEditsLeft 3 0 volume.old (P.SectorView.space space.old) }
     ensures stands { OnOk result (StandsOver volume.new (P.SectorView.space space.new)) }
     ensures service { IsInService volume.new (P.SectorView.space space.new) }
     ensures does { IsTrue (P.SectorView.space space.old).tells → (path : List (List ℕ)) (entry : PlainEntry) → IsLoss (tree_of (P.SectorView.space space.old).content) path entry at.now
@@ -219,7 +219,7 @@ fn bury<P: SectorSpace>(
 }
 
 /// Makes the private folder in a volume that has none, and puts a file aside into it that loses its only name. `Memory` is
-/// answered too where the room that is left behind a change doesn't suffice for the next one.
+/// answered too where there is no room for the edits of both.
 fn bury_first<P: SectorSpace>(
     volume: &mut Volume,
     alloc: Global,
@@ -246,10 +246,10 @@ fn bury_first<P: SectorSpace>(
 {
     header_may_change();
     rm_does_its_step();
-    open_private(volume, alloc, space)?;
-    if !fits_move(volume, space) {
+    if !fits_aside(volume, space) {
         return Err(Trouble::Memory);
     }
+    open_private(volume, alloc, space)?;
     match volume.private {
         Some(private) => bury(volume, alloc, space, private, at),
         None => Err(Trouble::Memory),
@@ -323,6 +323,7 @@ fn lose<P: SectorSpace>(
     ensures below { P.SectorView.follows space.old space.new }
     ensures cause { HasTroubleCause (P.SectorView.space space.old).faults (P.SectorView.space space.new).faults result }
 {
+    edits_have_room();
     if at.link {
         return lose_link(volume, alloc, space, path, at, name);
     }

@@ -1,5 +1,5 @@
 //! The private folder, made by itself where there is none.
-ghost use Rattle.std.specs.Prelude.{◌≡◌, ◌≤◌, ◌<◌, ◌+◌, ◌^◌, None, Some, false, true, IsTrue, IfSome, length, OnOk};
+ghost use Rattle.std.specs.Prelude.{ℕ, ◌≡◌, ◌≤◌, ◌<◌, ◌+◌, ◌^◌, None, Some, false, true, IsTrue, IfSome, length, OnOk};
 ghost use Rattle.std.specs.List.{Contains};
 ghost use Rattle.sector_disk.specs.Lists.{Content};
 ghost use Rattle.btree_edit.specs.Causes.{HasTroubleCause};
@@ -12,12 +12,14 @@ ghost use Rattle.hfs_volume.specs.Records.{id_in, is_folder, is_thread, valence_
 ghost use Rattle.volume_base.specs.Changing.{HasFolder, HasRoomToUpdate, KeepsBlocks, catalog_node};
 ghost use Rattle.volume_base.specs.Lists.{lists_of};
 ghost use Rattle.volume_base.specs.Making.{HasRoomToMake};
+ghost use Rattle.volume_names.specs.EditsLeft.{HasEditsLeft, HasLoadFor};
 ghost use Rattle.volume_names.specs.PrivateFolder.{HasOpened, RecountsFolder, recounted, with_more};
 ghost use Rattle.volume_base.specs.Service.{IsInService};
 ghost use Rattle.volume_base.specs.Standing.{IsSettled, StandsOver, own_sectors};
 ghost use Rattle.volume_base.specs.Touching.{Touches};
 
 use crate::making::add_new;
+use crate::updating::replace;
 use cat_records::{CatRecord, EntryFields, FolderRecord};
 use hfs_volume::header_may_change;
 use hx_bytes::Trouble;
@@ -80,13 +82,15 @@ fn put_recounted<P: SectorSpace>(
     ensures touches { (committed : Content) → Touches committed (λ s. Contains (own_sectors volume.old) s) (P.SectorView.space space.old) (P.SectorView.space space.new) }
     ensures spent { IsTrue (P.SectorView.space space.old).tells → (P.SectorView.space space.old).spare ≤ (P.SectorView.space space.new).spare + catalog_node volume.old }
     ensures own { own_sectors volume.new ≡ own_sectors volume.old }
+    // Edits that have room beside a node more than these sectors have room beside them behind it.
+    ensures left { (edits beside : ℕ) → HasEditsLeft edits (catalog_node volume.old + beside) volume.old (P.SectorView.space space.old) → OnOk result (HasEditsLeft edits beside volume.new (P.SectorView.space space.new)) }
     ensures below { P.SectorView.follows space.old space.new }
     ensures cause { HasTroubleCause (P.SectorView.space space.old).faults (P.SectorView.space space.new).faults result }
 {
     let Some(rec) = recounted(up, &entry.rec) else {
         return Ok(());
     };
-    volume.replace(alloc, space, entry, &rec)
+    replace(volume, alloc, space, entry, &rec)
 }
 
 /// Lets the folder with a CNID count so many entries more that users don't see: its dates stay. The volume stands as before,
@@ -110,6 +114,8 @@ fn recount<P: SectorSpace>(
     ensures touches { (committed : Content) → Touches committed (λ s. Contains (own_sectors volume.old) s) (P.SectorView.space space.old) (P.SectorView.space space.new) }
     ensures spent { IsTrue (P.SectorView.space space.old).tells → (P.SectorView.space space.old).spare ≤ (P.SectorView.space space.new).spare + catalog_node volume.old }
     ensures own { own_sectors volume.new ≡ own_sectors volume.old }
+    // Edits that have room beside a node more than these sectors have room beside them behind it.
+    ensures left { (edits beside : ℕ) → HasEditsLeft edits (catalog_node volume.old + beside) volume.old (P.SectorView.space space.old) → OnOk result (HasEditsLeft edits beside volume.new (P.SectorView.space space.new)) }
     ensures below { P.SectorView.follows space.old space.new }
     ensures cause { HasTroubleCause (P.SectorView.space space.old).faults (P.SectorView.space space.new).faults result }
 {
@@ -136,6 +142,8 @@ fn make_private<P: SectorSpace>(
     ensures blocks { KeepsBlocks volume.old volume.new }
     ensures own { own_sectors volume.new ≡ own_sectors volume.old }
     ensures touches { (committed : Content) → Touches committed (λ s. Contains (own_sectors volume.old) s) (P.SectorView.space space.old) (P.SectorView.space space.new) }
+    // Where the load of two edits more has room beside the header's sector, a node and these sectors, the others have room beside these behind it.
+    ensures left { (edits beside : ℕ) → HasLoadFor (2 + edits) (1 + (catalog_node volume.old + beside)) volume.old (P.SectorView.space space.old) → OnOk result (HasEditsLeft edits beside volume.new (P.SectorView.space space.new)) }
     ensures below { P.SectorView.follows space.old space.new }
     ensures cause { HasTroubleCause (P.SectorView.space space.old).faults (P.SectorView.space space.new).faults result }
 {
@@ -164,6 +172,8 @@ pub(crate) fn open_private<P: SectorSpace>(
     ensures own { own_sectors volume.new ≡ own_sectors volume.old }
     // On a fault too, it puts sectors of its own alone, whatever was committed last.
     ensures touches { (committed : Content) → Touches committed (λ s. Contains (own_sectors volume.old) s) (P.SectorView.space space.old) (P.SectorView.space space.new) }
+    // Where the load of two edits more has room beside the header's sector, a node and these sectors, the others have room beside these behind it.
+    ensures left { (edits beside : ℕ) → HasLoadFor (2 + edits) (1 + (catalog_node volume.old + beside)) volume.old (P.SectorView.space space.old) → OnOk result (HasEditsLeft edits beside volume.new (P.SectorView.space space.new)) }
     ensures below { P.SectorView.follows space.old space.new }
     ensures cause { HasTroubleCause (P.SectorView.space space.old).faults (P.SectorView.space space.new).faults result }
 {

@@ -19,7 +19,7 @@ ghost use Rattle.volume_base.specs.Linking.{IsLinking};
 ghost use Rattle.volume_base.specs.Lists.{lists_of};
 ghost use Rattle.volume_base.specs.Losing.{IsOnlyName};
 ghost use Rattle.volume_base.specs.Service.{IsInService};
-ghost use Rattle.volume_base.specs.Sharing.{HasRoomToShare};
+ghost use Rattle.volume_names.specs.EditsLeft.{IsReadyToShare};
 ghost use Rattle.volume_names.specs.Sharing.{LinksBoth, PutsLink, SharesFile, with_two_made};
 ghost use Rattle.volume_base.specs.Standing.{IsSettled, StandsOver, own_sectors};
 ghost use Rattle.volume_base.specs.Touching.{Touches};
@@ -32,7 +32,6 @@ use crate::unlinking::put_links;
 use hx_bytes::{Trouble, Units};
 use sector_disk::SectorSpace;
 use std::alloc::Global;
-use tree_weights::edits_have_room;
 use volume_base::{Route, Volume};
 use volume_header::VolumeHeader;
 
@@ -86,7 +85,7 @@ fn share_file<P: SectorSpace>(
     requires node { node.now ≡ node_name number }
     requires there { IsTrue (P.SectorView.space space.old).tells → record_at (placed_in (lists_of volume.old (P.SectorView.space space.old).content).catalog_pairs) parent old.now ≡ None → ⊥ }
     requires free { IsTrue (P.SectorView.space space.old).tells → record_at (placed_in (lists_of volume.old (P.SectorView.space space.old).content).catalog_pairs) private (node_name number) ≡ None }
-    requires room { HasRoomToShare volume.old (P.SectorView.space space.old) }
+    requires room { IsReadyToShare volume.old (P.SectorView.space space.old) }
     ensures stands { OnOk result (StandsOver volume.new (P.SectorView.space space.new)) }
     ensures service { IsInService volume.new (P.SectorView.space space.new) }
     ensures shares { IsTrue (P.SectorView.space space.old).tells → OnOk result (SharesFile parent old.now private number volume.old volume.new (P.SectorView.space space.old).content (P.SectorView.space space.new).content) }
@@ -99,7 +98,6 @@ fn share_file<P: SectorSpace>(
     ensures below { P.SectorView.follows space.old space.new }
     ensures cause { HasTroubleCause (P.SectorView.space space.old).faults (P.SectorView.space space.new).faults result }
 {
-    edits_have_room();
     draw_two(volume, space);
     relocate(volume, alloc, space, parent, old, private, node)?;
     Ok(())
@@ -194,7 +192,7 @@ pub(crate) fn share<P: SectorSpace>(
     requires free { IsTrue (P.SectorView.space space.old).tells → record_at (placed_in (lists_of volume.old (P.SectorView.space space.old).content).catalog_pairs) private (node_name number) ≡ None }
     requires only { IsTrue (P.SectorView.space space.old).tells → IsOnlyName (record { parent = way.now.parent; name = old.now }) (lists_of volume.old (P.SectorView.space space.old).content).catalog_pairs }
     requires links { IsTrue (P.SectorView.space space.old).tells → (from to : List (List ℕ)) × (at : PlainEntry) × IsLinking (tree_of (P.SectorView.space space.old).content) from to at way.now.parent old.now way.now.id way.now.folder name.now }
-    requires room { HasRoomToShare volume.old (P.SectorView.space space.old) }
+    requires room { IsReadyToShare volume.old (P.SectorView.space space.old) }
     ensures stands { OnOk result (StandsOver volume.new (P.SectorView.space space.new)) }
     ensures service { IsInService volume.new (P.SectorView.space space.new) }
     ensures both { IsTrue (P.SectorView.space space.old).tells → OnOk result (LinksBoth way.now.parent old.now private number way.now.folder name.now created volume.old volume.new (P.SectorView.space space.old).content (P.SectorView.space space.new).content) }

@@ -9,8 +9,8 @@ use Rattle.volume_names.specs.Linking.{LinksAnew}
 use Rattle.volume_base.specs.Making.{free_place}
 use Rattle.volume_base.specs.Standing.{IsSettled}
 use Rattle.volume_base.specs.Touching.{Touches}
-use Rattle.volume_base.proofs.Besides.{blocks_both}
-use Rattle.volume_base.proofs.Commanding.{touches_both}
+use Rattle.volume_base.proofs.Besides.{blocks_both, blocks_none}
+use Rattle.volume_base.proofs.Commanding.{touches_both, touches_none}
 use Rattle.volume_base.proofs.FoundEntry.{ok_so}
 use Rattle.volume_names.proofs.LinkAnew.{anew_does, linking_then, only_then}
 use Rattle.volume_names.proofs.first_links.link_anew.Goals as goal
@@ -52,3 +52,15 @@ returns-in-Some-clause-below g c = g.met.P.SectorView.follows_trans c.args.space
 
 pub returns-in-Some-clause-blocks : goal.returns-in-Some-clause-blocks
 returns-in-Some-clause-blocks g c = blocks_both c.args.volume.now c.open_private.new.volume c.link_dated.new.volume c.open_private.ensures.blocks c.link_dated.ensures.blocks
+
+pub link_dated-requires-clause-left : goal.link_dated-requires-clause-left
+link_dated-requires-clause-left g c = c.in_ok-open_private.ensures.left 7 1 (c.fits_first.ensures.load c.if-not-fits_first.false)
+
+pub returns-then-not-fits_first-clause-touches : goal.returns-then-not-fits_first-clause-touches
+returns-then-not-fits_first-clause-touches g c committed = touches_none committed _ (g.P.SectorView.space c.args.space.now)
+
+pub returns-then-not-fits_first-clause-service : goal.returns-then-not-fits_first-clause-service
+returns-then-not-fits_first-clause-service g c = c.requires.stands.service
+
+pub returns-then-not-fits_first-clause-blocks : goal.returns-then-not-fits_first-clause-blocks
+returns-then-not-fits_first-clause-blocks g c = blocks_none c.args.volume.now

@@ -19,40 +19,42 @@ use Rattle.volume_base.specs.Touching.{Touches}
 use Rattle.volume_base.proofs.Besides.{blocks_both, blocks_read}
 use Rattle.volume_base.proofs.Commanding.{touches_both, touches_looks}
 use Rattle.volume_base.proofs.Still.{lists_still, own_still}
+use Rattle.volume_base.proofs.Replaced.{node_large}
+use Rattle.volume_names.proofs.EditsLeft.{left_still}
 use Rattle.volume_names.proofs.first_links.link_dated.Goals as goal
 
-pub link_first-requires-clause-settled : goal.link_first-requires-clause-settled
-link_first-requires-clause-settled g c tells = c.link_date.ensures.settled (sym c.link_date.ensures.reads.looks.same.tells ∙ tells)
+pub link_ready-requires-clause-settled : goal.link_ready-requires-clause-settled
+link_ready-requires-clause-settled g c tells = c.link_date.ensures.settled (sym c.link_date.ensures.reads.looks.same.tells ∙ tells)
 
-pub link_first-requires-clause-private : goal.link_first-requires-clause-private
-link_first-requires-clause-private g c = c.link_date.ensures.reads.keeps.private ∙ c.requires.private
+pub link_ready-requires-clause-private : goal.link_ready-requires-clause-private
+link_ready-requires-clause-private g c = c.link_date.ensures.reads.keeps.private ∙ c.requires.private
 
-pub link_first-requires-clause-only : goal.link_first-requires-clause-only
-link_first-requires-clause-only g c tells =
+pub link_ready-requires-clause-only : goal.link_ready-requires-clause-only
+link_ready-requires-clause-only g c tells =
     let before = sym c.link_date.ensures.reads.looks.same.tells ∙ tells in
     subst (λ (l : VolumeState). IsOnlyName (record { parent = c.args.way.now.parent; name = c.args.old.now }) l.catalog_pairs) (sym (lists_still c.args.volume.now c.link_date.new.volume (g.P.SectorView.space c.args.space.now) (g.P.SectorView.space c.link_date.new.space) c.link_date.ensures.reads before)) (c.requires.only before)
 
-pub link_first-requires-clause-links : goal.link_first-requires-clause-links
-link_first-requires-clause-links g c tells =
+pub link_ready-requires-clause-links : goal.link_ready-requires-clause-links
+link_ready-requires-clause-links g c tells =
     let before = sym c.link_date.ensures.reads.looks.same.tells ∙ tells in
     subst (λ (k : Content). (from to : List (List ℕ)) × (at : PlainEntry) × IsLinking (tree_of k) from to at c.args.way.now.parent c.args.old.now c.args.way.now.id c.args.way.now.folder c.args.name.now) (sym (c.link_date.ensures.reads.looks.content before)) (c.requires.links before)
 
 pub returns-clause-does : goal.returns-clause-does
 returns-clause-does g c tells from to entry linking =
-    subst (λ (k : Content). OnOk c.link_first.result (IsSettled c.link_first.new.volume (g.P.SectorView.space c.link_first.new.space).content × (tree_of (g.P.SectorView.space c.link_first.new.space).content ≡ (step (tree_of k) (command.Ln from to)).1)
-    × LinksFirst entry (free_place c.args.way.now.folder c.args.name.now) (volume_of k) (volume_of (g.P.SectorView.space c.link_first.new.space).content))) (c.link_date.ensures.reads.looks.content tells)
-    (c.link_first.ensures.does (c.link_date.ensures.reads.looks.same.tells ∙ tells) from to entry (subst (λ (k : Content). IsLinking (tree_of k) from to entry c.args.way.now.parent c.args.old.now c.args.way.now.id c.args.way.now.folder c.args.name.now) (sym (c.link_date.ensures.reads.looks.content tells)) linking))
+    subst (λ (k : Content). OnOk c.link_ready.result (IsSettled c.link_ready.new.volume (g.P.SectorView.space c.link_ready.new.space).content × (tree_of (g.P.SectorView.space c.link_ready.new.space).content ≡ (step (tree_of k) (command.Ln from to)).1)
+    × LinksFirst entry (free_place c.args.way.now.folder c.args.name.now) (volume_of k) (volume_of (g.P.SectorView.space c.link_ready.new.space).content))) (c.link_date.ensures.reads.looks.content tells)
+    (c.link_ready.ensures.does (c.link_date.ensures.reads.looks.same.tells ∙ tells) from to entry (subst (λ (k : Content). IsLinking (tree_of k) from to entry c.args.way.now.parent c.args.old.now c.args.way.now.id c.args.way.now.folder c.args.name.now) (sym (c.link_date.ensures.reads.looks.content tells)) linking))
 
 pub returns-clause-touches : goal.returns-clause-touches
 returns-clause-touches g c committed =
-    touches_both committed _ (g.P.SectorView.space c.args.space.now) (g.P.SectorView.space c.link_date.new.space) (g.P.SectorView.space c.link_first.new.space) (touches_looks committed _ (g.P.SectorView.space c.args.space.now) (g.P.SectorView.space c.link_date.new.space) c.link_date.ensures.reads.looks)
-    (subst (λ (l : List ℕ). Touches committed (λ s. Contains l s) (g.P.SectorView.space c.link_date.new.space) (g.P.SectorView.space c.link_first.new.space)) (own_still c.args.volume.now c.link_date.new.volume (g.P.SectorView.space c.args.space.now) (g.P.SectorView.space c.link_date.new.space) c.link_date.ensures.reads) (c.link_first.ensures.touches committed))
+    touches_both committed _ (g.P.SectorView.space c.args.space.now) (g.P.SectorView.space c.link_date.new.space) (g.P.SectorView.space c.link_ready.new.space) (touches_looks committed _ (g.P.SectorView.space c.args.space.now) (g.P.SectorView.space c.link_date.new.space) c.link_date.ensures.reads.looks)
+    (subst (λ (l : List ℕ). Touches committed (λ s. Contains l s) (g.P.SectorView.space c.link_date.new.space) (g.P.SectorView.space c.link_ready.new.space)) (own_still c.args.volume.now c.link_date.new.volume (g.P.SectorView.space c.args.space.now) (g.P.SectorView.space c.link_date.new.space) c.link_date.ensures.reads) (c.link_ready.ensures.touches committed))
 
 pub returns-clause-below : goal.returns-clause-below
-returns-clause-below g c = g.met.P.SectorView.follows_trans c.args.space.now c.link_date.new.space c.link_first.new.space c.link_date.ensures.below c.link_first.ensures.below
+returns-clause-below g c = g.met.P.SectorView.follows_trans c.args.space.now c.link_date.new.space c.link_ready.new.space c.link_date.ensures.below c.link_ready.ensures.below
 
 pub returns-clause-blocks : goal.returns-clause-blocks
-returns-clause-blocks g c = blocks_both c.args.volume.now c.link_date.new.volume c.link_first.new.volume (blocks_read c.args.volume.now c.link_date.new.volume (g.P.SectorView.space c.args.space.now) (g.P.SectorView.space c.link_date.new.space) c.link_date.ensures.reads) c.link_first.ensures.blocks
+returns-clause-blocks g c = blocks_both c.args.volume.now c.link_date.new.volume c.link_ready.new.volume (blocks_read c.args.volume.now c.link_date.new.volume (g.P.SectorView.space c.args.space.now) (g.P.SectorView.space c.link_date.new.space) c.link_date.ensures.reads) c.link_ready.ensures.blocks
 
 pub returns-in_err-created-clause-touches : goal.returns-in_err-created-clause-touches
 returns-in_err-created-clause-touches g c committed = touches_looks committed _ (g.P.SectorView.space c.args.space.now) (g.P.SectorView.space c.link_date.new.space) c.link_date.ensures.reads.looks
@@ -62,3 +64,6 @@ returns-in_err-created-clause-service g c = c.link_date.ensures.stands.service
 
 pub returns-in_err-created-clause-blocks : goal.returns-in_err-created-clause-blocks
 returns-in_err-created-clause-blocks g c = blocks_read c.args.volume.now c.link_date.new.volume (g.P.SectorView.space c.args.space.now) (g.P.SectorView.space c.link_date.new.space) c.link_date.ensures.reads
+
+pub link_ready-requires-clause-left : goal.link_ready-requires-clause-left
+link_ready-requires-clause-left g c = left_still c.args.volume.now c.link_date.new.volume (g.P.SectorView.space c.args.space.now) (g.P.SectorView.space c.link_date.new.space) 7 1 (λ tells. node_large c.args.volume.now (g.P.SectorView.space c.args.space.now) c.requires.stands tells) c.link_date.ensures.reads c.requires.left

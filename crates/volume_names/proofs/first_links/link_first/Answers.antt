@@ -1,110 +1,16 @@
-use Rattle.std.proofs.Common.{◌≡◌, ℕ, List, sym, ◌∙◌, ap, subst, arith}
-use Rattle.std.specs.Prelude.{OnOk, None}
-use Rattle.std.specs.List.{Contains}
-use Rattle.sector_disk.specs.Lists.{Content}
-use Rattle.btree_node.specs.declared.store.TreeShape.{TreeShape}
-use Rattle.hfs_language.specs.declared.command.Command.TheVariants as command
-use Rattle.hfs_model.specs.Step.{step}
-use Rattle.hfs_model.specs.declared.plain.PlainEntry.{PlainEntry}
-use Rattle.hfs_volume.specs.Content.{VolumeState, volume_of}
-use Rattle.hfs_volume.specs.Links.{node_name}
-use Rattle.hfs_volume.specs.Naming.{LinksFirst}
-use Rattle.hfs_volume.specs.Records.{placed_in, record_at}
-use Rattle.hfs_volume.specs.TreeOf.{tree_of}
-use Rattle.volume_base.specs.Linking.{IsLinking}
-use Rattle.volume_base.specs.Losing.{IsOnlyName}
-use Rattle.volume_base.specs.Making.{free_place}
-use Rattle.volume_base.specs.Standing.{IsSettled}
-use Rattle.volume_base.specs.Touching.{Touches}
-use Rattle.volume_base.proofs.Besides.{blocks_both, blocks_none, blocks_read}
-use Rattle.volume_base.proofs.Commanding.{touches_both, touches_looks, touches_none}
-use Rattle.volume_base.proofs.Replaced.{node_large}
-use Rattle.volume_base.proofs.Still.{lists_still, own_still}
+use Rattle.std.proofs.Common.{ℕ, List}
+use Rattle.volume_base.proofs.Besides.{blocks_none}
+use Rattle.volume_base.proofs.Commanding.{touches_none}
 use Rattle.volume_names.proofs.first_links.link_first.Goals as goal
 
-pub link_under-requires-clause-settled : goal.link_under-requires-clause-settled
-link_under-requires-clause-settled g c tells = c.free_number.ensures.settled (sym c.free_number.ensures.reads.looks.same.tells ∙ tells)
-
-pub link_under-requires-clause-private : goal.link_under-requires-clause-private
-link_under-requires-clause-private g c = c.free_number.ensures.reads.keeps.private ∙ c.requires.private
-
-pub link_under-requires-clause-only : goal.link_under-requires-clause-only
-link_under-requires-clause-only g c tells =
-    let before = sym c.free_number.ensures.reads.looks.same.tells ∙ tells in
-    subst (λ (l : VolumeState). IsOnlyName (record { parent = c.args.way.now.parent; name = c.args.old.now }) l.catalog_pairs) (sym (lists_still c.args.volume.now c.free_number.new.volume (g.P.SectorView.space c.args.space.now) (g.P.SectorView.space c.free_number.new.space) c.free_number.ensures.reads before)) (c.requires.only before)
-
-pub link_under-requires-clause-links : goal.link_under-requires-clause-links
-link_under-requires-clause-links g c tells =
-    let before = sym c.free_number.ensures.reads.looks.same.tells ∙ tells in
-    subst (λ (k : Content). (from to : List (List ℕ)) × (at : PlainEntry) × IsLinking (tree_of k) from to at c.args.way.now.parent c.args.old.now c.args.way.now.id c.args.way.now.folder c.args.name.now) (sym (c.free_number.ensures.reads.looks.content before)) (c.requires.links before)
-
-pub returns-clause-does : goal.returns-clause-does
-returns-clause-does g c tells from to entry linking =
-    subst (λ (k : Content). OnOk c.link_under.result (IsSettled c.link_under.new.volume (g.P.SectorView.space c.link_under.new.space).content × (tree_of (g.P.SectorView.space c.link_under.new.space).content ≡ (step (tree_of k) (command.Ln from to)).1)
-    × LinksFirst entry (free_place c.args.way.now.folder c.args.name.now) (volume_of k) (volume_of (g.P.SectorView.space c.link_under.new.space).content))) (c.free_number.ensures.reads.looks.content tells)
-    (c.link_under.ensures.does (c.free_number.ensures.reads.looks.same.tells ∙ tells) from to entry (subst (λ (k : Content). IsLinking (tree_of k) from to entry c.args.way.now.parent c.args.old.now c.args.way.now.id c.args.way.now.folder c.args.name.now) (sym (c.free_number.ensures.reads.looks.content tells)) linking))
-
-pub returns-clause-touches : goal.returns-clause-touches
-returns-clause-touches g c committed =
-    touches_both committed _ (g.P.SectorView.space c.args.space.now) (g.P.SectorView.space c.free_number.new.space) (g.P.SectorView.space c.link_under.new.space) (touches_looks committed _ (g.P.SectorView.space c.args.space.now) (g.P.SectorView.space c.free_number.new.space) c.free_number.ensures.reads.looks)
-    (subst (λ (l : List ℕ). Touches committed (λ s. Contains l s) (g.P.SectorView.space c.free_number.new.space) (g.P.SectorView.space c.link_under.new.space)) (own_still c.args.volume.now c.free_number.new.volume (g.P.SectorView.space c.args.space.now) (g.P.SectorView.space c.free_number.new.space) c.free_number.ensures.reads) (c.link_under.ensures.touches committed))
-
-pub returns-clause-below : goal.returns-clause-below
-returns-clause-below g c = g.met.P.SectorView.follows_trans c.args.space.now c.free_number.new.space c.link_under.new.space c.free_number.ensures.below c.link_under.ensures.below
-
-pub returns-clause-blocks : goal.returns-clause-blocks
-returns-clause-blocks g c = blocks_both c.args.volume.now c.free_number.new.volume c.link_under.new.volume (blocks_read c.args.volume.now c.free_number.new.volume (g.P.SectorView.space c.args.space.now) (g.P.SectorView.space c.free_number.new.space) c.free_number.ensures.reads) c.link_under.ensures.blocks
-
-pub returns-in_err-number-clause-touches : goal.returns-in_err-number-clause-touches
-returns-in_err-number-clause-touches g c committed = touches_looks committed _ (g.P.SectorView.space c.args.space.now) (g.P.SectorView.space c.free_number.new.space) c.free_number.ensures.reads.looks
-
-pub returns-in_err-number-clause-service : goal.returns-in_err-number-clause-service
-returns-in_err-number-clause-service g c = c.free_number.ensures.stands.service
-
-pub returns-in_err-number-clause-blocks : goal.returns-in_err-number-clause-blocks
-returns-in_err-number-clause-blocks g c = blocks_read c.args.volume.now c.free_number.new.volume (g.P.SectorView.space c.args.space.now) (g.P.SectorView.space c.free_number.new.space) c.free_number.ensures.reads
-
-pub returns-in_err-node-clause-touches : goal.returns-in_err-node-clause-touches
-returns-in_err-node-clause-touches g c committed = touches_looks committed _ (g.P.SectorView.space c.args.space.now) (g.P.SectorView.space c.free_number.new.space) c.free_number.ensures.reads.looks
-
-pub returns-in_err-node-clause-service : goal.returns-in_err-node-clause-service
-returns-in_err-node-clause-service g c = c.free_number.ensures.stands.service
-
-pub returns-in_err-node-clause-blocks : goal.returns-in_err-node-clause-blocks
-returns-in_err-node-clause-blocks g c = blocks_read c.args.volume.now c.free_number.new.volume (g.P.SectorView.space c.args.space.now) (g.P.SectorView.space c.free_number.new.space) c.free_number.ensures.reads
+pub link_ready-requires-clause-left : goal.link_ready-requires-clause-left
+link_ready-requires-clause-left g c = c.fits_share.ensures.left c.if-not-fits_share.false
 
 pub returns-then-not-fits_share-clause-touches : goal.returns-then-not-fits_share-clause-touches
-returns-then-not-fits_share-clause-touches g c committed = touches_looks committed _ (g.P.SectorView.space c.args.space.now) (g.P.SectorView.space c.free_number.new.space) c.free_number.ensures.reads.looks
+returns-then-not-fits_share-clause-touches g c committed = touches_none committed _ (g.P.SectorView.space c.args.space.now)
 
 pub returns-then-not-fits_share-clause-service : goal.returns-then-not-fits_share-clause-service
-returns-then-not-fits_share-clause-service g c = c.free_number.ensures.stands.service
+returns-then-not-fits_share-clause-service g c = c.requires.stands.service
 
 pub returns-then-not-fits_share-clause-blocks : goal.returns-then-not-fits_share-clause-blocks
-returns-then-not-fits_share-clause-blocks g c = blocks_read c.args.volume.now c.free_number.new.volume (g.P.SectorView.space c.args.space.now) (g.P.SectorView.space c.free_number.new.space) c.free_number.ensures.reads
-
-pub returns-then-shape-lt4096-clause-does : goal.returns-then-shape-lt4096-clause-does
-returns-then-shape-lt4096-clause-does g c tells from to entry linking =
-    absurd (omega (arith, c.if-shape-lt4096.true, ap (λ (s : TreeShape). s.node_size) c.shape.ensures, node_large c.args.volume.now (g.P.SectorView.space c.args.space.now) c.requires.stands tells))
-
-pub returns-then-shape-lt4096-clause-touches : goal.returns-then-shape-lt4096-clause-touches
-returns-then-shape-lt4096-clause-touches g c committed = touches_none committed _ (g.P.SectorView.space c.args.space.now)
-
-pub returns-then-shape-lt4096-clause-service : goal.returns-then-shape-lt4096-clause-service
-returns-then-shape-lt4096-clause-service g c = c.requires.stands.service
-
-pub returns-then-shape-lt4096-clause-blocks : goal.returns-then-shape-lt4096-clause-blocks
-returns-then-shape-lt4096-clause-blocks g c = blocks_none c.args.volume.now
-
-pub fits_share-requires-clause-settled : goal.fits_share-requires-clause-settled
-fits_share-requires-clause-settled g c tells = c.free_number.ensures.settled (sym c.free_number.ensures.reads.looks.same.tells ∙ tells)
-
-pub link_under-requires-clause-size : goal.link_under-requires-clause-size
-link_under-requires-clause-size g c = omega (arith, c.if-shape-lt4096.false, ap (λ (s : TreeShape). s.node_size) c.shape.ensures, ap (λ (s : TreeShape). s.node_size) c.free_number.ensures.reads.keeps.catalog.file.shape)
-
-pub link_under-requires-clause-free : goal.link_under-requires-clause-free
-link_under-requires-clause-free g c tells =
-    let before = sym c.free_number.ensures.reads.looks.same.tells ∙ tells in
-    ap (λ (l : VolumeState). record_at (placed_in l.catalog_pairs) c.args.private (node_name c.in_ok-number.number)) (lists_still c.args.volume.now c.free_number.new.volume (g.P.SectorView.space c.args.space.now) (g.P.SectorView.space c.free_number.new.space) c.free_number.ensures.reads before) ∙ c.in_ok-number.ensures.free before
-
-pub link_under-requires-clause-room : goal.link_under-requires-clause-room
-link_under-requires-clause-room g c = c.fits_share.ensures c.if-not-fits_share.false
+returns-then-not-fits_share-clause-blocks g c = blocks_none c.args.volume.now

@@ -1,6 +1,13 @@
-use Rattle.std.proofs.Common.{◌≤◌, sym, ◌∙◌, arith}
-use Rattle.volume_base.proofs.Fitted.{share_fits}
+use Rattle.std.proofs.Common.{sym, ◌∙◌}
+use Rattle.volume_base.proofs.Replaced.{node_large}
+use Rattle.volume_names.proofs.EditsLeft.{left_now}
+use Rattle.volume_names.proofs.EditsFit.{seven_fit}
 use Rattle.volume_names.proofs.fitting.fits_share.Goals as goal
 
-pub returns : goal.returns
-returns g c fits = share_fits c.a_load_says_enough.ensures c.a_load_is_of_parts.ensures c.args.volume.now (g.P.SectorView.space c.args.space.now) c.requires.settled (λ tells. sym (c.can_edit.ensures tells) ∙ fits) (c.leaves_two_ids.ensures c.if-not-leaves_two_ids.false) (omega (arith, c.spare.ensures, c.has_sector.ensures.fits c.if-not-has_sector.false))
+pub returns-clause-left : goal.returns-clause-left
+returns-clause-left g c fits =
+    left_now c.edits_have_room.ensures 7 1 c.args.volume.now (g.P.SectorView.space c.args.space.now) (λ tells. node_large c.args.volume.now (g.P.SectorView.space c.args.space.now) c.requires.stands tells)
+    (seven_fit c.a_load_says_enough.ensures c.a_load_is_of_parts.ensures c.args.volume.now (g.P.SectorView.space c.args.space.now) c.requires.settled (λ tells. sym (c.can_edit.ensures tells) ∙ fits))
+
+pub returns-clause-met : goal.returns-clause-met
+returns-clause-met g c tells met = c.can_edit.ensures tells ∙ met

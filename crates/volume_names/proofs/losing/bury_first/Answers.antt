@@ -6,20 +6,14 @@ use Rattle.hfs_volume.specs.TreeOf.{tree_of}
 use Rattle.volume_names.specs.Losing.{Buries, Loses}
 use Rattle.volume_base.specs.Standing.{IsSettled}
 use Rattle.volume_base.specs.Touching.{Touches}
-use Rattle.volume_base.proofs.Besides.{blocks_both}
-use Rattle.volume_base.proofs.Commanding.{touches_both}
+use Rattle.volume_base.proofs.Besides.{blocks_both, blocks_none}
+use Rattle.volume_base.proofs.Commanding.{touches_both, touches_none}
 use Rattle.volume_base.proofs.FoundEntry.{ok_so}
 use Rattle.volume_names.proofs.PrivateLoss.{loss_then, lost_both, only_then}
 use Rattle.volume_names.proofs.losing.bury_first.Goals as goal
 
-pub fits_move-requires-clause-settled : goal.fits_move-requires-clause-settled
-fits_move-requires-clause-settled g c tells = (c.in_ok-open_private.ensures.opens (sym (c.open_private.ensures.touches (g.P.SectorView.space c.args.space.now).content).same.tells ∙ tells)).settled
-
 pub bury-requires-clause-settled : goal.bury-requires-clause-settled
 bury-requires-clause-settled g c tells = (c.in_ok-open_private.ensures.opens (sym (c.open_private.ensures.touches (g.P.SectorView.space c.args.space.now).content).same.tells ∙ tells)).settled
-
-pub bury-requires-clause-room : goal.bury-requires-clause-room
-bury-requires-clause-room g c = c.fits_move.ensures.room c.if-not-fits_move.false
 
 pub bury-requires-clause-only : goal.bury-requires-clause-only
 bury-requires-clause-only g c tells =
@@ -57,3 +51,15 @@ returns-in-Some-clause-below g c = g.met.P.SectorView.follows_trans c.args.space
 
 pub returns-in-Some-clause-blocks : goal.returns-in-Some-clause-blocks
 returns-in-Some-clause-blocks g c = blocks_both c.args.volume.now c.open_private.new.volume c.bury.new.volume c.open_private.ensures.blocks c.bury.ensures.blocks
+
+pub bury-requires-clause-left : goal.bury-requires-clause-left
+bury-requires-clause-left g c = c.in_ok-open_private.ensures.left 3 0 (c.fits_aside.ensures.load c.if-not-fits_aside.false)
+
+pub returns-then-not-fits_aside-clause-touches : goal.returns-then-not-fits_aside-clause-touches
+returns-then-not-fits_aside-clause-touches g c committed = touches_none committed _ (g.P.SectorView.space c.args.space.now)
+
+pub returns-then-not-fits_aside-clause-service : goal.returns-then-not-fits_aside-clause-service
+returns-then-not-fits_aside-clause-service g c = c.requires.stands.service
+
+pub returns-then-not-fits_aside-clause-blocks : goal.returns-then-not-fits_aside-clause-blocks
+returns-then-not-fits_aside-clause-blocks g c = blocks_none c.args.volume.now

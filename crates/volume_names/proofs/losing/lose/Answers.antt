@@ -12,6 +12,8 @@ use Rattle.volume_base.specs.Standing.{IsSettled}
 use Rattle.volume_names.specs.Unlinking.{LosesLink}
 use Rattle.volume_names.proofs.Buried.{loses_there}
 use Rattle.volume_base.proofs.FoundEntry.{ok_so}
+use Rattle.volume_base.proofs.Replaced.{node_large}
+use Rattle.volume_names.proofs.EditsLeft.{left_of_move}
 use Rattle.volume_names.proofs.losing.lose.Goals as goal
 
 pub bury-requires-clause-some : goal.bury-requires-clause-some
@@ -73,8 +75,8 @@ lose_link-requires-clause-link g c tells = c.requires.link tells c.if-at.true
 pub lose_link-requires-clause-room : goal.lose_link-requires-clause-room
 lose_link-requires-clause-room g c = c.requires.room.drops
 
-pub bury-requires-clause-room : goal.bury-requires-clause-room
-bury-requires-clause-room g c = c.fits_move.ensures.room c.if-not-fits_move.false
+pub bury-requires-clause-left : goal.bury-requires-clause-left
+bury-requires-clause-left g c = left_of_move c.edits_have_room.ensures c.args.volume.now (g.P.SectorView.space c.args.space.now) (λ tells. node_large c.args.volume.now (g.P.SectorView.space c.args.space.now) c.requires.stands tells) (c.fits_move.ensures.room c.if-not-fits_move.false)
 
 pub returns-then-at-clause-does : goal.returns-then-at-clause-does
 returns-then-at-clause-does g c tells entry loss =

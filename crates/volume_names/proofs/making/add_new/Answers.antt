@@ -1,7 +1,7 @@
 use Rattle.std.proofs.Common.{[], ℕ, List, sym, ◌∙◌, ap, subst, arith}
 use Rattle.std.specs.List.{Contains}
 use Rattle.btree_node.specs.Levels.{Pair}
-use Rattle.btree_edit.specs.Edits.{EditRoom, TakesAtMost}
+use Rattle.btree_edit.specs.Edits.{EditRoom, TakesAtMost, TakesEdits}
 use Rattle.btree_file.specs.Standing.{numbers_of}
 use Rattle.btree_file.specs.State.{state_of}
 use Rattle.hfs_volume.specs.Records.{id_in, placed_in, record_at}
@@ -14,6 +14,7 @@ use Rattle.volume_names.proofs.Made.{counts_fit, unused}
 use Rattle.volume_base.proofs.MakeRoom.{room_behind, room_for_entry, spent_entry}
 use Rattle.volume_base.proofs.Touched.{touches_header}
 use Rattle.volume_base.proofs.Besides.{blocks_both, blocks_edit, blocks_header}
+use Rattle.volume_names.proofs.EditsLeft.{left_added}
 use Rattle.volume_names.proofs.making.add_new.Goals as goal
 
 pub add-requires-clause-size : goal.add-requires-clause-size
@@ -88,3 +89,9 @@ returns-clause-blocks g c = blocks_both c.args.volume.now c.draw.new.volume c.ad
 
 pub returns-in_err-add-clause-blocks : goal.returns-in_err-add-clause-blocks
 returns-in_err-add-clause-blocks g c = blocks_both c.args.volume.now c.draw.new.volume c.add.new.volume (blocks_header c.args.volume.now c.draw.new.volume c.draw.ensures.rest) (blocks_edit c.draw.new.volume c.add.new.volume c.add.ensures.rest)
+
+pub returns-clause-left : goal.returns-clause-left
+returns-clause-left g c edits beside load =
+    left_added c.edits_have_room.ensures c.args.volume.now c.add.new.volume (g.P.SectorView.space c.args.space.now) (g.P.SectorView.space c.draw.new.space) (g.P.SectorView.space c.add.new.space) edits beside c.requires.size c.draw.ensures.within.same.tells c.add.ensures.frame.space.same.tells c.draw.ensures.spent
+    (subst (λ (t : Tree). TakesEdits 2 516 (state_of [] t.file (g.P.SectorView.space c.draw.new.space)) (state_of [] c.add.new.volume.catalog.file (g.P.SectorView.space c.add.new.space))) (ap (λ (x : Volume). x.catalog) c.draw.ensures.rest) (c.in_ok-add.ensures.edits []))
+    load

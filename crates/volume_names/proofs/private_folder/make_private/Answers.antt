@@ -1,7 +1,8 @@
-use Rattle.std.proofs.Common.{ℕ, List, length, sym, ◌∙◌, ap, subst, arith}
+use Rattle.std.proofs.Common.{◌+◌, ◌/◌, ℕ, List, length, sym, ◌∙◌, ap, subst, arith}
 use Rattle.std.specs.Prelude.{Some, true}
 use Rattle.std.specs.List.{Contains}
 use Rattle.hfs_volume.specs.Records.{placed_in, record_at}
+use Rattle.volume_base.specs.Changing.{catalog_node}
 use Rattle.volume_base.specs.Lists.{lists_of}
 use Rattle.volume_base.specs.Making.{AddsNew}
 use Rattle.volume_names.specs.PrivateFolder.{HasOpened, RecountsFolder}
@@ -11,6 +12,7 @@ use Rattle.volume_base.proofs.Besides.{blocks_both, blocks_none}
 use Rattle.volume_base.proofs.Commanding.{touches_both, touches_none}
 use Rattle.volume_base.proofs.FoundEntry.{ok_both}
 use Rattle.volume_names.proofs.PrivateOpened.{free_name, private_opened, root_after, threads_made}
+use Rattle.volume_names.proofs.EditsLeft.{left_as}
 use Rattle.volume_names.proofs.private_folder.make_private.Goals as goal
 
 pub add_new-requires-clause-some : goal.add_new-requires-clause-some
@@ -70,3 +72,10 @@ returns-in_err-name-clause-service g c = c.requires.stands.service
 
 pub returns-in_err-name-clause-blocks : goal.returns-in_err-name-clause-blocks
 returns-in_err-name-clause-blocks g c = blocks_none c.args.volume.now
+
+pub returns-clause-left : goal.returns-clause-left
+returns-clause-left g c edits beside load =
+    c.recount.ensures.left edits beside
+    (left_as c.add_new.new.volume (g.P.SectorView.space c.add_new.new.space) edits _ _
+    (λ tells. ap (λ n. n / 512 + beside) (sym (c.in_ok-add_new.ensures.adds (sym (c.add_new.ensures.touches (g.P.SectorView.space c.args.space.now).content).same.tells ∙ tells)).changes.nodes.1))
+    (c.in_ok-add_new.ensures.left edits (catalog_node c.args.volume.now + beside) load))

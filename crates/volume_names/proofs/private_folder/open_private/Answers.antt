@@ -31,3 +31,10 @@ returns-then-shape-lt4096-clause-service g c = c.requires.stands.service
 
 pub returns-then-shape-lt4096-clause-blocks : goal.returns-then-shape-lt4096-clause-blocks
 returns-then-shape-lt4096-clause-blocks g c = blocks_none c.args.volume.now
+
+pub returns-clause-left : goal.returns-clause-left
+returns-clause-left g c edits beside load = record { told = (c.in_ok-make_private.ensures.left edits beside load).told }
+
+pub returns-then-shape-lt4096-clause-left : goal.returns-then-shape-lt4096-clause-left
+returns-then-shape-lt4096-clause-left g c edits beside load =
+    record { told = λ tells. absurd (omega (arith, c.if-shape-lt4096.true, ap (λ (s : TreeShape). s.node_size) c.shape.ensures, node_large c.args.volume.now (g.P.SectorView.space c.args.space.now) c.requires.stands tells)) }

@@ -10,6 +10,8 @@ use Rattle.volume_base.proofs.Commanding.{touches_none}
 use Rattle.volume_base.proofs.FoundEntry.{ok_so}
 use Rattle.volume_names.proofs.PrivateRecount.{recounted_some, recounts_folder}
 use Rattle.volume_base.proofs.Besides.{blocks_edit, blocks_none}
+use Rattle.volume_base.proofs.Replaced.{node_large}
+use Rattle.volume_names.proofs.EditsLeft.{left_less}
 use Rattle.volume_names.proofs.private_folder.put_recounted.Goals as goal
 
 pub replace-requires-clause-kind : goal.replace-requires-clause-kind
@@ -23,10 +25,10 @@ replace-requires-clause-same_kind g c = subst (λ (o : Option CatRecord). IfSome
 
 pub returns-clause-counts : goal.returns-clause-counts
 returns-clause-counts g c tells folder fits =
-    ok_so (ReplacesRecord c.args.entry.now c.in-Some.rec c.args.volume.now c.replace.new.self (g.P.SectorView.space c.args.space.now).content (g.P.SectorView.space c.replace.new.space).content)
-    (RecountsFolder (id_in c.args.entry.now.rec) c.args.up c.args.volume.now c.replace.new.self (g.P.SectorView.space c.args.space.now).content (g.P.SectorView.space c.replace.new.space).content)
+    ok_so (ReplacesRecord c.args.entry.now c.in-Some.rec c.args.volume.now c.replace.new.volume (g.P.SectorView.space c.args.space.now).content (g.P.SectorView.space c.replace.new.space).content)
+    (RecountsFolder (id_in c.args.entry.now.rec) c.args.up c.args.volume.now c.replace.new.volume (g.P.SectorView.space c.args.space.now).content (g.P.SectorView.space c.replace.new.space).content)
     c.replace.result (c.replace.ensures.replaces tells)
-    (λ r. recounts_folder c.args.up c.args.volume.now c.replace.new.self (g.P.SectorView.space c.args.space.now).content (g.P.SectorView.space c.replace.new.space).content c.args.entry.now c.in-Some.rec (c.requires.there tells) folder
+    (λ r. recounts_folder c.args.up c.args.volume.now c.replace.new.volume (g.P.SectorView.space c.args.space.now).content (g.P.SectorView.space c.replace.new.space).content c.args.entry.now c.in-Some.rec (c.requires.there tells) folder
     (sym (c.recounted.ensures.same fits) ∙ c.in-Some.is) r)
 
 pub returns-in_default-clause-counts : goal.returns-in_default-clause-counts
@@ -39,7 +41,10 @@ pub returns-in_default-clause-service : goal.returns-in_default-clause-service
 returns-in_default-clause-service g c = c.requires.stands.service
 
 pub returns-clause-blocks : goal.returns-clause-blocks
-returns-clause-blocks g c = blocks_edit c.args.volume.now c.replace.new.self c.replace.ensures.rest
+returns-clause-blocks g c = blocks_edit c.args.volume.now c.replace.new.volume c.replace.ensures.rest
 
 pub returns-in_default-clause-blocks : goal.returns-in_default-clause-blocks
 returns-in_default-clause-blocks g c = blocks_none c.args.volume.now
+
+pub returns-in_default-clause-left : goal.returns-in_default-clause-left
+returns-in_default-clause-left g c edits beside had = left_less c.args.volume.now (g.P.SectorView.space c.args.space.now) edits beside (λ tells. node_large c.args.volume.now (g.P.SectorView.space c.args.space.now) c.requires.stands tells) had

@@ -1,4 +1,4 @@
-use Rattle.std.proofs.Common.{◌≡◌, ◌≤◌, false, ℕ, List, length, sym, ◌∙◌, ap, subst, arith}
+use Rattle.std.proofs.Common.{◌≡◌, ◌+◌, ◌≤◌, false, ℕ, List, length, sym, ◌∙◌, ap, subst, arith}
 use Rattle.std.specs.Prelude.{Option, IfSome}
 use Rattle.std.specs.List.{Contains}
 use Rattle.cat_records.specs.Fits.{FitsRecord}
@@ -15,6 +15,8 @@ use Rattle.volume_names.proofs.PrivateRecount.{recounts_read}
 use Rattle.volume_base.proofs.Recounting.{folder_there, folder_not_none}
 use Rattle.volume_base.proofs.Still.{lists_still, own_still}
 use Rattle.volume_base.proofs.Besides.{blocks_both, blocks_edit}
+use Rattle.volume_base.proofs.Replaced.{node_large}
+use Rattle.volume_names.proofs.EditsLeft.{left_as, left_less, left_still}
 use Rattle.volume_names.proofs.private_folder.recount.Goals as goal
 
 pub entry-requires-clause-spelled : goal.entry-requires-clause-spelled
@@ -101,3 +103,14 @@ returns-in-None-clause-blocks g c = blocks_edit c.args.volume.now c.entry.new.se
 
 pub returns-in_err-entry-clause-blocks : goal.returns-in_err-entry-clause-blocks
 returns-in_err-entry-clause-blocks g c = blocks_edit c.args.volume.now c.entry.new.self c.entry.ensures.rest
+
+pub returns-in-Some-clause-left : goal.returns-in-Some-clause-left
+returns-in-Some-clause-left g c edits beside had =
+    c.put_recounted.ensures.left edits beside
+    (left_as c.entry.new.self (g.P.SectorView.space c.entry.new.space) edits _ _ (λ tells. ap (λ n. n + beside) (sym (node_still c.args.volume.now c.entry.new.self (g.P.SectorView.space c.args.space.now) (g.P.SectorView.space c.entry.new.space) c.entry.ensures.reads)))
+    (left_still c.args.volume.now c.entry.new.self (g.P.SectorView.space c.args.space.now) (g.P.SectorView.space c.entry.new.space) edits _ (λ tells. node_large c.args.volume.now (g.P.SectorView.space c.args.space.now) c.requires.stands tells) c.entry.ensures.reads had))
+
+pub returns-in-None-clause-left : goal.returns-in-None-clause-left
+returns-in-None-clause-left g c edits beside had =
+    left_still c.args.volume.now c.entry.new.self (g.P.SectorView.space c.args.space.now) (g.P.SectorView.space c.entry.new.space) edits beside (λ tells. node_large c.args.volume.now (g.P.SectorView.space c.args.space.now) c.requires.stands tells) c.entry.ensures.reads
+    (left_less c.args.volume.now (g.P.SectorView.space c.args.space.now) edits beside (λ tells. node_large c.args.volume.now (g.P.SectorView.space c.args.space.now) c.requires.stands tells) had)

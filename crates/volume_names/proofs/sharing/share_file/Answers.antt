@@ -12,7 +12,7 @@ use Rattle.volume_base.proofs.Commanding.{touches_both}
 use Rattle.volume_base.proofs.TakenOff.{threads_drawn}
 use Rattle.volume_names.proofs.DroppedOne.{same_then}
 use Rattle.volume_names.proofs.Shared.{files_fit, shares_file}
-use Rattle.volume_names.proofs.ShareRoom.{room_to_share}
+use Rattle.volume_names.proofs.EditsLeft.{room_behind_header}
 use Rattle.volume_base.proofs.Touched.{touches_header}
 use Rattle.volume_base.proofs.Besides.{blocks_both, blocks_edit, blocks_header}
 use Rattle.volume_names.proofs.sharing.share_file.Goals as goal
@@ -62,7 +62,7 @@ pub relocate-requires-clause-room : goal.relocate-requires-clause-room
 relocate-requires-clause-room g c names tells =
     room_first 3 4 516 (state_of names c.draw_two.new.volume.catalog.file (g.P.SectorView.space c.draw_two.new.space))
     (λ told. subst (λ (t : Tree). EditRoom 7 516 (state_of names t.file (g.P.SectorView.space c.draw_two.new.space))) (sym (ap (λ (x : Volume). x.catalog) c.draw_two.ensures.rest))
-    (room_to_share c.edits_have_room.ensures c.args.volume.now (g.P.SectorView.space c.args.space.now) (g.P.SectorView.space c.draw_two.new.space) c.requires.room c.requires.size c.draw_two.ensures.within.same.tells c.draw_two.ensures.spent names told)) tells
+    (room_behind_header c.args.volume.now (g.P.SectorView.space c.args.space.now) (g.P.SectorView.space c.draw_two.new.space) c.requires.room.left c.requires.size c.requires.stands.stands c.draw_two.ensures.within c.draw_two.ensures.spent names told)) tells
 
 pub draw_two-requires-clause-some : goal.draw_two-requires-clause-some
 draw_two-requires-clause-some g c = c.requires.room.some
@@ -80,4 +80,4 @@ returns-clause-more g c names =
     room_then 3 4 516 (state_of names c.draw_two.new.volume.catalog.file (g.P.SectorView.space c.draw_two.new.space)) (state_of names c.relocate.new.volume.catalog.file (g.P.SectorView.space c.relocate.new.space))
     (same_then c.draw_two.new.volume.catalog.file c.relocate.new.volume.catalog.file (g.P.SectorView.space c.draw_two.new.space) (g.P.SectorView.space c.relocate.new.space) c.relocate.ensures.frame names) (c.in_ok-relocate.ensures.edits names)
     (λ told. subst (λ (t : Tree). EditRoom 7 516 (state_of names t.file (g.P.SectorView.space c.draw_two.new.space))) (sym (ap (λ (x : Volume). x.catalog) c.draw_two.ensures.rest))
-    (room_to_share c.edits_have_room.ensures c.args.volume.now (g.P.SectorView.space c.args.space.now) (g.P.SectorView.space c.draw_two.new.space) c.requires.room c.requires.size c.draw_two.ensures.within.same.tells c.draw_two.ensures.spent names told))
+    (room_behind_header c.args.volume.now (g.P.SectorView.space c.args.space.now) (g.P.SectorView.space c.draw_two.new.space) c.requires.room.left c.requires.size c.requires.stands.stands c.draw_two.ensures.within c.draw_two.ensures.spent names told))

@@ -1,0 +1,11 @@
+use Rattle.std.proofs.Common.{sym, ◌∙◌}
+use Rattle.volume_base.proofs.Replaced.{node_large}
+use Rattle.volume_names.proofs.EditsFit.{five_fit}
+use Rattle.volume_names.proofs.fitting.fits_aside.Goals as goal
+
+pub returns-clause-load : goal.returns-clause-load
+returns-clause-load g c fits =
+    five_fit c.a_load_says_enough.ensures c.a_load_is_of_parts.ensures c.args.volume.now (g.P.SectorView.space c.args.space.now) c.requires.settled (λ tells. node_large c.args.volume.now (g.P.SectorView.space c.args.space.now) c.requires.stands tells) (λ tells. sym (c.can_edit.ensures tells) ∙ fits)
+
+pub returns-clause-met : goal.returns-clause-met
+returns-clause-met g c tells met = c.can_edit.ensures tells ∙ met

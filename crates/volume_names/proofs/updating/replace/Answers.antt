@@ -1,0 +1,57 @@
+use Rattle.std.proofs.Common.{◌≤◌, [], refl, sym, ◌∙◌, ap, arith}
+use Rattle.std.specs.Prelude.{Ok}
+use Rattle.btree_node.specs.declared.store.TreeShape.{TreeShape}
+use Rattle.btree_file.specs.Standing.{pairs_in}
+use Rattle.btree_file.specs.State.{sectors_of_tree}
+use Rattle.volume_base.proofs.Commanding.{touches_none}
+use Rattle.volume_base.proofs.Replaced.{update_room, spent_node, kind_there, replaces, node_large}
+use Rattle.volume_base.proofs.Added.{own_edited}
+use Rattle.volume_names.proofs.EditsLeft.{left_less, left_updated}
+use Rattle.volume_names.proofs.updating.replace.Goals as goal
+
+pub update-requires-clause-same_kind : goal.update-requires-clause-same_kind
+update-requires-clause-same_kind g c tells =
+    kind_there (pairs_in (sectors_of_tree c.args.volume.now.catalog.file) (g.P.SectorView.space c.args.space.now).content) c.args.entry.now.parent c.args.entry.now.name c.args.entry.now.rec c.args.rec.now (c.requires.there tells) c.requires.same_kind
+
+pub update-requires-clause-room : goal.update-requires-clause-room
+update-requires-clause-room g c =
+    let large : 4096 ≤ c.args.volume.now.catalog.file.shape.node_size = omega (arith, c.if-shape-lt4096.false, ap (λ (s : TreeShape). s.node_size) c.shape.ensures) in
+    update_room c.args.volume.now (g.P.SectorView.space c.args.space.now) large c.requires.room
+
+pub returns-clause-replaces : goal.returns-clause-replaces
+returns-clause-replaces g c tells =
+    replaces c.args.volume.now c.update.new.volume (g.P.SectorView.space c.args.space.now) (g.P.SectorView.space c.update.new.space) c.args.entry.now c.args.rec.now c.requires.stands tells c.update.ensures.frame.space.same.tells
+    c.update.ensures.frame c.update.ensures.rest (c.requires.there tells) (Ok c.in_ok-update.field-0) c.in_ok-update.ensures.stands (c.in_ok-update.ensures.answer tells) (c.in_ok-update.ensures.updated tells)
+
+pub returns-clause-spent : goal.returns-clause-spent
+returns-clause-spent g c tells = spent_node c.args.volume.now c.update.new.volume (g.P.SectorView.space c.args.space.now) (g.P.SectorView.space c.update.new.space) (c.update.ensures.takes [] tells)
+
+pub returns-in_err-update-clause-spent : goal.returns-in_err-update-clause-spent
+returns-in_err-update-clause-spent g c tells = spent_node c.args.volume.now c.update.new.volume (g.P.SectorView.space c.args.space.now) (g.P.SectorView.space c.update.new.space) (c.update.ensures.takes [] tells)
+
+pub returns-then-shape-lt4096-clause-replaces : goal.returns-then-shape-lt4096-clause-replaces
+returns-then-shape-lt4096-clause-replaces g c tells =
+    absurd (omega (arith, c.if-shape-lt4096.true, ap (λ (s : TreeShape). s.node_size) c.shape.ensures, node_large c.args.volume.now (g.P.SectorView.space c.args.space.now) c.requires.stands tells))
+
+pub returns-then-shape-lt4096-clause-touches : goal.returns-then-shape-lt4096-clause-touches
+returns-then-shape-lt4096-clause-touches g c committed = touches_none committed _ (g.P.SectorView.space c.args.space.now)
+
+pub returns-clause-own : goal.returns-clause-own
+returns-clause-own g c = own_edited c.args.volume.now c.update.new.volume (g.P.SectorView.space c.args.space.now) (g.P.SectorView.space c.update.new.space) c.update.ensures.frame c.update.ensures.rest
+
+pub returns-in_err-update-clause-own : goal.returns-in_err-update-clause-own
+returns-in_err-update-clause-own g c = own_edited c.args.volume.now c.update.new.volume (g.P.SectorView.space c.args.space.now) (g.P.SectorView.space c.update.new.space) c.update.ensures.frame c.update.ensures.rest
+
+pub returns-clause-size : goal.returns-clause-size
+returns-clause-size g c = c.update.ensures.frame.file.node_size
+
+pub returns-in_err-update-clause-size : goal.returns-in_err-update-clause-size
+returns-in_err-update-clause-size g c = c.update.ensures.frame.file.node_size
+
+pub returns-clause-left : goal.returns-clause-left
+returns-clause-left g c edits beside had =
+    let large : 4096 ≤ c.args.volume.now.catalog.file.shape.node_size = omega (arith, c.if-shape-lt4096.false, ap (λ (s : TreeShape). s.node_size) c.shape.ensures) in
+    left_updated c.args.volume.now c.update.new.volume (g.P.SectorView.space c.args.space.now) (g.P.SectorView.space c.update.new.space) edits beside large c.update.ensures.frame.space.same.tells (c.in_ok-update.ensures.edits []) had
+
+pub returns-then-shape-lt4096-clause-left : goal.returns-then-shape-lt4096-clause-left
+returns-then-shape-lt4096-clause-left g c edits beside had = left_less c.args.volume.now (g.P.SectorView.space c.args.space.now) edits beside (λ tells. node_large c.args.volume.now (g.P.SectorView.space c.args.space.now) c.requires.stands tells) had

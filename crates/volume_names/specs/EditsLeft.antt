@@ -1,0 +1,35 @@
+-- Room for several edits of the catalog, which lessens from one call to the next.
+use Rattle.std.specs.Prelude.{◌≡◌, ◌<◌, ◌≤◌, ℕ, ◌+◌, ◌-◌, ◌^◌, false, [], IsTrue}
+use Rattle.sector_disk.specs.Space.{Space}
+use Rattle.btree_edit.specs.Edits.{EditRoom}
+use Rattle.btree_file.specs.State.{state_of}
+use Rattle.btree_file.specs.declared.tree.TreeFile.{TreeFile}
+use Rattle.hfs_volume.specs.Cost.{catalog_key, growth, is_too_deep, tree_load}
+use Rattle.volume_base.specs.Making.{catalog_cost}
+use Rattle.volume_base.specs.declared.volume.Volume.{Volume}
+
+-- a space in which so many sectors fewer may be put
+abbrev pub less_by : ℕ → Space → Space
+less_by sectors space = record space { spare = space.spare - sectors }
+
+-- So many edits of a tree's file have room beside so many sectors for other puts.
+abbrev pub Leaves : (edits beside : ℕ) → TreeFile → Space → Type 0
+Leaves edits beside file space = (beside ≤ space.spare) × EditRoom edits 516 (state_of [] file (less_by beside space))
+
+-- Where the space tells, so many edits of the catalog have room beside so many sectors for other puts.
+pub record HasEditsLeft (edits beside : ℕ) (volume : Volume) (space : Space) : Type 0 where
+  pub told : IsTrue space.tells → Leaves edits beside volume.catalog.file space
+
+-- Where the space tells, the load of so many edits of the catalog has room beside so many sectors for other puts; they make the tree neither too deep nor
+-- too full of records, and it needn't grow before.
+pub record HasLoadFor (edits beside : ℕ) (volume : Volume) (space : Space) : Type 0 where
+  pub shallow : IsTrue space.tells → is_too_deep catalog_key (catalog_cost volume) edits ≡ false
+  pub records : IsTrue space.tells → volume.catalog.file.shape.leaf_records < 2 ^ 32
+  pub grown : IsTrue space.tells → growth volume.header.block_size catalog_key (catalog_cost volume) edits ≡ 0
+  pub load : IsTrue space.tells → beside + tree_load catalog_key (catalog_cost volume) edits 0 ≤ space.spare
+
+-- There are CNIDs for two links and room to put the header; where the space tells, the seven edits have room beside it by which a file gets its first link.
+pub record IsReadyToShare (volume : Volume) (space : Space) : Type 0 where
+  pub ids : volume.header.next_catalog_id + 2 < 2 ^ 32
+  pub some : 1 ≤ space.spare
+  pub left : HasEditsLeft 7 1 volume space
