@@ -44,8 +44,6 @@ fn name(refusal: Refusal) -> &'static str
         Refusal::TooBig(_, _) => "TooBig",
         Refusal::OutOfMemory => "OutOfMemory",
         Refusal::Unsteady => "Unsteady",
-        Refusal::NotBuilt => "NotBuilt",
-        Refusal::NoRoom(_) => "NoRoom",
     }
 }
 
@@ -53,9 +51,7 @@ fn push_numbers(text: &mut Vec<u8>, refusal: Refusal) -> Result<(), OutOfMemory>
     ensures { OnOk result (text.new.items ≡ text.old.items ++ spec.fields (spec.refusal_numbers refusal)) }
 {
     match refusal {
-        Refusal::NoIds(a) | Refusal::TooDeep(a) | Refusal::OverflowFull(a) | Refusal::NoRoom(a) => {
-            push_one(text, a)
-        }
+        Refusal::NoIds(a) | Refusal::TooDeep(a) | Refusal::OverflowFull(a) => push_one(text, a),
         Refusal::NoSpace(a, b) | Refusal::NoRun(a, b) | Refusal::TooBig(a, b) => {
             push_two(text, a, b)
         }

@@ -133,8 +133,6 @@ refusal_in (refusal.NoRun a b) = refl
 refusal_in (refusal.TooBig a b) = refl
 refusal_in refusal.OutOfMemory = refl
 refusal_in refusal.Unsteady = refl
-refusal_in refusal.NotBuilt = refl
-refusal_in (refusal.NoRoom a) = refl
 
 pub body_in : (r : Reply) → HasNames r → in_line (body_text r) ≡ true
 body_in reply.Ok are = refl

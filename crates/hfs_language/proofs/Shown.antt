@@ -5,7 +5,7 @@ use Rattle.std.specs.Str.Parse.{AllDigits, digits_value}
 use Rattle.std.proofs.lemmas.Fmt.{decimal_is_IsNumeral}
 use Rattle.std.proofs.lemmas.Str.Parse.{digit_from_value}
 use Rattle.hfs_language.specs.declared.refusal.Refusal.{Refusal}
-use Rattle.hfs_language.specs.declared.refusal.Refusal.TheVariants.{TooLong, BadCommand, BadName, NameTooLong, Private, Root, NotFound, NotFolder, IsFolder, Exists, NotEmpty, Inside, TooManyLinks, TooLarge, GrowLimit, AttributeTooLarge, NoAttribute, NoTree, NoIds, TooDeep, OverflowFull, NoSpace, NoRun, TooBig, OutOfMemory, Unsteady, NotBuilt, NoRoom}
+use Rattle.hfs_language.specs.declared.refusal.Refusal.TheVariants.{TooLong, BadCommand, BadName, NameTooLong, Private, Root, NotFound, NotFolder, IsFolder, Exists, NotEmpty, Inside, TooManyLinks, TooLarge, GrowLimit, AttributeTooLarge, NoAttribute, NoTree, NoIds, TooDeep, OverflowFull, NoSpace, NoRun, TooBig, OutOfMemory, Unsteady}
 use Rattle.hfs_language.specs.declared.reply.Reply.TheVariants as reply
 use Rattle.hfs_language.specs.Text.{field, fields, tree_text, kind_text, size_fields, mode_text, value_text, refusal_name, refusal_numbers, reply_text}
 use Rattle.hfs_language.specs.Shown.{AreNumbers, ShowsContent, ShowsFacts, SameFacts, ShowsGauge, facts_numbers, tree_numbers, gauge_numbers}
@@ -109,9 +109,7 @@ refusal_named name numbers =
     else (if bytes_eq name (codes "TooBig") then TooBig (get_or numbers 0 0) (get_or numbers 1 0)
     else (if bytes_eq name (codes "OutOfMemory") then OutOfMemory
     else (if bytes_eq name (codes "Unsteady") then Unsteady
-    else (if bytes_eq name (codes "NotBuilt") then NotBuilt
-    else (if bytes_eq name (codes "NoRoom") then NoRoom (get_or numbers 0 0)
-    else (TooLong))))))))))))))))))))))))))))
+    else (TooLong))))))))))))))))))))))))))
 
 named_back : (r : Refusal) → refusal_named (refusal_name r) (refusal_numbers r) ≡ r
 named_back TooLong = refl
@@ -140,8 +138,6 @@ named_back (NoRun a b) = refl
 named_back (TooBig a b) = refl
 named_back OutOfMemory = refl
 named_back Unsteady = refl
-named_back NotBuilt = refl
-named_back (NoRoom a) = refl
 
 abbrev refusal_line : Refusal → List ℕ
 refusal_line r = reply_text (reply.No r)
@@ -174,8 +170,6 @@ name_shown (NoRun a b) = refl
 name_shown (TooBig a b) = refl
 name_shown OutOfMemory = refl
 name_shown Unsteady = refl
-name_shown NotBuilt = refl
-name_shown (NoRoom a) = refl
 
 numbers_behind : (r : Refusal) → from_space (drop 3 (refusal_line r)) ≡ after_numbers (refusal_numbers r)
 unfolding reply_text
@@ -205,8 +199,6 @@ numbers_behind (NoRun a b) = refl
 numbers_behind (TooBig a b) = refl
 numbers_behind OutOfMemory = refl
 numbers_behind Unsteady = refl
-numbers_behind NotBuilt = refl
-numbers_behind (NoRoom a) = refl
 
 pub refusal_shown : (one other : Refusal) → AreNumbers (refusal_numbers one) → AreNumbers (refusal_numbers other) → refusal_line one ≡ refusal_line other → one ≡ other
 refusal_shown one other ha hb is =

@@ -88,8 +88,6 @@ refusal_name (refusal.NoRun a b) = codes "NoRun"
 refusal_name (refusal.TooBig a b) = codes "TooBig"
 refusal_name refusal.OutOfMemory = codes "OutOfMemory"
 refusal_name refusal.Unsteady = codes "Unsteady"
-refusal_name refusal.NotBuilt = codes "NotBuilt"
-refusal_name (refusal.NoRoom a) = codes "NoRoom"
 
 -- the numbers of a refusal
 abbrev pub refusal_numbers : Refusal → List ℕ
@@ -99,7 +97,6 @@ refusal_numbers (refusal.OverflowFull a) = a ∷ []
 refusal_numbers (refusal.NoSpace a b) = a ∷ b ∷ []
 refusal_numbers (refusal.NoRun a b) = a ∷ b ∷ []
 refusal_numbers (refusal.TooBig a b) = a ∷ b ∷ []
-refusal_numbers (refusal.NoRoom a) = a ∷ []
 refusal_numbers _ = []
 
 -- what follows `ok` in a reply

@@ -38,9 +38,4 @@ pub enum Refusal {
     TooBig(u64, u64),
     OutOfMemory,
     Unsteady,
-    // While parts of the volume aren't built.
-    /// The command isn't built yet.
-    NotBuilt,
-    /// The most folders that the root takes.
-    NoRoom(u64),
 }

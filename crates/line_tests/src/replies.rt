@@ -91,6 +91,4 @@ pub(crate) const REFUSALS: &[(Refusal, &str)] = &[
     (Refusal::TooBig(545, 494), "no TooBig 545 494\n"),
     (Refusal::OutOfMemory, "no OutOfMemory\n"),
     (Refusal::Unsteady, "no Unsteady\n"),
-    (Refusal::NotBuilt, "no NotBuilt\n"),
-    (Refusal::NoRoom(12), "no NoRoom 12\n"),
 ];
