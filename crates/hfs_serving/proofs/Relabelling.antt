@@ -54,7 +54,7 @@ module _ (entry : Entry) (text : List ℕ) (is : entry.line ≡ take (most_bytes
         does = subst (λ (asked : Result Command Refusal). DoesLine capacity asked entry.before entry.after) same_command a.does;
       })
       go (inr (inl l)) = inr (inl (record { asked = l.asked; is_asked = sym same_command ∙ l.is_asked; no_refusal = l.no_refusal; why = l.why; weighs = l.weighs; reply_is = l.reply_is; same = l.same }))
-      go (inr (inr m)) = inr (inr (record { reply_is = m.reply_is; tree = m.tree; same_gauge = m.same_gauge }))
+      go (inr (inr m)) = inr (inr (record { reply_is = m.reply_is; same = m.same }))
 
   pub shrunk_text : (shrunk : Option ℕ) → shrunk_after shrunk (with_text entry text) ≡ shrunk_after shrunk entry
   unfolding with_text

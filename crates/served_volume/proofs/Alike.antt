@@ -102,11 +102,7 @@ module _ (capacity : ℕ) (line : List ℕ) (said : Reply) (now next old new : C
   }
 
   memory_alike : LacksMemory capacity own → LacksMemory capacity other
-  memory_alike was = record {
-    reply_is = was.reply_is;
-    tree = after.tree ∙ was.tree ∙ sym before.tree;
-    same_gauge = ap (gauge capacity) after.lists ∙ was.same_gauge ∙ sym (ap (gauge capacity) before.lists);
-  }
+  memory_alike was = record { reply_is = was.reply_is; same = still was.same }
 
   pub served_alike : IsServed capacity own → IsServed capacity other
   served_alike was = record {

@@ -31,7 +31,7 @@ module _ (capacity number : ℕ) (line : List ℕ) (content : Content) (sound : 
   }
 
   memory : (why : Refusal) → why ≡ refusal.OutOfMemory → LacksMemory capacity (entry why)
-  memory why short = record { reply_is = ap reply.No short; tree = refl; same_gauge = refl }
+  memory why short = record { reply_is = ap reply.No short; same = refl }
 
   pub refused_entry : (why : Refusal) → IsRefusedAs line why → IsServedAs capacity number [] (entry why)
   refused_entry why is = record {

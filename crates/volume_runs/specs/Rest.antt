@@ -1,29 +1,46 @@
 -- Housekeeping that comes to rest.
-use Rattle.std.specs.Prelude.{◌≡◌, ◌⊎◌, ℕ, ◌+◌, ◌*◌, min, nat_lt, Bool, false, Option, Some, None, IsTrue}
+use Rattle.std.specs.Prelude.{◌≡◌, ◌⊎◌, ℕ, ◌+◌, ◌*◌, ◌==◌, ◌&&◌, min, nat_lt, Bool, false, length, Option, Some, None, IsTrue}
+use Rattle.std.specs.List.{list_any}
 use Rattle.jnl_format.specs.Recovery.{Content}
 use Rattle.hfs_language.specs.declared.refusal.Refusal.{Refusal}
 use Rattle.hfs_volume.specs.declared.cost.Cost.TheVariants as cost
-use Rattle.hfs_volume.specs.Content.{VolumeState, volume_of}
+use Rattle.hfs_model.specs.Sorted.{kept}
+use Rattle.hfs_volume.specs.Content.{VolumeState, overflow_in_volume, volume_of}
 use Rattle.hfs_volume.specs.Cost.{node_sectors, tree_at}
-use Rattle.hfs_volume.specs.Forks.{parts_for}
+use Rattle.hfs_volume.specs.Forks.{data_kind, in_use, is_of, parts_for}
+use Rattle.hfs_volume.specs.Records.{Overflow}
 use Rattle.hfs_volume.specs.declared.cost.Room.{Room}
 use Rattle.hfs_volume.specs.Reclaim.{CutOrphan, CutShrunk, DropAttribute, DropOrphan, Reclaim, Tidies, next_reclaim, reclaim_cost}
 use Rattle.hfs_volume.specs.Weight.{free_blocks, room_with}
 
--- the sectors that a cut puts at most: the volume header's, a node of the catalog, those of the bitmap, and the nodes of two changes of the extents overflow file
-abbrev pub cut_puts : Room → ℕ
-cut_puts room =
+-- an overflow record that has no extent in use
+abbrev pub is_empty_record : Overflow → Bool
+is_empty_record one = length (in_use one.extents) == 0
+
+-- a fork has such a record; on a sound volume it is the fork's last
+abbrev pub has_empty_record : VolumeState → ℕ → ℕ → Bool
+has_empty_record volume id kind = list_any is_empty_record (kept (is_of id kind) (overflow_in_volume volume))
+
+-- a step cuts a fork that has one: then it makes two changes of the extents overflow file, and else one
+abbrev pub cuts_emptied : VolumeState → Reclaim → Bool
+cuts_emptied volume (CutShrunk id) = has_empty_record volume id data_kind
+cuts_emptied volume (CutOrphan id kind) = has_empty_record volume id kind
+cuts_emptied volume (DropAttribute id name) = false
+cuts_emptied volume (DropOrphan id) = false
+
+-- the sectors that a cut puts at most: the volume header's, a node of the catalog, those of the bitmap, and the nodes of so many changes of the
+-- extents overflow file
+abbrev pub cut_puts : ℕ → Room → ℕ
+cut_puts changes room =
     1 + node_sectors (tree_at room 1) + min (parts_for room.total 4096) 10
-    + node_sectors (tree_at room 0) * min (2 * (4 * ((tree_at room 0).depth + 1) + 4)) (tree_at room 0).nodes
+    + node_sectors (tree_at room 0) * min (changes * (4 * ((tree_at room 0).depth + 1) + 4)) (tree_at room 0).nodes
 
--- a transaction holds less than that, where the step is a cut
+-- where a step makes two changes, a transaction holds less than it puts at most
 abbrev pub is_tight : ℕ → VolumeState → Reclaim → Bool
-is_tight capacity volume (CutShrunk id) = nat_lt capacity (cut_puts (room_with capacity (free_blocks volume) volume))
-is_tight capacity volume (CutOrphan id kind) = nat_lt capacity (cut_puts (room_with capacity (free_blocks volume) volume))
-is_tight capacity volume (DropAttribute id name) = false
-is_tight capacity volume (DropOrphan id) = false
+is_tight capacity volume step = cuts_emptied volume step && nat_lt capacity (cut_puts 2 (room_with capacity (free_blocks volume) volume))
 
--- why a step of reclaiming isn't made: a resource is missing for it, or it is a cut for which a transaction may be too small
+-- why a step of reclaiming isn't made: a resource is missing for it, or it is a cut of a fork whose last overflow record has no extent in use, for
+-- which a transaction may be too small
 abbrev pub IsHeldUp : ℕ → VolumeState → Reclaim → Type 0
 IsHeldUp capacity volume step = ((why : Refusal) × (reclaim_cost capacity volume step ≡ cost.Refused why)) ⊎ IsTrue (is_tight capacity volume step)
 

@@ -70,11 +70,10 @@ pub record LacksResource (capacity : ℕ) (entry : Entry) : Type 0 where
   pub reply_is : entry.reply ≡ reply.No why
   pub same : entry.after ≡ entry.before
 
--- Memory was missing.
+-- Memory was missing, and nothing was changed.
 pub record LacksMemory (capacity : ℕ) (entry : Entry) : Type 0 where
   pub reply_is : entry.reply ≡ reply.No refusal.OutOfMemory
-  pub tree : tree_of entry.after ≡ tree_of entry.before
-  pub same_gauge : gauge capacity (volume_of entry.after) ≡ gauge capacity (volume_of entry.before)
+  pub same : entry.after ≡ entry.before
 
 -- ---- entries of a run
 
