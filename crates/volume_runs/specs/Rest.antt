@@ -1,8 +1,11 @@
--- Housekeeping that comes to rest.
-use Rattle.std.specs.Prelude.{◌≡◌, ◌⊎◌, ℕ, ◌+◌, ◌*◌, ◌==◌, ◌&&◌, min, nat_lt, Bool, false, length, Option, Some, None, IsTrue}
+-- Housekeeping that comes to rest, and what goes ahead of a command.
+use Rattle.std.specs.Prelude.{◌≡◌, ◌⊎◌, ℕ, ◌+◌, ◌*◌, ◌==◌, ◌&&◌, min, nat_lt, Bool, true, false, List, length, Option, Some, None, Ok, IsTrue}
+use Rattle.std.proofs.Common.{inl, inr}
 use Rattle.std.specs.List.{list_any}
 use Rattle.jnl_format.specs.Recovery.{Content}
+use Rattle.hfs_language.specs.declared.command.Command.{Command}
 use Rattle.hfs_language.specs.declared.refusal.Refusal.{Refusal}
+use Rattle.hfs_model.specs.Step.{refuses}
 use Rattle.hfs_volume.specs.declared.cost.Cost.TheVariants as cost
 use Rattle.hfs_model.specs.Sorted.{kept}
 use Rattle.hfs_volume.specs.Content.{VolumeState, overflow_in_volume, volume_of}
@@ -10,8 +13,11 @@ use Rattle.hfs_volume.specs.Cost.{node_sectors, tree_at}
 use Rattle.hfs_volume.specs.Forks.{data_kind, in_use, is_of, parts_for}
 use Rattle.hfs_volume.specs.Records.{Overflow}
 use Rattle.hfs_volume.specs.declared.cost.Room.{Room}
-use Rattle.hfs_volume.specs.Reclaim.{CutOrphan, CutShrunk, DropAttribute, DropOrphan, Reclaim, Tidies, next_reclaim, reclaim_cost}
-use Rattle.hfs_volume.specs.Weight.{free_blocks, room_with}
+use Rattle.hfs_volume.specs.Reclaim.{CommandWants, CutOrphan, CutShrunk, CutsSurplus, DropAttribute, DropOrphan, GrowsTreeFirst, MarksHeader, Reclaim, Reclaims, StepWants, next_reclaim, reclaim_cost}
+use Rattle.hfs_volume.specs.TreeOf.{tree_of}
+use Rattle.hfs_volume.specs.Weight.{data_of, free_blocks, needs_cut, room_with}
+
+-- ---- rest
 
 -- an overflow record that has no extent in use
 abbrev pub is_empty_record : Overflow → Bool
@@ -48,9 +54,40 @@ IsHeldUp capacity volume step = ((why : Refusal) × (reclaim_cost capacity volum
 abbrev pub IsAtRest : ℕ → Option ℕ → VolumeState → Type 0
 IsAtRest capacity shrunk volume = (next_reclaim volume shrunk ≡ None) ⊎ ((step : Reclaim) × (next_reclaim volume shrunk ≡ Some step) × IsHeldUp capacity volume step)
 
--- Housekeeping from one content to another, which comes to rest on the way.
-pub record Rests (capacity : ℕ) (shrunk : Option ℕ) (old new : Content) : Type 0 where
+-- ---- what goes ahead of a command
+
+-- What wants a growth is this command, if there is one, or a step of reclaiming.
+abbrev pub IsOwn : {capacity : ℕ} {shrunk : Option ℕ} {content : Content} {grow : List ℕ} → Option Command → CommandWants capacity content grow ⊎ StepWants capacity shrunk content grow → Type 0
+IsOwn asked (inl wants) = asked ≡ Some wants.asked
+IsOwn asked (inr step) = Unit {0}
+
+-- One tree got more nodes ahead of this command, if there is one, or of a step of reclaiming.
+pub record GrowsFor (capacity : ℕ) (shrunk : Option ℕ) (asked : Option Command) (old new : Content) : Type 0 where
+  pub grows : GrowsTreeFirst capacity shrunk old new
+  pub own : IsOwn asked grows.wanted
+
+-- A file lost blocks past its size ahead of this command, which the plain tree's step doesn't refuse and for which such blocks go first.
+pub record CutsFor (capacity : ℕ) (asked : Option Command) (old new : Content) : Type 0 where
+  pub own : Command
+  pub is_own : asked ≡ Some own
+  pub no_refusal : refuses (tree_of old) (Ok own) ≡ false
+  pub needs : needs_cut (volume_of old) (data_of (tree_of old) own) ≡ true
+  pub cuts : CutsSurplus capacity old new
+
+-- one step of housekeeping ahead of this command, if there is one
+abbrev pub IsTidiedFor : ℕ → Option ℕ → Option Command → Content → Content → Type 0
+IsTidiedFor capacity shrunk asked old new =
+    Reclaims capacity shrunk old new ⊎ (CutsFor capacity asked old new ⊎ (GrowsFor capacity shrunk asked old new ⊎ MarksHeader old new))
+
+-- Steps of housekeeping ahead of this command, if there is one: nothing is cut and no tree grows for another command.
+pub data TidiesFor (capacity : ℕ) (shrunk : Option ℕ) (asked : Option Command) : Content → Content → Type 0 where
+  no_step : (content : Content) → TidiesFor capacity shrunk asked content content
+  one_step : (old between new : Content) → IsTidiedFor capacity shrunk asked old between → TidiesFor capacity shrunk asked between new → TidiesFor capacity shrunk asked old new
+
+-- Housekeeping from one content to another, ahead of this command, if there is one: on the way it comes to rest, and before that nothing is done
+-- for a command.
+pub record Rests (capacity : ℕ) (shrunk : Option ℕ) (asked : Option Command) (old new : Content) : Type 0 where
   pub rest : Content
-  pub before : Tidies capacity shrunk old rest
+  pub before : TidiesFor capacity shrunk None old rest
   pub at_rest : IsAtRest capacity shrunk (volume_of rest)
-  pub after : Tidies capacity shrunk rest new
+  pub after : TidiesFor capacity shrunk asked rest new

@@ -34,6 +34,11 @@ pub record Entry : Type 0 where
 abbrev pub asked_by : Entry → Result Command Refusal
 asked_by entry = command_of entry.line
 
+-- the command, if one was spelled
+abbrev pub spelled : Result Command Refusal → Option Command
+spelled (Ok asked) = Some asked
+spelled (Err why) = None
+
 -- the reply of a command's step, but that `df` is answered by the volume
 abbrev pub reply_to : ℕ → Content → Result Command Refusal → Reply
 reply_to capacity content (Ok command.Df) = reply.Gauge (gauge capacity (volume_of content))
@@ -110,11 +115,12 @@ is_ok _ = false
 abbrev pub shrunk_after : Option ℕ → Entry → Option ℕ
 shrunk_after shrunk entry = if is_ok entry.reply then or_before (shrunk_by (tree_of entry.before) (asked_by entry)) shrunk else shrunk
 
--- Each entry of a run follows from the content that the one before it left, or from the first content, by housekeeping that comes to rest.
+-- Each entry of a run follows from the content that the one before it left, or from the first content, by housekeeping ahead of its own command,
+-- which comes to rest before anything is done for that.
 abbrev pub IsRunFrom : ℕ → Option ℕ → Content → List Entry → Type 0
 IsRunFrom capacity shrunk content [] = Unit {0}
 IsRunFrom capacity shrunk content (entry ∷ run) =
-    Rests capacity shrunk content entry.before × IsServed capacity entry × IsRunFrom capacity (shrunk_after shrunk entry) entry.after run
+    Rests capacity shrunk (spelled (asked_by entry)) content entry.before × IsServed capacity entry × IsRunFrom capacity (shrunk_after shrunk entry) entry.after run
 
 -- a run from this content, in which no file was shrunk before
 abbrev pub IsRun : ℕ → Content → List Entry → Type 0
