@@ -42,7 +42,11 @@ pub(crate) fn push_bytes(text: &mut Vec<u8>, value: &[u8]) -> Result<(), AllocEr
 pub(crate) fn are_plain(bytes: &[u8]) -> bool
     ensures { result ≡ list_all spec.is_plain bytes.now }
 {
-    bytes.iter().all(|byte| is_plain(*byte))
+    let mut plain = true;
+    for byte in bytes {
+        plain &= is_plain(*byte);
+    }
+    plain
 }
 
 fn push_byte(text: &mut Vec<u8>, byte: u8) -> Result<(), AllocError>

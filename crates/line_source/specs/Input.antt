@@ -9,7 +9,7 @@ ahead taken source = taken ++ source.left
 
 -- how many bytes may still come, at most
 abbrev pub weight : List ℕ → Stream → ℕ
-weight taken source = source.takes * 1048576 + length taken
+weight taken source = source.takes * 4194304 + length taken
 
 -- what is held of a line: all of it, but of one that is longer than the limit the bytes up to the first that is too many
 abbrev pub IsLine : ℕ → List ℕ → List ℕ → Type 0
@@ -31,9 +31,9 @@ pub record TakesLines (taken : List ℕ) (source : Stream) (some : List (List �
   pub cut : SplitsIntoLines used some (ahead taken_new source_new)
 
 -- Where a whole line was there of the bytes taken before, the source wasn't asked. Of the bytes that were taken now, no
--- more than 1,048,576 stand behind a newline.
+-- more than 4,194,304 stand behind a newline.
 pub record TakesNoMore (taken : List ℕ) (source source_new : Stream) : Type 0 where
   pub needed : (source_new ≡ source) ⊎ HasNoNewline taken
   pub came : List ℕ
   pub bytes : source.left ≡ came ++ source_new.left
-  pub few : (before behind : List ℕ) → came ≡ before ++ 10 ∷ behind → length behind ≤ 1048576
+  pub few : (before behind : List ℕ) → came ≡ before ++ 10 ∷ behind → length behind ≤ 4194304

@@ -14,7 +14,7 @@ use std::alloc::{AllocFailed, Global};
 use std::marker::Model;
 
 /// How many bytes are taken of a source at a time, at most.
-const BUFFER: usize = 1_048_576;
+const BUFFER: usize = 4_194_304;
 
 /// Bytes that were taken from a source and belong to no line yet.
 #[derive(Drop)]
@@ -31,7 +31,7 @@ impl Model for Input {
 
     ghost view = { λ input. take (input.end - input.start) (drop input.start input.buffer.items) };
 
-    ghost invariant = { λ input. (input.start ≤ input.end) × (input.end ≤ 1048576) × (length input.buffer.items ≡ 1048576) };
+    ghost invariant = { λ input. (input.start ≤ input.end) × (input.end ≤ 4194304) × (length input.buffer.items ≡ 4194304) };
 }
 
 /// Why no line was read.
@@ -142,7 +142,7 @@ impl Input {
         ensures end { IsTrue (S.stream source.old).tells → IfOk result (λ some. some ≡ false → (ahead self.old (S.stream source.old) ≡ []) × (ahead self.new (S.stream source.new) ≡ [])) }
         ensures kept { OnErr result (((S.stream source.new).left ≡ (S.stream source.old).left) × (self.old ≡ [])) }
         ensures still { self.old ≢ [] → (S.stream source.new ≡ S.stream source.old) × (self.new ≡ self.old) }
-        ensures few { length self.new ≤ 1048576 }
+        ensures few { length self.new ≤ 4194304 }
         ensures no_more { weight self.new (S.stream source.new) ≤ weight self.old (S.stream source.old) }
         ensures same { SameSource (S.stream source.old) (S.stream source.new) }
         ensures cause { HasCause (S.stream source.old).faults (S.stream source.new).faults result }
@@ -156,7 +156,7 @@ impl Input {
 
     fn is_empty(&self) -> bool
         ensures none { IsTrue result ↔ (self.now ≡ []) }
-        ensures few { length self.now ≤ 1048576 }
+        ensures few { length self.now ≤ 4194304 }
     {
         self.start == self.end
     }
@@ -166,7 +166,7 @@ impl Input {
         requires { self.old ≡ [] }
         ensures filled { IsTrue (S.stream source.old).tells → OnOk result ((S.stream source.old).left ≡ self.new ++ (S.stream source.new).left) }
         ensures end { IsTrue (S.stream source.old).tells → OnOk result (self.new ≡ [] → (S.stream source.old).left ≡ []) }
-        ensures few { length self.new ≤ 1048576 }
+        ensures few { length self.new ≤ 4194304 }
         ensures kept { OnErr result ((S.stream source.new).left ≡ (S.stream source.old).left) }
         ensures no_more { weight self.new (S.stream source.new) ≤ weight self.old (S.stream source.old) }
         ensures same { SameSource (S.stream source.old) (S.stream source.new) }
