@@ -20,7 +20,6 @@ use Rattle.volume_base.specs.Fitting.{AreMet, is_met}
 use Rattle.volume_base.specs.Lists.{facts_on}
 use Rattle.volume_base.specs.Making.{HasRoomToMake}
 use Rattle.volume_base.specs.Moving.{HasRoomToMove}
-use Rattle.volume_base.specs.Sharing.{HasRoomToShare}
 use Rattle.volume_base.specs.Unlinking.{HasRoomToUnlinkLast}
 use Rattle.volume_base.specs.Removing.{HasRoomToBare, HasRoomToRemove}
 use Rattle.volume_base.specs.Room.{capacity_of, free_in}
@@ -79,10 +78,10 @@ unfolding growth_for
 growth_alike block key edits tree extents = refl
 
 -- what is known of one tree whose edits are afforded
-record IsRoomy (block key edits spare others : ℕ) (tree : TreeFacts) : Type 0 where
-  shallow : is_too_deep key (cost_of_tree tree 0) edits ≡ false
-  none : growth block key (cost_of_tree tree 0) edits ≡ 0
-  load : others + tree_load key (cost_of_tree tree 0) edits 0 ≤ spare
+pub record IsRoomy (block key edits spare others : ℕ) (tree : TreeFacts) : Type 0 where
+  pub shallow : is_too_deep key (cost_of_tree tree 0) edits ≡ false
+  pub none : growth block key (cost_of_tree tree 0) edits ≡ 0
+  pub load : others + tree_load key (cost_of_tree tree 0) edits 0 ≤ spare
 
 roomy : (block key edits spare others extents more : ℕ) (tree : TreeFacts) (cost_ : TreeCost) → cost_ ≡ cost_of_tree tree extents → is_too_deep key cost_ edits ≡ false → growth block key cost_ edits ≡ 0 → more ≡ 0
     → others + tree_load key cost_ edits more ≤ spare → IsRoomy block key edits spare others tree
@@ -128,7 +127,7 @@ module _ (says : LoadSaysEnough) (of_parts : LoadIsOfParts) (v : Volume) (a : Sp
     no_attributes : slice_index (plan_of needs room).grow 2 ≡ 0
     no_attributes = sym (ap (λ l. slice_index l 2) afforded.grows) ∙ is.attributes
 
-    catalog : IsRoomy v.header.block_size catalog_key asked.catalog a.spare (1 + asked.updates * (v.catalog.file.shape.node_size / 512)) (facts_on v.catalog.file)
+    pub catalog : IsRoomy v.header.block_size catalog_key asked.catalog a.spare (1 + asked.updates * (v.catalog.file.shape.node_size / 512)) (facts_on v.catalog.file)
     catalog =
         subst (λ (k : TreeFacts × VolumeHeader). IsRoomy k.1.block_size catalog_key asked.catalog a.spare (1 + asked.updates * (v.catalog.file.shape.node_size / 512)) k.0) {x = ((volume_of a.content).catalog_tree, (volume_of a.content).head)} {y = (facts_on v.catalog.file, v.header)}
         (λ i. (same_catalog i, same_head i))
@@ -215,13 +214,6 @@ module _ (says : LoadSaysEnough) (of_parts : LoadIsOfParts) (v : Volume) (a : Sp
   unlink_last_fits ok some = record {
     some = some;
     told = λ tells. let it = catalog says of_parts v a (settled tells) (record { ids = 0; catalog = 5; attributes = 0; updates = 4 }) (ok tells) in (omega (arith, it.load), it.shallow, it.none);
-  }
-
-  pub share_fits : Meets (record { ids = 2; catalog = 7; attributes = 0; updates = 4 }) → v.header.next_catalog_id + 2 < 2 ^ 32 → 1 ≤ a.spare → HasRoomToShare v a
-  share_fits ok ids some = record {
-    ids = ids;
-    some = some;
-    told = λ tells. let it = catalog says of_parts v a (settled tells) (record { ids = 2; catalog = 7; attributes = 0; updates = 4 }) (ok tells) in (omega (arith, it.load), it.shallow, it.none);
   }
 
   pub move_fits : Meets (record { ids = 0; catalog = 3; attributes = 0; updates = 3 }) → HasRoomToMove v a

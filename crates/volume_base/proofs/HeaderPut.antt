@@ -221,6 +221,13 @@ put_within a b bytes long large same puts time room faults = record {
     by s true is = inr (0, omega arith, sym (eqb-true s 2 is))
     by s false is = inl (room.put s ∙ ap (λ x. x || a.put s) is)
 
+-- it counts as put, and a sector that was put before takes no room
+pub put_counts : (a b : Space) → TakesRoom a 2 b → IsTrue (b.put 2)
+put_counts a b room = room.put 2
+
+pub put_again : (a b : Space) → IsTrue (a.put 2) → TakesRoom a 2 b → b.spare ≡ a.spare
+put_again a b was room = room.spare ∙ ap (λ x. if x then a.spare else a.spare - 1) was
+
 pub put_spent : (a b : Space) → TakesRoom a 2 b → a.spare ≤ b.spare + 1
 put_spent a b room = subst (λ n. a.spare ≤ n + 1) (sym room.spare) (by (a.put 2))
   where

@@ -23,7 +23,6 @@ pub mod Removing
 pub mod Resizing
 pub mod Room
 pub mod Service
-pub mod Sharing
 pub mod Spreading
 pub mod Standing
 pub mod Stating

@@ -18,6 +18,9 @@ impl Volume {
         ensures put { IsTrue (P.SectorView.space space.old).tells → PutsHeader self.now (P.SectorView.space space.old).content (P.SectorView.space space.new).content }
         ensures within { PutsWithin (2 ∷ []) (P.SectorView.space space.old) (P.SectorView.space space.new) }
         ensures spent { (P.SectorView.space space.old).spare ≤ (P.SectorView.space space.new).spare + 1 }
+        // It counts as put then, and where it was put before, it takes no room.
+        ensures is_put { IsTrue (P.SectorView.space space.old).tells → IsTrue ((P.SectorView.space space.new).put 2) }
+        ensures again { IsTrue ((P.SectorView.space space.old).put 2) → (P.SectorView.space space.new).spare ≡ (P.SectorView.space space.old).spare }
         ensures faults { (P.SectorView.space space.new).faults ≡ (P.SectorView.space space.old).faults }
         ensures below { P.SectorView.follows space.old space.new }
     {

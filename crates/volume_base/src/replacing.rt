@@ -1,11 +1,13 @@
 //! Another record of a folder or file, where it stands.
-ghost use Rattle.std.specs.Prelude.{ℕ, ◌≡◌, ◌≤◌, ◌+◌, Some, false, IsTrue, length, OnOk};
+ghost use Rattle.std.specs.Prelude.{ℕ, ◌≡◌, ◌≤◌, ◌+◌, List, Some, false, IsTrue, length, OnOk};
 ghost use Rattle.std.specs.List.{Contains};
 ghost use Rattle.sector_disk.specs.Lists.{Content};
 ghost use Rattle.btree_edit.specs.Causes.{HasTroubleCause};
 ghost use Rattle.catalog.specs.Entries.{IsOfKind};
 ghost use Rattle.btree_file.specs.Standing.{numbers_of};
+ghost use Rattle.btree_file.specs.State.{state_of};
 ghost use Rattle.catalog.specs.Pairs.{value_at};
+ghost use Rattle.catalog.specs.Rooms.{TakesUpdates};
 ghost use Rattle.cat_records.specs.Fits.{FitsRecord};
 ghost use Rattle.hfs_volume.specs.Entries.{AreSpelled};
 ghost use Rattle.hfs_volume.specs.Records.{is_thread};
@@ -48,6 +50,8 @@ impl Volume {
         // On a fault too, it puts sectors of its own alone, whatever was committed last; those of one node at most.
         ensures touches { (committed : Content) → Touches committed (λ s. Contains (own_sectors self.old) s) (P.SectorView.space space.old) (P.SectorView.space space.new) }
         ensures spent { IsTrue (P.SectorView.space space.old).tells → (P.SectorView.space space.old).spare ≤ (P.SectorView.space space.new).spare + catalog_node self.old }
+        // It is one update of the catalog's tree.
+        ensures edits { (names : List ℕ) → OnOk result (TakesUpdates 0 1 516 (state_of names self.old.catalog.file (P.SectorView.space space.old)) (state_of names self.new.catalog.file (P.SectorView.space space.new))) }
         // What is left of the room for so many updates suffices for the others.
         ensures room { (many : ℕ) → HasRoomToUpdates (many + 1) self.old (P.SectorView.space space.old) → OnOk result (HasRoomToUpdates many self.new (P.SectorView.space space.new)) }
         ensures own { own_sectors self.new ≡ own_sectors self.old }

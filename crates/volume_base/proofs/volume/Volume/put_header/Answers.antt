@@ -1,7 +1,7 @@
 use Rattle.std.proofs.Common.{◌≡◌, ℕ, List, length, sym, ap, ◌∙◌, subst}
 use Rattle.sector_disk.specs.Space.{Puts}
 use Rattle.volume_header.specs.Header.{header_bytes}
-use Rattle.volume_base.proofs.HeaderPut.{header_open, stands_behind_put, put_within, put_spent}
+use Rattle.volume_base.proofs.HeaderPut.{header_open, stands_behind_put, put_again, put_counts, put_spent, put_within}
 use Rattle.volume_base.proofs.ListsAfter.{lists_put, put_changes, header_is}
 use Rattle.volume_base.proofs.volume.Volume.put_header.Goals as goal
 
@@ -31,3 +31,9 @@ pub returns-clause-stands : goal.returns-clause-stands
 returns-clause-stands g c =
     let long : length c.write_header.new.into ≡ 512 = search in
     stands_behind_put c.args.self.now (g.P.SectorView.space c.args.space.now) (g.P.SectorView.space c.put.new.self) c.write_header.new.into c.requires.stands c.put.ensures.same long c.put.ensures.puts
+
+pub returns-clause-is_put : goal.returns-clause-is_put
+returns-clause-is_put g c tells = put_counts (g.P.SectorView.space c.args.space.now) (g.P.SectorView.space c.put.new.self) c.put.ensures.room
+
+pub returns-clause-again : goal.returns-clause-again
+returns-clause-again g c was = put_again (g.P.SectorView.space c.args.space.now) (g.P.SectorView.space c.put.new.self) was c.put.ensures.room

@@ -2,7 +2,8 @@ use Rattle.std.proofs.Common.{◌≤◌, [], refl, sym, ◌∙◌, ap, arith}
 use Rattle.std.specs.Prelude.{Ok}
 use Rattle.btree_node.specs.declared.store.TreeShape.{TreeShape}
 use Rattle.btree_file.specs.Standing.{pairs_in}
-use Rattle.btree_file.specs.State.{sectors_of_tree}
+use Rattle.btree_file.specs.State.{sectors_of_tree, state_of}
+use Rattle.catalog.proofs.RoomLaws.{updates_none}
 use Rattle.volume_base.proofs.Commanding.{touches_none}
 use Rattle.volume_base.proofs.Replaced.{update_room, spent_node, kind_there, replaces, node_large}
 use Rattle.volume_base.proofs.UpdateRoom.{room_after, room_less}
@@ -54,3 +55,9 @@ returns-clause-size g c = c.update.ensures.frame.file.node_size
 
 pub returns-in_err-update-clause-size : goal.returns-in_err-update-clause-size
 returns-in_err-update-clause-size g c = c.update.ensures.frame.file.node_size
+
+pub returns-then-shape-lt4096-clause-edits : goal.returns-then-shape-lt4096-clause-edits
+returns-then-shape-lt4096-clause-edits g c names = updates_none 0 1 516 (state_of names c.args.self.now.catalog.file (g.P.SectorView.space c.args.space.now))
+
+pub returns-clause-edits : goal.returns-clause-edits
+returns-clause-edits g c = c.in_ok-update.ensures.edits
