@@ -177,6 +177,41 @@ module _ (list new : List Extent) (used : AreUsed new) (same : take (length list
             (subst (λ (l : List OverflowRecord). AreFew 1 (changes_to (map record_of (next ∷ more)) l)) (sym (none_wanted (at + 8) (omega (arith, most, ends)))) (removed.0, omega (arith, removed.1, single)))
       ]))
 
+  -- one at most where each record has an extent in use: the last one is changed, or goes
+  pub few_kept : (records : List Overflow) (at place : ℕ) → HaveEight records → GoOn place true records → place ≡ length (blocks_of (take at list)) → drop at list ≡ used_by records → at ≤ length list → length records ≡ parts_for (length list - at) 8
+      → AreFew 1 (changes_to (map record_of records) (records_from (parts_for (length new - at) 8) at new))
+  few_kept [] at place eight go is behind_it within filled =
+      let ends : length list - at ≡ 0 = sym (length-drop at list) ∙ ap (λ (l : List Extent). length l) behind_it in
+      subst (λ (l : List OverflowRecord). AreFew 1 (changes_to [] l)) (sym (none_wanted at (omega (arith, most, ends, within)))) (refl, omega arith)
+  few_kept (one ∷ []) at place eight go is behind_it within filled = elim (cases_lt at (length new)) [
+    | inl inside ↦
+        let short : length list - at ≤ 8 = omega (arith, length-drop at list, ap (λ (l : List Extent). length l) behind_it, length-append (in_use one.extents) [], in_use_few one.extents, eight.0) in
+        let parts : parts_for (length new - at) 8 ≡ suc 0 = one_part (length new - at) (omega (arith, inside)) (omega (arith, short, most)) in
+        let first : OverflowRecord = record { start = length (blocks_of (take at new)); extents = eight_at new at } in
+        subst (λ n. AreFew 1 (changes_to (map record_of (one ∷ [])) (records_from n at new))) (sym parts)
+        (subst (AreFew 1) (sym (at_same (record_of one) first [] [] (starts_alike at place (omega (arith, inside, most)) is ∙ sym go.0)))
+        (one_more 0 (same_extents (record_of one).extents first.extents) first [] (refl, omega arith)))
+    | inr beyond ↦
+        let removed = all_removed (one ∷ []) in
+        subst (λ (l : List OverflowRecord). AreFew 1 (changes_to (map record_of (one ∷ [])) l)) (sym (none_wanted at beyond)) (removed.0, omega (arith, removed.1))
+  ]
+  few_kept (one ∷ next ∷ more) at place eight go is behind_it within filled =
+      let full : in_use one.extents ≡ one.extents = full_used one.extents go.2.1 in
+      let long : length (drop at list) ≡ 8 + length (used_by (next ∷ more)) = ap (λ (l : List Extent). length l) behind_it ∙ length-append (in_use one.extents) (used_by (next ∷ more)) ∙ (λ i. length (full i) + length (used_by (next ∷ more))) ∙ (λ i. eight.0 i + length (used_by (next ∷ more))) in
+      let enough : at + 8 ≤ length list = omega (arith, long, length-drop at list) in
+      let first : OverflowRecord = record { start = length (blocks_of (take at new)); extents = eight_at new at } in
+      let inside : at < length new = omega (arith, enough, least) in
+      let parts : parts_for (length list - at) 8 ≡ suc (parts_for (length list - (at + 8)) 8) = a_part_more (length list) at (omega (arith, enough)) in
+      let later_list : drop (at + 8) list ≡ used_by (next ∷ more) = sym (drop-drop 8 at list) ∙ ap (drop 8) (behind_it ∙ ap (λ (l : List Extent). l ++ used_by (next ∷ more)) full) ∙ past_eight one.extents (used_by (next ∷ more)) eight.0 in
+      subst (λ n. AreFew 1 (changes_to (map record_of (one ∷ next ∷ more)) (records_from n at new))) (sym (a_part_more (length new) at inside))
+      (subst (AreFew 1) (sym (at_same (record_of one) first (map record_of (next ∷ more)) (records_from (parts_for (length new - (at + 8)) 8) (at + 8) new) (starts_alike at place (omega (arith, enough)) is ∙ sym go.0)))
+      (elim (cases_lt (at + 8) (length list)) [
+        | inl stays ↦ none_more 1 (same_extents (record_of one).extents first.extents) first (changes_to (map record_of (next ∷ more)) (records_from (parts_for (length new - (at + 8)) 8) (at + 8) new))
+            (eight_stay at one (used_by (next ∷ more)) (omega (arith, stays)) eight.0 full behind_it)
+            (few_kept (next ∷ more) (at + 8) (place + length (blocks_of one.extents)) eight.1 (subst (λ b. GoOn (place + length (blocks_of one.extents)) b (next ∷ more)) go.2.1 go.2) (counted list one.extents (used_by (next ∷ more)) at place eight.0 is (behind_it ∙ ap (λ (l : List Extent). l ++ used_by (next ∷ more)) full)) later_list enough (omega (arith, filled, parts)))
+        | inr ends ↦ absurd (omega (arith, filled, parts, no_parts (length list - (at + 8)) (omega (arith, ends))))
+      ]))
+
   -- one at most where each record has an extent in use: the last one that has extents
   pub few_filled : (records : List Overflow) (at place : ℕ) → HaveEight records → GoOn place true records → place ≡ length (blocks_of (take at list)) → drop at list ≡ used_by records → at ≤ length list → length new ≡ length list → length records ≡ parts_for (length list - at) 8
       → AreFew 1 (changes_to (map record_of records) (records_from (parts_for (length new - at) 8) at new))

@@ -14,6 +14,7 @@ pub mod CutKept
 pub mod CutSettled
 pub mod CutShrunk
 pub mod CutWhole
+pub mod EmptyRecords
 pub mod ExtentRoom
 pub mod ExtentsEdited
 pub mod ExtentsGrownCalls
@@ -100,6 +101,7 @@ pub mod SpreadStands
 pub mod SpreadStored
 pub mod SpreadTrees
 pub mod Spreads
+pub mod StoreRoom
 pub mod Stripped
 pub mod TakenOut
 pub mod ToDrop

@@ -28,21 +28,21 @@ use Rattle.volume_space.proofs.Spreads.{full_in_use, full_used}
 
 -- ---- the records of a fork
 
-blocks_both : (xs ys : List Extent) → length (blocks_of (xs ++ ys)) ≡ length (blocks_of xs) + length (blocks_of ys)
+pub blocks_both : (xs ys : List Extent) → length (blocks_of (xs ++ ys)) ≡ length (blocks_of xs) + length (blocks_of ys)
 blocks_both xs ys = ap length (flat_map-append (λ (extent : Extent). range_with_len extent.start extent.count) xs ys) ∙ length-append (blocks_of xs) (blocks_of ys)
 
-used_blocks : (xs : List Extent) → AreUsed xs → length xs ≤ length (blocks_of xs)
+pub used_blocks : (xs : List Extent) → AreUsed xs → length xs ≤ length (blocks_of xs)
 used_blocks [] used = omega arith
 used_blocks (x ∷ xs) used = omega (arith, blocks_cons x xs, used.0, used_blocks xs used.1)
 
-full_has_blocks : (xs : List Extent) → is_full xs ≡ true → 0 < length xs → 0 < length (blocks_of xs)
+pub full_has_blocks : (xs : List Extent) → is_full xs ≡ true → 0 < length xs → 0 < length (blocks_of xs)
 full_has_blocks xs full some = omega (arith, some, used_blocks xs (full_used xs full))
 
 one_more : (many : ℕ) (b : Bool) → suc (count_with many b) ≡ count_with (suc many) b
 one_more many true = omega arith
 one_more many false = refl
 
-in_use_few : (xs : List Extent) → length (in_use xs) ≤ length xs
+pub in_use_few : (xs : List Extent) → length (in_use xs) ≤ length xs
 in_use_few [] = omega arith
 in_use_few (x ∷ xs) = by (x.count == 0) (in_use_few xs)
   where
@@ -50,7 +50,7 @@ in_use_few (x ∷ xs) = by (x.count == 0) (in_use_few xs)
     by true less = omega (arith, less)
     by false less = omega (arith, less)
 
-none_wide : (xs : List Extent) → length xs ≡ 0 → length (blocks_of (xs ++ [])) ≡ 0
+pub none_wide : (xs : List Extent) → length xs ≡ 0 → length (blocks_of (xs ++ [])) ≡ 0
 none_wide [] none = refl
 none_wide (x ∷ xs) none = absurd (omega (arith, none))
 

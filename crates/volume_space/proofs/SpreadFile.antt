@@ -53,7 +53,7 @@ use Rattle.volume_base.specs.declared.volume.Volume.{Volume}
 use Rattle.volume_base.proofs.CutForks.{fork_owned, front_few, front_used, full_all}
 use Rattle.volume_base.proofs.CutLists.{extents_used}
 use Rattle.volume_base.proofs.Extending.{overflow_told}
-use Rattle.volume_space.proofs.FewChanges.{AreFew, blocks_both, few, past_eight}
+use Rattle.volume_space.proofs.FewChanges.{AreFew, blocks_both, few, few_kept, past_eight}
 use Rattle.volume_base.proofs.NextDrop.{fork_stands}
 
 -- ---- a file and its forks
@@ -174,6 +174,42 @@ module _ (keep : ℕ) (list : List Extent) (cut : Cut) (last : IsLastCut keep li
         inr (record {
           light = changes.0;
           writes = omega (arith, room, mul-le-mul_right {m = length (changes_to (map record_of records) (records_for (in_use cut.stays)))} {n = 2} (edit_writes store.shape.depth) changes.1);
+        })
+
+    few_once : length records ≡ parts_for (length list - 8) 8 → (b : Bool) → is_full fork.extents.extents ≡ b → AreFew 1 (changes_to (map record_of records) (records_for cut.stays))
+    few_once filled true full =
+        let front_is : in_use fork.extents.extents ≡ fork.extents.extents = full_all fork.extents.extents full in
+        let whole_now : list ≡ fork.extents.extents ++ used_by records = whole ∙ ap (λ (l : List Extent). l ++ used_by records) front_is in
+        few_kept list cut.stays stays_used kept_front.0 kept_front.1 most records 8 (length (blocks_of fork.extents.extents)) (pairs_eight id kind (pairs_of store))
+        (subst (λ b. GoOn (length (blocks_of fork.extents.extents)) b records) full (goes_on_in (overflow_in_store store) id kind fork other goes))
+        (ap (λ (l : List Extent). length (blocks_of l)) (sym (ap (take 8) whole_now ∙ take-append-le 8 fork.extents.extents (used_by records) (omega (arith, eight)) ∙ take_all 8 fork.extents.extents (omega (arith, eight)))))
+        (ap (drop 8) whole_now ∙ past_eight fork.extents.extents (used_by records) eight)
+        (omega (arith, ap (λ (l : List Extent). length l) whole_now, length-append fork.extents.extents (used_by records), eight))
+        filled
+    few_once filled false full =
+        by records (subst (λ b. GoOn (length (blocks_of fork.extents.extents)) b records) full (goes_on_in (overflow_in_store store) id kind fork other goes)) whole
+      where
+        in_few : (xs : List Extent) → length (in_use xs) ≤ length xs
+        in_few [] = omega arith
+        in_few (x ∷ xs) = one (x.count == 0) (in_few xs)
+          where
+            one : (b : Bool) → length (in_use xs) ≤ length xs → length ((if not b then x ∷ [] else []) ++ in_use xs) ≤ length (x ∷ xs)
+            one true less = omega (arith, less)
+            one false less = omega (arith, less)
+
+        by : (more : List Overflow) → GoOn (length (blocks_of fork.extents.extents)) false more → list ≡ in_use fork.extents.extents ++ used_by more → AreFew 1 (changes_to (map record_of more) (records_for cut.stays))
+        by [] on whole_now =
+            let none : parts_for (length cut.stays - 8) 8 ≡ 0 = omega (arith, most, ap (λ (l : List Extent). length l) whole_now, length-append (in_use fork.extents.extents) [], in_few fork.extents.extents, eight) in
+            subst (λ n. AreFew 1 (changes_to [] (records_from n 8 cut.stays))) (sym none) (refl, omega arith)
+        by (one ∷ more) on whole_now = absurd (both_ways false refl on.1)
+
+    -- one change, where each record has an extent in use
+    pub room_once : length records ≡ parts_for (length list - 8) 8 → HasRoom (1 * edit_writes store.shape.depth) store → HasStoreRoom store id kind cut.stays
+    room_once filled room =
+        let changes : AreFew 1 (changes_to (map record_of records) (records_for (in_use cut.stays))) = subst (λ (l : List Extent). AreFew 1 (changes_to (map record_of records) (records_for l))) (sym (all_in_use cut.stays stays_used)) (few_once filled (is_full fork.extents.extents) refl) in
+        inr (record {
+          light = changes.0;
+          writes = omega (arith, room, mul-le-mul_right {m = length (changes_to (map record_of records) (records_for (in_use cut.stays)))} {n = 1} (edit_writes store.shape.depth) changes.1);
         })
 
 -- ---- room, by the numbers of the file

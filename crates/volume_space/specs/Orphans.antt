@@ -16,9 +16,9 @@ use Rattle.hfs_volume.specs.TreeOf.{tree_of}
 use Rattle.hfs_volume.specs.declared.cost.Cost.{Cost}
 use Rattle.hfs_volume.specs.declared.cost.Cost.TheVariants as cost
 use Rattle.hfs_volume.specs.Weight.{free_blocks, room_with}
-use Rattle.volume_runs.specs.Rest.{IsAtRest, cut_puts}
+use Rattle.volume_runs.specs.Rest.{IsAtRest, cut_puts, cuts_emptied}
 use Rattle.volume_base.specs.Changing.{ChangesCatalog}
-use Rattle.volume_space.specs.Cutting.{CutsFile}
+use Rattle.volume_space.specs.Cutting.{CutsFile, changes_in}
 use Rattle.volume_base.specs.Fitting.{is_met}
 use Rattle.volume_base.specs.Lists.{lists_of}
 use Rattle.volume_base.specs.declared.entries.Entry.{Entry}
@@ -151,8 +151,8 @@ HasMade capacity shrunk before after = HasDropped capacity shrunk before after �
 
 -- where these blocks may be taken and so many sectors be put, there is too little room for a step: a cut may put more, and a drop isn't met by what it costs
 abbrev pub IsShort : ℕ → List Bool → ℕ → VolumeState → Reclaim → Type 0
-IsShort capacity free spare volume (CutShrunk id) = spare < cut_puts (room_with capacity (free_blocks volume) volume)
-IsShort capacity free spare volume (CutOrphan id kind) = spare < cut_puts (room_with capacity (free_blocks volume) volume)
+IsShort capacity free spare volume (CutShrunk id) = spare < cut_puts (changes_in (cuts_emptied volume (CutShrunk id))) (room_with capacity (free_blocks volume) volume)
+IsShort capacity free spare volume (CutOrphan id kind) = spare < cut_puts (changes_in (cuts_emptied volume (CutOrphan id kind))) (room_with capacity (free_blocks volume) volume)
 IsShort capacity free spare volume (DropAttribute id name) = is_met (reclaim_cost_with capacity free volume (DropAttribute id name)) spare ≡ false
 IsShort capacity free spare volume (DropOrphan id) = is_met (reclaim_cost_with capacity free volume (DropOrphan id)) spare ≡ false
 

@@ -6,6 +6,7 @@ mod ahead_spread;
 mod awaiting;
 mod cutting;
 mod cutting_ahead;
+mod emptied;
 mod growable;
 mod growable_spread;
 mod growing;

@@ -31,11 +31,12 @@ use hx_bytes::Trouble;
 use sector_disk::SectorSpace;
 use volume_base::Volume;
 
-/// The key of the overflow record of a data fork that begins at a block of it.
-fn data_key(id: u32, start: u32) -> [u8; 12]
-    ensures { IsKeyOf id 0 start result }
+/// The key of the overflow record of a fork of this kind that begins at a block of it. The kind is 0 for data and 255 for resources.
+fn fork_key(kind: u8, id: u32, start: u32) -> [u8; 12]
+    requires { (kind ≡ 0) ⊎ (kind ≡ 255) }
+    ensures { IsKeyOf id kind start result }
 {
-    extent_key(0, id, start)
+    extent_key(kind, id, start)
 }
 
 /// Whether a pair was found.
@@ -48,34 +49,36 @@ fn is_there(found: Found) -> bool
     }
 }
 
-/// Whether an overflow record of a data fork begins at a block of it.
-fn has_record_at<P: SectorSpace>(
+/// Whether an overflow record of a fork of this kind begins at a block of it.
+pub(crate) fn has_record_at<P: SectorSpace>(
     tree: &mut TreeFile,
     desk: &mut Desk,
     space: &mut P,
+    kind: u8,
     id: u32,
     start: u32,
 ) -> Result<bool, Trouble>
+    requires kind { (kind ≡ 0) ⊎ (kind ≡ 255) }
     requires desk { IsDeskOf (numbers_of tree.old).node_size desk.old }
     requires inside { LiesInside tree.old (P.SectorView.space space.old) }
     requires open { LiesOpen tree.old (P.SectorView.space space.old) }
     requires holds { IsTrue (P.SectorView.space space.old).tells → HoldsTree extents_form IsExtentKey is_eight_extents extent_cmp tree.old (P.SectorView.space space.old).content }
     requires whole { IsTrue (P.SectorView.space space.old).tells → AreWhole (P.SectorView.space space.old).content }
-    ensures found { IsTrue (P.SectorView.space space.old).tells → IfOk result (λ there. there ≡ has_start start (kept (is_of id 0) (map overflow_of (pairs_in (sectors_of_tree tree.old) (P.SectorView.space space.old).content)))) }
+    ensures found { IsTrue (P.SectorView.space space.old).tells → IfOk result (λ there. there ≡ has_start start (kept (is_of id kind) (map overflow_of (pairs_in (sectors_of_tree tree.old) (P.SectorView.space space.old).content)))) }
     ensures keeps { KeepsFile (P.SectorView.space space.old).tells tree.old tree.new }
     ensures looks { Looks (λ s. Contains (sectors_of_tree tree.old) s) (P.SectorView.space space.old) (P.SectorView.space space.new) }
     ensures desk { IsDeskOf (numbers_of tree.new).node_size desk.new }
     ensures below { P.SectorView.follows space.old space.new }
     ensures cause { HasTroubleCause (P.SectorView.space space.old).faults (P.SectorView.space space.new).faults result }
 {
-    let key = data_key(id, start);
+    let key = fork_key(kind, id, start);
     let mut on = TreeOn { tree, space };
     let found = find::<TreeOn<P>, ExtentOrder>(&mut on, desk, &key)?;
     Ok(is_there(found))
 }
 
 /// Whether a fork of so many extents may have an overflow record without one: the others are full then.
-fn may_have_more(extents: usize) -> bool
+pub(crate) fn may_have_more(extents: usize) -> bool
     ensures { result ≡ false → (extents < 8) ⊎ (extents % 8 ≢ 0) }
 {
     if extents < 8 {
@@ -96,7 +99,7 @@ fn count_with(many: u64, one_more: bool) -> u64
 }
 
 /// A count of blocks as a fork may have it.
-fn as_start(blocks: u128) -> Option<u32>
+pub(crate) fn as_start(blocks: u128) -> Option<u32>
     ensures { IfSome result (λ start. start ≡ blocks) }
 {
     if blocks > 0xFFFF_FFFF {
@@ -137,6 +140,7 @@ pub(crate) fn count_records<P: SectorSpace>(
         &mut volume.extents.file,
         &mut volume.extents.desk,
         space,
+        0,
         id,
         start,
     )?;

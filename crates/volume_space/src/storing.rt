@@ -19,7 +19,7 @@ ghost use Rattle.hfs_volume.specs.Records.{overflow_of};
 ghost use Rattle.overflow.specs.Reading.{HasExtents, fork_records};
 ghost use Rattle.overflow.specs.Room.{HasStoreRoom};
 ghost use Rattle.volume_cost.specs.Sizes.{AreSmall};
-ghost use Rattle.volume_space.specs.Cutting.{IsForkOf, kind_of, spread_load};
+ghost use Rattle.volume_space.specs.Cutting.{IsForkOf, changes_in, kind_of, spread_load};
 ghost use Rattle.volume_base.specs.Lists.{lists_of};
 ghost use Rattle.volume_base.specs.Looking.{ReadsVolume};
 ghost use Rattle.volume_base.specs.Reading.{HasFile};
@@ -186,23 +186,33 @@ pub(crate) fn store_records<P: SectorSpace>(
     store_fork(alloc, &mut on, desk, id, kind, old, new)
 }
 
-/// How many sectors of the extents overflow file two changes of its records put at most.
-pub(crate) fn count_spread_sectors(volume: &Volume) -> u64
-    ensures same { result ≡ spread_load volume.now }
+/// How many nodes the changes of records that a cut makes put at most in a tree with these numbers.
+fn count_cut_nodes(shape: TreeShape, emptied: bool) -> u64
+    ensures { result ≡ min (changes_in emptied * edit_writes shape.depth) shape.total }
+{
+    if emptied {
+        return count_nodes(shape);
+    }
+    (4 * (u64::from(shape.depth) + 1) + 4).min(u64::from(shape.total))
+}
+
+/// How many sectors of the extents overflow file the changes that a cut makes put at most.
+pub(crate) fn count_spread_sectors(volume: &Volume, emptied: bool) -> u64
+    ensures same { result ≡ spread_load emptied volume.now }
     ensures few { result < 2 ^ 60 }
 {
     let shape = volume.extents.file.shape();
-    u64::from(shape.node_size / 512) * count_nodes(shape)
+    u64::from(shape.node_size / 512) * count_cut_nodes(shape, emptied)
 }
 
-/// Whether there is room for two changes of overflow records that add none.
-pub(crate) fn fits_spread<P: SectorSpace>(volume: &Volume, space: &P) -> bool
-    ensures { IsTrue result → (names : List ℕ) → HasRoom (2 * edit_writes volume.now.extents.file.shape.depth) (state_of names volume.now.extents.file (P.SectorView.space space.now)) }
+/// Whether there is room for the changes of overflow records that a cut makes, which add none.
+pub(crate) fn fits_spread<P: SectorSpace>(volume: &Volume, space: &P, emptied: bool) -> bool
+    ensures { IsTrue result → (names : List ℕ) → HasRoom (changes_in emptied * edit_writes volume.now.extents.file.shape.depth) (state_of names volume.now.extents.file (P.SectorView.space space.now)) }
 {
     let shape = volume.extents.file.shape();
     fit_nodes(
         u64::from(shape.node_size / 512),
-        count_nodes(shape),
+        count_cut_nodes(shape, emptied),
         space.spare(),
     )
 }

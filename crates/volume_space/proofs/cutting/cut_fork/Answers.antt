@@ -29,7 +29,8 @@ use Rattle.volume_space.proofs.CutWhole.{cut_whole}
 use Rattle.volume_base.proofs.FoundEntry.{ok_both, settled_spelled}
 use Rattle.volume_space.proofs.KeptUsed.{used_blocks, used_both}
 use Rattle.volume_base.proofs.Seeing.{cause_since}
-use Rattle.volume_space.proofs.SpreadFile.{blocks_stored, eight_in, few_stay, has_extents, has_file, kind_is, stays_in_use, store_room}
+use Rattle.volume_space.proofs.SpreadFile.{blocks_stored, eight_in, few_stay, has_extents, has_file, kind_is, stays_in_use}
+use Rattle.volume_space.proofs.StoreRoom.{store_room_by}
 use Rattle.volume_space.proofs.cutting.cut_fork.Goals as goal
 
 -- ---- the overflow records
@@ -51,14 +52,14 @@ pub store_extents-requires-clause-room : goal.store_extents-requires-clause-room
 store_extents-requires-clause-room g c names tells =
     let before : IsTrue (g.P.SectorView.space c.args.space.now).tells = sym (c.put_back.ensures.touches []).same.tells ∙ tells in
     let holds = (c.in_ok-put_back.ensures.stands.stands tells).trees.extents in
-    store_room c.args.volume.now (g.P.SectorView.space c.args.space.now).content (c.requires.settled before) c.args.kind c.args.file.now
+    store_room_by c.args.volume.now (g.P.SectorView.space c.args.space.now).content (c.requires.settled before) c.args.kind c.args.file.now
     (has_file c.args.volume.now (g.P.SectorView.space c.args.space.now).content (c.requires.settled before) c.args.entry.now c.args.file.now (c.requires.there before) c.requires.is) (eight_in c.args.kind c.args.file.now c.requires.fits) c.args.list.now (c.requires.list before)
-    c.args._keep c.args.cut.now c.requires.cut.last (state_of names c.put_back.new.volume.extents.file (g.P.SectorView.space c.put_back.new.space)) c.number_of.result c.number_of.ensures.same
+    c.args.emptied c.args._keep c.args.cut.now c.requires.cut.last (state_of names c.put_back.new.volume.extents.file (g.P.SectorView.space c.put_back.new.space)) c.number_of.result c.number_of.ensures.same
     (ap (map overflow_of) (pairs_held extents_form IsExtentKey is_eight_extents extent_cmp names c.put_back.new.volume.extents.file (g.P.SectorView.space c.put_back.new.space) holds)
     ∙ ap (λ (l : VolumeState). map overflow_of l.overflow_pairs) (c.in_ok-put_back.ensures.puts before).lists
     ∙ ap (λ (x : Volume). map overflow_of (lists_of x (g.P.SectorView.space c.args.space.now).content).overflow_pairs) c.in_ok-put_back.ensures.gives
     ∙ sym (ap (λ (l : VolumeState). map overflow_of l.overflow_pairs) (c.requires.settled before).lists))
-    c.requires.number (c.fits_spread.ensures c.if-not-fits_spread.false names)
+    c.requires.number (c.requires.emptied before) (c.fits_spread.ensures c.if-not-fits_spread.false names)
 
 -- ---- the file's record
 

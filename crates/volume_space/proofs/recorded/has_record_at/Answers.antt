@@ -17,8 +17,8 @@ find-requires-clause-tree g c tells = tree_held extents_form IsExtentKey is_eigh
 
 pub returns-clause-found : goal.returns-clause-found
 returns-clause-found g c tells =
-    c.is_there.ensures ∙ found_start c.args.id 0 c.args.start c.data_key-key.result c.data_key-key.ensures _ c.find.new.desk c.in_ok-found.found (c.in_ok-found.ensures.found tells)
-    ∙ ap (λ (l : List Pair). has_start c.args.start (kept (is_of c.args.id 0) (map overflow_of l))) (pairs_held extents_form IsExtentKey is_eight_extents extent_cmp [] c.args.tree.now (g.P.SectorView.space c.args.space.now) (c.requires.holds tells))
+    c.is_there.ensures ∙ found_start c.args.id c.args.kind c.args.start c.fork_key-key.result c.fork_key-key.ensures _ c.find.new.desk c.in_ok-found.found (c.in_ok-found.ensures.found tells)
+    ∙ ap (λ (l : List Pair). has_start c.args.start (kept (is_of c.args.id c.args.kind) (map overflow_of l))) (pairs_held extents_form IsExtentKey is_eight_extents extent_cmp [] c.args.tree.now (g.P.SectorView.space c.args.space.now) (c.requires.holds tells))
 
 pub returns-clause-keeps : goal.returns-clause-keeps
 returns-clause-keeps g c =
