@@ -73,44 +73,44 @@ some_data v put size from long at some longer = subst (λ n. 0 < n) (sym (fresh_
 module _ (v : Volume) (content : Content) (settled : IsSettled v content) (capacity : ℕ) (tree : PlainTree) (path : List (List ℕ)) (put : Data) (no_cut : needs_cut (volume_of content) (Some put) ≡ false)
     (filled : AreFilled (volume_of content) put.id (length (file_extents (volume_of content) put.id data_kind))) (some : 0 < fresh_blocks v put) (n : ℕ) (grow : List ℕ)
   where
-  head_is : (volume_of content).head ≡ v.header
-  head_is = ap (λ (l : VolumeState). l.head) settled.lists
+    head_is : (volume_of content).head ≡ v.header
+    head_is = ap (λ (l : VolumeState). l.head) settled.lists
 
-  edits_are : edits_needed (free_of v.map) (volume_of content) put ≡ records_held (volume_of content) put.id + overflow_records (length (file_extents (volume_of content) put.id data_kind) + 1 + fresh_runs v put)
-  edits_are =
-      (λ i. extents_edits (length (file_extents (volume_of content) put.id data_kind)) (fewest_of (new_blocks_of (head_is i).block_size put) (free_runs (free_of v.map))) (new_blocks_of (head_is i).block_size put))
-      ∙ ap (λ b. if b then 0 else overflow_records (length (file_extents (volume_of content) put.id data_kind)) + overflow_records (length (file_extents (volume_of content) put.id data_kind) + 1 + fresh_runs v put))
-      (ne_eqb (fresh_blocks v put) 0 (λ none. absurd (omega (arith, none, some))))
-      ∙ ap (λ k. k + overflow_records (length (file_extents (volume_of content) put.id data_kind) + 1 + fresh_runs v put)) (sym filled)
+    edits_are : edits_needed (free_of v.map) (volume_of content) put ≡ records_held (volume_of content) put.id + overflow_records (length (file_extents (volume_of content) put.id data_kind) + 1 + fresh_runs v put)
+    edits_are =
+        (λ i. extents_edits (length (file_extents (volume_of content) put.id data_kind)) (fewest_of (new_blocks_of (head_is i).block_size put) (free_runs (free_of v.map))) (new_blocks_of (head_is i).block_size put))
+        ∙ ap (λ b. if b then 0 else overflow_records (length (file_extents (volume_of content) put.id data_kind)) + overflow_records (length (file_extents (volume_of content) put.id data_kind) + 1 + fresh_runs v put))
+        (ne_eqb (fresh_blocks v put) 0 (λ none. absurd (omega (arith, none, some))))
+        ∙ ap (λ k. k + overflow_records (length (file_extents (volume_of content) put.id data_kind) + 1 + fresh_runs v put)) (sym filled)
 
-  edits_same : tree_load extents_key (cost_of_shape (volume_of content).extents_tree.shape) (edits_needed (free_of v.map) (volume_of content) put) 0 ≡ records_load v (volume_of content) put
-  edits_same = λ i. edits_load (ap (λ (l : VolumeState). l.extents_tree.shape) settled.lists i) (edits_are i)
+    edits_same : tree_load extents_key (cost_of_shape (volume_of content).extents_tree.shape) (edits_needed (free_of v.map) (volume_of content) put) 0 ≡ records_load v (volume_of content) put
+    edits_same = λ i. edits_load (ap (λ (l : VolumeState). l.extents_tree.shape) settled.lists i) (edits_are i)
 
-  loaded : counted (free_of v.map) (volume_of content) put + tree_load extents_key (cost_of_shape (volume_of content).extents_tree.shape) (edits_needed (free_of v.map) (volume_of content) put) 0 ≤ n → data_load v put + records_load v (volume_of content) put ≤ n
-  loaded low = omega (
-    arith,
-    low,
-    load_same,
-    edits_same,
-  )
-    where
-      load_same : counted (free_of v.map) (volume_of content) put ≡ data_load v put
-      load_same =
-          (λ i. 1 + ap (λ (l : VolumeState). l.catalog_tree.shape.node_size / 512) settled.lists i
-          + min (parts_for (head_is i).total_blocks 4096) (new_blocks_of (head_is i).block_size put / 4096 + 2 * fewest_of (new_blocks_of (head_is i).block_size put) (free_runs (free_of v.map)) + old_blocks_of (head_is i).block_size put))
-          ∙ ap (λ k. 1 + catalog_node v + min k (new_blocks_of v.header.block_size put / 4096 + 2 * fewest_of (new_blocks_of v.header.block_size put) (free_runs (free_of v.map)) + old_blocks_of v.header.block_size put))
-          (let sizes : parts_for v.header.total_blocks 4096 ≡ sectors_for (length v.map.used) = omega (arith, settled.blocks) in sizes)
+    loaded : counted (free_of v.map) (volume_of content) put + tree_load extents_key (cost_of_shape (volume_of content).extents_tree.shape) (edits_needed (free_of v.map) (volume_of content) put) 0 ≤ n → data_load v put + records_load v (volume_of content) put ≤ n
+    loaded low = omega (
+      arith,
+      low,
+      load_same,
+      edits_same,
+    )
+      where
+        load_same : counted (free_of v.map) (volume_of content) put ≡ data_load v put
+        load_same =
+            (λ i. 1 + ap (λ (l : VolumeState). l.catalog_tree.shape.node_size / 512) settled.lists i
+            + min (parts_for (head_is i).total_blocks 4096) (new_blocks_of (head_is i).block_size put / 4096 + 2 * fewest_of (new_blocks_of (head_is i).block_size put) (free_runs (free_of v.map)) + old_blocks_of (head_is i).block_size put))
+            ∙ ap (λ k. 1 + catalog_node v + min k (new_blocks_of v.header.block_size put / 4096 + 2 * fewest_of (new_blocks_of v.header.block_size put) (free_runs (free_of v.map)) + old_blocks_of v.header.block_size put))
+            (let sizes : parts_for v.header.total_blocks 4096 ≡ sectors_for (length v.map.used) = omega (arith, settled.blocks) in sizes)
 
-  by_cost : (d : Option Data) → d ≡ Some put → put_cost capacity (free_of v.map) (volume_of content) d ≡ cost.Load n grow → data_load v put + records_load v (volume_of content) put ≤ n
-  by_cost d has is =
-      loaded (data_counts (free_of v.map) capacity (volume_of content) put n grow
-      (sym (ap (λ b. if b then cut_cost (room_with capacity (free_of v.map) (volume_of content)) else cost_of (needs_for (free_of v.map) (volume_of content) (edits 0 0 0 1) (Some put)) (room_with capacity (free_of v.map) (volume_of content))) no_cut)
-      ∙ sym (ap (λ (o : Option Data). put_cost capacity (free_of v.map) (volume_of content) o) has) ∙ is))
+    by_cost : (d : Option Data) → d ≡ Some put → put_cost capacity (free_of v.map) (volume_of content) d ≡ cost.Load n grow → data_load v put + records_load v (volume_of content) put ≤ n
+    by_cost d has is =
+        loaded (data_counts (free_of v.map) capacity (volume_of content) put n grow
+        (sym (ap (λ b. if b then cut_cost (room_with capacity (free_of v.map) (volume_of content)) else cost_of (needs_for (free_of v.map) (volume_of content) (edits 0 0 0 1) (Some put)) (room_with capacity (free_of v.map) (volume_of content))) no_cut)
+        ∙ sym (ap (λ (o : Option Data). put_cost capacity (free_of v.map) (volume_of content) o) has) ∙ is))
 
-  pub write_loaded : (from : ℕ) (value : List ℕ) → data_of tree (command.Write path from value) ≡ Some put → weight_with capacity (free_of v.map) (volume_of content) tree (command.Write path from value) ≡ cost.Load n grow → data_load v put + records_load v (volume_of content) put ≤ n
-  unfolding weight_with
-  write_loaded from value has is = by_cost (data_of tree (command.Write path from value)) has is
+    pub write_loaded : (from : ℕ) (value : List ℕ) → data_of tree (command.Write path from value) ≡ Some put → weight_with capacity (free_of v.map) (volume_of content) tree (command.Write path from value) ≡ cost.Load n grow → data_load v put + records_load v (volume_of content) put ≤ n
+    unfolding weight_with
+    write_loaded from value has is = by_cost (data_of tree (command.Write path from value)) has is
 
-  pub trunc_loaded : (size : ℕ) → data_of tree (command.Trunc path size) ≡ Some put → weight_with capacity (free_of v.map) (volume_of content) tree (command.Trunc path size) ≡ cost.Load n grow → data_load v put + records_load v (volume_of content) put ≤ n
-  unfolding weight_with
-  trunc_loaded size has is = by_cost (data_of tree (command.Trunc path size)) has is
+    pub trunc_loaded : (size : ℕ) → data_of tree (command.Trunc path size) ≡ Some put → weight_with capacity (free_of v.map) (volume_of content) tree (command.Trunc path size) ≡ cost.Load n grow → data_load v put + records_load v (volume_of content) put ≤ n
+    unfolding weight_with
+    trunc_loaded size has is = by_cost (data_of tree (command.Trunc path size)) has is
