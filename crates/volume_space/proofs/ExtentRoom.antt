@@ -1,5 +1,5 @@
 -- The room for edits of the extents overflow file: how many edits a fork's records are, and what their cost tells.
-use Rattle.std.proofs.Common.{◌≡◌, ◌≢◌, ◌⊎◌, inl, inr, ◌<◌, ◌≤◌, ℕ, zero, suc, ◌+◌, ◌-◌, ◌*◌, ◌/◌, ◌^◌, ◌==◌, Bool, true, false, List, [], ◌∷◌, ◌++◌, length, map, refl, sym, ◌∙◌, ap, subst, arith, length-append}
+use Rattle.std.proofs.Common.{◌≡◌, ◌≢◌, inl, inr, ◌<◌, ◌≤◌, ℕ, zero, suc, ◌+◌, ◌-◌, ◌^◌, ◌==◌, Bool, true, false, List, [], ◌∷◌, ◌++◌, length, map, refl, sym, ◌∙◌, ap, subst, arith, length-append}
 use Rattle.std.specs.Prelude.{◌&&◌, ◌||◌, not, nat_le, nat_lt, slice_index, IsTrue, if◌then◌else◌}
 use Rattle.std.specs.List.{range_with_len}
 use Rattle.std.proofs.lemmas.Bool.{and_parts, eqb-true, leb-true, ltb-false, ne_eqb, true≢false}
@@ -14,8 +14,7 @@ use Rattle.btree_edit.specs.Edits.{EditRoom}
 use Rattle.btree_edit.proofs.EditLaws.{room_first}
 use Rattle.btree_file.specs.FrameLaws.{state_well_formed}
 use Rattle.btree_file.specs.State.{is_written, state_of}
-use Rattle.btree_file.specs.declared.tree.TreeFile.{TreeFile}
-use Rattle.hfs_volume.specs.Cost.{cost_of, depth_of, extents_key, growth, is_too_deep, plan_of, rises, takes_extent, tree_at}
+use Rattle.hfs_volume.specs.Cost.{cost_of, depth_of, extents_key, growth, is_too_deep, rises, takes_extent, tree_at}
 use Rattle.hfs_volume.specs.Forks.{in_use, parts_for}
 use Rattle.hfs_volume.specs.declared.cost.Cost.{Cost}
 use Rattle.hfs_volume.specs.declared.cost.Cost.TheVariants as cost
@@ -24,12 +23,11 @@ use Rattle.hfs_volume.specs.declared.cost.Room.{Room}
 use Rattle.hfs_volume.specs.declared.cost.TreeCost.{TreeCost}
 use Rattle.overflow.specs.Changes.{behind_front, change_at, changes_to, front_before, past, same_extents}
 use Rattle.overflow.specs.Reading.{fork_records}
-use Rattle.overflow.specs.Records.{eight_at, record_of, records_for, records_from}
+use Rattle.overflow.specs.Records.{record_of, records_for, records_from}
 use Rattle.overflow.specs.Room.{HasStoreRoom, edits_for}
-use Rattle.overflow.specs.declared.changes.Change.{Change}
 use Rattle.overflow.specs.declared.changes.Change.TheVariants.{Remove, Insert, Replace}
 use Rattle.overflow.specs.declared.record.OverflowRecord.{OverflowRecord}
-use Rattle.tree_weights.specs.Weights.{CommandsHaveRoom, HasGrown, IsAfforded, IsWrittenByGrowth, LoadIsOfParts, LoadSaysEnough, load_at}
+use Rattle.tree_weights.specs.Weights.{CommandsHaveRoom, HasGrown, IsAfforded, IsWrittenByGrowth, LoadIsOfParts, LoadSaysEnough}
 use Rattle.volume_base.specs.Room.{room_on}
 use Rattle.volume_space.specs.Spreading.{is_met_extents, needs_extents}
 use Rattle.volume_base.specs.declared.room.FreeBlocks.{FreeBlocks}
@@ -101,7 +99,7 @@ store_room_by store id kind records new edits has used enough tells room =
 
 -- ---- the room for edits, by what they cost
 
-some_node : (size : ℕ) → IsNodeSize size → 512 ≤ size
+pub some_node : (size : ℕ) → IsNodeSize size → 512 ≤ size
 some_node size (inl is) = omega (arith, is)
 some_node size (inr (inl is)) = omega (arith, is)
 some_node size (inr (inr (inl is))) = omega (arith, is)

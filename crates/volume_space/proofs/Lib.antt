@@ -15,6 +15,7 @@ pub mod CutSettled
 pub mod CutShrunk
 pub mod CutWhole
 pub mod EmptyRecords
+pub mod EditsTaken
 pub mod ExtentRoom
 pub mod ExtentsEdited
 pub mod ExtentsGrownCalls

@@ -11,13 +11,15 @@ use Rattle.sector_disk.specs.Space.{Space}
 use Rattle.volume_header.specs.declared.header.VolumeHeader.{VolumeHeader}
 use Rattle.std.specs.Prelude.{Option, None, Some}
 use Rattle.hfs_volume.specs.Content.{VolumeState}
+use Rattle.hfs_volume.specs.Cost.{overflow_records}
 use Rattle.hfs_volume.specs.Forks.{data_kind}
 use Rattle.hfs_volume.specs.Weight.{Data, file_extents, free_runs, needs_cut, new_blocks_of, old_blocks_of}
 use Rattle.volume_base.specs.Changing.{catalog_node}
 use Rattle.volume_base.specs.Keeping.{Keeps}
 use Rattle.volume_base.specs.Looking.{ReadsVolume}
 use Rattle.volume_space.specs.Spilling.{IsLaidOutAs}
-use Rattle.volume_space.specs.Writing.{PutsAt, PutsValue, blocks_put, can_put, data_load, has_more, is_put_now, may_overflow, put_load}
+use Rattle.volume_space.specs.Spreading.{edits_load}
+use Rattle.volume_space.specs.Writing.{PutsAt, PutsValue, blocks_put, can_put, data_load, has_more, is_put_now, may_overflow, most_extents, put_load, spread_put_load}
 use Rattle.volume_base.specs.declared.volume.Volume.{Volume}
 
 -- The same header, the same blocks used and held, and nodes of the same size.
@@ -55,6 +57,9 @@ module _ (v u : Volume) (like : IsAlike v u) where
 
     pub fewest_still : fewest_of (blocks_put u size from long) (free_runs (free_of u.map)) ≡ fewest_of (blocks_put v size from long) (free_runs (free_of v.map))
     fewest_still = λ i. fewest_of (put_alike i) (free_runs (free_alike i))
+
+    pub spread_alike : (records_then records extents_then extents : ℕ) → u.extents.file.shape ≡ v.extents.file.shape → records_then ≡ records → extents_then ≡ extents → spread_put_load u records_then extents_then size from long ≡ spread_put_load v records extents size from long
+    spread_alike records_then records extents_then extents shape counts manys = λ i. edits_load (shape i) (counts i + overflow_records (most_extents (manys i) (fewest_still i)))
 
     pub can_alike : (spare extents total : ℕ) → can_put u spare extents total size from long ≡ can_put v spare extents total size from long
     can_alike spare extents total =

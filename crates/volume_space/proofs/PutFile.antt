@@ -1,5 +1,5 @@
 -- The file of a node that isn't a folder, as data is put into it: its record, by its CNID, and its size.
-use Rattle.std.proofs.Common.{◌≡◌, ◌<◌, ◌≤◌, ℕ, ◌+◌, true, false, List, length, refl, sym, ◌∙◌, ap, subst, arith}
+use Rattle.std.proofs.Common.{◌≡◌, ◌<◌, ℕ, ◌+◌, true, false, List, length, refl, sym, ◌∙◌, ap, subst, arith}
 use Rattle.std.specs.Prelude.{Contains, IsTrue, Some}
 use Rattle.sector_disk.specs.Space.{Space}
 use Rattle.catalog.specs.Pairs.{value_at}
@@ -15,14 +15,15 @@ use Rattle.hfs_volume.specs.TreeOf.{file_bytes, tree_of}
 use Rattle.alloc_bitmap.specs.Map.{free_of}
 use Rattle.file_io.specs.Places.{blocks_for}
 use Rattle.flag_rows.specs.Runs.{fewest_of}
-use Rattle.hfs_volume.specs.Forks.{data_kind}
-use Rattle.hfs_volume.specs.Weight.{Data, file_extents, free_runs, needs_cut}
+use Rattle.hfs_volume.specs.Cost.{overflow_records}
+use Rattle.hfs_volume.specs.Weight.{Data, free_runs, needs_cut}
 use Rattle.hfs_volume.proofs.Hiding.{same_entry}
 use Rattle.volume_base.specs.Lists.{lists_of}
 use Rattle.volume_base.specs.Reading.{HasFile}
 use Rattle.volume_base.specs.Standing.{IsSettled, StandsOver}
 use Rattle.volume_space.specs.Recording.{records_held}
-use Rattle.volume_space.specs.Writing.{IsAt, IsToldFile, blocks_put, can_put, data_load, extents_in, fresh_runs, has_more, is_data_met, is_put_met, is_put_now, may_overflow, put_load}
+use Rattle.volume_space.specs.Spreading.{edits_load}
+use Rattle.volume_space.specs.Writing.{IsAt, IsToldFile, can_put, data_load, extents_in, has_more, is_data_met, is_put_met, is_put_now, put_load, records_load, spread_put_load}
 use Rattle.volume_base.specs.declared.entries.Entry.{Entry}
 use Rattle.volume_base.specs.declared.volume.Volume.{Volume}
 use Rattle.volume_base.proofs.FileBytes.{bytes_long}
@@ -94,14 +95,6 @@ module _ (v : Volume) (a : Space) (holds : StandsOver v a) (tells : IsTrue a.tel
     cut_is put from long number at =
         surplus v a.content settled file has_it put from long (number ∙ sym number_is) (subst (λ n. IsAt put n from (from + long)) long_is at) (omega (arith, holds.service.least))
 
-    -- whether its record may not hold its extents then
-    pub over_is : (put : Data) (from long : ℕ) → put.id ≡ node.id → IsAt put (length node.bytes) from (from + long)
-        → may_overflow (length (extents_in a.content file)) (fewest_of (blocks_put v file.data_fork.logical_size from long) (free_runs (free_of v.map))) ≡ may_overflow (length (file_extents (volume_of a.content) put.id data_kind)) (fresh_runs v put)
-    over_is put from long number at =
-        let here : IsAt put file.data_fork.logical_size from (from + long) = subst (λ n. IsAt put n from (from + long)) long_is at in
-        λ i. may_overflow (many v a.content settled file has_it put from long (number ∙ sym number_is) here (omega (arith, holds.service.least)) i)
-        (fewest_of (sym (fresh_is put file.data_fork.logical_size from (from + long) v.header.block_size here (omega (arith, holds.service.least))) i) (free_runs (free_of v.map)))
-
     -- where it is met by what it costs, the numbers of the put are
     pub data_met : (put : Data) (from long : ℕ) → put.id ≡ node.id → IsAt put (length node.bytes) from (from + long) → 0 < long → (spare : ℕ) → is_data_met v spare (volume_of a.content) (Some put) ≡ true
         → is_put_met v (volume_of a.content) spare (records_held (volume_of a.content) file.fields.id) (length (extents_in a.content file)) file.data_fork.total_blocks file.data_fork.logical_size from long ≡ true
@@ -111,6 +104,15 @@ module _ (v : Volume) (a : Space) (holds : StandsOver v a) (tells : IsTrue a.tel
     -- and what it loads
     pub load_now : (put : Data) (from long : ℕ) → IsAt put (length node.bytes) from (from + long) → put_load v file.data_fork.logical_size from long ≡ data_load v put
     load_now put from long at = load_is v put file.data_fork.logical_size from long (subst (λ n. IsAt put n from (from + long)) long_is at) (omega (arith, holds.service.least))
+
+    -- and what it loads for the records of its fork
+    pub records_now : (put : Data) (from long : ℕ) → put.id ≡ node.id → IsAt put (length node.bytes) from (from + long)
+        → spread_put_load v (records_held (volume_of a.content) file.fields.id) (length (extents_in a.content file)) file.data_fork.logical_size from long ≡ records_load v (volume_of a.content) put
+    records_now put from long number at =
+        let here : IsAt put file.data_fork.logical_size from (from + long) = subst (λ n. IsAt put n from (from + long)) long_is at in
+        λ i. edits_load v.extents.file.shape (records_held (volume_of a.content) (sym (number ∙ sym number_is) i)
+        + overflow_records (many v a.content settled file has_it put from long (number ∙ sym number_is) here (omega (arith, holds.service.least)) i
+        + 1 + fewest_of (sym (fresh_is put file.data_fork.logical_size from (from + long) v.header.block_size here (omega (arith, holds.service.least))) i) (free_runs (free_of v.map))))
 
 -- the file is the same one behind a keep, or a read
 pub same_files : (v k : Volume) (a : Space) (holds : StandsOver v a) (held : StandsOver k a) (tells : IsTrue a.tells) (settled : IsSettled v a.content) (kept : IsSettled k a.content) (node : PlainNode) (stands : Contains (tree_of a.content).nodes node) (kind : node.folder ≡ false)

@@ -1,10 +1,9 @@
 -- Where a put of data is met by what it costs of the blocks that may be taken, it is one that can be made now.
-use Rattle.std.proofs.Common.{◌≡◌, ◌≢◌, ◌<◌, ◌≤◌, ℕ, ◌+◌, ◌-◌, ◌*◌, ◌/◌, ◌==◌, ◌&&◌, ◌||◌, not, min, nat_le, Bool, true, false, List, [], ◌∷◌, length, refl, sym, ◌∙◌, ap, subst, arith}
-use Rattle.std.specs.Prelude.{nat_lt, slice_index, IsTrue, Option, None, Some, if◌then◌else◌}
-use Rattle.std.proofs.lemmas.Bool.{and_parts, cases_eq, eqb-true, leb-true, le-leb, ltb-false, ltb-true, ne_eqb, not-true, true≢false}
+use Rattle.std.proofs.Common.{◌≡◌, ◌≢◌, ◌<◌, ◌≤◌, ℕ, ◌+◌, ◌-◌, ◌*◌, ◌/◌, ◌==◌, ◌&&◌, ◌||◌, not, min, nat_le, Bool, true, false, List, length, refl, sym, ◌∙◌, ap, arith}
+use Rattle.std.specs.Prelude.{nat_lt, slice_index, Option, None, Some, if◌then◌else◌}
+use Rattle.std.proofs.lemmas.Bool.{and_parts, eqb-true, leb-true, le-leb, ltb-false, ne_eqb, not-true, true≢false}
 use Rattle.std.proofs.lemmas.Nat.{div_below}
 use Rattle.sector_disk.specs.Lists.{Content}
-use Rattle.sector_disk.specs.Space.{Space}
 use Rattle.volume_header.specs.declared.header.VolumeHeader.{VolumeHeader}
 use Rattle.flag_rows.specs.Bits.{count_set, sectors_for}
 use Rattle.flag_rows.specs.Runs.{fewest_of}
@@ -13,14 +12,13 @@ use Rattle.cat_records.specs.declared.record.FileRecord.{FileRecord}
 use Rattle.file_io.specs.Places.{blocks_for, first_block, new_blocks, old_end}
 use Rattle.file_io.proofs.PlaceLaws.{blocks_hold}
 use Rattle.hfs_volume.specs.Content.{VolumeState, records_of, volume_of}
-use Rattle.hfs_volume.specs.Cost.{cost_of, depth_of, extents_key, is_too_deep, load_of, overflow_records, plan_of, resource_refusal, rises, tree_at}
+use Rattle.hfs_volume.specs.Cost.{cost_of, depth_of, extents_key, load_of, overflow_records, plan_of, rises, tree_at}
 use Rattle.hfs_volume.specs.Forks.{data_kind, parts_for}
-use Rattle.hfs_volume.specs.Weight.{Data, edits, extents_edits, file_extents, free_runs, needs_cut, new_blocks_of, old_blocks_of, room_with}
+use Rattle.hfs_volume.specs.Weight.{Data, extents_edits, file_extents, free_runs, needs_cut, new_blocks_of, old_blocks_of, room_with}
 use Rattle.hfs_volume.specs.declared.cost.Cost.{Cost}
 use Rattle.hfs_volume.specs.declared.cost.Cost.TheVariants as cost
 use Rattle.hfs_volume.specs.declared.cost.Needs.{Needs}
 use Rattle.hfs_volume.specs.declared.cost.Room.{Room}
-use Rattle.hfs_volume.specs.declared.cost.TreeCost.{TreeCost}
 use Rattle.tree_weights.specs.Weights.{LoadSaysEnough}
 use Rattle.volume_base.specs.Changing.{catalog_node}
 use Rattle.volume_base.specs.DataWeighing.{needs_data}
@@ -175,7 +173,7 @@ data_met_alike v u like capacity spare lists (Some put) =
 -- ---- the data of a command
 
 -- some bytes take a block at least
-some_fresh : (block size from long : ℕ) → 0 < block → 0 < long → 0 < new_blocks block size from (from + long)
+pub some_fresh : (block size from long : ℕ) → 0 < block → 0 < long → 0 < new_blocks block size from (from + long)
 some_fresh block size from long some longer =
     let before = div_below (min from size) block (blocks_for block (from + long)) some (omega (arith, blocks_hold block (from + long) some, longer)) in
     omega (arith, before)

@@ -8,13 +8,16 @@ use Rattle.jnl_format.specs.Recovery.{header_of_volume}
 use Rattle.sector_disk.specs.Lists.{Content}
 use Rattle.sector_disk.specs.Space.{AgreesOutside}
 use Rattle.btree_file.specs.State.{sectors_of_tree}
+use Rattle.btree_node.specs.declared.store.TreeShape.{TreeShape}
 use Rattle.hfs_model.specs.Sorted.{kept}
 use Rattle.hfs_volume.specs.Blocks.{GoesOn, LieInside}
 use Rattle.hfs_volume.specs.Content.{overflow_in_volume}
+use Rattle.hfs_volume.specs.Cost.{extents_key, tree_load}
 use Rattle.hfs_volume.specs.Forks.{data_kind, extents_of, is_of}
 use Rattle.hfs_volume.specs.declared.cost.Cost.{Cost}
 use Rattle.hfs_volume.specs.declared.cost.Cost.TheVariants as cost
 use Rattle.hfs_volume.specs.declared.cost.Needs.{Needs}
+use Rattle.hfs_volume.specs.declared.cost.TreeCost.{TreeCost}
 use Rattle.hfs_volume.specs.Records.{Overflow}
 use Rattle.overflow.specs.Records.{eight_at}
 use Rattle.volume_base.specs.Lists.{lists_of, facts_on}
@@ -55,3 +58,11 @@ needs_extents edits = record { ids = 0; edits = edits ∷ 0 ∷ 0 ∷ []; update
 abbrev pub is_met_extents : Cost → ℕ → Bool
 is_met_extents (cost.Refused why) spare = false
 is_met_extents (cost.Load load grow) spare = (slice_index grow 0 == 0) && nat_le load spare
+
+-- the numbers of a tree of this shape that a load of edits looks at
+abbrev pub cost_of_shape : TreeShape → TreeCost
+cost_of_shape shape = record { node_size = shape.node_size; depth = shape.depth; records = shape.leaf_records; nodes = shape.total; unused = shape.free; map_bits = 0; extents = 0 }
+
+-- the sectors that so many edits of an extents overflow file of this shape put at most, where it doesn't grow
+abbrev pub edits_load : TreeShape → ℕ → ℕ
+edits_load shape edits = tree_load extents_key (cost_of_shape shape) edits 0

@@ -34,8 +34,8 @@ use Rattle.volume_base.specs.Changing.{ReplacesRecord, catalog_node}
 use Rattle.volume_base.specs.DataWeighing.{needs_data}
 use Rattle.volume_base.specs.Lists.{bits_on, lists_of}
 use Rattle.volume_base.specs.Reading.{HasFile}
-use Rattle.volume_space.specs.Recording.{records_held}
-use Rattle.volume_space.specs.Spreading.{SpreadsExtents, is_met_extents}
+use Rattle.volume_space.specs.Recording.{AreFilled, records_held}
+use Rattle.volume_space.specs.Spreading.{SpreadsExtents, edits_load, is_met_extents}
 use Rattle.volume_base.specs.Standing.{IsSettled}
 use Rattle.volume_base.specs.declared.entries.Entry.{Entry}
 use Rattle.volume_base.specs.declared.volume.Tree.{Tree}
@@ -60,6 +60,10 @@ bits_load volume put = min (sectors_for (length volume.map.used)) (fresh_blocks 
 abbrev pub data_load : Volume → Data → ℕ
 data_load volume put = 1 + catalog_node volume + bits_load volume put
 
+-- the sectors of the extents overflow file that a put of data puts at most: for an edit of each overflow record of the file's fork, and of each that it may get
+abbrev pub records_load : Volume → VolumeState → Data → ℕ
+records_load volume lists put = edits_load volume.extents.file.shape (records_held lists put.id + overflow_records (length (file_extents lists put.id data_kind) + 1 + fresh_runs volume put))
+
 -- There are as many free blocks as the data takes, and room to put what it puts.
 pub record HasRoomToPutData (put : Data) (volume : Volume) (spare : ℕ) : Type 0 where
   pub blocks : fresh_blocks volume put ≤ count_set (free_of volume.map)
@@ -78,9 +82,9 @@ may_overflow extents runs = nat_lt 8 (extents + 1 + runs)
 abbrev pub is_put_later : Volume → VolumeState → Data → Bool
 is_put_later volume lists put = needs_cut lists (Some put) || may_overflow (length (file_extents lists put.id data_kind)) (fresh_runs volume put)
 
--- where a command puts data, the file's record holds the extents that it gets
-abbrev pub IsFlat : Command → Volume → Content → Type 0
-IsFlat asked volume content = (put : Data) → data_of (tree_of content) asked ≡ Some put → may_overflow (length (file_extents (volume_of content) put.id data_kind)) (fresh_runs volume put) ≡ false
+-- where a command puts data, each overflow record of the file's fork has an extent in use
+abbrev pub IsFilled : Command → Content → Type 0
+IsFilled asked content = (put : Data) → data_of (tree_of content) asked ≡ Some put → AreFilled (volume_of content) put.id (length (file_extents (volume_of content) put.id data_kind))
 
 -- there is data to put, it isn't still to come to put it, and there is room for it, where so many sectors may be put
 abbrev pub is_put_now : Volume → ℕ → VolumeState → Option Data → Bool
@@ -182,6 +186,14 @@ abbrev pub put_load : Volume → (size from long : ℕ) → ℕ
 put_load volume size from long =
     1 + catalog_node volume
     + min (sectors_for (length volume.map.used)) (blocks_put volume size from long / 4096 + 2 * fewest_of (blocks_put volume size from long) (free_runs (free_of volume.map)) + (old_end volume.header.block_size size (from + long) - first_of volume.header.block_size size from))
+
+-- the most extents that a fork of so many may have behind a put, with blocks of so many runs in place of some
+abbrev pub most_extents : (extents runs : ℕ) → ℕ
+most_extents extents runs = extents + 1 + runs
+
+-- the sectors of the extents overflow file that a put of so many bytes puts at most, where the fork has so many overflow records and so many extents
+abbrev pub spread_put_load : Volume → (records extents size from long : ℕ) → ℕ
+spread_put_load volume records extents size from long = edits_load volume.extents.file.shape (records + overflow_records (most_extents extents (fewest_of (blocks_put volume size from long) (free_runs (free_of volume.map)))))
 
 -- A file's record stands in the lists of a content, its data fork has these extents, and it is no link.
 pub record IsToldFile (file : FileRecord) (extents : List Extent) (content : Content) : Type 0 where

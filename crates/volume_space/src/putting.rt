@@ -20,6 +20,7 @@ ghost use Rattle.volume_cost.specs.Sizes.{AreSmall};
 ghost use Rattle.volume_base.specs.Changing.{catalog_node};
 ghost use Rattle.volume_base.specs.Lists.{lists_of};
 ghost use Rattle.hfs_volume.specs.Content.{overflow_in_volume, records_of, volume_of};
+ghost use Rattle.hfs_volume.specs.Cost.{overflow_records};
 ghost use Rattle.hfs_volume.specs.Forks.{data_kind, extents_of};
 ghost use Rattle.hfs_volume.specs.Records.{is_thread};
 ghost use Rattle.volume_base.specs.Looking.{ReadsVolume};
@@ -27,11 +28,11 @@ ghost use Rattle.volume_base.specs.Reading.{HasFile};
 ghost use Rattle.volume_base.specs.Service.{IsInService};
 ghost use Rattle.volume_space.specs.Recording.{records_held};
 ghost use Rattle.volume_space.specs.Spilling.{IsLaidOutAs};
-ghost use Rattle.volume_space.specs.Spreading.{is_met_extents};
+ghost use Rattle.volume_space.specs.Spreading.{edits_load, is_met_extents};
 ghost use Rattle.volume_space.specs.Standing.{HoldsOn};
 ghost use Rattle.volume_base.specs.Standing.{IsSettled, StandsOver, own_sectors};
 ghost use Rattle.volume_base.specs.Touching.{Touches};
-ghost use Rattle.volume_space.specs.Writing.{AreHad, IsAt, IsSureToPut, IsToldFile, PlacesData, PutsAt, PutsValue, are_apart, blocks_put, can_put, cost_to_put, data_load, ends_before, extents_in, fork_with, fresh_runs, has_more, is_apart_from, is_data_met, is_put_met, is_put_now, may_overflow, needs_of_put, put_load, record_with};
+ghost use Rattle.volume_space.specs.Writing.{AreHad, IsAt, IsSureToPut, IsToldFile, PlacesData, PutsAt, PutsValue, are_apart, blocks_put, can_put, cost_to_put, data_load, ends_before, extents_in, fork_with, fresh_runs, has_more, is_apart_from, is_data_met, is_put_met, is_put_now, may_overflow, most_extents, needs_of_put, put_load, record_with, records_load, spread_put_load};
 
 use crate::growing::first_eight;
 use crate::mapping::put_map;
@@ -168,6 +169,14 @@ fn may_overflow(extents: usize, runs: u32) -> bool
     ensures { result ≡ may_overflow extents runs }
 {
     8 < extents as u64 + 1 + u64::from(runs)
+}
+
+/// The most extents that a fork of so many may have behind a put, with blocks of so many runs in place of some.
+fn most_extents(extents: usize, runs: u32) -> u64
+    requires { extents < 2 ^ 60 }
+    ensures { result ≡ most_extents extents runs }
+{
+    extents as u64 + 1 + u64::from(runs)
 }
 
 /// What so much data needs with so many edits of the extents overflow file, whose blocks are of so many runs.
@@ -498,6 +507,7 @@ fn place_data<P: SectorSpace>(
     free: u32,
     spread: bool,
     records: u64,
+    most: u64,
 ) -> Result<(), Trouble>
     requires stands { StandsOver volume.old (P.SectorView.space space.old) }
     requires settled { IsTrue (P.SectorView.space space.old).tells → IsSettled volume.old (P.SectorView.space space.old).content }
@@ -520,7 +530,7 @@ fn place_data<P: SectorSpace>(
     ensures own { own_sectors volume.new ≡ own_sectors volume.old }
     ensures same { (volume.new.private ≡ volume.old.private) × (volume.new.shrunk ≡ volume.old.shrunk) × (volume.new.capacity ≡ volume.old.capacity) }
     ensures commit { (committed : Content) → HoldsOn committed volume.old → IsLaidOutAs committed volume.old → Touches committed (λ s. Contains (own_sectors volume.old) s) (P.SectorView.space space.old) (P.SectorView.space space.new) }
-    ensures spent { IsTrue (P.SectorView.space space.old).tells → spread ≡ false → (P.SectorView.space space.old).spare ≤ (P.SectorView.space space.new).spare + catalog_node volume.old }
+    ensures spent { IsTrue (P.SectorView.space space.old).tells → (P.SectorView.space space.old).spare ≤ (P.SectorView.space space.new).spare + catalog_node volume.old + edits_load volume.old.extents.file.shape (records + overflow_records most) }
     ensures space { SameSpace (P.SectorView.space space.old) (P.SectorView.space space.new) }
     ensures below { P.SectorView.follows space.old space.new }
     ensures cause { HasTroubleCause (P.SectorView.space space.old).faults (P.SectorView.space space.new).faults result }
@@ -538,6 +548,7 @@ fn place_data<P: SectorSpace>(
         &later,
         spread,
         records,
+        most,
     )?;
     if !volume.fits_update(space) {
         return Err(Trouble::Memory);
@@ -567,6 +578,7 @@ fn put_over<P: SectorSpace>(
     requires unchanged { volume.old.map.changed ≡ none (sectors_for (length volume.old.map.used)) }
     requires some { 0 < length value.now }
     requires small { from + length value.now ≤ 2 ^ 40 }
+    requires countable { length list.now < 2 ^ 60 }
     requires free { blocks_put volume.old file.now.data_fork.logical_size from (length value.now) ≤ count_set (free_of volume.old.map) }
     requires short { spread ≡ false → length list.now < 8 }
     requires name { length entry.now.name ≤ 255 }
@@ -582,7 +594,7 @@ fn put_over<P: SectorSpace>(
     ensures same { (volume.new.private ≡ volume.old.private) × (volume.new.shrunk ≡ volume.old.shrunk) × (volume.new.capacity ≡ volume.old.capacity) }
     ensures commit { (committed : Content) → HoldsOn committed volume.old → IsLaidOutAs committed volume.old → Touches committed (λ s. Contains (own_sectors volume.old) s) (P.SectorView.space space.old) (P.SectorView.space space.new) }
     ensures holds { (committed : Content) → HoldsOn committed volume.old → OnOk result (HoldsOn committed volume.new) }
-    ensures spent { IsTrue (P.SectorView.space space.old).tells → spread ≡ false → (P.SectorView.space space.old).spare ≤ (P.SectorView.space space.new).spare + put_load volume.old file.now.data_fork.logical_size from (length value.now) }
+    ensures spent { IsTrue (P.SectorView.space space.old).tells → (P.SectorView.space space.old).spare ≤ (P.SectorView.space space.new).spare + put_load volume.old file.now.data_fork.logical_size from (length value.now) + spread_put_load volume.old records (length list.now) file.now.data_fork.logical_size from (length value.now) }
     ensures space { SameSpace (P.SectorView.space space.old) (P.SectorView.space space.new) }
     ensures below { P.SectorView.follows space.old space.new }
     ensures cause { HasTroubleCause (P.SectorView.space space.old).faults (P.SectorView.space space.new).faults result }
@@ -602,9 +614,11 @@ fn put_over<P: SectorSpace>(
         return Err(Trouble::Memory);
     }
     let bits = count_bits(volume, counts);
+    let runs = volume.map.fewest(counts.fresh as u32);
+    let most = most_extents(list.len(), runs);
     place_data(
         volume, alloc, space, entry, file, list, from, value, sums.total, sums.free, spread,
-        records,
+        records, most,
     )?;
     if !has_room(bits, space.spare()) {
         return Err(Trouble::Memory);
@@ -705,7 +719,7 @@ fn put_in_file<P: SectorSpace>(
     ensures same { (volume.new.private ≡ volume.old.private) × (volume.new.shrunk ≡ volume.old.shrunk) × (volume.new.capacity ≡ volume.old.capacity) }
     ensures commit { (committed : Content) → HoldsOn committed volume.old → IsLaidOutAs committed volume.old → Touches committed (λ s. Contains (own_sectors volume.old) s) (P.SectorView.space space.old) (P.SectorView.space space.new) }
     ensures holds { (committed : Content) → HoldsOn committed volume.old → OnOk result (HoldsOn committed volume.new) }
-    ensures spent { IsTrue (P.SectorView.space space.old).tells → may_overflow (length (extents_in (P.SectorView.space space.old).content file.now)) (fewest_of (blocks_put volume.old file.now.data_fork.logical_size from (length value.now)) (free_runs (free_of volume.old.map))) ≡ false → ((P.SectorView.space space.old).spare ≤ (P.SectorView.space space.new).spare) ⊎ ((can_put volume.old (P.SectorView.space space.old).spare (length (extents_in (P.SectorView.space space.old).content file.now)) file.now.data_fork.total_blocks file.now.data_fork.logical_size from (length value.now) ≡ true) × ((P.SectorView.space space.old).spare ≤ (P.SectorView.space space.new).spare + put_load volume.old file.now.data_fork.logical_size from (length value.now))) }
+    ensures spent { IsTrue (P.SectorView.space space.old).tells → ((P.SectorView.space space.old).spare ≤ (P.SectorView.space space.new).spare) ⊎ ((has_more file.now.data_fork.logical_size (from + length value.now) (blocks_for volume.old.header.block_size file.now.data_fork.logical_size) file.now.data_fork.total_blocks ≡ false) × ((P.SectorView.space space.old).spare ≤ (P.SectorView.space space.new).spare + put_load volume.old file.now.data_fork.logical_size from (length value.now) + spread_put_load volume.old (records_held (volume_of (P.SectorView.space space.old).content) file.now.fields.id) (length (extents_in (P.SectorView.space space.old).content file.now)) file.now.data_fork.logical_size from (length value.now))) }
     ensures space { SameSpace (P.SectorView.space space.old) (P.SectorView.space space.new) }
     ensures below { P.SectorView.follows space.old space.new }
     ensures cause { HasTroubleCause (P.SectorView.space space.old).faults (P.SectorView.space space.new).faults result }
@@ -777,7 +791,7 @@ fn put_in_entry<P: SectorSpace>(
     ensures same { (volume.new.private ≡ volume.old.private) × (volume.new.shrunk ≡ volume.old.shrunk) × (volume.new.capacity ≡ volume.old.capacity) }
     ensures commit { (committed : Content) → HoldsOn committed volume.old → IsLaidOutAs committed volume.old → Touches committed (λ s. Contains (own_sectors volume.old) s) (P.SectorView.space space.old) (P.SectorView.space space.new) }
     ensures holds { (committed : Content) → HoldsOn committed volume.old → OnOk result (HoldsOn committed volume.new) }
-    ensures spent { IsTrue (P.SectorView.space space.old).tells → (file : FileRecord) → entry.now.rec ≡ File file → may_overflow (length (extents_in (P.SectorView.space space.old).content file)) (fewest_of (blocks_put volume.old file.data_fork.logical_size from (length value.now)) (free_runs (free_of volume.old.map))) ≡ false → ((P.SectorView.space space.old).spare ≤ (P.SectorView.space space.new).spare) ⊎ ((can_put volume.old (P.SectorView.space space.old).spare (length (extents_in (P.SectorView.space space.old).content file)) file.data_fork.total_blocks file.data_fork.logical_size from (length value.now) ≡ true) × ((P.SectorView.space space.old).spare ≤ (P.SectorView.space space.new).spare + put_load volume.old file.data_fork.logical_size from (length value.now))) }
+    ensures spent { IsTrue (P.SectorView.space space.old).tells → (file : FileRecord) → entry.now.rec ≡ File file → ((P.SectorView.space space.old).spare ≤ (P.SectorView.space space.new).spare) ⊎ ((has_more file.data_fork.logical_size (from + length value.now) (blocks_for volume.old.header.block_size file.data_fork.logical_size) file.data_fork.total_blocks ≡ false) × ((P.SectorView.space space.old).spare ≤ (P.SectorView.space space.new).spare + put_load volume.old file.data_fork.logical_size from (length value.now) + spread_put_load volume.old (records_held (volume_of (P.SectorView.space space.old).content) file.fields.id) (length (extents_in (P.SectorView.space space.old).content file)) file.data_fork.logical_size from (length value.now))) }
     ensures space { SameSpace (P.SectorView.space space.old) (P.SectorView.space space.new) }
     ensures below { P.SectorView.follows space.old space.new }
     ensures cause { HasTroubleCause (P.SectorView.space space.old).faults (P.SectorView.space space.new).faults result }
@@ -818,7 +832,7 @@ pub(crate) fn put_data<P: SectorSpace>(
     ensures commit { (committed : Content) → HoldsOn committed volume.old → IsLaidOutAs committed volume.old → Touches committed (λ s. Contains (own_sectors volume.old) s) (P.SectorView.space space.old) (P.SectorView.space space.new) }
     ensures holds { (committed : Content) → HoldsOn committed volume.old → OnOk result (HoldsOn committed volume.new) }
     ensures spent { IsTrue (P.SectorView.space space.old).tells → (node : PlainNode) → Contains (tree_of (P.SectorView.space space.old).content).nodes node → node.id ≡ id → node.folder ≡ false → (put : Data) → put.id ≡ id → IsAt put (length node.bytes) from (from + length value.now)
-        → may_overflow (length (file_extents (volume_of (P.SectorView.space space.old).content) put.id data_kind)) (fresh_runs volume.old put) ≡ false → ((P.SectorView.space space.old).spare ≤ (P.SectorView.space space.new).spare) ⊎ ((is_put_now volume.old (P.SectorView.space space.old).spare (volume_of (P.SectorView.space space.old).content) (Some put) ≡ true) × ((P.SectorView.space space.old).spare ≤ (P.SectorView.space space.new).spare + data_load volume.old put)) }
+        → ((P.SectorView.space space.old).spare ≤ (P.SectorView.space space.new).spare) ⊎ ((needs_cut (volume_of (P.SectorView.space space.old).content) (Some put) ≡ false) × ((P.SectorView.space space.old).spare ≤ (P.SectorView.space space.new).spare + data_load volume.old put + records_load volume.old (volume_of (P.SectorView.space space.old).content) put)) }
     ensures space { SameSpace (P.SectorView.space space.old) (P.SectorView.space space.new) }
     ensures below { P.SectorView.follows space.old space.new }
     ensures cause { HasTroubleCause (P.SectorView.space space.old).faults (P.SectorView.space space.new).faults result }

@@ -15,9 +15,10 @@ ghost use Rattle.btree_file.specs.State.{sectors_of_tree, state_of};
 ghost use Rattle.fork_map.specs.Blocks.{blocks_of};
 ghost use Rattle.hfs_volume.specs.Content.{records_of, volume_of};
 ghost use Rattle.hfs_volume.specs.Forks.{extents_id, in_use, is_full, parts_for};
+ghost use Rattle.hfs_volume.specs.Cost.{overflow_records};
 ghost use Rattle.hfs_volume.specs.Records.{overflow_of};
 ghost use Rattle.overflow.specs.Reading.{HasExtents, fork_records};
-ghost use Rattle.overflow.specs.Room.{HasStoreRoom};
+ghost use Rattle.overflow.specs.Room.{HasStoreRoom, edits_for};
 ghost use Rattle.volume_cost.specs.Sizes.{AreSmall};
 ghost use Rattle.volume_space.specs.Cutting.{IsForkOf, changes_in, kind_of, spread_load};
 ghost use Rattle.volume_base.specs.Lists.{lists_of};
@@ -25,7 +26,7 @@ ghost use Rattle.volume_base.specs.Looking.{ReadsVolume};
 ghost use Rattle.volume_base.specs.Reading.{HasFile};
 ghost use Rattle.volume_base.specs.Service.{IsInService};
 ghost use Rattle.volume_space.specs.Recording.{records_held};
-ghost use Rattle.volume_space.specs.Spreading.{SpreadsExtents, StoresExtents, is_met_extents, needs_extents};
+ghost use Rattle.volume_space.specs.Spreading.{SpreadsExtents, StoresExtents, edits_load, is_met_extents, needs_extents};
 ghost use Rattle.volume_base.specs.Spreading.{StoresFork};
 ghost use Rattle.volume_base.specs.Standing.{IsSettled, StandsOver, own_sectors};
 ghost use Rattle.volume_base.specs.Touching.{Touches};
@@ -41,7 +42,9 @@ use hx_bytes::{Extent, ForkRecord, Trouble};
 use overflow::store_fork;
 use sector_disk::SectorSpace;
 use std::alloc::Global;
-use tree_weights::{a_load_is_of_parts, a_load_says_enough, commands_have_room};
+use tree_weights::{
+    a_load_is_of_parts, a_load_says_enough, commands_have_room, edits_take_their_load,
+};
 use volume_base::{FreeBlocks, Volume, is_measured, load_extents};
 use volume_cost::cost;
 
@@ -148,6 +151,16 @@ fn all_have_blocks(list: &ExtentList) -> bool
     have_blocks(list.as_slice())
 }
 
+/// Whether a list has no more extents than so many.
+fn is_no_longer(list: &ExtentList, most: u64) -> bool
+    ensures { IsTrue result → length list.now ≤ most }
+{
+    if list.len() as u64 > most {
+        return false;
+    }
+    true
+}
+
 /// Whether a file's record holds all extents of a list.
 fn is_in_record(list: &ExtentList) -> bool
     ensures { IsTrue result → length list.now ≤ 8 }
@@ -179,9 +192,12 @@ pub(crate) fn store_records<P: SectorSpace>(
     ensures holds { IsTrue (P.SectorView.space space.old).tells → OnOk result (HoldsTree extents_form IsExtentKey is_eight_extents extent_cmp tree.new (P.SectorView.space space.new).content) }
     ensures frame { FollowsOn tree.old tree.new (P.SectorView.space space.old) (P.SectorView.space space.new) }
     ensures desk { IsDeskOf (numbers_of tree.new).node_size desk.new }
+    // On a fault too, it puts no more sectors than the load counts for so many edits.
+    ensures spent { IsTrue (P.SectorView.space space.old).tells → (edits : ℕ) → ((names : List ℕ) → edits_for (state_of names tree.old (P.SectorView.space space.old)) id kind new.now ≤ edits) → (P.SectorView.space space.old).spare ≤ (P.SectorView.space space.new).spare + edits_load tree.old.shape edits }
     ensures below { P.SectorView.follows space.old space.new }
     ensures cause { HasTroubleCause (P.SectorView.space space.old).faults (P.SectorView.space space.new).faults result }
 {
+    edits_take_their_load();
     let mut on = TreeOn { tree, space };
     store_fork(alloc, &mut on, desk, id, kind, old, new)
 }
@@ -271,8 +287,9 @@ pub(crate) fn store_extents<P: SectorSpace>(
     ensures rest { volume.new ≡ record volume.old { extents = volume.new.extents } }
     ensures stores { IsTrue (P.SectorView.space space.old).tells → OnOk result (StoresExtents id kind (in_use new.now) volume.old volume.new (P.SectorView.space space.old).content (P.SectorView.space space.new).content) }
     ensures own { own_sectors volume.new ≡ own_sectors volume.old }
-    // On a fault too, it puts sectors of its own alone, whatever was committed last.
+    // On a fault too, it puts sectors of its own alone, whatever was committed last, and no more than the load counts for so many edits.
     ensures touches { (committed : Content) → Touches committed (λ s. Contains (own_sectors volume.old) s) (P.SectorView.space space.old) (P.SectorView.space space.new) }
+    ensures spent { IsTrue (P.SectorView.space space.old).tells → (edits : ℕ) → ((names : List ℕ) → edits_for (state_of names volume.old.extents.file (P.SectorView.space space.old)) id kind new.now ≤ edits) → (P.SectorView.space space.old).spare ≤ (P.SectorView.space space.new).spare + edits_load volume.old.extents.file.shape edits }
     ensures below { P.SectorView.follows space.old space.new }
     ensures cause { HasTroubleCause (P.SectorView.space space.old).faults (P.SectorView.space space.new).faults result }
 {
@@ -303,17 +320,19 @@ pub(crate) fn fits_extent_edits<P: SectorSpace>(volume: &Volume, space: &P, edit
     is_met(cost(&needs_of_extents(edits), &room), space.spare())
 }
 
-/// Whether the overflow records of a file's data fork, of which there are so many, can be made those of other extents.
+/// Whether the overflow records of a file's data fork, of which there are so many, can be made those of other extents, of which there may be so many.
 fn can_spread<P: SectorSpace>(
     volume: &Volume,
     space: &P,
     id: u32,
     records: u64,
     later: &ExtentList,
+    most: u64,
 ) -> bool
     ensures user { IsTrue result → 16 ≤ id }
     ensures full { IsTrue result → is_full later.now ≡ true }
     ensures few { IsTrue result → length (blocks_of later.now) < 2 ^ 32 }
+    ensures most { IsTrue result → length later.now ≤ most }
     ensures room { IsTrue result → (names : List ℕ) → IsTrue (P.SectorView.space space.now).tells → records ≡ length (fork_records id 0 (state_of names volume.now.extents.file (P.SectorView.space space.now)))
         → HasStoreRoom (state_of names volume.now.extents.file (P.SectorView.space space.now)) id 0 later.now }
 {
@@ -324,6 +343,9 @@ fn can_spread<P: SectorSpace>(
         return false;
     }
     if !are_few(later) {
+        return false;
+    }
+    if !is_no_longer(later, most) {
         return false;
     }
     let Some(edits) = count_edits(records, later.len()) else {
@@ -368,6 +390,7 @@ fn spread_extents<P: SectorSpace>(
     list: &ExtentList,
     later: &ExtentList,
     records: u64,
+    most: u64,
 ) -> Result<(), Trouble>
     requires stands { StandsOver volume.old (P.SectorView.space space.old) }
     requires has { IsTrue (P.SectorView.space space.old).tells → HasExtents (map overflow_of (lists_of volume.old (P.SectorView.space space.old).content).overflow_pairs) id 0 list.now }
@@ -378,18 +401,19 @@ fn spread_extents<P: SectorSpace>(
     ensures spreads { IsTrue (P.SectorView.space space.old).tells → OnOk result (SpreadsExtents id later.now volume.old volume.new (P.SectorView.space space.old).content (P.SectorView.space space.new).content) }
     ensures own { own_sectors volume.new ≡ own_sectors volume.old }
     ensures touches { (committed : Content) → Touches committed (λ s. Contains (own_sectors volume.old) s) (P.SectorView.space space.old) (P.SectorView.space space.new) }
+    ensures spent { IsTrue (P.SectorView.space space.old).tells → (P.SectorView.space space.old).spare ≤ (P.SectorView.space space.new).spare + edits_load volume.old.extents.file.shape (records + overflow_records most) }
     ensures below { P.SectorView.follows space.old space.new }
     ensures cause { HasTroubleCause (P.SectorView.space space.old).faults (P.SectorView.space space.new).faults result }
 {
-    if !can_spread(volume, space, id, records, later) {
+    if !can_spread(volume, space, id, records, later, most) {
         return Err(Trouble::Memory);
     }
     store_extents(volume, alloc, space, id, 0, list, later)?;
     Ok(())
 }
 
-/// Makes the overflow records of a file's data fork go with a record of the first eight of these extents. Where it isn't spread it has none, and
-/// had none before.
+/// Makes the overflow records of a file's data fork go with a record of the first eight of these extents, of which there may be so many. Where it isn't
+/// spread it has none, and had none before.
 pub(crate) fn store_later<P: SectorSpace>(
     volume: &mut Volume,
     alloc: Global,
@@ -399,6 +423,7 @@ pub(crate) fn store_later<P: SectorSpace>(
     later: &ExtentList,
     spread: bool,
     records: u64,
+    most: u64,
 ) -> Result<(), Trouble>
     requires stands { StandsOver volume.old (P.SectorView.space space.old) }
     requires short { spread ≡ false → length list.now < 8 }
@@ -410,12 +435,12 @@ pub(crate) fn store_later<P: SectorSpace>(
     ensures spreads { IsTrue (P.SectorView.space space.old).tells → OnOk result (SpreadsExtents id later.now volume.old volume.new (P.SectorView.space space.old).content (P.SectorView.space space.new).content) }
     ensures own { own_sectors volume.new ≡ own_sectors volume.old }
     ensures touches { (committed : Content) → Touches committed (λ s. Contains (own_sectors volume.old) s) (P.SectorView.space space.old) (P.SectorView.space space.new) }
-    ensures spent { spread ≡ false → (P.SectorView.space space.old).spare ≤ (P.SectorView.space space.new).spare }
+    ensures spent { IsTrue (P.SectorView.space space.old).tells → (P.SectorView.space space.old).spare ≤ (P.SectorView.space space.new).spare + edits_load volume.old.extents.file.shape (records + overflow_records most) }
     ensures below { P.SectorView.follows space.old space.new }
     ensures cause { HasTroubleCause (P.SectorView.space space.old).faults (P.SectorView.space space.new).faults result }
 {
     if spread {
-        return spread_extents(volume, alloc, space, id, list, later, records);
+        return spread_extents(volume, alloc, space, id, list, later, records, most);
     }
     keep_extents(volume, space, id, list, later)
 }

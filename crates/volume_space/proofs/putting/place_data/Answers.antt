@@ -1,15 +1,11 @@
-use Rattle.std.proofs.Common.{◌≡◌, ◌<◌, ◌≤◌, ℕ, ◌+◌, ◌/◌, List, [], length, max, sym, ◌∙◌, ap, subst, arith}
-use Rattle.std.specs.Prelude.{Contains, Result, Err, OnOk}
+use Rattle.std.proofs.Common.{ℕ, ◌+◌, List, [], sym, ◌∙◌, ap, subst, arith}
+use Rattle.std.specs.Prelude.{Contains}
 use Rattle.std.proofs.lemmas.Result.{err_from_is_err_and}
-use Rattle.hx_bytes.specs.declared.faults.Trouble.{Trouble}
-use Rattle.hx_bytes.specs.declared.extents.Extent.{Extent}
 use Rattle.btree_node.specs.Levels.{Pair}
-use Rattle.btree_edit.specs.Causes.{HasTroubleCause}
 use Rattle.catalog.specs.Pairs.{value_at}
-use Rattle.sector_disk.specs.Lists.{Content}
-use Rattle.sector_disk.specs.Space.{Space}
 use Rattle.sector_disk.proofs.SpaceLaws.{space_both}
 use Rattle.hfs_volume.specs.Content.{VolumeState, overflow_in_volume}
+use Rattle.hfs_volume.specs.Cost.{overflow_records}
 use Rattle.hfs_volume.specs.Entries.{AreSpelled}
 use Rattle.volume_base.specs.Changing.{catalog_node}
 use Rattle.volume_base.specs.Lists.{lists_of}
@@ -19,6 +15,7 @@ use Rattle.volume_space.specs.Writing.{fork_with, record_with}
 use Rattle.volume_base.specs.declared.volume.Volume.{Volume}
 use Rattle.volume_base.proofs.Commanding.{touches_both}
 use Rattle.volume_base.proofs.FoundEntry.{settled_spelled}
+use Rattle.volume_space.proofs.PutLoads.{shape_load}
 use Rattle.volume_space.proofs.PutPlaced.{placed, stands_free}
 use Rattle.volume_base.proofs.Seeing.{cause_on}
 use Rattle.volume_space.proofs.Spilled.{may_spill}
@@ -39,7 +36,7 @@ returns-in_err-store_later-clause-commit g c committed holds alike =
     (subst (λ (l : List ℕ). Touches committed (λ s. Contains l s) (g.P.SectorView.space c.spill.new.space) (g.P.SectorView.space c.store_later.new.space)) c.spill.ensures.own (c.store_later.ensures.touches committed))
 
 pub returns-in_err-store_later-clause-spent : goal.returns-in_err-store_later-clause-spent
-returns-in_err-store_later-clause-spent g c tells flat = omega (arith, c.spill.ensures.room.spare, c.store_later.ensures.spent flat)
+returns-in_err-store_later-clause-spent g c tells = omega (arith, c.spill.ensures.room.spare, c.store_later.ensures.spent (c.spill.ensures.same.tells ∙ tells), shape_load c.args.volume.now c.spill.new.volume c.spill.ensures.rest (c.args.records + overflow_records c.args.most))
 
 pub returns-in_err-store_later-clause-space : goal.returns-in_err-store_later-clause-space
 returns-in_err-store_later-clause-space g c = space_both (g.P.SectorView.space c.args.space.now) (g.P.SectorView.space c.spill.new.space) (g.P.SectorView.space c.store_later.new.space) c.spill.ensures.same (c.store_later.ensures.touches []).same
@@ -56,7 +53,7 @@ returns-then-not-fits_update-clause-commit g c committed holds alike =
     (subst (λ (l : List ℕ). Touches committed (λ s. Contains l s) (g.P.SectorView.space c.spill.new.space) (g.P.SectorView.space c.store_later.new.space)) c.spill.ensures.own (c.store_later.ensures.touches committed))
 
 pub returns-then-not-fits_update-clause-spent : goal.returns-then-not-fits_update-clause-spent
-returns-then-not-fits_update-clause-spent g c tells flat = omega (arith, c.spill.ensures.room.spare, c.store_later.ensures.spent flat)
+returns-then-not-fits_update-clause-spent g c tells = omega (arith, c.spill.ensures.room.spare, c.store_later.ensures.spent (c.spill.ensures.same.tells ∙ tells), shape_load c.args.volume.now c.spill.new.volume c.spill.ensures.rest (c.args.records + overflow_records c.args.most))
 
 pub returns-then-not-fits_update-clause-space : goal.returns-then-not-fits_update-clause-space
 returns-then-not-fits_update-clause-space g c = space_both (g.P.SectorView.space c.args.space.now) (g.P.SectorView.space c.spill.new.space) (g.P.SectorView.space c.store_later.new.space) c.spill.ensures.same (c.store_later.ensures.touches []).same
@@ -104,9 +101,9 @@ returns-in_err-replace-clause-commit g c committed holds alike =
     (subst (λ (l : List ℕ). Touches committed (λ s. Contains l s) (g.P.SectorView.space c.store_later.new.space) (g.P.SectorView.space c.replace.new.space)) c.store_later.ensures.own (c.replace.ensures.touches committed))))
 
 pub returns-in_err-replace-clause-spent : goal.returns-in_err-replace-clause-spent
-returns-in_err-replace-clause-spent g c tells flat =
+returns-in_err-replace-clause-spent g c tells =
     let between = (c.store_later.ensures.touches []).same.tells ∙ c.spill.ensures.same.tells ∙ tells in
-    omega (arith, c.spill.ensures.room.spare, c.store_later.ensures.spent flat, c.replace.ensures.spent between, ap (λ (x : Volume). catalog_node x) c.store_later.ensures.rest, ap (λ (x : Volume). catalog_node x) c.spill.ensures.rest)
+    omega (arith, c.spill.ensures.room.spare, c.store_later.ensures.spent (c.spill.ensures.same.tells ∙ tells), shape_load c.args.volume.now c.spill.new.volume c.spill.ensures.rest (c.args.records + overflow_records c.args.most), c.replace.ensures.spent between, ap (λ (x : Volume). catalog_node x) c.store_later.ensures.rest, ap (λ (x : Volume). catalog_node x) c.spill.ensures.rest)
 
 pub returns-in_err-replace-clause-space : goal.returns-in_err-replace-clause-space
 returns-in_err-replace-clause-space g c = space_both (g.P.SectorView.space c.args.space.now) (g.P.SectorView.space c.store_later.new.space) (g.P.SectorView.space c.replace.new.space) (space_both (g.P.SectorView.space c.args.space.now) (g.P.SectorView.space c.spill.new.space) (g.P.SectorView.space c.store_later.new.space) c.spill.ensures.same (c.store_later.ensures.touches []).same) (c.replace.ensures.touches []).same
@@ -121,9 +118,9 @@ returns-clause-commit g c committed holds alike =
     (subst (λ (l : List ℕ). Touches committed (λ s. Contains l s) (g.P.SectorView.space c.store_later.new.space) (g.P.SectorView.space c.replace.new.space)) c.store_later.ensures.own (c.replace.ensures.touches committed))))
 
 pub returns-clause-spent : goal.returns-clause-spent
-returns-clause-spent g c tells flat =
+returns-clause-spent g c tells =
     let between = (c.store_later.ensures.touches []).same.tells ∙ c.spill.ensures.same.tells ∙ tells in
-    omega (arith, c.spill.ensures.room.spare, c.store_later.ensures.spent flat, c.replace.ensures.spent between, ap (λ (x : Volume). catalog_node x) c.store_later.ensures.rest, ap (λ (x : Volume). catalog_node x) c.spill.ensures.rest)
+    omega (arith, c.spill.ensures.room.spare, c.store_later.ensures.spent (c.spill.ensures.same.tells ∙ tells), shape_load c.args.volume.now c.spill.new.volume c.spill.ensures.rest (c.args.records + overflow_records c.args.most), c.replace.ensures.spent between, ap (λ (x : Volume). catalog_node x) c.store_later.ensures.rest, ap (λ (x : Volume). catalog_node x) c.spill.ensures.rest)
 
 pub returns-clause-space : goal.returns-clause-space
 returns-clause-space g c = space_both (g.P.SectorView.space c.args.space.now) (g.P.SectorView.space c.store_later.new.space) (g.P.SectorView.space c.replace.new.space) (space_both (g.P.SectorView.space c.args.space.now) (g.P.SectorView.space c.spill.new.space) (g.P.SectorView.space c.store_later.new.space) c.spill.ensures.same (c.store_later.ensures.touches []).same) (c.replace.ensures.touches []).same

@@ -1,5 +1,5 @@
 use Rattle.std.proofs.Common.{◌≡◌, ◌⊎◌, inl, inr, ⊎_elim, ◌≤◌, ℕ, ◌+◌, true, false, List, length, refl, sym, ◌∙◌, ap, subst, arith}
-use Rattle.std.specs.Prelude.{Contains, IfOk, IfSome, IsTrue, Option, Some, None}
+use Rattle.std.specs.Prelude.{Contains, IfSome, Option, Some}
 use Rattle.std.proofs.lemmas.Bool.{true≢false}
 use Rattle.flag_rows.specs.Bits.{sectors_for}
 use Rattle.alloc_bitmap.specs.Map.{BlockMap, none}
@@ -14,15 +14,16 @@ use Rattle.volume_base.specs.Touching.{Touches}
 use Rattle.file_io.specs.Places.{blocks_for}
 use Rattle.volume_header.specs.declared.header.VolumeHeader.{VolumeHeader}
 use Rattle.volume_space.specs.Recording.{records_held}
-use Rattle.volume_space.specs.Writing.{is_data_met, IsToldFile, extents_in, has_more, may_overflow}
+use Rattle.volume_space.specs.Writing.{is_data_met, IsToldFile, extents_in, has_more}
 use Rattle.volume_base.specs.declared.entries.Entry.{Entry}
+use Rattle.volume_base.specs.declared.volume.Tree.{Tree}
 use Rattle.volume_base.proofs.Commanding.{touches_both, touches_looks}
 use Rattle.volume_space.proofs.CutKept.{own_kept}
 use Rattle.volume_base.proofs.FoundEntry.{IsThere, entry_there, not_none, settled_spelled}
 use Rattle.volume_space.proofs.KeptUsed.{used_read}
-use Rattle.volume_space.proofs.PutAlike.{alike_both, alike_kept, alike_read, can_still, fewest_still, laid_alike, load_alike, puts_alike}
+use Rattle.volume_space.proofs.PutAlike.{alike_both, alike_kept, alike_read, can_still, laid_alike, load_alike, puts_alike, spread_alike}
 use Rattle.volume_space.proofs.PutMet.{met_alike, not_met}
-use Rattle.volume_space.proofs.PutFile.{data_met, cut_is, over_is, entry_is, has_it, its, load_now, now_is, number_is, same_file, same_files, told_is}
+use Rattle.volume_space.proofs.PutFile.{data_met, cut_is, entry_is, has_it, its, load_now, now_is, number_is, records_now, same_file, same_files, told_is}
 use Rattle.volume_base.proofs.Seeing.{if_so}
 use Rattle.volume_base.proofs.Still.{lists_still, own_still, settled_still}
 use Rattle.volume_space.proofs.WhenKept.{holds_kept, settled_kept, stands_kept, unchanged_kept}
@@ -104,20 +105,39 @@ returns-in-Some-clause-no_cut g c tells node stands number kind put put_id at =
     (c.put_in_entry.ensures.no_cut (c.entry.ensures.reads.looks.same.tells ∙ tells) file (entry_is c.keep.new.self (g.P.SectorView.space c.args.space.now) (stands_kept c.args.volume.now c.keep.new.self c.keep.ensures (g.P.SectorView.space c.args.space.now) c.requires.stands) tells (settled_kept c.args.volume.now c.keep.new.self c.keep.ensures (g.P.SectorView.space c.args.space.now) (c.requires.settled tells)) node stands kind c.args.id c.in-Some.entry number it))
 
 pub returns-in-Some-clause-spent : goal.returns-in-Some-clause-spent
-returns-in-Some-clause-spent g c tells node stands number kind put put_id at flat =
-    let it : IsThere _ c.args.id c.in-Some.entry = entry_there c.keep.new.self (g.P.SectorView.space c.args.space.now).content ((stands_kept c.args.volume.now c.keep.new.self c.keep.ensures (g.P.SectorView.space c.args.space.now) c.requires.stands).stands tells).trees (settled_kept c.args.volume.now c.keep.new.self c.keep.ensures (g.P.SectorView.space c.args.space.now) (c.requires.settled tells)) c.args.id node stands number c.in-Some.entry (sym c.in-Some.is ∙ c.in_ok-entry.ensures.found tells) in
-    let file = (its c.keep.new.self (g.P.SectorView.space c.args.space.now) (stands_kept c.args.volume.now c.keep.new.self c.keep.ensures (g.P.SectorView.space c.args.space.now) c.requires.stands) tells (settled_kept c.args.volume.now c.keep.new.self c.keep.ensures (g.P.SectorView.space c.args.space.now) (c.requires.settled tells)) node stands kind).file in
-    let same = same_files c.args.volume.now c.keep.new.self (g.P.SectorView.space c.args.space.now) c.requires.stands (stands_kept c.args.volume.now c.keep.new.self c.keep.ensures (g.P.SectorView.space c.args.space.now) c.requires.stands) tells (c.requires.settled tells) (settled_kept c.args.volume.now c.keep.new.self c.keep.ensures (g.P.SectorView.space c.args.space.now) (c.requires.settled tells)) node stands kind in
+returns-in-Some-clause-spent g c tells node stands number kind put put_id at =
+    let v = c.args.volume.now in
+    let k = c.keep.new.self in
+    let u = c.entry.new.self in
+    let a = g.P.SectorView.space c.args.space.now in
+    let b = g.P.SectorView.space c.entry.new.space in
+    let held = stands_kept v k c.keep.ensures a c.requires.stands in
+    let was = c.requires.settled tells in
+    let kept = settled_kept v k c.keep.ensures a was in
+    let it : IsThere _ c.args.id c.in-Some.entry = entry_there k a.content (held.stands tells).trees kept c.args.id node stands number c.in-Some.entry (sym c.in-Some.is ∙ c.in_ok-entry.ensures.found tells) in
+    let file = (its k a held tells kept node stands kind).file in
+    let same = same_files v k a c.requires.stands held tells was kept node stands kind in
+    let size = file.data_fork.logical_size in
+    let long = length c.args.value.now in
+    let like = alike_both v k u (alike_kept v k c.keep.ensures) (alike_read k u a b c.entry.ensures.reads) in
     ⊎_elim
     (λ none_put. inl (omega (arith, none_put, c.entry.ensures.reads.looks.spare)))
     (λ some_put. inr (
-      sym (can_still c.args.volume.now c.entry.new.self (alike_both c.args.volume.now c.keep.new.self c.entry.new.self (alike_kept c.args.volume.now c.keep.new.self c.keep.ensures) (alike_read c.keep.new.self c.entry.new.self (g.P.SectorView.space c.args.space.now) (g.P.SectorView.space c.entry.new.space) c.entry.ensures.reads)) file.data_fork.logical_size c.args.from (length c.args.value.now) (g.P.SectorView.space c.entry.new.space).spare (g.P.SectorView.space c.args.space.now).spare (length (extents_in (g.P.SectorView.space c.entry.new.space).content file)) (length (extents_in (g.P.SectorView.space c.args.space.now).content file)) file.data_fork.total_blocks c.entry.ensures.reads.looks.spare (ap (λ (k : Content). length (extents_in k file)) (c.entry.ensures.reads.looks.content tells)) _ refl
-          ∙ now_is c.args.volume.now (g.P.SectorView.space c.args.space.now) c.requires.stands tells (c.requires.settled tells) node stands kind file same put c.args.from (length c.args.value.now) (g.P.SectorView.space c.args.space.now).spare (put_id ∙ sym number) at) ∙ some_put.0,
-      omega (arith, some_put.1, c.entry.ensures.reads.looks.spare, load_alike c.args.volume.now c.entry.new.self (alike_both c.args.volume.now c.keep.new.self c.entry.new.self (alike_kept c.args.volume.now c.keep.new.self c.keep.ensures) (alike_read c.keep.new.self c.entry.new.self (g.P.SectorView.space c.args.space.now) (g.P.SectorView.space c.entry.new.space) c.entry.ensures.reads)) file.data_fork.logical_size c.args.from (length c.args.value.now), load_now c.args.volume.now (g.P.SectorView.space c.args.space.now) c.requires.stands tells (c.requires.settled tells) node stands kind file same put c.args.from (length c.args.value.now) at),
+      sym (cut_is v a c.requires.stands tells was node stands kind file same put c.args.from long (put_id ∙ sym number) at)
+          ∙ subst (λ (h : VolumeHeader). has_more size (c.args.from + long) (blocks_for h.block_size size) file.data_fork.total_blocks ≡ false) (c.entry.ensures.reads.keeps.header ∙ c.keep.ensures.same.header) some_put.0,
+      omega (
+        arith,
+        some_put.1,
+        c.entry.ensures.reads.looks.spare,
+        load_alike v u like size c.args.from long,
+        load_now v a c.requires.stands tells was node stands kind file same put c.args.from long at,
+        spread_alike v u like size c.args.from long (records_held (volume_of b.content) file.fields.id) (records_held (volume_of a.content) file.fields.id) (length (extents_in b.content file)) (length (extents_in a.content file))
+            (c.entry.ensures.reads.keeps.extents.file.shape ∙ ap (λ (t : Tree). t.file.shape) c.keep.ensures.same.extents)
+            (ap (λ (x : Content). records_held (volume_of x) file.fields.id) (c.entry.ensures.reads.looks.content tells)) (ap (λ (x : Content). length (extents_in x file)) (c.entry.ensures.reads.looks.content tells)),
+        records_now v a c.requires.stands tells was node stands kind file same put c.args.from long (put_id ∙ sym number) at,
+      ),
     ))
-    (c.put_in_entry.ensures.spent (c.entry.ensures.reads.looks.same.tells ∙ tells) file (entry_is c.keep.new.self (g.P.SectorView.space c.args.space.now) (stands_kept c.args.volume.now c.keep.new.self c.keep.ensures (g.P.SectorView.space c.args.space.now) c.requires.stands) tells (settled_kept c.args.volume.now c.keep.new.self c.keep.ensures (g.P.SectorView.space c.args.space.now) (c.requires.settled tells)) node stands kind c.args.id c.in-Some.entry number it)
-    ((λ i. may_overflow (length (extents_in (c.entry.ensures.reads.looks.content tells i) file)) (fewest_still c.args.volume.now c.entry.new.self (alike_both c.args.volume.now c.keep.new.self c.entry.new.self (alike_kept c.args.volume.now c.keep.new.self c.keep.ensures) (alike_read c.keep.new.self c.entry.new.self (g.P.SectorView.space c.args.space.now) (g.P.SectorView.space c.entry.new.space) c.entry.ensures.reads)) file.data_fork.logical_size c.args.from (length c.args.value.now) i))
-    ∙ over_is c.args.volume.now (g.P.SectorView.space c.args.space.now) c.requires.stands tells (c.requires.settled tells) node stands kind file same put c.args.from (length c.args.value.now) (put_id ∙ sym number) at ∙ flat))
+    (c.put_in_entry.ensures.spent (c.entry.ensures.reads.looks.same.tells ∙ tells) file (entry_is k a held tells kept node stands kind c.args.id c.in-Some.entry number it))
 
 pub returns-in-Some-clause-puts : goal.returns-in-Some-clause-puts
 returns-in-Some-clause-puts g c tells =
@@ -164,7 +184,7 @@ pub returns-in-None-clause-space : goal.returns-in-None-clause-space
 returns-in-None-clause-space g c = c.entry.ensures.reads.looks.same
 
 pub returns-in-None-clause-spent : goal.returns-in-None-clause-spent
-returns-in-None-clause-spent g c tells node stands number kind put put_id at flat = inl (omega (arith, c.entry.ensures.reads.looks.spare))
+returns-in-None-clause-spent g c tells node stands number kind put put_id at = inl (omega (arith, c.entry.ensures.reads.looks.spare))
 
 pub returns-in-None-clause-service : goal.returns-in-None-clause-service
 returns-in-None-clause-service g c = c.entry.ensures.stands.service
@@ -179,7 +199,7 @@ pub returns-in_err-entry-clause-space : goal.returns-in_err-entry-clause-space
 returns-in_err-entry-clause-space g c = c.entry.ensures.reads.looks.same
 
 pub returns-in_err-entry-clause-spent : goal.returns-in_err-entry-clause-spent
-returns-in_err-entry-clause-spent g c tells node stands number kind put put_id at flat = inl (omega (arith, c.entry.ensures.reads.looks.spare))
+returns-in_err-entry-clause-spent g c tells node stands number kind put put_id at = inl (omega (arith, c.entry.ensures.reads.looks.spare))
 
 pub returns-in_err-entry-clause-service : goal.returns-in_err-entry-clause-service
 returns-in_err-entry-clause-service g c = c.entry.ensures.stands.service

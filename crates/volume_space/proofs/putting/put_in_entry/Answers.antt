@@ -1,15 +1,12 @@
-use Rattle.std.proofs.Common.{◌≡◌, ◌⊎◌, inl, ◌≤◌, ◌+◌, ℕ, true, false, List, length, refl, sym, ◌∙◌, ap, subst, arith}
+use Rattle.std.proofs.Common.{◌≡◌, ◌⊎◌, inl, ◌≤◌, ◌+◌, false, length, refl, sym, ◌∙◌, ap, subst, arith}
 use Rattle.std.specs.Prelude.{IfOk, IsTrue}
 use Rattle.cat_records.specs.Fits.{FitsRecord}
 use Rattle.cat_records.specs.declared.record.FileRecord.{FileRecord}
 use Rattle.hfs_volume.specs.Records.{is_thread}
-use Rattle.alloc_bitmap.specs.Map.{free_of}
 use Rattle.file_io.specs.Places.{blocks_for}
-use Rattle.flag_rows.specs.Runs.{fewest_of}
 use Rattle.hfs_volume.specs.Content.{volume_of}
-use Rattle.hfs_volume.specs.Weight.{free_runs}
 use Rattle.volume_space.specs.Recording.{records_held}
-use Rattle.volume_space.specs.Writing.{PutsValue, blocks_put, can_put, extents_in, has_more, is_put_met, may_overflow, put_load}
+use Rattle.volume_space.specs.Writing.{PutsValue, can_put, extents_in, has_more, is_put_met, put_load, spread_put_load}
 use Rattle.volume_base.proofs.Commanding.{touches_none}
 use Rattle.volume_space.proofs.PutFile.{not_folder, not_thread, same_file}
 use Rattle.volume_space.proofs.putting.put_in_entry.Goals as goal
@@ -33,7 +30,9 @@ returns-in-File-clause-puts g c tells file is =
 
 pub returns-in-File-clause-spent : goal.returns-in-File-clause-spent
 returns-in-File-clause-spent g c tells file is =
-    subst (λ (f : FileRecord). may_overflow (length (extents_in (g.P.SectorView.space c.args.space.now).content f)) (fewest_of (blocks_put c.args.volume.now f.data_fork.logical_size c.args.from (length c.args.value.now)) (free_runs (free_of c.args.volume.now.map))) ≡ false → ((g.P.SectorView.space c.args.space.now).spare ≤ (g.P.SectorView.space c.put_in_file.new.space).spare) ⊎ ((can_put c.args.volume.now (g.P.SectorView.space c.args.space.now).spare (length (extents_in (g.P.SectorView.space c.args.space.now).content f)) f.data_fork.total_blocks f.data_fork.logical_size c.args.from (length c.args.value.now) ≡ true) × ((g.P.SectorView.space c.args.space.now).spare ≤ (g.P.SectorView.space c.put_in_file.new.space).spare + put_load c.args.volume.now f.data_fork.logical_size c.args.from (length c.args.value.now)))) (same_file c.in-File.file file (sym c.in-File.is ∙ is)) (c.put_in_file.ensures.spent tells)
+    subst (λ (f : FileRecord). ((g.P.SectorView.space c.args.space.now).spare ≤ (g.P.SectorView.space c.put_in_file.new.space).spare) ⊎ ((has_more f.data_fork.logical_size (c.args.from + length c.args.value.now) (blocks_for c.args.volume.now.header.block_size f.data_fork.logical_size) f.data_fork.total_blocks ≡ false)
+    × ((g.P.SectorView.space c.args.space.now).spare ≤ (g.P.SectorView.space c.put_in_file.new.space).spare + put_load c.args.volume.now f.data_fork.logical_size c.args.from (length c.args.value.now)
+    + spread_put_load c.args.volume.now (records_held (volume_of (g.P.SectorView.space c.args.space.now).content) f.fields.id) (length (extents_in (g.P.SectorView.space c.args.space.now).content f)) f.data_fork.logical_size c.args.from (length c.args.value.now)))) (same_file c.in-File.file file (sym c.in-File.is ∙ is)) (c.put_in_file.ensures.spent tells)
 
 pub returns-in-File-clause-met : goal.returns-in-File-clause-met
 returns-in-File-clause-met g c tells file is =
@@ -55,7 +54,7 @@ pub returns-in-Folder-clause-waits : goal.returns-in-Folder-clause-waits
 returns-in-Folder-clause-waits g c tells other = (c.requires.settled tells, refl)
 
 pub returns-in-Folder-clause-spent : goal.returns-in-Folder-clause-spent
-returns-in-Folder-clause-spent g c tells file is flat = inl (omega arith)
+returns-in-Folder-clause-spent g c tells file is = inl (omega arith)
 
 pub returns-in-Folder-clause-commit : goal.returns-in-Folder-clause-commit
 returns-in-Folder-clause-commit g c committed holds alike = touches_none committed _ (g.P.SectorView.space c.args.space.now)
@@ -76,7 +75,7 @@ pub returns-in-Thread-clause-waits : goal.returns-in-Thread-clause-waits
 returns-in-Thread-clause-waits g c tells other = (c.requires.settled tells, refl)
 
 pub returns-in-Thread-clause-spent : goal.returns-in-Thread-clause-spent
-returns-in-Thread-clause-spent g c tells file is flat = inl (omega arith)
+returns-in-Thread-clause-spent g c tells file is = inl (omega arith)
 
 pub returns-in-Thread-clause-commit : goal.returns-in-Thread-clause-commit
 returns-in-Thread-clause-commit g c committed holds alike = touches_none committed _ (g.P.SectorView.space c.args.space.now)

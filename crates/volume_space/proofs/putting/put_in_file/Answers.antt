@@ -3,9 +3,7 @@ use Rattle.std.specs.Prelude.{Contains, IfNone, IfSome, Option}
 use Rattle.std.proofs.lemmas.Bool.{true≢false}
 use Rattle.hx_bytes.specs.declared.extents.Extent.{Extent}
 use Rattle.flag_rows.specs.Bits.{count_set, sectors_for}
-use Rattle.flag_rows.specs.Runs.{fewest_of}
 use Rattle.file_io.specs.Places.{blocks_for}
-use Rattle.hfs_volume.specs.Weight.{free_runs}
 use Rattle.volume_header.specs.declared.header.VolumeHeader.{VolumeHeader}
 use Rattle.alloc_bitmap.specs.Map.{BlockMap, free_of, none}
 use Rattle.catalog.specs.Pairs.{value_at}
@@ -15,11 +13,11 @@ use Rattle.hfs_volume.specs.Aside.{IsJournalSector}
 use Rattle.hfs_volume.specs.Content.{VolumeState, volume_of}
 use Rattle.volume_base.specs.Touching.{Touches}
 use Rattle.volume_space.specs.Recording.{records_held}
-use Rattle.volume_space.specs.Writing.{is_put_met, IsToldFile, blocks_put, can_put, extents_in, has_more, may_overflow, put_load}
+use Rattle.volume_space.specs.Writing.{is_put_met, IsToldFile, blocks_put, can_put, extents_in, has_more, put_load}
 use Rattle.volume_base.proofs.Commanding.{touches_both, touches_looks}
 use Rattle.volume_space.proofs.KeptUsed.{used_read}
 use Rattle.volume_space.proofs.PutMet.{met_alike}
-use Rattle.volume_space.proofs.PutAlike.{alike_read, can_still, fewest_still, laid_alike, load_alike, puts_alike}
+use Rattle.volume_space.proofs.PutAlike.{alike_read, can_still, laid_alike, load_alike, puts_alike, spread_alike}
 use Rattle.volume_base.proofs.Still.{lists_still, own_still}
 use Rattle.volume_space.proofs.putting.put_in_file.Goals as goal
 
@@ -114,7 +112,7 @@ pub returns-clause-commit : goal.returns-clause-commit
 returns-clause-commit g c committed holds alike = touches_looks committed _ (g.P.SectorView.space c.args.space.now) (g.P.SectorView.space c.data_fork.new.space) c.data_fork.ensures.reads.looks
 
 pub returns-clause-spent : goal.returns-clause-spent
-returns-clause-spent g c tells flat = inl (omega (arith, c.data_fork.ensures.reads.looks.spare))
+returns-clause-spent g c tells = inl (omega (arith, c.data_fork.ensures.reads.looks.spare))
 
 pub returns-clause-space : goal.returns-clause-space
 returns-clause-space g c = c.data_fork.ensures.reads.looks.same
@@ -129,7 +127,7 @@ pub returns-then-not-are_countable-clause-commit : goal.returns-then-not-are_cou
 returns-then-not-are_countable-clause-commit g c committed holds alike = touches_looks committed _ (g.P.SectorView.space c.args.space.now) (g.P.SectorView.space c.data_fork.new.space) c.data_fork.ensures.reads.looks
 
 pub returns-then-not-are_countable-clause-spent : goal.returns-then-not-are_countable-clause-spent
-returns-then-not-are_countable-clause-spent g c tells flat = inl (omega (arith, c.data_fork.ensures.reads.looks.spare))
+returns-then-not-are_countable-clause-spent g c tells = inl (omega (arith, c.data_fork.ensures.reads.looks.spare))
 
 pub returns-then-not-are_countable-clause-space : goal.returns-then-not-are_countable-clause-space
 returns-then-not-are_countable-clause-space g c = c.data_fork.ensures.reads.looks.same
@@ -144,7 +142,7 @@ pub returns-in_err-fork-clause-commit : goal.returns-in_err-fork-clause-commit
 returns-in_err-fork-clause-commit g c committed holds alike = touches_looks committed _ (g.P.SectorView.space c.args.space.now) (g.P.SectorView.space c.data_fork.new.space) c.data_fork.ensures.reads.looks
 
 pub returns-in_err-fork-clause-spent : goal.returns-in_err-fork-clause-spent
-returns-in_err-fork-clause-spent g c tells flat = inl (omega (arith, c.data_fork.ensures.reads.looks.spare))
+returns-in_err-fork-clause-spent g c tells = inl (omega (arith, c.data_fork.ensures.reads.looks.spare))
 
 pub returns-in_err-fork-clause-space : goal.returns-in_err-fork-clause-space
 returns-in_err-fork-clause-space g c = c.data_fork.ensures.reads.looks.same
@@ -165,19 +163,49 @@ pub returns-clause-holds : goal.returns-clause-holds
 returns-clause-holds g c committed was = (used_read c.args.volume.now c.data_fork.new.volume (g.P.SectorView.space c.args.space.now) (g.P.SectorView.space c.data_fork.new.space) c.data_fork.ensures.reads).holds committed was
 
 pub returns-in-Some-clause-spent : goal.returns-in-Some-clause-spent
-returns-in-Some-clause-spent g c tells flat =
-    let both = (subst (λ (o : Option Bool). IfSome o (λ spread. may_overflow c.len-extents.result (fewest_of (blocks_put c.data_fork.new.volume c.args.file.now.data_fork.logical_size c.args.from (length c.args.value.now)) (free_runs (free_of c.data_fork.new.volume.map))) ≡ false → (spread ≡ false) × (can_put c.data_fork.new.volume (g.P.SectorView.space c.data_fork.new.space).spare c.len-extents.result c.args.file.now.data_fork.total_blocks c.args.file.now.data_fork.logical_size c.args.from (length c.args.value.now) ≡ true))) c.in-Some.is c.how_to_put-how.ensures.flat) ((λ i. may_overflow ((c.len-extents.ensures ∙ ap (λ (l : List Extent). length l) (c.in_ok-fork.ensures.found tells)) i) (fewest_still c.args.volume.now c.data_fork.new.volume (alike_read c.args.volume.now c.data_fork.new.volume (g.P.SectorView.space c.args.space.now) (g.P.SectorView.space c.data_fork.new.space) c.data_fork.ensures.reads) c.args.file.now.data_fork.logical_size c.args.from (length c.args.value.now) i)) ∙ flat) in
+returns-in-Some-clause-spent g c tells =
+    let v = c.args.volume.now in
+    let u = c.data_fork.new.volume in
+    let a = g.P.SectorView.space c.args.space.now in
+    let b = g.P.SectorView.space c.data_fork.new.space in
+    let file = c.args.file.now in
+    let size = file.data_fork.logical_size in
+    let long = length c.args.value.now in
+    let like = alike_read v u a b c.data_fork.ensures.reads in
     inr (
-      sym (can_still c.args.volume.now c.data_fork.new.volume (alike_read c.args.volume.now c.data_fork.new.volume (g.P.SectorView.space c.args.space.now) (g.P.SectorView.space c.data_fork.new.space) c.data_fork.ensures.reads) c.args.file.now.data_fork.logical_size c.args.from (length c.args.value.now) (g.P.SectorView.space c.data_fork.new.space).spare (g.P.SectorView.space c.args.space.now).spare c.len-extents.result (length (extents_in (g.P.SectorView.space c.args.space.now).content c.args.file.now)) c.args.file.now.data_fork.total_blocks c.data_fork.ensures.reads.looks.spare (c.len-extents.ensures ∙ ap (λ (l : List Extent). length l) (c.in_ok-fork.ensures.found tells)) _ refl) ∙ both.1,
-      omega (arith, c.data_fork.ensures.reads.looks.spare, c.put_over.ensures.spent (c.data_fork.ensures.reads.looks.same.tells ∙ tells) both.0, load_alike c.args.volume.now c.data_fork.new.volume (alike_read c.args.volume.now c.data_fork.new.volume (g.P.SectorView.space c.args.space.now) (g.P.SectorView.space c.data_fork.new.space) c.data_fork.ensures.reads) c.args.file.now.data_fork.logical_size c.args.from (length c.args.value.now)),
+      subst (λ (h : VolumeHeader). has_more size (c.args.from + long) (blocks_for h.block_size size) file.data_fork.total_blocks ≡ false) c.data_fork.ensures.reads.keeps.header
+          (subst (λ (o : Option Bool). IfSome o (λ spread. has_more size (c.args.from + long) (blocks_for u.header.block_size size) file.data_fork.total_blocks ≡ false)) c.in-Some.is c.how_to_put-how.ensures.cut),
+      omega (
+        arith,
+        c.data_fork.ensures.reads.looks.spare,
+        c.put_over.ensures.spent (c.data_fork.ensures.reads.looks.same.tells ∙ tells),
+        load_alike v u like size c.args.from long,
+        spread_alike v u like size c.args.from long c.in_ok-fork.fork.records (records_held (volume_of a.content) file.fields.id) (length c.in_ok-fork.fork.list) (length (extents_in a.content file)) c.data_fork.ensures.reads.keeps.extents.file.shape
+            (c.in_ok-fork.ensures.counted tells) (ap (λ (l : List Extent). length l) (c.in_ok-fork.ensures.found tells)),
+      ),
     )
 
 pub returns-in_err-put_over-clause-spent : goal.returns-in_err-put_over-clause-spent
-returns-in_err-put_over-clause-spent g c tells flat =
-    let both = (subst (λ (o : Option Bool). IfSome o (λ spread. may_overflow c.len-extents.result (fewest_of (blocks_put c.data_fork.new.volume c.args.file.now.data_fork.logical_size c.args.from (length c.args.value.now)) (free_runs (free_of c.data_fork.new.volume.map))) ≡ false → (spread ≡ false) × (can_put c.data_fork.new.volume (g.P.SectorView.space c.data_fork.new.space).spare c.len-extents.result c.args.file.now.data_fork.total_blocks c.args.file.now.data_fork.logical_size c.args.from (length c.args.value.now) ≡ true))) c.in-Some.is c.how_to_put-how.ensures.flat) ((λ i. may_overflow ((c.len-extents.ensures ∙ ap (λ (l : List Extent). length l) (c.in_ok-fork.ensures.found tells)) i) (fewest_still c.args.volume.now c.data_fork.new.volume (alike_read c.args.volume.now c.data_fork.new.volume (g.P.SectorView.space c.args.space.now) (g.P.SectorView.space c.data_fork.new.space) c.data_fork.ensures.reads) c.args.file.now.data_fork.logical_size c.args.from (length c.args.value.now) i)) ∙ flat) in
+returns-in_err-put_over-clause-spent g c tells =
+    let v = c.args.volume.now in
+    let u = c.data_fork.new.volume in
+    let a = g.P.SectorView.space c.args.space.now in
+    let b = g.P.SectorView.space c.data_fork.new.space in
+    let file = c.args.file.now in
+    let size = file.data_fork.logical_size in
+    let long = length c.args.value.now in
+    let like = alike_read v u a b c.data_fork.ensures.reads in
     inr (
-      sym (can_still c.args.volume.now c.data_fork.new.volume (alike_read c.args.volume.now c.data_fork.new.volume (g.P.SectorView.space c.args.space.now) (g.P.SectorView.space c.data_fork.new.space) c.data_fork.ensures.reads) c.args.file.now.data_fork.logical_size c.args.from (length c.args.value.now) (g.P.SectorView.space c.data_fork.new.space).spare (g.P.SectorView.space c.args.space.now).spare c.len-extents.result (length (extents_in (g.P.SectorView.space c.args.space.now).content c.args.file.now)) c.args.file.now.data_fork.total_blocks c.data_fork.ensures.reads.looks.spare (c.len-extents.ensures ∙ ap (λ (l : List Extent). length l) (c.in_ok-fork.ensures.found tells)) _ refl) ∙ both.1,
-      omega (arith, c.data_fork.ensures.reads.looks.spare, c.put_over.ensures.spent (c.data_fork.ensures.reads.looks.same.tells ∙ tells) both.0, load_alike c.args.volume.now c.data_fork.new.volume (alike_read c.args.volume.now c.data_fork.new.volume (g.P.SectorView.space c.args.space.now) (g.P.SectorView.space c.data_fork.new.space) c.data_fork.ensures.reads) c.args.file.now.data_fork.logical_size c.args.from (length c.args.value.now)),
+      subst (λ (h : VolumeHeader). has_more size (c.args.from + long) (blocks_for h.block_size size) file.data_fork.total_blocks ≡ false) c.data_fork.ensures.reads.keeps.header
+          (subst (λ (o : Option Bool). IfSome o (λ spread. has_more size (c.args.from + long) (blocks_for u.header.block_size size) file.data_fork.total_blocks ≡ false)) c.in-Some.is c.how_to_put-how.ensures.cut),
+      omega (
+        arith,
+        c.data_fork.ensures.reads.looks.spare,
+        c.put_over.ensures.spent (c.data_fork.ensures.reads.looks.same.tells ∙ tells),
+        load_alike v u like size c.args.from long,
+        spread_alike v u like size c.args.from long c.in_ok-fork.fork.records (records_held (volume_of a.content) file.fields.id) (length c.in_ok-fork.fork.list) (length (extents_in a.content file)) c.data_fork.ensures.reads.keeps.extents.file.shape
+            (c.in_ok-fork.ensures.counted tells) (ap (λ (l : List Extent). length l) (c.in_ok-fork.ensures.found tells)),
+      ),
     )
 
 pub put_over-requires-clause-free : goal.put_over-requires-clause-free
@@ -203,3 +231,6 @@ returns-clause-no_cut g c tells so = absurd (true≢false (sym so))
 pub returns-clause-exactly : goal.returns-clause-exactly
 returns-clause-exactly g c tells other =
     sym (can_still c.args.volume.now c.data_fork.new.volume (alike_read c.args.volume.now c.data_fork.new.volume (g.P.SectorView.space c.args.space.now) (g.P.SectorView.space c.data_fork.new.space) c.data_fork.ensures.reads) c.args.file.now.data_fork.logical_size c.args.from (length c.args.value.now) (g.P.SectorView.space c.data_fork.new.space).spare (g.P.SectorView.space c.args.space.now).spare c.len-extents.result (length (extents_in (g.P.SectorView.space c.args.space.now).content c.args.file.now)) c.args.file.now.data_fork.total_blocks c.data_fork.ensures.reads.looks.spare (c.len-extents.ensures ∙ ap (λ (l : List Extent). length l) (c.in_ok-fork.ensures.found tells)) _ refl) ∙ subst (λ (o : Option Bool). IfNone o (can_put c.data_fork.new.volume (g.P.SectorView.space c.data_fork.new.space).spare c.len-extents.result c.args.file.now.data_fork.total_blocks c.args.file.now.data_fork.logical_size c.args.from (length c.args.value.now) ≡ false)) c.in_default.is c.how_to_put-how.ensures.exactly
+
+pub put_over-requires-clause-countable : goal.put_over-requires-clause-countable
+put_over-requires-clause-countable g c = omega (arith, c.len-extents.ensures, c.are_countable.ensures c.if-not-are_countable.false)

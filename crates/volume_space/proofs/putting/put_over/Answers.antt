@@ -1,17 +1,20 @@
-use Rattle.std.proofs.Common.{◌≡◌, inl, inr, ◌<◌, ◌≤◌, ℕ, ◌+◌, ◌-◌, ◌/◌, ◌++◌, [], ◌∷◌, not, List, length, take, drop, refl, sym, ◌∙◌, ap, subst, arith}
-use Rattle.std.specs.Prelude.{Contains, IfSome, IsTrue, Option, Some}
+use Rattle.std.proofs.Common.{◌≡◌, inl, ℕ, ◌+◌, ◌-◌, not, List, length, refl, sym, ◌∙◌, ap, subst, arith}
+use Rattle.std.specs.Prelude.{Contains, IfSome, Option, Some}
 use Rattle.std.proofs.lemmas.List.Sums.{count_by-le-length}
 use Rattle.cat_records.specs.declared.record.CatRecord.{CatRecord}
-use Rattle.sector_disk.specs.Space.{Space}
 use Rattle.sector_disk.proofs.SpaceLaws.{space_both}
+use Rattle.flag_rows.specs.Runs.{fewest_of}
+use Rattle.alloc_bitmap.specs.Map.{free_of}
 use Rattle.file_io.specs.Places.{first_block, middle, old_end}
+use Rattle.hfs_volume.specs.Weight.{free_runs}
 use Rattle.volume_space.specs.Mapping.{changed_sectors}
 use Rattle.volume_base.specs.Standing.{map_sectors, own_sectors}
 use Rattle.volume_base.specs.Touching.{Touches}
-use Rattle.volume_space.specs.Writing.{blocks_put}
+use Rattle.volume_space.specs.Writing.{blocks_put, most_extents}
 use Rattle.volume_space.specs.declared.putting.Sums.{Sums}
 use Rattle.volume_base.proofs.Commanding.{touches_both}
 use Rattle.volume_space.proofs.PutHeld.{holds_put}
+use Rattle.volume_space.proofs.PutLoads.{most_load}
 use Rattle.volume_space.proofs.PutOver.{bits_are, changed_few, map_own, old_fits, still_unchanged}
 use Rattle.volume_space.proofs.PutStages.{value_put}
 use Rattle.volume_base.proofs.Touched.{touches_header, touches_within}
@@ -83,14 +86,37 @@ returns-clause-commit g c committed holds alike =
     (touches_header c.place_data.new.volume committed (g.P.SectorView.space c.put_map.new.space) (g.P.SectorView.space c.put_header.new.space) c.put_header.ensures.within))
 
 pub returns-clause-spent : goal.returns-clause-spent
-returns-clause-spent g c tells flat =
+returns-clause-spent g c tells =
+    let most : c.most_extents-most.result ≡ most_extents (length c.args.list.now) (fewest_of (blocks_put c.args.volume.now c.args.file.now.data_fork.logical_size c.args.from (length c.args.value.now)) (free_runs (free_of c.args.volume.now.map))) =
+    c.most_extents-most.ensures ∙ (λ i. most_extents (c.len.ensures i) ((c.fewest-runs.ensures ∙ ap (λ n. fewest_of n (free_runs (free_of c.args.volume.now.map))) c.count_blocks-counts.ensures.fresh) i)) in
     omega (
       arith,
-      c.place_data.ensures.spent tells flat,
+      c.place_data.ensures.spent tells,
+      most_load c.args.volume.now c.args.records (length c.args.list.now) c.args.file.now.data_fork.logical_size c.args.from (length c.args.value.now) c.most_extents-most.result most,
       c.put_map.ensures.spent,
       count_by-le-length (λ (s : ℕ). not ((g.P.SectorView.space c.place_data.new.space).put s)) (changed_sectors c.place_data.new.volume),
       changed_few c.args.volume.now c.place_data.new.volume (g.P.SectorView.space c.args.space.now) c.args.file.now.data_fork.logical_size c.args.from (length c.args.value.now) c.args.list.now (c.is_sure.ensures c.if-not-is_sure.false) c.requires.some c.requires.free c.requires.unchanged c.in_ok-place_data.ensures.map,
       c.put_header.ensures.spent,
+    )
+
+pub returns-in_err-place_data-clause-spent : goal.returns-in_err-place_data-clause-spent
+returns-in_err-place_data-clause-spent g c tells =
+    let most : c.most_extents-most.result ≡ most_extents (length c.args.list.now) (fewest_of (blocks_put c.args.volume.now c.args.file.now.data_fork.logical_size c.args.from (length c.args.value.now)) (free_runs (free_of c.args.volume.now.map))) =
+    c.most_extents-most.ensures ∙ (λ i. most_extents (c.len.ensures i) ((c.fewest-runs.ensures ∙ ap (λ n. fewest_of n (free_runs (free_of c.args.volume.now.map))) c.count_blocks-counts.ensures.fresh) i)) in
+    omega (
+      arith,
+      c.place_data.ensures.spent tells,
+      most_load c.args.volume.now c.args.records (length c.args.list.now) c.args.file.now.data_fork.logical_size c.args.from (length c.args.value.now) c.most_extents-most.result most,
+    )
+
+pub returns-then-not-has_room-clause-spent : goal.returns-then-not-has_room-clause-spent
+returns-then-not-has_room-clause-spent g c tells =
+    let most : c.most_extents-most.result ≡ most_extents (length c.args.list.now) (fewest_of (blocks_put c.args.volume.now c.args.file.now.data_fork.logical_size c.args.from (length c.args.value.now)) (free_runs (free_of c.args.volume.now.map))) =
+    c.most_extents-most.ensures ∙ (λ i. most_extents (c.len.ensures i) ((c.fewest-runs.ensures ∙ ap (λ n. fewest_of n (free_runs (free_of c.args.volume.now.map))) c.count_blocks-counts.ensures.fresh) i)) in
+    omega (
+      arith,
+      c.place_data.ensures.spent tells,
+      most_load c.args.volume.now c.args.records (length c.args.list.now) c.args.file.now.data_fork.logical_size c.args.from (length c.args.value.now) c.most_extents-most.result most,
     )
 
 pub returns-clause-space : goal.returns-clause-space

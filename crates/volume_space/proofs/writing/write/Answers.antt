@@ -1,22 +1,18 @@
-use Rattle.std.proofs.Common.{◌≡◌, ◌≤◌, ℕ, true, false, List, length, refl, sym, ◌∙◌, ap, subst, arith}
-use Rattle.std.specs.Prelude.{Contains, IfNone, IfOk, IfSome, Option, Some, None, Result, Ok, Err}
+use Rattle.std.proofs.Common.{◌≡◌, ℕ, true, false, List, sym, ◌∙◌, ap, subst, arith}
+use Rattle.std.specs.Prelude.{Contains, IfNone, IfOk, IfSome, Some, Ok}
 use Rattle.sector_disk.specs.Lists.{Content}
 use Rattle.sector_disk.proofs.SpaceLaws.{space_both}
 use Rattle.hfs_language.specs.declared.command.Command.TheVariants as command
-use Rattle.hfs_language.specs.declared.reply.Reply.{Reply}
 use Rattle.hfs_language.specs.declared.reply.Reply.TheVariants as reply
 use Rattle.hfs_model.specs.Step.{is_refusal, refuses, step_line}
 use Rattle.hfs_volume.specs.Aside.{IsJournalSector}
 use Rattle.hfs_volume.specs.Content.{volume_of}
 use Rattle.hfs_volume.specs.TreeOf.{tree_of}
-use Rattle.flag_rows.specs.Runs.{fewest_of}
-use Rattle.hfs_volume.specs.Forks.{data_kind}
-use Rattle.hfs_volume.specs.Weight.{Data, data_of, file_extents, free_runs, new_blocks_of, weight_with}
-use Rattle.volume_header.specs.declared.header.VolumeHeader.{VolumeHeader}
-use Rattle.alloc_bitmap.specs.Map.{BlockMap, free_of}
+use Rattle.hfs_volume.specs.Weight.{data_of, weight_with}
+use Rattle.alloc_bitmap.specs.Map.{free_of}
 use Rattle.volume_base.specs.Refusing.{facts_or}
 use Rattle.volume_base.specs.Touching.{Touches}
-use Rattle.volume_space.specs.Writing.{HasData, is_data_met, is_put_now, may_overflow}
+use Rattle.volume_space.specs.Writing.{HasData, IsFilled, is_data_met, is_put_now}
 use Rattle.volume_base.proofs.Commanding.{touches_both, touches_looks}
 use Rattle.volume_space.proofs.KeptUsed.{used_read}
 use Rattle.volume_space.proofs.PutAlike.{alike_read, laid_alike, now_alike}
@@ -75,7 +71,13 @@ returns-in-Ok-clause-met g c tells =
     (c.write_told.ensures.met (c.facts.ensures.reads.looks.same.tells ∙ tells))
 
 pub returns-in-Ok-clause-loads : goal.returns-in-Ok-clause-loads
-returns-in-Ok-clause-loads g c tells flat n grow is = omega (arith, c.facts.ensures.reads.looks.spare, c.write_told.ensures.loads (c.facts.ensures.reads.looks.same.tells ∙ tells) (subst (λ (k : VolumeHeader × BlockMap × Content). (put : Data) → data_of (tree_of k.2) (command.Write c.args.path.now c.args.from c.args.value.now) ≡ Some put → may_overflow (length (file_extents (volume_of k.2) put.id data_kind)) (fewest_of (new_blocks_of k.0.block_size put) (free_runs (free_of k.1))) ≡ false) {x = (c.args.volume.now.header, c.args.volume.now.map, (g.P.SectorView.space c.args.space.now).content)} {y = (c.facts.new.self.header, c.facts.new.self.map, (g.P.SectorView.space c.facts.new.space).content)} (λ i. (sym c.facts.ensures.reads.keeps.header i, sym c.facts.ensures.reads.keeps.map i, sym (c.facts.ensures.reads.looks.content tells) i)) flat) n grow ((λ i. weight_with (c.facts.ensures.reads.keeps.capacity i) (free_of (c.facts.ensures.reads.keeps.map i)) (volume_of (c.facts.ensures.reads.looks.content tells i)) (tree_of (c.facts.ensures.reads.looks.content tells i)) (command.Write c.args.path.now c.args.from c.args.value.now)) ∙ is))
+returns-in-Ok-clause-loads g c tells filled n grow is =
+    omega (
+      arith,
+      c.facts.ensures.reads.looks.spare,
+      c.write_told.ensures.loads (c.facts.ensures.reads.looks.same.tells ∙ tells) (subst (λ (k : Content). IsFilled (command.Write c.args.path.now c.args.from c.args.value.now) k) (sym (c.facts.ensures.reads.looks.content tells)) filled) n grow
+          ((λ i. weight_with (c.facts.ensures.reads.keeps.capacity i) (free_of (c.facts.ensures.reads.keeps.map i)) (volume_of (c.facts.ensures.reads.looks.content tells i)) (tree_of (c.facts.ensures.reads.looks.content tells i)) (command.Write c.args.path.now c.args.from c.args.value.now)) ∙ is),
+    )
 
 pub returns-in-Ok-clause-shrunk : goal.returns-in-Ok-clause-shrunk
 returns-in-Ok-clause-shrunk g c = c.write_told.ensures.same.1 ∙ c.facts.ensures.reads.keeps.shrunk
@@ -119,7 +121,7 @@ pub returns-in-Err-clause-service : goal.returns-in-Err-clause-service
 returns-in-Err-clause-service g c = c.facts.ensures.stands.service
 
 pub returns-in-Err-clause-loads : goal.returns-in-Err-clause-loads
-returns-in-Err-clause-loads g c tells flat n grow is = omega (arith, c.facts.ensures.reads.looks.spare)
+returns-in-Err-clause-loads g c tells filled n grow is = omega (arith, c.facts.ensures.reads.looks.spare)
 
 pub returns-in-Err-clause-shrunk : goal.returns-in-Err-clause-shrunk
 returns-in-Err-clause-shrunk g c = c.facts.ensures.reads.keeps.shrunk
@@ -137,7 +139,7 @@ pub returns-in_err-told-clause-service : goal.returns-in_err-told-clause-service
 returns-in_err-told-clause-service g c = c.facts.ensures.stands.service
 
 pub returns-in_err-told-clause-loads : goal.returns-in_err-told-clause-loads
-returns-in_err-told-clause-loads g c tells flat n grow is = omega (arith, c.facts.ensures.reads.looks.spare)
+returns-in_err-told-clause-loads g c tells filled n grow is = omega (arith, c.facts.ensures.reads.looks.spare)
 
 pub returns-in_err-told-clause-shrunk : goal.returns-in_err-told-clause-shrunk
 returns-in_err-told-clause-shrunk g c = c.facts.ensures.reads.keeps.shrunk

@@ -1,8 +1,7 @@
-use Rattle.std.proofs.Common.{◌≡◌, ◌⊎◌, ⊎_elim, ◌<◌, ◌≤◌, ℕ, ◌+◌, ◌-◌, [], ◌∷◌, true, false, List, length, refl, sym, ◌∙◌, ap, subst, arith}
-use Rattle.std.specs.Prelude.{Contains, Option, Some, None, Ok}
+use Rattle.std.proofs.Common.{◌≡◌, ◌⊎◌, ⊎_elim, ◌-◌, true, false, length, refl, sym, ◌∙◌, ap, subst, arith}
+use Rattle.std.specs.Prelude.{Option, Some}
 use Rattle.std.proofs.lemmas.Bool.{true≢false}
 use Rattle.hfs_language.specs.declared.command.Command.TheVariants as command
-use Rattle.hfs_language.specs.declared.reply.Reply.{Reply}
 use Rattle.hfs_language.specs.declared.reply.Reply.TheVariants as reply
 use Rattle.hfs_model.specs.Step.{Step}
 use Rattle.hfs_volume.specs.Content.{volume_of}
@@ -10,8 +9,8 @@ use Rattle.hfs_volume.specs.TreeOf.{tree_of}
 use Rattle.hfs_volume.specs.Weight.{Data}
 use Rattle.volume_space.specs.Writing.{PutsAt, is_data_met, is_put_now}
 use Rattle.volume_base.proofs.Commanding.{touches_none}
-use Rattle.volume_space.proofs.PutDone.{data_done, no_cut_now, write_done}
-use Rattle.volume_space.proofs.PutLoads.{write_loaded}
+use Rattle.volume_space.proofs.PutDone.{data_done, write_done}
+use Rattle.volume_space.proofs.PutLoads.{some_data, write_loaded}
 use Rattle.volume_space.proofs.PutTold.{done_not_refused, file_there, put_by_write, write_at, write_data, write_id, write_line, write_refused_told, write_small, write_tree}
 use Rattle.volume_base.proofs.ToldFile.{empty_data, empty_line, told_node, write_told}
 use Rattle.volume_space.proofs.writing.write_told.Goals as goal
@@ -88,37 +87,67 @@ returns-clause-met g c tells =
     ap (λ (o : Option Data). is_data_met c.args.volume.now (g.P.SectorView.space c.args.space.now).spare (volume_of (g.P.SectorView.space c.args.space.now).content) o) (write_data (tree_of (g.P.SectorView.space c.args.space.now).content) c.args._path.now c.args.told.now it.node about.0 c.args.from c.args.value.now (c.is_nothing.ensures.some c.if-is_nothing.false)) ∙ c.in_ok-put.ensures.met tells it.node there.0 about.0.id there.1 (put_by_write (tree_of (g.P.SectorView.space c.args.space.now).content) c.args._path.now c.args.told.now it.node about.0 c.args.from c.args.value.now) (write_id (tree_of (g.P.SectorView.space c.args.space.now).content) c.args._path.now c.args.told.now it.node about.0 c.args.from c.args.value.now) (write_at (tree_of (g.P.SectorView.space c.args.space.now).content) c.args._path.now c.args.told.now it.node about.0 c.args.from c.args.value.now (c.is_nothing.ensures.some c.if-is_nothing.false)) c.if-put.false
 
 pub returns-then-put-clause-loads : goal.returns-then-put-clause-loads
-returns-then-put-clause-loads g c tells flat n grow is =
-    let it = told_node (tree_of (g.P.SectorView.space c.args.space.now).content) c.args._path.now c.args.told.now (c.requires.told tells) in
-    let about = write_told (tree_of (g.P.SectorView.space c.args.space.now).content) c.args._path.now c.args.told.now it c.args.from c.args.value.now (sym c.in_default.is ∙ c.against_write.ensures) in
-    let there = file_there (tree_of (g.P.SectorView.space c.args.space.now).content) c.args._path.now it.node about.0.file in
+returns-then-put-clause-loads g c tells filled n grow is =
+    let v = c.args.volume.now in
+    let a = g.P.SectorView.space c.args.space.now in
+    let tree = tree_of a.content in
+    let it = told_node tree c.args._path.now c.args.told.now (c.requires.told tells) in
+    let about = write_told tree c.args._path.now c.args.told.now it c.args.from c.args.value.now (sym c.in_default.is ∙ c.against_write.ensures) in
+    let there = file_there tree c.args._path.now it.node about.0.file in
+    let put = put_by_write tree c.args._path.now c.args.told.now it.node about.0 c.args.from c.args.value.now in
+    let at = write_at tree c.args._path.now c.args.told.now it.node about.0 c.args.from c.args.value.now (c.is_nothing.ensures.some c.if-is_nothing.false) in
+    let has = write_data tree c.args._path.now c.args.told.now it.node about.0 c.args.from c.args.value.now (c.is_nothing.ensures.some c.if-is_nothing.false) in
     ⊎_elim (λ none_put. omega (arith, none_put))
-    (λ some_put. omega (arith, some_put.1, write_loaded c.args.volume.now (g.P.SectorView.space c.args.space.now).content (c.requires.settled tells) c.args.volume.now.capacity (tree_of (g.P.SectorView.space c.args.space.now).content) c.args._path.now (put_by_write (tree_of (g.P.SectorView.space c.args.space.now).content) c.args._path.now c.args.told.now it.node about.0 c.args.from c.args.value.now) (no_cut_now c.args.volume.now (g.P.SectorView.space c.args.space.now).spare (volume_of (g.P.SectorView.space c.args.space.now).content) (put_by_write (tree_of (g.P.SectorView.space c.args.space.now).content) c.args._path.now c.args.told.now it.node about.0 c.args.from c.args.value.now) some_put.0) n grow c.args.from c.args.value.now (write_data (tree_of (g.P.SectorView.space c.args.space.now).content) c.args._path.now c.args.told.now it.node about.0 c.args.from c.args.value.now (c.is_nothing.ensures.some c.if-is_nothing.false)) is))
-    (c.put_data.ensures.spent tells it.node there.0 about.0.id there.1 (put_by_write (tree_of (g.P.SectorView.space c.args.space.now).content) c.args._path.now c.args.told.now it.node about.0 c.args.from c.args.value.now) (write_id (tree_of (g.P.SectorView.space c.args.space.now).content) c.args._path.now c.args.told.now it.node about.0 c.args.from c.args.value.now) (write_at (tree_of (g.P.SectorView.space c.args.space.now).content) c.args._path.now c.args.told.now it.node about.0 c.args.from c.args.value.now (c.is_nothing.ensures.some c.if-is_nothing.false)) (flat (put_by_write (tree_of (g.P.SectorView.space c.args.space.now).content) c.args._path.now c.args.told.now it.node about.0 c.args.from c.args.value.now) (write_data (tree_of (g.P.SectorView.space c.args.space.now).content) c.args._path.now c.args.told.now it.node about.0 c.args.from c.args.value.now (c.is_nothing.ensures.some c.if-is_nothing.false))))
+    (λ some_put. omega (
+      arith,
+      some_put.1,
+      write_loaded v a.content (c.requires.settled tells) v.capacity tree c.args._path.now put some_put.0 (filled put has) (some_data v put (length it.node.bytes) c.args.from (length c.args.value.now) at (omega (arith, c.requires.stands.service.least)) (c.is_nothing.ensures.some c.if-is_nothing.false)) n grow c.args.from c.args.value.now has is,
+    ))
+    (c.put_data.ensures.spent tells it.node there.0 about.0.id there.1 put (write_id tree c.args._path.now c.args.told.now it.node about.0 c.args.from c.args.value.now) at)
 
 pub returns-then-put-clause-service : goal.returns-then-put-clause-service
 returns-then-put-clause-service g c = c.put_data.ensures.service
 
 pub returns-clause-loads : goal.returns-clause-loads
-returns-clause-loads g c tells flat n grow is =
-    let it = told_node (tree_of (g.P.SectorView.space c.args.space.now).content) c.args._path.now c.args.told.now (c.requires.told tells) in
-    let about = write_told (tree_of (g.P.SectorView.space c.args.space.now).content) c.args._path.now c.args.told.now it c.args.from c.args.value.now (sym c.in_default.is ∙ c.against_write.ensures) in
-    let there = file_there (tree_of (g.P.SectorView.space c.args.space.now).content) c.args._path.now it.node about.0.file in
+returns-clause-loads g c tells filled n grow is =
+    let v = c.args.volume.now in
+    let a = g.P.SectorView.space c.args.space.now in
+    let tree = tree_of a.content in
+    let it = told_node tree c.args._path.now c.args.told.now (c.requires.told tells) in
+    let about = write_told tree c.args._path.now c.args.told.now it c.args.from c.args.value.now (sym c.in_default.is ∙ c.against_write.ensures) in
+    let there = file_there tree c.args._path.now it.node about.0.file in
+    let put = put_by_write tree c.args._path.now c.args.told.now it.node about.0 c.args.from c.args.value.now in
+    let at = write_at tree c.args._path.now c.args.told.now it.node about.0 c.args.from c.args.value.now (c.is_nothing.ensures.some c.if-is_nothing.false) in
+    let has = write_data tree c.args._path.now c.args.told.now it.node about.0 c.args.from c.args.value.now (c.is_nothing.ensures.some c.if-is_nothing.false) in
     ⊎_elim (λ none_put. omega (arith, none_put))
-    (λ some_put. omega (arith, some_put.1, write_loaded c.args.volume.now (g.P.SectorView.space c.args.space.now).content (c.requires.settled tells) c.args.volume.now.capacity (tree_of (g.P.SectorView.space c.args.space.now).content) c.args._path.now (put_by_write (tree_of (g.P.SectorView.space c.args.space.now).content) c.args._path.now c.args.told.now it.node about.0 c.args.from c.args.value.now) (no_cut_now c.args.volume.now (g.P.SectorView.space c.args.space.now).spare (volume_of (g.P.SectorView.space c.args.space.now).content) (put_by_write (tree_of (g.P.SectorView.space c.args.space.now).content) c.args._path.now c.args.told.now it.node about.0 c.args.from c.args.value.now) some_put.0) n grow c.args.from c.args.value.now (write_data (tree_of (g.P.SectorView.space c.args.space.now).content) c.args._path.now c.args.told.now it.node about.0 c.args.from c.args.value.now (c.is_nothing.ensures.some c.if-is_nothing.false)) is))
-    (c.put_data.ensures.spent tells it.node there.0 about.0.id there.1 (put_by_write (tree_of (g.P.SectorView.space c.args.space.now).content) c.args._path.now c.args.told.now it.node about.0 c.args.from c.args.value.now) (write_id (tree_of (g.P.SectorView.space c.args.space.now).content) c.args._path.now c.args.told.now it.node about.0 c.args.from c.args.value.now) (write_at (tree_of (g.P.SectorView.space c.args.space.now).content) c.args._path.now c.args.told.now it.node about.0 c.args.from c.args.value.now (c.is_nothing.ensures.some c.if-is_nothing.false)) (flat (put_by_write (tree_of (g.P.SectorView.space c.args.space.now).content) c.args._path.now c.args.told.now it.node about.0 c.args.from c.args.value.now) (write_data (tree_of (g.P.SectorView.space c.args.space.now).content) c.args._path.now c.args.told.now it.node about.0 c.args.from c.args.value.now (c.is_nothing.ensures.some c.if-is_nothing.false))))
+    (λ some_put. omega (
+      arith,
+      some_put.1,
+      write_loaded v a.content (c.requires.settled tells) v.capacity tree c.args._path.now put some_put.0 (filled put has) (some_data v put (length it.node.bytes) c.args.from (length c.args.value.now) at (omega (arith, c.requires.stands.service.least)) (c.is_nothing.ensures.some c.if-is_nothing.false)) n grow c.args.from c.args.value.now has is,
+    ))
+    (c.put_data.ensures.spent tells it.node there.0 about.0.id there.1 put (write_id tree c.args._path.now c.args.told.now it.node about.0 c.args.from c.args.value.now) at)
 
 pub returns-clause-service : goal.returns-clause-service
 returns-clause-service g c = c.put_data.ensures.service
 
 pub returns-in_err-put-clause-loads : goal.returns-in_err-put-clause-loads
-returns-in_err-put-clause-loads g c tells flat n grow is =
-    let it = told_node (tree_of (g.P.SectorView.space c.args.space.now).content) c.args._path.now c.args.told.now (c.requires.told tells) in
-    let about = write_told (tree_of (g.P.SectorView.space c.args.space.now).content) c.args._path.now c.args.told.now it c.args.from c.args.value.now (sym c.in_default.is ∙ c.against_write.ensures) in
-    let there = file_there (tree_of (g.P.SectorView.space c.args.space.now).content) c.args._path.now it.node about.0.file in
+returns-in_err-put-clause-loads g c tells filled n grow is =
+    let v = c.args.volume.now in
+    let a = g.P.SectorView.space c.args.space.now in
+    let tree = tree_of a.content in
+    let it = told_node tree c.args._path.now c.args.told.now (c.requires.told tells) in
+    let about = write_told tree c.args._path.now c.args.told.now it c.args.from c.args.value.now (sym c.in_default.is ∙ c.against_write.ensures) in
+    let there = file_there tree c.args._path.now it.node about.0.file in
+    let put = put_by_write tree c.args._path.now c.args.told.now it.node about.0 c.args.from c.args.value.now in
+    let at = write_at tree c.args._path.now c.args.told.now it.node about.0 c.args.from c.args.value.now (c.is_nothing.ensures.some c.if-is_nothing.false) in
+    let has = write_data tree c.args._path.now c.args.told.now it.node about.0 c.args.from c.args.value.now (c.is_nothing.ensures.some c.if-is_nothing.false) in
     ⊎_elim (λ none_put. omega (arith, none_put))
-    (λ some_put. omega (arith, some_put.1, write_loaded c.args.volume.now (g.P.SectorView.space c.args.space.now).content (c.requires.settled tells) c.args.volume.now.capacity (tree_of (g.P.SectorView.space c.args.space.now).content) c.args._path.now (put_by_write (tree_of (g.P.SectorView.space c.args.space.now).content) c.args._path.now c.args.told.now it.node about.0 c.args.from c.args.value.now) (no_cut_now c.args.volume.now (g.P.SectorView.space c.args.space.now).spare (volume_of (g.P.SectorView.space c.args.space.now).content) (put_by_write (tree_of (g.P.SectorView.space c.args.space.now).content) c.args._path.now c.args.told.now it.node about.0 c.args.from c.args.value.now) some_put.0) n grow c.args.from c.args.value.now (write_data (tree_of (g.P.SectorView.space c.args.space.now).content) c.args._path.now c.args.told.now it.node about.0 c.args.from c.args.value.now (c.is_nothing.ensures.some c.if-is_nothing.false)) is))
-    (c.put_data.ensures.spent tells it.node there.0 about.0.id there.1 (put_by_write (tree_of (g.P.SectorView.space c.args.space.now).content) c.args._path.now c.args.told.now it.node about.0 c.args.from c.args.value.now) (write_id (tree_of (g.P.SectorView.space c.args.space.now).content) c.args._path.now c.args.told.now it.node about.0 c.args.from c.args.value.now) (write_at (tree_of (g.P.SectorView.space c.args.space.now).content) c.args._path.now c.args.told.now it.node about.0 c.args.from c.args.value.now (c.is_nothing.ensures.some c.if-is_nothing.false)) (flat (put_by_write (tree_of (g.P.SectorView.space c.args.space.now).content) c.args._path.now c.args.told.now it.node about.0 c.args.from c.args.value.now) (write_data (tree_of (g.P.SectorView.space c.args.space.now).content) c.args._path.now c.args.told.now it.node about.0 c.args.from c.args.value.now (c.is_nothing.ensures.some c.if-is_nothing.false))))
+    (λ some_put. omega (
+      arith,
+      some_put.1,
+      write_loaded v a.content (c.requires.settled tells) v.capacity tree c.args._path.now put some_put.0 (filled put has) (some_data v put (length it.node.bytes) c.args.from (length c.args.value.now) at (omega (arith, c.requires.stands.service.least)) (c.is_nothing.ensures.some c.if-is_nothing.false)) n grow c.args.from c.args.value.now has is,
+    ))
+    (c.put_data.ensures.spent tells it.node there.0 about.0.id there.1 put (write_id tree c.args._path.now c.args.told.now it.node about.0 c.args.from c.args.value.now) at)
 
 pub returns-in_err-put-clause-service : goal.returns-in_err-put-clause-service
 returns-in_err-put-clause-service g c = c.put_data.ensures.service
@@ -145,7 +174,7 @@ pub returns-then-is_nothing-clause-touches : goal.returns-then-is_nothing-clause
 returns-then-is_nothing-clause-touches g c committed holds alike = touches_none committed _ (g.P.SectorView.space c.args.space.now)
 
 pub returns-then-is_nothing-clause-loads : goal.returns-then-is_nothing-clause-loads
-returns-then-is_nothing-clause-loads g c tells flat n grow is = omega arith
+returns-then-is_nothing-clause-loads g c tells filled n grow is = omega arith
 
 pub returns-then-is_nothing-clause-service : goal.returns-then-is_nothing-clause-service
 returns-then-is_nothing-clause-service g c = c.requires.stands.service
@@ -163,7 +192,7 @@ pub returns-in-Some-clause-touches : goal.returns-in-Some-clause-touches
 returns-in-Some-clause-touches g c committed holds alike = touches_none committed _ (g.P.SectorView.space c.args.space.now)
 
 pub returns-in-Some-clause-loads : goal.returns-in-Some-clause-loads
-returns-in-Some-clause-loads g c tells flat n grow is = omega arith
+returns-in-Some-clause-loads g c tells filled n grow is = omega arith
 
 pub returns-in-Some-clause-service : goal.returns-in-Some-clause-service
 returns-in-Some-clause-service g c = c.requires.stands.service
