@@ -149,7 +149,8 @@ fn serve_lines<V: Volume, G: Ground>(
 }
 
 /// Serves lines as one batch, and adds their replies, which are to be told only behind it. Its end is one commit of all that they changed. A line
-/// that wants a commit before it ends the batch, unless it is the first, and so do a `sync` and the 32nd line. Answers how many of the lines were served.
+/// that wants a commit before anything is done for it ends the batch, unless it is the first, and so do a `sync` and the 32nd line. Answers how many
+/// of the lines were served.
 pub fn serve_batch<V: Volume, G: Ground>(
     volume: &mut V,
     base: &mut G,
