@@ -1,6 +1,6 @@
 -- A batch: lines are done in memory, one commit makes them durable, watchers and replies are told.
 use Rattle.std.proofs.Common.{◌≡◌, ◌⊎◌, ◌+◌, [], ◌++◌, ℕ, List, inl, inr, ⊎_elim, length, take, drop, refl, sym, ◌∙◌, ap, subst, arith, length-append, take-append-drop}
-use Rattle.std.specs.Prelude.{Option}
+use Rattle.std.specs.Prelude.{Option, None}
 use Rattle.std.proofs.Math.Seq.{take-append-add}
 use Rattle.std.proofs.lemmas.List.{append-nil, take-append-le}
 use Rattle.sector_disk.specs.Clock.{TimePasses}
@@ -8,8 +8,9 @@ use Rattle.sector_disk.specs.Disk.{ToldPrefix}
 use Rattle.sector_disk.specs.Space.{Space}
 use Rattle.sector_disk.proofs.Passing.{none_passes, both_pass, passes_with}
 use Rattle.jnl_format.specs.Recovery.{Content}
+use Rattle.hfs_language.specs.declared.command.Command.{Command}
 use Rattle.hfs_volume.specs.Reclaim.{Tidies, none}
-use Rattle.volume_runs.specs.Run.{Entry, content_after, shrunk_in, replies_of}
+use Rattle.volume_runs.specs.Run.{Entry, IsRunFrom, content_after, shrunk_in, replies_of}
 use Rattle.hfs_serving.specs.Runs.{IsPrefix, StandsAs, Leads, StandsIn, SurvivesFrom, Crashes, Serves}
 use Rattle.hfs_serving.specs.Outside.{Outside}
 use Rattle.hfs_serving.specs.Serving.{IsDurable, IsRead, IsAsDurable, Touches, MayCommit, IsEither, Commits, TellsOut, IsServing, WasCommitted, StandsWithin, Goes, Stops}
@@ -32,7 +33,7 @@ module _ (capacity : ℕ) (shrunk : Option ℕ) (committed from : Content) (old 
   committed_stands run middle recovered (inl same) stands = inl (subst (λ (c : Content). StandsAs c recovered) same stands)
   committed_stands run middle recovered (inr was) stands = inr (was_committed_stands run middle recovered was stands)
 
-  now_stands : (run : List Entry) (now recovered : Content) → Leads capacity shrunk from run now → StandsAs now recovered → StandsWithin capacity shrunk committed from run recovered
+  now_stands : (run : List Entry) (now recovered : Content) → Leads capacity shrunk None from run now → StandsAs now recovered → StandsWithin capacity shrunk committed from run recovered
   now_stands run now recovered leads stands = inr (stands_less capacity shrunk from run (length run) 0 recovered (omega arith) (stands_now capacity shrunk from run now recovered leads stands))
 
   was_on : (run more : List Entry) (middle : Content) → WasCommitted capacity shrunk from run middle → WasCommitted capacity shrunk from (run ++ more) middle
@@ -45,7 +46,7 @@ module _ (capacity : ℕ) (shrunk : Option ℕ) (committed from : Content) (old 
 
   -- ---- it begins
 
-  pub goes_none : (space : Space) → IsDurable committed space → IsRead from space → ((recovered : Content) → old.leaves recovered → IsAsDurable space recovered) → Goes capacity shrunk committed from old [] committed from space old
+  pub goes_none : (space : Space) → IsDurable committed space → IsRead from space → ((recovered : Content) → old.leaves recovered → IsAsDurable space recovered) → Goes capacity shrunk None committed from old [] committed from space old
   goes_none space below reads leaves = record {
     leads = leads_none capacity shrunk from;
     commits = inl refl;
@@ -58,7 +59,7 @@ module _ (capacity : ℕ) (shrunk : Option ℕ) (committed from : Content) (old 
 
   -- ---- two stretches within a batch
 
-  module _ (run more : List Entry) (middle between : Content) (space : Space) (mid : Outside) (goes : Goes capacity shrunk committed from old run middle between space mid) where
+  module _ (run more : List Entry) (middle between : Content) (space : Space) (mid : Outside) {asked : Option Command} (goes : Goes capacity shrunk asked committed from old run middle between space mid) where
     -- what stands in the second stretch stands within both
     within_both : (recovered : Content) → StandsWithin capacity (shrunk_in shrunk run) middle between more recovered → StandsWithin capacity shrunk committed from (run ++ more) recovered
     within_both recovered within =
@@ -79,13 +80,15 @@ module _ (capacity : ℕ) (shrunk : Option ℕ) (committed from : Content) (old 
       some = omega (arith, was.some, length-append run more);
       tidied =
           subst (λ (r : List Entry). Tidies capacity (shrunk_in shrunk r) (content_after from r) last) (sym (take-append-add run more was.count))
-          (tidies_behind capacity shrunk from run (take was.count more) between goes.leads last was.tidied);
+          (tidies_behind capacity shrunk from run (take was.count more) between asked goes.leads last was.tidied);
       place = place_both from between last goes.leads.place was.place;
     })
 
-    pub goes_both : (last now : Content) (new_space : Space) (new : Outside) → Goes capacity (shrunk_in shrunk run) middle between mid more last now new_space new → Goes capacity shrunk committed from old (run ++ more) last now new_space new
-    goes_both last now new_space new second = record {
-      leads = leads_both capacity shrunk from run more between goes.leads now second.leads;
+    -- where both lead to there
+    pub goes_as : {further ahead : Option Command} (last now : Content) (new_space : Space) (new : Outside) → Goes capacity (shrunk_in shrunk run) further middle between mid more last now new_space new → Leads capacity shrunk ahead from (run ++ more) now
+        → Goes capacity shrunk ahead committed from old (run ++ more) last now new_space new
+    goes_as last now new_space new second leads = record {
+      leads = leads;
       commits = commits_both last second.commits;
       below = second.below;
       reads = second.reads;
@@ -94,17 +97,26 @@ module _ (capacity : ℕ) (shrunk : Option ℕ) (committed from : Content) (old 
       told = second.told ∙ goes.told;
     }
 
-    pub goes_stops : (new : Outside) → Stops capacity (shrunk_in shrunk run) middle between mid more new → Stops capacity shrunk committed from old (run ++ more) new
-    goes_stops new second = record {
-      run_is = run_is_on capacity shrunk from run more between goes.leads second.run_is;
+    pub stops_as : (new : Outside) → Stops capacity (shrunk_in shrunk run) middle between mid more new → IsRunFrom capacity shrunk from (run ++ more) → Stops capacity shrunk committed from old (run ++ more) new
+    stops_as new second is_run = record {
+      run_is = is_run;
       leaves = λ recovered left. within_both recovered (second.leaves recovered left);
       time = both_time new second.time;
       told = second.told ∙ goes.told;
     }
 
+  -- of which the first is ahead of no command
+  module _ (run more : List Entry) (middle between : Content) (space : Space) (mid : Outside) (goes : Goes capacity shrunk None committed from old run middle between space mid) where
+    pub goes_both : {asked : Option Command} (last now : Content) (new_space : Space) (new : Outside) → Goes capacity (shrunk_in shrunk run) asked middle between mid more last now new_space new → Goes capacity shrunk asked committed from old (run ++ more) last now new_space new
+    goes_both {asked} last now new_space new second =
+        goes_as run more middle between space mid goes last now new_space new second (leads_both capacity shrunk from run more between goes.leads asked now second.leads)
+
+    pub goes_stops : (new : Outside) → Stops capacity (shrunk_in shrunk run) middle between mid more new → Stops capacity shrunk committed from old (run ++ more) new
+    goes_stops new second = stops_as run more middle between space mid goes new second (run_is_on capacity shrunk from run more between goes.leads second.run_is)
+
   -- a fault of a call that puts and spills nothing, as of memory or of the source
-  pub stops_there : (run : List Entry) (middle between : Content) (space : Space) (mid : Outside) → Goes capacity shrunk committed from old run middle between space mid → Stops capacity shrunk committed from old run mid
-  stops_there run middle between space mid goes = record {
+  pub stops_there : (run : List Entry) (middle between : Content) (space : Space) (mid : Outside) {asked : Option Command} → Goes capacity shrunk asked committed from old run middle between space mid → Stops capacity shrunk committed from old run mid
+  stops_there run middle between space mid {asked} goes = record {
     run_is = goes.leads.run_is;
     leaves = λ recovered left. committed_stands run middle recovered goes.commits (stands_durable middle space goes.below recovered (goes.leaves recovered left));
     time = goes.time;
@@ -112,9 +124,9 @@ module _ (capacity : ℕ) (shrunk : Option ℕ) (committed from : Content) (old 
   }
 
   -- Behind a stretch sectors were put and spilled, so that the space reads as a content to which a longer run leads.
-  module _ (run longer : List Entry) (middle between : Content) (space : Space) (mid : Outside) (goes : Goes capacity shrunk committed from old run middle between space mid) where
-    pub touched_on : (new : Space) (after : Outside) {now : Content} → Touches middle space mid new after → Leads capacity shrunk from (run ++ longer) now → IsRead now new → Goes capacity shrunk committed from old (run ++ longer) middle now new after
-    touched_on new after {now} touches leads reads =
+  module _ (run longer : List Entry) (middle between : Content) (space : Space) (mid : Outside) {asked : Option Command} (goes : Goes capacity shrunk asked committed from old run middle between space mid) where
+    pub touched_on : (new : Space) (after : Outside) {now : Content} {ahead : Option Command} → Touches middle space mid new after → Leads capacity shrunk ahead from (run ++ longer) now → IsRead now new → Goes capacity shrunk ahead committed from old (run ++ longer) middle now new after
+    touched_on new after {now} {ahead} touches leads reads =
         let below = touched_below middle space goes.below mid new after touches in
         record {
           leads = leads;
@@ -138,7 +150,7 @@ module _ (capacity : ℕ) (shrunk : Option ℕ) (committed from : Content) (old 
     touched_time run new after touches = passes_with old.clock after.clock _ _ touches.time (λ recovered told p. (touched_within run new after touches recovered p.0, p.1))
 
     -- Sectors were put and spilled, so that the space reads as a content to which these entries lead: none with a step of housekeeping, or one.
-    pub touch_goes : (run : List Entry) (now : Content) (new : Space) (after : Outside) → Touches committed space old new after → Leads capacity shrunk from run now → IsRead now new → Goes capacity shrunk committed from old run committed now new after
+    pub touch_goes : (run : List Entry) (now : Content) (new : Space) (after : Outside) → Touches committed space old new after → Leads capacity shrunk None from run now → IsRead now new → Goes capacity shrunk None committed from old run committed now new after
     touch_goes run now new after touches leads reads_now = record {
       leads = leads;
       commits = inl refl;
@@ -166,7 +178,7 @@ module _ (capacity : ℕ) (shrunk : Option ℕ) (committed from : Content) (old 
     commit_time after may = passes_with old.clock after.clock _ _ may.time (λ recovered told p. (either_within recovered p.0, p.1))
 
     -- a commit, early or at the end
-    pub commit_goes : (new : Space) (after : Outside) → Commits space old new after → Goes capacity shrunk committed from old [] from from new after
+    pub commit_goes : (new : Space) (after : Outside) → Commits space old new after → Goes capacity shrunk None committed from old [] from from new after
     commit_goes new after commits = record {
       leads = leads_none capacity shrunk from;
       commits = inr (record { count = 0; some = omega arith; tidied = subst (λ (c : Content). Tidies capacity (shrunk_in shrunk []) c from) (sym (content_after-none from)) (none from); place = place_none from });
@@ -198,7 +210,7 @@ module _ (capacity : ℕ) (shrunk : Option ℕ) (start : Content) (old : Outside
   }
 
   -- All is committed, and watchers know it: then the replies are told.
-  module _ (run : List Entry) (now : Content) (space : Space) (mid after : Outside) (goes : Goes capacity shrunk start start old run now now space mid) (tells : TellsOut mid (replies_of run) after) where
+  module _ (run : List Entry) (now : Content) (space : Space) (mid after : Outside) (goes : Goes capacity shrunk None start start old run now now space mid) (tells : TellsOut mid (replies_of run) after) where
     stands_whole : (recovered : Content) → mid.leaves recovered → StandsIn capacity shrunk start run (length run) recovered
     stands_whole recovered leaves = stands_now capacity shrunk start run now recovered goes.leads (stands_durable now space goes.below recovered (goes.leaves recovered leaves))
 

@@ -1,14 +1,14 @@
 -- A volume that goes on within a batch.
 use Rattle.std.proofs.Common.{◌≡◌, ◌⊎◌, ◌≤◌, ◌+◌, ◌∷◌, [], ◌++◌, ℕ, List, true, false, inl, inr, ⊎_elim, refl, sym, ◌∙◌, ap, arith, length, subst, take}
-use Rattle.std.specs.Prelude.{Bool, Option, Result, Ok, Err, OnOk, OnErr}
+use Rattle.std.specs.Prelude.{◌&&◌, Bool, Option, None, Result, Ok, Err, OnOk, OnErr}
 use Rattle.std.proofs.lemmas.List.{append-nil, length-map, length-take-le}
 use Rattle.sector_disk.specs.Space.{Space}
 use Rattle.jnl_format.specs.Recovery.{Content}
+use Rattle.hfs_language.specs.declared.command.Command.{Command}
 use Rattle.hfs_volume.specs.Content.{volume_of}
-use Rattle.hfs_volume.specs.Reclaim.{Tidies, IsTidied, none, one_more}
-use Rattle.volume_runs.specs.Rest.{IsAtRest}
-use Rattle.volume_runs.specs.Run.{Entry, shrunk_in, lines_of}
-use Rattle.hfs_serving.specs.Going.{Knowing, Stands, Stays, Tidied, Answered, AnswersTo, is_answered, GoesTidy, GoesRested, GoesOn, GoesWhole, ServesBatch, ServesLine, ServesLines, StopsLines, StopsOn, line_if}
+use Rattle.volume_runs.specs.Rest.{IsAtRest, IsTidiedFor, TidiesFor, no_step, one_step}
+use Rattle.volume_runs.specs.Run.{Entry, IsRunFrom, content_after, shrunk_in, lines_of}
+use Rattle.hfs_serving.specs.Going.{Knowing, Stands, Stays, Tidied, Answered, AnswersTo, ahead_of, asked_in, is_answered, wants_commit, GoesTidy, GoesRested, GoesOn, GoesWhole, ServesBatch, ServesLine, ServesLines, StopsLines, StopsOn, line_if}
 use Rattle.hfs_serving.specs.declared.volume.Step.{Step}
 use Rattle.hfs_serving.specs.declared.volume.Step.TheVariants as step
 use Rattle.hfs_serving.specs.Outside.{Outside}
@@ -18,8 +18,8 @@ use Rattle.hfs_serving.proofs.Lists.{shrunk_in-none, shrunk_in-one, shrunk_in-ap
 use Rattle.hfs_serving.proofs.Saying.{joined_both, joined_none, said_append, said_none}
 use Rattle.hfs_serving.specs.Said.{joined, said_of, untold}
 use Rattle.hfs_serving.specs.declared.volume.ToTell.{ToTell}
-use Rattle.hfs_serving.proofs.Leading.{leads_on, leads_entry, leads_rest, leads_to_rest, rest_on}
-use Rattle.hfs_serving.proofs.Batches.{goes_none, goes_both, goes_stops, touched_on}
+use Rattle.hfs_serving.proofs.Leading.{for_any, leads_any, leads_on, leads_entry, leads_rest, leads_to_rest, rest_any, rest_on}
+use Rattle.hfs_serving.proofs.Batches.{goes_as, goes_none, goes_both, goes_stops, stops_as, stops_there, touched_on}
 use Rattle.hfs_serving.proofs.Joining.{commit_goes_here, commit_stops_here, touch_stops_here}
 
 -- ---- whatever the answer
@@ -36,7 +36,7 @@ on_ok (Err e) goes p = tt
 
 -- a line that wasn't answered had no reply: a step of housekeeping was made for it, or it was only looked at
 module _ (capacity : ℕ) (knows : Knowing) (committed now : Content) (shrunk : Option ℕ) (space : Space) (number : ℕ) (line : List ℕ) (before after : ToTell) where
-  pub left_line : (made : Step) → is_answered made ≡ false → AnswersTo made capacity knows committed now shrunk space number line before after → (after ≡ before) × (Tidied capacity knows committed now shrunk space ⊎ Stays knows committed now shrunk space)
+  pub left_line : (made : Step) → is_answered made ≡ false → AnswersTo made capacity knows committed now shrunk space number line before after → (after ≡ before) × (Tidied capacity (asked_in line) knows committed now shrunk space ⊎ Stays knows committed now shrunk space)
   left_line step.Answered other answers = absurd (cc other)
   left_line step.Again other answers = (answers.0, inl answers.1)
   left_line step.CommitFirst other answers = (answers.0, inr answers.1)
@@ -46,19 +46,36 @@ module _ (capacity : ℕ) (knows : Knowing) (committed now : Content) (shrunk : 
   answered_line step.Again is answers = absurd (cc is)
   answered_line step.CommitFirst is answers = absurd (cc is)
 
+  -- a line that is left was only looked at
+  pub waiting_line : (made : Step) (may_wait : Bool) → (wants_commit made && may_wait) ≡ true → AnswersTo made capacity knows committed now shrunk space number line before after → (after ≡ before) × Stays knows committed now shrunk space
+  waiting_line step.Answered may_wait waits answers = absurd (cc waits)
+  waiting_line step.Again may_wait waits answers = absurd (cc waits)
+  waiting_line step.CommitFirst may_wait waits answers = answers
+
+-- which is left where it may
+pub may_be_left : (made : Step) (may_wait : Bool) → (wants_commit made && may_wait) ≡ true → may_wait ≡ true
+may_be_left step.Answered may_wait waits = absurd (cc waits)
+may_be_left step.Again may_wait waits = absurd (cc waits)
+may_be_left step.CommitFirst may_wait waits = waits
+
+-- a run of no lines is one
+no_lines : (capacity : ℕ) (shrunk : Option ℕ) (start : Content) (run : List Entry) → lines_of run ≡ [] → IsRunFrom capacity shrunk start run
+no_lines capacity shrunk start [] none = tt
+no_lines capacity shrunk start (entry ∷ run) none = absurd (cc none)
+
 -- ---- a stretch without an entry
 
 module _ (capacity : ℕ) (shrunk : Option ℕ) (committed now : Content) (old : Outside) where
-  pub begins : (knows : Knowing) (space : Space) → Stands knows committed now shrunk space old → GoesTidy capacity knows committed now shrunk old space old
+  pub begins : (knows : Knowing) (space : Space) → Stands knows committed now shrunk space old → GoesTidy capacity None knows committed now shrunk old space old
   begins knows space stands = record { last = committed; next = now; goes = goes_none capacity shrunk committed now old space stands.below stands.reads stands.leaves; heads = stands.heads; known = stands.known }
 
-  module _ (knows : Knowing) (space : Space) (mid : Outside) (goes : GoesTidy capacity knows committed now shrunk old space mid) where
+  module _ (knows : Knowing) (space : Space) (mid : Outside) {asked : Option Command} (goes : GoesTidy capacity asked knows committed now shrunk old space mid) where
     -- where it stands now
     pub stands_there : Stands knows goes.last goes.next shrunk space mid
     stands_there = record { known = goes.known; below = goes.goes.below; reads = goes.goes.reads; heads = goes.heads; leaves = goes.goes.leaves }
 
     -- it only looked
-    pub looks_tidy : (knows_new : Knowing) (new : Space) (after : Outside) → Touches goes.last space mid new after → Stays knows_new goes.last goes.next shrunk new → GoesTidy capacity knows_new committed now shrunk old new after
+    pub looks_tidy : (knows_new : Knowing) (new : Space) (after : Outside) → Touches goes.last space mid new after → Stays knows_new goes.last goes.next shrunk new → GoesTidy capacity asked knows_new committed now shrunk old new after
     looks_tidy knows_new new after touches stays = record {
       last = goes.last;
       next = goes.next;
@@ -68,22 +85,22 @@ module _ (capacity : ℕ) (shrunk : Option ℕ) (committed now : Content) (old :
     }
 
     -- a step of housekeeping
-    tidied_step : (next : Content) → IsTidied capacity shrunk goes.next next → Tidies capacity (shrunk_in shrunk []) goes.next next
-    tidied_step next step = one_more goes.next next next (subst (λ (s : Option ℕ). IsTidied capacity s goes.next next) (sym (shrunk_in-none shrunk)) step) (none next)
+    tidied_step : (next : Content) → IsTidiedFor capacity shrunk asked goes.next next → TidiesFor capacity (shrunk_in shrunk []) asked goes.next next
+    tidied_step next step = one_step goes.next next next (subst (λ (s : Option ℕ). IsTidiedFor capacity s asked goes.next next) (sym (shrunk_in-none shrunk)) step) (no_step next)
 
-    pub touches_tidy : (knows_new : Knowing) (new : Space) (after : Outside) → Touches goes.last space mid new after → (tidied : Tidied capacity knows_new goes.last goes.next shrunk new) → GoesTidy capacity knows_new committed now shrunk old new after
+    pub touches_tidy : (knows_new : Knowing) (new : Space) (after : Outside) → Touches goes.last space mid new after → (tidied : Tidied capacity asked knows_new goes.last goes.next shrunk new) → GoesTidy capacity asked knows_new committed now shrunk old new after
     touches_tidy knows_new new after touches tidied = record {
       last = goes.last;
       next = tidied.next;
       goes =
           touched_on capacity shrunk committed now old [] [] goes.last goes.next space mid goes.goes new after touches
-          (leads_on capacity shrunk now [] goes.next tidied.next goes.goes.leads (tidied_step tidied.next tidied.tidied) tidied.place) tidied.reads;
+          (leads_on capacity shrunk now [] goes.next asked tidied.next goes.goes.leads (tidied_step tidied.next tidied.tidied) tidied.place) tidied.reads;
       heads = tidied.heads;
       known = tidied.known;
     }
 
     -- a commit
-    pub commits_tidy : (knows_new : Knowing) (new : Space) (after : Outside) → Commits space mid new after → Stays knows_new goes.next goes.next shrunk new → GoesTidy capacity knows_new committed now shrunk old new after
+    pub commits_tidy : (knows_new : Knowing) (new : Space) (after : Outside) → Commits space mid new after → Stays knows_new goes.next goes.next shrunk new → GoesTidy capacity asked knows_new committed now shrunk old new after
     commits_tidy knows_new new after commits stays = record {
       last = goes.next;
       next = goes.next;
@@ -99,26 +116,50 @@ module _ (capacity : ℕ) (shrunk : Option ℕ) (committed now : Content) (old :
     pub commit_stops_tidy : (after : Outside) → MayCommit space mid after → StopsOn capacity committed now shrunk old [] after
     commit_stops_tidy after may = record { more = []; asked = refl; stops = commit_stops_here capacity shrunk committed now old [] goes.last goes.next space mid goes.goes after may }
 
+    -- a fault of memory
+    pub memory_stops_tidy : StopsOn capacity committed now shrunk old [] mid
+    memory_stops_tidy = record { more = []; asked = refl; stops = stops_there capacity shrunk committed now old [] goes.last goes.next space mid goes.goes }
+
+    -- a stretch behind it that is ahead of no command
+    pub tidy_both : (knows_new : Knowing) (new : Space) (after : Outside) → GoesTidy capacity None knows_new goes.last goes.next shrunk mid new after → GoesTidy capacity asked knows_new committed now shrunk old new after
+    tidy_both knows_new new after second =
+        let behind : Goes capacity (shrunk_in shrunk []) None goes.last goes.next mid [] second.last second.next new after =
+        subst (λ (s : Option ℕ). Goes capacity s None goes.last goes.next mid [] second.last second.next new after) (sym (shrunk_in-none shrunk)) second.goes in
+        record {
+          last = second.last;
+          next = second.next;
+          goes =
+              goes_as capacity shrunk committed now old [] [] goes.last goes.next space mid goes.goes second.last second.next new after behind
+              (leads_on capacity shrunk now [] goes.next asked second.next goes.goes.leads (further goes.next second.next second.goes.leads.tidied) second.goes.leads.place);
+          heads = second.heads;
+          known = second.known;
+        }
+      where
+        further : (here there : Content) → TidiesFor capacity (shrunk_in shrunk []) None (content_after here []) there → TidiesFor capacity (shrunk_in shrunk []) asked here there
+        further here there tidied = for_any capacity (shrunk_in shrunk []) asked here there (subst (λ (c : Content). TidiesFor capacity (shrunk_in shrunk []) None c there) (content_after-none here) tidied)
+
+    -- a fault behind it, before any entry
+    pub tidy_stops : (after : Outside) → StopsOn capacity goes.last goes.next shrunk mid [] after → StopsOn capacity committed now shrunk old [] after
+    tidy_stops after second =
+        let behind : Stops capacity (shrunk_in shrunk []) goes.last goes.next mid second.more after =
+        subst (λ (s : Option ℕ). Stops capacity s goes.last goes.next mid second.more after) (sym (shrunk_in-none shrunk)) second.stops in
+        record { more = second.more; asked = second.asked; stops = stops_as capacity shrunk committed now old [] second.more goes.last goes.next space mid goes.goes after behind (no_lines capacity shrunk now second.more second.asked) }
+
+  -- ahead of no command
+  module _ (knows : Knowing) (space : Space) (mid : Outside) (goes : GoesTidy capacity None knows committed now shrunk old space mid) where
     -- it came to rest
-    pub rests_tidy : IsAtRest capacity shrunk (volume_of goes.next) → GoesRested capacity knows committed now shrunk old space mid
+    pub rests_tidy : IsAtRest capacity shrunk (volume_of goes.next) → GoesRested capacity None knows committed now shrunk old space mid
     rests_tidy at_rest = record {
       tidy = goes;
       rests = leads_rest capacity shrunk now [] goes.next goes.goes.leads (subst (λ (s : Option ℕ). IsAtRest capacity s (volume_of goes.next)) (sym (shrunk_in-none shrunk)) at_rest);
     }
 
-    -- a stretch behind it
-    pub tidy_both : (knows_new : Knowing) (new : Space) (after : Outside) → GoesTidy capacity knows_new goes.last goes.next shrunk mid new after → GoesTidy capacity knows_new committed now shrunk old new after
-    tidy_both knows_new new after second =
-        let behind : Goes capacity (shrunk_in shrunk []) goes.last goes.next mid [] second.last second.next new after =
-        subst (λ (s : Option ℕ). Goes capacity s goes.last goes.next mid [] second.last second.next new after) (sym (shrunk_in-none shrunk)) second.goes in
-        record { last = second.last; next = second.next; goes = goes_both capacity shrunk committed now old [] [] goes.last goes.next space mid goes.goes second.last second.next new after behind; heads = second.heads; known = second.known }
-
-    -- one that came to rest
-    pub tidy_rested : (knows_new : Knowing) (new : Space) (after : Outside) → GoesRested capacity knows_new goes.last goes.next shrunk mid new after → GoesRested capacity knows_new committed now shrunk old new after
+    -- one behind it that came to rest
+    pub tidy_rested : (knows_new : Knowing) (new : Space) (after : Outside) → GoesRested capacity None knows_new goes.last goes.next shrunk mid new after → GoesRested capacity None knows_new committed now shrunk old new after
     unfolding tidy_both
     tidy_rested knows_new new after second = record {
-      tidy = tidy_both knows_new new after second.tidy;
-      rests = leads_to_rest capacity shrunk now [] [] goes.next goes.goes.leads second.tidy.next (subst (λ (s : Option ℕ). LeadsToRest capacity s goes.next [] second.tidy.next) (sym (shrunk_in-none shrunk)) second.rests);
+      tidy = tidy_both knows space mid goes knows_new new after second.tidy;
+      rests = leads_to_rest capacity shrunk now [] [] goes.next goes.goes.leads None second.tidy.next (subst (λ (s : Option ℕ). LeadsToRest capacity s None goes.next [] second.tidy.next) (sym (shrunk_in-none shrunk)) second.rests);
     }
 
     -- it is one with entries, of which it has none
@@ -134,58 +175,76 @@ module _ (capacity : ℕ) (shrunk : Option ℕ) (committed now : Content) (old :
       told = said_none number;
     }
 
-    pub tidy_stops : (others : List (List ℕ)) (after : Outside) → StopsOn capacity goes.last goes.next shrunk mid others after → StopsOn capacity committed now shrunk old others after
-    tidy_stops others after second =
-        let behind : Stops capacity (shrunk_in shrunk []) goes.last goes.next mid second.more after =
-        subst (λ (s : Option ℕ). Stops capacity s goes.last goes.next mid second.more after) (sym (shrunk_in-none shrunk)) second.stops in
-        record { more = second.more; asked = second.asked; stops = goes_stops capacity shrunk committed now old [] second.more goes.last goes.next space mid goes.goes after behind }
+    -- ahead of any command
+    pub tidy_any : (asked : Option Command) → GoesTidy capacity asked knows committed now shrunk old space mid
+    tidy_any asked =
+        let it = goes.goes in
+        record {
+          last = goes.last;
+          next = goes.next;
+          goes = record { leads = leads_any capacity shrunk now [] goes.next asked it.leads; commits = it.commits; below = it.below; reads = it.reads; leaves = it.leaves; time = it.time; told = it.told };
+          heads = goes.heads;
+          known = goes.known;
+        }
 
   -- ---- behind rest
 
-  module _ (knows : Knowing) (space : Space) (mid : Outside) (rested : GoesRested capacity knows committed now shrunk old space mid) where
-    pub rested_looks : (knows_new : Knowing) (new : Space) (after : Outside) → Touches rested.tidy.last space mid new after → Stays knows_new rested.tidy.last rested.tidy.next shrunk new → GoesRested capacity knows_new committed now shrunk old new after
+  pub rested_any : (asked : Option Command) (knows : Knowing) (space : Space) (mid : Outside) → GoesRested capacity None knows committed now shrunk old space mid → GoesRested capacity asked knows committed now shrunk old space mid
+  unfolding tidy_any
+  rested_any asked knows space mid rested = record { tidy = tidy_any knows space mid rested.tidy asked; rests = rest_any capacity shrunk now [] rested.tidy.next asked rested.rests }
+
+  pub rested_ahead : (may_wait : Bool) (line : List ℕ) (knows : Knowing) (space : Space) (mid : Outside) → GoesRested capacity None knows committed now shrunk old space mid → GoesRested capacity (ahead_of may_wait line) knows committed now shrunk old space mid
+  rested_ahead true line knows space mid rested = rested
+  rested_ahead false line knows space mid rested = rested_any (asked_in line) knows space mid rested
+
+  -- as long as the line may be left, it is ahead of none
+  pub rested_own : (may_wait : Bool) (line : List ℕ) (knows : Knowing) (space : Space) (mid : Outside) → GoesRested capacity (ahead_of may_wait line) knows committed now shrunk old space mid → GoesRested capacity (asked_in line) knows committed now shrunk old space mid
+  rested_own true line knows space mid rested = rested_any (asked_in line) knows space mid rested
+  rested_own false line knows space mid rested = rested
+
+  module _ (knows : Knowing) (space : Space) (mid : Outside) {asked : Option Command} (rested : GoesRested capacity asked knows committed now shrunk old space mid) where
+    pub rested_looks : (knows_new : Knowing) (new : Space) (after : Outside) → Touches rested.tidy.last space mid new after → Stays knows_new rested.tidy.last rested.tidy.next shrunk new → GoesRested capacity asked knows_new committed now shrunk old new after
     unfolding looks_tidy
     rested_looks knows_new new after touches stays = record { tidy = looks_tidy knows space mid rested.tidy knows_new new after touches stays; rests = rested.rests }
 
-    pub rested_tidy : (knows_new : Knowing) (new : Space) (after : Outside) → Touches rested.tidy.last space mid new after → (tidied : Tidied capacity knows_new rested.tidy.last rested.tidy.next shrunk new) → GoesRested capacity knows_new committed now shrunk old new after
+    pub rested_tidy : (knows_new : Knowing) (new : Space) (after : Outside) → Touches rested.tidy.last space mid new after → (tidied : Tidied capacity asked knows_new rested.tidy.last rested.tidy.next shrunk new) → GoesRested capacity asked knows_new committed now shrunk old new after
     unfolding touches_tidy
     rested_tidy knows_new new after touches tidied = record {
       tidy = touches_tidy knows space mid rested.tidy knows_new new after touches tidied;
-      rests = rest_on capacity shrunk now [] rested.tidy.next tidied.next rested.rests (tidied_step knows space mid rested.tidy tidied.next tidied.tidied) tidied.place;
+      rests = rest_on capacity shrunk now [] rested.tidy.next asked tidied.next rested.rests (tidied_step knows space mid rested.tidy tidied.next tidied.tidied) tidied.place;
     }
 
-    pub rested_commits : (knows_new : Knowing) (new : Space) (after : Outside) → Commits space mid new after → Stays knows_new rested.tidy.next rested.tidy.next shrunk new → GoesRested capacity knows_new committed now shrunk old new after
-    unfolding commits_tidy
-    rested_commits knows_new new after commits stays = record { tidy = commits_tidy knows space mid rested.tidy knows_new new after commits stays; rests = rested.rests }
-
     -- a line was left
-    pub rested_left : (knows_new : Knowing) (new : Space) (after : Outside) → Touches rested.tidy.last space mid new after → Tidied capacity knows_new rested.tidy.last rested.tidy.next shrunk new ⊎ Stays knows_new rested.tidy.last rested.tidy.next shrunk new
-        → GoesRested capacity knows_new committed now shrunk old new after
+    pub rested_left : (knows_new : Knowing) (new : Space) (after : Outside) → Touches rested.tidy.last space mid new after → Tidied capacity asked knows_new rested.tidy.last rested.tidy.next shrunk new ⊎ Stays knows_new rested.tidy.last rested.tidy.next shrunk new
+        → GoesRested capacity asked knows_new committed now shrunk old new after
     rested_left knows_new new after touches left = ⊎_elim (λ tidied. rested_tidy knows_new new after touches tidied) (λ stays. rested_looks knows_new new after touches stays) left
 
     -- housekeeping goes on
-    pub rested_both : (knows_new : Knowing) (new : Space) (after : Outside) → GoesTidy capacity knows_new rested.tidy.last rested.tidy.next shrunk mid new after → GoesRested capacity knows_new committed now shrunk old new after
+    pub rested_both : (knows_new : Knowing) (new : Space) (after : Outside) → GoesTidy capacity None knows_new rested.tidy.last rested.tidy.next shrunk mid new after → GoesRested capacity asked knows_new committed now shrunk old new after
     unfolding tidy_both
     rested_both knows_new new after second = record {
       tidy = tidy_both knows space mid rested.tidy knows_new new after second;
       rests =
-          rest_on capacity shrunk now [] rested.tidy.next second.next rested.rests
-          (subst (λ (c : Content). Tidies capacity (shrunk_in shrunk []) c second.next) (content_after-none rested.tidy.next) second.goes.leads.tidied) second.goes.leads.place;
+          rest_on capacity shrunk now [] rested.tidy.next asked second.next rested.rests
+          (for_any capacity (shrunk_in shrunk []) asked rested.tidy.next second.next (subst (λ (c : Content). TidiesFor capacity (shrunk_in shrunk []) None c second.next) (content_after-none rested.tidy.next) second.goes.leads.tidied)) second.goes.leads.place;
     }
 
-    -- a line was answered
-    pub rested_answers : (knows_new : Knowing) (number : ℕ) (line : List ℕ) (said : ToTell) (new : Space) (after : Outside) → Touches rested.tidy.last space mid new after → Answered capacity knows_new rested.tidy.last rested.tidy.next shrunk new number line said
+  -- a line was answered
+  module _ (knows : Knowing) (space : Space) (mid : Outside) (line : List ℕ) (rested : GoesRested capacity (asked_in line) knows committed now shrunk old space mid) where
+    pub rested_answers : (knows_new : Knowing) (number : ℕ) (said : ToTell) (new : Space) (after : Outside) → Touches rested.tidy.last space mid new after → Answered capacity knows_new rested.tidy.last rested.tidy.next shrunk new number line said
         → GoesOn capacity knows_new committed now shrunk old number (line ∷ []) said new after
-    rested_answers knows_new number line said new after touches answered =
+    rested_answers knows_new number said new after touches answered =
         let first = rested.tidy in
-        let leads : Leads capacity shrunk now (answered.entry ∷ []) answered.entry.after = leads_entry capacity shrunk now [] first.next answered.entry rested.rests answered.before answered.served answered.place in
+        let entry = answered.entry in
+        let own : LeadsToRest capacity shrunk (asked_in entry.line) now [] first.next = subst (λ (l : List ℕ). LeadsToRest capacity shrunk (asked_in l) now [] first.next) (sym answered.line_is) rested.rests in
+        let leads : Leads capacity shrunk None now (entry ∷ []) entry.after = leads_entry capacity shrunk now [] first.next entry own answered.before answered.served answered.place in
         record {
-          more = answered.entry ∷ [];
+          more = entry ∷ [];
           last = first.last;
-          next = answered.entry.after;
-          goes = touched_on capacity shrunk committed now old [] (answered.entry ∷ []) first.last first.next space mid first.goes new after touches leads answered.reads;
+          next = entry.after;
+          goes = touched_on capacity shrunk committed now old [] (entry ∷ []) first.last first.next space mid first.goes new after touches leads answered.reads;
           heads = answered.heads;
-          known = subst (λ (s : Option ℕ). knows_new first.last answered.entry.after s) (sym (shrunk_in-one shrunk answered.entry)) answered.known;
+          known = subst (λ (s : Option ℕ). knows_new first.last entry.after s) (sym (shrunk_in-one shrunk entry)) answered.known;
           asked = ap (λ (l : List ℕ). l ∷ []) answered.line_is;
           told = answered.told;
         }
@@ -197,7 +256,7 @@ module _ (capacity : ℕ) (shrunk : Option ℕ) (committed now : Content) (old :
   unfolding begins
   first_stops new after touches = touch_stops_tidy capacity shrunk committed now old knows space old (begins capacity shrunk committed now old knows space stands) new after touches
 
-  pub commits_first : (knows_new : Knowing) (new : Space) (after : Outside) → Commits space old new after → Stays knows_new now now shrunk new → GoesTidy capacity knows_new committed now shrunk old new after
+  pub commits_first : (knows_new : Knowing) (new : Space) (after : Outside) → Commits space old new after → Stays knows_new now now shrunk new → GoesTidy capacity None knows_new committed now shrunk old new after
   unfolding begins
   commits_first knows_new new after commits stays = commits_tidy capacity shrunk committed now old knows space old (begins capacity shrunk committed now old knows space stands) knows_new new after commits stays
 
@@ -205,16 +264,16 @@ module _ (capacity : ℕ) (shrunk : Option ℕ) (committed now : Content) (old :
   commit_stops_first after may = commit_stops_tidy capacity shrunk committed now old knows space old (begins capacity shrunk committed now old knows space stands) after may
 
   module _ (knows_new : Knowing) (new : Space) (after : Outside) (touches : Touches committed space old new after) where
-    pub first_tidied : Tidied capacity knows_new committed now shrunk new → GoesTidy capacity knows_new committed now shrunk old new after
+    pub first_tidied : Tidied capacity None knows_new committed now shrunk new → GoesTidy capacity None knows_new committed now shrunk old new after
     unfolding begins
     first_tidied tidied = touches_tidy capacity shrunk committed now old knows space old (begins capacity shrunk committed now old knows space stands) knows_new new after touches tidied
 
     module _ (stays : Stays knows_new committed now shrunk new) where
-      pub first_looks : GoesTidy capacity knows_new committed now shrunk old new after
+      pub first_looks : GoesTidy capacity None knows_new committed now shrunk old new after
       unfolding begins
       first_looks = looks_tidy capacity shrunk committed now old knows space old (begins capacity shrunk committed now old knows space stands) knows_new new after touches stays
 
-      pub first_rests : IsAtRest capacity shrunk (volume_of now) → GoesRested capacity knows_new committed now shrunk old new after
+      pub first_rests : IsAtRest capacity shrunk (volume_of now) → GoesRested capacity None knows_new committed now shrunk old new after
       unfolding begins looks_tidy
       first_rests at_rest =
           rests_tidy capacity shrunk committed now old knows_new new after
@@ -228,7 +287,7 @@ module _ (capacity : ℕ) (shrunk : Option ℕ) (committed now : Content) (old :
           (looks_tidy capacity shrunk committed now old knows space old (begins capacity shrunk committed now old knows space stands) knows_new new after touches stays)
 
       -- a commit behind it
-      pub then_commits : (knows_last : Knowing) (last : Space) (end : Outside) → Commits new after last end → Stays knows_last now now shrunk last → GoesTidy capacity knows_last committed now shrunk old last end
+      pub then_commits : (knows_last : Knowing) (last : Space) (end : Outside) → Commits new after last end → Stays knows_last now now shrunk last → GoesTidy capacity None knows_last committed now shrunk old last end
       unfolding begins looks_tidy
       then_commits knows_last last end commits whole =
           commits_tidy capacity shrunk committed now old knows_new new after
@@ -316,7 +375,7 @@ module _ (capacity : ℕ) (shrunk : Option ℕ) (committed now : Content) (old :
     }
 
     -- what they left was reclaimed
-    pub lines_rest : (knows_new : Knowing) (new : Space) (end : Outside) → count ≤ length lines → GoesTidy capacity knows_new first.goes.last first.goes.next (shrunk_in shrunk first.goes.more) mid new end
+    pub lines_rest : (knows_new : Knowing) (new : Space) (end : Outside) → count ≤ length lines → GoesTidy capacity None knows_new first.goes.last first.goes.next (shrunk_in shrunk first.goes.more) mid new end
         → ServesLines count capacity knows_new committed now shrunk old number lines before middle new end
     lines_rest knows_new new end few tidied =
         lines_on knows_new false [] middle new end count few (append-nil (take count lines))

@@ -1,10 +1,10 @@
 -- The begin of a run: the header's mark of a mount is put, and committed.
 use Rattle.std.proofs.Common.{ℕ, [], inl, inr, refl, ◌∙◌}
-use Rattle.std.specs.Prelude.{Option}
+use Rattle.std.specs.Prelude.{Option, None}
 use Rattle.sector_disk.specs.Space.{Space}
 use Rattle.sector_disk.proofs.Passing.{both_pass, passes_with}
 use Rattle.jnl_format.specs.Recovery.{Content}
-use Rattle.hfs_volume.specs.Reclaim.{Tidies, none, one_more}
+use Rattle.volume_runs.specs.Rest.{TidiesFor, no_step, one_step}
 use Rattle.hfs_serving.specs.Beginning.{BeginsRun, IsMarkedMounted, MayBegin}
 use Rattle.hfs_serving.specs.Going.{Knowing, Stands, Stays}
 use Rattle.hfs_serving.specs.Outside.{Outside}
@@ -28,7 +28,7 @@ module _ (capacity : ℕ) (knows : Knowing) (start : Content) (shrunk : Option �
 
   -- a fault while it was put
   pub mark_put_stops : Crashes capacity shrunk start before [] 0 mid
-  mark_put_stops = tidy_stage_crashes capacity shrunk start start before mid same_turn (none start) (place_none start)
+  mark_put_stops = tidy_stage_crashes capacity shrunk start start before mid same_turn (no_step start) (place_none start)
 
   pub put_may : MayBegin start before mid
   put_may = record { begun = start; marked = inl refl; place = place_none start; may = same_turn }
@@ -38,8 +38,8 @@ module _ (capacity : ℕ) (knows : Knowing) (start : Content) (shrunk : Option �
     pub marked_stands : Stands knows_mid start marked.begun shrunk new mid
     marked_stands = record { known = marked.known; below = below_put; reads = marked.reads; heads = marked.heads; leaves = touches.leaves }
 
-    tidies : Tidies capacity shrunk start marked.begun
-    tidies = one_more start marked.begun marked.begun (inr (inr (inr marked.marks))) (none marked.begun)
+    tidies : TidiesFor capacity shrunk None start marked.begun
+    tidies = one_step start marked.begun marked.begun (inr (inr (inr marked.marks))) (no_step marked.begun)
 
     module _ (after : Outside) (commit : MayCommit new mid after) where
       begun_turn : MayTurn start marked.begun before after

@@ -14,7 +14,7 @@ use Rattle.hfs_volume.specs.Sound.{IsSound}
 use Rattle.hfs_volume.specs.TreeOf.{tree_of}
 use Rattle.hfs_volume.specs.Mount.{FoldsCase, MountsTo}
 use Rattle.hfs_volume.specs.Reclaim.{Tidies, none, one_more, IsTidied, KeepsTree}
-use Rattle.volume_runs.specs.Run.{Entry, IsServed, IsRunFrom, content_after, shrunk_in, shrunk_after, tree_after}
+use Rattle.volume_runs.specs.Run.{Entry, IsServed, IsRunFrom, asked_by, content_after, shrunk_in, shrunk_after, spelled, tree_after}
 use Rattle.hfs_serving.specs.Outside.{outside_of}
 use Rattle.hfs_serving.specs.Opening.{MayServe, Opens}
 use Rattle.hfs_serving.specs.Runs.{Crashes, IsMarked, StandsAs, StandsIn}
@@ -54,7 +54,7 @@ module _ (capacity : ℕ) (P : Content → Type 0) (mark : (a b : Content) → I
   run_has shrunk start [] (suc count) is has = has
   run_has shrunk start (entry ∷ run) zero is has = has
   run_has shrunk start (entry ∷ run) (suc count) is has =
-      run_has (shrunk_after shrunk entry) entry.after run count is.2 (line entry is.1 (tidied_has shrunk start entry.before (tidies_of capacity shrunk start entry.before is.0) has))
+      run_has (shrunk_after shrunk entry) entry.after run count is.2 (line entry is.1 (tidied_has shrunk start entry.before (tidies_of capacity shrunk (spelled (asked_by entry)) start entry.before is.0) has))
 
   -- so what a crash leaves stands for a content that has it
   pub stood_has : (shrunk : Option ℕ) (start : Content) (run : List Entry) (least : ℕ) (recovered : Content) → IsRunFrom capacity shrunk start run → P start → (within : StandsIn capacity shrunk start run least recovered) → P within.stood

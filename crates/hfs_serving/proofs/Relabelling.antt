@@ -1,6 +1,6 @@
 -- Runs over lines of which only a front is held: an entry of such a line is one of the whole text.
 use Rattle.std.proofs.Common.{◌≡◌, ◌⊎◌, ◌<◌, ◌≤◌, ◌+◌, ◌∷◌, [], ◌++◌, zero, suc, inl, inr, ⊎_elim, ℕ, List, length, take, refl, sym, ◌∙◌, ap, subst, arith, Result, Ok, Err}
-use Rattle.std.specs.Prelude.{Option, if◌then◌else◌}
+use Rattle.std.specs.Prelude.{Option, None, if◌then◌else◌}
 use Rattle.std.proofs.lemmas.Bool.{cases_lt}
 use Rattle.std.proofs.lemmas.Bool.Decides.{nat_tests}
 use Rattle.std.proofs.lemmas.List.{length-take-le, take_all}
@@ -16,7 +16,8 @@ use Rattle.hfs_volume.specs.TreeOf.{tree_of}
 use Rattle.volume_runs.specs.Told.{changes_by, changes_in, changes_of}
 use Rattle.hfs_language.specs.declared.reply.Change.{Change}
 use Rattle.hfs_volume.specs.Reclaim.{Tidies}
-use Rattle.volume_runs.specs.Run.{DoesLine, Entry, IsAnswered, IsRunFrom, IsServed, LacksMemory, LacksResource, asked_by, content_after, is_ok, lines_of, or_before, replies_of, reply_to, shrunk_after, shrunk_by, shrunk_in}
+use Rattle.volume_runs.specs.Rest.{Rests, TidiesFor}
+use Rattle.volume_runs.specs.Run.{DoesLine, Entry, IsAnswered, IsRunFrom, IsServed, LacksMemory, LacksResource, asked_by, content_after, is_ok, lines_of, or_before, replies_of, reply_to, shrunk_after, shrunk_by, shrunk_in, spelled}
 use Rattle.hfs_serving.specs.Outside.{Outside}
 use Rattle.hfs_serving.specs.Runs.{Crashes, IsPrefix, Leads, Serves, StandsIn, Survives, SurvivesFrom}
 use Rattle.line_source.specs.Batch.{held}
@@ -132,7 +133,7 @@ relabel_run capacity shrunk start [] texts holds is = is
 relabel_run capacity shrunk start (entry ∷ run) [] holds is = absurd (cc holds)
 relabel_run capacity shrunk start (entry ∷ run) (text ∷ texts) holds is =
     let line_is = first_held entry run text texts holds in (
-      is.0,
+      subst (λ (asked : Result Command Refusal). Rests capacity shrunk (spelled asked) start entry.before) (same_command entry text line_is) is.0,
       served_text entry text line_is capacity is.1,
       subst (λ (s : Option ℕ). IsRunFrom capacity s entry.after (relabel run texts)) (sym (shrunk_text entry text line_is shrunk))
           (relabel_run capacity (shrunk_after shrunk entry) entry.after run texts (rest_held entry run text texts holds) is.2),
@@ -166,12 +167,12 @@ module _ (capacity : ℕ) (shrunk : Option ℕ) (start : Content) (run : List En
       (subst (λ (s : Option ℕ). Tidies capacity s (content_after start (relabel (take k run) (take k texts))) now) (sym (relabel_shrunk shrunk (take k run) (take k texts) part))
       (subst (λ (c : Content). Tidies capacity (shrunk_in shrunk (take k run)) c now) (sym (relabel_content start (take k run) (take k texts) part)) tidied))
 
-  pub leads_text : (now : Content) → Leads capacity shrunk start run now → Leads capacity shrunk start (relabel run texts) now
+  pub leads_text : (now : Content) → Leads capacity shrunk None start run now → Leads capacity shrunk None start (relabel run texts) now
   leads_text now leads = record {
     run_is = relabel_run capacity shrunk start run texts holds leads.run_is;
     tidied =
-        subst (λ (s : Option ℕ). Tidies capacity s (content_after start (relabel run texts)) now) (sym (relabel_shrunk shrunk run texts holds))
-        (subst (λ (c : Content). Tidies capacity (shrunk_in shrunk run) c now) (sym (relabel_content start run texts holds)) leads.tidied);
+        subst (λ (s : Option ℕ). TidiesFor capacity s None (content_after start (relabel run texts)) now) (sym (relabel_shrunk shrunk run texts holds))
+        (subst (λ (c : Content). TidiesFor capacity (shrunk_in shrunk run) None c now) (sym (relabel_content start run texts holds)) leads.tidied);
     place = leads.place;
   }
 

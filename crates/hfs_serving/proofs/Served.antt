@@ -22,7 +22,7 @@ use Rattle.jnl_ring.specs.declared.span.Span.{Span}
 use Rattle.hfs_volume.specs.Aside.{IsAside}
 use Rattle.hfs_volume.specs.Content.{JournalPlace, volume_of}
 use Rattle.hfs_volume.specs.Mount.{HoldsAtMost, Mounts, MountsTo}
-use Rattle.hfs_volume.specs.Reclaim.{none}
+use Rattle.volume_runs.specs.Rest.{no_step}
 use Rattle.volume_runs.specs.Run.{replies_of, tree_after}
 use Rattle.hfs_volume.specs.Sound.{IsSound}
 use Rattle.hfs_volume.specs.TreeOf.{tree_of}
@@ -104,7 +104,7 @@ versioned_sound start now (inr sets) sound = sets.keeps.sound
 
 ready_crashes : (capacity : ℕ) (start now : Content) (old new : Outside) → IsVersioned start now → KeepsPlace start now → MayTurn start now old new → Crashes capacity None start old [] 0 new
 ready_crashes capacity start now old new (inl same) place may =
-    tidy_stage_crashes capacity None start start old new (subst (λ (x : Content). MayTurn start x old new) same may) (none start) (place_none start)
+    tidy_stage_crashes capacity None start start old new (subst (λ (x : Content). MayTurn start x old new) same may) (no_step start) (place_none start)
 ready_crashes capacity start now old new (inr sets) place may = mark_stage_crashes capacity None start now old new may (inr (inl sets)) place
 
 pub ready_stopped : (capacity : ℕ) (plan : Plan) (start : Content) (old new : State) → MayReady plan start old new → CrashesHeard 0 [] capacity start None (outside_of plan old) [] (outside_of plan new)

@@ -1,11 +1,12 @@
 -- The stages of a mount, and the end of a run, as stretches.
 use Rattle.std.proofs.Common.{◌≡◌, ◌⊎◌, ◌+◌, [], ◌++◌, ℕ, List, inl, inr, ⊎_elim, length, sym, ◌∙◌, ap, subst, arith}
-use Rattle.std.specs.Prelude.{Option}
+use Rattle.std.specs.Prelude.{Option, None}
 use Rattle.std.proofs.lemmas.List.{append-nil}
 use Rattle.sector_disk.specs.Clock.{TimePasses}
 use Rattle.sector_disk.proofs.Passing.{both_pass, passes_with}
 use Rattle.jnl_format.specs.Recovery.{Content}
 use Rattle.hfs_volume.specs.Reclaim.{Tidies, none}
+use Rattle.volume_runs.specs.Rest.{TidiesFor}
 use Rattle.volume_runs.specs.Run.{Entry, shrunk_in}
 use Rattle.hfs_serving.specs.Runs.{KeepsPlace, StandsAs, IsMarked, SetsVersion, SetsUnmounted, Leads, StandsIn, Crashes, Serves}
 use Rattle.hfs_serving.specs.Outside.{Outside}
@@ -19,11 +20,11 @@ module _ (capacity : ℕ) (shrunk : Option ℕ) (start : Content) where
   stands_first recovered stands = stands_now capacity shrunk start [] start recovered (leads_none capacity shrunk start) stands
 
   -- housekeeping leads there
-  pub leads_tidy : (now : Content) → Tidies capacity shrunk start now → KeepsPlace start now → Leads capacity shrunk start [] now
+  pub leads_tidy : (now : Content) → TidiesFor capacity shrunk None start now → KeepsPlace start now → Leads capacity shrunk None start [] now
   leads_tidy now tidied place =
-      leads_on capacity shrunk start [] start now (leads_none capacity shrunk start) (subst (λ (s : Option ℕ). Tidies capacity s start now) (sym (shrunk_in-none shrunk)) tidied) place
+      leads_on capacity shrunk start [] start None now (leads_none capacity shrunk start) (subst (λ (s : Option ℕ). TidiesFor capacity s None start now) (sym (shrunk_in-none shrunk)) tidied) place
 
-  stands_tidy : (now recovered : Content) → Tidies capacity shrunk start now → KeepsPlace start now → StandsAs now recovered → StandsIn capacity shrunk start [] 0 recovered
+  stands_tidy : (now recovered : Content) → TidiesFor capacity shrunk None start now → KeepsPlace start now → StandsAs now recovered → StandsIn capacity shrunk start [] 0 recovered
   stands_tidy now recovered tidied place stands = stands_now capacity shrunk start [] now recovered (leads_tidy now tidied place) stands
 
   -- the mark of the begin or of the end of a run
@@ -53,7 +54,7 @@ module _ (capacity : ℕ) (shrunk : Option ℕ) (start : Content) where
   }
 
   -- of housekeeping
-  pub tidy_stage_crashes : (now : Content) (old new : Outside) → MayTurn start now old new → Tidies capacity shrunk start now → KeepsPlace start now → Crashes capacity shrunk start old [] 0 new
+  pub tidy_stage_crashes : (now : Content) (old new : Outside) → MayTurn start now old new → TidiesFor capacity shrunk None start now → KeepsPlace start now → Crashes capacity shrunk start old [] 0 new
   tidy_stage_crashes now old new may tidied place =
       stage_crashes old new (passes_with old.clock new.clock _ _ may.time (λ recovered told p. (⊎_elim (stands_first recovered) (stands_tidy now recovered tidied place) p.0, p.1)))
       (λ recovered left. ⊎_elim (stands_first recovered) (stands_tidy now recovered tidied place) (may.leaves recovered left)) may.told
@@ -67,7 +68,7 @@ module _ (capacity : ℕ) (shrunk : Option ℕ) (start : Content) where
   -- ---- a stage that was made
 
   stage_serves : (now : Content) (old new : Outside) → TimePasses old.clock new.clock (λ recovered told. StandsIn capacity shrunk start [] 0 recovered × (told ≡ old.told)) → ((recovered : Content) → new.leaves recovered → StandsAs now recovered) → new.told ≡ old.told
-      → Tidies capacity shrunk start now → KeepsPlace start now → Serves capacity shrunk start old [] now new
+      → TidiesFor capacity shrunk None start now → KeepsPlace start now → Serves capacity shrunk start old [] now new
   stage_serves now old new time leaves told tidied place = record {
     leads = leads_tidy now tidied place;
     time = passes_with old.clock new.clock _ _ time (λ recovered told p. survives_early capacity shrunk start old.told [] recovered told p.0 p.1);
@@ -76,13 +77,13 @@ module _ (capacity : ℕ) (shrunk : Option ℕ) (start : Content) where
   }
 
   -- a stage that is housekeeping, before any line
-  pub tidy_stage_serves : (now : Content) (old new : Outside) → Turns start now old new → Tidies capacity shrunk start now → KeepsPlace start now → Serves capacity shrunk start old [] now new
+  pub tidy_stage_serves : (now : Content) (old new : Outside) → Turns start now old new → TidiesFor capacity shrunk None start now → KeepsPlace start now → Serves capacity shrunk start old [] now new
   tidy_stage_serves now old new turns tidied place =
       stage_serves now old new (passes_with old.clock new.clock _ _ turns.may.time (λ recovered told p. (⊎_elim (stands_first recovered) (stands_tidy now recovered tidied place) p.0, p.1))) turns.leaves turns.may.told tidied place
 
   -- The version is written, and then the header is marked as mounted: from the start the second is one step of housekeeping, since it says the
   -- version anyway.
-  module _ (version now : Content) (old mid new : Outside) (first : Turns start version old mid) (sets : SetsVersion start version) (version_place : KeepsPlace start version) (tidied : Tidies capacity shrunk start now) (place : KeepsPlace start now) where
+  module _ (version now : Content) (old mid new : Outside) (first : Turns start version old mid) (sets : SetsVersion start version) (version_place : KeepsPlace start version) (tidied : TidiesFor capacity shrunk None start now) (place : KeepsPlace start now) where
     stands_middle : (recovered : Content) → StandsAs version recovered ⊎ StandsAs now recovered → StandsIn capacity shrunk start [] 0 recovered
     stands_middle recovered which = ⊎_elim (stands_marked version recovered (inr (inl sets)) version_place) (stands_tidy now recovered tidied place) which
 

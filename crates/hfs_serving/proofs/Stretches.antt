@@ -1,18 +1,19 @@
 -- Two stretches of calls, one after the other.
 use Rattle.std.proofs.Common.{◌≡◌, ◌≤◌, ◌+◌, ◌-◌, [], ◌++◌, ℕ, List, inl, inr, length, take, refl, sym, ◌∙◌, ap, subst, arith, append_assoc, length-append}
-use Rattle.std.specs.Prelude.{Option}
+use Rattle.std.specs.Prelude.{Option, None}
 use Rattle.std.proofs.Math.Seq.{take-append-add}
 use Rattle.std.proofs.lemmas.Bool.{cases_lt}
 use Rattle.std.proofs.lemmas.List.{length-take-le, append-nil, take_all, take-append-le}
 use Rattle.sector_disk.specs.Clock.{TimePasses}
 use Rattle.sector_disk.proofs.Passing.{none_passes, both_pass}
 use Rattle.jnl_format.specs.Recovery.{Content}
+use Rattle.hfs_language.specs.declared.command.Command.{Command}
 use Rattle.hfs_volume.specs.Reclaim.{Tidies}
 use Rattle.volume_runs.specs.Run.{Entry, content_after, shrunk_in, replies_of}
 use Rattle.hfs_serving.specs.Runs.{IsPrefix, StandsAs, Leads, StandsIn, Survives, SurvivesFrom, Crashes, Serves}
 use Rattle.hfs_serving.specs.Outside.{Outside}
 use Rattle.hfs_serving.proofs.Lists.{replies_of-none, replies_of-append, length-replies, front_length, front_behind, take_past}
-use Rattle.hfs_serving.proofs.Leading.{place_both, leads_none, leads_both, run_is_on, tidies_behind}
+use Rattle.hfs_serving.proofs.Leading.{place_both, plain_of, leads_none, leads_both, run_is_on, tidies_behind}
 
 module _ (capacity : ℕ) (shrunk : Option ℕ) (start : Content) where
   -- ---- what stands in a run
@@ -23,8 +24,8 @@ module _ (capacity : ℕ) (shrunk : Option ℕ) (start : Content) where
       record { count = within.count; many = omega (arith, le, within.many); some = within.some; tidy = within.tidy; tidied = within.tidied; stood = within.stood; marked = within.marked; place = within.place; stands = within.stands }
 
   -- the content that a run leads to stands in it
-  pub stands_now : (run : List Entry) (now recovered : Content) → Leads capacity shrunk start run now → StandsAs now recovered → StandsIn capacity shrunk start run (length run) recovered
-  stands_now run now recovered leads stands = record {
+  pub stands_now : (run : List Entry) (now recovered : Content) {asked : Option Command} → Leads capacity shrunk asked start run now → StandsAs now recovered → StandsIn capacity shrunk start run (length run) recovered
+  stands_now run now recovered {asked} leads stands = record {
     count = length run;
     many = omega arith;
     some = omega arith;
@@ -32,7 +33,8 @@ module _ (capacity : ℕ) (shrunk : Option ℕ) (start : Content) where
     stood = now;
     marked = inl refl;
     place = leads.place;
-    tidied = subst (λ (r : List Entry). Tidies capacity (shrunk_in shrunk r) (content_after start r) now) (sym (take_all (length run) run (omega arith))) leads.tidied;
+    tidied = subst (λ (r : List Entry). Tidies capacity (shrunk_in shrunk r) (content_after start r) now) (sym (take_all (length run) run (omega arith)))
+        (plain_of capacity (shrunk_in shrunk run) asked (content_after start run) now leads.tidied);
     stands = stands;
   }
 
@@ -50,9 +52,9 @@ module _ (capacity : ℕ) (shrunk : Option ℕ) (start : Content) where
       stands = within.stands;
     }
 
-    pub stands_behind : (mid : Content) → Leads capacity shrunk start run mid → (least : ℕ) (recovered : Content) → StandsIn capacity (shrunk_in shrunk run) mid more least recovered
+    pub stands_behind : (mid : Content) {asked : Option Command} → Leads capacity shrunk asked start run mid → (least : ℕ) (recovered : Content) → StandsIn capacity (shrunk_in shrunk run) mid more least recovered
         → StandsIn capacity shrunk start (run ++ more) (length run + least) recovered
-    stands_behind mid leads least recovered within = record {
+    stands_behind mid {asked} leads least recovered within = record {
       count = length run + within.count;
       many = omega (arith, within.many);
       some = omega (arith, within.some, length-append run more);
@@ -62,7 +64,7 @@ module _ (capacity : ℕ) (shrunk : Option ℕ) (start : Content) where
       place = place_both start mid within.stood leads.place within.place;
       tidied =
           subst (λ (r : List Entry). Tidies capacity (shrunk_in shrunk r) (content_after start r) within.tidy) (sym (take-append-add run more within.count))
-          (tidies_behind capacity shrunk start run (take within.count more) mid leads within.tidy within.tidied);
+          (tidies_behind capacity shrunk start run (take within.count more) mid asked leads within.tidy within.tidied);
       stands = within.stands;
     }
 
@@ -94,7 +96,7 @@ module _ (capacity : ℕ) (shrunk : Option ℕ) (start : Content) where
     }
 
     -- and what it holds afterwards is held from its start
-    pub survives_behind : (mid : Content) → Leads capacity shrunk start run mid → (recovered : Content) (told : List ℕ) → Survives capacity (shrunk_in shrunk run) mid more recovered told
+    pub survives_behind : (mid : Content) → Leads capacity shrunk None start run mid → (recovered : Content) (told : List ℕ) → Survives capacity (shrunk_in shrunk run) mid more recovered told
         → Survives capacity shrunk start (run ++ more) recovered (replies_of run ++ told)
     unfolding stands_less stands_behind
     survives_behind mid leads recovered told holds =
@@ -115,7 +117,7 @@ module _ (capacity : ℕ) (shrunk : Option ℕ) (start : Content) where
     from_on : (before : List ℕ) (recovered : Content) (told : List ℕ) → SurvivesFrom capacity shrunk start before run recovered told → SurvivesFrom capacity shrunk start before (run ++ more) recovered told
     from_on before recovered told from = (from.0, from.1, survives_on recovered from.0 from.2)
 
-    from_behind : (before between : List ℕ) (mid : Content) → Leads capacity shrunk start run mid → between ≡ before ++ replies_of run → (recovered : Content) (told : List ℕ)
+    from_behind : (before between : List ℕ) (mid : Content) → Leads capacity shrunk None start run mid → between ≡ before ++ replies_of run → (recovered : Content) (told : List ℕ)
         → SurvivesFrom capacity (shrunk_in shrunk run) mid between more recovered told → SurvivesFrom capacity shrunk start before (run ++ more) recovered told
     from_behind before between mid leads is recovered told from = (
       replies_of run ++ from.0,
@@ -134,7 +136,7 @@ module _ (capacity : ℕ) (shrunk : Option ℕ) (start : Content) where
 
     pub serves_both : (now : Content) → Serves capacity (shrunk_in shrunk run) between mid more now new → Serves capacity shrunk start old (run ++ more) now new
     serves_both now second = record {
-      leads = leads_both capacity shrunk start run more between first.leads now second.leads;
+      leads = leads_both capacity shrunk start run more between first.leads None now second.leads;
       time = both_time second.time;
       told =
           second.told ∙ ap (λ (l : List ℕ). l ++ replies_of more) first.told ∙ append_assoc old.told (replies_of run) (replies_of more)

@@ -1,11 +1,12 @@
 -- A volume that goes on within a batch: what it stands for, and what its calls make of it.
-use Rattle.std.specs.Prelude.{◌≡◌, ◌≢◌, All, codes, ℕ, Bool, true, false, List, [], ◌∷◌, take, Option}
+use Rattle.std.specs.Prelude.{◌≡◌, ◌≢◌, All, codes, ℕ, Bool, true, false, List, [], ◌∷◌, take, Option, None}
 use Rattle.sector_disk.specs.Space.{Space}
 use Rattle.jnl_format.specs.Recovery.{Content}
+use Rattle.hfs_language.specs.Language.{command_of}
+use Rattle.hfs_language.specs.declared.command.Command.{Command}
 use Rattle.hfs_volume.specs.Content.{volume_of}
-use Rattle.hfs_volume.specs.Reclaim.{IsTidied}
-use Rattle.volume_runs.specs.Rest.{IsAtRest}
-use Rattle.volume_runs.specs.Run.{Entry, IsServed, shrunk_in, shrunk_after, lines_of}
+use Rattle.volume_runs.specs.Rest.{IsAtRest, IsTidiedFor}
+use Rattle.volume_runs.specs.Run.{Entry, IsServed, shrunk_in, shrunk_after, spelled, lines_of}
 use Rattle.hfs_serving.specs.Grounds.{KeepsHeading}
 use Rattle.hfs_serving.specs.Outside.{Outside}
 use Rattle.hfs_serving.specs.Runs.{KeepsPlace, LeadsToRest}
@@ -41,10 +42,10 @@ pub record Stays (knows : Knowing) (committed now : Content) (shrunk : Option �
   pub heads : KeepsHeading space
   pub known : knows committed now shrunk
 
--- a step of housekeeping was made
-pub record Tidied (capacity : ℕ) (knows : Knowing) (committed now : Content) (shrunk : Option ℕ) (space : Space) : Type 0 where
+-- a step of housekeeping was made, ahead of this command, if there is one
+pub record Tidied (capacity : ℕ) (asked : Option Command) (knows : Knowing) (committed now : Content) (shrunk : Option ℕ) (space : Space) : Type 0 where
   pub next : Content
-  pub tidied : IsTidied capacity shrunk now next
+  pub tidied : IsTidiedFor capacity shrunk asked now next
   pub place : KeepsPlace now next
   pub reads : IsRead next space
   pub heads : KeepsHeading space
@@ -65,8 +66,12 @@ pub record Answered (capacity : ℕ) (knows : Knowing) (committed now : Content)
 -- what a step of housekeeping answers
 abbrev pub TidiesTo : Next → ℕ → Knowing → Content → Content → Option ℕ → Space → Type 0
 TidiesTo next.Rest capacity knows committed now shrunk space = Stays knows committed now shrunk space × IsAtRest capacity shrunk (volume_of now)
-TidiesTo next.Made capacity knows committed now shrunk space = Tidied capacity knows committed now shrunk space
+TidiesTo next.Made capacity knows committed now shrunk space = Tidied capacity None knows committed now shrunk space
 TidiesTo next.CommitFirst capacity knows committed now shrunk space = Stays knows committed now shrunk space
+
+-- the command that a line spells, if it spells one
+abbrev pub asked_in : List ℕ → Option Command
+asked_in line = spelled (command_of line)
 
 -- the line was answered
 abbrev pub is_answered : Step → Bool
@@ -74,10 +79,21 @@ is_answered step.Answered = true
 is_answered step.Again = false
 is_answered step.CommitFirst = false
 
--- what a step of a line answers: the line was answered, a step of housekeeping was made for it, or a commit is wanted first
+-- the line wants a commit before it
+abbrev pub wants_commit : Step → Bool
+wants_commit step.Answered = false
+wants_commit step.Again = false
+wants_commit step.CommitFirst = true
+
+-- the command ahead of which housekeeping goes on: none as long as the line may be left, and else the line's own
+abbrev pub ahead_of : Bool → List ℕ → Option Command
+ahead_of true line = None
+ahead_of false line = asked_in line
+
+-- what a step of a line answers: the line was answered, a step of housekeeping was made ahead of its command, or a commit is wanted first
 abbrev pub AnswersTo : Step → ℕ → Knowing → Content → Content → Option ℕ → Space → ℕ → List ℕ → ToTell → ToTell → Type 0
 AnswersTo step.Answered capacity knows committed now shrunk space number line before after = (said : ToTell) × (after ≡ joined before said) × Answered capacity knows committed now shrunk space number line said
-AnswersTo step.Again capacity knows committed now shrunk space number line before after = (after ≡ before) × Tidied capacity knows committed now shrunk space
+AnswersTo step.Again capacity knows committed now shrunk space number line before after = (after ≡ before) × Tidied capacity (asked_in line) knows committed now shrunk space
 AnswersTo step.CommitFirst capacity knows committed now shrunk space number line before after = (after ≡ before) × Stays knows committed now shrunk space
 
 -- ---- stretches within a batch
@@ -87,24 +103,24 @@ pub record GoesOn (capacity : ℕ) (knows : Knowing) (committed now : Content) (
   pub more : List Entry
   pub last : Content
   pub next : Content
-  pub goes : Goes capacity shrunk committed now old more last next space new
+  pub goes : Goes capacity shrunk None committed now old more last next space new
   pub heads : KeepsHeading space
   pub known : knows last next (shrunk_in shrunk more)
   pub asked : lines_of more ≡ lines
   pub told : said_of number more ≡ said
 
--- without an entry
-pub record GoesTidy (capacity : ℕ) (knows : Knowing) (committed now : Content) (shrunk : Option ℕ) (old : Outside) (space : Space) (new : Outside) : Type 0 where
+-- without an entry, ahead of this command, if there is one
+pub record GoesTidy (capacity : ℕ) (asked : Option Command) (knows : Knowing) (committed now : Content) (shrunk : Option ℕ) (old : Outside) (space : Space) (new : Outside) : Type 0 where
   pub last : Content
   pub next : Content
-  pub goes : Goes capacity shrunk committed now old [] last next space new
+  pub goes : Goes capacity shrunk asked committed now old [] last next space new
   pub heads : KeepsHeading space
   pub known : knows last next shrunk
 
--- without an entry, and housekeeping came to rest on the way
-pub record GoesRested (capacity : ℕ) (knows : Knowing) (committed now : Content) (shrunk : Option ℕ) (old : Outside) (space : Space) (new : Outside) : Type 0 where
-  pub tidy : GoesTidy capacity knows committed now shrunk old space new
-  pub rests : LeadsToRest capacity shrunk now [] tidy.next
+-- the same, and housekeeping came to rest on the way
+pub record GoesRested (capacity : ℕ) (asked : Option Command) (knows : Knowing) (committed now : Content) (shrunk : Option ℕ) (old : Outside) (space : Space) (new : Outside) : Type 0 where
+  pub tidy : GoesTidy capacity asked knows committed now shrunk old space new
+  pub rests : LeadsToRest capacity shrunk asked now [] tidy.next
 
 -- a stretch that a fault ended, after entries of these lines
 pub record StopsOn (capacity : ℕ) (committed now : Content) (shrunk : Option ℕ) (old : Outside) (lines : List (List ℕ)) (new : Outside) : Type 0 where
@@ -116,7 +132,7 @@ pub record StopsOn (capacity : ℕ) (committed now : Content) (shrunk : Option �
 pub record GoesWhole (capacity : ℕ) (knows : Knowing) (start : Content) (shrunk : Option ℕ) (old : Outside) (number : ℕ) (lines : List (List ℕ)) (said : ToTell) (space : Space) (new : Outside) : Type 0 where
   pub run : List Entry
   pub now : Content
-  pub goes : Goes capacity shrunk start start old run now now space new
+  pub goes : Goes capacity shrunk None start start old run now now space new
   pub heads : KeepsHeading space
   pub known : knows now now (shrunk_in shrunk run)
   pub asked : lines_of run ≡ lines
@@ -127,7 +143,8 @@ abbrev pub line_if : Bool → List ℕ → List (List ℕ)
 line_if true line = line ∷ []
 line_if false line = []
 
--- A line was served, or was left because a commit is wanted before it; housekeeping went on before that. `before` and `after` are what is to be told.
+-- A line was served, or was left because a commit is wanted before it, and then nothing was done for it; housekeeping went on before that. `before`
+-- and `after` are what is to be told.
 pub record ServesLine (answered : Bool) (capacity : ℕ) (knows : Knowing) (committed now : Content) (shrunk : Option ℕ) (old : Outside) (number : ℕ) (line : List ℕ) (before after : ToTell) (space : Space) (new : Outside) : Type 0 where
   pub said : ToTell
   pub told : after ≡ joined before said

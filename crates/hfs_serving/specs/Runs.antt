@@ -1,15 +1,16 @@
 -- A run over stretches of calls, and what a crash leaves of it. What an entry may be, what housekeeping is, and when a volume is sound stand
 -- in the definitions of whole volumes.
-use Rattle.std.specs.Prelude.{◌≡◌, ◌⊎◌, ◌≤◌, ℕ, bit_or, List, ◌++◌, length, take, Option}
+use Rattle.std.specs.Prelude.{◌≡◌, ◌⊎◌, ◌≤◌, ℕ, bit_or, List, ◌++◌, length, take, Option, None}
 use Rattle.sector_disk.specs.Clock.{TimePasses}
 use Rattle.sector_disk.specs.Space.{AgreesOutside}
 use Rattle.jnl_format.specs.Recovery.{Content, journaling_version}
+use Rattle.hfs_language.specs.declared.command.Command.{Command}
 use Rattle.volume_header.specs.Refusal.{is_locked}
 use Rattle.volume_header.specs.declared.header.VolumeHeader.{VolumeHeader}
 use Rattle.hfs_volume.specs.Aside.{IsAside}
 use Rattle.hfs_volume.specs.Content.{volume_of}
 use Rattle.hfs_volume.specs.Reclaim.{Tidies, KeepsTree}
-use Rattle.volume_runs.specs.Rest.{Rests}
+use Rattle.volume_runs.specs.Rest.{Rests, TidiesFor}
 use Rattle.volume_runs.specs.Run.{Entry, IsRunFrom, content_after, shrunk_in, replies_of}
 use Rattle.hfs_serving.specs.Outside.{Outside}
 
@@ -28,16 +29,17 @@ pub record KeepsPlace (old new : Content) : Type 0 where
 
 -- ---- where a run leads
 
--- A run leads to a content: housekeeping has gone on from the content after its last entry, or from its start.
-pub record Leads (capacity : ℕ) (shrunk : Option ℕ) (start : Content) (run : List Entry) (now : Content) : Type 0 where
+-- A run leads to a content: housekeeping has gone on from the content after its last entry, or from its start, ahead of this command, if there
+-- is one.
+pub record Leads (capacity : ℕ) (shrunk : Option ℕ) (asked : Option Command) (start : Content) (run : List Entry) (now : Content) : Type 0 where
   pub run_is : IsRunFrom capacity shrunk start run
-  pub tidied : Tidies capacity (shrunk_in shrunk run) (content_after start run) now
+  pub tidied : TidiesFor capacity (shrunk_in shrunk run) asked (content_after start run) now
   pub place : KeepsPlace start now
 
 -- the same, and that housekeeping has come to rest
-pub record LeadsToRest (capacity : ℕ) (shrunk : Option ℕ) (start : Content) (run : List Entry) (now : Content) : Type 0 where
+pub record LeadsToRest (capacity : ℕ) (shrunk : Option ℕ) (asked : Option Command) (start : Content) (run : List Entry) (now : Content) : Type 0 where
   pub run_is : IsRunFrom capacity shrunk start run
-  pub rests : Rests capacity (shrunk_in shrunk run) (content_after start run) now
+  pub rests : Rests capacity (shrunk_in shrunk run) asked (content_after start run) now
   pub place : KeepsPlace start now
 
 -- ---- the begin and the end of a run
@@ -102,7 +104,7 @@ pub record Crashes (capacity : ℕ) (shrunk : Option ℕ) (start : Content) (old
 
 -- A stretch that was served to its end: all replies were told, all changes too, and a crash leaves what the volume stands for now.
 pub record Serves (capacity : ℕ) (shrunk : Option ℕ) (start : Content) (old : Outside) (run : List Entry) (now : Content) (new : Outside) : Type 0 where
-  pub leads : Leads capacity shrunk start run now
+  pub leads : Leads capacity shrunk None start run now
   pub time : TimePasses old.clock new.clock (SurvivesFrom capacity shrunk start old.told run)
   pub told : new.told ≡ old.told ++ replies_of run
   pub rests : (recovered : Content) → new.leaves recovered → StandsAs now recovered

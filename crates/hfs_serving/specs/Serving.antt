@@ -4,6 +4,7 @@ use Rattle.sector_disk.specs.Clock.{TimePasses}
 use Rattle.sector_disk.specs.Disk.{ToldPrefix}
 use Rattle.sector_disk.specs.Space.{Space, AgreesOutside, LeavesDurable}
 use Rattle.jnl_format.specs.Recovery.{Content}
+use Rattle.hfs_language.specs.declared.command.Command.{Command}
 use Rattle.hfs_volume.specs.Reclaim.{Tidies}
 use Rattle.volume_runs.specs.Run.{Entry, IsRunFrom, content_after, shrunk_in}
 use Rattle.hfs_serving.specs.Outside.{Outside}
@@ -99,9 +100,10 @@ abbrev pub StandsWithin : ℕ → Option ℕ → Content → Content → List En
 StandsWithin capacity shrunk committed from more recovered = StandsAs committed recovered ⊎ StandsIn capacity shrunk from more 0 recovered
 
 -- A stretch within a batch, of which nothing is told yet: where it began, `committed` stood on the disk and the volume stood for `from`. Its
--- entries lead from there to `now`; on the disk stands what stood there before, or what was committed in the stretch.
-pub record Goes (capacity : ℕ) (shrunk : Option ℕ) (committed from : Content) (old : Outside) (more : List Entry) (committed_new now : Content) (space : Space) (new : Outside) : Type 0 where
-  pub leads : Leads capacity shrunk from more now
+-- entries lead from there to `now`, behind them ahead of this command, if there is one; on the disk stands what stood there before, or what was
+-- committed in the stretch.
+pub record Goes (capacity : ℕ) (shrunk : Option ℕ) (asked : Option Command) (committed from : Content) (old : Outside) (more : List Entry) (committed_new now : Content) (space : Space) (new : Outside) : Type 0 where
+  pub leads : Leads capacity shrunk asked from more now
   pub commits : (committed_new ≡ committed) ⊎ WasCommitted capacity shrunk from more committed_new
   pub below : IsDurable committed_new space
   pub reads : IsRead now space

@@ -72,7 +72,7 @@ pub record EndsRun (capacity : ℕ) (start : Content) (old : Outside) (source : 
   pub run : List Entry
   pub asked : IsTrue source.tells → lines_of run ≡ lines source.left
   pub now : Content
-  pub leads : Leads capacity None start run now
+  pub leads : Leads capacity None None start run now
   pub told : new.told ≡ old.told ++ replies_of run
   pub ended : Content
   pub sets : SetsUnmounted now ended

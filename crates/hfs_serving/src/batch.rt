@@ -1,8 +1,8 @@
 //! A batch: lines are answered in memory, housekeeping rests before each and behind the last, and one commit makes all durable.
-ghost use Rattle.std.specs.Prelude.{◌≡◌, ◌↔◌, ◌≤◌, ◌<◌, ◌+◌, [], ℕ, Bool, Option, IsTrue, IfOk, OnOk, OnErr, length};
+ghost use Rattle.std.specs.Prelude.{◌≡◌, ◌↔◌, ◌≤◌, ◌<◌, ◌+◌, ◌&&◌, [], ℕ, Bool, Option, None, IsTrue, IfOk, OnOk, OnErr, length};
 ghost use Rattle.jnl_format.specs.Recovery.{Content};
 ghost use Rattle.hfs_serving.specs.Faults.{Faults};
-ghost use Rattle.hfs_serving.specs.Going.{GoesTidy, HasNoSync, ServesBatch, ServesLine, ServesLines, SomeStands, Stands, StopsLines, StopsOn, is_answered, sync_line};
+ghost use Rattle.hfs_serving.specs.Going.{GoesTidy, HasNoSync, ServesBatch, ServesLine, ServesLines, SomeStands, Stands, StopsLines, StopsOn, is_answered, sync_line, wants_commit};
 
 use crate::basis::Ground;
 use crate::housekeeping::tidy;
@@ -12,8 +12,8 @@ use hx_bytes::{Bytes, Trouble};
 /// The most lines of one batch.
 pub const MOST_LINES: usize = 32;
 
-/// Serves a line, before which housekeeping comes to rest. Where the line isn't the first of its batch and wants a commit, it is left for the next
-/// batch. Answers whether it was served.
+/// Serves a line, before which housekeeping comes to rest. Where the line isn't the first of its batch and wants a commit before anything is done for
+/// it, it is left for the next batch. Answers whether it was served.
 pub fn serve_line<V: Volume, G: Ground>(
     volume: &mut V,
     base: &mut G,
@@ -36,17 +36,20 @@ pub fn serve_line<V: Volume, G: Ground>(
     if !tidy(volume, base)? {
         return Ok(false);
     }
+    let mut may_wait = !first;
     for _ in 0..4_294_967_295u64 {
         let step = volume.answer(base, number, line, told)?;
         if is_answered(step) {
             return Ok(true);
         }
-        if waits(step, first) {
+        if waits(step, may_wait) {
             return Ok(false);
         }
         make_room(volume, base, step == Step::CommitFirst)?;
+        may_wait = false;
     }
-    Ok(false)
+    // (a line isn't left with something done for it)
+    Err(Trouble::Memory)
 }
 
 fn is_answered(step: Step) -> bool
@@ -60,8 +63,14 @@ fn is_answered(step: Step) -> bool
 }
 
 // Whether the line is left for the next batch.
-fn waits(step: Step, first: bool) -> bool {
-    step == Step::CommitFirst && !first
+fn waits(step: Step, may_wait: bool) -> bool
+    ensures { result ≡ (wants_commit step && may_wait) }
+{
+    match step {
+        Step::Answered => false,
+        Step::Again => false,
+        Step::CommitFirst => may_wait,
+    }
 }
 
 // Makes a commit, where one is wanted.
@@ -73,7 +82,7 @@ fn make_room<V: Volume, G: Ground>(
     requires serves { (capacity : ℕ) × G.serves base.old capacity × (G.taken base.old ≤ capacity) }
     requires stands { IsTrue (G.space base.old).tells → SomeStands (V.knows volume.old (G.space base.old)) (G.space base.old) (G.outside base.old) }
     ensures goes { IsTrue (G.space base.old).tells → (capacity : ℕ) (committed now : Content) (shrunk : Option ℕ) → Stands (V.knows volume.old (G.space base.old) capacity) committed now shrunk (G.space base.old) (G.outside base.old)
-        → OnOk result (GoesTidy capacity (V.knows volume.new (G.space base.new) capacity) committed now shrunk (G.outside base.old) (G.space base.new) (G.outside base.new)) }
+        → OnOk result (GoesTidy capacity None (V.knows volume.new (G.space base.new) capacity) committed now shrunk (G.outside base.old) (G.space base.new) (G.outside base.new)) }
     ensures stops { IsTrue (G.space base.old).tells → (capacity : ℕ) (committed now : Content) (shrunk : Option ℕ) → Stands (V.knows volume.old (G.space base.old) capacity) committed now shrunk (G.space base.old) (G.outside base.old)
         → OnErr result (StopsOn capacity committed now shrunk (G.outside base.old) [] (G.outside base.new)) }
     ensures still { (capacity : ℕ) → G.serves base.old capacity → G.taken base.old ≤ capacity → OnOk result (G.serves base.new capacity × (G.taken base.new ≤ capacity)) }
@@ -140,7 +149,8 @@ fn serve_lines<V: Volume, G: Ground>(
 }
 
 /// Serves lines as one batch, and adds their replies, which are to be told only behind it. Its end is one commit of all that they changed. A line
-/// that wants a commit before it ends the batch, unless it is the first, and so do a `sync` and the 32nd line. Answers how many of the lines were served.
+/// that wants a commit before anything is done for it ends the batch, unless it is the first, and so do a `sync` and the 32nd line. Answers how many
+/// of the lines were served.
 pub fn serve_batch<V: Volume, G: Ground>(
     volume: &mut V,
     base: &mut G,

@@ -5,8 +5,9 @@ ghost use Rattle.sector_disk.specs.Source.{Stream};
 ghost use Rattle.jnl_format.specs.Recovery.{Content};
 ghost use Rattle.jnl_replay.specs.declared.plan.Plan.{Plan};
 ghost use Rattle.jnl_store.specs.Spaces.{found};
-ghost use Rattle.hfs_volume.specs.Reclaim.{Tidies};
-ghost use Rattle.volume_runs.specs.Run.{Entry, IsRun, IsServed, shrunk_in, replies_of};
+ghost use Rattle.hfs_language.specs.declared.command.Command.{Command};
+ghost use Rattle.volume_runs.specs.Rest.{TidiesFor};
+ghost use Rattle.volume_runs.specs.Run.{Entry, IsRun, IsServed, asked_by, shrunk_in, spelled, replies_of};
 ghost use Rattle.hfs_volume.specs.Sound.{IsSound};
 ghost use Rattle.hfs_serving.specs.Opening.{MayServe};
 ghost use Rattle.hfs_serving.specs.Outside.{outside_of};
@@ -40,45 +41,45 @@ pub fn stretches_join<G: Ground>()
 /// Puts and spills go on within a batch, as a step of housekeeping or an entry; a fault in them stops it.
 pub fn touches_go_on<G: Ground>()
     ensures begins { (capacity : ℕ) (shrunk : Option ℕ) (committed from : Content) (a : G) → IsDurable committed (G.space a) → IsRead from (G.space a) → ((recovered : Content) → (G.outside a).leaves recovered → IsAsDurable (G.space a) recovered)
-        → Goes capacity shrunk committed from (G.outside a) [] committed from (G.space a) (G.outside a) }
-    ensures goes { (capacity : ℕ) (shrunk : Option ℕ) (committed from middle between now : Content) (run more : List Entry) (a b c : G) → Goes capacity shrunk committed from (G.outside a) run middle between (G.space b) (G.outside b)
-        → Touches middle (G.space b) (G.outside b) (G.space c) (G.outside c) → Leads capacity shrunk from (run ++ more) now → IsRead now (G.space c) → Goes capacity shrunk committed from (G.outside a) (run ++ more) middle now (G.space c) (G.outside c) }
-    ensures stops { (capacity : ℕ) (shrunk : Option ℕ) (committed from middle between : Content) (run : List Entry) (a b c : G) → Goes capacity shrunk committed from (G.outside a) run middle between (G.space b) (G.outside b)
+        → Goes capacity shrunk None committed from (G.outside a) [] committed from (G.space a) (G.outside a) }
+    ensures goes { (capacity : ℕ) (shrunk : Option ℕ) (asked further : Option Command) (committed from middle between now : Content) (run more : List Entry) (a b c : G) → Goes capacity shrunk asked committed from (G.outside a) run middle between (G.space b) (G.outside b)
+        → Touches middle (G.space b) (G.outside b) (G.space c) (G.outside c) → Leads capacity shrunk further from (run ++ more) now → IsRead now (G.space c) → Goes capacity shrunk further committed from (G.outside a) (run ++ more) middle now (G.space c) (G.outside c) }
+    ensures stops { (capacity : ℕ) (shrunk : Option ℕ) (asked : Option Command) (committed from middle between : Content) (run : List Entry) (a b c : G) → Goes capacity shrunk asked committed from (G.outside a) run middle between (G.space b) (G.outside b)
         → Touches middle (G.space b) (G.outside b) (G.space c) (G.outside c) → Stops capacity shrunk committed from (G.outside a) run (G.outside c) }
 {}
 
 /// Where an entry and a step of housekeeping lead.
 pub fn entries_lead_on()
-    ensures entry { (capacity : ℕ) (shrunk : Option ℕ) (start now : Content) (run : List Entry) (entry : Entry) → LeadsToRest capacity shrunk start run now → entry.before ≡ now → IsServed capacity entry → KeepsPlace now entry.after
-        → Leads capacity shrunk start (run ++ entry ∷ []) entry.after }
-    ensures tidied { (capacity : ℕ) (shrunk : Option ℕ) (start now next : Content) (run : List Entry) → Leads capacity shrunk start run now → Tidies capacity (shrunk_in shrunk run) now next → KeepsPlace now next → Leads capacity shrunk start run next }
+    ensures entry { (capacity : ℕ) (shrunk : Option ℕ) (start now : Content) (run : List Entry) (entry : Entry) → LeadsToRest capacity shrunk (spelled (asked_by entry)) start run now → entry.before ≡ now → IsServed capacity entry → KeepsPlace now entry.after
+        → Leads capacity shrunk None start (run ++ entry ∷ []) entry.after }
+    ensures tidied { (capacity : ℕ) (shrunk : Option ℕ) (asked : Option Command) (start now next : Content) (run : List Entry) → Leads capacity shrunk asked start run now → TidiesFor capacity (shrunk_in shrunk run) asked now next → KeepsPlace now next → Leads capacity shrunk asked start run next }
 {}
 
 /// A commit within a batch, early or at its end.
 pub fn commits_go_on<G: Ground>()
-    ensures goes { (capacity : ℕ) (shrunk : Option ℕ) (committed from middle now : Content) (run : List Entry) (a b c : G) → Goes capacity shrunk committed from (G.outside a) run middle now (G.space b) (G.outside b)
-        → Commits (G.space b) (G.outside b) (G.space c) (G.outside c) → Goes capacity shrunk committed from (G.outside a) run now now (G.space c) (G.outside c) }
-    ensures stops { (capacity : ℕ) (shrunk : Option ℕ) (committed from middle now : Content) (run : List Entry) (a b c : G) → Goes capacity shrunk committed from (G.outside a) run middle now (G.space b) (G.outside b)
+    ensures goes { (capacity : ℕ) (shrunk : Option ℕ) (asked : Option Command) (committed from middle now : Content) (run : List Entry) (a b c : G) → Goes capacity shrunk asked committed from (G.outside a) run middle now (G.space b) (G.outside b)
+        → Commits (G.space b) (G.outside b) (G.space c) (G.outside c) → Goes capacity shrunk asked committed from (G.outside a) run now now (G.space c) (G.outside c) }
+    ensures stops { (capacity : ℕ) (shrunk : Option ℕ) (asked : Option Command) (committed from middle now : Content) (run : List Entry) (a b c : G) → Goes capacity shrunk asked committed from (G.outside a) run middle now (G.space b) (G.outside b)
         → MayCommit (G.space b) (G.outside b) (G.outside c) → Stops capacity shrunk committed from (G.outside a) run (G.outside c) }
 {}
 
 /// The end of a batch: a fault before anything was told, one while the replies were told, and none.
 pub fn batches_end<G: Ground>()
     ensures stopped { (capacity : ℕ) (shrunk : Option ℕ) (start : Content) (run : List Entry) (a b : G) → Stops capacity shrunk start start (G.outside a) run (G.outside b) → Crashes capacity shrunk start (G.outside a) run 0 (G.outside b) }
-    ensures partly { (capacity : ℕ) (shrunk : Option ℕ) (start now : Content) (run : List Entry) (a b c : G) → Goes capacity shrunk start start (G.outside a) run now now (G.space b) (G.outside b)
+    ensures partly { (capacity : ℕ) (shrunk : Option ℕ) (start now : Content) (run : List Entry) (a b c : G) → Goes capacity shrunk None start start (G.outside a) run now now (G.space b) (G.outside b)
         → TellsOut (G.outside b) (replies_of run) (G.outside c) → Crashes capacity shrunk start (G.outside a) run (length run) (G.outside c) }
-    ensures served { (capacity : ℕ) (shrunk : Option ℕ) (start now : Content) (run : List Entry) (a b c : G) → Goes capacity shrunk start start (G.outside a) run now now (G.space b) (G.outside b)
+    ensures served { (capacity : ℕ) (shrunk : Option ℕ) (start now : Content) (run : List Entry) (a b c : G) → Goes capacity shrunk None start start (G.outside a) run now now (G.space b) (G.outside b)
         → TellsOut (G.outside b) (replies_of run) (G.outside c) → (G.outside c).told ≡ (G.outside b).told ++ replies_of run
         → Serves capacity shrunk start (G.outside a) run now (G.outside c) × IsServing now (G.space b) (G.outside c) }
 {}
 
 /// The stages of a mount: housekeeping, and the version that is written before it.
 pub fn mounts_serve<G: Ground>()
-    ensures tidied { (capacity : ℕ) (shrunk : Option ℕ) (start now : Content) (a b : G) → Turns start now (G.outside a) (G.outside b) → Tidies capacity shrunk start now → KeepsPlace start now → Serves capacity shrunk start (G.outside a) [] now (G.outside b) }
-    ensures tidied_crashes { (capacity : ℕ) (shrunk : Option ℕ) (start now : Content) (a b : G) → MayTurn start now (G.outside a) (G.outside b) → Tidies capacity shrunk start now → KeepsPlace start now → Crashes capacity shrunk start (G.outside a) [] 0 (G.outside b) }
-    ensures version { (capacity : ℕ) (shrunk : Option ℕ) (start version now : Content) (a b c : G) → Turns start version (G.outside a) (G.outside b) → SetsVersion start version → KeepsPlace start version → Tidies capacity shrunk start now → KeepsPlace start now
+    ensures tidied { (capacity : ℕ) (shrunk : Option ℕ) (start now : Content) (a b : G) → Turns start now (G.outside a) (G.outside b) → TidiesFor capacity shrunk None start now → KeepsPlace start now → Serves capacity shrunk start (G.outside a) [] now (G.outside b) }
+    ensures tidied_crashes { (capacity : ℕ) (shrunk : Option ℕ) (start now : Content) (a b : G) → MayTurn start now (G.outside a) (G.outside b) → TidiesFor capacity shrunk None start now → KeepsPlace start now → Crashes capacity shrunk start (G.outside a) [] 0 (G.outside b) }
+    ensures version { (capacity : ℕ) (shrunk : Option ℕ) (start version now : Content) (a b c : G) → Turns start version (G.outside a) (G.outside b) → SetsVersion start version → KeepsPlace start version → TidiesFor capacity shrunk None start now → KeepsPlace start now
         → Turns version now (G.outside b) (G.outside c) → Serves capacity shrunk start (G.outside a) [] now (G.outside c) }
-    ensures version_crashes { (capacity : ℕ) (shrunk : Option ℕ) (start version now : Content) (a b c : G) → Turns start version (G.outside a) (G.outside b) → SetsVersion start version → KeepsPlace start version → Tidies capacity shrunk start now → KeepsPlace start now
+    ensures version_crashes { (capacity : ℕ) (shrunk : Option ℕ) (start version now : Content) (a b c : G) → Turns start version (G.outside a) (G.outside b) → SetsVersion start version → KeepsPlace start version → TidiesFor capacity shrunk None start now → KeepsPlace start now
         → MayTurn version now (G.outside b) (G.outside c) → Crashes capacity shrunk start (G.outside a) [] 0 (G.outside c) }
     ensures half_version { (capacity : ℕ) (shrunk : Option ℕ) (start version : Content) (a b : G) → MayTurn start version (G.outside a) (G.outside b) → SetsVersion start version → KeepsPlace start version → Crashes capacity shrunk start (G.outside a) [] 0 (G.outside b) }
 {}

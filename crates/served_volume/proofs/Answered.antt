@@ -11,14 +11,15 @@ use Rattle.hfs_language.specs.declared.reply.Reply.{Reply}
 use Rattle.hfs_language.specs.Language.{command_of}
 use Rattle.hfs_model.specs.Step.{refuses}
 use Rattle.hfs_model.specs.declared.plain.PlainTree.{PlainTree}
-use Rattle.volume_runs.specs.Run.{Entry, IsServed, is_ok, or_before, replies_of, shrunk_after, shrunk_by}
+use Rattle.volume_runs.specs.Rest.{CutsFor, GrowsFor}
+use Rattle.volume_runs.specs.Run.{Entry, IsServed, is_ok, or_before, replies_of, shrunk_after, shrunk_by, spelled}
 use Rattle.volume_runs.specs.Told.{changes_by, changes_in}
 use Rattle.hfs_volume.specs.Content.{VolumeState, volume_of}
 use Rattle.hfs_volume.specs.Forks.{data_kind}
-use Rattle.hfs_volume.specs.Reclaim.{CutsAlone, CutsSurplus, GrowsTreeFirst, GrowsTrees, SameFiles, blocks_wanted, first_growth}
+use Rattle.hfs_volume.specs.Reclaim.{CutsAlone, GrowsTrees, SameFiles, blocks_wanted, first_growth}
 use Rattle.hfs_volume.specs.TreeOf.{tree_of}
-use Rattle.hfs_volume.specs.Weight.{cut_cost, free_blocks, room_with, weight}
-use Rattle.hfs_serving.specs.Going.{Answered, AnswersTo, Stays, Tidied}
+use Rattle.hfs_volume.specs.Weight.{cut_cost, data_of, free_blocks, needs_cut, room_with, weight}
+use Rattle.hfs_serving.specs.Going.{Answered, AnswersTo, Stays, Tidied, asked_in}
 use Rattle.hfs_serving.specs.Grounds.{KeepsHeading}
 use Rattle.hfs_serving.specs.Said.{joined, said_of}
 use Rattle.hfs_serving.specs.Serving.{IsDurable, IsRead}
@@ -30,7 +31,7 @@ use Rattle.volume_base.specs.declared.volume.Volume.{Volume}
 use Rattle.volume_step.specs.Steps.{IsServedAs}
 use Rattle.volume_step.specs.declared.outcome.Outcome.{Outcome}
 use Rattle.volume_step.specs.declared.outcome.Outcome.TheVariants as outcome
-use Rattle.served_volume.specs.Answering.{AnswersAs, GrowsForLine, ShrinksBy, TellsAs}
+use Rattle.served_volume.specs.Answering.{AnswersAs, CutsForLine, GrowsForLine, ShrinksBy, TellsAs}
 use Rattle.served_volume.specs.Knowing.{IsAlike, Knows}
 use Rattle.served_volume.proofs.Alike.{served_alike, told_alike}
 use Rattle.served_volume.proofs.Stepping.{Leaves, follow, heads_then, knows_then, place_then, reads_then}
@@ -44,30 +45,41 @@ one_said number entry said replies changes = λ i. record {
 }
 
 -- contents that are alike have the same cut
-cuts_alike : (capacity : ℕ) (now next before after : Content) → IsAlike now before → IsAlike next after → CutsSurplus capacity before after → CutsSurplus capacity now next
-cuts_alike capacity now next before after one two was = record {
-  id = was.id;
-  load = was.load;
-  grow = was.grow;
-  affords = ap (λ (l : VolumeState). cut_cost (room_with capacity (free_blocks l) l)) one.lists ∙ was.affords;
-  cuts = subst (λ (k : VolumeState × VolumeState). CutsAlone was.id data_kind (blocks_wanted k.0 was.id data_kind) k.0 k.1) {x = (volume_of before, volume_of after)} {y = (volume_of now, volume_of next)} (λ i. (sym one.lists i, sym two.lists i)) was.cuts;
-  keeps = record { sound = two.sound; tree = two.tree ∙ was.keeps.tree ∙ sym one.tree };
-}
+cuts_alike : (capacity : ℕ) (line : List ℕ) (now next before after : Content) → IsAlike now before → IsAlike next after → CutsForLine capacity line before after → CutsFor capacity (asked_in line) now next
+cuts_alike capacity line now next before after one two was =
+    let cut = was.first.cuts in
+    record {
+      own = was.asked;
+      is_own = ap spelled was.spelled;
+      no_refusal = ap (λ (t : PlainTree). refuses t (Ok was.asked)) one.tree ∙ was.first.no_refusal;
+      needs = (λ i. needs_cut (one.lists i) (data_of (one.tree i) was.asked)) ∙ was.first.needs;
+      cuts = record {
+        id = cut.id;
+        load = cut.load;
+        grow = cut.grow;
+        affords = ap (λ (l : VolumeState). cut_cost (room_with capacity (free_blocks l) l)) one.lists ∙ cut.affords;
+        cuts = subst (λ (k : VolumeState × VolumeState). CutsAlone cut.id data_kind (blocks_wanted k.0 cut.id data_kind) k.0 k.1) {x = (volume_of before, volume_of after)} {y = (volume_of now, volume_of next)} (λ i. (sym one.lists i, sym two.lists i)) cut.cuts;
+        keeps = record { sound = two.sound; tree = two.tree ∙ cut.keeps.tree ∙ sym one.tree };
+      };
+    }
 
 -- and the same growth of a tree
-grows_alike : (capacity : ℕ) (shrunk : Option ℕ) (line : List ℕ) (now next before after : Content) → IsAlike now before → IsAlike next after → GrowsForLine capacity line before after → GrowsTreeFirst capacity shrunk now next
+grows_alike : (capacity : ℕ) (shrunk : Option ℕ) (line : List ℕ) (now next before after : Content) → IsAlike now before → IsAlike next after → GrowsForLine capacity line before after → GrowsFor capacity shrunk (asked_in line) now next
 grows_alike capacity shrunk line now next before after one two was = record {
-  grow = was.first.grow;
-  wanted = inl (record {
-    asked = was.asked;
-    no_refusal = ap (λ (t : PlainTree). refuses t (Ok was.asked)) one.tree ∙ was.first.no_refusal;
-    load = was.first.load;
-    affords = (λ i. weight capacity (one.lists i) (one.tree i) was.asked) ∙ was.first.affords;
-  });
-  some = was.first.some;
-  grows = subst (λ (k : VolumeState × VolumeState). GrowsTrees (first_growth was.first.grow) k.0 k.1) {x = (volume_of before, volume_of after)} {y = (volume_of now, volume_of next)} (λ i. (sym one.lists i, sym two.lists i)) was.first.grows;
-  files = subst (λ (k : VolumeState × VolumeState). SameFiles k.0 k.1) {x = (volume_of before, volume_of after)} {y = (volume_of now, volume_of next)} (λ i. (sym one.lists i, sym two.lists i)) was.first.files;
-  keeps = record { sound = two.sound; tree = two.tree ∙ was.first.keeps.tree ∙ sym one.tree };
+  grows = record {
+    grow = was.first.grow;
+    wanted = inl (record {
+      asked = was.asked;
+      no_refusal = ap (λ (t : PlainTree). refuses t (Ok was.asked)) one.tree ∙ was.first.no_refusal;
+      load = was.first.load;
+      affords = (λ i. weight capacity (one.lists i) (one.tree i) was.asked) ∙ was.first.affords;
+    });
+    some = was.first.some;
+    grows = subst (λ (k : VolumeState × VolumeState). GrowsTrees (first_growth was.first.grow) k.0 k.1) {x = (volume_of before, volume_of after)} {y = (volume_of now, volume_of next)} (λ i. (sym one.lists i, sym two.lists i)) was.first.grows;
+    files = subst (λ (k : VolumeState × VolumeState). SameFiles k.0 k.1) {x = (volume_of before, volume_of after)} {y = (volume_of now, volume_of next)} (λ i. (sym one.lists i, sym two.lists i)) was.first.files;
+    keeps = record { sound = two.sound; tree = two.tree ∙ was.first.keeps.tree ∙ sym one.tree };
+  };
+  own = ap spelled was.spelled;
 }
 
 module _ (v w : Volume) (capacity : ℕ) (committed now : Content) (shrunk : Option ℕ) (a b : Space) (known : Knows v capacity committed now shrunk a) (below : IsDurable committed a) (reads : IsRead now a) (heads : KeepsHeading a) (leaves : Leaves v w committed a b) where
@@ -107,12 +119,12 @@ module _ (v w : Volume) (capacity : ℕ) (committed now : Content) (shrunk : Opt
       }
 
   -- a file lost blocks past its size, or a tree has grown
-  went : (line : List ℕ) → CutsSurplus capacity a.content b.content ⊎ GrowsForLine capacity line a.content b.content → shrunk_of w ≡ shrunk_of v → Tidied capacity (λ was is file. Knows w capacity was is file b) committed now shrunk b
+  went : (line : List ℕ) → CutsForLine capacity line a.content b.content ⊎ GrowsForLine capacity line a.content b.content → shrunk_of w ≡ shrunk_of v → Tidied capacity (asked_in line) (λ was is file. Knows w capacity was is file b) committed now shrunk b
   went line was kept =
       let f = follow v w capacity committed now shrunk a b known below reads heads leaves in
       record {
         next = f.next;
-        tidied = inr (⊎_elim (λ cuts. inl (cuts_alike capacity now f.next a.content b.content known.alike f.alike cuts)) (λ grows. inr (inl (grows_alike capacity shrunk line now f.next a.content b.content known.alike f.alike grows))) was);
+        tidied = inr (⊎_elim (λ cuts. inl (cuts_alike capacity line now f.next a.content b.content known.alike f.alike cuts)) (λ grows. inr (inl (grows_alike capacity shrunk line now f.next a.content b.content known.alike f.alike grows))) was);
         place = place_then v w capacity committed now shrunk a b known below reads heads leaves;
         reads = reads_then v w capacity committed now shrunk a b known below reads heads leaves;
         heads = heads_then v w capacity committed now shrunk a b known below reads heads leaves;

@@ -1,6 +1,6 @@
 -- A step of housekeeping, as serving sees it.
 use Rattle.std.proofs.Common.{◌≡◌, ◌⊎◌, ℕ, List, inl, inr, ⊎_elim, sym, ◌∙◌, ap, subst}
-use Rattle.std.specs.Prelude.{IfOk, Option, Result, Ok, Err}
+use Rattle.std.specs.Prelude.{IfOk, Option, None, Some, Result, Ok, Err}
 use Rattle.hx_bytes.specs.declared.faults.Trouble.{Trouble}
 use Rattle.jnl_format.specs.Recovery.{Content}
 use Rattle.sector_disk.specs.Space.{Space}
@@ -13,7 +13,7 @@ use Rattle.hfs_serving.specs.Going.{Stays, Tidied, TidiesTo}
 use Rattle.hfs_serving.specs.Grounds.{KeepsHeading}
 use Rattle.hfs_serving.specs.Serving.{IsDurable, IsRead}
 use Rattle.hfs_serving.specs.declared.volume.Next.{Next}
-use Rattle.volume_runs.specs.Rest.{IsAtRest}
+use Rattle.volume_runs.specs.Rest.{GrowsFor, IsAtRest, IsOwn}
 use Rattle.volume_base.specs.Keeping.{shrunk_of}
 use Rattle.volume_space.specs.declared.tidying.Tidying.{Tidying}
 use Rattle.volume_space.specs.declared.tidying.Tidying.TheVariants as tidying
@@ -44,6 +44,11 @@ wants_alike capacity shrunk now before grow one (inl was) =
 wants_alike capacity shrunk now before grow one (inr was) =
     inr (record { step = was.step; next = ap (λ (l : VolumeState). next_reclaim l shrunk) one.lists ∙ was.next; load = was.load; affords = ap (λ (l : VolumeState). reclaim_cost capacity l was.step) one.lists ∙ was.affords })
 
+own_alike : (capacity : ℕ) (shrunk : Option ℕ) (now before : Content) (grow : List ℕ) (one : IsAlike now before) (wanted : CommandWants capacity before grow ⊎ StepWants capacity shrunk before grow) → IsOwn None wanted → IsOwn None (wants_alike capacity shrunk now before grow one wanted)
+unfolding wants_alike
+own_alike capacity shrunk now before grow one (inl was) own = absurd (let no : None ≡ Some was.asked = own in cc no)
+own_alike capacity shrunk now before grow one (inr was) own = tt
+
 -- and the same growth of a tree
 growth_alike : (capacity : ℕ) (shrunk : Option ℕ) (now next before after : Content) → IsAlike now before → IsAlike next after → GrowsTreeFirst capacity shrunk before after → GrowsTreeFirst capacity shrunk now next
 growth_alike capacity shrunk now next before after one two was =
@@ -56,14 +61,20 @@ growth_alike capacity shrunk now next before after one two was =
       keeps = record { sound = two.sound; tree = two.tree ∙ was.keeps.tree ∙ sym one.tree };
     }
 
+-- ahead of no command
+alone_alike : (capacity : ℕ) (shrunk : Option ℕ) (now next before after : Content) → IsAlike now before → IsAlike next after → GrowsFor capacity shrunk None before after → GrowsFor capacity shrunk None now next
+unfolding growth_alike
+alone_alike capacity shrunk now next before after one two was =
+    record { grows = growth_alike capacity shrunk now next before after one two was.grows; own = own_alike capacity shrunk now before was.grows.grow one was.grows.wanted was.own }
+
 module _ (v w : Volume) (capacity : ℕ) (committed now : Content) (shrunk : Option ℕ) (a b : Space) (known : Knows v capacity committed now shrunk a) (below : IsDurable committed a) (reads : IsRead now a) (heads : KeepsHeading a) (leaves : Leaves v w committed a b) (kept : shrunk_of w ≡ shrunk_of v)
   where
-    tidied : Reclaims capacity shrunk a.content b.content ⊎ GrowsTreeFirst capacity shrunk a.content b.content → Tidied capacity (λ was is file. Knows w capacity was is file b) committed now shrunk b
+    tidied : Reclaims capacity shrunk a.content b.content ⊎ GrowsFor capacity shrunk None a.content b.content → Tidied capacity None (λ was is file. Knows w capacity was is file b) committed now shrunk b
     tidied was =
         let f = follow v w capacity committed now shrunk a b known below reads heads leaves in
         record {
           next = f.next;
-          tidied = ⊎_elim (λ made. inl (reclaims_alike capacity shrunk now f.next a.content b.content known.alike f.alike made)) (λ grown. inr (inr (inl (growth_alike capacity shrunk now f.next a.content b.content known.alike f.alike grown)))) was;
+          tidied = ⊎_elim (λ made. inl (reclaims_alike capacity shrunk now f.next a.content b.content known.alike f.alike made)) (λ grown. inr (inr (inl (alone_alike capacity shrunk now f.next a.content b.content known.alike f.alike grown)))) was;
           place = place_then v w capacity committed now shrunk a b known below reads heads leaves;
           reads = reads_then v w capacity committed now shrunk a b known below reads heads leaves;
           heads = heads_then v w capacity committed now shrunk a b known below reads heads leaves;

@@ -49,8 +49,8 @@ shortened capacity number line asked before after sound spelled false (outcome.A
 shortened capacity number line asked before after sound spelled true outcome.CommitFirst was =
     subst (λ (c : Content). IsServedAs capacity number [] (record { line = line; reply = reply.No refusal.OutOfMemory; before = before; after = c })) (sym was) (refused_entry capacity number line before sound refusal.OutOfMemory (inr refl))
 shortened capacity number line asked before after sound spelled false outcome.CommitFirst was = was
-shortened capacity number line asked before after sound spelled true outcome.Again was = ⊎_elim (λ cuts. inl cuts.cuts) (λ grows. inr (record { asked = asked; spelled = spelled; first = grows })) was
-shortened capacity number line asked before after sound spelled false outcome.Again was = ⊎_elim (λ cuts. inl cuts.cuts) (λ grows. inr (record { asked = asked; spelled = spelled; first = grows })) was
+shortened capacity number line asked before after sound spelled true outcome.Again was = ⊎_elim (λ cuts. inl (record { asked = asked; spelled = spelled; first = cuts })) (λ grows. inr (record { asked = asked; spelled = spelled; first = grows })) was
+shortened capacity number line asked before after sound spelled false outcome.Again was = ⊎_elim (λ cuts. inl (record { asked = asked; spelled = spelled; first = cuts })) (λ grows. inr (record { asked = asked; spelled = spelled; first = grows })) was
 
 -- and the file that was shrunk last
 pub shortened_shrinks : (line : List ℕ) (asked : Command) (before : Content) (old new : Option ℕ) → command_of line ≡ Ok asked → (fresh : Bool) (o : Outcome) → ShrinksAs o asked before old new → ShrinksBy (unless_short fresh o) line before old new

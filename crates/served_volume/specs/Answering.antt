@@ -9,16 +9,21 @@ use Rattle.hfs_language.specs.declared.refusal.Refusal.{Refusal}
 use Rattle.hfs_language.specs.declared.refusal.Refusal.TheVariants as refusal
 use Rattle.hfs_language.specs.declared.reply.Reply.TheVariants as reply
 use Rattle.hfs_language.specs.Text.{reply_text}
-use Rattle.hfs_volume.specs.Reclaim.{CutsSurplus}
 use Rattle.volume_runs.specs.Run.{is_ok, or_before, shrunk_by}
 use Rattle.hfs_volume.specs.TreeOf.{tree_of}
 use Rattle.hfs_serving.specs.Said.{joined}
 use Rattle.hfs_serving.specs.declared.volume.Step.{Step}
 use Rattle.hfs_serving.specs.declared.volume.Step.TheVariants as step
 use Rattle.hfs_serving.specs.declared.volume.ToTell.{ToTell}
-use Rattle.volume_step.specs.Steps.{GrowsFirst, IsServedAs}
+use Rattle.volume_step.specs.Steps.{CutsFirst, GrowsFirst, IsServedAs}
 use Rattle.volume_step.specs.declared.outcome.Outcome.{Outcome}
 use Rattle.volume_step.specs.declared.outcome.Outcome.TheVariants as outcome
+
+-- Blocks past the size of the file that the line's command puts data into were cut.
+pub record CutsForLine (capacity : ℕ) (line : List ℕ) (before after : Content) : Type 0 where
+  pub asked : Command
+  pub spelled : command_of line ≡ Ok asked
+  pub first : CutsFirst capacity asked before after
 
 -- The first of the trees that have to grow ahead of the line's command has grown.
 pub record GrowsForLine (capacity : ℕ) (line : List ℕ) (before after : Content) : Type 0 where
@@ -26,11 +31,11 @@ pub record GrowsForLine (capacity : ℕ) (line : List ℕ) (before after : Conte
   pub spelled : command_of line ≡ Ok asked
   pub first : GrowsFirst capacity asked before after
 
--- the line's entry is one of a run, and this is what it tells watchers; or nothing was changed; or a file lost blocks past its size, or a tree has grown
+-- the line's entry is one of a run, and this is what it tells watchers; or nothing was changed; or a file lost blocks past its size, or a tree has grown, ahead of its command
 abbrev pub AnswersAs : Outcome → ℕ → ℕ → List ℕ → Content → Content → Type 0
 AnswersAs (outcome.Answered said changes) capacity number line before after = IsServedAs capacity number changes (record { line = line; reply = said; before = before; after = after })
 AnswersAs outcome.CommitFirst capacity number line before after = after ≡ before
-AnswersAs outcome.Again capacity number line before after = CutsSurplus capacity before after ⊎ GrowsForLine capacity line before after
+AnswersAs outcome.Again capacity number line before after = CutsForLine capacity line before after ⊎ GrowsForLine capacity line before after
 
 -- the file that was shrunk last, behind a line: the one that it shrank, where it was done and shrank one
 abbrev pub ShrinksBy : Outcome → List ℕ → Content → Option ℕ → Option ℕ → Type 0

@@ -1,9 +1,10 @@
 -- The growth of a tree, as a step of housekeeping ahead of the one that awaits it.
 use Rattle.std.proofs.Common.{◌≡◌, ℕ, Bool, List, inl, inr, sym, ◌∙◌, ap, subst}
-use Rattle.std.specs.Prelude.{Option}
+use Rattle.std.specs.Prelude.{Option, None}
 use Rattle.jnl_format.specs.Recovery.{Content}
 use Rattle.hfs_volume.specs.Content.{volume_of}
-use Rattle.hfs_volume.specs.Reclaim.{GrowsTreeFirst, GrowsTrees, first_growth}
+use Rattle.hfs_volume.specs.Reclaim.{GrowsTrees, first_growth}
+use Rattle.volume_runs.specs.Rest.{GrowsFor}
 use Rattle.volume_space.specs.Awaiting.{AwaitsGrowth, StepAwaits}
 use Rattle.volume_space.specs.Growing.{GoesAhead, GrowsAhead, GrowthFits, alone}
 use Rattle.volume_space.specs.declared.ahead.Growth.{Growth}
@@ -23,14 +24,17 @@ use Rattle.volume_step.proofs.Ready.{growth_still}
 use Rattle.volume_step.proofs.GrowthSteps.{some_nodes}
 
 module _ (wanted : TreeWanted) (capacity : ℕ) (shrunk : Option ℕ) (before after : Content) (awaits : AwaitsGrowth capacity shrunk before wanted) where
-  grown : GrowsAhead wanted.tree wanted.more before after → GrowsTreeFirst capacity shrunk before after
+  grown : GrowsAhead wanted.tree wanted.more before after → GrowsFor capacity shrunk None before after
   grown ahead = record {
-    grow = awaits.2.grow;
-    wanted = inr (record { step = awaits.0; next = awaits.1; load = awaits.2.load; affords = awaits.2.affords });
-    some = some_nodes wanted.tree wanted.more awaits.2.grow awaits.2.first awaits.2.some;
-    grows = subst (λ (l : List ℕ). GrowsTrees l (volume_of before) (volume_of after)) (sym awaits.2.first) ahead.grows;
-    files = ahead.files;
-    keeps = ahead.keeps;
+    grows = record {
+      grow = awaits.2.grow;
+      wanted = inr (record { step = awaits.0; next = awaits.1; load = awaits.2.load; affords = awaits.2.affords });
+      some = some_nodes wanted.tree wanted.more awaits.2.grow awaits.2.first awaits.2.some;
+      grows = subst (λ (l : List ℕ). GrowsTrees l (volume_of before) (volume_of after)) (sym awaits.2.first) ahead.grows;
+      files = ahead.files;
+      keeps = ahead.keeps;
+    };
+    own = tt;
   }
 
   by_growth : (went : Growth) → GoesAhead went wanted.tree wanted.more before after → ReclaimsAs (tidied_by went) capacity shrunk before after

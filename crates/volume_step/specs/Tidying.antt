@@ -1,11 +1,11 @@
 -- What a step of housekeeping came to.
-use Rattle.std.specs.Prelude.{◌≡◌, ◌⊎◌, ℕ, Option}
+use Rattle.std.specs.Prelude.{◌≡◌, ◌⊎◌, ℕ, Option, None}
 use Rattle.jnl_format.specs.Recovery.{Content}
 use Rattle.hfs_volume.specs.Content.{volume_of}
-use Rattle.hfs_volume.specs.Reclaim.{GrowsTreeFirst, Reclaims}
+use Rattle.hfs_volume.specs.Reclaim.{Reclaims}
 use Rattle.alloc_bitmap.specs.Map.{free_of}
 use Rattle.sector_disk.specs.Space.{Space}
-use Rattle.volume_runs.specs.Rest.{IsAtRest}
+use Rattle.volume_runs.specs.Rest.{GrowsFor, IsAtRest}
 use Rattle.volume_base.specs.Keeping.{shrunk_of}
 use Rattle.volume_base.specs.Room.{capacity_of}
 use Rattle.volume_base.specs.declared.volume.Volume.{Volume}
@@ -20,7 +20,7 @@ use Rattle.volume_space.specs.declared.tidying.Tidying.TheVariants as tidying
 
 -- Made: the next step of reclaiming was made, and nothing was missing for it, or a tree that had to grow for it has grown. Rest: nothing was changed, and nothing is left to reclaim, or the next step is held up. CommitFirst: nothing was changed.
 abbrev pub ReclaimsAs : Tidying → ℕ → Option ℕ → Content → Content → Type 0
-ReclaimsAs tidying.Made capacity shrunk before after = Reclaims capacity shrunk before after ⊎ GrowsTreeFirst capacity shrunk before after
+ReclaimsAs tidying.Made capacity shrunk before after = Reclaims capacity shrunk before after ⊎ GrowsFor capacity shrunk None before after
 ReclaimsAs tidying.Rest capacity shrunk before after = (after ≡ before) × IsAtRest capacity shrunk (volume_of before)
 ReclaimsAs tidying.CommitFirst capacity shrunk before after = after ≡ before
 

@@ -2,7 +2,7 @@ use Rattle.std.proofs.Common.{◌≡◌, ◌≤◌, ℕ}
 use Rattle.std.specs.Prelude.{Option, IsTrue}
 use Rattle.jnl_format.specs.Recovery.{Content}
 use Rattle.hfs_serving.specs.Faults.{CountsFaults}
-use Rattle.hfs_serving.specs.Going.{Stands, GoesRested}
+use Rattle.hfs_serving.specs.Going.{Stands, GoesRested, ahead_of}
 use Rattle.hfs_serving.proofs.batch.serve_line.Given as goal
 
 abbrev pub invariant-loop : goal.invariant-loop
@@ -14,5 +14,5 @@ invariant-loop g l =
       serves : (capacity : ℕ) → g.G.Ground.serves l.fn.base capacity → g.G.Ground.taken l.fn.base ≤ capacity → g.G.Ground.serves l.base capacity × (g.G.Ground.taken l.base ≤ capacity);
       goes : IsTrue (g.G.SectorView.space l.fn.base).tells → (capacity : ℕ) (committed now : Content) (shrunk : Option ℕ)
           → Stands (g.V.Volume.knows l.fn.volume (g.G.SectorView.space l.fn.base) capacity) committed now shrunk (g.G.SectorView.space l.fn.base) (g.G.Ground.outside l.fn.base)
-          → (l.told ≡ l.fn.told) × GoesRested capacity (g.V.Volume.knows l.volume (g.G.SectorView.space l.base) capacity) committed now shrunk (g.G.Ground.outside l.fn.base) (g.G.SectorView.space l.base) (g.G.Ground.outside l.base);
+          → (l.told ≡ l.fn.told) × GoesRested capacity (ahead_of l.may_wait l.fn.line) (g.V.Volume.knows l.volume (g.G.SectorView.space l.base) capacity) committed now shrunk (g.G.Ground.outside l.fn.base) (g.G.SectorView.space l.base) (g.G.Ground.outside l.base);
     }

@@ -35,7 +35,7 @@ returns-in_err-work-clause-stops g c tells capacity committed now shrunk stands 
     let mid = g.G.Ground.outside c.loop.base in
     let goes = c.loop.invariant.goes tells capacity committed now shrunk stands in
     on_err c.from_residual.result
-    (tidy_stops capacity shrunk committed now old knows space mid goes [] (g.G.Ground.outside c.work.new.base)
+    (tidy_stops capacity shrunk committed now old knows space mid goes (g.G.Ground.outside c.work.new.base)
     (c.in_err-work.ensures.stops (c.loop.invariant.tells ∙ tells) capacity goes.last goes.next shrunk (stands_there capacity shrunk committed now old knows space mid goes)))
 
 pub returns-then-branch-clause-goes : goal.returns-then-branch-clause-goes

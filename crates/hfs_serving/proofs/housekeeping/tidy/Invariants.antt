@@ -1,5 +1,5 @@
 use Rattle.std.proofs.Common.{◌≡◌, ◌≤◌, ℕ}
-use Rattle.std.specs.Prelude.{Option, IsTrue}
+use Rattle.std.specs.Prelude.{Option, None, IsTrue}
 use Rattle.jnl_format.specs.Recovery.{Content}
 use Rattle.hfs_serving.specs.Faults.{CountsFaults}
 use Rattle.hfs_serving.specs.Going.{Stands, GoesTidy}
@@ -14,5 +14,5 @@ invariant-loop g l =
       serves : (capacity : ℕ) → g.G.Ground.serves l.initial.base capacity → g.G.Ground.taken l.initial.base ≤ capacity → g.G.Ground.serves l.base capacity × (g.G.Ground.taken l.base ≤ capacity);
       goes : IsTrue (g.G.SectorView.space l.initial.base).tells → (capacity : ℕ) (committed now : Content) (shrunk : Option ℕ)
           → Stands (g.V.Volume.knows l.initial.volume (g.G.SectorView.space l.initial.base) capacity) committed now shrunk (g.G.SectorView.space l.initial.base) (g.G.Ground.outside l.initial.base)
-          → GoesTidy capacity (g.V.Volume.knows l.volume (g.G.SectorView.space l.base) capacity) committed now shrunk (g.G.Ground.outside l.initial.base) (g.G.SectorView.space l.base) (g.G.Ground.outside l.base);
+          → GoesTidy capacity None (g.V.Volume.knows l.volume (g.G.SectorView.space l.base) capacity) committed now shrunk (g.G.Ground.outside l.initial.base) (g.G.SectorView.space l.base) (g.G.Ground.outside l.base);
     }
