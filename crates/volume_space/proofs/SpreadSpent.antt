@@ -1,5 +1,5 @@
 -- What the growth of a file takes of the room for puts, whose fork has any number of extents.
-use Rattle.std.proofs.Common.{◌≡◌, ◌≢◌, ◌<◌, ◌≤◌, ℕ, ◌+◌, List, length, map, refl, sym, ◌∙◌, ap, subst, arith}
+use Rattle.std.proofs.Common.{◌≡◌, ◌≢◌, ◌≤◌, ℕ, ◌+◌, List, length, map, refl, sym, ◌∙◌, ap, subst, arith}
 use Rattle.hx_bytes.specs.declared.extents.Extent.{Extent}
 use Rattle.sector_disk.specs.Space.{Space}
 use Rattle.btree_node.specs.Keys.{IsExtentKey, extent_cmp, is_eight_extents}
@@ -15,7 +15,6 @@ use Rattle.hfs_volume.specs.Records.{overflow_of}
 use Rattle.overflow.specs.Reading.{HasExtents, overflow_in_store}
 use Rattle.overflow.specs.Room.{edits_for}
 use Rattle.volume_base.specs.Lists.{lists_of}
-use Rattle.volume_base.specs.declared.volume.Tree.{Tree}
 use Rattle.volume_base.specs.declared.volume.Volume.{Volume}
 use Rattle.volume_space.specs.Growing.{growth_load, growth_room}
 use Rattle.volume_space.specs.Recording.{AreFilled}
@@ -31,16 +30,16 @@ use Rattle.volume_space.proofs.SpreadRoom.{filled_edit, two_edits}
 module _ (v : Volume) (a : Space) (id : ℕ) (other : id ≢ extents_id) (before now : List Extent) (held : HoldsTree extents_form IsExtentKey is_eight_extents extent_cmp v.extents.file a.content) (has : HasExtents (overflow_in_volume (lists_of v a.content)) id data_kind before)
     (goes : GoesOnInRun before now) (list : List Extent) (same : list ≡ now)
   where
-  in_store : (names : List ℕ) → HasExtents (overflow_in_store (state_of names v.extents.file a)) id data_kind before
-  in_store names = subst (λ (l : List Pair). HasExtents (map overflow_of l) id data_kind before) (sym (pairs_held extents_form IsExtentKey is_eight_extents extent_cmp names v.extents.file a held)) has
+    in_store : (names : List ℕ) → HasExtents (overflow_in_store (state_of names v.extents.file a)) id data_kind before
+    in_store names = subst (λ (l : List Pair). HasExtents (map overflow_of l) id data_kind before) (sym (pairs_held extents_form IsExtentKey is_eight_extents extent_cmp names v.extents.file a held)) has
 
-  pub two_stored : (names : List ℕ) → edits_for (state_of names v.extents.file a) id data_kind list ≤ 2
-  two_stored names = subst (λ (l : List Extent). edits_for (state_of names v.extents.file a) id data_kind l ≤ 2) (sym (same ∙ goes.is))
-      (two_edits (state_of names v.extents.file a) id data_kind other before (in_store names) goes.run (λ none. absurd (omega (arith, goes.some, none))))
+    pub two_stored : (names : List ℕ) → edits_for (state_of names v.extents.file a) id data_kind list ≤ 2
+    two_stored names = subst (λ (l : List Extent). edits_for (state_of names v.extents.file a) id data_kind l ≤ 2) (sym (same ∙ goes.is))
+        (two_edits (state_of names v.extents.file a) id data_kind other before (in_store names) goes.run (λ none. absurd (omega (arith, goes.some, none))))
 
-  pub one_stored : AreFilled (lists_of v a.content) id (length before) → (names : List ℕ) → edits_for (state_of names v.extents.file a) id data_kind list ≤ 1
-  one_stored filled names = subst (λ (l : List Extent). edits_for (state_of names v.extents.file a) id data_kind l ≤ 1) (sym (same ∙ goes.is))
-      (filled_edit (state_of names v.extents.file a) id data_kind other before (in_store names) goes.run (λ none. absurd (omega (arith, goes.some, none))) (filled_in_store v names a id before held filled))
+    pub one_stored : AreFilled (lists_of v a.content) id (length before) → (names : List ℕ) → edits_for (state_of names v.extents.file a) id data_kind list ≤ 1
+    one_stored filled names = subst (λ (l : List Extent). edits_for (state_of names v.extents.file a) id data_kind l ≤ 1) (sym (same ∙ goes.is))
+        (filled_edit (state_of names v.extents.file a) id data_kind other before (in_store names) goes.run (λ none. absurd (omega (arith, goes.some, none))) (filled_in_store v names a id before held filled))
 
 -- ---- what that takes
 
