@@ -1,5 +1,5 @@
 -- Lines that are refused.
-use Rattle.std.proofs.Common.{◌≡◌, ◌⊎◌, ℕ, Bool, true, false, List, [], inl, inr, ⊎_elim, refl, sym, ap, subst}
+use Rattle.std.proofs.Common.{◌≡◌, ◌≢◌, ◌⊎◌, ℕ, Bool, true, false, List, [], inl, inr, ⊎_elim, refl, sym, ap, subst}
 use Rattle.std.specs.Prelude.{Option, Result, Ok, Err, if◌then◌else◌}
 use Rattle.jnl_format.specs.Keeping.{IsSame}
 use Rattle.jnl_format.specs.Recovery.{Content, header_of_volume}
@@ -17,7 +17,7 @@ use Rattle.hfs_volume.specs.TreeOf.{tree_of}
 use Rattle.volume_step.specs.Steps.{IsServedAs, KeepsJournal, ShrinksAs, StepsTo}
 use Rattle.volume_step.specs.declared.outcome.Outcome.{Outcome}
 use Rattle.volume_step.specs.declared.outcome.Outcome.TheVariants as outcome
-use Rattle.served_volume.specs.Answering.{AnswersAs, IsRefusedAs, ShrinksBy, unless_short}
+use Rattle.served_volume.specs.Answering.{AnswersAs, IsDecidedAs, IsRefusedAs, ShrinksBy, unless_short}
 
 module _ (capacity number : ℕ) (line : List ℕ) (content : Content) (sound : IsSound content) where
   abbrev entry : Refusal → Entry
@@ -44,13 +44,22 @@ ShrinksTo said asked before old new = new ≡ (if is_ok said then or_before (shr
 
 -- what a step came to
 pub shortened : (capacity number : ℕ) (line : List ℕ) (asked : Command) (before after : Content) → IsSound before → command_of line ≡ Ok asked → (fresh : Bool) (o : Outcome) → StepsTo o capacity number asked before after → AnswersAs (unless_short fresh o) capacity number line before after
-shortened capacity number line asked before after sound spelled true (outcome.Answered said changes) was = was line spelled
-shortened capacity number line asked before after sound spelled false (outcome.Answered said changes) was = was line spelled
+shortened capacity number line asked before after sound spelled true (outcome.Answered said changes) was = (was line spelled).served
+shortened capacity number line asked before after sound spelled false (outcome.Answered said changes) was = (was line spelled).served
 shortened capacity number line asked before after sound spelled true outcome.CommitFirst was =
     subst (λ (c : Content). IsServedAs capacity number [] (record { line = line; reply = reply.No refusal.OutOfMemory; before = before; after = c })) (sym was) (refused_entry capacity number line before sound refusal.OutOfMemory (inr refl))
 shortened capacity number line asked before after sound spelled false outcome.CommitFirst was = was
 shortened capacity number line asked before after sound spelled true outcome.Again was = ⊎_elim (λ cuts. inl (record { asked = asked; spelled = spelled; first = cuts })) (λ grows. inr (record { asked = asked; spelled = spelled; first = grows })) was
 shortened capacity number line asked before after sound spelled false outcome.Again was = ⊎_elim (λ cuts. inl (record { asked = asked; spelled = spelled; first = cuts })) (λ grows. inr (record { asked = asked; spelled = spelled; first = grows })) was
+
+-- where it wants no commit
+pub decided : (capacity number : ℕ) (line : List ℕ) (asked : Command) (before after : Content) → command_of line ≡ Ok asked → (fresh : Bool) (o : Outcome) → StepsTo o capacity number asked before after → o ≢ outcome.CommitFirst → IsDecidedAs (unless_short fresh o) capacity line before after
+decided capacity number line asked before after spelled true (outcome.Answered said changes) was other = (was line spelled).decided
+decided capacity number line asked before after spelled false (outcome.Answered said changes) was other = (was line spelled).decided
+decided capacity number line asked before after spelled true outcome.CommitFirst was other = absurd (other refl)
+decided capacity number line asked before after spelled false outcome.CommitFirst was other = absurd (other refl)
+decided capacity number line asked before after spelled true outcome.Again was other = tt
+decided capacity number line asked before after spelled false outcome.Again was other = tt
 
 -- and the file that was shrunk last
 pub shortened_shrinks : (line : List ℕ) (asked : Command) (before : Content) (old new : Option ℕ) → command_of line ≡ Ok asked → (fresh : Bool) (o : Outcome) → ShrinksAs o asked before old new → ShrinksBy (unless_short fresh o) line before old new

@@ -9,7 +9,7 @@ use Rattle.hfs_language.specs.declared.refusal.Refusal.{Refusal}
 use Rattle.hfs_language.specs.declared.refusal.Refusal.TheVariants as refusal
 use Rattle.hfs_language.specs.declared.reply.Reply.TheVariants as reply
 use Rattle.hfs_language.specs.Text.{reply_text}
-use Rattle.volume_runs.specs.Run.{is_ok, or_before, shrunk_by}
+use Rattle.volume_runs.specs.Run.{IsAnswered, LacksResource, is_ok, or_before, shrunk_by}
 use Rattle.hfs_volume.specs.TreeOf.{tree_of}
 use Rattle.hfs_serving.specs.Said.{joined}
 use Rattle.hfs_serving.specs.declared.volume.Step.{Step}
@@ -36,6 +36,13 @@ abbrev pub AnswersAs : Outcome → ℕ → ℕ → List ℕ → Content → Cont
 AnswersAs (outcome.Answered said changes) capacity number line before after = IsServedAs capacity number changes (record { line = line; reply = said; before = before; after = after })
 AnswersAs outcome.CommitFirst capacity number line before after = after ≡ before
 AnswersAs outcome.Again capacity number line before after = CutsForLine capacity line before after ⊎ GrowsForLine capacity line before after
+
+-- A line is answered as its command's step, or a resource is missing for it: a commit isn't wanted, and memory isn't missing. Or it is tried again.
+abbrev pub IsDecidedAs : Outcome → ℕ → List ℕ → Content → Content → Type 0
+IsDecidedAs (outcome.Answered said changes) capacity line before after =
+    IsAnswered capacity (record { line = line; reply = said; before = before; after = after }) ⊎ LacksResource capacity (record { line = line; reply = said; before = before; after = after })
+IsDecidedAs outcome.CommitFirst capacity line before after = ⊥
+IsDecidedAs outcome.Again capacity line before after = Unit {0}
 
 -- the file that was shrunk last, behind a line: the one that it shrank, where it was done and shrank one
 abbrev pub ShrinksBy : Outcome → List ℕ → Content → Option ℕ → Option ℕ → Type 0

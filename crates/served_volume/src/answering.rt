@@ -1,10 +1,11 @@
 //! A line on a volume in service.
-ghost use Rattle.std.specs.Prelude.{◌≡◌, ℕ, IsTrue, IfErr, IfOk, Ok, OnOk};
+ghost use Rattle.std.specs.Prelude.{◌≡◌, ◌⊎◌, ℕ, true, IsTrue, IfErr, IfOk, Ok, OnOk};
 ghost use Rattle.jnl_format.specs.Recovery.{Content};
 ghost use Rattle.sector_disk.specs.Space.{SameSpace};
 ghost use Rattle.btree_edit.specs.Causes.{HasTroubleCause};
 ghost use Rattle.hfs_language.specs.Language.{command_of};
 ghost use Rattle.hfs_language.specs.Written.{FitsCommand};
+ghost use Rattle.hfs_model.specs.Step.{only_reads};
 ghost use Rattle.hfs_volume.specs.Aside.{IsJournalSector};
 ghost use Rattle.hfs_volume.specs.Sound.{IsSound};
 ghost use Rattle.volume_base.specs.Keeping.{shrunk_of};
@@ -14,8 +15,9 @@ ghost use Rattle.volume_space.specs.Spilling.{IsLaidOutAs};
 ghost use Rattle.volume_space.specs.Standing.{HoldsOn};
 ghost use Rattle.volume_base.specs.Standing.{IsSettled, StandsOver};
 ghost use Rattle.volume_base.specs.Touching.{Touches};
-ghost use Rattle.volume_step.specs.Steps.{KeepsJournal, OwnOf};
-ghost use Rattle.served_volume.specs.Answering.{AnswersAs, IsRefusedAs, ShrinksBy, refusal_of, refused, unless_short};
+ghost use Rattle.volume_step.specs.Anew.{GoesAlone, IsAnew};
+ghost use Rattle.volume_step.specs.Steps.{IsReady, KeepsJournal, OwnOf, PutsNow};
+ghost use Rattle.served_volume.specs.Answering.{AnswersAs, IsDecidedAs, IsRefusedAs, ShrinksBy, refusal_of, refused, unless_short};
 
 use crate::fitting::fits_command;
 use cmd_lang::{LineFault, read_line};
@@ -132,6 +134,10 @@ fn do_command<P: SectorSpace>(
     requires spelled { command_of line.now ≡ Ok command.now }
     requires fits { FitsCommand command.now }
     ensures answered { IsTrue (P.SectorView.space space.old).tells → IfOk result (λ outcome. AnswersAs outcome (capacity_of volume.old) number line.now (P.SectorView.space space.old).content (P.SectorView.space space.new).content) }
+    // Where the step is ready for it, or nothing was put since the last commit and nothing is missing for it nor goes ahead of it, neither a commit is
+    // wanted nor is memory missing.
+    ensures ready { IsTrue (P.SectorView.space space.old).tells → (only_reads command.now ≡ true) ⊎ (IsReady command.now volume.old (P.SectorView.space space.old) ⊎ PutsNow command.now volume.old (P.SectorView.space space.old)) → IfOk result (λ outcome. IsDecidedAs outcome (capacity_of volume.old) line.now (P.SectorView.space space.old).content (P.SectorView.space space.new).content) }
+    ensures anew { IsTrue (P.SectorView.space space.old).tells → IsAnew volume.old (P.SectorView.space space.old) → GoesAlone command.now (capacity_of volume.old) (P.SectorView.space space.old).content → IfOk result (λ outcome. IsDecidedAs outcome (capacity_of volume.old) line.now (P.SectorView.space space.old).content (P.SectorView.space space.new).content) }
     ensures place { IsTrue (P.SectorView.space space.old).tells → OnOk result (KeepsJournal (P.SectorView.space space.old).content (P.SectorView.space space.new).content) }
     ensures stands { OnOk result (StandsOver volume.new (P.SectorView.space space.new)) }
     ensures settled { IsTrue (P.SectorView.space space.old).tells → OnOk result (IsSettled volume.new (P.SectorView.space space.new).content) }

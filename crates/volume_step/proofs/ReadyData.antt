@@ -127,7 +127,7 @@ data_edits tree (command.At n) put is = absurd (let no : None ≡ Some put = is 
 data_edits tree command.Df put is = absurd (let no : None ≡ Some put = is in cc no)
 data_edits tree command.Sync put is = absurd (let no : None ≡ Some put = is in cc no)
 
-data_weight : (capacity : ℕ) (free : List Bool) (volume : VolumeState) (tree : PlainTree) (asked : Command) (put : Data) → data_of tree asked ≡ Some put → needs_cut volume (Some put) ≡ false
+pub data_weight : (capacity : ℕ) (free : List Bool) (volume : VolumeState) (tree : PlainTree) (asked : Command) (put : Data) → data_of tree asked ≡ Some put → needs_cut volume (Some put) ≡ false
     → weight_with capacity free volume tree asked ≡ cost_of (needs_data free volume put) (room_with capacity free volume)
 unfolding weight_with
 data_weight capacity free volume tree asked put is uncut =

@@ -1,5 +1,5 @@
 -- What a command came to, as the entry of whichever line spells it.
-use Rattle.std.proofs.Common.{◌≡◌, ◌⊎◌, ℕ, Bool, true, false, List, [], ◌∷◌, inl, inr, refl, sym, ◌∙◌, ap, subst}
+use Rattle.std.proofs.Common.{◌≡◌, ◌⊎◌, ⊎_elim, ℕ, Bool, true, false, List, [], ◌∷◌, inl, inr, refl, sym, ◌∙◌, ap, subst}
 use Rattle.std.specs.Prelude.{None, Result, Ok, Err, drop, map, take, if◌then◌else◌}
 use Rattle.std.proofs.lemmas.Bool.{true≢false}
 use Rattle.jnl_format.specs.Recovery.{Content}
@@ -21,7 +21,7 @@ use Rattle.hfs_model.specs.declared.plain.PlainTree.{PlainTree}
 use Rattle.hfs_volume.specs.Content.{volume_of}
 use Rattle.hfs_volume.specs.Cost.{cost_of}
 use Rattle.hfs_volume.specs.Data.{PutsInFork}
-use Rattle.volume_runs.specs.Run.{DoesLine, IsDone, IsServed, is_ok, reply_to}
+use Rattle.volume_runs.specs.Run.{DoesLine, Entry, IsAnswered, IsDone, LacksResource, is_ok, reply_to}
 use Rattle.hfs_volume.specs.Sound.{IsSound}
 use Rattle.volume_runs.specs.Told.{changes_of}
 use Rattle.hfs_volume.specs.TreeOf.{tree_of}
@@ -180,17 +180,28 @@ no_changes line tree (command.At moment) is = absurd (true≢false (sym is))
 abbrev pub changes_told : ℕ → PlainTree → Command → Reply → List Change
 changes_told number tree asked said = if is_ok said then changes_of number tree asked else []
 
+-- What an entry may be: the contents are sound, and it is answered as its step, or a resource is missing.
+pub record IsDecided (capacity : ℕ) (entry : Entry) : Type 0 where
+  pub sound_before : IsSound entry.before
+  pub sound_after : IsSound entry.after
+  pub is : IsAnswered capacity entry ⊎ LacksResource capacity entry
+
 -- what an entry may be, of a command that a line spells
 pub record Comes (capacity : ℕ) (asked : Command) (said : Reply) (before after : Content) : Type 0 where
-  pub is : (line : List ℕ) → command_of line ≡ Ok asked → IsServed capacity (record { line = line; reply = said; before = before; after = after })
+  pub is : (line : List ℕ) → command_of line ≡ Ok asked → IsDecided capacity (record { line = line; reply = said; before = before; after = after })
 
 module _ (capacity number : ℕ) (asked : Command) (said : Reply) (before after : Content) where
   -- with what watchers are told
   pub steps : Comes capacity asked said before after → (changes : List Change) → changes ≡ changes_told number (tree_of before) asked said → StepsTo (outcome.Answered said changes) capacity number asked before after
-  steps comes changes told line spells = record {
-    served = comes.is line spells;
-    told = told ∙ sym (ap (λ (it : Result Command Refusal). if is_ok said then changes_asked it else []) spells);
-  }
+  steps comes changes told line spells =
+      let it = comes.is line spells in
+      record {
+        served = record {
+          served = record { sound_before = it.sound_before; sound_after = it.sound_after; is = ⊎_elim (λ one. inl one) (λ two. inr (inl two)) it.is };
+          told = told ∙ sym (ap (λ (it : Result Command Refusal). if is_ok said then changes_asked it else []) spells);
+        };
+        decided = it.is;
+      }
     where
       changes_asked : Result Command Refusal → List Change
       changes_asked (Ok it) = changes_of number (tree_of before) it
@@ -221,7 +232,7 @@ module _ (capacity : ℕ) (asked : Command) (before : Content) (sound : IsSound 
     is = λ line spells. record {
       sound_before = sound;
       sound_after = sound;
-      is = inr (inl (record { asked = asked; is_asked = spells; no_refusal = lacks.0; why = why; weighs = lacks.1; reply_is = refl; same = refl }));
+      is = inr (record { asked = asked; is_asked = spells; no_refusal = lacks.0; why = why; weighs = lacks.1; reply_is = refl; same = refl });
     };
   }
 

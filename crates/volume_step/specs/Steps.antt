@@ -13,7 +13,7 @@ use Rattle.hfs_language.specs.declared.reply.Reply.TheVariants as reply
 use Rattle.hfs_model.specs.Step.{refuses, step_line}
 use Rattle.hfs_volume.specs.Content.{volume_of}
 use Rattle.hfs_volume.specs.Reclaim.{CutsSurplus, GrowsTrees, KeepsTree, SameFiles, first_growth}
-use Rattle.volume_runs.specs.Run.{Entry, IsServed, is_ok, or_before, shrunk_by}
+use Rattle.volume_runs.specs.Run.{Entry, IsAnswered, IsServed, LacksResource, is_ok, or_before, shrunk_by}
 use Rattle.volume_runs.specs.Told.{changes_by}
 use Rattle.hfs_volume.specs.TreeOf.{tree_of}
 use Rattle.hfs_volume.specs.Weight.{data_of, edits_of, needs_cut, weight, weight_with}
@@ -50,6 +50,11 @@ pub record IsServedAs (capacity number : ℕ) (changes : List Change) (entry : E
   pub served : IsServed capacity entry
   pub told : changes ≡ changes_by number entry
 
+-- An entry of a command's step: it is answered as its step, or a resource is missing for it; memory isn't.
+pub record IsSteppedAs (capacity number : ℕ) (changes : List Change) (entry : Entry) : Type 0 where
+  pub served : IsServedAs capacity number changes entry
+  pub decided : IsAnswered capacity entry ⊎ LacksResource capacity entry
+
 -- The step doesn't refuse the command, but blocks past the size of the file that it puts data into go first: some of them were cut.
 pub record CutsFirst (capacity : ℕ) (asked : Command) (before after : Content) : Type 0 where
   pub no_refusal : refuses (tree_of before) (Ok asked) ≡ false
@@ -71,7 +76,7 @@ pub record GrowsFirst (capacity : ℕ) (asked : Command) (before after : Content
 -- what a command came to: the entry of each line that spells it is one of a run; or nothing was changed; or a cut or the growth of a tree went first
 abbrev pub StepsTo : Outcome → ℕ → ℕ → Command → Content → Content → Type 0
 StepsTo (outcome.Answered reply changes) capacity number asked before after =
-    (line : List ℕ) → command_of line ≡ Ok asked → IsServedAs capacity number changes (record { line = line; reply = reply; before = before; after = after })
+    (line : List ℕ) → command_of line ≡ Ok asked → IsSteppedAs capacity number changes (record { line = line; reply = reply; before = before; after = after })
 StepsTo outcome.CommitFirst capacity number asked before after = after ≡ before
 StepsTo outcome.Again capacity number asked before after = CutsFirst capacity asked before after ⊎ GrowsFirst capacity asked before after
 

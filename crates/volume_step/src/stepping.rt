@@ -15,6 +15,7 @@ ghost use Rattle.volume_space.specs.Spilling.{IsLaidOutAs};
 ghost use Rattle.volume_space.specs.Standing.{HoldsOn};
 ghost use Rattle.volume_base.specs.Standing.{IsSettled, StandsOver};
 ghost use Rattle.volume_base.specs.Touching.{Touches};
+ghost use Rattle.volume_step.specs.Anew.{GoesAlone, IsAnew};
 ghost use Rattle.volume_step.specs.Steps.{Affords, FitsNow, IsDoneOk, IsMet, IsReady, KeepsJournal, OwnOf, PutsNow, ShrinksAs, StepsTo};
 ghost use Rattle.volume_step.specs.declared.outcome.Outcome.TheVariants as outcome;
 
@@ -189,6 +190,8 @@ pub fn step<P: SectorSpace>(
     // No commit comes first where the command reads alone; nor where it puts no data into a file, and what it costs of the blocks that may be taken
     // is a load that the room suffices for (each overflow record of a tree that grows ahead of it has an extent in use); nor where it puts data, and that is met.
     ensures ready { IsTrue (P.SectorView.space space.old).tells → (only_reads command.now ≡ true) ⊎ (IsReady command.now volume.old (P.SectorView.space space.old) ⊎ PutsNow command.now volume.old (P.SectorView.space space.old)) → IfOk result (λ it. it ≢ outcome.CommitFirst) }
+    // On a transaction to which nothing was put none comes first where nothing is missing for the command, and nothing goes ahead of it.
+    ensures anew { IsTrue (P.SectorView.space space.old).tells → IsAnew volume.old (P.SectorView.space space.old) → GoesAlone command.now (capacity_of volume.old) (P.SectorView.space space.old).content → IfOk result (λ it. it ≢ outcome.CommitFirst) }
     // The journal lies where it lay, and the header is one of the same volume.
     ensures place { IsTrue (P.SectorView.space space.old).tells → OnOk result (KeepsJournal (P.SectorView.space space.old).content (P.SectorView.space space.new).content) }
     ensures stands { OnOk result (StandsOver volume.new (P.SectorView.space space.new)) }

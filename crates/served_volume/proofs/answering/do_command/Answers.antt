@@ -2,8 +2,8 @@ use Rattle.std.proofs.Common.{sym, subst}
 use Rattle.volume_base.specs.Keeping.{shrunk_of}
 use Rattle.volume_base.specs.Room.{capacity_of}
 use Rattle.volume_step.specs.declared.outcome.Outcome.{Outcome}
-use Rattle.served_volume.specs.Answering.{AnswersAs, ShrinksBy}
-use Rattle.served_volume.proofs.Refusing.{shortened, shortened_shrinks}
+use Rattle.served_volume.specs.Answering.{AnswersAs, IsDecidedAs, ShrinksBy}
+use Rattle.served_volume.proofs.Refusing.{decided, shortened, shortened_shrinks}
 use Rattle.served_volume.proofs.answering.do_command.Goals as goal
 
 pub returns-clause-answered : goal.returns-clause-answered
@@ -21,3 +21,19 @@ returns-clause-shrunk g c tells =
     let new = shrunk_of c.step.new.volume in
     subst (λ (o : Outcome). ShrinksBy o c.args.line.now before old new) (sym c.unless_short.ensures)
     (shortened_shrinks c.args.line.now c.args.command.now before old new c.requires.spelled c.args.fresh c.in_ok-outcome.outcome (c.in_ok-outcome.ensures.shrunk tells))
+
+pub returns-clause-ready : goal.returns-clause-ready
+returns-clause-ready g c tells ready =
+    let before = (g.P.SectorView.space c.args.space.now).content in
+    let after = (g.P.SectorView.space c.step.new.space).content in
+    let capacity = capacity_of c.args.volume.now in
+    subst (λ (o : Outcome). IsDecidedAs o capacity c.args.line.now before after) (sym c.unless_short.ensures)
+    (decided capacity c.args.number c.args.line.now c.args.command.now before after c.requires.spelled c.args.fresh c.in_ok-outcome.outcome (c.in_ok-outcome.ensures.answered tells) (c.in_ok-outcome.ensures.ready tells ready))
+
+pub returns-clause-anew : goal.returns-clause-anew
+returns-clause-anew g c tells anew alone =
+    let before = (g.P.SectorView.space c.args.space.now).content in
+    let after = (g.P.SectorView.space c.step.new.space).content in
+    let capacity = capacity_of c.args.volume.now in
+    subst (λ (o : Outcome). IsDecidedAs o capacity c.args.line.now before after) (sym c.unless_short.ensures)
+    (decided capacity c.args.number c.args.line.now c.args.command.now before after c.requires.spelled c.args.fresh c.in_ok-outcome.outcome (c.in_ok-outcome.ensures.answered tells) (c.in_ok-outcome.ensures.anew tells anew alone))
