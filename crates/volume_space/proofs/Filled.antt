@@ -1,6 +1,21 @@
 -- A tree's fork of which each overflow record has an extent in use, behind a growth's first puts, and read from the extents overflow file.
-use Rattle.std.proofs.Common.{◌≡◌, inl, inr, ⊎_elim, ℕ, ◌-◌, ◌/◌, true, false, List, length, map, refl, sym, ◌∙◌, ap, subst, arith}
+use Rattle.std.proofs.Common.{◌≡◌, inl, inr, ⊎_elim, ℕ, ◌-◌, ◌/◌, Bool, true, false, List, [], ◌∷◌, length, map, refl, sym, ◌∙◌, ap, subst, arith}
 use Rattle.std.specs.Prelude.{Contains, IsTrue, OnOk, Result, slice_index_or}
+use Rattle.btree_file.specs.Map.{bits_of}
+use Rattle.btree_file.specs.declared.tree.TreeFile.{TreeFile}
+use Rattle.flag_rows.specs.Bits.{count_set}
+use Rattle.flag_rows.specs.Runs.{longest_of, runs_of}
+use Rattle.hfs_volume.specs.Cost.{cost_of}
+use Rattle.hfs_volume.specs.Weight.{cost_of_tree}
+use Rattle.hfs_volume.specs.declared.cost.Room.{Room}
+use Rattle.hx_bytes.specs.declared.extents.ForkRecord.{ForkRecord}
+use Rattle.volume_base.specs.Room.{attributes_on, cost_on, counted, free_in, room_on}
+use Rattle.volume_base.specs.Service.{KeepsFile}
+use Rattle.volume_base.specs.declared.room.FreeBlocks.TheVariants as blocks
+use Rattle.volume_base.specs.declared.volume.Tree.{Tree}
+use Rattle.volume_space.specs.Growing.{growth_load}
+use Rattle.volume_space.specs.SpreadGrowth.{SpreadFits}
+use Rattle.volume_space.specs.Spreading.{is_met_extents, needs_extents}
 use Rattle.hx_bytes.specs.declared.extents.Extent.{Extent}
 use Rattle.hx_bytes.specs.declared.faults.Trouble.{Trouble}
 use Rattle.volume_space.specs.declared.ahead.Growth.{Growth}
@@ -91,3 +106,27 @@ module _ (u v : Volume) (a b : Space) (reads : ReadsVolume u v a b) where
 -- what is its own or free behind an answer was so ahead of the read
 pub gained_behind : (w u v : Volume) (a b : Space) → ReadsVolume u v a b → (r : Result Growth Trouble) → OnOk r ((s : ℕ) → IsOwnOrFree w s → IsOwnOrFree v s) → OnOk r ((s : ℕ) → IsOwnOrFree w s → IsOwnOrFree u s)
 gained_behind w u v a b reads r was = on_ok (λ now s here. own_or_free_read u v a b reads s (now s here)) r was
+
+-- ---- what a growth asks for, ahead of the read and behind it
+
+-- the numbers of the volume's room
+room_read : (u : Volume) (x : Tree) (tells : Bool) → KeepsFile tells u.extents.file x.file → room_on blocks.Takable (record u { extents = x }) ≡ room_on blocks.Takable u
+room_read u x tells keeps = λ i. record {
+  block = u.header.block_size;
+  total = u.header.total_blocks;
+  free = count_set (free_in blocks.Takable u.map);
+  longest = longest_of (runs_of (free_in blocks.Takable u.map));
+  capacity = u.capacity;
+  next_id = u.header.next_catalog_id;
+  trees = counted (cost_of_tree (record { shape = keeps.shape i; map_bits = bits_of (keeps.file.map i) }) (length (keeps.file.fork i))) ∷ cost_on u.catalog.file ∷ attributes_on u ∷ [];
+}
+
+pub fits_read : (more : ℕ) (file : TreeFile) (fork : ForkRecord) (u : Volume) (x : Tree) (a b : Space) → KeepsFile a.tells u.extents.file x.file → b.spare ≡ a.spare → SpreadFits more file fork u a → SpreadFits more file fork (record u { extents = x }) b
+fits_read more file fork u x a b keeps spare it = record {
+  some = it.some;
+  run = it.run;
+  counts = record { least = it.counts.least; most = it.counts.most; whole = it.counts.whole; nodes = it.counts.nodes; blocks = it.counts.blocks; bytes = it.counts.bytes; counted = it.counts.counted };
+  room = omega (arith, it.room, spare);
+  edit = subst (λ (k : Room × ℕ). is_met_extents (cost_of (needs_extents 1) k.0) (k.1 - growth_load u file more) ≡ true) {x = (room_on blocks.Takable u, a.spare)} {y = (room_on blocks.Takable (record u { extents = x }), b.spare)}
+      (λ i. (sym (room_read u x a.tells keeps) i, sym spare i)) it.edit;
+}

@@ -5,6 +5,7 @@ use Rattle.sector_disk.specs.Space.{Space}
 use Rattle.alloc_bitmap.specs.Apart.{AreApart}
 use Rattle.alloc_bitmap.specs.Map.{free_of, none}
 use Rattle.flag_rows.specs.Bits.{count_set, sectors_for}
+use Rattle.flag_rows.specs.Runs.{longest_of, runs_of}
 use Rattle.hx_bytes.specs.declared.extents.Extent.{Extent}
 use Rattle.hx_bytes.specs.declared.extents.ForkRecord.{ForkRecord}
 use Rattle.btree_edit.specs.Editing.{edit_writes}
@@ -86,6 +87,16 @@ pub record CanGrowSpread (more : ℕ) (file : TreeFile) (fork : ForkRecord) (vol
 -- Behind the growth of a file by so many nodes there is room for its overflow records.
 abbrev pub HasRoomBehind : Type 0 → ℕ → TreeFile → Volume → Space → Type 0
 HasRoomBehind filled more file volume space = HasRoomForRun filled volume (space.spare - growth_load volume file more)
+
+-- A file with this fork, of any number of extents, has room for so many nodes more: they fill blocks, so many blocks in a row are free and not held, the
+-- numbers that count its nodes, blocks and bytes have room, as many sectors as its growth puts may be put, and behind them an edit of the extents
+-- overflow file.
+pub record SpreadFits (more : ℕ) (file : TreeFile) (fork : ForkRecord) (volume : Volume) (space : Space) : Type 0 where
+  pub some : 0 < blocks_filled file more
+  pub run : blocks_filled file more ≤ longest_of (runs_of (free_of volume.map))
+  pub counts : NumbersHaveRoom more file fork volume
+  pub room : growth_load volume file more ≤ space.spare
+  pub edit : is_met_extents (cost_of (needs_extents 1) (room_on blocks.Takable volume)) (space.spare - growth_load volume file more) ≡ true
 
 -- A run of so many free blocks was taken, and blocks have the size that they had.
 pub record TakesBlocks (count : ℕ) (old new : Volume) : Type 0 where

@@ -14,6 +14,8 @@ ghost use Rattle.volume_base.specs.Service.{IsInService};
 ghost use Rattle.volume_space.specs.Standing.{HoldsOn};
 ghost use Rattle.volume_base.specs.Standing.{IsSettled, StandsOver};
 ghost use Rattle.volume_base.specs.Touching.{Touches};
+ghost use Rattle.volume_space.specs.SpreadGrowth.{SpreadFits};
+ghost use Rattle.volume_space.specs.declared.ahead.Growth.TheVariants as growing;
 ghost use Rattle.volume_space.specs.declared.ahead.WhichTree.TheVariants as which;
 
 use crate::ahead::Growth;
@@ -47,6 +49,7 @@ fn grow_catalog_recorded<P: SectorSpace>(
     requires closed { IsTrue (P.SectorView.space space.old).tells → (at : ℕ) → (P.SectorView.space space.old).closed at → IsJournalSector (P.SectorView.space space.old).content at }
     requires filled { IsTrue (P.SectorView.space space.old).tells → IsTrue filled → AreFilled (lists_of volume.old (P.SectorView.space space.old).content) catalog_id (length volume.old.catalog.file.fork) }
     ensures ahead { IsTrue (P.SectorView.space space.old).tells → IfOk result (λ said. GoesAhead said which.Catalog more (P.SectorView.space space.old).content (P.SectorView.space space.new).content) }
+    ensures sure { IsTrue (P.SectorView.space space.old).tells → IsTrue filled → SpreadFits more volume.old.catalog.file volume.old.header.catalog_fork volume.old (P.SectorView.space space.old) → IfOk result (λ said. said ≡ growing.Grown) }
     ensures stands { OnOk result (StandsOver volume.new (P.SectorView.space space.new)) }
     ensures settled { IsTrue (P.SectorView.space space.old).tells → OnOk result (IsSettled volume.new (P.SectorView.space space.new).content) }
     ensures service { IsInService volume.new (P.SectorView.space space.new) }
@@ -84,6 +87,7 @@ pub(crate) fn grow_catalog_of_eight<P: SectorSpace>(
     requires unchanged { volume.old.map.changed ≡ none (sectors_for (length volume.old.map.used)) }
     requires closed { IsTrue (P.SectorView.space space.old).tells → (at : ℕ) → (P.SectorView.space space.old).closed at → IsJournalSector (P.SectorView.space space.old).content at }
     ensures ahead { IsTrue (P.SectorView.space space.old).tells → IfOk result (λ said. GoesAhead said which.Catalog more (P.SectorView.space space.old).content (P.SectorView.space space.new).content) }
+    ensures sure { IsTrue (P.SectorView.space space.old).tells → AreFilled (lists_of volume.old (P.SectorView.space space.old).content) catalog_id (length volume.old.catalog.file.fork) → SpreadFits more volume.old.catalog.file volume.old.header.catalog_fork volume.old (P.SectorView.space space.old) → IfOk result (λ said. said ≡ growing.Grown) }
     ensures stands { OnOk result (StandsOver volume.new (P.SectorView.space space.new)) }
     ensures settled { IsTrue (P.SectorView.space space.old).tells → OnOk result (IsSettled volume.new (P.SectorView.space space.new).content) }
     ensures service { IsInService volume.new (P.SectorView.space space.new) }
@@ -116,6 +120,7 @@ fn grow_attributes_recorded<P: SectorSpace>(
     requires closed { IsTrue (P.SectorView.space space.old).tells → (at : ℕ) → (P.SectorView.space space.old).closed at → IsJournalSector (P.SectorView.space space.old).content at }
     requires filled { IsTrue (P.SectorView.space space.old).tells → IsTrue filled → AreFilled (lists_of volume.old (P.SectorView.space space.old).content) attributes_id (length volume.old.attributes.file.fork) }
     ensures ahead { IsTrue (P.SectorView.space space.old).tells → IfOk result (λ said. GoesAhead said which.Attributes more (P.SectorView.space space.old).content (P.SectorView.space space.new).content) }
+    ensures sure { IsTrue (P.SectorView.space space.old).tells → IsTrue filled → SpreadFits more volume.old.attributes.file volume.old.header.attributes_fork volume.old (P.SectorView.space space.old) → IfOk result (λ said. said ≡ growing.Grown) }
     ensures stands { OnOk result (StandsOver volume.new (P.SectorView.space space.new)) }
     ensures settled { IsTrue (P.SectorView.space space.old).tells → OnOk result (IsSettled volume.new (P.SectorView.space space.new).content) }
     ensures service { IsInService volume.new (P.SectorView.space space.new) }
@@ -154,6 +159,7 @@ pub(crate) fn grow_attributes_of_eight<P: SectorSpace>(
     requires unchanged { volume.old.map.changed ≡ none (sectors_for (length volume.old.map.used)) }
     requires closed { IsTrue (P.SectorView.space space.old).tells → (at : ℕ) → (P.SectorView.space space.old).closed at → IsJournalSector (P.SectorView.space space.old).content at }
     ensures ahead { IsTrue (P.SectorView.space space.old).tells → IfOk result (λ said. GoesAhead said which.Attributes more (P.SectorView.space space.old).content (P.SectorView.space space.new).content) }
+    ensures sure { IsTrue (P.SectorView.space space.old).tells → AreFilled (lists_of volume.old (P.SectorView.space space.old).content) attributes_id (length volume.old.attributes.file.fork) → SpreadFits more volume.old.attributes.file volume.old.header.attributes_fork volume.old (P.SectorView.space space.old) → IfOk result (λ said. said ≡ growing.Grown) }
     ensures stands { OnOk result (StandsOver volume.new (P.SectorView.space space.new)) }
     ensures settled { IsTrue (P.SectorView.space space.old).tells → OnOk result (IsSettled volume.new (P.SectorView.space space.new).content) }
     ensures service { IsInService volume.new (P.SectorView.space space.new) }

@@ -3,8 +3,13 @@ ghost use Rattle.std.specs.Prelude.{◌≡◌, ◌⊎◌, ◌≤◌, ◌-◌, �
 ghost use Rattle.alloc_bitmap.specs.Map.{none};
 ghost use Rattle.btree_edit.specs.Editing.{edit_writes};
 ghost use Rattle.flag_rows.specs.Bits.{sectors_for};
+ghost use Rattle.hfs_volume.specs.Cost.{cost_of};
+ghost use Rattle.volume_base.specs.Room.{room_on};
+ghost use Rattle.volume_base.specs.Weighing.{is_measured};
+ghost use Rattle.volume_base.specs.declared.room.FreeBlocks.TheVariants as blocks;
+ghost use Rattle.volume_space.specs.Spreading.{is_met_extents, needs_extents};
 ghost use Rattle.volume_space.specs.Growing.{blocks_filled};
-ghost use Rattle.volume_space.specs.SpreadGrowth.{CanGrowSpread, HasRoomBehind, HasRoomForRun, NumbersHaveRoom};
+ghost use Rattle.volume_space.specs.SpreadGrowth.{CanGrowSpread, HasRoomBehind, HasRoomForRun, NumbersHaveRoom, SpreadFits};
 
 use crate::growable::{count_blocks, count_growth_sectors, has_free_run};
 use crate::storing::{count_nodes, fit_nodes, is_met, needs_of_extents};
@@ -23,7 +28,8 @@ fn numbers_have_room(
     blocks: u64,
 ) -> bool
     requires { blocks ≡ blocks_filled file.now more }
-    ensures { IsTrue result → NumbersHaveRoom more file.now fork volume.now }
+    ensures room { IsTrue result → NumbersHaveRoom more file.now fork volume.now }
+    ensures sure { NumbersHaveRoom more file.now fork volume.now → IsTrue result }
 {
     let shape = file.shape();
     if shape.node_size < 512 || shape.node_size > 32_768 {
@@ -50,7 +56,8 @@ fn numbers_have_room(
 /// Whether so many sectors suffice for two changes of the extents overflow file that add no record; none are made of a fork whose records have
 /// an extent in use each.
 fn fit_changes(volume: &Volume, spare: u64, filled: bool) -> bool
-    ensures { IsTrue result → IsTrue filled ⊎ (min (2 * edit_writes volume.now.extents.file.shape.depth) volume.now.extents.file.shape.total ≤ spare / (volume.now.extents.file.shape.node_size / 512)) }
+    ensures room { IsTrue result → IsTrue filled ⊎ (min (2 * edit_writes volume.now.extents.file.shape.depth) volume.now.extents.file.shape.total ≤ spare / (volume.now.extents.file.shape.node_size / 512)) }
+    ensures sure { IsTrue filled → IsTrue result }
 {
     if filled {
         return true;
@@ -62,7 +69,8 @@ fn fit_changes(volume: &Volume, spare: u64, filled: bool) -> bool
 /// Whether the extents overflow file has room for the records of a fork that goes on in a run, where so many sectors may be put. Each record of the
 /// fork has an extent in use, or one may be without.
 fn can_store_run<P: SectorSpace>(volume: &Volume, _space: &P, spare: u64, filled: bool) -> bool
-    ensures { IsTrue result → HasRoomForRun (IsTrue filled) volume.now spare }
+    ensures room { IsTrue result → HasRoomForRun (IsTrue filled) volume.now spare }
+    ensures sure { IsTrue filled → is_measured (room_on blocks.Takable volume.now) ≡ true → is_met_extents (cost_of (needs_extents 1) (room_on blocks.Takable volume.now)) spare ≡ true → IsTrue result }
 {
     if !fit_changes(volume, spare, filled) {
         return false;
@@ -86,6 +94,7 @@ pub(crate) fn can_grow_spread<P: SectorSpace>(
 ) -> bool
     requires unchanged { volume.now.map.changed ≡ none (sectors_for (length volume.now.map.used)) }
     ensures sure { IsTrue result → CanGrowSpread more file.now fork volume.now (P.SectorView.space space.now) }
+    ensures fits { IsTrue filled → is_measured (room_on blocks.Takable volume.now) ≡ true → SpreadFits more file.now fork volume.now (P.SectorView.space space.now) → length volume.now.map.used * file.now.per_block ≤ (P.SectorView.space space.now).sectors → IsTrue result }
     ensures records { IsTrue result → HasRoomBehind (IsTrue filled) more file.now volume.now (P.SectorView.space space.now) }
 {
     if file.per_block() == 0 {

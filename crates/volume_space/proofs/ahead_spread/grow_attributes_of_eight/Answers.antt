@@ -1,15 +1,16 @@
-use Rattle.std.proofs.Common.{List, sym, ◌∙◌, ap, subst, arith}
+use Rattle.std.proofs.Common.{◌≡◌, ◌-◌, List, length, sym, ◌∙◌, ap, subst, arith}
 use Rattle.std.specs.Prelude.{IfOk}
 use Rattle.hx_bytes.specs.declared.extents.Extent.{Extent}
 use Rattle.sector_disk.specs.Lists.{Content}
 use Rattle.hfs_volume.specs.Content.{has_attributes, overflow_in_volume}
-use Rattle.hfs_volume.specs.Forks.{attributes_id, data_kind}
+use Rattle.hfs_volume.specs.Forks.{attributes_id, data_kind, parts_for}
 use Rattle.overflow.specs.Reading.{HasExtents}
 use Rattle.volume_base.specs.Lists.{lists_of}
 use Rattle.volume_base.specs.declared.volume.Volume.{Volume}
+use Rattle.volume_space.specs.SpreadGrowth.{SpreadFits}
 use Rattle.volume_space.specs.Growing.{GoesAhead}
 use Rattle.volume_space.specs.declared.ahead.WhichTree.TheVariants as which
-use Rattle.volume_space.proofs.Filled.{attributes_has, closed_read, filled_read, gained_behind, touches_behind, touches_looked, unchanged_read}
+use Rattle.volume_space.proofs.Filled.{attributes_has, closed_read, filled_read, fits_read, gained_behind, touches_behind, touches_looked, unchanged_read}
 use Rattle.volume_space.proofs.KeptUsed.{used_read}
 use Rattle.volume_space.proofs.ahead_spread.grow_attributes_of_eight.Goals as goal
 
@@ -66,3 +67,11 @@ returns-clause-gained g c tells =
 
 pub returns-clause-below : goal.returns-clause-below
 returns-clause-below g c = g.met.P.SectorView.follows_trans c.args.space.now c.are_filled.new.space c.grow_attributes_recorded.new.space c.are_filled.ensures.below c.grow_attributes_recorded.ensures.below
+
+pub returns-clause-sure : goal.returns-clause-sure
+returns-clause-sure g c tells filled fits =
+    let list : c.in_ok-list.list ≡ c.args.volume.now.attributes.file.fork = c.in_ok-list.ensures ∙ c.fork.ensures in
+    let is = c.in_ok-filled.ensures.sure tells (filled ∙ ap (λ (l : List Extent). parts_for (length l - 8) 8) (sym list)) in
+    c.grow_attributes_recorded.ensures.sure (c.are_filled.ensures.reads.looks.same.tells ∙ tells) is
+    (subst (λ (w : Volume). SpreadFits c.args.more w.attributes.file w.header.attributes_fork w (g.P.SectorView.space c.are_filled.new.space)) (sym c.are_filled.ensures.rest)
+    (fits_read c.args.more c.args.volume.now.attributes.file c.args.volume.now.header.attributes_fork c.args.volume.now c.are_filled.new.volume.extents (g.P.SectorView.space c.args.space.now) (g.P.SectorView.space c.are_filled.new.space) c.are_filled.ensures.reads.keeps.extents.file c.are_filled.ensures.reads.looks.spare fits))

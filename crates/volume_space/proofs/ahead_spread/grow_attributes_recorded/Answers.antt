@@ -1,7 +1,11 @@
-use Rattle.std.proofs.Common.{[], ◌/◌, ◌∙◌, ap, inl, inr, ⊎_elim}
+use Rattle.std.proofs.Common.{[], ◌/◌, ◌∙◌, ap, inl, inr, sym, ⊎_elim}
 use Rattle.std.specs.Prelude.{Contains}
 use Rattle.volume_space.specs.Growing.{IsOwnOrFree, blocks_filled}
 use Rattle.volume_base.specs.Standing.{own_sectors}
+use Rattle.std.proofs.lemmas.Bool.{true≢false}
+use Rattle.volume_base.proofs.Weighed.{is_measured_told}
+use Rattle.volume_base.specs.declared.room.FreeBlocks.TheVariants as blocks
+use Rattle.volume_space.proofs.GrownCan.{blocks_inside}
 use Rattle.volume_space.proofs.GrownAhead.{gained_before}
 use Rattle.volume_space.proofs.Sounding.{sound_here}
 use Rattle.volume_space.proofs.WhenKept.{touches_those}
@@ -36,3 +40,10 @@ returns-clause-touches g c committed =
 pub returns-in_err-grow_attributes_spread-clause-touches : goal.returns-in_err-grow_attributes_spread-clause-touches
 returns-in_err-grow_attributes_spread-clause-touches g c committed =
     touches_those committed (λ s. Contains (own_sectors c.grow_attributes_spread.new.volume) s) (IsOwnOrFree c.args.volume.now) (g.P.SectorView.space c.args.space.now) (g.P.SectorView.space c.grow_attributes_spread.new.space) c.grow_attributes_spread.ensures.gained (c.grow_attributes_spread.ensures.touches committed)
+
+pub returns-then-not-can_grow_spread-clause-sure : goal.returns-then-not-can_grow_spread-clause-sure
+returns-then-not-can_grow_spread-clause-sure g c tells filled fits =
+    let was = c.requires.stands.stands tells in
+    let measured = is_measured_told c.args.volume.now (g.P.SectorView.space c.args.space.now) was (c.requires.settled tells) blocks.Takable in
+    let inside = blocks_inside c.args.volume.now (g.P.SectorView.space c.args.space.now) c.args.volume.now.attributes.file.per_block was (g.met.P.SectorView.well_formed c.args.space.now tells) (was.forks.attributes_per c.requires.there) in
+    absurd (true≢false (sym (c.if-not-can_grow_spread.ensures.fits filled measured fits inside)))

@@ -3,8 +3,8 @@ use Rattle.std.proofs.lemmas.Bool.{leb-true}
 use Rattle.volume_space.specs.Growing.{blocks_filled}
 use Rattle.volume_space.proofs.growable_spread.numbers_have_room.Goals as goal
 
-pub returns : goal.returns
-returns c is =
+pub returns-clause-room : goal.returns-clause-room
+returns-clause-room c is =
     let blocks : c.from.result ≡ blocks_filled c.args.file.now c.args.more = c.from.ensures ∙ c.requires in
     let per : c.from-2.result ≡ c.args.file.now.per_block = c.from-2.ensures ∙ c.per_block.ensures in
     let node : c.from-4.result ≡ c.args.file.now.shape.node_size / 512 = c.from-4.ensures ∙ ap (λ s. s.node_size / 512) c.shape-shape.ensures in
