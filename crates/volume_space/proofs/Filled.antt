@@ -1,5 +1,5 @@
 -- A tree's fork of which each overflow record has an extent in use, behind a growth's first puts, and read from the extents overflow file.
-use Rattle.std.proofs.Common.{◌≡◌, inl, inr, ⊎_elim, ℕ, ◌-◌, ◌/◌, Bool, true, false, List, [], ◌∷◌, length, map, refl, sym, ◌∙◌, ap, subst, arith}
+use Rattle.std.proofs.Common.{◌≡◌, inl, inr, ⊎_elim, ℕ, ◌-◌, ◌/◌, Bool, true, false, ◌<◌, List, [], ◌∷◌, length, map, refl, sym, ◌∙◌, ap, subst, arith}
 use Rattle.std.specs.Prelude.{Contains, IsTrue, OnOk, Result, slice_index_or}
 use Rattle.btree_file.specs.Map.{bits_of}
 use Rattle.btree_file.specs.declared.tree.TreeFile.{TreeFile}
@@ -13,7 +13,7 @@ use Rattle.volume_base.specs.Room.{attributes_on, cost_on, counted, free_in, roo
 use Rattle.volume_base.specs.Service.{KeepsFile}
 use Rattle.volume_base.specs.declared.room.FreeBlocks.TheVariants as blocks
 use Rattle.volume_base.specs.declared.volume.Tree.{Tree}
-use Rattle.volume_space.specs.Growing.{growth_load}
+use Rattle.volume_space.specs.Growing.{FileFits, growth_load}
 use Rattle.volume_space.specs.SpreadGrowth.{SpreadFits}
 use Rattle.volume_space.specs.Spreading.{is_met_extents, needs_extents}
 use Rattle.hx_bytes.specs.declared.extents.Extent.{Extent}
@@ -129,4 +129,13 @@ fits_read more file fork u x a b keeps spare it = record {
   room = omega (arith, it.room, spare);
   edit = subst (λ (k : Room × ℕ). is_met_extents (cost_of (needs_extents 1) k.0) (k.1 - growth_load u file more) ≡ true) {x = (room_on blocks.Takable u, a.spare)} {y = (room_on blocks.Takable (record u { extents = x }), b.spare)}
       (λ i. (sym (room_read u x a.tells keeps) i, sym spare i)) it.edit;
+}
+
+-- a file of fewer extents has the room of one that has any number
+pub short_fits : (more : ℕ) (file : TreeFile) (fork : ForkRecord) (v : Volume) (a : Space) → length file.fork < 8 → SpreadFits more file fork v a → FileFits more file fork v a
+short_fits more file fork v a short it = record {
+  some = it.some;
+  run = it.run;
+  counts = record { least = it.counts.least; most = it.counts.most; whole = it.counts.whole; extents = short; nodes = it.counts.nodes; blocks = it.counts.blocks; bytes = it.counts.bytes; counted = it.counts.counted };
+  room = it.room;
 }

@@ -9,6 +9,7 @@ use Rattle.alloc_bitmap.specs.Map.{none}
 use Rattle.hx_bytes.specs.declared.extents.ForkRecord.{ForkRecord}
 use Rattle.btree_file.specs.declared.tree.TreeFile.{TreeFile}
 use Rattle.volume_space.specs.Growing.{CountsHaveRoom, GrowthFits, IsOwnOrFree, growth_room}
+use Rattle.volume_space.specs.SpreadGrowth.{SpreadFits, SpreadGrowthFits}
 use Rattle.volume_space.specs.declared.ahead.WhichTree.{WhichTree}
 use Rattle.volume_space.specs.declared.ahead.WhichTree.TheVariants as which
 use Rattle.volume_base.specs.Keeping.{Keeps}
@@ -128,6 +129,23 @@ module _ (v w : Volume) (keeps : Keeps v w) where
       by which.Extents it = (it.0, record { some = it.1.some; run = it.1.run; counts = counts_marked more _ _ w.map.changed w.map.kept_used w.map.kept_held w.kept v it.1.counts; room = it.1.room })
       by which.Catalog it = (it.0, record { some = it.1.some; run = it.1.run; counts = counts_marked more _ _ w.map.changed w.map.kept_used w.map.kept_held w.kept v it.1.counts; room = it.1.room })
       by which.Attributes it = (it.0, record { some = it.1.some; run = it.1.run; counts = counts_marked more _ _ w.map.changed w.map.kept_used w.map.kept_held w.kept v it.1.counts; room = it.1.room })
+
+  pub spread_kept : (tree : WhichTree) (more : ℕ) (space : Space) → SpreadGrowthFits tree more v space → SpreadGrowthFits tree more w space
+  spread_kept tree more space fits = subst (λ (u : Volume). SpreadGrowthFits tree more u space) is_marked (by tree fits)
+    where
+      marked_fits : (file : TreeFile) (fork : ForkRecord) → SpreadFits more file fork v space → SpreadFits more file fork as_marked space
+      marked_fits file fork it = record {
+        some = it.some;
+        run = it.run;
+        counts = record { least = it.counts.least; most = it.counts.most; whole = it.counts.whole; nodes = it.counts.nodes; blocks = it.counts.blocks; bytes = it.counts.bytes; counted = it.counts.counted };
+        room = it.room;
+        edit = it.edit;
+      }
+
+      by : (t : WhichTree) → SpreadGrowthFits t more v space → SpreadGrowthFits t more as_marked space
+      by which.Extents it = (it.0, record { some = it.1.some; run = it.1.run; counts = counts_marked more _ _ w.map.changed w.map.kept_used w.map.kept_held w.kept v it.1.counts; room = it.1.room })
+      by which.Catalog it = (it.0, marked_fits v.catalog.file v.header.catalog_fork it.1)
+      by which.Attributes it = (it.0, (it.1.0, marked_fits v.attributes.file v.header.attributes_fork it.1.1))
 
   pub load_kept : (tree : WhichTree) (more : ℕ) → growth_room tree more w ≡ growth_room tree more v
   load_kept tree more = ap (λ (u : Volume). growth_room tree more u) (sym is_marked) ∙ by tree

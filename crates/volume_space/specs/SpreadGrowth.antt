@@ -17,7 +17,10 @@ use Rattle.hfs_volume.specs.Forks.{per_block_of, extents_of, extents_id, catalog
 use Rattle.volume_base.specs.Lists.{lists_of}
 use Rattle.volume_base.specs.Room.{room_on}
 use Rattle.volume_base.specs.declared.room.FreeBlocks.TheVariants as blocks
-use Rattle.volume_space.specs.Growing.{HasFreeRun, TakesRun, blocks_filled, growth_load}
+use Rattle.volume_space.specs.Growing.{GrowthFits, HasFreeRun, TakesRun, blocks_filled, growth_load}
+use Rattle.volume_space.specs.Recording.{AreFilled}
+use Rattle.volume_space.specs.declared.ahead.WhichTree.{WhichTree}
+use Rattle.volume_space.specs.declared.ahead.WhichTree.TheVariants as which
 use Rattle.volume_space.specs.Spreading.{is_met_extents, needs_extents}
 use Rattle.volume_base.specs.Standing.{AreWhole, HoldsTrees, IsKeptAside, blocks_end, file_sectors, own_sectors}
 use Rattle.volume_base.specs.declared.volume.Volume.{Volume}
@@ -97,6 +100,13 @@ pub record SpreadFits (more : ℕ) (file : TreeFile) (fork : ForkRecord) (volume
   pub counts : NumbersHaveRoom more file fork volume
   pub room : growth_load volume file more ≤ space.spare
   pub edit : is_met_extents (cost_of (needs_extents 1) (room_on blocks.Takable volume)) (space.spare - growth_load volume file more) ≡ true
+
+-- The growth of a tree by so many nodes fits, whose fork has any number of extents: there is such a tree, each overflow record of its fork has an extent
+-- in use, and its file has room for them. The extents overflow file has no overflow records.
+abbrev pub SpreadGrowthFits : WhichTree → ℕ → Volume → Space → Type 0
+SpreadGrowthFits which.Extents more volume space = GrowthFits which.Extents more volume space
+SpreadGrowthFits which.Catalog more volume space = AreFilled (lists_of volume space.content) catalog_id (length volume.catalog.file.fork) × SpreadFits more volume.catalog.file volume.header.catalog_fork volume space
+SpreadGrowthFits which.Attributes more volume space = IsTrue (has_attributes volume.header) × (AreFilled (lists_of volume space.content) attributes_id (length volume.attributes.file.fork) × SpreadFits more volume.attributes.file volume.header.attributes_fork volume space)
 
 -- A run of so many free blocks was taken, and blocks have the size that they had.
 pub record TakesBlocks (count : ℕ) (old new : Volume) : Type 0 where

@@ -6,6 +6,7 @@ ghost use Rattle.flag_rows.specs.Bits.{sectors_for};
 ghost use Rattle.btree_edit.specs.Causes.{HasTroubleCause};
 ghost use Rattle.hfs_volume.specs.Aside.{IsJournalSector};
 ghost use Rattle.volume_space.specs.Growing.{GoesAhead, GrowthFits, IsOwnOrFree, WantsFirst, file_of, growth_room};
+ghost use Rattle.volume_space.specs.SpreadGrowth.{SpreadGrowthFits};
 ghost use Rattle.volume_base.specs.Service.{IsInService};
 ghost use Rattle.volume_space.specs.Standing.{HoldsOn};
 ghost use Rattle.volume_base.specs.Standing.{IsSettled, StandsOver};
@@ -87,6 +88,7 @@ fn grow_catalog_kept<P: SectorSpace>(
     requires closed { IsTrue (P.SectorView.space space.old).tells → (at : ℕ) → (P.SectorView.space space.old).closed at → IsJournalSector (P.SectorView.space space.old).content at }
     ensures ahead { IsTrue (P.SectorView.space space.old).tells → IfOk result (λ said. GoesAhead said which.Catalog more (P.SectorView.space space.old).content (P.SectorView.space space.new).content) }
     ensures sure { IsTrue (P.SectorView.space space.old).tells → GrowthFits which.Catalog more volume.old (P.SectorView.space space.old) → IfOk result (λ said. said ≡ growing.Grown) }
+    ensures spread { IsTrue (P.SectorView.space space.old).tells → SpreadGrowthFits which.Catalog more volume.old (P.SectorView.space space.old) → IfOk result (λ said. said ≡ growing.Grown) }
     ensures stands { OnOk result (StandsOver volume.new (P.SectorView.space space.new)) }
     ensures settled { IsTrue (P.SectorView.space space.old).tells → OnOk result (IsSettled volume.new (P.SectorView.space space.new).content) }
     ensures service { IsInService volume.new (P.SectorView.space space.new) }
@@ -121,6 +123,7 @@ fn grow_attributes_kept<P: SectorSpace>(
     requires closed { IsTrue (P.SectorView.space space.old).tells → (at : ℕ) → (P.SectorView.space space.old).closed at → IsJournalSector (P.SectorView.space space.old).content at }
     ensures ahead { IsTrue (P.SectorView.space space.old).tells → IfOk result (λ said. GoesAhead said which.Attributes more (P.SectorView.space space.old).content (P.SectorView.space space.new).content) }
     ensures sure { IsTrue (P.SectorView.space space.old).tells → GrowthFits which.Attributes more volume.old (P.SectorView.space space.old) → IfOk result (λ said. said ≡ growing.Grown) }
+    ensures spread { IsTrue (P.SectorView.space space.old).tells → SpreadGrowthFits which.Attributes more volume.old (P.SectorView.space space.old) → IfOk result (λ said. said ≡ growing.Grown) }
     ensures stands { OnOk result (StandsOver volume.new (P.SectorView.space space.new)) }
     ensures settled { IsTrue (P.SectorView.space space.old).tells → OnOk result (IsSettled volume.new (P.SectorView.space space.new).content) }
     ensures service { IsInService volume.new (P.SectorView.space space.new) }
@@ -164,6 +167,8 @@ pub fn grow_tree<P: SectorSpace>(
     ensures ahead { IsTrue (P.SectorView.space space.old).tells → IfOk result (λ said. GoesAhead said tree more (P.SectorView.space space.old).content (P.SectorView.space space.new).content) }
     // A growth that fits is made.
     ensures sure { IsTrue (P.SectorView.space space.old).tells → GrowthFits tree more volume.old (P.SectorView.space space.old) → IfOk result (λ said. said ≡ growing.Grown) }
+    // So is one of a file of any number of extents, where each overflow record of its fork has an extent in use.
+    ensures spread { IsTrue (P.SectorView.space space.old).tells → SpreadGrowthFits tree more volume.old (P.SectorView.space space.old) → IfOk result (λ said. said ≡ growing.Grown) }
     // What costs a load that may be put never waits for a commit ahead of its first growth.
     ensures counted { IsTrue (P.SectorView.space space.old).tells → WantsFirst tree more volume.old (P.SectorView.space space.old) → IfOk result (λ said. said ≡ growing.Grown) }
     ensures stands { OnOk result (StandsOver volume.new (P.SectorView.space space.new)) }

@@ -1,13 +1,13 @@
-use Rattle.std.proofs.Common.{List, length, arith, [], inl, inr, ap, sym, ◌∙◌, true≢false}
+use Rattle.std.proofs.Common.{◌<◌, List, length, arith, [], inl, inr, ap, sym, ◌∙◌, true≢false}
 use Rattle.std.specs.Prelude.{Contains}
 use Rattle.hfs_volume.specs.Forks.{per_block_of}
 use Rattle.volume_space.specs.Growing.{IsOwnOrFree, blocks_filled}
 use Rattle.volume_base.specs.Standing.{own_sectors}
 use Rattle.volume_base.specs.declared.volume.Volume.{Volume}
+use Rattle.volume_space.proofs.Filled.{short_fits}
 use Rattle.volume_space.proofs.GrownAhead.{gained_before}
 use Rattle.volume_space.proofs.Sounding.{sound_here}
 use Rattle.volume_space.proofs.WhenKept.{touches_those}
-use Rattle.hfs_volume.specs.Content.{volume_of}
 use Rattle.hx_bytes.specs.declared.extents.Extent.{Extent}
 use Rattle.volume_space.specs.declared.ahead.WhichTree.TheVariants as which
 use Rattle.volume_space.proofs.ahead.grow_catalog_kept.Goals as goal
@@ -46,3 +46,11 @@ returns-then-len-ge8-clause-sure g c tells fits = absurd (omega (arith, fits.1.c
 
 pub returns-then-len-ge8-clause-spent : goal.returns-then-len-ge8-clause-spent
 returns-then-len-ge8-clause-spent g c few = absurd (omega (arith, few, c.if-len-ge8.true, c.len.ensures, ap (λ (l : List Extent). length l) c.fork.ensures))
+
+pub returns-then-not-can_grow_catalog-clause-spread : goal.returns-then-not-can_grow_catalog-clause-spread
+returns-then-not-can_grow_catalog-clause-spread g c tells fits =
+    let short : length c.args.volume.now.catalog.file.fork < 8 = omega (arith, c.if-len-ge8.false, c.len.ensures, ap (λ (l : List Extent). length l) c.fork.ensures) in
+    absurd (true≢false (sym (c.if-not-can_grow_catalog.ensures.fits tells (tt, short_fits c.args.more c.args.volume.now.catalog.file c.args.volume.now.header.catalog_fork c.args.volume.now (g.P.SectorView.space c.args.space.now) short fits.1))))
+
+pub returns-then-len-ge8-clause-spread : goal.returns-then-len-ge8-clause-spread
+returns-then-len-ge8-clause-spread g c tells fits = c.grow_catalog_of_eight.ensures.sure tells fits.0 fits.1

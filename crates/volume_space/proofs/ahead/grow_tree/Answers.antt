@@ -1,14 +1,14 @@
 use Rattle.volume_base.specs.declared.volume.Tree.{Tree}
-use Rattle.std.proofs.Common.{◌≡◌, ◌<◌, ◌≤◌, length, ◌+◌, sym, ◌∙◌, subst}
+use Rattle.std.proofs.Common.{◌<◌, ◌≤◌, length, ◌+◌, sym, ◌∙◌, subst}
 use Rattle.std.specs.Prelude.{IfOk}
-use Rattle.hfs_volume.specs.Content.{volume_of}
 use Rattle.volume_space.specs.Growing.{GoesAhead, GrowthFits, IsOwnOrFree, WantsFirst, file_of, growth_room}
+use Rattle.volume_space.specs.SpreadGrowth.{SpreadGrowthFits}
 use Rattle.volume_space.specs.declared.ahead.Growth.{Growth}
 use Rattle.volume_space.specs.declared.ahead.Growth.TheVariants as growing
 use Rattle.volume_space.specs.declared.ahead.WhichTree.{WhichTree}
 use Rattle.volume_space.specs.declared.ahead.WhichTree.TheVariants as which
 use Rattle.volume_space.proofs.GrowthFitted.{wanted_fits}
-use Rattle.volume_space.proofs.WhenKept.{fits_kept, free_kept, holds_kept, load_kept, on_ok, settled_kept, stands_kept, touches_those, unchanged_kept}
+use Rattle.volume_space.proofs.WhenKept.{fits_kept, free_kept, holds_kept, load_kept, on_ok, settled_kept, spread_kept, stands_kept, touches_those, unchanged_kept}
 use Rattle.volume_space.proofs.ahead.grow_tree.Goals as goal
 
 pub grow_extents_kept-requires-clause-stands : goal.grow_extents_kept-requires-clause-stands
@@ -124,3 +124,12 @@ pub returns-in-Attributes-clause-counted : goal.returns-in-Attributes-clause-cou
 returns-in-Attributes-clause-counted g c tells wants =
     c.grow_attributes_kept.ensures.sure tells (fits_kept c.args.volume.now c.keep.new.self c.keep.ensures which.Attributes c.args.more (g.P.SectorView.space c.args.space.now)
     (wanted_fits c.args.volume.now (g.P.SectorView.space c.args.space.now) c.requires.stands tells (c.requires.settled tells) c.a_load_says_enough.ensures c.trees_grow_by_enough.ensures which.Attributes c.args.more (subst (λ (t : WhichTree). WantsFirst t c.args.more c.args.volume.now (g.P.SectorView.space c.args.space.now)) c.in-Attributes.is wants)))
+
+pub returns-in-Extents-clause-spread : goal.returns-in-Extents-clause-spread
+returns-in-Extents-clause-spread g c tells fits = c.grow_extents_kept.ensures.sure tells (spread_kept c.args.volume.now c.keep.new.self c.keep.ensures which.Extents c.args.more (g.P.SectorView.space c.args.space.now) (subst (λ (t : WhichTree). SpreadGrowthFits t c.args.more c.args.volume.now (g.P.SectorView.space c.args.space.now)) c.in-Extents.is fits))
+
+pub returns-in-Catalog-clause-spread : goal.returns-in-Catalog-clause-spread
+returns-in-Catalog-clause-spread g c tells fits = c.grow_catalog_kept.ensures.spread tells (spread_kept c.args.volume.now c.keep.new.self c.keep.ensures which.Catalog c.args.more (g.P.SectorView.space c.args.space.now) (subst (λ (t : WhichTree). SpreadGrowthFits t c.args.more c.args.volume.now (g.P.SectorView.space c.args.space.now)) c.in-Catalog.is fits))
+
+pub returns-in-Attributes-clause-spread : goal.returns-in-Attributes-clause-spread
+returns-in-Attributes-clause-spread g c tells fits = c.grow_attributes_kept.ensures.spread tells (spread_kept c.args.volume.now c.keep.new.self c.keep.ensures which.Attributes c.args.more (g.P.SectorView.space c.args.space.now) (subst (λ (t : WhichTree). SpreadGrowthFits t c.args.more c.args.volume.now (g.P.SectorView.space c.args.space.now)) c.in-Attributes.is fits))
