@@ -37,6 +37,7 @@ use Rattle.volume_base.proofs.RoomKept.{node_size_low}
 use Rattle.volume_base.proofs.SoundForks.{passed}
 use Rattle.volume_cost.proofs.GrowthLaws.{div_le, parts_above}
 use Rattle.volume_space.specs.Growing.{FileFits, blocks_filled, maps_among, nodes_load, run_load}
+use Rattle.volume_space.specs.SpreadGrowth.{NumbersHaveRoom}
 use Rattle.volume_space.proofs.GrowthUnits.{each_divides, fill_blocks, in_units, past_maps}
 
 -- ---- map nodes
@@ -78,7 +79,7 @@ module _ (file : TreeFile) (extents block key edits more : ℕ) (law : GrowsByEn
   past : new_maps (cost_of_tree (facts_on file) extents) more + 1 ≤ more
   past = subst (λ m. new_maps (cost_of_tree (facts_on file) extents) m + 1 ≤ m) (sym is) (past_maps block key (cost_of_tree (facts_on file) extents) edits law three (subst (λ m. 0 < m) is some))
 
-  maps_low : 512 ≤ file.shape.node_size → maps_among file more ≤ new_maps (cost_of_tree (facts_on file) extents) more
+  pub maps_low : 512 ≤ file.shape.node_size → maps_among file more ≤ new_maps (cost_of_tree (facts_on file) extents) more
   maps_low least = most_maps (file.shape.total + more - (cost_of_tree (facts_on file) extents).map_bits) (8 * (file.shape.node_size - 20)) (omega (arith, least))
 
   pub nodes_counted : 512 ≤ file.shape.node_size → 1 ≤ file.shape.total → nodes_load file more ≤ tree_load key (cost_of_tree (facts_on file) extents) edits more
@@ -121,7 +122,7 @@ no_product m n some other none = omega (arith, some, scaled_left m 1 n (omega (a
 
 module _ (file : TreeFile) (fork : ForkRecord) (v : Volume) (a : Space) (per_is : file.per_block ≡ per_block_of v.header) (block_is : v.header.block_size ≡ 512 * per_block_of v.header) (one : count_ones (per_block_of v.header) ≡ 1) (low : per_block_of v.header < 129) (some_per : 0 < per_block_of v.header)
     (size_is : IsNodeSize file.shape.node_size) (stands : Stands file a.content) (size : HasTreeSize v.header fork (facts_on file)) (few : length (sectors_of_tree file) + 1 ≤ 2147483648) (inside : v.header.total_blocks * per_block_of v.header ≤ 2147483648) (free_low : v.header.free_blocks ≤ v.header.total_blocks)
-    (extents key edits more : ℕ) (law : GrowsByEnough) (three : HoldsThree key (cost_of_tree (facts_on file) extents)) (is : more ≡ growth v.header.block_size key (cost_of_tree (facts_on file) extents) edits) (some : 0 < more) (short : length file.fork < 8)
+    (extents key edits more : ℕ) (law : GrowsByEnough) (three : HoldsThree key (cost_of_tree (facts_on file) extents)) (is : more ≡ growth v.header.block_size key (cost_of_tree (facts_on file) extents) edits) (some : 0 < more)
   where
     abbrev n : ℕ
     n = file.shape.node_size / 512
@@ -201,8 +202,19 @@ module _ (file : TreeFile) (fork : ForkRecord) (v : Volume) (a : Space) (per_is 
         new_bytes : blocks_filled file more * v.header.block_size ≡ 512 * (more * (file.shape.node_size / 512))
         new_bytes = ap (λ m. blocks_filled file more * m) block_is ∙ mul_left_comm (blocks_filled file more) 512 (per_block_of v.header) ∙ ap (λ m. 512 * m) in_blocks
 
-        pub file_fits : FileFits more file fork v a
-        file_fits = record {
+        pub numbers_fit : NumbersHaveRoom more file fork v
+        numbers_fit = record {
+          least = node_low.0;
+          most = node_low.1;
+          whole = whole;
+          nodes = omega (arith, total_low, few, more_low, new_low);
+          blocks = omega (arith, fork_low, few, blocks_low, new_low);
+          bytes = omega (arith, bytes_are, few, new_bytes, new_low);
+          counted = enough;
+        }
+
+        pub file_fits : length file.fork < 8 → FileFits more file fork v a
+        file_fits short = record {
           some = some_blocks;
           run = long;
           counts = record {
@@ -210,9 +222,9 @@ module _ (file : TreeFile) (fork : ForkRecord) (v : Volume) (a : Space) (per_is 
             most = node_low.1;
             whole = whole;
             extents = short;
-            nodes = omega (arith, total_low, few, more_low, new_low);
-            blocks = omega (arith, fork_low, few, blocks_low, new_low);
-            bytes = omega (arith, bytes_are, few, new_bytes, new_low);
+            nodes = numbers_fit.nodes;
+            blocks = numbers_fit.blocks;
+            bytes = numbers_fit.bytes;
             counted = enough;
           };
           room = omega (arith, nodes_counted file extents v.header.block_size key edits more law three is some node_low.0 stands.agrees.some, parts, within);

@@ -36,7 +36,7 @@ use Rattle.hfs_volume.proofs.BlockWants.{range_bounds}
 use Rattle.hfs_volume.proofs.Counting.{count_cons, length_kept}
 use Rattle.hfs_volume.proofs.Members.{at_front, behind, first_or_later}
 use Rattle.hfs_volume.proofs.Untouched.{HasWholeBlocks, whole_blocks}
-use Rattle.tree_weights.specs.Weights.{GrowsByEnough, IsAfforded, LoadSaysEnough}
+use Rattle.tree_weights.specs.Weights.{GrowsByEnough, HoldsThree, IsAfforded, LoadSaysEnough}
 use Rattle.volume_base.specs.Lists.{facts_on}
 use Rattle.volume_base.specs.Service.{IsInService}
 use Rattle.volume_base.specs.Standing.{IsSettled, IsStanding, StandsOver, attribute_sectors, file_sectors, map_sectors}
@@ -45,10 +45,17 @@ use Rattle.volume_base.proofs.CatalogEdited.{there_is}
 use Rattle.volume_base.proofs.Facts.{size_is}
 use Rattle.volume_base.proofs.RoomKept.{few_sectors, node_size_low}
 use Rattle.volume_base.proofs.SoundForks.{geometry}
-use Rattle.volume_space.specs.Growing.{FileFits, GrowthFits, IsShort, IsThere, WantsFirst, alone, blocks_filled}
+use Rattle.volume_base.proofs.RoomKept.{cost_kept}
+use Rattle.volume_base.specs.Room.{room_on}
+use Rattle.volume_base.specs.declared.room.FreeBlocks.TheVariants as blocks
+use Rattle.volume_space.specs.SpreadGrowth.{SpreadFits}
+use Rattle.volume_space.specs.Spreading.{is_met_extents, needs_extents}
+use Rattle.hfs_volume.specs.declared.cost.Cost.{Cost}
+use Rattle.volume_space.proofs.SpreadCounted.{nodes_more, one_low, one_met}
+use Rattle.volume_space.specs.Growing.{FileFits, GrowthFits, IsShort, IsThere, WantsFirst, alone, blocks_filled, growth_load}
 use Rattle.volume_space.specs.declared.ahead.WhichTree.{WhichTree}
 use Rattle.volume_space.specs.declared.ahead.WhichTree.TheVariants as which
-use Rattle.volume_space.proofs.GrowthCounted.{blocks_same, few_listed, file_fits, power_of, run_counted_in, some_blocks}
+use Rattle.volume_space.proofs.GrowthCounted.{blocks_same, few_listed, file_fits, power_of, run_counted_in, some_blocks, numbers_fit}
 use Rattle.volume_space.proofs.Mapped.{kept_bit}
 
 -- ---- blocks that are free and not held
@@ -89,6 +96,11 @@ part_1 needs room = omega arith
 part_2 : (needs : Needs) (room : Room) → tree_load attributes_key (tree_at room 2) (slice_index (plan_of needs room).edits 2) (slice_index (plan_of needs room).grow 2) + (bitmap_load needs room (growth_blocks (plan_of needs room) room) + 1) ≤ load_of needs room (plan_of needs room)
 unfolding load_of
 part_2 needs room = omega arith
+
+parts_all : (needs : Needs) (room : Room) → 1 + tree_load extents_key (tree_at room 0) (slice_index (plan_of needs room).edits 0) (slice_index (plan_of needs room).grow 0) + tree_load catalog_key (tree_at room 1) (slice_index (plan_of needs room).edits 1) (slice_index (plan_of needs room).grow 1)
+    + tree_load attributes_key (tree_at room 2) (slice_index (plan_of needs room).edits 2) (slice_index (plan_of needs room).grow 2) + bitmap_load needs room (growth_blocks (plan_of needs room) room) ≤ load_of needs room (plan_of needs room)
+unfolding load_of
+parts_all needs room = omega arith
 
 -- which tree grows alone, and by how many nodes
 first_is : (grow : List ℕ) (tree : WhichTree) (more : ℕ) → 0 < more → first_growth grow ≡ alone tree more → more ≡ slice_index grow (place_of tree)
@@ -182,15 +194,40 @@ module _ (v : Volume) (a : Space) (was : IsStanding v a) (settled : IsSettled v 
     fitted file fork key extents edits more tree per_is stands size few three short tree_is more_is some part among =
         let is : more ≡ growth v.header.block_size key (cost_of_tree (facts_on file) extents) edits = more_is ∙ (λ i. growth (block_is i) key (tree_is i) edits) in
         let node = (state_well_formed [] file a).node_size in
-        let same = blocks_same file fork v a per_is whole.whole one per_low whole.some node stands size few inside free_low extents key edits more law three is some short in
-        let some_here = some_blocks file fork v a per_is whole.whole one per_low whole.some node stands size few inside free_low extents key edits more law three is some short in
+        let same = blocks_same file fork v a per_is whole.whole one per_low whole.some node stands size few inside free_low extents key edits more law three is some in
+        let some_here = some_blocks file fork v a per_is whole.whole one per_low whole.some node stands size few inside free_low extents key edits more law three is some in
         let among_same : more * tree.node_size / room.block ≡ more * file.shape.node_size / v.header.block_size = λ i. more * (tree_is i).node_size / block_is i in
         let among_here : blocks_filled file more ≤ growth_blocks (plan_of needs room) room = omega (arith, among, among_same, same) in
         let long : blocks_filled file more ≤ longest_of (runs_of (free_of v.map)) = ⊎_elim (λ none. absurd (omega (arith, none, some_here, among_here))) (λ wanted. omega (arith, wanted, among_here, long_is)) afforded.in_one_run in
         let enough : blocks_filled file more ≤ v.header.free_blocks = omega (arith, afforded.blocks, among_here, free_is, counted_free) in
         let map_low = run_counted_in needs room v (growth_blocks (plan_of needs room) room) (blocks_filled file more) (total_is ∙ sym settled.blocks) among_here some_here in
-        file_fits file fork v a per_is whole.whole one per_low whole.some node stands size few inside free_low extents key edits more law three is some short load long enough
-        (omega (arith, part, ap (λ t. tree_load key t edits more) tree_is, map_low)) within
+        file_fits file fork v a per_is whole.whole one per_low whole.some node stands size few inside free_low extents key edits more law three is some load long enough
+        (omega (arith, part, ap (λ t. tree_load key t edits more) tree_is, map_low)) within short
+
+    -- a fork of any number of extents, behind whose growth the load leaves so many sectors for an edit of the extents overflow file
+    spread_fitted : (file : TreeFile) (fork : ForkRecord) (key extents edits more : ℕ) (tree : TreeCost) → file.per_block ≡ per_block_of v.header → Stands file a.content → HasTreeSize v.header fork (facts_on file) → length (sectors_of_tree file) + 1 ≤ 2147483648 → 3 * (key + 8) ≤ file.shape.node_size - 16
+        → tree ≡ cost_of_tree (facts_on file) extents → more ≡ growth room.block key tree edits → 0 < more → more * tree.node_size / room.block ≤ growth_blocks (plan_of needs room) room
+        → (edit : ℕ) → 1 + edit + tree_load key tree edits more + bitmap_load needs room (growth_blocks (plan_of needs room) room) ≤ load → ((spare : ℕ) → 1 + edit ≤ spare → is_met_extents (cost_of (needs_extents 1) (room_on blocks.Takable v)) spare ≡ true) → SpreadFits more file fork v a
+    spread_fitted file fork key extents edits more tree per_is stands size few three tree_is more_is some among edit part met =
+        let is : more ≡ growth v.header.block_size key (cost_of_tree (facts_on file) extents) edits = more_is ∙ (λ i. growth (block_is i) key (tree_is i) edits) in
+        let node = (state_well_formed [] file a).node_size in
+        let same = blocks_same file fork v a per_is whole.whole one per_low whole.some node stands size few inside free_low extents key edits more law three is some in
+        let some_here = some_blocks file fork v a per_is whole.whole one per_low whole.some node stands size few inside free_low extents key edits more law three is some in
+        let among_same : more * tree.node_size / room.block ≡ more * file.shape.node_size / v.header.block_size = λ i. more * (tree_is i).node_size / block_is i in
+        let among_here : blocks_filled file more ≤ growth_blocks (plan_of needs room) room = omega (arith, among, among_same, same) in
+        let long : blocks_filled file more ≤ longest_of (runs_of (free_of v.map)) = ⊎_elim (λ none. absurd (omega (arith, none, some_here, among_here))) (λ wanted. omega (arith, wanted, among_here, long_is)) afforded.in_one_run in
+        let enough : blocks_filled file more ≤ v.header.free_blocks = omega (arith, afforded.blocks, among_here, free_is, counted_free) in
+        let map_low = run_counted_in needs room v (growth_blocks (plan_of needs room) room) (blocks_filled file more) (total_is ∙ sym settled.blocks) among_here some_here in
+        let load_same = ap (λ t. tree_load key t edits more) tree_is in
+        let numbers = numbers_fit file fork v a per_is whole.whole one per_low whole.some node stands size few inside free_low extents key edits more law three is some load long enough (omega (arith, part, load_same, map_low)) within in
+        let nodes = nodes_more file a extents v.header.block_size key edits more law three is some numbers.least in
+        record {
+          some = some_here;
+          run = long;
+          counts = numbers;
+          room = omega (arith, nodes, part, load_same, map_low, within);
+          edit = met (a.spare - growth_load v file more) (omega (arith, nodes, part, load_same, map_low, within));
+        }
 
   -- ---- the three trees
 
@@ -285,6 +322,37 @@ module _ (v : Volume) (a : Space) (was : IsStanding v a) (settled : IsSettled v 
         let low : 4096 ≤ v.attributes.file.shape.node_size = omega (arith, (was.trees.attributes there).file.has_form.least, size_is v.attributes.file a.content (was.trees.attributes there).stands) in
         fitted needs (room_with capacity (free_of v.map) (volume_of a.content)) load grow afforded block_here total_here long_here free_here law within v.attributes.file v.header.attributes_fork attributes_key _ (slice_index needs.edits 2) _ (tree_at (room_with capacity (free_of v.map) (volume_of a.content)) 2)
         (was.forks.attributes_per there) (was.trees.attributes there).stands (size_2 there) (few_2 there) (omega (arith, low)) short (tree_2 there) refl some (part_in 2 _ (part_2 needs (room_with capacity (free_of v.map) (volume_of a.content)))) (omega arith)
+
+    -- ---- forks of eight extents or more
+
+    load_parts : 1 + tree_load extents_key (tree_at (room_with capacity (free_of v.map) (volume_of a.content)) 0) (slice_index (plan_of needs (room_with capacity (free_of v.map) (volume_of a.content))).edits 0) (slice_index (plan_of needs (room_with capacity (free_of v.map) (volume_of a.content))).grow 0) + tree_load catalog_key (tree_at (room_with capacity (free_of v.map) (volume_of a.content)) 1) (slice_index (plan_of needs (room_with capacity (free_of v.map) (volume_of a.content))).edits 1) (slice_index (plan_of needs (room_with capacity (free_of v.map) (volume_of a.content))).grow 1)
+        + tree_load attributes_key (tree_at (room_with capacity (free_of v.map) (volume_of a.content)) 2) (slice_index (plan_of needs (room_with capacity (free_of v.map) (volume_of a.content))).edits 2) (slice_index (plan_of needs (room_with capacity (free_of v.map) (volume_of a.content))).grow 2) + bitmap_load needs (room_with capacity (free_of v.map) (volume_of a.content)) (growth_blocks (plan_of needs (room_with capacity (free_of v.map) (volume_of a.content))) (room_with capacity (free_of v.map) (volume_of a.content))) ≤ load
+    load_parts = omega (arith, parts_all needs (room_with capacity (free_of v.map) (volume_of a.content)), afforded.sectors)
+
+    module _ (same : capacity ≡ v.capacity) (none : slice_index (plan_of needs (room_with capacity (free_of v.map) (volume_of a.content))).grow 0 ≡ 0) (edited : 1 ≤ slice_index (plan_of needs (room_with capacity (free_of v.map) (volume_of a.content))).edits 0) where
+      three_0 : HoldsThree extents_key (tree_at (room_with capacity (free_of v.map) (volume_of a.content)) 0)
+      three_0 = subst (λ (t : TreeCost). HoldsThree extents_key t) (sym tree_0) (let low = node_size_low v.extents.file.shape.node_size (state_well_formed [] v.extents.file a).node_size in omega (arith, low))
+
+      one_less : tree_load extents_key (tree_at (room_with capacity (free_of v.map) (volume_of a.content)) 0) 1 0 ≤ tree_load extents_key (tree_at (room_with capacity (free_of v.map) (volume_of a.content)) 0) (slice_index (plan_of needs (room_with capacity (free_of v.map) (volume_of a.content))).edits 0) (slice_index (plan_of needs (room_with capacity (free_of v.map) (volume_of a.content))).grow 0)
+      one_less = one_low needs (room_with capacity (free_of v.map) (volume_of a.content)) load grow afforded law three_0 edited none
+
+      met_here : (spare : ℕ) → 1 + tree_load extents_key (tree_at (room_with capacity (free_of v.map) (volume_of a.content)) 0) 1 0 ≤ spare → is_met_extents (cost_of (needs_extents 1) (room_on blocks.Takable v)) spare ≡ true
+      met_here spare fits =
+          let kept = cost_kept v a was settled law (omega (arith, per_low, whole.whole)) blocks.Takable (needs_extents 1) (λ wanted. absurd (omega (arith, wanted))) in
+          ap (λ (c : Cost). is_met_extents c spare) (kept ∙ ap (λ n. cost_of (needs_extents 1) (room_with n (free_of v.map) (volume_of a.content))) (sym same))
+          ∙ one_met needs (room_with capacity (free_of v.map) (volume_of a.content)) load grow afforded law three_0 edited none spare fits
+
+      catalog_spreads : 0 < slice_index (plan_of needs (room_with capacity (free_of v.map) (volume_of a.content))).grow 1 → SpreadFits (slice_index (plan_of needs (room_with capacity (free_of v.map) (volume_of a.content))).grow 1) v.catalog.file v.header.catalog_fork v a
+      catalog_spreads some =
+          let low : 4096 ≤ v.catalog.file.shape.node_size = omega (arith, was.trees.catalog.file.has_form.least, size_is v.catalog.file a.content was.trees.catalog.stands) in
+          spread_fitted needs (room_with capacity (free_of v.map) (volume_of a.content)) load grow afforded block_here total_here long_here free_here law within v.catalog.file v.header.catalog_fork catalog_key _ (slice_index needs.edits 1) _ (tree_at (room_with capacity (free_of v.map) (volume_of a.content)) 1)
+          was.forks.catalog_per was.trees.catalog.stands size_1 few_1 (omega (arith, low)) tree_1 refl some (omega arith) (tree_load extents_key (tree_at (room_with capacity (free_of v.map) (volume_of a.content)) 0) 1 0) (omega (arith, load_parts, one_less)) met_here
+
+      attributes_spread : IsTrue (has_attributes v.header) → 0 < slice_index (plan_of needs (room_with capacity (free_of v.map) (volume_of a.content))).grow 2 → SpreadFits (slice_index (plan_of needs (room_with capacity (free_of v.map) (volume_of a.content))).grow 2) v.attributes.file v.header.attributes_fork v a
+      attributes_spread there some =
+          let low : 4096 ≤ v.attributes.file.shape.node_size = omega (arith, (was.trees.attributes there).file.has_form.least, size_is v.attributes.file a.content (was.trees.attributes there).stands) in
+          spread_fitted needs (room_with capacity (free_of v.map) (volume_of a.content)) load grow afforded block_here total_here long_here free_here law within v.attributes.file v.header.attributes_fork attributes_key _ (slice_index needs.edits 2) _ (tree_at (room_with capacity (free_of v.map) (volume_of a.content)) 2)
+          (was.forks.attributes_per there) (was.trees.attributes there).stands (size_2 there) (few_2 there) (omega (arith, low)) (tree_2 there) refl some (omega arith) (tree_load extents_key (tree_at (room_with capacity (free_of v.map) (volume_of a.content)) 0) 1 0) (omega (arith, load_parts, one_less)) met_here
 
     -- the one that goes first
     fits_first : (tree : WhichTree) (more : ℕ) → 0 < more → first_growth grow ≡ alone tree more → IsThere tree v.header → IsShort tree v → GrowthFits tree more v a

@@ -26,6 +26,7 @@ pub mod ExtentsGrownStands
 pub mod ExtentsGrownUnchanged
 pub mod ExtentsGrownWhole
 pub mod FewChanges
+pub mod FewerEdits
 pub mod Filled
 pub mod GivenBack
 pub mod GrownAhead
@@ -93,6 +94,7 @@ pub mod SpreadCatalogLengthened
 pub mod SpreadCatalogLists
 pub mod SpreadCatalogSettled
 pub mod SpreadCatalogWhole
+pub mod SpreadCounted
 pub mod SpreadEdited
 pub mod SpreadFile
 pub mod SpreadForks
