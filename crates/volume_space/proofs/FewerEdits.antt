@@ -1,19 +1,14 @@
 -- Fewer edits of one tree lack no node where more lack none, are no deeper, and put no more.
-use Rattle.std.proofs.Common.{◌≡◌, ◌⊎◌, ◌<◌, ◌≤◌, ℕ, ◌+◌, ◌-◌, ◌*◌, ◌/◌, min, Bool, true, false, List, [], ◌∷◌, inl, inr, refl, sym, ◌∙◌, ap, subst, arith, le-ltb, mul-le-mul, mul-le-mul_left, mul-le-mul_right, div-mul-le_self, zero-mul}
-use Rattle.std.specs.Prelude.{◌==◌, ◌&&◌, ◌||◌, nat_lt, nat_le, not, slice_index, Option, None, if◌then◌else◌}
+use Rattle.std.proofs.Common.{◌≡◌, ◌<◌, ◌≤◌, ℕ, ◌+◌, ◌-◌, ◌*◌, ◌/◌, min, Bool, true, false, refl, sym, ◌∙◌, ap, subst, arith, le-ltb, mul-le-mul, mul-le-mul_left, div-mul-le_self, zero-mul}
+use Rattle.std.specs.Prelude.{◌==◌, ◌&&◌, ◌||◌, nat_lt, nat_le, not, if◌then◌else◌}
 use Rattle.std.proofs.Math.Nat.{zero-div}
 use Rattle.std.proofs.lemmas.Nat.{le-div}
-use Rattle.std.proofs.lemmas.Bool.{eq-eqb, eqb-true, ltb-false, leb-true, le-leb, and_parts, true≢false}
-use Rattle.hfs_language.specs.declared.refusal.Refusal.{Refusal}
+use Rattle.std.proofs.lemmas.Bool.{eq-eqb, eqb-true, ltb-false, true≢false}
 use Rattle.hfs_language.specs.declared.refusal.Refusal.TheVariants as refusal
-use Rattle.hfs_volume.specs.Cost.{Plan, attributes_key, bitmap_load, blocks_of_nodes, catalog_key, cost_of, cost_or, deep_refusal, depth_of, extents_key, first_refusal, growth, growth_blocks, growth_for, is_too_deep, load_of, load_refusal, missing, need, node_sectors, plan_of, resource_refusal, rises, takes_extent, tree_at, tree_load, where_}
-use Rattle.hfs_volume.specs.Forks.{parts_for}
-use Rattle.hfs_volume.specs.declared.cost.Cost.{Cost}
+use Rattle.hfs_volume.specs.Cost.{blocks_of_nodes, depth_of, growth, growth_for, is_too_deep, missing, need, node_sectors, rises, tree_load}
 use Rattle.hfs_volume.specs.declared.cost.Cost.TheVariants as cost
-use Rattle.hfs_volume.specs.declared.cost.Needs.{Needs}
-use Rattle.hfs_volume.specs.declared.cost.Room.{Room}
 use Rattle.hfs_volume.specs.declared.cost.TreeCost.{TreeCost}
-use Rattle.tree_weights.specs.Weights.{GrowsByEnough, HoldsThree, IsAfforded, LoadIsOfParts, LoadSaysEnough, load_at}
+use Rattle.tree_weights.specs.Weights.{GrowsByEnough, HoldsThree}
 
 -- no edit lacks a node
 pub none_lacks : (block key : ℕ) (tree : TreeCost) → growth block key tree 0 ≡ 0

@@ -2,7 +2,7 @@
 use Rattle.std.proofs.Common.{◌≡◌, ◌⊎◌, inl, inr, ◌<◌, ◌≤◌, ℕ, ◌+◌, ◌-◌, ◌*◌, ◌/◌, Bool, true, false, not, List, [], ◌∷◌, ◌++◌, length, get_or, map, refl, sym, ◌∙◌, ap, subst, arith, ⊎_elim, length-append}
 use Rattle.std.specs.Prelude.{Contains, IsTrue, ◌==◌, ◌&&◌, if◌then◌else◌, nat_lt, slice_index}
 use Rattle.std.specs.List.{count_by, range_with_len}
-use Rattle.std.proofs.lemmas.Bool.{and_parts, cases_eq, true≢false}
+use Rattle.std.proofs.lemmas.Bool.{and_parts, cases_eq, true≢false, cases_lt, ne_eqb, le-leb, lt-ltb}
 use Rattle.std.specs.Int.RustNames.{count_ones}
 use Rattle.std.proofs.lemmas.List.{get_or_default}
 use Rattle.std.proofs.lemmas.List.Elements.{Contains-append_left, Contains-append_right}
@@ -23,7 +23,7 @@ use Rattle.btree_file.specs.declared.tree.TreeFile.{TreeFile}
 use Rattle.sector_disk.specs.Space.{Space}
 use Rattle.hfs_volume.specs.Blocks.{HasTreeSize, is_among, used_in}
 use Rattle.hfs_volume.specs.Content.{TreeFacts, VolumeState, has_attributes, is_set, overflow_in_volume, volume_of}
-use Rattle.hfs_volume.specs.Cost.{attributes_key, bitmap_load, catalog_key, cost_of, extents_key, growth, growth_blocks, load_of, no_tree, plan_of, tree_at, tree_load}
+use Rattle.hfs_volume.specs.Cost.{attributes_key, bitmap_load, catalog_key, cost_of, extents_key, growth, growth_blocks, load_of, no_tree, plan_of, tree_at, tree_load, takes_extent}
 use Rattle.hfs_volume.specs.Forks.{attributes_id, catalog_id, data_kind, extents_id, extents_of, in_use, per_block_of}
 use Rattle.hfs_volume.specs.Laws.{one_if}
 use Rattle.hfs_volume.specs.Reclaim.{first_growth}
@@ -48,11 +48,11 @@ use Rattle.volume_base.proofs.SoundForks.{geometry}
 use Rattle.volume_base.proofs.RoomKept.{cost_kept}
 use Rattle.volume_base.specs.Room.{room_on}
 use Rattle.volume_base.specs.declared.room.FreeBlocks.TheVariants as blocks
-use Rattle.volume_space.specs.SpreadGrowth.{SpreadFits}
+use Rattle.volume_space.specs.SpreadGrowth.{SpreadFits, SpreadGrowthFits}
 use Rattle.volume_space.specs.Spreading.{is_met_extents, needs_extents}
 use Rattle.hfs_volume.specs.declared.cost.Cost.{Cost}
 use Rattle.volume_space.proofs.SpreadCounted.{nodes_more, one_low, one_met}
-use Rattle.volume_space.specs.Growing.{FileFits, GrowthFits, IsShort, IsThere, WantsFirst, alone, blocks_filled, growth_load}
+use Rattle.volume_space.specs.Growing.{HasFilledRecords, FileFits, GrowthFits, IsShort, IsThere, WantsFirst, alone, blocks_filled, growth_load}
 use Rattle.volume_space.specs.declared.ahead.WhichTree.{WhichTree}
 use Rattle.volume_space.specs.declared.ahead.WhichTree.TheVariants as which
 use Rattle.volume_space.proofs.GrowthCounted.{blocks_same, few_listed, file_fits, power_of, run_counted_in, some_blocks, numbers_fit}
@@ -116,6 +116,21 @@ first_is grow tree more some is = by (nat_lt 0 (slice_index grow 0)) (nat_lt 0 (
     by false false which.Extents same = absurd (omega (arith, some, ap (λ l. slice_index l 0) same))
     by false false which.Catalog same = absurd (omega (arith, some, ap (λ l. slice_index l 1) same))
     by false false which.Attributes same = sym (ap (λ l. slice_index l 2) same)
+
+-- the extents overflow file gets none where another tree goes first
+none_before : (grow : List ℕ) (tree : WhichTree) (more : ℕ) → 0 < more → first_growth grow ≡ alone tree more → (place_of tree ≡ 0 → ⊥) → slice_index grow 0 ≡ 0
+none_before grow tree more some is other = elim (cases_lt 0 (slice_index grow 0)) [
+  | inl ahead ↦ absurd (by tree other (ap (λ b. if b then slice_index grow 0 ∷ 0 ∷ 0 ∷ [] else if nat_lt 0 (slice_index grow 1) then 0 ∷ slice_index grow 1 ∷ 0 ∷ [] else 0 ∷ 0 ∷ slice_index grow 2 ∷ []) (sym (lt-ltb 0 (slice_index grow 0) ahead)) ∙ is))
+  | inr none ↦ omega (arith, none)
+]
+  where
+    by : (t : WhichTree) → (place_of t ≡ 0 → ⊥) → slice_index grow 0 ∷ 0 ∷ 0 ∷ [] ≡ alone t more → ⊥
+    by which.Extents differs same = differs refl
+    by which.Catalog differs same = omega (arith, some, ap (λ l. slice_index l 1) same)
+    by which.Attributes differs same = omega (arith, some, ap (λ l. slice_index l 2) same)
+
+takes_one : (tree : TreeCost) (more : ℕ) → 0 < more → 8 ≤ tree.extents → takes_extent tree more ≡ 1
+takes_one tree more some long = λ i. if not (ne_eqb more 0 (λ e. omega (arith, e, some)) i) && le-leb 8 tree.extents long i then 1 else 0
 
 -- the extents overflow file has the extents of its record alone
 alone_extents : (volume : VolumeState) → extents_of [] extents_id data_kind volume.head.extents_fork ≡ extents_of (overflow_in_volume volume) extents_id data_kind volume.head.extents_fork
@@ -366,7 +381,49 @@ module _ (v : Volume) (a : Space) (was : IsStanding v a) (settled : IsSettled v 
         let is = first_is grow which.Attributes more some first ∙ ap (λ l. slice_index l 2) afforded.grows in
         (there, subst (λ m. FileFits m v.attributes.file v.header.attributes_fork v a) (sym is) (attributes_fit there short (subst (λ m. 0 < m) is some)))
 
+    long_1 : 8 ≤ length v.catalog.file.fork → 8 ≤ (tree_at (room_with capacity (free_of v.map) (volume_of a.content)) 1).extents
+    long_1 long = omega (
+      arith,
+      long,
+      ap (λ (t : TreeCost). t.extents) tree_1,
+      ap (λ (l : VolumeState). length (extents_of (overflow_in_volume l) catalog_id data_kind l.head.catalog_fork)) settled.lists,
+      ap (λ (es : List Extent). length es) was.forks.catalog,
+    )
+
+    long_2 : IsTrue (has_attributes v.header) → 8 ≤ length v.attributes.file.fork → 8 ≤ (tree_at (room_with capacity (free_of v.map) (volume_of a.content)) 2).extents
+    long_2 there long = omega (
+      arith,
+      long,
+      ap (λ (t : TreeCost). t.extents) (tree_2 there),
+      ap (λ (l : VolumeState). length (extents_of (overflow_in_volume l) attributes_id data_kind l.head.attributes_fork)) settled.lists,
+      ap (λ (es : List Extent). length es) (was.forks.attributes there),
+    )
+
+    -- the one that goes first, of any number of extents
+    spreads_first : (tree : WhichTree) (more : ℕ) → 0 < more → first_growth grow ≡ alone tree more → IsThere tree v.header → HasFilledRecords tree v a.content → capacity ≡ v.capacity → GrowthFits tree more v a ⊎ SpreadGrowthFits tree more v a
+    spreads_first which.Extents more some first there filled same = inl (fits_first which.Extents more some first there tt)
+    spreads_first which.Catalog more some first there filled same = elim (cases_lt (length v.catalog.file.fork) 8) [
+      | inl short ↦ inl (fits_first which.Catalog more some first there short)
+      | inr long ↦
+          let is = first_is grow which.Catalog more some first ∙ ap (λ l. slice_index l 1) afforded.grows in
+          let none = sym (ap (λ l. slice_index l 0) afforded.grows) ∙ none_before grow which.Catalog more some first (λ same_tree. absurd (omega (arith, same_tree))) in
+          let grows = subst (λ m. 0 < m) is some in
+          let edited : 1 ≤ slice_index (plan_of needs (room_with capacity (free_of v.map) (volume_of a.content))).edits 0 = omega (arith, takes_one (tree_at (room_with capacity (free_of v.map) (volume_of a.content)) 1) (slice_index (plan_of needs (room_with capacity (free_of v.map) (volume_of a.content))).grow 1) grows (long_1 long)) in
+          inr (filled, subst (λ m. SpreadFits m v.catalog.file v.header.catalog_fork v a) (sym is) (catalog_spreads same none edited grows))
+    ]
+    spreads_first which.Attributes more some first there filled same = elim (cases_lt (length v.attributes.file.fork) 8) [
+      | inl short ↦ inl (fits_first which.Attributes more some first there short)
+      | inr long ↦
+          let is = first_is grow which.Attributes more some first ∙ ap (λ l. slice_index l 2) afforded.grows in
+          let none = sym (ap (λ l. slice_index l 0) afforded.grows) ∙ none_before grow which.Attributes more some first (λ same_tree. absurd (omega (arith, same_tree))) in
+          let grows = subst (λ m. 0 < m) is some in
+          let edited : 1 ≤ slice_index (plan_of needs (room_with capacity (free_of v.map) (volume_of a.content))).edits 0 = omega (arith, takes_one (tree_at (room_with capacity (free_of v.map) (volume_of a.content)) 2) (slice_index (plan_of needs (room_with capacity (free_of v.map) (volume_of a.content))).grow 2) grows (long_2 there long)) in
+          inr (there, (filled, subst (λ m. SpreadFits m v.attributes.file v.header.attributes_fork v a) (sym is) (attributes_spread same none edited there grows)))
+    ]
+
 -- what costs a load that may be put has its first growth made
-pub wanted_fits : (v : Volume) (a : Space) → StandsOver v a → IsTrue a.tells → IsSettled v a.content → LoadSaysEnough → GrowsByEnough → (tree : WhichTree) (more : ℕ) → WantsFirst tree more v a → GrowthFits tree more v a
-wanted_fits v a over tells settled says law tree more wants =
-    fits_first v a (over.stands tells) settled over.service wants.capacity wants.needs wants.load wants.grow says law wants.costs wants.within tree more wants.some wants.first wants.there wants.short
+pub wanted_fits : (v : Volume) (a : Space) → StandsOver v a → IsTrue a.tells → IsSettled v a.content → LoadSaysEnough → GrowsByEnough → (tree : WhichTree) (more : ℕ) → WantsFirst tree more v a → GrowthFits tree more v a ⊎ SpreadGrowthFits tree more v a
+wanted_fits v a over tells settled says law tree more wants = ⊎_elim
+    (λ short. inl (fits_first v a (over.stands tells) settled over.service wants.capacity wants.needs wants.load wants.grow says law wants.costs wants.within tree more wants.some wants.first wants.there short))
+    (λ filled. spreads_first v a (over.stands tells) settled over.service wants.capacity wants.needs wants.load wants.grow says law wants.costs wants.within tree more wants.some wants.first wants.there filled.0 filled.1)
+    wants.short

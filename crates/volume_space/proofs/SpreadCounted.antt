@@ -1,7 +1,7 @@
 -- One edit of the extents overflow file costs no more than a plan that has one and no growth of it, and a growth leaves that much of a load.
 use Rattle.std.proofs.Common.{◌≡◌, ◌<◌, ◌≤◌, ℕ, ◌+◌, ◌-◌, ◌*◌, ◌/◌, min, ⊎_elim, Bool, true, false, List, [], ◌∷◌, sym, refl, ◌∙◌, ap, subst, arith, le-ltb, mul-le-mul, mul-le-mul_right}
 use Rattle.std.proofs.Math.Nat.{mul_comm}
-use Rattle.std.specs.Prelude.{◌==◌, ◌&&◌, nat_lt, nat_le, not, slice_index, Option, None, if◌then◌else◌}
+use Rattle.std.specs.Prelude.{◌==◌, ◌&&◌, nat_lt, not, slice_index, Option, None, if◌then◌else◌}
 use Rattle.std.proofs.lemmas.Bool.{cases_eq, le-leb, ne_eqb}
 use Rattle.hfs_language.specs.declared.refusal.Refusal.{Refusal}
 use Rattle.hfs_language.specs.declared.refusal.Refusal.TheVariants as refusal

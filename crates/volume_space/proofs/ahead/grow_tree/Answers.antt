@@ -1,5 +1,5 @@
 use Rattle.volume_base.specs.declared.volume.Tree.{Tree}
-use Rattle.std.proofs.Common.{◌<◌, ◌≤◌, length, ◌+◌, sym, ◌∙◌, subst}
+use Rattle.std.proofs.Common.{◌<◌, ◌≤◌, length, ◌+◌, sym, ◌∙◌, subst, ⊎_elim}
 use Rattle.std.specs.Prelude.{IfOk}
 use Rattle.volume_space.specs.Growing.{GoesAhead, GrowthFits, IsOwnOrFree, WantsFirst, file_of, growth_room}
 use Rattle.volume_space.specs.SpreadGrowth.{SpreadGrowthFits}
@@ -111,19 +111,22 @@ returns-in-Attributes-clause-spent g c few =
     (subst (λ n. (g.P.SectorView.space c.args.space.now).spare ≤ (g.P.SectorView.space c.grow_attributes_kept.new.space).spare + n) (load_kept c.args.volume.now c.keep.new.self c.keep.ensures which.Attributes c.args.more) (c.grow_attributes_kept.ensures.spent (subst (λ (u : Tree). length u.file.fork < 8) (sym c.keep.ensures.same.attributes) (subst (λ (t : WhichTree). length (file_of t c.args.volume.now).fork < 8) c.in-Attributes.is few))))
 
 pub returns-in-Extents-clause-counted : goal.returns-in-Extents-clause-counted
-returns-in-Extents-clause-counted g c tells wants =
-    c.grow_extents_kept.ensures.sure tells (fits_kept c.args.volume.now c.keep.new.self c.keep.ensures which.Extents c.args.more (g.P.SectorView.space c.args.space.now)
-    (wanted_fits c.args.volume.now (g.P.SectorView.space c.args.space.now) c.requires.stands tells (c.requires.settled tells) c.a_load_says_enough.ensures c.trees_grow_by_enough.ensures which.Extents c.args.more (subst (λ (t : WhichTree). WantsFirst t c.args.more c.args.volume.now (g.P.SectorView.space c.args.space.now)) c.in-Extents.is wants)))
+returns-in-Extents-clause-counted g c tells wants = ⊎_elim
+    (λ fits. c.grow_extents_kept.ensures.sure tells (fits_kept c.args.volume.now c.keep.new.self c.keep.ensures which.Extents c.args.more (g.P.SectorView.space c.args.space.now) fits))
+    (λ fits. c.grow_extents_kept.ensures.sure tells (spread_kept c.args.volume.now c.keep.new.self c.keep.ensures which.Extents c.args.more (g.P.SectorView.space c.args.space.now) fits))
+    (wanted_fits c.args.volume.now (g.P.SectorView.space c.args.space.now) c.requires.stands tells (c.requires.settled tells) c.a_load_says_enough.ensures c.trees_grow_by_enough.ensures which.Extents c.args.more (subst (λ (t : WhichTree). WantsFirst t c.args.more c.args.volume.now (g.P.SectorView.space c.args.space.now)) c.in-Extents.is wants))
 
 pub returns-in-Catalog-clause-counted : goal.returns-in-Catalog-clause-counted
-returns-in-Catalog-clause-counted g c tells wants =
-    c.grow_catalog_kept.ensures.sure tells (fits_kept c.args.volume.now c.keep.new.self c.keep.ensures which.Catalog c.args.more (g.P.SectorView.space c.args.space.now)
-    (wanted_fits c.args.volume.now (g.P.SectorView.space c.args.space.now) c.requires.stands tells (c.requires.settled tells) c.a_load_says_enough.ensures c.trees_grow_by_enough.ensures which.Catalog c.args.more (subst (λ (t : WhichTree). WantsFirst t c.args.more c.args.volume.now (g.P.SectorView.space c.args.space.now)) c.in-Catalog.is wants)))
+returns-in-Catalog-clause-counted g c tells wants = ⊎_elim
+    (λ fits. c.grow_catalog_kept.ensures.sure tells (fits_kept c.args.volume.now c.keep.new.self c.keep.ensures which.Catalog c.args.more (g.P.SectorView.space c.args.space.now) fits))
+    (λ fits. c.grow_catalog_kept.ensures.spread tells (spread_kept c.args.volume.now c.keep.new.self c.keep.ensures which.Catalog c.args.more (g.P.SectorView.space c.args.space.now) fits))
+    (wanted_fits c.args.volume.now (g.P.SectorView.space c.args.space.now) c.requires.stands tells (c.requires.settled tells) c.a_load_says_enough.ensures c.trees_grow_by_enough.ensures which.Catalog c.args.more (subst (λ (t : WhichTree). WantsFirst t c.args.more c.args.volume.now (g.P.SectorView.space c.args.space.now)) c.in-Catalog.is wants))
 
 pub returns-in-Attributes-clause-counted : goal.returns-in-Attributes-clause-counted
-returns-in-Attributes-clause-counted g c tells wants =
-    c.grow_attributes_kept.ensures.sure tells (fits_kept c.args.volume.now c.keep.new.self c.keep.ensures which.Attributes c.args.more (g.P.SectorView.space c.args.space.now)
-    (wanted_fits c.args.volume.now (g.P.SectorView.space c.args.space.now) c.requires.stands tells (c.requires.settled tells) c.a_load_says_enough.ensures c.trees_grow_by_enough.ensures which.Attributes c.args.more (subst (λ (t : WhichTree). WantsFirst t c.args.more c.args.volume.now (g.P.SectorView.space c.args.space.now)) c.in-Attributes.is wants)))
+returns-in-Attributes-clause-counted g c tells wants = ⊎_elim
+    (λ fits. c.grow_attributes_kept.ensures.sure tells (fits_kept c.args.volume.now c.keep.new.self c.keep.ensures which.Attributes c.args.more (g.P.SectorView.space c.args.space.now) fits))
+    (λ fits. c.grow_attributes_kept.ensures.spread tells (spread_kept c.args.volume.now c.keep.new.self c.keep.ensures which.Attributes c.args.more (g.P.SectorView.space c.args.space.now) fits))
+    (wanted_fits c.args.volume.now (g.P.SectorView.space c.args.space.now) c.requires.stands tells (c.requires.settled tells) c.a_load_says_enough.ensures c.trees_grow_by_enough.ensures which.Attributes c.args.more (subst (λ (t : WhichTree). WantsFirst t c.args.more c.args.volume.now (g.P.SectorView.space c.args.space.now)) c.in-Attributes.is wants))
 
 pub returns-in-Extents-clause-spread : goal.returns-in-Extents-clause-spread
 returns-in-Extents-clause-spread g c tells fits = c.grow_extents_kept.ensures.sure tells (spread_kept c.args.volume.now c.keep.new.self c.keep.ensures which.Extents c.args.more (g.P.SectorView.space c.args.space.now) (subst (λ (t : WhichTree). SpreadGrowthFits t c.args.more c.args.volume.now (g.P.SectorView.space c.args.space.now)) c.in-Extents.is fits))
