@@ -259,8 +259,8 @@ HasFilledRecords which.Extents volume content = Unit {0}
 HasFilledRecords which.Catalog volume content = AreFilled (lists_of volume content) catalog_id (length volume.catalog.file.fork)
 HasFilledRecords which.Attributes volume content = AreFilled (lists_of volume content) attributes_id (length volume.attributes.file.fork)
 
--- What needs this, of the blocks that may be taken, costs a load that may be put, and wants so many nodes more of this tree first, whose fork has fewer
--- than eight extents; or each of its overflow records has an extent in use, and the load is weighed by the volume's own journal.
+-- What needs this, of the blocks that may be taken, costs a load that may be put, and wants so many nodes more of this tree first. Its fork has fewer
+-- than eight extents; or each overflow record of it has an extent in use, and the load is weighed by the volume's own journal.
 pub record WantsFirst (tree : WhichTree) (more : ℕ) (volume : Volume) (space : Space) : Type 0 where
   pub needs : Needs
   pub capacity : ℕ

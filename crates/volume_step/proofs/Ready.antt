@@ -1,5 +1,5 @@
 -- A command that fits now wants no commit.
-use Rattle.std.proofs.Common.{◌≡◌, ◌≢◌, ◌<◌, ◌≤◌, ℕ, ◌+◌, ◌*◌, ◌/◌, min, Bool, true, false, List, [], ◌∷◌, length, refl, sym, ◌∙◌, ap, subst, arith}
+use Rattle.std.proofs.Common.{◌≡◌, ◌≢◌, inr, ◌<◌, ◌≤◌, ℕ, ◌+◌, ◌*◌, ◌/◌, min, Bool, true, false, List, [], ◌∷◌, length, refl, sym, ◌∙◌, ap, subst, arith}
 use Rattle.std.specs.Prelude.{◌==◌, ◌&&◌, ◌^◌, ◌||◌, nat_le, nat_lt, not, slice_index, is_some, IfOk, IsTrue, Option, None, Some, Result, Ok, Err, if◌then◌else◌}
 use Rattle.std.proofs.lemmas.Bool.{and_parts, eq-eqb, le-ltb, leb-true, true≢false}
 use Rattle.hx_bytes.specs.declared.faults.Trouble.{Trouble}
@@ -12,7 +12,6 @@ use Rattle.alloc_bitmap.specs.Map.{free_of}
 use Rattle.btree_file.specs.Growth.{map_nodes_for}
 use Rattle.btree_file.specs.Map.{bits_of}
 use Rattle.btree_file.specs.declared.tree.TreeFile.{TreeFile}
-use Rattle.hx_bytes.specs.declared.extents.Extent.{Extent}
 use Rattle.hx_bytes.specs.declared.extents.ForkRecord.{ForkRecord}
 use Rattle.volume_header.specs.declared.header.VolumeHeader.{VolumeHeader}
 use Rattle.hfs_language.specs.declared.command.Command.{Command}
@@ -25,8 +24,9 @@ use Rattle.hfs_language.specs.declared.reply.Reply.TheVariants as reply
 use Rattle.hfs_model.specs.Step.{is_refusal, most_bytes, most_size, on, only_reads, size_written, step_line, then_, to_file, to_size, unless, written}
 use Rattle.hfs_model.specs.declared.plain.PlainNode.{PlainNode}
 use Rattle.hfs_model.specs.declared.plain.PlainTree.{PlainTree}
-use Rattle.hfs_volume.specs.Content.{VolumeState, has_attributes, volume_of}
+use Rattle.hfs_volume.specs.Content.{VolumeState, has_attributes, overflow_in_volume, volume_of}
 use Rattle.hfs_volume.specs.Cost.{cost_of, cost_or, load_of, node_sectors, plan_of, resource_refusal, tree_at}
+use Rattle.hfs_volume.specs.Forks.{attributes_id, catalog_id}
 use Rattle.hfs_volume.specs.Reclaim.{first_growth}
 use Rattle.hfs_volume.specs.TreeOf.{tree_of}
 use Rattle.hfs_volume.specs.Weight.{Data, cut_cost, data_of, edits_of, free_blocks, lacks_tree, needs_cut, needs_for, room_with, weight, weight_with, written_data}
@@ -35,6 +35,8 @@ use Rattle.hfs_volume.specs.declared.cost.Cost.TheVariants as cost
 use Rattle.hfs_volume.specs.declared.cost.Needs.{Needs}
 use Rattle.hfs_volume.specs.declared.cost.Room.{Room}
 use Rattle.volume_base.specs.Fitting.{is_met, needs_of, takable_in, takable_of}
+use Rattle.volume_base.proofs.Still.{lists_still}
+use Rattle.volume_base.specs.Lists.{lists_of}
 use Rattle.volume_base.specs.Looking.{ReadsVolume}
 use Rattle.volume_base.specs.Room.{capacity_of}
 use Rattle.volume_base.specs.Service.{KeepsFile}
@@ -43,7 +45,8 @@ use Rattle.volume_base.specs.Weighing.{joined, refused_or, weighed}
 use Rattle.volume_base.specs.declared.volume.Volume.{Volume}
 use Rattle.volume_base.specs.declared.weighing.Weight.{Weight}
 use Rattle.volume_base.specs.declared.weighing.Weight.TheVariants as answer
-use Rattle.volume_space.specs.Growing.{FileFits, GrowthFits, IsShort, IsThere, WantsFirst, alone, blocks_filled, fork_of, growth_load}
+use Rattle.volume_space.proofs.Filled.{filled_later}
+use Rattle.volume_space.specs.Growing.{FileFits, GrowthFits, HasFilledRecords, IsThere, WantsFirst, alone, blocks_filled, fork_of, growth_load}
 use Rattle.volume_space.specs.declared.ahead.Growth.{Growth}
 use Rattle.volume_space.specs.declared.ahead.Growth.TheVariants as growing
 use Rattle.volume_space.specs.declared.ahead.WhichTree.{WhichTree}
@@ -258,19 +261,21 @@ growth_still v w a b reads which.Catalog more (there, fits) = (there, file_still
 growth_still v w a b reads which.Attributes more (there, fits) =
     (subst (λ (h : VolumeHeader). IsTrue (has_attributes h)) (sym reads.keeps.header) there, file_still more a.tells v w a b reads.keeps.map reads.keeps.header reads.looks.spare v.attributes.file w.attributes.file (fork_of which.Attributes) reads.keeps.attributes.file fits)
 
--- there is such a tree still, and its fork has fewer than eight extents still
+-- there is such a tree still, and each overflow record of its fork has an extent in use still
 there_still : (v w : Volume) → w.header ≡ v.header → (tree : WhichTree) → IsThere tree v.header → IsThere tree w.header
 there_still v w same tree there = subst (λ (h : VolumeHeader). IsThere tree h) (sym same) there
 
-short_still : (v w : Volume) (a b : Space) → ReadsVolume v w a b → (tree : WhichTree) → IsShort tree v → IsShort tree w
-short_still v w a b reads which.Extents short = tt
-short_still v w a b reads which.Catalog short = subst (λ (l : List Extent). length l < 8) (sym reads.keeps.catalog.file.file.fork) short
-short_still v w a b reads which.Attributes short = subst (λ (l : List Extent). length l < 8) (sym reads.keeps.attributes.file.file.fork) short
+filled_still : (v w : Volume) (a b : Space) → ReadsVolume v w a b → IsTrue a.tells → (tree : WhichTree) → HasFilledRecords tree v a.content → HasFilledRecords tree w b.content
+filled_still v w a b reads tells which.Extents was = tt
+filled_still v w a b reads tells which.Catalog was =
+    filled_later catalog_id (lists_of v a.content) (lists_of w b.content) v.catalog.file.fork w.catalog.file.fork reads.keeps.catalog.file.file.fork (ap overflow_in_volume (lists_still v w a b reads tells)) was
+filled_still v w a b reads tells which.Attributes was =
+    filled_later attributes_id (lists_of v a.content) (lists_of w b.content) v.attributes.file.fork w.attributes.file.fork reads.keeps.attributes.file.file.fork (ap overflow_in_volume (lists_still v w a b reads tells)) was
 
 -- a command that fits now wants the first of its growths
-pub wants_now : (asked : Command) (v w : Volume) (a b : Space) → ReadsVolume v w a b → IsTrue a.tells → only_reads asked ≡ false → (now : FitsNow asked v a) → (tree : WhichTree) (more : ℕ) → 0 < more → first_growth now.grow ≡ alone tree more → IsThere tree v.header → IsShort tree v
+pub wants_now : (asked : Command) (v w : Volume) (a b : Space) → ReadsVolume v w a b → IsTrue a.tells → only_reads asked ≡ false → (now : FitsNow asked v a) → (tree : WhichTree) (more : ℕ) → 0 < more → first_growth now.grow ≡ alone tree more → IsThere tree v.header → HasFilledRecords tree v a.content
     → WantsFirst tree more w b
-wants_now asked v w a b reads tells unread now tree more some first there short =
+wants_now asked v w a b reads tells unread now tree more some first there each =
     let still = now_still asked v w a b reads tells now in
     record {
       needs = needs_of (edits_of (tree_of b.content) asked);
@@ -282,7 +287,7 @@ wants_now asked v w a b reads tells unread now tree more some first there short 
       some = some;
       first = ap first_growth still.1 ∙ first;
       there = there_still v w reads.keeps.header tree there;
-      short = short_still v w a b reads tree short;
+      short = inr (filled_still v w a b reads tells tree each, refl);
     }
 
 -- ---- `write`

@@ -36,7 +36,7 @@ use Rattle.volume_step.specs.Steps.{IsDirect, PutsNow, verdict_of}
 use Rattle.volume_step.specs.declared.judging.Verdict.TheVariants as verdict
 use Rattle.volume_step.specs.declared.outcome.Outcome.{Outcome}
 use Rattle.volume_step.specs.declared.outcome.Outcome.TheVariants as outcome
-use Rattle.volume_step.proofs.Fewer.{none_lacks}
+use Rattle.volume_space.proofs.FewerEdits.{none_lacks}
 use Rattle.volume_step.proofs.Judged.{three_of}
 use Rattle.volume_step.proofs.Ready.{catalog_node, load_low, of_cost}
 

@@ -187,7 +187,7 @@ pub fn step<P: SectorSpace>(
     // Told, the line's entry is one of a run, with what it changed for watchers.
     ensures answered { IsTrue (P.SectorView.space space.old).tells → IfOk result (λ outcome. StepsTo outcome (capacity_of volume.old) number command.now (P.SectorView.space space.old).content (P.SectorView.space space.new).content) }
     // No commit comes first where the command reads alone; nor where it puts no data into a file, and what it costs of the blocks that may be taken
-    // is a load that the room suffices for (a tree that grows ahead of it has fewer than eight extents); nor where it puts data, and that is met.
+    // is a load that the room suffices for (each overflow record of a tree that grows ahead of it has an extent in use); nor where it puts data, and that is met.
     ensures ready { IsTrue (P.SectorView.space space.old).tells → (only_reads command.now ≡ true) ⊎ (IsReady command.now volume.old (P.SectorView.space space.old) ⊎ PutsNow command.now volume.old (P.SectorView.space space.old)) → IfOk result (λ it. it ≢ outcome.CommitFirst) }
     // The journal lies where it lay, and the header is one of the same volume.
     ensures place { IsTrue (P.SectorView.space space.old).tells → OnOk result (KeepsJournal (P.SectorView.space space.old).content (P.SectorView.space space.new).content) }
