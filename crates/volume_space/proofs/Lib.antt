@@ -100,6 +100,7 @@ pub mod SpreadFile
 pub mod SpreadForks
 pub mod SpreadNumbers
 pub mod SpreadRoom
+pub mod SpreadSpent
 pub mod SpreadStands
 pub mod SpreadStored
 pub mod SpreadTrees

@@ -19,7 +19,7 @@ use Rattle.hfs_volume.specs.Records.{Overflow, overflow_of}
 use Rattle.overflow.specs.Changes.{changes_to, same_extents, same_list}
 use Rattle.overflow.specs.Reading.{HasExtents, overflow_in_store}
 use Rattle.overflow.specs.Records.{eight_at, record_of, records_for, records_from}
-use Rattle.overflow.specs.Room.{HasStoreRoom, edits_for}
+use Rattle.overflow.specs.Room.{HasStoreRoom, changes_for, edits_for}
 use Rattle.overflow.specs.declared.changes.Change.{Change}
 use Rattle.overflow.specs.declared.record.OverflowRecord.{OverflowRecord}
 use Rattle.overflow.proofs.Cutting.{AreUsed, eight_full, eight_used}
@@ -204,23 +204,42 @@ module _ (store : Store) (id kind : ℕ) (other : id ≢ extents_id) (list : Lis
       (few_filled list new now_used same (omega (arith, long_is)) (omega (arith, long_is)) records 8 (length (blocks_of front)) (pairs_eight id kind (pairs_of store)) (subst (λ b. GoOn (length (blocks_of front)) b records) full go) (sym place_is ∙ before) behind_it least long_is filled).1)
       (λ none short filled. let no_part : parts_for (length new - 8) 8 ≡ 0 = omega (arith, short, long_is) in subst (λ n. length (changes_to [] (records_from n 8 new)) ≤ 1) (sym no_part) (omega arith))
 
+  -- of the list itself, each of whose extents has blocks
+  abbrev changes_on : List Extent → List Change
+  changes_on l = changes_to (map record_of records) (records_for l)
+
+  used_on : (P : List Change → Type 0) → P (changes_on new) → P (changes_for store id kind (join list (run ∷ [])))
+  used_on P here = subst (λ (l : List Extent). P (changes_on l)) (sym (all_in_use new now_used)) here
+
+  -- a run behind the list is one edit, or two changes at most, of which none adds a record
+  run_changes : (edits_for store id kind (join list (run ∷ [])) ≤ 1) ⊎ AreFew 2 (changes_for store id kind (join list (run ∷ [])))
+  run_changes = ⊎_elim
+      (λ more. inl (used_on (λ cs. length cs ≤ 1) (one_edit more)))
+      (λ goes. inr (used_on (AreFew 2) (light_edits goes.0 goes.1)))
+      (joined_so list run)
+
+  -- two edits at most
+  pub two_edits : edits_for store id kind (join list (run ∷ [])) ≤ 2
+  two_edits = ⊎_elim (λ one. omega (arith, one)) (λ few_changes. few_changes.1) run_changes
+
+  -- and one where each record has an extent in use
+  pub filled_edit : length records ≡ parts_for (length list - 8) 8 → edits_for store id kind (join list (run ∷ [])) ≤ 1
+  filled_edit filled = used_on (λ cs. length cs ≤ 1) (⊎_elim (λ more. one_edit more) (λ goes. filled_edits goes.0 goes.1 filled) (joined_so list run))
+
   pub room_for_run : IsTrue store.tells → EditRoom 1 10 store → (length records ≡ parts_for (length list - 8) 8) ⊎ HasRoom (2 * edit_writes store.shape.depth) store → HasStoreRoom store id kind (join list (run ∷ []))
   room_for_run tells one room = ⊎_elim
-      (λ more. inl (by_one (one_edit more)))
-      (λ goes. ⊎_elim
-      (λ filled. inl (by_one (filled_edits goes.0 goes.1 filled)))
-      (λ light.
-      let changes : AreFew 2 (changes_to (map record_of records) (records_for (in_use new))) = subst (λ (l : List Extent). AreFew 2 (changes_to (map record_of records) (records_for l))) (sym (all_in_use new now_used)) (light_edits goes.0 goes.1) in
-      inr (record {
+      (λ filled. inl (by_one (filled_edit filled)))
+      (λ light. ⊎_elim
+      (λ less. inl (by_one less))
+      (λ changes. inr (record {
         light = changes.0;
-        writes = omega (arith, light, mul-le-mul_right {m = length (changes_to (map record_of records) (records_for (in_use new)))} {n = 2} (edit_writes store.shape.depth) changes.1);
+        writes = omega (arith, light, mul-le-mul_right {m = edits_for store id kind (join list (run ∷ []))} {n = 2} (edit_writes store.shape.depth) changes.1);
       }))
-      room)
-      (joined_so list run)
+      run_changes)
+      room
     where
       -- one change has room
-      by_one : length (changes_to (map record_of records) (records_for new)) ≤ 1 → EditRoom (edits_for store id kind new) 10 store
-      by_one few_changes =
-          let less : edits_for store id kind new ≤ 1 = subst (λ (l : List Extent). length (changes_to (map record_of records) (records_for l)) ≤ 1) (sym (all_in_use new now_used)) few_changes in
-          let sum : 1 ≡ edits_for store id kind new + (1 - edits_for store id kind new) = omega (arith, less) in
-          room_first (edits_for store id kind new) (1 - edits_for store id kind new) 10 store (λ told. subst (λ n. EditRoom n 10 store) sum one) tells
+      by_one : edits_for store id kind (join list (run ∷ [])) ≤ 1 → EditRoom (edits_for store id kind (join list (run ∷ []))) 10 store
+      by_one less =
+          let sum : 1 ≡ edits_for store id kind (join list (run ∷ [])) + (1 - edits_for store id kind (join list (run ∷ []))) = omega (arith, less) in
+          room_first (edits_for store id kind (join list (run ∷ []))) (1 - edits_for store id kind (join list (run ∷ []))) 10 store (λ told. subst (λ n. EditRoom n 10 store) sum one) tells

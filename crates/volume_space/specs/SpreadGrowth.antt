@@ -17,11 +17,11 @@ use Rattle.hfs_volume.specs.Forks.{per_block_of, extents_of, extents_id, catalog
 use Rattle.volume_base.specs.Lists.{lists_of}
 use Rattle.volume_base.specs.Room.{room_on}
 use Rattle.volume_base.specs.declared.room.FreeBlocks.TheVariants as blocks
-use Rattle.volume_space.specs.Growing.{GrowthFits, HasFreeRun, TakesRun, blocks_filled, growth_load}
+use Rattle.volume_space.specs.Growing.{GrowthFits, HasFreeRun, TakesRun, blocks_filled, growth_load, growth_room}
 use Rattle.volume_space.specs.Recording.{AreFilled}
 use Rattle.volume_space.specs.declared.ahead.WhichTree.{WhichTree}
 use Rattle.volume_space.specs.declared.ahead.WhichTree.TheVariants as which
-use Rattle.volume_space.specs.Spreading.{is_met_extents, needs_extents}
+use Rattle.volume_space.specs.Spreading.{edits_load, is_met_extents, needs_extents}
 use Rattle.volume_base.specs.Standing.{AreWhole, HoldsTrees, IsKeptAside, blocks_end, file_sectors, own_sectors}
 use Rattle.volume_base.specs.declared.volume.Volume.{Volume}
 
@@ -113,3 +113,9 @@ pub record TakesBlocks (count : ℕ) (old new : Volume) : Type 0 where
   pub run : Extent
   pub takes : TakesRun count run old.map new.map
   pub block : new.header.block_size ≡ old.header.block_size
+
+-- ---- what it puts
+
+-- the sectors that the growth of a tree by so many nodes puts at most, with so many edits of the extents overflow file
+abbrev pub growth_room_with : ℕ → WhichTree → ℕ → Volume → ℕ
+growth_room_with edits tree more volume = growth_room tree more volume + edits_load volume.extents.file.shape edits

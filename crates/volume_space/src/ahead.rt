@@ -5,8 +5,8 @@ ghost use Rattle.alloc_bitmap.specs.Map.{none};
 ghost use Rattle.flag_rows.specs.Bits.{sectors_for};
 ghost use Rattle.btree_edit.specs.Causes.{HasTroubleCause};
 ghost use Rattle.hfs_volume.specs.Aside.{IsJournalSector};
-ghost use Rattle.volume_space.specs.Growing.{GoesAhead, GrowthFits, IsOwnOrFree, WantsFirst, file_of, growth_room};
-ghost use Rattle.volume_space.specs.SpreadGrowth.{SpreadGrowthFits};
+ghost use Rattle.volume_space.specs.Growing.{GoesAhead, GrowthFits, HasFilledRecords, IsOwnOrFree, WantsFirst, file_of, growth_room};
+ghost use Rattle.volume_space.specs.SpreadGrowth.{SpreadGrowthFits, growth_room_with};
 ghost use Rattle.volume_base.specs.Service.{IsInService};
 ghost use Rattle.volume_space.specs.Standing.{HoldsOn};
 ghost use Rattle.volume_base.specs.Standing.{IsSettled, StandsOver};
@@ -97,6 +97,8 @@ fn grow_catalog_kept<P: SectorSpace>(
     ensures touches { (committed : Content) → Touches committed (IsOwnOrFree volume.old) (P.SectorView.space space.old) (P.SectorView.space space.new) }
     ensures gained { IsTrue (P.SectorView.space space.old).tells → OnOk result ((s : ℕ) → IsOwnOrFree volume.new s → IsOwnOrFree volume.old s) }
     ensures spent { length volume.old.catalog.file.fork < 8 → (P.SectorView.space space.old).spare ≤ (P.SectorView.space space.new).spare + growth_room which.Catalog more volume.old }
+    ensures spent_any { IsTrue (P.SectorView.space space.old).tells → (P.SectorView.space space.old).spare ≤ (P.SectorView.space space.new).spare + growth_room_with 2 which.Catalog more volume.old }
+    ensures spent_filled { IsTrue (P.SectorView.space space.old).tells → HasFilledRecords which.Catalog volume.old (P.SectorView.space space.old).content → (P.SectorView.space space.old).spare ≤ (P.SectorView.space space.new).spare + growth_room_with 1 which.Catalog more volume.old }
     ensures below { P.SectorView.follows space.old space.new }
     ensures cause { HasTroubleCause (P.SectorView.space space.old).faults (P.SectorView.space space.new).faults result }
 {
@@ -132,6 +134,8 @@ fn grow_attributes_kept<P: SectorSpace>(
     ensures touches { (committed : Content) → Touches committed (IsOwnOrFree volume.old) (P.SectorView.space space.old) (P.SectorView.space space.new) }
     ensures gained { IsTrue (P.SectorView.space space.old).tells → OnOk result ((s : ℕ) → IsOwnOrFree volume.new s → IsOwnOrFree volume.old s) }
     ensures spent { length volume.old.attributes.file.fork < 8 → (P.SectorView.space space.old).spare ≤ (P.SectorView.space space.new).spare + growth_room which.Attributes more volume.old }
+    ensures spent_any { IsTrue (P.SectorView.space space.old).tells → (P.SectorView.space space.old).spare ≤ (P.SectorView.space space.new).spare + growth_room_with 2 which.Attributes more volume.old }
+    ensures spent_filled { IsTrue (P.SectorView.space space.old).tells → HasFilledRecords which.Attributes volume.old (P.SectorView.space space.old).content → (P.SectorView.space space.old).spare ≤ (P.SectorView.space space.new).spare + growth_room_with 1 which.Attributes more volume.old }
     ensures below { P.SectorView.follows space.old space.new }
     ensures cause { HasTroubleCause (P.SectorView.space space.old).faults (P.SectorView.space space.new).faults result }
 {
@@ -183,6 +187,10 @@ pub fn grow_tree<P: SectorSpace>(
     ensures gained { IsTrue (P.SectorView.space space.old).tells → OnOk result ((s : ℕ) → IsOwnOrFree volume.new s → IsOwnOrFree volume.old s) }
     // Of a file without overflow records it takes no more of the room for puts than such a growth puts at most.
     ensures spent { length (file_of tree volume.old).fork < 8 → (P.SectorView.space space.old).spare ≤ (P.SectorView.space space.new).spare + growth_room tree more volume.old }
+    // Of any file, told, no more than that and what the load counts for two edits of the extents overflow file; for one, where each overflow record of
+    // its fork has an extent in use.
+    ensures spent_any { IsTrue (P.SectorView.space space.old).tells → (P.SectorView.space space.old).spare ≤ (P.SectorView.space space.new).spare + growth_room_with 2 tree more volume.old }
+    ensures spent_filled { IsTrue (P.SectorView.space space.old).tells → HasFilledRecords tree volume.old (P.SectorView.space space.old).content → (P.SectorView.space space.old).spare ≤ (P.SectorView.space space.new).spare + growth_room_with 1 tree more volume.old }
     ensures below { P.SectorView.follows space.old space.new }
     ensures cause { HasTroubleCause (P.SectorView.space space.old).faults (P.SectorView.space space.new).faults result }
 {

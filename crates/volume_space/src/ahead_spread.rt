@@ -1,5 +1,5 @@
 //! A catalog or an attributes file whose fork has eight extents or more, which grows ahead of a command or of a step of reclaiming.
-ghost use Rattle.std.specs.Prelude.{◌≡◌, ℕ, IsTrue, IfOk, OnOk, length};
+ghost use Rattle.std.specs.Prelude.{◌≡◌, ◌≤◌, ◌+◌, ℕ, IsTrue, IfOk, OnOk, length};
 ghost use Rattle.sector_disk.specs.Lists.{Content};
 ghost use Rattle.alloc_bitmap.specs.Map.{none};
 ghost use Rattle.flag_rows.specs.Bits.{sectors_for};
@@ -14,7 +14,7 @@ ghost use Rattle.volume_base.specs.Service.{IsInService};
 ghost use Rattle.volume_space.specs.Standing.{HoldsOn};
 ghost use Rattle.volume_base.specs.Standing.{IsSettled, StandsOver};
 ghost use Rattle.volume_base.specs.Touching.{Touches};
-ghost use Rattle.volume_space.specs.SpreadGrowth.{SpreadFits};
+ghost use Rattle.volume_space.specs.SpreadGrowth.{SpreadFits, growth_room_with};
 ghost use Rattle.volume_space.specs.declared.ahead.Growth.TheVariants as growing;
 ghost use Rattle.volume_space.specs.declared.ahead.WhichTree.TheVariants as which;
 
@@ -57,6 +57,8 @@ fn grow_catalog_recorded<P: SectorSpace>(
     ensures same { (volume.new.private ≡ volume.old.private) × (volume.new.shrunk ≡ volume.old.shrunk) × (volume.new.capacity ≡ volume.old.capacity) }
     ensures touches { (committed : Content) → Touches committed (IsOwnOrFree volume.old) (P.SectorView.space space.old) (P.SectorView.space space.new) }
     ensures gained { IsTrue (P.SectorView.space space.old).tells → OnOk result ((s : ℕ) → IsOwnOrFree volume.new s → IsOwnOrFree volume.old s) }
+    ensures spent_any { IsTrue (P.SectorView.space space.old).tells → (P.SectorView.space space.old).spare ≤ (P.SectorView.space space.new).spare + growth_room_with 2 which.Catalog more volume.old }
+    ensures spent_filled { IsTrue (P.SectorView.space space.old).tells → AreFilled (lists_of volume.old (P.SectorView.space space.old).content) catalog_id (length volume.old.catalog.file.fork) → (P.SectorView.space space.old).spare ≤ (P.SectorView.space space.new).spare + growth_room_with 1 which.Catalog more volume.old }
     ensures below { P.SectorView.follows space.old space.new }
     ensures cause { HasTroubleCause (P.SectorView.space space.old).faults (P.SectorView.space space.new).faults result }
 {
@@ -95,6 +97,8 @@ pub(crate) fn grow_catalog_of_eight<P: SectorSpace>(
     ensures same { (volume.new.private ≡ volume.old.private) × (volume.new.shrunk ≡ volume.old.shrunk) × (volume.new.capacity ≡ volume.old.capacity) }
     ensures touches { (committed : Content) → Touches committed (IsOwnOrFree volume.old) (P.SectorView.space space.old) (P.SectorView.space space.new) }
     ensures gained { IsTrue (P.SectorView.space space.old).tells → OnOk result ((s : ℕ) → IsOwnOrFree volume.new s → IsOwnOrFree volume.old s) }
+    ensures spent_any { IsTrue (P.SectorView.space space.old).tells → (P.SectorView.space space.old).spare ≤ (P.SectorView.space space.new).spare + growth_room_with 2 which.Catalog more volume.old }
+    ensures spent_filled { IsTrue (P.SectorView.space space.old).tells → AreFilled (lists_of volume.old (P.SectorView.space space.old).content) catalog_id (length volume.old.catalog.file.fork) → (P.SectorView.space space.old).spare ≤ (P.SectorView.space space.new).spare + growth_room_with 1 which.Catalog more volume.old }
     ensures below { P.SectorView.follows space.old space.new }
     ensures cause { HasTroubleCause (P.SectorView.space space.old).faults (P.SectorView.space space.new).faults result }
 {
@@ -128,6 +132,8 @@ fn grow_attributes_recorded<P: SectorSpace>(
     ensures same { (volume.new.private ≡ volume.old.private) × (volume.new.shrunk ≡ volume.old.shrunk) × (volume.new.capacity ≡ volume.old.capacity) }
     ensures touches { (committed : Content) → Touches committed (IsOwnOrFree volume.old) (P.SectorView.space space.old) (P.SectorView.space space.new) }
     ensures gained { IsTrue (P.SectorView.space space.old).tells → OnOk result ((s : ℕ) → IsOwnOrFree volume.new s → IsOwnOrFree volume.old s) }
+    ensures spent_any { IsTrue (P.SectorView.space space.old).tells → (P.SectorView.space space.old).spare ≤ (P.SectorView.space space.new).spare + growth_room_with 2 which.Attributes more volume.old }
+    ensures spent_filled { IsTrue (P.SectorView.space space.old).tells → AreFilled (lists_of volume.old (P.SectorView.space space.old).content) attributes_id (length volume.old.attributes.file.fork) → (P.SectorView.space space.old).spare ≤ (P.SectorView.space space.new).spare + growth_room_with 1 which.Attributes more volume.old }
     ensures below { P.SectorView.follows space.old space.new }
     ensures cause { HasTroubleCause (P.SectorView.space space.old).faults (P.SectorView.space space.new).faults result }
 {
@@ -167,6 +173,8 @@ pub(crate) fn grow_attributes_of_eight<P: SectorSpace>(
     ensures same { (volume.new.private ≡ volume.old.private) × (volume.new.shrunk ≡ volume.old.shrunk) × (volume.new.capacity ≡ volume.old.capacity) }
     ensures touches { (committed : Content) → Touches committed (IsOwnOrFree volume.old) (P.SectorView.space space.old) (P.SectorView.space space.new) }
     ensures gained { IsTrue (P.SectorView.space space.old).tells → OnOk result ((s : ℕ) → IsOwnOrFree volume.new s → IsOwnOrFree volume.old s) }
+    ensures spent_any { IsTrue (P.SectorView.space space.old).tells → (P.SectorView.space space.old).spare ≤ (P.SectorView.space space.new).spare + growth_room_with 2 which.Attributes more volume.old }
+    ensures spent_filled { IsTrue (P.SectorView.space space.old).tells → AreFilled (lists_of volume.old (P.SectorView.space space.old).content) attributes_id (length volume.old.attributes.file.fork) → (P.SectorView.space space.old).spare ≤ (P.SectorView.space space.new).spare + growth_room_with 1 which.Attributes more volume.old }
     ensures below { P.SectorView.follows space.old space.new }
     ensures cause { HasTroubleCause (P.SectorView.space space.old).faults (P.SectorView.space space.new).faults result }
 {

@@ -21,8 +21,10 @@ ghost use Rattle.overflow.specs.Records.{eight_at};
 ghost use Rattle.volume_space.specs.Growing.{HeadGrows, IsOwnOrFree, KeepsForks, Lengthens, blocks_filled, nodes_load, run_load};
 ghost use Rattle.volume_space.specs.Mapping.{changed_sectors};
 ghost use Rattle.volume_space.specs.Recording.{AreFilled};
-ghost use Rattle.volume_space.specs.SpreadGrowth.{CanGrowSpread, GoesOnInRun, HasRoomBehind, StandsButOver, TakesBlocks};
+ghost use Rattle.volume_space.specs.SpreadGrowth.{CanGrowSpread, GoesOnInRun, HasRoomBehind, StandsButOver, TakesBlocks, growth_room_with};
+ghost use Rattle.volume_space.specs.Spreading.{edits_load};
 ghost use Rattle.volume_space.specs.Standing.{HoldsOn};
+ghost use Rattle.volume_space.specs.declared.ahead.WhichTree.TheVariants as which;
 ghost use Rattle.volume_base.specs.Lists.{lists_of};
 ghost use Rattle.volume_base.specs.Service.{IsInService};
 ghost use Rattle.volume_base.specs.Spreading.{StoresFork};
@@ -107,6 +109,9 @@ fn store_catalog_run<P: SectorSpace>(
     ensures follows { FollowsOn volume.old.extents.file volume.new.extents.file (P.SectorView.space space.old) (P.SectorView.space space.new) }
     ensures tree { IsTrue (P.SectorView.space space.old).tells → OnOk result (HoldsTree extents_form IsExtentKey is_eight_extents extent_cmp volume.new.extents.file (P.SectorView.space space.new).content) }
     ensures stores { IsTrue (P.SectorView.space space.old).tells → OnOk result (StoresFork catalog_id data_kind volume.old.catalog.file.fork (pairs_in (sectors_of_tree volume.old.extents.file) (P.SectorView.space space.old).content) (pairs_in (sectors_of_tree volume.old.extents.file) (P.SectorView.space space.new).content)) }
+    // Told, it puts no more than the load counts for two edits of the extents overflow file, and for one where each overflow record has an extent in use.
+    ensures spent_any { IsTrue (P.SectorView.space space.old).tells → (P.SectorView.space space.old).spare ≤ (P.SectorView.space space.new).spare + edits_load volume.old.extents.file.shape 2 }
+    ensures spent_filled { IsTrue (P.SectorView.space space.old).tells → AreFilled (lists_of volume.old (P.SectorView.space space.old).content) catalog_id (length before.now) → (P.SectorView.space space.old).spare ≤ (P.SectorView.space space.new).spare + edits_load volume.old.extents.file.shape 1 }
     ensures below { P.SectorView.follows space.old space.new }
     ensures cause { HasTroubleCause (P.SectorView.space space.old).faults (P.SectorView.space space.new).faults result }
 {
@@ -160,6 +165,9 @@ pub(crate) fn grow_catalog_spread<P: SectorSpace>(
     ensures touches { (committed : Content) → Touches committed (λ s. Contains (own_sectors volume.new) s) (P.SectorView.space space.old) (P.SectorView.space space.new) }
     // What is its own besides lies in blocks that were free.
     ensures gained { IsTrue (P.SectorView.space space.old).tells → (s : ℕ) → Contains (own_sectors volume.new) s → IsOwnOrFree volume.old s }
+    // Told, it puts no more than such a growth with two edits of the extents overflow file, and with one where each overflow record has an extent in use.
+    ensures spent_any { IsTrue (P.SectorView.space space.old).tells → (P.SectorView.space space.old).spare ≤ (P.SectorView.space space.new).spare + growth_room_with 2 which.Catalog more volume.old }
+    ensures spent_filled { IsTrue (P.SectorView.space space.old).tells → AreFilled (lists_of volume.old (P.SectorView.space space.old).content) catalog_id (length volume.old.catalog.file.fork) → (P.SectorView.space space.old).spare ≤ (P.SectorView.space space.new).spare + growth_room_with 1 which.Catalog more volume.old }
     ensures below { P.SectorView.follows space.old space.new }
     ensures cause { HasTroubleCause (P.SectorView.space space.old).faults (P.SectorView.space space.new).faults result }
 {

@@ -7,6 +7,7 @@ use Rattle.volume_base.specs.declared.volume.Volume.{Volume}
 use Rattle.volume_space.proofs.Filled.{short_fits}
 use Rattle.volume_space.proofs.GrownAhead.{gained_before}
 use Rattle.volume_space.proofs.Sounding.{sound_here}
+use Rattle.volume_space.proofs.SpreadSpent.{spent_more}
 use Rattle.volume_space.proofs.WhenKept.{touches_those}
 use Rattle.hx_bytes.specs.declared.extents.Extent.{Extent}
 use Rattle.volume_space.specs.declared.ahead.WhichTree.TheVariants as which
@@ -54,3 +55,21 @@ returns-then-not-can_grow_attributes-clause-spread g c tells fits =
 
 pub returns-then-len-ge8-clause-spread : goal.returns-then-len-ge8-clause-spread
 returns-then-len-ge8-clause-spread g c tells fits = c.grow_attributes_of_eight.ensures.sure tells fits.1.0 fits.1.1
+
+pub returns-clause-spent_any : goal.returns-clause-spent_any
+returns-clause-spent_any g c tells = spent_more 2 which.Attributes c.args.more c.args.volume.now (g.P.SectorView.space c.args.space.now) (g.P.SectorView.space c.grow_attributes.new.space) c.grow_attributes.ensures.spent
+
+pub returns-clause-spent_filled : goal.returns-clause-spent_filled
+returns-clause-spent_filled g c tells filled = spent_more 1 which.Attributes c.args.more c.args.volume.now (g.P.SectorView.space c.args.space.now) (g.P.SectorView.space c.grow_attributes.new.space) c.grow_attributes.ensures.spent
+
+pub returns-in_err-grow_attributes-clause-spent_any : goal.returns-in_err-grow_attributes-clause-spent_any
+returns-in_err-grow_attributes-clause-spent_any g c tells = spent_more 2 which.Attributes c.args.more c.args.volume.now (g.P.SectorView.space c.args.space.now) (g.P.SectorView.space c.grow_attributes.new.space) c.grow_attributes.ensures.spent
+
+pub returns-in_err-grow_attributes-clause-spent_filled : goal.returns-in_err-grow_attributes-clause-spent_filled
+returns-in_err-grow_attributes-clause-spent_filled g c tells filled = spent_more 1 which.Attributes c.args.more c.args.volume.now (g.P.SectorView.space c.args.space.now) (g.P.SectorView.space c.grow_attributes.new.space) c.grow_attributes.ensures.spent
+
+pub returns-then-len-ge8-clause-spent_any : goal.returns-then-len-ge8-clause-spent_any
+returns-then-len-ge8-clause-spent_any g c tells = c.grow_attributes_of_eight.ensures.spent_any tells
+
+pub returns-then-len-ge8-clause-spent_filled : goal.returns-then-len-ge8-clause-spent_filled
+returns-then-len-ge8-clause-spent_filled g c tells filled = c.grow_attributes_of_eight.ensures.spent_filled tells filled

@@ -7,11 +7,12 @@ use Rattle.hfs_volume.specs.Forks.{catalog_id, data_kind, parts_for}
 use Rattle.overflow.specs.Reading.{HasExtents}
 use Rattle.volume_base.specs.Lists.{lists_of}
 use Rattle.volume_base.specs.declared.volume.Volume.{Volume}
-use Rattle.volume_space.specs.SpreadGrowth.{SpreadFits}
+use Rattle.volume_space.specs.SpreadGrowth.{SpreadFits, growth_room_with}
 use Rattle.volume_space.specs.Growing.{GoesAhead}
 use Rattle.volume_space.specs.declared.ahead.WhichTree.TheVariants as which
 use Rattle.volume_space.proofs.Filled.{catalog_has, closed_read, filled_read, fits_read, gained_behind, touches_behind, touches_looked, unchanged_read}
 use Rattle.volume_space.proofs.KeptUsed.{used_read}
+use Rattle.volume_space.proofs.SpreadSpent.{room_read, spent_behind}
 use Rattle.volume_space.proofs.ahead_spread.grow_catalog_of_eight.Goals as goal
 
 pub are_filled-requires-clause-file : goal.are_filled-requires-clause-file
@@ -72,3 +73,23 @@ returns-clause-sure g c tells filled fits =
     c.grow_catalog_recorded.ensures.sure (c.are_filled.ensures.reads.looks.same.tells ∙ tells) is
     (subst (λ (w : Volume). SpreadFits c.args.more w.catalog.file w.header.catalog_fork w (g.P.SectorView.space c.are_filled.new.space)) (sym c.are_filled.ensures.rest)
     (fits_read c.args.more c.args.volume.now.catalog.file c.args.volume.now.header.catalog_fork c.args.volume.now c.are_filled.new.volume.extents (g.P.SectorView.space c.args.space.now) (g.P.SectorView.space c.are_filled.new.space) c.are_filled.ensures.reads.keeps.extents.file c.are_filled.ensures.reads.looks.spare fits))
+
+pub returns-clause-spent_any : goal.returns-clause-spent_any
+returns-clause-spent_any g c tells =
+    spent_behind (growth_room_with 2 which.Catalog c.args.more c.args.volume.now) (growth_room_with 2 which.Catalog c.args.more c.are_filled.new.volume) (g.P.SectorView.space c.args.space.now) (g.P.SectorView.space c.are_filled.new.space) (g.P.SectorView.space c.grow_catalog_recorded.new.space)
+    (room_read 2 which.Catalog c.args.more c.args.volume.now c.are_filled.new.volume c.are_filled.ensures.rest c.are_filled.ensures.reads.keeps.extents.file.shape (λ same. cc same)) c.are_filled.ensures.reads.looks.spare
+    (c.grow_catalog_recorded.ensures.spent_any (c.are_filled.ensures.reads.looks.same.tells ∙ tells))
+
+pub returns-clause-spent_filled : goal.returns-clause-spent_filled
+returns-clause-spent_filled g c tells filled =
+    spent_behind (growth_room_with 1 which.Catalog c.args.more c.args.volume.now) (growth_room_with 1 which.Catalog c.args.more c.are_filled.new.volume) (g.P.SectorView.space c.args.space.now) (g.P.SectorView.space c.are_filled.new.space) (g.P.SectorView.space c.grow_catalog_recorded.new.space)
+    (room_read 1 which.Catalog c.args.more c.args.volume.now c.are_filled.new.volume c.are_filled.ensures.rest c.are_filled.ensures.reads.keeps.extents.file.shape (λ same. cc same)) c.are_filled.ensures.reads.looks.spare
+    (c.grow_catalog_recorded.ensures.spent_filled (c.are_filled.ensures.reads.looks.same.tells ∙ tells)
+    (filled_read c.args.volume.now c.are_filled.new.volume (g.P.SectorView.space c.args.space.now) (g.P.SectorView.space c.are_filled.new.space) c.are_filled.ensures.reads tells (c.requires.settled tells) (c.are_filled.ensures.settled tells) catalog_id c.args.volume.now.catalog.file.fork c.are_filled.new.volume.catalog.file.fork
+    (ap (λ (u : Volume). u.catalog.file.fork) c.are_filled.ensures.rest) filled))
+
+pub returns-in_err-filled-clause-spent_any : goal.returns-in_err-filled-clause-spent_any
+returns-in_err-filled-clause-spent_any g c tells = omega (arith, c.are_filled.ensures.reads.looks.spare)
+
+pub returns-in_err-filled-clause-spent_filled : goal.returns-in_err-filled-clause-spent_filled
+returns-in_err-filled-clause-spent_filled g c tells filled = omega (arith, c.are_filled.ensures.reads.looks.spare)

@@ -47,3 +47,15 @@ returns-then-not-can_grow_spread-clause-sure g c tells filled fits =
     let measured = is_measured_told c.args.volume.now (g.P.SectorView.space c.args.space.now) was (c.requires.settled tells) blocks.Takable in
     let inside = blocks_inside c.args.volume.now (g.P.SectorView.space c.args.space.now) c.args.volume.now.catalog.file.per_block was (g.met.P.SectorView.well_formed c.args.space.now tells) was.forks.catalog_per in
     absurd (true≢false (sym (c.if-not-can_grow_spread.ensures.fits filled measured fits inside)))
+
+pub returns-clause-spent_any : goal.returns-clause-spent_any
+returns-clause-spent_any g c tells = c.grow_catalog_spread.ensures.spent_any tells
+
+pub returns-clause-spent_filled : goal.returns-clause-spent_filled
+returns-clause-spent_filled g c tells filled = c.grow_catalog_spread.ensures.spent_filled tells filled
+
+pub returns-in_err-grow_catalog_spread-clause-spent_any : goal.returns-in_err-grow_catalog_spread-clause-spent_any
+returns-in_err-grow_catalog_spread-clause-spent_any g c tells = c.grow_catalog_spread.ensures.spent_any tells
+
+pub returns-in_err-grow_catalog_spread-clause-spent_filled : goal.returns-in_err-grow_catalog_spread-clause-spent_filled
+returns-in_err-grow_catalog_spread-clause-spent_filled g c tells filled = c.grow_catalog_spread.ensures.spent_filled tells filled

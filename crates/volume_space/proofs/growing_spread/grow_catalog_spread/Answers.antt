@@ -9,8 +9,10 @@ use Rattle.hx_bytes.specs.declared.faults.Trouble.{Trouble}
 use Rattle.btree_file.specs.State.{sectors_of_tree}
 use Rattle.volume_space.specs.Growing.{blocks_filled, run_load}
 use Rattle.volume_space.specs.Mapping.{changed_sectors}
+use Rattle.volume_space.specs.Spreading.{edits_load}
 use Rattle.volume_space.specs.Standing.{HoldsOn}
 use Rattle.volume_base.specs.Standing.{attribute_sectors, map_sectors, own_sectors}
+use Rattle.volume_base.specs.declared.volume.Tree.{Tree}
 use Rattle.volume_base.specs.declared.volume.Volume.{Volume}
 use Rattle.volume_base.proofs.Commanding.{touches_both}
 use Rattle.volume_base.proofs.Seeing.{cause_on}
@@ -285,3 +287,27 @@ returns-in_err-lengthen_catalog_spread-clause-cause g c = let p = err_from_is_er
 
 pub returns-in_err-store_catalog_run-clause-cause : goal.returns-in_err-store_catalog_run-clause-cause
 returns-in_err-store_catalog_run-clause-cause g c = let p = err_from_is_err_and c.from_residual-in_err-store_catalog_run.result c.from_residual-in_err-store_catalog_run.ensures.1 in cause_on c.in_err-store_catalog_run.field-0.0 p.0 (g.P.SectorView.space c.args.space.now).faults (g.P.SectorView.space c.lengthen_catalog_spread.new.space).faults (g.P.SectorView.space c.store_catalog_run.new.space).faults c.from_residual-in_err-store_catalog_run.result p.1 p.2 c.lengthen_catalog_spread.ensures.cause.later c.in_err-store_catalog_run.ensures.cause
+
+pub returns-clause-spent_any : goal.returns-clause-spent_any
+returns-clause-spent_any g c tells = omega (arith, c.lengthen_catalog_spread.ensures.spent, c.store_catalog_run.ensures.spent_any ((c.lengthen_catalog_spread.ensures.touches []).same.tells ∙ tells), ap (λ (t : Tree). edits_load t.file.shape 2) c.lengthen_catalog_spread.ensures.extents, c.put_map.ensures.spent, c.put_header.ensures.spent, count_by-le-length (λ (s : ℕ). not ((g.P.SectorView.space c.store_catalog_run.new.space).put s)) (changed_sectors c.store_catalog_run.new.volume), same_map c.lengthen_catalog_spread.new.volume c.store_catalog_run.new.volume c.store_catalog_run.ensures.rest, c.in_ok-lengthen_catalog_spread.ensures.map)
+
+pub returns-then-spare-sectors-clause-spent_any : goal.returns-then-spare-sectors-clause-spent_any
+returns-then-spare-sectors-clause-spent_any g c tells = omega (arith, c.lengthen_catalog_spread.ensures.spent, c.store_catalog_run.ensures.spent_any ((c.lengthen_catalog_spread.ensures.touches []).same.tells ∙ tells), ap (λ (t : Tree). edits_load t.file.shape 2) c.lengthen_catalog_spread.ensures.extents)
+
+pub returns-in_err-store_catalog_run-clause-spent_any : goal.returns-in_err-store_catalog_run-clause-spent_any
+returns-in_err-store_catalog_run-clause-spent_any g c tells = omega (arith, c.lengthen_catalog_spread.ensures.spent, c.store_catalog_run.ensures.spent_any ((c.lengthen_catalog_spread.ensures.touches []).same.tells ∙ tells), ap (λ (t : Tree). edits_load t.file.shape 2) c.lengthen_catalog_spread.ensures.extents)
+
+pub returns-in_err-lengthen_catalog_spread-clause-spent_any : goal.returns-in_err-lengthen_catalog_spread-clause-spent_any
+returns-in_err-lengthen_catalog_spread-clause-spent_any g c tells = omega (arith, c.lengthen_catalog_spread.ensures.spent)
+
+pub returns-clause-spent_filled : goal.returns-clause-spent_filled
+returns-clause-spent_filled g c tells filled = omega (arith, c.lengthen_catalog_spread.ensures.spent, c.store_catalog_run.ensures.spent_filled ((c.lengthen_catalog_spread.ensures.touches []).same.tells ∙ tells) (filled_later catalog_id (lists_of c.args.volume.now (g.P.SectorView.space c.args.space.now).content) (lists_of c.lengthen_catalog_spread.new.volume (g.P.SectorView.space c.lengthen_catalog_spread.new.space).content) c.args.volume.now.catalog.file.fork c.in_ok-before.before (c.in_ok-before.ensures ∙ c.fork.ensures) (c.in_ok-lengthen_catalog_spread.ensures.overflow tells) filled), ap (λ (t : Tree). edits_load t.file.shape 1) c.lengthen_catalog_spread.ensures.extents, c.put_map.ensures.spent, c.put_header.ensures.spent, count_by-le-length (λ (s : ℕ). not ((g.P.SectorView.space c.store_catalog_run.new.space).put s)) (changed_sectors c.store_catalog_run.new.volume), same_map c.lengthen_catalog_spread.new.volume c.store_catalog_run.new.volume c.store_catalog_run.ensures.rest, c.in_ok-lengthen_catalog_spread.ensures.map)
+
+pub returns-then-spare-sectors-clause-spent_filled : goal.returns-then-spare-sectors-clause-spent_filled
+returns-then-spare-sectors-clause-spent_filled g c tells filled = omega (arith, c.lengthen_catalog_spread.ensures.spent, c.store_catalog_run.ensures.spent_filled ((c.lengthen_catalog_spread.ensures.touches []).same.tells ∙ tells) (filled_later catalog_id (lists_of c.args.volume.now (g.P.SectorView.space c.args.space.now).content) (lists_of c.lengthen_catalog_spread.new.volume (g.P.SectorView.space c.lengthen_catalog_spread.new.space).content) c.args.volume.now.catalog.file.fork c.in_ok-before.before (c.in_ok-before.ensures ∙ c.fork.ensures) (c.in_ok-lengthen_catalog_spread.ensures.overflow tells) filled), ap (λ (t : Tree). edits_load t.file.shape 1) c.lengthen_catalog_spread.ensures.extents)
+
+pub returns-in_err-store_catalog_run-clause-spent_filled : goal.returns-in_err-store_catalog_run-clause-spent_filled
+returns-in_err-store_catalog_run-clause-spent_filled g c tells filled = omega (arith, c.lengthen_catalog_spread.ensures.spent, c.store_catalog_run.ensures.spent_filled ((c.lengthen_catalog_spread.ensures.touches []).same.tells ∙ tells) (filled_later catalog_id (lists_of c.args.volume.now (g.P.SectorView.space c.args.space.now).content) (lists_of c.lengthen_catalog_spread.new.volume (g.P.SectorView.space c.lengthen_catalog_spread.new.space).content) c.args.volume.now.catalog.file.fork c.in_ok-before.before (c.in_ok-before.ensures ∙ c.fork.ensures) (c.in_ok-lengthen_catalog_spread.ensures.overflow tells) filled), ap (λ (t : Tree). edits_load t.file.shape 1) c.lengthen_catalog_spread.ensures.extents)
+
+pub returns-in_err-lengthen_catalog_spread-clause-spent_filled : goal.returns-in_err-lengthen_catalog_spread-clause-spent_filled
+returns-in_err-lengthen_catalog_spread-clause-spent_filled g c tells filled = omega (arith, c.lengthen_catalog_spread.ensures.spent)

@@ -18,6 +18,7 @@ use Rattle.volume_space.proofs.ExtentsEdited.{own_edited, serves_edited, touches
 use Rattle.volume_space.proofs.SpreadEdited.{open_but, stands_stored, stores_used, used_in_run}
 use Rattle.volume_space.proofs.Filled.{filled_in_store}
 use Rattle.volume_space.proofs.SpreadRoom.{room_for_run}
+use Rattle.volume_space.proofs.SpreadSpent.{one_stored, two_stored}
 use Rattle.volume_space.proofs.growing_spread.store_catalog_run.Goals as goal
 
 -- what is said of an answer holds of none
@@ -92,3 +93,15 @@ returns-in_err-store_records-clause-service g c = serves_edited c.args.volume.no
 
 pub returns-in_err-store_records-clause-own : goal.returns-in_err-store_records-clause-own
 returns-in_err-store_records-clause-own g c = own_edited c.args.volume.now (g.P.SectorView.space c.args.space.now) (g.P.SectorView.space c.store_records.new.space) (record { file = c.store_records.new.tree; desk = c.store_records.new.desk }) c.store_records.ensures.frame
+
+pub returns-clause-spent_any : goal.returns-clause-spent_any
+returns-clause-spent_any g c tells = c.store_records.ensures.spent tells 2 (two_stored c.args.volume.now (g.P.SectorView.space c.args.space.now) catalog_id (λ same. absurd (omega (arith, same))) c.args.before.now c.args.volume.now.catalog.file.fork (c.requires.but tells).trees.extents (c.requires.records tells) (c.requires.longer tells) c.fork-list.result.now c.fork-list.ensures)
+
+pub returns-clause-spent_filled : goal.returns-clause-spent_filled
+returns-clause-spent_filled g c tells filled = c.store_records.ensures.spent tells 1 (one_stored c.args.volume.now (g.P.SectorView.space c.args.space.now) catalog_id (λ same. absurd (omega (arith, same))) c.args.before.now c.args.volume.now.catalog.file.fork (c.requires.but tells).trees.extents (c.requires.records tells) (c.requires.longer tells) c.fork-list.result.now c.fork-list.ensures filled)
+
+pub returns-in_err-store_records-clause-spent_any : goal.returns-in_err-store_records-clause-spent_any
+returns-in_err-store_records-clause-spent_any g c tells = c.store_records.ensures.spent tells 2 (two_stored c.args.volume.now (g.P.SectorView.space c.args.space.now) catalog_id (λ same. absurd (omega (arith, same))) c.args.before.now c.args.volume.now.catalog.file.fork (c.requires.but tells).trees.extents (c.requires.records tells) (c.requires.longer tells) c.fork-list.result.now c.fork-list.ensures)
+
+pub returns-in_err-store_records-clause-spent_filled : goal.returns-in_err-store_records-clause-spent_filled
+returns-in_err-store_records-clause-spent_filled g c tells filled = c.store_records.ensures.spent tells 1 (one_stored c.args.volume.now (g.P.SectorView.space c.args.space.now) catalog_id (λ same. absurd (omega (arith, same))) c.args.before.now c.args.volume.now.catalog.file.fork (c.requires.but tells).trees.extents (c.requires.records tells) (c.requires.longer tells) c.fork-list.result.now c.fork-list.ensures filled)
