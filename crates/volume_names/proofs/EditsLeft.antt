@@ -155,13 +155,13 @@ left_of_load law edits beside v m large tells records shallow none load =
 
 -- ---- the same of a volume
 
-pub left_updated : (v w : Volume) (a b : Space) (edits beside : ℕ) → 4096 ≤ v.catalog.file.shape.node_size → b.tells ≡ a.tells → TakesUpdates 0 1 516 (state_of [] v.catalog.file a) (state_of [] w.catalog.file b)
+pub left_updated : (v w : Volume) (a b : Space) (edits beside : ℕ) → (IsTrue a.tells → 4096 ≤ v.catalog.file.shape.node_size) → b.tells ≡ a.tells → TakesUpdates 0 1 516 (state_of [] v.catalog.file a) (state_of [] w.catalog.file b)
     → HasEditsLeft edits (catalog_node v + beside) v a → HasEditsLeft edits beside w b
 left_updated v w a b edits beside large same takes had = record {
   told = λ tells_now.
       let tells : IsTrue a.tells = sym same ∙ tells_now in
       let all : edits ≡ 0 + edits = omega arith in
-      left_then v.catalog.file w.catalog.file a b 0 1 edits (catalog_node v + beside) beside large tells takes (omega arith) (subst (λ n. Leaves n (catalog_node v + beside) v.catalog.file a) all (had.told tells));
+      left_then v.catalog.file w.catalog.file a b 0 1 edits (catalog_node v + beside) beside (large tells) tells takes (omega arith) (subst (λ n. Leaves n (catalog_node v + beside) v.catalog.file a) all (had.told tells));
 }
 
 -- fewer sectors beside them

@@ -19,7 +19,6 @@ ghost use Rattle.volume_base.specs.Standing.{IsSettled, StandsOver, own_sectors}
 ghost use Rattle.volume_base.specs.Touching.{Touches};
 
 use crate::making::add_new;
-use crate::updating::replace;
 use cat_records::{CatRecord, EntryFields, FolderRecord};
 use hfs_volume::header_may_change;
 use hx_bytes::Trouble;
@@ -90,7 +89,7 @@ fn put_recounted<P: SectorSpace>(
     let Some(rec) = recounted(up, &entry.rec) else {
         return Ok(());
     };
-    replace(volume, alloc, space, entry, &rec)
+    volume.replace(alloc, space, entry, &rec)
 }
 
 /// Lets the folder with a CNID count so many entries more that users don't see: its dates stay. The volume stands as before,

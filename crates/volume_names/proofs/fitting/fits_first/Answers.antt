@@ -1,11 +1,10 @@
-use Rattle.std.proofs.Common.{sym, ◌∙◌}
-use Rattle.volume_base.proofs.Replaced.{node_large}
-use Rattle.volume_names.proofs.EditsFit.{nine_fit}
+use Rattle.std.proofs.Common.{sym, ◌∙◌, arith}
+use Rattle.volume_names.proofs.EditsFit.{load_fits}
 use Rattle.volume_names.proofs.fitting.fits_first.Goals as goal
 
 pub returns-clause-load : goal.returns-clause-load
 returns-clause-load g c fits =
-    nine_fit c.a_load_says_enough.ensures c.a_load_is_of_parts.ensures c.args.volume.now (g.P.SectorView.space c.args.space.now) c.requires.settled (λ tells. node_large c.args.volume.now (g.P.SectorView.space c.args.space.now) c.requires.stands tells) (λ tells. sym (c.can_edit.ensures tells) ∙ fits)
+    load_fits c.a_load_says_enough.ensures c.a_load_is_of_parts.ensures c.args.volume.now (g.P.SectorView.space c.args.space.now) c.requires.settled (record { ids = 3; catalog = 9; attributes = 0; updates = 4 }) _ (λ tells. omega arith) (λ tells. sym (c.can_edit.ensures tells) ∙ fits)
 
 pub returns-clause-met : goal.returns-clause-met
 returns-clause-met g c tells met = c.can_edit.ensures tells ∙ met
