@@ -1,6 +1,6 @@
 -- The load of edits of the catalog, by what they cost.
-use Rattle.std.proofs.Common.{◌≡◌, ◌<◌, ◌≤◌, ℕ, ◌+◌, ◌*◌, ◌^◌, false, arith}
-use Rattle.std.specs.Prelude.{nat_le, nat_lt, IsTrue}
+use Rattle.std.proofs.Common.{◌≡◌, ◌<◌, ◌≤◌, ℕ, ◌+◌, ◌*◌, ◌^◌, true, false, not, sym, ◌∙◌, ap, arith}
+use Rattle.std.specs.Prelude.{◌==◌, ◌&&◌, ◌||◌, nat_le, nat_lt, IsTrue}
 use Rattle.std.proofs.lemmas.Bool.{ltb-false}
 use Rattle.sector_disk.specs.Space.{Space}
 use Rattle.hfs_volume.specs.Content.{volume_of}
@@ -25,15 +25,19 @@ module _ (says : LoadSaysEnough) (of_parts : LoadIsOfParts) (v : Volume) (a : Sp
   abbrev Meets : Edits → Type 0
   Meets asked = IsTrue a.tells → is_met (cost_of (needs_asked asked) (room_with (capacity_of v) (free_in blocks.Takable v.map) (volume_of a.content))) a.spare ≡ true
 
-  -- a tree that isn't too deep for edits has fewer records than fit
-  few_records : (edits : ℕ) (tree : TreeCost) → is_too_deep catalog_key tree edits ≡ false → tree.records < 2 ^ 32
-  few_records edits tree is = omega (arith, ltb-false 4294967295 (tree.records + edits) (third_low (nat_le 8 tree.depth) (nat_lt 11 (depth_of tree + 1 + rises catalog_key tree edits)) (nat_lt 4294967295 (tree.records + edits)) is))
+  -- a tree that isn't too deep for some edits has fewer records than fit
+  few_records : (edits : ℕ) (tree : TreeCost) → (edits == 0) ≡ false → is_too_deep catalog_key tree edits ≡ false → tree.records < 2 ^ 32
+  few_records edits tree some is =
+      let low = nat_le 8 tree.depth in
+      let high = nat_lt 11 (depth_of tree + 1 + rises catalog_key tree edits) in
+      let full = nat_lt 4294967295 (tree.records + edits) in
+      omega (arith, ltb-false 4294967295 (tree.records + edits) (third_low low high full (sym (ap (λ none. not none && (low || high || full)) some) ∙ is)))
 
   -- the load has room beside the header's sector and the nodes of the updates
-  pub load_fits : (asked : Edits) (beside : ℕ) → (IsTrue a.tells → beside ≤ 1 + asked.updates * catalog_node v) → Meets asked → HasLoadFor asked.catalog beside v a
-  load_fits asked beside fits ok = record {
+  pub load_fits : (asked : Edits) (beside : ℕ) → (asked.catalog == 0) ≡ false → (IsTrue a.tells → beside ≤ 1 + asked.updates * catalog_node v) → Meets asked → HasLoadFor asked.catalog beside v a
+  load_fits asked beside some fits ok = record {
     shallow = λ tells. (catalog says of_parts v a (settled tells) asked (ok tells)).shallow;
-    records = λ tells. few_records asked.catalog (catalog_cost v) (catalog says of_parts v a (settled tells) asked (ok tells)).shallow;
+    records = λ tells. few_records asked.catalog (catalog_cost v) some (catalog says of_parts v a (settled tells) asked (ok tells)).shallow;
     grown = λ tells. (catalog says of_parts v a (settled tells) asked (ok tells)).none;
     load = λ tells. omega (arith, (catalog says of_parts v a (settled tells) asked (ok tells)).load, fits tells);
   }
