@@ -1,5 +1,5 @@
 -- `at`: with another moment in its header, and the header put, the volume is settled again, and its tree is the step's.
-use Rattle.std.proofs.Common.{◌≡◌, ℕ, refl, sym, ◌∙◌, ap, subst}
+use Rattle.std.proofs.Common.{◌≡◌, ℕ, sym, ◌∙◌, ap, subst}
 use Rattle.std.specs.Prelude.{Ok}
 use Rattle.sector_disk.specs.Space.{Space}
 use Rattle.hfs_language.specs.declared.command.Command.TheVariants as command

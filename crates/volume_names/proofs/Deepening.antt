@@ -1,5 +1,5 @@
 -- How deep edits may make a tree at most.
-use Rattle.std.proofs.Common.{◌<◌, ◌≤◌, ℕ, zero, suc, ◌+◌, ◌*◌, Bool, true, false, arith}
+use Rattle.std.proofs.Common.{◌≤◌, ℕ, zero, suc, ◌+◌, ◌*◌, Bool, true, false, arith}
 use Rattle.std.specs.Prelude.{nat_lt, if◌then◌else◌}
 use Rattle.btree_edit.specs.Edits.{TreeTop, tops, top_after}
 

@@ -1,27 +1,22 @@
 -- Attributes dropped one after another, by their names: what is left, and the room for the next.
-use Rattle.std.proofs.Common.{◌≡◌, ◌⊎◌, inl, inr, ◌<◌, ◌≤◌, ℕ, zero, suc, ◌+◌, ◌-◌, ◌/◌, Bool, true, false, List, [], ◌∷◌, ◌++◌, length, map, get_or, min, refl, sym, ◌∙◌, ap, subst, arith}
+use Rattle.std.proofs.Common.{◌≡◌, ◌⊎◌, inl, inr, ◌<◌, ◌≤◌, ℕ, zero, suc, ◌+◌, ◌-◌, Bool, true, false, List, [], ◌∷◌, ◌++◌, length, map, get_or, refl, sym, ◌∙◌, ap, subst, arith}
 use Rattle.std.specs.Prelude.{slice_index, slice_index_or, IsTrue, Contains, ◌==◌, ◌&&◌, not, if◌then◌else◌}
 use Rattle.std.specs.Str.{bytes_eq}
-use Rattle.std.specs.List.{range_with_len}
 use Rattle.std.proofs.lemmas.Bool.{cases_eq, true≢false}
 use Rattle.std.proofs.lemmas.List.{get_or_default}
-use Rattle.std.proofs.lemmas.List.FromFn.{length-range_with_len}
-use Rattle.std.proofs.lemmas.List.Sums.{count_by-le-length}
 use Rattle.std.proofs.lemmas.Slice.Eq.{bytes_eq-Decides}
-use Rattle.std.proofs.Math.Nat.{le-div_iff_mul-le}
 use Rattle.sector_disk.specs.Space.{Space}
 use Rattle.btree_node.specs.Keys.{IsAttrKey, attr_cmp, anything}
 use Rattle.btree_node.specs.Levels.{Pair}
 use Rattle.btree_node.specs.Store.{SameStore, Store}
 use Rattle.btree_node.specs.Tree.{pairs_of}
 use Rattle.btree_node.specs.TreeFile.{attributes_form}
-use Rattle.btree_edit.specs.Editing.{edit_writes}
-use Rattle.btree_edit.specs.Edits.{EditRoom, TakesAtMost, TakesEdits}
+use Rattle.btree_edit.specs.Edits.{TakesAtMost, TakesEdits}
 use Rattle.btree_edit.proofs.EditLaws.{edits_add, takes_both, takes_fewer, takes_none}
 use Rattle.btree_file.specs.Frame.{FollowsOn}
 use Rattle.btree_file.specs.FrameLaws.{same_sectors}
 use Rattle.btree_file.specs.Standing.{HoldsTree, LiesInside, LiesOpen, pairs_in}
-use Rattle.btree_file.specs.State.{is_written, sectors_of_tree, state_of}
+use Rattle.btree_file.specs.State.{sectors_of_tree, state_of}
 use Rattle.btree_file.specs.Map.{is_reserved}
 use Rattle.btree_file.specs.declared.tree.TreeFile.{TreeFile}
 use Rattle.btree_file.proofs.StandingLaws.{pairs_held, tree_held}

@@ -1,173 +1,43 @@
 -- The load of edits of the catalog, by what they cost.
-use Rattle.std.proofs.Common.{◌≡◌, ◌<◌, ◌≤◌, ℕ, ◌+◌, ◌-◌, ◌*◌, ◌/◌, ◌^◌, Bool, true, false, List, refl, sym, ◌∙◌, ap, subst, arith}
-use Rattle.std.specs.Prelude.{◌==◌, ◌&&◌, nat_le, nat_lt, slice_index, IsTrue, if◌then◌else◌}
-use Rattle.std.proofs.lemmas.Bool.{ltb-false, and_parts, eqb-true, leb-true, true≢false}
+use Rattle.std.proofs.Common.{◌≡◌, ◌<◌, ◌≤◌, ℕ, ◌+◌, ◌*◌, ◌^◌, true, false, not, sym, ◌∙◌, ap, arith}
+use Rattle.std.specs.Prelude.{◌==◌, ◌&&◌, ◌||◌, nat_le, nat_lt, IsTrue}
+use Rattle.std.proofs.lemmas.Bool.{ltb-false}
 use Rattle.sector_disk.specs.Space.{Space}
-use Rattle.hfs_volume.specs.Content.{TreeFacts, VolumeState, has_attributes, volume_of}
-use Rattle.hfs_volume.specs.Cost.{attributes_key, catalog_key, cost_of, depth_of, rises, growth, growth_for, is_too_deep, node_sectors, no_tree, plan_of, tree_at, tree_load}
-use Rattle.hfs_volume.specs.Forks.{attributes_id, catalog_id}
-use Rattle.hfs_volume.specs.Weight.{Edits as Asked, cost_of_tree, extents_in_use, room_with}
-use Rattle.hfs_volume.specs.declared.cost.Cost.{Cost}
-use Rattle.hfs_volume.specs.declared.cost.Cost.TheVariants as cost
-use Rattle.hfs_volume.specs.declared.cost.Needs.{Needs}
-use Rattle.hfs_volume.specs.declared.cost.Room.{Room}
+use Rattle.hfs_volume.specs.Content.{volume_of}
+use Rattle.hfs_volume.specs.Cost.{catalog_key, cost_of, depth_of, is_too_deep, rises}
+use Rattle.hfs_volume.specs.Weight.{room_with}
 use Rattle.hfs_volume.specs.declared.cost.TreeCost.{TreeCost}
-use Rattle.volume_header.specs.declared.header.VolumeHeader.{VolumeHeader}
-use Rattle.tree_weights.specs.Weights.{IsAfforded, LoadIsOfParts, LoadSaysEnough, load_at}
-use Rattle.volume_base.specs.Attributing.{HasRoomToMark}
-use Rattle.volume_base.specs.Changing.{HasRoomToUpdate}
-use Rattle.volume_base.specs.Fitting.{AreMet, is_met}
-use Rattle.volume_base.specs.Lists.{facts_on}
-use Rattle.volume_base.specs.Making.{HasRoomToMake}
-use Rattle.volume_base.specs.Moving.{HasRoomToMove}
-use Rattle.volume_base.specs.Sharing.{HasRoomToShare}
-use Rattle.volume_base.specs.Unlinking.{HasRoomToUnlinkLast}
-use Rattle.volume_base.specs.Removing.{HasRoomToBare, HasRoomToRemove}
+use Rattle.tree_weights.specs.Weights.{LoadIsOfParts, LoadSaysEnough}
+use Rattle.volume_base.specs.Changing.{catalog_node}
+use Rattle.volume_base.specs.Fitting.{is_met}
+use Rattle.volume_base.specs.Making.{catalog_cost}
 use Rattle.volume_base.specs.Room.{capacity_of, free_in}
 use Rattle.volume_base.specs.declared.room.FreeBlocks.TheVariants as blocks
 use Rattle.volume_base.specs.Standing.{IsSettled}
 use Rattle.volume_base.specs.Weighing.{needs_asked}
 use Rattle.volume_base.specs.declared.volume.Volume.{Volume}
-use Rattle.volume_base.specs.Changing.{catalog_node}
-use Rattle.volume_base.specs.Making.{catalog_cost}
+use Rattle.volume_base.specs.declared.weighing.Edits.{Edits}
+use Rattle.volume_base.proofs.Fitted.{catalog}
 use Rattle.volume_base.proofs.MakeRoom.{third_low}
 use Rattle.volume_names.specs.EditsLeft.{HasLoadFor}
-use Rattle.volume_base.specs.declared.weighing.Edits.{Edits}
-
--- ---- a cost that is met
-
-record IsMet (cost_ : Cost) (spare : ℕ) : Type 0 where
-  load : ℕ
-  grow : List ℕ
-  is : cost_ ≡ cost.Load load grow
-  catalog : slice_index grow 1 ≡ 0
-  attributes : slice_index grow 2 ≡ 0
-  fits : load ≤ spare
-
-met : (cost_ : Cost) (spare : ℕ) → is_met cost_ spare ≡ true → IsMet cost_ spare
-met (cost.Refused why) spare is = absurd (true≢false (sym is))
-met (cost.Load load grow) spare is =
-    let first = and_parts (slice_index grow 1 == 0) ((slice_index grow 2 == 0) && nat_le load spare) is in
-    let second = and_parts (slice_index grow 2 == 0) (nat_le load spare) first.1 in
-    record {
-      load = load;
-      grow = grow;
-      is = refl;
-      catalog = eqb-true (slice_index grow 1) 0 first.0;
-      attributes = eqb-true (slice_index grow 2) 0 second.0;
-      fits = leb-true load spare second.1;
-    }
-
--- ---- the trees of a volume
-
-module _ (capacity : ℕ) (free : List Bool) (volume : VolumeState) where
-  block_is : (room_with capacity free volume).block ≡ volume.head.block_size
-  unfolding room_with
-  block_is = refl
-
-  id_is : (room_with capacity free volume).next_id ≡ volume.head.next_catalog_id
-  unfolding room_with
-  id_is = refl
-
-  catalog_is : tree_at (room_with capacity free volume) 1 ≡ cost_of_tree volume.catalog_tree (extents_in_use volume catalog_id volume.head.catalog_fork)
-  unfolding room_with
-  catalog_is = refl
-
--- growth doesn't hang on the extents of a tree
-growth_alike : (block key edits : ℕ) (tree : TreeFacts) (extents : ℕ) → growth block key (cost_of_tree tree extents) edits ≡ growth block key (cost_of_tree tree 0) edits
-unfolding growth_for
-growth_alike block key edits tree extents = refl
-
--- what is known of one tree whose edits are afforded
-record IsRoomy (block key edits spare others : ℕ) (tree : TreeFacts) : Type 0 where
-  shallow : is_too_deep key (cost_of_tree tree 0) edits ≡ false
-  none : growth block key (cost_of_tree tree 0) edits ≡ 0
-  load : others + tree_load key (cost_of_tree tree 0) edits 0 ≤ spare
-
-roomy : (block key edits spare others extents more : ℕ) (tree : TreeFacts) (cost_ : TreeCost) → cost_ ≡ cost_of_tree tree extents → is_too_deep key cost_ edits ≡ false → growth block key cost_ edits ≡ 0 → more ≡ 0
-    → others + tree_load key cost_ edits more ≤ spare → IsRoomy block key edits spare others tree
-roomy block key edits spare others extents more tree cost_ is shallow none no_more load = record {
-  shallow = subst (λ t. is_too_deep key t edits ≡ false) is shallow;
-  none = sym (growth_alike block key edits tree extents) ∙ subst (λ t. growth block key t edits ≡ 0) is none;
-  load = subst (λ n. others + tree_load key (cost_of_tree tree 0) edits n ≤ spare) no_more (subst (λ t. others + tree_load key t edits more ≤ spare) is load);
-}
-
-module _ (says : LoadSaysEnough) (of_parts : LoadIsOfParts) (v : Volume) (a : Space) (settled : IsSettled v a.content) (asked : Edits)
-    (ok : is_met (cost_of (needs_asked asked) (room_with (capacity_of v) (free_in blocks.Takable v.map) (volume_of a.content))) a.spare ≡ true)
-  where
-    abbrev room : Room
-    room = room_with (capacity_of v) (free_in blocks.Takable v.map) (volume_of a.content)
-
-    abbrev needs : Needs
-    needs = needs_asked asked
-
-    is : IsMet (cost_of needs room) a.spare
-    is = met (cost_of needs room) a.spare ok
-
-    afforded : IsAfforded needs room is.load is.grow
-    afforded = says needs room is.load is.grow is.is
-
-    parts : 1 + asked.updates * node_sectors (tree_at room 1) + load_at needs room 0 + load_at needs room 1 + load_at needs room 2 ≤ a.spare
-    parts = let it = of_parts needs room is.load is.grow afforded in omega (arith, it, is.fits)
-
-    same_catalog : (volume_of a.content).catalog_tree ≡ facts_on v.catalog.file
-    same_catalog = ap (λ (l : VolumeState). l.catalog_tree) settled.lists
-
-    same_head : (volume_of a.content).head ≡ v.header
-    same_head = ap (λ (l : VolumeState). l.head) settled.lists
-
-    node_is : node_sectors (tree_at room 1) ≡ v.catalog.file.shape.node_size / 512
-    node_is = ap (λ (t : TreeCost). t.node_size / 512) (catalog_is (capacity_of v) (free_in blocks.Takable v.map) (volume_of a.content)) ∙ ap (λ (t : TreeFacts). t.shape.node_size / 512) same_catalog
-
-    nodes_are : asked.updates * node_sectors (tree_at room 1) ≡ asked.updates * (v.catalog.file.shape.node_size / 512)
-    nodes_are = ap (λ n. asked.updates * n) node_is
-
-    no_catalog : slice_index (plan_of needs room).grow 1 ≡ 0
-    no_catalog = sym (ap (λ l. slice_index l 1) afforded.grows) ∙ is.catalog
-
-    catalog : IsRoomy v.header.block_size catalog_key asked.catalog a.spare (1 + asked.updates * (v.catalog.file.shape.node_size / 512)) (facts_on v.catalog.file)
-    catalog =
-        subst (λ (k : TreeFacts × VolumeHeader). IsRoomy k.1.block_size catalog_key asked.catalog a.spare (1 + asked.updates * (v.catalog.file.shape.node_size / 512)) k.0) {x = ((volume_of a.content).catalog_tree, (volume_of a.content).head)} {y = (facts_on v.catalog.file, v.header)}
-        (λ i. (same_catalog i, same_head i))
-        (subst (λ block. IsRoomy block catalog_key asked.catalog a.spare (1 + asked.updates * (v.catalog.file.shape.node_size / 512)) (volume_of a.content).catalog_tree) (block_is (capacity_of v) (free_in blocks.Takable v.map) (volume_of a.content))
-        (roomy room.block catalog_key asked.catalog a.spare (1 + asked.updates * (v.catalog.file.shape.node_size / 512)) _ _ (volume_of a.content).catalog_tree (tree_at room 1) (catalog_is (capacity_of v) (free_in blocks.Takable v.map) (volume_of a.content))
-        afforded.catalog no_catalog no_catalog (omega (arith, parts, nodes_are))))
-
--- ---- the loads of nine, seven and five edits
 
 module _ (says : LoadSaysEnough) (of_parts : LoadIsOfParts) (v : Volume) (a : Space) (settled : IsTrue a.tells → IsSettled v a.content) where
   abbrev Meets : Edits → Type 0
   Meets asked = IsTrue a.tells → is_met (cost_of (needs_asked asked) (room_with (capacity_of v) (free_in blocks.Takable v.map) (volume_of a.content))) a.spare ≡ true
 
-  nine_records : (tree : TreeCost) → is_too_deep catalog_key tree 9 ≡ false → tree.records < 2 ^ 32
-  nine_records tree is = omega (arith, ltb-false 4294967295 (tree.records + 9) (third_low (nat_le 8 tree.depth) (nat_lt 11 (depth_of tree + 1 + rises catalog_key tree 9)) (nat_lt 4294967295 (tree.records + 9)) is))
+  -- a tree that isn't too deep for some edits has fewer records than fit
+  few_records : (edits : ℕ) (tree : TreeCost) → (edits == 0) ≡ false → is_too_deep catalog_key tree edits ≡ false → tree.records < 2 ^ 32
+  few_records edits tree some is =
+      let low = nat_le 8 tree.depth in
+      let high = nat_lt 11 (depth_of tree + 1 + rises catalog_key tree edits) in
+      let full = nat_lt 4294967295 (tree.records + edits) in
+      omega (arith, ltb-false 4294967295 (tree.records + edits) (third_low low high full (sym (ap (λ none. not none && (low || high || full)) some) ∙ is)))
 
-  pub nine_fit : (IsTrue a.tells → 4096 ≤ v.catalog.file.shape.node_size) → Meets (record { ids = 3; catalog = 9; attributes = 0; updates = 4 }) → HasLoadFor 9 (1 + (catalog_node v + 1)) v a
-  nine_fit large ok = record {
-    shallow = λ tells. (catalog says of_parts v a (settled tells) (record { ids = 3; catalog = 9; attributes = 0; updates = 4 }) (ok tells)).shallow;
-    records = λ tells. nine_records (catalog_cost v) (catalog says of_parts v a (settled tells) (record { ids = 3; catalog = 9; attributes = 0; updates = 4 }) (ok tells)).shallow;
-    grown = λ tells. (catalog says of_parts v a (settled tells) (record { ids = 3; catalog = 9; attributes = 0; updates = 4 }) (ok tells)).none;
-    load = λ tells. omega (arith, (catalog says of_parts v a (settled tells) (record { ids = 3; catalog = 9; attributes = 0; updates = 4 }) (ok tells)).load, large tells);
-  }
-
-  seven_records : (tree : TreeCost) → is_too_deep catalog_key tree 7 ≡ false → tree.records < 2 ^ 32
-  seven_records tree is = omega (arith, ltb-false 4294967295 (tree.records + 7) (third_low (nat_le 8 tree.depth) (nat_lt 11 (depth_of tree + 1 + rises catalog_key tree 7)) (nat_lt 4294967295 (tree.records + 7)) is))
-
-  pub seven_fit : Meets (record { ids = 2; catalog = 7; attributes = 0; updates = 4 }) → HasLoadFor 7 1 v a
-  seven_fit ok = record {
-    shallow = λ tells. (catalog says of_parts v a (settled tells) (record { ids = 2; catalog = 7; attributes = 0; updates = 4 }) (ok tells)).shallow;
-    records = λ tells. seven_records (catalog_cost v) (catalog says of_parts v a (settled tells) (record { ids = 2; catalog = 7; attributes = 0; updates = 4 }) (ok tells)).shallow;
-    grown = λ tells. (catalog says of_parts v a (settled tells) (record { ids = 2; catalog = 7; attributes = 0; updates = 4 }) (ok tells)).none;
-    load = λ tells. omega (arith, (catalog says of_parts v a (settled tells) (record { ids = 2; catalog = 7; attributes = 0; updates = 4 }) (ok tells)).load);
-  }
-
-  five_records : (tree : TreeCost) → is_too_deep catalog_key tree 5 ≡ false → tree.records < 2 ^ 32
-  five_records tree is = omega (arith, ltb-false 4294967295 (tree.records + 5) (third_low (nat_le 8 tree.depth) (nat_lt 11 (depth_of tree + 1 + rises catalog_key tree 5)) (nat_lt 4294967295 (tree.records + 5)) is))
-
-  pub five_fit : (IsTrue a.tells → 4096 ≤ v.catalog.file.shape.node_size) → Meets (record { ids = 1; catalog = 5; attributes = 0; updates = 4 }) → HasLoadFor 5 (1 + (catalog_node v + 0)) v a
-  five_fit large ok = record {
-    shallow = λ tells. (catalog says of_parts v a (settled tells) (record { ids = 1; catalog = 5; attributes = 0; updates = 4 }) (ok tells)).shallow;
-    records = λ tells. five_records (catalog_cost v) (catalog says of_parts v a (settled tells) (record { ids = 1; catalog = 5; attributes = 0; updates = 4 }) (ok tells)).shallow;
-    grown = λ tells. (catalog says of_parts v a (settled tells) (record { ids = 1; catalog = 5; attributes = 0; updates = 4 }) (ok tells)).none;
-    load = λ tells. omega (arith, (catalog says of_parts v a (settled tells) (record { ids = 1; catalog = 5; attributes = 0; updates = 4 }) (ok tells)).load, large tells);
+  -- the load has room beside the header's sector and the nodes of the updates
+  pub load_fits : (asked : Edits) (beside : ℕ) → (asked.catalog == 0) ≡ false → (IsTrue a.tells → beside ≤ 1 + asked.updates * catalog_node v) → Meets asked → HasLoadFor asked.catalog beside v a
+  load_fits asked beside some fits ok = record {
+    shallow = λ tells. (catalog says of_parts v a (settled tells) asked (ok tells)).shallow;
+    records = λ tells. few_records asked.catalog (catalog_cost v) some (catalog says of_parts v a (settled tells) asked (ok tells)).shallow;
+    grown = λ tells. (catalog says of_parts v a (settled tells) asked (ok tells)).none;
+    load = λ tells. omega (arith, (catalog says of_parts v a (settled tells) asked (ok tells)).load, fits tells);
   }

@@ -1,6 +1,6 @@
 -- What is left of the room for edits of the catalog behind edits, updates, reads and a put of the header.
-use Rattle.std.proofs.Common.{◌≡◌, ◌<◌, ◌≤◌, ◌≢◌, ℕ, zero, suc, ◌+◌, ◌-◌, ◌*◌, ◌/◌, ◌^◌, ◌++◌, Bool, true, false, not, cond, List, [], ◌∷◌, length, min, max, refl, sym, ◌∙◌, ap, subst, arith, ⊎_elim}
-use Rattle.std.specs.Prelude.{IsTrue, nat_le, nat_lt}
+use Rattle.std.proofs.Common.{◌≡◌, ◌<◌, ◌≤◌, ℕ, zero, suc, ◌+◌, ◌-◌, ◌*◌, ◌/◌, ◌^◌, Bool, true, false, not, cond, List, [], ◌∷◌, length, min, max, refl, sym, ◌∙◌, ap, subst, arith, ⊎_elim}
+use Rattle.std.specs.Prelude.{IsTrue, if◌then◌else◌, nat_le, nat_lt}
 use Rattle.std.specs.List.{Contains, list_all, count_by, range_with_len}
 use Rattle.std.proofs.Math.Nat.{le-div_iff_mul-le, mul-le-mul_right}
 use Rattle.std.proofs.lemmas.Bool.{cases_lt, ltb-false}
@@ -11,10 +11,10 @@ use Rattle.btree_node.specs.Levels.{Nodes}
 use Rattle.btree_node.specs.Node.{items}
 use Rattle.btree_node.specs.Store.{Store, SameStore, unwritten_sectors}
 use Rattle.btree_node.specs.declared.store.TreeShape.{TreeShape}
-use Rattle.btree_edit.specs.Editing.{CostsAtMost, edit_writes}
+use Rattle.btree_edit.specs.Editing.{edit_writes}
 use Rattle.btree_edit.specs.Edits.{EditRoom, TakesAtMost, TakesEdits, tops}
 use Rattle.btree_edit.specs.LevelEdit.{node_room}
-use Rattle.btree_edit.proofs.EditLaws.{deep_first, deep_then}
+use Rattle.btree_edit.proofs.EditLaws.{deep_first, deep_then, room_first}
 use Rattle.catalog.specs.Rooms.{TakesUpdates}
 use Rattle.catalog.proofs.RoomLaws.{edits_are}
 use Rattle.btree_file.specs.FrameLaws.{follows_none, state_well_formed}
@@ -30,15 +30,17 @@ use Rattle.hfs_volume.specs.declared.cost.TreeCost.{TreeCost}
 use Rattle.tree_weights.specs.Weights.{EditsHaveRoom, EditsTakeTheirLoad, HasGrown, IsWrittenByGrowth}
 use Rattle.volume_base.specs.Making.{catalog_cost}
 use Rattle.volume_base.specs.Moving.{HasRoomToMove}
+use Rattle.volume_base.specs.declared.volume.Tree.{Tree}
 use Rattle.volume_base.specs.declared.volume.Volume.{Volume}
 use Rattle.volume_base.proofs.MakeRoom.{grown, third_low, written}
-use Rattle.volume_base.specs.Changing.{catalog_node}
+use Rattle.volume_base.specs.Changing.{HasRoomToUpdate, HasRoomToUpdates, catalog_node}
 use Rattle.volume_base.specs.Looking.{ReadsVolume}
 use Rattle.volume_base.specs.Standing.{IsStanding}
 use Rattle.hfs_volume.proofs.Members.{first_or_later}
 use Rattle.volume_base.proofs.ListsAfter.{header_apart}
 use Rattle.volume_base.proofs.Over.{sectors_kept}
-use Rattle.volume_names.specs.EditsLeft.{HasEditsLeft, HasLoadFor, Leaves, less_by}
+use Rattle.volume_base.proofs.FoundEntry.{node_still}
+use Rattle.volume_names.specs.EditsLeft.{FirstLinkFits, HasEditsLeft, HasLoadFor, Leaves, less_by, to_put_header}
 
 -- ---- numbers
 
@@ -155,13 +157,13 @@ left_of_load law edits beside v m large tells records shallow none load =
 
 -- ---- the same of a volume
 
-pub left_updated : (v w : Volume) (a b : Space) (edits beside : ℕ) → 4096 ≤ v.catalog.file.shape.node_size → b.tells ≡ a.tells → TakesUpdates 0 1 516 (state_of [] v.catalog.file a) (state_of [] w.catalog.file b)
+pub left_updated : (v w : Volume) (a b : Space) (edits beside : ℕ) → (IsTrue a.tells → 4096 ≤ v.catalog.file.shape.node_size) → b.tells ≡ a.tells → TakesUpdates 0 1 516 (state_of [] v.catalog.file a) (state_of [] w.catalog.file b)
     → HasEditsLeft edits (catalog_node v + beside) v a → HasEditsLeft edits beside w b
 left_updated v w a b edits beside large same takes had = record {
   told = λ tells_now.
       let tells : IsTrue a.tells = sym same ∙ tells_now in
       let all : edits ≡ 0 + edits = omega arith in
-      left_then v.catalog.file w.catalog.file a b 0 1 edits (catalog_node v + beside) beside large tells takes (omega arith) (subst (λ n. Leaves n (catalog_node v + beside) v.catalog.file a) all (had.told tells));
+      left_then v.catalog.file w.catalog.file a b 0 1 edits (catalog_node v + beside) beside (large tells) tells takes (omega arith) (subst (λ n. Leaves n (catalog_node v + beside) v.catalog.file a) all (had.told tells));
 }
 
 -- fewer sectors beside them
@@ -214,38 +216,110 @@ catalog_elsewhere : (v : Volume) (a m : Space) → IsTrue a.tells → IsStanding
 catalog_elsewhere v a m tells was agrees s has =
     ⊎_elim (λ same. same) (λ header. absurd (header_apart v a a v.catalog (follows_none v.catalog.file a) was tells was.trees.catalog (subst (λ n. Contains (sectors_of_tree v.catalog.file) n) (only_two s header) has))) (agrees.each s)
 
-pub room_behind_header : (v : Volume) (a m : Space) → HasEditsLeft 7 1 v a → 4096 ≤ v.catalog.file.shape.node_size → (IsTrue a.tells → IsStanding v a) → PutsWithin (2 ∷ []) a m → a.spare ≤ m.spare + 1 → (names : List ℕ) → IsTrue m.tells
-    → EditRoom 7 516 (state_of names v.catalog.file m)
-room_behind_header v a m had large stands within spent names tells_now =
-    let tells : IsTrue a.tells = sym within.same.tells ∙ tells_now in
-    let sectors = sectors_of_tree v.catalog.file in
-    let nodes : node_in v.catalog.file m.content ≡ node_in v.catalog.file a.content =
-    fun_ext (λ n. same_bytes a.content m.content (sectors_at sectors (v.catalog.file.shape.node_size / 512) n) (λ s c. catalog_elsewhere v a m tells (stands tells) (within.content tells) s (of_fork sectors (v.catalog.file.shape.node_size / 512) n s c))) in
-    room_over 7 names v.catalog.file v.catalog.file (less_by 1 a) m large refl refl nodes within.still_put (omega (arith, spent)) (had.told tells).1
+-- what the edits of a first link leave behind it
+pub left_behind_header : (rest : ℕ) (v w : Volume) (a m : Space) → HasEditsLeft 7 (to_put_header a + rest) v a → 4096 ≤ v.catalog.file.shape.node_size → (IsTrue a.tells → IsStanding v a) → PutsWithin (2 ∷ []) a m → a.spare ≤ m.spare + to_put_header a → w.catalog ≡ v.catalog
+    → HasEditsLeft 7 rest w m
+left_behind_header rest v w a m had large stands within spent same = record {
+  told = λ tells_now.
+      let tells : IsTrue a.tells = sym within.same.tells ∙ tells_now in
+      let sectors = sectors_of_tree v.catalog.file in
+      let nodes : node_in v.catalog.file m.content ≡ node_in v.catalog.file a.content =
+      fun_ext (λ n. same_bytes a.content m.content (sectors_at sectors (v.catalog.file.shape.node_size / 512) n) (λ s c. catalog_elsewhere v a m tells (stands tells) (within.content tells) s (of_fork sectors (v.catalog.file.shape.node_size / 512) n s c))) in
+      let it = had.told tells in
+      subst (λ (t : Tree). Leaves 7 rest t.file m) (sym same) (
+        omega (arith, it.0, spent),
+        room_over 7 [] v.catalog.file v.catalog.file (less_by (to_put_header a + rest) a) (less_by rest m) large refl refl nodes within.still_put (omega (arith, spent)) it.1,
+      );
+}
+
+-- a put of the header takes at most one sector, none where it was put before, and reads leave it at that
+pub to_put_most : (a : Space) → to_put_header a ≤ 1
+to_put_most a = by (a.put 2)
+  where
+    by : (x : Bool) → (if x then 0 else 1) ≤ 1
+    by true = omega arith
+    by false = omega arith
+
+pub header_spent : (a b : Space) → a.spare ≤ b.spare + 1 → (IsTrue (a.put 2) → b.spare ≡ a.spare) → a.spare ≤ b.spare + to_put_header a
+header_spent a b spent again = by (a.put 2) again
+  where
+    by : (x : Bool) → (x ≡ true → b.spare ≡ a.spare) → a.spare ≤ b.spare + (if x then 0 else 1)
+    by true same = omega (arith, same refl)
+    by false same = spent
+
+to_put_still : (a b : Space) → (IsTrue (a.put 2) → IsTrue (b.put 2)) → to_put_header b ≤ to_put_header a
+to_put_still a b so = by (a.put 2) (b.put 2) so
+  where
+    by : (x y : Bool) → (x ≡ true → y ≡ true) → (if y then 0 else 1) ≤ (if x then 0 else 1)
+    by true y it = let is : ◌≡◌ {A = ℕ} (if y then 0 else 1) 0 = ap (λ b. if b then 0 else 1) (it refl) in omega (arith, is)
+    by false true it = omega arith
+    by false false it = omega arith
+
+pub ready_still : (v w : Volume) (a b : Space) → (IsTrue a.tells → 4096 ≤ v.catalog.file.shape.node_size) → ReadsVolume v w a b → FirstLinkFits v a → FirstLinkFits w b
+ready_still v w a b large reads had =
+    let it = left_still v w a b 7 (to_put_header a + 3 * catalog_node v) large reads had in
+    let same : catalog_node w ≡ catalog_node v = node_still v w a b reads in
+    record {
+      told = λ tells_now.
+          let tells : IsTrue a.tells = sym reads.looks.same.tells ∙ tells_now in
+          leaves_less 7 (to_put_header a + 3 * catalog_node v) (to_put_header b + 3 * catalog_node w) w.catalog.file b (omega (arith, large tells, ap (λ (s : TreeShape). s.node_size) reads.keeps.catalog.file.shape))
+          (omega (arith, to_put_still a b (reads.looks.still_put 2), same)) (it.told tells_now);
+    }
+
+-- behind the private folder, whose making put the header
+pub ready_behind : (v w : Volume) (b : Space) → (IsTrue b.tells → IsTrue (b.put 2)) → (IsTrue b.tells → catalog_node w ≡ catalog_node v) → HasEditsLeft 7 (3 * catalog_node v) w b → FirstLinkFits w b
+ready_behind v w b put same =
+    left_as w b 7 (3 * catalog_node v) (to_put_header b + 3 * catalog_node w) (λ tells. let none : ◌≡◌ {A = ℕ} (to_put_header b) 0 = ap (λ x. if x then 0 else 1) (put tells) in omega (arith, none, same tells))
+
+-- ---- room for the first edits and for the updates behind all
+
+pub room_left : (edits more beside : ℕ) (v : Volume) (a : Space) → HasEditsLeft (edits + more) beside v a → (IsTrue a.tells → 4096 ≤ v.catalog.file.shape.node_size) → (names : List ℕ) → IsTrue a.tells → EditRoom edits 516 (state_of names v.catalog.file a)
+room_left edits more beside v a had large names =
+    room_first edits more 516 (state_of names v.catalog.file a) (λ tells. room_over (edits + more) names v.catalog.file v.catalog.file (less_by beside a) a (large tells) refl refl refl (λ s put. put) (omega arith) (had.told tells).1)
+
+pub left_edited : (first others beside : ℕ) (v w : Volume) (a b : Space) → (IsTrue a.tells → 4096 ≤ v.catalog.file.shape.node_size) → b.tells ≡ a.tells → TakesEdits first 516 (state_of [] v.catalog.file a) (state_of [] w.catalog.file b)
+    → HasEditsLeft (first + others) beside v a → HasEditsLeft others beside w b
+left_edited first others beside v w a b large same takes had = record {
+  told = λ tells_now.
+      let tells : IsTrue a.tells = sym same ∙ tells_now in
+      left_then v.catalog.file w.catalog.file a b first 0 others beside beside (large tells) tells (edits_are first 516 (state_of [] v.catalog.file a) (state_of [] w.catalog.file b) takes) (omega arith) (had.told tells);
+}
+
+pub updates_left : (many : ℕ) (v w : Volume) (b : Space) → catalog_node w ≡ catalog_node v → HasEditsLeft 0 (many * catalog_node v) w b → HasRoomToUpdates many w b
+updates_left many v w b same had = record { told = λ tells. subst (λ n. many * n ≤ b.spare) (sym same) (had.told tells).0 }
+
+pub first_update : (many : ℕ) (v : Volume) (a : Space) → HasRoomToUpdates (many + 1) v a → HasRoomToUpdate v a
+first_update many v a had = record {
+  told = λ tells. let whole : (many + 1) * catalog_node v ≡ many * catalog_node v + catalog_node v = omega arith in omega (arith, whole, had.told tells);
+}
 
 -- ---- a file that is put aside
 
-pub room_aside : (v : Volume) (a : Space) → HasEditsLeft 3 0 v a → 4096 ≤ v.catalog.file.shape.node_size → (names : List ℕ) → IsTrue a.tells → EditRoom 3 516 (state_of names v.catalog.file a)
-room_aside v a had large names tells = room_over 3 names v.catalog.file v.catalog.file (less_by 0 a) a large refl refl refl (λ s put. put) (omega arith) (had.told tells).1
+pub room_aside : (beside : ℕ) (v : Volume) (a : Space) → HasEditsLeft 3 beside v a → 4096 ≤ v.catalog.file.shape.node_size → (names : List ℕ) → IsTrue a.tells → EditRoom 3 516 (state_of names v.catalog.file a)
+room_aside beside v a had large names tells = room_over 3 names v.catalog.file v.catalog.file (less_by beside a) a large refl refl refl (λ s put. put) (omega arith) (had.told tells).1
 
-same_aside : (v w : Volume) (a b : Space) → HasEditsLeft 3 0 v a → TakesAtMost 3 516 (state_of [] v.catalog.file a) (state_of [] w.catalog.file b) → IsTrue a.tells → SameStore (state_of [] v.catalog.file a) (state_of [] w.catalog.file b)
-same_aside v w a b had takes tells = let room = (had.told tells).1 in (takes tells room.deepest room.deep).same
+same_aside : (beside : ℕ) (v w : Volume) (a b : Space) → HasEditsLeft 3 beside v a → TakesAtMost 3 516 (state_of [] v.catalog.file a) (state_of [] w.catalog.file b) → IsTrue a.tells → SameStore (state_of [] v.catalog.file a) (state_of [] w.catalog.file b)
+same_aside beside v w a b had takes tells = let room = (had.told tells).1 in (takes tells room.deepest room.deep).same
 
-pub node_aside : (v w : Volume) (a b : Space) → HasEditsLeft 3 0 v a → 4096 ≤ v.catalog.file.shape.node_size → TakesAtMost 3 516 (state_of [] v.catalog.file a) (state_of [] w.catalog.file b) → IsTrue a.tells → catalog_node w ≡ catalog_node v
-node_aside v w a b had large takes tells = ap (λ n. n / 512) (same_aside v w a b had takes tells).node_size
+pub node_aside : (beside : ℕ) (v w : Volume) (a b : Space) → HasEditsLeft 3 beside v a → 4096 ≤ v.catalog.file.shape.node_size → TakesAtMost 3 516 (state_of [] v.catalog.file a) (state_of [] w.catalog.file b) → IsTrue a.tells → catalog_node w ≡ catalog_node v
+node_aside beside v w a b had large takes tells = ap (λ n. n / 512) (same_aside beside v w a b had takes tells).node_size
 
-pub spent_aside : EditsTakeTheirLoad → (v w : Volume) (a b : Space) → HasEditsLeft 3 0 v a → 4096 ≤ v.catalog.file.shape.node_size → TakesAtMost 3 516 (state_of [] v.catalog.file a) (state_of [] w.catalog.file b) → IsTrue a.tells
+pub spent_aside : EditsTakeTheirLoad → (beside : ℕ) (v w : Volume) (a b : Space) → HasEditsLeft 3 beside v a → 4096 ≤ v.catalog.file.shape.node_size → TakesAtMost 3 516 (state_of [] v.catalog.file a) (state_of [] w.catalog.file b) → IsTrue a.tells
     → a.spare ≤ b.spare + tree_load catalog_key (catalog_cost v) 3 0
-spent_aside law v w a b had large takes tells =
+spent_aside law beside v w a b had large takes tells =
     let size : 3 * (516 + 8) ≤ v.catalog.file.shape.node_size - 16 = omega (arith, large) in
-    let it = law catalog_key 3 0 0 (catalog_cost v) (state_of [] v.catalog.file a) (state_of [] w.catalog.file b) tells size (grown v [] a) (written v [] a) (same_aside v w a b had takes tells) takes in
+    let it = law catalog_key 3 0 0 (catalog_cost v) (state_of [] v.catalog.file a) (state_of [] w.catalog.file b) tells size (grown v [] a) (written v [] a) (same_aside beside v w a b had takes tells) takes in
     omega (arith, it)
 
--- where the private folder is there, the room for a move is room for its edits
+pub updates_aside : (many : ℕ) (v w : Volume) (a b : Space) → 4096 ≤ v.catalog.file.shape.node_size → b.tells ≡ a.tells → w.catalog.file.shape.node_size ≡ v.catalog.file.shape.node_size → TakesEdits 3 516 (state_of [] v.catalog.file a) (state_of [] w.catalog.file b)
+    → HasEditsLeft 3 (many * catalog_node v) v a → HasRoomToUpdates many w b
+updates_aside many v w a b large same size takes had = updates_left many v w b (ap (λ n. n / 512) size) (left_edited 3 0 (many * catalog_node v) v w a b (λ tells. large) same takes had)
+
+-- where the private folder is there, the room for a move is room for its edits beside two updates
 three_records : (tree : TreeCost) → is_too_deep catalog_key tree 3 ≡ false → tree.records < 2 ^ 32
 three_records tree is = omega (arith, ltb-false 4294967295 (tree.records + 3) (third_low (nat_le 8 tree.depth) (nat_lt 11 (depth_of tree + 1 + rises catalog_key tree 3)) (nat_lt 4294967295 (tree.records + 3)) is))
 
-pub left_of_move : EditsHaveRoom → (v : Volume) (a : Space) → (IsTrue a.tells → 4096 ≤ v.catalog.file.shape.node_size) → HasRoomToMove v a → HasEditsLeft 3 0 v a
+pub left_of_move : EditsHaveRoom → (v : Volume) (a : Space) → (IsTrue a.tells → 4096 ≤ v.catalog.file.shape.node_size) → HasRoomToMove v a → HasEditsLeft 3 (2 * catalog_node v) v a
 left_of_move law v a large room = record {
-  told = λ tells. let it = room.told tells in left_of_load law 3 0 v a (large tells) tells (three_records (catalog_cost v) it.1) it.1 it.2 (omega (arith, it.0));
+  told = λ tells. let it = room.told tells in left_of_load law 3 (2 * catalog_node v) v a (large tells) tells (three_records (catalog_cost v) it.1) it.1 it.2 (omega (arith, it.0));
 }

@@ -1,7 +1,7 @@
 -- `ln` of a file with one name: behind its move into the private folder, the links at both names, the counts and the file's date the volume is settled
 -- again, and its tree is the step's.
-use Rattle.std.proofs.Common.{◌≡◌, ◌⊎◌, inl, inr, ◌<◌, ◌≤◌, ℕ, ◌+◌, ◌^◌, Bool, true, false, List, [], ◌∷◌, refl, sym, ◌∙◌, ap, subst, arith, ⊎_elim}
-use Rattle.std.specs.Prelude.{Contains, ◌==◌, ◌&&◌, nat_lt, IsTrue, Option, None, Some, is_some, Ok, if◌then◌else◌}
+use Rattle.std.proofs.Common.{◌≡◌, inl, ◌<◌, ◌≤◌, ℕ, ◌+◌, ◌^◌, Bool, true, false, List, [], refl, sym, ◌∙◌, ap, subst, arith, ⊎_elim}
+use Rattle.std.specs.Prelude.{Contains, ◌==◌, ◌&&◌, nat_lt, Option, None, Some, is_some, if◌then◌else◌}
 use Rattle.std.specs.Str.{bytes_eq}
 use Rattle.std.proofs.lemmas.Bool.{and_parts, eqb-true, true≢false}
 use Rattle.std.proofs.lemmas.Slice.Eq.{bytes_eq-Decides}
@@ -20,7 +20,7 @@ use Rattle.catalog.proofs.Beside.{false_so, id_is_used, its_place, left_vacant, 
 use Rattle.catalog.specs.Entries.{RelocatesEntry}
 use Rattle.hard_links.specs.Linking.{link_record}
 use Rattle.hfs_language.specs.declared.command.Command.TheVariants as command
-use Rattle.hfs_model.specs.Step.{is_private_name, journal_info_name, journal_name, private_name, step, to_ln}
+use Rattle.hfs_model.specs.Step.{journal_info_name, journal_name, private_name, step}
 use Rattle.hfs_model.specs.declared.plain.PlainEntry.{PlainEntry}
 use Rattle.hfs_volume.specs.Changes.{AddsEntry, AreSorted, HasSameNodes, InCatalog, MovesEntry}
 use Rattle.hfs_volume.specs.Commands.{ChangesFields, IsMarkedLinked, IsRecounted, IsTouched, entry_in, with_counts}
@@ -28,7 +28,7 @@ use Rattle.hfs_volume.specs.Content.{VolumeState, records_of, volume_of}
 use Rattle.hfs_volume.specs.Entries.{AreThreaded, IsUserId, count_in, is_it}
 use Rattle.hfs_volume.specs.Laws.{IsFolderId, one_if}
 use Rattle.hfs_volume.specs.Links.{folder_id, node_name, private_id}
-use Rattle.hfs_volume.specs.Naming.{IsLinkValue, LinksFirst, LnDoes, private_ids}
+use Rattle.hfs_volume.specs.Naming.{LinksFirst, LnDoes, private_ids}
 use Rattle.hfs_volume.specs.Records.{Placed, entries_of, id_of, is_empty, is_file, is_folder, is_link, is_placed_at, is_thread, placed_in, record_at, special_of, valence_in}
 use Rattle.hfs_volume.specs.Sound.{IsSoundVolume}
 use Rattle.hfs_volume.specs.TreeOf.{file_bytes, id_or_0, is_hidden, shared_file, tree_in, tree_of}

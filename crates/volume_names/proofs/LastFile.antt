@@ -12,7 +12,7 @@ use Rattle.catalog.specs.Pairs.{value_at}
 use Rattle.hard_links.specs.Linking.{NamesLink}
 use Rattle.hard_links.specs.declared.place.EntryAt.{EntryAt}
 use Rattle.hfs_model.specs.declared.plain.PlainEntry.{PlainEntry}
-use Rattle.hfs_volume.specs.Content.{VolumeState, overflow_in_volume, records_of, volume_of}
+use Rattle.hfs_volume.specs.Content.{overflow_in_volume, records_of, volume_of}
 use Rattle.hfs_volume.specs.Entries.{AreThreaded, LiesIn, is_it}
 use Rattle.hfs_volume.specs.Links.{IsGoodLink, private_id}
 use Rattle.hfs_volume.specs.Records.{Placed, entries_of, id_in, id_of, is_empty, is_link, is_placed_at, placed_in, record_at, special_of}

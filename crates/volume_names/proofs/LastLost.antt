@@ -1,6 +1,6 @@
 -- `rm` of a last link: the file waits in the private folder to be removed; the volume is settled again, and its tree is the step's.
-use Rattle.std.proofs.Common.{◌≡◌, ◌⊎◌, inl, inr, ◌<◌, ◌≤◌, ℕ, ◌+◌, ◌-◌, ◌^◌, Bool, true, false, List, [], ◌∷◌, length, refl, sym, ◌∙◌, ap, subst, arith, ⊎_elim}
-use Rattle.std.specs.Prelude.{Contains, ◌==◌, ◌&&◌, IsTrue, Option, None, Some, Ok, find}
+use Rattle.std.proofs.Common.{◌≡◌, inr, ◌<◌, ◌≤◌, ℕ, ◌^◌, Bool, true, false, List, [], ◌∷◌, length, refl, sym, ◌∙◌, ap, subst, arith, ⊎_elim}
+use Rattle.std.specs.Prelude.{Contains, ◌==◌, ◌&&◌, Some}
 use Rattle.std.specs.Str.{bytes_eq}
 use Rattle.std.proofs.Math.Bool.{and-false}
 use Rattle.std.proofs.lemmas.Bool.{and_parts, eqb-true, true≢false}
@@ -19,16 +19,16 @@ use Rattle.hard_links.specs.Linking.{NamesLink}
 use Rattle.hard_links.specs.Orphans.{MakesOrphan, NamesFile}
 use Rattle.hard_links.specs.declared.place.EntryAt.{EntryAt}
 use Rattle.hfs_language.specs.declared.command.Command.TheVariants as command
-use Rattle.hfs_model.specs.Step.{journal_info_name, journal_name, private_name, step, to_rm}
+use Rattle.hfs_model.specs.Step.{journal_info_name, journal_name, private_name, step}
 use Rattle.hfs_model.specs.declared.plain.PlainEntry.{PlainEntry}
-use Rattle.hfs_volume.specs.Changes.{AddsEntry, AreSorted, DropsEntry, HasSameNodes, InCatalog, MovesEntry, thread_with}
+use Rattle.hfs_volume.specs.Changes.{AreSorted, DropsEntry, HasSameNodes, InCatalog, MovesEntry}
 use Rattle.hfs_volume.specs.Commands.{ChangesFields, IsTouched}
 use Rattle.hfs_volume.specs.Content.{VolumeState, records_of, volume_of}
 use Rattle.hfs_volume.specs.Entries.{AreThreaded}
 use Rattle.hfs_volume.specs.Laws.{one_if}
-use Rattle.hfs_volume.specs.Links.{is_link_to, links_to, private_id}
+use Rattle.hfs_volume.specs.Links.{is_link_to, private_id}
 use Rattle.hfs_volume.specs.Naming.{RemovesLastLink, RmDoes, one_file_less, orphan_name}
-use Rattle.hfs_volume.specs.Records.{Placed, entries_of, id_of, is_empty, is_file, is_folder, is_link, is_placed_at, is_thread, placed_in, record_at, special_of}
+use Rattle.hfs_volume.specs.Records.{Placed, entries_of, id_of, is_empty, is_file, is_folder, is_placed_at, is_thread, placed_in, record_at, special_of}
 use Rattle.hfs_volume.specs.Sound.{IsSoundVolume}
 use Rattle.hfs_volume.specs.TreeOf.{file_bytes, tree_in, tree_of}
 use Rattle.hfs_volume.proofs.Ascending.{tree_sorted}

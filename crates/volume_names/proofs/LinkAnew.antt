@@ -1,6 +1,6 @@
 -- `ln` of a file with one name where there was no private folder: the folder was made before, and both changes are one step.
 use Rattle.std.proofs.Common.{◌≡◌, ◌⊎◌, inl, inr, ℕ, ◌+◌, Bool, true, false, List, [], ◌∷◌, refl, sym, ◌∙◌, ap, subst, arith, ⊎_elim}
-use Rattle.std.specs.Prelude.{Contains, ◌==◌, ◌&&◌, ◌||◌, nat_le, Option, None, Some, Result, Ok, Err, is_some}
+use Rattle.std.specs.Prelude.{Contains, ◌==◌, ◌&&◌, ◌||◌, nat_le, Option, Some, Result, Ok, is_some}
 use Rattle.std.specs.Option.{ok_or}
 use Rattle.std.specs.Str.{bytes_eq}
 use Rattle.std.proofs.lemmas.Bool.{and_parts, eqb-true, true≢false}
@@ -13,16 +13,15 @@ use Rattle.hfs_language.specs.declared.refusal.Refusal.{Refusal}
 use Rattle.hfs_language.specs.declared.refusal.Refusal.TheVariants as refusal
 use Rattle.hfs_language.specs.declared.reply.Reply.TheVariants as reply
 use Rattle.hfs_model.specs.Plain.{IsPlainTree, entry_at, is_at, names_of, node_at, with_changed, with_entry}
-use Rattle.hfs_model.specs.Step.{Place, child, drawn, front, is_private_name, is_root, last_name, link_ids, linked, marked, most_links, on, place_in, private_name, reached, root_entry, step, then_, to_link, to_ln, to_make, to_pair, touched, unless, walk, with_private}
+use Rattle.hfs_model.specs.Step.{Place, child, drawn, front, is_private_name, is_root, last_name, link_ids, linked, marked, most_links, on, place_in, private_name, reached, root_entry, step, then_, to_ln, to_make, touched, unless, walk, with_private}
 use Rattle.hfs_model.specs.declared.plain.PlainEntry.{PlainEntry}
 use Rattle.hfs_model.specs.declared.plain.PlainNode.{PlainNode}
 use Rattle.hfs_model.specs.declared.plain.PlainTree.{PlainTree}
 use Rattle.hfs_volume.specs.Books.{SoundHasPlainTree}
 use Rattle.hfs_volume.specs.Content.{VolumeState, records_of, volume_of}
 use Rattle.hfs_volume.specs.Laws.{HeaderChanged}
-use Rattle.hfs_volume.specs.Links.{private_id}
 use Rattle.hfs_volume.specs.Naming.{LinksFirst}
-use Rattle.hfs_volume.specs.Records.{Placed, entries_of, is_empty, is_placed_at, is_thread, placed_in, record_at}
+use Rattle.hfs_volume.specs.Records.{Placed, is_empty, is_placed_at, is_thread, placed_in, record_at}
 use Rattle.hfs_volume.specs.TreeOf.{file_bytes, tree_of}
 use Rattle.hfs_volume.proofs.Flat.{found_some}
 use Rattle.hfs_volume.proofs.Members.{each_of}

@@ -1,7 +1,7 @@
 -- `rm` of a link, where its file has others: behind the removal, the file's count and the folder's the volume is settled again, and its tree is
 -- the step's.
-use Rattle.std.proofs.Common.{◌≡◌, ◌⊎◌, inl, inr, ◌<◌, ◌≤◌, ℕ, ◌+◌, ◌^◌, Bool, true, false, List, [], ◌∷◌, refl, sym, ◌∙◌, ap, subst, arith, ⊎_elim}
-use Rattle.std.specs.Prelude.{Contains, ◌==◌, ◌&&◌, IsTrue, Option, None, Some, Ok, if◌then◌else◌}
+use Rattle.std.proofs.Common.{◌≡◌, inl, inr, ◌<◌, ℕ, ◌+◌, ◌^◌, Bool, true, false, List, [], ◌∷◌, refl, sym, ◌∙◌, ap, subst, arith, ⊎_elim}
+use Rattle.std.specs.Prelude.{Contains, ◌==◌, ◌&&◌, Ok, if◌then◌else◌}
 use Rattle.std.specs.Str.{bytes_eq}
 use Rattle.std.proofs.lemmas.Bool.{and_parts, eqb-true, true≢false}
 use Rattle.std.proofs.lemmas.Slice.Eq.{bytes_eq-Decides}
@@ -23,7 +23,7 @@ use Rattle.hfs_volume.specs.Entries.{AreThreaded, LiesIn, count_in, is_it}
 use Rattle.hfs_volume.specs.Laws.{IsFolderId, one_if}
 use Rattle.hfs_volume.specs.Links.{IsGoodLink, private_id}
 use Rattle.hfs_volume.specs.Naming.{RemovesLink, RmDoes, one_file_less}
-use Rattle.hfs_volume.specs.Records.{Placed, entries_of, id_of, is_empty, is_file, is_folder, is_link, is_placed_at, placed_in, record_at, special_of, valence_in}
+use Rattle.hfs_volume.specs.Records.{Placed, entries_of, id_of, is_empty, is_folder, is_link, is_placed_at, placed_in, record_at, special_of, valence_in}
 use Rattle.hfs_volume.specs.Sound.{IsSoundVolume}
 use Rattle.hfs_volume.specs.TreeOf.{file_bytes, id_or_0, shared_file, tree_in, tree_of}
 use Rattle.hfs_volume.proofs.Bytes.{file_bytes_are}

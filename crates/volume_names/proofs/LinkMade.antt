@@ -1,6 +1,6 @@
 -- `ln` of a file that has links: behind the new link, the file's count and the folder's the volume is settled again, and its tree is the step's.
-use Rattle.std.proofs.Common.{◌≡◌, ◌⊎◌, inl, inr, ◌<◌, ◌≤◌, ℕ, ◌+◌, ◌^◌, Bool, true, false, List, [], ◌∷◌, refl, sym, ◌∙◌, ap, subst, arith, ⊎_elim}
-use Rattle.std.specs.Prelude.{Contains, ◌==◌, ◌&&◌, IsTrue, Option, None, Some, Ok, if◌then◌else◌}
+use Rattle.std.proofs.Common.{◌≡◌, inr, ◌<◌, ℕ, ◌+◌, ◌^◌, Bool, true, false, List, refl, sym, ◌∙◌, ap, subst, arith}
+use Rattle.std.specs.Prelude.{Contains, ◌==◌, None, Ok, if◌then◌else◌}
 use Rattle.std.specs.Str.{bytes_eq}
 use Rattle.std.proofs.lemmas.Bool.{and_parts, eqb-true, true≢false}
 use Rattle.std.proofs.lemmas.Slice.Eq.{bytes_eq-Decides}
@@ -17,7 +17,7 @@ use Rattle.cat_records.specs.declared.record.CatRecord.{CatRecord}
 use Rattle.cat_records.specs.declared.record.CatRecord.TheVariants.{Folder, File, Thread}
 use Rattle.hard_links.specs.Linking.{link_record}
 use Rattle.hfs_language.specs.declared.command.Command.TheVariants as command
-use Rattle.hfs_model.specs.Step.{is_private_name, journal_info_name, journal_name, private_name, step, to_ln}
+use Rattle.hfs_model.specs.Step.{journal_info_name, journal_name, private_name, step, to_ln}
 use Rattle.hfs_model.specs.declared.plain.PlainEntry.{PlainEntry}
 use Rattle.hfs_volume.specs.Changes.{AddsEntry, HasSameNodes, InCatalog, thread_with}
 use Rattle.hfs_volume.specs.Commands.{ChangesFields, IsMarkedLinked, IsTouched, entry_in, with_made}

@@ -1,16 +1,14 @@
 -- The load of `setattr` and `delattr`: a node of the catalog and the edits of the attributes file, which bound what they put.
-use Rattle.std.proofs.Common.{◌≡◌, ◌≤◌, ℕ, ◌+◌, ◌*◌, ◌/◌, Bool, true, false, List, [], ◌∷◌, refl, sym, ◌∙◌, ap, subst, arith}
-use Rattle.std.specs.Prelude.{IsTrue, not, Option, None, Some, slice_index, if◌then◌else◌}
+use Rattle.std.proofs.Common.{◌≡◌, ◌≤◌, ℕ, ◌+◌, ◌*◌, ◌/◌, Bool, true, List, refl, sym, ◌∙◌, ap, subst, arith}
+use Rattle.std.specs.Prelude.{IsTrue, not, None, if◌then◌else◌}
 use Rattle.sector_disk.specs.Lists.{Content}
 use Rattle.hfs_language.specs.declared.command.Command.TheVariants as command
-use Rattle.hfs_language.specs.declared.refusal.Refusal.{Refusal}
 use Rattle.hfs_language.specs.declared.refusal.Refusal.TheVariants as refusal
 use Rattle.hfs_model.specs.declared.plain.PlainTree.{PlainTree}
 use Rattle.hfs_volume.specs.Content.{TreeFacts, VolumeState, has_attributes, volume_of}
-use Rattle.hfs_volume.specs.Cost.{attributes_key, cost_of, cost_or, growth, growth_for, load_of, no_tree, plan_of, resource_refusal, tree_at, tree_load}
+use Rattle.hfs_volume.specs.Cost.{attributes_key, cost_of, growth, growth_for, load_of, no_tree, plan_of, resource_refusal, tree_at, tree_load}
 use Rattle.hfs_volume.specs.Forks.{attributes_id}
 use Rattle.hfs_volume.specs.Weight.{Edits, cost_of_tree, edits, extents_in_use, free_blocks, needs_for, room_with, weight, weight_with}
-use Rattle.hfs_volume.specs.declared.cost.Cost.{Cost}
 use Rattle.hfs_volume.specs.declared.cost.Cost.TheVariants as cost
 use Rattle.hfs_volume.specs.declared.cost.TreeCost.{TreeCost}
 use Rattle.volume_header.specs.declared.header.VolumeHeader.{VolumeHeader}

@@ -1,5 +1,5 @@
 -- The room that is left of room for edits, behind so many of them.
-use Rattle.std.proofs.Common.{◌≡◌, ◌<◌, ◌≤◌, ℕ, ◌+◌, ◌-◌, sym, subst, arith}
+use Rattle.std.proofs.Common.{◌≡◌, ◌<◌, ◌≤◌, ℕ, ◌+◌, ◌-◌, subst, arith}
 use Rattle.std.specs.Prelude.{IsTrue}
 use Rattle.btree_node.specs.Store.{SameStore, Store}
 use Rattle.btree_edit.specs.Edits.{EditRoom, TakesEdits}

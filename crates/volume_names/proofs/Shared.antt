@@ -1,6 +1,6 @@
 -- A file that goes to the private folder, and links that are added, as changes of a volume.
-use Rattle.std.proofs.Common.{◌≡◌, ◌<◌, ◌≤◌, ℕ, ◌+◌, ◌^◌, List, refl, sym, ◌∙◌, ap, subst, arith}
-use Rattle.std.specs.Prelude.{IsTrue, Option, None, Some}
+use Rattle.std.proofs.Common.{◌≡◌, ◌<◌, ℕ, ◌+◌, ◌^◌, List, sym, ◌∙◌, ap, subst, arith}
+use Rattle.std.specs.Prelude.{IsTrue, None, Some}
 use Rattle.sector_disk.specs.Lists.{Content}
 use Rattle.sector_disk.specs.Space.{Space}
 use Rattle.jnl_format.specs.Recovery.{header_of_volume}

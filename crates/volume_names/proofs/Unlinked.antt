@@ -1,5 +1,5 @@
 -- A link that is removed, and its file's record with a link less in the place of the old one.
-use Rattle.std.proofs.Common.{◌≡◌, ◌<◌, ℕ, ◌+◌, Bool, true, false, not, List, [], ◌∷◌, refl, sym, ◌∙◌, ap, subst, arith}
+use Rattle.std.proofs.Common.{◌≡◌, ◌<◌, ℕ, ◌+◌, Bool, true, false, not, List, refl, sym, ◌∙◌, ap, subst}
 use Rattle.std.specs.Prelude.{Contains, IsTrue, Option, None, Some}
 use Rattle.std.specs.Option.{option_map}
 use Rattle.std.proofs.lemmas.Bool.{true≢false}
@@ -17,7 +17,6 @@ use Rattle.btree_file.specs.Standing.{pairs_in}
 use Rattle.btree_file.specs.State.{sectors_of_tree}
 use Rattle.cat_records.specs.declared.record.CatRecord.{CatRecord}
 use Rattle.cat_records.specs.declared.record.CatRecord.TheVariants.{Folder, File, Thread}
-use Rattle.cat_records.specs.declared.record.FileRecord.{FileRecord}
 use Rattle.catalog.specs.Entries.{AnswersRemoval, Removing, UpdatesEntry}
 use Rattle.catalog.specs.Pairs.{value_at}
 use Rattle.hard_links.specs.Linking.{NamesLink}
@@ -26,7 +25,6 @@ use Rattle.hfs_volume.specs.Changes.{AreSorted, HasSameNodes, Spells, with_numbe
 use Rattle.hfs_volume.specs.Commands.{ChangesFields, IsMarkedLinked}
 use Rattle.hfs_volume.specs.Content.{VolumeState}
 use Rattle.hfs_volume.specs.Entries.{AreThreaded}
-use Rattle.hfs_volume.specs.Forks.{data_kind, resource_kind}
 use Rattle.hfs_volume.specs.Records.{Placed, id_in, is_file, is_link, placed_in, record_at}
 use Rattle.hfs_volume.proofs.Ascending.{tree_sorted}
 use Rattle.hfs_volume.proofs.Flat.{none_or_some}

@@ -1,10 +1,11 @@
 -- Room for several edits of the catalog, which lessens from one call to the next.
-use Rattle.std.specs.Prelude.{◌≡◌, ◌<◌, ◌≤◌, ℕ, ◌+◌, ◌-◌, ◌^◌, false, [], IsTrue}
+use Rattle.std.specs.Prelude.{◌≡◌, ◌<◌, ◌≤◌, ℕ, ◌+◌, ◌-◌, ◌*◌, ◌^◌, false, [], IsTrue, if◌then◌else◌}
 use Rattle.sector_disk.specs.Space.{Space}
 use Rattle.btree_edit.specs.Edits.{EditRoom}
 use Rattle.btree_file.specs.State.{state_of}
 use Rattle.btree_file.specs.declared.tree.TreeFile.{TreeFile}
 use Rattle.hfs_volume.specs.Cost.{catalog_key, growth, is_too_deep, tree_load}
+use Rattle.volume_base.specs.Changing.{catalog_node}
 use Rattle.volume_base.specs.Making.{catalog_cost}
 use Rattle.volume_base.specs.declared.volume.Volume.{Volume}
 
@@ -28,8 +29,16 @@ pub record HasLoadFor (edits beside : ℕ) (volume : Volume) (space : Space) : T
   pub grown : IsTrue space.tells → growth volume.header.block_size catalog_key (catalog_cost volume) edits ≡ 0
   pub load : IsTrue space.tells → beside + tree_load catalog_key (catalog_cost volume) edits 0 ≤ space.spare
 
--- There are CNIDs for two links and room to put the header; where the space tells, the seven edits have room beside it by which a file gets its first link.
+-- how many sectors a put of the header takes: none where it was put since the last commit
+abbrev pub to_put_header : Space → ℕ
+to_put_header space = if space.put 2 then 0 else 1
+
+-- The seven edits by which a file gets its first link have room beside a put of the header and three records updated in place.
+abbrev pub FirstLinkFits : Volume → Space → Type 0
+FirstLinkFits volume space = HasEditsLeft 7 (to_put_header space + 3 * catalog_node volume) volume space
+
+-- There is room to put the header; where the space tells, there are CNIDs for two links, and a file's first link fits.
 pub record IsReadyToShare (volume : Volume) (space : Space) : Type 0 where
-  pub ids : volume.header.next_catalog_id + 2 < 2 ^ 32
   pub some : 1 ≤ space.spare
-  pub left : HasEditsLeft 7 1 volume space
+  pub ids : IsTrue space.tells → volume.header.next_catalog_id + 2 < 2 ^ 32
+  pub left : FirstLinkFits volume space

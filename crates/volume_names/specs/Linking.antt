@@ -1,5 +1,5 @@
 -- `ln`: the name that a file has, the place of the new one, and what a link does to a volume.
-use Rattle.std.specs.Prelude.{◌≡◌, ◌⊎◌, ℕ, ◌+◌, true, false, is_some, List, Ok, if◌then◌else◌}
+use Rattle.std.specs.Prelude.{◌≡◌, ◌⊎◌, ℕ, ◌+◌, true, false, is_some, List, Ok}
 use Rattle.sector_disk.specs.Lists.{Content}
 use Rattle.jnl_format.specs.Recovery.{header_of_volume}
 use Rattle.cat_records.specs.declared.record.CatRecord.TheVariants.{File}

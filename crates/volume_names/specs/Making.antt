@@ -9,7 +9,6 @@ use Rattle.hfs_volume.specs.Commands.{MakesEntry}
 use Rattle.hfs_volume.specs.Content.{volume_of}
 use Rattle.hfs_volume.specs.Records.{is_empty}
 use Rattle.hfs_volume.specs.TreeOf.{tree_of}
-use Rattle.volume_base.specs.Reaching.{named}
 use Rattle.volume_base.specs.Making.{new_value}
 
 -- The record of a new folder or file stands under the last name of a path: its CNID is the one that came next, and its dates are the volume's

@@ -1,5 +1,5 @@
 //! `ln` of a file with one name: what is done in the catalog, and the private folder made where there is none.
-ghost use Rattle.std.specs.Prelude.{◌≡◌, ◌≤◌, ℕ, List, None, Some, IsTrue, length, OnOk};
+ghost use Rattle.std.specs.Prelude.{◌≡◌, ◌≤◌, ◌<◌, ◌+◌, ◌^◌, ℕ, List, None, Some, IsTrue, length, OnOk};
 ghost use Rattle.std.specs.List.{Contains};
 ghost use Rattle.sector_disk.specs.Lists.{Content};
 ghost use Rattle.btree_edit.specs.Causes.{HasTroubleCause};
@@ -19,11 +19,11 @@ ghost use Rattle.volume_base.specs.Lists.{lists_of};
 ghost use Rattle.volume_base.specs.Losing.{IsOnlyName};
 ghost use Rattle.volume_base.specs.Making.{HasRoomToMake, free_place};
 ghost use Rattle.volume_base.specs.Service.{IsInService};
-ghost use Rattle.volume_names.specs.EditsLeft.{HasEditsLeft, IsReadyToShare};
+ghost use Rattle.volume_names.specs.EditsLeft.{FirstLinkFits, IsReadyToShare};
 ghost use Rattle.volume_base.specs.Standing.{IsSettled, StandsOver, own_sectors};
 ghost use Rattle.volume_base.specs.Touching.{Touches};
 
-use crate::fitting::{can_draw_two, fits_first, fits_share};
+use crate::fitting::{fits_first, fits_share};
 use crate::linking::link_date;
 use crate::node_names::{free_number, node_name};
 use crate::private_folder::open_private;
@@ -32,11 +32,10 @@ use hfs_volume::{header_may_change, ln_does_its_step, sound_has_plain_tree};
 use hx_bytes::{Trouble, Units};
 use sector_disk::SectorSpace;
 use std::alloc::Global;
-use volume_base::{Route, Volume};
+use volume_base::{Route, Volume, has_sector};
 
 /// Gives a file with one name another one: it goes to the private folder under a number that is free there. The volume is
-/// settled again, and its tree has the name. `Memory` is answered too where the room that is left doesn't suffice for the next
-/// record.
+/// settled again, and its tree has the name.
 fn link_under<P: SectorSpace>(
     volume: &mut Volume,
     alloc: Global,
@@ -78,22 +77,13 @@ fn link_under<P: SectorSpace>(
     share(
         volume, alloc, space, way, old, name, private, node, number, created,
     )?;
-    if !volume.fits_update(space) {
-        return Err(Trouble::Memory);
-    }
     volume.touch(alloc, space, private, 1, 0)?;
-    if !volume.fits_update(space) {
-        return Err(Trouble::Memory);
-    }
     say_two(volume, alloc, space, way.id)?;
-    if !volume.fits_update(space) {
-        return Err(Trouble::Memory);
-    }
     volume.touch(alloc, space, way.folder, 1, 0)
 }
 
 /// Gives a file with one name another one, where the private folder is there and the edits have room; links get this create date.
-/// `Memory` is answered too where no number is free, or no CNID.
+/// `Memory` is answered too where no number is free.
 fn link_ready<P: SectorSpace>(
     volume: &mut Volume,
     alloc: Global,
@@ -113,7 +103,8 @@ fn link_ready<P: SectorSpace>(
     requires private { volume.old.private ≡ Some private }
     requires only { IsTrue (P.SectorView.space space.old).tells → IsOnlyName (record { parent = way.now.parent; name = old.now }) (lists_of volume.old (P.SectorView.space space.old).content).catalog_pairs }
     requires links { IsTrue (P.SectorView.space space.old).tells → (from to : List (List ℕ)) × (at : PlainEntry) × IsLinking (tree_of (P.SectorView.space space.old).content) from to at way.now.parent old.now way.now.id way.now.folder name.now }
-    requires left { HasEditsLeft 7 1 volume.old (P.SectorView.space space.old) }
+    requires ids { IsTrue (P.SectorView.space space.old).tells → volume.old.header.next_catalog_id + 2 < 2 ^ 32 }
+    requires left { FirstLinkFits volume.old (P.SectorView.space space.old) }
     ensures stands { OnOk result (StandsOver volume.new (P.SectorView.space space.new)) }
     ensures service { IsInService volume.new (P.SectorView.space space.new) }
     ensures does { IsTrue (P.SectorView.space space.old).tells → (from to : List (List ℕ)) (at : PlainEntry) → IsLinking (tree_of (P.SectorView.space space.old).content) from to at way.now.parent old.now way.now.id way.now.folder name.now
@@ -130,7 +121,8 @@ fn link_ready<P: SectorSpace>(
     }
     let number = free_number(volume, alloc, space, private, way.id)?;
     let node = node_name(alloc, number)?;
-    if !can_draw_two(volume, space) {
+    // A space that tells has it by the room for the edits.
+    if !has_sector(space.spare()) {
         return Err(Trouble::Memory);
     }
     link_under(
@@ -194,7 +186,8 @@ fn link_dated<P: SectorSpace>(
     requires private { volume.old.private ≡ Some private }
     requires only { IsTrue (P.SectorView.space space.old).tells → IsOnlyName (record { parent = way.now.parent; name = old.now }) (lists_of volume.old (P.SectorView.space space.old).content).catalog_pairs }
     requires links { IsTrue (P.SectorView.space space.old).tells → (from to : List (List ℕ)) × (at : PlainEntry) × IsLinking (tree_of (P.SectorView.space space.old).content) from to at way.now.parent old.now way.now.id way.now.folder name.now }
-    requires left { HasEditsLeft 7 1 volume.old (P.SectorView.space space.old) }
+    requires ids { IsTrue (P.SectorView.space space.old).tells → volume.old.header.next_catalog_id + 2 < 2 ^ 32 }
+    requires left { FirstLinkFits volume.old (P.SectorView.space space.old) }
     ensures stands { OnOk result (StandsOver volume.new (P.SectorView.space space.new)) }
     ensures service { IsInService volume.new (P.SectorView.space space.new) }
     ensures does { IsTrue (P.SectorView.space space.old).tells → (from to : List (List ℕ)) (at : PlainEntry) → IsLinking (tree_of (P.SectorView.space space.old).content) from to at way.now.parent old.now way.now.id way.now.folder name.now

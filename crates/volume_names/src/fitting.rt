@@ -1,5 +1,5 @@
 //! Whether there is room for a command now, by what its edits cost.
-ghost use Rattle.std.specs.Prelude.{◌≡◌, ◌<◌, ◌≤◌, ◌+◌, ◌^◌, ◌==◌, false, None, IsTrue};
+ghost use Rattle.std.specs.Prelude.{◌≡◌, ◌<◌, ◌≤◌, ◌+◌, ◌*◌, ◌^◌, ◌==◌, false, None, IsTrue};
 ghost use Rattle.hfs_volume.specs.Content.{has_attributes};
 ghost use Rattle.volume_base.specs.Attributing.{HasRoomToMark};
 ghost use Rattle.volume_base.specs.Fitting.{AreMet, wants};
@@ -8,7 +8,7 @@ ghost use Rattle.volume_base.specs.Making.{HasRoomToMake};
 ghost use Rattle.volume_base.specs.Moving.{HasRoomToMove};
 ghost use Rattle.volume_base.specs.Removing.{HasRoomToBare};
 ghost use Rattle.volume_base.specs.Changing.{catalog_node};
-ghost use Rattle.volume_names.specs.EditsLeft.{HasEditsLeft, HasLoadFor};
+ghost use Rattle.volume_names.specs.EditsLeft.{FirstLinkFits, HasLoadFor};
 ghost use Rattle.volume_base.specs.Standing.{IsSettled, StandsOver};
 ghost use Rattle.volume_base.specs.Unlinking.{HasRoomToUnlinkLast};
 
@@ -22,14 +22,6 @@ fn leaves_id(next: u32) -> bool
     ensures sure { next + 1 < 2 ^ 32 → IsTrue result }
 {
     next < u32::MAX
-}
-
-/// Whether there are CNIDs for two links and one behind them.
-fn leaves_two_ids(next: u32) -> bool
-    ensures fits { IsTrue result → next + 2 < 2 ^ 32 }
-    ensures sure { next + 2 < 2 ^ 32 → IsTrue result }
-{
-    next < u32::MAX - 1
 }
 
 /// Whether there is room to make a folder or file.
@@ -111,23 +103,12 @@ pub fn fits_move<P: SectorSpace>(volume: &Volume, space: &P) -> bool
     volume.can_edit(space, edits)
 }
 
-/// Whether there are CNIDs for two links, and room to put the header.
-pub(crate) fn can_draw_two<P: SectorSpace>(volume: &Volume, space: &P) -> bool
-    ensures ids { IsTrue result → volume.now.header.next_catalog_id + 2 < 2 ^ 32 }
-    ensures sector { IsTrue result → 1 ≤ (P.SectorView.space space.now).spare }
-    ensures sure { volume.now.header.next_catalog_id + 2 < 2 ^ 32 → 1 ≤ (P.SectorView.space space.now).spare → IsTrue result }
-{
-    if !leaves_two_ids(volume.header.next_catalog_id) {
-        return false;
-    }
-    has_sector(space.spare())
-}
-
-/// Whether there is room for a file's first link, where the private folder is there.
+/// Whether there are CNIDs and room for a file's first link, where the private folder is there.
 pub(crate) fn fits_share<P: SectorSpace>(volume: &Volume, space: &P) -> bool
     requires stands { StandsOver volume.now (P.SectorView.space space.now) }
     requires settled { IsTrue (P.SectorView.space space.now).tells → IsSettled volume.now (P.SectorView.space space.now).content }
-    ensures left { IsTrue result → HasEditsLeft 7 1 volume.now (P.SectorView.space space.now) }
+    ensures ids { IsTrue result → IsTrue (P.SectorView.space space.now).tells → volume.now.header.next_catalog_id + 2 < 2 ^ 32 }
+    ensures left { IsTrue result → FirstLinkFits volume.now (P.SectorView.space space.now) }
     ensures met { IsTrue (P.SectorView.space space.now).tells → AreMet (wants 2 7 0 4) volume.now (P.SectorView.space space.now) → IsTrue result }
 {
     edits_have_room();
@@ -142,11 +123,12 @@ pub(crate) fn fits_share<P: SectorSpace>(volume: &Volume, space: &P) -> bool
     volume.can_edit(space, edits)
 }
 
-/// Whether there is room to make the private folder, and then for a file's first link.
+/// Whether there are CNIDs and room to make the private folder, and then for a file's first link.
 pub(crate) fn fits_first<P: SectorSpace>(volume: &Volume, space: &P) -> bool
     requires stands { StandsOver volume.now (P.SectorView.space space.now) }
     requires settled { IsTrue (P.SectorView.space space.now).tells → IsSettled volume.now (P.SectorView.space space.now).content }
-    ensures load { IsTrue result → HasLoadFor 9 (1 + (catalog_node volume.now + 1)) volume.now (P.SectorView.space space.now) }
+    ensures ids { IsTrue result → IsTrue (P.SectorView.space space.now).tells → volume.now.header.next_catalog_id + 3 < 2 ^ 32 }
+    ensures load { IsTrue result → HasLoadFor 9 (1 + (catalog_node volume.now + 3 * catalog_node volume.now)) volume.now (P.SectorView.space space.now) }
     ensures met { IsTrue (P.SectorView.space space.now).tells → AreMet (wants 3 9 0 4) volume.now (P.SectorView.space space.now) → IsTrue result }
 {
     a_load_says_enough();
@@ -164,7 +146,7 @@ pub(crate) fn fits_first<P: SectorSpace>(volume: &Volume, space: &P) -> bool
 pub(crate) fn fits_aside<P: SectorSpace>(volume: &Volume, space: &P) -> bool
     requires stands { StandsOver volume.now (P.SectorView.space space.now) }
     requires settled { IsTrue (P.SectorView.space space.now).tells → IsSettled volume.now (P.SectorView.space space.now).content }
-    ensures load { IsTrue result → HasLoadFor 5 (1 + (catalog_node volume.now + 0)) volume.now (P.SectorView.space space.now) }
+    ensures load { IsTrue result → HasLoadFor 5 (1 + (catalog_node volume.now + 2 * catalog_node volume.now)) volume.now (P.SectorView.space space.now) }
     ensures met { IsTrue (P.SectorView.space space.now).tells → AreMet (wants 1 5 0 4) volume.now (P.SectorView.space space.now) → IsTrue result }
 {
     a_load_says_enough();

@@ -28,7 +28,6 @@ mod setting;
 mod sharing;
 mod stamping;
 mod unlinking;
-mod updating;
 mod valuing;
 
 pub use attribute_change::setattr;

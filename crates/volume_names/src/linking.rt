@@ -473,8 +473,8 @@ fn ln_fine<P: SectorSpace>(
 /// `ln`: gives the file that a path stands for another name, where nothing is yet, and dates the file and the folder of the new
 /// name by the volume's moment; or tells the first reason against it. A file that has one name goes to the private folder, which is
 /// made where there is none, and links stand at both names. A path that begins with a name of the volume's own is refused. A refused
-/// command changes nothing. `Memory` comes where memory is wanting, and where what is left of the room behind an edit doesn't suffice
-/// for the next one; `Disk` where a read failed.
+/// command changes nothing. `Memory` comes where memory is wanting, where the edits of a file's first link have no room, and where
+/// what is left of the room behind an edit of another one doesn't suffice for the next; `Disk` where a read failed.
 pub fn ln<P: SectorSpace>(
     volume: &mut Volume,
     alloc: Global,

@@ -1,5 +1,5 @@
 //! `rm`: a file loses its only name.
-ghost use Rattle.std.specs.Prelude.{◌≡◌, ◌≤◌, ◌+◌, ℕ, List, Ok, Some, false, true, IsTrue, IfOk, length, None, OnOk};
+ghost use Rattle.std.specs.Prelude.{◌≡◌, ◌≤◌, ◌+◌, ◌*◌, ℕ, List, Ok, Some, false, true, IsTrue, IfOk, length, None, OnOk};
 ghost use Rattle.std.specs.List.{All, Contains};
 ghost use Rattle.sector_disk.specs.Lists.{Content};
 ghost use Rattle.btree_edit.specs.Causes.{HasTroubleCause};
@@ -13,7 +13,7 @@ ghost use Rattle.hfs_model.specs.Step.{is_private_path, is_refusal, step, step_l
 ghost use Rattle.hfs_model.specs.declared.plain.PlainEntry.{PlainEntry};
 ghost use Rattle.hfs_volume.specs.Records.{is_link_type};
 ghost use Rattle.hfs_volume.specs.TreeOf.{tree_of};
-ghost use Rattle.volume_base.specs.Changing.{KeepsBlocks, catalog_node};
+ghost use Rattle.volume_base.specs.Changing.{HasRoomToUpdate, KeepsBlocks, catalog_node};
 ghost use Rattle.volume_base.specs.Lists.{lists_of};
 ghost use Rattle.volume_base.specs.Looking.{IsCatalogOver, ReadsTree, ReadsVolume};
 ghost use Rattle.volume_names.specs.Losing.{Buries, HasLost, Hides, Loses, LosesName};
@@ -140,8 +140,7 @@ fn losing<P: SectorSpace>(
     )
 }
 
-/// Puts a file aside into the private folder, which counts it. `Memory` is answered too where the room that is left doesn't
-/// suffice for that.
+/// Puts a file aside into the private folder, which counts it.
 fn hide<P: SectorSpace>(
     volume: &mut Volume,
     alloc: Global,
@@ -157,7 +156,8 @@ fn hide<P: SectorSpace>(
     requires private { volume.old.private ≡ Some private }
     requires only { IsTrue (P.SectorView.space space.old).tells → IsOnlyName at.now (lists_of volume.old (P.SectorView.space space.old).content).catalog_pairs }
     requires loses { IsTrue (P.SectorView.space space.old).tells → (path : List (List ℕ)) × (entry : PlainEntry) × IsLoss (tree_of (P.SectorView.space space.old).content) path entry at.now }
-    requires left { HasEditsLeft 3 0 volume.old (P.SectorView.space space.old) }
+    // The edits have room beside the two records that are updated behind them.
+    requires left { HasEditsLeft 3 (2 * catalog_node volume.old) volume.old (P.SectorView.space space.old) }
     ensures stands { OnOk result (StandsOver volume.new (P.SectorView.space space.new)) }
     ensures service { IsInService volume.new (P.SectorView.space space.new) }
     ensures hides { IsTrue (P.SectorView.space space.old).tells → OnOk result (Hides private at.now volume.old volume.new (P.SectorView.space space.old).content (P.SectorView.space space.new).content) }
@@ -165,21 +165,19 @@ fn hide<P: SectorSpace>(
     ensures own { own_sectors volume.new ≡ own_sectors volume.old }
     ensures touches { (committed : Content) → Touches committed (λ s. Contains (own_sectors volume.old) s) (P.SectorView.space space.old) (P.SectorView.space space.new) }
     ensures spent { IsTrue (P.SectorView.space space.old).tells → (P.SectorView.space space.old).spare ≤ (P.SectorView.space space.new).spare + leave_load volume.old }
+    // There is room to update the folder that it was in.
+    ensures room { OnOk result (HasRoomToUpdate volume.new (P.SectorView.space space.new)) }
     ensures size { OnOk result ((numbers_of volume.new.catalog.file).node_size ≡ (numbers_of volume.old.catalog.file).node_size) }
     ensures below { P.SectorView.follows space.old space.new }
     ensures cause { HasTroubleCause (P.SectorView.space space.old).faults (P.SectorView.space space.new).faults result }
 {
     edits_take_their_load();
     set_aside(volume, alloc, space, private, at)?;
-    if !volume.fits_update(space) {
-        return Err(Trouble::Memory);
-    }
     volume.touch(alloc, space, private, 1, 0)
 }
 
 /// Removes the only name of a file, in a volume with a private folder: the file waits there to be removed. The volume is
-/// settled again, and its tree is without the name. `Memory` is answered too where the room that is left doesn't suffice for
-/// the next record.
+/// settled again, and its tree is without the name.
 fn bury<P: SectorSpace>(
     volume: &mut Volume,
     alloc: Global,
@@ -194,7 +192,8 @@ fn bury<P: SectorSpace>(
     requires private { volume.old.private ≡ Some private }
     requires only { IsTrue (P.SectorView.space space.old).tells → IsOnlyName at.now (lists_of volume.old (P.SectorView.space space.old).content).catalog_pairs }
     requires loses { IsTrue (P.SectorView.space space.old).tells → (path : List (List ℕ)) × (entry : PlainEntry) × IsLoss (tree_of (P.SectorView.space space.old).content) path entry at.now }
-    requires left { HasEditsLeft 3 0 volume.old (P.SectorView.space space.old) }
+    // The edits have room beside the two records that are updated behind them.
+    requires left { HasEditsLeft 3 (2 * catalog_node volume.old) volume.old (P.SectorView.space space.old) }
     ensures stands { OnOk result (StandsOver volume.new (P.SectorView.space space.new)) }
     ensures service { IsInService volume.new (P.SectorView.space space.new) }
     ensures does { IsTrue (P.SectorView.space space.old).tells → (path : List (List ℕ)) (entry : PlainEntry) → IsLoss (tree_of (P.SectorView.space space.old).content) path entry at.now
@@ -212,9 +211,6 @@ fn bury<P: SectorSpace>(
         return Ok(());
     }
     hide(volume, alloc, space, private, at)?;
-    if !volume.fits_update(space) {
-        return Err(Trouble::Memory);
-    }
     volume.touch(alloc, space, at.parent, 0, 1)
 }
 
@@ -382,8 +378,8 @@ fn rm_under<P: SectorSpace>(
 /// `rm`: removes a name of the file at a path. With its only name or its last link the file waits in the private folder to be
 /// removed, which is made where there is none; with a link among others it says that it has one less. Or tells the first reason
 /// against it. A path that begins with a name of the volume's own is refused. A refused command changes nothing. `Memory` comes
-/// where memory is wanting, and where what is left of the room behind an edit doesn't suffice for the next one; `Disk` where a
-/// read failed.
+/// where memory is wanting, where the edits by which a file waits have no room, and where what is left of the room behind an
+/// edit of a link doesn't suffice for the next; `Disk` where a read failed.
 pub fn rm<P: SectorSpace>(
     volume: &mut Volume,
     alloc: Global,

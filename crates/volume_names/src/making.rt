@@ -47,6 +47,7 @@ pub(crate) fn draw<P: SectorSpace>(volume: &mut Volume, space: &mut P, folder: b
     ensures put { IsTrue (P.SectorView.space space.old).tells → PutsHeader volume.new (P.SectorView.space space.old).content (P.SectorView.space space.new).content }
     ensures within { PutsWithin (2 ∷ []) (P.SectorView.space space.old) (P.SectorView.space space.new) }
     ensures spent { (P.SectorView.space space.old).spare ≤ (P.SectorView.space space.new).spare + 1 }
+    ensures is_put { IsTrue (P.SectorView.space space.old).tells → IsTrue ((P.SectorView.space space.new).put 2) }
     ensures faults { (P.SectorView.space space.new).faults ≡ (P.SectorView.space space.old).faults }
     ensures below { P.SectorView.follows space.old space.new }
 {
@@ -74,6 +75,7 @@ pub(crate) fn add_new<P: SectorSpace>(
     ensures service { IsInService volume.new (P.SectorView.space space.new) }
     ensures adds { IsTrue (P.SectorView.space space.old).tells → OnOk result (AddsNew folder id name.now volume.old volume.new (P.SectorView.space space.old).content (P.SectorView.space space.new).content) }
     ensures room { OnOk result (HasRoomToUpdate volume.new (P.SectorView.space space.new)) }
+    ensures is_put { IsTrue (P.SectorView.space space.old).tells → OnOk result (IsTrue ((P.SectorView.space space.new).put 2)) }
     ensures own { own_sectors volume.new ≡ own_sectors volume.old }
     ensures blocks { KeepsBlocks volume.old volume.new }
     ensures touches { (committed : Content) → Touches committed (λ s. Contains (own_sectors volume.old) s) (P.SectorView.space space.old) (P.SectorView.space space.new) }

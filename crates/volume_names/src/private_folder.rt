@@ -19,7 +19,6 @@ ghost use Rattle.volume_base.specs.Standing.{IsSettled, StandsOver, own_sectors}
 ghost use Rattle.volume_base.specs.Touching.{Touches};
 
 use crate::making::add_new;
-use crate::updating::replace;
 use cat_records::{CatRecord, EntryFields, FolderRecord};
 use hfs_volume::header_may_change;
 use hx_bytes::Trouble;
@@ -90,7 +89,7 @@ fn put_recounted<P: SectorSpace>(
     let Some(rec) = recounted(up, &entry.rec) else {
         return Ok(());
     };
-    replace(volume, alloc, space, entry, &rec)
+    volume.replace(alloc, space, entry, &rec)
 }
 
 /// Lets the folder with a CNID count so many entries more that users don't see: its dates stay. The volume stands as before,
@@ -142,6 +141,10 @@ fn make_private<P: SectorSpace>(
     ensures blocks { KeepsBlocks volume.old volume.new }
     ensures own { own_sectors volume.new ≡ own_sectors volume.old }
     ensures touches { (committed : Content) → Touches committed (λ s. Contains (own_sectors volume.old) s) (P.SectorView.space space.old) (P.SectorView.space space.new) }
+    // The header was put and counts it, and the catalog's nodes are as large.
+    ensures is_put { IsTrue (P.SectorView.space space.old).tells → OnOk result (IsTrue ((P.SectorView.space space.new).put 2)) }
+    ensures ids { IsTrue (P.SectorView.space space.old).tells → OnOk result (volume.new.header.next_catalog_id ≡ volume.old.header.next_catalog_id + 1) }
+    ensures nodes { IsTrue (P.SectorView.space space.old).tells → OnOk result (catalog_node volume.new ≡ catalog_node volume.old) }
     // Where the load of two edits more has room beside the header's sector, a node and these sectors, the others have room beside these behind it.
     ensures left { (edits beside : ℕ) → HasLoadFor (2 + edits) (1 + (catalog_node volume.old + beside)) volume.old (P.SectorView.space space.old) → OnOk result (HasEditsLeft edits beside volume.new (P.SectorView.space space.new)) }
     ensures below { P.SectorView.follows space.old space.new }
@@ -172,6 +175,10 @@ pub(crate) fn open_private<P: SectorSpace>(
     ensures own { own_sectors volume.new ≡ own_sectors volume.old }
     // On a fault too, it puts sectors of its own alone, whatever was committed last.
     ensures touches { (committed : Content) → Touches committed (λ s. Contains (own_sectors volume.old) s) (P.SectorView.space space.old) (P.SectorView.space space.new) }
+    // The header was put and counts it, and the catalog's nodes are as large.
+    ensures is_put { IsTrue (P.SectorView.space space.old).tells → OnOk result (IsTrue ((P.SectorView.space space.new).put 2)) }
+    ensures ids { IsTrue (P.SectorView.space space.old).tells → OnOk result (volume.new.header.next_catalog_id ≡ volume.old.header.next_catalog_id + 1) }
+    ensures nodes { IsTrue (P.SectorView.space space.old).tells → OnOk result (catalog_node volume.new ≡ catalog_node volume.old) }
     // Where the load of two edits more has room beside the header's sector, a node and these sectors, the others have room beside these behind it.
     ensures left { (edits beside : ℕ) → HasLoadFor (2 + edits) (1 + (catalog_node volume.old + beside)) volume.old (P.SectorView.space space.old) → OnOk result (HasEditsLeft edits beside volume.new (P.SectorView.space space.new)) }
     ensures below { P.SectorView.follows space.old space.new }

@@ -1,5 +1,5 @@
 //! `ln` of a file with one name: it goes to the private folder, and links stand at both names.
-ghost use Rattle.std.specs.Prelude.{◌≡◌, ◌<◌, ◌≤◌, ◌+◌, ◌∷◌, ◌^◌, ℕ, List, [], None, Some, IsTrue, length, OnOk};
+ghost use Rattle.std.specs.Prelude.{◌≡◌, ◌<◌, ◌≤◌, ◌+◌, ◌*◌, ◌∷◌, ◌^◌, ℕ, List, [], None, Some, IsTrue, length, OnOk};
 ghost use Rattle.std.specs.List.{Contains};
 ghost use Rattle.sector_disk.specs.Lists.{Content};
 ghost use Rattle.btree_edit.specs.Causes.{HasTroubleCause};
@@ -14,12 +14,12 @@ ghost use Rattle.hfs_model.specs.declared.plain.PlainEntry.{PlainEntry};
 ghost use Rattle.hfs_volume.specs.Records.{placed_in, record_at};
 ghost use Rattle.hfs_volume.specs.TreeOf.{tree_of};
 ghost use Rattle.volume_header.specs.Header.{FitsHeader};
-ghost use Rattle.volume_base.specs.Changing.{HasRoomToUpdate, KeepsBlocks, PutsHeader};
+ghost use Rattle.volume_base.specs.Changing.{HasRoomToUpdate, HasRoomToUpdates, KeepsBlocks, PutsHeader, catalog_node};
 ghost use Rattle.volume_base.specs.Linking.{IsLinking};
 ghost use Rattle.volume_base.specs.Lists.{lists_of};
 ghost use Rattle.volume_base.specs.Losing.{IsOnlyName};
 ghost use Rattle.volume_base.specs.Service.{IsInService};
-ghost use Rattle.volume_names.specs.EditsLeft.{IsReadyToShare};
+ghost use Rattle.volume_names.specs.EditsLeft.{HasEditsLeft, IsReadyToShare, to_put_header};
 ghost use Rattle.volume_names.specs.Sharing.{LinksBoth, PutsLink, SharesFile, with_two_made};
 ghost use Rattle.volume_base.specs.Standing.{IsSettled, StandsOver, own_sectors};
 ghost use Rattle.volume_base.specs.Touching.{Touches};
@@ -47,6 +47,13 @@ fn with_two_made(head: &VolumeHeader) -> VolumeHeader
     made
 }
 
+/// The CNID behind this one.
+fn id_behind(id: u32) -> u32
+    ensures { id + 1 < 2 ^ 32 → result ≡ id + 1 }
+{
+    id.saturating_add(1)
+}
+
 /// Counts two links in the header, which gives them the next CNIDs, and puts the header.
 fn draw_two<P: SectorSpace>(volume: &mut Volume, space: &mut P)
     requires stands { StandsOver volume.old (P.SectorView.space space.old) }
@@ -56,7 +63,7 @@ fn draw_two<P: SectorSpace>(volume: &mut Volume, space: &mut P)
     ensures header { volume.old.header.next_catalog_id + 2 < 2 ^ 32 → volume.old.header.file_count + 2 < 2 ^ 32 → volume.new.header ≡ with_two_made volume.old.header }
     ensures put { IsTrue (P.SectorView.space space.old).tells → PutsHeader volume.new (P.SectorView.space space.old).content (P.SectorView.space space.new).content }
     ensures within { PutsWithin (2 ∷ []) (P.SectorView.space space.old) (P.SectorView.space space.new) }
-    ensures spent { (P.SectorView.space space.old).spare ≤ (P.SectorView.space space.new).spare + 1 }
+    ensures spent { (P.SectorView.space space.old).spare ≤ (P.SectorView.space space.new).spare + to_put_header (P.SectorView.space space.old) }
     ensures faults { (P.SectorView.space space.new).faults ≡ (P.SectorView.space space.old).faults }
     ensures below { P.SectorView.follows space.old space.new }
 {
@@ -89,8 +96,8 @@ fn share_file<P: SectorSpace>(
     ensures stands { OnOk result (StandsOver volume.new (P.SectorView.space space.new)) }
     ensures service { IsInService volume.new (P.SectorView.space space.new) }
     ensures shares { IsTrue (P.SectorView.space space.old).tells → OnOk result (SharesFile parent old.now private number volume.old volume.new (P.SectorView.space space.old).content (P.SectorView.space space.new).content) }
-    // What is left of the room for seven edits suffices for four.
-    ensures more { OnOk result ((names : List ℕ) → IsTrue (P.SectorView.space space.new).tells → EditRoom 4 516 (state_of names volume.new.catalog.file (P.SectorView.space space.new))) }
+    // What is left of the room for seven edits suffices for four, and for three updates.
+    ensures left { OnOk result (HasEditsLeft 4 (3 * catalog_node volume.old) volume.new (P.SectorView.space space.new)) }
     ensures size { OnOk result ((numbers_of volume.new.catalog.file).node_size ≡ (numbers_of volume.old.catalog.file).node_size) }
     ensures own { own_sectors volume.new ≡ own_sectors volume.old }
     ensures blocks { KeepsBlocks volume.old volume.new }
@@ -124,9 +131,8 @@ fn put_link<P: SectorSpace>(
     ensures stands { OnOk result (StandsOver volume.new (P.SectorView.space space.new)) }
     ensures service { IsInService volume.new (P.SectorView.space space.new) }
     ensures puts { IsTrue (P.SectorView.space space.old).tells → OnOk result (PutsLink folder name.now id number created volume.old volume.new (P.SectorView.space space.old).content (P.SectorView.space space.new).content) }
-    // Of room for two edits more, that for two is left.
-    ensures more { ((names : List ℕ) → IsTrue (P.SectorView.space space.old).tells → EditRoom 4 516 (state_of names volume.old.catalog.file (P.SectorView.space space.old)))
-        → OnOk result ((names : List ℕ) → IsTrue (P.SectorView.space space.new).tells → EditRoom 2 516 (state_of names volume.new.catalog.file (P.SectorView.space space.new))) }
+    // Of room for two edits more, that for the others is left.
+    ensures left { (edits beside : ℕ) → HasEditsLeft (2 + edits) beside volume.old (P.SectorView.space space.old) → OnOk result (HasEditsLeft edits beside volume.new (P.SectorView.space space.new)) }
     ensures size { OnOk result ((numbers_of volume.new.catalog.file).node_size ≡ (numbers_of volume.old.catalog.file).node_size) }
     ensures own { own_sectors volume.new ≡ own_sectors volume.old }
     ensures blocks { KeepsBlocks volume.old volume.new }
@@ -152,6 +158,8 @@ pub(crate) fn say_two<P: SectorSpace>(
     requires room { HasRoomToUpdate volume.old (P.SectorView.space space.old) }
     ensures stands { OnOk result (StandsOver volume.new (P.SectorView.space space.new)) }
     ensures service { IsInService volume.new (P.SectorView.space space.new) }
+    // What is left of the room for so many updates suffices for the others.
+    ensures room { (many : ℕ) → HasRoomToUpdates (many + 1) volume.old (P.SectorView.space space.old) → OnOk result (HasRoomToUpdates many volume.new (P.SectorView.space space.new)) }
     ensures says { IsTrue (P.SectorView.space space.old).tells → OnOk result ((had : ℕ) × SaysLinks id 2 had volume.old volume.new (P.SectorView.space space.old).content (P.SectorView.space space.new).content) }
     ensures own { own_sectors volume.new ≡ own_sectors volume.old }
     ensures blocks { KeepsBlocks volume.old volume.new }
@@ -195,6 +203,8 @@ pub(crate) fn share<P: SectorSpace>(
     requires room { IsReadyToShare volume.old (P.SectorView.space space.old) }
     ensures stands { OnOk result (StandsOver volume.new (P.SectorView.space space.new)) }
     ensures service { IsInService volume.new (P.SectorView.space space.new) }
+    // Three records may be updated behind it.
+    ensures room { OnOk result (HasRoomToUpdates 3 volume.new (P.SectorView.space space.new)) }
     ensures both { IsTrue (P.SectorView.space space.old).tells → OnOk result (LinksBoth way.now.parent old.now private number way.now.folder name.now created volume.old volume.new (P.SectorView.space space.old).content (P.SectorView.space space.new).content) }
     ensures own { own_sectors volume.new ≡ own_sectors volume.old }
     ensures blocks { KeepsBlocks volume.old volume.new }
@@ -203,16 +213,8 @@ pub(crate) fn share<P: SectorSpace>(
     ensures cause { HasTroubleCause (P.SectorView.space space.old).faults (P.SectorView.space space.new).faults result }
 {
     let one = volume.header.next_catalog_id;
+    let two = id_behind(one);
     share_file(volume, alloc, space, way.parent, old, private, node, number)?;
     put_link(volume, alloc, space, way.parent, old, one, number, created)?;
-    put_link(
-        volume,
-        alloc,
-        space,
-        way.folder,
-        name,
-        one + 1,
-        number,
-        created,
-    )
+    put_link(volume, alloc, space, way.folder, name, two, number, created)
 }

@@ -16,7 +16,7 @@ ghost use Rattle.hfs_model.specs.declared.plain.PlainEntry.{PlainEntry};
 ghost use Rattle.hfs_volume.specs.Entries.{AreSpelled, AreThreaded};
 ghost use Rattle.hfs_volume.specs.Records.{id_in, is_file, is_thread};
 ghost use Rattle.hfs_volume.specs.TreeOf.{tree_of};
-ghost use Rattle.volume_base.specs.Changing.{HasRoomToUpdate, KeepsBlocks, catalog_node};
+ghost use Rattle.volume_base.specs.Changing.{HasRoomToUpdate, HasRoomToUpdates, KeepsBlocks, catalog_node};
 ghost use Rattle.volume_base.specs.Entering.{entry_by_id};
 ghost use Rattle.volume_names.specs.Linking.{CountsUp};
 ghost use Rattle.volume_base.specs.Lists.{lists_of};
@@ -131,6 +131,8 @@ pub(crate) fn put_links<P: SectorSpace>(
     requires room { HasRoomToUpdate volume.old (P.SectorView.space space.old) }
     ensures stands { OnOk result (StandsOver volume.new (P.SectorView.space space.new)) }
     ensures service { IsInService volume.new (P.SectorView.space space.new) }
+    // What is left of the room for so many updates suffices for the others.
+    ensures room { (many : ℕ) → HasRoomToUpdates (many + 1) volume.old (P.SectorView.space space.old) → OnOk result (HasRoomToUpdates many volume.new (P.SectorView.space space.new)) }
     ensures counts { IsTrue (P.SectorView.space space.old).tells → is_file entry.now.rec ≡ true → is_plain entry.now.rec ≡ true
         → OnOk result (SaysLinks (id_in entry.now.rec) links (links_in entry.now.rec) volume.old volume.new (P.SectorView.space space.old).content (P.SectorView.space space.new).content) }
     ensures blocks { KeepsBlocks volume.old volume.new }

@@ -1,4 +1,4 @@
-use Rattle.std.proofs.Common.{◌≡◌, ◌≤◌, ℕ, List, [], true, refl, sym, ◌∙◌, ◌/◌, ap, subst, arith}
+use Rattle.std.proofs.Common.{◌≤◌, ℕ, List, [], true, refl, sym, ◌∙◌, ◌/◌, ap, subst, arith}
 use Rattle.std.specs.List.{Contains}
 use Rattle.attributes.specs.Values.{SetsValue}
 use Rattle.btree_node.specs.Levels.{Pair}

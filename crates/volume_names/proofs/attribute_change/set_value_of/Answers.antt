@@ -1,9 +1,8 @@
 use Rattle.std.proofs.Common.{◌≡◌, ◌≤◌, true, false, ℕ, List, length, refl, sym, ◌∙◌, ap, subst, arith}
-use Rattle.std.specs.Prelude.{IsTrue, Option, None, Some, IfSome, OnOk}
+use Rattle.std.specs.Prelude.{IsTrue, Option, IfSome}
 use Rattle.std.specs.List.{Contains}
-use Rattle.attributes.specs.Values.{AreInline, SetsValue}
+use Rattle.attributes.specs.Values.{SetsValue}
 use Rattle.cat_records.specs.Fits.{FitsRecord}
-use Rattle.cat_records.specs.declared.record.CatRecord.{CatRecord}
 use Rattle.catalog.specs.Pairs.{value_at}
 use Rattle.hfs_language.specs.declared.command.Command.TheVariants as command
 use Rattle.hfs_model.specs.Step.{step}

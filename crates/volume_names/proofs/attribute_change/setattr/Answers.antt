@@ -1,5 +1,4 @@
-use Rattle.std.proofs.Common.{◌≡◌, ◌<◌, ◌≤◌, ℕ, List, true, false, length, refl, sym, ◌∙◌, ap, subst, arith}
-use Rattle.std.specs.Prelude.{IsTrue}
+use Rattle.std.proofs.Common.{◌≡◌, ℕ, List, refl, sym, ◌∙◌, ap, subst, arith}
 use Rattle.std.specs.List.{Contains}
 use Rattle.std.proofs.lemmas.Bool.{true≢false}
 use Rattle.sector_disk.specs.Lists.{Content}
@@ -8,7 +7,6 @@ use Rattle.hfs_model.specs.Step.{step, to_node}
 use Rattle.hfs_volume.specs.Attributing.{SetsAttribute}
 use Rattle.hfs_volume.specs.Content.{volume_of, has_attributes}
 use Rattle.hfs_volume.specs.TreeOf.{tree_of}
-use Rattle.volume_header.specs.declared.header.VolumeHeader.{VolumeHeader}
 use Rattle.volume_base.specs.Touching.{Touches}
 use Rattle.volume_base.proofs.Commanding.{touches_looks, touches_both, touches_none}
 use Rattle.volume_names.proofs.MarkLoads.{set_load}

@@ -1,12 +1,9 @@
-use Rattle.std.proofs.Common.{◌≡◌, ◌<◌, ◌≤◌, ◌+◌, ℕ, List, length, sym, ◌∙◌, ap, subst, arith}
-use Rattle.std.specs.Prelude.{IsTrue}
+use Rattle.std.proofs.Common.{◌≤◌, ◌+◌, ℕ, List, length, sym, ◌∙◌, subst, arith}
 use Rattle.attributes.specs.Values.{AreInline}
-use Rattle.btree_file.specs.Frame.{FollowsOn}
 use Rattle.btree_file.specs.FrameLaws.{follows_both, follows_none, same_sectors}
 use Rattle.btree_file.specs.Standing.{pairs_in}
 use Rattle.btree_file.specs.State.{sectors_of_tree, state_of}
-use Rattle.btree_node.specs.Levels.{Pair}
-use Rattle.hfs_volume.specs.Changes.{AreSortedAttributes, DropsAttribute}
+use Rattle.hfs_volume.specs.Changes.{AreSortedAttributes}
 use Rattle.hfs_volume.specs.Commands.{DropsAttributes}
 use Rattle.volume_names.specs.Dropping.{LeavesNamed}
 use Rattle.volume_names.proofs.DroppedOne.{edits_more, edits_none, inline_less, inside_then, leaves_all, leaves_less, leaves_none, open_then, same_then, sorted_held, takes_all, takes_more}

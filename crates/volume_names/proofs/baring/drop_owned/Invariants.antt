@@ -1,4 +1,4 @@
-use Rattle.std.proofs.Common.{◌≡◌, ◌≤◌, ℕ, List, length}
+use Rattle.std.proofs.Common.{◌≤◌, ℕ, List, length}
 use Rattle.std.specs.Prelude.{IsTrue}
 use Rattle.attributes.specs.Values.{AreInline}
 use Rattle.btree_edit.specs.Desk.{IsDeskOf}

@@ -1,4 +1,4 @@
-use Rattle.std.proofs.Common.{◌≡◌, ℕ, List, sym, ◌∙◌, subst}
+use Rattle.std.proofs.Common.{◌≡◌, ◌*◌, ℕ, List, sym, ◌∙◌, subst, arith}
 use Rattle.std.specs.List.{Contains}
 use Rattle.hfs_language.specs.declared.command.Command.TheVariants as command
 use Rattle.hfs_model.specs.Step.{step}
@@ -12,6 +12,8 @@ use Rattle.volume_base.specs.Touching.{Touches}
 use Rattle.volume_base.proofs.Besides.{blocks_both, blocks_none}
 use Rattle.volume_base.proofs.Commanding.{touches_both, touches_none}
 use Rattle.volume_base.proofs.FoundEntry.{ok_so}
+use Rattle.volume_base.specs.Changing.{catalog_node}
+use Rattle.volume_names.proofs.EditsLeft.{ready_behind}
 use Rattle.volume_names.proofs.LinkAnew.{anew_does, linking_then, only_then}
 use Rattle.volume_names.proofs.first_links.link_anew.Goals as goal
 
@@ -53,9 +55,6 @@ returns-in-Some-clause-below g c = g.met.P.SectorView.follows_trans c.args.space
 pub returns-in-Some-clause-blocks : goal.returns-in-Some-clause-blocks
 returns-in-Some-clause-blocks g c = blocks_both c.args.volume.now c.open_private.new.volume c.link_dated.new.volume c.open_private.ensures.blocks c.link_dated.ensures.blocks
 
-pub link_dated-requires-clause-left : goal.link_dated-requires-clause-left
-link_dated-requires-clause-left g c = c.in_ok-open_private.ensures.left 7 1 (c.fits_first.ensures.load c.if-not-fits_first.false)
-
 pub returns-then-not-fits_first-clause-touches : goal.returns-then-not-fits_first-clause-touches
 returns-then-not-fits_first-clause-touches g c committed = touches_none committed _ (g.P.SectorView.space c.args.space.now)
 
@@ -64,3 +63,13 @@ returns-then-not-fits_first-clause-service g c = c.requires.stands.service
 
 pub returns-then-not-fits_first-clause-blocks : goal.returns-then-not-fits_first-clause-blocks
 returns-then-not-fits_first-clause-blocks g c = blocks_none c.args.volume.now
+
+pub link_dated-requires-clause-ids : goal.link_dated-requires-clause-ids
+link_dated-requires-clause-ids g c tells =
+    let before = sym (c.open_private.ensures.touches (g.P.SectorView.space c.args.space.now).content).same.tells ∙ tells in
+    omega (arith, c.fits_first.ensures.ids c.if-not-fits_first.false before, c.in_ok-open_private.ensures.ids before)
+
+pub link_dated-requires-clause-left : goal.link_dated-requires-clause-left
+link_dated-requires-clause-left g c =
+    ready_behind c.args.volume.now c.open_private.new.volume (g.P.SectorView.space c.open_private.new.space) (λ tells. c.in_ok-open_private.ensures.is_put (sym (c.open_private.ensures.touches (g.P.SectorView.space c.args.space.now).content).same.tells ∙ tells)) (λ tells. c.in_ok-open_private.ensures.nodes (sym (c.open_private.ensures.touches (g.P.SectorView.space c.args.space.now).content).same.tells ∙ tells))
+    (c.in_ok-open_private.ensures.left 7 (3 * catalog_node c.args.volume.now) (c.fits_first.ensures.load c.if-not-fits_first.false))

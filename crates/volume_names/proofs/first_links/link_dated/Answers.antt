@@ -1,26 +1,24 @@
 use Rattle.std.proofs.Common.{◌≡◌, ℕ, List, sym, ◌∙◌, ap, subst, arith}
-use Rattle.std.specs.Prelude.{OnOk, None}
+use Rattle.std.specs.Prelude.{OnOk}
 use Rattle.std.specs.List.{Contains}
 use Rattle.sector_disk.specs.Lists.{Content}
-use Rattle.btree_node.specs.declared.store.TreeShape.{TreeShape}
 use Rattle.hfs_language.specs.declared.command.Command.TheVariants as command
 use Rattle.hfs_model.specs.Step.{step}
 use Rattle.hfs_model.specs.declared.plain.PlainEntry.{PlainEntry}
 use Rattle.hfs_volume.specs.Content.{VolumeState, volume_of}
-use Rattle.hfs_volume.specs.Links.{node_name}
 use Rattle.hfs_volume.specs.Naming.{LinksFirst}
-use Rattle.hfs_volume.specs.Records.{placed_in, record_at}
 use Rattle.hfs_volume.specs.TreeOf.{tree_of}
 use Rattle.volume_base.specs.Linking.{IsLinking}
 use Rattle.volume_base.specs.Losing.{IsOnlyName}
 use Rattle.volume_base.specs.Making.{free_place}
 use Rattle.volume_base.specs.Standing.{IsSettled}
 use Rattle.volume_base.specs.Touching.{Touches}
+use Rattle.volume_header.specs.declared.header.VolumeHeader.{VolumeHeader}
 use Rattle.volume_base.proofs.Besides.{blocks_both, blocks_read}
 use Rattle.volume_base.proofs.Commanding.{touches_both, touches_looks}
 use Rattle.volume_base.proofs.Still.{lists_still, own_still}
 use Rattle.volume_base.proofs.Replaced.{node_large}
-use Rattle.volume_names.proofs.EditsLeft.{left_still}
+use Rattle.volume_names.proofs.EditsLeft.{ready_still}
 use Rattle.volume_names.proofs.first_links.link_dated.Goals as goal
 
 pub link_ready-requires-clause-settled : goal.link_ready-requires-clause-settled
@@ -65,5 +63,8 @@ returns-in_err-created-clause-service g c = c.link_date.ensures.stands.service
 pub returns-in_err-created-clause-blocks : goal.returns-in_err-created-clause-blocks
 returns-in_err-created-clause-blocks g c = blocks_read c.args.volume.now c.link_date.new.volume (g.P.SectorView.space c.args.space.now) (g.P.SectorView.space c.link_date.new.space) c.link_date.ensures.reads
 
+pub link_ready-requires-clause-ids : goal.link_ready-requires-clause-ids
+link_ready-requires-clause-ids g c tells = omega (arith, c.requires.ids (sym c.link_date.ensures.reads.looks.same.tells ∙ tells), ap (λ (h : VolumeHeader). h.next_catalog_id) c.link_date.ensures.reads.keeps.header)
+
 pub link_ready-requires-clause-left : goal.link_ready-requires-clause-left
-link_ready-requires-clause-left g c = left_still c.args.volume.now c.link_date.new.volume (g.P.SectorView.space c.args.space.now) (g.P.SectorView.space c.link_date.new.space) 7 1 (λ tells. node_large c.args.volume.now (g.P.SectorView.space c.args.space.now) c.requires.stands tells) c.link_date.ensures.reads c.requires.left
+link_ready-requires-clause-left g c = ready_still c.args.volume.now c.link_date.new.volume (g.P.SectorView.space c.args.space.now) (g.P.SectorView.space c.link_date.new.space) (λ tells. node_large c.args.volume.now (g.P.SectorView.space c.args.space.now) c.requires.stands tells) c.link_date.ensures.reads c.requires.left

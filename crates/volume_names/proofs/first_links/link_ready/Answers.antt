@@ -1,5 +1,5 @@
 use Rattle.std.proofs.Common.{◌≡◌, ℕ, List, sym, ◌∙◌, ap, subst, arith}
-use Rattle.std.specs.Prelude.{OnOk, None}
+use Rattle.std.specs.Prelude.{OnOk}
 use Rattle.std.specs.List.{Contains}
 use Rattle.sector_disk.specs.Lists.{Content}
 use Rattle.btree_node.specs.declared.store.TreeShape.{TreeShape}
@@ -16,11 +16,12 @@ use Rattle.volume_base.specs.Losing.{IsOnlyName}
 use Rattle.volume_base.specs.Making.{free_place}
 use Rattle.volume_base.specs.Standing.{IsSettled}
 use Rattle.volume_base.specs.Touching.{Touches}
+use Rattle.volume_header.specs.declared.header.VolumeHeader.{VolumeHeader}
 use Rattle.volume_base.proofs.Besides.{blocks_both, blocks_none, blocks_read}
 use Rattle.volume_base.proofs.Commanding.{touches_both, touches_looks, touches_none}
 use Rattle.volume_base.proofs.Replaced.{node_large}
 use Rattle.volume_base.proofs.Still.{lists_still, own_still}
-use Rattle.volume_names.proofs.EditsLeft.{left_still}
+use Rattle.volume_names.proofs.EditsLeft.{ready_still}
 use Rattle.volume_names.proofs.first_links.link_ready.Goals as goal
 
 pub link_under-requires-clause-settled : goal.link_under-requires-clause-settled
@@ -74,14 +75,14 @@ returns-in_err-node-clause-service g c = c.free_number.ensures.stands.service
 pub returns-in_err-node-clause-blocks : goal.returns-in_err-node-clause-blocks
 returns-in_err-node-clause-blocks g c = blocks_read c.args.volume.now c.free_number.new.volume (g.P.SectorView.space c.args.space.now) (g.P.SectorView.space c.free_number.new.space) c.free_number.ensures.reads
 
-pub returns-then-not-can_draw_two-clause-touches : goal.returns-then-not-can_draw_two-clause-touches
-returns-then-not-can_draw_two-clause-touches g c committed = touches_looks committed _ (g.P.SectorView.space c.args.space.now) (g.P.SectorView.space c.free_number.new.space) c.free_number.ensures.reads.looks
+pub returns-then-not-has_sector-clause-touches : goal.returns-then-not-has_sector-clause-touches
+returns-then-not-has_sector-clause-touches g c committed = touches_looks committed _ (g.P.SectorView.space c.args.space.now) (g.P.SectorView.space c.free_number.new.space) c.free_number.ensures.reads.looks
 
-pub returns-then-not-can_draw_two-clause-service : goal.returns-then-not-can_draw_two-clause-service
-returns-then-not-can_draw_two-clause-service g c = c.free_number.ensures.stands.service
+pub returns-then-not-has_sector-clause-service : goal.returns-then-not-has_sector-clause-service
+returns-then-not-has_sector-clause-service g c = c.free_number.ensures.stands.service
 
-pub returns-then-not-can_draw_two-clause-blocks : goal.returns-then-not-can_draw_two-clause-blocks
-returns-then-not-can_draw_two-clause-blocks g c = blocks_read c.args.volume.now c.free_number.new.volume (g.P.SectorView.space c.args.space.now) (g.P.SectorView.space c.free_number.new.space) c.free_number.ensures.reads
+pub returns-then-not-has_sector-clause-blocks : goal.returns-then-not-has_sector-clause-blocks
+returns-then-not-has_sector-clause-blocks g c = blocks_read c.args.volume.now c.free_number.new.volume (g.P.SectorView.space c.args.space.now) (g.P.SectorView.space c.free_number.new.space) c.free_number.ensures.reads
 
 pub returns-then-shape-lt4096-clause-does : goal.returns-then-shape-lt4096-clause-does
 returns-then-shape-lt4096-clause-does g c tells from to entry linking =
@@ -106,7 +107,7 @@ link_under-requires-clause-free g c tells =
 
 pub link_under-requires-clause-room : goal.link_under-requires-clause-room
 link_under-requires-clause-room g c = record {
-  ids = c.can_draw_two.ensures.ids c.if-not-can_draw_two.false;
-  some = c.can_draw_two.ensures.sector c.if-not-can_draw_two.false;
-  left = left_still c.args.volume.now c.free_number.new.volume (g.P.SectorView.space c.args.space.now) (g.P.SectorView.space c.free_number.new.space) 7 1 (λ tells. node_large c.args.volume.now (g.P.SectorView.space c.args.space.now) c.requires.stands tells) c.free_number.ensures.reads c.requires.left;
+  some = omega (arith, c.spare.ensures, c.has_sector.ensures.fits c.if-not-has_sector.false);
+  ids = λ tells. omega (arith, c.requires.ids (sym c.free_number.ensures.reads.looks.same.tells ∙ tells), ap (λ (h : VolumeHeader). h.next_catalog_id) c.free_number.ensures.reads.keeps.header);
+  left = ready_still c.args.volume.now c.free_number.new.volume (g.P.SectorView.space c.args.space.now) (g.P.SectorView.space c.free_number.new.space) (λ tells. node_large c.args.volume.now (g.P.SectorView.space c.args.space.now) c.requires.stands tells) c.free_number.ensures.reads c.requires.left;
 }

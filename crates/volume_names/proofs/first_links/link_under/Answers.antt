@@ -1,4 +1,4 @@
-use Rattle.std.proofs.Common.{◌≡◌, ◌+◌, ◌^◌, ℕ, List, sym, ◌∙◌, subst}
+use Rattle.std.proofs.Common.{◌≡◌, ◌^◌, ℕ, List, sym, ◌∙◌, subst}
 use Rattle.std.specs.List.{Contains}
 use Rattle.std.proofs.lemmas.Bool.{lt-ltb}
 use Rattle.hfs_language.specs.declared.command.Command.TheVariants as command
@@ -14,39 +14,34 @@ use Rattle.volume_base.proofs.Besides.{blocks_both}
 use Rattle.volume_base.proofs.Commanding.{touches_both}
 use Rattle.volume_names.proofs.FirstBoth.{first_done, goal_said, private_linked, shared_filled, threads_filled, threads_linked, threads_said}
 use Rattle.volume_base.proofs.FoundEntry.{ok_both}
+use Rattle.volume_names.proofs.EditsLeft.{first_update}
 use Rattle.volume_names.proofs.first_links.link_under.Goals as goal
 
 pub touch-requires-clause-threads : goal.touch-requires-clause-threads
 touch-requires-clause-threads g c tells =
     let before = sym (c.share.ensures.touches (g.P.SectorView.space c.args.space.now).content).same.tells ∙ tells in
     let links = c.requires.links before in
-    threads_linked c.args.volume.now (g.P.SectorView.space c.args.space.now) (c.requires.settled before) (c.requires.stands.stands before) links.0 links.1 links.2 c.args.way.now.parent c.args.old.now c.args.way.now.id c.args.way.now.folder c.args.name.now links.3 (c.requires.only before) c.args.private c.requires.private c.requires.room.ids c.args.number (lt-ltb c.args.number (2 ^ 32) c.ranges.number.fits) (c.requires.free before) c.args.created c.share.new.volume (g.P.SectorView.space c.share.new.space).content (c.in_ok-share.ensures.both before)
+    threads_linked c.args.volume.now (g.P.SectorView.space c.args.space.now) (c.requires.settled before) (c.requires.stands.stands before) links.0 links.1 links.2 c.args.way.now.parent c.args.old.now c.args.way.now.id c.args.way.now.folder c.args.name.now links.3 (c.requires.only before) c.args.private c.requires.private (c.requires.room.ids before) c.args.number (lt-ltb c.args.number (2 ^ 32) c.ranges.number.fits) (c.requires.free before) c.args.created c.share.new.volume (g.P.SectorView.space c.share.new.space).content (c.in_ok-share.ensures.both before)
 
 pub touch-requires-clause-there : goal.touch-requires-clause-there
 touch-requires-clause-there g c tells =
     let before = sym (c.share.ensures.touches (g.P.SectorView.space c.args.space.now).content).same.tells ∙ tells in
     let links = c.requires.links before in
-    private_linked c.args.volume.now (g.P.SectorView.space c.args.space.now) (c.requires.settled before) (c.requires.stands.stands before) links.0 links.1 links.2 c.args.way.now.parent c.args.old.now c.args.way.now.id c.args.way.now.folder c.args.name.now links.3 (c.requires.only before) c.args.private c.requires.private c.requires.room.ids c.args.number (lt-ltb c.args.number (2 ^ 32) c.ranges.number.fits) (c.requires.free before) c.args.created c.share.new.volume (g.P.SectorView.space c.share.new.space).content (c.in_ok-share.ensures.both before)
-
-pub touch-requires-clause-room : goal.touch-requires-clause-room
-touch-requires-clause-room g c = c.fits_update.ensures.room c.if-not-fits_update.false
+    private_linked c.args.volume.now (g.P.SectorView.space c.args.space.now) (c.requires.settled before) (c.requires.stands.stands before) links.0 links.1 links.2 c.args.way.now.parent c.args.old.now c.args.way.now.id c.args.way.now.folder c.args.name.now links.3 (c.requires.only before) c.args.private c.requires.private (c.requires.room.ids before) c.args.number (lt-ltb c.args.number (2 ^ 32) c.ranges.number.fits) (c.requires.free before) c.args.created c.share.new.volume (g.P.SectorView.space c.share.new.space).content (c.in_ok-share.ensures.both before)
 
 pub say_two-requires-clause-threads : goal.say_two-requires-clause-threads
 say_two-requires-clause-threads g c tells =
     let middle = sym (c.touch.ensures.touches (g.P.SectorView.space c.args.space.now).content).same.tells ∙ tells in
     let before = sym (c.share.ensures.touches (g.P.SectorView.space c.args.space.now).content).same.tells ∙ middle in
     let links = c.requires.links before in
-    threads_filled c.args.volume.now (g.P.SectorView.space c.args.space.now) (c.requires.settled before) (c.requires.stands.stands before) links.0 links.1 links.2 c.args.way.now.parent c.args.old.now c.args.way.now.id c.args.way.now.folder c.args.name.now links.3 (c.requires.only before) c.args.private c.requires.private c.requires.room.ids c.args.number (lt-ltb c.args.number (2 ^ 32) c.ranges.number.fits) (c.requires.free before) c.args.created c.share.new.volume (g.P.SectorView.space c.share.new.space).content (c.in_ok-share.ensures.both before) c.touch.new.self (g.P.SectorView.space c.touch.new.space).content (c.in_ok-touch.ensures.counts middle)
+    threads_filled c.args.volume.now (g.P.SectorView.space c.args.space.now) (c.requires.settled before) (c.requires.stands.stands before) links.0 links.1 links.2 c.args.way.now.parent c.args.old.now c.args.way.now.id c.args.way.now.folder c.args.name.now links.3 (c.requires.only before) c.args.private c.requires.private (c.requires.room.ids before) c.args.number (lt-ltb c.args.number (2 ^ 32) c.ranges.number.fits) (c.requires.free before) c.args.created c.share.new.volume (g.P.SectorView.space c.share.new.space).content (c.in_ok-share.ensures.both before) c.touch.new.self (g.P.SectorView.space c.touch.new.space).content (c.in_ok-touch.ensures.counts middle)
 
 pub say_two-requires-clause-there : goal.say_two-requires-clause-there
 say_two-requires-clause-there g c tells =
     let middle = sym (c.touch.ensures.touches (g.P.SectorView.space c.args.space.now).content).same.tells ∙ tells in
     let before = sym (c.share.ensures.touches (g.P.SectorView.space c.args.space.now).content).same.tells ∙ middle in
     let links = c.requires.links before in
-    shared_filled c.args.volume.now (g.P.SectorView.space c.args.space.now) (c.requires.settled before) (c.requires.stands.stands before) links.0 links.1 links.2 c.args.way.now.parent c.args.old.now c.args.way.now.id c.args.way.now.folder c.args.name.now links.3 (c.requires.only before) c.args.private c.requires.private c.requires.room.ids c.args.number (lt-ltb c.args.number (2 ^ 32) c.ranges.number.fits) (c.requires.free before) c.args.created c.share.new.volume (g.P.SectorView.space c.share.new.space).content (c.in_ok-share.ensures.both before) c.touch.new.self (g.P.SectorView.space c.touch.new.space).content (c.in_ok-touch.ensures.counts middle)
-
-pub say_two-requires-clause-room : goal.say_two-requires-clause-room
-say_two-requires-clause-room g c = c.fits_update-2.ensures.room c.if-not-fits_update-2.false
+    shared_filled c.args.volume.now (g.P.SectorView.space c.args.space.now) (c.requires.settled before) (c.requires.stands.stands before) links.0 links.1 links.2 c.args.way.now.parent c.args.old.now c.args.way.now.id c.args.way.now.folder c.args.name.now links.3 (c.requires.only before) c.args.private c.requires.private (c.requires.room.ids before) c.args.number (lt-ltb c.args.number (2 ^ 32) c.ranges.number.fits) (c.requires.free before) c.args.created c.share.new.volume (g.P.SectorView.space c.share.new.space).content (c.in_ok-share.ensures.both before) c.touch.new.self (g.P.SectorView.space c.touch.new.space).content (c.in_ok-touch.ensures.counts middle)
 
 pub touch-requires-2-clause-threads : goal.touch-requires-2-clause-threads
 touch-requires-2-clause-threads g c tells =
@@ -54,7 +49,7 @@ touch-requires-2-clause-threads g c tells =
     let middle = sym (c.touch.ensures.touches (g.P.SectorView.space c.args.space.now).content).same.tells ∙ later in
     let before = sym (c.share.ensures.touches (g.P.SectorView.space c.args.space.now).content).same.tells ∙ middle in
     let links = c.requires.links before in
-    threads_said c.args.volume.now (g.P.SectorView.space c.args.space.now) (c.requires.settled before) (c.requires.stands.stands before) links.0 links.1 links.2 c.args.way.now.parent c.args.old.now c.args.way.now.id c.args.way.now.folder c.args.name.now links.3 (c.requires.only before) c.args.private c.requires.private c.requires.room.ids c.args.number (lt-ltb c.args.number (2 ^ 32) c.ranges.number.fits) (c.requires.free before) c.args.created c.share.new.volume (g.P.SectorView.space c.share.new.space).content (c.in_ok-share.ensures.both before) c.touch.new.self (g.P.SectorView.space c.touch.new.space).content (c.in_ok-touch.ensures.counts middle) c.say_two.new.volume (g.P.SectorView.space c.say_two.new.space).content (c.in_ok-say_two.ensures.says later)
+    threads_said c.args.volume.now (g.P.SectorView.space c.args.space.now) (c.requires.settled before) (c.requires.stands.stands before) links.0 links.1 links.2 c.args.way.now.parent c.args.old.now c.args.way.now.id c.args.way.now.folder c.args.name.now links.3 (c.requires.only before) c.args.private c.requires.private (c.requires.room.ids before) c.args.number (lt-ltb c.args.number (2 ^ 32) c.ranges.number.fits) (c.requires.free before) c.args.created c.share.new.volume (g.P.SectorView.space c.share.new.space).content (c.in_ok-share.ensures.both before) c.touch.new.self (g.P.SectorView.space c.touch.new.space).content (c.in_ok-touch.ensures.counts middle) c.say_two.new.volume (g.P.SectorView.space c.say_two.new.space).content (c.in_ok-say_two.ensures.says later)
 
 pub touch-requires-2-clause-there : goal.touch-requires-2-clause-there
 touch-requires-2-clause-there g c tells =
@@ -62,10 +57,7 @@ touch-requires-2-clause-there g c tells =
     let middle = sym (c.touch.ensures.touches (g.P.SectorView.space c.args.space.now).content).same.tells ∙ later in
     let before = sym (c.share.ensures.touches (g.P.SectorView.space c.args.space.now).content).same.tells ∙ middle in
     let links = c.requires.links before in
-    goal_said c.args.volume.now (g.P.SectorView.space c.args.space.now) (c.requires.settled before) (c.requires.stands.stands before) links.0 links.1 links.2 c.args.way.now.parent c.args.old.now c.args.way.now.id c.args.way.now.folder c.args.name.now links.3 (c.requires.only before) c.args.private c.requires.private c.requires.room.ids c.args.number (lt-ltb c.args.number (2 ^ 32) c.ranges.number.fits) (c.requires.free before) c.args.created c.share.new.volume (g.P.SectorView.space c.share.new.space).content (c.in_ok-share.ensures.both before) c.touch.new.self (g.P.SectorView.space c.touch.new.space).content (c.in_ok-touch.ensures.counts middle) c.say_two.new.volume (g.P.SectorView.space c.say_two.new.space).content (c.in_ok-say_two.ensures.says later)
-
-pub touch-requires-2-clause-room : goal.touch-requires-2-clause-room
-touch-requires-2-clause-room g c = c.fits_update-3.ensures.room c.if-not-fits_update-3.false
+    goal_said c.args.volume.now (g.P.SectorView.space c.args.space.now) (c.requires.settled before) (c.requires.stands.stands before) links.0 links.1 links.2 c.args.way.now.parent c.args.old.now c.args.way.now.id c.args.way.now.folder c.args.name.now links.3 (c.requires.only before) c.args.private c.requires.private (c.requires.room.ids before) c.args.number (lt-ltb c.args.number (2 ^ 32) c.ranges.number.fits) (c.requires.free before) c.args.created c.share.new.volume (g.P.SectorView.space c.share.new.space).content (c.in_ok-share.ensures.both before) c.touch.new.self (g.P.SectorView.space c.touch.new.space).content (c.in_ok-touch.ensures.counts middle) c.say_two.new.volume (g.P.SectorView.space c.say_two.new.space).content (c.in_ok-say_two.ensures.says later)
 
 pub returns-clause-does : goal.returns-clause-does
 returns-clause-does g c tells from to entry linking =
@@ -77,7 +69,7 @@ returns-clause-does g c tells from to entry linking =
     (IsSettled c.touch-2.new.self (g.P.SectorView.space c.touch-2.new.space).content × (tree_of (g.P.SectorView.space c.touch-2.new.space).content ≡ (step (tree_of (g.P.SectorView.space c.args.space.now).content) (command.Ln from to)).1)
     × LinksFirst entry (free_place c.args.way.now.folder c.args.name.now) (volume_of (g.P.SectorView.space c.args.space.now).content) (volume_of (g.P.SectorView.space c.touch-2.new.space).content))
     c.touch-2.result c.touch-2.ensures.stands (c.touch-2.ensures.counts last)
-    (λ stands t. first_done c.args.volume.now (g.P.SectorView.space c.args.space.now) (c.requires.settled tells) (c.requires.stands.stands tells) from to entry c.args.way.now.parent c.args.old.now c.args.way.now.id c.args.way.now.folder c.args.name.now linking (c.requires.only tells) c.args.private c.requires.private c.requires.room.ids c.args.number (lt-ltb c.args.number (2 ^ 32) c.ranges.number.fits) (c.requires.free tells) c.args.created c.share.new.volume (g.P.SectorView.space c.share.new.space).content (c.in_ok-share.ensures.both tells) c.touch.new.self (g.P.SectorView.space c.touch.new.space).content (c.in_ok-touch.ensures.counts middle) c.say_two.new.volume (g.P.SectorView.space c.say_two.new.space).content (c.in_ok-say_two.ensures.says later) c.touch-2.new.self (g.P.SectorView.space c.touch-2.new.space) t (stands.stands end) c.ln_does_its_step.ensures)
+    (λ stands t. first_done c.args.volume.now (g.P.SectorView.space c.args.space.now) (c.requires.settled tells) (c.requires.stands.stands tells) from to entry c.args.way.now.parent c.args.old.now c.args.way.now.id c.args.way.now.folder c.args.name.now linking (c.requires.only tells) c.args.private c.requires.private (c.requires.room.ids tells) c.args.number (lt-ltb c.args.number (2 ^ 32) c.ranges.number.fits) (c.requires.free tells) c.args.created c.share.new.volume (g.P.SectorView.space c.share.new.space).content (c.in_ok-share.ensures.both tells) c.touch.new.self (g.P.SectorView.space c.touch.new.space).content (c.in_ok-touch.ensures.counts middle) c.say_two.new.volume (g.P.SectorView.space c.say_two.new.space).content (c.in_ok-say_two.ensures.says later) c.touch-2.new.self (g.P.SectorView.space c.touch-2.new.space) t (stands.stands end) c.ln_does_its_step.ensures)
 
 pub returns-clause-touches : goal.returns-clause-touches
 returns-clause-touches g c committed =
@@ -121,28 +113,11 @@ returns-in_err-say_two-clause-below g c = g.met.P.SectorView.follows_trans c.arg
 pub returns-in_err-say_two-clause-blocks : goal.returns-in_err-say_two-clause-blocks
 returns-in_err-say_two-clause-blocks g c = blocks_both c.args.volume.now c.touch.new.self c.say_two.new.volume (blocks_both c.args.volume.now c.share.new.volume c.touch.new.self (c.share.ensures.blocks) c.touch.ensures.blocks) c.say_two.ensures.blocks
 
-pub returns-then-not-fits_update-2-clause-touches : goal.returns-then-not-fits_update-2-clause-touches
-returns-then-not-fits_update-2-clause-touches g c committed =
-    touches_both committed _ (g.P.SectorView.space c.args.space.now) (g.P.SectorView.space c.share.new.space) (g.P.SectorView.space c.touch.new.space)
-    (c.share.ensures.touches committed)
-    (subst (λ (l : List ℕ). Touches committed (λ s. Contains l s) (g.P.SectorView.space c.share.new.space) (g.P.SectorView.space c.touch.new.space)) (c.share.ensures.own) (c.touch.ensures.touches committed))
+pub touch-requires-clause-room : goal.touch-requires-clause-room
+touch-requires-clause-room g c = first_update 2 c.share.new.volume (g.P.SectorView.space c.share.new.space) c.in_ok-share.ensures.room
 
-pub returns-then-not-fits_update-2-clause-below : goal.returns-then-not-fits_update-2-clause-below
-returns-then-not-fits_update-2-clause-below g c = g.met.P.SectorView.follows_trans c.args.space.now c.share.new.space c.touch.new.space (c.share.ensures.below) c.touch.ensures.below
+pub say_two-requires-clause-room : goal.say_two-requires-clause-room
+say_two-requires-clause-room g c = first_update 1 c.touch.new.self (g.P.SectorView.space c.touch.new.space) (c.in_ok-touch.ensures.room 2 c.in_ok-share.ensures.room)
 
-pub returns-then-not-fits_update-2-clause-blocks : goal.returns-then-not-fits_update-2-clause-blocks
-returns-then-not-fits_update-2-clause-blocks g c = blocks_both c.args.volume.now c.share.new.volume c.touch.new.self (c.share.ensures.blocks) c.touch.ensures.blocks
-
-pub returns-then-not-fits_update-3-clause-touches : goal.returns-then-not-fits_update-3-clause-touches
-returns-then-not-fits_update-3-clause-touches g c committed =
-    touches_both committed _ (g.P.SectorView.space c.args.space.now) (g.P.SectorView.space c.touch.new.space) (g.P.SectorView.space c.say_two.new.space)
-    (touches_both committed _ (g.P.SectorView.space c.args.space.now) (g.P.SectorView.space c.share.new.space) (g.P.SectorView.space c.touch.new.space)
-    (c.share.ensures.touches committed)
-    (subst (λ (l : List ℕ). Touches committed (λ s. Contains l s) (g.P.SectorView.space c.share.new.space) (g.P.SectorView.space c.touch.new.space)) (c.share.ensures.own) (c.touch.ensures.touches committed)))
-    (subst (λ (l : List ℕ). Touches committed (λ s. Contains l s) (g.P.SectorView.space c.touch.new.space) (g.P.SectorView.space c.say_two.new.space)) (c.touch.ensures.own ∙ c.share.ensures.own) (c.say_two.ensures.touches committed))
-
-pub returns-then-not-fits_update-3-clause-below : goal.returns-then-not-fits_update-3-clause-below
-returns-then-not-fits_update-3-clause-below g c = g.met.P.SectorView.follows_trans c.args.space.now c.touch.new.space c.say_two.new.space (g.met.P.SectorView.follows_trans c.args.space.now c.share.new.space c.touch.new.space (c.share.ensures.below) c.touch.ensures.below) c.say_two.ensures.below
-
-pub returns-then-not-fits_update-3-clause-blocks : goal.returns-then-not-fits_update-3-clause-blocks
-returns-then-not-fits_update-3-clause-blocks g c = blocks_both c.args.volume.now c.touch.new.self c.say_two.new.volume (blocks_both c.args.volume.now c.share.new.volume c.touch.new.self (c.share.ensures.blocks) c.touch.ensures.blocks) c.say_two.ensures.blocks
+pub touch-requires-2-clause-room : goal.touch-requires-2-clause-room
+touch-requires-2-clause-room g c = first_update 0 c.say_two.new.volume (g.P.SectorView.space c.say_two.new.space) (c.in_ok-say_two.ensures.room 1 (c.in_ok-touch.ensures.room 2 c.in_ok-share.ensures.room))

@@ -1,11 +1,10 @@
-use Rattle.std.proofs.Common.{sym, ◌∙◌}
-use Rattle.volume_base.proofs.Replaced.{node_large}
-use Rattle.volume_names.proofs.EditsFit.{five_fit}
+use Rattle.std.proofs.Common.{refl, sym, ◌∙◌, arith}
+use Rattle.volume_names.proofs.EditsFit.{load_fits}
 use Rattle.volume_names.proofs.fitting.fits_aside.Goals as goal
 
 pub returns-clause-load : goal.returns-clause-load
 returns-clause-load g c fits =
-    five_fit c.a_load_says_enough.ensures c.a_load_is_of_parts.ensures c.args.volume.now (g.P.SectorView.space c.args.space.now) c.requires.settled (λ tells. node_large c.args.volume.now (g.P.SectorView.space c.args.space.now) c.requires.stands tells) (λ tells. sym (c.can_edit.ensures tells) ∙ fits)
+    load_fits c.a_load_says_enough.ensures c.a_load_is_of_parts.ensures c.args.volume.now (g.P.SectorView.space c.args.space.now) c.requires.settled (record { ids = 1; catalog = 5; attributes = 0; updates = 4 }) _ refl (λ tells. omega arith) (λ tells. sym (c.can_edit.ensures tells) ∙ fits)
 
 pub returns-clause-met : goal.returns-clause-met
 returns-clause-met g c tells met = c.can_edit.ensures tells ∙ met

@@ -1,4 +1,4 @@
-use Rattle.std.proofs.Common.{◌≤◌, sym, ◌∙◌, arith}
+use Rattle.std.proofs.Common.{sym, ◌∙◌, arith}
 use Rattle.std.proofs.lemmas.Bool.{true≢false}
 use Rattle.hfs_volume.specs.Weight.{edits}
 use Rattle.volume_base.proofs.Fitted.{make_fits, ids_pass, some_pass}

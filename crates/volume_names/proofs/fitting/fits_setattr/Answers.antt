@@ -1,4 +1,4 @@
-use Rattle.std.proofs.Common.{◌≤◌, sym, ◌∙◌, arith}
+use Rattle.std.proofs.Common.{sym, ◌∙◌, arith}
 use Rattle.hfs_volume.specs.Weight.{edits}
 use Rattle.volume_base.proofs.Fitted.{set_fits, mark_alone, update_passes}
 use Rattle.volume_names.proofs.fitting.fits_setattr.Goals as goal

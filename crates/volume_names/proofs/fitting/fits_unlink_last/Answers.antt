@@ -1,4 +1,4 @@
-use Rattle.std.proofs.Common.{◌≤◌, sym, ◌∙◌, arith}
+use Rattle.std.proofs.Common.{sym, ◌∙◌, arith}
 use Rattle.volume_base.proofs.Fitted.{unlink_last_fits}
 use Rattle.volume_names.proofs.fitting.fits_unlink_last.Goals as goal
 

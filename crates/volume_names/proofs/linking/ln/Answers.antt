@@ -1,5 +1,5 @@
 use Rattle.std.proofs.Common.{◌≡◌, true, ℕ, List, sym, ◌∙◌, ap, subst}
-use Rattle.std.specs.Prelude.{IfOk, None, Ok, OnOk}
+use Rattle.std.specs.Prelude.{IfOk, Ok, OnOk}
 use Rattle.std.specs.List.{Contains}
 use Rattle.sector_disk.specs.Lists.{Content}
 use Rattle.hfs_language.specs.declared.command.Command.TheVariants as command

@@ -5,7 +5,6 @@ use Rattle.sector_disk.specs.Lists.{Content}
 use Rattle.hfs_language.specs.Written.{FitsPath}
 use Rattle.hfs_language.specs.declared.command.Command.TheVariants as command
 use Rattle.hfs_model.specs.Step.{step}
-use Rattle.hfs_model.specs.declared.plain.PlainEntry.{PlainEntry}
 use Rattle.hfs_volume.specs.TreeOf.{tree_of}
 use Rattle.volume_base.specs.Linking.{IsLinking}
 use Rattle.volume_names.specs.Linking.{LinksName}

@@ -62,17 +62,11 @@ returns-then-shape-lt4096-clause-touches g c committed = touches_none committed 
 pub returns-then-shape-lt4096-clause-service : goal.returns-then-shape-lt4096-clause-service
 returns-then-shape-lt4096-clause-service g c = c.requires.stands.service
 
-pub touch-requires-clause-room : goal.touch-requires-clause-room
-touch-requires-clause-room g c = c.fits_update.ensures.room c.if-not-fits_update.false
-
-pub returns-then-not-fits_update-clause-touches : goal.returns-then-not-fits_update-clause-touches
-returns-then-not-fits_update-clause-touches g c committed = c.hide.ensures.touches committed
-
-pub returns-then-not-fits_update-clause-spent : goal.returns-then-not-fits_update-clause-spent
-returns-then-not-fits_update-clause-spent g c tells = omega (arith, c.hide.ensures.spent tells)
-
 pub returns-clause-blocks : goal.returns-clause-blocks
 returns-clause-blocks g c = blocks_both c.args.volume.now c.hide.new.volume c.touch.new.self c.hide.ensures.blocks c.touch.ensures.blocks
 
 pub returns-then-shape-lt4096-clause-blocks : goal.returns-then-shape-lt4096-clause-blocks
 returns-then-shape-lt4096-clause-blocks g c = blocks_none c.args.volume.now
+
+pub touch-requires-clause-room : goal.touch-requires-clause-room
+touch-requires-clause-room g c = c.in_ok-hide.ensures.room

@@ -1,9 +1,11 @@
-use Rattle.std.proofs.Common.{◌≡◌, ℕ, List, sym, ◌∙◌, subst}
+use Rattle.std.proofs.Common.{◌≡◌, ◌*◌, ℕ, List, sym, ◌∙◌, ap, subst}
 use Rattle.std.specs.List.{Contains}
 use Rattle.hfs_language.specs.declared.command.Command.TheVariants as command
 use Rattle.hfs_model.specs.Step.{step}
 use Rattle.hfs_volume.specs.TreeOf.{tree_of}
+use Rattle.volume_base.specs.Changing.{catalog_node}
 use Rattle.volume_names.specs.Losing.{Buries, Loses}
+use Rattle.volume_names.proofs.EditsLeft.{left_as}
 use Rattle.volume_base.specs.Standing.{IsSettled}
 use Rattle.volume_base.specs.Touching.{Touches}
 use Rattle.volume_base.proofs.Besides.{blocks_both, blocks_none}
@@ -53,7 +55,9 @@ pub returns-in-Some-clause-blocks : goal.returns-in-Some-clause-blocks
 returns-in-Some-clause-blocks g c = blocks_both c.args.volume.now c.open_private.new.volume c.bury.new.volume c.open_private.ensures.blocks c.bury.ensures.blocks
 
 pub bury-requires-clause-left : goal.bury-requires-clause-left
-bury-requires-clause-left g c = c.in_ok-open_private.ensures.left 3 0 (c.fits_aside.ensures.load c.if-not-fits_aside.false)
+bury-requires-clause-left g c =
+    left_as c.open_private.new.volume (g.P.SectorView.space c.open_private.new.space) 3 _ _ (λ tells. ap (λ n. 2 * n) (sym (c.in_ok-open_private.ensures.nodes (sym (c.open_private.ensures.touches (g.P.SectorView.space c.args.space.now).content).same.tells ∙ tells))))
+    (c.in_ok-open_private.ensures.left 3 (2 * catalog_node c.args.volume.now) (c.fits_aside.ensures.load c.if-not-fits_aside.false))
 
 pub returns-then-not-fits_aside-clause-touches : goal.returns-then-not-fits_aside-clause-touches
 returns-then-not-fits_aside-clause-touches g c committed = touches_none committed _ (g.P.SectorView.space c.args.space.now)

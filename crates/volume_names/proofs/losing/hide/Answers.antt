@@ -1,13 +1,13 @@
-use Rattle.std.proofs.Common.{[], ℕ, List, sym, ◌∙◌, subst, arith}
+use Rattle.std.proofs.Common.{[], ◌*◌, ℕ, List, sym, ◌∙◌, subst, arith}
 use Rattle.std.specs.List.{Contains}
-use Rattle.volume_base.specs.Changing.{TouchesFolder}
+use Rattle.volume_base.specs.Changing.{HasRoomToUpdate, HasRoomToUpdates, TouchesFolder, catalog_node}
 use Rattle.volume_names.specs.Losing.{Hides}
 use Rattle.volume_base.specs.Touching.{Touches}
 use Rattle.volume_base.proofs.Added.{own_edited}
 use Rattle.volume_names.proofs.Buried.{private_after, puts_aside, threads_aside}
 use Rattle.volume_base.proofs.Commanding.{touches_both}
 use Rattle.volume_base.proofs.FoundEntry.{ok_so, ok_true, settled_threads}
-use Rattle.volume_names.proofs.EditsLeft.{node_aside, room_aside, spent_aside}
+use Rattle.volume_names.proofs.EditsLeft.{first_update, node_aside, room_aside, spent_aside, updates_aside}
 use Rattle.volume_base.proofs.Besides.{blocks_both, blocks_edit}
 use Rattle.volume_names.proofs.losing.hide.Goals as goal
 
@@ -18,7 +18,7 @@ pub set_aside-requires-clause-file : goal.set_aside-requires-clause-file
 set_aside-requires-clause-file g c tells = (c.requires.only tells).names
 
 pub set_aside-requires-clause-room : goal.set_aside-requires-clause-room
-set_aside-requires-clause-room g c names = room_aside c.args.volume.now (g.P.SectorView.space c.args.space.now) c.requires.left c.requires.size names
+set_aside-requires-clause-room g c names = room_aside (2 * catalog_node c.args.volume.now) c.args.volume.now (g.P.SectorView.space c.args.space.now) c.requires.left c.requires.size names
 
 pub touch-requires-clause-threads : goal.touch-requires-clause-threads
 touch-requires-clause-threads g c tells =
@@ -46,10 +46,10 @@ pub returns-clause-below : goal.returns-clause-below
 returns-clause-below g c = g.met.P.SectorView.follows_trans c.args.space.now c.set_aside.new.space c.touch.new.space c.set_aside.ensures.below c.touch.ensures.below
 
 pub returns-clause-spent : goal.returns-clause-spent
-returns-clause-spent g c tells = omega (arith, spent_aside c.edits_take_their_load.ensures c.args.volume.now c.set_aside.new.volume (g.P.SectorView.space c.args.space.now) (g.P.SectorView.space c.set_aside.new.space) c.requires.left c.requires.size (c.set_aside.ensures.takes []) tells, c.touch.ensures.spent (c.set_aside.ensures.frame.space.same.tells ∙ tells), node_aside c.args.volume.now c.set_aside.new.volume (g.P.SectorView.space c.args.space.now) (g.P.SectorView.space c.set_aside.new.space) c.requires.left c.requires.size (c.set_aside.ensures.takes []) tells)
+returns-clause-spent g c tells = omega (arith, spent_aside c.edits_take_their_load.ensures (2 * catalog_node c.args.volume.now) c.args.volume.now c.set_aside.new.volume (g.P.SectorView.space c.args.space.now) (g.P.SectorView.space c.set_aside.new.space) c.requires.left c.requires.size (c.set_aside.ensures.takes []) tells, c.touch.ensures.spent (c.set_aside.ensures.frame.space.same.tells ∙ tells), node_aside (2 * catalog_node c.args.volume.now) c.args.volume.now c.set_aside.new.volume (g.P.SectorView.space c.args.space.now) (g.P.SectorView.space c.set_aside.new.space) c.requires.left c.requires.size (c.set_aside.ensures.takes []) tells)
 
 pub returns-in_err-set_aside-clause-spent : goal.returns-in_err-set_aside-clause-spent
-returns-in_err-set_aside-clause-spent g c tells = omega (arith, spent_aside c.edits_take_their_load.ensures c.args.volume.now c.set_aside.new.volume (g.P.SectorView.space c.args.space.now) (g.P.SectorView.space c.set_aside.new.space) c.requires.left c.requires.size (c.set_aside.ensures.takes []) tells)
+returns-in_err-set_aside-clause-spent g c tells = omega (arith, spent_aside c.edits_take_their_load.ensures (2 * catalog_node c.args.volume.now) c.args.volume.now c.set_aside.new.volume (g.P.SectorView.space c.args.space.now) (g.P.SectorView.space c.set_aside.new.space) c.requires.left c.requires.size (c.set_aside.ensures.takes []) tells)
 
 pub returns-clause-size : goal.returns-clause-size
 returns-clause-size g c = ok_true c.touch.result (c.touch.ensures.size ∙ c.set_aside.ensures.frame.file.node_size)
@@ -60,23 +60,17 @@ returns-clause-own g c = c.touch.ensures.own ∙ own_edited c.args.volume.now c.
 pub returns-in_err-set_aside-clause-own : goal.returns-in_err-set_aside-clause-own
 returns-in_err-set_aside-clause-own g c = own_edited c.args.volume.now c.set_aside.new.volume (g.P.SectorView.space c.args.space.now) (g.P.SectorView.space c.set_aside.new.space) c.set_aside.ensures.frame c.set_aside.ensures.rest
 
-pub touch-requires-clause-room : goal.touch-requires-clause-room
-touch-requires-clause-room g c = c.fits_update.ensures.room c.if-not-fits_update.false
-
-pub returns-then-not-fits_update-clause-touches : goal.returns-then-not-fits_update-clause-touches
-returns-then-not-fits_update-clause-touches g c committed = c.set_aside.ensures.touches committed
-
-pub returns-then-not-fits_update-clause-spent : goal.returns-then-not-fits_update-clause-spent
-returns-then-not-fits_update-clause-spent g c tells = omega (arith, spent_aside c.edits_take_their_load.ensures c.args.volume.now c.set_aside.new.volume (g.P.SectorView.space c.args.space.now) (g.P.SectorView.space c.set_aside.new.space) c.requires.left c.requires.size (c.set_aside.ensures.takes []) tells)
-
-pub returns-then-not-fits_update-clause-own : goal.returns-then-not-fits_update-clause-own
-returns-then-not-fits_update-clause-own g c = own_edited c.args.volume.now c.set_aside.new.volume (g.P.SectorView.space c.args.space.now) (g.P.SectorView.space c.set_aside.new.space) c.set_aside.ensures.frame c.set_aside.ensures.rest
-
-pub returns-then-not-fits_update-clause-blocks : goal.returns-then-not-fits_update-clause-blocks
-returns-then-not-fits_update-clause-blocks g c = blocks_edit c.args.volume.now c.set_aside.new.volume c.set_aside.ensures.rest
-
 pub returns-clause-blocks : goal.returns-clause-blocks
 returns-clause-blocks g c = blocks_both c.args.volume.now c.set_aside.new.volume c.touch.new.self (blocks_edit c.args.volume.now c.set_aside.new.volume c.set_aside.ensures.rest) c.touch.ensures.blocks
 
 pub returns-in_err-set_aside-clause-blocks : goal.returns-in_err-set_aside-clause-blocks
 returns-in_err-set_aside-clause-blocks g c = blocks_edit c.args.volume.now c.set_aside.new.volume c.set_aside.ensures.rest
+
+pub touch-requires-clause-room : goal.touch-requires-clause-room
+touch-requires-clause-room g c = first_update 1 c.set_aside.new.volume (g.P.SectorView.space c.set_aside.new.space) (updates_aside 2 c.args.volume.now c.set_aside.new.volume (g.P.SectorView.space c.args.space.now) (g.P.SectorView.space c.set_aside.new.space) c.requires.size c.set_aside.ensures.frame.space.same.tells c.set_aside.ensures.frame.file.node_size (c.in_ok-set_aside.ensures.edits []) c.requires.left)
+
+pub returns-clause-room : goal.returns-clause-room
+returns-clause-room g c =
+    ok_so (HasRoomToUpdates 1 c.touch.new.self (g.P.SectorView.space c.touch.new.space)) (HasRoomToUpdate c.touch.new.self (g.P.SectorView.space c.touch.new.space)) c.touch.result
+    (c.touch.ensures.room 1 (updates_aside 2 c.args.volume.now c.set_aside.new.volume (g.P.SectorView.space c.args.space.now) (g.P.SectorView.space c.set_aside.new.space) c.requires.size c.set_aside.ensures.frame.space.same.tells c.set_aside.ensures.frame.file.node_size (c.in_ok-set_aside.ensures.edits []) c.requires.left))
+    (first_update 0 c.touch.new.self (g.P.SectorView.space c.touch.new.space))

@@ -1,6 +1,4 @@
-use Rattle.std.proofs.Common.{◌≡◌, inl, inr, ℕ, length, sym, ◌∙◌, ap, subst, arith}
-use Rattle.std.specs.Prelude.{Option, is_some}
-use Rattle.std.proofs.lemmas.Bool.{true≢false}
+use Rattle.std.proofs.Common.{◌≡◌, inl, inr, length, sym, ap, subst, arith}
 use Rattle.hard_links.specs.declared.place.EntryAt.{EntryAt}
 use Rattle.hfs_language.specs.declared.command.Command.TheVariants as command
 use Rattle.hfs_model.specs.Step.{step}

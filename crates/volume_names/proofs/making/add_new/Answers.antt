@@ -95,3 +95,6 @@ returns-clause-left g c edits beside load =
     left_added c.edits_have_room.ensures c.args.volume.now c.add.new.volume (g.P.SectorView.space c.args.space.now) (g.P.SectorView.space c.draw.new.space) (g.P.SectorView.space c.add.new.space) edits beside c.requires.size c.draw.ensures.within.same.tells c.add.ensures.frame.space.same.tells c.draw.ensures.spent
     (subst (λ (t : Tree). TakesEdits 2 516 (state_of [] t.file (g.P.SectorView.space c.draw.new.space)) (state_of [] c.add.new.volume.catalog.file (g.P.SectorView.space c.add.new.space))) (ap (λ (x : Volume). x.catalog) c.draw.ensures.rest) (c.in_ok-add.ensures.edits []))
     load
+
+pub returns-clause-is_put : goal.returns-clause-is_put
+returns-clause-is_put g c tells = c.add.ensures.frame.space.still_put 2 (c.draw.ensures.is_put tells)

@@ -1,4 +1,4 @@
-use Rattle.std.proofs.Common.{◌≤◌, ◌+◌, false, arith}
+use Rattle.std.proofs.Common.{false, arith}
 use Rattle.hfs_volume.specs.TreeOf.{tree_of}
 use Rattle.volume_base.proofs.Loads.{make_load_told}
 use Rattle.volume_names.proofs.making.create.Goals as goal

@@ -1,5 +1,4 @@
-use Rattle.std.proofs.Common.{List, sym, ◌∙◌, ap, subst}
-use Rattle.std.specs.Prelude.{None}
+use Rattle.std.proofs.Common.{List, sym, ◌∙◌, ap}
 use Rattle.btree_node.specs.Levels.{Pair}
 use Rattle.hfs_volume.specs.Links.{node_name}
 use Rattle.hfs_volume.specs.Records.{placed_in, record_at}

@@ -2,7 +2,6 @@ use Rattle.std.proofs.Common.{◌≡◌, List, ℕ, sym, ◌∙◌, subst}
 use Rattle.std.specs.Prelude.{None}
 use Rattle.btree_file.specs.Standing.{pairs_in}
 use Rattle.btree_file.specs.State.{sectors_of_tree}
-use Rattle.hfs_volume.specs.Links.{node_name}
 use Rattle.hfs_volume.specs.Records.{placed_in, record_at}
 use Rattle.catalog.proofs.Removals.{no_value_no_record}
 use Rattle.volume_base.proofs.Over.{over_read}

@@ -1,16 +1,18 @@
-use Rattle.std.proofs.Common.{◌+◌, ◌/◌, ℕ, List, length, sym, ◌∙◌, ap, subst, arith}
+use Rattle.std.proofs.Common.{◌≡◌, ◌+◌, ◌/◌, ℕ, List, length, sym, ◌∙◌, ap, subst, arith}
 use Rattle.std.specs.Prelude.{Some, true}
 use Rattle.std.specs.List.{Contains}
 use Rattle.hfs_volume.specs.Records.{placed_in, record_at}
 use Rattle.volume_base.specs.Changing.{catalog_node}
+use Rattle.volume_header.specs.declared.header.VolumeHeader.{VolumeHeader}
 use Rattle.volume_base.specs.Lists.{lists_of}
 use Rattle.volume_base.specs.Making.{AddsNew}
 use Rattle.volume_names.specs.PrivateFolder.{HasOpened, RecountsFolder}
 use Rattle.volume_base.specs.Standing.{StandsOver}
 use Rattle.volume_base.specs.Touching.{Touches}
+use Rattle.volume_base.specs.declared.volume.Volume.{Volume}
 use Rattle.volume_base.proofs.Besides.{blocks_both, blocks_none}
 use Rattle.volume_base.proofs.Commanding.{touches_both, touches_none}
-use Rattle.volume_base.proofs.FoundEntry.{ok_both}
+use Rattle.volume_base.proofs.FoundEntry.{ok_both, ok_so, ok_true}
 use Rattle.volume_names.proofs.PrivateOpened.{free_name, private_opened, root_after, threads_made}
 use Rattle.volume_names.proofs.EditsLeft.{left_as}
 use Rattle.volume_names.proofs.private_folder.make_private.Goals as goal
@@ -79,3 +81,18 @@ returns-clause-left g c edits beside load =
     (left_as c.add_new.new.volume (g.P.SectorView.space c.add_new.new.space) edits _ _
     (λ tells. ap (λ n. n / 512 + beside) (sym (c.in_ok-add_new.ensures.adds (sym (c.add_new.ensures.touches (g.P.SectorView.space c.args.space.now).content).same.tells ∙ tells)).changes.nodes.1))
     (c.in_ok-add_new.ensures.left edits (catalog_node c.args.volume.now + beside) load))
+
+pub returns-clause-is_put : goal.returns-clause-is_put
+returns-clause-is_put g c tells = ok_true c.recount.result ((c.recount.ensures.touches (g.P.SectorView.space c.args.space.now).content).still_put 2 (c.in_ok-add_new.ensures.is_put tells))
+
+pub returns-clause-ids : goal.returns-clause-ids
+returns-clause-ids g c tells =
+    ok_so (RecountsFolder 2 1 c.add_new.new.volume c.recount.new.volume (g.P.SectorView.space c.add_new.new.space).content (g.P.SectorView.space c.recount.new.space).content)
+    (c.recount.new.volume.header.next_catalog_id ≡ c.args.volume.now.header.next_catalog_id + 1) c.recount.result (c.recount.ensures.counts ((c.add_new.ensures.touches (g.P.SectorView.space c.args.space.now).content).same.tells ∙ tells))
+    (λ r. ap (λ (v : Volume). v.header.next_catalog_id) r.rest ∙ ap (λ (h : VolumeHeader). h.next_catalog_id) (c.in_ok-add_new.ensures.adds tells).header)
+
+pub returns-clause-nodes : goal.returns-clause-nodes
+returns-clause-nodes g c tells =
+    ok_so (RecountsFolder 2 1 c.add_new.new.volume c.recount.new.volume (g.P.SectorView.space c.add_new.new.space).content (g.P.SectorView.space c.recount.new.space).content)
+    (catalog_node c.recount.new.volume ≡ catalog_node c.args.volume.now) c.recount.result (c.recount.ensures.counts ((c.add_new.ensures.touches (g.P.SectorView.space c.args.space.now).content).same.tells ∙ tells))
+    (λ r. ap (λ n. n / 512) (r.changes.nodes.1 ∙ (c.in_ok-add_new.ensures.adds tells).changes.nodes.1))

@@ -38,3 +38,12 @@ returns-clause-left g c edits beside load = record { told = (c.in_ok-make_privat
 pub returns-then-shape-lt4096-clause-left : goal.returns-then-shape-lt4096-clause-left
 returns-then-shape-lt4096-clause-left g c edits beside load =
     record { told = λ tells. absurd (omega (arith, c.if-shape-lt4096.true, ap (λ (s : TreeShape). s.node_size) c.shape.ensures, node_large c.args.volume.now (g.P.SectorView.space c.args.space.now) c.requires.stands tells)) }
+
+pub returns-then-shape-lt4096-clause-is_put : goal.returns-then-shape-lt4096-clause-is_put
+returns-then-shape-lt4096-clause-is_put g c tells = absurd (omega (arith, c.if-shape-lt4096.true, ap (λ (s : TreeShape). s.node_size) c.shape.ensures, node_large c.args.volume.now (g.P.SectorView.space c.args.space.now) c.requires.stands tells))
+
+pub returns-then-shape-lt4096-clause-ids : goal.returns-then-shape-lt4096-clause-ids
+returns-then-shape-lt4096-clause-ids g c tells = absurd (omega (arith, c.if-shape-lt4096.true, ap (λ (s : TreeShape). s.node_size) c.shape.ensures, node_large c.args.volume.now (g.P.SectorView.space c.args.space.now) c.requires.stands tells))
+
+pub returns-then-shape-lt4096-clause-nodes : goal.returns-then-shape-lt4096-clause-nodes
+returns-then-shape-lt4096-clause-nodes g c tells = absurd (omega (arith, c.if-shape-lt4096.true, ap (λ (s : TreeShape). s.node_size) c.shape.ensures, node_large c.args.volume.now (g.P.SectorView.space c.args.space.now) c.requires.stands tells))

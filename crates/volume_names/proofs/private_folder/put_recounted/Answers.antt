@@ -1,17 +1,20 @@
-use Rattle.std.proofs.Common.{◌≡◌, false, sym, ◌∙◌, subst}
+use Rattle.std.proofs.Common.{◌≡◌, [], false, sym, ◌∙◌, subst}
 use Rattle.std.specs.Prelude.{Option, IfSome}
 use Rattle.cat_records.specs.Fits.{FitsRecord}
 use Rattle.cat_records.specs.declared.record.CatRecord.{CatRecord}
+use Rattle.btree_file.specs.State.{state_of}
 use Rattle.catalog.specs.Entries.{IsOfKind}
+use Rattle.catalog.specs.Rooms.{TakesUpdates}
 use Rattle.hfs_volume.specs.Records.{id_in, is_thread}
 use Rattle.volume_base.specs.Changing.{ReplacesRecord}
+use Rattle.volume_names.specs.EditsLeft.{HasEditsLeft}
 use Rattle.volume_names.specs.PrivateFolder.{RecountsFolder}
 use Rattle.volume_base.proofs.Commanding.{touches_none}
 use Rattle.volume_base.proofs.FoundEntry.{ok_so}
 use Rattle.volume_names.proofs.PrivateRecount.{recounted_some, recounts_folder}
 use Rattle.volume_base.proofs.Besides.{blocks_edit, blocks_none}
 use Rattle.volume_base.proofs.Replaced.{node_large}
-use Rattle.volume_names.proofs.EditsLeft.{left_less}
+use Rattle.volume_names.proofs.EditsLeft.{left_less, left_updated}
 use Rattle.volume_names.proofs.private_folder.put_recounted.Goals as goal
 
 pub replace-requires-clause-kind : goal.replace-requires-clause-kind
@@ -25,10 +28,10 @@ replace-requires-clause-same_kind g c = subst (λ (o : Option CatRecord). IfSome
 
 pub returns-clause-counts : goal.returns-clause-counts
 returns-clause-counts g c tells folder fits =
-    ok_so (ReplacesRecord c.args.entry.now c.in-Some.rec c.args.volume.now c.replace.new.volume (g.P.SectorView.space c.args.space.now).content (g.P.SectorView.space c.replace.new.space).content)
-    (RecountsFolder (id_in c.args.entry.now.rec) c.args.up c.args.volume.now c.replace.new.volume (g.P.SectorView.space c.args.space.now).content (g.P.SectorView.space c.replace.new.space).content)
+    ok_so (ReplacesRecord c.args.entry.now c.in-Some.rec c.args.volume.now c.replace.new.self (g.P.SectorView.space c.args.space.now).content (g.P.SectorView.space c.replace.new.space).content)
+    (RecountsFolder (id_in c.args.entry.now.rec) c.args.up c.args.volume.now c.replace.new.self (g.P.SectorView.space c.args.space.now).content (g.P.SectorView.space c.replace.new.space).content)
     c.replace.result (c.replace.ensures.replaces tells)
-    (λ r. recounts_folder c.args.up c.args.volume.now c.replace.new.volume (g.P.SectorView.space c.args.space.now).content (g.P.SectorView.space c.replace.new.space).content c.args.entry.now c.in-Some.rec (c.requires.there tells) folder
+    (λ r. recounts_folder c.args.up c.args.volume.now c.replace.new.self (g.P.SectorView.space c.args.space.now).content (g.P.SectorView.space c.replace.new.space).content c.args.entry.now c.in-Some.rec (c.requires.there tells) folder
     (sym (c.recounted.ensures.same fits) ∙ c.in-Some.is) r)
 
 pub returns-in_default-clause-counts : goal.returns-in_default-clause-counts
@@ -41,10 +44,17 @@ pub returns-in_default-clause-service : goal.returns-in_default-clause-service
 returns-in_default-clause-service g c = c.requires.stands.service
 
 pub returns-clause-blocks : goal.returns-clause-blocks
-returns-clause-blocks g c = blocks_edit c.args.volume.now c.replace.new.volume c.replace.ensures.rest
+returns-clause-blocks g c = blocks_edit c.args.volume.now c.replace.new.self c.replace.ensures.rest
 
 pub returns-in_default-clause-blocks : goal.returns-in_default-clause-blocks
 returns-in_default-clause-blocks g c = blocks_none c.args.volume.now
 
 pub returns-in_default-clause-left : goal.returns-in_default-clause-left
 returns-in_default-clause-left g c edits beside had = left_less c.args.volume.now (g.P.SectorView.space c.args.space.now) edits beside (λ tells. node_large c.args.volume.now (g.P.SectorView.space c.args.space.now) c.requires.stands tells) had
+
+pub returns-clause-left : goal.returns-clause-left
+returns-clause-left g c edits beside had =
+    let old = g.P.SectorView.space c.args.space.now in
+    let new = g.P.SectorView.space c.replace.new.space in
+    ok_so (TakesUpdates 0 1 516 (state_of [] c.args.volume.now.catalog.file old) (state_of [] c.replace.new.self.catalog.file new)) (HasEditsLeft edits beside c.replace.new.self new) c.replace.result (c.replace.ensures.edits [])
+    (λ takes. left_updated c.args.volume.now c.replace.new.self old new edits beside (λ tells. node_large c.args.volume.now old c.requires.stands tells) (c.replace.ensures.touches old.content).same.tells takes had)

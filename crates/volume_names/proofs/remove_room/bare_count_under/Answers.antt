@@ -1,13 +1,12 @@
 use Rattle.std.proofs.Common.{◌≡◌, ℕ, sym, ◌∙◌, ap, subst}
-use Rattle.std.specs.Prelude.{IfOk, Result, Ok, Err}
+use Rattle.std.specs.Prelude.{IfOk, Result}
 use Rattle.attributes.specs.Owned.{count_of}
 use Rattle.hfs_language.specs.declared.refusal.Refusal.{Refusal}
-use Rattle.hfs_model.specs.Plain.{node_at}
 use Rattle.hfs_model.specs.Step.{to_rmdir}
 use Rattle.hfs_model.specs.declared.plain.PlainEntry.{PlainEntry}
-use Rattle.hfs_volume.specs.Content.{VolumeState, has_attributes, volume_of}
+use Rattle.hfs_volume.specs.Content.{VolumeState, has_attributes}
 use Rattle.hfs_volume.specs.TreeOf.{tree_of}
-use Rattle.hfs_volume.specs.Weight.{attribute_count, rmdir_edits}
+use Rattle.hfs_volume.specs.Weight.{rmdir_edits}
 use Rattle.volume_header.specs.declared.header.VolumeHeader.{VolumeHeader}
 use Rattle.volume_base.specs.Lists.{lists_of}
 use Rattle.volume_base.specs.Making.{path_to}

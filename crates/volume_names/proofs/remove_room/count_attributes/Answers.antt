@@ -1,4 +1,4 @@
-use Rattle.std.proofs.Common.{◌≡◌, ◌∙◌}
+use Rattle.std.proofs.Common.{◌∙◌}
 use Rattle.volume_base.specs.Lists.{lists_of}
 use Rattle.volume_base.proofs.RemoveWeight.{listed_many}
 use Rattle.volume_names.proofs.remove_room.count_attributes.Goals as goal

@@ -1,6 +1,6 @@
 use Rattle.std.proofs.Common.{[], ℕ, List, sym, ◌∙◌, ap, subst, arith}
 use Rattle.std.specs.List.{Contains}
-use Rattle.btree_edit.specs.Edits.{EditRoom, TakesAtMost, TakesEdits}
+use Rattle.btree_edit.specs.Edits.{EditRoom, TakesAtMost}
 use Rattle.btree_file.specs.Standing.{numbers_of}
 use Rattle.btree_file.specs.State.{state_of}
 use Rattle.volume_base.specs.Touching.{Touches}

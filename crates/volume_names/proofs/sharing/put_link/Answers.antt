@@ -1,11 +1,9 @@
-use Rattle.std.proofs.Common.{[], ℕ, List, sym, ◌∙◌, ap}
-use Rattle.btree_edit.proofs.EditLaws.{room_then}
-use Rattle.btree_file.specs.State.{state_of}
+use Rattle.std.proofs.Common.{[], ◌∙◌, ap}
 use Rattle.hfs_volume.specs.Records.{placed_in, record_at}
 use Rattle.volume_base.specs.Lists.{lists_of}
 use Rattle.volume_base.proofs.Added.{own_edited}
 use Rattle.volume_base.proofs.Besides.{blocks_edit}
-use Rattle.volume_names.proofs.DroppedOne.{same_then}
+use Rattle.volume_names.proofs.EditsLeft.{left_edited}
 use Rattle.volume_names.proofs.Shared.{puts_link}
 use Rattle.volume_names.proofs.sharing.put_link.Goals as goal
 
@@ -16,11 +14,6 @@ pub returns-clause-puts : goal.returns-clause-puts
 returns-clause-puts g c tells =
     puts_link c.args.volume.now c.add.new.volume (g.P.SectorView.space c.args.space.now) (g.P.SectorView.space c.add.new.space) (c.requires.stands.stands tells) tells (c.in_ok-add.ensures.stands.stands (c.add.ensures.frame.space.same.tells ∙ tells)) c.add.ensures.frame c.add.ensures.rest
     c.args.folder c.args.name.now c.args.id c.args.number c.args.created c.link_record-rec.result c.in_ok-add.field-0 c.link_record-rec.ensures.same (c.requires.vacant tells) (c.in_ok-add.ensures.answer tells) (c.in_ok-add.ensures.added tells)
-
-pub returns-clause-more : goal.returns-clause-more
-returns-clause-more g c room names =
-    room_then 2 2 516 (state_of names c.args.volume.now.catalog.file (g.P.SectorView.space c.args.space.now)) (state_of names c.add.new.volume.catalog.file (g.P.SectorView.space c.add.new.space))
-    (same_then c.args.volume.now.catalog.file c.add.new.volume.catalog.file (g.P.SectorView.space c.args.space.now) (g.P.SectorView.space c.add.new.space) c.add.ensures.frame names) (c.in_ok-add.ensures.edits names) (room names)
 
 pub returns-clause-size : goal.returns-clause-size
 returns-clause-size g c = c.add.ensures.frame.file.node_size
@@ -36,3 +29,6 @@ returns-in_err-add-clause-own g c = own_edited c.args.volume.now c.add.new.volum
 
 pub returns-in_err-add-clause-blocks : goal.returns-in_err-add-clause-blocks
 returns-in_err-add-clause-blocks g c = blocks_edit c.args.volume.now c.add.new.volume c.add.ensures.rest
+
+pub returns-clause-left : goal.returns-clause-left
+returns-clause-left g c edits beside = left_edited 2 edits beside c.args.volume.now c.add.new.volume (g.P.SectorView.space c.args.space.now) (g.P.SectorView.space c.add.new.space) (λ tells. c.requires.size) c.add.ensures.frame.space.same.tells (c.in_ok-add.ensures.edits [])

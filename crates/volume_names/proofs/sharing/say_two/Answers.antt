@@ -1,4 +1,4 @@
-use Rattle.std.proofs.Common.{◌≡◌, ◌≤◌, false, ℕ, List, length, sym, ◌∙◌, ap, subst, arith}
+use Rattle.std.proofs.Common.{◌≡◌, ◌+◌, ◌≤◌, false, ℕ, List, length, sym, ◌∙◌, ap, subst}
 use Rattle.std.specs.Prelude.{Option, IfSome}
 use Rattle.std.specs.List.{Contains}
 use Rattle.cat_records.specs.Fits.{FitsRecord}
@@ -11,6 +11,7 @@ use Rattle.volume_base.specs.Touching.{Touches}
 use Rattle.volume_base.specs.declared.entries.Entry.{Entry}
 use Rattle.volume_base.proofs.Commanding.{touches_looks, touches_both}
 use Rattle.volume_base.proofs.FoundEntry.{room_still, ok_so}
+use Rattle.volume_base.proofs.UpdateRoom.{room_less, updates_still}
 use Rattle.volume_names.proofs.Unlinked.{shared_not_none, shared_there}
 use Rattle.volume_names.proofs.Shared.{says_read}
 use Rattle.volume_base.proofs.Still.{lists_still, own_still}
@@ -95,3 +96,9 @@ returns-in-None-clause-blocks g c = blocks_edit c.args.volume.now c.entry.new.se
 
 pub returns-in_err-entry-clause-blocks : goal.returns-in_err-entry-clause-blocks
 returns-in_err-entry-clause-blocks g c = blocks_edit c.args.volume.now c.entry.new.self c.entry.ensures.rest
+
+pub returns-in-Some-clause-room : goal.returns-in-Some-clause-room
+returns-in-Some-clause-room g c many room = c.put_links.ensures.room many (updates_still (many + 1) c.args.volume.now c.entry.new.self (g.P.SectorView.space c.args.space.now) (g.P.SectorView.space c.entry.new.space) c.entry.ensures.reads room)
+
+pub returns-in-None-clause-room : goal.returns-in-None-clause-room
+returns-in-None-clause-room g c many room = room_less many c.entry.new.self (g.P.SectorView.space c.entry.new.space) (updates_still (many + 1) c.args.volume.now c.entry.new.self (g.P.SectorView.space c.args.space.now) (g.P.SectorView.space c.entry.new.space) c.entry.ensures.reads room)

@@ -1,12 +1,12 @@
-use Rattle.std.proofs.Common.{◌≡◌, [], ◌<◌, ◌+◌, ◌^◌, ℕ, List, refl, sym, ◌∙◌, ap, subst, arith}
-use Rattle.std.specs.Prelude.{None}
+use Rattle.std.proofs.Common.{◌≡◌, [], ◌*◌, ◌/◌, ◌^◌, ℕ, List, sym, ◌∙◌, ap, subst, arith}
 use Rattle.std.specs.List.{Contains}
 use Rattle.std.proofs.lemmas.Bool.{lt-ltb}
-use Rattle.btree_edit.proofs.EditLaws.{room_first}
-use Rattle.btree_file.specs.State.{state_of}
 use Rattle.hfs_volume.specs.Records.{placed_in, record_at}
+use Rattle.volume_base.specs.Changing.{HasRoomToUpdates, catalog_node}
 use Rattle.volume_base.specs.Lists.{lists_of}
+use Rattle.volume_names.specs.EditsLeft.{HasEditsLeft}
 use Rattle.volume_names.specs.Sharing.{LinksBoth, PutsLink}
+use Rattle.volume_names.proofs.EditsLeft.{room_left, updates_left}
 use Rattle.volume_base.specs.Standing.{StandsOver}
 use Rattle.volume_base.specs.Touching.{Touches}
 use Rattle.volume_base.proofs.Besides.{blocks_both}
@@ -26,16 +26,13 @@ pub put_link-requires-clause-vacant : goal.put_link-requires-clause-vacant
 put_link-requires-clause-vacant g c tells =
     let before = sym (c.share_file.ensures.touches (g.P.SectorView.space c.args.space.now).content).same.tells ∙ tells in
     let links = c.requires.links before in
-    old_vacant c.args.volume.now (g.P.SectorView.space c.args.space.now) (c.requires.settled before) (c.requires.stands.stands before) links.0 links.1 links.2 c.args.way.now.parent c.args.old.now c.args.way.now.id c.args.way.now.folder c.args.name.now links.3 (c.requires.only before) c.args.private c.requires.private c.requires.room.ids c.args.number (lt-ltb c.args.number (2 ^ 32) c.ranges.number.fits) (c.requires.free before) c.share_file.new.volume (g.P.SectorView.space c.share_file.new.space).content (c.in_ok-share_file.ensures.shares before) (c.in_ok-share_file.ensures.stands.stands ((c.share_file.ensures.touches (g.P.SectorView.space c.args.space.now).content).same.tells ∙ before)).trees
+    old_vacant c.args.volume.now (g.P.SectorView.space c.args.space.now) (c.requires.settled before) (c.requires.stands.stands before) links.0 links.1 links.2 c.args.way.now.parent c.args.old.now c.args.way.now.id c.args.way.now.folder c.args.name.now links.3 (c.requires.only before) c.args.private c.requires.private (c.requires.room.ids before) c.args.number (lt-ltb c.args.number (2 ^ 32) c.ranges.number.fits) (c.requires.free before) c.share_file.new.volume (g.P.SectorView.space c.share_file.new.space).content (c.in_ok-share_file.ensures.shares before) (c.in_ok-share_file.ensures.stands.stands ((c.share_file.ensures.touches (g.P.SectorView.space c.args.space.now).content).same.tells ∙ before)).trees
 
 pub put_link-requires-clause-unused : goal.put_link-requires-clause-unused
 put_link-requires-clause-unused g c tells =
     let before = sym (c.share_file.ensures.touches (g.P.SectorView.space c.args.space.now).content).same.tells ∙ tells in
     let links = c.requires.links before in
-    first_unused c.args.volume.now (g.P.SectorView.space c.args.space.now) (c.requires.settled before) (c.requires.stands.stands before) links.0 links.1 links.2 c.args.way.now.parent c.args.old.now c.args.way.now.id c.args.way.now.folder c.args.name.now links.3 (c.requires.only before) c.args.private c.requires.private c.requires.room.ids c.args.number (lt-ltb c.args.number (2 ^ 32) c.ranges.number.fits) (c.requires.free before) c.share_file.new.volume (g.P.SectorView.space c.share_file.new.space).content (c.in_ok-share_file.ensures.shares before) (c.in_ok-share_file.ensures.stands.stands ((c.share_file.ensures.touches (g.P.SectorView.space c.args.space.now).content).same.tells ∙ before)).trees
-
-pub put_link-requires-clause-room : goal.put_link-requires-clause-room
-put_link-requires-clause-room g c names tells = room_first 2 2 516 (state_of names c.share_file.new.volume.catalog.file (g.P.SectorView.space c.share_file.new.space)) (c.in_ok-share_file.ensures.more names) tells
+    first_unused c.args.volume.now (g.P.SectorView.space c.args.space.now) (c.requires.settled before) (c.requires.stands.stands before) links.0 links.1 links.2 c.args.way.now.parent c.args.old.now c.args.way.now.id c.args.way.now.folder c.args.name.now links.3 (c.requires.only before) c.args.private c.requires.private (c.requires.room.ids before) c.args.number (lt-ltb c.args.number (2 ^ 32) c.ranges.number.fits) (c.requires.free before) c.share_file.new.volume (g.P.SectorView.space c.share_file.new.space).content (c.in_ok-share_file.ensures.shares before) (c.in_ok-share_file.ensures.stands.stands ((c.share_file.ensures.touches (g.P.SectorView.space c.args.space.now).content).same.tells ∙ before)).trees
 
 pub put_link-requires-2-clause-size : goal.put_link-requires-2-clause-size
 put_link-requires-2-clause-size g c = omega (arith, c.requires.size, c.in_ok-share_file.ensures.size, c.in_ok-put_link.ensures.size)
@@ -44,23 +41,20 @@ pub put_link-requires-2-clause-vacant : goal.put_link-requires-2-clause-vacant
 put_link-requires-2-clause-vacant g c tells =
     let before = sym (c.share_file.ensures.touches (g.P.SectorView.space c.args.space.now).content).same.tells ∙ sym (c.put_link.ensures.touches (g.P.SectorView.space c.args.space.now).content).same.tells ∙ tells in
     let links = c.requires.links before in
-    second_vacant c.args.volume.now (g.P.SectorView.space c.args.space.now) (c.requires.settled before) (c.requires.stands.stands before) links.0 links.1 links.2 c.args.way.now.parent c.args.old.now c.args.way.now.id c.args.way.now.folder c.args.name.now links.3 (c.requires.only before) c.args.private c.requires.private c.requires.room.ids c.args.number (lt-ltb c.args.number (2 ^ 32) c.ranges.number.fits) (c.requires.free before) c.share_file.new.volume (g.P.SectorView.space c.share_file.new.space).content (c.in_ok-share_file.ensures.shares before) (c.in_ok-share_file.ensures.stands.stands ((c.share_file.ensures.touches (g.P.SectorView.space c.args.space.now).content).same.tells ∙ before)).trees c.args.created c.put_link.new.volume (g.P.SectorView.space c.put_link.new.space).content (c.in_ok-put_link.ensures.puts ((c.share_file.ensures.touches (g.P.SectorView.space c.args.space.now).content).same.tells ∙ before)) (c.in_ok-put_link.ensures.stands.stands ((c.put_link.ensures.touches (g.P.SectorView.space c.args.space.now).content).same.tells ∙ ((c.share_file.ensures.touches (g.P.SectorView.space c.args.space.now).content).same.tells ∙ before))).trees
+    second_vacant c.args.volume.now (g.P.SectorView.space c.args.space.now) (c.requires.settled before) (c.requires.stands.stands before) links.0 links.1 links.2 c.args.way.now.parent c.args.old.now c.args.way.now.id c.args.way.now.folder c.args.name.now links.3 (c.requires.only before) c.args.private c.requires.private (c.requires.room.ids before) c.args.number (lt-ltb c.args.number (2 ^ 32) c.ranges.number.fits) (c.requires.free before) c.share_file.new.volume (g.P.SectorView.space c.share_file.new.space).content (c.in_ok-share_file.ensures.shares before) (c.in_ok-share_file.ensures.stands.stands ((c.share_file.ensures.touches (g.P.SectorView.space c.args.space.now).content).same.tells ∙ before)).trees c.args.created c.put_link.new.volume (g.P.SectorView.space c.put_link.new.space).content (c.in_ok-put_link.ensures.puts ((c.share_file.ensures.touches (g.P.SectorView.space c.args.space.now).content).same.tells ∙ before)) (c.in_ok-put_link.ensures.stands.stands ((c.put_link.ensures.touches (g.P.SectorView.space c.args.space.now).content).same.tells ∙ ((c.share_file.ensures.touches (g.P.SectorView.space c.args.space.now).content).same.tells ∙ before))).trees
 
 pub put_link-requires-2-clause-unused : goal.put_link-requires-2-clause-unused
 put_link-requires-2-clause-unused g c tells =
     let before = sym (c.share_file.ensures.touches (g.P.SectorView.space c.args.space.now).content).same.tells ∙ sym (c.put_link.ensures.touches (g.P.SectorView.space c.args.space.now).content).same.tells ∙ tells in
     let links = c.requires.links before in
-    second_unused c.args.volume.now (g.P.SectorView.space c.args.space.now) (c.requires.settled before) (c.requires.stands.stands before) links.0 links.1 links.2 c.args.way.now.parent c.args.old.now c.args.way.now.id c.args.way.now.folder c.args.name.now links.3 (c.requires.only before) c.args.private c.requires.private c.requires.room.ids c.args.number (lt-ltb c.args.number (2 ^ 32) c.ranges.number.fits) (c.requires.free before) c.share_file.new.volume (g.P.SectorView.space c.share_file.new.space).content (c.in_ok-share_file.ensures.shares before) (c.in_ok-share_file.ensures.stands.stands ((c.share_file.ensures.touches (g.P.SectorView.space c.args.space.now).content).same.tells ∙ before)).trees c.args.created c.put_link.new.volume (g.P.SectorView.space c.put_link.new.space).content (c.in_ok-put_link.ensures.puts ((c.share_file.ensures.touches (g.P.SectorView.space c.args.space.now).content).same.tells ∙ before)) (c.in_ok-put_link.ensures.stands.stands ((c.put_link.ensures.touches (g.P.SectorView.space c.args.space.now).content).same.tells ∙ ((c.share_file.ensures.touches (g.P.SectorView.space c.args.space.now).content).same.tells ∙ before))).trees
-
-pub put_link-requires-2-clause-room : goal.put_link-requires-2-clause-room
-put_link-requires-2-clause-room g c = c.in_ok-put_link.ensures.more c.in_ok-share_file.ensures.more
+    ap (λ n. record_at (placed_in (lists_of c.put_link.new.volume (g.P.SectorView.space c.put_link.new.space).content).catalog_pairs) n []) (c.id_behind-two.ensures (omega (arith, c.requires.room.ids before))) ∙ second_unused c.args.volume.now (g.P.SectorView.space c.args.space.now) (c.requires.settled before) (c.requires.stands.stands before) links.0 links.1 links.2 c.args.way.now.parent c.args.old.now c.args.way.now.id c.args.way.now.folder c.args.name.now links.3 (c.requires.only before) c.args.private c.requires.private (c.requires.room.ids before) c.args.number (lt-ltb c.args.number (2 ^ 32) c.ranges.number.fits) (c.requires.free before) c.share_file.new.volume (g.P.SectorView.space c.share_file.new.space).content (c.in_ok-share_file.ensures.shares before) (c.in_ok-share_file.ensures.stands.stands ((c.share_file.ensures.touches (g.P.SectorView.space c.args.space.now).content).same.tells ∙ before)).trees c.args.created c.put_link.new.volume (g.P.SectorView.space c.put_link.new.space).content (c.in_ok-put_link.ensures.puts ((c.share_file.ensures.touches (g.P.SectorView.space c.args.space.now).content).same.tells ∙ before)) (c.in_ok-put_link.ensures.stands.stands ((c.put_link.ensures.touches (g.P.SectorView.space c.args.space.now).content).same.tells ∙ ((c.share_file.ensures.touches (g.P.SectorView.space c.args.space.now).content).same.tells ∙ before))).trees
 
 pub returns-clause-both : goal.returns-clause-both
 returns-clause-both g c tells =
     let second = (c.share_file.ensures.touches (g.P.SectorView.space c.args.space.now).content).same.tells ∙ tells in
     let third = (c.put_link.ensures.touches (g.P.SectorView.space c.args.space.now).content).same.tells ∙ second in
     let last = (c.put_link-2.ensures.touches (g.P.SectorView.space c.args.space.now).content).same.tells ∙ third in
-    ok_both (StandsOver c.put_link-2.new.volume (g.P.SectorView.space c.put_link-2.new.space)) (PutsLink c.args.way.now.folder c.args.name.now (c.args.volume.now.header.next_catalog_id + 1) c.args.number c.args.created c.put_link.new.volume c.put_link-2.new.volume (g.P.SectorView.space c.put_link.new.space).content (g.P.SectorView.space c.put_link-2.new.space).content)
+    ok_both (StandsOver c.put_link-2.new.volume (g.P.SectorView.space c.put_link-2.new.space)) (PutsLink c.args.way.now.folder c.args.name.now c.id_behind-two.result c.args.number c.args.created c.put_link.new.volume c.put_link-2.new.volume (g.P.SectorView.space c.put_link.new.space).content (g.P.SectorView.space c.put_link-2.new.space).content)
     (LinksBoth c.args.way.now.parent c.args.old.now c.args.private c.args.number c.args.way.now.folder c.args.name.now c.args.created c.args.volume.now c.put_link-2.new.volume (g.P.SectorView.space c.args.space.now).content (g.P.SectorView.space c.put_link-2.new.space).content)
     c.put_link-2.result c.put_link-2.ensures.stands (c.put_link-2.ensures.puts third)
     (λ stands two. record {
@@ -72,7 +66,7 @@ returns-clause-both g c tells =
       replaced_in = (g.P.SectorView.space c.put_link.new.space).content;
       one = c.in_ok-put_link.ensures.puts second;
       holds_replaced = (c.in_ok-put_link.ensures.stands.stands third).trees;
-      two = two;
+      two = subst (λ n. PutsLink c.args.way.now.folder c.args.name.now n c.args.number c.args.created c.put_link.new.volume c.put_link-2.new.volume (g.P.SectorView.space c.put_link.new.space).content (g.P.SectorView.space c.put_link-2.new.space).content) (c.id_behind-two.ensures (omega (arith, c.requires.room.ids tells))) two;
       holds = (stands.stands last).trees;
     })
 
@@ -106,3 +100,15 @@ returns-in_err-put_link-clause-blocks g c = blocks_both c.args.volume.now c.shar
 
 pub returns-clause-blocks : goal.returns-clause-blocks
 returns-clause-blocks g c = blocks_both c.args.volume.now c.put_link.new.volume c.put_link-2.new.volume (blocks_both c.args.volume.now c.share_file.new.volume c.put_link.new.volume c.share_file.ensures.blocks c.put_link.ensures.blocks) c.put_link-2.ensures.blocks
+
+pub put_link-requires-clause-room : goal.put_link-requires-clause-room
+put_link-requires-clause-room g c = room_left 2 2 (3 * catalog_node c.args.volume.now) c.share_file.new.volume (g.P.SectorView.space c.share_file.new.space) c.in_ok-share_file.ensures.left (λ tells. omega (arith, c.requires.size, c.in_ok-share_file.ensures.size))
+
+pub put_link-requires-2-clause-room : goal.put_link-requires-2-clause-room
+put_link-requires-2-clause-room g c = room_left 2 0 (3 * catalog_node c.args.volume.now) c.put_link.new.volume (g.P.SectorView.space c.put_link.new.space) (c.in_ok-put_link.ensures.left 2 (3 * catalog_node c.args.volume.now) c.in_ok-share_file.ensures.left) (λ tells. omega (arith, c.requires.size, c.in_ok-share_file.ensures.size, c.in_ok-put_link.ensures.size))
+
+pub returns-clause-room : goal.returns-clause-room
+returns-clause-room g c =
+    ok_both (c.put_link-2.new.volume.catalog.file.shape.node_size ≡ c.put_link.new.volume.catalog.file.shape.node_size) (HasEditsLeft 0 (3 * catalog_node c.args.volume.now) c.put_link-2.new.volume (g.P.SectorView.space c.put_link-2.new.space)) (HasRoomToUpdates 3 c.put_link-2.new.volume (g.P.SectorView.space c.put_link-2.new.space)) c.put_link-2.result c.put_link-2.ensures.size
+    (c.put_link-2.ensures.left 0 (3 * catalog_node c.args.volume.now) (c.in_ok-put_link.ensures.left 2 (3 * catalog_node c.args.volume.now) c.in_ok-share_file.ensures.left))
+    (λ size. updates_left 3 c.args.volume.now c.put_link-2.new.volume (g.P.SectorView.space c.put_link-2.new.space) (ap (λ n. n / 512) (size ∙ c.in_ok-put_link.ensures.size ∙ c.in_ok-share_file.ensures.size)))

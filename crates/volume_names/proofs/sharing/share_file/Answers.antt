@@ -1,18 +1,14 @@
-use Rattle.std.proofs.Common.{ℕ, List, sym, ◌∙◌, ap, subst, arith}
+use Rattle.std.proofs.Common.{[], ◌*◌, ℕ, List, sym, ◌∙◌, ap, subst, arith}
 use Rattle.std.specs.List.{Contains}
-use Rattle.btree_edit.specs.Edits.{EditRoom}
-use Rattle.btree_edit.proofs.EditLaws.{room_first, room_then}
 use Rattle.btree_file.specs.Standing.{numbers_of}
-use Rattle.btree_file.specs.State.{state_of}
+use Rattle.volume_base.specs.Changing.{catalog_node}
 use Rattle.volume_base.specs.Touching.{Touches}
-use Rattle.volume_base.specs.declared.volume.Tree.{Tree}
 use Rattle.volume_base.specs.declared.volume.Volume.{Volume}
 use Rattle.volume_base.proofs.Added.{own_added, own_drawn}
 use Rattle.volume_base.proofs.Commanding.{touches_both}
 use Rattle.volume_base.proofs.TakenOff.{threads_drawn}
-use Rattle.volume_names.proofs.DroppedOne.{same_then}
 use Rattle.volume_names.proofs.Shared.{files_fit, shares_file}
-use Rattle.volume_names.proofs.EditsLeft.{room_behind_header}
+use Rattle.volume_names.proofs.EditsLeft.{left_behind_header, left_edited, room_left}
 use Rattle.volume_base.proofs.Touched.{touches_header}
 use Rattle.volume_base.proofs.Besides.{blocks_both, blocks_edit, blocks_header}
 use Rattle.volume_names.proofs.sharing.share_file.Goals as goal
@@ -58,12 +54,6 @@ returns-in_err-relocate-clause-blocks g c = blocks_both c.args.volume.now c.draw
 pub returns-clause-size : goal.returns-clause-size
 returns-clause-size g c = c.relocate.ensures.frame.file.node_size ∙ ap (λ (x : Volume). (numbers_of x.catalog.file).node_size) c.draw_two.ensures.rest
 
-pub relocate-requires-clause-room : goal.relocate-requires-clause-room
-relocate-requires-clause-room g c names tells =
-    room_first 3 4 516 (state_of names c.draw_two.new.volume.catalog.file (g.P.SectorView.space c.draw_two.new.space))
-    (λ told. subst (λ (t : Tree). EditRoom 7 516 (state_of names t.file (g.P.SectorView.space c.draw_two.new.space))) (sym (ap (λ (x : Volume). x.catalog) c.draw_two.ensures.rest))
-    (room_behind_header c.args.volume.now (g.P.SectorView.space c.args.space.now) (g.P.SectorView.space c.draw_two.new.space) c.requires.room.left c.requires.size c.requires.stands.stands c.draw_two.ensures.within c.draw_two.ensures.spent names told)) tells
-
 pub draw_two-requires-clause-some : goal.draw_two-requires-clause-some
 draw_two-requires-clause-some g c = c.requires.room.some
 
@@ -72,12 +62,16 @@ returns-clause-shares g c tells =
     let later = c.draw_two.ensures.within.same.tells ∙ tells in
     shares_file c.args.volume.now c.draw_two.new.volume (g.P.SectorView.space c.args.space.now) (g.P.SectorView.space c.draw_two.new.space) c.draw_two.ensures.rest (c.draw_two.ensures.put tells) c.relocate.new.volume (g.P.SectorView.space c.relocate.new.space)
     (c.draw_two.ensures.stands.stands (c.draw_two.ensures.within.same.tells ∙ tells)) (c.draw_two.ensures.within.same.tells ∙ tells) (c.in_ok-relocate.ensures.stands.stands (c.relocate.ensures.frame.space.same.tells ∙ c.draw_two.ensures.within.same.tells ∙ tells)) c.relocate.ensures.frame c.relocate.ensures.rest
-    c.args.parent c.args.old.now c.args.private c.args.number c.args.node.now c.in_ok-relocate.field-0 c.requires.node (c.draw_two.ensures.header c.requires.room.ids (files_fit c.args.volume.now (g.P.SectorView.space c.args.space.now).content (c.requires.settled tells) c.requires.room.ids))
+    c.args.parent c.args.old.now c.args.private c.args.number c.args.node.now c.in_ok-relocate.field-0 c.requires.node (c.draw_two.ensures.header (c.requires.room.ids tells) (files_fit c.args.volume.now (g.P.SectorView.space c.args.space.now).content (c.requires.settled tells) (c.requires.room.ids tells)))
     (c.requires.there tells) (c.requires.free tells) (c.in_ok-relocate.ensures.answer (c.draw_two.ensures.within.same.tells ∙ tells)) (c.in_ok-relocate.ensures.moved (c.draw_two.ensures.within.same.tells ∙ tells))
 
-pub returns-clause-more : goal.returns-clause-more
-returns-clause-more g c names =
-    room_then 3 4 516 (state_of names c.draw_two.new.volume.catalog.file (g.P.SectorView.space c.draw_two.new.space)) (state_of names c.relocate.new.volume.catalog.file (g.P.SectorView.space c.relocate.new.space))
-    (same_then c.draw_two.new.volume.catalog.file c.relocate.new.volume.catalog.file (g.P.SectorView.space c.draw_two.new.space) (g.P.SectorView.space c.relocate.new.space) c.relocate.ensures.frame names) (c.in_ok-relocate.ensures.edits names)
-    (λ told. subst (λ (t : Tree). EditRoom 7 516 (state_of names t.file (g.P.SectorView.space c.draw_two.new.space))) (sym (ap (λ (x : Volume). x.catalog) c.draw_two.ensures.rest))
-    (room_behind_header c.args.volume.now (g.P.SectorView.space c.args.space.now) (g.P.SectorView.space c.draw_two.new.space) c.requires.room.left c.requires.size c.requires.stands.stands c.draw_two.ensures.within c.draw_two.ensures.spent names told))
+pub relocate-requires-clause-room : goal.relocate-requires-clause-room
+relocate-requires-clause-room g c =
+    room_left 3 4 (3 * catalog_node c.args.volume.now) c.draw_two.new.volume (g.P.SectorView.space c.draw_two.new.space)
+    (left_behind_header (3 * catalog_node c.args.volume.now) c.args.volume.now c.draw_two.new.volume (g.P.SectorView.space c.args.space.now) (g.P.SectorView.space c.draw_two.new.space) c.requires.room.left c.requires.size c.requires.stands.stands c.draw_two.ensures.within c.draw_two.ensures.spent (ap (λ (x : Volume). x.catalog) c.draw_two.ensures.rest))
+    (λ tells. omega (arith, c.requires.size, ap (λ (x : Volume). (numbers_of x.catalog.file).node_size) c.draw_two.ensures.rest))
+
+pub returns-clause-left : goal.returns-clause-left
+returns-clause-left g c =
+    left_edited 3 4 (3 * catalog_node c.args.volume.now) c.draw_two.new.volume c.relocate.new.volume (g.P.SectorView.space c.draw_two.new.space) (g.P.SectorView.space c.relocate.new.space) (λ tells. omega (arith, c.requires.size, ap (λ (x : Volume). (numbers_of x.catalog.file).node_size) c.draw_two.ensures.rest)) c.relocate.ensures.frame.space.same.tells (c.in_ok-relocate.ensures.edits [])
+    (left_behind_header (3 * catalog_node c.args.volume.now) c.args.volume.now c.draw_two.new.volume (g.P.SectorView.space c.args.space.now) (g.P.SectorView.space c.draw_two.new.space) c.requires.room.left c.requires.size c.requires.stands.stands c.draw_two.ensures.within c.draw_two.ensures.spent (ap (λ (x : Volume). x.catalog) c.draw_two.ensures.rest))

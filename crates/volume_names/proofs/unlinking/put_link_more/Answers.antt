@@ -1,4 +1,4 @@
-use Rattle.std.proofs.Common.{ℕ, ◌+◌, sym, ◌∙◌, arith}
+use Rattle.std.proofs.Common.{◌+◌, arith}
 use Rattle.hfs_volume.specs.Records.{id_in}
 use Rattle.volume_names.specs.Linking.{CountsUp}
 use Rattle.volume_names.specs.Unlinking.{SaysLinks, links_in}

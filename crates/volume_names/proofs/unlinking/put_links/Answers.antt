@@ -8,6 +8,7 @@ use Rattle.volume_base.specs.Changing.{ReplacesRecord}
 use Rattle.volume_names.specs.Unlinking.{SaysLinks, links_in}
 use Rattle.volume_base.proofs.Commanding.{touches_none}
 use Rattle.volume_base.proofs.FoundEntry.{ok_so}
+use Rattle.volume_base.proofs.UpdateRoom.{room_less}
 use Rattle.volume_names.proofs.Unlinked.{relinked_some, says_links}
 use Rattle.volume_base.proofs.Besides.{blocks_edit, blocks_none}
 use Rattle.volume_names.proofs.unlinking.put_links.Goals as goal
@@ -43,3 +44,6 @@ returns-clause-blocks g c = blocks_edit c.args.volume.now c.replace.new.self c.r
 
 pub returns-in_default-clause-blocks : goal.returns-in_default-clause-blocks
 returns-in_default-clause-blocks g c = blocks_none c.args.volume.now
+
+pub returns-in_default-clause-room : goal.returns-in_default-clause-room
+returns-in_default-clause-room g c many room = room_less many c.args.volume.now (g.P.SectorView.space c.args.space.now) room

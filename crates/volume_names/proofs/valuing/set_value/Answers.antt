@@ -1,8 +1,6 @@
-use Rattle.std.proofs.Common.{◌≡◌, ℕ, List, [], IsTrue, get_or, sym, ◌∙◌, ap, subst}
-use Rattle.std.specs.Prelude.{IfOk}
+use Rattle.std.proofs.Common.{ℕ, List, [], get_or, sym, ◌∙◌, ap, subst}
 use Rattle.attributes.specs.Values.{AreInline, Setting}
 use Rattle.btree_node.specs.Keys.{IsAttrKey, attr_cmp, anything}
-use Rattle.btree_node.specs.Levels.{Pair}
 use Rattle.btree_node.specs.TreeFile.{attributes_form}
 use Rattle.btree_file.proofs.StandingLaws.{tree_held, pairs_held}
 use Rattle.hfs_volume.specs.Changes.{AreSortedAttributes}
