@@ -155,7 +155,7 @@ module _ (v : Volume) (a : Space) (settled : IsSettled v a.content) (anew : IsAn
       by : (d : Option Data) → data_of (tree_of a.content) asked ≡ d → IsReady asked v a ⊎ PutsNow asked v a
       by None is = inl (record {
         now = record { no_data = is; load = alone_.load; grow = 0 ∷ 0 ∷ 0 ∷ []; costs = costs; within = edits_fit is };
-        growth = λ tree more some first. absurd (none_grows tree more some first);
+        records = λ tree more some first. absurd (none_grows tree more some first);
       })
       by (Some put) is = inr (record {
         met = ap (is_data_met v a.spare (volume_of a.content)) is ∙ data_met put is;

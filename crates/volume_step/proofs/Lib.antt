@@ -5,6 +5,7 @@ pub mod Fewer
 pub mod Forks
 pub mod GrownFor
 pub mod GrowthSteps
+pub mod GrowthThere
 pub mod Judged
 pub mod Kept
 pub mod KeptEntries

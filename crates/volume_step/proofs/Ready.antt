@@ -150,6 +150,14 @@ module _ (capacity : ℕ) (free : List Bool) (volume : VolumeState) (tree : Plai
       by true same = absurd (cc same)
       by false same = same
 
+  -- no tree is lacking
+  pub not_lacking : (n : ℕ) (grow : List ℕ) → weight_with capacity free volume tree asked ≡ cost.Load n grow → lacks_tree volume asked ≡ false
+  not_lacking n grow is = by (lacks_tree volume asked) refl (sym edits_weigh ∙ is)
+    where
+      by : (b : Bool) → lacks_tree volume asked ≡ b → (if b then cost.Refused refusal.NoTree else cost_of (needs_of (edits_of tree asked)) room) ≡ cost.Load n grow → lacks_tree volume asked ≡ false
+      by true lacks same = absurd (cc same)
+      by false has same = has
+
 -- where no tree grows its edits are met
 pub met_now : (asked : Command) (v : Volume) (a : Space) → only_reads asked ≡ false → (now : FitsNow asked v a) → now.grow ≡ 0 ∷ 0 ∷ 0 ∷ [] → IsMet asked v a
 met_now asked v a unread now none_grow =

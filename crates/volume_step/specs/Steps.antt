@@ -21,7 +21,7 @@ use Rattle.hfs_volume.specs.declared.cost.Cost.TheVariants as cost
 use Rattle.sector_disk.specs.Space.{Space}
 use Rattle.volume_weights.specs.DataWeighing.{WaitsForCut}
 use Rattle.volume_base.specs.Fitting.{AreMet, takable_of}
-use Rattle.volume_space.specs.Growing.{HasFilledRecords, IsOwnOrFree, IsThere, alone}
+use Rattle.volume_space.specs.Growing.{HasFilledRecords, IsOwnOrFree, alone}
 use Rattle.volume_base.specs.Room.{capacity_of}
 use Rattle.volume_base.specs.Standing.{own_sectors}
 use Rattle.volume_space.specs.Writing.{is_data_met}
@@ -178,10 +178,10 @@ pub record FitsNow (asked : Command) (volume : Volume) (space : Space) : Type 0 
   pub costs : weight_with (capacity_of volume) (takable_of volume) (volume_of space.content) (tree_of space.content) asked ≡ cost.Load load grow
   pub within : load ≤ space.spare
 
--- The command fits now, and where a tree grows ahead of it there is such a tree, and each overflow record of its fork has an extent in use.
+-- The command fits now, and each overflow record of a tree that grows ahead of it has an extent in use.
 pub record IsReady (asked : Command) (volume : Volume) (space : Space) : Type 0 where
   pub now : FitsNow asked volume space
-  pub growth : (tree : WhichTree) (more : ℕ) → 0 < more → first_growth now.grow ≡ alone tree more → IsThere tree volume.header × HasFilledRecords tree volume space.content
+  pub records : (tree : WhichTree) (more : ℕ) → 0 < more → first_growth now.grow ≡ alone tree more → HasFilledRecords tree volume space.content
 
 -- The command puts data into a file, what it costs of the blocks that may be taken is met, and of all that are free it costs no growth of the extents
 -- overflow file either.

@@ -4,6 +4,7 @@ use Rattle.sector_disk.specs.Lists.{Content}
 use Rattle.sector_disk.proofs.SpaceLaws.{space_both}
 use Rattle.hfs_volume.specs.Aside.{IsJournalSector}
 use Rattle.volume_weights.specs.DataWeighing.{WaitsForCut}
+use Rattle.volume_base.specs.Fitting.{takable_of}
 use Rattle.volume_base.specs.Room.{capacity_of}
 use Rattle.volume_base.specs.Keeping.{shrunk_of}
 use Rattle.volume_space.proofs.Sounding.{sound_here}
@@ -12,6 +13,7 @@ use Rattle.volume_step.specs.declared.judging.Verdict.{Verdict}
 use Rattle.volume_step.specs.declared.outcome.Outcome.{Outcome}
 use Rattle.volume_step.proofs.Done.{holds_kept, refused_steps, same_place}
 use Rattle.volume_step.proofs.Widening.{laid_still, own_or_free_still, refused_shrinks, touches_behind, touches_looked, touches_own}
+use Rattle.volume_step.proofs.GrowthThere.{growth_there}
 use Rattle.volume_step.proofs.Ready.{now_still, wants_now}
 use Rattle.volume_step.proofs.ReadyData.{puts_still}
 use Rattle.volume_step.proofs.stepping.change.Goals as goal
@@ -153,9 +155,12 @@ returns-in-CommitFirst-clause-ready g c tells ready =
 pub returns-in-Grows-clause-ready : goal.returns-in-Grows-clause-ready
 returns-in-Grows-clause-ready g c tells ready =
     let first = subst (λ (v : Verdict). IsTaken v ready.now.grow) c.in-Grows.is (c.in_ok-why.ensures.taken tells ready.now) in
-    let growth = ready.growth c.in-Grows.tree c.in-Grows.more first.0 first.1 in
+    let waits : WaitsForGrowth c.in-Grows.tree c.in-Grows.more (capacity_of c.args.volume.now) c.args.command.now (g.P.SectorView.space c.args.space.now).content =
+    subst (λ (v : Verdict). IsJudged v (capacity_of c.args.volume.now) c.args.command.now (g.P.SectorView.space c.args.space.now).content) c.in-Grows.is (c.in_ok-why.ensures.judged tells) in
+    let there = growth_there c.args.volume.now (g.P.SectorView.space c.args.space.now).content (c.requires.settled tells) c.args.command.now c.requires.changes ready.now.no_data waits.no_refusal (capacity_of c.args.volume.now) (takable_of c.args.volume.now)
+    ready.now.load ready.now.grow ready.now.costs c.in-Grows.tree c.in-Grows.more first.0 first.1 in
     c.grow_first.ensures.ready (c.judge.ensures.reads.looks.same.tells ∙ tells)
-    (wants_now c.args.command.now c.args.volume.now c.judge.new.volume (g.P.SectorView.space c.args.space.now) (g.P.SectorView.space c.judge.new.space) c.judge.ensures.reads tells c.requires.changes ready.now c.in-Grows.tree c.in-Grows.more first.0 first.1 growth.0 growth.1)
+    (wants_now c.args.command.now c.args.volume.now c.judge.new.volume (g.P.SectorView.space c.args.space.now) (g.P.SectorView.space c.judge.new.space) c.judge.ensures.reads tells c.requires.changes ready.now c.in-Grows.tree c.in-Grows.more first.0 first.1 there (ready.records c.in-Grows.tree c.in-Grows.more first.0 first.1))
 
 pub returns-in-Fits-clause-ready : goal.returns-in-Fits-clause-ready
 returns-in-Fits-clause-ready g c tells ready =
