@@ -15,7 +15,7 @@ ghost use Rattle.volume_space.specs.Spilling.{IsLaidOutAs};
 ghost use Rattle.volume_space.specs.Standing.{HoldsOn};
 ghost use Rattle.volume_base.specs.Standing.{IsSettled, StandsOver};
 ghost use Rattle.volume_base.specs.Touching.{Touches};
-ghost use Rattle.volume_step.specs.Anew.{GoesAlone, IsAnew};
+ghost use Rattle.volume_step.specs.Anew.{FitsAnew, IsAnew};
 ghost use Rattle.volume_step.specs.Steps.{IsReady, KeepsJournal, OwnOf, PutsNow};
 ghost use Rattle.served_volume.specs.Answering.{AnswersAs, IsDecidedAs, IsRefusedAs, ShrinksBy, refusal_of, refused, unless_short};
 
@@ -134,10 +134,10 @@ fn do_command<P: SectorSpace>(
     requires spelled { command_of line.now ≡ Ok command.now }
     requires fits { FitsCommand command.now }
     ensures answered { IsTrue (P.SectorView.space space.old).tells → IfOk result (λ outcome. AnswersAs outcome (capacity_of volume.old) number line.now (P.SectorView.space space.old).content (P.SectorView.space space.new).content) }
-    // Where the step is ready for it, or nothing was put since the last commit and nothing is missing for it nor goes ahead of it, neither a commit is
-    // wanted nor is memory missing.
+    // Where the step is ready for it, or nothing was put since the last commit, nothing is missing for it and no cut goes ahead of it, neither a
+    // commit is wanted nor is memory missing.
     ensures ready { IsTrue (P.SectorView.space space.old).tells → (only_reads command.now ≡ true) ⊎ (IsReady command.now volume.old (P.SectorView.space space.old) ⊎ PutsNow command.now volume.old (P.SectorView.space space.old)) → IfOk result (λ outcome. IsDecidedAs outcome (capacity_of volume.old) line.now (P.SectorView.space space.old).content (P.SectorView.space space.new).content) }
-    ensures anew { IsTrue (P.SectorView.space space.old).tells → IsAnew volume.old (P.SectorView.space space.old) → GoesAlone command.now (capacity_of volume.old) (P.SectorView.space space.old).content → IfOk result (λ outcome. IsDecidedAs outcome (capacity_of volume.old) line.now (P.SectorView.space space.old).content (P.SectorView.space space.new).content) }
+    ensures anew { IsTrue (P.SectorView.space space.old).tells → IsAnew volume.old (P.SectorView.space space.old) → FitsAnew command.now volume.old (P.SectorView.space space.old).content → IfOk result (λ outcome. IsDecidedAs outcome (capacity_of volume.old) line.now (P.SectorView.space space.old).content (P.SectorView.space space.new).content) }
     ensures place { IsTrue (P.SectorView.space space.old).tells → OnOk result (KeepsJournal (P.SectorView.space space.old).content (P.SectorView.space space.new).content) }
     ensures stands { OnOk result (StandsOver volume.new (P.SectorView.space space.new)) }
     ensures settled { IsTrue (P.SectorView.space space.old).tells → OnOk result (IsSettled volume.new (P.SectorView.space space.new).content) }

@@ -1,7 +1,7 @@
--- On a transaction to which nothing was put the step is ready for a command for which nothing is missing, and ahead of which nothing goes.
-use Rattle.std.proofs.Common.{◌≡◌, ◌⊎◌, inl, inr, ◌<◌, ◌≤◌, ℕ, ◌+◌, ◌==◌, ◌&&◌, Bool, true, false, not, List, [], ◌∷◌, length, get_or, map, replicate, refl, sym, ◌∙◌, ap, subst, arith, ⊎_elim}
-use Rattle.std.specs.Prelude.{nat_le, nat_lt, slice_index, Option, None, Some}
-use Rattle.std.proofs.lemmas.Bool.{cases_lt, eq-eqb, le-leb, ltb-false}
+-- On a transaction to which nothing was put no commit is wanted by a command for which nothing is missing, and ahead of which no cut goes.
+use Rattle.std.proofs.Common.{◌≡◌, ◌⊎◌, inl, inr, ◌<◌, ◌≤◌, ℕ, zero, suc, ◌+◌, ◌==◌, ◌&&◌, Bool, true, false, not, List, [], ◌∷◌, length, get_or, map, replicate, refl, sym, ◌∙◌, ap, subst, arith, ⊎_elim}
+use Rattle.std.specs.Prelude.{nat_lt, slice_index, IsTrue, Ok, Option, None, Some, if◌then◌else◌}
+use Rattle.std.proofs.lemmas.Bool.{cases_lt, eq-eqb, eqb-true, le-leb, le-ltb, ltb-false, true≢false}
 use Rattle.std.proofs.lemmas.List.{get_or-map, get_or-replicate, get_or_past, length-map, length-replicate, same_lists}
 use Rattle.alloc_bitmap.specs.Map.{BlockMap, free_of, none, unused_of}
 use Rattle.alloc_bitmap.proofs.MapLaws.{get_or-open, length-open}
@@ -9,9 +9,9 @@ use Rattle.sector_disk.specs.Space.{Space}
 use Rattle.hfs_language.specs.declared.command.Command.{Command}
 use Rattle.hfs_language.specs.declared.refusal.Refusal.{Refusal}
 use Rattle.hfs_language.specs.declared.refusal.Refusal.TheVariants as refusal
-use Rattle.hfs_model.specs.Step.{only_reads}
-use Rattle.hfs_volume.specs.Content.{VolumeState, volume_of}
-use Rattle.hfs_volume.specs.Cost.{cost_of, cost_or, deep_refusal, extents_key, catalog_key, attributes_key, first_refusal, growth_blocks, load_of, load_refusal, overflow_records, plan_of, resource_refusal, tree_at, where_}
+use Rattle.hfs_model.specs.Step.{only_reads, refuses}
+use Rattle.hfs_volume.specs.Content.{volume_of}
+use Rattle.hfs_volume.specs.Cost.{attributes_key, catalog_key, cost_of, cost_or, deep_refusal, extents_key, first_refusal, growth, growth_blocks, load_of, load_refusal, overflow_records, plan_of, resource_refusal, tree_at, where_}
 use Rattle.hfs_volume.specs.Forks.{data_kind}
 use Rattle.hfs_volume.specs.Reclaim.{first_growth}
 use Rattle.hfs_volume.specs.TreeOf.{tree_of}
@@ -32,10 +32,26 @@ use Rattle.volume_space.specs.Spreading.{is_met_extents}
 use Rattle.volume_space.specs.Writing.{is_data_met}
 use Rattle.volume_space.specs.declared.ahead.WhichTree.{WhichTree}
 use Rattle.volume_space.specs.declared.ahead.WhichTree.TheVariants as which
-use Rattle.volume_step.specs.Anew.{GoesAlone, IsAnew}
-use Rattle.volume_step.specs.Steps.{IsReady, PutsNow}
-use Rattle.volume_step.proofs.Ready.{edits_load, of_cost}
-use Rattle.volume_step.proofs.ReadyData.{data_weight}
+use Rattle.alloc_bitmap.specs.declared.bitmap.Bitmap.{Bitmap}
+use Rattle.jnl_format.specs.Recovery.{Content}
+use Rattle.hfs_language.specs.declared.reply.Reply.{Reply}
+use Rattle.hfs_language.specs.declared.reply.Reply.TheVariants as reply
+use Rattle.hfs_model.specs.Step.{step_line}
+use Rattle.volume_base.specs.Fitting.{takable_in}
+use Rattle.volume_base.specs.Looking.{ReadsVolume}
+use Rattle.volume_base.specs.Weighing.{joined, refused_or, weighed}
+use Rattle.volume_base.specs.declared.weighing.Weight.{Weight}
+use Rattle.volume_base.specs.declared.weighing.Weight.TheVariants as answer
+use Rattle.volume_space.specs.Growing.{IsThere, WantsFirst}
+use Rattle.volume_step.proofs.GrowthThere.{growth_there}
+use Rattle.volume_step.proofs.Judged.{first_attributes, first_catalog, first_extents}
+use Rattle.volume_space.proofs.FewerEdits.{none_lacks}
+use Rattle.volume_step.specs.Anew.{FitsAnew, IsAnew, IsReadyAlike}
+use Rattle.volume_step.specs.Steps.{FitsNow, IsTaken, PutsNow, verdict_of}
+use Rattle.volume_step.specs.declared.judging.Verdict.TheVariants as verdict
+use Rattle.volume_step.proofs.Judged.{three}
+use Rattle.volume_step.proofs.Ready.{edits_load, filled_still, now_still, of_cost, there_still, wants_now}
+use Rattle.volume_step.proofs.ReadyData.{data_weight, puts_still}
 
 -- ---- blocks
 
@@ -98,13 +114,6 @@ load_within needs room n grow is =
     let fits = fits_where (nat_lt room.capacity (load_of needs room plan)) (refusal.TooBig (load_of needs room plan) room.capacity) last in
     omega (arith, ltb-false room.capacity (load_of needs room plan) fits, (of_cost needs room n grow is).0)
 
--- ---- no tree grows
-
-none_grows : (tree : WhichTree) (more : ℕ) → 0 < more → first_growth (0 ∷ 0 ∷ 0 ∷ []) ≡ alone tree more → ⊥
-none_grows which.Extents more some is = absurd (omega (arith, some, ap (λ l. slice_index l 0) is))
-none_grows which.Catalog more some is = absurd (omega (arith, some, ap (λ l. slice_index l 1) is))
-none_grows which.Attributes more some is = absurd (omega (arith, some, ap (λ l. slice_index l 2) is))
-
 grow_of : List ℕ → Cost → List ℕ
 grow_of other (cost.Load n grow) = grow
 grow_of other (cost.Refused why) = other
@@ -113,51 +122,143 @@ same_grow : (n m : ℕ) (grow other : List ℕ) → cost.Load n grow ≡ cost.Lo
 unfolding grow_of
 same_grow n m grow other is = ap (grow_of grow) is
 
--- ---- a command
+module _ (v : Volume) (a : Space) (asked : Command) (unread : only_reads asked ≡ false) (load : ℕ) (grow : List ℕ) (costs : weight_with (capacity_of v) (takable_of v) (volume_of a.content) (tree_of a.content) asked ≡ cost.Load load grow)
+    (no_cut : needs_cut (volume_of a.content) (data_of (tree_of a.content) asked) ≡ false)
+  where
+    edits_cost : data_of (tree_of a.content) asked ≡ None → cost_of (needs_of (edits_of (tree_of a.content) asked)) (room_with (capacity_of v) (takable_of v) (volume_of a.content)) ≡ cost.Load load grow
+    edits_cost is = edits_load (capacity_of v) (takable_of v) (volume_of a.content) (tree_of a.content) asked unread is load grow costs
 
-module _ (v : Volume) (a : Space) (settled : IsSettled v a.content) (anew : IsAnew v a) (asked : Command) (unread : only_reads asked ≡ false) (alone_ : GoesAlone asked (capacity_of v) a.content) where
-  takable : takable_of v ≡ free_blocks (volume_of a.content)
-  takable = free_none v.map anew.held ∙ free_content v a.content settled
+    data_cost : (put : Data) → data_of (tree_of a.content) asked ≡ Some put → cost_of (needs_data (takable_of v) (volume_of a.content) put) (room_with (capacity_of v) (takable_of v) (volume_of a.content)) ≡ cost.Load load grow
+    data_cost put is = sym (data_weight (capacity_of v) (takable_of v) (volume_of a.content) (tree_of a.content) asked put is (ap (needs_cut (volume_of a.content)) (sym is) ∙ no_cut)) ∙ costs
 
-  costs : weight_with (capacity_of v) (takable_of v) (volume_of a.content) (tree_of a.content) asked ≡ cost.Load alone_.load (0 ∷ 0 ∷ 0 ∷ [])
-  costs = ap (λ (f : List Bool). weight_with (capacity_of v) f (volume_of a.content) (tree_of a.content) asked) takable ∙ alone_.affords
-
-  edits_fit : data_of (tree_of a.content) asked ≡ None → alone_.load ≤ a.spare
-  unfolding room_with
-  edits_fit is =
-      let few = load_within (needs_of (edits_of (tree_of a.content) asked)) (room_with (capacity_of v) (takable_of v) (volume_of a.content)) alone_.load (0 ∷ 0 ∷ 0 ∷ [])
-      (edits_load (capacity_of v) (takable_of v) (volume_of a.content) (tree_of a.content) asked unread is alone_.load (0 ∷ 0 ∷ 0 ∷ []) costs) in
-      omega (arith, few, anew.whole)
-
-  module _ (put : Data) (is : data_of (tree_of a.content) asked ≡ Some put) where
-    uncut : needs_cut (volume_of a.content) (Some put) ≡ false
-    uncut = ap (needs_cut (volume_of a.content)) (sym is) ∙ alone_.no_cut
-
-    data_costs : cost_of (needs_data (takable_of v) (volume_of a.content) put) (room_with (capacity_of v) (takable_of v) (volume_of a.content)) ≡ cost.Load alone_.load (0 ∷ 0 ∷ 0 ∷ [])
-    data_costs = sym (data_weight (capacity_of v) (takable_of v) (volume_of a.content) (tree_of a.content) asked put is uncut) ∙ costs
-
-    data_fits : alone_.load ≤ a.spare
+    -- a transaction holds it
+    load_held : load ≤ capacity_of v
     unfolding room_with
-    data_fits =
-        let few = load_within (needs_data (takable_of v) (volume_of a.content) put) (room_with (capacity_of v) (takable_of v) (volume_of a.content)) alone_.load (0 ∷ 0 ∷ 0 ∷ []) data_costs in
-        omega (arith, few, anew.whole)
+    load_held = by (data_of (tree_of a.content) asked) refl
+      where
+        by : (d : Option Data) → data_of (tree_of a.content) asked ≡ d → load ≤ capacity_of v
+        by None is = load_within (needs_of (edits_of (tree_of a.content) asked)) (room_with (capacity_of v) (takable_of v) (volume_of a.content)) load grow (edits_cost is)
+        by (Some put) is = load_within (needs_data (takable_of v) (volume_of a.content) put) (room_with (capacity_of v) (takable_of v) (volume_of a.content)) load grow (data_cost put is)
 
-    data_met : is_data_met v a.spare (volume_of a.content) (Some put) ≡ true
-    data_met =
-        (λ i. not (uncut i)
-        && (eq-eqb (records_held (volume_of a.content) put.id) (overflow_records (length (file_extents (volume_of a.content) put.id data_kind))) (alone_.filled put is) i
-        && is_met_extents (data_costs i) a.spare))
-        ∙ le-leb alone_.load a.spare data_fits
+-- ---- on a transaction to which nothing was put
 
-  pub ready : IsReady asked v a ⊎ PutsNow asked v a
-  ready = by (data_of (tree_of a.content) asked) refl
+module _ (v : Volume) (a : Space) (settled : IsSettled v a.content) (anew : IsAnew v a) (asked : Command) (unread : only_reads asked ≡ false) (fits : FitsAnew asked v a.content) where
+  pub ready_alike : IsReadyAlike asked v a
+  ready_alike =
+      let takable : takable_of v ≡ free_blocks (volume_of a.content) = free_none v.map anew.held ∙ free_content v a.content settled in
+      let costs : weight_with (capacity_of v) (takable_of v) (volume_of a.content) (tree_of a.content) asked ≡ cost.Load fits.load fits.grow =
+      ap (λ (f : List Bool). weight_with (capacity_of v) f (volume_of a.content) (tree_of a.content) asked) takable ∙ fits.affords in
+      record {
+        now = record {
+          load = fits.load;
+          grow = fits.grow;
+          affords = fits.affords;
+          costs = costs;
+          no_cut = fits.no_cut;
+          within = omega (arith, load_held v a asked unread fits.load fits.grow costs fits.no_cut, anew.whole);
+        };
+        records = fits.records;
+        filled = fits.filled;
+      }
+
+-- ---- the verdict
+
+some_more : (n : ℕ) → (n == 0) ≡ false → 0 < n
+some_more zero is = absurd (true≢false is)
+some_more (suc n) is = omega arith
+
+none_more : (n : ℕ) → (n == 0) ≡ true → n ≡ 0
+none_more n is = eqb-true n 0 is
+
+module _ (capacity : ℕ) (takable : List Bool) (content : Content) (asked : Command) (n : ℕ) (grow : List ℕ) (affords : weight capacity (volume_of content) (tree_of content) asked ≡ cost.Load n grow)
+    (costs : weight_with capacity takable (volume_of content) (tree_of content) asked ≡ cost.Load n grow) (spare : ℕ) (within : n ≤ spare)
+  where
+    by_grow : IsTaken (verdict_of (answer.Load n grow) spare) grow
+    by_grow = by (slice_index grow 0 == 0) (slice_index grow 1 == 0) (slice_index grow 2 == 0) refl refl refl
+      where
+        by_spare : grow ≡ 0 ∷ 0 ∷ 0 ∷ [] → IsTaken (if nat_lt spare n then verdict.CommitFirst else verdict.Fits) grow
+        by_spare all = subst (λ b. IsTaken (if b then verdict.CommitFirst else verdict.Fits) grow) (sym (le-ltb spare n within)) all
+
+        by : (x y z : Bool) → (slice_index grow 0 == 0) ≡ x → (slice_index grow 1 == 0) ≡ y → (slice_index grow 2 == 0) ≡ z
+            → IsTaken (if not x then verdict.Grows which.Extents (slice_index grow 0) else if not y then verdict.Grows which.Catalog (slice_index grow 1) else if not z then verdict.Grows which.Attributes (slice_index grow 2) else (if nat_lt spare n then verdict.CommitFirst else verdict.Fits)) grow
+        by false y z one two three_ = (some_more (slice_index grow 0) one, first_extents grow (some_more (slice_index grow 0) one))
+        by true false z one two three_ = (some_more (slice_index grow 1) two, first_catalog grow (none_more (slice_index grow 0) one) (some_more (slice_index grow 1) two))
+        by true true false one two three_ = (some_more (slice_index grow 2) three_, first_attributes grow (none_more (slice_index grow 0) one) (none_more (slice_index grow 1) two))
+        by true true true one two three_ = by_spare (three capacity content asked n grow affords ∙ (λ i. none_more (slice_index grow 0) one i ∷ none_more (slice_index grow 1) two i ∷ none_more (slice_index grow 2) three_ i ∷ []))
+
+    of_reply : (said : Reply) (weighs : Weight) → IsTaken (verdict_of weighs spare) grow → IsTaken (verdict_of (refused_or said weighs) spare) grow
+    of_reply (reply.No why) weighs takes = tt
+    of_reply reply.Ok weighs takes = takes
+    of_reply (reply.Listing list) weighs takes = takes
+    of_reply (reply.Facts facts) weighs takes = takes
+    of_reply (reply.Content bytes) weighs takes = takes
+    of_reply (reply.Gauge gauge) weighs takes = takes
+
+    pub alike_weight : (weighs : Weight) → weighs ≡ weighed capacity takable (volume_of content) (tree_of content) asked → IsTaken (verdict_of weighs spare) grow
+    alike_weight weighs is =
+        subst (λ (w : Weight). IsTaken (verdict_of w spare) grow) (sym is)
+        (of_reply (step_line (tree_of content) (Ok asked)).0 (joined (weight capacity (volume_of content) (tree_of content) asked) (weight_with capacity takable (volume_of content) (tree_of content) asked))
+        (subst (λ (k : Cost × Cost). IsTaken (verdict_of (joined k.0 k.1) spare) grow) {x = (cost.Load n grow, cost.Load n grow)} {y = (weight capacity (volume_of content) (tree_of content) asked, weight_with capacity takable (volume_of content) (tree_of content) asked)} (λ i. (sym affords i, sym costs i))
+        (subst (λ b. IsTaken (verdict_of (if b then answer.Load n grow else answer.CommitFirst) spare) grow) (sym (eq-eqb (slice_index grow 0) (slice_index grow 0) refl)) by_grow)))
+
+-- ---- behind the verdict
+
+-- the attributes file grows ahead of no data
+third_growth : (grow : List ℕ) → slice_index grow 2 ≡ 0 → slice_index (first_growth grow) 2 ≡ 0
+third_growth grow none_ = by (nat_lt 0 (slice_index grow 0)) (nat_lt 0 (slice_index grow 1))
+  where
+    by : (x y : Bool) → slice_index (if x then slice_index grow 0 ∷ 0 ∷ 0 ∷ [] else if y then 0 ∷ slice_index grow 1 ∷ 0 ∷ [] else 0 ∷ 0 ∷ slice_index grow 2 ∷ []) 2 ≡ 0
+    by true y = refl
+    by false true = refl
+    by false false = none_
+
+data_there : (v : Volume) (needs : Needs) (room : Room) (n : ℕ) (grow : List ℕ) → cost_of needs room ≡ cost.Load n grow → slice_index needs.edits 2 ≡ 0 → (tree : WhichTree) (more : ℕ) → 0 < more → first_growth grow ≡ alone tree more → IsThere tree v.header
+data_there v needs room n grow is none_ which.Extents more some first = tt
+data_there v needs room n grow is none_ which.Catalog more some first = tt
+data_there v needs room n grow is none_ which.Attributes more some first =
+    let planned : slice_index grow 2 ≡ growth room.block attributes_key (tree_at room 2) (slice_index needs.edits 2) = ap (λ l. slice_index l 2) (of_cost needs room n grow is).1 in
+    let flat : slice_index grow 2 ≡ 0 = planned ∙ ap (growth room.block attributes_key (tree_at room 2)) none_ ∙ none_lacks room.block attributes_key (tree_at room 2) in
+    absurd (omega (arith, some, ap (λ l. slice_index l 2) first, third_growth grow flat))
+
+module _ (asked : Command) (v w : Volume) (a b : Space) (settled : IsSettled v a.content) (reads : ReadsVolume v w a b) (tells : IsTrue a.tells) (unread : only_reads asked ≡ false) (it : IsReadyAlike asked v a) where
+  abbrev fits_now : data_of (tree_of a.content) asked ≡ None → FitsNow asked v a
+  fits_now is = record { no_data = is; load = it.now.load; grow = it.now.grow; costs = it.now.costs; within = it.now.within }
+
+  -- the first growth is wanted still
+  pub wants_alike : refuses (tree_of a.content) (Ok asked) ≡ false → (tree : WhichTree) (more : ℕ) → 0 < more → first_growth it.now.grow ≡ alone tree more → WantsFirst tree more w b
+  wants_alike fine tree more some first = by (data_of (tree_of a.content) asked) refl
     where
-      by : (d : Option Data) → data_of (tree_of a.content) asked ≡ d → IsReady asked v a ⊎ PutsNow asked v a
-      by None is = inl (record {
-        now = record { no_data = is; load = alone_.load; grow = 0 ∷ 0 ∷ 0 ∷ []; costs = costs; within = edits_fit is };
-        records = λ tree more some first. absurd (none_grows tree more some first);
-      })
-      by (Some put) is = inr (record {
-        met = ap (is_data_met v a.spare (volume_of a.content)) is ∙ data_met put is;
-        alike = λ n grow weighs. ap (λ l. slice_index l 0) (same_grow n alone_.load grow (0 ∷ 0 ∷ 0 ∷ []) (sym weighs ∙ alone_.affords));
-      })
+      by : (d : Option Data) → data_of (tree_of a.content) asked ≡ d → WantsFirst tree more w b
+      by None is = wants_now asked v w a b reads tells unread (fits_now is) tree more some first
+          (growth_there v a.content settled asked unread is fine (capacity_of v) (takable_of v) it.now.load it.now.grow it.now.costs tree more some first) (it.records tree more some first)
+      by (Some put) is = record {
+        needs = needs_data (takable_of v) (volume_of a.content) put;
+        capacity = capacity_of w;
+        load = it.now.load;
+        grow = it.now.grow;
+        costs = subst (λ (k : ℕ × Bitmap × Content). cost_of (needs_data (takable_of v) (volume_of a.content) put) (room_with k.0 (takable_in k.1) (volume_of k.2)) ≡ cost.Load it.now.load it.now.grow) {x = (capacity_of v, v.map, a.content)} {y = (capacity_of w, w.map, b.content)}
+            (λ i. (sym reads.keeps.capacity i, sym reads.keeps.map i, sym (reads.looks.content tells) i)) (data_cost v a asked unread it.now.load it.now.grow it.now.costs it.now.no_cut put is);
+        within = omega (arith, it.now.within, reads.looks.spare);
+        some = some;
+        first = first;
+        there = there_still v w reads.keeps.header tree (data_there v (needs_data (takable_of v) (volume_of a.content) put) (room_with (capacity_of v) (takable_of v) (volume_of a.content)) it.now.load it.now.grow (data_cost v a asked unread it.now.load it.now.grow it.now.costs it.now.no_cut put is) refl tree more some first);
+        short = inr (filled_still v w a b reads tells tree (it.records tree more some first), refl);
+      }
+
+  -- where no tree grows it fits now, or its data is put now
+  pub fits_alike : it.now.grow ≡ 0 ∷ 0 ∷ 0 ∷ [] → ((now : FitsNow asked w b) × (now.grow ≡ 0 ∷ 0 ∷ 0 ∷ [])) ⊎ PutsNow asked w b
+  fits_alike flat = by (data_of (tree_of a.content) asked) refl
+    where
+      met : (put : Data) → data_of (tree_of a.content) asked ≡ Some put → is_data_met v a.spare (volume_of a.content) (Some put) ≡ true
+      met put is =
+          (λ i. not ((ap (needs_cut (volume_of a.content)) (sym is) ∙ it.now.no_cut) i)
+          && (eq-eqb (records_held (volume_of a.content) put.id) (overflow_records (length (file_extents (volume_of a.content) put.id data_kind))) (it.filled put is) i
+          && is_met_extents ((data_cost v a asked unread it.now.load it.now.grow it.now.costs it.now.no_cut put is ∙ ap (cost.Load it.now.load) flat) i) a.spare))
+          ∙ le-leb it.now.load a.spare it.now.within
+
+      by : (d : Option Data) → data_of (tree_of a.content) asked ≡ d → ((now : FitsNow asked w b) × (now.grow ≡ 0 ∷ 0 ∷ 0 ∷ [])) ⊎ PutsNow asked w b
+      by None is = let still = now_still asked v w a b reads tells (fits_now is) in inl (still.0, still.1 ∙ flat)
+      by (Some put) is = inr (puts_still asked v w a b reads tells (record {
+        met = ap (is_data_met v a.spare (volume_of a.content)) is ∙ met put is;
+        alike = λ n grow weighs. ap (λ l. slice_index l 0) (same_grow n it.now.load grow it.now.grow (sym weighs ∙ it.now.affords) ∙ flat);
+      }))

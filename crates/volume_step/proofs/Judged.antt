@@ -54,7 +54,7 @@ three_choice false true lacks room needs s grow is = three_cut room s grow is
 three_choice false false true room needs s grow is = absurd (let none : cost.Refused refusal.NoTree ≡ cost.Load s grow = is in cc none)
 three_choice false false false room needs s grow is = three_of needs room s grow is
 
-three : (capacity : ℕ) (content : Content) (asked : Command) (s : ℕ) (grow : List ℕ) → weight capacity (volume_of content) (tree_of content) asked ≡ cost.Load s grow → IsThree grow
+pub three : (capacity : ℕ) (content : Content) (asked : Command) (s : ℕ) (grow : List ℕ) → weight capacity (volume_of content) (tree_of content) asked ≡ cost.Load s grow → IsThree grow
 unfolding weight_with
 three capacity content asked s grow is =
     three_choice (only_reads asked) (needs_cut (volume_of content) (data_of (tree_of content) asked)) (lacks_tree (volume_of content) asked) (room_with capacity (free_blocks (volume_of content)) (volume_of content))

@@ -270,10 +270,10 @@ growth_still v w a b reads which.Attributes more (there, fits) =
     (subst (λ (h : VolumeHeader). IsTrue (has_attributes h)) (sym reads.keeps.header) there, file_still more a.tells v w a b reads.keeps.map reads.keeps.header reads.looks.spare v.attributes.file w.attributes.file (fork_of which.Attributes) reads.keeps.attributes.file fits)
 
 -- there is such a tree still, and each overflow record of its fork has an extent in use still
-there_still : (v w : Volume) → w.header ≡ v.header → (tree : WhichTree) → IsThere tree v.header → IsThere tree w.header
+pub there_still : (v w : Volume) → w.header ≡ v.header → (tree : WhichTree) → IsThere tree v.header → IsThere tree w.header
 there_still v w same tree there = subst (λ (h : VolumeHeader). IsThere tree h) (sym same) there
 
-filled_still : (v w : Volume) (a b : Space) → ReadsVolume v w a b → IsTrue a.tells → (tree : WhichTree) → HasFilledRecords tree v a.content → HasFilledRecords tree w b.content
+pub filled_still : (v w : Volume) (a b : Space) → ReadsVolume v w a b → IsTrue a.tells → (tree : WhichTree) → HasFilledRecords tree v a.content → HasFilledRecords tree w b.content
 filled_still v w a b reads tells which.Extents was = tt
 filled_still v w a b reads tells which.Catalog was =
     filled_later catalog_id (lists_of v a.content) (lists_of w b.content) v.catalog.file.fork w.catalog.file.fork reads.keeps.catalog.file.file.fork (ap overflow_in_volume (lists_still v w a b reads tells)) was

@@ -6,6 +6,7 @@ ghost use Rattle.hfs_model.specs.Step.{only_reads};
 ghost use Rattle.volume_base.specs.Looking.{ReadsVolume};
 ghost use Rattle.volume_base.specs.Room.{capacity_of};
 ghost use Rattle.volume_base.specs.Standing.{IsSettled, StandsOver};
+ghost use Rattle.volume_step.specs.Anew.{FitsAlike};
 ghost use Rattle.volume_step.specs.Steps.{FitsNow, IsDirect, IsJudged, IsTaken, PutsNow, growth_or, verdict_of};
 ghost use Rattle.volume_step.specs.declared.judging.Verdict.TheVariants as verdict;
 
@@ -93,6 +94,8 @@ pub(crate) fn judge<P: SectorSpace>(
     ensures judged { IsTrue (P.SectorView.space space.old).tells → IfOk result (λ verdict. IsJudged verdict (capacity_of volume.old) command.now (P.SectorView.space space.old).content) }
     // Where it fits now, no commit comes first.
     ensures taken { IsTrue (P.SectorView.space space.old).tells → (now : FitsNow command.now volume.old (P.SectorView.space space.old)) → IfOk result (λ verdict. IsTaken verdict now.grow) }
+    // Where it costs the same of all free blocks as of those that may be taken, neither does one.
+    ensures alike { IsTrue (P.SectorView.space space.old).tells → (now : FitsAlike command.now volume.old (P.SectorView.space space.old)) → IfOk result (λ verdict. IsTaken verdict now.grow) }
     // Where its data is put now, nothing goes ahead of it.
     ensures puts { IsTrue (P.SectorView.space space.old).tells → PutsNow command.now volume.old (P.SectorView.space space.old) → IfOk result IsDirect }
     ensures reads { ReadsVolume volume.old volume.new (P.SectorView.space space.old) (P.SectorView.space space.new) }

@@ -15,7 +15,7 @@ ghost use Rattle.volume_space.specs.Spilling.{IsLaidOutAs};
 ghost use Rattle.volume_space.specs.Standing.{HoldsOn};
 ghost use Rattle.volume_base.specs.Standing.{IsSettled, StandsOver};
 ghost use Rattle.volume_base.specs.Touching.{Touches};
-ghost use Rattle.volume_step.specs.Anew.{GoesAlone, IsAnew};
+ghost use Rattle.volume_step.specs.Anew.{FitsAnew, IsAnew, IsReadyAlike};
 ghost use Rattle.volume_step.specs.Steps.{Affords, FitsNow, IsDoneOk, IsMet, IsReady, KeepsJournal, OwnOf, PutsNow, ShrinksAs, StepsTo};
 ghost use Rattle.volume_step.specs.declared.outcome.Outcome.TheVariants as outcome;
 
@@ -146,6 +146,8 @@ fn change<P: SectorSpace>(
     // Where it is ready, no commit comes first.
     ensures ready { IsTrue (P.SectorView.space space.old).tells → IsReady command.now volume.old (P.SectorView.space space.old) → IfOk result (λ it. it ≢ outcome.CommitFirst) }
     ensures puts { IsTrue (P.SectorView.space space.old).tells → PutsNow command.now volume.old (P.SectorView.space space.old) → IfOk result (λ it. it ≢ outcome.CommitFirst) }
+    // Where it costs the same of all free blocks as of those that may be taken, none does either.
+    ensures alike { IsTrue (P.SectorView.space space.old).tells → IsReadyAlike command.now volume.old (P.SectorView.space space.old) → IfOk result (λ it. it ≢ outcome.CommitFirst) }
     ensures place { IsTrue (P.SectorView.space space.old).tells → OnOk result (KeepsJournal (P.SectorView.space space.old).content (P.SectorView.space space.new).content) }
     ensures stands { OnOk result (StandsOver volume.new (P.SectorView.space space.new)) }
     ensures settled { IsTrue (P.SectorView.space space.old).tells → OnOk result (IsSettled volume.new (P.SectorView.space space.new).content) }
@@ -190,8 +192,8 @@ pub fn step<P: SectorSpace>(
     // No commit comes first where the command reads alone; nor where it puts no data into a file, and what it costs of the blocks that may be taken
     // is a load that the room suffices for (each overflow record of a tree that grows ahead of it has an extent in use); nor where it puts data, and that is met.
     ensures ready { IsTrue (P.SectorView.space space.old).tells → (only_reads command.now ≡ true) ⊎ (IsReady command.now volume.old (P.SectorView.space space.old) ⊎ PutsNow command.now volume.old (P.SectorView.space space.old)) → IfOk result (λ it. it ≢ outcome.CommitFirst) }
-    // On a transaction to which nothing was put none comes first where nothing is missing for the command, and nothing goes ahead of it.
-    ensures anew { IsTrue (P.SectorView.space space.old).tells → IsAnew volume.old (P.SectorView.space space.old) → GoesAlone command.now (capacity_of volume.old) (P.SectorView.space space.old).content → IfOk result (λ it. it ≢ outcome.CommitFirst) }
+    // On a transaction to which nothing was put none comes first where nothing is missing for the command, and no cut goes ahead of it.
+    ensures anew { IsTrue (P.SectorView.space space.old).tells → IsAnew volume.old (P.SectorView.space space.old) → FitsAnew command.now volume.old (P.SectorView.space space.old).content → IfOk result (λ it. it ≢ outcome.CommitFirst) }
     // The journal lies where it lay, and the header is one of the same volume.
     ensures place { IsTrue (P.SectorView.space space.old).tells → OnOk result (KeepsJournal (P.SectorView.space space.old).content (P.SectorView.space space.new).content) }
     ensures stands { OnOk result (StandsOver volume.new (P.SectorView.space space.new)) }

@@ -6,6 +6,7 @@ use Rattle.volume_base.specs.Fitting.{takable_of}
 use Rattle.volume_base.specs.Room.{capacity_of}
 use Rattle.volume_step.specs.Steps.{IsDirect, IsJudged, IsTaken}
 use Rattle.volume_step.specs.declared.judging.Verdict.{Verdict}
+use Rattle.volume_step.proofs.AnewReady.{alike_weight}
 use Rattle.volume_step.proofs.Judged.{judged_weight, not_weighed, weight_found}
 use Rattle.volume_step.proofs.Ready.{no_cut, taken_weight}
 use Rattle.volume_step.proofs.ReadyData.{direct_weight, uncut_now}
@@ -38,3 +39,13 @@ returns-in-Some-clause-puts g c tells puts =
 pub returns-in-None-clause-puts : goal.returns-in-None-clause-puts
 returns-in-None-clause-puts g c tells puts =
     absurd (true≢false (sym (not_weighed c.in_ok-weight.field-0 c.in-None.is (c.in_ok-weight.ensures.waits tells c.requires.changes)).1 ∙ uncut_now c.args.volume.now (g.P.SectorView.space c.args.space.now) c.args.command.now puts))
+
+pub returns-in-Some-clause-alike : goal.returns-in-Some-clause-alike
+returns-in-Some-clause-alike g c tells now =
+    subst (λ (v : Verdict). IsTaken v now.grow) (sym c.verdict_of.ensures)
+    (alike_weight (capacity_of c.args.volume.now) (takable_of c.args.volume.now) (g.P.SectorView.space c.args.space.now).content c.args.command.now now.load now.grow now.affords now.costs c.spare.result
+    (omega (arith, now.within, c.spare.ensures, c.weigh.ensures.reads.looks.spare)) c.in-Some.weight (weight_found c.in_ok-weight.field-0 c.in-Some.weight _ c.in-Some.is (c.in_ok-weight.ensures.answer tells)))
+
+pub returns-in-None-clause-alike : goal.returns-in-None-clause-alike
+returns-in-None-clause-alike g c tells now =
+    absurd (true≢false (sym (not_weighed c.in_ok-weight.field-0 c.in-None.is (c.in_ok-weight.ensures.waits tells c.requires.changes)).1 ∙ now.no_cut))

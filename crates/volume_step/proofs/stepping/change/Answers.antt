@@ -1,4 +1,4 @@
-use Rattle.std.proofs.Common.{ℕ, [], sym, ◌∙◌, subst}
+use Rattle.std.proofs.Common.{ℕ, [], inl, inr, sym, ◌∙◌, subst}
 use Rattle.std.specs.Prelude.{IfOk, OnOk, Option}
 use Rattle.sector_disk.specs.Lists.{Content}
 use Rattle.sector_disk.proofs.SpaceLaws.{space_both}
@@ -16,6 +16,7 @@ use Rattle.volume_step.proofs.Widening.{laid_still, own_or_free_still, refused_s
 use Rattle.volume_step.proofs.GrowthThere.{growth_there}
 use Rattle.volume_step.proofs.Ready.{now_still, wants_now}
 use Rattle.volume_step.proofs.ReadyData.{puts_still}
+use Rattle.volume_step.proofs.AnewReady.{fits_alike, wants_alike}
 use Rattle.volume_step.proofs.stepping.change.Goals as goal
 
 pub perform-requires-clause-closed : goal.perform-requires-clause-closed
@@ -182,3 +183,28 @@ returns-in-Grows-clause-puts g c tells puts = absurd (subst IsDirect c.in-Grows.
 pub returns-in-Fits-clause-puts : goal.returns-in-Fits-clause-puts
 returns-in-Fits-clause-puts g c tells puts =
     c.perform.ensures.puts (c.judge.ensures.reads.looks.same.tells ∙ tells) (puts_still c.args.command.now c.args.volume.now c.judge.new.volume (g.P.SectorView.space c.args.space.now) (g.P.SectorView.space c.judge.new.space) c.judge.ensures.reads tells puts)
+
+-- ---- what costs the same of all free blocks
+
+pub returns-in-CommitFirst-clause-alike : goal.returns-in-CommitFirst-clause-alike
+returns-in-CommitFirst-clause-alike g c tells it = absurd (subst (λ (v : Verdict). IsTaken v it.now.grow) c.in-CommitFirst.is (c.in_ok-why.ensures.alike tells it.now))
+
+pub returns-in-CutFirst-clause-alike : goal.returns-in-CutFirst-clause-alike
+returns-in-CutFirst-clause-alike g c tells it = absurd (subst (λ (v : Verdict). IsTaken v it.now.grow) c.in-CutFirst.is (c.in_ok-why.ensures.alike tells it.now))
+
+pub returns-in-Grows-clause-alike : goal.returns-in-Grows-clause-alike
+returns-in-Grows-clause-alike g c tells it =
+    let first = subst (λ (v : Verdict). IsTaken v it.now.grow) c.in-Grows.is (c.in_ok-why.ensures.alike tells it.now) in
+    let waits : WaitsForGrowth c.in-Grows.tree c.in-Grows.more (capacity_of c.args.volume.now) c.args.command.now (g.P.SectorView.space c.args.space.now).content =
+    subst (λ (v : Verdict). IsJudged v (capacity_of c.args.volume.now) c.args.command.now (g.P.SectorView.space c.args.space.now).content) c.in-Grows.is (c.in_ok-why.ensures.judged tells) in
+    c.grow_first.ensures.ready (c.judge.ensures.reads.looks.same.tells ∙ tells)
+    (wants_alike c.args.command.now c.args.volume.now c.judge.new.volume (g.P.SectorView.space c.args.space.now) (g.P.SectorView.space c.judge.new.space) (c.requires.settled tells) c.judge.ensures.reads tells c.requires.changes it waits.no_refusal c.in-Grows.tree c.in-Grows.more first.0 first.1)
+
+pub returns-in-Fits-clause-alike : goal.returns-in-Fits-clause-alike
+returns-in-Fits-clause-alike g c tells it =
+    let later = c.judge.ensures.reads.looks.same.tells ∙ tells in
+    elim (fits_alike c.args.command.now c.args.volume.now c.judge.new.volume (g.P.SectorView.space c.args.space.now) (g.P.SectorView.space c.judge.new.space) (c.requires.settled tells) c.judge.ensures.reads tells c.requires.changes it
+    (subst (λ (v : Verdict). IsTaken v it.now.grow) c.in-Fits.is (c.in_ok-why.ensures.alike tells it.now))) [
+      | inl now ↦ c.perform.ensures.ready later c.requires.changes now.0 now.1
+      | inr puts ↦ c.perform.ensures.puts later puts
+    ]

@@ -2,7 +2,7 @@ use Rattle.std.proofs.Common.{[], inl, inr, sym, ◌∙◌}
 use Rattle.std.proofs.lemmas.Bool.{true≢false}
 use Rattle.hfs_volume.specs.TreeOf.{tree_of}
 use Rattle.volume_base.specs.Keeping.{shrunk_of}
-use Rattle.volume_step.proofs.AnewReady.{ready}
+use Rattle.volume_step.proofs.AnewReady.{ready_alike}
 use Rattle.volume_step.proofs.Widening.{keeps_shrunk, reads_shrink_none, touches_own}
 use Rattle.volume_step.proofs.stepping.step.Goals as goal
 
@@ -27,5 +27,5 @@ returns-clause-ready g c tells ready = elim ready [
 ]
 
 pub returns-clause-anew : goal.returns-clause-anew
-returns-clause-anew g c tells anew alone =
-    returns-clause-ready g c tells (inr (ready c.args.volume.now (g.P.SectorView.space c.args.space.now) (c.requires.settled tells) anew c.args.command.now (sym c.only_reads.ensures ∙ c.if-only_reads.false) alone))
+returns-clause-anew g c tells anew fits =
+    c.change.ensures.alike tells (ready_alike c.args.volume.now (g.P.SectorView.space c.args.space.now) (c.requires.settled tells) anew c.args.command.now (sym c.only_reads.ensures ∙ c.if-only_reads.false) fits)
