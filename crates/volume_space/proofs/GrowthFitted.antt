@@ -48,11 +48,11 @@ use Rattle.volume_base.proofs.SoundForks.{geometry}
 use Rattle.volume_base.proofs.RoomKept.{cost_kept}
 use Rattle.volume_base.specs.Room.{room_on}
 use Rattle.volume_base.specs.declared.room.FreeBlocks.TheVariants as blocks
-use Rattle.volume_space.specs.SpreadGrowth.{SpreadFits, SpreadGrowthFits}
-use Rattle.volume_space.specs.Spreading.{is_met_extents, needs_extents}
+use Rattle.volume_space.specs.SpreadGrowth.{SpreadFits, SpreadGrowthFits, growth_room_with}
+use Rattle.volume_space.specs.Spreading.{edits_load, is_met_extents, needs_extents}
 use Rattle.hfs_volume.specs.declared.cost.Cost.{Cost}
 use Rattle.volume_space.proofs.SpreadCounted.{nodes_more, one_low, one_met}
-use Rattle.volume_space.specs.Growing.{HasFilledRecords, FileFits, GrowthFits, IsShort, IsThere, WantsFirst, alone, blocks_filled, growth_load}
+use Rattle.volume_space.specs.Growing.{HasFilledRecords, FileFits, GrowthFits, IsShort, IsThere, WantsFirst, alone, blocks_filled, file_of, growth_load, growth_room, run_load}
 use Rattle.volume_space.specs.declared.ahead.WhichTree.{WhichTree}
 use Rattle.volume_space.specs.declared.ahead.WhichTree.TheVariants as which
 use Rattle.volume_space.proofs.GrowthCounted.{blocks_same, few_listed, file_fits, power_of, run_counted_in, some_blocks, numbers_fit}
@@ -205,7 +205,7 @@ module _ (v : Volume) (a : Space) (was : IsStanding v a) (settled : IsSettled v 
 
   module _ (needs : Needs) (room : Room) (load : ℕ) (grow : List ℕ) (afforded : IsAfforded needs room load grow) (block_is : room.block ≡ v.header.block_size) (total_is : room.total ≡ v.header.total_blocks) (long_is : room.longest ≡ longest_of (runs_of (free_of v.map))) (free_is : room.free ≡ count_set (free_of v.map)) (law : GrowsByEnough) (within : load ≤ a.spare) where
     fitted : (file : TreeFile) (fork : ForkRecord) (key extents edits more : ℕ) (tree : TreeCost) → file.per_block ≡ per_block_of v.header → Stands file a.content → HasTreeSize v.header fork (facts_on file) → length (sectors_of_tree file) + 1 ≤ 2147483648 → 3 * (key + 8) ≤ file.shape.node_size - 16 → length file.fork < 8
-        → tree ≡ cost_of_tree (facts_on file) extents → more ≡ growth room.block key tree edits → 0 < more → tree_load key tree edits more + (bitmap_load needs room (growth_blocks (plan_of needs room) room) + 1) ≤ load → more * tree.node_size / room.block ≤ growth_blocks (plan_of needs room) room → FileFits more file fork v a
+        → tree ≡ cost_of_tree (facts_on file) extents → more ≡ growth room.block key tree edits → 0 < more → tree_load key tree edits more + (bitmap_load needs room (growth_blocks (plan_of needs room) room) + 1) ≤ load → more * tree.node_size / room.block ≤ growth_blocks (plan_of needs room) room → FileFits more file fork v a × (growth_load v file more ≤ load)
     fitted file fork key extents edits more tree per_is stands size few three short tree_is more_is some part among =
         let is : more ≡ growth v.header.block_size key (cost_of_tree (facts_on file) extents) edits = more_is ∙ (λ i. growth (block_is i) key (tree_is i) edits) in
         let node = (state_well_formed [] file a).node_size in
@@ -216,13 +216,15 @@ module _ (v : Volume) (a : Space) (was : IsStanding v a) (settled : IsSettled v 
         let long : blocks_filled file more ≤ longest_of (runs_of (free_of v.map)) = ⊎_elim (λ none. absurd (omega (arith, none, some_here, among_here))) (λ wanted. omega (arith, wanted, among_here, long_is)) afforded.in_one_run in
         let enough : blocks_filled file more ≤ v.header.free_blocks = omega (arith, afforded.blocks, among_here, free_is, counted_free) in
         let map_low = run_counted_in needs room v (growth_blocks (plan_of needs room) room) (blocks_filled file more) (total_is ∙ sym settled.blocks) among_here some_here in
-        file_fits file fork v a per_is whole.whole one per_low whole.some node stands size few inside free_low extents key edits more law three is some load long enough
-        (omega (arith, part, ap (λ t. tree_load key t edits more) tree_is, map_low)) within short
+        let counted : tree_load key (cost_of_tree (facts_on file) extents) edits more + (run_load v (blocks_filled file more) + 1) ≤ load = omega (arith, part, ap (λ t. tree_load key t edits more) tree_is, map_low) in (
+          file_fits file fork v a per_is whole.whole one per_low whole.some node stands size few inside free_low extents key edits more law three is some load long enough counted within short,
+          (file_fits file fork v (record a { spare = load }) per_is whole.whole one per_low whole.some node stands size few inside free_low extents key edits more law three is some load long enough counted (omega arith) short).room,
+        )
 
     -- a fork of any number of extents, behind whose growth the load leaves so many sectors for an edit of the extents overflow file
     spread_fitted : (file : TreeFile) (fork : ForkRecord) (key extents edits more : ℕ) (tree : TreeCost) → file.per_block ≡ per_block_of v.header → Stands file a.content → HasTreeSize v.header fork (facts_on file) → length (sectors_of_tree file) + 1 ≤ 2147483648 → 3 * (key + 8) ≤ file.shape.node_size - 16
         → tree ≡ cost_of_tree (facts_on file) extents → more ≡ growth room.block key tree edits → 0 < more → more * tree.node_size / room.block ≤ growth_blocks (plan_of needs room) room
-        → (edit : ℕ) → 1 + edit + tree_load key tree edits more + bitmap_load needs room (growth_blocks (plan_of needs room) room) ≤ load → ((spare : ℕ) → 1 + edit ≤ spare → is_met_extents (cost_of (needs_extents 1) (room_on blocks.Takable v)) spare ≡ true) → SpreadFits more file fork v a
+        → (edit : ℕ) → 1 + edit + tree_load key tree edits more + bitmap_load needs room (growth_blocks (plan_of needs room) room) ≤ load → ((spare : ℕ) → 1 + edit ≤ spare → is_met_extents (cost_of (needs_extents 1) (room_on blocks.Takable v)) spare ≡ true) → SpreadFits more file fork v a × (growth_load v file more + edit ≤ load)
     spread_fitted file fork key extents edits more tree per_is stands size few three tree_is more_is some among edit part met =
         let is : more ≡ growth v.header.block_size key (cost_of_tree (facts_on file) extents) edits = more_is ∙ (λ i. growth (block_is i) key (tree_is i) edits) in
         let node = (state_well_formed [] file a).node_size in
@@ -235,14 +237,16 @@ module _ (v : Volume) (a : Space) (was : IsStanding v a) (settled : IsSettled v 
         let map_low = run_counted_in needs room v (growth_blocks (plan_of needs room) room) (blocks_filled file more) (total_is ∙ sym settled.blocks) among_here some_here in
         let load_same = ap (λ t. tree_load key t edits more) tree_is in
         let numbers = numbers_fit file fork v a per_is whole.whole one per_low whole.some node stands size few inside free_low extents key edits more law three is some load long enough (omega (arith, part, load_same, map_low)) within in
-        let nodes = nodes_more file a extents v.header.block_size key edits more law three is some numbers.least in
-        record {
-          some = some_here;
-          run = long;
-          counts = numbers;
-          room = omega (arith, nodes, part, load_same, map_low, within);
-          edit = met (a.spare - growth_load v file more) (omega (arith, nodes, part, load_same, map_low, within));
-        }
+        let nodes = nodes_more file a extents v.header.block_size key edits more law three is some numbers.least in (
+          record {
+            some = some_here;
+            run = long;
+            counts = numbers;
+            room = omega (arith, nodes, part, load_same, map_low, within);
+            edit = met (a.spare - growth_load v file more) (omega (arith, nodes, part, load_same, map_low, within));
+          },
+          omega (arith, nodes, part, load_same, map_low),
+        )
 
   -- ---- the three trees
 
@@ -315,7 +319,7 @@ module _ (v : Volume) (a : Space) (was : IsStanding v a) (settled : IsSettled v 
     part_in : (place : ℕ) (n : ℕ) → n ≤ load_of needs (room_with capacity (free_of v.map) (volume_of a.content)) (plan_of needs (room_with capacity (free_of v.map) (volume_of a.content))) → n ≤ load
     part_in place n low = omega (arith, low, afforded.sectors)
 
-    extents_fit : 0 < slice_index (plan_of needs (room_with capacity (free_of v.map) (volume_of a.content))).grow 0 → FileFits (slice_index (plan_of needs (room_with capacity (free_of v.map) (volume_of a.content))).grow 0) v.extents.file v.header.extents_fork v a
+    extents_fit : 0 < slice_index (plan_of needs (room_with capacity (free_of v.map) (volume_of a.content))).grow 0 → FileFits (slice_index (plan_of needs (room_with capacity (free_of v.map) (volume_of a.content))).grow 0) v.extents.file v.header.extents_fork v a × (growth_load v v.extents.file (slice_index (plan_of needs (room_with capacity (free_of v.map) (volume_of a.content))).grow 0) ≤ load)
     extents_fit some =
         let low = node_size_low v.extents.file.shape.node_size (state_well_formed [] v.extents.file a).node_size in
         let fork_is : v.extents.file.fork ≡ extents_of (overflow_in_volume (volume_of a.content)) extents_id data_kind (volume_of a.content).head.extents_fork = was.forks.extents ∙ ap (λ h. extents_of [] extents_id data_kind h.extents_fork) (sym head_is) ∙ alone_extents (volume_of a.content) in
@@ -326,13 +330,13 @@ module _ (v : Volume) (a : Space) (was : IsStanding v a) (settled : IsSettled v 
         fitted needs (room_with capacity (free_of v.map) (volume_of a.content)) load grow afforded block_here total_here long_here free_here law within v.extents.file v.header.extents_fork extents_key _ (slice_index (plan_of needs (room_with capacity (free_of v.map) (volume_of a.content))).edits 0) _ (tree_at (room_with capacity (free_of v.map) (volume_of a.content)) 0)
         was.forks.extents_per was.trees.extents.stands size_0 few_0 (omega (arith, low)) short tree_0 refl some (part_in 0 _ (part_0 needs (room_with capacity (free_of v.map) (volume_of a.content)))) (omega arith)
 
-    catalog_fits : length v.catalog.file.fork < 8 → 0 < slice_index (plan_of needs (room_with capacity (free_of v.map) (volume_of a.content))).grow 1 → FileFits (slice_index (plan_of needs (room_with capacity (free_of v.map) (volume_of a.content))).grow 1) v.catalog.file v.header.catalog_fork v a
+    catalog_fits : length v.catalog.file.fork < 8 → 0 < slice_index (plan_of needs (room_with capacity (free_of v.map) (volume_of a.content))).grow 1 → FileFits (slice_index (plan_of needs (room_with capacity (free_of v.map) (volume_of a.content))).grow 1) v.catalog.file v.header.catalog_fork v a × (growth_load v v.catalog.file (slice_index (plan_of needs (room_with capacity (free_of v.map) (volume_of a.content))).grow 1) ≤ load)
     catalog_fits short some =
         let low : 4096 ≤ v.catalog.file.shape.node_size = omega (arith, was.trees.catalog.file.has_form.least, size_is v.catalog.file a.content was.trees.catalog.stands) in
         fitted needs (room_with capacity (free_of v.map) (volume_of a.content)) load grow afforded block_here total_here long_here free_here law within v.catalog.file v.header.catalog_fork catalog_key _ (slice_index needs.edits 1) _ (tree_at (room_with capacity (free_of v.map) (volume_of a.content)) 1)
         was.forks.catalog_per was.trees.catalog.stands size_1 few_1 (omega (arith, low)) short tree_1 refl some (part_in 1 _ (part_1 needs (room_with capacity (free_of v.map) (volume_of a.content)))) (omega arith)
 
-    attributes_fit : IsTrue (has_attributes v.header) → length v.attributes.file.fork < 8 → 0 < slice_index (plan_of needs (room_with capacity (free_of v.map) (volume_of a.content))).grow 2 → FileFits (slice_index (plan_of needs (room_with capacity (free_of v.map) (volume_of a.content))).grow 2) v.attributes.file v.header.attributes_fork v a
+    attributes_fit : IsTrue (has_attributes v.header) → length v.attributes.file.fork < 8 → 0 < slice_index (plan_of needs (room_with capacity (free_of v.map) (volume_of a.content))).grow 2 → FileFits (slice_index (plan_of needs (room_with capacity (free_of v.map) (volume_of a.content))).grow 2) v.attributes.file v.header.attributes_fork v a × (growth_load v v.attributes.file (slice_index (plan_of needs (room_with capacity (free_of v.map) (volume_of a.content))).grow 2) ≤ load)
     attributes_fit there short some =
         let low : 4096 ≤ v.attributes.file.shape.node_size = omega (arith, (was.trees.attributes there).file.has_form.least, size_is v.attributes.file a.content (was.trees.attributes there).stands) in
         fitted needs (room_with capacity (free_of v.map) (volume_of a.content)) load grow afforded block_here total_here long_here free_here law within v.attributes.file v.header.attributes_fork attributes_key _ (slice_index needs.edits 2) _ (tree_at (room_with capacity (free_of v.map) (volume_of a.content)) 2)
@@ -357,29 +361,32 @@ module _ (v : Volume) (a : Space) (was : IsStanding v a) (settled : IsSettled v 
           ap (λ (c : Cost). is_met_extents c spare) (kept ∙ ap (λ n. cost_of (needs_extents 1) (room_with n (free_of v.map) (volume_of a.content))) (sym same))
           ∙ one_met needs (room_with capacity (free_of v.map) (volume_of a.content)) load grow afforded law three_0 edited none spare fits
 
-      catalog_spreads : 0 < slice_index (plan_of needs (room_with capacity (free_of v.map) (volume_of a.content))).grow 1 → SpreadFits (slice_index (plan_of needs (room_with capacity (free_of v.map) (volume_of a.content))).grow 1) v.catalog.file v.header.catalog_fork v a
+      catalog_spreads : 0 < slice_index (plan_of needs (room_with capacity (free_of v.map) (volume_of a.content))).grow 1 → SpreadFits (slice_index (plan_of needs (room_with capacity (free_of v.map) (volume_of a.content))).grow 1) v.catalog.file v.header.catalog_fork v a × (growth_load v v.catalog.file (slice_index (plan_of needs (room_with capacity (free_of v.map) (volume_of a.content))).grow 1) + tree_load extents_key (tree_at (room_with capacity (free_of v.map) (volume_of a.content)) 0) 1 0 ≤ load)
       catalog_spreads some =
           let low : 4096 ≤ v.catalog.file.shape.node_size = omega (arith, was.trees.catalog.file.has_form.least, size_is v.catalog.file a.content was.trees.catalog.stands) in
           spread_fitted needs (room_with capacity (free_of v.map) (volume_of a.content)) load grow afforded block_here total_here long_here free_here law within v.catalog.file v.header.catalog_fork catalog_key _ (slice_index needs.edits 1) _ (tree_at (room_with capacity (free_of v.map) (volume_of a.content)) 1)
           was.forks.catalog_per was.trees.catalog.stands size_1 few_1 (omega (arith, low)) tree_1 refl some (omega arith) (tree_load extents_key (tree_at (room_with capacity (free_of v.map) (volume_of a.content)) 0) 1 0) (omega (arith, load_parts, one_less)) met_here
 
-      attributes_spread : IsTrue (has_attributes v.header) → 0 < slice_index (plan_of needs (room_with capacity (free_of v.map) (volume_of a.content))).grow 2 → SpreadFits (slice_index (plan_of needs (room_with capacity (free_of v.map) (volume_of a.content))).grow 2) v.attributes.file v.header.attributes_fork v a
+      attributes_spread : IsTrue (has_attributes v.header) → 0 < slice_index (plan_of needs (room_with capacity (free_of v.map) (volume_of a.content))).grow 2 → SpreadFits (slice_index (plan_of needs (room_with capacity (free_of v.map) (volume_of a.content))).grow 2) v.attributes.file v.header.attributes_fork v a × (growth_load v v.attributes.file (slice_index (plan_of needs (room_with capacity (free_of v.map) (volume_of a.content))).grow 2) + tree_load extents_key (tree_at (room_with capacity (free_of v.map) (volume_of a.content)) 0) 1 0 ≤ load)
       attributes_spread there some =
           let low : 4096 ≤ v.attributes.file.shape.node_size = omega (arith, (was.trees.attributes there).file.has_form.least, size_is v.attributes.file a.content (was.trees.attributes there).stands) in
           spread_fitted needs (room_with capacity (free_of v.map) (volume_of a.content)) load grow afforded block_here total_here long_here free_here law within v.attributes.file v.header.attributes_fork attributes_key _ (slice_index needs.edits 2) _ (tree_at (room_with capacity (free_of v.map) (volume_of a.content)) 2)
           (was.forks.attributes_per there) (was.trees.attributes there).stands (size_2 there) (few_2 there) (omega (arith, low)) (tree_2 there) refl some (omega arith) (tree_load extents_key (tree_at (room_with capacity (free_of v.map) (volume_of a.content)) 0) 1 0) (omega (arith, load_parts, one_less)) met_here
 
     -- the one that goes first
-    fits_first : (tree : WhichTree) (more : ℕ) → 0 < more → first_growth grow ≡ alone tree more → IsThere tree v.header → IsShort tree v → GrowthFits tree more v a
+    fits_first : (tree : WhichTree) (more : ℕ) → 0 < more → first_growth grow ≡ alone tree more → IsThere tree v.header → IsShort tree v → GrowthFits tree more v a × (growth_room tree more v ≤ load)
     fits_first which.Extents more some first there short =
         let is = first_is grow which.Extents more some first ∙ ap (λ l. slice_index l 0) afforded.grows in
-        (there, subst (λ m. FileFits m v.extents.file v.header.extents_fork v a) (sym is) (extents_fit (subst (λ m. 0 < m) is some)))
+        let fits = subst (λ m. FileFits m v.extents.file v.header.extents_fork v a × (growth_load v v.extents.file m ≤ load)) (sym is) (extents_fit (subst (λ m. 0 < m) is some)) in
+        ((there, fits.0), fits.1)
     fits_first which.Catalog more some first there short =
         let is = first_is grow which.Catalog more some first ∙ ap (λ l. slice_index l 1) afforded.grows in
-        (there, subst (λ m. FileFits m v.catalog.file v.header.catalog_fork v a) (sym is) (catalog_fits short (subst (λ m. 0 < m) is some)))
+        let fits = subst (λ m. FileFits m v.catalog.file v.header.catalog_fork v a × (growth_load v v.catalog.file m ≤ load)) (sym is) (catalog_fits short (subst (λ m. 0 < m) is some)) in
+        ((there, fits.0), fits.1)
     fits_first which.Attributes more some first there short =
         let is = first_is grow which.Attributes more some first ∙ ap (λ l. slice_index l 2) afforded.grows in
-        (there, subst (λ m. FileFits m v.attributes.file v.header.attributes_fork v a) (sym is) (attributes_fit there short (subst (λ m. 0 < m) is some)))
+        let fits = subst (λ m. FileFits m v.attributes.file v.header.attributes_fork v a × (growth_load v v.attributes.file m ≤ load)) (sym is) (attributes_fit there short (subst (λ m. 0 < m) is some)) in
+        ((there, fits.0), fits.1)
 
     long_1 : 8 ≤ length v.catalog.file.fork → 8 ≤ (tree_at (room_with capacity (free_of v.map) (volume_of a.content)) 1).extents
     long_1 long = omega (
@@ -399,8 +406,13 @@ module _ (v : Volume) (a : Space) (was : IsStanding v a) (settled : IsSettled v 
       ap (λ (es : List Extent). length es) (was.forks.attributes there),
     )
 
+    -- what the load counts for an edit of the extents overflow file is what such an edit puts at most
+    one_edit : tree_load extents_key (tree_at (room_with capacity (free_of v.map) (volume_of a.content)) 0) 1 0 ≡ edits_load v.extents.file.shape 1
+    one_edit = ap (λ (t : TreeCost). tree_load extents_key t 1 0) tree_0
+
     -- the one that goes first, of any number of extents
-    spreads_first : (tree : WhichTree) (more : ℕ) → 0 < more → first_growth grow ≡ alone tree more → IsThere tree v.header → HasFilledRecords tree v a.content → capacity ≡ v.capacity → GrowthFits tree more v a ⊎ SpreadGrowthFits tree more v a
+    spreads_first : (tree : WhichTree) (more : ℕ) → 0 < more → first_growth grow ≡ alone tree more → IsThere tree v.header → HasFilledRecords tree v a.content → capacity ≡ v.capacity
+        → (GrowthFits tree more v a × (growth_room tree more v ≤ load)) ⊎ (SpreadGrowthFits tree more v a × (growth_room_with 1 tree more v ≤ load))
     spreads_first which.Extents more some first there filled same = inl (fits_first which.Extents more some first there tt)
     spreads_first which.Catalog more some first there filled same = elim (cases_lt (length v.catalog.file.fork) 8) [
       | inl short ↦ inl (fits_first which.Catalog more some first there short)
@@ -409,7 +421,8 @@ module _ (v : Volume) (a : Space) (was : IsStanding v a) (settled : IsSettled v 
           let none = sym (ap (λ l. slice_index l 0) afforded.grows) ∙ none_before grow which.Catalog more some first (λ same_tree. absurd (omega (arith, same_tree))) in
           let grows = subst (λ m. 0 < m) is some in
           let edited : 1 ≤ slice_index (plan_of needs (room_with capacity (free_of v.map) (volume_of a.content))).edits 0 = omega (arith, takes_one (tree_at (room_with capacity (free_of v.map) (volume_of a.content)) 1) (slice_index (plan_of needs (room_with capacity (free_of v.map) (volume_of a.content))).grow 1) grows (long_1 long)) in
-          inr (filled, subst (λ m. SpreadFits m v.catalog.file v.header.catalog_fork v a) (sym is) (catalog_spreads same none edited grows))
+          let fits = subst (λ m. SpreadFits m v.catalog.file v.header.catalog_fork v a × (growth_load v v.catalog.file m + tree_load extents_key (tree_at (room_with capacity (free_of v.map) (volume_of a.content)) 0) 1 0 ≤ load)) (sym is) (catalog_spreads same none edited grows) in
+          inr ((filled, fits.0), subst (λ n. growth_load v v.catalog.file more + n ≤ load) one_edit fits.1)
     ]
     spreads_first which.Attributes more some first there filled same = elim (cases_lt (length v.attributes.file.fork) 8) [
       | inl short ↦ inl (fits_first which.Attributes more some first there short)
@@ -418,12 +431,24 @@ module _ (v : Volume) (a : Space) (was : IsStanding v a) (settled : IsSettled v 
           let none = sym (ap (λ l. slice_index l 0) afforded.grows) ∙ none_before grow which.Attributes more some first (λ same_tree. absurd (omega (arith, same_tree))) in
           let grows = subst (λ m. 0 < m) is some in
           let edited : 1 ≤ slice_index (plan_of needs (room_with capacity (free_of v.map) (volume_of a.content))).edits 0 = omega (arith, takes_one (tree_at (room_with capacity (free_of v.map) (volume_of a.content)) 2) (slice_index (plan_of needs (room_with capacity (free_of v.map) (volume_of a.content))).grow 2) grows (long_2 there long)) in
-          inr (there, (filled, subst (λ m. SpreadFits m v.attributes.file v.header.attributes_fork v a) (sym is) (attributes_spread same none edited there grows)))
+          let fits = subst (λ m. SpreadFits m v.attributes.file v.header.attributes_fork v a × (growth_load v v.attributes.file m + tree_load extents_key (tree_at (room_with capacity (free_of v.map) (volume_of a.content)) 0) 1 0 ≤ load)) (sym is) (attributes_spread same none edited there grows) in
+          inr ((there, (filled, fits.0)), subst (λ n. growth_load v v.attributes.file more + n ≤ load) one_edit fits.1)
     ]
 
--- what costs a load that may be put has its first growth made
-pub wanted_fits : (v : Volume) (a : Space) → StandsOver v a → IsTrue a.tells → IsSettled v a.content → LoadSaysEnough → GrowsByEnough → (tree : WhichTree) (more : ℕ) → WantsFirst tree more v a → GrowthFits tree more v a ⊎ SpreadGrowthFits tree more v a
-wanted_fits v a over tells settled says law tree more wants = ⊎_elim
-    (λ short. inl (fits_first v a (over.stands tells) settled over.service wants.capacity wants.needs wants.load wants.grow says law wants.costs wants.within tree more wants.some wants.first wants.there short))
-    (λ filled. spreads_first v a (over.stands tells) settled over.service wants.capacity wants.needs wants.load wants.grow says law wants.costs wants.within tree more wants.some wants.first wants.there filled.0 filled.1)
-    wants.short
+module _ (v : Volume) (a : Space) (over : StandsOver v a) (tells : IsTrue a.tells) (settled : IsSettled v a.content) (says : LoadSaysEnough) (law : GrowsByEnough) (tree : WhichTree) (more : ℕ) (wants : WantsFirst tree more v a) where
+  short_first : IsShort tree v → GrowthFits tree more v a × (growth_room tree more v ≤ wants.load)
+  short_first short = fits_first v a (over.stands tells) settled over.service wants.capacity wants.needs wants.load wants.grow says law wants.costs wants.within tree more wants.some wants.first wants.there short
+
+  filled_first : HasFilledRecords tree v a.content × (wants.capacity ≡ v.capacity) → (GrowthFits tree more v a × (growth_room tree more v ≤ wants.load)) ⊎ (SpreadGrowthFits tree more v a × (growth_room_with 1 tree more v ≤ wants.load))
+  filled_first filled = spreads_first v a (over.stands tells) settled over.service wants.capacity wants.needs wants.load wants.grow says law wants.costs wants.within tree more wants.some wants.first wants.there filled.0 filled.1
+
+  -- what costs a load that may be put has its first growth made
+  pub wanted_fits : GrowthFits tree more v a ⊎ SpreadGrowthFits tree more v a
+  wanted_fits = ⊎_elim (λ short. inl (short_first short).0) (λ filled. ⊎_elim (λ fits. inl fits.0) (λ fits. inr fits.0) (filled_first filled)) wants.short
+
+  -- and what it puts is a part of the load
+  pub wanted_loads : (length (file_of tree v).fork < 8 × (growth_room tree more v ≤ wants.load)) ⊎ (HasFilledRecords tree v a.content × (growth_room_with 1 tree more v ≤ wants.load))
+  wanted_loads = ⊎_elim
+      (λ short. let fits = short_first short in inl (fits.0.1.counts.extents, fits.1))
+      (λ filled. ⊎_elim (λ fits. inl (fits.0.1.counts.extents, fits.1)) (λ fits. inr (filled.0, fits.1)) (filled_first filled))
+      wants.short

@@ -191,6 +191,8 @@ pub fn grow_tree<P: SectorSpace>(
     // its fork has an extent in use.
     ensures spent_any { IsTrue (P.SectorView.space space.old).tells → (P.SectorView.space space.old).spare ≤ (P.SectorView.space space.new).spare + growth_room_with 2 tree more volume.old }
     ensures spent_filled { IsTrue (P.SectorView.space space.old).tells → HasFilledRecords tree volume.old (P.SectorView.space space.old).content → (P.SectorView.space space.old).spare ≤ (P.SectorView.space space.new).spare + growth_room_with 1 tree more volume.old }
+    // What costs a load that may be put puts no more than that load for its first growth.
+    ensures loads { IsTrue (P.SectorView.space space.old).tells → (wants : WantsFirst tree more volume.old (P.SectorView.space space.old)) → (P.SectorView.space space.old).spare ≤ (P.SectorView.space space.new).spare + wants.load }
     ensures below { P.SectorView.follows space.old space.new }
     ensures cause { HasTroubleCause (P.SectorView.space space.old).faults (P.SectorView.space space.new).faults result }
 {

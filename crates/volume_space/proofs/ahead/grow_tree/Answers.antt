@@ -1,5 +1,5 @@
 use Rattle.volume_base.specs.declared.volume.Tree.{Tree}
-use Rattle.std.proofs.Common.{◌<◌, ◌≤◌, length, ◌+◌, sym, ◌∙◌, subst, ⊎_elim}
+use Rattle.std.proofs.Common.{◌<◌, ◌≤◌, length, arith, ◌+◌, sym, ◌∙◌, subst, ⊎_elim}
 use Rattle.std.specs.Prelude.{IfOk}
 use Rattle.volume_space.specs.Growing.{GoesAhead, GrowthFits, HasFilledRecords, IsOwnOrFree, WantsFirst, file_of, growth_room}
 use Rattle.volume_space.specs.SpreadGrowth.{SpreadGrowthFits, growth_room_with}
@@ -7,7 +7,7 @@ use Rattle.volume_space.specs.declared.ahead.Growth.{Growth}
 use Rattle.volume_space.specs.declared.ahead.Growth.TheVariants as growing
 use Rattle.volume_space.specs.declared.ahead.WhichTree.{WhichTree}
 use Rattle.volume_space.specs.declared.ahead.WhichTree.TheVariants as which
-use Rattle.volume_space.proofs.GrowthFitted.{wanted_fits}
+use Rattle.volume_space.proofs.GrowthFitted.{wanted_fits, wanted_loads}
 use Rattle.volume_space.proofs.SpreadSpent.{spent_more}
 use Rattle.volume_space.proofs.WhenKept.{fits_kept, free_kept, holds_kept, load_kept, load_kept_with, on_ok, records_kept, settled_kept, spread_kept, stands_kept, touches_those, unchanged_kept}
 use Rattle.volume_space.proofs.ahead.grow_tree.Goals as goal
@@ -167,3 +167,21 @@ pub returns-in-Attributes-clause-spent_filled : goal.returns-in-Attributes-claus
 returns-in-Attributes-clause-spent_filled g c tells filled =
     subst (λ (t : WhichTree). (g.P.SectorView.space c.args.space.now).spare ≤ (g.P.SectorView.space c.grow_attributes_kept.new.space).spare + growth_room_with 1 t c.args.more c.args.volume.now) (sym c.in-Attributes.is)
     (subst (λ n. (g.P.SectorView.space c.args.space.now).spare ≤ (g.P.SectorView.space c.grow_attributes_kept.new.space).spare + n) (load_kept_with c.args.volume.now c.keep.new.self c.keep.ensures 1 which.Attributes c.args.more) (c.grow_attributes_kept.ensures.spent_filled tells (records_kept c.args.volume.now c.keep.new.self c.keep.ensures which.Attributes (g.P.SectorView.space c.args.space.now).content (subst (λ (t : WhichTree). HasFilledRecords t c.args.volume.now (g.P.SectorView.space c.args.space.now).content) c.in-Attributes.is filled))))
+
+pub returns-in-Extents-clause-loads : goal.returns-in-Extents-clause-loads
+returns-in-Extents-clause-loads g c tells wants = ⊎_elim
+    (λ short. omega (arith, returns-in-Extents-clause-spent g c short.0, short.1))
+    (λ filled. omega (arith, returns-in-Extents-clause-spent_filled g c tells filled.0, filled.1))
+    (wanted_loads c.args.volume.now (g.P.SectorView.space c.args.space.now) c.requires.stands tells (c.requires.settled tells) c.a_load_says_enough.ensures c.trees_grow_by_enough.ensures c.args.tree c.args.more wants)
+
+pub returns-in-Catalog-clause-loads : goal.returns-in-Catalog-clause-loads
+returns-in-Catalog-clause-loads g c tells wants = ⊎_elim
+    (λ short. omega (arith, returns-in-Catalog-clause-spent g c short.0, short.1))
+    (λ filled. omega (arith, returns-in-Catalog-clause-spent_filled g c tells filled.0, filled.1))
+    (wanted_loads c.args.volume.now (g.P.SectorView.space c.args.space.now) c.requires.stands tells (c.requires.settled tells) c.a_load_says_enough.ensures c.trees_grow_by_enough.ensures c.args.tree c.args.more wants)
+
+pub returns-in-Attributes-clause-loads : goal.returns-in-Attributes-clause-loads
+returns-in-Attributes-clause-loads g c tells wants = ⊎_elim
+    (λ short. omega (arith, returns-in-Attributes-clause-spent g c short.0, short.1))
+    (λ filled. omega (arith, returns-in-Attributes-clause-spent_filled g c tells filled.0, filled.1))
+    (wanted_loads c.args.volume.now (g.P.SectorView.space c.args.space.now) c.requires.stands tells (c.requires.settled tells) c.a_load_says_enough.ensures c.trees_grow_by_enough.ensures c.args.tree c.args.more wants)
