@@ -7,4 +7,5 @@ pub mod MadeSizes
 pub mod Places
 pub mod Results
 pub mod Statuses
+pub mod Streams
 pub mod Telling

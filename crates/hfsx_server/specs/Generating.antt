@@ -1,8 +1,12 @@
 -- What is told of a stream that was played.
-use Rattle.std.specs.Prelude.{◌≡◌, ◌++◌, ℕ, Bool, List, codes, if◌then◌else◌}
+use Rattle.std.specs.Prelude.{◌≡◌, ◌++◌, ℕ, Bool, true, List, codes, if◌then◌else◌}
 use Rattle.sector_disk.specs.Disk.{State}
 use Rattle.hfs_language.specs.Text.{field}
+use Rattle.hfs_model.specs.Plain.{fresh_tree}
+use Rattle.hfs_model.specs.declared.plain.PlainTree.{PlainTree}
+use Rattle.volume_runs.specs.Run.{Entry, lines_of}
 use Rattle.hfsx_server.specs.declared.generating.Played.{Played}
+use Rattle.hfsx_server.specs.Playing.{Plays, number_done, number_refused, stream_of}
 use Rattle.hfsx_server.specs.declared.status.Status.{Status}
 use Rattle.hfsx_server.specs.declared.status.Status.TheVariants as status
 
@@ -20,6 +24,16 @@ played_text seed count played =
 abbrev pub verdict_of : Played → Status
 verdict_of played = if played.clean then status.Done else status.Refused
 
+-- The lines of a stream were played from an empty volume, these are the numbers of those that were done and refused, and the volume is sound.
+pub record IsPlayed (seed count : ℕ) (played : Played) : Type 0 where
+  pub run : List Entry
+  pub tree : PlainTree
+  pub plays : Plays fresh_tree run tree
+  pub asked : lines_of run ≡ stream_of seed count
+  pub done : played.done ≡ number_done run
+  pub refused : played.refused ≡ number_refused run
+  pub clean : played.clean ≡ true
+
 -- A line of such a stream was told, with this status.
 abbrev pub ToldPlayed : (seed count : ℕ) → Status → State → State → Type 0
-ToldPlayed seed count result old new = (played : Played) × (result ≡ verdict_of played) × (new.told ≡ old.told ++ played_text seed count played)
+ToldPlayed seed count result old new = (played : Played) × IsPlayed seed count played × (result ≡ verdict_of played) × (new.told ≡ old.told ++ played_text seed count played)

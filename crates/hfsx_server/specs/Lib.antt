@@ -3,6 +3,7 @@ pub mod Checking
 pub mod Faults
 pub mod Generating
 pub mod Made
+pub mod Playing
 pub mod Status
 pub mod Telling
 pub mod Watching

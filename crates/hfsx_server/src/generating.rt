@@ -3,26 +3,15 @@ ghost use Rattle.std.specs.Prelude.{◌≡◌, ◌≢◌, ◌⊎◌, ◌++◌, I
 ghost use Rattle.sector_disk.specs.Cause.{Rose};
 ghost use Rattle.sector_disk.specs.Disk.{SameDisk};
 ghost use Rattle.hfs_language.specs.Text.{field};
-ghost use Rattle.hfsx_server.specs.Generating.{ToldPlayed, played_text, verdict_of};
+ghost use Rattle.hfsx_server.specs.Generating.{IsPlayed, ToldPlayed, played_text, verdict_of};
 
-use crate::{Status, check, format, run};
+use crate::Status;
+use crate::playing::{is_sound, play_lines, serve};
 use hx_bytes::{Bytes, Failed, OutOfMemory};
 use itoa::Buffer;
-use mem_disk::{MemImage, MemRig, MemSource};
+use mem_disk::MemImage;
 use sector_disk::{Rig, tell_whole};
 use std::alloc::Global;
-use stream_gen::line;
-use watchers::Watcher;
-
-/// The sectors of the volume.
-const SECTORS: u64 = 65_536;
-
-/// How many lines are served from one mount to the next. The disk in memory keeps all that was written to it since it was made, so it is
-/// made anew behind so many.
-const PART: u64 = 4_096;
-
-/// How many bytes the program takes of its lines at once.
-const PIECE: u64 = 65_536;
 
 /// Of each file that has so many bytes or more, the last ones spell a number.
 const DIGITS: u64 = 8;
@@ -48,6 +37,16 @@ pub struct Played {
     pub clean: bool,
 }
 
+/// What the volume holds, as in `Played`.
+#[derive(Clone, Copy)]
+struct Held {
+    folders: u64,
+    names: u64,
+    files: u64,
+    bytes: u64,
+    sum: u64,
+}
+
 /// A file of the volume: its CNID, its size, and a path of its.
 #[derive(Drop)]
 struct File {
@@ -66,8 +65,12 @@ struct Found {
 /// Plays so many lines of the stream of a seed on a volume of 65,536 sectors in memory, and tells on one line what was answered and what
 /// the volume holds: `gen SEED COUNT ok A no B folders C names D files E bytes F sum G clean`, or `unsound` in place of `clean`.
 /// The disk of `rig` is left alone.
+///
+/// The numbers of done and refused lines are those of runs of the stream's lines from an empty volume. A volume that was played on is sound, so that
+/// `unsound`, and the status for it, are never told.
 pub fn generate<R: Rig>(alloc: Global, rig: &mut R, seed: u64, count: u64) -> Status
     ensures told { IsTrue (R.state rig.old).tells → (result ≡ Status.Done) ⊎ (result ≡ Status.Refused) → ToldPlayed seed count result (R.state rig.old) (R.state rig.new) }
+    ensures sound { result ≢ Status.Refused }
     ensures kinds { (result ≡ Status.Done) ⊎ ((result ≡ Status.Refused) ⊎ ((result ≡ Status.Sink) ⊎ (result ≡ Status.Memory))) }
     ensures unwritten { (R.state rig.new).candidates ≡ (R.state rig.old).candidates }
     ensures barriers { (R.state rig.new).barriers ≡ (R.state rig.old).barriers }
@@ -131,85 +134,35 @@ fn push_counted(text: &mut Vec<u8>, word: &[u8], number: u64) -> Result<(), OutO
 }
 
 // Plays the lines, and looks at what the volume holds behind them.
-fn play(alloc: Global, seed: u64, count: u64) -> Result<Played, OutOfMemory> {
-    let mut image = formatted(alloc)?;
-    let mut played = Played {
-        done: 0,
-        refused: 0,
-        folders: 0,
-        names: 0,
-        files: 0,
-        bytes: 0,
-        sum: 0,
-        clean: false,
-    };
-    for part in 0..count.div_ceil(PART) {
-        let lines = lines_from(alloc, seed, part.saturating_mul(PART), count)?;
-        let replies = answers(alloc, &mut image, lines.as_slice())?;
-        count_replies(&replies, &mut played);
-    }
-    played.clean = is_sound(alloc, &image)?;
-    look(alloc, &mut image, &mut played)?;
-    Ok(played)
-}
-
-// An empty volume.
-fn formatted(alloc: Global) -> Result<MemImage, OutOfMemory> {
-    let mut rig = MemRig::new(alloc, SECTORS)?;
-    match format(alloc, &mut rig) {
-        Status::Done => rig.image(alloc, 1),
-        _ => Err(OutOfMemory),
-    }
-}
-
-// The lines of one part of the stream, which has `count` lines.
-fn lines_from(alloc: Global, seed: u64, first: u64, count: u64) -> Result<Vec<u8>, OutOfMemory> {
-    let mut lines = Vec::new(alloc);
-    for i in first..count.min(first.saturating_add(PART)) {
-        lines.extend_from_slice(line(alloc, seed, i)?.as_slice())?;
-        lines.push(b'\n')?;
-    }
-    Ok(lines)
+fn play(alloc: Global, seed: u64, count: u64) -> Result<Played, OutOfMemory>
+    ensures { IfOk result (IsPlayed seed count) }
+{
+    let mut stage = play_lines(alloc, seed, count)?;
+    let clean = is_sound(alloc, &stage.image)?;
+    let held = look(alloc, &mut stage.image)?;
+    Ok(Played {
+        done: stage.done,
+        refused: stage.refused,
+        folders: held.folders,
+        names: held.names,
+        files: held.files,
+        bytes: held.bytes,
+        sum: held.sum,
+        clean,
+    })
 }
 
 // Serves these lines on a volume, and gives their replies.
 fn answers(alloc: Global, image: &mut MemImage, lines: &[u8]) -> Result<String, OutOfMemory> {
-    let mut rig = MemRig::from_image(alloc, image)?;
-    let mut source = MemSource::new(alloc, lines, PIECE, None)?;
-    let mut watchers: Vec<Box<dyn Watcher>> = Vec::new(alloc);
-    if run(alloc, &mut rig, &mut source, &mut watchers) != Status::Done {
-        return Err(OutOfMemory);
-    }
-    *image = rig.image(alloc, 1)?;
-    match str::from_utf8(rig.told()) {
+    let told = serve(alloc, image, lines)?;
+    match str::from_utf8(told.as_slice()) {
         Ok(told) => Ok(told.to_string(alloc)?),
         Err(_) => Ok(String::new(alloc)),
     }
 }
 
-// Whether a check finds nothing.
-fn is_sound(alloc: Global, image: &MemImage) -> Result<bool, OutOfMemory> {
-    let mut rig = MemRig::from_image(alloc, image)?;
-    match check(alloc, &mut rig) {
-        Status::Done => Ok(true),
-        Status::Refused => Ok(false),
-        _ => Err(OutOfMemory),
-    }
-}
-
-// Counts the replies of lines that were done and of those that were refused.
-fn count_replies(replies: &str, played: &mut Played) {
-    for reply in replies.lines() {
-        if reply.starts_with("ok") {
-            played.done = played.done.saturating_add(1);
-        } else {
-            played.refused = played.refused.saturating_add(1);
-        }
-    }
-}
-
 // Looks at what the volume holds. The stream makes folders in the root alone, so the names of files stand in the root and in these.
-fn look(alloc: Global, image: &mut MemImage, played: &mut Played) -> Result<(), OutOfMemory> {
+fn look(alloc: Global, image: &mut MemImage) -> Result<Held, OutOfMemory> {
     let mut found = Found {
         folders: Vec::new(alloc),
         names: Vec::new(alloc),
@@ -231,8 +184,13 @@ fn look(alloc: Global, image: &mut MemImage, played: &mut Played) -> Result<(), 
         deeper.add_entries(alloc, folder.as_str(), reply)?;
     }
     found.names.append(&mut deeper.names)?;
-    played.folders = (found.folders.len() as u64).saturating_add(deeper.folders.len() as u64);
-    played.names = found.names.len() as u64;
+    let mut held = Held {
+        folders: (found.folders.len() as u64).saturating_add(deeper.folders.len() as u64),
+        names: found.names.len() as u64,
+        files: 0,
+        bytes: 0,
+        sum: 0,
+    };
     let told = answers(
         alloc,
         image,
@@ -240,14 +198,14 @@ fn look(alloc: Global, image: &mut MemImage, played: &mut Played) -> Result<(), 
     )?;
     let files = files_told(alloc, found.names, told.as_str())?;
     for file in files.iter() {
-        played.files = played.files.saturating_add(1);
-        played.bytes = played.bytes.saturating_add(file.size);
+        held.files = held.files.saturating_add(1);
+        held.bytes = held.bytes.saturating_add(file.size);
     }
     let values = answers(alloc, image, reads_of(alloc, files.as_slice())?.as_slice())?;
     for reply in values.lines() {
-        played.sum = played.sum.saturating_add(number_told(reply));
+        held.sum = held.sum.saturating_add(number_told(reply));
     }
-    Ok(())
+    Ok(held)
 }
 
 impl Found {

@@ -6,6 +6,7 @@ mod faults;
 mod formatting;
 mod generating;
 mod header;
+mod playing;
 mod refusal;
 mod reports;
 mod running;

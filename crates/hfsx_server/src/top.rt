@@ -92,8 +92,10 @@ pub fn hfsx<R: Rig, S: Source, W: Watcher>(
         → (result ≡ Status.Refused) ⊎ ((result ≡ Status.Disk) ⊎ (result ≡ Status.Memory)) }
     ensures check_unwritten { AreCheck (texts words.now) → ((R.state rig.new).candidates ≡ (R.state rig.old).candidates) × ((R.state rig.new).barriers ≡ (R.state rig.old).barriers) }
 
-    // `gen`: with status 0 and 1 its line was told, which says that the volume in memory is sound, or that it isn't. Nothing is written.
+    // `gen`: with status 0 its line was told, with the numbers of the stream's lines that were done and refused in runs from an empty volume, and that the
+    // volume in memory is sound. Status 1 doesn't stand. Nothing is written.
     ensures gen_told { (seed count : ℕ) → AreGen (texts words.now) seed count → IsTrue (R.state rig.old).tells → (result ≡ Status.Done) ⊎ (result ≡ Status.Refused) → ToldPlayed seed count result (R.state rig.old) (R.state rig.new) }
+    ensures gen_sound { (seed count : ℕ) → AreGen (texts words.now) seed count → result ≢ Status.Refused }
     ensures gen_unwritten { (seed count : ℕ) → AreGen (texts words.now) seed count → ((R.state rig.new).candidates ≡ (R.state rig.old).candidates) × ((R.state rig.new).barriers ≡ (R.state rig.old).barriers) }
 
     // What is refused, and wrong words, leave the image as it was.

@@ -228,11 +228,17 @@ returns-in-Ok-Run-clause-gen_told g c seed count gen tells either = absurd (no_r
 pub returns-in-Ok-Run-clause-gen_unwritten : goal.returns-in-Ok-Run-clause-gen_unwritten
 returns-in-Ok-Run-clause-gen_unwritten g c seed count gen = absurd (no_run_of_gen (texts c.args.words.now) seed count (named (texts c.args.words.now) _ _ c.in-Ok-Run.field-0-is c.in-Ok-Run.ensures.work) gen)
 
+pub returns-in-Ok-Run-clause-gen_sound : goal.returns-in-Ok-Run-clause-gen_sound
+returns-in-Ok-Run-clause-gen_sound g c seed count gen = absurd (no_run_of_gen (texts c.args.words.now) seed count (named (texts c.args.words.now) _ _ c.in-Ok-Run.field-0-is c.in-Ok-Run.ensures.work) gen)
+
 pub returns-in-Ok-Check-clause-gen_told : goal.returns-in-Ok-Check-clause-gen_told
 returns-in-Ok-Check-clause-gen_told g c seed count gen tells either = absurd (no_check_of_gen (texts c.args.words.now) seed count (named (texts c.args.words.now) _ _ c.in-Ok-Check.field-0-is c.in-Ok-Check.ensures.work) gen)
 
 pub returns-in-Ok-Check-clause-gen_unwritten : goal.returns-in-Ok-Check-clause-gen_unwritten
 returns-in-Ok-Check-clause-gen_unwritten g c seed count gen = absurd (no_check_of_gen (texts c.args.words.now) seed count (named (texts c.args.words.now) _ _ c.in-Ok-Check.field-0-is c.in-Ok-Check.ensures.work) gen)
+
+pub returns-in-Ok-Check-clause-gen_sound : goal.returns-in-Ok-Check-clause-gen_sound
+returns-in-Ok-Check-clause-gen_sound g c seed count gen = absurd (no_check_of_gen (texts c.args.words.now) seed count (named (texts c.args.words.now) _ _ c.in-Ok-Check.field-0-is c.in-Ok-Check.ensures.work) gen)
 
 pub returns-then-sectors-clause-gen_told : goal.returns-then-sectors-clause-gen_told
 returns-then-sectors-clause-gen_told g c seed count gen tells either = absurd (no_format_of_gen (texts c.args.words.now) _ seed count (named (texts c.args.words.now) _ _ c.in-Ok-Format.field-0-is c.in-Ok-Format.ensures.work) gen)
@@ -240,11 +246,17 @@ returns-then-sectors-clause-gen_told g c seed count gen tells either = absurd (n
 pub returns-then-sectors-clause-gen_unwritten : goal.returns-then-sectors-clause-gen_unwritten
 returns-then-sectors-clause-gen_unwritten g c seed count gen = absurd (no_format_of_gen (texts c.args.words.now) _ seed count (named (texts c.args.words.now) _ _ c.in-Ok-Format.field-0-is c.in-Ok-Format.ensures.work) gen)
 
+pub returns-then-sectors-clause-gen_sound : goal.returns-then-sectors-clause-gen_sound
+returns-then-sectors-clause-gen_sound g c seed count gen = absurd (no_format_of_gen (texts c.args.words.now) _ seed count (named (texts c.args.words.now) _ _ c.in-Ok-Format.field-0-is c.in-Ok-Format.ensures.work) gen)
+
 pub returns-else-sectors-clause-gen_told : goal.returns-else-sectors-clause-gen_told
 returns-else-sectors-clause-gen_told g c seed count gen tells either = absurd (no_format_of_gen (texts c.args.words.now) _ seed count (named (texts c.args.words.now) _ _ c.in-Ok-Format.field-0-is c.in-Ok-Format.ensures.work) gen)
 
 pub returns-else-sectors-clause-gen_unwritten : goal.returns-else-sectors-clause-gen_unwritten
 returns-else-sectors-clause-gen_unwritten g c seed count gen = absurd (no_format_of_gen (texts c.args.words.now) _ seed count (named (texts c.args.words.now) _ _ c.in-Ok-Format.field-0-is c.in-Ok-Format.ensures.work) gen)
+
+pub returns-else-sectors-clause-gen_sound : goal.returns-else-sectors-clause-gen_sound
+returns-else-sectors-clause-gen_sound g c seed count gen = absurd (no_format_of_gen (texts c.args.words.now) _ seed count (named (texts c.args.words.now) _ _ c.in-Ok-Format.field-0-is c.in-Ok-Format.ensures.work) gen)
 
 pub returns-in-Ok-Wrong-clause-gen_told : goal.returns-in-Ok-Wrong-clause-gen_told
 returns-in-Ok-Wrong-clause-gen_told g c seed count gen tells either = absurd ((named (texts c.args.words.now) _ _ c.in-Ok-Wrong.field-0-is c.in-Ok-Wrong.ensures.work).3 seed count gen)
@@ -252,11 +264,17 @@ returns-in-Ok-Wrong-clause-gen_told g c seed count gen tells either = absurd ((n
 pub returns-in-Ok-Wrong-clause-gen_unwritten : goal.returns-in-Ok-Wrong-clause-gen_unwritten
 returns-in-Ok-Wrong-clause-gen_unwritten g c seed count gen = absurd ((named (texts c.args.words.now) _ _ c.in-Ok-Wrong.field-0-is c.in-Ok-Wrong.ensures.work).3 seed count gen)
 
+pub returns-in-Ok-Wrong-clause-gen_sound : goal.returns-in-Ok-Wrong-clause-gen_sound
+returns-in-Ok-Wrong-clause-gen_sound g c seed count gen = absurd ((named (texts c.args.words.now) _ _ c.in-Ok-Wrong.field-0-is c.in-Ok-Wrong.ensures.work).3 seed count gen)
+
 pub returns-in-Ok-Gen-clause-gen_told : goal.returns-in-Ok-Gen-clause-gen_told
 returns-in-Ok-Gen-clause-gen_told g c seed count gen tells either = subst (λ (n : ℕ). ToldPlayed n count c.generate.result (g.R.SectorDisk.state c.args.rig.now) (g.R.SectorDisk.state c.generate.new.rig)) (same_seed (texts c.args.words.now) c.in-Ok-Gen.seed seed c.in-Ok-Gen.count count (named (texts c.args.words.now) _ _ c.in-Ok-Gen.field-0-is c.in-Ok-Gen.ensures.work) gen) (subst (λ (n : ℕ). ToldPlayed c.in-Ok-Gen.seed n c.generate.result (g.R.SectorDisk.state c.args.rig.now) (g.R.SectorDisk.state c.generate.new.rig)) (same_count (texts c.args.words.now) c.in-Ok-Gen.seed seed c.in-Ok-Gen.count count (named (texts c.args.words.now) _ _ c.in-Ok-Gen.field-0-is c.in-Ok-Gen.ensures.work) gen) (c.generate.ensures.told tells either))
 
 pub returns-in-Ok-Gen-clause-gen_unwritten : goal.returns-in-Ok-Gen-clause-gen_unwritten
 returns-in-Ok-Gen-clause-gen_unwritten g c seed count gen = (c.generate.ensures.unwritten, c.generate.ensures.barriers)
+
+pub returns-in-Ok-Gen-clause-gen_sound : goal.returns-in-Ok-Gen-clause-gen_sound
+returns-in-Ok-Gen-clause-gen_sound g c seed count gen = c.generate.ensures.sound
 
 pub returns-then-sectors-clause-watched : goal.returns-then-sectors-clause-watched
 returns-then-sectors-clause-watched g c run = absurd (not_both (texts c.args.words.now) c.in-Ok-Format.sectors run (named (texts c.args.words.now) _ _ c.in-Ok-Format.field-0-is c.in-Ok-Format.ensures.work))
@@ -293,6 +311,9 @@ returns-in-Format-clause-usage g c =
 
 pub returns-in-Format-clause-format_refused : goal.returns-in-Format-clause-format_refused
 returns-in-Format-clause-format_refused g c format = c.refuse_format.ensures.refused (same_sectors (texts c.args.words.now) _ _ c.in-Format.ensures format)
+
+pub returns-in-Format-clause-gen_sound : goal.returns-in-Format-clause-gen_sound
+returns-in-Format-clause-gen_sound g c seed count gen = absurd (no_format_of_gen (texts c.args.words.now) _ seed count c.in-Format.ensures gen)
 
 pub returns-in_default-clause-usage : goal.returns-in_default-clause-usage
 returns-in_default-clause-usage g c =
