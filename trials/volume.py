@@ -100,10 +100,11 @@ class Tree:
 
 
 class Volume:
-    def __init__(self, sectors=16384, block=4096, journal=2048, node=4096, spare=16, filled=1.0, name="untitled", bare=False, mounted=b"HFSJ", pieces=1, moment=0):
+    def __init__(self, sectors=16384, block=4096, journal=2048, node=4096, spare=16, filled=1.0, name="untitled", bare=False, mounted=b"HFSJ", pieces=1, moment=0, emptied=False):
         # A bare volume has no attributes file. `mounted` is the version that mounted it last; one of another system wasn't unmounted cleanly,
-        # as bit 8 says. The tree files are in so many pieces, and all dates are the moment.
-        self.bare, self.mounted, self.pieces, self.moment = bare, mounted, pieces, moment
+        # as bit 8 says. The tree files are in so many pieces, and all dates are the moment. An emptied volume has, behind each
+        # fork whose extents fill its records to the last, an overflow record that has no extent in use.
+        self.bare, self.mounted, self.pieces, self.moment, self.emptied = bare, mounted, pieces, moment, emptied
         self.sectors, self.block, self.journal, self.node, self.spare, self.filled = sectors, block, journal, node, spare, filled
         self.total = sectors * 512 // block
         self.next, self.entries, self.attributes, self.overflow, self.data = 16, {}, [], [], []
@@ -161,6 +162,8 @@ class Volume:
         for at in range(8, len(extents), 8):
             self.overflow.append(((number, kind, place), extents[at : at + 8]))
             place += sum(count for _, count in extents[at : at + 8])
+        if self.emptied and extents and len(extents) % 8 == 0:
+            self.overflow.append(((number, kind, place), []))
 
     def bad_blocks(self, count):
         self.overflow.append(((5, 0, 0), [self.take(count)]))
